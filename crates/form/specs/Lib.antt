@@ -1,0 +1,6 @@
+pub mod Tree
+pub mod Written
+pub mod Form
+pub mod Machine
+pub mod Parse
+pub mod Headings

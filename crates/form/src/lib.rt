@@ -1,0 +1,6 @@
+// The greatest depth of a term or predicate (number 5 of document 01).
+pub const DEPTH_LIMIT: usize = 24;
+
+pub fn depth_limit() -> usize {
+    DEPTH_LIMIT
+}

@@ -1,0 +1,6 @@
+pub mod Carriers
+pub mod Types
+-- Scope
+-- Names
+-- Limits
+-- Read

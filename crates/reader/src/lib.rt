@@ -1,0 +1,6 @@
+// The greatest number of bindings of a state's carriers (number 12 of document 01).
+pub const BINDINGS_LIMIT: usize = 4096;
+
+pub fn bindings_limit() -> usize {
+    BINDINGS_LIMIT
+}

@@ -1,6 +1,6 @@
 pub mod Carriers
 pub mod Types
--- Scope
--- Names
--- Limits
--- Read
+pub mod Scope
+pub mod Names
+pub mod Limits
+pub mod Read

@@ -1,0 +1,6 @@
+// The greatest number of bindings that one advance looks at (number 15 of document 01).
+pub const ADVANCE_LIMIT: u64 = 1000000000;
+
+pub fn advance_limit() -> u64 {
+    ADVANCE_LIMIT
+}

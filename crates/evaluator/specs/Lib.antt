@@ -1,0 +1,4 @@
+pub mod Values
+pub mod Meaning
+pub mod Bindings
+pub mod Operations

@@ -2,3 +2,4 @@ pub mod Values
 pub mod Meaning
 pub mod Bindings
 pub mod Operations
+pub mod Computed

@@ -4,3 +4,4 @@ pub mod Form
 pub mod Machine
 pub mod Parse
 pub mod Headings
+pub mod Computed

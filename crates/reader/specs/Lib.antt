@@ -4,3 +4,4 @@ pub mod Scope
 pub mod Names
 pub mod Limits
 pub mod Read
+pub mod Computed

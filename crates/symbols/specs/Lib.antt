@@ -2,3 +2,5 @@ pub mod Lists
 pub mod Refusals
 pub mod Kinds
 pub mod Symbols
+pub mod Base
+pub mod Computed

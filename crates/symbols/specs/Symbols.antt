@@ -84,8 +84,8 @@ decimalFrom n (b ∷ w) = decimalFrom (n * 10 + (b - 48)) w
 unfoldable pub isNumber : List ℕ → Bool
 isNumber r = all (λ (b : ℕ). isDigit (classOf b)) r && (eqb (length r) 1 || not (eqb (getD r 0 48) 48)) && leb (decimalFrom 0 r) 1000
 
-unfoldable pub numberOf : List ℕ → Found
-numberOf r = cond (isNumber r) (found (numeral (decimalFrom 0 r)) (length r)) unlisted
+unfoldable pub numberFound : List ℕ → Found
+numberFound r = cond (isNumber r) (found (numeral (decimalFrom 0 r)) (length r)) unlisted
 
 unfoldable pub reserved : List (String × Kind) → List ℕ → Option Kind
 reserved [] r = none
@@ -122,7 +122,7 @@ longest (e ∷ t) w = elim (begins (bytes (e .0)) w) [ true ↦ longer (longest 
 
 unfoldable pub byClass : Class → List ℕ → Found
 byClass letter w = let r : List ℕ = run w in wordOf r (endingOf (drop (length r) w)) (reserved words r)
-byClass digit w = numberOf (run w)
+byClass digit w = numberFound (run w)
 byClass mark w = longest marks w
 byClass blank w = gap
 byClass other w = unlisted

@@ -1,0 +1,2 @@
+-- The definitions computed on the trial dossiers.
+pub mod Trials

@@ -1,0 +1,19 @@
+-- `holds`, open to computation: to unfold it is to unfold all that its line names. Nothing here need be believed.
+use mathlib.Core.Bool.{Bool}
+use Rattle.form.specs.Tree.{Pred}
+use Rattle.reader.specs.Computed.{computeRead}
+use Rattle.sets.specs.Computed.{computeDiv}
+use Rattle.evaluator.specs.Bindings as bindings
+use Rattle.evaluator.specs.Meaning as meaning
+use Rattle.evaluator.specs.Operations as operations
+use Rattle.evaluator.specs.Values as values
+
+unfoldable pub computeHolds : Pred → meaning.Environment → Bool
+unfolding
+  computeRead computeDiv bindings.pairSets bindings.valuesOf bindings.flat bindings.bindings meaning.placeIn meaning.valueOf meaning.sizeOfGiven
+  meaning.elementValues meaning.numberValues meaning.domainValues meaning.quantify meaning.inRange meaning.isMember meaning.isPairOf meaning.value
+  meaning.itemsValue meaning.pairsValue meaning.holds operations.abstractBindings operations.concreteBindings operations.outputBindings
+  operations.isState operations.abstractInitial operations.concreteInitial operations.related operations.after operations.allows operations.abstractStep
+  operations.concreteStep operations.abstractPre operations.concretePre values.sameValue values.prefixValue values.operatorValue values.divisionValue
+  values.singleton values.singlePair values.compare values.connect
+computeHolds p ρ = meaning.holds p ρ

@@ -1,0 +1,2 @@
+-- The pass for form computed on changed parts of BASE.
+pub mod Samples

@@ -1,0 +1,70 @@
+-- BASE with another predicate in retrieve, which begins at symbol 50: the symbol at fault and the number. 4 by viability, 5 by depth and bound names, 6 by counts.
+use mathlib.Core.Path.{_≡_, refl}
+use mathlib.Core.Bool.{Bool, true, false, _&&_}
+use mathlib.Core.List.{List, [], _∷_, _++_}
+use Prim.Native.Nat.{ℕ, _+_}
+use Prim.Native.String.{String}
+use lib.Dec.{eqb}
+use Rattle.symbols.specs.Lists.{all}
+use Rattle.symbols.specs.Base.{Parts, dossierOf}
+use Rattle.symbols.specs.Refusals.{Refusal, numberOf, noDossier, deep, manyDeclared, headingDiffers, Fault}
+use Rattle.form.specs.Tree.{Dossier}
+use Rattle.form.specs.Form.{Outcome, refused, formed}
+use Rattle.form.specs.Headings.{headingFaults}
+use Rattle.form.specs.Computed.{computeForm}
+
+pub data Sample : Type 0 where
+  -- the predicate is refused at its symbol i; it is read
+  faulty : String → (i : ℕ) → Refusal → Sample
+  fine : String → Sample
+  -- BASE with these contents entries and bodies of operations: refused at symbol i for its headings
+  heading : (listed bodies : String) → (i : ℕ) → Sample
+
+abbrev base : (retrieve : String) → Parts
+base p = record { listed = "op add "; cinit = "k = 0"; retrieve = p; operations = "op add abstract true concrete true end" }
+
+pub samples : List Sample
+samples =
+    fine "k = # m and not k = 0 => k in - 1 .. 2 <=> {x : SEG | x in m} = {s1, s2}"
+    ∷ faulty "{x' : SEG | true} = m" 2 noDossier
+    ∷ faulty "s1 |-> s2 in 0 .. 2" 5 noDossier
+    ∷ faulty "k in - - 1 .. 2" 5 noDossier
+    ∷ faulty "a < b < c" 3 noDossier
+    ∷ faulty "{s1, s2 |-> s1} = m" 4 noDossier
+    ∷ faulty "k div [2] = 0" 2 noDossier
+    ∷ fine "((((((((((((((((((((((((true))))))))))))))))))))))))"
+    ∷ faulty "(((((((((((((((((((((((((true)))))))))))))))))))))))))" 24 deep
+    ∷ faulty "(((((((((((((((((((((((( - 1 = k ))))))))))))))))))))))))" 24 deep
+    ∷ fine "(((((((((((((((((((((((( k in - 1 .. 2 ))))))))))))))))))))))))"
+    ∷ faulty "(((((((((((((((((((((((( k in - 1 ))))))))))))))))))))))))" 26 deep
+    ∷ faulty "(forall a : SEG @ (forall b : SEG @ (forall c : SEG @ {d : SEG | true} = m)))" 19 deep
+    ∷ fine "(forall a : SEG @ (forall b : SEG @ (forall c : SEG @ {a} = m)))"
+    ∷ heading "op add op sub " "op add abstract true concrete true end" 61
+    ∷ heading "op sub " "op add abstract true concrete true end" 52
+    ∷ []
+
+abbrev refusedAt : ℕ → Refusal → Outcome → Bool
+refusedAt i r (refused j s) = eqb i j && eqb (numberOf r) (numberOf s)
+refusedAt i r (formed d) = false
+
+abbrev isFormed : Outcome → Bool
+isFormed (refused j s) = false
+isFormed (formed d) = true
+
+abbrev only : ℕ → List Fault → Bool
+only i [] = false
+only i (f ∷ []) = eqb i (f .place)
+only i (f ∷ g ∷ fs) = false
+
+abbrev headingAt : ℕ → Outcome → Bool
+headingAt i (refused j s) = false
+headingAt i (formed d) = only i (headingFaults d)
+
+pub passes : Sample → Bool
+passes (faulty p i r) = refusedAt (50 + i) r (computeForm (dossierOf (base p)))
+passes (fine p) = isFormed (computeForm (dossierOf (base p)))
+passes (heading l o i) = headingAt i (computeForm (dossierOf (record { listed = l; cinit = "k = 0"; retrieve = "true"; operations = o })))
+
+pub all-pass : all passes samples ≡ true
+unfolding samples passes computeForm
+all-pass = refl

@@ -1,0 +1,2 @@
+-- Sets and division computed.
+pub mod Samples

@@ -1,0 +1,2 @@
+-- The definitions of symbols computed on short texts.
+pub mod Samples

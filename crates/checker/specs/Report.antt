@@ -12,7 +12,7 @@ use Rattle.form.specs.Tree.{Letters, Given, elements, Operation, Dossier}
 use Rattle.reader.specs.Carriers.{Carrier, elementsOf, numbers, subsetsOf, pairsOf, Variable, sizeOf}
 use Rattle.reader.specs.Read.{Reading, refusal, reading, read}
 use Rattle.sets.specs.Sets.{members}
-use Rattle.evaluator.specs.Values.{Value, integer, place, bits}
+use Rattle.evaluator.specs.Values.{Value, bits}
 use Rattle.evaluator.specs.Meaning.{Binding}
 use Rattle.checker.specs.Order.{Check, Obligation, initialisation, applicability, correctness, obligationOf, checks, variablesOf, bindingOf, Look, look, initialises}
 
@@ -53,8 +53,8 @@ unfoldable pub braced : List (List ℕ) → List ℕ
 braced xs = bytes "{" ++ separated xs ++ bytes "}"
 
 unfoldable pub valueBytes : Carrier → Value → List ℕ
-valueBytes (elementsOf g) v = elementBytes g (place v)
-valueBytes (numbers a b) v = signedDecimal (integer v)
+valueBytes (elementsOf g) v = elementBytes g (bits v)
+valueBytes (numbers a b) v = signedDecimal (v .code)
 valueBytes (subsetsOf g) v = braced (map (elementBytes g) (members (bits v)))
 valueBytes (pairsOf a g h) v = braced (map (pairBytes g h) (members (bits v)))
 

@@ -14,6 +14,6 @@ unfolding
   meaning.elementValues meaning.numberValues meaning.domainValues meaning.quantify meaning.inRange meaning.isMember meaning.isPairOf meaning.value
   meaning.itemsValue meaning.pairsValue meaning.holds operations.abstractBindings operations.concreteBindings operations.outputBindings
   operations.isState operations.abstractInitial operations.concreteInitial operations.related operations.after operations.allows operations.abstractStep
-  operations.concreteStep operations.abstractPre operations.concretePre values.sameValue values.prefixValue values.operatorValue values.divisionValue
-  values.singleton values.singlePair values.compare values.connect
+  operations.concreteStep operations.abstractPre operations.concretePre values.prefixValue values.operatorValue values.divisionValue values.singleton
+  values.pairBit values.singlePair values.compare values.connect
 computeHolds p ρ = meaning.holds p ρ

@@ -18,7 +18,7 @@ use Rattle.reader.specs.Scope.{elementOf}
 use Rattle.sets.specs.Sets as sets
 use Rattle.evaluator.specs.Values as val
 use Rattle.evaluator.specs.Values.{
-  Value, integer, place, bits, firstSize, prefixValue, operatorValue, divisionValue, singleton, singlePair, compare, asked, connect
+  Value, bits, prefixValue, operatorValue, divisionValue, singleton, pairBit, singlePair, compare, asked, connect
 }
 
 -- "Variables are joined by name.": a binding gives names their values
@@ -75,13 +75,13 @@ quantify exists f vs = any f vs
 quantify exists1 f vs = eqb (count f vs) 1
 
 unfoldable pub inRange : Value → Range → Bool
-inRange v r = leZ (endValue (r .lower)) (integer v) && leZ (integer v) (endValue (r .upper))
+inRange v r = leZ (endValue (r .lower)) (v .code) && leZ (v .code) (endValue (r .upper))
 
 unfoldable pub isMember : Value → Value → Bool
-isMember v s = sets.has (bits s) (place v)
+isMember v s = sets.has (bits s) (bits v)
 
 unfoldable pub isPairOf : Value → Value → Value → Bool
-isPairOf u v s = sets.has (bits s) (sets.pair (firstSize v) (place u) (place v))
+isPairOf u v s = sets.has (bits s) (pairBit u v)
 
 unfoldable mutual
   pub value : Term → Environment → Value

@@ -1,6 +1,6 @@
--- Values: a number is itself, an element its place in its given set, a set its bits. Given sets have n and m elements.
-use mathlib.Core.Bool.{Bool, true, false, not, _&&_, _||_}
-use Prim.Native.Nat.{ℕ, _*_}
+-- Values: a number is itself, an element its place in its given set, a set its bits.
+use mathlib.Core.Bool.{Bool, true, false, not}
+use Prim.Native.Nat.{ℕ}
 use lib.Dec.{eqb}
 use lib.IntN.{ℤ, pos, negsuc, negℤ, _+ℤ_, _-ℤ_, _*ℤ_}
 use lib.Signed.{leZ, ltZ}
@@ -11,50 +11,35 @@ use Rattle.form.specs.Tree.{
   Membership, isIn, notIn, Connective, and, or, implies, iff
 }
 
-pub data Value : Type 0 where
-  number : ℤ → Value
-  element : (n i : ℕ) → Value
-  set : (n bits : ℕ) → Value
-  pairs : (n m bits : ℕ) → Value
+-- the number, place or bits; and how many elements the given sets have that it is over: an element's or a set's, the first and the second of a set of pairs
+pub record Value : Type 0 where
+  pub code : ℤ
+  pub first : ℕ
+  pub second : ℕ
 
--- the parts of a value, where its type has them; a term that is read has the type that its place asks
-abbrev pub integer : Value → ℤ
-integer (number z) = z
-integer (element n i) = pos 0
-integer (set n s) = pos 0
-integer (pairs n m s) = pos 0
+abbrev pub number : ℤ → Value
+number z = record { code = z; first = 0; second = 0 }
 
-abbrev pub place : Value → ℕ
-place (number z) = 0
-place (element n i) = i
-place (set n s) = 0
-place (pairs n m s) = 0
+abbrev pub element : (n i : ℕ) → Value
+element n i = record { code = pos i; first = n; second = 0 }
+
+abbrev pub set : (n s : ℕ) → Value
+set n s = record { code = pos s; first = n; second = 0 }
+
+abbrev pub pairs : (n m s : ℕ) → Value
+pairs n m s = record { code = pos s; first = n; second = m }
+
+-- an element's place, a set's bits
+abbrev pub natural : ℤ → ℕ
+natural (pos n) = n
+natural (negsuc n) = 0
 
 abbrev pub bits : Value → ℕ
-bits (number z) = 0
-bits (element n i) = 0
-bits (set n s) = s
-bits (pairs n m s) = s
+bits v = natural (v .code)
 
--- how many elements the given set has: an element's, a set's, the first and the second of a set of pairs
-abbrev pub firstSize : Value → ℕ
-firstSize (number z) = 0
-firstSize (element n i) = n
-firstSize (set n s) = n
-firstSize (pairs n m s) = n
-
-abbrev pub secondSize : Value → ℕ
-secondSize (number z) = 0
-secondSize (element n i) = 0
-secondSize (set n s) = 0
-secondSize (pairs n m s) = m
-
--- a set of the same kind with other bits
+-- a set over the same given sets
 abbrev pub withBits : Value → ℕ → Value
-withBits (number z) s = number z
-withBits (element n i) s = element n i
-withBits (set n t) s = set n s
-withBits (pairs n m t) s = pairs n m s
+withBits v s = pairs (v .first) (v .second) s
 
 abbrev pub sameInteger : ℤ → ℤ → Bool
 sameInteger (pos a) (pos b) = eqb a b
@@ -62,43 +47,39 @@ sameInteger (pos a) (negsuc b) = false
 sameInteger (negsuc a) (pos b) = false
 sameInteger (negsuc a) (negsuc b) = eqb a b
 
--- equality of two values of one type
-unfoldable pub sameValue : Value → Value → Bool
-sameValue (number y) v = sameInteger y (integer v)
-sameValue (element n i) v = eqb i (place v)
-sameValue (set n s) v = eqb s (bits v)
-sameValue (pairs n m s) v = eqb s (bits v)
-
 unfoldable pub prefixValue : Prefix → Value → Value
-prefixValue negate v = number (negℤ (integer v))
+prefixValue negate v = number (negℤ (v .code))
 prefixValue size v = number (pos (sets.size (bits v)))
-prefixValue dom v = set (firstSize v) (sets.dom (firstSize v) (secondSize v) (bits v))
-prefixValue ran v = set (secondSize v) (sets.ran (firstSize v) (secondSize v) (bits v))
+prefixValue dom v = set (v .first) (sets.dom (v .first) (v .second) (bits v))
+prefixValue ran v = set (v .second) (sets.ran (v .first) (v .second) (bits v))
 
 unfoldable pub operatorValue : Operator → Value → Value → Value
-operatorValue plus u v = number (integer u +ℤ integer v)
-operatorValue minus u v = number (integer u -ℤ integer v)
-operatorValue times u v = number (integer u *ℤ integer v)
+operatorValue plus u v = number (u .code +ℤ v .code)
+operatorValue minus u v = number (u .code -ℤ v .code)
+operatorValue times u v = number (u .code *ℤ v .code)
 operatorValue union u v = withBits u (sets.union (bits u) (bits v))
 operatorValue without u v = withBits u (sets.without (bits u) (bits v))
 operatorValue inter u v = withBits u (sets.inter (bits u) (bits v))
 
 unfoldable pub divisionValue : Division → Value → ℤ → Value
-divisionValue quotient v z = number (floorDiv (integer v) z)
-divisionValue remainder v z = number (floorMod (integer v) z)
+divisionValue quotient v z = number (floorDiv (v .code) z)
+divisionValue remainder v z = number (floorMod (v .code) z)
 
--- {v}, {u |-> v}
+-- {v}, {u |-> v}, and the bit of the pair
 unfoldable pub singleton : Value → Value
-singleton v = set (firstSize v) (sets.single (place v))
+singleton v = set (v .first) (sets.single (bits v))
+
+unfoldable pub pairBit : Value → Value → ℕ
+pairBit u v = sets.pair (v .first) (bits u) (bits v)
 
 unfoldable pub singlePair : Value → Value → Value
-singlePair u v = pairs (firstSize u) (firstSize v) (sets.single (sets.pair (firstSize v) (place u) (place v)))
+singlePair u v = pairs (u .first) (v .first) (sets.single (pairBit u v))
 
 unfoldable pub compare : Comparison → Value → Value → Bool
-compare equals u v = sameValue u v
-compare differs u v = not (sameValue u v)
-compare less u v = ltZ (integer u) (integer v)
-compare atMost u v = leZ (integer u) (integer v)
+compare equals u v = sameInteger (u .code) (v .code)
+compare differs u v = not (sameInteger (u .code) (v .code))
+compare less u v = ltZ (u .code) (v .code)
+compare atMost u v = leZ (u .code) (v .code)
 
 abbrev pub asked : Membership → Bool → Bool
 asked isIn b = b

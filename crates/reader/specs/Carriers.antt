@@ -3,6 +3,7 @@ use mathlib.Core.Bool.{Bool, true, false}
 use mathlib.Core.List.{List, [], _∷_}
 use mathlib.Core.Option.{Option, none, some}
 use Prim.Native.Nat.{ℕ, _+_, _*_, _^_, max}
+use lib.Dec.{eqb}
 use lib.IntN.{ℤ, pos, negℤ, _-ℤ_, natAbs}
 use lib.ListN.{length}
 use Rattle.symbols.specs.Lists.{same, find}
@@ -54,26 +55,14 @@ largest (subsetsOf g) = 0
 largest (pairsOf a g h) = 0
 
 -- two names are one exactly if their letters and endings are equal
-abbrev pub sameEnding : Ending → Ending → Bool
-sameEnding noEnding noEnding = true
-sameEnding noEnding prime = false
-sameEnding noEnding query = false
-sameEnding noEnding shriek = false
-sameEnding prime noEnding = false
-sameEnding prime prime = true
-sameEnding prime query = false
-sameEnding prime shriek = false
-sameEnding query noEnding = false
-sameEnding query prime = false
-sameEnding query query = true
-sameEnding query shriek = false
-sameEnding shriek noEnding = false
-sameEnding shriek prime = false
-sameEnding shriek query = false
-sameEnding shriek shriek = true
+abbrev pub endingCode : Ending → ℕ
+endingCode noEnding = 0
+endingCode prime = 1
+endingCode query = 2
+endingCode shriek = 3
 
 unfoldable pub sameName : Name → Name → Bool
-sameName x y = elim (sameEnding (x .ending) (y .ending)) [ true ↦ same (x .letters) (y .letters) | false ↦ false ]
+sameName x y = elim (eqb (endingCode (x .ending)) (endingCode (y .ending))) [ true ↦ same (x .letters) (y .letters) | false ↦ false ]
 
 abbrev pub plain : Letters → Name
 plain x = record { letters = x; ending = noEnding }

@@ -17,5 +17,6 @@ unfolding
   names.judgeTerm names.judgeItems names.judgePairs names.judgePred names.typeFaults names.declarationFaults names.elementFaults names.givenFaults
   names.parameterFaults names.operationFaults names.contextFaults names.nameFaults read.placeAt read.readSizes read.readBindings read.readNames
   read.readHeadings read.readForm read.readSymbols read.read scope.isTaken scope.elementOf scope.typeOfName scope.variables scope.parametersOf
-  scope.givenNames scope.operationContexts scope.contexts types.sameType
+  scope.givenNames scope.operationContexts scope.contexts types.has types.sameOver types.sameType types.isAnySet types.areNumbers types.memberFits
+  types.relatedFits types.braceFits types.pairsFit
 computeRead text = read.read text

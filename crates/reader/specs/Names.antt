@@ -18,9 +18,9 @@ use Rattle.form.specs.Tree.{
 }
 use Rattle.form.specs.Written.{endingOf, writeType}
 use Rattle.form.specs.Headings.{givensAt, givenLength, abstractAt, concreteAt, operationsAt, operationLength}
-use Rattle.reader.specs.Carriers.{Carrier, elementsOf, sizeOf, sameName, givenOf, endValue, rangeCarrier}
+use Rattle.reader.specs.Carriers.{Carrier, elementsOf, sizeOf, sameName, plain, givenOf, endValue, rangeCarrier}
 use Rattle.reader.specs.Types as ty
-use Rattle.reader.specs.Types.{Ty, prefixFits, prefixType, operatorFits, comparisonFits, memberFits, relatedFits, braceType, braceFits, pairsType, pairsFit, isNumber, setOf}
+use Rattle.reader.specs.Types.{Ty, has, isNumber, isPairs, prefixFits, prefixType, operatorFits, comparisonFits, memberFits, relatedFits, braceType, braceFits, pairsType, pairsFit, setOf}
 use Rattle.reader.specs.Scope.{Scope, Context, isTaken, typeOfName, binding, givenNames, abstractTaken, concreteTaken, contexts}
 
 -- a term: its type, where it has no fault; all its faults; the number of the symbol behind it
@@ -106,16 +106,14 @@ pub record Checked : Type 0 where
   pub faults : List Fault
   pub next : ℕ
 
-abbrev pub givenOfType : List Given → Ty → Option Given × Option Given
-givenOfType gs ty.number = (none, none)
-givenOfType gs (ty.element g) = (none, none)
-givenOfType gs (ty.set g) = (none, none)
-givenOfType gs (ty.pairs g h) = (givenOf gs (record { letters = g; ending = Rattle.symbols.specs.Symbols.noEnding }), givenOf gs (record { letters = h; ending = Rattle.symbols.specs.Symbols.noEnding }))
-
 -- 11. "also that of a brace of pairs": once the pairs fit
+abbrev pub overFault : List Given → List Letters → ℕ → List Fault
+overFault gs [] i = []
+overFault gs (g ∷ []) i = []
+overFault gs (g ∷ h ∷ ks) i = pairsFault (givenOf gs (plain g)) (givenOf gs (plain h)) i
+
 unfoldable pub wholePairs : List Given → List (Ty × Ty) → ℕ → List Fault
-wholePairs gs ts i =
-    cond (pairsFit ts) (let g : Option Given × Option Given = givenOfType gs (pairsType ts) in pairsFault (g .0) (g .1) i) (fault i typesMisfit ∷ [])
+wholePairs gs ts i = cond (pairsFit ts) (overFault gs (pairsType ts .over) i) (fault i typesMisfit ∷ [])
 
 unfoldable pub judgedPairs : List Given → Listing (Ty × Ty) → ℕ → List Fault
 judgedPairs gs l i = elim (l .faults) [ [] ↦ wholePairs gs (l .types) i | x ∷ xs ↦ x ∷ xs ]
@@ -135,7 +133,7 @@ unfoldable mutual
       judged (a .type) (whole (operatorFits o (a .type) (b .type)) (fault (a .next) typesMisfit) (a .faults ++ b .faults)) (b .next)
   judgeTerm (divided o t e) Γ i =
       let a : Judged = judgeTerm t Γ i in
-      judged ty.number (whole (isNumber (a .type)) (fault (a .next) typesMisfit) (a .faults ++ divisorFaults e (suc (a .next)))) (suc (a .next) + endLength e)
+      judged ty.number (whole (has (a .type) isNumber) (fault (a .next) typesMisfit) (a .faults ++ divisorFaults e (suc (a .next)))) (suc (a .next) + endLength e)
   judgeTerm (listed ts) Γ i =
       let l : Listing Ty = judgeItems ts Γ (suc i) in
       judged (braceType (l .types)) (whole (braceFits (l .types)) (fault i typesMisfit) (l .faults)) (suc (l .next))
@@ -148,7 +146,7 @@ unfoldable mutual
       judged (setOf (ty.typeOf c)) (inside (newName (Γ .taken) x (suc i) ++ known (givenOf (Γ .givens) g) (i + 3)) (b .faults)) (suc (b .next))
   judgeTerm (emptySet g) Γ i = judged (setOf (ty.typeOf (orNumbers (givenOf (Γ .givens) g)))) (known (givenOf (Γ .givens) g) (suc i)) (i + 2)
   judgeTerm (emptyPairs g h) Γ i =
-      judged (ty.pairs (g .letters) (h .letters))
+      judged (record { sort = isPairs; over = g .letters ∷ h .letters ∷ [] })
       (known (givenOf (Γ .givens) g) (suc i) ++ known (givenOf (Γ .givens) h) (i + 2) ++ pairsFault (givenOf (Γ .givens) g) (givenOf (Γ .givens) h) i) (i + 3)
 
   pub judgeItems : Items → Scope → (i : ℕ) → Listing Ty
@@ -192,7 +190,7 @@ unfoldable mutual
       record { faults = whole (memberFits (a .type) (b .type)) (fault (a .next) typesMisfit) (a .faults ++ b .faults); next = b .next }
   judgePred (within o t r) Γ i =
       let a : Judged = judgeTerm t Γ i in
-      record { faults = whole (isNumber (a .type)) (fault (a .next) typesMisfit) (a .faults ++ rangeFaults r (suc (a .next))); next = suc (a .next) + rangeLength r }
+      record { faults = whole (has (a .type) isNumber) (fault (a .next) typesMisfit) (a .faults ++ rangeFaults r (suc (a .next))); next = suc (a .next) + rangeLength r }
   judgePred (related o t u v) Γ i =
       let a : Judged = judgeTerm t Γ i in
       let b : Judged = judgeTerm u Γ (suc (a .next)) in

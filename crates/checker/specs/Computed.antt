@@ -8,9 +8,9 @@ use Rattle.checker.specs.Report as report
 
 unfoldable pub computeReport : List ℕ → List ℕ
 unfolding
-  computeHolds obligations.initialisationAt obligations.applicabilityAt obligations.correctnessAt order.passes order.applicabilityChecks
-  order.correctnessChecks order.operationChecks order.checks order.total order.variablesOf order.bindingOf order.look report.decimalBefore
-  report.decimal report.signedDecimal report.nameBytes report.elementBytes report.pairBytes report.separated report.braced report.valueBytes
-  report.bindingLines report.witnessLines report.checkAt report.titles report.refutedLine report.countLine report.verdictLines report.refusedLine
-  report.report
+    computeHolds obligations.initialisationAt obligations.applicabilityAt obligations.correctnessAt order.passes order.applicabilityChecks
+    order.correctnessChecks order.operationChecks order.checks order.total order.variablesOf order.bindingOf order.look report.decimalBefore
+    report.decimal report.signedDecimal report.nameBytes report.elementBytes report.pairBytes report.separated report.braced report.valueBytes
+    report.bindingLines report.witnessLines report.checkAt report.titles report.refutedLine report.countLine report.verdictLines report.refusedLine
+    report.report
 computeReport text = report.report text

@@ -1,24 +1,67 @@
--- Demands 2 and 3 over the definitions.
+-- The demands over the definitions.
 use mathlib.Core.Path.{_≡_}
 use mathlib.Core.Bool.{Bool, true, false}
 use mathlib.Core.List.{List, [], _∷_, _++_}
-use Prim.Native.Nat.{ℕ, _<_, _+_}
+use mathlib.Core.Option.{some}
+use Prim.Native.Nat.{ℕ, suc, _<_, _+_}
+use lib.ListN.{getElem?}
 use Rattle.symbols.specs.Refusals.{Refusal, Fault}
 use Rattle.form.specs.Tree.{Dossier}
 use Rattle.reader.specs.Read.{reading, read}
+use Rattle.reader.specs.Scope.{unprimed, inputs, outputs}
+use Rattle.evaluator.specs.Bindings.{Over}
 use Rattle.checker.specs.Obligations.{Obligations}
-use Rattle.checker.specs.Order.{Check, passes, checks, total}
+use Rattle.checker.specs.Order.{Check, initialises, applies, corrects, passes, checks, total, look}
 use Rattle.checker.specs.Report.{checkAt}
-use Rattle.checker.specs.Calls.{Verdict, unfinished, accepted, Held, nothing, Call, load, advance, verdict, witness, release, Reply, refusedAt, refused, loaded, looked, verdictIs, written, dropped, Exchange, Trace}
+use Rattle.checker.specs.Calls.{Verdict, unfinished, accepted, Held, nothing, Call, load, advance, verdict, witness, release, Reply, refusedAt, refused, loaded, looked, verdictIs, written, dropped, respond, Exchange, Trace}
 use Rattle.checker.specs.Runs.{RunsMatch}
 
--- Demand 2: every place passes exactly if no binding over the carriers breaks an obligation
+abbrev pub IsRefusal : Reply → Type 0
+IsRefusal (refusedAt f) = Unit {0}
+IsRefusal (refused r) = Unit {0}
+IsRefusal loaded = ⊥
+IsRefusal (looked n) = ⊥
+IsRefusal (verdictIs v) = ⊥
+IsRefusal (written n) = ⊥
+IsRefusal dropped = ⊥
+
+abbrev pub lentTo : Call → List ℕ
+lentTo (load t) = []
+lentTo (advance n) = []
+lentTo verdict = []
+lentTo (witness b) = b
+lentTo release = []
+
+-- Demand 1: "A refused call changes neither the held check nor one byte of a lent buffer."
+abbrev pub Demand1 : Type 0
+Demand1 = (h : Held) (c : Call) → IsRefusal (respond h c .reply) → (respond h c .held ≡ h) × (respond h c .lent ≡ lentTo c)
+
+-- a check of the dossier: each group over its carriers, an operation at its number
+unfoldable pub IsCheck : Dossier → Check → Type 0
+IsCheck d (initialises c) = Over (unprimed d (d .concrete)) c
+IsCheck d (applies k op a c i) =
+    (getElem? (d .operations) k ≡ some op) × Over (unprimed d (d .abstract)) a × Over (unprimed d (d .concrete)) c × Over (inputs d op) i
+IsCheck d (corrects k op a c i o c′) =
+    (getElem? (d .operations) k ≡ some op) × Over (unprimed d (d .abstract)) a × Over (unprimed d (d .concrete)) c × Over (inputs d op) i
+    × Over (outputs d op) o × Over (unprimed d (d .concrete)) c′
+
+-- places and checks are one to one
+pub record OneToOne (d : Dossier) : Type 0 where
+  pub inside : (p : ℕ) → p < total d → IsCheck d (checkAt d p)
+  pub reached : (x : Check) → IsCheck d x → (p : ℕ) × (p < total d) × (checkAt d p ≡ x)
+  pub once : (p q : ℕ) → p < total d → q < total d → checkAt d p ≡ checkAt d q → p ≡ q
+
+-- Demand 2: "A dossier is accepted exactly if no binding over its carriers breaks initialisation, applicability or correctness ..., and refuted exactly if one does.
+-- The binding shown is the first in the fixed order, and the count printed is how many were looked at up to it."
 pub record Accurate (d : Dossier) : Type 0 where
-  pub accepts : ((p : ℕ) → p < total d → passes d (checkAt d p) ≡ true) → Obligations d
-  pub refutes : Obligations d → (p : ℕ) → p < total d → passes d (checkAt d p) ≡ true
+  pub sound : look d (checks d) .failed ≡ false → Obligations d
+  pub complete : Obligations d → look d (checks d) .failed ≡ false
+  pub whole : look d (checks d) .failed ≡ false → look d (checks d) .count ≡ total d
+  pub first : look d (checks d) .failed ≡ true
+      → (p : ℕ) × (look d (checks d) .count ≡ suc p) × (p < total d) × (passes d (checkAt d p) ≡ false) × ((q : ℕ) → q < p → passes d (checkAt d q) ≡ true)
 
 abbrev pub Demand2 : Type 0
-Demand2 = (d : Dossier) → Accurate d
+Demand2 = (d : Dossier) → Accurate d × OneToOne d
 
 -- "The dossier meant is that of the last unrefused load before the verdict."
 pub data Loaded : Type 0 where

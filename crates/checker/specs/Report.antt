@@ -87,8 +87,8 @@ countLine n = bytes "bindings " ++ decimal n ++ bytes "\n"
 unfoldable pub verdictLines : Dossier → Look → List ℕ
 verdictLines d l =
     elim (l .failed) [
-      true ↦ let x : Check = checkAt d (pred (l .count)) in refutedLine d (obligationOf x) ++ witnessLines d x ++ countLine (l .count)
-    | false ↦ bytes "accepted\n" ++ countLine (l .count)
+      | true ↦ let x : Check = checkAt d (pred (l .count)) in refutedLine d (obligationOf x) ++ witnessLines d x ++ countLine (l .count)
+      | false ↦ bytes "accepted\n" ++ countLine (l .count)
     ]
 
 -- "and alone `refused N at P`, P the byte offset"

@@ -8,18 +8,14 @@ use lib.IntN.{ℤ, pos, _+ℤ_, _-ℤ_, natAbs}
 use lib.Signed.{leZ}
 use Rattle.symbols.specs.Lists.{all, any, count, find, upward}
 use Rattle.symbols.specs.Symbols.{Name}
-use Rattle.form.specs.Tree.{
-  Letters, End, Range, Domain, givenSet, range, Quantifier, forall, exists, exists1, union,
-  Term, number, name, group, prefix, binary, divided, listed, pairs, such, emptySet, emptyPairs, Items, only, also, Pairs, onlyPair, alsoPair,
-  Pred, truth, falsity, negation, paren, quantified, connected, compared, member, within, related, Given, elements
-}
+use Rattle.form.specs.Tree.{Letters, End, Range, Domain, givenSet, range, Quantifier, forall, exists, exists1, union}
+use Rattle.form.specs.Tree.{Term, number, name, group, prefix, binary, divided, listed, pairs, such, emptySet, emptyPairs, Items, only, also, Pairs, onlyPair, alsoPair}
+use Rattle.form.specs.Tree.{Pred, truth, falsity, negation, paren, quantified, connected, compared, member, within, related, Given, elements}
 use Rattle.reader.specs.Carriers.{sizeOf, endValue, sameName, plain, givenOf}
 use Rattle.reader.specs.Scope.{elementOf}
 use Rattle.sets.specs.Sets as sets
 use Rattle.evaluator.specs.Values as val
-use Rattle.evaluator.specs.Values.{
-  Value, bits, prefixValue, operatorValue, divisionValue, singleton, pairBit, singlePair, compare, asked, connect
-}
+use Rattle.evaluator.specs.Values.{Value, bits, prefixValue, operatorValue, divisionValue, singleton, pairBit, singlePair, compare, asked, connect}
 
 -- "Variables are joined by name.": a binding gives names their values
 abbrev pub Binding : Type 0

@@ -6,10 +6,8 @@ use lib.IntN.{ℤ, pos, negsuc, negℤ, _+ℤ_, _-ℤ_, _*ℤ_}
 use lib.Signed.{leZ, ltZ}
 use Rattle.sets.specs.Sets as sets
 use Rattle.sets.specs.Division.{floorDiv, floorMod}
-use Rattle.form.specs.Tree.{
-  Prefix, negate, size, dom, ran, Operator, plus, minus, union, without, times, inter, Division, quotient, remainder, Comparison, equals, differs, less, atMost,
-  Membership, isIn, notIn, Connective, and, or, implies, iff
-}
+use Rattle.form.specs.Tree.{Prefix, negate, size, dom, ran, Operator, plus, minus, union, without, times, inter, Division, quotient, remainder, Comparison, equals, differs, less, atMost}
+use Rattle.form.specs.Tree.{Membership, isIn, notIn, Connective, and, or, implies, iff}
 
 -- the number, place or bits; and how many elements the given sets have that it is over: an element's or a set's, the first and the second of a set of pairs
 pub record Value : Type 0 where

@@ -135,8 +135,11 @@ act (someBodies n) s =
 act (someElements n) s = lookup ((kind.plain, take (anElement (suc n)) (someElements (suc n) ∷ [])) ∷ (kind.END, then []) ∷ []) stuck s
 act (someDeclarations n) s = lookup ((kind.plain, take (aVariable (suc n)) (typed (someDeclarations (suc n) ∷ []))) ∷ (kind.WHERE, then []) ∷ []) stuck s
 act (someOperations n) s =
-    lookup ((kind.OP, then (aDeclared (anOperation (suc n)) ∷ someParameters 0 0
-    ∷ condition (exact kind.CONCRETE ∷ condition (exact kind.END ∷ someOperations (suc n) ∷ [])))) ∷ []) skip s
+    lookup ((
+      kind.OP,
+      then (aDeclared (anOperation (suc n)) ∷ someParameters 0 0
+          ∷ condition (exact kind.CONCRETE ∷ condition (exact kind.END ∷ someOperations (suc n) ∷ []))),
+    ) ∷ []) skip s
 act (someParameters i o) s =
     lookup ((kind.input, take (anInput (suc i)) (parameter (suc i) o)) ∷ (kind.output, take (anOutput (suc o)) (parameter i (suc o))) ∷ (kind.ABSTRACT, then []) ∷ []) stuck s
 
@@ -172,8 +175,8 @@ unfoldable pub runFrom : List Symbol → (k : Kind) (i : ℕ) → List Item → 
 runFrom [] k i γ = cond (ends γ) complete (failed i noDossier)
 runFrom (s ∷ w) k i γ =
     elim (step γ (kindOf s)) [
-      halt ↦ failed i noDossier
-    | go m ρ ↦ elim (settled k (kindOf s) w m) [ none ↦ runFrom w (kindOf s) (suc i) ρ | some r ↦ failed i r ]
+      | halt ↦ failed i noDossier
+      | go m ρ ↦ elim (settled k (kindOf s) w m) [ none ↦ runFrom w (kindOf s) (suc i) ρ | some r ↦ failed i r ]
     ]
 
 unfoldable pub run : List Symbol → Run

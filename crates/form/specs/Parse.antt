@@ -9,13 +9,11 @@ use Rattle.symbols.specs.Kinds as kind
 use Rattle.symbols.specs.Kinds.{Kind, is, lookup}
 use Rattle.symbols.specs.Symbols.{Name, noEnding, Symbol, fixed, numeral}
 use Rattle.symbols.specs.Symbols as symbol
-use Rattle.form.specs.Tree.{
-  Letters, End, Range, Domain, givenSet, range, Prefix, negate, size, dom, ran, Operator, plus, minus, union, without, times, inter, Division, quotient, remainder,
-  Connective, and, or, implies, iff, Quantifier, forall, exists, exists1, Comparison, equals, differs, less, atMost, Membership, isIn, notIn,
-  Term, number, name, group, prefix, binary, divided, listed, pairs, such, emptySet, emptyPairs, Items, only, also, Pairs, onlyPair, alsoPair,
-  Pred, truth, falsity, negation, paren, quantified, connected, compared, member, within, related,
-  Arrow, relation, partial, total, TypeForm, givenType, powerType, rangeType, arrowType, Declaration, Direction, inward, outward, Parameter, Given, State, Operation, Dossier
-}
+use Rattle.form.specs.Tree.{Letters, End, Range, Domain, givenSet, range, Prefix, negate, size, dom, ran, Operator, plus, minus, union, without, times, inter, Division, quotient, remainder}
+use Rattle.form.specs.Tree.{Connective, and, or, implies, iff, Quantifier, forall, exists, exists1, Comparison, equals, differs, less, atMost, Membership, isIn, notIn}
+use Rattle.form.specs.Tree.{Term, number, name, group, prefix, binary, divided, listed, pairs, such, emptySet, emptyPairs, Items, only, also, Pairs, onlyPair, alsoPair}
+use Rattle.form.specs.Tree.{Pred, truth, falsity, negation, paren, quantified, connected, compared, member, within, related}
+use Rattle.form.specs.Tree.{Arrow, relation, partial, total, TypeForm, givenType, powerType, rangeType, arrowType, Declaration, Direction, inward, outward, Parameter, Given, State, Operation, Dossier}
 use Rattle.form.specs.Form.{kindAt, operatorLevel, divisionLevel, connectiveLevel, rightLevel, Outcome, refused, formed}
 use Rattle.form.specs.Machine.{Run, complete, failed, run}
 
@@ -130,49 +128,49 @@ unfoldable mutual
   parseTermRest zero l t w = got t w
   parseTermRest (suc f) l t w =
       elim (lookup infixes notInfix (first w)) [
-        notInfix ↦ got t w
-      | divides o ↦ elim (leb l divisionLevel) [ true ↦ let e : Parsed End = parseEnd (next w) in parseTermRest f l (divided o t (e .tree)) (e .rest) | false ↦ got t w ]
-      | between o ↦
-        elim (leb l (operatorLevel o)) [
-          true ↦ let p : Parsed Term = parseTerm f (suc (operatorLevel o)) (next w) in parseTermRest f l (binary o t (p .tree)) (p .rest)
-        | false ↦ got t w
-        ]
+        | notInfix ↦ got t w
+        | divides o ↦ elim (leb l divisionLevel) [ true ↦ let e : Parsed End = parseEnd (next w) in parseTermRest f l (divided o t (e .tree)) (e .rest) | false ↦ got t w ]
+        | between o ↦
+            elim (leb l (operatorLevel o)) [
+              | true ↦ let p : Parsed Term = parseTerm f (suc (operatorLevel o)) (next w) in parseTermRest f l (binary o t (p .tree)) (p .rest)
+              | false ↦ got t w
+            ]
       ]
 
   pub parseOperand : ℕ → List Symbol → Parsed Term
   parseOperand zero w = got (number 0) w
   parseOperand (suc f) w =
       elim (lookup starts aName (first w)) [
-        aNumber ↦ got (number (valueAt w)) (next w)
-      | aName ↦ got (name (nameAt w)) (next w)
-      | aGroup ↦ let p : Parsed Term = parseTerm f 1 (next w) in got (group (p .tree)) (next (p .rest))
-      | aBrace ↦ parseBrace f (next w)
-      | anEmpty ↦ parseEmpty (next w)
-      | aPrefix o ↦ let p : Parsed Term = parseOperand f (next w) in got (prefix o (p .tree)) (p .rest)
+        | aNumber ↦ got (number (valueAt w)) (next w)
+        | aName ↦ got (name (nameAt w)) (next w)
+        | aGroup ↦ let p : Parsed Term = parseTerm f 1 (next w) in got (group (p .tree)) (next (p .rest))
+        | aBrace ↦ parseBrace f (next w)
+        | anEmpty ↦ parseEmpty (next w)
+        | aPrefix o ↦ let p : Parsed Term = parseOperand f (next w) in got (prefix o (p .tree)) (p .rest)
       ]
 
   pub parseBrace : ℕ → List Symbol → Parsed Term
   parseBrace zero w = got (number 0) w
   parseBrace (suc f) w =
       elim (is (first w) kind.plain && is (kindAt w 1) kind.colon) [
-        true ↦ let p : Parsed Pred = parsePred f 1 (drop 4 w) in got (such (lettersAt w) (nameAt (drop 2 w)) (p .tree)) (next (p .rest))
-      | false ↦
-        let p : Parsed Term = parseTerm f 1 w in
-        elim (is (first (p .rest)) kind.maplet) [
-          true ↦ let q : Parsed Pairs = parsePairs f (p .tree) (p .rest) in got (pairs (q .tree)) (next (q .rest))
-        | false ↦ let q : Parsed Items = parseItems f (p .tree) (p .rest) in got (listed (q .tree)) (next (q .rest))
-        ]
+        | true ↦ let p : Parsed Pred = parsePred f 1 (drop 4 w) in got (such (lettersAt w) (nameAt (drop 2 w)) (p .tree)) (next (p .rest))
+        | false ↦
+            let p : Parsed Term = parseTerm f 1 w in
+            elim (is (first (p .rest)) kind.maplet) [
+              | true ↦ let q : Parsed Pairs = parsePairs f (p .tree) (p .rest) in got (pairs (q .tree)) (next (q .rest))
+              | false ↦ let q : Parsed Items = parseItems f (p .tree) (p .rest) in got (listed (q .tree)) (next (q .rest))
+            ]
       ]
 
   pub parseItems : ℕ → Term → List Symbol → Parsed Items
   parseItems zero t w = got (only t) w
   parseItems (suc f) t w =
       elim (is (first w) kind.comma) [
-        true ↦
-        let p : Parsed Term = parseTerm f 1 (next w) in
-        let q : Parsed Items = parseItems f (p .tree) (p .rest) in
-        got (also t (q .tree)) (q .rest)
-      | false ↦ got (only t) w
+        | true ↦
+            let p : Parsed Term = parseTerm f 1 (next w) in
+            let q : Parsed Items = parseItems f (p .tree) (p .rest) in
+            got (also t (q .tree)) (q .rest)
+        | false ↦ got (only t) w
       ]
 
   pub parsePairs : ℕ → Term → List Symbol → Parsed Pairs
@@ -180,11 +178,11 @@ unfoldable mutual
   parsePairs (suc f) t w =
       let u : Parsed Term = parseTerm f 1 (next w) in
       elim (is (first (u .rest)) kind.comma) [
-        true ↦
-        let p : Parsed Term = parseTerm f 1 (next (u .rest)) in
-        let q : Parsed Pairs = parsePairs f (p .tree) (p .rest) in
-        got (alsoPair t (u .tree) (q .tree)) (q .rest)
-      | false ↦ got (onlyPair t (u .tree)) (u .rest)
+        | true ↦
+            let p : Parsed Term = parseTerm f 1 (next (u .rest)) in
+            let q : Parsed Pairs = parsePairs f (p .tree) (p .rest) in
+            got (alsoPair t (u .tree) (q .tree)) (q .rest)
+        | false ↦ got (onlyPair t (u .tree)) (u .rest)
       ]
 
   pub parsePred : ℕ → (l : ℕ) → List Symbol → Parsed Pred
@@ -195,50 +193,50 @@ unfoldable mutual
   parsePredRest zero l p w = got p w
   parsePredRest (suc f) l p w =
       elim (lookup connectives none (first w)) [
-        none ↦ got p w
-      | some o ↦
-        elim (leb l (connectiveLevel o)) [
-          true ↦ let q : Parsed Pred = parsePred f (rightLevel o) (next w) in parsePredRest f l (connected o p (q .tree)) (q .rest)
-        | false ↦ got p w
-        ]
+        | none ↦ got p w
+        | some o ↦
+            elim (leb l (connectiveLevel o)) [
+              | true ↦ let q : Parsed Pred = parsePred f (rightLevel o) (next w) in parsePredRest f l (connected o p (q .tree)) (q .rest)
+              | false ↦ got p w
+            ]
       ]
 
   pub parseUnary : ℕ → List Symbol → Parsed Pred
   parseUnary zero w = got truth w
   parseUnary (suc f) w =
       elim (lookup begins isTerm (first w)) [
-        isTrue ↦ got truth (next w)
-      | isFalse ↦ got falsity (next w)
-      | isNot ↦ let p : Parsed Pred = parseUnary f (next w) in got (negation (p .tree)) (p .rest)
-      | isParen ↦ parseParen f (next w)
-      | isTerm ↦ let t : Parsed Term = parseTerm f 1 w in parseAtom f (t .tree) (t .rest)
+        | isTrue ↦ got truth (next w)
+        | isFalse ↦ got falsity (next w)
+        | isNot ↦ let p : Parsed Pred = parseUnary f (next w) in got (negation (p .tree)) (p .rest)
+        | isParen ↦ parseParen f (next w)
+        | isTerm ↦ let t : Parsed Term = parseTerm f 1 w in parseAtom f (t .tree) (t .rest)
       ]
 
   pub parseParen : ℕ → List Symbol → Parsed Pred
   parseParen zero w = got truth w
   parseParen (suc f) w =
       elim (lookup quantifiers none (first w)) [
-        none ↦ let p : Parsed Pred = parsePred f 1 w in got (paren (p .tree)) (next (p .rest))
-      | some q ↦
-        let t : Parsed Domain = parseDomain (drop 3 w) in
-        let p : Parsed Pred = parsePred f 1 (next (t .rest)) in
-        got (quantified q (lettersAt (next w)) (t .tree) (p .tree)) (next (p .rest))
+        | none ↦ let p : Parsed Pred = parsePred f 1 w in got (paren (p .tree)) (next (p .rest))
+        | some q ↦
+            let t : Parsed Domain = parseDomain (drop 3 w) in
+            let p : Parsed Pred = parsePred f 1 (next (t .rest)) in
+            got (quantified q (lettersAt (next w)) (t .tree) (p .tree)) (next (p .rest))
       ]
 
   pub parseAtom : ℕ → Term → List Symbol → Parsed Pred
   parseAtom zero t w = got truth w
   parseAtom (suc f) t w =
       elim (lookup relations maps (first w)) [
-        compares o ↦ let u : Parsed Term = parseTerm f 1 (next w) in got (compared o t (u .tree)) (u .rest)
-      | contains o ↦
-        elim (isRange (next w)) [
-          true ↦ let r : Parsed Range = parseRange (next w) in got (within o t (r .tree)) (r .rest)
-        | false ↦ let u : Parsed Term = parseTerm f 1 (next w) in got (member o t (u .tree)) (u .rest)
-        ]
-      | maps ↦
-        let u : Parsed Term = parseTerm f 1 (next w) in
-        let v : Parsed Term = parseTerm f 1 (next (u .rest)) in
-        got (related (membership (first (u .rest))) t (u .tree) (v .tree)) (v .rest)
+        | compares o ↦ let u : Parsed Term = parseTerm f 1 (next w) in got (compared o t (u .tree)) (u .rest)
+        | contains o ↦
+            elim (isRange (next w)) [
+              | true ↦ let r : Parsed Range = parseRange (next w) in got (within o t (r .tree)) (r .rest)
+              | false ↦ let u : Parsed Term = parseTerm f 1 (next w) in got (member o t (u .tree)) (u .rest)
+            ]
+        | maps ↦
+            let u : Parsed Term = parseTerm f 1 (next w) in
+            let v : Parsed Term = parseTerm f 1 (next (u .rest)) in
+            got (related (membership (first (u .rest))) t (u .tree) (v .tree)) (v .rest)
       ]
 
 unfoldable pub arrowOf : Kind → Option Arrow
@@ -258,27 +256,27 @@ unfoldable pub parseEntries : ℕ → Kind → List Symbol → Parsed (List Lett
 parseEntries zero k w = got [] w
 parseEntries (suc f) k w =
     elim (is (first w) k) [
-      true ↦ let p : Parsed (List Letters) = parseEntries f k (drop 2 w) in got (lettersAt (next w) ∷ p .tree) (p .rest)
-    | false ↦ got [] w
+      | true ↦ let p : Parsed (List Letters) = parseEntries f k (drop 2 w) in got (lettersAt (next w) ∷ p .tree) (p .rest)
+      | false ↦ got [] w
     ]
 
 unfoldable pub parseElements : ℕ → List Symbol → Parsed (List Letters)
 parseElements zero w = got [] w
 parseElements (suc f) w =
     elim (is (first w) kind.plain) [
-      true ↦ let p : Parsed (List Letters) = parseElements f (next w) in got (lettersAt w ∷ p .tree) (p .rest)
-    | false ↦ got [] w
+      | true ↦ let p : Parsed (List Letters) = parseElements f (next w) in got (lettersAt w ∷ p .tree) (p .rest)
+      | false ↦ got [] w
     ]
 
 unfoldable pub parseGivens : ℕ → List Symbol → Parsed (List Given)
 parseGivens zero w = got [] w
 parseGivens (suc f) w =
     elim (is (first w) kind.GIVEN) [
-      true ↦
-      let e : Parsed (List Letters) = parseElements f (drop 3 w) in
-      let p : Parsed (List Given) = parseGivens f (next (e .rest)) in
-      got (record { title = lettersAt (next w); firstElement = lettersAt (drop 2 w); otherElements = e .tree } ∷ p .tree) (p .rest)
-    | false ↦ got [] w
+      | true ↦
+          let e : Parsed (List Letters) = parseElements f (drop 3 w) in
+          let p : Parsed (List Given) = parseGivens f (next (e .rest)) in
+          got (record { title = lettersAt (next w); firstElement = lettersAt (drop 2 w); otherElements = e .tree } ∷ p .tree) (p .rest)
+      | false ↦ got [] w
     ]
 
 unfoldable pub parseDeclaration : List Symbol → Parsed Declaration
@@ -288,22 +286,22 @@ unfoldable pub parseDeclarations : ℕ → List Symbol → Parsed (List Declarat
 parseDeclarations zero w = got [] w
 parseDeclarations (suc f) w =
     elim (is (first w) kind.plain) [
-      true ↦
-      let d : Parsed Declaration = parseDeclaration w in
-      let p : Parsed (List Declaration) = parseDeclarations f (d .rest) in
-      got (d .tree ∷ p .tree) (p .rest)
-    | false ↦ got [] w
+      | true ↦
+          let d : Parsed Declaration = parseDeclaration w in
+          let p : Parsed (List Declaration) = parseDeclarations f (d .rest) in
+          got (d .tree ∷ p .tree) (p .rest)
+      | false ↦ got [] w
     ]
 
 unfoldable pub parseParameters : ℕ → List Symbol → Parsed (List Parameter)
 parseParameters zero w = got [] w
 parseParameters (suc f) w =
     elim (is (first w) kind.ABSTRACT) [
-      true ↦ got [] w
-    | false ↦
-      let d : Parsed Declaration = parseDeclaration w in
-      let p : Parsed (List Parameter) = parseParameters f (d .rest) in
-      got (record { direction = cond (is (first w) kind.input) inward outward; declaration = d .tree } ∷ p .tree) (p .rest)
+      | true ↦ got [] w
+      | false ↦
+          let d : Parsed Declaration = parseDeclaration w in
+          let p : Parsed (List Parameter) = parseParameters f (d .rest) in
+          got (record { direction = cond (is (first w) kind.input) inward outward; declaration = d .tree } ∷ p .tree) (p .rest)
     ]
 
 -- `heading where predicate end`
@@ -322,12 +320,12 @@ unfoldable pub parseOperations : (f g : ℕ) → List Symbol → List Operation
 parseOperations zero g w = []
 parseOperations (suc f) g w =
     elim (is (first w) kind.OP) [
-      true ↦
-      let x : Parsed (List Parameter) = parseParameters g (drop 2 w) in
-      let a : Parsed Pred = parsePred g 1 (next (x .rest)) in
-      let c : Parsed Pred = parsePred g 1 (next (a .rest)) in
-      record { title = lettersAt (next w); parameters = x .tree; abstractly = a .tree; concretely = c .tree } ∷ parseOperations f g (next (c .rest))
-    | false ↦ []
+      | true ↦
+          let x : Parsed (List Parameter) = parseParameters g (drop 2 w) in
+          let a : Parsed Pred = parsePred g 1 (next (x .rest)) in
+          let c : Parsed Pred = parsePred g 1 (next (a .rest)) in
+          record { title = lettersAt (next w); parameters = x .tree; abstractly = a .tree; concretely = c .tree } ∷ parseOperations f g (next (c .rest))
+      | false ↦ []
     ]
 
 unfoldable pub parseDossier : ℕ → List Symbol → Dossier
@@ -341,8 +339,15 @@ parseDossier f w =
     let j : Parsed Pred = parseWhere f (i .rest) in
     let r : Parsed Pred = parseWhere f (j .rest) in
     record {
-      givenEntries = es .tree; operationEntries = os .tree; givens = gs .tree; abstract = a .tree; concrete = c .tree;
-      ainit = i .tree; cinit = j .tree; retrieve = r .tree; operations = parseOperations f f (r .rest)
+      givenEntries = es .tree;
+      operationEntries = os .tree;
+      givens = gs .tree;
+      abstract = a .tree;
+      concrete = c .tree;
+      ainit = i .tree;
+      cinit = j .tree;
+      retrieve = r .tree;
+      operations = parseOperations f f (r .rest);
     }
 
 abbrev outcomeOf : List Symbol → Run → Outcome

@@ -6,13 +6,11 @@ use Rattle.symbols.specs.Kinds as kind
 use Rattle.symbols.specs.Kinds.{Kind}
 use Rattle.symbols.specs.Symbols.{Name, Ending, noEnding, query, shriek, Symbol, fixed, numeral}
 use Rattle.symbols.specs.Symbols as symbol
-use Rattle.form.specs.Tree.{
-  Letters, End, Range, Domain, givenSet, range, Prefix, negate, size, dom, ran, Operator, plus, minus, union, without, times, inter, Division, quotient, remainder,
-  Connective, and, or, implies, iff, Quantifier, forall, exists, exists1, Comparison, equals, differs, less, atMost, Membership, isIn, notIn,
-  Term, number, name, group, prefix, binary, divided, listed, pairs, such, emptySet, emptyPairs, Items, only, also, Pairs, onlyPair, alsoPair,
-  Pred, truth, falsity, negation, paren, quantified, connected, compared, member, within, related,
-  Arrow, relation, partial, total, TypeForm, givenType, powerType, rangeType, arrowType, Declaration, Direction, inward, outward, Parameter, Given, State, Operation, Dossier
-}
+use Rattle.form.specs.Tree.{Letters, End, Range, Domain, givenSet, range, Prefix, negate, size, dom, ran, Operator, plus, minus, union, without, times, inter, Division, quotient, remainder}
+use Rattle.form.specs.Tree.{Connective, and, or, implies, iff, Quantifier, forall, exists, exists1, Comparison, equals, differs, less, atMost, Membership, isIn, notIn}
+use Rattle.form.specs.Tree.{Term, number, name, group, prefix, binary, divided, listed, pairs, such, emptySet, emptyPairs, Items, only, also, Pairs, onlyPair, alsoPair}
+use Rattle.form.specs.Tree.{Pred, truth, falsity, negation, paren, quantified, connected, compared, member, within, related}
+use Rattle.form.specs.Tree.{Arrow, relation, partial, total, TypeForm, givenType, powerType, rangeType, arrowType, Declaration, Direction, inward, outward, Parameter, Given, State, Operation, Dossier}
 
 -- 5 and 6: what a symbol opens (this depth), binds (this bound name in reach) or counts (this one of its list), the first being 1
 pub data Mark : Type 0 where

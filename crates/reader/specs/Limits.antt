@@ -7,11 +7,9 @@ use lib.Dec.{leb}
 use Rattle.symbols.specs.Lists.{find, concat}
 use Rattle.symbols.specs.Symbols.{Name}
 use Rattle.symbols.specs.Refusals.{Fault, fault, unless, manyBindings, largeSize}
-use Rattle.form.specs.Tree.{
-  End, Prefix, negate, size, dom, ran, Operator, plus, minus, union, without, times, inter, Division, quotient, remainder,
-  Term, number, name, group, prefix, binary, divided, listed, pairs, such, emptySet, emptyPairs, Items, only, also, Pairs, onlyPair, alsoPair,
-  Pred, truth, falsity, negation, paren, quantified, connected, compared, member, within, related, Operation, Dossier
-}
+use Rattle.form.specs.Tree.{End, Prefix, negate, size, dom, ran, Operator, plus, minus, union, without, times, inter, Division, quotient, remainder}
+use Rattle.form.specs.Tree.{Term, number, name, group, prefix, binary, divided, listed, pairs, such, emptySet, emptyPairs, Items, only, also, Pairs, onlyPair, alsoPair}
+use Rattle.form.specs.Tree.{Pred, truth, falsity, negation, paren, quantified, connected, compared, member, within, related, Operation, Dossier}
 use Rattle.form.specs.Headings.{abstractAt, concreteAt, operationsAt, operationLength}
 use Rattle.reader.specs.Carriers.{Carrier, Variable, countOf, largest, plain, sameName}
 use Rattle.reader.specs.Scope.{Scope, Context, unprimed, inputs, outputs, contexts}

@@ -10,12 +10,10 @@ use lib.ListN.{length}
 use Rattle.symbols.specs.Lists.{same, any, concat}
 use Rattle.symbols.specs.Symbols.{Name}
 use Rattle.symbols.specs.Refusals.{Fault, fault, unless, nameInUse, nameUnknown, typesMisfit, wideType, zeroDivisor}
-use Rattle.form.specs.Tree.{
-  Letters, End, Range, Domain, givenSet, range, Prefix, Operator, Division, Connective, Quantifier, Comparison, Membership,
-  Term, number, name, group, prefix, binary, divided, listed, pairs, such, emptySet, emptyPairs, Items, only, also, Pairs, onlyPair, alsoPair,
-  Pred, truth, falsity, negation, paren, quantified, connected, compared, member, within, related,
-  TypeForm, givenType, powerType, rangeType, arrowType, Declaration, declarations, Direction, inward, outward, Parameter, Given, elements, State, Operation, Dossier
-}
+use Rattle.form.specs.Tree.{Letters, End, Range, Domain, givenSet, range, Prefix, Operator, Division, Connective, Quantifier, Comparison, Membership}
+use Rattle.form.specs.Tree.{Term, number, name, group, prefix, binary, divided, listed, pairs, such, emptySet, emptyPairs, Items, only, also, Pairs, onlyPair, alsoPair}
+use Rattle.form.specs.Tree.{Pred, truth, falsity, negation, paren, quantified, connected, compared, member, within, related}
+use Rattle.form.specs.Tree.{TypeForm, givenType, powerType, rangeType, arrowType, Declaration, declarations, Direction, inward, outward, Parameter, Given, elements, State, Operation, Dossier}
 use Rattle.form.specs.Written.{endingOf, writeType}
 use Rattle.form.specs.Headings.{givensAt, givenLength, abstractAt, concreteAt, operationsAt, operationLength}
 use Rattle.reader.specs.Carriers.{Carrier, elementsOf, sizeOf, sameName, plain, givenOf, endValue, rangeCarrier}

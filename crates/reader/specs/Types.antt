@@ -5,9 +5,7 @@ use Prim.Native.Nat.{ℕ}
 use lib.Dec.{eqb}
 use lib.ListN.{take, drop}
 use Rattle.symbols.specs.Lists.{same, all}
-use Rattle.form.specs.Tree.{
-  Letters, Prefix, negate, size, dom, ran, Operator, plus, minus, union, without, times, inter, Comparison, equals, differs, less, atMost
-}
+use Rattle.form.specs.Tree.{Letters, Prefix, negate, size, dom, ran, Operator, plus, minus, union, without, times, inter, Comparison, equals, differs, less, atMost}
 use Rattle.reader.specs.Carriers.{Carrier, elementsOf, numbers, subsetsOf, pairsOf}
 
 pub data Sort : Type 0 where

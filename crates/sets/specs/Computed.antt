@@ -6,6 +6,6 @@ use Rattle.sets.specs.Sets as bits
 
 unfoldable pub computeDiv : ℤ → ℤ → ℤ
 unfolding
-  onesIn division.floorDiv division.floorMod bits.has bits.setFrom bits.setOf bits.membersFrom bits.members bits.size bits.union bits.without bits.inter
-  bits.single bits.pair bits.someFrom bits.countFrom bits.dom bits.ran bits.isPartial bits.isTotal
+    onesIn division.floorDiv division.floorMod bits.has bits.setFrom bits.setOf bits.membersFrom bits.members bits.size bits.union bits.without bits.inter
+    bits.single bits.pair bits.someFrom bits.countFrom bits.dom bits.ran bits.isPartial bits.isTotal
 computeDiv a b = division.floorDiv a b

@@ -8,9 +8,7 @@ use lib.Dec.{eqb}
 use Rattle.symbols.specs.Lists.{bytes, same, begins, all, any}
 use Rattle.symbols.specs.Kinds.{Kind, number, plain, primed, input, output, colon, upTo, less, atMost, iff, minus, total, relation, maplet, implies, IN, EXISTS, EXISTS1, codeOf}
 use Rattle.symbols.specs.Refusals.{Fault, fault, unlistedSymbol, numberOf}
-use Rattle.symbols.specs.Symbols.{
-  Placed, kindOf, scan, scanFrom, symbols, scanFaults, symbolAt, byClass, longest, wordOf, endingOf, reserved, numberFound, isNumber, decimalFrom, run, classOf, between
-}
+use Rattle.symbols.specs.Symbols.{Placed, kindOf, scan, scanFrom, symbols, scanFaults, symbolAt, byClass, longest, wordOf, endingOf, reserved, numberFound, isNumber, decimalFrom, run, classOf, between}
 
 -- the kinds of a text's symbols, or the place of what is not listed
 pub data Sample : Type 0 where

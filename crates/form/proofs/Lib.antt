@@ -1,2 +1,3 @@
--- The pass for form computed on changed parts of BASE.
+-- The pass for form: samples, and the theorem that it computes the condition.
 pub mod Samples
+pub mod Takes

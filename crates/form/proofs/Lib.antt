@@ -1,3 +1,4 @@
 -- The pass for form: samples, and the theorem that it computes the condition.
 pub mod Samples
 pub mod Takes
+pub mod Runs

@@ -170,14 +170,19 @@ pub data Run : Type 0 where
   complete : Run
   failed : (i : ℕ) → Refusal → Run
 
+-- goes on with f, unless the symbol i opens or counts too much; or cannot be taken
+abbrev pub unlessOver : Option Refusal → (i : ℕ) → (List Item → Run) → List Item → Run
+unlessOver none i f ρ = f ρ
+unlessOver (some r) i f ρ = failed i r
+
+abbrev pub onward : Next → (Mark → Option Refusal) → (i : ℕ) → (List Item → Run) → Run
+onward (go m ρ) over i f = unlessOver (over m) i f ρ
+onward halt over i f = failed i noDossier
+
 -- from the symbol i on, which stands behind one of the kind k
 unfoldable pub runFrom : List Symbol → (k : Kind) (i : ℕ) → List Item → Run
 runFrom [] k i γ = cond (ends γ) complete (failed i noDossier)
-runFrom (s ∷ w) k i γ =
-    elim (step γ (kindOf s)) [
-      | halt ↦ failed i noDossier
-      | go m ρ ↦ elim (settled k (kindOf s) w m) [ none ↦ runFrom w (kindOf s) (suc i) ρ | some r ↦ failed i r ]
-    ]
+runFrom (s ∷ w) k i γ = onward (step γ (kindOf s)) (settled k (kindOf s) w) i (runFrom w (kindOf s) (suc i))
 
 unfoldable pub run : List Symbol → Run
 run w = runFrom w kind.END 0 (aDossier ∷ [])

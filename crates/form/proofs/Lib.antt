@@ -2,3 +2,4 @@
 pub mod Samples
 pub mod Takes
 pub mod Runs
+pub mod Split

@@ -10,17 +10,17 @@ use lib.ListN.{length, take, drop, getD}
 use Rattle.symbols.specs.Kinds.{Kind}
 use Rattle.symbols.specs.Symbols.{Symbol, kindOf}
 use Rattle.symbols.specs.Refusals.{Refusal, noDossier}
-use Rattle.form.specs.Written.{Mark, Written}
+use Rattle.form.specs.Written.{Mark}
 use Rattle.form.specs.Form.{kindAt, settled}
 use Rattle.form.specs.Machine.{Item, Next, go, halt, step, ends, Run, complete, failed, unlessOver, onward, runFrom}
-use Rattle.form.proofs.Takes.{feed, feedOn, Fits, symbolsIn, Agrees, AgreesOn}
+use Rattle.form.proofs.Takes.{feed, feedOn}
 
 -- the kind of the symbol before j, where the first one stands behind k
 abbrev pub kindBefore : Kind → List Symbol → ℕ → Kind
 kindBefore k w zero = k
 kindBefore k w (suc j) = kindAt w j
 
-behind : (s : Symbol) (w : List Symbol) (k : Kind) (j : ℕ) → kindBefore (kindOf s) w j ≡ kindBefore k (s ∷ w) (suc j)
+pub behind : (s : Symbol) (w : List Symbol) (k : Kind) (j : ℕ) → kindBefore (kindOf s) w j ≡ kindBefore k (s ∷ w) (suc j)
 unfolding kindAt
 behind s w k zero = refl
 behind s w k (suc j) = refl
@@ -71,18 +71,6 @@ cause-more s w k γ j r (cannotTake l h) = cannotTake (omega arith) h
 cause-more s w k γ j r (cannotEnd l h) = cannotEnd (ap suc l) h
 cause-more s w k γ j r (over m ρ l h q) = over m ρ (omega arith) h (ap (λ (x : Kind). settled x (kindAt w j) (drop (suc j) w) m) (sym (behind s w k j)) ∙ q)
 
-abbrev IsFailed : Run → Type 0
-IsFailed complete = ⊥
-IsFailed (failed e r) = Unit {0}
-
-abbrev placeIn : Run → ℕ
-placeIn complete = 0
-placeIn (failed e r) = e
-
-abbrev refusalIn : Run → Refusal
-refusalIn complete = noDossier
-refusalIn (failed e r) = r
-
 -- a run that is complete passes every symbol, and may end
 pub record Completed (w : List Symbol) (k : Kind) (γ : List Item) : Type 0 where
   pub all : (j : ℕ) → j < length w → Passed w k γ j
@@ -95,7 +83,7 @@ pub record Failed (w : List Symbol) (k : Kind) (γ : List Item) (i e : ℕ) (r :
   pub before : (j : ℕ) → i + j < e → Passed w k γ j
   pub stopped : Stopped w k γ i e r
 
-abbrev Outcome : List Symbol → Kind → List Item → ℕ → Run → Type 0
+abbrev pub Outcome : List Symbol → Kind → List Item → ℕ → Run → Type 0
 Outcome w k γ i complete = Completed w k γ
 Outcome w k γ i (failed e r) = Failed w k γ i e r
 

@@ -3,3 +3,4 @@ pub mod Samples
 pub mod Takes
 pub mod Runs
 pub mod Split
+pub mod FormOf

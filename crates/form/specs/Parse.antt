@@ -350,7 +350,7 @@ parseDossier f w =
       operations = parseOperations f f (r .rest);
     }
 
-abbrev outcomeOf : List Symbol → Run → Outcome
+abbrev pub outcomeOf : List Symbol → Run → Outcome
 outcomeOf w complete = formed (parseDossier (4 * length w + 4) w)
 outcomeOf w (failed i r) = refused i r
 

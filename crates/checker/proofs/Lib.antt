@@ -1,2 +1,4 @@
--- The definitions computed on the trial dossiers.
+-- The demands over the definitions, and the definitions computed on the trial dossiers.
+pub mod Tests
+pub mod Refused
 pub mod Trials

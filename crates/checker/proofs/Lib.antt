@@ -1,4 +1,6 @@
 -- The demands over the definitions, and the definitions computed on the trial dossiers.
 pub mod Tests
 pub mod Refused
+pub mod Counts
+pub mod Matching
 pub mod Trials

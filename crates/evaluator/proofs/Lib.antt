@@ -1,2 +1,4 @@
--- Meaning computed on BASE and on a dossier with what newcomers misread.
+-- Lists and bindings over the definitions; meaning computed on BASE and on a dossier with what newcomers misread.
+pub mod Members
+pub mod Bindings
 pub mod Samples

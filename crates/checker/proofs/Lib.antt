@@ -3,4 +3,8 @@ pub mod Tests
 pub mod Refused
 pub mod Counts
 pub mod Matching
+pub mod Looks
+pub mod Listed
+pub mod Accuracy
+pub mod Histories
 pub mod Trials

@@ -4,7 +4,9 @@ pub mod Refused
 pub mod Counts
 pub mod Matching
 pub mod Looks
+pub mod Groups
 pub mod Listed
 pub mod Accuracy
+pub mod Once
 pub mod Histories
 pub mod Trials

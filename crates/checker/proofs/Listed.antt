@@ -10,18 +10,15 @@ use lib.ListN.{getElem?}
 use Rattle.form.specs.Tree.{Operation, Dossier}
 use Rattle.reader.specs.Scope.{unprimed, inputs, outputs}
 use Rattle.evaluator.specs.Meaning.{Binding}
-use Rattle.evaluator.specs.Bindings.{bindings, flat, Among, Over}
+use Rattle.evaluator.specs.Bindings.{bindings, Among, Over}
 use Rattle.evaluator.specs.Operations.{abstractBindings, concreteBindings, outputBindings}
 use Rattle.evaluator.proofs.Members.{among-left, among-right, among-append, among-map, map-among, among-flat, flat-among}
 use Rattle.evaluator.proofs.Bindings.{over-listed, listed-over}
 use Rattle.checker.specs.Order.{Check, initialises, applies, corrects, applicabilityChecks, correctnessChecks, operationChecks, checks}
 use Rattle.checker.specs.Demands.{IsCheck}
+use Rattle.checker.proofs.Groups.{appliesAt, appliesFrom, correctsGiving, correctsBy, correctsAt, correctsFrom, blockOf}
 
 module _ (d : Dossier) where
-  -- the checks of one operation
-  abbrev pub blockOf : ℕ → Operation → List Check
-  blockOf k op = applicabilityChecks d k op ++ correctnessChecks d k op
-
   applicability-listed : (k : ℕ) (op : Operation) (a c i : Binding) → Over (unprimed d (d .abstract)) a → Over (unprimed d (d .concrete)) c → Over (inputs d op) i
       → Among (applies k op a c i) (applicabilityChecks d k op)
   unfolding applicabilityChecks abstractBindings concreteBindings
@@ -43,9 +40,9 @@ module _ (d : Dossier) where
   listed-applicability : (k : ℕ) (op : Operation) → getElem? (d .operations) k ≡ some op → (x : Check) → Among x (applicabilityChecks d k op) → IsCheck d x
   unfolding applicabilityChecks abstractBindings concreteBindings IsCheck
   listed-applicability k op e x m =
-      let a : (a : Binding) × Among a (abstractBindings d) × Among x (flat (λ (c : Binding). map (λ (i : Binding). applies k op a c i) (bindings (inputs d op))) (concreteBindings d))
+      let a : (a : Binding) × Among a (abstractBindings d) × Among x (appliesFrom d k op a)
       = flat-among _ (abstractBindings d) x m in
-      let c : (c : Binding) × Among c (concreteBindings d) × Among x (map (λ (i : Binding). applies k op (a .0) c i) (bindings (inputs d op)))
+      let c : (c : Binding) × Among c (concreteBindings d) × Among x (appliesAt d k op (a .0) c)
       = flat-among _ (concreteBindings d) x (a .2) in
       let i : (i : Binding) × Among i (bindings (inputs d op)) × (x ≡ applies k op (a .0) (c .0) i) = map-among _ x _ (c .2) in
       subst (IsCheck d) (sym (i .2)) (e, listed-over _ (a .0) (a .1), listed-over _ (c .0) (c .1), listed-over _ (i .0) (i .1))
@@ -53,52 +50,45 @@ module _ (d : Dossier) where
   listed-correctness : (k : ℕ) (op : Operation) → getElem? (d .operations) k ≡ some op → (x : Check) → Among x (correctnessChecks d k op) → IsCheck d x
   unfolding correctnessChecks abstractBindings concreteBindings outputBindings IsCheck
   listed-correctness k op e x m =
-      let a : (a : Binding) × Among a (abstractBindings d) × Among x (flat (λ (c : Binding). flat (λ (i : Binding). flat (λ (o : Binding).
-      map (λ (c′ : Binding). corrects k op a c i o c′) (concreteBindings d)) (outputBindings d op)) (bindings (inputs d op))) (concreteBindings d))
-      = flat-among _ (abstractBindings d) x m in
-      let c : (c : Binding) × Among c (concreteBindings d) × Among x (flat (λ (i : Binding). flat (λ (o : Binding).
-      map (λ (c′ : Binding). corrects k op (a .0) c i o c′) (concreteBindings d)) (outputBindings d op)) (bindings (inputs d op)))
-      = flat-among _ (concreteBindings d) x (a .2) in
-      let i : (i : Binding) × Among i (bindings (inputs d op)) × Among x (flat (λ (o : Binding).
-      map (λ (c′ : Binding). corrects k op (a .0) (c .0) i o c′) (concreteBindings d)) (outputBindings d op))
-      = flat-among _ (bindings (inputs d op)) x (c .2) in
-      let o : (o : Binding) × Among o (outputBindings d op) × Among x (map (λ (c′ : Binding). corrects k op (a .0) (c .0) (i .0) o c′) (concreteBindings d))
-      = flat-among _ (outputBindings d op) x (i .2) in
+      let a : (a : Binding) × Among a (abstractBindings d) × Among x (correctsFrom d k op a) = flat-among _ (abstractBindings d) x m in
+      let c : (c : Binding) × Among c (concreteBindings d) × Among x (correctsAt d k op (a .0) c) = flat-among _ (concreteBindings d) x (a .2) in
+      let i : (i : Binding) × Among i (bindings (inputs d op)) × Among x (correctsBy d k op (a .0) (c .0) i) = flat-among _ (bindings (inputs d op)) x (c .2) in
+      let o : (o : Binding) × Among o (outputBindings d op) × Among x (correctsGiving d k op (a .0) (c .0) (i .0) o) = flat-among _ (outputBindings d op) x (i .2) in
       let c′ : (c′ : Binding) × Among c′ (concreteBindings d) × (x ≡ corrects k op (a .0) (c .0) (i .0) (o .0) c′) = map-among _ x _ (o .2) in
       subst (IsCheck d) (sym (c′ .2))
       (e, listed-over _ (a .0) (a .1), listed-over _ (c .0) (c .1), listed-over _ (i .0) (i .1), listed-over _ (o .0) (o .1), listed-over _ (c′ .0) (c′ .1))
 
   -- the operation at j has its checks among those of the operations numbered from k on, under the number k + j
-  operation-listed : (k j : ℕ) (op : Operation) (ops : List Operation) → getElem? ops j ≡ some op → (x : Check) → Among x (blockOf (k + j) op) → Among x (operationChecks d k ops)
+  operation-listed : (k j : ℕ) (op : Operation) (ops : List Operation) → getElem? ops j ≡ some op → (x : Check) → Among x (blockOf d (k + j) op) → Among x (operationChecks d k ops)
   unfolding operationChecks
   operation-listed k j op [] e x m = absurd (Option·none-ne-some op e)
   operation-listed k zero op (o ∷ ops) e x m =
-      among-left x (blockOf k o) (operationChecks d (suc k) ops)
-      (subst (λ (p : Operation). Among x (blockOf k p)) (sym (Option·some-injective o op e)) (subst (λ (n : ℕ). Among x (blockOf n op)) (add-zero k) m))
+      among-left x (blockOf d k o) (operationChecks d (suc k) ops)
+      (subst (λ (p : Operation). Among x (blockOf d k p)) (sym (Option·some-injective o op e)) (subst (λ (n : ℕ). Among x (blockOf d n op)) (add-zero k) m))
   operation-listed k (suc j) op (o ∷ ops) e x m =
       let q : k + suc j ≡ suc k + j = omega arith in
-      among-right x (blockOf k o) (operationChecks d (suc k) ops) (operation-listed (suc k) j op ops e x (subst (λ (n : ℕ). Among x (blockOf n op)) q m))
+      among-right x (blockOf d k o) (operationChecks d (suc k) ops) (operation-listed (suc k) j op ops e x (subst (λ (n : ℕ). Among x (blockOf d n op)) q m))
 
   abbrev Found : Check → ℕ → List Operation → Type 0
-  Found x k ops = (j : ℕ) × ((op : Operation) × ((getElem? ops j ≡ some op) × Among x (blockOf (k + j) op)))
+  Found x k ops = (j : ℕ) × ((op : Operation) × ((getElem? ops j ≡ some op) × Among x (blockOf d (k + j) op)))
 
   listed-operation : (k : ℕ) (ops : List Operation) (x : Check) → Among x (operationChecks d k ops) → Found x k ops
   unfolding operationChecks Among
   listed-operation k [] x m = absurd m
-  listed-operation k (o ∷ ops) x m = go (among-append x (blockOf k o) (operationChecks d (suc k) ops) m) (listed-operation (suc k) ops x)
+  listed-operation k (o ∷ ops) x m = go (among-append x (blockOf d k o) (operationChecks d (suc k) ops) m) (listed-operation (suc k) ops x)
     where
-      go : Among x (blockOf k o) ⊎ Among x (operationChecks d (suc k) ops) → (Among x (operationChecks d (suc k) ops) → Found x (suc k) ops) → Found x k (o ∷ ops)
-      go (inl n) r = (zero, (o, (refl, subst (λ (m : ℕ). Among x (blockOf m o)) (sym (add-zero k)) n)))
+      go : Among x (blockOf d k o) ⊎ Among x (operationChecks d (suc k) ops) → (Among x (operationChecks d (suc k) ops) → Found x (suc k) ops) → Found x k (o ∷ ops)
+      go (inl n) r = (zero, (o, (refl, subst (λ (m : ℕ). Among x (blockOf d m o)) (sym (add-zero k)) n)))
       go (inr n) r =
           let s : Found x (suc k) ops = r n in
           let q : suc k + s .0 ≡ k + suc (s .0) = omega arith in
-          (suc (s .0), (s .1 .0, (s .1 .1 .0, subst (λ (m : ℕ). Among x (blockOf m (s .1 .0))) q (s .1 .1 .1))))
+          (suc (s .0), (s .1 .0, (s .1 .1 .0, subst (λ (m : ℕ). Among x (blockOf d m (s .1 .0))) q (s .1 .1 .1))))
 
-  block-listed : (k : ℕ) (op : Operation) → getElem? (d .operations) k ≡ some op → (x : Check) → Among x (blockOf k op) → Among x (checks d)
+  block-listed : (k : ℕ) (op : Operation) → getElem? (d .operations) k ≡ some op → (x : Check) → Among x (blockOf d k op) → Among x (checks d)
   unfolding checks
   block-listed k op e x m =
       among-right x (map initialises (concreteBindings d)) (operationChecks d 0 (d .operations))
-      (operation-listed 0 k op (d .operations) e x (subst (λ (n : ℕ). Among x (blockOf n op)) (sym (zero-add k)) m))
+      (operation-listed 0 k op (d .operations) e x (subst (λ (n : ℕ). Among x (blockOf d n op)) (sym (zero-add k)) m))
 
   pub check-listed : (x : Check) → IsCheck d x → Among x (checks d)
   unfolding IsCheck checks concreteBindings
@@ -117,7 +107,7 @@ module _ (d : Dossier) where
       subst (IsCheck d) (sym (s .2)) (listed-over _ (s .0) (s .1)))
       (λ (n : Among x (operationChecks d 0 (d .operations))).
       let s : Found x 0 (d .operations) = listed-operation 0 (d .operations) x n in
-      let b : Among x (blockOf (s .0) (s .1 .0)) = subst (λ (n : ℕ). Among x (blockOf n (s .1 .0))) (zero-add (s .0)) (s .1 .1 .1) in
+      let b : Among x (blockOf d (s .0) (s .1 .0)) = subst (λ (n : ℕ). Among x (blockOf d n (s .1 .0))) (zero-add (s .0)) (s .1 .1 .1) in
       ⊎-elim (listed-applicability (s .0) (s .1 .0) (s .1 .1 .0) x) (listed-correctness (s .0) (s .1 .0) (s .1 .1 .0) x)
       (among-append x (applicabilityChecks d (s .0) (s .1 .0)) (correctnessChecks d (s .0) (s .1 .0)) b))
       (among-append x (map initialises (concreteBindings d)) (operationChecks d 0 (d .operations)) m)

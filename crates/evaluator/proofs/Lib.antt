@@ -2,4 +2,6 @@
 pub mod Members
 pub mod Bindings
 pub mod Places
+pub mod Distinct
+pub mod Values
 pub mod Samples

@@ -8,5 +8,6 @@ pub mod Groups
 pub mod Listed
 pub mod Accuracy
 pub mod Once
+pub mod Digits
 pub mod Histories
 pub mod Trials

@@ -16,7 +16,7 @@ use Rattle.evaluator.proofs.Values.{distinct-bindings}
 use Rattle.checker.specs.Order.{Check, initialises, applies, corrects, applicabilityChecks, correctnessChecks, operationChecks, checks, total}
 use Rattle.checker.specs.Report.{checkAt}
 use Rattle.checker.specs.Demands.{OneToOne, Demand2}
-use Rattle.checker.proofs.Groups.{appliesAt, appliesFrom, correctsGiving, correctsBy, correctsAt, correctsFrom, blockOf}
+use Rattle.checker.proofs.Groups.{appliesAt, appliesFrom, correctsGiving, correctsBy, correctsAt, correctsFrom, blockOf, every-applies-at, every-applies-from, every-applicability, every-corrects-giving, every-corrects-by, every-corrects-at, every-corrects-from, every-correctness}
 use Rattle.checker.proofs.Listed.{check-listed, listed-check}
 use Rattle.checker.proofs.Accuracy.{accurate}
 
@@ -57,34 +57,6 @@ numbered (applies k op a c i) = k
 numbered (corrects k op a c i o c′) = k
 
 module _ (d : Dossier) where
-  -- a property of all checks of one obligation of one operation, and of those that agree in their first groups
-  module _ (P : Check → Type 0) (k : ℕ) (op : Operation) where
-    every-applies-at : (a c : Binding) → ((i : Binding) → P (applies k op a c i)) → (x : Check) → Among x (appliesAt d k op a c) → P x
-    every-applies-at a c = every-map P (applies k op a c) (bindings (inputs d op))
-
-    every-applies-from : (a : Binding) → ((c i : Binding) → P (applies k op a c i)) → (x : Check) → Among x (appliesFrom d k op a) → P x
-    every-applies-from a h = every-flat P (appliesAt d k op a) (concreteBindings d) (λ c. every-applies-at a c (h c))
-
-    every-applicability : ((a c i : Binding) → P (applies k op a c i)) → (x : Check) → Among x (applicabilityChecks d k op) → P x
-    unfolding applicabilityChecks
-    every-applicability h = every-flat P (appliesFrom d k op) (abstractBindings d) (λ a. every-applies-from a (h a))
-
-    every-corrects-giving : (a c i o : Binding) → ((c′ : Binding) → P (corrects k op a c i o c′)) → (x : Check) → Among x (correctsGiving d k op a c i o) → P x
-    every-corrects-giving a c i o = every-map P (corrects k op a c i o) (concreteBindings d)
-
-    every-corrects-by : (a c i : Binding) → ((o c′ : Binding) → P (corrects k op a c i o c′)) → (x : Check) → Among x (correctsBy d k op a c i) → P x
-    every-corrects-by a c i h = every-flat P (correctsGiving d k op a c i) (outputBindings d op) (λ o. every-corrects-giving a c i o (h o))
-
-    every-corrects-at : (a c : Binding) → ((i o c′ : Binding) → P (corrects k op a c i o c′)) → (x : Check) → Among x (correctsAt d k op a c) → P x
-    every-corrects-at a c h = every-flat P (correctsBy d k op a c) (bindings (inputs d op)) (λ i. every-corrects-by a c i (h i))
-
-    every-corrects-from : (a : Binding) → ((c i o c′ : Binding) → P (corrects k op a c i o c′)) → (x : Check) → Among x (correctsFrom d k op a) → P x
-    every-corrects-from a h = every-flat P (correctsAt d k op a) (concreteBindings d) (λ c. every-corrects-at a c (h c))
-
-    every-correctness : ((a c i o c′ : Binding) → P (corrects k op a c i o c′)) → (x : Check) → Among x (correctnessChecks d k op) → P x
-    unfolding correctnessChecks
-    every-correctness h = every-flat P (correctsFrom d k op) (abstractBindings d) (λ a. every-corrects-from a (h a))
-
   distinct-abstract : Distinct (abstractBindings d)
   unfolding abstractBindings
   distinct-abstract = distinct-bindings (unprimed d (d .abstract))
@@ -100,8 +72,8 @@ module _ (d : Dossier) where
   distinct-applicability : (k : ℕ) (op : Operation) → Distinct (applicabilityChecks d k op)
   unfolding applicabilityChecks
   distinct-applicability k op =
-      distinct-flat (appliesFrom d k op) before (λ a. every-applies-from (λ (x : Check). before x ≡ a) k op a (λ c i. refl))
-      (λ a. distinct-flat (appliesAt d k op a) beside (λ c. every-applies-at (λ (x : Check). beside x ≡ c) k op a c (λ i. refl))
+      distinct-flat (appliesFrom d k op) before (λ a. every-applies-from d (λ (x : Check). before x ≡ a) k op a (λ c i. refl))
+      (λ a. distinct-flat (appliesAt d k op a) beside (λ c. every-applies-at d (λ (x : Check). beside x ≡ c) k op a c (λ i. refl))
       (λ c. distinct-map (applies k op a c) given (λ i. refl) (bindings (inputs d op)) (distinct-bindings (inputs d op)))
       (concreteBindings d) distinct-concrete)
       (abstractBindings d) distinct-abstract
@@ -109,10 +81,10 @@ module _ (d : Dossier) where
   distinct-correctness : (k : ℕ) (op : Operation) → Distinct (correctnessChecks d k op)
   unfolding correctnessChecks
   distinct-correctness k op =
-      distinct-flat (correctsFrom d k op) before (λ a. every-corrects-from (λ (x : Check). before x ≡ a) k op a (λ c i o c′. refl))
-      (λ a. distinct-flat (correctsAt d k op a) beside (λ c. every-corrects-at (λ (x : Check). beside x ≡ c) k op a c (λ i o c′. refl))
-      (λ c. distinct-flat (correctsBy d k op a c) given (λ i. every-corrects-by (λ (x : Check). given x ≡ i) k op a c i (λ o c′. refl))
-      (λ i. distinct-flat (correctsGiving d k op a c i) produced (λ o. every-corrects-giving (λ (x : Check). produced x ≡ o) k op a c i o (λ c′. refl))
+      distinct-flat (correctsFrom d k op) before (λ a. every-corrects-from d (λ (x : Check). before x ≡ a) k op a (λ c i o c′. refl))
+      (λ a. distinct-flat (correctsAt d k op a) beside (λ c. every-corrects-at d (λ (x : Check). beside x ≡ c) k op a c (λ i o c′. refl))
+      (λ c. distinct-flat (correctsBy d k op a c) given (λ i. every-corrects-by d (λ (x : Check). given x ≡ i) k op a c i (λ o c′. refl))
+      (λ i. distinct-flat (correctsGiving d k op a c i) produced (λ o. every-corrects-giving d (λ (x : Check). produced x ≡ o) k op a c i o (λ c′. refl))
       (λ o. distinct-map (corrects k op a c i o) reached (λ c′. refl) (concreteBindings d) distinct-concrete)
       (outputBindings d op) (distinct-outputs op))
       (bindings (inputs d op)) (distinct-bindings (inputs d op)))
@@ -123,15 +95,15 @@ module _ (d : Dossier) where
   block-number : (k : ℕ) (op : Operation) (x : Check) → Among x (blockOf d k op) → (numbered x ≡ k) × (1 ≤ kind x)
   block-number k op x m =
       let P : Check → Type 0 = λ (y : Check). (numbered y ≡ k) × (1 ≤ kind y) in
-      ⊎-elim (every-applicability P k op (λ a c i. (refl, omega arith)) x) (every-correctness P k op (λ a c i o c′. (refl, omega arith)) x)
+      ⊎-elim (every-applicability d P k op (λ a c i. (refl, omega arith)) x) (every-correctness d P k op (λ a c i o c′. (refl, omega arith)) x)
       (among-append x (applicabilityChecks d k op) (correctnessChecks d k op) m)
 
   distinct-block : (k : ℕ) (op : Operation) → Distinct (blockOf d k op)
   distinct-block k op =
       distinct-append (applicabilityChecks d k op) (correctnessChecks d k op) (distinct-applicability k op) (distinct-correctness k op)
       (λ x m n.
-      let one : kind x ≡ 1 = every-applicability (λ (y : Check). kind y ≡ 1) k op (λ a c i. refl) x m in
-      let two : kind x ≡ 2 = every-correctness (λ (y : Check). kind y ≡ 2) k op (λ a c i o c′. refl) x n in
+      let one : kind x ≡ 1 = every-applicability d (λ (y : Check). kind y ≡ 1) k op (λ a c i. refl) x m in
+      let two : kind x ≡ 2 = every-correctness d (λ (y : Check). kind y ≡ 2) k op (λ a c i o c′. refl) x n in
       omega arith)
 
   operation-number : (k : ℕ) (ops : List Operation) (x : Check) → Among x (operationChecks d k ops) → (k ≤ numbered x) × (1 ≤ kind x)

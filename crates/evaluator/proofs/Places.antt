@@ -1,13 +1,13 @@
 -- The member of a list at a place: in a part of a list, in two lists joined, and as a member. Assumes nothing.
-use mathlib.Core.Path.{_≡_, refl, sym, ap, _∙_, subst}
+use mathlib.Core.Path.{_≡_, refl, sym, ap, ap₂, _∙_}
 use mathlib.Core.Logic.{inl, inr}
 use mathlib.Core.Option.{Option, none, some, Option·none-ne-some, Option·some-injective}
 use mathlib.Core.List.{List, [], _∷_, _++_, map}
-use Prim.Native.Nat.{ℕ, zero, suc, _+_, _<_, _≤_}
-use native.Mathlib.Nat.{zero-add, suc-add, not-suc-le-zero, le-of-suc-le-suc}
+use Prim.Native.Nat.{ℕ, zero, suc, _+_, _*_, _<_}
+use native.Mathlib.Nat.{zero-add, suc-add, zero-mul, not-suc-le-zero, le-of-suc-le-suc}
 use native.Mathlib.Omega.{arith}
-use lib.ListN.{length, getD, getElem?, take, drop}
-use Rattle.evaluator.specs.Bindings.{Among}
+use lib.ListN.{length, getD, getElem?, take, drop, length-append, List·getD-append}
+use Rattle.evaluator.specs.Bindings.{flat, Among}
 
 module _ {A : Type 0} where
   -- members and places
@@ -57,3 +57,22 @@ module _ {A B : Type 0} where
   at-map f [] p z w h = absurd (not-suc-le-zero h)
   at-map f (x ∷ xs) zero z w h = refl
   at-map f (x ∷ xs) (suc p) z w h = at-map f xs p z w (le-of-suc-le-suc h)
+
+  -- a product of lists of one length m: the place p * m + q is the place q of the list p
+  pub length-flat : (f : A → List B) (m : ℕ) → ((x : A) → length (f x) ≡ m) → (xs : List A) → length (flat f xs) ≡ length xs * m
+  unfolding flat
+  length-flat f m u [] = sym (zero-mul m)
+  length-flat f m u (x ∷ xs) =
+      let e : m + length xs * m ≡ suc (length xs) * m = omega arith in
+      length-append (f x) (flat f xs) ∙ ap₂ _+_ (u x) (length-flat f m u xs) ∙ e
+
+  pub at-flat : (f : A → List B) (m : ℕ) → ((x : A) → length (f x) ≡ m) → (xs : List A) (p q : ℕ) (z : A) (w : B) → p < length xs → q < m
+      → getD (flat f xs) (p * m + q) w ≡ getD (f (getD xs p z)) q w
+  unfolding flat
+  at-flat f m u [] p q z w h k = absurd (not-suc-le-zero h)
+  at-flat f m u (x ∷ xs) zero q z w h k =
+      let e : 0 * m + q ≡ q = omega arith in
+      ap (λ (j : ℕ). getD (f x ++ flat f xs) j w) e ∙ List·getD-append (f x) (flat f xs) w q (omega (arith, u x))
+  at-flat f m u (x ∷ xs) (suc p) q z w h k =
+      let e : suc p * m + q ≡ length (f x) + (p * m + q) = omega (arith, u x) in
+      ap (λ (j : ℕ). getD (f x ++ flat f xs) j w) e ∙ at-right (f x) (flat f xs) (p * m + q) w ∙ at-flat f m u xs p q z w (le-of-suc-le-suc h) k

@@ -44,7 +44,7 @@ module _ (d : Dossier) where
 
   module _ (k : ℕ) (op : Operation) where
     -- the checks that agree in their first groups are as many as there are bindings of the others
-    length-applies-at : (a c : Binding) → length (appliesAt d k op a c) ≡ givens op
+    pub length-applies-at : (a c : Binding) → length (appliesAt d k op a c) ≡ givens op
     length-applies-at a c = length-map (bindings (inputs d op)) (applies k op a c)
 
     length-applies-from : (a : Binding) → length (appliesFrom d k op a) ≡ concretes * givens op
@@ -59,10 +59,10 @@ module _ (d : Dossier) where
     length-corrects-giving : (a c i o : Binding) → length (correctsGiving d k op a c i o) ≡ concretes
     length-corrects-giving a c i o = length-map (concreteBindings d) (corrects k op a c i o)
 
-    length-corrects-by : (a c i : Binding) → length (correctsBy d k op a c i) ≡ results op * concretes
+    pub length-corrects-by : (a c i : Binding) → length (correctsBy d k op a c i) ≡ results op * concretes
     length-corrects-by a c i = length-flat (correctsGiving d k op a c i) concretes (length-corrects-giving a c i) (outputBindings d op)
 
-    length-corrects-at : (a c : Binding) → length (correctsAt d k op a c) ≡ givens op * (results op * concretes)
+    pub length-corrects-at : (a c : Binding) → length (correctsAt d k op a c) ≡ givens op * (results op * concretes)
     length-corrects-at a c = length-flat (correctsBy d k op a c) (results op * concretes) (length-corrects-by a c) (bindings (inputs d op))
 
     length-corrects-from : (a : Binding) → length (correctsFrom d k op a) ≡ concretes * (givens op * (results op * concretes))

@@ -9,5 +9,6 @@ pub mod Listed
 pub mod Accuracy
 pub mod Once
 pub mod Digits
+pub mod Skips
 pub mod Histories
 pub mod Trials

@@ -5,10 +5,10 @@ use mathlib.Core.Option.{some}
 use mathlib.Core.List.{[]}
 use Prim.Native.Nat.{ℕ, _<_}
 use lib.ListN.{getD, getElem?}
-use Rattle.form.specs.Tree.{Operation, Dossier}
+use Rattle.form.specs.Tree.{Dossier}
 use Rattle.evaluator.proofs.Places.{member-at, place-of, entry-member, member-entry}
 use Rattle.checker.specs.Obligations.{Obligations}
-use Rattle.checker.specs.Order.{Check, initialises, applies, corrects, passes, checks, total, look}
+use Rattle.checker.specs.Order.{Check, initialises, applies, corrects, passes, checks, total}
 use Rattle.checker.specs.Report.{checkAt}
 use Rattle.checker.specs.Demands.{IsCheck, Accurate}
 use Rattle.checker.proofs.Looks.{look-whole, look-first, whole-look}

@@ -2,7 +2,7 @@
 use mathlib.Core.Path.{_≡_, refl, sym, ap, _∙_, subst}
 use mathlib.Core.Bool.{Bool, true, false, cond, _||_}
 use mathlib.Core.List.{List, [], _∷_, _++_}
-use Prim.Native.Nat.{ℕ, zero, suc, pred, _+_, _-_, _<_, _≤_, min}
+use Prim.Native.Nat.{ℕ, suc, pred, _+_, _-_, _<_, _≤_, min}
 use native.Mathlib.Nat.{not-suc-le-zero}
 use native.Mathlib.Omega.{arith}
 use borrow.Author.Tests.{leb-true, leb-false, ltb-true, ltb-false}
@@ -11,7 +11,7 @@ use lib.ListN.{length, getD, take, drop, length-take, length-drop}
 use Rattle.form.specs.Tree.{Dossier}
 use Rattle.reader.specs.Read.{Reading, refusal, reading, read}
 use Rattle.evaluator.proofs.Places.{at-taken, at-dropped}
-use Rattle.checker.specs.Order.{Obligation, obligationOf, Check, initialises, passes, checks, total, Look, look}
+use Rattle.checker.specs.Order.{Obligation, obligationOf, Check, initialises, passes, checks, total, look}
 use Rattle.checker.specs.Report.{checkAt, witnessLines}
 use Rattle.checker.specs.Calls.{Verdict, unfinished, accepted, refuted, Held, nothing, holding, Call, load, advance, verdict, witness, release, Reply, verdictIs, Outcome, loading, verdictAt, advanced, advancing, writing, respond, Exchange, Trace, heldAfter}
 use Rattle.checker.specs.Runs.{RunsMatch}

@@ -1,6 +1,6 @@
 -- The obligations give what document 01 says of runs. Assumes nothing.
 use mathlib.Core.Path.{_≡_, refl, ap, _∙_, subst}
-use mathlib.Core.Bool.{Bool, true, _&&_}
+use mathlib.Core.Bool.{true, _&&_}
 use mathlib.Core.List.{List, [], _∷_, _++_, append-assoc}
 use Rattle.symbols.specs.Lists.{any}
 use Rattle.form.specs.Tree.{Dossier}

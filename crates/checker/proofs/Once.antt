@@ -1,8 +1,8 @@
 -- Demand 2, the fixed order: places and checks are one to one. Assumes nothing.
-use mathlib.Core.Path.{_≡_, refl, sym, _∙_}
+use mathlib.Core.Path.{_≡_, refl}
 use mathlib.Core.Logic.{⊎-elim}
-use mathlib.Core.List.{List, [], _∷_, _++_, map}
-use Prim.Native.Nat.{ℕ, zero, suc, _≤_}
+use mathlib.Core.List.{List, [], _∷_, map}
+use Prim.Native.Nat.{ℕ, suc, _≤_}
 use native.Mathlib.Omega.{arith}
 use Rattle.form.specs.Tree.{Operation, Dossier}
 use Rattle.reader.specs.Scope.{unprimed, inputs, outputs}
@@ -11,7 +11,7 @@ use Rattle.evaluator.specs.Bindings.{bindings, Among}
 use Rattle.evaluator.specs.Operations.{abstractBindings, concreteBindings, outputBindings}
 use Rattle.evaluator.proofs.Members.{among-append}
 use Rattle.evaluator.proofs.Places.{member-at, place-of}
-use Rattle.evaluator.proofs.Distinct.{Distinct, distinct-append, distinct-map, distinct-flat, distinct-places, every-map, every-flat}
+use Rattle.evaluator.proofs.Distinct.{Distinct, distinct-append, distinct-map, distinct-flat, distinct-places, every-map}
 use Rattle.evaluator.proofs.Values.{distinct-bindings}
 use Rattle.checker.specs.Order.{Check, initialises, applies, corrects, applicabilityChecks, correctnessChecks, operationChecks, checks, total}
 use Rattle.checker.specs.Report.{checkAt}

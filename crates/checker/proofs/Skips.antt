@@ -18,7 +18,7 @@ use Rattle.checker.specs.Order.{Check, initialises, applies, corrects, p
 use Rattle.checker.specs.Report.{checkAt}
 use Rattle.checker.proofs.Tests.{gives-vacuous, and-left-false, and-right-false}
 use Rattle.checker.proofs.Groups.{appliesAt, correctsBy, correctsAt, every-applies-at, every-corrects-by, every-corrects-at}
-use Rattle.checker.proofs.Digits.{nth, abstracts, concretes, givens, results, applicabilitySize, correctnessSize, startOf, length-applies-at, length-corrects-by, length-corrects-at, applies-block, corrects-block, corrects-by-block, applicability-digits, applicability-place, correctness-place}
+use Rattle.checker.proofs.Digits.{nth, abstracts, concretes, givens, results, applicabilitySize, startOf, length-applies-at, length-corrects-by, length-corrects-at, applies-block, corrects-block, corrects-by-block, applicability-digits, applicability-place, correctness-place}
 
 module _ (d : Dossier) where
   -- "abstract precondition and retrieve give ...": where either fails, the check passes

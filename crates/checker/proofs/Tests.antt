@@ -1,24 +1,12 @@
 -- Laws of Boolean tests. Assumes nothing.
-use mathlib.Core.Path.{_≡_, refl, sym, _∙_}
-use mathlib.Core.Bool.{Bool, true, false, not, cond, _&&_, _||_, false≢true, true≢false}
+use mathlib.Core.Path.{_≡_, refl}
+use mathlib.Core.Bool.{Bool, true, false, cond, _&&_, false≢true, true≢false}
 use Rattle.checker.specs.Obligations.{gives}
 
 -- what holds of both branches holds of the branch taken
 pub on-cond : {A : Type 0} (P : A → Type 0) (t : Bool) (x y : A) → P x → P y → P (cond t x y)
 on-cond P true x y p q = p
 on-cond P false x y p q = q
-
-pub not-both : {b : Bool} → b ≡ true → b ≡ false → ⊥
-not-both e f = true≢false (sym e ∙ f)
-
--- a test that does not fail passes
-pub true-unless-false : (b : Bool) → (b ≡ false → ⊥) → b ≡ true
-true-unless-false true n = refl
-true-unless-false false n = absurd (n refl)
-
-pub false-unless-true : (b : Bool) → (b ≡ true → ⊥) → b ≡ false
-false-unless-true true n = absurd (n refl)
-false-unless-true false n = refl
 
 pub and-both : {a b : Bool} → a ≡ true → b ≡ true → (a && b) ≡ true
 and-both {a = true} e f = f

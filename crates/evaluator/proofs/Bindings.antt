@@ -1,14 +1,14 @@
 -- The listed bindings of a group of variables are those over its carriers. Assumes nothing.
-use mathlib.Core.Path.{_≡_, refl, sym, ap, _∙_, subst}
+use mathlib.Core.Path.{_≡_, refl, sym, subst}
 use mathlib.Core.Bool.{Bool, true, false}
-use mathlib.Core.Logic.{_⊎_, inl, inr}
+use mathlib.Core.Logic.{inl, inr}
 use mathlib.Core.List.{List, [], _∷_, map}
 use Rattle.symbols.specs.Lists.{any}
 use Rattle.symbols.specs.Symbols.{Name}
 use Rattle.reader.specs.Carriers.{Variable}
 use Rattle.evaluator.specs.Values.{Value}
 use Rattle.evaluator.specs.Meaning.{Binding}
-use Rattle.evaluator.specs.Bindings.{valuesOf, flat, bindings, Among, Over}
+use Rattle.evaluator.specs.Bindings.{valuesOf, bindings, Among, Over}
 use Rattle.evaluator.proofs.Members.{any-found, any-put, any-none, none-any, among-map, map-among, among-flat, flat-among}
 
 -- a variable's value before a binding of the others

@@ -3,7 +3,7 @@ use mathlib.Core.Path.{_≡_, refl, sym, ap, _∙_, subst}
 use mathlib.Core.Bool.{Bool, true, false, false≢true, true≢false}
 use mathlib.Core.Logic.{_⊎_, inl, inr}
 use mathlib.Core.List.{List, [], _∷_, _++_, map}
-use Rattle.symbols.specs.Lists.{any, all, filter}
+use Rattle.symbols.specs.Lists.{any, all}
 use Rattle.evaluator.specs.Bindings.{flat, Among}
 
 module _ {A : Type 0} where

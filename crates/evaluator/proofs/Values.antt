@@ -1,9 +1,9 @@
 -- No carrier lists a value twice, and no group of variables a binding. Assumes nothing.
-use mathlib.Core.Path.{_≡_, refl, sym, ap, _∙_, subst}
+use mathlib.Core.Path.{_≡_, refl, sym, ap, _∙_}
 use mathlib.Core.List.{List, [], _∷_, map, tail, headD}
 use Prim.Native.Nat.{ℕ, _*_, _^_}
 use lib.IntN.{ℤ, pos, negℤ, _+ℤ_, +ℤ-assoc, +ℤ-invl, +ℤ-idl}
-use Rattle.symbols.specs.Lists.{filter, upward}
+use Rattle.symbols.specs.Lists.{upward}
 use Rattle.symbols.specs.Symbols.{Name}
 use Rattle.form.specs.Tree.{Arrow, relation, partial, total}
 use Rattle.reader.specs.Carriers.{Carrier, elementsOf, numbers, subsetsOf, pairsOf, Variable, sizeOf}
@@ -11,7 +11,7 @@ use Rattle.sets.specs.Sets as sets
 use Rattle.evaluator.specs.Values as val
 use Rattle.evaluator.specs.Values.{Value, natural, bits}
 use Rattle.evaluator.specs.Meaning.{Binding, elementValues, numberValues}
-use Rattle.evaluator.specs.Bindings.{pairSets, valuesOf, flat, bindings, Among}
+use Rattle.evaluator.specs.Bindings.{pairSets, valuesOf, bindings, Among}
 use Rattle.evaluator.proofs.Bindings.{extended}
 use Rattle.evaluator.proofs.Distinct.{Distinct, distinct-filter, distinct-map, distinct-flat, distinct-upward, every-map}
 

@@ -1,14 +1,14 @@
 -- Demand 2: what one look over all checks says of the obligations. Assumes nothing.
-use mathlib.Core.Path.{_≡_, subst}
+use mathlib.Core.Path.{_≡_, ap, subst}
 use mathlib.Core.Bool.{true}
 use mathlib.Core.Option.{some}
 use mathlib.Core.List.{[]}
-use Prim.Native.Nat.{ℕ, _<_}
+use Prim.Native.Nat.{ℕ, _<_, _≤_}
 use lib.ListN.{getD, getElem?}
 use Rattle.form.specs.Tree.{Dossier}
 use Rattle.evaluator.proofs.Places.{member-at, place-of, entry-member, member-entry}
 use Rattle.checker.specs.Obligations.{Obligations}
-use Rattle.checker.specs.Order.{Check, initialises, applies, corrects, passes, checks, total}
+use Rattle.checker.specs.Order.{Check, initialises, applies, corrects, passes, checks, total, Look}
 use Rattle.checker.specs.Report.{checkAt}
 use Rattle.checker.specs.Demands.{IsCheck, Accurate}
 use Rattle.checker.proofs.Looks.{look-whole, look-first, whole-look}
@@ -17,6 +17,10 @@ use Rattle.checker.proofs.Listed.{check-listed, listed-check}
 -- every check at a place below n passes
 abbrev pub PassBelow : Dossier → ℕ → Type 0
 PassBelow d n = (q : ℕ) → q < n → passes d (checkAt d q) ≡ true
+
+-- and every one from the place p on, before n
+abbrev pub PassBetween : Dossier → (p n : ℕ) → Type 0
+PassBetween d p n = (q : ℕ) → p ≤ q → q < n → passes d (checkAt d q) ≡ true
 
 -- the checks of a dossier pass exactly if its obligations hold
 pub check-passes : (d : Dossier) → PassBelow d (total d) → (x : Check) → IsCheck d x → passes d x ≡ true
@@ -52,8 +56,8 @@ unfolding total checkAt
 accurate d =
     record {
       sound = λ e. obligations d (look-whole d (initialises []) (checks d) e .1);
-      complete = λ ob. whole-look d (initialises []) (checks d)
-          (λ q h. meets-obligations d ob (checkAt d q) (listed-check d (checkAt d q) (member-at (checks d) q (initialises []) h)));
+      complete = λ ob. ap (λ (l : Look). l .failed) (whole-look d (initialises []) (checks d)
+          (λ q h. meets-obligations d ob (checkAt d q) (listed-check d (checkAt d q) (member-at (checks d) q (initialises []) h))));
       whole = λ e. look-whole d (initialises []) (checks d) e .0;
       first = look-first d (initialises []) (checks d);
     }

@@ -2,16 +2,15 @@
 use mathlib.Core.Path.{_≡_, refl, sym, ap, _∙_, subst}
 use mathlib.Core.Bool.{Bool, true, false, cond, _||_}
 use mathlib.Core.List.{List, [], _∷_, _++_}
-use Prim.Native.Nat.{ℕ, suc, pred, _+_, _-_, _<_, _≤_, min}
+use Prim.Native.Nat.{ℕ, suc, pred, _+_, _-_, _<_, _≤_}
 use native.Mathlib.Nat.{not-suc-le-zero}
 use native.Mathlib.Omega.{arith}
 use borrow.Author.Tests.{leb-true, leb-false, ltb-true, ltb-false}
 use lib.Dec.{eqb, leb, ltb}
-use lib.ListN.{length, getD, take, drop, length-take, length-drop}
+use lib.ListN.{length}
 use Rattle.form.specs.Tree.{Dossier}
 use Rattle.reader.specs.Read.{Reading, refusal, reading, read}
-use Rattle.evaluator.proofs.Places.{at-taken, at-dropped}
-use Rattle.checker.specs.Order.{Obligation, obligationOf, Check, initialises, passes, checks, total, look}
+use Rattle.checker.specs.Order.{Obligation, obligationOf, Check, initialises, passes, total, look}
 use Rattle.checker.specs.Report.{checkAt, witnessLines}
 use Rattle.checker.specs.Calls.{Verdict, unfinished, accepted, refuted, Held, nothing, holding, Call, load, advance, verdict, witness, release, Reply, verdictIs, Outcome, loading, verdictAt, advanced, advancing, writing, respond, Exchange, Trace, heldAfter}
 use Rattle.checker.specs.Runs.{RunsMatch}
@@ -19,6 +18,7 @@ use Rattle.checker.specs.Demands.{IsRefusal, Loaded, none, text, afterRe
 use Rattle.checker.proofs.Tests.{on-cond}
 use Rattle.checker.proofs.Looks.{PassUpTo, Whole, First, look-whole, look-first}
 use Rattle.checker.proofs.Accuracy.{PassBelow, obligations}
+use Rattle.checker.proofs.Advances.{nextChecks, next-length, next-at}
 use Rattle.checker.proofs.Matching.{match}
 
 -- what a verdict at the place p says of the checks: refuted, the last one looked at is the first that does not pass
@@ -26,20 +26,6 @@ abbrev pub Standing : Dossier → (p : ℕ) → Verdict → Type 0
 Standing d p unfinished = (p ≤ total d) × PassBelow d p
 Standing d p accepted = (p ≡ total d) × PassBelow d (total d)
 Standing d p (refuted o) = (q : ℕ) × (p ≡ suc q) × (q < total d) × (passes d (checkAt d q) ≡ false) × PassBelow d q × (o ≡ obligationOf (checkAt d q))
-
--- the next n checks from the place p on
-abbrev nextChecks : Dossier → (p n : ℕ) → List Check
-nextChecks d p n = take n (drop p (checks d))
-
-next-length : (d : Dossier) (p n : ℕ) → length (nextChecks d p n) ≡ min n (total d - p)
-unfolding total
-next-length d p n = length-take n (drop p (checks d)) ∙ ap (min n) (length-drop p (checks d))
-
-next-at : (d : Dossier) (p n r : ℕ) → r < length (nextChecks d p n) → getD (nextChecks d p n) r (initialises []) ≡ checkAt d (p + r)
-unfolding checkAt
-next-at d p n r h =
-    let l : r < n = omega (arith, next-length d p n) in
-    at-taken n (drop p (checks d)) r (initialises []) l ∙ at-dropped p (checks d) r (initialises [])
 
 -- checks that pass before the place p, and m more from there on
 pass-on : (d : Dossier) (p n m : ℕ) → m ≤ length (nextChecks d p n) → PassBelow d p → PassUpTo d (initialises []) (nextChecks d p n) m → PassBelow d (p + m)

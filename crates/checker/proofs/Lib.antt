@@ -10,5 +10,7 @@ pub mod Accuracy
 pub mod Once
 pub mod Digits
 pub mod Skips
+pub mod Advances
 pub mod Histories
+pub mod Strides
 pub mod Trials

@@ -57,10 +57,23 @@ module _ (d : Dossier) where
             (suc (s .0), ap (λ (l : Look). l .count) (look-on x xs q) ∙ ap suc (s .1), omega (arith, s .2), s .3, one-more x xs (s .0) q (s .4))
         go false q r = (zero, ap (λ (l : Look). l .count) (look-ends x xs q), omega arith, q, λ k h. absurd (not-suc-le-zero h))
 
-    -- where all pass, no look fails
-    pub whole-look : (xs : List Check) → PassUpTo xs (length xs) → look d xs .failed ≡ false
+    -- and the other way: all pass, or one is the first that does not
+    pub whole-look : (xs : List Check) → PassUpTo xs (length xs) → look d xs ≡ record { count = length xs; failed = false }
     whole-look xs f = go (look d xs .failed) refl
       where
-        go : (t : Bool) → look d xs .failed ≡ t → look d xs .failed ≡ false
-        go false q = q
+        go : (t : Bool) → look d xs .failed ≡ t → look d xs ≡ record { count = length xs; failed = false }
+        go false q = λ i. record { count = look-whole xs q .0 i; failed = q i }
         go true q = let s : First xs (look d xs) = look-first xs q in absurd (true≢false (sym (f (s .0) (s .2)) ∙ s .3))
+
+    pub first-look : (xs : List Check) (p : ℕ) → p < length xs → passes d (getD xs p z) ≡ false → PassUpTo xs p → look d xs ≡ record { count = suc p; failed = true }
+    first-look xs p l e f = go (look d xs .failed) refl
+      where
+        same : First xs (look d xs) → look d xs .count ≡ suc p
+        same s =
+            let n : ¬ (p < s .0) = λ h. true≢false (sym (s .4 p h) ∙ e) in
+            let m : ¬ (s .0 < p) = λ h. true≢false (sym (f (s .0) h) ∙ s .3) in
+            omega (arith, s .1)
+
+        go : (t : Bool) → look d xs .failed ≡ t → look d xs ≡ record { count = suc p; failed = true }
+        go false q = absurd (true≢false (sym (look-whole xs q .1 p l) ∙ e))
+        go true q = λ i. record { count = same (look-first xs q) i; failed = q i }

@@ -3,7 +3,7 @@ use mathlib.Core.Path.{_≡_, ap, _∙_}
 use mathlib.Core.Bool.{true, false, _&&_}
 use mathlib.Core.Option.{some}
 use mathlib.Core.List.{List, []}
-use Prim.Native.Nat.{ℕ, suc, _+_, _-_, _*_, _<_, _≤_}
+use Prim.Native.Nat.{ℕ, suc, _+_, _-_, _*_, _<_}
 use native.Mathlib.Omega.{arith}
 use lib.Arith.{digits-lt}
 use lib.ListN.{length, getD, getElem?}
@@ -18,6 +18,7 @@ use Rattle.checker.specs.Order.{Check, initialises, applies, corrects, p
 use Rattle.checker.specs.Report.{checkAt}
 use Rattle.checker.proofs.Tests.{gives-vacuous, and-left-false, and-right-false}
 use Rattle.checker.proofs.Groups.{appliesAt, correctsBy, correctsAt, every-applies-at, every-corrects-by, every-corrects-at}
+use Rattle.checker.proofs.Accuracy.{PassBetween}
 use Rattle.checker.proofs.Digits.{nth, abstracts, concretes, givens, results, applicabilitySize, startOf, length-applies-at, length-corrects-by, length-corrects-at, applies-block, corrects-block, corrects-by-block, applicability-digits, applicability-place, correctness-place}
 
 module _ (d : Dossier) where
@@ -43,10 +44,6 @@ module _ (d : Dossier) where
   abbrev Passing : Check → Type 0
   Passing x = passes d x ≡ true
 
-  -- the checks at the places from p on, before q, pass
-  abbrev pub PassBetween : (p q : ℕ) → Type 0
-  PassBetween p q = (j : ℕ) → p ≤ j → j < q → passes d (checkAt d j) ≡ true
-
   -- a member of a list all of whose checks pass stands at the place j
   passes-at : (xs : List Check) → ((x : Check) → Among x xs → Passing x) → (j q : ℕ) → q < length xs → checkAt d j ≡ getD xs q (initialises []) → passes d (checkAt d j) ≡ true
   passes-at xs h j q l e = ap (passes d) e ∙ h (getD xs q (initialises [])) (member-at xs q (initialises []) l)
@@ -60,7 +57,7 @@ module _ (d : Dossier) where
 
     -- not related: the whole block of the a-th abstract and the c-th concrete binding
     pub unrelated-applicability : related d (nth (abstractBindings d) a) (nth (concreteBindings d) c) ≡ false
-        → PassBetween (startOf d k + (a * concretes d + c) * givens d op) (startOf d k + suc (a * concretes d + c) * givens d op)
+        → PassBetween d (startOf d k + (a * concretes d + c) * givens d op) (startOf d k + suc (a * concretes d + c) * givens d op)
     unrelated-applicability e j low high =
         let q : ℕ = j - (startOf d k + (a * concretes d + c) * givens d op) in
         let lq : q < givens d op = omega arith in
@@ -72,7 +69,7 @@ module _ (d : Dossier) where
         ∙ applies-block d k op (initialises []) a c q la lc lq)
 
     pub unrelated-correctness : related d (nth (abstractBindings d) a) (nth (concreteBindings d) c) ≡ false
-        → PassBetween (startOf d k + applicabilitySize d op + (a * concretes d + c) * givens d op * results d op * concretes d)
+        → PassBetween d (startOf d k + applicabilitySize d op + (a * concretes d + c) * givens d op * results d op * concretes d)
         (startOf d k + applicabilitySize d op + suc (a * concretes d + c) * givens d op * results d op * concretes d)
     unrelated-correctness e j low high =
         let q : ℕ = j - (startOf d k + applicabilitySize d op + (a * concretes d + c) * (givens d op * (results d op * concretes d))) in
@@ -100,7 +97,7 @@ module _ (d : Dossier) where
           ∙ inapplicable-applies k op abstractOne concreteOne inputOne e
 
       pub inapplicable-correctness : abstractPre d op (nth (abstractBindings d) a) (nth (bindings (inputs d op)) i) ≡ false
-          → PassBetween (startOf d k + applicabilitySize d op + ((a * concretes d + c) * givens d op + i) * results d op * concretes d)
+          → PassBetween d (startOf d k + applicabilitySize d op + ((a * concretes d + c) * givens d op + i) * results d op * concretes d)
           (startOf d k + applicabilitySize d op + suc ((a * concretes d + c) * givens d op + i) * results d op * concretes d)
       inapplicable-correctness e j low high =
           let q : ℕ = j - (startOf d k + applicabilitySize d op + ((a * concretes d + c) * givens d op + i) * (results d op * concretes d)) in

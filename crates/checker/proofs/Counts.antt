@@ -2,13 +2,12 @@
 use mathlib.Core.Path.{_≡_, refl, ap, subst}
 use mathlib.Core.Bool.{_||_}
 use mathlib.Core.List.{List, [], _∷_}
-use Prim.Native.Nat.{ℕ, pred, _+_}
+use Prim.Native.Nat.{ℕ, _+_}
 use lib.Dec.{eqb, ltb}
 use lib.ListN.{length, take, drop}
 use Rattle.form.specs.Tree.{Dossier}
 use Rattle.reader.specs.Read.{Reading, refusal, reading, read}
 use Rattle.checker.specs.Order.{Obligation, checks, look}
-use Rattle.checker.specs.Report.{checkAt, witnessLines}
 use Rattle.checker.specs.Calls.{unfinished, accepted, refuted, Held, nothing, holding, Call, load, advance, verdict, witness, release, Reply, Outcome, loading, advanced, advancing, writing, respond, Exchange, Trace, heldAfter}
 use Rattle.checker.specs.Demands.{counted, sumOfAdvances, AtPlace}
 use Rattle.checker.proofs.Tests.{on-cond}
@@ -46,7 +45,7 @@ call-counted (holding d p (refuted o)) (advance k) n s = s
 call-counted (holding d p v) verdict n s = s
 call-counted (holding d p unfinished) (witness b) n s = s
 call-counted (holding d p accepted) (witness b) n s = s
-call-counted (holding d p (refuted o)) (witness b) n s = witness-counted d p o (witnessLines d (checkAt d (pred p))) b n s
+call-counted (holding d p (refuted o)) (witness b) n s = witness-counted d p o _ b n s
 call-counted (holding d p v) release n s = tt
 
 -- from any held check on whose place the sum n stands at

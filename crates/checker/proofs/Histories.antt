@@ -11,7 +11,7 @@ use lib.ListN.{length}
 use Rattle.form.specs.Tree.{Dossier}
 use Rattle.reader.specs.Read.{Reading, refusal, reading, read}
 use Rattle.checker.specs.Order.{Obligation, obligationOf, Check, initialises, passes, total, look}
-use Rattle.checker.specs.Report.{checkAt, witnessLines}
+use Rattle.checker.specs.Report.{checkAt}
 use Rattle.checker.specs.Calls.{Verdict, unfinished, accepted, refuted, Held, nothing, holding, Call, load, advance, verdict, witness, release, Reply, verdictIs, Outcome, loading, verdictAt, advanced, advancing, writing, respond, Exchange, Trace, heldAfter}
 use Rattle.checker.specs.Runs.{RunsMatch}
 use Rattle.checker.specs.Demands.{IsRefusal, Loaded, none, text, afterReply, afterCall, lastLoaded, acceptance, Demand3}
@@ -103,7 +103,7 @@ call-sound (holding d p (refuted o)) (advance n) l s = s
 call-sound (holding d p v) verdict l s = s
 call-sound (holding d p unfinished) (witness b) l s = s
 call-sound (holding d p accepted) (witness b) l s = s
-call-sound (holding d p (refuted o)) (witness b) l s = witness-sound d p o (witnessLines d (checkAt d (pred p))) b l s
+call-sound (holding d p (refuted o)) (witness b) l s = witness-sound d p o _ b l s
 call-sound (holding d p v) release l s = tt
 
 sound-next : (h : Held) (x : Exchange) (l : Loaded) → Sound h l → respond h (x .call) .reply ≡ x .reply → Sound (respond h (x .call) .held) (afterCall (x .call) (x .reply) l)

@@ -13,4 +13,5 @@ pub mod Skips
 pub mod Advances
 pub mod Histories
 pub mod Strides
+pub mod Witnesses
 pub mod Trials

@@ -2,13 +2,12 @@
 use mathlib.Core.Path.{_≡_, refl}
 use mathlib.Core.Bool.{_||_}
 use mathlib.Core.List.{List, []}
-use Prim.Native.Nat.{ℕ, pred}
+use Prim.Native.Nat.{ℕ}
 use lib.Dec.{eqb, ltb}
 use lib.ListN.{length, take, drop}
 use Rattle.form.specs.Tree.{Dossier}
 use Rattle.reader.specs.Read.{Reading, refusal, reading, read}
 use Rattle.checker.specs.Order.{Obligation, checks, look}
-use Rattle.checker.specs.Report.{checkAt, witnessLines}
 use Rattle.checker.specs.Calls.{unfinished, accepted, refuted, Held, nothing, holding, load, advance, verdict, witness, release, Outcome, loading, advanced, advancing, writing, respond}
 use Rattle.checker.specs.Demands.{IsRefusal, Demand1}
 use Rattle.checker.proofs.Tests.{on-cond}
@@ -48,5 +47,5 @@ demand-1 (holding d p (refuted o)) (advance n) i = (refl, refl)
 demand-1 (holding d p v) verdict i = absurd i
 demand-1 (holding d p unfinished) (witness b) i = (refl, refl)
 demand-1 (holding d p accepted) (witness b) i = (refl, refl)
-demand-1 (holding d p (refuted o)) (witness b) i = witness-refused d p o (witnessLines d (checkAt d (pred p))) b i
+demand-1 (holding d p (refuted o)) (witness b) i = witness-refused d p o _ b i
 demand-1 (holding d p v) release i = absurd i

@@ -90,6 +90,7 @@ module _ (d : Dossier) where
       among-right x (map initialises (concreteBindings d)) (operationChecks d 0 (d .operations))
       (operation-listed 0 k op (d .operations) e x (subst (λ (n : ℕ). Among x (blockOf d n op)) (sym (zero-add k)) m))
 
+  -- exactly the checks of the dossier are listed
   pub check-listed : (x : Check) → IsCheck d x → Among x (checks d)
   unfolding IsCheck checks concreteBindings
   check-listed (initialises c) h = among-left _ _ (operationChecks d 0 (d .operations)) (among-map initialises c _ (over-listed _ c h))

@@ -136,6 +136,7 @@ module _ (d : Dossier) where
       let two : 1 ≤ kind x = operation-number 0 (d .operations) x n .1 in
       omega arith)
 
+  -- each place has a check of the dossier, each check of the dossier has a place, and no two places have one check
   pub one-to-one : OneToOne d
   unfolding total checkAt
   one-to-one =

@@ -15,6 +15,7 @@ use Rattle.evaluator.proofs.Members.{any-found, any-put, any-none, none
 abbrev pub extended : Variable → Value → Binding → Binding
 extended v x b = (v .called, x) ∷ b
 
+-- "All values in the carriers are visited": a binding is over the carriers exactly if it is listed
 pub over-listed : (vs : List Variable) (b : Binding) → Over vs b → Among b (bindings vs)
 unfolding Over bindings Among
 over-listed [] [] h = inl refl

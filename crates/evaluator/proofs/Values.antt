@@ -29,6 +29,7 @@ distinct-pair-sets relation n m = distinct-upward 0 (2 ^ (n * m))
 distinct-pair-sets partial n m = distinct-filter (sets.isPartial n m) (upward 0 (2 ^ (n * m))) (distinct-upward 0 (2 ^ (n * m)))
 distinct-pair-sets total n m = distinct-filter (sets.isTotal n m) (upward 0 (2 ^ (n * m))) (distinct-upward 0 (2 ^ (n * m)))
 
+-- "Elements go as listed, numbers upward, sets by bits as a number": each value once
 pub distinct-values : (c : Carrier) → Distinct (valuesOf c)
 unfolding valuesOf elementValues numberValues
 distinct-values (elementsOf g) = distinct-map (val.element (sizeOf g)) bits (λ i. refl) _ (distinct-upward 0 _)
@@ -41,6 +42,7 @@ firstValue : Name → Value → Binding → Value
 unfolding headD
 firstValue n z b = headD b (n, z) .1
 
+-- "each group as declared, the last variable fastest": each binding once
 pub distinct-bindings : (vs : List Variable) → Distinct (bindings vs)
 unfolding bindings Distinct firstValue Among
 distinct-bindings [] = (λ m. m, tt)

@@ -1,2 +1,17 @@
--- The definitions computed on the trial dossiers.
+-- The demands over the definitions, and the definitions computed on the trial dossiers.
+pub mod Tests
+pub mod Refused
+pub mod Counts
+pub mod Matching
+pub mod Looks
+pub mod Groups
+pub mod Listed
+pub mod Accuracy
+pub mod Once
+pub mod Digits
+pub mod Skips
+pub mod Advances
+pub mod Histories
+pub mod Strides
+pub mod Witnesses
 pub mod Trials

@@ -68,7 +68,7 @@ pub data Loaded : Type 0 where
   none : Loaded
   text : List ℕ → Loaded
 
-abbrev afterReply : List ℕ → Reply → Loaded → Loaded
+abbrev pub afterReply : List ℕ → Reply → Loaded → Loaded
 afterReply t (refusedAt f) l = l
 afterReply t (refused r) l = l
 afterReply t loaded l = text t
@@ -77,7 +77,7 @@ afterReply t (verdictIs v) l = l
 afterReply t (written n) l = l
 afterReply t dropped l = l
 
-abbrev afterCall : Call → Reply → Loaded → Loaded
+abbrev pub afterCall : Call → Reply → Loaded → Loaded
 afterCall (load t) r l = afterReply t r l
 afterCall (advance n) r l = l
 afterCall verdict r l = l
@@ -98,7 +98,7 @@ Demand3 = (xs : List Exchange) → Trace nothing xs
     → (t : List ℕ) × ((d : Dossier) × ((lastLoaded none earlier ≡ text t) × (read t ≡ reading d) × RunsMatch d))
 
 -- "Counted bindings are returned by advance; their sum equals the position in the defined search order.": the sum since the last load
-abbrev counted : Reply → ℕ → ℕ
+abbrev pub counted : Reply → ℕ → ℕ
 counted (refusedAt f) n = n
 counted (refused r) n = n
 counted loaded n = 0

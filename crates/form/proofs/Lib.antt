@@ -1,3 +1,6 @@
 -- The pass for form: samples, and the theorem that it computes the condition.
 pub mod Samples
 pub mod Takes
+pub mod AgreeStarts
+pub mod AgreeTerms
+pub mod Agree

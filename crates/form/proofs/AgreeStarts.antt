@@ -1,30 +1,35 @@
 -- What stands behind a term or a predicate, what one begins with, and that symbols taken as an operand are taken under each item that a term may begin under.
 use mathlib.Core.Path.{_≡_, refl, ap, sym, subst}
-use mathlib.Core.Bool.{Bool, true, false, not}
-use mathlib.Core.List.{List, [], _∷_, _++_, map}
+use mathlib.Core.Bool.{false, not}
+use mathlib.Core.List.{List, [], _∷_}
 use Prim.Native.Nat.{ℕ, suc}
-use lib.ListN.{getD}
 use Rattle.symbols.specs.Kinds as kind
 use Rattle.symbols.specs.Kinds.{Kind, is, lookup}
-use Rattle.symbols.specs.Symbols.{Name, Ending, noEnding, prime, query, shriek, kindOf, kindOfName}
+use Rattle.symbols.specs.Symbols.{Name, Ending, noEnding, prime, query, shriek, Symbol, kindOf, kindOfName}
 use Rattle.form.specs.Tree as tree
 use Rattle.form.specs.Tree.{Letters, Prefix, negate, size, dom, ran, Operator, Division, Comparison, Membership, Connective}
-use Rattle.form.specs.Written.{Mark, unmarked, Written, bare, opening, used, digits, prefixKind, operatorKind, divisionKind, comparisonKind, membershipKind, connective}
-use Rattle.form.specs.Form.{isUsed}
+use Rattle.form.specs.Tree.{Term, number, name, group, prefix, binary, divided, listed, pairs, such, emptySet, emptyPairs, Items, only, also, Pairs, onlyPair, alsoPair}
+use Rattle.form.specs.Tree.{Pred, truth, falsity, negation, paren, quantified, connected, compared, member, within, related}
+use Rattle.form.specs.Written.{Mark, Written, bare, opening, used, digits, prefixKind, operatorKind, divisionKind, comparisonKind, membershipKind, connective}
+use Rattle.form.specs.Written.{rightDepth, writeEnd, writeRange, writeTerm, writeItems, writePairs, writePred}
 use Rattle.form.specs.Machine.{Item, exact, anEmptyRest, aTerm, anOperand, aTermRest, aRel, aRight, aNeg, aNumRest, aBrace, aNamed, aFirst, aUnary, aParen, aPredRest}
 use Rattle.form.specs.Machine.{Start, leaf, prefixed, bracket, brace, emptied, nothing, starts, fromStart, does, Next, go, step}
 use Rattle.form.specs.Computed.{computeForm}
 use Rattle.form.proofs.Takes.{Fits, equal, usedName, symbolsIn, AgreesOn, Agrees}
 
+-- where the machine's mark is the tree's
+pub equally : {m : Mark} {k s : Kind} {w : List Symbol} {A : Type 0} → A → Fits m m k s w × A
+equally h = (equal, h)
+
 -- symbols that are taken where γ′ is expected are taken where γ is, if the first is taken alike
-pub along : (x : Written) (w : List Written) (γ γ′ : List Item) → step γ (kindOf (x .symbol)) ≡ step γ′ (kindOf (x .symbol)) → (k : Kind)
+along : (x : Written) (w : List Written) (γ γ′ : List Item) → step γ (kindOf (x .symbol)) ≡ step γ′ (kindOf (x .symbol)) → (k : Kind)
     → Agrees k (x ∷ w) γ′ → Agrees k (x ∷ w) γ
 along x w γ γ′ e k h = subst (λ n. AgreesOn x k (symbolsIn w) n (λ j ρ. Agrees j w ρ)) (sym e) h
 
 -- a symbol that the machine takes with the tree's mark
 pub takenAs : (x : Written) (w : List Written) (γ ρ : List Item) → step γ (kindOf (x .symbol)) ≡ go (x .mark) ρ → ((k : Kind) → Agrees k w ρ) → (k : Kind)
     → Agrees k (x ∷ w) γ
-takenAs x w γ ρ e h k = subst (λ n. AgreesOn x k (symbolsIn w) n (λ j δ. Agrees j w δ)) (sym e) (equal, h (kindOf (x .symbol)))
+takenAs x w γ ρ e h k = subst (λ n. AgreesOn x k (symbolsIn w) n (λ j δ. Agrees j w δ)) (sym e) (equally (h (kindOf (x .symbol))))
 
 -- two expectations, at each depth, number of bound names and rest, take a symbol of the kind s alike
 abbrev pub Alike : Kind → (f g : (d b : ℕ) → List Item → List Item) → Type 0
@@ -41,6 +46,7 @@ BehindTerm s =
 abbrev pub BehindPred : Kind → Type 0
 BehindPred s = BehindTerm s × Alike s (λ d b γ. aTermRest d b ∷ γ) (λ d b γ. γ)
 
+-- symbols of which the first may stand behind a term; behind a predicate
 abbrev pub TermEnds : List Written → Type 0
 TermEnds [] = ⊥
 TermEnds (x ∷ w) = BehindTerm (kindOf (x .symbol))
@@ -49,6 +55,7 @@ abbrev pub PredEnds : List Written → Type 0
 PredEnds [] = ⊥
 PredEnds (x ∷ w) = BehindPred (kindOf (x .symbol))
 
+-- behind a term may stand an operator, a comparison or membership, |->, a comma, ] and what may stand behind a predicate
 pub behindOperator : (o : Operator) → BehindTerm (operatorKind o)
 unfolding computeForm
 behindOperator tree.plus = (refl, refl, refl, refl)
@@ -87,6 +94,7 @@ pub behindBracket : BehindTerm kind.closeBracket
 unfolding computeForm
 behindBracket = (refl, refl, refl, refl)
 
+-- behind a predicate may stand } and ), `end` and `concrete`, and a connective
 pub behindBrace : BehindPred kind.closeBrace
 unfolding computeForm
 behindBrace = ((refl, refl, refl, refl), refl)
@@ -110,12 +118,12 @@ behindConnective tree.or d = ((refl, refl, refl, refl), refl)
 behindConnective tree.implies d = ((refl, refl, refl, refl), refl)
 behindConnective tree.iff d = ((refl, refl, refl, refl), refl)
 
--- behind `empty G`, behind a number after `in`, and behind a comparison's last term: what the symbols behind do not begin with is passed over
+-- a term or predicate has ended: what might have gone on with it is passed over, the second name of `empty`, the .. of a range, an operator
 pub noSecond : (w : List Written) → TermEnds w → (γ : List Item) (k : Kind) → Agrees k w γ → Agrees k w (anEmptyRest ∷ γ)
 noSecond [] f γ k h = absurd f
 noSecond (x ∷ w) f γ k h = along x w (anEmptyRest ∷ γ) γ (ap (λ n. n 0 0 γ) (f .3)) k h
 
-pub noRange : (w : List Written) → TermEnds w → (d b : ℕ) (γ : List Item) (k : Kind) → Agrees k w (aTermRest d b ∷ γ) → Agrees k w (aNumRest d b ∷ γ)
+noRange : (w : List Written) → TermEnds w → (d b : ℕ) (γ : List Item) (k : Kind) → Agrees k w (aTermRest d b ∷ γ) → Agrees k w (aNumRest d b ∷ γ)
 noRange [] f d b γ k h = absurd f
 noRange (x ∷ w) f d b γ k h = along x w (aNumRest d b ∷ γ) (aTermRest d b ∷ γ) (ap (λ n. n d b γ) (f .2)) k h
 
@@ -123,6 +131,7 @@ pub noOperator : (w : List Written) → PredEnds w → (d b : ℕ) (γ : List It
 noOperator [] f d b γ k h = absurd f
 noOperator (x ∷ w) f d b γ k h = along x w (aTermRest d b ∷ γ) γ (ap (λ n. n d b γ) (f .1)) k h
 
+-- what may stand behind a predicate may stand behind its last term
 pub termEnds : (w : List Written) → PredEnds w → TermEnds w
 termEnds [] f = absurd f
 termEnds (x ∷ w) f = f .0
@@ -163,6 +172,7 @@ pub record AlikeAtStarts (γ γ′ : List Item) : Type 0 where
   pub brace : step γ kind.openBrace ≡ step γ′ kind.openBrace
   pub emptied : step γ kind.EMPTY ≡ step γ′ kind.EMPTY
 
+-- then a term that is taken where γ′ is expected is taken where γ is
 pub alikeAtStarts : (γ γ′ : List Item) → AlikeAtStarts γ γ′ → (w : List Written) → Starts w → (k : Kind) → Agrees k w γ′ → Agrees k w γ
 alikeAtStarts γ γ′ a w (atNumber {n} {w = v} f) k h = along (digits n) v γ γ′ (a .number) k h
 alikeAtStarts γ γ′ a w (atName {x} {w = v} f) k h = along (used x) v γ γ′ (a .name (x .ending)) k h
@@ -184,8 +194,8 @@ asUnary d b γ =
       emptied = refl;
     }
 
--- so may one in ( )
-pub asParen : (d b : ℕ) (γ : List Item) → AlikeAtStarts (aParen d b ∷ γ) (aUnary d b ∷ aPredRest d d b ∷ exact kind.closeParen ∷ γ)
+-- a predicate in ( ) may begin with a term
+asParen : (d b : ℕ) (γ : List Item) → AlikeAtStarts (aParen d b ∷ γ) (aUnary d b ∷ aPredRest d d b ∷ exact kind.closeParen ∷ γ)
 unfolding computeForm
 asParen d b γ =
     record {
@@ -209,6 +219,7 @@ braceName x prime (y ∷ w) f d b γ h = h
 braceName x query (y ∷ w) f d b γ h = h
 braceName x shriek (y ∷ w) f d b γ h = h
 
+-- and any other term is taken in { } as an operand is
 pub asBrace : (w : List Written) → Starts w → (d b : ℕ) (γ : List Item) → Agrees kind.openBrace w (anOperand d b ∷ aTermRest d b ∷ aFirst d b ∷ γ)
     → Agrees kind.openBrace w (aBrace d b ∷ γ)
 unfolding computeForm
@@ -253,3 +264,60 @@ asRight w (atPrefix ran f) d b γ k h = h
 asRight w atBracket d b γ k h = h
 asRight w atBrace d b γ k h = h
 asRight w atEmpty d b γ k h = h
+
+-- a term begins as Starts says, and so do the items and the pairs of braces
+pub startsTerm : (t : Term) (d b : ℕ) (w : List Written) → TermEnds w → Starts (writeTerm t d b w)
+unfolding writeTerm
+startsTerm (number n) d b w f = atNumber f
+startsTerm (name x) d b w f = atName f
+startsTerm (group t) d b w f = atBracket
+startsTerm (prefix o t) d b w f = atPrefix o (startsTerm t (suc d) b w f)
+startsTerm (binary o t u) d b w f = startsTerm t d b (bare (operatorKind o) ∷ writeTerm u d b w) (behindOperator o)
+startsTerm (divided o t e) d b w f = startsTerm t d b (bare (divisionKind o) ∷ writeEnd e w) (behindDivision o)
+startsTerm (listed ts) d b w f = atBrace
+startsTerm (pairs ts) d b w f = atBrace
+startsTerm (such x g p) d b w f = atBrace
+startsTerm (emptySet g) d b w f = atEmpty
+startsTerm (emptyPairs g h) d b w f = atEmpty
+
+pub startsItems : (ts : Items) (d b : ℕ) (w : List Written) → TermEnds w → Starts (writeItems ts d b w)
+unfolding writeItems
+startsItems (only t) d b w f = startsTerm t d b w f
+startsItems (also t ts) d b w f = startsTerm t d b (bare kind.comma ∷ writeItems ts d b w) behindComma
+
+pub startsPairs : (ts : Pairs) (d b : ℕ) (w : List Written) → Starts (writePairs ts d b w)
+unfolding writePairs
+startsPairs (onlyPair t u) d b w = startsTerm t d b (bare kind.maplet ∷ writeTerm u d b w) behindMaplet
+startsPairs (alsoPair t u ts) d b w = startsTerm t d b (bare kind.maplet ∷ writeTerm u d b (bare kind.comma ∷ writePairs ts d b w)) behindMaplet
+
+-- what a predicate begins with
+pub data PredStarts : List Written → Type 0 where
+  atTrue : {w : List Written} → PredStarts (bare kind.TRUE ∷ w)
+  atFalse : {w : List Written} → PredStarts (bare kind.FALSE ∷ w)
+  atNot : {n : ℕ} {w : List Written} → PredStarts (opening kind.NOT n ∷ w)
+  atParen : {n : ℕ} {w : List Written} → PredStarts (opening kind.openParen n ∷ w)
+  atTerm : {w : List Written} → Starts w → PredStarts w
+
+pub startsPred : (p : Pred) (d b : ℕ) (w : List Written) → PredStarts (writePred p d b w)
+unfolding writePred
+startsPred truth d b w = atTrue
+startsPred falsity d b w = atFalse
+startsPred (negation p) d b w = atNot
+startsPred (paren p) d b w = atParen
+startsPred (quantified q x t p) d b w = atParen
+startsPred (connected o p q) d b w = startsPred p d b (connective o d ∷ writePred q (rightDepth o d) b w)
+startsPred (compared o t u) d b w = atTerm (startsTerm t d b (bare (comparisonKind o) ∷ writeTerm u d b w) (behindComparison o))
+startsPred (member o t u) d b w = atTerm (startsTerm t d b (bare (membershipKind o) ∷ writeTerm u d b w) (behindMembership o))
+startsPred (within o t r) d b w = atTerm (startsTerm t d b (bare (membershipKind o) ∷ writeRange r w) (behindMembership o))
+startsPred (related o t u v) d b w =
+    atTerm (startsTerm t d b (bare kind.maplet ∷ writeTerm u d b (bare (membershipKind o) ∷ writeTerm v d b w)) behindMaplet)
+
+-- a predicate that is taken is taken in ( )
+pub inParen : (w : List Written) → PredStarts w → (d b : ℕ) (γ : List Item) (k : Kind) → Agrees k w (aUnary d b ∷ aPredRest d d b ∷ exact kind.closeParen ∷ γ)
+    → Agrees k w (aParen d b ∷ γ)
+unfolding computeForm
+inParen w atTrue d b γ k h = h
+inParen w atFalse d b γ k h = h
+inParen w atNot d b γ k h = h
+inParen w atParen d b γ k h = h
+inParen w (atTerm f) d b γ k h = alikeAtStarts (aParen d b ∷ γ) (aUnary d b ∷ aPredRest d d b ∷ exact kind.closeParen ∷ γ) (asParen d b γ) w f k h

@@ -3,4 +3,7 @@ pub mod Samples
 pub mod Takes
 pub mod Runs
 pub mod Split
+pub mod AgreeStarts
+pub mod AgreeTerms
+pub mod Agree
 pub mod FormOf

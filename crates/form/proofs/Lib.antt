@@ -6,5 +6,7 @@ pub mod ParseTerms
 pub mod ParseBraces
 pub mod ParsePreds
 pub mod ParseTrees
+pub mod ParseParts
+pub mod ParseDossier
 pub mod Samples
 pub mod Takes

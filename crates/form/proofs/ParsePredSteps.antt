@@ -123,17 +123,19 @@ unfolding parseAtom lookup is codeOf kindAt
 atom-related isIn f t u s v w x e h = rw (parseAtom, e, h)
 atom-related notIn f t u s v w x e h = rw (parseAtom, e, h)
 
--- what a range and the domain of a bound name are read as
+-- how a range begins, and what the domain of a bound name is read as
 range-tests : (b : Bool) (n : ℕ) (w : List Written) → (isRange (symbolsIn (minusOf b (digits n ∷ bare kind.upTo ∷ w))) ≡ true)
     × (isNameKind (firstOf (symbolsIn (minusOf b (digits n ∷ bare kind.upTo ∷ w)))) ≡ false)
+    × (is (firstOf (symbolsIn (minusOf b (digits n ∷ bare kind.upTo ∷ w)))) kind.POWER ≡ false)
 unfolding isRange lookup is codeOf kindAt
-range-tests true n w = (refl, refl)
-range-tests false n w = (refl, refl)
+range-tests true n w = (refl, refl, refl)
+range-tests false n w = (refl, refl, refl)
 
-pub range-is-range : (r : Range) (w : List Written) → isRange (symbolsIn (writeRange r w)) ≡ true
-range-is-range r w = range-tests (r .lower .negative) (r .lower .magnitude) (writeEnd (r .upper) w) .0
+pub range-starts : (r : Range) (w : List Written) → (isRange (symbolsIn (writeRange r w)) ≡ true) × (isNameKind (firstOf (symbolsIn (writeRange r w))) ≡ false)
+    × (is (firstOf (symbolsIn (writeRange r w))) kind.POWER ≡ false)
+range-starts r w = range-tests (r .lower .negative) (r .lower .magnitude) (writeEnd (r .upper) w)
 
 pub reads-domain : (t : Domain) (w : List Written) → parseDomain (symbolsIn (writeDomain t w)) ≡ got t (symbolsIn w)
 unfolding parseDomain kindAt
 reads-domain (givenSet g) w = rw (parseDomain, name-kind (g .ending))
-reads-domain (range r) w = rw (parseDomain, range-tests (r .lower .negative) (r .lower .magnitude) (writeEnd (r .upper) w) .1, reads-range r w)
+reads-domain (range r) w = rw (parseDomain, range-starts r w .1, reads-range r w)

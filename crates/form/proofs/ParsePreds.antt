@@ -17,9 +17,9 @@ use Rattle.form.specs.Parse.{Parsed, got, parseTerm, parsePred, parsePre
 use Rattle.form.proofs.Takes.{symbolsIn}
 use Rattle.form.proofs.ParseSteps.{firstOf, reads-range, operand-brace, brace-such}
 use Rattle.form.proofs.ParsePredSteps.{pred-begins, pred-stops, rest-connective, unary-true, unary-false, unary-not, unary-paren, unary-atom, paren-inside, paren-quantified}
-use Rattle.form.proofs.ParsePredSteps.{atom-compared, atom-member, atom-within, atom-related, range-is-range, reads-domain}
+use Rattle.form.proofs.ParsePredSteps.{atom-compared, atom-member, atom-within, atom-related, reads-domain}
 use Rattle.form.proofs.ParseStarts.{TermEnds, PredEnds, pred-ends-above, closes, comparison-ends, membership-ends, connective-ends-pred, TermStart, term-starts}
-use Rattle.form.proofs.ParseTerms.{TermRead, reads-whole, Operand, from-operand, end-fits}
+use Rattle.form.proofs.ParseTerms.{TermRead, reads-whole, Operand, from-operand, range-fits}
 
 -- the least level that would go on with a predicate's last part, above all where none would
 abbrev pub tailLevel : Pred → ℕ
@@ -174,8 +174,7 @@ paren-read p r = from-unary (paren p) (2 + r .count) (omega arith) (λ d k w. om
 
 domain-fits : (t : Domain) (w : List Written) → length (symbolsIn w) ≤ length (symbolsIn (writeDomain t w))
 domain-fits (givenSet g) w = omega arith
-domain-fits (range r) w =
-    omega (arith, end-fits (r .lower .negative) (r .lower .magnitude) (bare kind.upTo ∷ writeEnd (r .upper) w), end-fits (r .upper .negative) (r .upper .magnitude) w)
+domain-fits (range r) w = range-fits r w
 
 pub quantified-read : (q : Quantifier) (x : Letters) (t : Domain) (p : Pred) → PredRead p → PredRead (quantified q x t p)
 unfolding writePred lookup is codeOf

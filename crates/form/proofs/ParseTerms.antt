@@ -9,9 +9,9 @@ use Rattle.symbols.specs.Kinds as kind
 use Rattle.symbols.specs.Kinds.{Kind, is, lookup, codeOf}
 use Rattle.symbols.specs.Symbols.{Name, noEnding, Symbol, fixed, numeral}
 use Rattle.symbols.specs.Symbols as symbol
-use Rattle.form.specs.Tree.{Letters, End, Prefix, Operator, plus, minus, union, without, times, inter, Division}
+use Rattle.form.specs.Tree.{Letters, End, Range, Prefix, Operator, plus, minus, union, without, times, inter, Division}
 use Rattle.form.specs.Tree.{Term, number, name, group, prefix, binary, divided, listed, pairs, such, emptySet, emptyPairs, Items, only, also, Pairs, onlyPair, alsoPair}
-use Rattle.form.specs.Written.{Written, bare, digits, operatorKind, divisionKind, prefixKind, minusOf, writeEnd, writeTerm, writeItems, writePairs}
+use Rattle.form.specs.Written.{Written, bare, digits, operatorKind, divisionKind, prefixKind, minusOf, writeEnd, writeRange, writeTerm, writeItems, writePairs}
 use Rattle.form.specs.Form.{kindAt, operatorLevel, divisionLevel, prefixLevel, termLevel}
 use Rattle.form.specs.Parse.{Parsed, got, parseTerm, parseTermRest, parseOperand, parseBrace, parseItems, parsePairs, parseEnd}
 use Rattle.form.proofs.Takes.{symbolsIn}
@@ -162,9 +162,13 @@ division-spine : (o : Division) (t : Term) (n : End) (m f g l : ℕ) (x v w : Li
 division-spine o t n m f zero l x v w h e r b c = absurd (omega arith)
 division-spine o t n m f (suc g) l x v w h e r b c = record { bound = g; enough = omega arith; reads = e ∙ rest-division o g l t n v w h r }
 
-pub end-fits : (b : Bool) (n : ℕ) (w : List Written) → suc (length (symbolsIn w)) ≤ length (symbolsIn (minusOf b (digits n ∷ w)))
+end-fits : (b : Bool) (n : ℕ) (w : List Written) → suc (length (symbolsIn w)) ≤ length (symbolsIn (minusOf b (digits n ∷ w)))
 end-fits true n w = omega arith
 end-fits false n w = omega arith
+
+pub range-fits : (r : Range) (w : List Written) → length (symbolsIn w) ≤ length (symbolsIn (writeRange r w))
+range-fits r w =
+    omega (arith, end-fits (r .lower .negative) (r .lower .magnitude) (bare kind.upTo ∷ writeEnd (r .upper) w), end-fits (r .upper .negative) (r .upper .magnitude) w)
 
 pub divided-read : (o : Division) (t : Term) (n : End) → TermRead t → divisionLevel ≤ termLevel t → TermRead (divided o t n)
 unfolding writeTerm

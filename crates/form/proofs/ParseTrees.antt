@@ -17,9 +17,9 @@ use Rattle.form.specs.Form.{connectiveLevel, notLevel, predLevel, leftLe
 use Rattle.form.specs.Parse.{Parsed, got, parseTerm, parsePred, parsePredRest, parseUnary, parseAtom, isRange}
 use Rattle.form.proofs.Takes.{symbolsIn}
 use Rattle.form.proofs.ParseSteps.{firstOf, reads-range}
-use Rattle.form.proofs.ParsePredSteps.{rest-connective, unary-atom, atom-compared, atom-member, atom-within, atom-related, range-is-range}
+use Rattle.form.proofs.ParsePredSteps.{rest-connective, unary-atom, atom-compared, atom-member, atom-within, atom-related, range-starts}
 use Rattle.form.proofs.ParseStarts.{TermEnds, PredEnds, pred-ends-above, closes, comparison-ends, membership-ends, connective-ends-pred, TermStart, term-starts}
-use Rattle.form.proofs.ParseTerms.{TermRead, reads-whole, end-fits, number-read, name-read, group-read, prefix-read, empty-read, empty-pairs-read, binary-read, divided-read}
+use Rattle.form.proofs.ParseTerms.{TermRead, reads-whole, range-fits, number-read, name-read, group-read, prefix-read, empty-read, empty-pairs-read, binary-read, divided-read}
 use Rattle.form.proofs.ParseBraces.{ItemsRead, PairsRead, only-read, also-read, only-pair-read, also-pair-read, listed-read, pairs-read}
 use Rattle.form.proofs.ParsePreds.{PredSpine, PredRead, tailLevel, connective-levels, left-tail, reads-pred, Unary, from-unary, truth-read, falsity-read, negation-read, paren-read, quantified-read, such-read}
 
@@ -63,13 +63,13 @@ member-read o t u r s = from-atom (member o t u) t r (1 + s .count) (λ d k w. b
 pub within-read : (o : Membership) (t : Term) (n : Range) → TermRead t → PredRead (within o t n)
 unfolding writePred
 within-read o t n r = from-atom (within o t n) t r 1 (λ d k w. bare (membershipKind o) ∷ writeRange n w) (omega arith)
-    (λ d k w. omega (arith, end-fits (n .lower .negative) (n .lower .magnitude) (bare kind.upTo ∷ writeEnd (n .upper) w), end-fits (n .upper .negative) (n .upper .magnitude) w))
+    (λ d k w. omega (arith, range-fits n w))
     (λ d k w. membership-ends o) (λ d k w. refl) go
   where
     go : (f d k : ℕ) (w : List Written) → TermEnds 1 (firstOf (symbolsIn w)) → 2 * 1 ≤ suc f
         → parseAtom f t (fixed (membershipKind o) ∷ symbolsIn (writeRange n w)) ≡ got (within o t n) (symbolsIn w)
     go zero d k w e b = absurd (omega arith)
-    go (suc f) d k w e b = atom-within o f t n _ (symbolsIn w) (range-is-range n w) (reads-range n w)
+    go (suc f) d k w e b = atom-within o f t n _ (symbolsIn w) (range-starts n w .0) (reads-range n w)
 
 maplet-ends : TermEnds 1 kind.maplet
 unfolding lookup is codeOf

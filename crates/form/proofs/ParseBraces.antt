@@ -1,23 +1,23 @@
 -- Terms in set braces, read: lists of terms and lists of pairs.
-use mathlib.Core.Path.{_≡_, refl, sym, ap, _∙_}
-use mathlib.Core.Bool.{Bool, true, false}
-use mathlib.Core.List.{List, [], _∷_}
-use Prim.Native.Nat.{ℕ, zero, suc, _+_, _*_, _≤_, _<_}
+use mathlib.Core.Path.{_≡_, refl}
+use mathlib.Core.Bool.{true, false}
+use mathlib.Core.List.{List, _∷_}
+use Prim.Native.Nat.{ℕ, zero, suc, _+_, _*_, _≤_}
 use native.Mathlib.Omega.{arith}
 use lib.ListN.{length}
 use Rattle.symbols.specs.Kinds as kind
-use Rattle.symbols.specs.Kinds.{is, lookup, codeOf}
+use Rattle.symbols.specs.Kinds.{is, codeOf}
 use Rattle.symbols.specs.Symbols.{Symbol, fixed}
 use Rattle.form.specs.Tree.{Term, listed, pairs, Items, only, also, Pairs, onlyPair, alsoPair}
 use Rattle.form.specs.Written.{Written, bare, writeTerm, writeItems, writePairs}
-use Rattle.form.specs.Form.{kindAt}
-use Rattle.form.specs.Parse.{Parsed, got, parseTerm, parseBrace, parseItems, parsePairs}
+use Rattle.form.specs.Parse.{got, parseTerm, parseItems, parsePairs}
 use Rattle.form.proofs.Takes.{symbolsIn}
 use Rattle.form.proofs.ParseSteps.{firstOf, operand-brace, bindsAt, brace-listed, brace-pairs, items-end, items-more, pairs-end, pairs-more}
-use Rattle.form.proofs.ParseStarts.{TermEnds, closes, TermStart, term-starts}
+use Rattle.form.proofs.ParseStarts.{comma-ends, maplet-ends, brace-ends, term-starts}
 use Rattle.form.proofs.ParseTerms.{TermRead, reads-whole, Operand, from-operand}
 
--- the inside v of a brace, read with the bound f: its first term, and from behind that the whole list, up to the closing brace before w
+-- The inside v of a brace, read with the bound f: its first term, and from behind that the whole list, up to the closing brace before w. It begins with
+-- no bound name, and |-> stands behind the first term in a list of pairs only.
 pub record ItemsAt (f : ℕ) (ts : Items) (v w : List Symbol) : Type 0 where
   pub first : Term
   pub behind : List Symbol
@@ -34,7 +34,7 @@ pub record PairsAt (f : ℕ) (ts : Pairs) (v w : List Symbol) : Type 0 where
   pub aPair : is (firstOf behind) kind.maplet ≡ true
   pub goesOn : parsePairs f first behind ≡ got ts (fixed kind.closeBrace ∷ w)
 
--- a list's symbols, `count` of them or more, are read as the list
+-- a list's symbols, `count` of them or more, are read as the list, with a bound of two for each symbol
 pub record ItemsRead (ts : Items) : Type 0 where
   pub count : ℕ
   pub fits : (d k : ℕ) (w : List Written) → count + length (symbolsIn w) ≤ length (symbolsIn (writeItems ts d k w))
@@ -45,18 +45,7 @@ pub record PairsRead (ts : Pairs) : Type 0 where
   pub fits : (d k : ℕ) (w : List Written) → count + length (symbolsIn w) ≤ length (symbolsIn (writePairs ts d k w))
   pub inside : (f d k : ℕ) (w : List Written) → 2 * count ≤ f → PairsAt f ts (symbolsIn (writePairs ts d k (bare kind.closeBrace ∷ w))) (symbolsIn w)
 
-comma-ends : TermEnds 1 kind.comma
-unfolding lookup is codeOf
-comma-ends = closes kind.comma refl refl refl refl
-
-maplet-ends : TermEnds 1 kind.maplet
-unfolding lookup is codeOf
-maplet-ends = closes kind.maplet refl refl refl refl
-
-pub brace-ends : TermEnds 1 kind.closeBrace
-unfolding lookup is codeOf
-brace-ends = closes kind.closeBrace refl refl refl refl
-
+-- one term, and one more
 pub only-read : (t : Term) → TermRead t → ItemsRead (only t)
 unfolding writeItems is codeOf
 only-read t r = record {
@@ -65,8 +54,8 @@ only-read t r = record {
   inside = λ f d k w b. record {
     first = t;
     behind = fixed kind.closeBrace ∷ symbolsIn w;
-    unbound = term-starts t 1 d k (bare kind.closeBrace ∷ w) brace-ends .unbound;
-    reads = reads-whole t r f d k (bare kind.closeBrace ∷ w) brace-ends b;
+    unbound = term-starts t 1 d k (bare kind.closeBrace ∷ w) (brace-ends .term) .unbound;
+    reads = reads-whole t r f d k (bare kind.closeBrace ∷ w) (brace-ends .term) b;
     noPair = refl;
     goesOn = items-end f t (symbolsIn w);
   };
@@ -94,6 +83,7 @@ also-read t ts r s = record {
         let i : ItemsAt f ts (symbolsIn (writeItems ts d k (bare kind.closeBrace ∷ w))) (symbolsIn w) = s .inside f d k w (omega arith) in
         items-more f t (i .first) ts _ (i .behind) _ (i .reads) (i .goesOn)
 
+-- one pair, and one more
 pub only-pair-read : (t u : Term) → TermRead t → TermRead u → PairsRead (onlyPair t u)
 unfolding writePairs is codeOf
 only-pair-read t u r s = record {
@@ -112,7 +102,7 @@ only-pair-read t u r s = record {
     go : (f d k : ℕ) (w : List Written) → 2 * (1 + r .count + s .count) ≤ f
         → parsePairs f t (fixed kind.maplet ∷ symbolsIn (writeTerm u d k (bare kind.closeBrace ∷ w))) ≡ got (onlyPair t u) (fixed kind.closeBrace ∷ symbolsIn w)
     go zero d k w b = absurd (omega arith)
-    go (suc f) d k w b = pairs-end f t u _ (symbolsIn w) (reads-whole u s f d k (bare kind.closeBrace ∷ w) brace-ends (omega arith))
+    go (suc f) d k w b = pairs-end f t u _ (symbolsIn w) (reads-whole u s f d k (bare kind.closeBrace ∷ w) (brace-ends .term) (omega arith))
 
 pub also-pair-read : (t u : Term) (ts : Pairs) → TermRead t → TermRead u → PairsRead ts → PairsRead (alsoPair t u ts)
 unfolding writePairs is codeOf
@@ -142,6 +132,7 @@ also-pair-read t u ts r s q = record {
         = reads-whole u s f d k (bare kind.comma ∷ writePairs ts d k (bare kind.closeBrace ∷ w)) comma-ends (omega arith) in
         pairs-more f t u (i .first) ts _ _ (i .behind) _ e (i .reads) (i .goesOn)
 
+-- lists in their braces
 pub listed-read : (ts : Items) → ItemsRead ts → TermRead (listed ts)
 unfolding writeTerm
 listed-read ts r = from-operand (listed ts) (2 + r .count) (omega arith) (λ d k w. omega (arith, r .fits (suc d) k (bare kind.closeBrace ∷ w))) go

@@ -1,33 +1,23 @@
 -- Reading the symbols of a grouped dossier gives that dossier back, so symbols are those of one dossier at most.
 use mathlib.Core.Path.{_≡_, refl, sym, ap, _∙_}
-use mathlib.Core.Bool.{Bool, true, false}
 use mathlib.Core.List.{List, [], _∷_}
 use Prim.Native.Nat.{ℕ, zero, suc, _+_, _*_, _≤_, _<_}
 use native.Mathlib.Omega.{arith}
 use lib.ListN.{length, drop}
 use Rattle.symbols.specs.Kinds as kind
-use Rattle.symbols.specs.Kinds.{Kind, is, lookup, codeOf}
+use Rattle.symbols.specs.Kinds.{is, codeOf}
 use Rattle.symbols.specs.Symbols.{noEnding, Symbol, fixed}
-use Rattle.symbols.specs.Symbols as symbol
-use Rattle.form.specs.Tree.{Letters, Pred, Parameter, Given, State, Operation, Dossier}
+use Rattle.form.specs.Tree.{Pred, State, Operation, Dossier}
 use Rattle.form.specs.Written.{aGiven, aVariable, anOperation, Written, bare, writeType, writePred, writeEntries, writeGivens, writeDeclarations, writeWhere, writeState}
 use Rattle.form.specs.Written.{writeParameters, writeOperations, writeContents, written, symbolsOf}
 use Rattle.form.specs.Form.{kindAt, PredGrouped, OperationsGrouped, Grouped, Whole}
-use Rattle.form.specs.Parse.{Parsed, got, parsePred, parseEntries, parseGivens, parseDeclaration, parseDeclarations, parseParameters, parseWhere, parseState, parseOperations, parseDossier}
+use Rattle.form.specs.Parse.{got, parsePred, parseEntries, parseGivens, parseWhere, parseState, parseOperations, parseDossier}
 use Rattle.form.proofs.Takes.{symbolsIn}
 use Rattle.form.proofs.ParseSteps.{firstOf}
-use Rattle.form.proofs.ParseStarts.{PredEnds, closes}
-use Rattle.form.proofs.ParsePreds.{PredRead, reads-whole-pred}
+use Rattle.form.proofs.ParseStarts.{PredEnds, end-ends, concrete-ends}
+use Rattle.form.proofs.ParsePreds.{reads-whole-pred}
 use Rattle.form.proofs.ParseTrees.{pred-read}
 use Rattle.form.proofs.ParseParts.{type-fits, reads-declaration, entries-fit, reads-entries, givens-fit, reads-givens, declarations-fit, reads-declarations, parameters-fit, reads-parameters}
-
-end-ends : PredEnds 1 kind.END
-unfolding lookup is codeOf
-end-ends = record { level = omega arith; term = closes kind.END refl refl refl refl }
-
-concrete-ends : PredEnds 1 kind.CONCRETE
-unfolding lookup is codeOf
-concrete-ends = record { level = omega arith; term = closes kind.CONCRETE refl refl refl refl }
 
 -- a grouped predicate of a body, and that it is not shorter than what stands behind it
 pred-fits : (p : Pred) → PredGrouped p → (w : List Written) → length (symbolsIn w) ≤ length (symbolsIn (writePred p 0 0 w))

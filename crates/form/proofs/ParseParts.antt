@@ -1,24 +1,25 @@
 -- Types, declarations, contents and given sets, read; and that no part is shorter than what stands behind it.
-use mathlib.Core.Path.{_≡_, refl, sym, ap, _∙_}
-use mathlib.Core.Bool.{Bool, true, false, cond}
+use mathlib.Core.Path.{_≡_, refl}
+use mathlib.Core.Bool.{true, false, cond}
 use mathlib.Core.List.{List, [], _∷_}
-use mathlib.Core.Option.{Option, none, some}
-use Prim.Native.Nat.{ℕ, zero, suc, _+_, _*_, _≤_, _<_}
+use mathlib.Core.Option.{none, some}
+use Prim.Native.Nat.{ℕ, zero, suc, _≤_, _<_}
 use native.Mathlib.Omega.{arith}
 use lib.ListN.{length}
 use Rattle.symbols.specs.Kinds as kind
 use Rattle.symbols.specs.Kinds.{Kind, is, lookup, codeOf}
-use Rattle.symbols.specs.Symbols.{Name, Ending, noEnding, prime, query, shriek, Symbol, fixed, kindOfName}
-use Rattle.form.specs.Tree.{Letters, Range, Arrow, relation, partial, total, TypeForm, givenType, powerType, rangeType, arrowType, Declaration, Direction, inward, outward, Parameter, Given}
-use Rattle.form.specs.Written.{Mark, aVariable, Written, bare, declared, arrowKind, writeEnd, writeRange, writeType, writeEntries, writeElements, writeGivens, writeDeclarations}
+use Rattle.symbols.specs.Symbols.{Ending, noEnding, prime, query, shriek, fixed, kindOfName}
+use Rattle.form.specs.Tree.{Letters, Arrow, relation, partial, total, TypeForm, givenType, powerType, rangeType, arrowType, Declaration, Direction, inward, outward, Parameter, Given}
+use Rattle.form.specs.Written.{Mark, aVariable, Written, bare, declared, arrowKind, writeType, writeEntries, writeElements, writeGivens, writeDeclarations}
 use Rattle.form.specs.Written.{endingOf, parameterMark, inputsAfter, outputsAfter, writeParameters}
 use Rattle.form.specs.Form.{kindAt}
-use Rattle.form.specs.Parse.{Parsed, got, arrowOf, parseType, parseEntries, parseElements, parseGivens, parseDeclaration, parseDeclarations, parseParameters}
+use Rattle.form.specs.Parse.{got, arrowOf, parseType, parseEntries, parseElements, parseGivens, parseDeclaration, parseDeclarations, parseParameters}
 use Rattle.form.proofs.Takes.{symbolsIn}
-use Rattle.form.proofs.ParseSteps.{firstOf, isNameKind, name-kind, reads-range}
+use Rattle.form.proofs.ParseSteps.{firstOf, name-kind, reads-range}
 use Rattle.form.proofs.ParsePredSteps.{range-starts}
 use Rattle.form.proofs.ParseTerms.{range-fits}
 
+-- how the kinds of type are told apart
 name-no-power : (e : Ending) → is (kindOfName e) kind.POWER ≡ false
 unfolding is codeOf
 name-no-power noEnding = refl
@@ -40,6 +41,7 @@ semicolon-no-arrow : arrowOf kind.semicolon ≡ none
 unfolding arrowOf lookup is codeOf
 semicolon-no-arrow = refl
 
+-- a type, before ;
 pub type-fits : (t : TypeForm) (w : List Written) → length (symbolsIn w) ≤ length (symbolsIn (writeType t w))
 unfolding writeType
 type-fits (givenType g) w = omega arith
@@ -54,6 +56,7 @@ reads-type (powerType g) w = rw (parseType, power-is-power)
 reads-type (rangeType r) w = rw (parseType, range-starts r (bare kind.semicolon ∷ w) .2, range-starts r (bare kind.semicolon ∷ w) .1, reads-range r (bare kind.semicolon ∷ w))
 reads-type (arrowType a g h) w = rw (parseType, name-no-power (g .ending), name-kind (g .ending), arrow-kind a)
 
+-- `name : type ;`
 pub reads-declaration : (x : Letters) (e : Ending) (m : Mark) (t : TypeForm) (w : List Written)
     → parseDeclaration (symbolsIn (declared x e m ∷ bare kind.colon ∷ writeType t (bare kind.semicolon ∷ w))) ≡ got (record { declared = x; type = t }) (symbolsIn w)
 unfolding parseDeclaration
@@ -87,13 +90,13 @@ reads-elements n (suc f) [] w b = refl
 reads-elements n zero (x ∷ xs) w b = absurd (omega arith)
 reads-elements n (suc f) (x ∷ xs) w b = rw (parseElements, reads-elements (suc n) f xs w (omega arith))
 
+-- `given NAME elements end` again and again, before a symbol of another kind
 pub givens-fit : (n : ℕ) (gs : List Given) (w : List Written) → length (symbolsIn w) ≤ length (symbolsIn (writeGivens n gs w))
 unfolding writeGivens
 givens-fit n [] w = omega arith
 givens-fit n (g ∷ gs) w =
     omega (arith, elements-fit 0 (g .firstElement ∷ g .otherElements) (bare kind.END ∷ writeGivens (suc n) gs w), givens-fit (suc n) gs w)
 
--- given sets, before a symbol of another kind
 pub reads-givens : (n f : ℕ) (gs : List Given) (w : List Written) → is (firstOf (symbolsIn w)) kind.GIVEN ≡ false → length (symbolsIn (writeGivens n gs w)) ≤ f
     → parseGivens f (symbolsIn (writeGivens n gs w)) ≡ got gs (symbolsIn w)
 unfolding parseGivens writeGivens writeElements is codeOf kindAt
@@ -105,12 +108,12 @@ reads-givens n (suc f) (g ∷ gs) w e b =
     = elements-fit 1 (g .otherElements) (bare kind.END ∷ writeGivens (suc n) gs w) in
     rw (parseGivens, reads-elements 1 f (g .otherElements) (writeGivens (suc n) gs w) (omega arith), reads-givens (suc n) f gs w e (omega arith))
 
+-- declarations, before a symbol that is no name
 pub declarations-fit : (n : ℕ) (ds : List Declaration) (w : List Written) → length (symbolsIn w) ≤ length (symbolsIn (writeDeclarations n ds w))
 unfolding writeDeclarations
 declarations-fit n [] w = omega arith
 declarations-fit n (d ∷ ds) w = omega (arith, type-fits (d .type) (bare kind.semicolon ∷ writeDeclarations (suc n) ds w), declarations-fit (suc n) ds w)
 
--- declarations, up to `where`
 pub reads-declarations : (n f : ℕ) (ds : List Declaration) (w : List Written) → is (firstOf (symbolsIn w)) kind.plain ≡ false
     → length (symbolsIn (writeDeclarations n ds w)) ≤ f → parseDeclarations f (symbolsIn (writeDeclarations n ds w)) ≡ got ds (symbolsIn w)
 unfolding parseDeclarations writeDeclarations is codeOf kindAt
@@ -124,6 +127,7 @@ reads-declarations n (suc f) (d ∷ ds) w e b =
       reads-declarations (suc n) f ds w e (omega (arith, type-fits (d .type) (bare kind.semicolon ∷ writeDeclarations (suc n) ds w))),
     )
 
+-- parameters, up to `abstract`
 pub parameters-fit : (i o : ℕ) (xs : List Parameter) (w : List Written) → length (symbolsIn w) ≤ length (symbolsIn (writeParameters i o xs w))
 unfolding writeParameters
 parameters-fit i o [] w = omega arith
@@ -141,7 +145,6 @@ abstract-is-abstract : is kind.ABSTRACT kind.ABSTRACT ≡ true
 unfolding is codeOf
 abstract-is-abstract = refl
 
--- parameters, up to `abstract`
 pub reads-parameters : (i o f : ℕ) (xs : List Parameter) (w : List Written) → length (symbolsIn (writeParameters i o xs (bare kind.ABSTRACT ∷ w))) ≤ f
     → parseParameters f (symbolsIn (writeParameters i o xs (bare kind.ABSTRACT ∷ w))) ≡ got xs (fixed kind.ABSTRACT ∷ symbolsIn w)
 unfolding parseParameters writeParameters kindAt

@@ -1,25 +1,23 @@
 -- What each part of the reader of trees does, for predicates, at what it begins with.
-use mathlib.Core.Path.{_≡_, refl, sym, ap, _∙_}
-use mathlib.Core.Bool.{Bool, true, false, not, _&&_}
-use mathlib.Core.List.{List, [], _∷_}
+use mathlib.Core.Path.{_≡_, refl}
+use mathlib.Core.Bool.{Bool, true, false}
+use mathlib.Core.List.{List, _∷_}
 use mathlib.Core.Option.{Option, none, some}
 use Prim.Native.Nat.{ℕ, zero, suc, _≤_, _<_}
-use native.Mathlib.Omega.{arith}
-use lib.Dec.{leb}
-use lib.ListN.{getD, drop}
 use Rattle.symbols.specs.Kinds as kind
-use Rattle.symbols.specs.Kinds.{Kind, is, lookup, codeOf}
-use Rattle.symbols.specs.Symbols.{Name, Ending, noEnding, prime, query, shriek, Symbol, fixed, numeral, kindOf, kindOfName}
+use Rattle.symbols.specs.Kinds.{is, lookup, codeOf}
+use Rattle.symbols.specs.Symbols.{noEnding, Symbol, fixed}
 use Rattle.symbols.specs.Symbols as symbol
-use Rattle.form.specs.Tree.{Letters, End, Range, Domain, givenSet, range, Connective, and, or, implies, iff, Quantifier, forall, exists, exists1, Comparison, equals, differs, less, atMost, Membership, isIn, notIn}
+use Rattle.form.specs.Tree.{Letters, Range, Domain, givenSet, range, Connective, and, or, implies, iff, Quantifier, forall, exists, exists1, Comparison, equals, differs, less, atMost, Membership, isIn, notIn}
 use Rattle.form.specs.Tree.{Term, Pred, truth, falsity, negation, paren, quantified, connected, compared, member, within, related}
 use Rattle.form.specs.Written.{Written, bare, connectiveKind, quantifierKind, comparisonKind, membershipKind, minusOf, digits, writeEnd, writeRange, writeDomain}
 use Rattle.form.specs.Form.{kindAt, connectiveLevel, rightLevel}
-use Rattle.form.specs.Parse.{Parsed, got, parseTerm, parsePred, parsePredRest, parseUnary, parseParen, parseAtom, parseRange, parseDomain, isRange}
-use Rattle.form.specs.Parse.{connectives, quantifiers, Begin, isTerm, begins, Relation, compares, contains, maps, relations}
+use Rattle.form.specs.Parse.{got, parseTerm, parsePred, parsePredRest, parseUnary, parseParen, parseAtom, parseRange, parseDomain, isRange}
+use Rattle.form.specs.Parse.{connectives, quantifiers, isTerm, begins, compares, contains, maps, relations}
 use Rattle.form.proofs.Takes.{symbolsIn}
 use Rattle.form.proofs.ParseSteps.{leb-true, leb-false, firstOf, isNameKind, name-kind, reads-range}
 
+-- a predicate is one before connectives and what goes on behind it
 pub pred-begins : (f l : ℕ) (p : Pred) (v w : List Symbol) → parseUnary f v ≡ got p w → parsePred (suc f) l v ≡ parsePredRest f l p w
 unfolding parsePred
 pred-begins f l p v w e = rw (parsePred, e)
@@ -51,7 +49,7 @@ pub rest-connective : (o : Connective) (f l : ℕ) (p q : Pred) (v w : List Symb
 unfolding parsePredRest kindAt
 rest-connective o f l p q v w h e = rw (parsePredRest, join-connective o, leb-true l (connectiveLevel o) h, e)
 
--- what a predicate begins with, before connectives
+-- What a predicate begins with, before connectives: `true`, `false`, `not`, (, a term.
 pub unary-true : (f : ℕ) (w : List Symbol) → parseUnary (suc f) (fixed kind.TRUE ∷ w) ≡ got truth w
 unfolding parseUnary lookup is codeOf kindAt
 unary-true f w = refl
@@ -73,6 +71,7 @@ pub unary-atom : (f : ℕ) (t : Term) (p : Pred) (u v w : List Symbol) → looku
 unfolding parseUnary kindAt
 unary-atom f t p u v w b e h = rw (parseUnary, b, e, h)
 
+-- the inside of ( ): a predicate, or a quantifier, its name, its domain and a predicate
 pub paren-inside : (f : ℕ) (p : Pred) (v w : List Symbol) → lookup quantifiers none (firstOf v) ≡ none → parsePred f 1 v ≡ got p (fixed kind.closeParen ∷ w)
     → parseParen (suc f) v ≡ got (paren p) w
 unfolding parseParen kindAt
@@ -90,6 +89,7 @@ pub paren-quantified : (f : ℕ) (q : Quantifier) (x : Letters) (t : Domain) (p 
 unfolding parseParen kindAt
 paren-quantified f q x t p u v w e h = rw (parseParen, quantifier-kind q, e, h)
 
+-- behind the first term of a predicate: a comparison and a term; `in` or `notin` and a term or a range; |-> and a term, `in` or `notin`, a term
 comparison-kind : (o : Comparison) → lookup relations maps (comparisonKind o) ≡ compares o
 unfolding lookup is codeOf
 comparison-kind equals = refl

@@ -1,25 +1,24 @@
 -- Predicates, read: each kind of predicate, and the set {x : G | p}, from how its parts are read.
-use mathlib.Core.Path.{_≡_, refl, sym, ap, _∙_}
-use mathlib.Core.Bool.{Bool, true, false}
-use mathlib.Core.List.{List, [], _∷_}
-use mathlib.Core.Option.{Option, none, some}
+use mathlib.Core.Path.{_≡_, refl, _∙_}
+use mathlib.Core.List.{List, _∷_}
+use mathlib.Core.Option.{none}
 use Prim.Native.Nat.{ℕ, zero, suc, _+_, _*_, _≤_, _<_}
 use native.Mathlib.Omega.{arith}
 use lib.ListN.{length}
 use Rattle.symbols.specs.Kinds as kind
-use Rattle.symbols.specs.Kinds.{Kind, is, lookup, codeOf}
-use Rattle.symbols.specs.Symbols.{Name, noEnding, Symbol, fixed, kindOf}
-use Rattle.form.specs.Tree.{Letters, Range, Domain, givenSet, range, Connective, and, or, implies, iff, Quantifier, Comparison, Membership}
-use Rattle.form.specs.Tree.{Term, such, Pred, truth, falsity, negation, paren, quantified, connected, compared, member, within, related}
-use Rattle.form.specs.Written.{Written, bare, connective, rightDepth, connectiveKind, comparisonKind, membershipKind, writeEnd, writeRange, writeDomain, writeTerm, writePred}
+use Rattle.symbols.specs.Kinds.{is, lookup, codeOf}
+use Rattle.symbols.specs.Symbols.{Name, Symbol}
+use Rattle.form.specs.Tree.{Letters, Domain, givenSet, range, Connective, and, or, implies, iff, Quantifier}
+use Rattle.form.specs.Tree.{such, Pred, truth, falsity, negation, paren, quantified, connected, compared, member, within, related}
+use Rattle.form.specs.Written.{Written, bare, writeDomain, writeTerm, writePred}
 use Rattle.form.specs.Form.{connectiveLevel, notLevel, predLevel, leftLevel, rightLevel}
-use Rattle.form.specs.Parse.{Parsed, got, parseTerm, parsePred, parsePredRest, parseUnary, parseParen, parseAtom, quantifiers}
+use Rattle.form.specs.Parse.{got, parsePred, parsePredRest, parseUnary, quantifiers}
 use Rattle.form.proofs.Takes.{symbolsIn}
-use Rattle.form.proofs.ParseSteps.{firstOf, reads-range, operand-brace, brace-such}
-use Rattle.form.proofs.ParsePredSteps.{pred-begins, pred-stops, rest-connective, unary-true, unary-false, unary-not, unary-paren, unary-atom, paren-inside, paren-quantified}
-use Rattle.form.proofs.ParsePredSteps.{atom-compared, atom-member, atom-within, atom-related, reads-domain}
-use Rattle.form.proofs.ParseStarts.{TermEnds, PredEnds, pred-ends-above, closes, comparison-ends, membership-ends, connective-ends-pred, TermStart, term-starts}
-use Rattle.form.proofs.ParseTerms.{TermRead, reads-whole, Operand, from-operand, range-fits}
+use Rattle.form.proofs.ParseSteps.{firstOf, operand-brace, brace-such}
+use Rattle.form.proofs.ParsePredSteps.{pred-begins, pred-stops, unary-true, unary-false, unary-not, unary-paren, paren-inside, paren-quantified}
+use Rattle.form.proofs.ParsePredSteps.{reads-domain}
+use Rattle.form.proofs.ParseStarts.{TermEnds, PredEnds, pred-ends-above, paren-ends, brace-ends}
+use Rattle.form.proofs.ParseTerms.{TermRead, Operand, from-operand, range-fits}
 
 -- the least level that would go on with a predicate's last part, above all where none would
 abbrev pub tailLevel : Pred → ℕ
@@ -40,7 +39,8 @@ pub record PredSpine (n f l : ℕ) (p : Pred) (v w : List Symbol) : Type 0 where
   pub enough : f ≤ bound + n
   pub reads : parsePred f l v ≡ parsePredRest bound l p w
 
--- a predicate's symbols, `count` of them or more, are read as the predicate
+-- A predicate's symbols, `count` of them or more, are read as the predicate, with a bound of two for each symbol: by `unary` where it stands before
+-- connectives, with one less; by `spine` at each level up to its own, before what ends its last part. They do not begin with a quantifier.
 pub record PredRead (p : Pred) : Type 0 where
   pub count : ℕ
   pub fits : (d k : ℕ) (w : List Written) → count + length (symbolsIn w) ≤ length (symbolsIn (writePred p d k w))
@@ -50,6 +50,7 @@ pub record PredRead (p : Pred) : Type 0 where
   pub spine : (f l d k : ℕ) (w : List Written) → l ≤ predLevel p → PredEnds (tailLevel p) (firstOf (symbolsIn w)) → 2 * count ≤ f
       → PredSpine count f l p (symbolsIn (writePred p d k w)) (symbolsIn w)
 
+-- the levels of connectives and of predicates
 pub connective-levels : (o : Connective) → (1 ≤ connectiveLevel o) × (connectiveLevel o ≤ 4) × (connectiveLevel o ≤ leftLevel o) × (connectiveLevel o ≤ rightLevel o)
 connective-levels and = omega arith
 connective-levels or = omega arith
@@ -128,6 +129,7 @@ from-unary p n i m s o = record { count = n; fits = m; unquantified = s; unary =
       reads = pred-begins f l p (symbolsIn (writePred p d k w)) (symbolsIn w) (o f d k w (e .term) b);
     }
 
+-- the predicates without connectives or terms
 pub truth-read : PredRead truth
 unfolding writePred lookup is codeOf
 truth-read = from-unary truth 1 (omega arith) (λ d k w. omega arith) (λ d k w. refl) go
@@ -151,14 +153,6 @@ negation-read p r i = from-unary (negation p) (1 + r .count) (omega arith) (λ d
     go : Unary (negation p) (1 + r .count)
     go zero d k w e b = absurd (omega arith)
     go (suc f) d k w e b = unary-not f p _ (symbolsIn w) (r .unary f (suc d) k w i e (omega arith))
-
-paren-ends : PredEnds 1 kind.closeParen
-unfolding lookup is codeOf
-paren-ends = record { level = omega arith; term = closes kind.closeParen refl refl refl refl }
-
-brace-ends : PredEnds 1 kind.closeBrace
-unfolding lookup is codeOf
-brace-ends = record { level = omega arith; term = closes kind.closeBrace refl refl refl refl }
 
 pub paren-read : (p : Pred) → PredRead p → PredRead (paren p)
 unfolding writePred lookup is codeOf
@@ -190,6 +184,7 @@ quantified-read q x t p r = from-unary (quantified q x t p) (2 + r .count) (omeg
         (paren-quantified f q x t p _ _ (symbolsIn w) (reads-domain t (bare kind.spot ∷ writePred p (suc d) (suc k) (bare kind.closeParen ∷ w)))
         (reads-whole-pred p r f (suc d) (suc k) (bare kind.closeParen ∷ w) paren-ends (omega arith)))
 
+-- {x : G | p}
 pub such-read : (x : Letters) (g : Name) (p : Pred) → PredRead p → TermRead (such x g p)
 unfolding writeTerm
 such-read x g p r = from-operand (such x g p) (2 + r .count) (omega arith) (λ d k w. omega (arith, r .fits (suc d) (suc k) (bare kind.closeBrace ∷ w))) go

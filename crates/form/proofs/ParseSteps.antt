@@ -1,11 +1,11 @@
 -- What each part of the reader of trees does, for terms, at what it begins with.
-use mathlib.Core.Path.{_≡_, refl, sym, ap, _∙_}
-use mathlib.Core.Bool.{Bool, true, false, not, _&&_}
+use mathlib.Core.Path.{_≡_, refl}
+use mathlib.Core.Bool.{Bool, true, false, _&&_}
 use mathlib.Core.List.{List, [], _∷_}
 use Prim.Native.Nat.{ℕ, zero, suc, _≤_, _<_}
 use native.Mathlib.Omega.{arith}
 use lib.Dec.{leb, T, le→leb, leb→le}
-use lib.ListN.{getD, drop}
+use lib.ListN.{getD}
 use Rattle.symbols.specs.Kinds as kind
 use Rattle.symbols.specs.Kinds.{Kind, is, lookup, codeOf}
 use Rattle.symbols.specs.Symbols.{Name, Ending, noEnding, prime, query, shriek, Symbol, fixed, numeral, kindOf, kindOfName}
@@ -14,10 +14,11 @@ use Rattle.form.specs.Tree.{Letters, End, Range, Prefix, negate, size, d
 use Rattle.form.specs.Tree.{Term, number, name, group, prefix, binary, divided, listed, pairs, such, emptySet, emptyPairs, Items, only, also, Pairs, onlyPair, alsoPair, Pred}
 use Rattle.form.specs.Written.{Written, bare, operatorKind, divisionKind, prefixKind, minusOf, digits, writeEnd, writeRange}
 use Rattle.form.specs.Form.{kindAt, operatorLevel, divisionLevel}
-use Rattle.form.specs.Parse.{Parsed, got, parseTerm, parseTermRest, parseOperand, parseBrace, parseItems, parsePairs, parsePred, parseEnd, parseRange, parseEmpty}
-use Rattle.form.specs.Parse.{Start, aName, aPrefix, starts, Infix, between, divides, notInfix, infixes}
+use Rattle.form.specs.Parse.{got, parseTerm, parseTermRest, parseOperand, parseBrace, parseItems, parsePairs, parsePred, parseEnd, parseRange, parseEmpty}
+use Rattle.form.specs.Parse.{aName, aPrefix, starts, Infix, between, divides, notInfix, infixes}
 use Rattle.form.proofs.Takes.{symbolsIn}
 
+-- a test as a path
 T→true : (b : Bool) → T b → b ≡ true
 T→true true t = refl
 T→true false t = absurd t
@@ -37,6 +38,7 @@ leb-false m n h = not-true (leb m n) (λ e. let g : m ≤ n = leb→le m n (rw e
 abbrev pub firstOf : List Symbol → Kind
 firstOf w = kindOf (getD w 0 (fixed kind.END))
 
+-- a name's kind
 abbrev pub isNameKind : Kind → Bool
 isNameKind k = lookup ((kind.plain, true) ∷ (kind.primed, true) ∷ (kind.input, true) ∷ (kind.output, true) ∷ []) false k
 
@@ -46,6 +48,7 @@ infixLevel (between o) = operatorLevel o
 infixLevel (divides o) = divisionLevel
 infixLevel notInfix = 0
 
+-- a term is an operand and what goes on behind it
 pub term-begins : (f l : ℕ) (t : Term) (v w : List Symbol) → parseOperand f v ≡ got t w → parseTerm (suc f) l v ≡ parseTermRest f l t w
 unfolding parseTerm
 term-begins f l t v w e = rw (parseTerm, e)
@@ -61,7 +64,7 @@ rest-stops (suc f) l t w h = go (lookup infixes notInfix (firstOf w)) refl h
     go (divides o) e g = rw (parseTermRest, e, leb-false l divisionLevel g)
     go notInfix e g = rw (parseTermRest, e)
 
-pub infix-operator : (o : Operator) → lookup infixes notInfix (operatorKind o) ≡ between o
+infix-operator : (o : Operator) → lookup infixes notInfix (operatorKind o) ≡ between o
 unfolding lookup is codeOf
 infix-operator plus = refl
 infix-operator minus = refl
@@ -70,7 +73,7 @@ infix-operator without = refl
 infix-operator times = refl
 infix-operator inter = refl
 
-pub infix-division : (o : Division) → lookup infixes notInfix (divisionKind o) ≡ divides o
+infix-division : (o : Division) → lookup infixes notInfix (divisionKind o) ≡ divides o
 unfolding lookup is codeOf
 infix-division quotient = refl
 infix-division remainder = refl
@@ -98,7 +101,7 @@ pub reads-range : (r : Range) (w : List Written) → parseRange (symbolsIn (writ
 unfolding parseRange
 reads-range r w = rw (parseRange, reads-end (r .lower) (bare kind.upTo ∷ writeEnd (r .upper) w), reads-end (r .upper) w)
 
--- what a term begins with, before operators
+-- What a term begins with, before operators: a number, a name, [, a prefix, {, `empty`.
 pub operand-number : (f n : ℕ) (w : List Symbol) → parseOperand (suc f) (numeral n ∷ w) ≡ got (number n) w
 unfolding parseOperand lookup is codeOf kindAt
 operand-number f n w = refl
@@ -151,7 +154,7 @@ pub operand-empty-pairs : (f : ℕ) (g h : Name) (w : List Symbol)
 unfolding parseOperand parseEmpty lookup is codeOf kindAt
 operand-empty-pairs f g h w = rw (parseEmpty, name-kind (h .ending))
 
--- a name and : stand at the beginning of a brace's inside
+-- The inside of a brace: a bound name, told by the name and : that it begins with; else terms or pairs, told by what stands behind the first term.
 abbrev pub bindsAt : List Symbol → Bool
 bindsAt v = is (kindAt v 0) kind.plain && is (kindAt v 1) kind.colon
 
@@ -170,6 +173,7 @@ pub brace-pairs : (f : ℕ) (t : Term) (ts : Pairs) (u v w : List Symbol) → bi
 unfolding parseBrace kindAt
 brace-pairs f t ts u v w b e m h = rw (parseBrace, b, e, m, e, h)
 
+-- behind a term or pair of a list: the closing brace ends the list, a comma goes on with it
 pub items-end : (f : ℕ) (t : Term) (w : List Symbol) → parseItems f t (fixed kind.closeBrace ∷ w) ≡ got (only t) (fixed kind.closeBrace ∷ w)
 unfolding parseItems is codeOf kindAt
 items-end zero t w = refl

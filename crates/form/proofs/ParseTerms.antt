@@ -1,23 +1,21 @@
 -- Terms, read: each kind of term, from how its parts are read.
-use mathlib.Core.Path.{_≡_, refl, sym, ap, _∙_}
+use mathlib.Core.Path.{_≡_, _∙_}
 use mathlib.Core.Bool.{Bool, true, false}
-use mathlib.Core.List.{List, [], _∷_}
+use mathlib.Core.List.{List, _∷_}
 use Prim.Native.Nat.{ℕ, zero, suc, _+_, _*_, _≤_, _<_}
 use native.Mathlib.Omega.{arith}
 use lib.ListN.{length}
 use Rattle.symbols.specs.Kinds as kind
-use Rattle.symbols.specs.Kinds.{Kind, is, lookup, codeOf}
-use Rattle.symbols.specs.Symbols.{Name, noEnding, Symbol, fixed, numeral}
-use Rattle.symbols.specs.Symbols as symbol
-use Rattle.form.specs.Tree.{Letters, End, Range, Prefix, Operator, plus, minus, union, without, times, inter, Division}
-use Rattle.form.specs.Tree.{Term, number, name, group, prefix, binary, divided, listed, pairs, such, emptySet, emptyPairs, Items, only, also, Pairs, onlyPair, alsoPair}
-use Rattle.form.specs.Written.{Written, bare, digits, operatorKind, divisionKind, prefixKind, minusOf, writeEnd, writeRange, writeTerm, writeItems, writePairs}
-use Rattle.form.specs.Form.{kindAt, operatorLevel, divisionLevel, prefixLevel, termLevel}
-use Rattle.form.specs.Parse.{Parsed, got, parseTerm, parseTermRest, parseOperand, parseBrace, parseItems, parsePairs, parseEnd}
+use Rattle.symbols.specs.Symbols.{Name, Symbol, fixed}
+use Rattle.form.specs.Tree.{End, Range, Prefix, Operator, plus, minus, union, without, times, inter, Division}
+use Rattle.form.specs.Tree.{Term, number, name, group, prefix, binary, divided, listed, pairs, such, emptySet, emptyPairs}
+use Rattle.form.specs.Written.{Written, bare, digits, operatorKind, divisionKind, minusOf, writeEnd, writeRange, writeTerm}
+use Rattle.form.specs.Form.{operatorLevel, divisionLevel, prefixLevel, termLevel}
+use Rattle.form.specs.Parse.{got, parseTerm, parseTermRest, parseOperand, parseEnd}
 use Rattle.form.proofs.Takes.{symbolsIn}
 use Rattle.form.proofs.ParseSteps.{firstOf, term-begins, rest-stops, rest-operator, rest-division, reads-end, operand-number, operand-name, operand-group, operand-prefix}
-use Rattle.form.proofs.ParseSteps.{operand-brace, operand-empty, operand-empty-pairs, bindsAt, brace-listed, brace-pairs, items-end, items-more, pairs-end, pairs-more}
-use Rattle.form.proofs.ParseStarts.{TermEnds, ends-above, closes, operator-ends, division-ends, TermStart, term-starts}
+use Rattle.form.proofs.ParseSteps.{operand-empty, operand-empty-pairs}
+use Rattle.form.proofs.ParseStarts.{TermEnds, ends-above, bracket-ends, operator-ends, division-ends}
 
 -- reading the symbols v at the level l with the bound f, of a term with n symbols: t is read, and the reader goes on behind it at w
 pub record Spine (n f l : ℕ) (t : Term) (v w : List Symbol) : Type 0 where
@@ -25,7 +23,8 @@ pub record Spine (n f l : ℕ) (t : Term) (v w : List Symbol) : Type 0 where
   pub enough : f ≤ bound + n
   pub reads : parseTerm f l v ≡ parseTermRest bound l t w
 
--- a term's symbols, `count` of them or more, are read as the term
+-- A term's symbols, `count` of them or more, are read as the term, with a bound of two for each symbol: by `operand` where it is one, with one less;
+-- by `spine` at each level up to its own, before what ends it above.
 pub record TermRead (t : Term) : Type 0 where
   pub count : ℕ
   pub some : 1 ≤ count
@@ -42,6 +41,7 @@ reads-term t r f l d k w h e b =
     let s : Spine (r .count) f l t (symbolsIn (writeTerm t d k w)) (symbolsIn w) = r .spine f l d k w h (ends-above (omega arith) e) b in
     s .reads ∙ rest-stops (s .bound) l t (symbolsIn w) (e .level)
 
+-- the levels of operators and of terms
 operator-level : (o : Operator) → (1 ≤ operatorLevel o) × (operatorLevel o ≤ 2)
 operator-level plus = omega arith
 operator-level minus = omega arith
@@ -50,7 +50,7 @@ operator-level without = omega arith
 operator-level times = omega arith
 operator-level inter = omega arith
 
-pub term-level : (t : Term) → 1 ≤ termLevel t
+term-level : (t : Term) → 1 ≤ termLevel t
 term-level (number n) = omega arith
 term-level (name x) = omega arith
 term-level (group t) = omega arith
@@ -85,6 +85,7 @@ from-operand t n i m o = record { count = n; some = i; fits = m; operand = λ f 
       reads = term-begins f l t (symbolsIn (writeTerm t d k w)) (symbolsIn w) (o f (suc (termLevel t)) d k w e b);
     }
 
+-- the operands
 pub number-read : (n : ℕ) → TermRead (number n)
 unfolding writeTerm
 number-read n = from-operand (number n) 1 (omega arith) (λ d k w. omega arith) go
@@ -102,13 +103,13 @@ name-read x = from-operand (name x) 1 (omega arith) (λ d k w. omega arith) go
     go (suc f) l d k w e b = operand-name f x (symbolsIn w)
 
 pub group-read : (t : Term) → TermRead t → TermRead (group t)
-unfolding writeTerm lookup is codeOf
+unfolding writeTerm
 group-read t r = from-operand (group t) (2 + r .count) (omega arith) (λ d k w. omega (arith, r .fits (suc d) k (bare kind.closeBracket ∷ w))) go
   where
     go : Operand (group t) (2 + r .count)
     go zero l d k w e b = absurd (omega arith)
     go (suc f) l d k w e b =
-        operand-group f t _ (symbolsIn w) (reads-whole t r f (suc d) k (bare kind.closeBracket ∷ w) (closes kind.closeBracket refl refl refl refl) (omega arith))
+        operand-group f t _ (symbolsIn w) (reads-whole t r f (suc d) k (bare kind.closeBracket ∷ w) bracket-ends (omega arith))
 
 pub prefix-read : (o : Prefix) (t : Term) → TermRead t → prefixLevel ≤ termLevel t → TermRead (prefix o t)
 unfolding writeTerm
@@ -144,6 +145,7 @@ operator-spine o t u m n f (suc g) l x v w h e r b c = record {
   reads = e ∙ rest-operator o g l t u v w h (r g (omega arith));
 }
 
+-- an operator's left side is of its level, its right side above it
 pub binary-read : (o : Operator) (t u : Term) → TermRead t → TermRead u → operatorLevel o ≤ termLevel t → operatorLevel o < termLevel u → TermRead (binary o t u)
 unfolding writeTerm
 binary-read o t u r s i j = record {
@@ -157,11 +159,13 @@ binary-read o t u r s i j = record {
       (λ g c. reads-term u s g (suc (operatorLevel o)) d k w j e c) b (p .enough);
 }
 
+-- a division behind its left side, read so far
 division-spine : (o : Division) (t : Term) (n : End) (m f g l : ℕ) (x v w : List Symbol) → l ≤ divisionLevel → parseTerm f l x ≡ parseTermRest g l t (fixed (divisionKind o) ∷ v)
     → parseEnd v ≡ got n w → 2 * (1 + m) ≤ f → f ≤ g + m → Spine (1 + m) f l (divided o t n) x w
 division-spine o t n m f zero l x v w h e r b c = absurd (omega arith)
 division-spine o t n m f (suc g) l x v w h e r b c = record { bound = g; enough = omega arith; reads = e ∙ rest-division o g l t n v w h r }
 
+-- an end and a range are not shorter than what stands behind them
 end-fits : (b : Bool) (n : ℕ) (w : List Written) → suc (length (symbolsIn w)) ≤ length (symbolsIn (minusOf b (digits n ∷ w)))
 end-fits true n w = omega arith
 end-fits false n w = omega arith

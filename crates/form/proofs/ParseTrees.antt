@@ -1,30 +1,28 @@
 -- Predicates over terms and predicates with a connective, read; then every grouped term and predicate, by induction.
-use mathlib.Core.Path.{_≡_, refl, sym, ap, _∙_}
-use mathlib.Core.Bool.{Bool, true, false}
-use mathlib.Core.List.{List, [], _∷_}
-use mathlib.Core.Option.{Option, none, some}
-use Prim.Native.Nat.{ℕ, zero, suc, _+_, _*_, _≤_, _<_}
+use mathlib.Core.Path.{_≡_, refl, ap, _∙_}
+use mathlib.Core.List.{List, _∷_}
+use mathlib.Core.Option.{some}
+use Prim.Native.Nat.{ℕ, zero, suc, _+_, _*_, _≤_}
 use native.Mathlib.Omega.{arith}
 use lib.ListN.{length}
 use Rattle.symbols.specs.Kinds as kind
-use Rattle.symbols.specs.Kinds.{Kind, is, lookup, codeOf}
-use Rattle.symbols.specs.Symbols.{Name, Symbol, fixed, kindOf}
+use Rattle.symbols.specs.Symbols.{Symbol, fixed, kindOf}
 use Rattle.form.specs.Tree.{Range, Connective, and, or, implies, iff, Comparison, Membership}
 use Rattle.form.specs.Tree.{Term, number, name, group, prefix, binary, divided, listed, pairs, such, emptySet, emptyPairs, Items, only, also, Pairs, onlyPair, alsoPair}
 use Rattle.form.specs.Tree.{Pred, truth, falsity, negation, paren, quantified, connected, compared, member, within, related}
-use Rattle.form.specs.Written.{Written, bare, connective, rightDepth, connectiveKind, comparisonKind, membershipKind, writeEnd, writeRange, writeTerm, writePred}
-use Rattle.form.specs.Form.{connectiveLevel, notLevel, predLevel, leftLevel, rightLevel, TermGrouped, ItemsGrouped, PairsGrouped, PredGrouped}
-use Rattle.form.specs.Parse.{Parsed, got, parseTerm, parsePred, parsePredRest, parseUnary, parseAtom, isRange}
+use Rattle.form.specs.Written.{Written, bare, connective, rightDepth, connectiveKind, comparisonKind, membershipKind, writeRange, writeTerm, writePred}
+use Rattle.form.specs.Form.{connectiveLevel, predLevel, leftLevel, rightLevel, TermGrouped, ItemsGrouped, PairsGrouped, PredGrouped}
+use Rattle.form.specs.Parse.{got, parsePred, parsePredRest, parseAtom}
 use Rattle.form.proofs.Takes.{symbolsIn}
 use Rattle.form.proofs.ParseSteps.{firstOf, reads-range}
 use Rattle.form.proofs.ParsePredSteps.{rest-connective, unary-atom, atom-compared, atom-member, atom-within, atom-related, range-starts}
-use Rattle.form.proofs.ParseStarts.{TermEnds, PredEnds, pred-ends-above, closes, comparison-ends, membership-ends, connective-ends-pred, TermStart, term-starts}
+use Rattle.form.proofs.ParseStarts.{TermEnds, PredEnds, pred-ends-above, maplet-ends, comparison-ends, membership-ends, connective-ends-pred, term-starts}
 use Rattle.form.proofs.ParseTerms.{TermRead, reads-whole, range-fits, number-read, name-read, group-read, prefix-read, empty-read, empty-pairs-read, binary-read, divided-read}
 use Rattle.form.proofs.ParseBraces.{ItemsRead, PairsRead, only-read, also-read, only-pair-read, also-pair-read, listed-read, pairs-read}
 use Rattle.form.proofs.ParsePreds.{PredSpine, PredRead, tailLevel, connective-levels, left-tail, reads-pred, Unary, from-unary, truth-read, falsity-read, negation-read, paren-read, quantified-read, such-read}
 
 -- a predicate that begins with the term t, given how it goes on behind t; v is what stands there
-pub from-atom : (p : Pred) (t : Term) (r : TermRead t) (n : ℕ) (v : (d k : ℕ) → List Written → List Written) → 1 ≤ n
+from-atom : (p : Pred) (t : Term) (r : TermRead t) (n : ℕ) (v : (d k : ℕ) → List Written → List Written) → 1 ≤ n
     → ((d k : ℕ) (w : List Written) → n + length (symbolsIn w) ≤ length (symbolsIn (v d k w)))
     → ((d k : ℕ) (w : List Written) → TermEnds 1 (firstOf (symbolsIn (v d k w))))
     → ((d k : ℕ) (w : List Written) → writePred p d k w ≡ writeTerm t d k (v d k w))
@@ -40,7 +38,8 @@ from-atom p t r n v i m c q h = from-unary p (r .count + n) (omega (arith, r .so
         (unary-atom f t p (symbolsIn (v d k w)) _ (symbolsIn w) (term-starts t 1 d k (v d k w) (c d k w) .isTerm)
         (reads-whole t r f d k (v d k w) (c d k w) (omega arith)) (h f d k w e (omega (arith, r .some))))
 
-pub compared-read : (o : Comparison) (t u : Term) → TermRead t → TermRead u → PredRead (compared o t u)
+-- t = u, t in u, t in a..b, t |-> u in v, and those like them
+compared-read : (o : Comparison) (t u : Term) → TermRead t → TermRead u → PredRead (compared o t u)
 unfolding writePred
 compared-read o t u r s = from-atom (compared o t u) t r (1 + s .count) (λ d k w. bare (comparisonKind o) ∷ writeTerm u d k w) (omega arith)
     (λ d k w. omega (arith, s .fits d k w)) (λ d k w. comparison-ends o) (λ d k w. refl) go
@@ -50,7 +49,7 @@ compared-read o t u r s = from-atom (compared o t u) t r (1 + s .count) (λ d k 
     go zero d k w e b = absurd (omega arith)
     go (suc f) d k w e b = atom-compared o f t u _ (symbolsIn w) (reads-whole u s f d k w e (omega arith))
 
-pub member-read : (o : Membership) (t u : Term) → TermRead t → TermRead u → PredRead (member o t u)
+member-read : (o : Membership) (t u : Term) → TermRead t → TermRead u → PredRead (member o t u)
 unfolding writePred
 member-read o t u r s = from-atom (member o t u) t r (1 + s .count) (λ d k w. bare (membershipKind o) ∷ writeTerm u d k w) (omega arith)
     (λ d k w. omega (arith, s .fits d k w)) (λ d k w. membership-ends o) (λ d k w. refl) go
@@ -60,7 +59,7 @@ member-read o t u r s = from-atom (member o t u) t r (1 + s .count) (λ d k w. b
     go zero d k w e b = absurd (omega arith)
     go (suc f) d k w e b = atom-member o f t u _ (symbolsIn w) (term-starts u 1 d k w e .noRange) (reads-whole u s f d k w e (omega arith))
 
-pub within-read : (o : Membership) (t : Term) (n : Range) → TermRead t → PredRead (within o t n)
+within-read : (o : Membership) (t : Term) (n : Range) → TermRead t → PredRead (within o t n)
 unfolding writePred
 within-read o t n r = from-atom (within o t n) t r 1 (λ d k w. bare (membershipKind o) ∷ writeRange n w) (omega arith)
     (λ d k w. omega (arith, range-fits n w))
@@ -71,11 +70,7 @@ within-read o t n r = from-atom (within o t n) t r 1 (λ d k w. bare (membership
     go zero d k w e b = absurd (omega arith)
     go (suc f) d k w e b = atom-within o f t n _ (symbolsIn w) (range-starts n w .0) (reads-range n w)
 
-maplet-ends : TermEnds 1 kind.maplet
-unfolding lookup is codeOf
-maplet-ends = closes kind.maplet refl refl refl refl
-
-pub related-read : (o : Membership) (t u s : Term) → TermRead t → TermRead u → TermRead s → PredRead (related o t u s)
+related-read : (o : Membership) (t u s : Term) → TermRead t → TermRead u → TermRead s → PredRead (related o t u s)
 unfolding writePred
 related-read o t u s r a c = from-atom (related o t u s) t r (2 + a .count + c .count)
     (λ d k w. bare kind.maplet ∷ writeTerm u d k (bare (membershipKind o) ∷ writeTerm s d k w)) (omega arith)
@@ -106,7 +101,8 @@ connective-spine o p q s m n f (suc g) l x v w a h e r b c = record {
   reads = e ∙ ap (λ (y : Symbol). parsePredRest (suc g) l p (y ∷ v)) a ∙ rest-connective o g l p q v w h (r g (omega arith));
 }
 
-pub connected-read : (o : Connective) (p q : Pred) → PredRead p → PredRead q → leftLevel o ≤ predLevel p → rightLevel o ≤ predLevel q → PredRead (connected o p q)
+-- a connective's sides have the levels that it asks for
+connected-read : (o : Connective) (p q : Pred) → PredRead p → PredRead q → leftLevel o ≤ predLevel p → rightLevel o ≤ predLevel q → PredRead (connected o p q)
 unfolding writePred
 connected-read o p q r s i j = record {
   count = 1 + r .count + s .count;

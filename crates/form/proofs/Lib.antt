@@ -1,4 +1,13 @@
 -- The pass for form: samples, and the theorem that it computes the condition.
+pub mod ParseSteps
+pub mod ParsePredSteps
+pub mod ParseStarts
+pub mod ParseTerms
+pub mod ParseBraces
+pub mod ParsePreds
+pub mod ParseTrees
+pub mod ParseParts
+pub mod ParseDossier
 pub mod Samples
 pub mod Takes
 pub mod Runs

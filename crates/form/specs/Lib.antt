@@ -5,3 +5,4 @@ pub mod Machine
 pub mod Parse
 pub mod Headings
 pub mod Computed
+pub mod Codes

@@ -6,3 +6,6 @@ pub mod Plain
 pub mod Fill
 pub mod Back
 pub mod Complete
+pub mod Insert
+pub mod Regroup
+pub mod Viable

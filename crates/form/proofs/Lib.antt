@@ -8,4 +8,5 @@ pub mod Back
 pub mod Complete
 pub mod Insert
 pub mod Regroup
+pub mod Steady
 pub mod Viable

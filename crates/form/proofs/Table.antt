@@ -1,6 +1,6 @@
 -- What holds of each entry of a table over kinds, and of its default, holds of what is looked up; and what a symbol of a kind carries.
 use mathlib.Core.Path.{_≡_, refl, ap, _∙_, sym, subst}
-use mathlib.Core.Bool.{Bool, true, false}
+use mathlib.Core.Bool.{Bool, true, false, cond}
 use mathlib.Core.List.{List, [], _∷_}
 use Prim.Native.Nat.{ℕ}
 use lib.Dec.{eqb, leb}
@@ -98,6 +98,11 @@ abbrev pub Each : {A : Type 0} → (Kind → A → Type 0) → List (Kind × A) 
 Each P [] = Unit {0}
 Each P (e ∷ t) = P (e .0) (e .1) × Each P t
 
+-- the first entry's proof, and the others'
+infixr 20 _&_
+abbrev pub _&_ : {A B : Type 0} → A → B → A × B
+a & b = (a, b)
+
 pub by-table : {A : Type 0} (P : Kind → A → Type 0) (table : List (Kind × A)) (d : A) (k : Kind) → Each P table → P k d → P k (lookup table d k)
 unfolding lookup
 by-table P [] d k h p = p
@@ -131,7 +136,7 @@ Carried k = carried (isFixed k) (is k kind.number)
 
 -- the ending that a name of the kind k has
 abbrev pub endingAt : Kind → Ending
-endingAt k = lookup ((kind.primed, prime) ∷ (kind.input, query) ∷ (kind.output, shriek) ∷ []) noEnding k
+endingAt k = cond (is k kind.primed) prime (cond (is k kind.input) query (cond (is k kind.output) shriek noEnding))
 
 abbrev pub symbolFrom : (a b : Bool) (k : Kind) → carried a b → Symbol
 symbolFrom true b k c = fixed k
@@ -144,7 +149,7 @@ symbolOf k c = symbolFrom (isFixed k) (is k kind.number) k c
 
 -- a spelled symbol is its kind and what it carries
 pub carries : (s : Symbol) → Spelled s → (c : Carried (kindOf s)) × (symbolOf (kindOf s) c ≡ s)
-unfolding is lookup codeOf
+unfolding is codeOf
 carries (fixed k) h = at (isFixed k) h
   where
     at : (a : Bool) → a ≡ true → (c : carried a (is k kind.number)) × (symbolFrom a (is k kind.number) k c ≡ fixed k)

@@ -1,22 +1,22 @@
 -- Each entry of the machine's tables turned round: what stands for an item, from the symbol taken and what stands for the items expected next.
-use mathlib.Core.Path.{_≡_, refl, ap, _∙_, sym}
+use mathlib.Core.Path.{_≡_, refl, ap, _∙_}
 use mathlib.Core.Bool.{Bool, true, false}
 use mathlib.Core.List.{List, [], _∷_, _++_}
-use mathlib.Core.Option.{Option, none, some}
+use mathlib.Core.Option.{none, some}
 use Prim.Native.Nat.{ℕ, suc}
 use Rattle.symbols.specs.Kinds as kind
 use Rattle.symbols.specs.Kinds.{Kind, codeOf, is, lookup}
 use Rattle.symbols.specs.Symbols as symbol
-use Rattle.symbols.specs.Symbols.{Name, noEnding, prime, query, shriek, Symbol, fixed}
+use Rattle.symbols.specs.Symbols.{Name, noEnding, Symbol, fixed}
 use Rattle.form.specs.Tree as tree
-use Rattle.form.specs.Tree.{Letters, End, Range, TypeForm, Connective, Quantifier, Given, Parameter, Operation, Declaration, State, Pred, Term, Dossier}
-use Rattle.form.specs.Written.{connectiveKind, quantifierKind, opens, binds, aGiven, anElement, aVariable, anInput, anOutput, anOperation}
+use Rattle.form.specs.Tree.{Letters, End, Connective, Quantifier, Given, Parameter, Operation, Declaration, State, Pred, Term, Dossier}
+use Rattle.form.specs.Written.{connectiveKind, quantifierKind, binds, aVariable, anOperation}
 use Rattle.form.specs.Machine.{Item, exact, aDeclared, aName, anEmptyRest, anEnd, aType, aTypeRest, aDomain, aDossier, aTerm, anOperand, aTermRest, aRel, aMem, aRight, aNeg, aNumRest}
 use Rattle.form.specs.Machine.{aBrace, aNamed, aFirst, aList, aPairs, aUnary, aParen, aPredRest, someEntries, someOpEntries, someBodies, someElements, someDeclarations, someOperations, someParameters}
 use Rattle.form.specs.Machine.{Act, take, skip, stuck, then, starts, fromStart, startTerm, operate, startPred, onName, act, Start}
 use Rattle.form.proofs.Table.{by-table, Each, _&_, Carried, symbolOf, endingAt}
-use Rattle.form.proofs.Plain.{plainParameters, named, plainTerm, plainPred, plainDeclarations, plainDomain, plainType, plainEnd, plainState, plainWhere, Bodies}
-use Rattle.form.proofs.Fill.{Fill, fill, Fills, print, Tail, operation, division, PredTail, connection, aSet, aRange, negatedTerm, negatedRange, goesOn, comparing, belonging, pairing}
+use Rattle.form.proofs.Plain.{plainParameters, named, plainTerm, plainPred, plainDeclarations, plainDomain, plainState, plainWhere, Bodies}
+use Rattle.form.proofs.Fill.{Fill, fill, Fills, print, Tail, operation, division, PredTail, connection, aSet, negatedTerm, goesOn, comparing, belonging, pairing}
 use Rattle.form.proofs.Fill.{moreItems, morePairs, first, used, bound, inside, quantifying, plainTail, plainPredTail, plainRelating, plainAfterFirst}
 use Rattle.form.proofs.Fill.{extended, extended-plain, joined, joined-plain, braced, braced-plain, parenthesised, parenthesised-plain, relate, relate-plain, emptied, emptied-plain}
 use Rattle.form.proofs.Fill.{arrowed, arrowed-plain, fromNumber, fromNumber-plain, fromNegated, fromNegated-plain, negatedNumber, negatedNumber-plain, fromName, fromName-plain}

@@ -1,11 +1,10 @@
 -- Each state of the machine can be completed: what it has taken begins a dossier's symbols, whatever that dossier's grouping.
-use mathlib.Core.Path.{_≡_, refl, ap, _∙_, sym, subst}
+use mathlib.Core.Path.{_≡_, refl, ap, _∙_, subst}
 use mathlib.Core.Bool.{Bool, true, false}
-use mathlib.Core.List.{List, [], _∷_, _++_, append-nil}
+use mathlib.Core.List.{List, [], _∷_, _++_}
 use mathlib.Core.Option.{Option, none, some}
-use Prim.Native.Nat.{ℕ, suc}
 use Rattle.symbols.specs.Kinds as kind
-use Rattle.symbols.specs.Kinds.{Kind, codeOf, is, lookup}
+use Rattle.symbols.specs.Kinds.{codeOf, is, lookup}
 use Rattle.symbols.specs.Symbols.{Name, noEnding, Symbol, fixed, kindOf}
 use Rattle.form.specs.Tree as tree
 use Rattle.form.specs.Tree.{Letters, State, Dossier}
@@ -14,9 +13,9 @@ use Rattle.form.specs.Machine.{Item, exact, aDeclared, aName, anEmptyRes
 use Rattle.form.specs.Machine.{aBrace, aNamed, aFirst, aList, aPairs, aUnary, aParen, aPredRest, someEntries, someOpEntries, someBodies, someElements, someDeclarations, someOperations, someParameters}
 use Rattle.form.specs.Machine.{Act, take, skip, stuck, act, Next, go, halt, does, step, passed, ends}
 use Rattle.form.proofs.Takes.{initial, feedOn, feed}
-use Rattle.form.proofs.Table.{Spelled, AllSpelled, carried, Carried, symbolOf, isFixed, carries}
-use Rattle.form.proofs.Plain.{Bodies, plainDossier, dossier-plain}
-use Rattle.form.proofs.Fill.{Fill, fill, Fills, print, Tail, PredTail, aSet, negatedTerm, goesOn, comparing, moreItems, first, bound, inside}
+use Rattle.form.proofs.Table.{Spelled, AllSpelled, carried, isFixed, carries}
+use Rattle.form.proofs.Plain.{Bodies, dossier-plain}
+use Rattle.form.proofs.Fill.{Fill, Fills, print, Tail, PredTail, aSet, negatedTerm, goesOn, comparing, moreItems, first, bound, inside}
 use Rattle.form.proofs.Back.{Back, back}
 
 -- what stands for an item, where it takes a spelled symbol

@@ -1,13 +1,12 @@
 -- What can stand for each item that the machine expects, and the symbols that it is written with.
-use mathlib.Core.Path.{_≡_, refl, ap, _∙_, sym}
-use mathlib.Core.Bool.{Bool, true, false}
-use mathlib.Core.List.{List, [], _∷_, _++_}
+use mathlib.Core.Path.{_≡_, refl, ap}
+use mathlib.Core.Bool.{true, false}
+use mathlib.Core.List.{List, [], _∷_}
 use mathlib.Core.Option.{Option, none, some}
-use Prim.Native.Nat.{ℕ, suc}
+use Prim.Native.Nat.{ℕ}
 use Rattle.symbols.specs.Kinds as kind
-use Rattle.symbols.specs.Kinds.{Kind}
 use Rattle.symbols.specs.Symbols as symbol
-use Rattle.symbols.specs.Symbols.{Name, Ending, noEnding, Symbol, fixed, numeral}
+use Rattle.symbols.specs.Symbols.{Name, noEnding, Symbol, fixed, numeral}
 use Rattle.form.specs.Tree.{Letters, End, Range, Domain, Operator, Division, Connective, Quantifier, Comparison, Membership}
 use Rattle.form.specs.Tree.{Term, number, name, prefix, negate, binary, divided, listed, pairs, such, emptySet, emptyPairs, Items, only, also, Pairs, onlyPair, alsoPair}
 use Rattle.form.specs.Tree.{Pred, paren, quantified, connected, compared, member, within, related}

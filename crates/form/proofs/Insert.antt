@@ -1,8 +1,8 @@
 -- One operand and operator, prefix or `not` put before a grouped tree, so that the whole is grouped.
-use mathlib.Core.Path.{_≡_, refl, ap, _∙_, sym}
+use mathlib.Core.Path.{_≡_, refl}
 use mathlib.Core.Bool.{Bool, true, false}
-use mathlib.Core.List.{List, [], _∷_}
-use Prim.Native.Nat.{ℕ, suc, _≤_, _<_}
+use mathlib.Core.List.{List, _∷_}
+use Prim.Native.Nat.{ℕ, _≤_, _<_}
 use native.Mathlib.Omega.{arith}
 use lib.Dec.{leb}
 use borrow.Author.Tests.{leb-true, leb-false}
@@ -12,7 +12,7 @@ use Rattle.form.specs.Tree.{End, Prefix, Operator, plus, minus, union, w
 use Rattle.form.specs.Tree.{Term, number, name, group, prefix, binary, divided, listed, pairs, such, emptySet, emptyPairs}
 use Rattle.form.specs.Tree.{Pred, truth, falsity, negation, paren, quantified, connected, compared, member, within, related}
 use Rattle.form.specs.Written.{prefixKind, operatorKind, divisionKind, connectiveKind}
-use Rattle.form.specs.Form.{operatorLevel, divisionLevel, termLevel, connectiveLevel, predLevel, leftLevel, rightLevel, TermGrouped, PredGrouped}
+use Rattle.form.specs.Form.{operatorLevel, termLevel, connectiveLevel, predLevel, leftLevel, rightLevel, TermGrouped, PredGrouped}
 use Rattle.form.proofs.Plain.{plainEnd, plainTerm, plainPred}
 
 -- a grouped term with given symbols, that binds at least as tightly as m

@@ -10,3 +10,4 @@ pub mod Insert
 pub mod Regroup
 pub mod Steady
 pub mod Viable
+pub mod Scanned

@@ -1,19 +1,19 @@
 -- The symbols of a tree alone: they do not depend on the depth, on the bound names in reach or on the counts.
-use mathlib.Core.Path.{_≡_, refl, ap, _∙_, sym}
+use mathlib.Core.Path.{_≡_, refl, ap, _∙_}
 use mathlib.Core.Bool.{Bool, true, false}
-use mathlib.Core.List.{List, [], _∷_, _++_, map}
+use mathlib.Core.List.{List, [], _∷_}
 use Prim.Native.Nat.{ℕ, suc}
 use Rattle.symbols.specs.Kinds as kind
 use Rattle.symbols.specs.Kinds.{Kind}
 use Rattle.symbols.specs.Symbols as symbol
-use Rattle.symbols.specs.Symbols.{Name, Ending, noEnding, Symbol, fixed, numeral}
-use Rattle.form.specs.Tree.{Letters, End, Range, Domain, givenSet, range, Connective, and, or, implies, iff}
+use Rattle.symbols.specs.Symbols.{Ending, noEnding, Symbol, fixed, numeral}
+use Rattle.form.specs.Tree.{Letters, End, Range, Domain, givenSet, range, and, or, implies, iff}
 use Rattle.form.specs.Tree.{Term, number, name, group, prefix, binary, divided, listed, pairs, such, emptySet, emptyPairs, Items, only, also, Pairs, onlyPair, alsoPair}
 use Rattle.form.specs.Tree.{Pred, truth, falsity, negation, paren, quantified, connected, compared, member, within, related}
 use Rattle.form.specs.Tree.{TypeForm, givenType, powerType, rangeType, arrowType, Declaration, Parameter, Given, State, Operation, Dossier}
 use Rattle.form.specs.Written.{Mark, Written, prefixKind, operatorKind, divisionKind, connectiveKind, quantifierKind, comparisonKind, membershipKind, arrowKind}
 use Rattle.form.specs.Written.{minusOf, writeEnd, writeRange, writeDomain, writeTerm, writeItems, writePairs, writePred, writeType, writeEntries, writeElements, writeGivens}
-use Rattle.form.specs.Written.{writeDeclarations, writeWhere, writeState, endingOf, inputsAfter, outputsAfter, writeParameters, writeOperations, writeContents, written, symbolsOf}
+use Rattle.form.specs.Written.{writeDeclarations, writeWhere, writeState, endingOf, writeParameters, writeOperations, writeContents, written, symbolsOf}
 use Rattle.form.proofs.Takes.{symbolsIn}
 
 -- a name's symbol, from its letters and ending

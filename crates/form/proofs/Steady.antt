@@ -1,5 +1,5 @@
 -- A mark of the machine that opens is followed, in the completion by defaults, by no number, and one that binds by a colon.
-use mathlib.Core.Path.{_≡_, refl, ap, _∙_, sym, subst}
+use mathlib.Core.Path.{_≡_, refl, _∙_, subst}
 use mathlib.Core.Bool.{Bool, true, false, not, _&&_}
 use mathlib.Core.List.{List, [], _∷_, _++_}
 use mathlib.Core.Option.{Option, none, some}
@@ -11,11 +11,11 @@ use Rattle.form.specs.Written.{Mark, unmarked, opens, binds, aGiven, anE
 use Rattle.form.specs.Form.{kindAt}
 use Rattle.form.specs.Machine.{Item, exact, aDeclared, aName, anEmptyRest, anEnd, aType, aTypeRest, aDomain, aDossier, aTerm, anOperand, aTermRest, aRel, aMem, aRight, aNeg, aNumRest}
 use Rattle.form.specs.Machine.{aBrace, aNamed, aFirst, aList, aPairs, aUnary, aParen, aPredRest, someEntries, someOpEntries, someBodies, someElements, someDeclarations, someOperations, someParameters}
-use Rattle.form.specs.Machine.{Act, take, skip, stuck, then, starts, fromStart, startTerm, operate, startPred, onName, act, Start, Next, go, halt, does, step}
-use Rattle.form.proofs.Takes.{initial, feedOn, feed}
+use Rattle.form.specs.Machine.{Act, take, skip, stuck, starts, fromStart, startTerm, operate, startPred, onName, act, Start, Next, go, halt, does, step}
+use Rattle.form.proofs.Takes.{feedOn, feed}
 use Rattle.form.proofs.Table.{Each, by-table}
 use Rattle.form.proofs.Plain.{plainTerm}
-use Rattle.form.proofs.Fill.{Fills, print}
+use Rattle.form.proofs.Fill.{print}
 use Rattle.form.proofs.Complete.{defaults}
 
 -- the first kind of the completion by defaults

@@ -1,13 +1,13 @@
 -- What holds of each entry of a table over kinds, and of its default, holds of what is looked up; and what a symbol of a kind carries.
 use mathlib.Core.Path.{_≡_, refl, ap, _∙_, sym, subst}
 use mathlib.Core.Bool.{Bool, true, false, cond}
-use mathlib.Core.List.{List, [], _∷_}
+use mathlib.Core.List.{List, [], _∷_, _++_}
 use Prim.Native.Nat.{ℕ}
 use lib.Dec.{eqb, leb}
 use borrow.Author.Tests.{eqb-true}
 use Rattle.symbols.specs.Kinds as kind
 use Rattle.symbols.specs.Kinds.{Kind, codeOf, is, lookup}
-use Rattle.symbols.specs.Symbols.{Symbol, fixed, numeral, name, Name, Ending, noEnding, prime, query, shriek, kindOf, kindOfName}
+use Rattle.symbols.specs.Symbols.{Symbol, fixed, numeral, name, Ending, noEnding, prime, query, shriek, kindOf, kindOfName}
 use Rattle.form.specs.Tree.{Letters}
 
 -- all kinds
@@ -124,6 +124,15 @@ Spelled (name x) = Unit {0}
 abbrev pub AllSpelled : List Symbol → Type 0
 AllSpelled [] = Unit {0}
 AllSpelled (s ∷ w) = Spelled s × AllSpelled w
+
+pub spelled-append : (u w : List Symbol) → AllSpelled u → AllSpelled w → AllSpelled (u ++ w)
+spelled-append [] w p q = q
+spelled-append (s ∷ u) w p q = (p .0, spelled-append u w (p .1) q)
+
+-- both parts of spelled symbols
+pub spelled-parts : (u w : List Symbol) → AllSpelled (u ++ w) → AllSpelled u × AllSpelled w
+spelled-parts [] w h = (tt, h)
+spelled-parts (s ∷ u) w h = let r = spelled-parts u w (h .1) in ((h .0, r .0), r .1)
 
 -- what a symbol carries beside its kind: a number its value, a name its letters
 abbrev pub carried : (isFixed isNumber : Bool) → Type 0

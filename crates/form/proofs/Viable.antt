@@ -1,6 +1,6 @@
 -- What the machine has taken begins a dossier; where it may stop, it is one.
 use mathlib.Core.Path.{_≡_, refl, ap, _∙_, sym, subst}
-use mathlib.Core.Bool.{Bool, true, false}
+use mathlib.Core.Bool.{true, false}
 use mathlib.Core.List.{List, [], _∷_, _++_, append-nil}
 use mathlib.Core.Option.{Option, none, some}
 use borrow.Author.Tests.{not-true}
@@ -12,9 +12,9 @@ use Rattle.form.specs.Written.{Mark, unmarked, opens, binds, aGiven, anE
 use Rattle.form.specs.Form.{Whole, Begins}
 use Rattle.form.specs.Machine.{Item, Next, go, halt, step, ends}
 use Rattle.form.proofs.Takes.{initial, feedOn, feed, IsOpens, IsBinds, Continues}
-use Rattle.form.proofs.Table.{Spelled, AllSpelled}
+use Rattle.form.proofs.Table.{Spelled, AllSpelled, spelled-append}
 use Rattle.form.proofs.Steady.{firstKind, follows, steady, both, Onward, step-steady, SteadyAfter, feed-steady}
-use Rattle.form.proofs.Fill.{Fills, print}
+use Rattle.form.proofs.Fill.{print}
 use Rattle.form.proofs.Complete.{finished, nothing-left, defaults}
 use Rattle.form.proofs.Regroup.{regroup}
 
@@ -48,10 +48,6 @@ feed-append (s ∷ u) w γ δ e = on (step γ (kindOf s)) e (λ ρ. feed-append 
     on : (n : Next) → feedOn n (feed u) ≡ some δ → ((ρ : List Item) → feed u ρ ≡ some δ → feed (u ++ w) ρ ≡ feed w δ) → feedOn n (feed (u ++ w)) ≡ feed w δ
     on (go m ρ) q r = r ρ q
     on halt q r = absurd (subst IsSome (sym q) tt)
-
-spelled-append : (u w : List Symbol) → AllSpelled u → AllSpelled w → AllSpelled (u ++ w)
-spelled-append [] w p q = q
-spelled-append (s ∷ u) w p q = (p .0, spelled-append u w (p .1) q)
 
 -- after a mark that opens, and one that binds
 after-opens : (m : Mark) (γ : List Item) → follows m γ ≡ true → IsOpens m → is (firstKind γ) kind.number ≡ false

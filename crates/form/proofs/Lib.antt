@@ -15,4 +15,14 @@ pub mod Split
 pub mod AgreeStarts
 pub mod AgreeTerms
 pub mod Agree
+pub mod Table
+pub mod Plain
+pub mod Fill
+pub mod Back
+pub mod Complete
+pub mod Insert
+pub mod Regroup
+pub mod Steady
+pub mod Viable
+pub mod Scanned
 pub mod FormOf

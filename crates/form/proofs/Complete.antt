@@ -1,6 +1,6 @@
 -- Each state of the machine can be completed: what it has taken begins a dossier's symbols, whatever that dossier's grouping.
-use mathlib.Core.Path.{_≡_, refl, ap, _∙_, subst}
-use mathlib.Core.Bool.{Bool, true, false}
+use mathlib.Core.Path.{_≡_, refl, ap, _∙_, sym, subst}
+use mathlib.Core.Bool.{Bool, true, false, true≢false}
 use mathlib.Core.List.{List, [], _∷_, _++_}
 use mathlib.Core.Option.{Option, none, some}
 use Rattle.symbols.specs.Kinds as kind
@@ -71,14 +71,11 @@ unfolding ends is lookup codeOf
 nothing-left [] e = (tt, refl)
 nothing-left (i ∷ γ) e = on (act i kind.WHERE) (back γ i kind.WHERE tt) (ends γ) (nothing-left γ) e
   where
-    apart : {A : Type 0} → false ≡ true → A
-    apart q = absurd (subst (λ (b : Bool). elim b as (λ (x : Bool). Type 0) [ true ↦ ⊥ | false ↦ Unit {0} ]) q tt)
-
     on : (a : Act) → Back γ i (fixed kind.WHERE) a → (b : Bool) → (b ≡ true → (g : Fills γ) × (print γ g ≡ [])) → passed a b ≡ true
         → (g : Fills (i ∷ γ)) × (print (i ∷ γ) g ≡ [])
-    on (take m ρ) x b r q = apart q
+    on (take m ρ) x b r q = absurd (true≢false (sym q))
     on skip x b r q = let g = r q in ((x .0, g .0), x .1 (print γ (g .0)) ∙ g .1)
-    on stuck x b r q = apart q
+    on stuck x b r q = absurd (true≢false (sym q))
 
 -- a completion for each item: where it may follow a mark that opens it does not begin with a number, and after a name in a brace it begins with a colon
 abbrev letters : Letters
@@ -152,6 +149,7 @@ default (someDeclarations n) = []
 default (someOperations n) = []
 default (someParameters i o) = []
 
+-- a completion for each item of a state
 abbrev pub defaults : (γ : List Item) → Fills γ
 defaults [] = tt
 defaults (i ∷ γ) = (default i, defaults γ)

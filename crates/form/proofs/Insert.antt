@@ -22,12 +22,14 @@ pub record TermMade (m : ℕ) (w : List Symbol → List Symbol) : Type 0 where
   pub holds : m ≤ termLevel tree
   pub same : (v : List Symbol) → plainTerm tree v ≡ w v
 
+-- the same for predicates
 pub record PredMade (m : ℕ) (w : List Symbol → List Symbol) : Type 0 where
   pub tree : Pred
   pub grouped : PredGrouped tree
   pub holds : m ≤ predLevel tree
   pub same : (v : List Symbol) → plainPred tree v ≡ w v
 
+-- the bounds of the levels
 operator-least : (o : Operator) → 1 ≤ operatorLevel o
 operator-least plus = omega arith
 operator-least minus = omega arith
@@ -187,9 +189,11 @@ pred-least (related o t u v) = omega arith
 abbrev Unary : Pred → Type 0
 Unary p = PredGrouped p × (5 ≤ predLevel p)
 
+-- a predicate and a connective before a grouped predicate; m bounds both
 abbrev BeforePred : Pred → Connective → Pred → Type 0
 BeforePred p o q = (m : ℕ) → m ≤ connectiveLevel o → m ≤ predLevel q → PredMade m (λ (v : List Symbol). plainPred p (fixed (connectiveKind o) ∷ plainPred q v))
 
+-- the predicate on the right holds together as tightly as the connective asks
 wholePred : (p : Pred) → Unary p → (o : Connective) (q : Pred) → PredGrouped q → rightLevel o ≤ predLevel q → BeforePred p o q
 unfolding PredGrouped plainPred
 wholePred p h o q g l m a b =
@@ -197,7 +201,6 @@ wholePred p h o q g l m a b =
     let d = h .1 in
     record { tree = connected o p q; grouped = (omega arith, l, h .0, g); holds = a; same = λ v. refl }
 
--- a predicate and a connective before a grouped predicate
 beforePred : (p : Pred) → Unary p → (o : Connective) (q : Pred) → PredGrouped q → BeforePred p o q
 unfolding PredGrouped plainPred
 beforePred p h o truth g = let c = right-most o in wholePred p h o truth g (omega arith)
@@ -226,6 +229,7 @@ abbrev pub followsPred : AfterPred → List Symbol → List Symbol
 followsPred AfterPred.nothing v = v
 followsPred (connecting o q g) v = fixed (connectiveKind o) ∷ plainPred q v
 
+-- a predicate and what follows it
 pub unary : (p : Pred) → PredGrouped p → 5 ≤ predLevel p → (r : AfterPred) → PredMade 1 (λ (v : List Symbol). plainPred p (followsPred r v))
 unfolding PredGrouped plainPred
 unary p g l AfterPred.nothing = record { tree = p; grouped = g; holds = omega arith; same = λ v. refl }

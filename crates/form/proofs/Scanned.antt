@@ -1,6 +1,6 @@
 -- The symbols of a text are spelled: a fixed symbol is of the kind of a mark or of a reserved word.
-use mathlib.Core.Path.{_≡_, refl, subst}
-use mathlib.Core.Bool.{Bool, true, false, cond}
+use mathlib.Core.Path.{_≡_, refl, sym}
+use mathlib.Core.Bool.{Bool, true, false, cond, true≢false}
 use mathlib.Core.List.{List, [], _∷_, map}
 use mathlib.Core.Option.{Option, none, some}
 use Prim.Native.Nat.{ℕ, zero, suc, _+_}
@@ -28,7 +28,7 @@ fixed-entries e t h = on (isFixed (e .1)) h
   where
     on : (b : Bool) → elim b as (λ (x : Bool). Bool) [ true ↦ allFixed t | false ↦ false ] ≡ true → (b ≡ true) × (allFixed t ≡ true)
     on true q = (refl, q)
-    on false q = absurd (subst (λ (x : Bool). elim x as (λ (y : Bool). Type 0) [ true ↦ ⊥ | false ↦ Unit {0} ]) q tt)
+    on false q = absurd (true≢false (sym q))
 
 abbrev SpelledFound : Found → Type 0
 SpelledFound gap = Unit {0}

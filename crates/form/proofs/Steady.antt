@@ -1,6 +1,6 @@
 -- A mark of the machine that opens is followed, in the completion by defaults, by no number, and one that binds by a colon.
-use mathlib.Core.Path.{_≡_, refl, _∙_, subst}
-use mathlib.Core.Bool.{Bool, true, false, not, _&&_}
+use mathlib.Core.Path.{_≡_, refl, _∙_, sym}
+use mathlib.Core.Bool.{Bool, true, false, not, _&&_, true≢false}
 use mathlib.Core.List.{List, [], _∷_, _++_}
 use mathlib.Core.Option.{Option, none, some}
 use Prim.Native.Nat.{ℕ, suc}
@@ -69,6 +69,7 @@ goesBefore (someDeclarations n) γ = true
 goesBefore (someOperations n) γ = true
 goesBefore (someParameters i o) γ = true
 
+-- a state in which each item goes before those behind it
 abbrev pub steady : List Item → Bool
 steady [] = true
 steady (i ∷ γ) = goesBefore i γ && steady γ
@@ -79,10 +80,12 @@ Keeps i γ (take m ρ) = follows m (ρ ++ γ) && steady (ρ ++ γ) ≡ steady (i
 Keeps i γ skip = Unit {0}
 Keeps i γ stuck = Unit {0}
 
+-- each entry of a table
 keeps-table : (i : Item) (γ : List Item) (table : List (Kind × Act)) (d : Act) (s : Kind)
     → Each (λ (j : Kind) (a : Act). Keeps i γ a) table → Keeps i γ d → Keeps i γ (lookup table d s)
 keeps-table i γ table d s h p = by-table (λ (j : Kind) (a : Act). Keeps i γ a) table d s h p
 
+-- the tables that terms, operators, predicates and names begin with
 keeps-term : (i : Item) (γ ρ : List Item) → steady (ρ ++ γ) ≡ steady (i ∷ γ) → (d k : ℕ) (s : Kind) → Keeps i γ (startTerm d k ρ s)
 unfolding startTerm is codeOf kindAt plainTerm
 keeps-term i γ ρ h d k s =
@@ -100,6 +103,7 @@ keeps-name : (i : Item) (γ : List Item) (a b : Act) (s : Kind) → Keeps i γ a
 unfolding onName
 keeps-name i γ a b s p q = keeps-table i γ _ b s (p, (p, (p, (p, tt)))) q
 
+-- every item at every kind
 keeps : (i : Item) (γ : List Item) (s : Kind) → Keeps i γ (act i s)
 unfolding act is codeOf kindAt plainTerm
 keeps (exact c) γ s = keeps-table (exact c) γ _ _ s (refl, tt) tt
@@ -138,7 +142,7 @@ keeps (someParameters i o) γ s = keeps-table (someParameters i o) γ _ _ s (ref
 -- both of two tests
 pub both : (a b : Bool) → a && b ≡ true → (a ≡ true) × (b ≡ true)
 both true b e = (refl, e)
-both false b e = absurd (subst (λ (x : Bool). elim x as (λ (y : Bool). Type 0) [ true ↦ ⊥ | false ↦ Unit {0} ]) e tt)
+both false b e = absurd (true≢false (sym e))
 
 -- a step from a steady state: its mark is followed as it may be, and the state is steady again
 abbrev pub Onward : Next → Type 0

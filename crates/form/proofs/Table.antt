@@ -1,6 +1,6 @@
 -- What holds of each entry of a table over kinds, and of its default, holds of what is looked up; and what a symbol of a kind carries.
 use mathlib.Core.Path.{_≡_, refl, ap, _∙_, sym, subst}
-use mathlib.Core.Bool.{Bool, true, false, cond}
+use mathlib.Core.Bool.{Bool, true, false, cond, true≢false}
 use mathlib.Core.List.{List, [], _∷_, _++_}
 use Prim.Native.Nat.{ℕ}
 use lib.Dec.{eqb, leb}
@@ -90,10 +90,12 @@ kind-back kind.MOD = refl
 kind-back kind.DOM = refl
 kind-back kind.RAN = refl
 
+-- kinds are compared by their numbers
 pub is-equal : (k j : Kind) → is k j ≡ true → k ≡ j
 unfolding is
 is-equal k j e = sym (kind-back k) ∙ ap (kindIn kinds) (eqb-true (codeOf k) (codeOf j) e) ∙ kind-back j
 
+-- what holds of each entry of a table
 abbrev pub Each : {A : Type 0} → (Kind → A → Type 0) → List (Kind × A) → Type 0
 Each P [] = Unit {0}
 Each P (e ∷ t) = P (e .0) (e .1) × Each P t
@@ -103,6 +105,7 @@ infixr 20 _&_
 abbrev pub _&_ : {A B : Type 0} → A → B → A × B
 a & b = (a, b)
 
+-- what holds of each entry and of the default holds of what is looked up
 pub by-table : {A : Type 0} (P : Kind → A → Type 0) (table : List (Kind × A)) (d : A) (k : Kind) → Each P table → P k d → P k (lookup table d k)
 unfolding lookup
 by-table P [] d k h p = p
@@ -163,7 +166,7 @@ carries (fixed k) h = at (isFixed k) h
   where
     at : (a : Bool) → a ≡ true → (c : carried a (is k kind.number)) × (symbolFrom a (is k kind.number) k c ≡ fixed k)
     at true e = (tt, refl)
-    at false e = absurd (subst (λ (b : Bool). elim b as (λ (x : Bool). Type 0) [ true ↦ ⊥ | false ↦ Unit {0} ]) e tt)
+    at false e = absurd (true≢false (sym e))
 carries (numeral n) h = (n, refl)
 carries (name x) h = at (x .ending)
   where

@@ -18,15 +18,15 @@ use Rattle.form.proofs.Fill.{print}
 use Rattle.form.proofs.Complete.{finished, nothing-left, defaults}
 use Rattle.form.proofs.Regroup.{regroup}
 
--- a grouped dossier with the symbols of any dossier
-regrouped : (d : Dossier) (w : List Symbol) → symbolsOf d ≡ w → (e : Dossier) × Whole w e
-regrouped d w e = let g = regroup d in (g .0, record { grouped = g .1; symbols = g .2 ∙ e })
+-- the symbols of any dossier are a dossier's, by form alone
+by-form : (d : Dossier) (w : List Symbol) → symbolsOf d ≡ w → (e : Dossier) × Whole w e
+by-form d w e = let g = regroup d in (g .0, record { grouped = g .1; symbols = g .2 ∙ e })
 
 -- a dossier begins with what the machine has taken, and goes on with a completion of each item expected
 pub viable : (u : List Symbol) (γ : List Item) → AllSpelled u → feed u initial ≡ some γ → Begins u
 viable u γ q e =
     let f = finished u γ q e (defaults γ) in
-    let g = regrouped (f .0) (u ++ print γ (defaults γ)) (f .1) in
+    let g = by-form (f .0) (u ++ print γ (defaults γ)) (f .1) in
     record { dossier = g .0; rest = print γ (defaults γ); whole = g .1 }
 
 -- where the text may end it is a dossier's
@@ -34,7 +34,7 @@ pub wholly : (u : List Symbol) (γ : List Item) → AllSpelled u → feed u init
 wholly u γ q e t =
     let n = nothing-left γ t in
     let f = finished u γ q e (n .0) in
-    regrouped (f .0) u (f .1 ∙ ap (λ (l : List Symbol). u ++ l) (n .1) ∙ append-nil u)
+    by-form (f .0) u (f .1 ∙ ap (λ (l : List Symbol). u ++ l) (n .1) ∙ append-nil u)
 
 abbrev IsSome : Option (List Item) → Type 0
 IsSome (some γ) = Unit {0}

@@ -11,10 +11,11 @@ use Rattle.symbols.specs.Kinds.{Kind}
 use Rattle.symbols.specs.Symbols.{Symbol, kindOf}
 use Rattle.form.specs.Tree.{Dossier}
 use Rattle.form.specs.Written.{Mark, unmarked, Written, written, symbolsOf}
-use Rattle.form.specs.Form.{Grouped, Whole, Begins, kindAt}
+use Rattle.form.specs.Form.{Whole, Begins, kindAt}
 use Rattle.form.specs.Machine.{Item, Next, go, halt, step, ends}
 use Rattle.form.proofs.Takes.{initial, feed, feedOn, Fits, symbolsIn, Agrees, AgreesOn}
 use Rattle.form.proofs.Runs.{kindBefore, behind}
+use Rattle.form.proofs.Agree.{agree}
 
 abbrev pub markAt : List Written → ℕ → Mark
 markAt x j = getD (map (λ (y : Written). y .mark) x) j unmarked
@@ -105,41 +106,39 @@ pub record AtSymbol (w : List Symbol) (j : ℕ) (b : Begins (take (suc j) w)) : 
   pub stepped : step state (kindAt w j) ≡ go mark next
   pub fits : Fits mark (markAt (written (b .dossier)) j) (kindBefore kind.END w j) (kindAt w j) (b .rest)
 
--- theorem A stands for `agree`
-module _ (agree : (d : Dossier) → Grouped d → Agrees kind.END (written d) initial) where
-  pub at-symbol : (w : List Symbol) (j : ℕ) → j < length w → (b : Begins (take (suc j) w)) → AtSymbol w j b
-  unfolding symbolsOf
-  at-symbol w j l b =
-      let d : Dossier = b .dossier in
-      let v : List Symbol = b .rest in
-      let e : symbolsIn (written d) ≡ take (suc j) w ++ v = b .whole .symbols in
-      let n : length (symbolsIn (written d)) ≡ length (written d) = length-map (written d) (λ (x : Written). x .symbol) in
-      let h : j < length (take (suc j) w ++ v) = prefix-length w v j l in
-      let m : length (symbolsIn (written d)) ≡ length (take (suc j) w ++ v) = ap length e in
-      let t : Taken (symbolsIn (written d)) (markAt (written d) j) kind.END initial j = taken (written d) kind.END initial (agree d (b .whole .grouped)) j (omega arith) in
-      let u : Taken (take (suc j) w ++ v) (markAt (written d) j) kind.END initial j = subst (λ (x : List Symbol). Taken x (markAt (written d) j) kind.END initial j) e t in
-      record {
-        state = u .state;
-        mark = u .mark;
-        next = u .next;
-        fed = ap (λ (x : List Symbol). feed x initial) (sym (prefix-take w v j l)) ∙ u .fed;
-        stepped = ap (step (u .state)) (sym (prefix-kind w v j j (omega arith) l)) ∙ u .stepped;
-        fits =
-            subst (λ (x : Kind). Fits (u .mark) (markAt (written d) j) x (kindAt w j) v) (prefix-before kind.END w v j l)
-            (subst (λ (x : Kind). Fits (u .mark) (markAt (written d) j) (kindBefore kind.END (take (suc j) w ++ v) j) x v) (prefix-kind w v j j (omega arith) l)
-            (subst (λ (x : List Symbol). Fits (u .mark) (markAt (written d) j) (kindBefore kind.END (take (suc j) w ++ v) j) (kindAt (take (suc j) w ++ v) j) x) (prefix-drop w v j l)
-            (u .fits)));
-      }
+pub at-symbol : (w : List Symbol) (j : ℕ) → j < length w → (b : Begins (take (suc j) w)) → AtSymbol w j b
+unfolding symbolsOf
+at-symbol w j l b =
+    let d : Dossier = b .dossier in
+    let v : List Symbol = b .rest in
+    let e : symbolsIn (written d) ≡ take (suc j) w ++ v = b .whole .symbols in
+    let n : length (symbolsIn (written d)) ≡ length (written d) = length-map (written d) (λ (x : Written). x .symbol) in
+    let h : j < length (take (suc j) w ++ v) = prefix-length w v j l in
+    let m : length (symbolsIn (written d)) ≡ length (take (suc j) w ++ v) = ap length e in
+    let t : Taken (symbolsIn (written d)) (markAt (written d) j) kind.END initial j = taken (written d) kind.END initial (agree d (b .whole .grouped)) j (omega arith) in
+    let u : Taken (take (suc j) w ++ v) (markAt (written d) j) kind.END initial j = subst (λ (x : List Symbol). Taken x (markAt (written d) j) kind.END initial j) e t in
+    record {
+      state = u .state;
+      mark = u .mark;
+      next = u .next;
+      fed = ap (λ (x : List Symbol). feed x initial) (sym (prefix-take w v j l)) ∙ u .fed;
+      stepped = ap (step (u .state)) (sym (prefix-kind w v j j (omega arith) l)) ∙ u .stepped;
+      fits =
+          subst (λ (x : Kind). Fits (u .mark) (markAt (written d) j) x (kindAt w j) v) (prefix-before kind.END w v j l)
+          (subst (λ (x : Kind). Fits (u .mark) (markAt (written d) j) (kindBefore kind.END (take (suc j) w ++ v) j) x v) (prefix-kind w v j j (omega arith) l)
+          (subst (λ (x : List Symbol). Fits (u .mark) (markAt (written d) j) (kindBefore kind.END (take (suc j) w ++ v) j) (kindAt (take (suc j) w ++ v) j) x) (prefix-drop w v j l)
+          (u .fits)));
+    }
 
-  -- a text that is a dossier's may end where it does
-  pub at-end : (w : List Symbol) (d : Dossier) → Whole w d → (γ : List Item) → feed w initial ≡ some γ → ends γ ≡ true
-  unfolding symbolsOf
-  at-end w d h γ f =
-      let t : Ended (written d) initial = ended (written d) kind.END initial (agree d (h .grouped)) in
-      let g : feed w initial ≡ some (t .state) = ap (λ (x : List Symbol). feed x initial) (sym (h .symbols)) ∙ t .fed in
-      let same : t .state ≡ γ = ap (λ (o : Option (List Item)). orNone o) (sym g ∙ f) in
-      ap ends (sym same) ∙ t .ends-there
-    where
-      orNone : Option (List Item) → List Item
-      orNone none = []
-      orNone (some x) = x
+-- a text that is a dossier's may end where it does
+pub at-end : (w : List Symbol) (d : Dossier) → Whole w d → (γ : List Item) → feed w initial ≡ some γ → ends γ ≡ true
+unfolding symbolsOf
+at-end w d h γ f =
+    let t : Ended (written d) initial = ended (written d) kind.END initial (agree d (h .grouped)) in
+    let g : feed w initial ≡ some (t .state) = ap (λ (x : List Symbol). feed x initial) (sym (h .symbols)) ∙ t .fed in
+    let same : t .state ≡ γ = ap (λ (o : Option (List Item)). orNone o) (sym g ∙ f) in
+    ap ends (sym same) ∙ t .ends-there
+  where
+    orNone : Option (List Item) → List Item
+    orNone none = []
+    orNone (some x) = x

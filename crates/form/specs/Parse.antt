@@ -354,6 +354,6 @@ abbrev pub outcomeOf : List Symbol → Run → Outcome
 outcomeOf w complete = formed (parseDossier (4 * length w + 4) w)
 outcomeOf w (failed i r) = refused i r
 
--- the pass computed: to be proved `FormOf w (form w)`
+-- the pass computed: `FormOf w (form w)` for the symbols of every text (proofs/FormOf.antt)
 unfoldable pub form : List Symbol → Outcome
 form w = outcomeOf w (run w)

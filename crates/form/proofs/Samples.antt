@@ -9,6 +9,9 @@ use Rattle.symbols.specs.Lists.{all}
 use Rattle.symbols.specs.Base.{Parts, dossierOf}
 use Rattle.symbols.specs.Refusals.{Refusal, numberOf, noDossier, deep, manyDeclared, headingDiffers, Fault}
 use Rattle.form.specs.Tree.{Dossier}
+use Rattle.form.specs.Tree.{Term, number, name, group, prefix, binary, divided, listed, pairs, such, emptySet, emptyPairs}
+use Rattle.form.specs.Tree.{Pred, truth, falsity, negation, paren, quantified, connected, compared, member, within, related}
+use Rattle.form.specs.Codes.{termWidth, predWidth}
 use Rattle.form.specs.Form.{Outcome, refused, formed}
 use Rattle.form.specs.Headings.{headingFaults}
 use Rattle.form.specs.Computed.{computeForm}
@@ -17,6 +20,8 @@ pub data Sample : Type 0 where
   -- the predicate is refused at its symbol i; it is read
   faulty : String → (i : ℕ) → Refusal → Sample
   fine : String → Sample
+  -- the loosest connective, or operator of a comparison's left side, is the symbol i
+  root : String → (i : ℕ) → Sample
   -- BASE with these contents entries and bodies of operations: refused at symbol i for its headings
   heading : (listed bodies : String) → (i : ℕ) → Sample
 
@@ -39,6 +44,16 @@ samples =
     ∷ faulty "(((((((((((((((((((((((( k in - 1 ))))))))))))))))))))))))" 26 deep
     ∷ faulty "(forall a : SEG @ (forall b : SEG @ (forall c : SEG @ {d : SEG | true} = m)))" 19 deep
     ∷ fine "(forall a : SEG @ (forall b : SEG @ (forall c : SEG @ {a} = m)))"
+    ∷ root "k + k * k = 0" 1
+    ∷ root "k * k + k = 0" 3
+    ∷ root "k - k - k = 0" 3
+    ∷ root "k - k div 2 mod 3 = 0" 1
+    ∷ root "- k * k = 0" 2
+    ∷ root "true => true => true" 1
+    ∷ root "true <=> true <=> true" 3
+    ∷ root "true or true and true" 1
+    ∷ root "true and true => true or true" 3
+    ∷ root "not true and true" 2
     ∷ heading "op add op sub " "op add abstract true concrete true end" 61
     ∷ heading "op sub " "op add abstract true concrete true end" 52
     ∷ []
@@ -50,6 +65,35 @@ refusedAt i r (formed d) = false
 abbrev isFormed : Outcome → Bool
 isFormed (refused j s) = false
 isFormed (formed d) = true
+
+abbrev termRoot : Term → ℕ
+termRoot (number n) = 0
+termRoot (name x) = 0
+termRoot (group t) = 0
+termRoot (prefix o t) = 0
+termRoot (binary o t u) = termWidth t
+termRoot (divided o t e) = termWidth t
+termRoot (listed ts) = 0
+termRoot (pairs ts) = 0
+termRoot (such x g p) = 0
+termRoot (emptySet g) = 0
+termRoot (emptyPairs g h) = 0
+
+abbrev predRoot : Pred → ℕ
+predRoot truth = 0
+predRoot falsity = 0
+predRoot (negation p) = 0
+predRoot (paren p) = 0
+predRoot (quantified q x t p) = 0
+predRoot (connected o p q) = predWidth p
+predRoot (compared o t u) = termRoot t
+predRoot (member o t u) = 0
+predRoot (within o t r) = 0
+predRoot (related o t u v) = 0
+
+abbrev rootAt : ℕ → Outcome → Bool
+rootAt i (refused j s) = false
+rootAt i (formed d) = eqb i (predRoot (d .retrieve))
 
 abbrev only : ℕ → List Fault → Bool
 only i [] = false
@@ -63,8 +107,9 @@ headingAt i (formed d) = only i (headingFaults d)
 pub passes : Sample → Bool
 passes (faulty p i r) = refusedAt (50 + i) r (computeForm (dossierOf (base p)))
 passes (fine p) = isFormed (computeForm (dossierOf (base p)))
+passes (root p i) = rootAt i (computeForm (dossierOf (base p)))
 passes (heading l o i) = headingAt i (computeForm (dossierOf (record { listed = l; cinit = "k = 0"; retrieve = "true"; operations = o })))
 
 pub all-pass : all passes samples ≡ true
-unfolding samples passes computeForm
+unfolding samples passes computeForm termWidth predWidth
 all-pass = refl

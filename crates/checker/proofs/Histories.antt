@@ -15,7 +15,7 @@ use Rattle.checker.specs.Report.{checkAt}
 use Rattle.checker.specs.Calls.{Verdict, unfinished, accepted, refuted, Held, nothing, holding, Call, load, advance, verdict, witness, release, Reply, verdictIs, Outcome, loading, verdictAt, advanced, advancing, writing, respond, Exchange, Trace, heldAfter}
 use Rattle.checker.specs.Runs.{RunsMatch}
 use Rattle.checker.specs.Demands.{IsRefusal, Loaded, none, text, afterReply, afterCall, lastLoaded, acceptance, Demand3}
-use Rattle.checker.proofs.Tests.{on-cond}
+use Rattle.symbols.proofs.Tests.{on-cond}
 use Rattle.checker.proofs.Looks.{PassUpTo, Whole, First, look-whole, look-first}
 use Rattle.checker.proofs.Accuracy.{PassBelow, obligations}
 use Rattle.checker.proofs.Advances.{nextChecks, next-length, next-at}

@@ -10,7 +10,7 @@ use Rattle.reader.specs.Read.{Reading, refusal, reading, read}
 use Rattle.checker.specs.Order.{Obligation, checks, look}
 use Rattle.checker.specs.Calls.{unfinished, accepted, refuted, Held, nothing, holding, load, advance, verdict, witness, release, Outcome, loading, advanced, advancing, writing, respond}
 use Rattle.checker.specs.Demands.{IsRefusal, Demand1}
-use Rattle.checker.proofs.Tests.{on-cond}
+use Rattle.symbols.proofs.Tests.{on-cond}
 
 -- nothing but a reply came of the call
 abbrev Unchanged : Outcome → Held → List ℕ → Type 0

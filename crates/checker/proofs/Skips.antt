@@ -16,7 +16,8 @@ use Rattle.evaluator.proofs.Places.{member-at}
 use Rattle.checker.specs.Obligations.{applicabilityAt, correctnessAt}
 use Rattle.checker.specs.Order.{Check, initialises, applies, corrects, passes}
 use Rattle.checker.specs.Report.{checkAt}
-use Rattle.checker.proofs.Tests.{gives-vacuous, and-left-false, and-right-false}
+use Rattle.symbols.proofs.Tests.{and-left-false, and-right-false}
+use Rattle.checker.proofs.Tests.{gives-vacuous}
 use Rattle.checker.proofs.Groups.{appliesAt, correctsBy, correctsAt, every-applies-at, every-corrects-by, every-corrects-at}
 use Rattle.checker.proofs.Accuracy.{PassBetween}
 use Rattle.checker.proofs.Digits.{nth, abstracts, concretes, givens, results, applicabilitySize, startOf, length-applies-at, length-corrects-by, length-corrects-at, applies-block, corrects-block, corrects-by-block, applicability-digits, applicability-place, correctness-place}

@@ -11,6 +11,7 @@ use lib.Dec.{eqb, ltb}
 use lib.ListN.{length, take, drop, getD}
 use lib.Seq.{take-suc, take-length}
 use borrow.Author.Tests.{le-ltb, ltb-true, ltb-false, eqb-true, eq-eqb}
+use Rattle.symbols.proofs.Tests.{and-left, and-right, clash, or-false}
 use Rattle.symbols.specs.Kinds as kind
 use Rattle.symbols.specs.Kinds.{Kind, codeOf, is, lookup}
 use Rattle.symbols.specs.Symbols.{Symbol, fixed, kindOf}
@@ -26,7 +27,7 @@ use Rattle.form.proofs.Takes.{initial, feed, feedOn, Fits, equal, range
 use Rattle.form.proofs.Runs.{kindBefore, Passed, Cause, cannotTake, cannotEnd, over, Stopped, Outcome, ran}
 use Rattle.form.proofs.Split.{markAt, AtSymbol, at-symbol, at-end}
 use Rattle.form.proofs.Table.{Spelled, AllSpelled}
-use Rattle.form.proofs.Viable.{viable, continues, wholly}
+use Rattle.form.proofs.Viable.{viable, continues, wholly, feed-append}
 use Rattle.form.proofs.ParseDossier.{parse-whole, one-dossier}
 
 -- answers told apart
@@ -59,44 +60,11 @@ no-refusal p q = subst IsRefused (sym q ∙ p) tt
 not-halted : {n : Next} {m : Mark} {ρ : List Item} → n ≡ go m ρ → n ≡ halt → ⊥
 not-halted p q = subst IsGo (sym p ∙ q) tt
 
-and-right : (a b : Bool) → (a && b) ≡ true → b ≡ true
-and-right true b h = h
-and-right false b h = absurd (subst IsTrue (sym h) tt)
-  where
-    IsTrue : Bool → Type 0
-    IsTrue true = Unit {0}
-    IsTrue false = ⊥
-
-and-left : (a b : Bool) → (a && b) ≡ true → a ≡ true
-and-left true b h = refl
-and-left false b h = h
-
-clash : {b : Bool} → b ≡ true → b ≡ false → ⊥
-clash p q = subst IsTrue (sym p ∙ q) tt
-  where
-    IsTrue : Bool → Type 0
-    IsTrue true = Unit {0}
-    IsTrue false = ⊥
-
--- one symbol more behind
-feed-snoc : (u : List Symbol) (s : Symbol) (γ σ ρ : List Item) (m : Mark) → feed u γ ≡ some σ → step σ (kindOf s) ≡ go m ρ → feed (u ++ (s ∷ [])) γ ≡ some ρ
-feed-snoc [] s γ σ ρ m f e =
-    let q : γ ≡ σ = one-state refl f in
-    ap (λ (x : List Item). feedOn (step x (kindOf s)) (feed [])) q ∙ ap (λ (n : Next). feedOn n (feed [])) e
-feed-snoc (x ∷ u) s γ σ ρ m f e = on (step γ (kindOf x)) f (λ γ₁ f₁. feed-snoc u s γ₁ σ ρ m f₁ e)
-  where
-    on : (n : Next) → feedOn n (feed u) ≡ some σ → ((γ₁ : List Item) → feed u γ₁ ≡ some σ → feed (u ++ (s ∷ [])) γ₁ ≡ some ρ) → feedOn n (feed (u ++ (s ∷ []))) ≡ some ρ
-    on (go m₁ γ₁) g h = h γ₁ g
-    on halt g h = absurd (subst IsSomeState (sym g) tt)
-      where
-        IsSomeState : Option (List Item) → Type 0
-        IsSomeState none = ⊥
-        IsSomeState (some x) = Unit {0}
-
 feed-next : (w : List Symbol) (j : ℕ) → j < length w → (γ σ ρ : List Item) (m : Mark) → feed (take j w) γ ≡ some σ → step σ (kindAt w j) ≡ go m ρ → feed (take (suc j) w) γ ≡ some ρ
 unfolding kindAt
 feed-next w j l γ σ ρ m f e =
-    ap (λ (u : List Symbol). feed u γ) (take-suc w j (fixed kind.END) l) ∙ feed-snoc (take j w) (getD w j (fixed kind.END)) γ σ ρ m f e
+    ap (λ (u : List Symbol). feed u γ) (take-suc w j (fixed kind.END) l) ∙ feed-append (take j w) (getD w j (fixed kind.END) ∷ []) γ σ f
+    ∙ ap (λ (n : Next). feedOn n (feed [])) e
 
 -- parts of what is spelled are spelled
 spelled-take : (w : List Symbol) → AllSpelled w → (j : ℕ) → AllSpelled (take j w)
@@ -211,10 +179,6 @@ refusal-back checkFinished = refl
 refusal-back noCounterexample = refl
 
 -- of two faults neither of which is before the other both are one
-or-false : (a b : Bool) → (a || b) ≡ false → (a ≡ false) × (b ≡ false)
-or-false true b h = absurd (clash refl h)
-or-false false b h = (refl, h)
-
 same-place : (i j : ℕ) (r s : Refusal) → before (fault i r) (fault j s) ≡ false → (j ≤ i) × (i ≡ j → numberOf s ≤ numberOf r)
 unfolding before
 same-place i j r s h =

@@ -1,2 +1,3 @@
 -- The definitions of symbols computed on short texts.
 pub mod Samples
+pub mod Tests

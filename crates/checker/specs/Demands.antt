@@ -1,11 +1,10 @@
 -- The demands over the definitions.
 use mathlib.Core.Path.{_≡_}
-use mathlib.Core.Bool.{Bool, true, false}
+use mathlib.Core.Bool.{true, false}
 use mathlib.Core.List.{List, [], _∷_, _++_}
 use mathlib.Core.Option.{some}
 use Prim.Native.Nat.{ℕ, suc, _<_, _+_}
 use lib.ListN.{getElem?}
-use Rattle.symbols.specs.Refusals.{Refusal, Fault}
 use Rattle.form.specs.Tree.{Dossier}
 use Rattle.reader.specs.Read.{reading, read}
 use Rattle.reader.specs.Scope.{unprimed, inputs, outputs}
@@ -13,7 +12,7 @@ use Rattle.evaluator.specs.Bindings.{Over}
 use Rattle.checker.specs.Obligations.{Obligations}
 use Rattle.checker.specs.Order.{Check, initialises, applies, corrects, passes, checks, total, look}
 use Rattle.checker.specs.Report.{checkAt}
-use Rattle.checker.specs.Calls.{Verdict, unfinished, accepted, Held, nothing, Call, load, advance, verdict, witness, release, Reply, refusedAt, refused, loaded, looked, verdictIs, written, dropped, respond, Exchange, Trace}
+use Rattle.checker.specs.Calls.{accepted, Held, nothing, Call, load, advance, verdict, witness, release, Reply, refusedAt, refused, loaded, looked, verdictIs, written, dropped, respond, Exchange, Trace}
 use Rattle.checker.specs.Runs.{RunsMatch}
 
 abbrev pub IsRefusal : Reply → Type 0

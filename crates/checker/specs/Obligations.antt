@@ -1,7 +1,6 @@
 -- Document 01, "Meaning", after the manual's 5.6: the three obligations at one binding, and over all bindings.
 use mathlib.Core.Path.{_≡_}
-use mathlib.Core.Bool.{Bool, true, false, not, _&&_, _||_}
-use mathlib.Core.List.{List}
+use mathlib.Core.Bool.{Bool, true, not, _&&_, _||_}
 use Rattle.symbols.specs.Lists.{any}
 use Rattle.form.specs.Tree.{Operation, Dossier}
 use Rattle.reader.specs.Scope.{unprimed, inputs, outputs}

@@ -1,5 +1,5 @@
 -- Document 01, "Calls": the lines of the witness, and all that the program prints for a text.
-use mathlib.Core.Bool.{Bool, true, false}
+use mathlib.Core.Bool.{true, false}
 use mathlib.Core.List.{List, [], _∷_, _++_, map}
 use Prim.Native.Nat.{ℕ, zero, suc, pred, _+_, _/_, _%_}
 use lib.Dec.{ltb}

@@ -1,12 +1,10 @@
 -- The pass for form computes the condition: the least fault of 4, 5 and 6, or the dossier with these symbols.
 use mathlib.Core.Path.{_≡_, refl, sym, ap, ap₂, _∙_, subst}
-use mathlib.Core.Logic.{_⊎_, inl, inr}
 use mathlib.Core.Bool.{Bool, true, false, not, _&&_, _||_}
-use mathlib.Core.List.{List, [], _∷_, _++_, map}
+use mathlib.Core.List.{List, [], _∷_, _++_}
 use mathlib.Core.Option.{Option, none, some}
-use Prim.Native.Nat.{ℕ, zero, suc, pred, _+_, _*_, _≤_, _<_}
+use Prim.Native.Nat.{ℕ, zero, suc, pred, _+_, _≤_, _<_}
 use native.Mathlib.Omega.{arith}
-use native.Mathlib.Nat.{zero-add}
 use lib.Dec.{eqb, ltb}
 use lib.ListN.{length, take, drop, getD}
 use lib.Seq.{take-suc, take-length}
@@ -14,16 +12,16 @@ use borrow.Author.Tests.{le-ltb, ltb-true, ltb-false, eqb-true, eq-eqb}
 use Rattle.symbols.proofs.Tests.{and-left, and-right, clash, or-false}
 use Rattle.symbols.specs.Kinds as kind
 use Rattle.symbols.specs.Kinds.{Kind, codeOf, is, lookup}
-use Rattle.symbols.specs.Symbols.{Symbol, fixed, kindOf}
-use Rattle.symbols.specs.Refusals.{Refusal, Fault, fault, numberOf, before, longText, unlistedSymbol, manySymbols, noDossier, deep, manyDeclared, headingDiffers, nameInUse, nameUnknown}
+use Rattle.symbols.specs.Symbols.{Symbol, fixed}
+use Rattle.symbols.specs.Refusals.{Refusal, fault, numberOf, before, longText, unlistedSymbol, manySymbols, noDossier, deep, manyDeclared, headingDiffers, nameInUse, nameUnknown}
 use Rattle.symbols.specs.Refusals.{typesMisfit, wideType, manyBindings, largeSize, zeroDivisor, advanceRange, shortBytes, nothingHeld, somethingHeld, checkFinished, noCounterexample}
 use Rattle.form.specs.Tree.{Dossier}
-use Rattle.form.specs.Written.{Mark, unmarked, opens, binds, written, symbolsOf, writeContents}
+use Rattle.form.specs.Written.{Mark, unmarked, written, writeContents}
 use Rattle.form.specs.Form as shape
-use Rattle.form.specs.Form.{Grouped, Whole, Begins, NoDossier, TooMuch, FormFault, atForm, atMark, Refuses, Forms, FormOf, kindAt, isRangeEnd, isUsed, settled, refused, formed}
-use Rattle.form.specs.Machine.{Item, someEntries, stuck, then, act, does, Next, go, halt, step, ends, Run, complete, failed, runFrom, run}
-use Rattle.form.specs.Parse.{parseDossier, form, outcomeOf}
-use Rattle.form.proofs.Takes.{initial, feed, feedOn, Fits, equal, rangeEnd, usedName, Agrees, IsOpens, IsBinds, Continues}
+use Rattle.form.specs.Form.{Whole, Begins, FormFault, atForm, atMark, Refuses, FormOf, kindAt, isRangeEnd, isUsed, settled, refused, formed}
+use Rattle.form.specs.Machine.{Item, someEntries, stuck, then, act, does, Next, go, halt, step, Run, complete, failed, runFrom, run}
+use Rattle.form.specs.Parse.{form, outcomeOf}
+use Rattle.form.proofs.Takes.{initial, feed, feedOn, Fits, equal, rangeEnd, usedName, IsOpens, IsBinds, Continues}
 use Rattle.form.proofs.Runs.{kindBefore, Passed, Cause, cannotTake, cannotEnd, over, Stopped, Outcome, ran}
 use Rattle.form.proofs.Split.{markAt, AtSymbol, at-symbol, at-end}
 use Rattle.form.proofs.Table.{Spelled, AllSpelled}

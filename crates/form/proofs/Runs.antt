@@ -1,12 +1,12 @@
 -- What a run of the machine says of each symbol that it passes, and of the one where it stops.
-use mathlib.Core.Path.{_≡_, refl, sym, ap, _∙_, subst}
+use mathlib.Core.Path.{_≡_, refl, sym, ap, _∙_}
 use mathlib.Core.Bool.{Bool, true, false, cond}
-use mathlib.Core.List.{List, [], _∷_, _++_, map}
+use mathlib.Core.List.{List, [], _∷_}
 use mathlib.Core.Option.{Option, none, some}
 use Prim.Native.Nat.{ℕ, zero, suc, _+_, _≤_, _<_}
 use native.Mathlib.Omega.{arith}
-use native.Mathlib.Nat.{add-zero, add-suc, suc-add}
-use lib.ListN.{length, take, drop, getD}
+use native.Mathlib.Nat.{add-zero}
+use lib.ListN.{length, take, drop}
 use Rattle.symbols.specs.Kinds.{Kind}
 use Rattle.symbols.specs.Symbols.{Symbol, kindOf}
 use Rattle.symbols.specs.Refusals.{Refusal, noDossier}

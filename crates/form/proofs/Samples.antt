@@ -1,14 +1,13 @@
 -- BASE with another predicate in retrieve, which begins at symbol 50: the symbol at fault and the number. 4 by viability, 5 by depth and bound names, 6 by counts.
 use mathlib.Core.Path.{_≡_, refl}
 use mathlib.Core.Bool.{Bool, true, false, _&&_}
-use mathlib.Core.List.{List, [], _∷_, _++_}
+use mathlib.Core.List.{List, [], _∷_}
 use Prim.Native.Nat.{ℕ, _+_}
 use Prim.Native.String.{String}
 use lib.Dec.{eqb}
 use Rattle.symbols.specs.Lists.{all}
 use Rattle.symbols.specs.Base.{Parts, dossierOf}
-use Rattle.symbols.specs.Refusals.{Refusal, numberOf, noDossier, deep, manyDeclared, headingDiffers, Fault}
-use Rattle.form.specs.Tree.{Dossier}
+use Rattle.symbols.specs.Refusals.{Refusal, numberOf, noDossier, deep, Fault}
 use Rattle.form.specs.Tree.{Term, number, name, group, prefix, binary, divided, listed, pairs, such, emptySet, emptyPairs}
 use Rattle.form.specs.Tree.{Pred, truth, falsity, negation, paren, quantified, connected, compared, member, within, related}
 use Rattle.form.specs.Codes.{termWidth, predWidth}

@@ -1,15 +1,14 @@
 -- The machine without the limits, and what the theorem on form is put together from.
 use mathlib.Core.Path.{_≡_}
-use mathlib.Core.Bool.{Bool, true, false}
+use mathlib.Core.Bool.{true, false}
 use mathlib.Core.List.{List, [], _∷_, _++_, map}
 use mathlib.Core.Option.{Option, none, some}
-use Prim.Native.Nat.{ℕ, suc}
+use Prim.Native.Nat.{ℕ}
 use Rattle.symbols.specs.Kinds as kind
 use Rattle.symbols.specs.Kinds.{Kind, is}
 use Rattle.symbols.specs.Symbols.{Symbol, kindOf}
-use Rattle.form.specs.Tree.{Dossier}
-use Rattle.form.specs.Written.{Mark, unmarked, opens, binds, aGiven, anElement, aVariable, anInput, anOutput, anOperation, Written, written}
-use Rattle.form.specs.Form.{Grouped, Whole, Begins, kindAt, isRangeEnd, isUsed}
+use Rattle.form.specs.Written.{Mark, unmarked, opens, binds, aGiven, anElement, aVariable, anInput, anOutput, anOperation, Written}
+use Rattle.form.specs.Form.{Begins, kindAt, isRangeEnd, isUsed}
 use Rattle.form.specs.Machine.{Item, aDossier, Next, go, halt, step, ends}
 
 abbrev pub initial : List Item

@@ -6,11 +6,11 @@ use Prim.Native.Nat.{ℕ, suc, _+_, _-_, _*_}
 use lib.ListN.{length, getD}
 use Rattle.symbols.specs.Kinds as kind
 use Rattle.symbols.specs.Kinds.{codeOf}
-use Rattle.symbols.specs.Symbols.{Name, Ending, noEnding, prime, query, shriek}
+use Rattle.symbols.specs.Symbols.{Ending, noEnding, prime, query, shriek}
 use Rattle.form.specs.Tree.{End, Range, Domain, givenSet, range, Division, quotient, remainder}
 use Rattle.form.specs.Tree.{Term, number, name, group, prefix, binary, divided, listed, pairs, such, emptySet, emptyPairs, Items, only, also, Pairs, onlyPair, alsoPair}
 use Rattle.form.specs.Tree.{Pred, truth, falsity, negation, paren, quantified, connected, compared, member, within, related}
-use Rattle.form.specs.Written.{prefixKind, operatorKind, divisionKind, connectiveKind, quantifierKind, comparisonKind, membershipKind, writeTerm, writePred, writeRange, writeDomain}
+use Rattle.form.specs.Written.{prefixKind, operatorKind, connectiveKind, quantifierKind, comparisonKind, membershipKind, writeTerm, writePred, writeDomain}
 
 -- what a node is, its symbol, and two numbers
 abbrev pub node : (shape place a b : ℕ) → List ℕ

@@ -3,16 +3,16 @@ use mathlib.Core.Path.{_≡_}
 use mathlib.Core.Bool.{Bool, true, false, not, _&&_, _||_, cond}
 use mathlib.Core.List.{List, [], _∷_, _++_, map}
 use mathlib.Core.Option.{Option, none, some}
-use Prim.Native.Nat.{ℕ, zero, suc, pred, _≤_, _<_}
+use Prim.Native.Nat.{ℕ, suc, pred, _≤_, _<_}
 use lib.Dec.{ltb}
 use lib.ListN.{length, take, drop, getD}
 use Rattle.symbols.specs.Kinds as kind
 use Rattle.symbols.specs.Kinds.{Kind, is}
 use Rattle.symbols.specs.Symbols.{Symbol, fixed, kindOf}
-use Rattle.symbols.specs.Refusals.{Refusal, Fault, fault, before, noDossier, deep, manyDeclared}
+use Rattle.symbols.specs.Refusals.{Refusal, fault, before, noDossier, deep, manyDeclared}
 use Rattle.form.specs.Tree.{Operator, plus, minus, union, without, times, inter, Connective, and, or, implies, iff}
 use Rattle.form.specs.Tree.{Term, number, name, group, prefix, binary, divided, listed, pairs, such, emptySet, emptyPairs, Items, only, also, Pairs, onlyPair, alsoPair}
-use Rattle.form.specs.Tree.{Pred, truth, falsity, negation, paren, quantified, connected, compared, member, within, related, State, Operation, Dossier}
+use Rattle.form.specs.Tree.{Pred, truth, falsity, negation, paren, quantified, connected, compared, member, within, related, Operation, Dossier}
 use Rattle.form.specs.Written.{Mark, unmarked, opens, binds, aGiven, anElement, aVariable, anInput, anOutput, anOperation, Written, written, symbolsOf}
 
 -- How tightly things bind. "* div mod inter bind tighter than + - union minus, all to the left; prefixes - # dom ran tighter still."

@@ -5,7 +5,7 @@ use lib.ListN.{length}
 use Rattle.symbols.specs.Lists.{same}
 use Rattle.symbols.specs.Refusals.{Fault, fault, headingDiffers, unless}
 use Rattle.form.specs.Tree.{Letters, Given, Operation, Dossier}
-use Rattle.form.specs.Written.{writeContents, writeGivens, writeState, writeWhere, writeOperations, symbolsOf}
+use Rattle.form.specs.Written.{writeContents, writeGivens, writeState, writeWhere, writeOperations}
 
 -- the number of the first symbol of each body; of the given sets and of the operations, that of the first one
 unfoldable pub givensAt : Dossier → ℕ

@@ -13,7 +13,7 @@ use Rattle.form.specs.Tree.{Letters, End, Range, Domain, givenSet, range
 use Rattle.form.specs.Tree.{Connective, and, or, implies, iff, Quantifier, forall, exists, exists1, Comparison, equals, differs, less, atMost, Membership, isIn, notIn}
 use Rattle.form.specs.Tree.{Term, number, name, group, prefix, binary, divided, listed, pairs, such, emptySet, emptyPairs, Items, only, also, Pairs, onlyPair, alsoPair}
 use Rattle.form.specs.Tree.{Pred, truth, falsity, negation, paren, quantified, connected, compared, member, within, related}
-use Rattle.form.specs.Tree.{Arrow, relation, partial, total, TypeForm, givenType, powerType, rangeType, arrowType, Declaration, Direction, inward, outward, Parameter, Given, State, Operation, Dossier}
+use Rattle.form.specs.Tree.{Arrow, relation, partial, total, TypeForm, givenType, powerType, rangeType, arrowType, Declaration, inward, outward, Parameter, Given, State, Operation, Dossier}
 use Rattle.form.specs.Form.{kindAt, operatorLevel, divisionLevel, connectiveLevel, rightLevel, Outcome, refused, formed}
 use Rattle.form.specs.Machine.{Run, complete, failed, run}
 

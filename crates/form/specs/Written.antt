@@ -1,7 +1,7 @@
 -- The symbols that a tree is written with, each with what it opens or counts: the depth of number 5, a bound name, the counts of number 6.
 use mathlib.Core.Bool.{Bool, true, false}
-use mathlib.Core.List.{List, [], _∷_, _++_, map}
-use Prim.Native.Nat.{ℕ, suc, _≤_, _<_}
+use mathlib.Core.List.{List, [], _∷_, map}
+use Prim.Native.Nat.{ℕ, suc}
 use Rattle.symbols.specs.Kinds as kind
 use Rattle.symbols.specs.Kinds.{Kind}
 use Rattle.symbols.specs.Symbols.{Name, Ending, noEnding, query, shriek, Symbol, fixed, numeral}

@@ -1,6 +1,6 @@
 -- Document 01, "Types": what a declared type stands for once its given sets are known.
 use mathlib.Core.Bool.{Bool, true, false}
-use mathlib.Core.List.{List, [], _∷_}
+use mathlib.Core.List.{List}
 use mathlib.Core.Option.{Option, none, some}
 use Prim.Native.Nat.{ℕ, _+_, _*_, _^_, max}
 use lib.Dec.{eqb}

@@ -1,5 +1,5 @@
 -- Document 01, numbers 12 and 13: bindings of carriers, and sizes of numbers.
-use mathlib.Core.Bool.{Bool, true, false, _&&_}
+use mathlib.Core.Bool.{_&&_}
 use mathlib.Core.List.{List, [], _∷_, _++_, map}
 use mathlib.Core.Option.{Option, none, some}
 use Prim.Native.Nat.{ℕ, suc, _+_, _*_}
@@ -11,8 +11,8 @@ use Rattle.form.specs.Tree.{End, Prefix, negate, size, dom, ran, Operator, plus
 use Rattle.form.specs.Tree.{Term, number, name, group, prefix, binary, divided, listed, pairs, such, emptySet, emptyPairs, Items, only, also, Pairs, onlyPair, alsoPair}
 use Rattle.form.specs.Tree.{Pred, truth, falsity, negation, paren, quantified, connected, compared, member, within, related, Operation, Dossier}
 use Rattle.form.specs.Headings.{abstractAt, concreteAt, operationsAt, operationLength}
-use Rattle.reader.specs.Carriers.{Carrier, Variable, countOf, largest, plain, sameName}
-use Rattle.reader.specs.Scope.{Scope, Context, unprimed, inputs, outputs, contexts}
+use Rattle.reader.specs.Carriers.{Variable, countOf, largest, plain, sameName}
+use Rattle.reader.specs.Scope.{Context, unprimed, inputs, outputs, contexts}
 use Rattle.reader.specs.Names.{whole, endLength, rangeLength, domainLength, domainCarrier}
 
 -- how many bindings a group of variables has

@@ -1,5 +1,5 @@
 -- Document 01, numbers 8, 9, 10, 11 and 14: the faults of the pass for names and types.
-use mathlib.Core.Bool.{Bool, true, false, not, _&&_, cond}
+use mathlib.Core.Bool.{Bool, not, _&&_, cond}
 use mathlib.Core.List.{List, [], _∷_, _++_, map}
 use mathlib.Core.Option.{Option, none, some}
 use Prim.Native.Nat.{ℕ, suc, _+_, _*_}
@@ -7,13 +7,13 @@ use lib.Dec.{leb, ltb}
 use lib.IntN.{ℤ, pos, _-ℤ_}
 use lib.Signed.{leZ, ltZ}
 use lib.ListN.{length}
-use Rattle.symbols.specs.Lists.{same, any, concat}
+use Rattle.symbols.specs.Lists.{any, concat}
 use Rattle.symbols.specs.Symbols.{Name}
 use Rattle.symbols.specs.Refusals.{Fault, fault, unless, nameInUse, nameUnknown, typesMisfit, wideType, zeroDivisor}
-use Rattle.form.specs.Tree.{Letters, End, Range, Domain, givenSet, range, Prefix, Operator, Division, Connective, Quantifier, Comparison, Membership}
+use Rattle.form.specs.Tree.{Letters, End, Range, Domain, givenSet, range}
 use Rattle.form.specs.Tree.{Term, number, name, group, prefix, binary, divided, listed, pairs, such, emptySet, emptyPairs, Items, only, also, Pairs, onlyPair, alsoPair}
 use Rattle.form.specs.Tree.{Pred, truth, falsity, negation, paren, quantified, connected, compared, member, within, related}
-use Rattle.form.specs.Tree.{TypeForm, givenType, powerType, rangeType, arrowType, Declaration, declarations, Direction, inward, outward, Parameter, Given, elements, State, Operation, Dossier}
+use Rattle.form.specs.Tree.{TypeForm, givenType, powerType, rangeType, arrowType, Declaration, declarations, Parameter, Given, elements, Operation, Dossier}
 use Rattle.form.specs.Written.{endingOf, writeType}
 use Rattle.form.specs.Headings.{givensAt, givenLength, abstractAt, concreteAt, operationsAt, operationLength}
 use Rattle.reader.specs.Carriers.{Carrier, elementsOf, sizeOf, sameName, plain, givenOf, endValue, rangeCarrier}

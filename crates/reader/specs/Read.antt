@@ -1,10 +1,10 @@
 -- Document 01: a text is refused with its number and place, or has one reading.
-use mathlib.Core.List.{List, [], _∷_, map}
+use mathlib.Core.List.{List, map}
 use mathlib.Core.Option.{Option, none, some}
 use Prim.Native.Nat.{ℕ}
 use lib.ListN.{length, getD}
-use Rattle.symbols.specs.Symbols.{Symbol, Placed, scan, symbols, lengthFaults, scanFaults}
-use Rattle.symbols.specs.Refusals.{Refusal, Fault, fault, least}
+use Rattle.symbols.specs.Symbols.{Placed, scan, symbols, lengthFaults, scanFaults}
+use Rattle.symbols.specs.Refusals.{Fault, fault, least}
 use Rattle.form.specs.Tree.{Dossier}
 use Rattle.form.specs.Form.{Outcome, refused, formed}
 use Rattle.form.specs.Parse.{form}

@@ -1,5 +1,5 @@
 -- Document 01, "Names in reach": the predicates of a dossier, each with the symbol that it begins at and the names in its reach.
-use mathlib.Core.Bool.{Bool, true, false, _&&_}
+use mathlib.Core.Bool.{Bool, true, false}
 use mathlib.Core.List.{List, [], _∷_, _++_, map}
 use mathlib.Core.Option.{Option, none, some}
 use Prim.Native.Nat.{ℕ, suc, _+_}

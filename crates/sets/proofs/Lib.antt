@@ -3,3 +3,5 @@ pub mod Samples
 pub mod Members
 pub mod Operations
 pub mod Pairs
+pub mod Floor
+pub mod Divides

@@ -1,10 +1,9 @@
 -- The members of a set and its bits, for sets of every size together. Assumes nothing.
-use mathlib.Core.Path.{_≡_, refl, sym, ap, ap₂, subst, _∙_}
+use mathlib.Core.Path.{_≡_, refl, sym, ap, ap₂, _∙_}
 use mathlib.Core.Bool.{Bool, true, false}
-use mathlib.Core.List.{List, [], _∷_}
+use mathlib.Core.List.{List, _∷_}
 use Prim.Native.Nat.{ℕ, zero, suc, _+_, _*_, _/_, _%_, _^_, _<_, _≤_}
-use native.Mathlib.Nat.{div-one, div-eq-of-lt, zero-div, zero-add, mul-comm, div-div-eq-div-mul, pow-suc, mod-lt, zero-lt-suc, lt-of-lt-of-le, lt-of-not-le, le-add-right, add-comm}
-use native.Mathlib.Decide.{decLt}
+use native.Mathlib.Nat.{div-one, div-eq-of-lt, zero-add, mul-comm, div-div-eq-div-mul, pow-suc, mod-lt, zero-lt-suc, lt-of-lt-of-le}
 use native.Mathlib.Omega.{arith}
 use lib.Arith.{lt-one}
 use lib.Count.{onesIn, ones, ones-step}

@@ -1,5 +1,5 @@
 -- Union, difference and intersection by their members, and the machine's operations on bits. Assumes nothing.
-use mathlib.Core.Path.{_≡_, refl, sym, ap, ap₂, subst, _∙_}
+use mathlib.Core.Path.{_≡_, refl, sym, ap, ap₂, _∙_}
 use mathlib.Core.Bool.{Bool, true, false, not, _&&_, _||_}
 use Prim.Native.Nat.{ℕ, zero, suc, _+_, _-_, _*_, _/_, _%_, _^_, _<_, _≤_, min, max}
 use native.Mathlib.Nat.{mod-lt, zero-lt-suc, pow-suc, add-comm, mul-comm, one-mul, mod-eq-of-lt, le-of-lt, mul-le-mul-left}
@@ -8,7 +8,7 @@ use lib.Bits.{bitAnd, bitOr, and-step, or-step, and-lt, or-lt}
 use lib.Dec.{eqb}
 use lib.Arith.{digits-lt}
 use lib.Pow.{ones-sub-lt, pow-lt, pow-add}
-use Rattle.sets.specs.Sets.{has, bit, setOf, union, without, inter, width}
+use Rattle.sets.specs.Sets.{has, bit, union, without, inter, width}
 use Rattle.sets.proofs.Members.{bit-half, bit-odd, bit-back, odd-bit, has-zero, has-suc, set-below, has-set, same-members}
 
 -- an operation that works digit by digit works member by member

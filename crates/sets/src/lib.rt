@@ -1,6 +1,7 @@
 // Sets as bits, and division that rounds toward minus infinity. A set is a `u16`: no set has more than 16 bits (document 01, numbers 6 and 11).
 ghost use mathlib.Core.Path.{_≡_};
 ghost use Rattle.sets.specs.Sets.{has, union, without, inter, single, size, pair, dom, ran};
+ghost use Rattle.sets.specs.Division.{floorDiv, floorMod};
 ghost use Prim.Native.Nat.{_<_, _≤_, _/_, _%_, _^_};
 
 // The greatest number of bits of a set (document 01, number 11: at most 16 pairs).
@@ -114,4 +115,31 @@ pub fn ran(n: u32, m: u32, s: u16) -> u16
         i += 1;
     }
     r
+}
+
+// x div y, rounded toward minus infinity. By 0 nothing goes in: 0 for an x that is not below 0, and -1 for one that is, as the definition has it.
+pub fn floor_div(x: i32, y: i32) -> i64
+    ensures { λ r. ⌜ r ≡ floorDiv x y ⌝ }
+{
+    let a = x as i64;
+    let b = y as i64;
+    if b == 0 {
+        return if a < 0 { -1 } else { 0 };
+    }
+    let q = a / b;
+    let r = a % b;
+    if r == 0 {
+        return q;
+    }
+    if (r < 0) == (b < 0) {
+        return q;
+    }
+    q - 1
+}
+
+// x mod y: what x div y leaves. By 0 it leaves x.
+pub fn floor_mod(x: i32, y: i32) -> i64
+    ensures { λ r. ⌜ r ≡ floorMod x y ⌝ }
+{
+    x as i64 - floor_div(x, y) * (y as i64)
 }

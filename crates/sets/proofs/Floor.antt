@@ -165,7 +165,7 @@ sub-mag a b n h k = go (ltb a b)
     go true = omega arith
     go false = omega arith
 
-add-mag : (x y : ℤ) (m n : ℕ) → mag x < m → mag y < n → mag (x +ℤ y) < m + n
+pub add-mag : (x y : ℤ) (m n : ℕ) → mag x < m → mag y < n → mag (x +ℤ y) < m + n
 add-mag (pos a) (pos b) m n h k = omega arith
 add-mag (pos a) (negsuc b) m n h k = sub-mag a (suc b) (m + n) (omega arith) (omega arith)
 add-mag (negsuc a) (pos b) m n h k = sub-mag b (suc a) (m + n) (omega arith) (omega arith)

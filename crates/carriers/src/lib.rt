@@ -1,0 +1,74 @@
+// The k-th value of a carrier, in the fixed order. An element, a subset and a relation is k itself.
+ghost use mathlib.Core.Path.{_≡_};
+ghost use Prim.Native.Nat.{_*_, _<_, _≤_};
+ghost use lib.IntN.{pos, _+ℤ_};
+ghost use Rattle.carriers.specs.Order.{maskAt, partialMask, totalMask, digit};
+
+// The k-th number of a range from a on.
+pub fn number_at(a: i32, k: u32) -> i64
+    ensures { λ r. ⌜ r ≡ a +ℤ pos k ⌝ }
+{
+    a as i64 + k as i64
+}
+
+// The k-th set of n rows of m bits, each with one bit at most and `least` at least: the digits of k say which bit, the first row's the lowest.
+fn mask_at(least: u32, n: u32, m: u32, k: u32) -> u16
+    ensures { λ r. ⌜ (least ≤ 1 → least ≤ m → n * m ≤ 16 → r ≡ maskAt least n m k) ⌝ }
+{
+    if least > 1 {
+        return 0;
+    }
+    if least > m {
+        return 0;
+    }
+    if m > 16 {
+        return 0;
+    }
+    if sets::pair(m, n, 0) > 16 {
+        return 0;
+    }
+    let base = m + 1 - least;
+    let mut rest = k;
+    let mut from: u32 = 0;
+    let mut r: u16 = 0;
+    let mut i: u32 = 0;
+    while i < n {
+        let d = rest % base + least;
+        if d != 0 {
+            r += sets::single(from + d - 1);
+        }
+        rest = rest / base;
+        from += m;
+        i += 1;
+    }
+    r
+}
+
+// The k-th partial function from n elements to m.
+pub fn partial_mask(n: u32, m: u32, k: u32) -> u16
+    ensures { λ r. ⌜ (n * m ≤ 16 → r ≡ partialMask n m k) ⌝ }
+{
+    mask_at(0, n, m, k)
+}
+
+// The k-th total function from n elements to m.
+pub fn total_mask(n: u32, m: u32, k: u32) -> u16
+    ensures { λ r. ⌜ (0 < m → n * m ≤ 16 → r ≡ totalMask n m k) ⌝ }
+{
+    mask_at(1, n, m, k)
+}
+
+// The digit of a variable with `count` values in the number k of a binding, where those after it have `stride` bindings.
+// No variable has 0 of either; there the numbers of the definitions give 0 for a quotient by 0, and leave all for a remainder.
+pub fn digit(stride: u32, count: u32, k: u32) -> u32
+    ensures { λ r. ⌜ r ≡ digit stride count k ⌝ }
+{
+    if stride == 0 {
+        return 0;
+    }
+    let q = k / stride;
+    if count == 0 {
+        return q;
+    }
+    q % count
+}

@@ -3,3 +3,6 @@ pub mod Filtered
 pub mod Words
 pub mod Rows
 pub mod Masks
+pub mod Upward
+pub mod Values
+pub mod Bindings

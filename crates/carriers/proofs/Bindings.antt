@@ -12,7 +12,8 @@ use Rattle.evaluator.specs.Values as val
 use Rattle.evaluator.specs.Values.{Value}
 use Rattle.evaluator.specs.Meaning.{Binding}
 use Rattle.evaluator.specs.Bindings.{bindings, flat}
-use Rattle.carriers.specs.Order.{valueAt, bindingCount, digit, bindingAt}
+use Rattle.reader.specs.Limits.{bindingCount}
+use Rattle.carriers.specs.Order.{valueAt, digit, bindingAt}
 use Rattle.carriers.proofs.Upward.{map-length, map-get, flat-blocks}
 use Rattle.carriers.proofs.Values.{values-are, count-some, values-once}
 

@@ -4,6 +4,7 @@ use Prim.Native.Nat.{ℕ, zero, suc, _+_, _*_, _/_, _%_, _^_}
 use lib.IntN.{pos, _+ℤ_}
 use Rattle.form.specs.Tree.{Arrow, relation, partial, total}
 use Rattle.reader.specs.Carriers.{Carrier, elementsOf, numbers, subsetsOf, pairsOf, Variable, sizeOf, countOf}
+use Rattle.reader.specs.Limits.{bindingCount}
 use Rattle.evaluator.specs.Values as val
 use Rattle.evaluator.specs.Values.{Value}
 use Rattle.evaluator.specs.Meaning.{Binding}
@@ -43,11 +44,6 @@ valueAt (elementsOf g) k = val.element (sizeOf g) k
 valueAt (numbers a b) k = val.number (a +ℤ pos k)
 valueAt (subsetsOf g) k = val.set (sizeOf g) k
 valueAt (pairsOf a g h) k = val.pairs (sizeOf g) (sizeOf h) (pairSetAt a (sizeOf g) (sizeOf h) k)
-
--- how many bindings a group of variables has
-unfoldable pub bindingCount : List Variable → ℕ
-bindingCount [] = 1
-bindingCount (v ∷ vs) = countOf (v .carrier) * bindingCount vs
 
 -- the digit of a variable in k: those after it have `stride` bindings
 unfoldable pub digit : (stride count k : ℕ) → ℕ

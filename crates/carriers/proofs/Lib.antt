@@ -6,3 +6,4 @@ pub mod Masks
 pub mod Upward
 pub mod Values
 pub mod Bindings
+pub mod Reached

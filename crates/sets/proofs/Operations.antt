@@ -3,13 +3,14 @@ use mathlib.Core.Path.{_≡_, refl, sym, ap, ap₂, _∙_}
 use mathlib.Core.Bool.{Bool, true, false, not, _&&_, _||_}
 use Prim.Native.Nat.{ℕ, zero, suc, _+_, _-_, _*_, _/_, _%_, _^_, _<_, _≤_, min, max}
 use native.Mathlib.Nat.{mod-lt, zero-lt-suc, pow-suc, add-comm, mul-comm, one-mul, mod-eq-of-lt, le-of-lt, mul-le-mul-left}
+use native.Mathlib.Decide.{decLt}
 use native.Mathlib.Omega.{arith}
 use lib.Bits.{bitAnd, bitOr, and-step, or-step, and-lt, or-lt}
-use lib.Dec.{eqb}
+use lib.Dec.{eqb, eqb·zero-suc, eqb·suc-zero, eqb·suc-suc}
 use lib.Arith.{digits-lt}
 use lib.Pow.{ones-sub-lt, pow-lt, pow-add}
-use Rattle.sets.specs.Sets.{has, bit, union, without, inter, width}
-use Rattle.sets.proofs.Members.{bit-half, bit-odd, bit-back, odd-bit, has-zero, has-suc, set-below, has-set, same-members}
+use Rattle.sets.specs.Sets.{has, bit, setOf, single, union, without, inter, width}
+use Rattle.sets.proofs.Members.{bit-half, bit-odd, bit-back, odd-bit, has-zero, has-suc, has-past, set-below, has-set, has-set-past, same-members}
 
 -- an operation that works digit by digit works member by member
 module _ (op f : ℕ → ℕ → ℕ) (g : Bool → Bool → Bool) (step : (a b : ℕ) → op a b ≡ op (a / 2) (b / 2) * 2 + f (a % 2) (b % 2)) (digit : (p q : Bool) → f (bit p) (bit q) ≡ bit (g p q)) where
@@ -70,33 +71,59 @@ has-not (suc n) t (suc k) h l =
 
 -- ---- the operations on sets, member by member
 
-pub has-union : (s t k : ℕ) → k < width → has (union s t) k ≡ (has s k || has t k)
-unfolding union
-has-union s t k h = has-set width (λ j. has s j || has t j) k h
-
-pub has-inter : (s t k : ℕ) → k < width → has (inter s t) k ≡ (has s k && has t k)
-unfolding inter
-has-inter s t k h = has-set width (λ j. has s j && has t j) k h
-
-pub has-without : (s t k : ℕ) → k < width → has (without s t) k ≡ (has s k && not (has t k))
-unfolding without
-has-without s t k h = has-set width (λ j. has s j && not (has t j)) k h
-
--- and on the machine's words
 module _ (s t : ℕ) (hs : s < 2 ^ width) (ht : t < 2 ^ width) where
+  -- what no set has, no operation gives
+  has-both : (g : Bool → Bool → Bool) → g false false ≡ false → (k : ℕ) → has (setOf width (λ j. g (has s j) (has t j))) k ≡ g (has s k) (has t k)
+  has-both g e k =
+      elim (decLt k width) [
+        | yes h ↦ has-set width (λ j. g (has s j) (has t j)) k h
+        | no h ↦ has-set-past width (λ j. g (has s j) (has t j)) k (omega arith) ∙ sym (ap₂ g (has-past width s k hs (omega arith)) (has-past width t k ht (omega arith)) ∙ e)
+      ]
+
+  pub has-union : (k : ℕ) → has (union s t) k ≡ (has s k || has t k)
+  unfolding union
+  has-union k = has-both _||_ refl k
+
+  pub has-inter : (k : ℕ) → has (inter s t) k ≡ (has s k && has t k)
+  unfolding inter
+  has-inter k = has-both _&&_ refl k
+
+  pub has-without : (k : ℕ) → has (without s t) k ≡ (has s k && not (has t k))
+  unfolding without
+  has-without k = has-both (λ p q. p && not q) refl k
+
+  -- and on the machine's words
   pub or-union : bitOr s t ≡ union s t
   unfolding union
-  or-union = same-members width _ _ (or-lt width s t hs ht) (set-below width _) (λ k h. has-or s t k ∙ sym (has-union s t k h))
+  or-union = same-members width _ _ (or-lt width s t hs ht) (set-below width _) (λ k h. has-or s t k ∙ sym (has-union k))
 
   pub and-inter : bitAnd s t ≡ inter s t
   unfolding inter
-  and-inter = same-members width _ _ (and-lt width s t hs ht) (set-below width _) (λ k h. has-and s t k ∙ sym (has-inter s t k h))
+  and-inter = same-members width _ _ (and-lt width s t hs ht) (set-below width _) (λ k h. has-and s t k ∙ sym (has-inter k))
 
   pub and-not-without : bitAnd s ((2 ^ width - 1) - t) ≡ without s t
   unfolding without
   and-not-without =
       same-members width _ _ (and-lt width s ((2 ^ width - 1) - t) hs (ones-sub-lt width t)) (set-below width _)
-      (λ k h. has-and s ((2 ^ width - 1) - t) k ∙ ap (λ (x : Bool). has s k && x) (has-not width t k ht h) ∙ sym (has-without s t k h))
+      (λ k h. has-and s ((2 ^ width - 1) - t) k ∙ ap (λ (x : Bool). has s k && x) (has-not width t k ht h) ∙ sym (has-without k))
+
+-- ---- one member
+
+double-even : (k : ℕ) → 2 ^ suc k % 2 ≡ 0
+double-even k = omega (arith, pow-suc 2 k)
+
+double-half : (k : ℕ) → 2 ^ suc k / 2 ≡ 2 ^ k
+double-half k = omega (arith, pow-suc 2 k)
+
+has-power : (k j : ℕ) → has (2 ^ k) j ≡ eqb j k
+has-power zero zero = has-zero 1
+has-power zero (suc j) = has-suc 1 j ∙ has-past 0 0 j (omega arith) (omega arith) ∙ sym (eqb·suc-zero j)
+has-power (suc k) zero = has-zero (2 ^ suc k) ∙ ap (λ (x : ℕ). eqb x 1) (double-even k) ∙ sym (eqb·zero-suc k)
+has-power (suc k) (suc j) = has-suc (2 ^ suc k) j ∙ ap (λ (x : ℕ). has x j) (double-half k) ∙ has-power k j ∙ sym (eqb·suc-suc j k)
+
+pub has-single : (k j : ℕ) → has (single k) j ≡ eqb j k
+unfolding single
+has-single k j = has-power k j
 
 -- a bit that is shifted to a place of the word
 pub one-shifted : (k : ℕ) → k < width → (1 * 2 ^ k) % 2 ^ width ≡ 2 ^ k

@@ -113,11 +113,15 @@ pub dom-below : (n m s : ℕ) → dom n m s < 2 ^ n
 unfolding dom
 dom-below n m s = set-below n (λ i. someFrom (λ j. has s (pair m i j)) 0 m)
 
+pub has-dom : (n m s i : ℕ) → i < n → has (dom n m s) i ≡ someFrom (λ j. has s (pair m i j)) 0 m
+unfolding dom
+has-dom n m s i h = has-set n (λ k. someFrom (λ j. has s (pair m k j)) 0 m) i h
+
 pub ran-none : (m s : ℕ) → 0 ≡ ran 0 m s
 unfolding ran someFrom
 ran-none m s = same-members m 0 (setOf m (λ j. false)) (pow-pos m) (set-below m (λ j. false)) (λ k h. has-past 0 0 k (pow-pos 0) (omega arith) ∙ sym (has-set m (λ j. false) k h))
 
-has-ran : (n m s j : ℕ) → j < m → has (ran n m s) j ≡ someFrom (λ i. has s (pair m i j)) 0 n
+pub has-ran : (n m s j : ℕ) → j < m → has (ran n m s) j ≡ someFrom (λ i. has s (pair m i j)) 0 n
 unfolding ran
 has-ran n m s j h = has-set m (λ k. someFrom (λ i. has s (pair m i k)) 0 n) j h
 

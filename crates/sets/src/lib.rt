@@ -4,13 +4,6 @@ ghost use Rattle.sets.specs.Sets.{has, union, without, inter, single, si
 ghost use Rattle.sets.specs.Division.{floorDiv, floorMod};
 ghost use Prim.Native.Nat.{_<_, _≤_, _/_, _%_, _^_};
 
-// The greatest number of bits of a set (document 01, number 11: at most 16 pairs).
-pub const BITS_LIMIT: u32 = 16;
-
-pub fn bits_limit() -> u32 {
-    BITS_LIMIT
-}
-
 // Is k a member of s?
 pub fn has(s: u16, k: u64) -> bool
     ensures { λ r. ⌜ r ≡ has s k ⌝ }

@@ -30,7 +30,7 @@ digit-again n m a j h =
     ap (λ (x : ℕ). (x + j) / n % m) (sym (mul-assoc a m n)) ∙ ap (λ (x : ℕ). x % m) (mul-add-div-right h (a * m) j) ∙ mul-add-mod-self-right a m (j / n)
 
 -- after as many numbers as there are bindings they come again
-pub again : (vs : List Variable) (a j : ℕ) → bindingAt vs (a * bindingCount vs + j) ≡ bindingAt vs j
+again : (vs : List Variable) (a j : ℕ) → bindingAt vs (a * bindingCount vs + j) ≡ bindingAt vs j
 unfolding bindingAt bindingCount
 again [] a j = refl
 again (v ∷ vs) a j =
@@ -38,7 +38,7 @@ again (v ∷ vs) a j =
     (digit-again (bindingCount vs) (countOf (v .carrier)) a j (bindings-some vs))
     (ap (λ (x : ℕ). bindingAt vs (x + j)) (sym (mul-assoc a (countOf (v .carrier)) (bindingCount vs))) ∙ again vs (a * countOf (v .carrier)) j)
 
-pub digit-of : (n m i j : ℕ) → i < m → j < n → digit n m (i * n + j) ≡ i
+digit-of : (n m i j : ℕ) → i < m → j < n → digit n m (i * n + j) ≡ i
 unfolding digit
 digit-of n m i j h l = ap (λ (x : ℕ). x % m) (digits-div i l) ∙ mod-eq-of-lt h
 

@@ -6,4 +6,3 @@ pub mod Masks
 pub mod Upward
 pub mod Values
 pub mod Bindings
-pub mod Reached

@@ -1,7 +1,7 @@
 -- The k-th mask, a row at a time: what is made of it so far, and what the rest of k gives above it. Assumes nothing.
 use mathlib.Core.Path.{_≡_, refl, sym, ap, ap₂, subst, _∙_}
 use Prim.Native.Nat.{ℕ, zero, suc, _+_, _-_, _*_, _/_, _%_, _^_, _<_, _≤_}
-use native.Mathlib.Nat.{add-mul, mul-assoc, mul-le-mul-right, suc-mul, mod-lt, lt-of-lt-of-le, add-zero, mul-one, zero-add, mul-comm}
+use native.Mathlib.Nat.{add-mul, mul-assoc, mul-le-mul-right, suc-mul, mod-lt, lt-of-lt-of-le, add-zero, mul-one, zero-add, mul-comm, le-trans, pow-le-pow-left}
 use native.Mathlib.Omega.{arith}
 use lib.Dec.{eqb, leb, lit≤}
 use lib.IntN.{ℤ, pos, _+ℤ_}
@@ -9,6 +9,7 @@ use mir.Syntax.{w32, w64}
 use mir.Val.{SFits, ofZ, toZ}
 use mir.Facts.{toZ-ofZ}
 use Rattle.sets.proofs.Floor.{wide, add-mag}
+use Rattle.sets.proofs.Members.{under-power}
 use lib.Count.{onesIn}
 use lib.Pow.{pow-pos, pow-add, pow-mono}
 use Rattle.sets.specs.Sets.{pair}
@@ -107,6 +108,18 @@ module _ (least n m k : ℕ) (hl : least ≤ 1) (hm : least ≤ m) (hn : n * m �
 
   pub digit-low : (rest : ℕ) → rest % base + least ≤ m
   digit-low rest = let a : rest % base < base = mod-lt rest (omega arith) in omega arith
+
+-- ---- how many there are
+
+-- as many as there are sets of so many bits, at most
+pub count-small : (least m n i : ℕ) → i < n → n * m ≤ 16 → (m + 1 - least) ^ suc i ≤ 65536
+count-small least m n i h u =
+    let a : suc i * m ≤ n * m = mul-le-mul-right m h in
+    let b : m + 1 - least ≤ 2 ^ m = omega (arith, under-power m) in
+    le-trans (pow-le-pow-left b (suc i)) (subst (λ (x : ℕ). x ≤ 65536) (sym (pow-rows m (suc i))) (pow-mono {i = suc i * m} {j = 16} (omega arith)))
+
+pub counted : (least m n r : ℕ) → least ≤ 1 → r ≡ (m + 1 - least) ^ n → r ≡ choices least m ^ n
+counted least m n r h e = e ∙ ap (λ (x : ℕ). x ^ n) (base-is least m h)
 
 -- ---- the k-th number of a range, in 64 bits
 

@@ -1,6 +1,6 @@
 -- The k-th value of a carrier and the k-th binding of a group of variables, in the fixed order, by the digits of k.
 use mathlib.Core.List.{List, [], _∷_}
-use Prim.Native.Nat.{ℕ, zero, suc, _+_, _*_, _/_, _%_, _^_}
+use Prim.Native.Nat.{ℕ, zero, suc, _+_, _*_, _/_, _%_, _^_, _≤_}
 use lib.IntN.{pos, _+ℤ_}
 use Rattle.form.specs.Tree.{Arrow, relation, partial, total}
 use Rattle.reader.specs.Carriers.{Carrier, elementsOf, numbers, subsetsOf, pairsOf, Variable, sizeOf, countOf}
@@ -27,6 +27,13 @@ choices (suc l) m = m
 -- the k-th set of pairs of n such rows
 unfoldable pub maskAt : (least n m k : ℕ) → ℕ
 maskAt least n m k = word (rowOf least) (choices least m) (2 ^ m) n k
+
+-- n such rows fit a set
+pub record Room (least n m : ℕ) : Type 0 where
+  pub least-bit : least ≤ 1
+  pub some-bit : least ≤ m
+  pub bits-of-row : m ≤ 16
+  pub bits : n * m ≤ 16
 
 abbrev pub partialMask : (n m k : ℕ) → ℕ
 partialMask = maskAt 0

@@ -1,5 +1,5 @@
 -- Rows with at most one pair and rows with exactly one, and so the partial and the total functions, in the order of their bits. Assumes nothing.
-use mathlib.Core.Path.{_≡_, refl, sym, ap, ap₂, _∙_, fun-ext}
+use mathlib.Core.Path.{_≡_, refl, sym, ap, ap₂, _∙_, fun-ext, subst₂}
 use mathlib.Core.Bool.{Bool, true, false, not, _&&_}
 use mathlib.Core.List.{map}
 use Prim.Native.Nat.{ℕ, zero, suc, _+_, _*_, _/_, _%_, _^_, _<_, _≤_}
@@ -10,7 +10,7 @@ use lib.Count.{onesIn, ones, ones-cat}
 use lib.Dec.{eqb, leb}
 use lib.Pow.{pow-pos, pow-lt, pow-add, shr-shr, field, mod-mod-pow}
 use borrow.Author.Tests.{leb-true, eqb-true, le-leb, eq-eqb}
-use Rattle.symbols.specs.Lists.{filter, upward}
+use Rattle.symbols.specs.Lists.{upward}
 use Rattle.form.specs.Tree.{partial, total}
 use Rattle.sets.specs.Sets.{has, pair, someFrom, countFrom, isPartial, isTotal}
 use Rattle.sets.proofs.Members.{count-ones, ones-among}
@@ -147,24 +147,29 @@ pow-rows m zero = pow-zero (2 ^ m) ∙ ap (λ (x : ℕ). 2 ^ x) (sym (zero-mul m
 pow-rows m (suc n) =
     pow-suc (2 ^ m) n ∙ ap (λ (x : ℕ). x * 2 ^ m) (pow-rows m n) ∙ sym (pow-add 2 (n * m) m) ∙ ap (λ (x : ℕ). 2 ^ x) (sym (suc-mul n m))
 
-pub partial-lists : (n m : ℕ) → Lists (rowsPass (λ x. leb (onesIn m x) 1) (2 ^ m) n) 0 ((2 ^ m) ^ n) (partialMask n m) 0 ((m + 1) ^ n)
-unfolding maskAt choices
-partial-lists n m = word-lists (λ x. leb (onesIn m x) 1) (m + 1) (2 ^ m) (rowOf 0) (omega arith) (pow-pos m) (partial-rows m) n
+-- the masks of rows that rise through all with a number of pairs that passes rise through all sets of pairs whose rows pass
+rows-list : (q : ℕ → Bool) (least n m : ℕ) → 0 < choices least m → RowList (λ x. q (onesIn m x)) (choices least m) (2 ^ m) (rowOf least)
+    → Lists (λ s. not (someFrom (λ i. not (q (countFrom (λ j. has s (pair m i j)) 0 m))) 0 n)) 0 (2 ^ (n * m)) (maskAt least n m) 0 (choices least m ^ n)
+unfolding maskAt
+rows-list q least n m h l =
+    subst₂ (λ (p : ℕ → Bool) (x : ℕ). Lists p 0 x (maskAt least n m) 0 (choices least m ^ n)) (sym (fun-ext (sets-pass q m n))) (pow-rows m n)
+    (word-lists (λ x. q (onesIn m x)) (choices least m) (2 ^ m) (rowOf least) h (pow-pos m) l n)
 
-pub total-lists : (n m : ℕ) → 0 < m → Lists (rowsPass (λ x. eqb (onesIn m x) 1) (2 ^ m) n) 0 ((2 ^ m) ^ n) (totalMask n m) 0 (m ^ n)
-unfolding maskAt choices
-total-lists n m h = word-lists (λ x. eqb (onesIn m x) 1) m (2 ^ m) (rowOf 1) h (pow-pos m) (total-rows m) n
+-- the (m + 1) ^ n partial functions: the k-th masks rise, are among them, and reach each
+pub partial-lists : (n m : ℕ) → Lists (isPartial n m) 0 (2 ^ (n * m)) (partialMask n m) 0 ((m + 1) ^ n)
+unfolding isPartial choices
+partial-lists n m = rows-list (λ c. leb c 1) 0 n m (omega arith) (partial-rows m)
 
--- the partial functions, in the order of their bits, are those that the digits of k to base m + 1 give
+-- and the m ^ n total ones
+pub total-lists : (n m : ℕ) → 0 < m → Lists (isTotal n m) 0 (2 ^ (n * m)) (totalMask n m) 0 (m ^ n)
+unfolding isTotal choices
+total-lists n m h = rows-list (λ c. eqb c 1) 1 n m h (total-rows m)
+
+-- so the lists of the definitions are those that the digits of k give, to base m + 1 and to base m
 pub partial-sets : (n m : ℕ) → pairSets partial n m ≡ map (partialMask n m) (upward 0 ((m + 1) ^ n))
-unfolding pairSets isPartial
-partial-sets n m =
-    ap₂ (λ (p : ℕ → Bool) (x : ℕ). filter p (upward 0 x)) (fun-ext (sets-pass (λ c. leb c 1) m n)) (sym (pow-rows m n))
-    ∙ listed (rowsPass (λ x. leb (onesIn m x) 1) (2 ^ m) n) (partialMask n m) 0 ((2 ^ m) ^ n) 0 ((m + 1) ^ n) (partial-lists n m)
+unfolding pairSets
+partial-sets n m = listed (isPartial n m) (partialMask n m) 0 (2 ^ (n * m)) 0 ((m + 1) ^ n) (partial-lists n m)
 
--- the total ones, to base m
 pub total-sets : (n m : ℕ) → 0 < m → pairSets total n m ≡ map (totalMask n m) (upward 0 (m ^ n))
-unfolding pairSets isTotal
-total-sets n m h =
-    ap₂ (λ (p : ℕ → Bool) (x : ℕ). filter p (upward 0 x)) (fun-ext (sets-pass (λ c. eqb c 1) m n)) (sym (pow-rows m n))
-    ∙ listed (rowsPass (λ x. eqb (onesIn m x) 1) (2 ^ m) n) (totalMask n m) 0 ((2 ^ m) ^ n) 0 (m ^ n) (total-lists n m h)
+unfolding pairSets
+total-sets n m h = listed (isTotal n m) (totalMask n m) 0 (2 ^ (n * m)) 0 (m ^ n) (total-lists n m h)

@@ -32,7 +32,7 @@ fn room(least: u32, n: u32, m: u32) -> bool
 
 // The k-th set of n rows of m bits, each with one bit at most and `least` at least: the digits of k say which bit, the first row's the lowest.
 fn mask_at(least: u32, n: u32, m: u32, k: u32) -> u16
-    ensures { λ r. ⌜ (least ≤ 1 → least ≤ m → n * m ≤ 16 → r ≡ maskAt least n m k) ⌝ }
+    ensures { λ r. ⌜ (least ≤ 1 → least ≤ m → n * m ≤ 16 → r ≡ maskAt least n m k) × (16 < n * m → r ≡ 0) × (m < least → r ≡ 0) ⌝ }
 {
     if !room(least, n, m) {
         return 0;
@@ -54,23 +54,23 @@ fn mask_at(least: u32, n: u32, m: u32, k: u32) -> u16
     r
 }
 
-// The k-th partial function from n elements to m.
+// The k-th partial function from n elements to m; where a set cannot hold the pairs, none.
 pub fn partial_mask(n: u32, m: u32, k: u32) -> u16
-    ensures { λ r. ⌜ (n * m ≤ 16 → r ≡ partialMask n m k) ⌝ }
+    ensures { λ r. ⌜ (n * m ≤ 16 → r ≡ partialMask n m k) × (16 < n * m → r ≡ 0) ⌝ }
 {
     mask_at(0, n, m, k)
 }
 
-// The k-th total function from n elements to m.
+// The k-th total function from n elements to m; where a set cannot hold the pairs, or there is nothing to go to, none.
 pub fn total_mask(n: u32, m: u32, k: u32) -> u16
-    ensures { λ r. ⌜ (0 < m → n * m ≤ 16 → r ≡ totalMask n m k) ⌝ }
+    ensures { λ r. ⌜ (0 < m → n * m ≤ 16 → r ≡ totalMask n m k) × (16 < n * m → r ≡ 0) × (m ≡ 0 → r ≡ 0) ⌝ }
 {
     mask_at(1, n, m, k)
 }
 
 // How many sets of n rows of m bits there are, each row with one bit at most and `least` at least.
 fn count_at(least: u32, n: u32, m: u32) -> u32
-    ensures { λ r. ⌜ (least ≤ 1 → least ≤ m → n * m ≤ 16 → r ≡ choices least m ^ n) ⌝ }
+    ensures { λ r. ⌜ (least ≤ 1 → least ≤ m → n * m ≤ 16 → r ≡ choices least m ^ n) × (16 < n * m → r ≡ 1) × (m < least → r ≡ 1) ⌝ }
 {
     if !room(least, n, m) {
         return 1;
@@ -85,16 +85,16 @@ fn count_at(least: u32, n: u32, m: u32) -> u32
     r
 }
 
-// How many partial functions there are from n elements to m.
+// How many partial functions there are from n elements to m; where a set cannot hold the pairs, the empty one alone.
 pub fn partial_count(n: u32, m: u32) -> u32
-    ensures { λ r. ⌜ (n * m ≤ 16 → r ≡ arrowCount partial n m) ⌝ }
+    ensures { λ r. ⌜ (n * m ≤ 16 → r ≡ arrowCount partial n m) × (16 < n * m → r ≡ 1) ⌝ }
 {
     count_at(0, n, m)
 }
 
-// How many total functions.
+// How many total functions, with the same for what a set cannot hold.
 pub fn total_count(n: u32, m: u32) -> u32
-    ensures { λ r. ⌜ (0 < m → n * m ≤ 16 → r ≡ arrowCount total n m) ⌝ }
+    ensures { λ r. ⌜ (0 < m → n * m ≤ 16 → r ≡ arrowCount total n m) × (16 < n * m → r ≡ 1) × (m ≡ 0 → r ≡ 1) ⌝ }
 {
     count_at(1, n, m)
 }

@@ -110,7 +110,7 @@ pub fn ran(n: u32, m: u32, s: u16) -> u16
     r
 }
 
-// x div y, rounded toward minus infinity. By 0 nothing goes in: 0 for an x that is not below 0, and -1 for one that is, as the definition has it.
+// x div y, rounded toward minus infinity. By 0 it is what the definition gives: -1 for an x below 0, and 0 for any other.
 pub fn floor_div(x: i32, y: i32) -> i64
     ensures { λ r. ⌜ r ≡ floorDiv x y ⌝ }
 {

@@ -1,6 +1,6 @@
 -- `carriers::mask_at` meets its contract: after i rows the mask is what is made so far and what the rest of k gives above. Assumes nothing.
 use Prim.Native.Nat.{_/_, _%_, _^_, ℕ, _+_, _-_, _*_, _<_, _≤_}
-use mathlib.Core.Path.{_≡_, sym, ap, _∙_}
+use mathlib.Core.Path.{_≡_, refl, sym, ap, _∙_}
 use native.Mathlib.Nat.{suc-mul}
 use native.Mathlib.Numerals.{add-one}
 use mathlib.Core.Logic.{⊎-elim}
@@ -23,7 +23,7 @@ room-requires : tie.Need-room-requires Inv-loop μ-loop
 room-requires c κs = search needs
 
 returns : tie.Need-returns Inv-loop μ-loop
-returns c = λ a b h. mask-none (c .before .before .args .least) (c .before .before .args .n) (c .before .before .args .m) (c .before .before .args .k) (c .before .room .ensures .1 (not-true (c .before .room .result) (c .if1 .taken)) a b h)
+returns c = (λ a b h. mask-none (c .before .before .args .least) (c .before .before .args .n) (c .before .before .args .m) (c .before .before .args .k) (c .before .room .ensures .1 (not-true (c .before .room .result) (c .if1 .taken)) a b h), λ h. refl, λ h. refl)
 
 add-base : tie.Need-add-base Inv-loop μ-loop
 add-base c = omega (arith, (c .before .room .ensures .0 (not-false (c .before .room .result) (c .if1 .left))) .bits-of-row)
@@ -79,7 +79,7 @@ loop-again c = (
 )
 
 returns-2 : tie.Need-returns-2 Inv-loop μ-loop
-returns-2 c = λ a b h. ended (c .before .before .before .before .args .least) (c .before .before .before .before .args .n) (c .before .before .before .before .args .m) (c .before .before .before .before .args .k) ((c .before .before .before .room .ensures .0 (not-false (c .before .before .before .room .result) (c .before .before .if1 .left))) .least-bit) ((c .before .before .before .room .ensures .0 (not-false (c .before .before .before .room .result) (c .before .before .if1 .left))) .some-bit) ((c .before .before .before .room .ensures .0 (not-false (c .before .before .before .room .result) (c .before .before .if1 .left))) .bits) (c .before .loop .rest) (c .before .loop .from) (c .before .loop .r) (c .before .loop .i) (omega arith) (c .before .loop .inv .2)
+returns-2 c = (λ a b h. ended (c .before .before .before .before .args .least) (c .before .before .before .before .args .n) (c .before .before .before .before .args .m) (c .before .before .before .before .args .k) ((c .before .before .before .room .ensures .0 (not-false (c .before .before .before .room .result) (c .before .before .if1 .left))) .least-bit) ((c .before .before .before .room .ensures .0 (not-false (c .before .before .before .room .result) (c .before .before .if1 .left))) .some-bit) ((c .before .before .before .room .ensures .0 (not-false (c .before .before .before .room .result) (c .before .before .if1 .left))) .bits) (c .before .loop .rest) (c .before .loop .from) (c .before .loop .r) (c .before .loop .i) (omega arith) (c .before .loop .inv .2), λ h. absurd (omega (arith, (c .before .before .before .room .ensures .0 (not-false (c .before .before .before .room .result) (c .before .before .if1 .left))) .bits)), λ h. absurd (omega (arith, (c .before .before .before .room .ensures .0 (not-false (c .before .before .before .room .result) (c .before .before .if1 .left))) .some-bit)))
 
 pub mask-at-spec : {M : Type 1} → statement M
 mask-at-spec =

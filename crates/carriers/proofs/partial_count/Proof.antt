@@ -11,7 +11,7 @@ count-at-requires c κs = search needs
 
 returns : tie.Need-returns
 unfolding arrowCount choices
-returns c = λ h. c .count-at .ensures (omega arith) (omega arith) h
+returns c = (λ h. c .count-at .ensures .0 (omega arith) (omega arith) h, λ h. c .count-at .ensures .1 h)
 
 pub partial-count-spec : {M : Type 1} → statement M
 partial-count-spec =

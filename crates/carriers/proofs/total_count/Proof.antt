@@ -11,7 +11,7 @@ count-at-requires c κs = search needs
 
 returns : tie.Need-returns
 unfolding arrowCount choices
-returns c = λ a h. c .count-at .ensures (omega arith) (omega arith) h
+returns c = (λ a h. c .count-at .ensures .0 (omega arith) (omega arith) h, λ h. c .count-at .ensures .1 h, λ h. c .count-at .ensures .2 (omega arith))
 
 pub total-count-spec : {M : Type 1} → statement M
 total-count-spec =

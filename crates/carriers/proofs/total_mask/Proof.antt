@@ -8,7 +8,7 @@ mask-at-requires : tie.Need-mask-at-requires
 mask-at-requires c κs = search needs
 
 returns : tie.Need-returns
-returns c = λ a h. c .mask-at .ensures (omega arith) (omega arith) h
+returns c = (λ a h. c .mask-at .ensures .0 (omega arith) (omega arith) h, λ h. c .mask-at .ensures .1 h, λ h. c .mask-at .ensures .2 (omega arith))
 
 pub total-mask-spec : {M : Type 1} → statement M
 total-mask-spec =

@@ -1,2 +1,7 @@
--- Sets and division computed.
+-- Sets and division computed, and their laws.
 pub mod Samples
+pub mod Members
+pub mod Operations
+pub mod Pairs
+pub mod Floor
+pub mod Divides

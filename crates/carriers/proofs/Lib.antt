@@ -1,0 +1,8 @@
+-- The laws of the fixed order.
+pub mod Filtered
+pub mod Words
+pub mod Rows
+pub mod Masks
+pub mod Upward
+pub mod Values
+pub mod Bindings

@@ -6,6 +6,7 @@ use Prim.Native.Nat.{ℕ, zero, suc, _+_, _<_, _≤_}
 use native.Mathlib.Decide.{decLt}
 use native.Mathlib.Omega.{arith}
 use Rattle.symbols.specs.Lists.{filter, upward}
+use Rattle.symbols.proofs.Tests.{clash}
 
 -- the n values of f from k on: rising, all of them among those of the `len` numbers from `lo` on that pass, and each of those among them
 pub record Lists (p : ℕ → Bool) (lo len : ℕ) (f : ℕ → ℕ) (k n : ℕ) : Type 0 where
@@ -14,9 +15,6 @@ pub record Lists (p : ℕ → Bool) (lo len : ℕ) (f : ℕ → ℕ) (k n : ℕ)
   pub onto : (x : ℕ) → lo ≤ x → x < lo + len → p x ≡ true → (i : ℕ) × (k ≤ i) × (i < k + n) × (f i ≡ x)
 
 module _ (p : ℕ → Bool) (f : ℕ → ℕ) where
-  clash : {A : Type 0} {b : Bool} → b ≡ true → b ≡ false → A
-  clash e h = absurd (let z : _≡_ {A = ℕ} 0 1 = cc in omega arith)
-
   -- the least number of the range is the first value, if it passes
   first-is : (lo len k n : ℕ) → Lists p lo (suc len) f k n → p lo ≡ true → (f k ≡ lo) × (0 < n)
   first-is lo len k n l e =
@@ -56,7 +54,7 @@ module _ (p : ℕ → Bool) (f : ℕ → ℕ) where
           let t : (lo ≤ f i) × (f i < lo + suc len) × (p (f i) ≡ true) = l .inside i a b in
           elim (decLt lo (f i)) [
             | yes g ↦ (g, omega arith, t .2)
-            | no g ↦ (let z : f i ≡ lo = omega arith in clash (t .2) (ap p z ∙ e))
+            | no g ↦ (let z : f i ≡ lo = omega arith in absurd (clash (t .2) (ap p z ∙ e)))
           ]
 
   picked : (b : Bool) (x : ℕ) (l t : List ℕ) → (b ≡ true → x ∷ l ≡ t) → (b ≡ false → l ≡ t) → elim b [ true ↦ x ∷ l | false ↦ l ] ≡ t

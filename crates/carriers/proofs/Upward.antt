@@ -1,6 +1,6 @@
 -- Lists made by a function of the numbers from 0 on, and blocks of such lists. Assumes nothing.
 use mathlib.Core.Path.{_≡_, refl, sym, ap, ap₂, _∙_}
-use mathlib.Core.List.{List, [], _∷_, _++_, map, map-append}
+use mathlib.Core.List.{List, _∷_, _++_, map, map-append}
 use Prim.Native.Nat.{ℕ, zero, suc, _+_, _*_, _<_, _≤_}
 use native.Mathlib.Nat.{zero-add, zero-mul, suc-mul, add-comm, add-zero}
 use native.Mathlib.Omega.{arith}

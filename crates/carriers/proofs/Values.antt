@@ -1,7 +1,7 @@
 -- The values of a carrier by their numbers: how many there are, which is the k-th, and that they rise. Assumes nothing.
 use mathlib.Core.Path.{_≡_, refl, sym, ap, _∙_}
 use mathlib.Core.Bool.{Bool, true, false, cond}
-use mathlib.Core.List.{List, [], map, map-map}
+use mathlib.Core.List.{List, map, map-map}
 use Prim.Native.Nat.{ℕ, suc, _+_, _-_, _*_, _^_, _<_, _≤_}
 use native.Mathlib.Nat.{zero-lt-suc, one-le-pow}
 use native.Mathlib.Decide.{decLt}

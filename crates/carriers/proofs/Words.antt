@@ -1,11 +1,12 @@
 -- Words of rows, whatever the rows are: where the rows rise through all that pass a test, so do the words. Assumes nothing.
 use mathlib.Core.Path.{_≡_, refl, sym, ap, ap₂, subst, _∙_}
-use mathlib.Core.Bool.{Bool, true, false, _&&_}
+use mathlib.Core.Bool.{Bool, true, _&&_}
 use Prim.Native.Nat.{ℕ, zero, suc, _+_, _*_, _/_, _%_, _^_, _<_, _≤_}
 use native.Mathlib.Nat.{mod-lt, div-add-mod', div-lt-iff-lt-mul, div-mul-le-self, le-div-iff-mul-le, le-of-lt, le-trans, pow-suc, pow-zero}
 use native.Mathlib.Decide.{decLt}
 use native.Mathlib.Omega.{arith}
 use lib.Arith.{digits-div, digits-mod, digits-lt}
+use Rattle.symbols.proofs.Tests.{and-left, and-right}
 use Rattle.carriers.specs.Order.{word}
 use Rattle.carriers.proofs.Filtered.{Lists}
 
@@ -20,10 +21,6 @@ pub record RowList (t : ℕ → Bool) (c b : ℕ) (r : ℕ → ℕ) : Type 0 whe
   pub inside : (i : ℕ) → i < c → t (r i) ≡ true
   pub below : (i : ℕ) → i < c → r i < b
   pub onto : (x : ℕ) → x < b → t x ≡ true → (i : ℕ) × (i < c) × (r i ≡ x)
-
-both : (p q : Bool) → (p && q) ≡ true → (p ≡ true) × (q ≡ true)
-both true q e = (refl, e)
-both false q e = absurd (let z : _≡_ {A = ℕ} 0 1 = cc in omega arith)
 
 module _ (t : ℕ → Bool) (c b : ℕ) (r : ℕ → ℕ) (pc : 0 < c) (pb : 0 < b) (l : RowList t c b r) where
   div-below : (x n k : ℕ) → 0 < x → k < x ^ suc n → k / x < x ^ n
@@ -70,7 +67,7 @@ module _ (t : ℕ → Bool) (c b : ℕ) (r : ℕ → ℕ) (pc : 0 < c) (pb : 0 <
   word-onto zero s u h =
       (0, subst (λ (x : ℕ). 0 < x) (sym (pow-zero c)) (omega arith), (let e : b ^ zero ≡ 1 = pow-zero b in let z : 0 ≡ s = omega arith in z))
   word-onto (suc n) s u h =
-      let g : (t (s % b) ≡ true) × (rowsPass t b n (s / b) ≡ true) = both (t (s % b)) (rowsPass t b n (s / b)) h in
+      let g : (t (s % b) ≡ true) × (rowsPass t b n (s / b) ≡ true) = (and-left (t (s % b)) (rowsPass t b n (s / b)) h, and-right (t (s % b)) (rowsPass t b n (s / b)) h) in
       let d : (i : ℕ) × (i < c) × (r i ≡ s % b) = l .onto (s % b) (mod-lt s pb) (g .0) in
       let w : (k : ℕ) × (k < c ^ n) × (word r c b n k ≡ s / b) = word-onto n (s / b) (div-below b n s pb u) (g .1) in (
         w .0 * c + d .0,

@@ -1,11 +1,10 @@
 -- Sets of pairs between sets of 2 and 3 elements, and division with each pair of signs.
 use mathlib.Core.Path.{_≡_, refl}
-use mathlib.Core.Bool.{Bool, true, false, not, _&&_}
+use mathlib.Core.Bool.{Bool, true, false}
 use mathlib.Core.List.{List, [], _∷_}
 use Prim.Native.Nat.{ℕ}
-use lib.Dec.{eqb}
 use lib.IntN.{ℤ, pos, negsuc}
-use Rattle.sets.specs.Sets.{size, union, without, inter, dom, ran, isPartial, isTotal, members}
+use Rattle.sets.specs.Sets.{size, union, without, inter, dom, ran, isPartial, isTotal}
 use Rattle.sets.specs.Division.{floorDiv, floorMod}
 use Rattle.sets.specs.Computed.{computeDiv}
 

@@ -15,3 +15,4 @@ pub mod Histories
 pub mod Strides
 pub mod Witnesses
 pub mod Trials
+pub mod Carries

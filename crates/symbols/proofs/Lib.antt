@@ -1,2 +1,4 @@
 -- The definitions of symbols computed on short texts.
 pub mod Samples
+pub mod ByteLaws
+pub mod MarkLaws

@@ -4,3 +4,4 @@ pub mod Kinds
 pub mod Symbols
 pub mod Base
 pub mod Computed
+pub mod Promises

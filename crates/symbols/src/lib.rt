@@ -1,6 +1,28 @@
-// The greatest number of bytes that a text may have (number 1 of document 01).
-pub const TEXT_LIMIT: usize = 32768;
+// Bytes to symbols (document 01, "Symbols"): the lowest layer of the reader.
+pub mod classes;
+pub mod codes;
+pub mod marks;
 
-pub fn text_limit() -> usize {
-    TEXT_LIMIT
+// The class of a byte.
+pub enum Class {
+    Letter,
+    Digit,
+    Mark,
+    Blank,
+    Other,
+}
+
+// What stands at a place: a blank; nothing that is listed; or a symbol, by its code, its length and the value of a number.
+pub enum Token {
+    Gap,
+    Unlisted,
+    Listed(u8, usize, u16),
+}
+
+// The count of the symbols, or number 1, 2 or 3 and its place.
+pub enum Scanned {
+    Symbols(usize),
+    LongText,
+    UnlistedSymbol(usize),
+    ManySymbols(usize),
 }

@@ -26,7 +26,7 @@ span f v lo (suc n) h k a b = on (eqb k lo) refl (λ x y. span f v (suc lo) n (h
     on true q r = h .0 ∙ ap f (sym (eqb-true k lo q))
     on false q r = let ne : k ≡ lo → ⊥ = eqb-false k lo q in r (omega arith) (omega arith)
 
-outside : (lo hi b : ℕ) → (lo ≤ b → b ≤ hi → ⊥) → between lo hi b ≡ false
+pub outside : (lo hi b : ℕ) → (lo ≤ b → b ≤ hi → ⊥) → between lo hi b ≡ false
 unfolding between
 outside lo hi b f = on (leb lo b) refl (leb b hi) refl
   where

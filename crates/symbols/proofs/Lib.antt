@@ -2,3 +2,6 @@
 pub mod Samples
 pub mod ByteLaws
 pub mod MarkLaws
+pub mod WordLaws
+pub mod NumberLaws
+pub mod ScanLaws

@@ -1,7 +1,12 @@
 // Bytes to symbols (document 01, "Symbols"): the lowest layer of the reader.
-pub mod classes;
+ghost use Rattle.symbols.specs.Promises.{Scans};
+
+mod classes;
 pub mod codes;
-pub mod marks;
+mod marks;
+mod numbers;
+mod texts;
+mod words;
 
 // The class of a byte.
 pub enum Class {
@@ -25,4 +30,19 @@ pub enum Scanned {
     LongText,
     UnlistedSymbol(usize),
     ManySymbols(usize),
+}
+
+// The symbols of a text: their codes, the places of their first bytes, and their values.
+pub fn scan(
+    text: &[u8],
+    codes: &mut [u8; 4096],
+    starts: &mut [u16; 4096],
+    values: &mut [u16; 4096],
+) -> Scanned
+    ensures { λ r. ⌜ Scans (now (text .entry)) (now (codes .entry)) (now (starts .entry)) (now (values .entry)) (now (codes .exit)) (now (starts .exit)) (now (values .exit)) r ⌝ }
+{
+    if 32768 < text.len() {
+        return Scanned::LongText;
+    }
+    texts::scan_symbols(text, codes, starts, values)
 }

@@ -5,3 +5,8 @@ pub mod MarkLaws
 pub mod WordLaws
 pub mod NumberLaws
 pub mod ScanLaws
+pub mod TreeLaws
+pub mod NumberingLaws
+pub mod SoundLaws
+pub mod RowLaws
+pub mod WholeLaws

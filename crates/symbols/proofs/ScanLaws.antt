@@ -234,7 +234,7 @@ unfolding scanFaults least
 many-least x w p h = ap some (lesser-later (x .place) p (least (scanFaults 4097 (scanFrom w 0 p))) h (later w 0 p 4097 (omega arith)))
 
 -- one more place of an array
-filled-more : (f : Placed → ℕ) (l : List Placed) (x : Placed) (old : List ℕ) (v n : ℕ) → length l ≡ n → n < length old → v ≡ f x
+pub filled-more : (f : Placed → ℕ) (l : List Placed) (x : Placed) (old : List ℕ) (v n : ℕ) → length l ≡ n → n < length old → v ≡ f x
     → set (filled f l old) n v ≡ filled f (l ++ (x ∷ [])) old
 filled-more f l x old v n e h q =
     let m : length (l ++ (x ∷ [])) ≡ suc n = length-append l (x ∷ []) ∙ omega arith in
@@ -271,10 +271,11 @@ module _ {s codes₀ starts₀ values₀ codes starts values : List ℕ} {at n :
       let e : 0 + length (h .done) ≡ n = omega arith in
       ap (scanFaults 0) (h .rest ∙ ap (joined (h .done)) q) ∙ faults-after 0 (h .done) r (omega arith) ∙ ap (λ (j : ℕ). scanFaults j r) e
 
-  leaves : (r : Scanned) → taken s ≡ h .done → faultOf r ≡ least (scanFaults 0 (scan s)) → ((m : ℕ) → r ≡ Symbols m → m ≡ length (symbols (scan s))) → Takes s codes₀ starts₀ values₀ codes starts values r
+  leaves : (r : Scanned) → taken s ≡ h .done → faultOf r ≡ least (scanFaults 0 (scan s)) → ((m : ℕ) → r ≡ Symbols m → (m ≡ length (symbols (scan s))) × (m ≤ 4096)) → Takes s codes₀ starts₀ values₀ codes starts values r
   leaves r t a c = record {
     answer = a;
-    counted = c;
+    counted = λ m e. c m e .0;
+    few = λ m e. c m e .1;
     coded = h .coded ∙ ap (λ (l : List Placed). filled (λ (x : Placed). codeIn (x .symbol)) l codes₀) (sym t);
     placed = h .placed ∙ ap (λ (l : List Placed). filled (λ (x : Placed). x .place) l starts₀) (sym t);
     valued = h .valued ∙ ap (λ (l : List Placed). filled (λ (x : Placed). numberIn (x .symbol)) l values₀) (sym t);
@@ -287,8 +288,8 @@ module _ {s codes₀ starts₀ values₀ codes starts values : List ℕ} {at n :
   pub scanned-all : length s ≤ at → Takes s codes₀ starts₀ values₀ codes starts values (Symbols n)
   unfolding symbols scanFaults least
   scanned-all l = leaves (Symbols n) (ends done (step-end s at l) (all-done (h .done ++ []) refl)) (sym (ap least (faults done (step-end s at l))))
-      (λ m q. let e : n ≡ m = cc in sym e ∙ sym (h .count)
-      ∙ sym (ap length (ap symbols (h .rest ∙ ap (joined (h .done)) (step-end s at l)) ∙ symbols-joined (h .done) done ∙ append-nil (h .done))))
+      (λ m q. let e : n ≡ m = cc in let i = h .room in
+      (sym e ∙ sym (h .count) ∙ sym (ap length (ap symbols (h .rest ∙ ap (joined (h .done)) (step-end s at l)) ∙ symbols-joined (h .done) done ∙ append-nil (h .done))), omega arith))
 
   module _ (lt : at < length s) {t : Token} (p : t ≡ tokenOf (symbolAt (drop at s))) where
     pub scanning-gap : t ≡ Gap → Scanning s codes₀ starts₀ values₀ codes starts values (at + 1) n
@@ -343,30 +344,3 @@ module _ {s codes₀ starts₀ values₀ codes starts values : List ℕ} {at n :
           (sym (ap least (faults (next new (scanFrom (drop (at + m) s) 0 (at + m))) goes ∙ ap (λ (x : ℕ). scanFaults x (next new (scanFrom (drop (at + m) s) 0 (at + m)))) e)
           ∙ many-least new (drop (at + m) s) (at + m) (let j₀ = j .0 in omega arith)))
           (λ m e. let z : _≡_ {A = ℕ} 0 1 = cc in absurd (omega arith))
-
--- a text that is too long
-pub scans-long : (text codes starts values : List ℕ) → 32768 < length text → Scans text codes starts values codes starts values LongText
-unfolding lengthFaults least lesser
-scans-long text codes starts values h =
-    let t : ltb 32768 (length text) ≡ true = lt-ltb 32768 (length text) h in
-    let w : written text ≡ [] = ap (λ (b : Bool). cond b [] (taken text)) t in
-    record {
-      answer = sym (ap (λ (b : Bool). firstOf (least (cond b (fault 32768 longText ∷ []) [])) (least (scanFaults 0 (scan text)))) t);
-      counted = λ n e. let z : _≡_ {A = ℕ} 0 1 = cc in absurd (omega arith);
-      coded = ap (λ (l : List Placed). filled (λ (x : Placed). codeIn (x .symbol)) l codes) (sym w);
-      placed = ap (λ (l : List Placed). filled (λ (x : Placed). x .place) l starts) (sym w);
-      valued = ap (λ (l : List Placed). filled (λ (x : Placed). numberIn (x .symbol)) l values) (sym w);
-    }
-
-pub scans-short : {text codes₀ starts₀ values₀ codes starts values : List ℕ} {r : Scanned} → length text ≤ 32768 → Takes text codes₀ starts₀ values₀ codes starts values r → Scans text codes₀ starts₀ values₀ codes starts values r
-unfolding lengthFaults least
-scans-short {text} {codes₀} {starts₀} {values₀} h k =
-    let t : ltb 32768 (length text) ≡ false = le-ltb 32768 (length text) h in
-    let w : written text ≡ taken text = ap (λ (b : Bool). cond b [] (taken text)) t in
-    record {
-      answer = k .answer ∙ sym (ap (λ (b : Bool). firstOf (least (cond b (fault 32768 longText ∷ []) [])) (least (scanFaults 0 (scan text)))) t);
-      counted = k .counted;
-      coded = k .coded ∙ ap (λ (l : List Placed). filled (λ (x : Placed). codeIn (x .symbol)) l codes₀) (sym w);
-      placed = k .placed ∙ ap (λ (l : List Placed). filled (λ (x : Placed). x .place) l starts₀) (sym w);
-      valued = k .valued ∙ ap (λ (l : List Placed). filled (λ (x : Placed). numberIn (x .symbol)) l values₀) (sym w);
-    }

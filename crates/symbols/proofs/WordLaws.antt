@@ -75,12 +75,12 @@ packed-one (suc k) (a ∷ v) (b ∷ w) f g e =
     let t : packed k v ≡ packed k w = omega arith in
     ap₂ (λ (x : ℕ) (l : List ℕ). x ∷ l) h (packed-one k v w (f .2) (g .2) t)
 
-same-refl : (w : List ℕ) → same w w ≡ true
+pub same-refl : (w : List ℕ) → same w w ≡ true
 unfolding same
 same-refl [] = refl
 same-refl (b ∷ w) = ap (λ (x : Bool). elim x [ true ↦ same w w | false ↦ false ]) (eq-eqb b b refl) ∙ same-refl w
 
-same-true : (v w : List ℕ) → same v w ≡ true → v ≡ w
+pub same-true : (v w : List ℕ) → same v w ≡ true → v ≡ w
 unfolding same
 same-true [] [] h = refl
 same-true [] (b ∷ w) h = let z : _≡_ {A = ℕ} 0 1 = cc in absurd (omega arith)

@@ -2,11 +2,11 @@
 use mathlib.Core.Path.{_≡_}
 use mathlib.Core.List.{List, [], _∷_, _++_, map}
 use mathlib.Core.Option.{Option, none, some}
-use mathlib.Core.Bool.{Bool, true, false, cond}
-use Prim.Native.Nat.{ℕ, zero, suc, _+_, _*_, _-_}
+use mathlib.Core.Bool.{Bool, true, false, cond, _&&_}
+use Prim.Native.Nat.{ℕ, zero, suc, _+_, _*_, _-_, _/_, _%_, _≤_, _<_}
 use Prim.Native.String.{String}
 use lib.Dec.{eqb, leb, ltb}
-use lib.ListN.{length, take, drop}
+use lib.ListN.{length, take, drop, getD}
 use Rattle.symbols.specs.Lists.{bytes, same}
 use Rattle.symbols.specs.Kinds.{Kind, codeOf}
 use Rattle.symbols.specs.Refusals.{Fault, fault, least, longText, unlistedSymbol, manySymbols}
@@ -16,6 +16,8 @@ use Rattle.symbols.specs.declared.Class as byteClass
 use Rattle.symbols.specs.declared.Class.the-variants.{Letter, Digit, Mark, Blank, Other}
 use Rattle.symbols.specs.declared.Scanned.{Scanned}
 use Rattle.symbols.specs.declared.Scanned.the-variants.{Symbols, LongText, UnlistedSymbol, ManySymbols}
+use Rattle.symbols.specs.declared.names.Stop.{Stop}
+use Rattle.symbols.specs.declared.names.Stop.the-variants.{At, Free, Deep}
 use Rattle.symbols.specs.declared.Token.{Token}
 use Rattle.symbols.specs.declared.Token.the-variants.{Gap, Unlisted, Listed}
 
@@ -90,6 +92,7 @@ filled f l old = map f l ++ drop (length l) old
 pub record Takes (text codes₀ starts₀ values₀ codes starts values : List ℕ) (r : Scanned) : Type 0 where
   pub answer : faultOf r ≡ least (scanFaults 0 (scan text))
   pub counted : (n : ℕ) → r ≡ Symbols n → n ≡ length (symbols (scan text))
+  pub few : (n : ℕ) → r ≡ Symbols n → n ≤ 4096
   pub coded : codes ≡ filled (λ (x : Placed). codeIn (x .symbol)) (taken text) codes₀
   pub placed : starts ≡ filled (λ (x : Placed). x .place) (taken text) starts₀
   pub valued : values ≡ filled (λ (x : Placed). numberIn (x .symbol)) (taken text) values₀
@@ -106,10 +109,101 @@ faultIn text = firstOf (least (lengthFaults text)) (least (scanFaults 0 (scan te
 abbrev pub written : List ℕ → List Placed
 written text = cond (ltb 32768 (length text)) [] (taken text)
 
+-- the letters of a name are these
+abbrev pub hasLetters : List ℕ → Symbol → Bool
+hasLetters a (fixed k) = false
+hasLetters a (numeral n) = false
+hasLetters a (name x) = same a (x .letters)
+
+-- the number of the first symbol that is a name with these letters, whatever its ending
+unfoldable pub firstNamed : List ℕ → List Placed → ℕ
+firstNamed a [] = 0
+firstNamed a (x ∷ l) = elim (hasLetters a (x .symbol)) [ true ↦ 0 | false ↦ suc (firstNamed a l) ]
+
+-- the value of a symbol among those of its text: of a number its value, of a name the number of the first name with its letters, else 0
+abbrev pub valueIn : List Placed → Symbol → ℕ
+valueIn l (fixed k) = 0
+valueIn l (numeral n) = n
+valueIn l (name x) = firstNamed (x .letters) l
+
+-- the values: of a text with a fault the numbers alone
+abbrev pub valueAt : Scanned → List Placed → Symbol → ℕ
+valueAt (Symbols n) l y = valueIn l y
+valueAt LongText l y = numberIn y
+valueAt (UnlistedSymbol p) l y = numberIn y
+valueAt (ManySymbols p) l y = numberIn y
+
 -- what a scan answers, of any text, and what it leaves in the three arrays
 pub record Scans (text codes₀ starts₀ values₀ codes starts values : List ℕ) (r : Scanned) : Type 0 where
   pub answer : faultOf r ≡ faultIn text
   pub counted : (n : ℕ) → r ≡ Symbols n → n ≡ length (symbols (scan text))
+  pub few : (n : ℕ) → r ≡ Symbols n → n ≤ 4096
   pub coded : codes ≡ filled (λ (x : Placed). codeIn (x .symbol)) (written text) codes₀
   pub placed : starts ≡ filled (λ (x : Placed). x .place) (written text) starts₀
-  pub valued : values ≡ filled (λ (x : Placed). numberIn (x .symbol)) (written text) values₀
+  pub valued : values ≡ filled (λ (x : Placed). valueAt r (symbols (scan text)) (x .symbol)) (written text) values₀
+
+-- a code of a name
+abbrev pub isName : ℕ → Bool
+isName c = leb 2 c && leb c 5
+
+-- the letters of a name as two numbers; 0 for another symbol
+abbrev pub lowIn : Symbol → ℕ
+lowIn (fixed k) = 0
+lowIn (numeral n) = 0
+lowIn (name x) = packed 8 (x .letters)
+
+abbrev pub highIn : Symbol → ℕ
+highIn (fixed k) = 0
+highIn (numeral n) = 0
+highIn (name x) = packed 8 (drop 8 (x .letters))
+
+abbrev pub filledLow : List ℕ → List ℕ → List ℕ
+filledLow s old = filled (λ (x : Placed). lowIn (x .symbol)) (symbols (scan s)) old
+
+abbrev pub filledHigh : List ℕ → List ℕ → List ℕ
+filledHigh s old = filled (λ (x : Placed). highIn (x .symbol)) (symbols (scan s)) old
+
+abbrev pub filledNumbers : List ℕ → List ℕ
+filledNumbers s = map (λ (x : Placed). numberIn (x .symbol)) (symbols (scan s))
+
+abbrev pub filledValues : List ℕ → List ℕ → List ℕ
+filledValues s old = filled (λ (x : Placed). valueIn (symbols (scan s)) (x .symbol)) (symbols (scan s)) old
+
+-- the first n places of two arrays hold the codes and the places of all symbols of a text
+pub record Rows (s codes starts : List ℕ) (n : ℕ) : Type 0 where
+  pub short : length s ≤ 32768
+  pub few : n ≤ 4096
+  pub counted : n ≡ length (symbols (scan s))
+  pub coded : take n codes ≡ map (λ (x : Placed). codeIn (x .symbol)) (symbols (scan s))
+  pub placed : take n starts ≡ map (λ (x : Placed). x .place) (symbols (scan s))
+
+-- a step of a walk: at a slot that holds nothing, or a symbol's number and one
+abbrev pub visited : (t slot : ℕ) → (ℕ → Bool) → (ℕ → Stop) → Stop
+visited zero slot is rest = Free slot
+visited (suc m) slot is rest = elim (is m) [ true ↦ At m | false ↦ rest m ]
+
+-- a walk for the letters a, b down a tree of symbols, by the bits of p, q
+unfoldable pub walkFrom : ℕ → (low high tree : List ℕ) → (a b p q slot : ℕ) → Stop
+walkFrom zero low high tree a b p q slot = Deep
+walkFrom (suc f) low high tree a b p q slot =
+    visited (getD tree slot 0) slot (λ (m : ℕ). eqb (getD low m 0) a && eqb (getD high m 0) b)
+    (λ (m : ℕ). walkFrom f low high tree a b (p / 2 + (q % 2) * 9223372036854775808) (q / 2) (2 * m + p % 2))
+
+-- m is the first symbol that has the letters of symbol i
+pub record IsFirst (low high : List ℕ) (i m : ℕ) : Type 0 where
+  pub upTo : m ≤ i
+  pub sameLow : getD low m 0 ≡ getD low i 0
+  pub sameHigh : getD high m 0 ≡ getD high i 0
+  pub none : (j : ℕ) → j < m → getD low j 0 ≡ getD low i 0 → getD high j 0 ≡ getD high i 0 → ⊥
+
+-- what a walk says of symbol j: the first symbol with its letters, or nothing
+pub data Reached (low high : List ℕ) (j : ℕ) : Stop → Type 0 where
+  reached : {m : ℕ} → IsFirst low high j m → Reached low high j (At m)
+  deep : Reached low high j Deep
+
+-- the tree of the names among the first i symbols
+pub record Tree (low high tree : List ℕ) (i : ℕ) : Type 0 where
+  pub below : (k : ℕ) → getD tree k 0 ≤ i
+  pub firsts : (k v : ℕ) → getD tree k 0 ≡ suc v → IsFirst low high v v
+  pub known : (j : ℕ) → j < i → (getD low j 0 ≡ 0 → ⊥)
+      → Reached low high j (walkFrom 128 low high tree (getD low j 0) (getD high j 0) (getD low j 0) (getD high j 0) 8192)

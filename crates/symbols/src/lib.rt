@@ -4,6 +4,7 @@ ghost use Rattle.symbols.specs.Promises.{Scans};
 mod classes;
 pub mod codes;
 mod marks;
+mod names;
 mod numbers;
 mod texts;
 mod words;
@@ -44,5 +45,14 @@ pub fn scan(
     if 32768 < text.len() {
         return Scanned::LongText;
     }
-    texts::scan_symbols(text, codes, starts, values)
+    let r = texts::scan_symbols(text, codes, starts, values);
+    match r {
+        Scanned::Symbols(n) => {
+            names::number_names(text, codes, starts, values, n);
+            Scanned::Symbols(n)
+        }
+        Scanned::LongText => Scanned::LongText,
+        Scanned::UnlistedSymbol(p) => Scanned::UnlistedSymbol(p),
+        Scanned::ManySymbols(p) => Scanned::ManySymbols(p),
+    }
 }

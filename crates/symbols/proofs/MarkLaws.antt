@@ -13,7 +13,7 @@ use lib.Seq.{getD-drop}
 use Rattle.symbols.specs.Lists.{bytes, begins}
 use Rattle.symbols.specs.Kinds.{Kind, marks, codeOf}
 use Rattle.symbols.specs.Symbols.{Found, longest, longer, unlisted}
-use Rattle.symbols.specs.Promises.{tokenOf}
+use Rattle.symbols.specs.Inner.{tokenOf}
 use Rattle.symbols.specs.declared.Token.the-variants.{Unlisted, Listed}
 
 abbrev Each : (String → Type 0) → List (String × Kind) → Type 0

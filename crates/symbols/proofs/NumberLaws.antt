@@ -12,7 +12,7 @@ use lib.Seq.{drop-cons}
 use Rattle.symbols.specs.Lists.{all, any, bytes}
 use Rattle.symbols.specs.Symbols.{Class, letter, digit, mark, blank, other, between, classOf, isDigit, inRun, run, decimalFrom, isNumber, numberFound, byClass, Found, found, numeral, unlisted}
 use Rattle.symbols.specs.Kinds.{codeOf}
-use Rattle.symbols.specs.Promises.{tokenOf, moreOf, decimalOr}
+use Rattle.symbols.specs.Inner.{tokenOf, moreOf, decimalOr}
 use Rattle.symbols.specs.declared.Token.{Token}
 use Rattle.symbols.specs.declared.Token.the-variants.{Unlisted, Listed}
 use Rattle.symbols.proofs.ByteLaws.{digits, outside}

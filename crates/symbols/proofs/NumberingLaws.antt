@@ -9,7 +9,7 @@ use lib.Dec.{eqb, ltb}
 use borrow.Author.Tests.{eqb-true, eqb-false}
 use lib.ListN.{length, getD, set, replicate}
 use lib.Seq.{getD-set-same, getD-set-other}
-use Rattle.symbols.specs.Promises.{walkFrom, IsFirst, Reached, reached, deep, Tree}
+use Rattle.symbols.specs.Inner.{walkFrom, IsFirst, Reached, reached, deep, Tree}
 use Rattle.symbols.specs.declared.names.Stop.{Stop}
 use Rattle.symbols.specs.declared.names.Stop.the-variants.{At, Free, Deep}
 use Rattle.symbols.proofs.TreeLaws.{both, same-both, one-more, NotFree, at-node, free-zero, keep, insert}

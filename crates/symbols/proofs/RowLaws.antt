@@ -11,7 +11,8 @@ use lib.Seq.{take-suc, take-all, getD-take, getD-drop, getD-append-add, length-t
 use Rattle.symbols.specs.Lists.{same}
 use Rattle.symbols.specs.Kinds.{Kind, codeOf}
 use Rattle.symbols.specs.Symbols.{run, Symbol, fixed, numeral, name, Name, Ending, noEnding, prime, query, shriek, kindOfName, Placed, scan, symbols}
-use Rattle.symbols.specs.Promises.{codeIn, numberIn, packed, isName, filled, hasLetters, firstNamed, valueIn, lowIn, highIn, filledLow, filledHigh, filledNumbers, filledValues, Rows, IsFirst, Tree}
+use Rattle.symbols.specs.Promises.{codeIn, numberIn, filled, hasLetters, firstNamed, valueIn}
+use Rattle.symbols.specs.Inner.{packed, isName, lowIn, highIn, filledLow, filledHigh, filledNumbers, filledValues, Rows, IsFirst, Tree}
 use Rattle.symbols.proofs.WordLaws.{Fits, packed-one, run-fits, same-refl, same-true}
 use Rattle.symbols.proofs.TreeLaws.{name-above}
 use Rattle.symbols.proofs.ScanLaws.{filled-more}

@@ -17,7 +17,8 @@ use Rattle.symbols.specs.Kinds.{Kind, marks, words}
 use Rattle.symbols.specs.Refusals.{Fault, fault, before, lesser, least, numberOf, longText, unlistedSymbol, manySymbols}
 use Rattle.symbols.specs.Symbols.{Class, letter, digit, mark, blank, other, classOf, inRun, run, Symbol, fixed, numeral, name, Found, gap, unlisted, found, Ending, noEnding, prime, query, shriek, endingOf, endingLength}
 use Rattle.symbols.specs.Symbols.{reserved, wordOf, isNumber, numberFound, decimalFrom, longer, longest, byClass, symbolAt, Placed, Scan, done, stopped, next, scanned, scanFrom, scan, symbols, scanFaults, lengthFaults}
-use Rattle.symbols.specs.Promises.{codeIn, numberIn, tokenOf, faultOf, taken, filled, Takes, firstOf, faultIn, written, Scans}
+use Rattle.symbols.specs.Promises.{codeIn, numberIn, faultOf, taken, filled, firstOf, faultIn, written, Scans}
+use Rattle.symbols.specs.Inner.{tokenOf, Takes}
 use Rattle.symbols.specs.declared.Token.{Token}
 use Rattle.symbols.specs.declared.Token.the-variants.{Gap, Unlisted, Listed}
 use Rattle.symbols.specs.declared.Scanned.{Scanned}

@@ -15,7 +15,8 @@ use Rattle.symbols.specs.Lists.{bytes, begins, same}
 use Rattle.symbols.specs.Kinds.{Kind, marks, words, codeOf}
 use Rattle.symbols.specs.Symbols.{Class, letter, digit, mark, blank, other, classOf, inRun, run, Symbol, fixed, numeral, name, Found, gap, unlisted, found, Ending, noEnding, prime, query, shriek, endingOf, endingLength}
 use Rattle.symbols.specs.Symbols.{reserved, wordOf, isNumber, numberFound, decimalFrom, longer, longest, byClass, symbolAt, Placed, Scan, scanned, scanFrom, scan, symbols}
-use Rattle.symbols.specs.Promises.{codeIn, numberIn, packed, isName, hasLetters, firstNamed, valueIn, lowIn, highIn}
+use Rattle.symbols.specs.Promises.{codeIn, numberIn, hasLetters, firstNamed, valueIn}
+use Rattle.symbols.specs.Inner.{packed, isName, lowIn, highIn}
 use Rattle.symbols.proofs.WordLaws.{Fits, packed-one, run-fits, run-take, same-refl, same-true}
 use Rattle.symbols.proofs.TreeLaws.{both, same-both, not-both}
 

@@ -11,7 +11,8 @@ use lib.ListN.{length, take, drop, getD, length-map}
 use lib.Seq.{take-all, take-at, drop-at}
 use Rattle.symbols.specs.Refusals.{Fault, fault, lesser, least, longText}
 use Rattle.symbols.specs.Symbols.{Symbol, Placed, scan, symbols, scanFaults, lengthFaults}
-use Rattle.symbols.specs.Promises.{codeIn, numberIn, valueIn, valueAt, faultOf, taken, filled, filledNumbers, filledValues, Takes, firstOf, faultIn, written, Scans, Rows}
+use Rattle.symbols.specs.Promises.{codeIn, numberIn, valueIn, valueAt, faultOf, taken, filled, firstOf, faultIn, written, Scans}
+use Rattle.symbols.specs.Inner.{filledNumbers, filledValues, Takes, Rows}
 use Rattle.symbols.specs.declared.Scanned.{Scanned}
 use Rattle.symbols.specs.declared.Scanned.the-variants.{Symbols, LongText, UnlistedSymbol, ManySymbols}
 use Rattle.symbols.proofs.RowLaws.{filled-at}

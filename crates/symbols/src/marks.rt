@@ -5,7 +5,7 @@ ghost use Prim.Native.Nat.{_<_};
 ghost use lib.ListN.{length, drop};
 ghost use Rattle.symbols.specs.Kinds.{marks};
 ghost use Rattle.symbols.specs.Symbols.{longest};
-ghost use Rattle.symbols.specs.Promises.{tokenOf};
+ghost use Rattle.symbols.specs.Inner.{tokenOf};
 use crate::Token;
 use crate::classes::byte_at;
 use crate::codes;

@@ -8,8 +8,9 @@ ghost use Prim.Native.Nat.{ℕ, _+_, _≤_, _<_};
 ghost use lib.Dec.{eqb};
 ghost use lib.ListN.{length, take, drop, getD};
 ghost use Rattle.symbols.specs.Symbols.{run, scan, symbols};
-ghost use Rattle.symbols.specs.Promises.{packed, isName, lowIn, highIn, Rows, walkFrom, IsFirst, Tree, filled, valueIn, numberIn};
-ghost use Rattle.symbols.specs.Promises.{filledLow, filledHigh, filledNumbers, filledValues};
+ghost use Rattle.symbols.specs.Promises.{filled, valueIn, numberIn};
+ghost use Rattle.symbols.specs.Inner.{packed, isName, lowIn, highIn, Rows, walkFrom, IsFirst, Tree};
+ghost use Rattle.symbols.specs.Inner.{filledLow, filledHigh, filledNumbers, filledValues};
 use crate::classes::run_from;
 use crate::words::eight;
 

@@ -3,7 +3,7 @@ ghost use mathlib.Core.Path.{_≡_};
 ghost use Prim.Native.Nat.{_≤_, _<_};
 ghost use lib.ListN.{length, drop};
 ghost use Rattle.symbols.specs.Symbols.{symbolAt};
-ghost use Rattle.symbols.specs.Promises.{tokenOf, Takes};
+ghost use Rattle.symbols.specs.Inner.{tokenOf, Takes};
 use crate::Class;
 use crate::Scanned;
 use crate::Token;

@@ -6,7 +6,7 @@ use mathlib.Core.Path.{sym, ap, _∙_}
 use Rattle.symbols.specs.Kinds.{codeOf, marks}
 use Rattle.symbols.specs.Lists.{bytes, begins}
 use Rattle.symbols.specs.Symbols.{longest}
-use Rattle.symbols.specs.Promises.{tokenOf}
+use Rattle.symbols.specs.Inner.{tokenOf}
 use Rattle.symbols.proofs.MarkLaws.{no-mark}
 use Rattle.symbols.proofs.marks.mark_of.Statement.{statement}
 use Rattle.symbols.proofs.marks.mark_of.Tie as tie

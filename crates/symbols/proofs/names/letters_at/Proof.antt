@@ -5,7 +5,7 @@ use borrow.Author.Needs.{needs}
 use mathlib.Core.Path.{sym, ap, _∙_}
 use native.Mathlib.Omega.{arith}
 use Rattle.symbols.specs.Symbols.{run}
-use Rattle.symbols.specs.Promises.{packed}
+use Rattle.symbols.specs.Inner.{packed}
 use Rattle.symbols.proofs.WordLaws.{run-length}
 use Rattle.symbols.proofs.SoundLaws.{run-part}
 use Rattle.symbols.proofs.names.letters_at.Statement.{statement}

@@ -6,7 +6,8 @@ use mathlib.Core.Path.{_≡_, refl, ap, _∙_}
 use native.Mathlib.Omega.{arith}
 use borrow.Author.Needs.{needs}
 use Rattle.symbols.specs.Symbols.{Placed, scan, symbols}
-use Rattle.symbols.specs.Promises.{filled, valueIn, numberIn, Tree}
+use Rattle.symbols.specs.Promises.{filled, valueIn, numberIn}
+use Rattle.symbols.specs.Inner.{Tree}
 use Rattle.symbols.proofs.NumberingLaws.{tree-start}
 use Rattle.symbols.proofs.RowLaws.{filled-step, filled-all, filled-after, value-at}
 use Rattle.symbols.proofs.SoundLaws.{map-at, nowhere}

@@ -6,7 +6,8 @@ use mathlib.Core.Path.{_≡_, ap, _∙_}
 use native.Mathlib.Omega.{arith}
 use borrow.Author.Needs.{needs}
 use Rattle.symbols.specs.Symbols.{Placed, scan, symbols}
-use Rattle.symbols.specs.Promises.{filled, lowIn, highIn}
+use Rattle.symbols.specs.Promises.{filled}
+use Rattle.symbols.specs.Inner.{lowIn, highIn}
 use Rattle.symbols.proofs.RowLaws.{filled-all, packed-step, place-inside}
 use Rattle.symbols.proofs.names.pack_names.Statement.{statement}
 use Rattle.symbols.proofs.names.pack_names.Tie as tie

@@ -4,7 +4,7 @@ use mathlib.Core.Path.{_≡_, refl, sym, ap, _∙_}
 use native.Mathlib.Omega.{arith}
 use borrow.Author.Needs.{needs}
 use lib.ListN.{getD}
-use Rattle.symbols.specs.Promises.{walkFrom}
+use Rattle.symbols.specs.Inner.{walkFrom}
 use Rattle.symbols.proofs.TreeLaws.{walk-free, walk-at, walk-on, walk-none, shift-fits}
 use Rattle.symbols.proofs.names.walk.Statement.{statement}
 use Rattle.symbols.proofs.names.walk.Tie as tie

@@ -4,7 +4,7 @@ use Prim.Native.Nat.{ℕ, _+_, _-_, _<_, _≤_}
 use mathlib.Core.Path.{_≡_, refl, sym, ap, _∙_}
 use native.Mathlib.Omega.{arith}
 use borrow.Author.Needs.{needs}
-use Rattle.symbols.specs.Promises.{decimalOr, moreOf}
+use Rattle.symbols.specs.Inner.{decimalOr, moreOf}
 use Rattle.symbols.proofs.NumberLaws.{part-more, part-end, decimal-more, decimal-over, decimal-none}
 use Rattle.symbols.proofs.numbers.decimal.Statement.{statement}
 use Rattle.symbols.proofs.numbers.decimal.Tie as tie

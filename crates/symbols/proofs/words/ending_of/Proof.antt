@@ -4,7 +4,7 @@ use Prim.Native.Nat.{ℕ}
 use mathlib.Core.Path.{sym, ap}
 use native.Mathlib.Omega.{arith}
 use Rattle.symbols.specs.Symbols.{endingOf}
-use Rattle.symbols.specs.Promises.{endingCode}
+use Rattle.symbols.specs.Inner.{endingCode}
 use Rattle.symbols.proofs.WordLaws.{ending-none}
 use Rattle.symbols.proofs.words.ending_of.Statement.{statement}
 use Rattle.symbols.proofs.words.ending_of.Tie as tie

@@ -3,7 +3,7 @@ use Prim.Native.Nat.{ℕ}
 use mathlib.Core.Path.{sym, ap}
 use Rattle.symbols.specs.Kinds.{codeOf, words}
 use Rattle.symbols.specs.Lists.{bytes}
-use Rattle.symbols.specs.Promises.{keyed, packed}
+use Rattle.symbols.specs.Inner.{keyed, packed}
 use Rattle.symbols.proofs.WordLaws.{no-word}
 use Rattle.symbols.proofs.words.word_code.Statement.{statement}
 use Rattle.symbols.proofs.words.word_code.Tie as tie

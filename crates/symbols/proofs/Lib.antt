@@ -10,3 +10,4 @@ pub mod NumberingLaws
 pub mod SoundLaws
 pub mod RowLaws
 pub mod WholeLaws
+pub mod ValueLaws

@@ -4,3 +4,5 @@ pub mod Kinds
 pub mod Symbols
 pub mod Base
 pub mod Computed
+pub mod Promises
+pub mod Inner

@@ -56,14 +56,14 @@ pub data Found : Type 0 where
   gap unlisted : Found
   found : Symbol → (length : ℕ) → Found
 
-abbrev inRun : Class → Bool
+abbrev pub inRun : Class → Bool
 inRun letter = true
 inRun digit = true
 inRun mark = false
 inRun blank = false
 inRun other = false
 
-abbrev isDigit : Class → Bool
+abbrev pub isDigit : Class → Bool
 isDigit letter = false
 isDigit digit = true
 isDigit mark = false

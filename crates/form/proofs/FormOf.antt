@@ -21,7 +21,8 @@ use Rattle.form.specs.Form.{Grouped, Whole, Begins, NoDossier, TooMuch, 
 use Rattle.form.specs.Machine.{Item, someEntries, stuck, then, act, does, Next, go, halt, step, ends, Run, complete, failed, runFrom, run}
 use Rattle.form.specs.Parse.{parseDossier, form, outcomeOf}
 use Rattle.form.proofs.Takes.{initial, feed, feedOn, Fits, equal, rangeEnd, usedName, Agrees, IsOpens, IsBinds, Continues}
-use Rattle.form.proofs.Runs.{kindBefore, Passed, Cause, cannotTake, cannotEnd, over, Stopped, Outcome, ran}
+use Rattle.form.specs.Contracts.{kindBefore}
+use Rattle.form.proofs.Runs.{Passed, Cause, cannotTake, cannotEnd, over, Stopped, Outcome, ran}
 use Rattle.form.proofs.Split.{markAt, AtSymbol, at-symbol, at-end}
 
 -- answers told apart

@@ -16,6 +16,9 @@ pub mod AgreeStarts
 pub mod AgreeTerms
 pub mod Agree
 pub mod Table
+pub mod Classes
+pub mod Reading
+pub mod Stepping
 pub mod Plain
 pub mod Fill
 pub mod Back

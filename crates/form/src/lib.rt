@@ -1,6 +1,149 @@
-// The greatest depth of a term or predicate (number 5 of document 01).
-pub const DEPTH_LIMIT: usize = 24;
+// Numbers 4 and 5 of document 01 in terms and predicates, and the nodes of their trees.
+ghost use mathlib.Core.Path.{_≡_};
+ghost use mathlib.Core.List.{[], _∷_};
+ghost use Prim.Native.Nat.{ℕ, _+_, _≤_, _<_};
+ghost use lib.ListN.{length, getD};
+ghost use Rattle.form.specs.Contracts.{KindAt, Classes, Starts, Closes, Reads, operators, connectives, predStarts, relations, memberships, quantifiers, names, levelOf};
 
-pub fn depth_limit() -> usize {
-    DEPTH_LIMIT
+// How a symbol begins a term.
+pub enum Start {
+    Leaf,
+    Prefix,
+    Bracket,
+    Brace,
+    Empty,
+    Nothing,
+}
+
+// The place behind what was read, and how many numbers are written; or the place of a fault, and the refusal's number.
+pub enum Read {
+    At(usize, usize),
+    Fault(usize, u8),
+}
+
+// The kind's code at a place, or 0 behind the end.
+pub fn kind_at(s: &[u8], at: usize) -> u8
+    ensures { λ r. ⌜ KindAt (now (s .entry)) at r ⌝ }
+{
+    if at < s.len() {
+        return s[at];
+    }
+    0
+}
+
+fn start_of(k: u8) -> Start
+    ensures { λ r. ⌜ Starts k r ⌝ }
+{
+    match k {
+        1..=5 => Start::Leaf,
+        29 => Start::Prefix,
+        31 => Start::Prefix,
+        63..=64 => Start::Prefix,
+        17 => Start::Bracket,
+        19 => Start::Brace,
+        47 => Start::Empty,
+        _ => Start::Nothing,
+    }
+}
+
+// 1 an operator of the lower level, 2 of the higher, 3 one with a number on its right, 0 none.
+fn operator_of(k: u8) -> u8
+    ensures { λ r. ⌜ Classes operators k r ⌝ }
+{
+    match k {
+        28..=29 => 1,
+        30 => 2,
+        58..=59 => 1,
+        60 => 2,
+        61..=62 => 3,
+        _ => 0,
+    }
+}
+
+fn level_of(o: u8) -> u8
+    ensures { λ r. ⌜ r ≡ levelOf o ⌝ }
+{
+    match o {
+        0 => 0,
+        1 => 1,
+        _ => 2,
+    }
+}
+
+// A connective's level, or 0.
+fn connective_of(k: u8) -> u8
+    ensures { λ r. ⌜ Classes connectives k r ⌝ }
+{
+    match k {
+        27 => 1,
+        26 => 2,
+        52 => 3,
+        51 => 4,
+        _ => 0,
+    }
+}
+
+// What a predicate begins with: 1 a truth value, 2 `not`, 3 (, 0 a term.
+fn pred_start_of(k: u8) -> u8
+    ensures { λ r. ⌜ Classes predStarts k r ⌝ }
+{
+    match k {
+        48..=49 => 1,
+        50 => 2,
+        15 => 3,
+        _ => 0,
+    }
+}
+
+// What stands behind a predicate's first term: 1 a comparison, 2 a membership, 3 |->, 0 none of them.
+fn relation_of(k: u8) -> u8
+    ensures { λ r. ⌜ Classes relations k r ⌝ }
+{
+    match k {
+        22..=25 => 1,
+        56..=57 => 2,
+        32 => 3,
+        _ => 0,
+    }
+}
+
+fn membership_of(k: u8) -> u8
+    ensures { λ r. ⌜ Classes memberships k r ⌝ }
+{
+    match k {
+        56..=57 => 1,
+        _ => 0,
+    }
+}
+
+fn quantifier_of(k: u8) -> u8
+    ensures { λ r. ⌜ Classes quantifiers k r ⌝ }
+{
+    match k {
+        53..=55 => 1,
+        _ => 0,
+    }
+}
+
+fn name_of(k: u8) -> u8
+    ensures { λ r. ⌜ Classes names k r ⌝ }
+{
+    match k {
+        2..=5 => 1,
+        _ => 0,
+    }
+}
+
+// A symbol of the kind with the code k.
+pub fn close(s: &[u8], at: usize, k: u8, n: usize) -> Read
+    requires { ⌜ at ≤ length (now s) ⌝ }
+    ensures { λ r. ⌜ Closes (now (s .entry)) at k n r ⌝ }
+{
+    if s.len() <= at {
+        return Read::Fault(at, 4);
+    }
+    if s[at] == k {
+        return Read::At(at + 1, n);
+    }
+    Read::Fault(at, 4)
 }

@@ -105,7 +105,10 @@ every f (κ ∷ ks) n p h = on (f κ) refl h (λ r. every f ks n p r)
     on true q r g = at (eqb (codeOf κ) n) q (g r)
     on false q r g = absurd (subst (λ (b : Bool). elim b as (λ (x : Bool). Type 0) [ true ↦ ⊥ | false ↦ Unit {0} ]) r tt)
 
+pub every-kind : (f : Kind → Bool) (κ : Kind) → f kind.number ≡ true → all f kinds ≡ true → f κ ≡ true
+every-kind f κ p h = subst (λ (j : Kind). f j ≡ true) (kind-back κ) (every f kinds (codeOf κ) p h)
+
 -- 0 is no kind's number
 pub positive : (κ : Kind) → 1 ≤ codeOf κ
 unfolding codeOf all
-positive κ = leb-true 1 (codeOf κ) (subst (λ (j : Kind). leb 1 (codeOf j) ≡ true) (kind-back κ) (every (λ (j : Kind). leb 1 (codeOf j)) kinds (codeOf κ) refl refl))
+positive κ = leb-true 1 (codeOf κ) (every-kind (λ (j : Kind). leb 1 (codeOf j)) κ refl refl)

@@ -19,6 +19,8 @@ pub mod Table
 pub mod Classes
 pub mod Reading
 pub mod Stepping
+pub mod RangeEnds
+pub mod Nodes
 pub mod Plain
 pub mod Fill
 pub mod Back

@@ -37,3 +37,16 @@ exact-ends j γ = on (is kind.WHERE j)
     on : (b : Bool) → passed (elim b as (λ (x : Bool). Act) [ true ↦ then [] | false ↦ stuck ]) (ends γ) ≡ false
     on true = refl
     on false = refl
+
+-- two tables with the same first entry
+first-entry : {A : Type 0} (e : Kind × A) (t u : List (Kind × A)) (c d : A) (κ : Kind) → lookup t c κ ≡ lookup u d κ → lookup (e ∷ t) c κ ≡ lookup (e ∷ u) d κ
+unfolding lookup
+first-entry {A} e t u c d κ q = ap (λ (x : A). elim (is κ (e .0)) as (λ (b : Bool). A) [ true ↦ e .1 | false ↦ x ]) q
+
+-- a number without -
+pub end-unsigned : (κ : Kind) (γ : List Item) → (codeOf κ ≡ codeOf kind.minus → ⊥) → step (anEnd ∷ γ) κ ≡ step (exact kind.number ∷ γ) κ
+unfolding act step lookup
+end-unsigned κ γ f =
+    ap (λ (a : Act). does a γ (step γ κ))
+    (first-entry (kind.number, then []) ((kind.minus, then (exact kind.number ∷ [])) ∷ []) [] stuck stuck κ
+    (lookup-miss ((kind.minus, then (exact kind.number ∷ [])) ∷ []) stuck κ (f, tt)))

@@ -1,15 +1,15 @@
 -- What the functions of the form pass promise, against the machine and the nodes of a tree.
 use mathlib.Core.Path.{_≡_}
-use mathlib.Core.Bool.{Bool, true, false, cond}
+use mathlib.Core.Bool.{Bool, true, false, cond, _&&_}
 use mathlib.Core.List.{List, [], _∷_, _++_, map}
 use Prim.Native.Nat.{ℕ, zero, suc, _+_, _-_, _*_, _≤_, _<_}
-use lib.Dec.{eqb}
+use lib.Dec.{eqb, leb}
 use lib.ListN.{length, take, drop, getD}
 use Rattle.symbols.specs.Kinds as kind
 use Rattle.symbols.specs.Kinds.{Kind, codeOf, lookup}
 use Rattle.symbols.specs.Symbols.{Symbol, kindOf}
 use Rattle.symbols.specs.Refusals.{Refusal, noDossier, deep, manyDeclared}
-use Rattle.form.specs.Form.{kindAt, isRangeEnd}
+use Rattle.form.specs.Form.{kindAt}
 use Rattle.form.specs.Machine as machine
 use Rattle.form.specs.Machine.{Item, aTermRest, aPredRest, Run, failed, runFrom, starts}
 use Rattle.form.specs.Codes.{node}
@@ -123,3 +123,19 @@ pub record Closes (s : List ℕ) (at k n : ℕ) (r : Read) : Type 0 where
 pub record Puts (a : List ℕ) (n shape place x y : ℕ) (b : List ℕ) (r : ℕ) : Type 0 where
   pub count : r ≡ n + 4
   pub nodes : take r b ≡ take n a ++ node shape place x y
+
+-- at stands a range after in or notin: a number or - and a number, and ..
+pub data Ranged (s : List ℕ) (at : ℕ) : Bool → Type 0 where
+  positive : getD s at 0 ≡ 1 → getD s (at + 1) 0 ≡ 21 → Ranged s at true
+  negative : getD s at 0 ≡ 29 → getD s (at + 1) 0 ≡ 1 → getD s (at + 2) 0 ≡ 21 → Ranged s at true
+  unranged : (getD s at 0 ≡ 1 → getD s (at + 1) 0 ≡ 21 → ⊥) → (getD s at 0 ≡ 29 → getD s (at + 1) 0 ≡ 1 → getD s (at + 2) 0 ≡ 21 → ⊥) → Ranged s at false
+
+-- the - of a range after in or notin, which opens nothing: by the codes before, at and behind it
+unfoldable pub rangeEndAt : List ℕ → ℕ → Bool
+rangeEndAt s zero = false
+rangeEndAt s (suc p) =
+    (leb 56 (getD s p 0) && leb (getD s p 0) 57) && eqb (getD s (suc p) 0) 29 && eqb (getD s (suc p + 1) 0) 1 && eqb (getD s (suc p + 2) 0) 21
+
+pub record RangeEnd (s : List ℕ) (at : ℕ) (r : Bool) : Type 0 where
+  pub test : rangeEndAt s at ≡ r
+  pub minus : r ≡ true → (getD s at 0 ≡ 29) × (getD s (at + 1) 0 ≡ 1)

@@ -3,7 +3,8 @@ ghost use mathlib.Core.Path.{_≡_};
 ghost use mathlib.Core.List.{[], _∷_};
 ghost use Prim.Native.Nat.{ℕ, _+_, _≤_, _<_};
 ghost use lib.ListN.{length, getD};
-ghost use Rattle.form.specs.Contracts.{KindAt, Classes, Starts, Closes, Reads, operators, connectives, predStarts, relations, memberships, quantifiers, names, levelOf};
+ghost use Rattle.form.specs.Contracts.{KindAt, Classes, Starts, Closes, Reads, Room, Puts, Ranged, RangeEnd, operators, connectives, predStarts, relations, memberships, quantifiers, names, levelOf};
+ghost use Rattle.form.specs.Machine.{anEnd};
 
 // How a symbol begins a term.
 pub enum Start {
@@ -146,4 +147,93 @@ pub fn close(s: &[u8], at: usize, k: u8, n: usize) -> Read
         return Read::At(at + 1, n);
     }
     Read::Fault(at, 4)
+}
+
+fn value_at(v: &[u16], at: usize) -> u16
+    ensures { λ r. ⌜ r ≡ getD (now (v .entry)) at 0 ⌝ }
+{
+    if at < v.len() {
+        return v[at];
+    }
+    0
+}
+
+fn wide(k: u8) -> u16
+    ensures { λ r. ⌜ r ≡ k ⌝ }
+{
+    k as u16
+}
+
+// A node behind the first n numbers.
+pub fn put(code: &mut [u16], n: usize, shape: u16, place: usize, x: u16, y: u16) -> usize
+    requires { ⌜ (n + 4 ≤ length (now code)) × (place < 65536) ⌝ }
+    ensures { λ r. ⌜ Puts (now (code .entry)) n shape place x y (now (code .exit)) r ⌝ }
+{
+    code[n] = y;
+    code[n + 1] = x;
+    code[n + 2] = place as u16;
+    code[n + 3] = shape;
+    n + 4
+}
+
+// A number, which may carry -.
+pub fn end(s: &[u8], at: usize, n: usize) -> Read
+    requires { ⌜ (at ≤ length (now s)) × (length (now s) ≤ 4096) ⌝ }
+    ensures { λ r. ⌜ Reads (now (s .entry)) at n (anEnd ∷ []) [] r ⌝ }
+{
+    if kind_at(s, at) == 29 {
+        return close(s, at + 1, 1, n);
+    }
+    close(s, at, 1, n)
+}
+
+// Is the symbol the - of a range after `in` or `notin`?
+fn range_end(s: &[u8], at: usize) -> bool
+    requires { ⌜ (at < length (now s)) × (length (now s) ≤ 4096) ⌝ }
+    ensures { λ r. ⌜ RangeEnd (now (s .entry)) at r ⌝ }
+{
+    if at == 0 {
+        return false;
+    }
+    let k = kind_at(s, at - 1);
+    if k < 56 {
+        return false;
+    }
+    if 57 < k {
+        return false;
+    }
+    if kind_at(s, at) == 29 {
+        if kind_at(s, at + 1) == 1 {
+            if kind_at(s, at + 2) == 21 {
+                return true;
+            }
+            return false;
+        }
+        return false;
+    }
+    false
+}
+
+// Does a range stand here, and no term?
+fn is_range(s: &[u8], at: usize) -> bool
+    requires { ⌜ (at ≤ length (now s)) × (length (now s) ≤ 4096) ⌝ }
+    ensures { λ r. ⌜ Ranged (now (s .entry)) at r ⌝ }
+{
+    let k = kind_at(s, at);
+    if k == 29 {
+        if kind_at(s, at + 1) == 1 {
+            if kind_at(s, at + 2) == 21 {
+                return true;
+            }
+            return false;
+        }
+        return false;
+    }
+    if k == 1 {
+        if kind_at(s, at + 1) == 21 {
+            return true;
+        }
+        return false;
+    }
+    false
 }

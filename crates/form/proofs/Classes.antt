@@ -45,10 +45,11 @@ each-entry : (t : List (Kind × ℕ)) (k v : ℕ) → Entries t k v → Each (λ
 each-entry [] k v h = tt
 each-entry (e ∷ t) k v h = (h .0, each-entry t k v (h .1))
 
-pub classed : {t : List (Kind × ℕ)} {k v : ℕ} → v ≤ 9 * k → Entries t k v → (Misses k t → 0 ≡ v) → Classes t k v
+pub classed : {t : List (Kind × ℕ)} {k v : ℕ} → (v ≤ 9) × (v ≤ 9 * k) → Entries t k v → (Misses k t → 0 ≡ v) → Classes t k v
 classed {t} {k} {v} l h m =
     record {
-      none = l;
+      none = l .1;
+      small = l .0;
       class = λ κ q. by-table-or (λ κ x. codeOf κ ≡ k → x ≡ v) t 0 κ (each-entry t k v h) (λ n p. m (subst (λ (j : ℕ). Misses j t) p n)) q;
     }
 
@@ -70,12 +71,12 @@ span f v lo (suc n) h k a b = on (eqb k lo) refl (λ x y. span f v (suc lo) n (h
     on false q r = let ne : k ≡ lo → ⊥ = eqb-false k lo q in r (omega arith) (omega arith)
 
 -- an arm for the codes from lo on; the arm for all other codes
-pub spanned : {t : List (Kind × ℕ)} {k v : ℕ} (lo n : ℕ) → Same (λ (j : ℕ). lookup t 0 (kindIn kinds j)) v lo n → lo ≤ k → k < lo + n → v ≤ 9 * k → Classes t k v
+pub spanned : {t : List (Kind × ℕ)} {k v : ℕ} (lo n : ℕ) → Same (λ (j : ℕ). lookup t 0 (kindIn kinds j)) v lo n → lo ≤ k → k < lo + n → (v ≤ 9) × (v ≤ 9 * k) → Classes t k v
 spanned {t} {k} {v} lo n h a b l =
-    record { none = l; class = λ κ q. ap (lookup t 0) (told κ q) ∙ span (λ (j : ℕ). lookup t 0 (kindIn kinds j)) v lo n h k a b }
+    record { none = l .1; small = l .0; class = λ κ q. ap (lookup t 0) (told κ q) ∙ span (λ (j : ℕ). lookup t 0 (kindIn kinds j)) v lo n h k a b }
 
 pub missed : {t : List (Kind × ℕ)} {k : ℕ} → Misses k t → Classes t k 0
-missed {t} {k} m = record { none = omega arith; class = λ κ q. lookup-miss t 0 κ (subst (λ (j : ℕ). Misses j t) (sym q) m) }
+missed {t} {k} m = record { none = omega arith; small = omega arith; class = λ κ q. lookup-miss t 0 κ (subst (λ (j : ℕ). Misses j t) (sym q) m) }
 
 -- the same of what begins a term
 pub started : {k : ℕ} {r : Start} (lo n : ℕ) → Same (λ (j : ℕ). lookup starts nothing (kindIn kinds j)) (startAs r) lo n → lo ≤ k → k < lo + n → Starts k r

@@ -20,6 +20,8 @@ pub mod Classes
 pub mod Reading
 pub mod Stepping
 pub mod RangeEnds
+pub mod Alike
+pub mod RightSides
 pub mod Nodes
 pub mod Plain
 pub mod Fill

@@ -5,6 +5,7 @@ use mathlib.Core.List.{List, [], _∷_, map}
 use mathlib.Core.Option.{Option, none, some}
 use Prim.Native.Nat.{ℕ, zero, suc, _+_, _-_, _≤_, _<_}
 use native.Mathlib.Omega.{arith}
+use native.Mathlib.Numerals.{add-one}
 use lib.Dec.{eqb, leb, ltb}
 use lib.ListN.{length, drop, getD, List·getD-map}
 use lib.Seq.{getD-drop}
@@ -174,38 +175,42 @@ unfolding settled excess refuse
 bind-well s at n h w q =
     either-none (isUsed (kindBefore kind.END w at) (drop (suc at) w)) (excess (binds n)) (ap (λ (b : Bool). refuse b deep) (le-ltb 3 n h))
 
-used-test : (w : List Symbol) {s : List ℕ} → codes w ≡ s → (p : ℕ) → isUsed (kindAt w p) (drop (suc (suc p)) w) ≡ (eqb (getD s p 0) 19 && not (eqb (getD s (p + 2) 0) 10))
+-- at the symbol behind p
+behind : (s : List ℕ) (p : ℕ) (P : Kind → Kind → List Symbol → Type 0) → Within s (suc p) P → Within s (p + 1) P
+behind s p P h = subst (λ (j : ℕ). Within s j P) (sym (add-one p)) h
+
+used-test : (w : List Symbol) {s : List ℕ} → codes w ≡ s → (p : ℕ) → isUsed (kindAt w p) (drop (suc (suc p)) w) ≡ (eqb (getD s p 0) 19 && not (eqb (getD s (p + 1 + 1) 0) 10))
 unfolding isUsed is codeOf
 used-test w {s} q p =
     let a : is (kindAt w p) kind.openBrace ≡ eqb (getD s p 0) 19 = code-test (λ (x : ℕ). eqb x 19) refl w q p in
-    let b : is (kindAt (drop (suc (suc p)) w) 0) kind.colon ≡ eqb (getD s (p + 2) 0) 10 =
+    let b : is (kindAt (drop (suc (suc p)) w) 0) kind.colon ≡ eqb (getD s (p + 1 + 1) 0) 10 =
     ap (λ (κ : Kind). is κ kind.colon) (kind-behind w (suc (suc p)) 0) ∙ code-test (λ (x : ℕ). eqb x 10) refl w q (suc (suc p) + 0)
     ∙ ap (λ (j : ℕ). eqb (getD s j 0) 10) (omega arith) in
     cc
 
-pub used-well : (s : List ℕ) (p n : ℕ) → getD s p 0 ≡ 19 → (getD s (p + 2) 0 ≡ 10 → ⊥) → Within s (suc p) (λ k j v. settled k j v (binds n) ≡ none)
+pub used-well : (s : List ℕ) (p n : ℕ) → getD s p 0 ≡ 19 → (getD s (p + 1 + 1) 0 ≡ 10 → ⊥) → Within s (p + 1) (λ k j v. settled k j v (binds n) ≡ none)
 unfolding settled
-used-well s p n a b w q =
+used-well s p n a b = behind s p (λ k j v. settled k j v (binds n) ≡ none) (λ w q.
     ap (λ (x : Bool). cond x none (excess (binds n)))
-    (used-test w q p ∙ ap (λ (x : Bool). x && not (eqb (getD s (p + 2) 0) 10)) (eq-eqb (getD s p 0) 19 a) ∙ ap not (ne-eqb (getD s (p + 2) 0) 10 b))
+    (used-test w q p ∙ ap (λ (x : Bool). x && not (eqb (getD s (p + 1 + 1) 0) 10)) (eq-eqb (getD s p 0) 19 a) ∙ ap not (ne-eqb (getD s (p + 1 + 1) 0) 10 b)))
 
 bind-over : (n : ℕ) → 3 < n → excess (binds n) ≡ some deep
 unfolding excess refuse
 bind-over n h = ap (λ (b : Bool). refuse b deep) (lt-ltb 3 n h)
 
-pub bound-deep : (s : List ℕ) (p n : ℕ) → 3 < n → getD s (p + 2) 0 ≡ 10 → Within s (suc p) (λ k j v. settled k j v (binds n) ≡ some deep)
+pub bound-deep : (s : List ℕ) (p n : ℕ) → 3 < n → getD s (p + 1 + 1) 0 ≡ 10 → Within s (p + 1) (λ k j v. settled k j v (binds n) ≡ some deep)
 unfolding settled
-bound-deep s p n h b w q =
+bound-deep s p n h b = behind s p (λ k j v. settled k j v (binds n) ≡ some deep) (λ w q.
     ap (λ (x : Bool). cond x none (excess (binds n)))
-    (used-test w q p ∙ ap (λ (x : Bool). eqb (getD s p 0) 19 && not x) (eq-eqb (getD s (p + 2) 0) 10 b) ∙ nothing (eqb (getD s p 0) 19))
-    ∙ bind-over n h
+    (used-test w q p ∙ ap (λ (x : Bool). eqb (getD s p 0) 19 && not x) (eq-eqb (getD s (p + 1 + 1) 0) 10 b) ∙ nothing (eqb (getD s p 0) 19))
+    ∙ bind-over n h)
   where
     nothing : (b : Bool) → (b && false) ≡ false
     nothing true = refl
     nothing false = refl
 
 -- behind anything but {
-pub bound-elsewhere : (s : List ℕ) (p n : ℕ) → 3 < n → (getD s p 0 ≡ 19 → ⊥) → Within s (suc p) (λ k j v. settled k j v (binds n) ≡ some deep)
+pub bound-elsewhere : (s : List ℕ) (p n : ℕ) → 3 < n → (getD s p 0 ≡ 19 → ⊥) → Within s (p + 1) (λ k j v. settled k j v (binds n) ≡ some deep)
 unfolding settled
-bound-elsewhere s p n h a w q =
-    ap (λ (x : Bool). cond x none (excess (binds n))) (used-test w q p ∙ ap (λ (x : Bool). x && not (eqb (getD s (p + 2) 0) 10)) (ne-eqb (getD s p 0) 19 a)) ∙ bind-over n h
+bound-elsewhere s p n h a = behind s p (λ k j v. settled k j v (binds n) ≡ some deep) (λ w q.
+    ap (λ (x : Bool). cond x none (excess (binds n))) (used-test w q p ∙ ap (λ (x : Bool). x && not (eqb (getD s (p + 1 + 1) 0) 10)) (ne-eqb (getD s p 0) 19 a)) ∙ bind-over n h)

@@ -17,7 +17,7 @@ use Rattle.symbols.specs.Refusals.{Refusal, noDossier, deep}
 use Rattle.form.specs.Written.{Mark, unmarked}
 use Rattle.form.specs.Form.{kindAt, settled}
 use Rattle.form.specs.Machine.{Item, Next, go, halt, step, ends, Run, complete, failed, unlessOver, onward, runFrom}
-use Rattle.form.specs.Contracts.{codes, kindBefore, runAt, after, placeOf, refusalNumbered, Counted, Reads}
+use Rattle.form.specs.Contracts.{codes, kindBefore, runAt, after, placeOf, refusalNumbered, Counted, Reads, Ahead, Advances}
 use Rattle.form.specs.declared.Read.{Read}
 use Rattle.form.specs.declared.Read.the-variants.{At, Fault}
 use Rattle.form.proofs.Table.{kinds, kindIn, kind-back}
@@ -175,3 +175,45 @@ next {at = at} {n} {e} {m} {r = r} a b =
 -- two states from which the same is read to the same place
 pub joined : {s : List ℕ} {at n m e c d : ℕ} {ι μ ρ ο : List Item} {r : Read} → Reads s at m ι ρ (At e c) → Reads s at m μ ρ (At e d) → Reads s at n μ ο r → Reads s at n ι ο r
 joined a b h = record { from = h .from; within = h .within; count = h .count; same = λ w q γ. a .same w q γ ∙ sym (b .same w q γ) ∙ h .same w q γ }
+
+-- strictly ahead of a place is ahead of those before it
+pub ahead-from : (at e : ℕ) (r : Read) → at ≤ e → Ahead e r → Ahead at r
+ahead-from at e (At f m) l h = omega arith
+ahead-from at e (Fault f m) l h = tt
+
+-- two states from which the machine does the same, whatever is expected behind them
+abbrev pub Alike : List ℕ → ℕ → (ι μ : List Item) → Type 0
+Alike s at ι μ = (w : List Symbol) → codes w ≡ s → (γ : List Item) → runAt w at (ι ++ γ) ≡ runAt w at (μ ++ γ)
+
+pub alike-now : (s : List ℕ) (at : ℕ) (ι μ : List Item) → ((κ : Kind) → codeOf κ ≡ getD s at 0 → (γ : List Item) → step (ι ++ γ) κ ≡ step (μ ++ γ) κ)
+    → ((γ : List Item) → ends (ι ++ γ) ≡ ends (μ ++ γ)) → Alike s at ι μ
+alike-now s at ι μ h e w q γ = on (ltb at (length w)) refl
+  where
+    on : (b : Bool) → ltb at (length w) ≡ b → runAt w at (ι ++ γ) ≡ runAt w at (μ ++ γ)
+    on true t =
+        let lw : at < length w = ltb-true at (length w) t in
+        run-at w at (ι ++ γ) lw
+        ∙ ap (λ (y : Next). onward y (settled (kindBefore kind.END w at) (kindAt w at) (drop (suc at) w)) at (runAt w (suc at)))
+        (h (kindAt w at) (code-at w at lw ∙ ap (λ (l : List ℕ). getD l at 0) q) γ)
+        ∙ sym (run-at w at (μ ++ γ) lw)
+    on false t =
+        let lw : length w ≤ at = let z = ltb-false at (length w) t in omega arith in
+        run-end w at (ι ++ γ) lw ∙ ap (λ (y : Bool). cond y complete (failed at noDossier)) (e γ) ∙ sym (run-end w at (μ ++ γ) lw)
+
+-- both take the symbol, with marks that count alike
+pub alike-then : (s : List ℕ) (at : ℕ) (ι μ ι′ μ′ : List Item) (x y : Mark) → at < length s
+    → ((κ : Kind) → codeOf κ ≡ getD s at 0 → (γ : List Item) → step (ι ++ γ) κ ≡ go x (ι′ ++ γ))
+    → ((κ : Kind) → codeOf κ ≡ getD s at 0 → (γ : List Item) → step (μ ++ γ) κ ≡ go y (μ′ ++ γ))
+    → Within s at (λ k j v. settled k j v x ≡ settled k j v y) → Alike s (at + 1) ι′ μ′ → Alike s at ι μ
+alike-then s at ι μ ι′ μ′ x y l h g f a w q γ =
+    step-at s at ι w q l (λ δ. go x (ι′ ++ δ)) h γ
+    ∙ ap (λ (o : Option Refusal). unlessOver o at (runAt w (suc at)) (ι′ ++ γ)) (f w q)
+    ∙ on (settled (kindBefore kind.END w at) (kindAt w at) (drop (suc at) w) y)
+    ∙ sym (step-at s at μ w q l (λ δ. go y (μ′ ++ δ)) g γ)
+  where
+    on : (o : Option Refusal) → unlessOver o at (runAt w (suc at)) (ι′ ++ γ) ≡ unlessOver o at (runAt w (suc at)) (μ′ ++ γ)
+    on none = ap (λ (j : ℕ). runAt w j (ι′ ++ γ)) (sym (add-one at)) ∙ a w q γ ∙ ap (λ (j : ℕ). runAt w j (μ′ ++ γ)) (add-one at)
+    on (some r) = refl
+
+pub alike : {s : List ℕ} {at n : ℕ} {ι μ ο : List Item} {r : Read} → Alike s at ι μ → Reads s at n μ ο r → Reads s at n ι ο r
+alike h a = record { from = a .from; within = a .within; count = a .count; same = λ w q γ. h w q γ ∙ a .same w q γ }

@@ -72,6 +72,7 @@ pub record KindAt (s : List ℕ) (at r : ℕ) : Type 0 where
 -- what a kind is looked up as, by its code
 pub record Classes (table : List (Kind × ℕ)) (k r : ℕ) : Type 0 where
   pub none : r ≤ 9 * k
+  pub small : r ≤ 9
   pub class : (κ : Kind) → codeOf κ ≡ k → lookup table 0 κ ≡ r
 
 abbrev pub startAs : Start → machine.Start
@@ -115,8 +116,18 @@ quantifiers = (kind.FORALL, 1) ∷ (kind.EXISTS, 1) ∷ (kind.EXISTS1, 1) ∷ []
 abbrev pub names : List (Kind × ℕ)
 names = (kind.plain, 1) ∷ (kind.primed, 1) ∷ (kind.input, 1) ∷ (kind.output, 1) ∷ []
 
+abbrev pub Ahead : ℕ → Read → Type 0
+Ahead at (At e m) = at < e
+Ahead at (Fault e f) = Unit {0}
+
+-- at least one symbol is read
+pub record Advances (s : List ℕ) (at n : ℕ) (ι ο : List Item) (r : Read) : Type 0 where
+  pub reads : Reads s at n ι ο r
+  pub ahead : Ahead at r
+
 -- one symbol of the kind κ
 pub record Closes (s : List ℕ) (at k n : ℕ) (r : Read) : Type 0 where
+  pub ahead : Ahead at r
   pub reads : (κ : Kind) → codeOf κ ≡ k → Reads s at n (machine.exact κ ∷ []) [] r
 
 -- a node behind the first n numbers
@@ -127,8 +138,8 @@ pub record Puts (a : List ℕ) (n shape place x y : ℕ) (b : List ℕ) (r : ℕ
 -- at stands a range after in or notin: a number or - and a number, and ..
 pub data Ranged (s : List ℕ) (at : ℕ) : Bool → Type 0 where
   positive : getD s at 0 ≡ 1 → getD s (at + 1) 0 ≡ 21 → Ranged s at true
-  negative : getD s at 0 ≡ 29 → getD s (at + 1) 0 ≡ 1 → getD s (at + 2) 0 ≡ 21 → Ranged s at true
-  unranged : (getD s at 0 ≡ 1 → getD s (at + 1) 0 ≡ 21 → ⊥) → (getD s at 0 ≡ 29 → getD s (at + 1) 0 ≡ 1 → getD s (at + 2) 0 ≡ 21 → ⊥) → Ranged s at false
+  negative : getD s at 0 ≡ 29 → getD s (at + 1) 0 ≡ 1 → getD s (at + 1 + 1) 0 ≡ 21 → Ranged s at true
+  unranged : (getD s at 0 ≡ 1 → getD s (at + 1) 0 ≡ 21 → ⊥) → (getD s at 0 ≡ 29 → getD s (at + 1) 0 ≡ 1 → getD s (at + 1 + 1) 0 ≡ 21 → ⊥) → Ranged s at false
 
 -- the - of a range after in or notin, which opens nothing: by the codes before, at and behind it
 unfoldable pub rangeEndAt : List ℕ → ℕ → Bool
@@ -139,3 +150,30 @@ rangeEndAt s (suc p) =
 pub record RangeEnd (s : List ℕ) (at : ℕ) (r : Bool) : Type 0 where
   pub test : rangeEndAt s at ≡ r
   pub minus : r ≡ true → (getD s at 0 ≡ 29) × (getD s (at + 1) 0 ≡ 1)
+
+-- behind a term that was read stands no operator of the level min or a higher one
+abbrev pub TermStops : List ℕ → ℕ → Read → Type 0
+TermStops s min (At e m) = (κ : Kind) → codeOf κ ≡ getD s e 0 → levelOf (lookup operators 0 κ) < min
+TermStops s min (Fault e f) = Unit {0}
+
+pub record TermReads (s : List ℕ) (at n d b min : ℕ) (ι : List Item) (r : Read) : Type 0 where
+  pub reads : Reads s at n ι (aTermRest d b ∷ []) r
+  pub stops : TermStops s min r
+
+abbrev pub PredStops : List ℕ → ℕ → Read → Type 0
+PredStops s min (At e m) = (κ : Kind) → codeOf κ ≡ getD s e 0 → lookup connectives 0 κ < min
+PredStops s min (Fault e f) = Unit {0}
+
+-- a predicate at depth d, or its rest, inside one that began at the depth base; only <=> goes back there
+pub record PredReads (s : List ℕ) (at n d b min : ℕ) (ι : List Item) (r : Read) : Type 0 where
+  pub reads : (base : ℕ) → (min ≡ 1 → base ≡ d) → Reads s at n (ι ++ (aPredRest base d b ∷ [])) (aPredRest base d b ∷ []) r
+  pub stops : PredStops s min r
+
+pub record Quantifies (k r : ℕ) : Type 0 where
+  pub classes : Classes quantifiers k r
+  pub low : r ≤ 9 * (k - 52)
+  pub high : r ≤ 9 * (56 - k)
+
+pub record Relates (k r : ℕ) : Type 0 where
+  pub classes : Classes relations k r
+  pub member : r ≡ 2 → (56 ≤ k) × (k ≤ 57)

@@ -1,10 +1,11 @@
 // Numbers 4 and 5 of document 01 in terms and predicates, and the nodes of their trees.
 ghost use mathlib.Core.Path.{_≡_};
 ghost use mathlib.Core.List.{[], _∷_};
-ghost use Prim.Native.Nat.{ℕ, _+_, _≤_, _<_};
+ghost use Prim.Native.Nat.{ℕ, _+_, _*_, _≤_, _<_};
 ghost use lib.ListN.{length, getD};
-ghost use Rattle.form.specs.Contracts.{KindAt, Classes, Starts, Closes, Reads, Room, Puts, Ranged, RangeEnd, operators, connectives, predStarts, relations, memberships, quantifiers, names, levelOf};
-ghost use Rattle.form.specs.Machine.{anEnd};
+ghost use Rattle.symbols.specs.Kinds as kind;
+ghost use Rattle.form.specs.Contracts.{KindAt, Classes, Starts, Closes, Reads, Advances, TermReads, PredReads, Quantifies, Relates, Room, Puts, Ranged, RangeEnd, operators, connectives, predStarts, relations, memberships, quantifiers, names, levelOf};
+ghost use Rattle.form.specs.Machine.{exact, aName, anEmptyRest, anEnd, aDomain, aTerm, anOperand, aTermRest, aRel, aMem, aRight, aBrace, aFirst, aList, aPairs, aUnary, aParen, aPredRest};
 
 // How a symbol begins a term.
 pub enum Start {
@@ -98,7 +99,7 @@ fn pred_start_of(k: u8) -> u8
 
 // What stands behind a predicate's first term: 1 a comparison, 2 a membership, 3 |->, 0 none of them.
 fn relation_of(k: u8) -> u8
-    ensures { λ r. ⌜ Classes relations k r ⌝ }
+    ensures { λ r. ⌜ Relates k r ⌝ }
 {
     match k {
         22..=25 => 1,
@@ -118,7 +119,7 @@ fn membership_of(k: u8) -> u8
 }
 
 fn quantifier_of(k: u8) -> u8
-    ensures { λ r. ⌜ Classes quantifiers k r ⌝ }
+    ensures { λ r. ⌜ Quantifies k r ⌝ }
 {
     match k {
         53..=55 => 1,
@@ -179,7 +180,7 @@ pub fn put(code: &mut [u16], n: usize, shape: u16, place: usize, x: u16, y: u16)
 // A number, which may carry -.
 pub fn end(s: &[u8], at: usize, n: usize) -> Read
     requires { ⌜ (at ≤ length (now s)) × (length (now s) ≤ 4096) ⌝ }
-    ensures { λ r. ⌜ Reads (now (s .entry)) at n (anEnd ∷ []) [] r ⌝ }
+    ensures { λ r. ⌜ Advances (now (s .entry)) at n (anEnd ∷ []) [] r ⌝ }
 {
     if kind_at(s, at) == 29 {
         return close(s, at + 1, 1, n);
@@ -222,7 +223,7 @@ fn is_range(s: &[u8], at: usize) -> bool
     let k = kind_at(s, at);
     if k == 29 {
         if kind_at(s, at + 1) == 1 {
-            if kind_at(s, at + 2) == 21 {
+            if kind_at(s, at + 1 + 1) == 21 {
                 return true;
             }
             return false;
@@ -236,4 +237,145 @@ fn is_range(s: &[u8], at: usize) -> bool
         return false;
     }
     false
+}
+
+// The number of a name: of its letters, and its ending.
+fn name_number(s: &[u8], v: &[u16], at: usize) -> u16 {
+    let k = kind_at(s, at);
+    let x = value_at(v, at);
+    if 4095 < x {
+        return 0;
+    }
+    if k < 2 {
+        return 0;
+    }
+    4 * x + (wide(k) - 2)
+}
+
+// An end of a range, plus 1,000.
+fn signed(s: &[u8], v: &[u16], at: usize) -> u16
+    requires { ⌜ at ≤ 4100 ⌝ }
+{
+    if kind_at(s, at) == 29 {
+        let x = value_at(v, at + 1);
+        if 1000 < x {
+            return 0;
+        }
+        return 1000 - x;
+    }
+    let x = value_at(v, at);
+    if 1000 < x {
+        return 0;
+    }
+    1000 + x
+}
+
+// The node of a number or a name.
+fn leaf(s: &[u8], v: &[u16], at: usize, code: &mut [u16], n: usize) -> usize
+    requires { ⌜ (n + 4 ≤ length (now code)) × (at < 65536) ⌝ }
+    ensures { λ r. ⌜ r ≡ n + 4 ⌝ }
+{
+    if kind_at(s, at) == 1 {
+        let x = value_at(v, at);
+        return put(code, n, 1, at, x, 0);
+    }
+    let x = name_number(s, v, at);
+    put(code, n, 2, at, x, 0)
+}
+
+// a..b
+pub fn range(s: &[u8], at: usize, n: usize) -> Read
+    requires { ⌜ (at ≤ length (now s)) × (length (now s) ≤ 4096) ⌝ }
+    ensures { λ r. ⌜ Advances (now (s .entry)) at n (anEnd ∷ exact kind.upTo ∷ anEnd ∷ []) [] r ⌝ }
+{
+    match end(s, at, n) {
+        Read::At(e, m) => match close(s, e, 21, m) {
+            Read::At(f, c) => end(s, f, c),
+            Read::Fault(p, q) => Read::Fault(p, q),
+        },
+        Read::Fault(p, q) => Read::Fault(p, q),
+    }
+}
+
+// The node of a..b.
+pub fn put_range(s: &[u8], v: &[u16], at: usize, code: &mut [u16], n: usize) -> usize
+    requires { ⌜ (n + 4 ≤ length (now code)) × (at ≤ 4096) ⌝ }
+    ensures { λ r. ⌜ r ≡ n + 4 ⌝ }
+{
+    let x = signed(s, v, at);
+    if kind_at(s, at) == 29 {
+        let y = signed(s, v, at + 3);
+        return put(code, n, 2, at + 2, x, y);
+    }
+    let y = signed(s, v, at + 2);
+    put(code, n, 2, at + 1, x, y)
+}
+
+// What a bound name ranges over.
+fn domain(s: &[u8], at: usize, n: usize) -> Read
+    requires { ⌜ (at ≤ length (now s)) × (length (now s) ≤ 4096) ⌝ }
+    ensures { λ r. ⌜ Reads (now (s .entry)) at n (aDomain ∷ []) [] r ⌝ }
+{
+    let k = kind_at(s, at);
+    if name_of(k) == 0 {
+        return range(s, at, n);
+    }
+    Read::At(at + 1, n)
+}
+
+fn put_domain(s: &[u8], v: &[u16], at: usize, code: &mut [u16], n: usize) -> usize
+    requires { ⌜ (n + 4 ≤ length (now code)) × (at ≤ 4096) ⌝ }
+    ensures { λ r. ⌜ r ≡ n + 4 ⌝ }
+{
+    let k = kind_at(s, at);
+    if name_of(k) == 1 {
+        let x = name_number(s, v, at);
+        return put(code, n, 1, at, x, 0);
+    }
+    put_range(s, v, at, code, n)
+}
+
+// One name or two behind an `empty`.
+fn empty(s: &[u8], v: &[u16], at: usize, code: &mut [u16], n: usize) -> Read
+    requires { ⌜ Room (now s) (now code) at n × (at < length (now s)) ⌝ }
+    ensures { λ r. ⌜ Reads (now (s .entry)) (at + 1) (n + 4) (aName ∷ anEmptyRest ∷ []) [] r ⌝ }
+{
+    let k = kind_at(s, at + 1);
+    if name_of(k) == 0 {
+        return Read::Fault(at + 1, 4);
+    }
+    let x = name_number(s, v, at + 1);
+    let j = kind_at(s, at + 1 + 1);
+    if name_of(j) == 0 {
+        let m = put(code, n, 9, at, x, 0);
+        return Read::At(at + 1 + 1, m);
+    }
+    let y = name_number(s, v, at + 1 + 1);
+    let m = put(code, n, 10, at, x, y);
+    Read::At(at + 1 + 1 + 1, m)
+}
+
+// A divisor's magnitude; the sign, and which of the two divisions it is.
+fn magnitude(s: &[u8], v: &[u16], at: usize) -> u16
+    requires { ⌜ at ≤ 4100 ⌝ }
+{
+    if kind_at(s, at) == 29 {
+        return value_at(v, at + 1);
+    }
+    value_at(v, at)
+}
+
+fn division(s: &[u8], at: usize) -> u16
+    requires { ⌜ at ≤ 4100 ⌝ }
+{
+    if kind_at(s, at) == 62 {
+        if kind_at(s, at + 1) == 29 {
+            return 3;
+        }
+        return 2;
+    }
+    if kind_at(s, at + 1) == 29 {
+        return 1;
+    }
+    0
 }

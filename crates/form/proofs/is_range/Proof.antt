@@ -18,6 +18,9 @@ kind-at-requires-2 c κs = search needs
 add-kind-at-2 : tie.Need-add-kind-at-2
 add-kind-at-2 c = search needs
 
+add-kind-at-3 : tie.Need-add-kind-at-3
+add-kind-at-3 c = search needs
+
 kind-at-requires-3 : tie.Need-kind-at-requires-3
 kind-at-requires-3 c κs = search needs
 
@@ -30,8 +33,8 @@ returns-2 c = unranged (λ p q. absurd (omega (arith, (c .before .before .before
 returns-3 : tie.Need-returns-3
 returns-3 c = unranged (λ p q. absurd (omega (arith, (c .before .before .before .kind-at .ensures .is)))) (λ p q r. c .if2 .left (c .before .kind-at2 .ensures .is ∙ q))
 
-add-kind-at-3 : tie.Need-add-kind-at-3
-add-kind-at-3 c = search needs
+add-kind-at-4 : tie.Need-add-kind-at-4
+add-kind-at-4 c = search needs
 
 kind-at-requires-4 : tie.Need-kind-at-requires-4
 kind-at-requires-4 c κs = search needs
@@ -47,5 +50,5 @@ returns-6 c = unranged (λ p q. c .if4 .left ((c .before .before .kind-at .ensur
 
 pub is-range-spec : {M : Type 1} → statement M
 is-range-spec =
-    tie.close (tie.spec kind-at-requires add-kind-at kind-at-requires-2 add-kind-at-2 kind-at-requires-3 returns returns-2 returns-3 add-kind-at-3
+    tie.close (tie.spec kind-at-requires add-kind-at kind-at-requires-2 add-kind-at-2 add-kind-at-3 kind-at-requires-3 returns returns-2 returns-3 add-kind-at-4
     kind-at-requires-4 returns-4 returns-5 returns-6)

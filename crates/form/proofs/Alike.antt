@@ -8,19 +8,20 @@ use native.Mathlib.Omega.{arith}
 use lib.ListN.{length, getD}
 use Rattle.symbols.specs.Kinds as kind
 use Rattle.symbols.specs.Kinds.{Kind, codeOf, is, lookup}
-use Rattle.form.specs.Written.{unmarked, opens, binds}
+use Rattle.form.specs.Written.{Mark, unmarked, opens, binds}
 use Rattle.form.specs.Form.{settled}
 use Rattle.form.specs.Machine.{Item, exact, aName, anEmptyRest, anEnd, aDomain, aTerm, anOperand, aTermRest, aRel, aMem, aRight, aNeg, aNumRest, aBrace, aNamed, aFirst, aList, aPairs, aUnary, aParen, aPredRest, aDeclared}
 use Rattle.form.specs.Machine.{Act, take, skip, stuck, then, Start, leaf, prefixed, bracket, brace, emptied, nothing, starts, fromStart, startTerm, operate, startPred, act, Next, go, halt, does, step, ends}
-use Rattle.form.specs.Contracts.{operators, connectives, predStarts, quantifiers, levelOf, Reads, TermReads, TermStops, PredReads, PredStops, Ranged, positive, negative, unranged, rangeEndAt}
+use Rattle.form.specs.Contracts.{operators, connectives, predStarts, relations, memberships, quantifiers, levelOf, Starts, StartCode, Reads, TermReads, TermStops, PredReads, PredStops, Ranged, positive, negative, unranged, rangeEndAt}
 use Rattle.form.specs.Computed.{computeForm}
+use Rattle.form.specs.declared.Start as declared
 use Rattle.form.specs.declared.Read.{Read}
 use Rattle.form.specs.declared.Read.the-variants.{At, Fault}
-use Rattle.form.proofs.Classes.{Misses, lookup-miss, by-table-or}
+use Rattle.form.proofs.Classes.{Misses, lookup-miss, by-table-or, spanned}
 use Rattle.form.proofs.Table.{_&_}
 use Rattle.form.proofs.Reading.{only, here, next, likewise, fails, takes, takes-kind, taken, joined, Within, Alike, alike, alike-now, alike-then}
 use Rattle.form.proofs.RangeEnds.{is-end, range-well, used-well}
-use Rattle.form.proofs.Stepping.{by-act, first-entry, atOperator, operating, rest-step, pred-rest-step, atPredStart, predStarting, either, lookup-mapped}
+use Rattle.form.proofs.Stepping.{by-act, first-entry, atOperator, operating, rest-step, pred-rest-step, atPredStart, predStarting, either, lookup-mapped, division, binary, connecting, any-depth, unary-step, atRelation, rel-step, mem-step}
 
 -- what begins a term, with more behind it
 pub frame : (d b : ℕ) (v : Start) (σ ρ γ : List Item) (m n : Next) → does (fromStart d b (σ ++ ρ) v) γ m ≡ does (fromStart d b σ v) (ρ ++ γ) n
@@ -160,3 +161,64 @@ whole-pred {s} {at} {n} {d} {b} {r} h = on r (h .reads d (λ q. refl)) (h .stops
     on : (r : Read) → Reads s at n (aUnary d b ∷ aPredRest d d b ∷ []) (aPredRest d d b ∷ []) r → PredStops s 1 r → Reads s at n (aUnary d b ∷ aPredRest d d b ∷ []) [] r
     on (At e m) a g = next a (likewise (λ κ q γ. pred-rest-step d d b κ γ {c = 0} (let l : lookup connectives 0 κ < 1 = g κ q in omega arith)) (λ γ. refl) (here (a .within)))
     on (Fault e f) a g = fails a
+
+-- what a result that is known says of the symbol behind
+pub known-level : (s : List ℕ) (min : ℕ) {e m : ℕ} {r : Read} → r ≡ At e m → PredStops s min r → (κ : Kind) → codeOf κ ≡ getD s e 0 → lookup connectives 0 κ < min
+known-level s min q h = subst (λ (x : Read). PredStops s min x) q h
+
+pub below-level : (c o l min : ℕ) → c ≡ o → l ≡ levelOf o → l < min → levelOf c < min
+below-level c o l min e f h = subst (λ (x : ℕ). levelOf x < min) (sym e) (subst (λ (x : ℕ). x < min) f h)
+
+pub level-positive : (o : ℕ) → 1 ≤ levelOf o → 1 ≤ o
+level-positive zero h = absurd (omega arith)
+level-positive (suc o) h = omega arith
+
+pub rest-division : (d b o : ℕ) (κ : Kind) (γ : List Item) → lookup operators 0 κ ≡ o → 3 ≤ o → step (aTermRest d b ∷ γ) κ ≡ go unmarked (anEnd ∷ aTermRest d b ∷ γ)
+rest-division d b o κ γ q l = rest-step d b κ γ q ∙ ap (λ (a : Act). does a γ (step γ κ)) (division d b o [] skip l)
+
+pub rest-binary : (d b o : ℕ) (κ : Kind) (γ : List Item) → lookup operators 0 κ ≡ o → 1 ≤ o → o < 3 → step (aTermRest d b ∷ γ) κ ≡ go unmarked (aTerm d b ∷ γ)
+rest-binary d b o κ γ q l h = rest-step d b κ γ q ∙ ap (λ (a : Act). does a γ (step γ κ)) (binary d b o [] skip l h)
+
+pub rest-connective : (base d b c : ℕ) (κ : Kind) (γ : List Item) → lookup connectives 0 κ ≡ c → 1 ≤ c → (c ≡ 2 → ⊥) → (c ≡ 1 → base ≡ d)
+    → step (aPredRest base d b ∷ γ) κ ≡ go unmarked (aUnary d b ∷ aPredRest base d b ∷ γ)
+rest-connective base d b c κ γ q l f e = pred-rest-step base d b κ γ q ∙ ap (λ (a : Act). does a γ (step γ κ)) (connecting base d b c l f e)
+
+pub rest-depth : (base d e b : ℕ) (κ : Kind) (γ : List Item) → lookup connectives 0 κ < 2 → step (aPredRest base d b ∷ γ) κ ≡ step (aPredRest base e b ∷ γ) κ
+rest-depth base d e b κ γ h =
+    pred-rest-step base d b κ γ refl ∙ ap (λ (a : Act). does a γ (step γ κ)) (any-depth base d e b (lookup connectives 0 κ) h) ∙ sym (pred-rest-step base e b κ γ refl)
+
+pub paren-opens : (d b c : ℕ) (κ : Kind) (γ : List Item) → lookup predStarts 0 κ ≡ c → 3 ≤ c → step (aUnary d b ∷ γ) κ ≡ go (opens (suc d)) (aParen (suc d) b ∷ γ)
+paren-opens d b c κ γ q l = unary-step d b κ γ q ∙ on c l
+  where
+    on : (c : ℕ) → 3 ≤ c → does (atPredStart d b [] (startTerm d b (aTermRest d b ∷ aRel d b ∷ []) κ) c) γ (step γ κ) ≡ go (opens (suc d)) (aParen (suc d) b ∷ γ)
+    on zero h = absurd (omega arith)
+    on (suc zero) h = absurd (omega arith)
+    on (suc (suc zero)) h = absurd (omega arith)
+    on (suc (suc (suc n))) h = refl
+
+pub rel-pair : (d b c : ℕ) (κ : Kind) (γ : List Item) → lookup relations 0 κ ≡ c → 3 ≤ c → step (aRel d b ∷ γ) κ ≡ go unmarked (aTerm d b ∷ aMem d b ∷ γ)
+rel-pair d b c κ γ q l = rel-step d b κ γ q ∙ on c l
+  where
+    on : (c : ℕ) → 3 ≤ c → does (atRelation d b c) γ (step γ κ) ≡ go unmarked (aTerm d b ∷ aMem d b ∷ γ)
+    on zero h = absurd (omega arith)
+    on (suc zero) h = absurd (omega arith)
+    on (suc (suc zero)) h = absurd (omega arith)
+    on (suc (suc (suc n))) h = refl
+
+pub mem-some : (d b c : ℕ) (κ : Kind) (γ : List Item) → lookup memberships 0 κ ≡ c → (c ≡ 0 → ⊥) → step (aMem d b ∷ γ) κ ≡ go unmarked (aTerm d b ∷ γ)
+mem-some d b zero κ γ q f = absurd (f refl)
+mem-some d b (suc c) κ γ q f = mem-step d b κ γ q
+
+-- a quantifier, by its code
+pub quantifier-code : (κ : Kind) → 53 ≤ codeOf κ → codeOf κ ≤ 55 → lookup quantifiers 0 κ ≡ 0 → ⊥
+unfolding codeOf lookup is
+quantifier-code κ lo hi q =
+    let h : lookup quantifiers 0 κ ≡ 1 = spanned {t = quantifiers} {k = codeOf κ} {v = 1} 53 3 (refl, (refl, (refl, tt))) lo (omega arith) (omega arith) .class κ refl in omega arith
+
+pub declared-stops : (m : Mark) (κ : Kind) (γ : List Item) → (codeOf κ ≡ codeOf kind.plain → ⊥) → step (aDeclared m ∷ γ) κ ≡ halt
+unfolding act
+declared-stops m κ γ f = by-act (aDeclared m) γ κ stuck (lookup-miss ((kind.plain, take m []) ∷ []) stuck κ (f, tt))
+
+-- what is known of the code where a term begins by a known way
+pub known-code : (k : ℕ) {r v : declared.Start} → r ≡ v → Starts k r → StartCode k v
+known-code k q h = subst (λ (x : declared.Start). StartCode k x) q (h .code)

@@ -9,7 +9,7 @@ use borrow.Author.Tests.{eqb-true, eqb-false, ne-eqb, leb-true}
 use Rattle.symbols.specs.Lists.{all}
 use Rattle.symbols.specs.Kinds as kind
 use Rattle.symbols.specs.Kinds.{Kind, codeOf, is, lookup}
-use Rattle.form.specs.Contracts.{Classes, Starts, startAs, levelOf}
+use Rattle.form.specs.Contracts.{Classes, Starts, StartCode, startAs, levelOf}
 use Rattle.form.specs.Machine.{starts, nothing}
 use Rattle.form.specs.declared.Start.{Start}
 use Rattle.form.specs.declared.Start.the-variants.{Nothing}
@@ -79,12 +79,12 @@ pub missed : {t : List (Kind × ℕ)} {k : ℕ} → Misses k t → Classes t k 0
 missed {t} {k} m = record { none = omega arith; small = omega arith; class = λ κ q. lookup-miss t 0 κ (subst (λ (j : ℕ). Misses j t) (sym q) m) }
 
 -- the same of what begins a term
-pub started : {k : ℕ} {r : Start} (lo n : ℕ) → Same (λ (j : ℕ). lookup starts nothing (kindIn kinds j)) (startAs r) lo n → lo ≤ k → k < lo + n → Starts k r
-started {k} {r} lo n h a b =
-    record { start = λ κ q. ap (lookup starts nothing) (told κ q) ∙ span (λ (j : ℕ). lookup starts nothing (kindIn kinds j)) (startAs r) lo n h k a b }
+pub started : {k : ℕ} {r : Start} (lo n : ℕ) → Same (λ (j : ℕ). lookup starts nothing (kindIn kinds j)) (startAs r) lo n → lo ≤ k → k < lo + n → StartCode k r → Starts k r
+started {k} {r} lo n h a b c =
+    record { code = c; start = λ κ q. ap (lookup starts nothing) (told κ q) ∙ span (λ (j : ℕ). lookup starts nothing (kindIn kinds j)) (startAs r) lo n h k a b }
 
 pub unstarted : {k : ℕ} → Misses k starts → Starts k Nothing
-unstarted m = record { start = λ κ q. lookup-miss starts nothing κ (subst (λ (j : ℕ). Misses j starts) (sym q) m) }
+unstarted m = record { code = tt; start = λ κ q. lookup-miss starts nothing κ (subst (λ (j : ℕ). Misses j starts) (sym q) m) }
 
 pub level-high : (o : ℕ) → 2 ≤ o → levelOf o ≡ 2
 level-high zero h = absurd (omega arith)

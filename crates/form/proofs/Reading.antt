@@ -100,6 +100,14 @@ module _ {s : List ℕ} {at n : ℕ} {ι ο : List Item} where
         same = λ w q γ. step-at s at ι w q l (λ δ. go x (ρ δ)) h γ ∙ ap (λ (y : Option Refusal). unlessOver y at (runAt w (suc at)) (ρ γ)) (f w q);
       }
 
+  pub taken-kind : {μ : List Item} {r : Read} {m : ℕ} (x : Mark) (j : Kind) → getD s at 0 ≡ codeOf j → at < length s → Within s at (λ k j v. settled k j v x ≡ none)
+      → ((γ : List Item) → step (ι ++ γ) j ≡ go x (μ ++ γ)) → Reads s (at + 1) m μ ο r → m ≤ n + 4 → Reads s at n ι ο r
+  taken-kind {μ} x j q l f h a c = taken x l f (only (λ κ. (γ : List Item) → step (ι ++ γ) κ ≡ go x (μ ++ γ)) j q h) a c
+
+  pub deeper-kind : (ρ : List Item → List Item) (x : Mark) (j : Kind) → getD s at 0 ≡ codeOf j → at < length s → Within s at (λ k j v. settled k j v x ≡ some deep)
+      → ((γ : List Item) → step (ι ++ γ) j ≡ go x (ρ γ)) → Reads s at n ι ο (Fault at 5)
+  deeper-kind ρ x j q l f h = deeper {ρ = ρ} x l f (only (λ κ. (γ : List Item) → step (ι ++ γ) κ ≡ go x (ρ γ)) j q h)
+
   -- a symbol, or the end, fits nothing
   pub stops : at ≤ length s → ((κ : Kind) → codeOf κ ≡ getD s at 0 → (γ : List Item) → step (ι ++ γ) κ ≡ halt) → ((γ : List Item) → ends (ι ++ γ) ≡ false)
       → Reads s at n ι ο (Fault at 4)
@@ -133,7 +141,7 @@ module _ {s : List ℕ} {at n : ℕ} {ι ο : List Item} where
   likewise-kind {μ} j q h e a = likewise (only (λ κ. (γ : List Item) → step (ι ++ γ) κ ≡ step (μ ++ γ) κ) j q h) e a
 
   -- a part at fault
-  pub fails : {μ : List Item} {e f : ℕ} → Reads s at n ι μ (Fault e f) → Reads s at n ι ο (Fault e f)
+  pub fails : {μ : List Item} {e f m : ℕ} → Reads s at m ι μ (Fault e f) → Reads s at n ι ο (Fault e f)
   fails a = record { from = a .from; within = a .within; count = tt; same = λ w q γ. a .same w q γ }
 
   -- with more expected behind it
@@ -217,3 +225,19 @@ alike-then s at ι μ ι′ μ′ x y l h g f a w q γ =
 
 pub alike : {s : List ℕ} {at n : ℕ} {ι μ ο : List Item} {r : Read} → Alike s at ι μ → Reads s at n μ ο r → Reads s at n ι ο r
 alike h a = record { from = a .from; within = a .within; count = a .count; same = λ w q γ. h w q γ ∙ a .same w q γ }
+
+-- a larger number was written before
+pub wider : {s : List ℕ} {at n m : ℕ} {ι ο : List Item} {r : Read} → Reads s at n ι ο r → n ≤ m → Reads s at m ι ο r
+wider {at = at} {n} {m} {r = r} a l = record { from = a .from; within = a .within; count = on r (a .count); same = a .same }
+  where
+    on : (r : Read) → Counted at n r → Counted at m r
+    on (At e c) h = omega arith
+    on (Fault e f) h = tt
+
+-- the machine's successor for the code's sum
+pub raised : {s : List ℕ} {at n : ℕ} {ο : List Item} {r : Read} (f : ℕ → List Item) (d : ℕ) → Reads s at n (f (d + 1)) ο r → Reads s at n (f (suc d)) ο r
+raised {s} {at} {n} {ο} {r} f d h = subst (λ (x : ℕ). Reads s at n (f x) ο r) (add-one d) h
+
+-- what a result that is known says
+pub known-ahead : (at : ℕ) {e m : ℕ} {r : Read} → r ≡ At e m → Ahead at r → at < e
+known-ahead at q h = subst (λ (x : Read). Ahead at x) q h

@@ -83,7 +83,16 @@ startAs Brace = machine.brace
 startAs Empty = machine.emptied
 startAs Nothing = machine.nothing
 
+abbrev pub StartCode : ℕ → Start → Type 0
+StartCode k Leaf = 1 ≤ k
+StartCode k Prefix = 1 ≤ k
+StartCode k Bracket = k ≡ 17
+StartCode k Brace = k ≡ 19
+StartCode k Empty = k ≡ 47
+StartCode k Nothing = Unit {0}
+
 pub record Starts (k : ℕ) (r : Start) : Type 0 where
+  pub code : StartCode k r
   pub start : (κ : Kind) → codeOf κ ≡ k → lookup starts machine.nothing κ ≡ startAs r
 
 -- operators: 1 of the lower level, 2 of the higher, 3 with a number on its right

@@ -8,31 +8,31 @@ use Rattle.form.proofs.start_of.Tie as tie
 
 returns : tie.Need-returns
 unfolding codeOf lookup is
-returns c = started 29 1 (refl, tt) (omega (arith, c .match .keys1)) (omega (arith, c .match .keys1))
+returns c = started 29 1 (refl, tt) (omega (arith, c .match .keys1)) (omega (arith, c .match .keys1)) (omega (arith, c .match .keys1))
 
 returns-2 : tie.Need-returns-2
 unfolding codeOf lookup is
-returns-2 c = started 31 1 (refl, tt) (omega (arith, c .match .keys2)) (omega (arith, c .match .keys2))
+returns-2 c = started 31 1 (refl, tt) (omega (arith, c .match .keys2)) (omega (arith, c .match .keys2)) (omega (arith, c .match .keys2))
 
 returns-3 : tie.Need-returns-3
 unfolding codeOf lookup is
-returns-3 c = started 17 1 (refl, tt) (omega (arith, c .match .keys3)) (omega (arith, c .match .keys3))
+returns-3 c = started 17 1 (refl, tt) (omega (arith, c .match .keys3)) (omega (arith, c .match .keys3)) (omega (arith, c .match .keys3))
 
 returns-4 : tie.Need-returns-4
 unfolding codeOf lookup is
-returns-4 c = started 19 1 (refl, tt) (omega (arith, c .match .keys4)) (omega (arith, c .match .keys4))
+returns-4 c = started 19 1 (refl, tt) (omega (arith, c .match .keys4)) (omega (arith, c .match .keys4)) (omega (arith, c .match .keys4))
 
 returns-5 : tie.Need-returns-5
 unfolding codeOf lookup is
-returns-5 c = started 47 1 (refl, tt) (omega (arith, c .match .keys5)) (omega (arith, c .match .keys5))
+returns-5 c = started 47 1 (refl, tt) (omega (arith, c .match .keys5)) (omega (arith, c .match .keys5)) (omega (arith, c .match .keys5))
 
 returns-6 : tie.Need-returns-6
 unfolding codeOf lookup is
-returns-6 c = started 1 5 (refl, (refl, (refl, (refl, (refl, tt))))) (omega arith) (omega arith)
+returns-6 c = started 1 5 (refl, (refl, (refl, (refl, (refl, tt))))) (omega arith) (omega arith) (omega arith)
 
 returns-7 : tie.Need-returns-7
 unfolding codeOf lookup is
-returns-7 c = started 63 2 (refl, (refl, tt)) (omega arith) (omega arith)
+returns-7 c = started 63 2 (refl, (refl, tt)) (omega arith) (omega arith) (omega arith)
 
 returns-8 : tie.Need-returns-8
 unfolding codeOf lookup is

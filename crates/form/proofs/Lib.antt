@@ -7,6 +7,13 @@ pub mod AgreeTerms
 pub mod Agree
 pub mod Split
 pub mod Table
+pub mod Classes
+pub mod Reading
+pub mod Stepping
+pub mod RangeEnds
+pub mod Alike
+pub mod RightSides
+pub mod Nodes
 pub mod Plain
 pub mod Fill
 pub mod Back

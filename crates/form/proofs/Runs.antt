@@ -13,12 +13,8 @@ use Rattle.symbols.specs.Refusals.{Refusal, noDossier}
 use Rattle.form.specs.Written.{Mark}
 use Rattle.form.specs.Form.{kindAt, settled}
 use Rattle.form.specs.Machine.{Item, Next, go, halt, step, ends, Run, complete, failed, unlessOver, onward, runFrom}
+use Rattle.form.specs.Contracts.{kindBefore}
 use Rattle.form.proofs.Takes.{feed, feedOn}
-
--- the kind of the symbol before j, where the first one stands behind k
-abbrev pub kindBefore : Kind → List Symbol → ℕ → Kind
-kindBefore k w zero = k
-kindBefore k w (suc j) = kindAt w j
 
 pub behind : (s : Symbol) (w : List Symbol) (k : Kind) (j : ℕ) → kindBefore (kindOf s) w j ≡ kindBefore k (s ∷ w) (suc j)
 unfolding kindAt

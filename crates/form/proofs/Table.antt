@@ -11,7 +11,7 @@ use Rattle.symbols.specs.Symbols.{Symbol, fixed, numeral, name, Ending, noEndin
 use Rattle.form.specs.Tree.{Letters}
 
 -- all kinds
-abbrev kinds : List Kind
+abbrev pub kinds : List Kind
 kinds =
     kind.number ∷ kind.plain ∷ kind.primed ∷ kind.input ∷ kind.output ∷ kind.colon ∷ kind.semicolon ∷ kind.comma ∷ kind.bar ∷ kind.spot
     ∷ kind.openParen ∷ kind.closeParen ∷ kind.openBracket ∷ kind.closeBracket ∷ kind.openBrace ∷ kind.closeBrace ∷ kind.upTo ∷ kind.equals
@@ -22,12 +22,12 @@ kinds =
     ∷ kind.RAN ∷ []
 
 -- the kind with the number n in a list, or a number's
-abbrev kindIn : List Kind → ℕ → Kind
+abbrev pub kindIn : List Kind → ℕ → Kind
 kindIn [] n = kind.number
 kindIn (k ∷ ks) n = elim (eqb (codeOf k) n) [ true ↦ k | false ↦ kindIn ks n ]
 
 -- a kind is told by its number
-kind-back : (k : Kind) → kindIn kinds (codeOf k) ≡ k
+pub kind-back : (k : Kind) → kindIn kinds (codeOf k) ≡ k
 unfolding codeOf
 kind-back kind.number = refl
 kind-back kind.plain = refl

@@ -137,7 +137,7 @@ fn name_of(k: u8) -> u8
 }
 
 // A symbol of the kind with the code k.
-pub fn close(s: &[u8], at: usize, k: u8, n: usize) -> Read
+fn close(s: &[u8], at: usize, k: u8, n: usize) -> Read
     requires { ⌜ at ≤ length (now s) ⌝ }
     ensures { λ r. ⌜ Closes (now (s .entry)) at k n r ⌝ }
 {
@@ -166,7 +166,7 @@ fn wide(k: u8) -> u16
 }
 
 // A node behind the first n numbers.
-pub fn put(code: &mut [u16], n: usize, shape: u16, place: usize, x: u16, y: u16) -> usize
+fn put(code: &mut [u16], n: usize, shape: u16, place: usize, x: u16, y: u16) -> usize
     requires { ⌜ (n + 4 ≤ length (now code)) × (place < 65536) ⌝ }
     ensures { λ r. ⌜ Puts (now (code .entry)) n shape place x y (now (code .exit)) r ⌝ }
 {
@@ -178,7 +178,7 @@ pub fn put(code: &mut [u16], n: usize, shape: u16, place: usize, x: u16, y: u16)
 }
 
 // A number, which may carry -.
-pub fn end(s: &[u8], at: usize, n: usize) -> Read
+fn end(s: &[u8], at: usize, n: usize) -> Read
     requires { ⌜ (at ≤ length (now s)) × (length (now s) ≤ 4096) ⌝ }
     ensures { λ r. ⌜ Advances (now (s .entry)) at n (anEnd ∷ []) [] r ⌝ }
 {
@@ -284,7 +284,7 @@ fn leaf(s: &[u8], v: &[u16], at: usize, code: &mut [u16], n: usize) -> usize
 }
 
 // a..b
-pub fn range(s: &[u8], at: usize, n: usize) -> Read
+fn range(s: &[u8], at: usize, n: usize) -> Read
     requires { ⌜ (at ≤ length (now s)) × (length (now s) ≤ 4096) ⌝ }
     ensures { λ r. ⌜ Advances (now (s .entry)) at n (anEnd ∷ exact kind.upTo ∷ anEnd ∷ []) [] r ⌝ }
 {
@@ -298,7 +298,7 @@ pub fn range(s: &[u8], at: usize, n: usize) -> Read
 }
 
 // The node of a..b.
-pub fn put_range(s: &[u8], v: &[u16], at: usize, code: &mut [u16], n: usize) -> usize
+fn put_range(s: &[u8], v: &[u16], at: usize, code: &mut [u16], n: usize) -> usize
     requires { ⌜ (n + 4 ≤ length (now code)) × (at ≤ 4096) ⌝ }
     ensures { λ r. ⌜ r ≡ n + 4 ⌝ }
 {
@@ -429,7 +429,7 @@ fn operand(s: &[u8], v: &[u16], at: usize, d: u8, b: u8, code: &mut [u16], n: us
     }
 }
 
-pub fn term(s: &[u8], v: &[u16], at: usize, d: u8, b: u8, code: &mut [u16], n: usize) -> Read
+fn term(s: &[u8], v: &[u16], at: usize, d: u8, b: u8, code: &mut [u16], n: usize) -> Read
     requires { ⌜ Room (now s) (now code) at n × (d ≤ 24) × (b ≤ 3) ⌝ }
     ensures { λ r. ⌜ Reads (now (s .entry)) at n (aTerm d b ∷ []) [] r ⌝ }
 {
@@ -623,7 +623,7 @@ fn pairs(s: &[u8], v: &[u16], at: usize, d: u8, b: u8, code: &mut [u16], n: usiz
     }
 }
 
-pub fn pred(s: &[u8], v: &[u16], at: usize, d: u8, b: u8, code: &mut [u16], n: usize) -> Read
+fn pred(s: &[u8], v: &[u16], at: usize, d: u8, b: u8, code: &mut [u16], n: usize) -> Read
     requires { ⌜ Room (now s) (now code) at n × (d ≤ 24) × (b ≤ 3) ⌝ }
     ensures { λ r. ⌜ Reads (now (s .entry)) at n (aUnary d b ∷ aPredRest d d b ∷ []) [] r ⌝ }
 {

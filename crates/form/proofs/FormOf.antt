@@ -22,7 +22,7 @@ use Rattle.form.specs.Form.{Whole, Begins, FormFault, atForm, atMark, Re
 use Rattle.form.specs.Machine.{Item, someEntries, stuck, then, act, does, Next, go, halt, step, Run, complete, failed, runFrom, run}
 use Rattle.form.specs.Parse.{form, outcomeOf}
 use Rattle.form.proofs.Takes.{initial, feed, feedOn, Fits, equal, rangeEnd, usedName, IsOpens, IsBinds, Continues}
-use Rattle.form.specs.Contracts.{kindBefore}
+use Rattle.form.specs.Machine.{kindBefore}
 use Rattle.form.proofs.Runs.{Passed, Cause, cannotTake, cannotEnd, over, Stopped, Outcome, ran}
 use Rattle.form.proofs.Split.{markAt, AtSymbol, at-symbol, at-end}
 use Rattle.form.proofs.Table.{Spelled, AllSpelled}

@@ -7,13 +7,6 @@ pub mod AgreeTerms
 pub mod Agree
 pub mod Split
 pub mod Table
-pub mod Classes
-pub mod Reading
-pub mod Stepping
-pub mod RangeEnds
-pub mod Alike
-pub mod RightSides
-pub mod Nodes
 pub mod Plain
 pub mod Fill
 pub mod Back

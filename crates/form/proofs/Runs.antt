@@ -13,7 +13,7 @@ use Rattle.symbols.specs.Refusals.{Refusal, noDossier}
 use Rattle.form.specs.Written.{Mark}
 use Rattle.form.specs.Form.{kindAt, settled}
 use Rattle.form.specs.Machine.{Item, Next, go, halt, step, ends, Run, complete, failed, unlessOver, onward, runFrom}
-use Rattle.form.specs.Contracts.{kindBefore}
+use Rattle.form.specs.Machine.{kindBefore}
 use Rattle.form.proofs.Takes.{feed, feedOn}
 
 pub behind : (s : Symbol) (w : List Symbol) (k : Kind) (j : ℕ) → kindBefore (kindOf s) w j ≡ kindBefore k (s ∷ w) (suc j)

@@ -14,7 +14,7 @@ use Rattle.form.specs.Written.{Mark, unmarked, Written, written, symbols
 use Rattle.form.specs.Form.{Whole, Begins, kindAt}
 use Rattle.form.specs.Machine.{Item, Next, go, halt, step, ends}
 use Rattle.form.proofs.Takes.{initial, feed, feedOn, Fits, symbolsIn, Agrees, AgreesOn}
-use Rattle.form.specs.Contracts.{kindBefore}
+use Rattle.form.specs.Machine.{kindBefore}
 use Rattle.form.proofs.Runs.{behind}
 use Rattle.form.proofs.Agree.{agree}
 

@@ -6,4 +6,3 @@ pub mod Parse
 pub mod Headings
 pub mod Computed
 pub mod Codes
-pub mod Contracts

@@ -2,13 +2,13 @@
 use mathlib.Core.Bool.{Bool, true, false, cond}
 use mathlib.Core.List.{List, [], _∷_, _++_}
 use mathlib.Core.Option.{Option, none, some}
-use Prim.Native.Nat.{ℕ, suc}
+use Prim.Native.Nat.{ℕ, zero, suc}
 use Rattle.symbols.specs.Kinds as kind
 use Rattle.symbols.specs.Kinds.{Kind, lookup}
 use Rattle.symbols.specs.Symbols.{Symbol, kindOf}
 use Rattle.symbols.specs.Refusals.{Refusal, noDossier}
 use Rattle.form.specs.Written.{Mark, unmarked, opens, binds, aGiven, anElement, aVariable, anInput, anOutput, anOperation}
-use Rattle.form.specs.Form.{settled}
+use Rattle.form.specs.Form.{settled, kindAt}
 
 -- d is the depth, k how many bound names are in reach, n how many came before; `aPredRest b c k` follows a predicate that began at depth b and stands at c
 pub data Item : Type 0 where
@@ -186,3 +186,8 @@ runFrom (s ∷ w) k i γ = onward (step γ (kindOf s)) (settled k (kindOf s) w) 
 
 unfoldable pub run : List Symbol → Run
 run w = runFrom w kind.END 0 (aDossier ∷ [])
+
+-- the kind of the symbol before j, where the first one stands behind k
+abbrev pub kindBefore : Kind → List Symbol → ℕ → Kind
+kindBefore k w zero = k
+kindBefore k w (suc j) = kindAt w j

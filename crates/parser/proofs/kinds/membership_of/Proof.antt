@@ -1,0 +1,22 @@
+-- `kinds::membership_of` meets its contract: each arm agrees with the table.
+use native.Mathlib.Omega.{arith}
+use Rattle.symbols.specs.Kinds.{codeOf}
+use Rattle.parser.proofs.Classes.{classed}
+use Rattle.parser.proofs.kinds.membership_of.Statement.{statement}
+use Rattle.parser.proofs.kinds.membership_of.Tie as tie
+
+returns : tie.Need-returns
+unfolding codeOf
+returns c = classed (omega arith) (omega arith) (omega arith)
+
+returns-2 : tie.Need-returns-2
+unfolding codeOf
+returns-2 c = classed (omega arith) (omega arith) (omega arith)
+
+returns-3 : tie.Need-returns-3
+unfolding codeOf
+returns-3 c = classed (omega arith) (omega arith) (omega arith)
+
+pub membership-of-spec : {M : Type 1} → statement M
+membership-of-spec =
+    tie.close (tie.spec returns returns-2 returns-3)

@@ -6,3 +6,4 @@ pub mod RangeEnds
 pub mod Alike
 pub mod RightSides
 pub mod Writing
+pub mod Standing

@@ -12,7 +12,6 @@ use Rattle.symbols.specs.Refusals.{Refusal, noDossier, deep, manyDeclared}
 use Rattle.form.specs.Form.{kindAt}
 use Rattle.form.specs.Machine as machine
 use Rattle.form.specs.Machine.{kindBefore, Item, aTermRest, aPredRest, Run, failed, runFrom, starts}
-use Rattle.form.specs.Codes.{node}
 use Rattle.parser.specs.declared.kinds.Start.{Start}
 use Rattle.parser.specs.declared.kinds.Start.the-variants.{Leaf, Prefix, Bracket, Brace, Empty, Nothing}
 use Rattle.parser.specs.declared.Read.{Read}
@@ -129,15 +128,22 @@ pub record Advances (s : List ℕ) (at n : ℕ) (ι ο : List Item) (r : Read) :
   pub reads : Reads s at n ι ο r
   pub ahead : Ahead at r
 
+-- what was read up to a place without writing
+abbrev pub Shown : (ℕ → Type 0) → ℕ → Read → Type 0
+Shown P n (At e m) = P e × (m ≡ n)
+Shown P n (Fault e f) = Unit {0}
+
 -- one symbol of the kind κ
 pub record Closes (s : List ℕ) (at k n : ℕ) (r : Read) : Type 0 where
   pub ahead : Ahead at r
+  pub shown : Shown (λ (e : ℕ). (e ≡ at + 1) × (getD s at 0 ≡ k)) n r
   pub reads : (κ : Kind) → codeOf κ ≡ k → Reads s at n (machine.exact κ ∷ []) [] r
 
--- a node behind the first n numbers
-pub record Puts (a : List ℕ) (n shape place x y : ℕ) (b : List ℕ) (r : ℕ) : Type 0 where
+-- a node behind the first n numbers, and nothing behind it changed
+pub record Writes (a : List ℕ) (n : ℕ) (x b : List ℕ) (r : ℕ) : Type 0 where
   pub count : r ≡ n + 4
-  pub nodes : take r b ≡ take n a ++ node shape place x y
+  pub nodes : take r b ≡ take n a ++ x
+  pub rest : drop r b ≡ drop r a
 
 -- at stands a range after in or notin: a number or - and a number, and ..
 pub data Ranged (s : List ℕ) (at : ℕ) : Bool → Type 0 where
@@ -181,3 +187,17 @@ pub record Quantifies (k r : ℕ) : Type 0 where
 pub record Relates (k r : ℕ) : Type 0 where
   pub classes : Classes relations k r
   pub member : r ≡ 2 → (56 ≤ k) × (k ≤ 57)
+  pub maplet : 3 ≤ r → k ≡ 32
+
+pub record Members (k r : ℕ) : Type 0 where
+  pub classes : Classes memberships k r
+  pub member : 1 ≤ r → (56 ≤ k) × (k ≤ 57)
+
+pub record Begins (k r : ℕ) : Type 0 where
+  pub classes : Classes predStarts k r
+  pub paren : 3 ≤ r → k ≡ 15
+
+pub record Named (k r : ℕ) : Type 0 where
+  pub classes : Classes names k r
+  pub name : 1 ≤ r → (2 ≤ k) × (k ≤ 5)
+  pub none : r ≡ 0 → (2 ≤ k → k ≤ 5 → ⊥)

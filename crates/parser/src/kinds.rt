@@ -1,7 +1,7 @@
 // The kinds of symbols, by their codes.
 ghost use mathlib.Core.Path.{_≡_};
 ghost use lib.ListN.{getD};
-ghost use Rattle.parser.specs.Inner.{KindAt, Classes, Starts, Quantifies, Relates, operators, connectives, predStarts, relations, memberships, quantifiers, names, levelOf};
+ghost use Rattle.parser.specs.Inner.{KindAt, Classes, Starts, Begins, Members, Named, Quantifies, Relates, operators, connectives, levelOf};
 
 // How a symbol begins a term.
 pub enum Start {
@@ -77,7 +77,7 @@ pub fn connective_of(k: u8) -> u8
 
 // What a predicate begins with: 1 a truth value, 2 `not`, 3 (, 0 a term.
 pub fn pred_start_of(k: u8) -> u8
-    ensures { λ r. ⌜ Classes predStarts k r ⌝ }
+    ensures { λ r. ⌜ Begins k r ⌝ }
 {
     match k {
         48..=49 => 1,
@@ -100,7 +100,7 @@ pub fn relation_of(k: u8) -> u8
 }
 
 pub fn membership_of(k: u8) -> u8
-    ensures { λ r. ⌜ Classes memberships k r ⌝ }
+    ensures { λ r. ⌜ Members k r ⌝ }
 {
     match k {
         56..=57 => 1,
@@ -118,7 +118,7 @@ pub fn quantifier_of(k: u8) -> u8
 }
 
 pub fn name_of(k: u8) -> u8
-    ensures { λ r. ⌜ Classes names k r ⌝ }
+    ensures { λ r. ⌜ Named k r ⌝ }
 {
     match k {
         2..=5 => 1,

@@ -9,3 +9,9 @@ pub enum Read {
     At(usize, usize),
     Fault(usize, u8),
 }
+
+// How many symbols and how many numbers of nodes a text has; or the number of its refusal, and the place.
+pub enum Parsed {
+    Structure(usize, usize),
+    Refused(u8, usize),
+}

@@ -2,9 +2,11 @@
 ghost use mathlib.Core.Path.{_≡_};
 ghost use mathlib.Core.List.{[], _∷_};
 ghost use Prim.Native.Nat.{_+_, _≤_, _<_};
-ghost use lib.ListN.{length};
+ghost use lib.ListN.{length, getD};
 ghost use Rattle.form.specs.Machine.{aName, anEmptyRest};
-ghost use Rattle.parser.specs.Inner.{Room, Puts, Reads};
+ghost use Rattle.parser.specs.Inner.{Room, Writes, Reads};
+ghost use Rattle.form.specs.Codes.{node};
+ghost use Rattle.parser.specs.Derived.{Made, anOperand, nameCode, endCode, magnitudeCode, divisionCode, leafNode, rangeNode, domainNode};
 use crate::Read;
 use crate::kinds::kind_at;
 use crate::kinds::name_of;
@@ -14,7 +16,7 @@ use crate::kinds::wide;
 // A node behind the first n numbers.
 pub fn put(code: &mut [u16], n: usize, shape: u16, place: usize, x: u16, y: u16) -> usize
     requires { ⌜ (n + 4 ≤ length (now code)) × (place < 65536) ⌝ }
-    ensures { λ r. ⌜ Puts (now (code .entry)) n shape place x y (now (code .exit)) r ⌝ }
+    ensures { λ r. ⌜ Writes (now (code .entry)) n (node shape place x y) (now (code .exit)) r ⌝ }
 {
     code[n] = y;
     code[n + 1] = x;
@@ -24,7 +26,9 @@ pub fn put(code: &mut [u16], n: usize, shape: u16, place: usize, x: u16, y: u16)
 }
 
 // The number of a name: of its letters, and its ending.
-pub fn name_number(s: &[u8], v: &[u16], at: usize) -> u16 {
+pub fn name_number(s: &[u8], v: &[u16], at: usize) -> u16
+    ensures { λ r. ⌜ r ≡ nameCode (now (s .entry)) (now (v .entry)) at ⌝ }
+{
     let k = kind_at(s, at);
     let x = value_at(v, at);
     if 4095 < x {
@@ -39,6 +43,7 @@ pub fn name_number(s: &[u8], v: &[u16], at: usize) -> u16 {
 // An end of a range, plus 1,000.
 pub fn signed(s: &[u8], v: &[u16], at: usize) -> u16
     requires { ⌜ at ≤ 4100 ⌝ }
+    ensures { λ r. ⌜ r ≡ endCode (now (s .entry)) (now (v .entry)) at ⌝ }
 {
     if kind_at(s, at) == 29 {
         let x = value_at(v, at + 1);
@@ -57,6 +62,7 @@ pub fn signed(s: &[u8], v: &[u16], at: usize) -> u16
 // A divisor's magnitude; the sign, and which of the two divisions it is.
 pub fn magnitude(s: &[u8], v: &[u16], at: usize) -> u16
     requires { ⌜ at ≤ 4100 ⌝ }
+    ensures { λ r. ⌜ r ≡ magnitudeCode (now (s .entry)) (now (v .entry)) at ⌝ }
 {
     if kind_at(s, at) == 29 {
         return value_at(v, at + 1);
@@ -66,6 +72,7 @@ pub fn magnitude(s: &[u8], v: &[u16], at: usize) -> u16
 
 pub fn division(s: &[u8], at: usize) -> u16
     requires { ⌜ at ≤ 4100 ⌝ }
+    ensures { λ r. ⌜ r ≡ divisionCode (now (s .entry)) at ⌝ }
 {
     if kind_at(s, at) == 62 {
         if kind_at(s, at + 1) == 29 {
@@ -82,7 +89,7 @@ pub fn division(s: &[u8], at: usize) -> u16
 // The node of a number or a name.
 pub fn leaf(s: &[u8], v: &[u16], at: usize, code: &mut [u16], n: usize) -> usize
     requires { ⌜ (n + 4 ≤ length (now code)) × (at < 65536) ⌝ }
-    ensures { λ r. ⌜ r ≡ n + 4 ⌝ }
+    ensures { λ r. ⌜ Writes (now (code .entry)) n (leafNode (now (s .entry)) (now (v .entry)) at) (now (code .exit)) r ⌝ }
 {
     if kind_at(s, at) == 1 {
         let x = value_at(v, at);
@@ -95,7 +102,7 @@ pub fn leaf(s: &[u8], v: &[u16], at: usize, code: &mut [u16], n: usize) -> usize
 // The node of a..b.
 pub fn put_range(s: &[u8], v: &[u16], at: usize, code: &mut [u16], n: usize) -> usize
     requires { ⌜ (n + 4 ≤ length (now code)) × (at ≤ 4096) ⌝ }
-    ensures { λ r. ⌜ r ≡ n + 4 ⌝ }
+    ensures { λ r. ⌜ Writes (now (code .entry)) n (rangeNode (now (s .entry)) (now (v .entry)) at) (now (code .exit)) r ⌝ }
 {
     let x = signed(s, v, at);
     if kind_at(s, at) == 29 {
@@ -108,7 +115,7 @@ pub fn put_range(s: &[u8], v: &[u16], at: usize, code: &mut [u16], n: usize) -> 
 
 pub fn put_domain(s: &[u8], v: &[u16], at: usize, code: &mut [u16], n: usize) -> usize
     requires { ⌜ (n + 4 ≤ length (now code)) × (at ≤ 4096) ⌝ }
-    ensures { λ r. ⌜ r ≡ n + 4 ⌝ }
+    ensures { λ r. ⌜ Writes (now (code .entry)) n (domainNode (now (s .entry)) (now (v .entry)) at) (now (code .exit)) r ⌝ }
 {
     let k = kind_at(s, at);
     if name_of(k) == 1 {
@@ -120,8 +127,8 @@ pub fn put_domain(s: &[u8], v: &[u16], at: usize, code: &mut [u16], n: usize) ->
 
 // One name or two behind an `empty`.
 pub fn empty(s: &[u8], v: &[u16], at: usize, code: &mut [u16], n: usize) -> Read
-    requires { ⌜ Room (now s) (now code) at n × (at < length (now s)) ⌝ }
-    ensures { λ r. ⌜ Reads (now (s .entry)) (at + 1) (n + 4) (aName ∷ anEmptyRest ∷ []) [] r ⌝ }
+    requires { ⌜ Room (now s) (now code) at n × (at < length (now s)) × (getD (now s) at 0 ≡ 47) ⌝ }
+    ensures { λ r. ⌜ Reads (now (s .entry)) (at + 1) (n + 4) (aName ∷ anEmptyRest ∷ []) [] r × Made (now (s .entry)) (now (v .entry)) anOperand at n (now (code .entry)) (now (code .exit)) r ⌝ }
 {
     let k = kind_at(s, at + 1);
     if name_of(k) == 0 {

@@ -4,7 +4,8 @@ ghost use Prim.Native.Nat.{_≤_, _<_};
 ghost use lib.ListN.{length};
 ghost use Rattle.symbols.specs.Kinds as kind;
 ghost use Rattle.form.specs.Machine.{exact, anEnd, aDomain};
-ghost use Rattle.parser.specs.Inner.{Closes, Reads, Advances, Ranged, RangeEnd};
+ghost use Rattle.parser.specs.Inner.{Closes, Reads, Advances, Ranged, RangeEnd, Shown};
+ghost use Rattle.parser.specs.Derived.{EndAt, RangeAt, DomainAt};
 use crate::Read;
 use crate::kinds::kind_at;
 use crate::kinds::name_of;
@@ -26,7 +27,7 @@ pub fn close(s: &[u8], at: usize, k: u8, n: usize) -> Read
 // A number, which may carry -.
 pub fn end(s: &[u8], at: usize, n: usize) -> Read
     requires { ⌜ (at ≤ length (now s)) × (length (now s) ≤ 4096) ⌝ }
-    ensures { λ r. ⌜ Advances (now (s .entry)) at n (anEnd ∷ []) [] r ⌝ }
+    ensures { λ r. ⌜ Advances (now (s .entry)) at n (anEnd ∷ []) [] r × Shown (EndAt (now (s .entry)) at) n r ⌝ }
 {
     if kind_at(s, at) == 29 {
         return close(s, at + 1, 1, n);
@@ -88,7 +89,7 @@ pub fn is_range(s: &[u8], at: usize) -> bool
 // a..b
 pub fn range(s: &[u8], at: usize, n: usize) -> Read
     requires { ⌜ (at ≤ length (now s)) × (length (now s) ≤ 4096) ⌝ }
-    ensures { λ r. ⌜ Advances (now (s .entry)) at n (anEnd ∷ exact kind.upTo ∷ anEnd ∷ []) [] r ⌝ }
+    ensures { λ r. ⌜ Advances (now (s .entry)) at n (anEnd ∷ exact kind.upTo ∷ anEnd ∷ []) [] r × Shown (RangeAt (now (s .entry)) at) n r ⌝ }
 {
     match end(s, at, n) {
         Read::At(e, m) => match close(s, e, 21, m) {
@@ -102,7 +103,7 @@ pub fn range(s: &[u8], at: usize, n: usize) -> Read
 // What a bound name ranges over.
 pub fn domain(s: &[u8], at: usize, n: usize) -> Read
     requires { ⌜ (at ≤ length (now s)) × (length (now s) ≤ 4096) ⌝ }
-    ensures { λ r. ⌜ Reads (now (s .entry)) at n (aDomain ∷ []) [] r ⌝ }
+    ensures { λ r. ⌜ Reads (now (s .entry)) at n (aDomain ∷ []) [] r × Shown (DomainAt (now (s .entry)) at) n r ⌝ }
 {
     let k = kind_at(s, at);
     if name_of(k) == 0 {

@@ -6,6 +6,7 @@ ghost use lib.ListN.{length, getD};
 ghost use Rattle.symbols.specs.Kinds as kind;
 ghost use Rattle.form.specs.Machine.{exact, aTerm, anOperand, aTermRest, aRel, aMem, aRight, aBrace, aList, aPairs, aUnary, aParen, aPredRest};
 ghost use Rattle.parser.specs.Inner.{Reads, TermReads, PredReads, Room};
+ghost use Rattle.parser.specs.Derived.{Made, anOperand, aTermFrom, aTermRest, someItems, somePairs, aPredFrom, aPredRest, aUnary, anAtom, someRelated};
 use crate::Read;
 use crate::kinds::Start;
 use crate::kinds::connective_of;
@@ -35,9 +36,9 @@ use crate::ranges::range;
 use crate::ranges::range_end;
 
 // A term that no operator stands in, but in brackets.
-pub fn operand(s: &[u8], v: &[u16], at: usize, d: u8, b: u8, code: &mut [u16], n: usize) -> Read
+fn operand(s: &[u8], v: &[u16], at: usize, d: u8, b: u8, code: &mut [u16], n: usize) -> Read
     requires { ⌜ Room (now s) (now code) at n × (d ≤ 24) × (b ≤ 3) ⌝ }
-    ensures { λ r. ⌜ Reads (now (s .entry)) at n (anOperand d b ∷ []) [] r ⌝ }
+    ensures { λ r. ⌜ Reads (now (s .entry)) at n (anOperand d b ∷ []) [] r × Made (now (s .entry)) (now (v .entry)) anOperand at n (now (code .entry)) (now (code .exit)) r ⌝ }
 {
     let k = kind_at(s, at);
     let start = start_of(k);
@@ -83,15 +84,15 @@ pub fn operand(s: &[u8], v: &[u16], at: usize, d: u8, b: u8, code: &mut [u16], n
     }
 }
 
-pub fn term(s: &[u8], v: &[u16], at: usize, d: u8, b: u8, code: &mut [u16], n: usize) -> Read
+fn term(s: &[u8], v: &[u16], at: usize, d: u8, b: u8, code: &mut [u16], n: usize) -> Read
     requires { ⌜ Room (now s) (now code) at n × (d ≤ 24) × (b ≤ 3) ⌝ }
-    ensures { λ r. ⌜ Reads (now (s .entry)) at n (aTerm d b ∷ []) [] r ⌝ }
+    ensures { λ r. ⌜ Reads (now (s .entry)) at n (aTerm d b ∷ []) [] r × Made (now (s .entry)) (now (v .entry)) (aTermFrom 1) at n (now (code .entry)) (now (code .exit)) r ⌝ }
 {
     term_from(s, v, at, d, b, 1, code, n)
 }
 
 // A term with operators of the level min and higher ones.
-pub fn term_from(
+fn term_from(
     s: &[u8],
     v: &[u16],
     at: usize,
@@ -102,7 +103,7 @@ pub fn term_from(
     n: usize,
 ) -> Read
     requires { ⌜ Room (now s) (now code) at n × (d ≤ 24) × (b ≤ 3) × (1 ≤ min) × (min ≤ 10) ⌝ }
-    ensures { λ r. ⌜ TermReads (now (s .entry)) at n d b min (aTerm d b ∷ []) r ⌝ }
+    ensures { λ r. ⌜ TermReads (now (s .entry)) at n d b min (aTerm d b ∷ []) r × Made (now (s .entry)) (now (v .entry)) (aTermFrom min) at n (now (code .entry)) (now (code .exit)) r ⌝ }
 {
     match operand(s, v, at, d, b, code, n) {
         Read::At(e, m) => term_rest(s, v, e, d, b, min, code, m),
@@ -111,7 +112,7 @@ pub fn term_from(
 }
 
 // Operators behind a term, and their right sides.
-pub fn term_rest(
+fn term_rest(
     s: &[u8],
     v: &[u16],
     at: usize,
@@ -122,7 +123,7 @@ pub fn term_rest(
     n: usize,
 ) -> Read
     requires { ⌜ Room (now s) (now code) at n × (d ≤ 24) × (b ≤ 3) × (1 ≤ min) × (min ≤ 10) ⌝ }
-    ensures { λ r. ⌜ TermReads (now (s .entry)) at n d b min (aTermRest d b ∷ []) r ⌝ }
+    ensures { λ r. ⌜ TermReads (now (s .entry)) at n d b min (aTermRest d b ∷ []) r × Made (now (s .entry)) (now (v .entry)) (aTermRest min) at n (now (code .entry)) (now (code .exit)) r ⌝ }
 {
     let k = kind_at(s, at);
     let o = operator_of(k);
@@ -150,9 +151,9 @@ pub fn term_rest(
 }
 
 // Behind the { at a place.
-pub fn brace(s: &[u8], v: &[u16], at: usize, d: u8, b: u8, code: &mut [u16], n: usize) -> Read
+fn brace(s: &[u8], v: &[u16], at: usize, d: u8, b: u8, code: &mut [u16], n: usize) -> Read
     requires { ⌜ Room (now s) (now code) at n × (d ≤ 24) × (b ≤ 3) × (at < length (now s)) × (getD (now s) at 0 ≡ 19) ⌝ }
-    ensures { λ r. ⌜ Reads (now (s .entry)) (at + 1) (n + 4) (aBrace d b ∷ []) [] r ⌝ }
+    ensures { λ r. ⌜ Reads (now (s .entry)) (at + 1) (n + 4) (aBrace d b ∷ []) [] r × Made (now (s .entry)) (now (v .entry)) anOperand at n (now (code .entry)) (now (code .exit)) r ⌝ }
 {
     if kind_at(s, at + 1) == 2 {
         if kind_at(s, at + 1 + 1) == 10 {
@@ -164,9 +165,9 @@ pub fn brace(s: &[u8], v: &[u16], at: usize, d: u8, b: u8, code: &mut [u16], n: 
 }
 
 // {t, ..} or {t |-> t, ..}.
-pub fn listed(s: &[u8], v: &[u16], at: usize, d: u8, b: u8, code: &mut [u16], n: usize) -> Read
+fn listed(s: &[u8], v: &[u16], at: usize, d: u8, b: u8, code: &mut [u16], n: usize) -> Read
     requires { ⌜ Room (now s) (now code) at n × (d ≤ 24) × (b ≤ 3) × (at < length (now s)) × (getD (now s) at 0 ≡ 19) × (getD (now s) (at + 1) 0 ≡ 2 → getD (now s) (at + 1 + 1) 0 ≡ 10 → ⊥) ⌝ }
-    ensures { λ r. ⌜ Reads (now (s .entry)) (at + 1) (n + 4) (aBrace d b ∷ []) [] r ⌝ }
+    ensures { λ r. ⌜ Reads (now (s .entry)) (at + 1) (n + 4) (aBrace d b ∷ []) [] r × Made (now (s .entry)) (now (v .entry)) anOperand at n (now (code .entry)) (now (code .exit)) r ⌝ }
 {
     match term(s, v, at + 1, d, b, code, n) {
         Read::At(e, m) => {
@@ -192,9 +193,9 @@ pub fn listed(s: &[u8], v: &[u16], at: usize, d: u8, b: u8, code: &mut [u16], n:
 }
 
 // {x : G | p}.
-pub fn such(s: &[u8], v: &[u16], at: usize, d: u8, b: u8, code: &mut [u16], n: usize) -> Read
-    requires { ⌜ Room (now s) (now code) at n × (d ≤ 24) × (b ≤ 3) × (at < length (now s)) × (getD (now s) (at + 1) 0 ≡ 2) × (getD (now s) (at + 1 + 1) 0 ≡ 10) ⌝ }
-    ensures { λ r. ⌜ Reads (now (s .entry)) (at + 1) (n + 4) (aBrace d b ∷ []) [] r ⌝ }
+fn such(s: &[u8], v: &[u16], at: usize, d: u8, b: u8, code: &mut [u16], n: usize) -> Read
+    requires { ⌜ Room (now s) (now code) at n × (d ≤ 24) × (b ≤ 3) × (at < length (now s)) × (getD (now s) at 0 ≡ 19) × (getD (now s) (at + 1) 0 ≡ 2) × (getD (now s) (at + 1 + 1) 0 ≡ 10) ⌝ }
+    ensures { λ r. ⌜ Reads (now (s .entry)) (at + 1) (n + 4) (aBrace d b ∷ []) [] r × Made (now (s .entry)) (now (v .entry)) anOperand at n (now (code .entry)) (now (code .exit)) r ⌝ }
 {
     if 3 <= b {
         return Read::Fault(at + 1, 5);
@@ -220,9 +221,9 @@ pub fn such(s: &[u8], v: &[u16], at: usize, d: u8, b: u8, code: &mut [u16], n: u
 }
 
 // Behind the first term of {t, ..}.
-pub fn items(s: &[u8], v: &[u16], at: usize, d: u8, b: u8, code: &mut [u16], n: usize) -> Read
+fn items(s: &[u8], v: &[u16], at: usize, d: u8, b: u8, code: &mut [u16], n: usize) -> Read
     requires { ⌜ Room (now s) (now code) at n × (d ≤ 24) × (b ≤ 3) ⌝ }
-    ensures { λ r. ⌜ Reads (now (s .entry)) at n (aList d b ∷ []) [] r ⌝ }
+    ensures { λ r. ⌜ Reads (now (s .entry)) at n (aList d b ∷ []) [] r × Made (now (s .entry)) (now (v .entry)) someItems at n (now (code .entry)) (now (code .exit)) r ⌝ }
 {
     let k = kind_at(s, at);
     if k == 20 {
@@ -245,9 +246,9 @@ pub fn items(s: &[u8], v: &[u16], at: usize, d: u8, b: u8, code: &mut [u16], n: 
 }
 
 // Behind the first side of {t |-> t, ..}.
-pub fn pairs(s: &[u8], v: &[u16], at: usize, d: u8, b: u8, code: &mut [u16], n: usize) -> Read
+fn pairs(s: &[u8], v: &[u16], at: usize, d: u8, b: u8, code: &mut [u16], n: usize) -> Read
     requires { ⌜ Room (now s) (now code) at n × (d ≤ 24) × (b ≤ 3) ⌝ }
-    ensures { λ r. ⌜ Reads (now (s .entry)) at n (exact kind.maplet ∷ aTerm d b ∷ aPairs d b ∷ []) [] r ⌝ }
+    ensures { λ r. ⌜ Reads (now (s .entry)) at n (exact kind.maplet ∷ aTerm d b ∷ aPairs d b ∷ []) [] r × Made (now (s .entry)) (now (v .entry)) somePairs at n (now (code .entry)) (now (code .exit)) r ⌝ }
 {
     match close(s, at, 32, n) {
         Read::At(a, z) => match term(s, v, a, d, b, code, n) {
@@ -279,13 +280,13 @@ pub fn pairs(s: &[u8], v: &[u16], at: usize, d: u8, b: u8, code: &mut [u16], n: 
 
 pub fn pred(s: &[u8], v: &[u16], at: usize, d: u8, b: u8, code: &mut [u16], n: usize) -> Read
     requires { ⌜ Room (now s) (now code) at n × (d ≤ 24) × (b ≤ 3) ⌝ }
-    ensures { λ r. ⌜ Reads (now (s .entry)) at n (aUnary d b ∷ aPredRest d d b ∷ []) [] r ⌝ }
+    ensures { λ r. ⌜ Reads (now (s .entry)) at n (aUnary d b ∷ aPredRest d d b ∷ []) [] r × Made (now (s .entry)) (now (v .entry)) (aPredFrom 1) at n (now (code .entry)) (now (code .exit)) r ⌝ }
 {
     pred_from(s, v, at, d, b, 1, code, n)
 }
 
 // A predicate with connectives of the level min and higher ones.
-pub fn pred_from(
+fn pred_from(
     s: &[u8],
     v: &[u16],
     at: usize,
@@ -296,7 +297,7 @@ pub fn pred_from(
     n: usize,
 ) -> Read
     requires { ⌜ Room (now s) (now code) at n × (d ≤ 24) × (b ≤ 3) × (1 ≤ min) × (min ≤ 10) ⌝ }
-    ensures { λ r. ⌜ PredReads (now (s .entry)) at n d b min (aUnary d b ∷ []) r ⌝ }
+    ensures { λ r. ⌜ PredReads (now (s .entry)) at n d b min (aUnary d b ∷ []) r × Made (now (s .entry)) (now (v .entry)) (aPredFrom min) at n (now (code .entry)) (now (code .exit)) r ⌝ }
 {
     match unary(s, v, at, d, b, code, n) {
         Read::At(e, m) => pred_rest(s, v, e, d, b, min, code, m),
@@ -305,7 +306,7 @@ pub fn pred_from(
 }
 
 // Connectives behind a predicate, and their right sides.
-pub fn pred_rest(
+fn pred_rest(
     s: &[u8],
     v: &[u16],
     at: usize,
@@ -316,7 +317,7 @@ pub fn pred_rest(
     n: usize,
 ) -> Read
     requires { ⌜ Room (now s) (now code) at n × (d ≤ 24) × (b ≤ 3) × (1 ≤ min) × (min ≤ 10) ⌝ }
-    ensures { λ r. ⌜ PredReads (now (s .entry)) at n d b min [] r ⌝ }
+    ensures { λ r. ⌜ PredReads (now (s .entry)) at n d b min [] r × Made (now (s .entry)) (now (v .entry)) (aPredRest min) at n (now (code .entry)) (now (code .exit)) r ⌝ }
 {
     let k = kind_at(s, at);
     let l = connective_of(k);
@@ -345,9 +346,9 @@ pub fn pred_rest(
 }
 
 // A predicate that no connective stands in, but in parentheses.
-pub fn unary(s: &[u8], v: &[u16], at: usize, d: u8, b: u8, code: &mut [u16], n: usize) -> Read
+fn unary(s: &[u8], v: &[u16], at: usize, d: u8, b: u8, code: &mut [u16], n: usize) -> Read
     requires { ⌜ Room (now s) (now code) at n × (d ≤ 24) × (b ≤ 3) ⌝ }
-    ensures { λ r. ⌜ Reads (now (s .entry)) at n (aUnary d b ∷ []) [] r ⌝ }
+    ensures { λ r. ⌜ Reads (now (s .entry)) at n (aUnary d b ∷ []) [] r × Made (now (s .entry)) (now (v .entry)) aUnary at n (now (code .entry)) (now (code .exit)) r ⌝ }
 {
     let k = kind_at(s, at);
     let c = pred_start_of(k);
@@ -380,9 +381,9 @@ pub fn unary(s: &[u8], v: &[u16], at: usize, d: u8, b: u8, code: &mut [u16], n: 
 }
 
 // Behind the ( at a place.
-pub fn paren(s: &[u8], v: &[u16], at: usize, d: u8, b: u8, code: &mut [u16], n: usize) -> Read
-    requires { ⌜ Room (now s) (now code) at n × (d ≤ 24) × (b ≤ 3) × (at < length (now s)) ⌝ }
-    ensures { λ r. ⌜ Reads (now (s .entry)) (at + 1) (n + 4) (aParen d b ∷ []) [] r ⌝ }
+fn paren(s: &[u8], v: &[u16], at: usize, d: u8, b: u8, code: &mut [u16], n: usize) -> Read
+    requires { ⌜ Room (now s) (now code) at n × (d ≤ 24) × (b ≤ 3) × (at < length (now s)) × (getD (now s) at 0 ≡ 15) ⌝ }
+    ensures { λ r. ⌜ Reads (now (s .entry)) (at + 1) (n + 4) (aParen d b ∷ []) [] r × Made (now (s .entry)) (now (v .entry)) aUnary at n (now (code .entry)) (now (code .exit)) r ⌝ }
 {
     let k = kind_at(s, at + 1);
     let c = quantifier_of(k);
@@ -396,9 +397,9 @@ pub fn paren(s: &[u8], v: &[u16], at: usize, d: u8, b: u8, code: &mut [u16], n: 
 }
 
 // Behind ( and a quantifier.
-pub fn quantified(s: &[u8], v: &[u16], at: usize, d: u8, b: u8, code: &mut [u16], n: usize) -> Read
-    requires { ⌜ Room (now s) (now code) at n × (d ≤ 24) × (b ≤ 3) × (at + 1 < length (now s)) × (53 ≤ getD (now s) (at + 1) 0) × (getD (now s) (at + 1) 0 ≤ 55) ⌝ }
-    ensures { λ r. ⌜ Reads (now (s .entry)) (at + 1) (n + 4) (aParen d b ∷ []) [] r ⌝ }
+fn quantified(s: &[u8], v: &[u16], at: usize, d: u8, b: u8, code: &mut [u16], n: usize) -> Read
+    requires { ⌜ Room (now s) (now code) at n × (d ≤ 24) × (b ≤ 3) × (at + 1 < length (now s)) × (53 ≤ getD (now s) (at + 1) 0) × (getD (now s) (at + 1) 0 ≤ 55) × (getD (now s) at 0 ≡ 15) ⌝ }
+    ensures { λ r. ⌜ Reads (now (s .entry)) (at + 1) (n + 4) (aParen d b ∷ []) [] r × Made (now (s .entry)) (now (v .entry)) aUnary at n (now (code .entry)) (now (code .exit)) r ⌝ }
 {
     let x = at + 1 + 1;
     if kind_at(s, x) == 2 {
@@ -429,9 +430,9 @@ pub fn quantified(s: &[u8], v: &[u16], at: usize, d: u8, b: u8, code: &mut [u16]
 }
 
 // What stands behind the first term of a predicate.
-pub fn atom(s: &[u8], v: &[u16], at: usize, d: u8, b: u8, code: &mut [u16], n: usize) -> Read
+fn atom(s: &[u8], v: &[u16], at: usize, d: u8, b: u8, code: &mut [u16], n: usize) -> Read
     requires { ⌜ Room (now s) (now code) at n × (d ≤ 24) × (b ≤ 3) ⌝ }
-    ensures { λ r. ⌜ Reads (now (s .entry)) at n (aRel d b ∷ []) [] r ⌝ }
+    ensures { λ r. ⌜ Reads (now (s .entry)) at n (aRel d b ∷ []) [] r × Made (now (s .entry)) (now (v .entry)) anAtom at n (now (code .entry)) (now (code .exit)) r ⌝ }
 {
     let k = kind_at(s, at);
     let c = relation_of(k);
@@ -457,9 +458,9 @@ pub fn atom(s: &[u8], v: &[u16], at: usize, d: u8, b: u8, code: &mut [u16], n: u
 }
 
 // Behind `in` or `notin`.
-pub fn member(s: &[u8], v: &[u16], at: usize, d: u8, b: u8, code: &mut [u16], n: usize) -> Read
+fn member(s: &[u8], v: &[u16], at: usize, d: u8, b: u8, code: &mut [u16], n: usize) -> Read
     requires { ⌜ Room (now s) (now code) at n × (d ≤ 24) × (b ≤ 3) × (at < length (now s)) × (56 ≤ getD (now s) at 0) × (getD (now s) at 0 ≤ 57) ⌝ }
-    ensures { λ r. ⌜ Reads (now (s .entry)) (at + 1) (n + 4) (aRight d b ∷ []) [] r ⌝ }
+    ensures { λ r. ⌜ Reads (now (s .entry)) (at + 1) (n + 4) (aRight d b ∷ []) [] r × Made (now (s .entry)) (now (v .entry)) anAtom at n (now (code .entry)) (now (code .exit)) r ⌝ }
 {
     let k = kind_at(s, at);
     if is_range(s, at + 1) {
@@ -482,9 +483,9 @@ pub fn member(s: &[u8], v: &[u16], at: usize, d: u8, b: u8, code: &mut [u16], n:
 }
 
 // Behind t |-> t.
-pub fn related(s: &[u8], v: &[u16], at: usize, d: u8, b: u8, code: &mut [u16], n: usize) -> Read
+fn related(s: &[u8], v: &[u16], at: usize, d: u8, b: u8, code: &mut [u16], n: usize) -> Read
     requires { ⌜ Room (now s) (now code) at n × (d ≤ 24) × (b ≤ 3) ⌝ }
-    ensures { λ r. ⌜ Reads (now (s .entry)) at n (aMem d b ∷ []) [] r ⌝ }
+    ensures { λ r. ⌜ Reads (now (s .entry)) at n (aMem d b ∷ []) [] r × Made (now (s .entry)) (now (v .entry)) someRelated at n (now (code .entry)) (now (code .exit)) r ⌝ }
 {
     let k = kind_at(s, at);
     let c = membership_of(k);

@@ -2,8 +2,7 @@
 use mathlib.Core.List.{List, map}
 use mathlib.Core.Option.{Option, none, some}
 use Prim.Native.Nat.{ℕ}
-use lib.ListN.{length, getD}
-use Rattle.symbols.specs.Symbols.{Placed, scan, symbols, lengthFaults, scanFaults}
+use Rattle.symbols.specs.Symbols.{Placed, scan, symbols, placeAt, lengthFaults, scanFaults}
 use Rattle.symbols.specs.Refusals.{Fault, fault, least}
 use Rattle.form.specs.Tree.{Dossier}
 use Rattle.form.specs.Form.{Outcome, refused, formed}
@@ -15,10 +14,6 @@ use Rattle.reader.specs.Limits.{bindingFaults, sizeFaults}
 pub data Reading : Type 0 where
   refusal : Fault → Reading
   reading : Dossier → Reading
-
--- "P the byte offset": the first byte of the symbol i; the text's end, its length
-unfoldable pub placeAt : List ℕ → ℕ → ℕ
-placeAt text i = getD (map (λ (x : Placed). x .place) (symbols (scan text))) i (length text)
 
 -- "The first pass with a fault decides, then the least place, then the least number."; the faults of a pass over symbols by their numbers
 abbrev pub pass : Option Fault → Reading → Reading

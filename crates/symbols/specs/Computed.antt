@@ -12,5 +12,5 @@ unfolding
     base.dossierOf base.base kinds.codeOf kinds.is kinds.lookup lists.bytes lists.same lists.begins lists.all lists.any lists.count lists.filter
     lists.find lists.concat lists.upward refusals.numberOf refusals.before refusals.lesser refusals.least refusals.unless symbols.between symbols.classOf
     symbols.run symbols.decimalFrom symbols.isNumber symbols.numberFound symbols.reserved symbols.endingOf symbols.wordOf symbols.longest symbols.byClass
-    symbols.symbolAt symbols.scanFrom symbols.scan symbols.symbols symbols.lengthFaults symbols.scanFaults
+    symbols.symbolAt symbols.scanFrom symbols.scan symbols.symbols symbols.placeAt symbols.lengthFaults symbols.scanFaults
 computeScan text = symbols.scan text

@@ -1,6 +1,6 @@
 -- Document 01, "Symbols": bytes to symbols, and numbers 1, 2 and 3.
 use mathlib.Core.Bool.{Bool, true, false, not, _&&_, _||_, cond}
-use mathlib.Core.List.{List, [], _∷_, _++_}
+use mathlib.Core.List.{List, [], _∷_, _++_, map}
 use mathlib.Core.Option.{Option, none, some}
 use Prim.Native.Nat.{ℕ, zero, suc, pred, _+_, _-_, _*_}
 use Prim.Native.String.{String}
@@ -159,6 +159,10 @@ unfoldable pub symbols : Scan → List Placed
 symbols done = []
 symbols (stopped p) = []
 symbols (next x s) = x ∷ symbols s
+
+-- "P the byte offset": the first byte of the symbol i; the text's end, its length
+unfoldable pub placeAt : List ℕ → ℕ → ℕ
+placeAt text i = getD (map (λ (x : Placed). x .place) (symbols (scan text))) i (length text)
 
 -- 1. "Text over 32,768 bytes; place 32,768."
 unfoldable pub lengthFaults : List ℕ → List Fault

@@ -7,3 +7,4 @@ pub mod Alike
 pub mod RightSides
 pub mod Writing
 pub mod Standing
+pub mod Making

@@ -17,9 +17,12 @@ use Rattle.parser.proofs.RangeEnds.{open-well, open-deep, range-well, o
 use Rattle.parser.proofs.Stepping.{name-step, name-taken, rel-step, mem-step, unary-step, pred-rest-step}
 use Rattle.parser.proofs.Alike.{operand-step, as-operand, as-term, as-pred, quantifier-step, as-list, list-stops, pairs-stop, whole-term, whole-pred, known-level, below-level, level-positive, rest-division, rest-binary, rest-connective, rest-depth, paren-opens, rel-pair, mem-some, quantifier-code, declared-stops, known-code}
 use Rattle.parser.proofs.RightSides.{inside, as-listed, right-term, right-range}
+use Rattle.parser.specs.Derived.{EndAt, RangeAt, DomainAt}
+use Rattle.parser.proofs.Making.{both, wrote, node-of, made, built, makes, nothing, onward, closing, from, ranging, closed, showing, start-at, class-at, number-start, named-at, membership-at, level-class, level-two}
 use Rattle.parser.proofs.trees.+atom+brace+items+listed+member+operand+pairs+paren+pred+pred_from+pred_rest+quantified+related+such+term+term_from+term_rest+unary.{statement}
 use Rattle.parser.proofs.trees.+atom+brace+items+listed+member+operand+pairs+paren+pred+pred_from+pred_rest+quantified+related+such+term+term_from+term_rest+unary.Tie.{close}
 use Rattle.symbols.specs.Kinds as kind
+use Rattle.parser.specs.Derived as derived
 use Rattle.parser.proofs.trees.atom.Reads as atom
 use Rattle.parser.proofs.trees.atom.Kinds as atom-kinds
 use Rattle.parser.proofs.trees.+atom+brace+items+listed+member+operand+pairs+paren+pred+pred_from+pred_rest+quantified+related+such+term+term_from+term_rest+unary.Lts-atom as atom-lts
@@ -325,7 +328,7 @@ atom-relation-of-requires t c κs = search needs
 
 atom-returns : (t : ℕ) → atom-lts.Need-returns (atom-claims t) (atom-at t) atom.Post
 unfolding computeForm
-atom-returns t c = stops (omega arith) (λ κ e γ. rel-step (c .before .before .before .before .before .before .args .d) (c .before .before .before .before .before .before .args .b) κ γ ((c .before .relation-of .ensures .classes .class κ (e ∙ sym (c .before .before .kind-at .ensures .is))) ∙ c .if1 .taken)) (λ γ. refl)
+atom-returns t c = (stops (omega arith) (λ κ e γ. rel-step (c .before .before .before .before .before .before .args .d) (c .before .before .before .before .before .before .args .b) κ γ ((c .before .relation-of .ensures .classes .class κ (e ∙ sym (c .before .before .kind-at .ensures .is))) ∙ c .if1 .taken)) (λ γ. refl), tt)
 
 atom-member-requires : (t : ℕ) → atom-lts.Need-member-requires (atom-claims t) (atom-at t) atom.Post
 atom-member-requires t c κs = let room = c .before .before .before .before .before .before .before .before .pre .1 .0 in let i = c .before .before .before .relation-of .ensures .member (c .before .if2 .taken) in let k = (c .before .before .before .before .kind-at .ensures .is) in search needs
@@ -335,7 +338,7 @@ atom-same-length t c = search needs
 
 atom-returns-2 : (t : ℕ) → atom-lts.Need-returns-2 (atom-claims t) (atom-at t) atom.Post
 unfolding computeForm
-atom-returns-2 t c = takes {μ = aRight (c .before .before .before .before .before .before .before .before .before .before .before .args .d) (c .before .before .before .before .before .before .before .before .before .before .before .args .b) ∷ []} (omega arith) (λ κ e γ. rel-step (c .before .before .before .before .before .before .before .before .before .before .before .args .d) (c .before .before .before .before .before .before .before .before .before .before .before .args .b) κ γ ((c .before .before .before .before .before .before .relation-of .ensures .classes .class κ (e ∙ sym (c .before .before .before .before .before .before .before .kind-at .ensures .is))) ∙ c .before .before .before .before .if2 .taken)) (c .before .before .member .ensures) (omega arith)
+atom-returns-2 t c = (takes {μ = aRight (c .before .before .before .before .before .before .before .before .before .before .before .args .d) (c .before .before .before .before .before .before .before .before .before .before .before .args .b) ∷ []} (omega arith) (λ κ e γ. rel-step (c .before .before .before .before .before .before .before .before .before .before .before .args .d) (c .before .before .before .before .before .before .before .before .before .before .before .args .b) κ γ ((c .before .before .before .before .before .before .relation-of .ensures .classes .class κ (e ∙ sym (c .before .before .before .before .before .before .before .kind-at .ensures .is))) ∙ c .before .before .before .before .if2 .taken)) (c .before .before .member .ensures .0) (omega arith), c .before .before .member .ensures .1)
 
 atom-add-term : (t : ℕ) → atom-lts.Need-add-term (atom-claims t) (atom-at t) atom.Post
 atom-add-term t c = search needs
@@ -350,7 +353,7 @@ atom-wide-requires : (t : ℕ) → atom-lts.Need-wide-requires (atom-claims t) (
 atom-wide-requires t c κs = search needs
 
 atom-put-requires : (t : ℕ) → atom-lts.Need-put-requires (atom-claims t) (atom-at t) atom.Post
-atom-put-requires t c κs = let room = c .before .before .before .before .before .before .before .before .before .before .before .before .before .before .before .before .before .pre .1 .0 in let h = (known (c .before .before .before .e .given .1) (c .before .before .before .before .before .before .before .term .ensures)) in search needs
+atom-put-requires t c κs = let room = c .before .before .before .before .before .before .before .before .before .before .before .before .before .before .before .before .before .pre .1 .0 in let h = (known (c .before .before .before .e .given .1) (c .before .before .before .before .before .before .before .term .ensures .0)) in search needs
 
 atom-enum-known-p : (t : ℕ) → atom-lts.Need-enum-known-p (atom-claims t) (atom-at t) atom.Post
 atom-enum-known-p t c = search needs
@@ -360,14 +363,14 @@ atom-same-length-2 t c = search needs
 
 atom-returns-3 : (t : ℕ) → atom-lts.Need-returns-3 (atom-claims t) (atom-at t) atom.Post
 unfolding computeForm
-atom-returns-3 t c = let h = (known (c .before .before .before .before .before .before .e .given .1) (c .before .before .before .before .before .before .before .before .before .before .term .ensures)) in takes {μ = aTerm (c .before .before .before .before .before .before .before .before .before .before .before .before .before .before .before .before .before .before .before .before .args .d) (c .before .before .before .before .before .before .before .before .before .before .before .before .before .before .before .before .before .before .before .before .args .b) ∷ []} {m = (c .before .before .before .before .before .before .before .before .before .before .before .before .before .before .before .before .before .before .before .before .args .n) + 4} (omega arith) (λ κ e γ. rel-step (c .before .before .before .before .before .before .before .before .before .before .before .before .before .before .before .before .before .before .before .before .args .d) (c .before .before .before .before .before .before .before .before .before .before .before .before .before .before .before .before .before .before .before .before .args .b) κ γ ((c .before .before .before .before .before .before .before .before .before .before .before .before .before .before .before .relation-of .ensures .classes .class κ (e ∙ sym (c .before .before .before .before .before .before .before .before .before .before .before .before .before .before .before .before .kind-at .ensures .is))) ∙ c .before .before .before .before .before .before .before .before .before .before .before .before .if3 .taken)) (counted (omega arith) h) (omega arith)
+atom-returns-3 t c = (let h = (known (c .before .before .before .before .before .before .e .given .1) (c .before .before .before .before .before .before .before .before .before .before .term .ensures .0)) in takes {μ = aTerm (c .before .before .before .before .before .before .before .before .before .before .before .before .before .before .before .before .before .before .before .before .args .d) (c .before .before .before .before .before .before .before .before .before .before .before .before .before .before .before .before .before .before .before .before .args .b) ∷ []} {m = (c .before .before .before .before .before .before .before .before .before .before .before .before .before .before .before .before .before .before .before .before .args .n) + 4} (omega arith) (λ κ e γ. rel-step (c .before .before .before .before .before .before .before .before .before .before .before .before .before .before .before .before .before .before .before .before .args .d) (c .before .before .before .before .before .before .before .before .before .before .before .before .before .before .before .before .before .before .before .before .args .b) κ γ ((c .before .before .before .before .before .before .before .before .before .before .before .before .before .before .before .relation-of .ensures .classes .class κ (e ∙ sym (c .before .before .before .before .before .before .before .before .before .before .before .before .before .before .before .before .kind-at .ensures .is))) ∙ c .before .before .before .before .before .before .before .before .before .before .before .before .if3 .taken)) (counted (omega arith) h) (omega arith), let w₁ = (made (c .before .before .before .before .before .before .e .given .1) (c .before .before .before .before .before .before .before .before .before .before .term .ensures .1)) in makes (both (built w₁) (node-of (c .before .before .before .wide .ensures ∙ (c .before .before .before .before .before .before .before .before .before .before .before .before .before .before .before .before .kind-at .ensures .is)) refl (c .before .before .put .ensures))) (derived.compared (class-at (c .before .before .before .before .before .before .before .before .before .before .before .before .before .before .before .before .kind-at .ensures .is) (c .before .before .before .before .before .before .before .before .before .before .before .before .if3 .taken) (c .before .before .before .before .before .before .before .before .before .before .before .before .before .before .before .relation-of .ensures .classes)) (w₁ .derives)))
 
 atom-same-length-3 : (t : ℕ) → atom-lts.Need-same-length-3 (atom-claims t) (atom-at t) atom.Post
 atom-same-length-3 t c = search needs
 
 atom-returns-4 : (t : ℕ) → atom-lts.Need-returns-4 (atom-claims t) (atom-at t) atom.Post
 unfolding computeForm
-atom-returns-4 t c = takes {μ = aTerm (c .before .before .before .before .before .before .before .before .before .before .before .before .before .before .before .args .d) (c .before .before .before .before .before .before .before .before .before .before .before .before .before .before .before .args .b) ∷ []} {m = (c .before .before .before .before .before .before .before .before .before .before .before .before .before .before .before .args .n)} (omega arith) (λ κ e γ. rel-step (c .before .before .before .before .before .before .before .before .before .before .before .before .before .before .before .args .d) (c .before .before .before .before .before .before .before .before .before .before .before .before .before .before .before .args .b) κ γ ((c .before .before .before .before .before .before .before .before .before .before .relation-of .ensures .classes .class κ (e ∙ sym (c .before .before .before .before .before .before .before .before .before .before .before .kind-at .ensures .is))) ∙ c .before .before .before .before .before .before .before .if3 .taken)) (fails (known (c .before .p .given .1) (c .before .before .before .before .before .term .ensures))) (omega arith)
+atom-returns-4 t c = (takes {μ = aTerm (c .before .before .before .before .before .before .before .before .before .before .before .before .before .before .before .args .d) (c .before .before .before .before .before .before .before .before .before .before .before .before .before .before .before .args .b) ∷ []} {m = (c .before .before .before .before .before .before .before .before .before .before .before .before .before .before .before .args .n)} (omega arith) (λ κ e γ. rel-step (c .before .before .before .before .before .before .before .before .before .before .before .before .before .before .before .args .d) (c .before .before .before .before .before .before .before .before .before .before .before .before .before .before .before .args .b) κ γ ((c .before .before .before .before .before .before .before .before .before .before .relation-of .ensures .classes .class κ (e ∙ sym (c .before .before .before .before .before .before .before .before .before .before .before .kind-at .ensures .is))) ∙ c .before .before .before .before .before .before .before .if3 .taken)) (fails (known (c .before .p .given .1) (c .before .before .before .before .before .term .ensures .0))) (omega arith), tt)
 
 atom-add-term-2 : (t : ℕ) → atom-lts.Need-add-term-2 (atom-claims t) (atom-at t) atom.Post
 atom-add-term-2 t c = search needs
@@ -379,7 +382,7 @@ atom-enum-known-e-2 : (t : ℕ) → atom-lts.Need-enum-known-e-2 (atom-claims t)
 atom-enum-known-e-2 t c = search needs
 
 atom-related-requires : (t : ℕ) → atom-lts.Need-related-requires (atom-claims t) (atom-at t) atom.Post
-atom-related-requires t c κs = let room = c .before .before .before .before .before .before .before .before .before .before .before .before .before .before .before .before .pre .1 .0 in let h = (known (c .before .before .e2 .given .1) (c .before .before .before .before .before .before .term2 .ensures)) in search needs
+atom-related-requires t c κs = let room = c .before .before .before .before .before .before .before .before .before .before .before .before .before .before .before .before .pre .1 .0 in let h = (known (c .before .before .e2 .given .1) (c .before .before .before .before .before .before .term2 .ensures .0)) in search needs
 
 atom-enum-known-p-2 : (t : ℕ) → atom-lts.Need-enum-known-p-2 (atom-claims t) (atom-at t) atom.Post
 atom-enum-known-p-2 t c = search needs
@@ -389,14 +392,14 @@ atom-same-length-4 t c = search needs
 
 atom-returns-5 : (t : ℕ) → atom-lts.Need-returns-5 (atom-claims t) (atom-at t) atom.Post
 unfolding computeForm
-atom-returns-5 t c = takes {μ = aTerm (c .before .before .before .before .before .before .before .before .before .before .before .before .before .before .before .before .before .before .before .args .d) (c .before .before .before .before .before .before .before .before .before .before .before .before .before .before .before .before .before .before .before .args .b) ∷ aMem (c .before .before .before .before .before .before .before .before .before .before .before .before .before .before .before .before .before .before .before .args .d) (c .before .before .before .before .before .before .before .before .before .before .before .before .before .before .before .before .before .before .before .args .b) ∷ []} {m = (c .before .before .before .before .before .before .before .before .before .before .before .before .before .before .before .before .before .before .before .args .n)} (omega arith) (λ κ e γ. rel-pair (c .before .before .before .before .before .before .before .before .before .before .before .before .before .before .before .before .before .before .before .args .d) (c .before .before .before .before .before .before .before .before .before .before .before .before .before .before .before .before .before .before .before .args .b) (c .before .before .before .before .before .before .before .before .before .before .before .before .before .before .relation-of .result) κ γ (c .before .before .before .before .before .before .before .before .before .before .before .before .before .before .relation-of .ensures .classes .class κ (e ∙ sym (c .before .before .before .before .before .before .before .before .before .before .before .before .before .before .before .kind-at .ensures .is))) (omega arith)) (next (framed (aMem (c .before .before .before .before .before .before .before .before .before .before .before .before .before .before .before .before .before .before .before .args .d) (c .before .before .before .before .before .before .before .before .before .before .before .before .before .before .before .before .before .before .before .args .b) ∷ []) (known (c .before .before .before .before .before .e2 .given .1) (c .before .before .before .before .before .before .before .before .before .term2 .ensures))) (c .before .before .related .ensures)) (omega arith)
+atom-returns-5 t c = (takes {μ = aTerm (c .before .before .before .before .before .before .before .before .before .before .before .before .before .before .before .before .before .before .before .args .d) (c .before .before .before .before .before .before .before .before .before .before .before .before .before .before .before .before .before .before .before .args .b) ∷ aMem (c .before .before .before .before .before .before .before .before .before .before .before .before .before .before .before .before .before .before .before .args .d) (c .before .before .before .before .before .before .before .before .before .before .before .before .before .before .before .before .before .before .before .args .b) ∷ []} {m = (c .before .before .before .before .before .before .before .before .before .before .before .before .before .before .before .before .before .before .before .args .n)} (omega arith) (λ κ e γ. rel-pair (c .before .before .before .before .before .before .before .before .before .before .before .before .before .before .before .before .before .before .before .args .d) (c .before .before .before .before .before .before .before .before .before .before .before .before .before .before .before .before .before .before .before .args .b) (c .before .before .before .before .before .before .before .before .before .before .before .before .before .before .relation-of .result) κ γ (c .before .before .before .before .before .before .before .before .before .before .before .before .before .before .relation-of .ensures .classes .class κ (e ∙ sym (c .before .before .before .before .before .before .before .before .before .before .before .before .before .before .before .kind-at .ensures .is))) (omega arith)) (next (framed (aMem (c .before .before .before .before .before .before .before .before .before .before .before .before .before .before .before .before .before .before .before .args .d) (c .before .before .before .before .before .before .before .before .before .before .before .before .before .before .before .before .before .before .before .args .b) ∷ []) (known (c .before .before .before .before .before .e2 .given .1) (c .before .before .before .before .before .before .before .before .before .term2 .ensures .0))) (c .before .before .related .ensures .0)) (omega arith), let w₁ = (made (c .before .before .before .before .before .e2 .given .1) (c .before .before .before .before .before .before .before .before .before .term2 .ensures .1)) in onward _ (c .before .before .related .result) (built w₁) (λ k v x. derived.mapped (sym (c .before .before .before .before .before .before .before .before .before .before .before .before .before .before .before .kind-at .ensures .is) ∙ c .before .before .before .before .before .before .before .before .before .before .before .before .before .before .relation-of .ensures .maplet (omega arith)) (w₁ .derives) x) (c .before .before .related .ensures .1))
 
 atom-same-length-5 : (t : ℕ) → atom-lts.Need-same-length-5 (atom-claims t) (atom-at t) atom.Post
 atom-same-length-5 t c = search needs
 
 atom-returns-6 : (t : ℕ) → atom-lts.Need-returns-6 (atom-claims t) (atom-at t) atom.Post
 unfolding computeForm
-atom-returns-6 t c = takes {μ = aTerm (c .before .before .before .before .before .before .before .before .before .before .before .before .before .before .before .args .d) (c .before .before .before .before .before .before .before .before .before .before .before .before .before .before .before .args .b) ∷ aMem (c .before .before .before .before .before .before .before .before .before .before .before .before .before .before .before .args .d) (c .before .before .before .before .before .before .before .before .before .before .before .before .before .before .before .args .b) ∷ []} {m = (c .before .before .before .before .before .before .before .before .before .before .before .before .before .before .before .args .n)} (omega arith) (λ κ e γ. rel-pair (c .before .before .before .before .before .before .before .before .before .before .before .before .before .before .before .args .d) (c .before .before .before .before .before .before .before .before .before .before .before .before .before .before .before .args .b) (c .before .before .before .before .before .before .before .before .before .before .relation-of .result) κ γ (c .before .before .before .before .before .before .before .before .before .before .relation-of .ensures .classes .class κ (e ∙ sym (c .before .before .before .before .before .before .before .before .before .before .before .kind-at .ensures .is))) (omega arith)) (fails (framed (aMem (c .before .before .before .before .before .before .before .before .before .before .before .before .before .before .before .args .d) (c .before .before .before .before .before .before .before .before .before .before .before .before .before .before .before .args .b) ∷ []) (known (c .before .p2 .given .1) (c .before .before .before .before .before .term2 .ensures)))) (omega arith)
+atom-returns-6 t c = (takes {μ = aTerm (c .before .before .before .before .before .before .before .before .before .before .before .before .before .before .before .args .d) (c .before .before .before .before .before .before .before .before .before .before .before .before .before .before .before .args .b) ∷ aMem (c .before .before .before .before .before .before .before .before .before .before .before .before .before .before .before .args .d) (c .before .before .before .before .before .before .before .before .before .before .before .before .before .before .before .args .b) ∷ []} {m = (c .before .before .before .before .before .before .before .before .before .before .before .before .before .before .before .args .n)} (omega arith) (λ κ e γ. rel-pair (c .before .before .before .before .before .before .before .before .before .before .before .before .before .before .before .args .d) (c .before .before .before .before .before .before .before .before .before .before .before .before .before .before .before .args .b) (c .before .before .before .before .before .before .before .before .before .before .relation-of .result) κ γ (c .before .before .before .before .before .before .before .before .before .before .relation-of .ensures .classes .class κ (e ∙ sym (c .before .before .before .before .before .before .before .before .before .before .before .kind-at .ensures .is))) (omega arith)) (fails (framed (aMem (c .before .before .before .before .before .before .before .before .before .before .before .before .before .before .before .args .d) (c .before .before .before .before .before .before .before .before .before .before .before .before .before .before .before .args .b) ∷ []) (known (c .before .p2 .given .1) (c .before .before .before .before .before .term2 .ensures .0)))) (omega arith), tt)
 
 brace-add-kind-at : (t : ℕ) → brace-lts.Need-add-kind-at (brace-claims t) (brace-at t) brace.Post
 brace-add-kind-at t c = search needs
@@ -457,7 +460,7 @@ items-same-length t c = search needs
 
 items-returns : (t : ℕ) → items-lts.Need-returns (items-claims t) (items-at t) items.Post
 unfolding computeForm
-items-returns t c = let room = c .before .before .before .before .before .before .before .before .before .pre .1 .0 in takes-kind {μ = []} kind.closeBrace (sym (c .before .before .before .before .before .kind-at .ensures .is) ∙ c .before .before .before .before .if1 .taken) (omega arith) (λ γ. refl) (here (omega arith)) (omega arith)
+items-returns t c = (let room = c .before .before .before .before .before .before .before .before .before .pre .1 .0 in takes-kind {μ = []} kind.closeBrace (sym (c .before .before .before .before .before .kind-at .ensures .is) ∙ c .before .before .before .before .if1 .taken) (omega arith) (λ γ. refl) (here (omega arith)) (omega arith), makes (wrote (c .before .before .put .ensures)) (derived.itemsEnd (sym (c .before .before .before .before .before .kind-at .ensures .is) ∙ c .before .before .before .before .if1 .taken)))
 
 items-add-term : (t : ℕ) → items-lts.Need-add-term (items-claims t) (items-at t) items.Post
 items-add-term t c = search needs
@@ -469,13 +472,13 @@ items-enum-known-e : (t : ℕ) → items-lts.Need-enum-known-e (items-claims t) 
 items-enum-known-e t c = search needs
 
 items-items-requires : (t : ℕ) → items-lts.Need-items-requires (items-claims t) (items-at t) items.Post
-items-items-requires t c κs = let room = c .before .before .before .before .before .before .before .before .before .before .before .before .before .before .pre .1 .0 in let h = (known (c .before .before .e .given .1) (c .before .before .before .before .before .before .term .ensures)) in search needs
+items-items-requires t c κs = let room = c .before .before .before .before .before .before .before .before .before .before .before .before .before .before .pre .1 .0 in let h = (known (c .before .before .e .given .1) (c .before .before .before .before .before .before .term .ensures .0)) in search needs
 
 items-enum-known-f : (t : ℕ) → items-lts.Need-enum-known-f (items-claims t) (items-at t) items.Post
 items-enum-known-f t c = search needs
 
 items-put-requires-2 : (t : ℕ) → items-lts.Need-put-requires-2 (items-claims t) (items-at t) items.Post
-items-put-requires-2 t c κs = let room = c .before .before .before .before .before .before .before .before .before .before .before .before .before .before .before .before .before .before .before .before .before .pre .1 .0 in let h = (known (c .before .before .before .before .before .before .before .before .before .e .given .1) (c .before .before .before .before .before .before .before .before .before .before .before .before .before .term .ensures)) in let i = (known (c .before .before .f .given .1) (c .before .before .before .before .before .before .items .ensures)) in search needs
+items-put-requires-2 t c κs = let room = c .before .before .before .before .before .before .before .before .before .before .before .before .before .before .before .before .before .before .before .before .before .pre .1 .0 in let h = (known (c .before .before .before .before .before .before .before .before .before .e .given .1) (c .before .before .before .before .before .before .before .before .before .before .before .before .before .term .ensures .0)) in let i = (known (c .before .before .f .given .1) (c .before .before .before .before .before .before .items .ensures .0)) in search needs
 
 items-enum-known-p : (t : ℕ) → items-lts.Need-enum-known-p (items-claims t) (items-at t) items.Post
 items-enum-known-p t c = search needs
@@ -488,25 +491,25 @@ items-same-length-2 t c = search needs
 
 items-returns-2 : (t : ℕ) → items-lts.Need-returns-2 (items-claims t) (items-at t) items.Post
 unfolding computeForm
-items-returns-2 t c = let room = c .before .before .before .before .before .before .before .before .before .before .before .before .before .before .before .before .before .before .before .before .before .before .before .before .pre .1 .0 in let h = (known (c .before .before .before .before .before .before .before .before .before .before .before .before .e .given .1) (c .before .before .before .before .before .before .before .before .before .before .before .before .before .before .before .before .term .ensures)) in let i = (known (c .before .before .before .before .before .f .given .1) (c .before .before .before .before .before .before .before .before .before .items .ensures)) in takes-kind {μ = aTerm (c .before .before .before .before .before .before .before .before .before .before .before .before .before .before .before .before .before .before .before .before .before .before .before .before .args .d) (c .before .before .before .before .before .before .before .before .before .before .before .before .before .before .before .before .before .before .before .before .before .before .before .before .args .b) ∷ aList (c .before .before .before .before .before .before .before .before .before .before .before .before .before .before .before .before .before .before .before .before .before .before .before .before .args .d) (c .before .before .before .before .before .before .before .before .before .before .before .before .before .before .before .before .before .before .before .before .before .before .before .before .args .b) ∷ []} {m = (c .before .before .before .before .before .before .before .before .before .before .before .before .before .before .before .before .before .before .before .before .before .before .before .before .args .n) + 4} kind.comma (sym (c .before .before .before .before .before .before .before .before .before .before .before .before .before .before .before .before .before .before .before .before .kind-at .ensures .is) ∙ c .before .before .before .before .before .before .before .before .before .before .before .before .before .before .before .before .before .before .if2 .taken) (omega arith) (λ γ. refl) (counted (omega arith) (next (framed (aList (c .before .before .before .before .before .before .before .before .before .before .before .before .before .before .before .before .before .before .before .before .before .before .before .before .args .d) (c .before .before .before .before .before .before .before .before .before .before .before .before .before .before .before .before .before .before .before .before .before .before .before .before .args .b) ∷ []) h) i)) (omega arith)
+items-returns-2 t c = (let room = c .before .before .before .before .before .before .before .before .before .before .before .before .before .before .before .before .before .before .before .before .before .before .before .before .pre .1 .0 in let h = (known (c .before .before .before .before .before .before .before .before .before .before .before .before .e .given .1) (c .before .before .before .before .before .before .before .before .before .before .before .before .before .before .before .before .term .ensures .0)) in let i = (known (c .before .before .before .before .before .f .given .1) (c .before .before .before .before .before .before .before .before .before .items .ensures .0)) in takes-kind {μ = aTerm (c .before .before .before .before .before .before .before .before .before .before .before .before .before .before .before .before .before .before .before .before .before .before .before .before .args .d) (c .before .before .before .before .before .before .before .before .before .before .before .before .before .before .before .before .before .before .before .before .before .before .before .before .args .b) ∷ aList (c .before .before .before .before .before .before .before .before .before .before .before .before .before .before .before .before .before .before .before .before .before .before .before .before .args .d) (c .before .before .before .before .before .before .before .before .before .before .before .before .before .before .before .before .before .before .before .before .before .before .before .before .args .b) ∷ []} {m = (c .before .before .before .before .before .before .before .before .before .before .before .before .before .before .before .before .before .before .before .before .before .before .before .before .args .n) + 4} kind.comma (sym (c .before .before .before .before .before .before .before .before .before .before .before .before .before .before .before .before .before .before .before .before .kind-at .ensures .is) ∙ c .before .before .before .before .before .before .before .before .before .before .before .before .before .before .before .before .before .before .if2 .taken) (omega arith) (λ γ. refl) (counted (omega arith) (next (framed (aList (c .before .before .before .before .before .before .before .before .before .before .before .before .before .before .before .before .before .before .before .before .before .before .before .before .args .d) (c .before .before .before .before .before .before .before .before .before .before .before .before .before .before .before .before .before .before .before .before .before .before .before .before .args .b) ∷ []) h) i)) (omega arith), let w₁ = (made (c .before .before .before .before .before .before .before .before .before .before .before .before .e .given .1) (c .before .before .before .before .before .before .before .before .before .before .before .before .before .before .before .before .term .ensures .1)) in let w₂ = (made (c .before .before .before .before .before .f .given .1) (c .before .before .before .before .before .before .before .before .before .items .ensures .1)) in makes (both (both (built w₁) (built w₂)) (wrote (c .before .before .put2 .ensures))) (derived.itemsMore (sym (c .before .before .before .before .before .before .before .before .before .before .before .before .before .before .before .before .before .before .before .before .kind-at .ensures .is) ∙ c .before .before .before .before .before .before .before .before .before .before .before .before .before .before .before .before .before .before .if2 .taken) (w₁ .derives) (w₂ .derives)))
 
 items-same-length-3 : (t : ℕ) → items-lts.Need-same-length-3 (items-claims t) (items-at t) items.Post
 items-same-length-3 t c = search needs
 
 items-returns-3 : (t : ℕ) → items-lts.Need-returns-3 (items-claims t) (items-at t) items.Post
 unfolding computeForm
-items-returns-3 t c = let room = c .before .before .before .before .before .before .before .before .before .before .before .before .before .before .before .before .before .before .before .before .pre .1 .0 in let h = (known (c .before .before .before .before .before .before .before .before .e .given .1) (c .before .before .before .before .before .before .before .before .before .before .before .before .term .ensures)) in takes-kind {μ = aTerm (c .before .before .before .before .before .before .before .before .before .before .before .before .before .before .before .before .before .before .before .before .args .d) (c .before .before .before .before .before .before .before .before .before .before .before .before .before .before .before .before .before .before .before .before .args .b) ∷ aList (c .before .before .before .before .before .before .before .before .before .before .before .before .before .before .before .before .before .before .before .before .args .d) (c .before .before .before .before .before .before .before .before .before .before .before .before .before .before .before .before .before .before .before .before .args .b) ∷ []} {m = (c .before .before .before .before .before .before .before .before .before .before .before .before .before .before .before .before .before .before .before .before .args .n)} kind.comma (sym (c .before .before .before .before .before .before .before .before .before .before .before .before .before .before .before .before .kind-at .ensures .is) ∙ c .before .before .before .before .before .before .before .before .before .before .before .before .before .before .if2 .taken) (omega arith) (λ γ. refl) (fails (next (framed (aList (c .before .before .before .before .before .before .before .before .before .before .before .before .before .before .before .before .before .before .before .before .args .d) (c .before .before .before .before .before .before .before .before .before .before .before .before .before .before .before .before .before .before .before .before .args .b) ∷ []) h) (known (c .before .p .given .1) (c .before .before .before .before .before .items .ensures)))) (omega arith)
+items-returns-3 t c = (let room = c .before .before .before .before .before .before .before .before .before .before .before .before .before .before .before .before .before .before .before .before .pre .1 .0 in let h = (known (c .before .before .before .before .before .before .before .before .e .given .1) (c .before .before .before .before .before .before .before .before .before .before .before .before .term .ensures .0)) in takes-kind {μ = aTerm (c .before .before .before .before .before .before .before .before .before .before .before .before .before .before .before .before .before .before .before .before .args .d) (c .before .before .before .before .before .before .before .before .before .before .before .before .before .before .before .before .before .before .before .before .args .b) ∷ aList (c .before .before .before .before .before .before .before .before .before .before .before .before .before .before .before .before .before .before .before .before .args .d) (c .before .before .before .before .before .before .before .before .before .before .before .before .before .before .before .before .before .before .before .before .args .b) ∷ []} {m = (c .before .before .before .before .before .before .before .before .before .before .before .before .before .before .before .before .before .before .before .before .args .n)} kind.comma (sym (c .before .before .before .before .before .before .before .before .before .before .before .before .before .before .before .before .kind-at .ensures .is) ∙ c .before .before .before .before .before .before .before .before .before .before .before .before .before .before .if2 .taken) (omega arith) (λ γ. refl) (fails (next (framed (aList (c .before .before .before .before .before .before .before .before .before .before .before .before .before .before .before .before .before .before .before .before .args .d) (c .before .before .before .before .before .before .before .before .before .before .before .before .before .before .before .before .before .before .before .before .args .b) ∷ []) h) (known (c .before .p .given .1) (c .before .before .before .before .before .items .ensures .0)))) (omega arith), tt)
 
 items-same-length-4 : (t : ℕ) → items-lts.Need-same-length-4 (items-claims t) (items-at t) items.Post
 items-same-length-4 t c = search needs
 
 items-returns-4 : (t : ℕ) → items-lts.Need-returns-4 (items-claims t) (items-at t) items.Post
 unfolding computeForm
-items-returns-4 t c = let room = c .before .before .before .before .before .before .before .before .before .before .before .before .before .pre .1 .0 in takes-kind {μ = aTerm (c .before .before .before .before .before .before .before .before .before .before .before .before .before .args .d) (c .before .before .before .before .before .before .before .before .before .before .before .before .before .args .b) ∷ aList (c .before .before .before .before .before .before .before .before .before .before .before .before .before .args .d) (c .before .before .before .before .before .before .before .before .before .before .before .before .before .args .b) ∷ []} {m = (c .before .before .before .before .before .before .before .before .before .before .before .before .before .args .n)} kind.comma (sym (c .before .before .before .before .before .before .before .before .before .kind-at .ensures .is) ∙ c .before .before .before .before .before .before .before .if2 .taken) (omega arith) (λ γ. refl) (fails (framed (aList (c .before .before .before .before .before .before .before .before .before .before .before .before .before .args .d) (c .before .before .before .before .before .before .before .before .before .before .before .before .before .args .b) ∷ []) (known (c .before .p2 .given .1) (c .before .before .before .before .before .term .ensures)))) (omega arith)
+items-returns-4 t c = (let room = c .before .before .before .before .before .before .before .before .before .before .before .before .before .pre .1 .0 in takes-kind {μ = aTerm (c .before .before .before .before .before .before .before .before .before .before .before .before .before .args .d) (c .before .before .before .before .before .before .before .before .before .before .before .before .before .args .b) ∷ aList (c .before .before .before .before .before .before .before .before .before .before .before .before .before .args .d) (c .before .before .before .before .before .before .before .before .before .before .before .before .before .args .b) ∷ []} {m = (c .before .before .before .before .before .before .before .before .before .before .before .before .before .args .n)} kind.comma (sym (c .before .before .before .before .before .before .before .before .before .kind-at .ensures .is) ∙ c .before .before .before .before .before .before .before .if2 .taken) (omega arith) (λ γ. refl) (fails (framed (aList (c .before .before .before .before .before .before .before .before .before .before .before .before .before .args .d) (c .before .before .before .before .before .before .before .before .before .before .before .before .before .args .b) ∷ []) (known (c .before .p2 .given .1) (c .before .before .before .before .before .term .ensures .0)))) (omega arith), tt)
 
 items-returns-5 : (t : ℕ) → items-lts.Need-returns-5 (items-claims t) (items-at t) items.Post
 unfolding computeForm
-items-returns-5 t c = let room = c .before .before .before .before .before .before .pre .1 .0 in stops (omega arith) (λ κ e γ. list-stops (c .before .before .before .before .before .before .args .d) (c .before .before .before .before .before .before .args .b) κ γ (λ q. c .before .if1 .left ((c .before .before .kind-at .ensures .is) ∙ sym e ∙ q)) (λ q. c .if2 .left ((c .before .before .kind-at .ensures .is) ∙ sym e ∙ q))) (λ γ. refl)
+items-returns-5 t c = (let room = c .before .before .before .before .before .before .pre .1 .0 in stops (omega arith) (λ κ e γ. list-stops (c .before .before .before .before .before .before .args .d) (c .before .before .before .before .before .before .args .b) κ γ (λ q. c .before .if1 .left ((c .before .before .kind-at .ensures .is) ∙ sym e ∙ q)) (λ q. c .if2 .left ((c .before .before .kind-at .ensures .is) ∙ sym e ∙ q))) (λ γ. refl), tt)
 
 listed-add-term : (t : ℕ) → listed-lts.Need-add-term (listed-claims t) (listed-at t) listed.Post
 listed-add-term t c = search needs
@@ -521,13 +524,13 @@ listed-kind-at-requires : (t : ℕ) → listed-lts.Need-kind-at-requires (listed
 listed-kind-at-requires t c κs = search needs
 
 listed-pairs-requires : (t : ℕ) → listed-lts.Need-pairs-requires (listed-claims t) (listed-at t) listed.Post
-listed-pairs-requires t c κs = let room = c .before .before .before .before .before .before .before .before .before .before .before .before .before .pre .1 .0 in let h = (known (c .before .before .before .before .e .given .1) (c .before .before .before .before .before .before .before .before .term .ensures)) in search needs
+listed-pairs-requires t c κs = let room = c .before .before .before .before .before .before .before .before .before .before .before .before .before .pre .1 .0 in let h = (known (c .before .before .before .before .e .given .1) (c .before .before .before .before .before .before .before .before .term .ensures .0)) in search needs
 
 listed-enum-known-f : (t : ℕ) → listed-lts.Need-enum-known-f (listed-claims t) (listed-at t) listed.Post
 listed-enum-known-f t c = search needs
 
 listed-put-requires : (t : ℕ) → listed-lts.Need-put-requires (listed-claims t) (listed-at t) listed.Post
-listed-put-requires t c κs = let room = c .before .before .before .before .before .before .before .before .before .before .before .before .before .before .before .before .before .before .before .before .pre .1 .0 in let h = (known (c .before .before .before .before .before .before .before .before .before .before .before .e .given .1) (c .before .before .before .before .before .before .before .before .before .before .before .before .before .before .before .term .ensures)) in let i = (known (c .before .before .f .given .1) (c .before .before .before .before .before .before .pairs .ensures)) in search needs
+listed-put-requires t c κs = let room = c .before .before .before .before .before .before .before .before .before .before .before .before .before .before .before .before .before .before .before .before .pre .1 .0 in let h = (known (c .before .before .before .before .before .before .before .before .before .before .before .e .given .1) (c .before .before .before .before .before .before .before .before .before .before .before .before .before .before .before .term .ensures .0)) in let i = (known (c .before .before .f .given .1) (c .before .before .before .before .before .before .pairs .ensures .0)) in search needs
 
 listed-enum-known-p : (t : ℕ) → listed-lts.Need-enum-known-p (listed-claims t) (listed-at t) listed.Post
 listed-enum-known-p t c = search needs
@@ -537,23 +540,23 @@ listed-same-length t c = search needs
 
 listed-returns : (t : ℕ) → listed-lts.Need-returns (listed-claims t) (listed-at t) listed.Post
 unfolding computeForm
-listed-returns t c = let room = c .before .before .before .before .before .before .before .before .before .before .before .before .before .before .before .before .before .before .before .before .before .before .before .pre .1 .0 in let h = (known (c .before .before .before .before .before .before .before .before .before .before .before .before .before .before .e .given .1) (c .before .before .before .before .before .before .before .before .before .before .before .before .before .before .before .before .before .before .term .ensures)) in let i = (known (c .before .before .before .before .before .f .given .1) (c .before .before .before .before .before .before .before .before .before .pairs .ensures)) in counted (omega arith) (alike (as-listed (c .before .before .before .before .before .before .before .before .before .before .before .before .before .before .before .before .before .before .before .before .before .before .before .args .s .now) (c .before .before .before .before .before .before .before .before .before .before .before .before .before .before .before .before .before .before .before .before .before .before .before .args .at) (c .before .before .before .before .before .before .before .before .before .before .before .before .before .before .before .before .before .before .before .before .before .before .before .args .d) (c .before .before .before .before .before .before .before .before .before .before .before .before .before .before .before .before .before .before .before .before .before .before .before .args .b) (c .before .before .before .before .before .before .before .before .before .before .before .before .before .before .before .before .before .before .before .before .before .before .before .pre .1 .4) (c .before .before .before .before .before .before .before .before .before .before .before .before .before .before .before .before .before .before .before .before .before .before .before .pre .1 .5)) (next (framed (aFirst (c .before .before .before .before .before .before .before .before .before .before .before .before .before .before .before .before .before .before .before .before .before .before .before .args .d) (c .before .before .before .before .before .before .before .before .before .before .before .before .before .before .before .before .before .before .before .before .before .before .before .args .b) ∷ []) h) (likewise-kind kind.maplet (sym (c .before .before .before .before .before .before .before .before .before .before .before .before .kind-at .ensures .is) ∙ c .before .before .before .before .before .before .before .before .before .before .before .if1 .taken) (λ γ. refl) (λ γ. refl) i)))
+listed-returns t c = (let room = c .before .before .before .before .before .before .before .before .before .before .before .before .before .before .before .before .before .before .before .before .before .before .before .pre .1 .0 in let h = (known (c .before .before .before .before .before .before .before .before .before .before .before .before .before .before .e .given .1) (c .before .before .before .before .before .before .before .before .before .before .before .before .before .before .before .before .before .before .term .ensures .0)) in let i = (known (c .before .before .before .before .before .f .given .1) (c .before .before .before .before .before .before .before .before .before .pairs .ensures .0)) in counted (omega arith) (alike (as-listed (c .before .before .before .before .before .before .before .before .before .before .before .before .before .before .before .before .before .before .before .before .before .before .before .args .s .now) (c .before .before .before .before .before .before .before .before .before .before .before .before .before .before .before .before .before .before .before .before .before .before .before .args .at) (c .before .before .before .before .before .before .before .before .before .before .before .before .before .before .before .before .before .before .before .before .before .before .before .args .d) (c .before .before .before .before .before .before .before .before .before .before .before .before .before .before .before .before .before .before .before .before .before .before .before .args .b) (c .before .before .before .before .before .before .before .before .before .before .before .before .before .before .before .before .before .before .before .before .before .before .before .pre .1 .4) (c .before .before .before .before .before .before .before .before .before .before .before .before .before .before .before .before .before .before .before .before .before .before .before .pre .1 .5)) (next (framed (aFirst (c .before .before .before .before .before .before .before .before .before .before .before .before .before .before .before .before .before .before .before .before .before .before .before .args .d) (c .before .before .before .before .before .before .before .before .before .before .before .before .before .before .before .before .before .before .before .before .before .before .before .args .b) ∷ []) h) (likewise-kind kind.maplet (sym (c .before .before .before .before .before .before .before .before .before .before .before .before .kind-at .ensures .is) ∙ c .before .before .before .before .before .before .before .before .before .before .before .if1 .taken) (λ γ. refl) (λ γ. refl) i))), let w₁ = (made (c .before .before .before .before .before .before .before .before .before .before .before .before .before .before .e .given .1) (c .before .before .before .before .before .before .before .before .before .before .before .before .before .before .before .before .before .before .term .ensures .1)) in let w₂ = (made (c .before .before .before .before .before .f .given .1) (c .before .before .before .before .before .before .before .before .before .pairs .ensures .1)) in makes (both (both (built w₁) (built w₂)) (wrote (c .before .before .put .ensures))) (derived.paired (c .before .before .before .before .before .before .before .before .before .before .before .before .before .before .before .before .before .before .before .before .before .before .before .pre .1 .4) (w₁ .derives) (w₂ .derives)))
 
 listed-same-length-2 : (t : ℕ) → listed-lts.Need-same-length-2 (listed-claims t) (listed-at t) listed.Post
 listed-same-length-2 t c = search needs
 
 listed-returns-2 : (t : ℕ) → listed-lts.Need-returns-2 (listed-claims t) (listed-at t) listed.Post
 unfolding computeForm
-listed-returns-2 t c = let room = c .before .before .before .before .before .before .before .before .before .before .before .before .before .before .before .before .before .before .before .pre .1 .0 in let h = (known (c .before .before .before .before .before .before .before .before .before .before .e .given .1) (c .before .before .before .before .before .before .before .before .before .before .before .before .before .before .term .ensures)) in wider (alike (as-listed (c .before .before .before .before .before .before .before .before .before .before .before .before .before .before .before .before .before .before .before .args .s .now) (c .before .before .before .before .before .before .before .before .before .before .before .before .before .before .before .before .before .before .before .args .at) (c .before .before .before .before .before .before .before .before .before .before .before .before .before .before .before .before .before .before .before .args .d) (c .before .before .before .before .before .before .before .before .before .before .before .before .before .before .before .before .before .before .before .args .b) (c .before .before .before .before .before .before .before .before .before .before .before .before .before .before .before .before .before .before .before .pre .1 .4) (c .before .before .before .before .before .before .before .before .before .before .before .before .before .before .before .before .before .before .before .pre .1 .5)) (next (framed (aFirst (c .before .before .before .before .before .before .before .before .before .before .before .before .before .before .before .before .before .before .before .args .d) (c .before .before .before .before .before .before .before .before .before .before .before .before .before .before .before .before .before .before .before .args .b) ∷ []) h) (likewise-kind kind.maplet (sym (c .before .before .before .before .before .before .before .before .kind-at .ensures .is) ∙ c .before .before .before .before .before .before .before .if1 .taken) (λ γ. refl) (λ γ. refl) (known (c .before .p .given .1) (c .before .before .before .before .before .pairs .ensures))))) (omega arith)
+listed-returns-2 t c = (let room = c .before .before .before .before .before .before .before .before .before .before .before .before .before .before .before .before .before .before .before .pre .1 .0 in let h = (known (c .before .before .before .before .before .before .before .before .before .before .e .given .1) (c .before .before .before .before .before .before .before .before .before .before .before .before .before .before .term .ensures .0)) in wider (alike (as-listed (c .before .before .before .before .before .before .before .before .before .before .before .before .before .before .before .before .before .before .before .args .s .now) (c .before .before .before .before .before .before .before .before .before .before .before .before .before .before .before .before .before .before .before .args .at) (c .before .before .before .before .before .before .before .before .before .before .before .before .before .before .before .before .before .before .before .args .d) (c .before .before .before .before .before .before .before .before .before .before .before .before .before .before .before .before .before .before .before .args .b) (c .before .before .before .before .before .before .before .before .before .before .before .before .before .before .before .before .before .before .before .pre .1 .4) (c .before .before .before .before .before .before .before .before .before .before .before .before .before .before .before .before .before .before .before .pre .1 .5)) (next (framed (aFirst (c .before .before .before .before .before .before .before .before .before .before .before .before .before .before .before .before .before .before .before .args .d) (c .before .before .before .before .before .before .before .before .before .before .before .before .before .before .before .before .before .before .before .args .b) ∷ []) h) (likewise-kind kind.maplet (sym (c .before .before .before .before .before .before .before .before .kind-at .ensures .is) ∙ c .before .before .before .before .before .before .before .if1 .taken) (λ γ. refl) (λ γ. refl) (known (c .before .p .given .1) (c .before .before .before .before .before .pairs .ensures .0))))) (omega arith), tt)
 
 listed-items-requires : (t : ℕ) → listed-lts.Need-items-requires (listed-claims t) (listed-at t) listed.Post
-listed-items-requires t c κs = let room = c .before .before .before .before .before .before .before .before .before .before .before .before .before .pre .1 .0 in let h = (known (c .before .before .before .before .e .given .1) (c .before .before .before .before .before .before .before .before .term .ensures)) in search needs
+listed-items-requires t c κs = let room = c .before .before .before .before .before .before .before .before .before .before .before .before .before .pre .1 .0 in let h = (known (c .before .before .before .before .e .given .1) (c .before .before .before .before .before .before .before .before .term .ensures .0)) in search needs
 
 listed-enum-known-f-2 : (t : ℕ) → listed-lts.Need-enum-known-f-2 (listed-claims t) (listed-at t) listed.Post
 listed-enum-known-f-2 t c = search needs
 
 listed-put-requires-2 : (t : ℕ) → listed-lts.Need-put-requires-2 (listed-claims t) (listed-at t) listed.Post
-listed-put-requires-2 t c κs = let room = c .before .before .before .before .before .before .before .before .before .before .before .before .before .before .before .before .before .before .before .before .pre .1 .0 in let h = (known (c .before .before .before .before .before .before .before .before .before .before .before .e .given .1) (c .before .before .before .before .before .before .before .before .before .before .before .before .before .before .before .term .ensures)) in let i = (known (c .before .before .f2 .given .1) (c .before .before .before .before .before .before .items .ensures)) in search needs
+listed-put-requires-2 t c κs = let room = c .before .before .before .before .before .before .before .before .before .before .before .before .before .before .before .before .before .before .before .before .pre .1 .0 in let h = (known (c .before .before .before .before .before .before .before .before .before .before .before .e .given .1) (c .before .before .before .before .before .before .before .before .before .before .before .before .before .before .before .term .ensures .0)) in let i = (known (c .before .before .f2 .given .1) (c .before .before .before .before .before .before .items .ensures .0)) in search needs
 
 listed-enum-known-p-2 : (t : ℕ) → listed-lts.Need-enum-known-p-2 (listed-claims t) (listed-at t) listed.Post
 listed-enum-known-p-2 t c = search needs
@@ -566,21 +569,21 @@ listed-same-length-3 t c = search needs
 
 listed-returns-3 : (t : ℕ) → listed-lts.Need-returns-3 (listed-claims t) (listed-at t) listed.Post
 unfolding computeForm
-listed-returns-3 t c = let room = c .before .before .before .before .before .before .before .before .before .before .before .before .before .before .before .before .before .before .before .before .before .before .before .pre .1 .0 in let h = (known (c .before .before .before .before .before .before .before .before .before .before .before .before .before .before .e .given .1) (c .before .before .before .before .before .before .before .before .before .before .before .before .before .before .before .before .before .before .term .ensures)) in let i = (known (c .before .before .before .before .before .f2 .given .1) (c .before .before .before .before .before .before .before .before .before .items .ensures)) in counted (omega arith) (alike (as-listed (c .before .before .before .before .before .before .before .before .before .before .before .before .before .before .before .before .before .before .before .before .before .before .before .args .s .now) (c .before .before .before .before .before .before .before .before .before .before .before .before .before .before .before .before .before .before .before .before .before .before .before .args .at) (c .before .before .before .before .before .before .before .before .before .before .before .before .before .before .before .before .before .before .before .before .before .before .before .args .d) (c .before .before .before .before .before .before .before .before .before .before .before .before .before .before .before .before .before .before .before .before .before .before .before .args .b) (c .before .before .before .before .before .before .before .before .before .before .before .before .before .before .before .before .before .before .before .before .before .before .before .pre .1 .4) (c .before .before .before .before .before .before .before .before .before .before .before .before .before .before .before .before .before .before .before .before .before .before .before .pre .1 .5)) (next (framed (aFirst (c .before .before .before .before .before .before .before .before .before .before .before .before .before .before .before .before .before .before .before .before .before .before .before .args .d) (c .before .before .before .before .before .before .before .before .before .before .before .before .before .before .before .before .before .before .before .before .before .before .before .args .b) ∷ []) h) (likewise (λ κ e γ. as-list (c .before .before .before .before .before .before .before .before .before .before .before .before .before .before .before .before .before .before .before .before .before .before .before .args .d) (c .before .before .before .before .before .before .before .before .before .before .before .before .before .before .before .before .before .before .before .before .before .before .before .args .b) κ γ (λ q. c .before .before .before .before .before .before .before .before .before .before .before .if1 .left ((c .before .before .before .before .before .before .before .before .before .before .before .before .kind-at .ensures .is) ∙ sym e ∙ q))) (λ γ. refl) i)))
+listed-returns-3 t c = (let room = c .before .before .before .before .before .before .before .before .before .before .before .before .before .before .before .before .before .before .before .before .before .before .before .pre .1 .0 in let h = (known (c .before .before .before .before .before .before .before .before .before .before .before .before .before .before .e .given .1) (c .before .before .before .before .before .before .before .before .before .before .before .before .before .before .before .before .before .before .term .ensures .0)) in let i = (known (c .before .before .before .before .before .f2 .given .1) (c .before .before .before .before .before .before .before .before .before .items .ensures .0)) in counted (omega arith) (alike (as-listed (c .before .before .before .before .before .before .before .before .before .before .before .before .before .before .before .before .before .before .before .before .before .before .before .args .s .now) (c .before .before .before .before .before .before .before .before .before .before .before .before .before .before .before .before .before .before .before .before .before .before .before .args .at) (c .before .before .before .before .before .before .before .before .before .before .before .before .before .before .before .before .before .before .before .before .before .before .before .args .d) (c .before .before .before .before .before .before .before .before .before .before .before .before .before .before .before .before .before .before .before .before .before .before .before .args .b) (c .before .before .before .before .before .before .before .before .before .before .before .before .before .before .before .before .before .before .before .before .before .before .before .pre .1 .4) (c .before .before .before .before .before .before .before .before .before .before .before .before .before .before .before .before .before .before .before .before .before .before .before .pre .1 .5)) (next (framed (aFirst (c .before .before .before .before .before .before .before .before .before .before .before .before .before .before .before .before .before .before .before .before .before .before .before .args .d) (c .before .before .before .before .before .before .before .before .before .before .before .before .before .before .before .before .before .before .before .before .before .before .before .args .b) ∷ []) h) (likewise (λ κ e γ. as-list (c .before .before .before .before .before .before .before .before .before .before .before .before .before .before .before .before .before .before .before .before .before .before .before .args .d) (c .before .before .before .before .before .before .before .before .before .before .before .before .before .before .before .before .before .before .before .before .before .before .before .args .b) κ γ (λ q. c .before .before .before .before .before .before .before .before .before .before .before .if1 .left ((c .before .before .before .before .before .before .before .before .before .before .before .before .kind-at .ensures .is) ∙ sym e ∙ q))) (λ γ. refl) i))), let w₁ = (made (c .before .before .before .before .before .before .before .before .before .before .before .before .before .before .e .given .1) (c .before .before .before .before .before .before .before .before .before .before .before .before .before .before .before .before .before .before .term .ensures .1)) in let w₂ = (made (c .before .before .before .before .before .f2 .given .1) (c .before .before .before .before .before .before .before .before .before .items .ensures .1)) in makes (both (both (built w₁) (built w₂)) (wrote (c .before .before .put2 .ensures))) (derived.listed (c .before .before .before .before .before .before .before .before .before .before .before .before .before .before .before .before .before .before .before .before .before .before .before .pre .1 .4) (w₁ .derives) (w₂ .derives)))
 
 listed-same-length-4 : (t : ℕ) → listed-lts.Need-same-length-4 (listed-claims t) (listed-at t) listed.Post
 listed-same-length-4 t c = search needs
 
 listed-returns-4 : (t : ℕ) → listed-lts.Need-returns-4 (listed-claims t) (listed-at t) listed.Post
 unfolding computeForm
-listed-returns-4 t c = let room = c .before .before .before .before .before .before .before .before .before .before .before .before .before .before .before .before .before .before .before .pre .1 .0 in let h = (known (c .before .before .before .before .before .before .before .before .before .before .e .given .1) (c .before .before .before .before .before .before .before .before .before .before .before .before .before .before .term .ensures)) in wider (alike (as-listed (c .before .before .before .before .before .before .before .before .before .before .before .before .before .before .before .before .before .before .before .args .s .now) (c .before .before .before .before .before .before .before .before .before .before .before .before .before .before .before .before .before .before .before .args .at) (c .before .before .before .before .before .before .before .before .before .before .before .before .before .before .before .before .before .before .before .args .d) (c .before .before .before .before .before .before .before .before .before .before .before .before .before .before .before .before .before .before .before .args .b) (c .before .before .before .before .before .before .before .before .before .before .before .before .before .before .before .before .before .before .before .pre .1 .4) (c .before .before .before .before .before .before .before .before .before .before .before .before .before .before .before .before .before .before .before .pre .1 .5)) (next (framed (aFirst (c .before .before .before .before .before .before .before .before .before .before .before .before .before .before .before .before .before .before .before .args .d) (c .before .before .before .before .before .before .before .before .before .before .before .before .before .before .before .before .before .before .before .args .b) ∷ []) h) (likewise (λ κ e γ. as-list (c .before .before .before .before .before .before .before .before .before .before .before .before .before .before .before .before .before .before .before .args .d) (c .before .before .before .before .before .before .before .before .before .before .before .before .before .before .before .before .before .before .before .args .b) κ γ (λ q. c .before .before .before .before .before .before .before .if1 .left ((c .before .before .before .before .before .before .before .before .kind-at .ensures .is) ∙ sym e ∙ q))) (λ γ. refl) (known (c .before .p2 .given .1) (c .before .before .before .before .before .items .ensures))))) (omega arith)
+listed-returns-4 t c = (let room = c .before .before .before .before .before .before .before .before .before .before .before .before .before .before .before .before .before .before .before .pre .1 .0 in let h = (known (c .before .before .before .before .before .before .before .before .before .before .e .given .1) (c .before .before .before .before .before .before .before .before .before .before .before .before .before .before .term .ensures .0)) in wider (alike (as-listed (c .before .before .before .before .before .before .before .before .before .before .before .before .before .before .before .before .before .before .before .args .s .now) (c .before .before .before .before .before .before .before .before .before .before .before .before .before .before .before .before .before .before .before .args .at) (c .before .before .before .before .before .before .before .before .before .before .before .before .before .before .before .before .before .before .before .args .d) (c .before .before .before .before .before .before .before .before .before .before .before .before .before .before .before .before .before .before .before .args .b) (c .before .before .before .before .before .before .before .before .before .before .before .before .before .before .before .before .before .before .before .pre .1 .4) (c .before .before .before .before .before .before .before .before .before .before .before .before .before .before .before .before .before .before .before .pre .1 .5)) (next (framed (aFirst (c .before .before .before .before .before .before .before .before .before .before .before .before .before .before .before .before .before .before .before .args .d) (c .before .before .before .before .before .before .before .before .before .before .before .before .before .before .before .before .before .before .before .args .b) ∷ []) h) (likewise (λ κ e γ. as-list (c .before .before .before .before .before .before .before .before .before .before .before .before .before .before .before .before .before .before .before .args .d) (c .before .before .before .before .before .before .before .before .before .before .before .before .before .before .before .before .before .before .before .args .b) κ γ (λ q. c .before .before .before .before .before .before .before .if1 .left ((c .before .before .before .before .before .before .before .before .kind-at .ensures .is) ∙ sym e ∙ q))) (λ γ. refl) (known (c .before .p2 .given .1) (c .before .before .before .before .before .items .ensures .0))))) (omega arith), tt)
 
 listed-same-length-5 : (t : ℕ) → listed-lts.Need-same-length-5 (listed-claims t) (listed-at t) listed.Post
 listed-same-length-5 t c = search needs
 
 listed-returns-5 : (t : ℕ) → listed-lts.Need-returns-5 (listed-claims t) (listed-at t) listed.Post
 unfolding computeForm
-listed-returns-5 t c = alike (as-listed (c .before .before .before .before .before .before .before .before .before .before .args .s .now) (c .before .before .before .before .before .before .before .before .before .before .args .at) (c .before .before .before .before .before .before .before .before .before .before .args .d) (c .before .before .before .before .before .before .before .before .before .before .args .b) (c .before .before .before .before .before .before .before .before .before .before .pre .1 .4) (c .before .before .before .before .before .before .before .before .before .before .pre .1 .5)) (fails (framed (aFirst (c .before .before .before .before .before .before .before .before .before .before .args .d) (c .before .before .before .before .before .before .before .before .before .before .args .b) ∷ []) (known (c .before .p3 .given .1) (c .before .before .before .before .before .term .ensures))))
+listed-returns-5 t c = (alike (as-listed (c .before .before .before .before .before .before .before .before .before .before .args .s .now) (c .before .before .before .before .before .before .before .before .before .before .args .at) (c .before .before .before .before .before .before .before .before .before .before .args .d) (c .before .before .before .before .before .before .before .before .before .before .args .b) (c .before .before .before .before .before .before .before .before .before .before .pre .1 .4) (c .before .before .before .before .before .before .before .before .before .before .pre .1 .5)) (fails (framed (aFirst (c .before .before .before .before .before .before .before .before .before .before .args .d) (c .before .before .before .before .before .before .before .before .before .before .args .b) ∷ []) (known (c .before .p3 .given .1) (c .before .before .before .before .before .term .ensures .0)))), tt)
 
 member-kind-at-requires : (t : ℕ) → member-lts.Need-kind-at-requires (member-claims t) (member-at t) member.Post
 member-kind-at-requires t c κs = search needs
@@ -610,7 +613,7 @@ member-wide-requires : (t : ℕ) → member-lts.Need-wide-requires (member-claim
 member-wide-requires t c κs = search needs
 
 member-put-requires : (t : ℕ) → member-lts.Need-put-requires (member-claims t) (member-at t) member.Post
-member-put-requires t c κs = let room = c .before .before .before .before .before .before .before .before .before .before .before .before .before .before .before .before .pre .1 .0 in let h = known (c .before .before .before .before .before .before .before .e .given .1) (c .before .before .before .before .before .before .before .before .before .range .ensures .reads) in let i = known-ahead _ (c .before .before .before .before .before .before .before .e .given .1) (c .before .before .before .before .before .before .before .before .before .range .ensures .ahead) in search needs
+member-put-requires t c κs = let room = c .before .before .before .before .before .before .before .before .before .before .before .before .before .before .before .before .pre .1 .0 in let h = known (c .before .before .before .before .before .before .before .e .given .1) (c .before .before .before .before .before .before .before .before .before .range .ensures .0 .reads) in let i = known-ahead _ (c .before .before .before .before .before .before .before .e .given .1) (c .before .before .before .before .before .before .before .before .before .range .ensures .0 .ahead) in search needs
 
 member-enum-known-p : (t : ℕ) → member-lts.Need-enum-known-p (member-claims t) (member-at t) member.Post
 member-enum-known-p t c = search needs
@@ -620,11 +623,11 @@ member-same-length t c = search needs
 
 member-returns : (t : ℕ) → member-lts.Need-returns (member-claims t) (member-at t) member.Post
 unfolding computeForm
-member-returns t c = let room = c .before .before .before .before .before .before .before .before .before .before .before .before .before .before .before .before .before .before .before .pre .1 .0 in let h = known (c .before .before .before .before .before .before .before .before .before .before .e .given .1) (c .before .before .before .before .before .before .before .before .before .before .before .before .range .ensures .reads) in let i = known-ahead _ (c .before .before .before .before .before .before .before .before .before .before .e .given .1) (c .before .before .before .before .before .before .before .before .before .before .before .before .range .ensures .ahead) in right-range (c .before .before .before .before .before .before .before .before .before .before .before .before .before .before .before .before .before .before .before .args .at) (omega arith) (omega arith) (subst (λ y. Ranged (c .before .before .before .before .before .before .before .before .before .before .before .before .before .before .before .before .before .before .before .args .s .now) ((c .before .before .before .before .before .before .before .before .before .before .before .before .before .before .before .before .before .before .before .args .at) + 1) y) (c .before .before .before .before .before .before .before .before .before .before .before .before .before .if1 .taken) (c .before .before .before .before .before .before .before .before .before .before .before .before .before .before .is-range .ensures)) (counted (omega arith) h)
+member-returns t c = (let room = c .before .before .before .before .before .before .before .before .before .before .before .before .before .before .before .before .before .before .before .pre .1 .0 in let h = known (c .before .before .before .before .before .before .before .before .before .before .e .given .1) (c .before .before .before .before .before .before .before .before .before .before .before .before .range .ensures .0 .reads) in let i = known-ahead _ (c .before .before .before .before .before .before .before .before .before .before .e .given .1) (c .before .before .before .before .before .before .before .before .before .before .before .before .range .ensures .0 .ahead) in right-range (c .before .before .before .before .before .before .before .before .before .before .before .before .before .before .before .before .before .before .before .args .at) (omega arith) (omega arith) (subst (λ y. Ranged (c .before .before .before .before .before .before .before .before .before .before .before .before .before .before .before .before .before .before .before .args .s .now) ((c .before .before .before .before .before .before .before .before .before .before .before .before .before .before .before .before .before .before .before .args .at) + 1) y) (c .before .before .before .before .before .before .before .before .before .before .before .before .before .if1 .taken) (c .before .before .before .before .before .before .before .before .before .before .before .before .before .before .is-range .ensures)) (counted (omega arith) h), makes (both (wrote (c .before .before .before .before .before .before .before .put-range .ensures)) (node-of (c .before .before .before .wide .ensures ∙ (c .before .before .before .before .before .before .before .before .before .before .before .before .before .before .before .kind-at .ensures .is)) refl (c .before .before .put .ensures))) (derived.within (record { low = c .before .before .before .before .before .before .before .before .before .before .before .before .before .before .before .before .before .before .before .pre .1 .4; high = c .before .before .before .before .before .before .before .before .before .before .before .before .before .before .before .before .before .before .before .pre .1 .5 }) (showing (RangeAt (c .before .before .before .before .before .before .before .before .before .before .before .before .before .before .before .before .before .before .before .args .s .now) ((c .before .before .before .before .before .before .before .before .before .before .before .before .before .before .before .before .before .before .before .args .at) + 1)) _ (c .before .before .before .before .before .before .before .before .before .before .e .given .1) (c .before .before .before .before .before .before .before .before .before .before .before .before .range .ensures .1))))
 
 member-returns-2 : (t : ℕ) → member-lts.Need-returns-2 (member-claims t) (member-at t) member.Post
 unfolding computeForm
-member-returns-2 t c = let room = c .before .before .before .before .before .before .before .before .before .before .pre .1 .0 in right-range (c .before .before .before .before .before .before .before .before .before .before .args .at) (omega arith) (omega arith) (subst (λ y. Ranged (c .before .before .before .before .before .before .before .before .before .before .args .s .now) ((c .before .before .before .before .before .before .before .before .before .before .args .at) + 1) y) (c .before .before .before .before .if1 .taken) (c .before .before .before .before .before .is-range .ensures)) (fails (known (c .before .p .given .1) (c .before .before .before .range .ensures .reads)))
+member-returns-2 t c = (let room = c .before .before .before .before .before .before .before .before .before .before .pre .1 .0 in right-range (c .before .before .before .before .before .before .before .before .before .before .args .at) (omega arith) (omega arith) (subst (λ y. Ranged (c .before .before .before .before .before .before .before .before .before .before .args .s .now) ((c .before .before .before .before .before .before .before .before .before .before .args .at) + 1) y) (c .before .before .before .before .if1 .taken) (c .before .before .before .before .before .is-range .ensures)) (fails (known (c .before .p .given .1) (c .before .before .before .range .ensures .0 .reads))), tt)
 
 member-add-term : (t : ℕ) → member-lts.Need-add-term (member-claims t) (member-at t) member.Post
 member-add-term t c = search needs
@@ -639,7 +642,7 @@ member-wide-requires-2 : (t : ℕ) → member-lts.Need-wide-requires-2 (member-c
 member-wide-requires-2 t c κs = search needs
 
 member-put-requires-2 : (t : ℕ) → member-lts.Need-put-requires-2 (member-claims t) (member-at t) member.Post
-member-put-requires-2 t c κs = let room = c .before .before .before .before .before .before .before .before .before .before .before .before .before .before .before .pre .1 .0 in let h = (known (c .before .before .before .e2 .given .1) (c .before .before .before .before .before .before .before .term .ensures)) in search needs
+member-put-requires-2 t c κs = let room = c .before .before .before .before .before .before .before .before .before .before .before .before .before .before .before .pre .1 .0 in let h = (known (c .before .before .before .e2 .given .1) (c .before .before .before .before .before .before .before .term .ensures .0)) in search needs
 
 member-enum-known-p-2 : (t : ℕ) → member-lts.Need-enum-known-p-2 (member-claims t) (member-at t) member.Post
 member-enum-known-p-2 t c = search needs
@@ -649,14 +652,14 @@ member-same-length-2 t c = search needs
 
 member-returns-3 : (t : ℕ) → member-lts.Need-returns-3 (member-claims t) (member-at t) member.Post
 unfolding computeForm
-member-returns-3 t c = let room = c .before .before .before .before .before .before .before .before .before .before .before .before .before .before .before .before .before .before .pre .1 .0 in let h = (known (c .before .before .before .before .before .before .e2 .given .1) (c .before .before .before .before .before .before .before .before .before .before .term .ensures)) in right-term (subst (λ y. Ranged (c .before .before .before .before .before .before .before .before .before .before .before .before .before .before .before .before .before .before .args .s .now) ((c .before .before .before .before .before .before .before .before .before .before .before .before .before .before .before .before .before .before .args .at) + 1) y) (c .before .before .before .before .before .before .before .before .before .before .before .before .if1 .left) (c .before .before .before .before .before .before .before .before .before .before .before .before .before .is-range .ensures)) (counted (omega arith) h)
+member-returns-3 t c = (let room = c .before .before .before .before .before .before .before .before .before .before .before .before .before .before .before .before .before .before .pre .1 .0 in let h = (known (c .before .before .before .before .before .before .e2 .given .1) (c .before .before .before .before .before .before .before .before .before .before .term .ensures .0)) in right-term (subst (λ y. Ranged (c .before .before .before .before .before .before .before .before .before .before .before .before .before .before .before .before .before .before .args .s .now) ((c .before .before .before .before .before .before .before .before .before .before .before .before .before .before .before .before .before .before .args .at) + 1) y) (c .before .before .before .before .before .before .before .before .before .before .before .before .if1 .left) (c .before .before .before .before .before .before .before .before .before .before .before .before .before .is-range .ensures)) (counted (omega arith) h), let w₁ = (made (c .before .before .before .before .before .before .e2 .given .1) (c .before .before .before .before .before .before .before .before .before .before .term .ensures .1)) in makes (both (built w₁) (node-of (c .before .before .before .wide2 .ensures ∙ (c .before .before .before .before .before .before .before .before .before .before .before .before .before .before .kind-at .ensures .is)) refl (c .before .before .put2 .ensures))) (derived.belongs (record { low = c .before .before .before .before .before .before .before .before .before .before .before .before .before .before .before .before .before .before .pre .1 .4; high = c .before .before .before .before .before .before .before .before .before .before .before .before .before .before .before .before .before .before .pre .1 .5 }) (w₁ .derives)))
 
 member-same-length-3 : (t : ℕ) → member-lts.Need-same-length-3 (member-claims t) (member-at t) member.Post
 member-same-length-3 t c = search needs
 
 member-returns-4 : (t : ℕ) → member-lts.Need-returns-4 (member-claims t) (member-at t) member.Post
 unfolding computeForm
-member-returns-4 t c = let room = c .before .before .before .before .before .before .before .before .before .before .before .before .before .pre .1 .0 in right-term (subst (λ y. Ranged (c .before .before .before .before .before .before .before .before .before .before .before .before .before .args .s .now) ((c .before .before .before .before .before .before .before .before .before .before .before .before .before .args .at) + 1) y) (c .before .before .before .before .before .before .before .if1 .left) (c .before .before .before .before .before .before .before .before .is-range .ensures)) (fails (known (c .before .p2 .given .1) (c .before .before .before .before .before .term .ensures)))
+member-returns-4 t c = (let room = c .before .before .before .before .before .before .before .before .before .before .before .before .before .pre .1 .0 in right-term (subst (λ y. Ranged (c .before .before .before .before .before .before .before .before .before .before .before .before .before .args .s .now) ((c .before .before .before .before .before .before .before .before .before .before .before .before .before .args .at) + 1) y) (c .before .before .before .before .before .before .before .if1 .left) (c .before .before .before .before .before .before .before .before .is-range .ensures)) (fails (known (c .before .p2 .given .1) (c .before .before .before .before .before .term .ensures .0))), tt)
 
 operand-kind-at-requires : (t : ℕ) → operand-lts.Need-kind-at-requires (operand-claims t) (operand-at t) operand.Post
 operand-kind-at-requires t c κs = search needs
@@ -702,11 +705,11 @@ operand-same-length t c = search needs
 
 operand-returns : (t : ℕ) → operand-lts.Need-returns (operand-claims t) (operand-at t) operand.Post
 unfolding computeForm
-operand-returns t c = let room = c .before .before .before .before .before .before .before .before .before .before .before .before .before .before .before .before .before .before .before .pre .1 .0 in let h = known-code (c .before .before .before .before .before .before .before .before .before .before .before .before .before .before .before .kind-at .result) (c .before .before .before .before .before .before .before .before .before .before .before .before .enum-told2 .given .1) (c .before .before .before .before .before .before .before .before .before .before .before .before .before .before .start-of .ensures) in let i = c .before .before .before .before .before .before .before .before .before .before .range-end .ensures .minus (c .before .before .before .before .before .before .before .before .before .if2 .taken) in let j = inside (c .before .before .before .before .before .before .before .before .before .before .before .before .before .before .before .before .before .before .before .args .s .now) ((c .before .before .before .before .before .before .before .before .before .before .before .before .before .before .before .before .before .before .before .args .at) + 1) (omega (arith, i .1)) in taken {μ = anOperand (suc (c .before .before .before .before .before .before .before .before .before .before .before .before .before .before .before .before .before .before .before .args .d)) (c .before .before .before .before .before .before .before .before .before .before .before .before .before .before .before .before .before .before .before .args .b) ∷ []} {m = (c .before .before .before .before .before .before .before .before .before .before .before .before .before .before .before .before .before .before .before .args .n) + 4} (opens (suc (c .before .before .before .before .before .before .before .before .before .before .before .before .before .before .before .before .before .before .before .args .d))) (omega arith) (range-well (c .before .before .before .before .before .before .before .before .before .before .before .before .before .before .before .before .before .before .before .args .s .now) (c .before .before .before .before .before .before .before .before .before .before .before .before .before .before .before .before .before .before .before .args .at) (suc (c .before .before .before .before .before .before .before .before .before .before .before .before .before .before .before .before .before .before .before .args .d)) (c .before .before .before .before .before .before .before .before .before .before .range-end .ensures .test ∙ c .before .before .before .before .before .before .before .before .before .if2 .taken)) (λ κ e γ. operand-step (c .before .before .before .before .before .before .before .before .before .before .before .before .before .before .before .before .before .before .before .args .d) (c .before .before .before .before .before .before .before .before .before .before .before .before .before .before .before .before .before .before .before .args .b) κ γ _ (c .before .before .before .before .before .before .before .before .before .before .before .before .before .before .start-of .ensures .start κ (e ∙ sym (c .before .before .before .before .before .before .before .before .before .before .before .before .before .before .before .kind-at .ensures .is)) ∙ ap startAs (c .before .before .before .before .before .before .before .before .before .before .before .before .enum-told2 .given .1))) (takes-kind {μ = []} kind.number (i .1) (omega arith) (λ γ. refl) (here (omega arith)) (omega arith)) (omega arith)
+operand-returns t c = (let room = c .before .before .before .before .before .before .before .before .before .before .before .before .before .before .before .before .before .before .before .pre .1 .0 in let h = known-code (c .before .before .before .before .before .before .before .before .before .before .before .before .before .before .before .kind-at .result) (c .before .before .before .before .before .before .before .before .before .before .before .before .enum-told2 .given .1) (c .before .before .before .before .before .before .before .before .before .before .before .before .before .before .start-of .ensures) in let i = c .before .before .before .before .before .before .before .before .before .before .range-end .ensures .minus (c .before .before .before .before .before .before .before .before .before .if2 .taken) in let j = inside (c .before .before .before .before .before .before .before .before .before .before .before .before .before .before .before .before .before .before .before .args .s .now) ((c .before .before .before .before .before .before .before .before .before .before .before .before .before .before .before .before .before .before .before .args .at) + 1) (omega (arith, i .1)) in taken {μ = anOperand (suc (c .before .before .before .before .before .before .before .before .before .before .before .before .before .before .before .before .before .before .before .args .d)) (c .before .before .before .before .before .before .before .before .before .before .before .before .before .before .before .before .before .before .before .args .b) ∷ []} {m = (c .before .before .before .before .before .before .before .before .before .before .before .before .before .before .before .before .before .before .before .args .n) + 4} (opens (suc (c .before .before .before .before .before .before .before .before .before .before .before .before .before .before .before .before .before .before .before .args .d))) (omega arith) (range-well (c .before .before .before .before .before .before .before .before .before .before .before .before .before .before .before .before .before .before .before .args .s .now) (c .before .before .before .before .before .before .before .before .before .before .before .before .before .before .before .before .before .before .before .args .at) (suc (c .before .before .before .before .before .before .before .before .before .before .before .before .before .before .before .before .before .before .before .args .d)) (c .before .before .before .before .before .before .before .before .before .before .range-end .ensures .test ∙ c .before .before .before .before .before .before .before .before .before .if2 .taken)) (λ κ e γ. operand-step (c .before .before .before .before .before .before .before .before .before .before .before .before .before .before .before .before .before .before .before .args .d) (c .before .before .before .before .before .before .before .before .before .before .before .before .before .before .before .before .before .before .before .args .b) κ γ _ (c .before .before .before .before .before .before .before .before .before .before .before .before .before .before .start-of .ensures .start κ (e ∙ sym (c .before .before .before .before .before .before .before .before .before .before .before .before .before .before .before .kind-at .ensures .is)) ∙ ap startAs (c .before .before .before .before .before .before .before .before .before .before .before .before .enum-told2 .given .1))) (takes-kind {μ = []} kind.number (i .1) (omega arith) (λ γ. refl) (here (omega arith)) (omega arith)) (omega arith), makes (both (wrote (c .before .before .before .before .before .before .before .leaf2 .ensures)) (node-of (c .before .before .before .wide .ensures ∙ (c .before .before .before .before .before .before .before .before .before .before .before .before .before .before .before .kind-at .ensures .is)) refl (c .before .before .put .ensures))) (derived.prefixed (start-at (c .before .before .before .before .before .before .before .before .before .before .before .before .before .before .before .kind-at .ensures .is) (c .before .before .before .before .before .before .before .before .before .before .before .before .enum-told2 .given .1) (c .before .before .before .before .before .before .before .before .before .before .before .before .before .before .start-of .ensures)) (derived.leaf (number-start (c .before .before .before .before .before .before .before .before .before .before .range-end .ensures .minus (c .before .before .before .before .before .before .before .before .before .if2 .taken) .1)))))
 
 operand-returns-2 : (t : ℕ) → operand-lts.Need-returns-2 (operand-claims t) (operand-at t) operand.Post
 unfolding computeForm
-operand-returns-2 t c = let room = c .before .before .before .before .before .before .before .before .before .before .pre .1 .0 in let h = known-code (c .before .before .before .before .before .before .kind-at .result) (c .before .before .before .enum-told2 .given .1) (c .before .before .before .before .before .start-of .ensures) in deeper (opens (suc (c .before .before .before .before .before .before .before .before .before .before .args .d))) (omega arith) (open-deep (c .before .before .before .before .before .before .before .before .before .before .args .s .now) (c .before .before .before .before .before .before .before .before .before .before .args .at) (suc (c .before .before .before .before .before .before .before .before .before .before .args .d)) (omega arith) (c .before .range-end .ensures .test ∙ c .if2 .left)) (λ κ e γ. operand-step (c .before .before .before .before .before .before .before .before .before .before .args .d) (c .before .before .before .before .before .before .before .before .before .before .args .b) κ γ _ (c .before .before .before .before .before .start-of .ensures .start κ (e ∙ sym (c .before .before .before .before .before .before .kind-at .ensures .is)) ∙ ap startAs (c .before .before .before .enum-told2 .given .1)))
+operand-returns-2 t c = (let room = c .before .before .before .before .before .before .before .before .before .before .pre .1 .0 in let h = known-code (c .before .before .before .before .before .before .kind-at .result) (c .before .before .before .enum-told2 .given .1) (c .before .before .before .before .before .start-of .ensures) in deeper (opens (suc (c .before .before .before .before .before .before .before .before .before .before .args .d))) (omega arith) (open-deep (c .before .before .before .before .before .before .before .before .before .before .args .s .now) (c .before .before .before .before .before .before .before .before .before .before .args .at) (suc (c .before .before .before .before .before .before .before .before .before .before .args .d)) (omega arith) (c .before .range-end .ensures .test ∙ c .if2 .left)) (λ κ e γ. operand-step (c .before .before .before .before .before .before .before .before .before .before .args .d) (c .before .before .before .before .before .before .before .before .before .before .args .b) κ γ _ (c .before .before .before .before .before .start-of .ensures .start κ (e ∙ sym (c .before .before .before .before .before .before .kind-at .ensures .is)) ∙ ap startAs (c .before .before .before .enum-told2 .given .1))), tt)
 
 operand-add-operand : (t : ℕ) → operand-lts.Need-add-operand (operand-claims t) (operand-at t) operand.Post
 operand-add-operand t c = search needs
@@ -724,7 +727,7 @@ operand-wide-requires-2 : (t : ℕ) → operand-lts.Need-wide-requires-2 (operan
 operand-wide-requires-2 t c κs = search needs
 
 operand-put-requires-2 : (t : ℕ) → operand-lts.Need-put-requires-2 (operand-claims t) (operand-at t) operand.Post
-operand-put-requires-2 t c κs = let room = c .before .before .before .before .before .before .before .before .before .before .before .before .before .before .before .before .before .pre .1 .0 in let h = known-code (c .before .before .before .before .before .before .before .before .before .before .before .before .before .kind-at .result) (c .before .before .before .before .before .before .before .before .before .before .enum-told2 .given .1) (c .before .before .before .before .before .before .before .before .before .before .before .before .start-of .ensures) in let i = (known (c .before .before .before .e .given .1) (c .before .before .before .before .before .before .before .operand .ensures)) in search needs
+operand-put-requires-2 t c κs = let room = c .before .before .before .before .before .before .before .before .before .before .before .before .before .before .before .before .before .pre .1 .0 in let h = known-code (c .before .before .before .before .before .before .before .before .before .before .before .before .before .kind-at .result) (c .before .before .before .before .before .before .before .before .before .before .enum-told2 .given .1) (c .before .before .before .before .before .before .before .before .before .before .before .before .start-of .ensures) in let i = (known (c .before .before .before .e .given .1) (c .before .before .before .before .before .before .before .operand .ensures .0)) in search needs
 
 operand-enum-known-p : (t : ℕ) → operand-lts.Need-enum-known-p (operand-claims t) (operand-at t) operand.Post
 operand-enum-known-p t c = search needs
@@ -734,7 +737,7 @@ operand-enum-told-3 t c = search needs
 
 operand-returns-3 : (t : ℕ) → operand-lts.Need-returns-3 (operand-claims t) (operand-at t) operand.Post
 unfolding computeForm
-operand-returns-3 t c = let room = c .before .before .before .before .before .before .before .before .pre .1 .0 in let h = known-code (c .before .before .before .before .kind-at .result) (c .before .enum-told3 .given .1) (c .before .before .before .start-of .ensures) in deeper (opens (suc (c .before .before .before .before .before .before .before .before .args .d))) (omega arith) (open-deep (c .before .before .before .before .before .before .before .before .args .s .now) (c .before .before .before .before .before .before .before .before .args .at) (suc (c .before .before .before .before .before .before .before .before .args .d)) (omega arith) (other-kind (c .before .before .before .before .before .before .before .before .args .s .now) (c .before .before .before .before .before .before .before .before .args .at) (λ q. let h = known-code (c .before .before .before .before .kind-at .result) (c .before .enum-told3 .given .1) (c .before .before .before .start-of .ensures) in absurd (omega (arith, (c .before .before .before .before .kind-at .ensures .is)))))) (λ κ e γ. operand-step (c .before .before .before .before .before .before .before .before .args .d) (c .before .before .before .before .before .before .before .before .args .b) κ γ _ (c .before .before .before .start-of .ensures .start κ (e ∙ sym (c .before .before .before .before .kind-at .ensures .is)) ∙ ap startAs (c .before .enum-told3 .given .1)))
+operand-returns-3 t c = (let room = c .before .before .before .before .before .before .before .before .pre .1 .0 in let h = known-code (c .before .before .before .before .kind-at .result) (c .before .enum-told3 .given .1) (c .before .before .before .start-of .ensures) in deeper (opens (suc (c .before .before .before .before .before .before .before .before .args .d))) (omega arith) (open-deep (c .before .before .before .before .before .before .before .before .args .s .now) (c .before .before .before .before .before .before .before .before .args .at) (suc (c .before .before .before .before .before .before .before .before .args .d)) (omega arith) (other-kind (c .before .before .before .before .before .before .before .before .args .s .now) (c .before .before .before .before .before .before .before .before .args .at) (λ q. let h = known-code (c .before .before .before .before .kind-at .result) (c .before .enum-told3 .given .1) (c .before .before .before .start-of .ensures) in absurd (omega (arith, (c .before .before .before .before .kind-at .ensures .is)))))) (λ κ e γ. operand-step (c .before .before .before .before .before .before .before .before .args .d) (c .before .before .before .before .before .before .before .before .args .b) κ γ _ (c .before .before .before .start-of .ensures .start κ (e ∙ sym (c .before .before .before .before .kind-at .ensures .is)) ∙ ap startAs (c .before .enum-told3 .given .1))), tt)
 
 operand-add-term : (t : ℕ) → operand-lts.Need-add-term (operand-claims t) (operand-at t) operand.Post
 operand-add-term t c = search needs
@@ -749,7 +752,7 @@ operand-enum-known-e-2 : (t : ℕ) → operand-lts.Need-enum-known-e-2 (operand-
 operand-enum-known-e-2 t c = search needs
 
 operand-close-requires : (t : ℕ) → operand-lts.Need-close-requires (operand-claims t) (operand-at t) operand.Post
-operand-close-requires t c κs = let room = c .before .before .before .before .before .before .before .before .before .before .before .before .before .before .before .pre .1 .0 in let h = (known (c .before .e2 .given .1) (c .before .before .before .before .before .term .ensures)) in search needs
+operand-close-requires t c κs = let room = c .before .before .before .before .before .before .before .before .before .before .before .before .before .before .before .pre .1 .0 in let h = (known (c .before .e2 .given .1) (c .before .before .before .before .before .term .ensures .0)) in search needs
 
 operand-enum-known-p-2 : (t : ℕ) → operand-lts.Need-enum-known-p-2 (operand-claims t) (operand-at t) operand.Post
 operand-enum-known-p-2 t c = search needs
@@ -759,7 +762,7 @@ operand-enum-told-4 t c = search needs
 
 operand-returns-4 : (t : ℕ) → operand-lts.Need-returns-4 (operand-claims t) (operand-at t) operand.Post
 unfolding computeForm
-operand-returns-4 t c = let room = c .before .before .before .before .before .before .before .before .pre .1 .0 in let h = known-code (c .before .before .before .before .kind-at .result) (c .before .enum-told4 .given .1) (c .before .before .before .start-of .ensures) in deeper (opens (suc (c .before .before .before .before .before .before .before .before .args .d))) (omega arith) (open-deep (c .before .before .before .before .before .before .before .before .args .s .now) (c .before .before .before .before .before .before .before .before .args .at) (suc (c .before .before .before .before .before .before .before .before .args .d)) (omega arith) (other-kind (c .before .before .before .before .before .before .before .before .args .s .now) (c .before .before .before .before .before .before .before .before .args .at) (λ q. let h = known-code (c .before .before .before .before .kind-at .result) (c .before .enum-told4 .given .1) (c .before .before .before .start-of .ensures) in absurd (omega (arith, (c .before .before .before .before .kind-at .ensures .is)))))) (λ κ e γ. operand-step (c .before .before .before .before .before .before .before .before .args .d) (c .before .before .before .before .before .before .before .before .args .b) κ γ _ (c .before .before .before .start-of .ensures .start κ (e ∙ sym (c .before .before .before .before .kind-at .ensures .is)) ∙ ap startAs (c .before .enum-told4 .given .1)))
+operand-returns-4 t c = (let room = c .before .before .before .before .before .before .before .before .pre .1 .0 in let h = known-code (c .before .before .before .before .kind-at .result) (c .before .enum-told4 .given .1) (c .before .before .before .start-of .ensures) in deeper (opens (suc (c .before .before .before .before .before .before .before .before .args .d))) (omega arith) (open-deep (c .before .before .before .before .before .before .before .before .args .s .now) (c .before .before .before .before .before .before .before .before .args .at) (suc (c .before .before .before .before .before .before .before .before .args .d)) (omega arith) (other-kind (c .before .before .before .before .before .before .before .before .args .s .now) (c .before .before .before .before .before .before .before .before .args .at) (λ q. let h = known-code (c .before .before .before .before .kind-at .result) (c .before .enum-told4 .given .1) (c .before .before .before .start-of .ensures) in absurd (omega (arith, (c .before .before .before .before .kind-at .ensures .is)))))) (λ κ e γ. operand-step (c .before .before .before .before .before .before .before .before .args .d) (c .before .before .before .before .before .before .before .before .args .b) κ γ _ (c .before .before .before .start-of .ensures .start κ (e ∙ sym (c .before .before .before .before .kind-at .ensures .is)) ∙ ap startAs (c .before .enum-told4 .given .1))), tt)
 
 operand-add-brace : (t : ℕ) → operand-lts.Need-add-brace (operand-claims t) (operand-at t) operand.Post
 operand-add-brace t c = search needs
@@ -781,53 +784,53 @@ operand-same-length-2 t c = search needs
 
 operand-returns-5 : (t : ℕ) → operand-lts.Need-returns-5 (operand-claims t) (operand-at t) operand.Post
 unfolding computeForm
-operand-returns-5 t c = let room = c .before .before .before .before .before .before .before .before .before .before .before .pre .1 .0 in let h = known-code (c .before .before .before .before .before .before .before .kind-at .result) (c .before .before .before .before .enum-told .given .1) (c .before .before .before .before .before .before .start-of .ensures) in takes {μ = []} (omega arith) (λ κ e γ. operand-step (c .before .before .before .before .before .before .before .before .before .before .before .args .d) (c .before .before .before .before .before .before .before .before .before .before .before .args .b) κ γ _ (c .before .before .before .before .before .before .start-of .ensures .start κ (e ∙ sym (c .before .before .before .before .before .before .before .kind-at .ensures .is)) ∙ ap startAs (c .before .before .before .before .enum-told .given .1))) (here (omega arith)) (omega arith)
+operand-returns-5 t c = (let room = c .before .before .before .before .before .before .before .before .before .before .before .pre .1 .0 in let h = known-code (c .before .before .before .before .before .before .before .kind-at .result) (c .before .before .before .before .enum-told .given .1) (c .before .before .before .before .before .before .start-of .ensures) in takes {μ = []} (omega arith) (λ κ e γ. operand-step (c .before .before .before .before .before .before .before .before .before .before .before .args .d) (c .before .before .before .before .before .before .before .before .before .before .before .args .b) κ γ _ (c .before .before .before .before .before .before .start-of .ensures .start κ (e ∙ sym (c .before .before .before .before .before .before .before .kind-at .ensures .is)) ∙ ap startAs (c .before .before .before .before .enum-told .given .1))) (here (omega arith)) (omega arith), makes (wrote (c .before .before .leaf .ensures)) (derived.leaf (start-at (c .before .before .before .before .before .before .before .kind-at .ensures .is) (c .before .before .before .before .enum-told .given .1) (c .before .before .before .before .before .before .start-of .ensures))))
 
 operand-same-length-3 : (t : ℕ) → operand-lts.Need-same-length-3 (operand-claims t) (operand-at t) operand.Post
 operand-same-length-3 t c = search needs
 
 operand-returns-6 : (t : ℕ) → operand-lts.Need-returns-6 (operand-claims t) (operand-at t) operand.Post
 unfolding computeForm
-operand-returns-6 t c = let room = c .before .before .before .before .before .before .before .before .before .before .before .before .before .before .before .before .before .before .before .before .pre .1 .0 in let h = known-code (c .before .before .before .before .before .before .before .before .before .before .before .before .before .before .before .before .kind-at .result) (c .before .before .before .before .before .before .before .before .before .before .before .before .before .enum-told2 .given .1) (c .before .before .before .before .before .before .before .before .before .before .before .before .before .before .before .start-of .ensures) in let i = (known (c .before .before .before .before .before .before .e .given .1) (c .before .before .before .before .before .before .before .before .before .before .operand .ensures)) in taken {μ = anOperand (suc (c .before .before .before .before .before .before .before .before .before .before .before .before .before .before .before .before .before .before .before .before .args .d)) (c .before .before .before .before .before .before .before .before .before .before .before .before .before .before .before .before .before .before .before .before .args .b) ∷ []} {m = (c .before .before .before .before .before .before .before .before .before .before .before .before .before .before .before .before .before .before .before .before .args .n) + 4} (opens (suc (c .before .before .before .before .before .before .before .before .before .before .before .before .before .before .before .before .before .before .before .before .args .d))) (omega arith) (open-well (c .before .before .before .before .before .before .before .before .before .before .before .before .before .before .before .before .before .before .before .before .args .s .now) (c .before .before .before .before .before .before .before .before .before .before .before .before .before .before .before .before .before .before .before .before .args .at) (suc (c .before .before .before .before .before .before .before .before .before .before .before .before .before .before .before .before .before .before .before .before .args .d)) (omega arith)) (λ κ e γ. operand-step (c .before .before .before .before .before .before .before .before .before .before .before .before .before .before .before .before .before .before .before .before .args .d) (c .before .before .before .before .before .before .before .before .before .before .before .before .before .before .before .before .before .before .before .before .args .b) κ γ _ (c .before .before .before .before .before .before .before .before .before .before .before .before .before .before .before .start-of .ensures .start κ (e ∙ sym (c .before .before .before .before .before .before .before .before .before .before .before .before .before .before .before .before .kind-at .ensures .is)) ∙ ap startAs (c .before .before .before .before .before .before .before .before .before .before .before .before .before .enum-told2 .given .1))) (counted {c = (c .before .before .before .before .before .before .before .before .before .before .before .before .before .before .before .before .before .before .before .before .args .n) + 4} (omega arith) (raised (λ x. anOperand x (c .before .before .before .before .before .before .before .before .before .before .before .before .before .before .before .before .before .before .before .before .args .b) ∷ []) (c .before .before .before .before .before .before .before .before .before .before .before .before .before .before .before .before .before .before .before .before .args .d) i)) (omega arith)
+operand-returns-6 t c = (let room = c .before .before .before .before .before .before .before .before .before .before .before .before .before .before .before .before .before .before .before .before .pre .1 .0 in let h = known-code (c .before .before .before .before .before .before .before .before .before .before .before .before .before .before .before .before .kind-at .result) (c .before .before .before .before .before .before .before .before .before .before .before .before .before .enum-told2 .given .1) (c .before .before .before .before .before .before .before .before .before .before .before .before .before .before .before .start-of .ensures) in let i = (known (c .before .before .before .before .before .before .e .given .1) (c .before .before .before .before .before .before .before .before .before .before .operand .ensures .0)) in taken {μ = anOperand (suc (c .before .before .before .before .before .before .before .before .before .before .before .before .before .before .before .before .before .before .before .before .args .d)) (c .before .before .before .before .before .before .before .before .before .before .before .before .before .before .before .before .before .before .before .before .args .b) ∷ []} {m = (c .before .before .before .before .before .before .before .before .before .before .before .before .before .before .before .before .before .before .before .before .args .n) + 4} (opens (suc (c .before .before .before .before .before .before .before .before .before .before .before .before .before .before .before .before .before .before .before .before .args .d))) (omega arith) (open-well (c .before .before .before .before .before .before .before .before .before .before .before .before .before .before .before .before .before .before .before .before .args .s .now) (c .before .before .before .before .before .before .before .before .before .before .before .before .before .before .before .before .before .before .before .before .args .at) (suc (c .before .before .before .before .before .before .before .before .before .before .before .before .before .before .before .before .before .before .before .before .args .d)) (omega arith)) (λ κ e γ. operand-step (c .before .before .before .before .before .before .before .before .before .before .before .before .before .before .before .before .before .before .before .before .args .d) (c .before .before .before .before .before .before .before .before .before .before .before .before .before .before .before .before .before .before .before .before .args .b) κ γ _ (c .before .before .before .before .before .before .before .before .before .before .before .before .before .before .before .start-of .ensures .start κ (e ∙ sym (c .before .before .before .before .before .before .before .before .before .before .before .before .before .before .before .before .kind-at .ensures .is)) ∙ ap startAs (c .before .before .before .before .before .before .before .before .before .before .before .before .before .enum-told2 .given .1))) (counted {c = (c .before .before .before .before .before .before .before .before .before .before .before .before .before .before .before .before .before .before .before .before .args .n) + 4} (omega arith) (raised (λ x. anOperand x (c .before .before .before .before .before .before .before .before .before .before .before .before .before .before .before .before .before .before .before .before .args .b) ∷ []) (c .before .before .before .before .before .before .before .before .before .before .before .before .before .before .before .before .before .before .before .before .args .d) i)) (omega arith), let w₁ = (made (c .before .before .before .before .before .before .e .given .1) (c .before .before .before .before .before .before .before .before .before .before .operand .ensures .1)) in makes (both (built w₁) (node-of (c .before .before .before .wide2 .ensures ∙ (c .before .before .before .before .before .before .before .before .before .before .before .before .before .before .before .before .kind-at .ensures .is)) refl (c .before .before .put2 .ensures))) (derived.prefixed (start-at (c .before .before .before .before .before .before .before .before .before .before .before .before .before .before .before .before .kind-at .ensures .is) (c .before .before .before .before .before .before .before .before .before .before .before .before .before .enum-told2 .given .1) (c .before .before .before .before .before .before .before .before .before .before .before .before .before .before .before .start-of .ensures)) (w₁ .derives)))
 
 operand-same-length-4 : (t : ℕ) → operand-lts.Need-same-length-4 (operand-claims t) (operand-at t) operand.Post
 operand-same-length-4 t c = search needs
 
 operand-returns-7 : (t : ℕ) → operand-lts.Need-returns-7 (operand-claims t) (operand-at t) operand.Post
 unfolding computeForm
-operand-returns-7 t c = let room = c .before .before .before .before .before .before .before .before .before .before .before .before .before .before .before .pre .1 .0 in let h = known-code (c .before .before .before .before .before .before .before .before .before .before .before .kind-at .result) (c .before .before .before .before .before .before .before .before .enum-told2 .given .1) (c .before .before .before .before .before .before .before .before .before .before .start-of .ensures) in taken {μ = anOperand (suc (c .before .before .before .before .before .before .before .before .before .before .before .before .before .before .before .args .d)) (c .before .before .before .before .before .before .before .before .before .before .before .before .before .before .before .args .b) ∷ []} {m = (c .before .before .before .before .before .before .before .before .before .before .before .before .before .before .before .args .n) + 4} (opens (suc (c .before .before .before .before .before .before .before .before .before .before .before .before .before .before .before .args .d))) (omega arith) (open-well (c .before .before .before .before .before .before .before .before .before .before .before .before .before .before .before .args .s .now) (c .before .before .before .before .before .before .before .before .before .before .before .before .before .before .before .args .at) (suc (c .before .before .before .before .before .before .before .before .before .before .before .before .before .before .before .args .d)) (omega arith)) (λ κ e γ. operand-step (c .before .before .before .before .before .before .before .before .before .before .before .before .before .before .before .args .d) (c .before .before .before .before .before .before .before .before .before .before .before .before .before .before .before .args .b) κ γ _ (c .before .before .before .before .before .before .before .before .before .before .start-of .ensures .start κ (e ∙ sym (c .before .before .before .before .before .before .before .before .before .before .before .kind-at .ensures .is)) ∙ ap startAs (c .before .before .before .before .before .before .before .before .enum-told2 .given .1))) (fails (raised (λ x. anOperand x (c .before .before .before .before .before .before .before .before .before .before .before .before .before .before .before .args .b) ∷ []) (c .before .before .before .before .before .before .before .before .before .before .before .before .before .before .before .args .d) (known (c .before .p .given .1) (c .before .before .before .before .before .operand .ensures)))) (omega arith)
+operand-returns-7 t c = (let room = c .before .before .before .before .before .before .before .before .before .before .before .before .before .before .before .pre .1 .0 in let h = known-code (c .before .before .before .before .before .before .before .before .before .before .before .kind-at .result) (c .before .before .before .before .before .before .before .before .enum-told2 .given .1) (c .before .before .before .before .before .before .before .before .before .before .start-of .ensures) in taken {μ = anOperand (suc (c .before .before .before .before .before .before .before .before .before .before .before .before .before .before .before .args .d)) (c .before .before .before .before .before .before .before .before .before .before .before .before .before .before .before .args .b) ∷ []} {m = (c .before .before .before .before .before .before .before .before .before .before .before .before .before .before .before .args .n) + 4} (opens (suc (c .before .before .before .before .before .before .before .before .before .before .before .before .before .before .before .args .d))) (omega arith) (open-well (c .before .before .before .before .before .before .before .before .before .before .before .before .before .before .before .args .s .now) (c .before .before .before .before .before .before .before .before .before .before .before .before .before .before .before .args .at) (suc (c .before .before .before .before .before .before .before .before .before .before .before .before .before .before .before .args .d)) (omega arith)) (λ κ e γ. operand-step (c .before .before .before .before .before .before .before .before .before .before .before .before .before .before .before .args .d) (c .before .before .before .before .before .before .before .before .before .before .before .before .before .before .before .args .b) κ γ _ (c .before .before .before .before .before .before .before .before .before .before .start-of .ensures .start κ (e ∙ sym (c .before .before .before .before .before .before .before .before .before .before .before .kind-at .ensures .is)) ∙ ap startAs (c .before .before .before .before .before .before .before .before .enum-told2 .given .1))) (fails (raised (λ x. anOperand x (c .before .before .before .before .before .before .before .before .before .before .before .before .before .before .before .args .b) ∷ []) (c .before .before .before .before .before .before .before .before .before .before .before .before .before .before .before .args .d) (known (c .before .p .given .1) (c .before .before .before .before .before .operand .ensures .0)))) (omega arith), tt)
 
 operand-same-length-5 : (t : ℕ) → operand-lts.Need-same-length-5 (operand-claims t) (operand-at t) operand.Post
 operand-same-length-5 t c = search needs
 
 operand-returns-8 : (t : ℕ) → operand-lts.Need-returns-8 (operand-claims t) (operand-at t) operand.Post
 unfolding computeForm
-operand-returns-8 t c = let room = c .before .before .before .before .before .before .before .before .before .before .before .before .before .before .before .before .pre .1 .0 in let h = known-code (c .before .before .before .before .before .before .before .before .before .before .before .before .kind-at .result) (c .before .before .before .before .before .before .before .before .before .enum-told3 .given .1) (c .before .before .before .before .before .before .before .before .before .before .before .start-of .ensures) in taken {μ = aTerm (suc (c .before .before .before .before .before .before .before .before .before .before .before .before .before .before .before .before .args .d)) (c .before .before .before .before .before .before .before .before .before .before .before .before .before .before .before .before .args .b) ∷ exact kind.closeBracket ∷ []} {m = (c .before .before .before .before .before .before .before .before .before .before .before .before .before .before .before .before .args .n) + 4} (opens (suc (c .before .before .before .before .before .before .before .before .before .before .before .before .before .before .before .before .args .d))) (omega arith) (open-well (c .before .before .before .before .before .before .before .before .before .before .before .before .before .before .before .before .args .s .now) (c .before .before .before .before .before .before .before .before .before .before .before .before .before .before .before .before .args .at) (suc (c .before .before .before .before .before .before .before .before .before .before .before .before .before .before .before .before .args .d)) (omega arith)) (λ κ e γ. operand-step (c .before .before .before .before .before .before .before .before .before .before .before .before .before .before .before .before .args .d) (c .before .before .before .before .before .before .before .before .before .before .before .before .before .before .before .before .args .b) κ γ _ (c .before .before .before .before .before .before .before .before .before .before .before .start-of .ensures .start κ (e ∙ sym (c .before .before .before .before .before .before .before .before .before .before .before .before .kind-at .ensures .is)) ∙ ap startAs (c .before .before .before .before .before .before .before .before .before .enum-told3 .given .1))) (wider (next (framed (exact kind.closeBracket ∷ []) (raised (λ x. aTerm x (c .before .before .before .before .before .before .before .before .before .before .before .before .before .before .before .before .args .b) ∷ []) (c .before .before .before .before .before .before .before .before .before .before .before .before .before .before .before .before .args .d) (known (c .before .before .e2 .given .1) (c .before .before .before .before .before .before .term .ensures)))) (c .close .ensures .reads kind.closeBracket refl)) (omega arith)) (omega arith)
+operand-returns-8 t c = (let room = c .before .before .before .before .before .before .before .before .before .before .before .before .before .before .before .before .pre .1 .0 in let h = known-code (c .before .before .before .before .before .before .before .before .before .before .before .before .kind-at .result) (c .before .before .before .before .before .before .before .before .before .enum-told3 .given .1) (c .before .before .before .before .before .before .before .before .before .before .before .start-of .ensures) in taken {μ = aTerm (suc (c .before .before .before .before .before .before .before .before .before .before .before .before .before .before .before .before .args .d)) (c .before .before .before .before .before .before .before .before .before .before .before .before .before .before .before .before .args .b) ∷ exact kind.closeBracket ∷ []} {m = (c .before .before .before .before .before .before .before .before .before .before .before .before .before .before .before .before .args .n) + 4} (opens (suc (c .before .before .before .before .before .before .before .before .before .before .before .before .before .before .before .before .args .d))) (omega arith) (open-well (c .before .before .before .before .before .before .before .before .before .before .before .before .before .before .before .before .args .s .now) (c .before .before .before .before .before .before .before .before .before .before .before .before .before .before .before .before .args .at) (suc (c .before .before .before .before .before .before .before .before .before .before .before .before .before .before .before .before .args .d)) (omega arith)) (λ κ e γ. operand-step (c .before .before .before .before .before .before .before .before .before .before .before .before .before .before .before .before .args .d) (c .before .before .before .before .before .before .before .before .before .before .before .before .before .before .before .before .args .b) κ γ _ (c .before .before .before .before .before .before .before .before .before .before .before .start-of .ensures .start κ (e ∙ sym (c .before .before .before .before .before .before .before .before .before .before .before .before .kind-at .ensures .is)) ∙ ap startAs (c .before .before .before .before .before .before .before .before .before .enum-told3 .given .1))) (wider (next (framed (exact kind.closeBracket ∷ []) (raised (λ x. aTerm x (c .before .before .before .before .before .before .before .before .before .before .before .before .before .before .before .before .args .b) ∷ []) (c .before .before .before .before .before .before .before .before .before .before .before .before .before .before .before .before .args .d) (known (c .before .before .e2 .given .1) (c .before .before .before .before .before .before .term .ensures .0)))) (c .close .ensures .reads kind.closeBracket refl)) (omega arith)) (omega arith), let w₁ = (made (c .before .before .e2 .given .1) (c .before .before .before .before .before .before .term .ensures .1)) in let t₁ = known-code (c .before .before .before .before .before .before .before .before .before .before .before .before .kind-at .result) (c .before .before .before .before .before .before .before .before .before .enum-told3 .given .1) (c .before .before .before .before .before .before .before .before .before .before .before .start-of .ensures) in closing (c .close .ensures) (λ q. makes (built w₁) (derived.bracketed (sym (c .before .before .before .before .before .before .before .before .before .before .before .before .kind-at .ensures .is) ∙ t₁) (w₁ .derives) q)))
 
 operand-same-length-6 : (t : ℕ) → operand-lts.Need-same-length-6 (operand-claims t) (operand-at t) operand.Post
 operand-same-length-6 t c = search needs
 
 operand-returns-9 : (t : ℕ) → operand-lts.Need-returns-9 (operand-claims t) (operand-at t) operand.Post
 unfolding computeForm
-operand-returns-9 t c = let room = c .before .before .before .before .before .before .before .before .before .before .before .before .before .before .before .pre .1 .0 in let h = known-code (c .before .before .before .before .before .before .before .before .before .before .before .kind-at .result) (c .before .before .before .before .before .before .before .before .enum-told3 .given .1) (c .before .before .before .before .before .before .before .before .before .before .start-of .ensures) in taken {μ = aTerm (suc (c .before .before .before .before .before .before .before .before .before .before .before .before .before .before .before .args .d)) (c .before .before .before .before .before .before .before .before .before .before .before .before .before .before .before .args .b) ∷ exact kind.closeBracket ∷ []} {m = (c .before .before .before .before .before .before .before .before .before .before .before .before .before .before .before .args .n) + 4} (opens (suc (c .before .before .before .before .before .before .before .before .before .before .before .before .before .before .before .args .d))) (omega arith) (open-well (c .before .before .before .before .before .before .before .before .before .before .before .before .before .before .before .args .s .now) (c .before .before .before .before .before .before .before .before .before .before .before .before .before .before .before .args .at) (suc (c .before .before .before .before .before .before .before .before .before .before .before .before .before .before .before .args .d)) (omega arith)) (λ κ e γ. operand-step (c .before .before .before .before .before .before .before .before .before .before .before .before .before .before .before .args .d) (c .before .before .before .before .before .before .before .before .before .before .before .before .before .before .before .args .b) κ γ _ (c .before .before .before .before .before .before .before .before .before .before .start-of .ensures .start κ (e ∙ sym (c .before .before .before .before .before .before .before .before .before .before .before .kind-at .ensures .is)) ∙ ap startAs (c .before .before .before .before .before .before .before .before .enum-told3 .given .1))) (fails (framed (exact kind.closeBracket ∷ []) (raised (λ x. aTerm x (c .before .before .before .before .before .before .before .before .before .before .before .before .before .before .before .args .b) ∷ []) (c .before .before .before .before .before .before .before .before .before .before .before .before .before .before .before .args .d) (known (c .before .p2 .given .1) (c .before .before .before .before .before .term .ensures))))) (omega arith)
+operand-returns-9 t c = (let room = c .before .before .before .before .before .before .before .before .before .before .before .before .before .before .before .pre .1 .0 in let h = known-code (c .before .before .before .before .before .before .before .before .before .before .before .kind-at .result) (c .before .before .before .before .before .before .before .before .enum-told3 .given .1) (c .before .before .before .before .before .before .before .before .before .before .start-of .ensures) in taken {μ = aTerm (suc (c .before .before .before .before .before .before .before .before .before .before .before .before .before .before .before .args .d)) (c .before .before .before .before .before .before .before .before .before .before .before .before .before .before .before .args .b) ∷ exact kind.closeBracket ∷ []} {m = (c .before .before .before .before .before .before .before .before .before .before .before .before .before .before .before .args .n) + 4} (opens (suc (c .before .before .before .before .before .before .before .before .before .before .before .before .before .before .before .args .d))) (omega arith) (open-well (c .before .before .before .before .before .before .before .before .before .before .before .before .before .before .before .args .s .now) (c .before .before .before .before .before .before .before .before .before .before .before .before .before .before .before .args .at) (suc (c .before .before .before .before .before .before .before .before .before .before .before .before .before .before .before .args .d)) (omega arith)) (λ κ e γ. operand-step (c .before .before .before .before .before .before .before .before .before .before .before .before .before .before .before .args .d) (c .before .before .before .before .before .before .before .before .before .before .before .before .before .before .before .args .b) κ γ _ (c .before .before .before .before .before .before .before .before .before .before .start-of .ensures .start κ (e ∙ sym (c .before .before .before .before .before .before .before .before .before .before .before .kind-at .ensures .is)) ∙ ap startAs (c .before .before .before .before .before .before .before .before .enum-told3 .given .1))) (fails (framed (exact kind.closeBracket ∷ []) (raised (λ x. aTerm x (c .before .before .before .before .before .before .before .before .before .before .before .before .before .before .before .args .b) ∷ []) (c .before .before .before .before .before .before .before .before .before .before .before .before .before .before .before .args .d) (known (c .before .p2 .given .1) (c .before .before .before .before .before .term .ensures .0))))) (omega arith), tt)
 
 operand-same-length-7 : (t : ℕ) → operand-lts.Need-same-length-7 (operand-claims t) (operand-at t) operand.Post
 operand-same-length-7 t c = search needs
 
 operand-returns-10 : (t : ℕ) → operand-lts.Need-returns-10 (operand-claims t) (operand-at t) operand.Post
 unfolding computeForm
-operand-returns-10 t c = let room = c .before .before .before .before .before .before .before .before .before .before .before .before .pre .1 .0 in let h = known-code (c .before .before .before .before .before .before .before .before .kind-at .result) (c .before .before .before .before .before .enum-told4 .given .1) (c .before .before .before .before .before .before .before .start-of .ensures) in taken {μ = aBrace (suc (c .before .before .before .before .before .before .before .before .before .before .before .before .args .d)) (c .before .before .before .before .before .before .before .before .before .before .before .before .args .b) ∷ []} {m = (c .before .before .before .before .before .before .before .before .before .before .before .before .args .n) + 4} (opens (suc (c .before .before .before .before .before .before .before .before .before .before .before .before .args .d))) (omega arith) (open-well (c .before .before .before .before .before .before .before .before .before .before .before .before .args .s .now) (c .before .before .before .before .before .before .before .before .before .before .before .before .args .at) (suc (c .before .before .before .before .before .before .before .before .before .before .before .before .args .d)) (omega arith)) (λ κ e γ. operand-step (c .before .before .before .before .before .before .before .before .before .before .before .before .args .d) (c .before .before .before .before .before .before .before .before .before .before .before .before .args .b) κ γ _ (c .before .before .before .before .before .before .before .start-of .ensures .start κ (e ∙ sym (c .before .before .before .before .before .before .before .before .kind-at .ensures .is)) ∙ ap startAs (c .before .before .before .before .before .enum-told4 .given .1))) (raised (λ x. aBrace x (c .before .before .before .before .before .before .before .before .before .before .before .before .args .b) ∷ []) (c .before .before .before .before .before .before .before .before .before .before .before .before .args .d) (c .before .before .brace .ensures)) (omega arith)
+operand-returns-10 t c = (let room = c .before .before .before .before .before .before .before .before .before .before .before .before .pre .1 .0 in let h = known-code (c .before .before .before .before .before .before .before .before .kind-at .result) (c .before .before .before .before .before .enum-told4 .given .1) (c .before .before .before .before .before .before .before .start-of .ensures) in taken {μ = aBrace (suc (c .before .before .before .before .before .before .before .before .before .before .before .before .args .d)) (c .before .before .before .before .before .before .before .before .before .before .before .before .args .b) ∷ []} {m = (c .before .before .before .before .before .before .before .before .before .before .before .before .args .n) + 4} (opens (suc (c .before .before .before .before .before .before .before .before .before .before .before .before .args .d))) (omega arith) (open-well (c .before .before .before .before .before .before .before .before .before .before .before .before .args .s .now) (c .before .before .before .before .before .before .before .before .before .before .before .before .args .at) (suc (c .before .before .before .before .before .before .before .before .before .before .before .before .args .d)) (omega arith)) (λ κ e γ. operand-step (c .before .before .before .before .before .before .before .before .before .before .before .before .args .d) (c .before .before .before .before .before .before .before .before .before .before .before .before .args .b) κ γ _ (c .before .before .before .before .before .before .before .start-of .ensures .start κ (e ∙ sym (c .before .before .before .before .before .before .before .before .kind-at .ensures .is)) ∙ ap startAs (c .before .before .before .before .before .enum-told4 .given .1))) (raised (λ x. aBrace x (c .before .before .before .before .before .before .before .before .before .before .before .before .args .b) ∷ []) (c .before .before .before .before .before .before .before .before .before .before .before .before .args .d) (c .before .before .brace .ensures .0)) (omega arith), c .before .before .brace .ensures .1)
 
 operand-same-length-8 : (t : ℕ) → operand-lts.Need-same-length-8 (operand-claims t) (operand-at t) operand.Post
 operand-same-length-8 t c = search needs
 
 operand-returns-11 : (t : ℕ) → operand-lts.Need-returns-11 (operand-claims t) (operand-at t) operand.Post
 unfolding computeForm
-operand-returns-11 t c = let room = c .before .before .before .before .before .before .before .before .before .before .before .pre .1 .0 in let h = known-code (c .before .before .before .before .before .before .before .kind-at .result) (c .before .before .before .before .enum-told5 .given .1) (c .before .before .before .before .before .before .start-of .ensures) in takes {μ = aName ∷ anEmptyRest ∷ []} (omega arith) (λ κ e γ. operand-step (c .before .before .before .before .before .before .before .before .before .before .before .args .d) (c .before .before .before .before .before .before .before .before .before .before .before .args .b) κ γ _ (c .before .before .before .before .before .before .start-of .ensures .start κ (e ∙ sym (c .before .before .before .before .before .before .before .kind-at .ensures .is)) ∙ ap startAs (c .before .before .before .before .enum-told5 .given .1))) (c .before .before .empty .ensures) (omega arith)
+operand-returns-11 t c = (let room = c .before .before .before .before .before .before .before .before .before .before .before .pre .1 .0 in let h = known-code (c .before .before .before .before .before .before .before .kind-at .result) (c .before .before .before .before .enum-told5 .given .1) (c .before .before .before .before .before .before .start-of .ensures) in takes {μ = aName ∷ anEmptyRest ∷ []} (omega arith) (λ κ e γ. operand-step (c .before .before .before .before .before .before .before .before .before .before .before .args .d) (c .before .before .before .before .before .before .before .before .before .before .before .args .b) κ γ _ (c .before .before .before .before .before .before .start-of .ensures .start κ (e ∙ sym (c .before .before .before .before .before .before .before .kind-at .ensures .is)) ∙ ap startAs (c .before .before .before .before .enum-told5 .given .1))) (c .before .before .empty .ensures .0) (omega arith), c .before .before .empty .ensures .1)
 
 operand-returns-12 : (t : ℕ) → operand-lts.Need-returns-12 (operand-claims t) (operand-at t) operand.Post
 unfolding computeForm
-operand-returns-12 t c = let room = c .before .before .before .before .before .before .before .pre .1 .0 in stops (omega arith) (λ κ e γ. operand-step (c .before .before .before .before .before .before .before .args .d) (c .before .before .before .before .before .before .before .args .b) κ γ _ (c .before .before .start-of .ensures .start κ (e ∙ sym (c .before .before .before .kind-at .ensures .is)) ∙ ap startAs (c .enum-told6 .given .1))) (λ γ. refl)
+operand-returns-12 t c = (let room = c .before .before .before .before .before .before .before .pre .1 .0 in stops (omega arith) (λ κ e γ. operand-step (c .before .before .before .before .before .before .before .args .d) (c .before .before .before .before .before .before .before .args .b) κ γ _ (c .before .before .start-of .ensures .start κ (e ∙ sym (c .before .before .before .kind-at .ensures .is)) ∙ ap startAs (c .enum-told6 .given .1))) (λ γ. refl), tt)
 
 pairs-close-requires : (t : ℕ) → pairs-lts.Need-close-requires (pairs-claims t) (pairs-at t) pairs.Post
 unfolding codeOf
@@ -849,7 +852,7 @@ pairs-kind-at-requires t c κs = search needs
 
 pairs-put-requires : (t : ℕ) → pairs-lts.Need-put-requires (pairs-claims t) (pairs-at t) pairs.Post
 unfolding codeOf
-pairs-put-requires t c κs = let room = c .before .before .before .before .before .before .before .before .before .before .before .before .before .before .before .before .before .pre .1 .0 in let h = (known (c .before .before .before .before .before .before .before .before .before .before .before .a .given .1) (c .before .before .before .before .before .before .before .before .before .before .before .before .before .close .ensures .reads kind.maplet refl)) in let i = (known (c .before .before .before .before .e .given .1) (c .before .before .before .before .before .before .before .before .term .ensures)) in search needs
+pairs-put-requires t c κs = let room = c .before .before .before .before .before .before .before .before .before .before .before .before .before .before .before .before .before .pre .1 .0 in let h = (known (c .before .before .before .before .before .before .before .before .before .before .before .a .given .1) (c .before .before .before .before .before .before .before .before .before .before .before .before .before .close .ensures .reads kind.maplet refl)) in let i = (known (c .before .before .before .before .e .given .1) (c .before .before .before .before .before .before .before .before .term .ensures .0)) in search needs
 
 pairs-add-t36 : (t : ℕ) → pairs-lts.Need-add-t36 (pairs-claims t) (pairs-at t) pairs.Post
 pairs-add-t36 t c = search needs
@@ -859,28 +862,28 @@ pairs-same-length t c = let k = c .before .before .before .before .before .befor
 
 pairs-returns : (t : ℕ) → pairs-lts.Need-returns (pairs-claims t) (pairs-at t) pairs.Post
 unfolding computeForm
-pairs-returns t c = let room = c .before .before .before .before .before .before .before .before .before .before .before .before .before .before .before .before .before .before .before .before .pre .1 .0 in let h = (known (c .before .before .before .before .before .before .before .before .before .before .before .before .before .before .a .given .1) (c .before .before .before .before .before .before .before .before .before .before .before .before .before .before .before .before .close .ensures .reads kind.maplet refl)) in let i = (known (c .before .before .before .before .before .before .before .e .given .1) (c .before .before .before .before .before .before .before .before .before .before .before .term .ensures)) in next (counted {c = (c .before .before .before .before .before .before .before .before .before .before .before .before .before .before .before .before .before .before .before .before .args .n)} {d = (c .before .before .before .before .before .before .before .before .before .before .before .before .before .before .before .before .before .before .before .before .args .n)} (omega arith) (framed (aTerm (c .before .before .before .before .before .before .before .before .before .before .before .before .before .before .before .before .before .before .before .before .args .d) (c .before .before .before .before .before .before .before .before .before .before .before .before .before .before .before .before .before .before .before .before .args .b) ∷ aPairs (c .before .before .before .before .before .before .before .before .before .before .before .before .before .before .before .before .before .before .before .before .args .d) (c .before .before .before .before .before .before .before .before .before .before .before .before .before .before .before .before .before .before .before .before .args .b) ∷ []) h)) (next (framed (aPairs (c .before .before .before .before .before .before .before .before .before .before .before .before .before .before .before .before .before .before .before .before .args .d) (c .before .before .before .before .before .before .before .before .before .before .before .before .before .before .before .before .before .before .before .before .args .b) ∷ []) i) (takes-kind {μ = []} kind.closeBrace (sym (c .before .before .before .before .before .kind-at .ensures .is) ∙ c .before .before .before .before .if1 .taken) (omega arith) (λ γ. refl) (here (omega arith)) (omega arith)))
+pairs-returns t c = (let room = c .before .before .before .before .before .before .before .before .before .before .before .before .before .before .before .before .before .before .before .before .pre .1 .0 in let h = (known (c .before .before .before .before .before .before .before .before .before .before .before .before .before .before .a .given .1) (c .before .before .before .before .before .before .before .before .before .before .before .before .before .before .before .before .close .ensures .reads kind.maplet refl)) in let i = (known (c .before .before .before .before .before .before .before .e .given .1) (c .before .before .before .before .before .before .before .before .before .before .before .term .ensures .0)) in next (counted {c = (c .before .before .before .before .before .before .before .before .before .before .before .before .before .before .before .before .before .before .before .before .args .n)} {d = (c .before .before .before .before .before .before .before .before .before .before .before .before .before .before .before .before .before .before .before .before .args .n)} (omega arith) (framed (aTerm (c .before .before .before .before .before .before .before .before .before .before .before .before .before .before .before .before .before .before .before .before .args .d) (c .before .before .before .before .before .before .before .before .before .before .before .before .before .before .before .before .before .before .before .before .args .b) ∷ aPairs (c .before .before .before .before .before .before .before .before .before .before .before .before .before .before .before .before .before .before .before .before .args .d) (c .before .before .before .before .before .before .before .before .before .before .before .before .before .before .before .before .before .before .before .before .args .b) ∷ []) h)) (next (framed (aPairs (c .before .before .before .before .before .before .before .before .before .before .before .before .before .before .before .before .before .before .before .before .args .d) (c .before .before .before .before .before .before .before .before .before .before .before .before .before .before .before .before .before .before .before .before .args .b) ∷ []) i) (takes-kind {μ = []} kind.closeBrace (sym (c .before .before .before .before .before .kind-at .ensures .is) ∙ c .before .before .before .before .if1 .taken) (omega arith) (λ γ. refl) (here (omega arith)) (omega arith))), let t₁ = closed (c .before .before .before .before .before .before .before .before .before .before .before .before .before .before .a .given .1) (c .before .before .before .before .before .before .before .before .before .before .before .before .before .before .before .before .close .ensures) in let w₁ = (made (c .before .before .before .before .before .before .before .e .given .1) (c .before .before .before .before .before .before .before .before .before .before .before .term .ensures .1)) in makes (both (built w₁) (wrote (c .before .before .put .ensures))) (derived.pairsEnd (t₁ .1) (from (t₁ .0) (w₁ .derives)) (sym (c .before .before .before .before .before .kind-at .ensures .is) ∙ c .before .before .before .before .if1 .taken)))
 
 pairs-add-term : (t : ℕ) → pairs-lts.Need-add-term (pairs-claims t) (pairs-at t) pairs.Post
 pairs-add-term t c = search needs
 
 pairs-term-requires-2 : (t : ℕ) → pairs-lts.Need-term-requires-2 (pairs-claims t) (pairs-at t) pairs.Post
 unfolding codeOf
-pairs-term-requires-2 t c κs = let room = c .before .before .before .before .before .before .before .before .before .before .before .before .before .before .before .before .before .before .pre .1 .0 in let h = (known (c .before .before .before .before .before .before .before .before .before .before .before .before .a .given .1) (c .before .before .before .before .before .before .before .before .before .before .before .before .before .before .close .ensures .reads kind.maplet refl)) in let i = (known (c .before .before .before .before .before .e .given .1) (c .before .before .before .before .before .before .before .before .before .term .ensures)) in search needs
+pairs-term-requires-2 t c κs = let room = c .before .before .before .before .before .before .before .before .before .before .before .before .before .before .before .before .before .before .pre .1 .0 in let h = (known (c .before .before .before .before .before .before .before .before .before .before .before .before .a .given .1) (c .before .before .before .before .before .before .before .before .before .before .before .before .before .before .close .ensures .reads kind.maplet refl)) in let i = (known (c .before .before .before .before .before .e .given .1) (c .before .before .before .before .before .before .before .before .before .term .ensures .0)) in search needs
 
 pairs-enum-known-f : (t : ℕ) → pairs-lts.Need-enum-known-f (pairs-claims t) (pairs-at t) pairs.Post
 pairs-enum-known-f t c = search needs
 
 pairs-pairs-requires : (t : ℕ) → pairs-lts.Need-pairs-requires (pairs-claims t) (pairs-at t) pairs.Post
 unfolding codeOf
-pairs-pairs-requires t c κs = let room = c .before .before .before .before .before .before .before .before .before .before .before .before .before .before .before .before .before .before .before .before .before .before .before .before .before .pre .1 .0 in let k = c .before .before .before .before .before .before .before .before .before .before .before .before .before .before .before .before .term .kept .1 .1 .1 .1 .1 .0 in let h = (known (c .before .before .before .before .before .before .before .before .before .before .before .before .before .before .before .before .before .before .before .a .given .1) (c .before .before .before .before .before .before .before .before .before .before .before .before .before .before .before .before .before .before .before .before .before .close .ensures .reads kind.maplet refl)) in let i = (known (c .before .before .before .before .before .before .before .before .before .before .before .before .e .given .1) (c .before .before .before .before .before .before .before .before .before .before .before .before .before .before .before .before .term .ensures)) in let j = (known (c .before .before .f .given .1) (c .before .before .before .before .before .before .term2 .ensures)) in let b₁ = c .before .before .before .before .before .before .before .before .before .before .before .before .before .before .before .before .before .before .before .before .before .before .before .before .before .pre .1 .1 in let b₂ = c .before .before .before .before .before .before .before .before .before .before .before .before .before .before .before .before .before .before .before .before .before .before .before .before .before .pre .1 .2 in let b₃ = c .before .before .before .before .before .before .before .before .before .before .before .before .before .before .before .before .before .before .before .before .before .before .before .before .before .pre .0 in let z = known-ahead _ (c .before .before .before .before .before .before .before .before .before .before .before .before .before .before .before .before .before .before .before .a .given .1) (c .before .before .before .before .before .before .before .before .before .before .before .before .before .before .before .before .before .before .before .before .before .close .ensures .ahead) in search needs
+pairs-pairs-requires t c κs = let room = c .before .before .before .before .before .before .before .before .before .before .before .before .before .before .before .before .before .before .before .before .before .before .before .before .before .pre .1 .0 in let k = c .before .before .before .before .before .before .before .before .before .before .before .before .before .before .before .before .term .kept .1 .1 .1 .1 .1 .0 in let h = (known (c .before .before .before .before .before .before .before .before .before .before .before .before .before .before .before .before .before .before .before .a .given .1) (c .before .before .before .before .before .before .before .before .before .before .before .before .before .before .before .before .before .before .before .before .before .close .ensures .reads kind.maplet refl)) in let i = (known (c .before .before .before .before .before .before .before .before .before .before .before .before .e .given .1) (c .before .before .before .before .before .before .before .before .before .before .before .before .before .before .before .before .term .ensures .0)) in let j = (known (c .before .before .f .given .1) (c .before .before .before .before .before .before .term2 .ensures .0)) in let b₁ = c .before .before .before .before .before .before .before .before .before .before .before .before .before .before .before .before .before .before .before .before .before .before .before .before .before .pre .1 .1 in let b₂ = c .before .before .before .before .before .before .before .before .before .before .before .before .before .before .before .before .before .before .before .before .before .before .before .before .before .pre .1 .2 in let b₃ = c .before .before .before .before .before .before .before .before .before .before .before .before .before .before .before .before .before .before .before .before .before .before .before .before .before .pre .0 in let z = known-ahead _ (c .before .before .before .before .before .before .before .before .before .before .before .before .before .before .before .before .before .before .before .a .given .1) (c .before .before .before .before .before .before .before .before .before .before .before .before .before .before .before .before .before .before .before .before .before .close .ensures .ahead) in search needs
 
 pairs-enum-known-g : (t : ℕ) → pairs-lts.Need-enum-known-g (pairs-claims t) (pairs-at t) pairs.Post
 pairs-enum-known-g t c = search needs
 
 pairs-put-requires-2 : (t : ℕ) → pairs-lts.Need-put-requires-2 (pairs-claims t) (pairs-at t) pairs.Post
 unfolding codeOf
-pairs-put-requires-2 t c κs = let room = c .before .before .before .before .before .before .before .before .before .before .before .before .before .before .before .before .before .before .before .before .before .before .before .before .before .before .before .before .before .before .before .before .pre .1 .0 in let h = (known (c .before .before .before .before .before .before .before .before .before .before .before .before .before .before .before .before .before .before .before .before .before .before .before .before .before .before .a .given .1) (c .before .before .before .before .before .before .before .before .before .before .before .before .before .before .before .before .before .before .before .before .before .before .before .before .before .before .before .before .close .ensures .reads kind.maplet refl)) in let i = (known (c .before .before .before .before .before .before .before .before .before .before .before .before .before .before .before .before .before .before .before .e .given .1) (c .before .before .before .before .before .before .before .before .before .before .before .before .before .before .before .before .before .before .before .before .before .before .before .term .ensures)) in let j = (known (c .before .before .before .before .before .before .before .before .before .f .given .1) (c .before .before .before .before .before .before .before .before .before .before .before .before .before .term2 .ensures)) in let l = (known (c .before .before .g .given .1) (c .before .before .before .before .before .before .pairs .ensures)) in search needs
+pairs-put-requires-2 t c κs = let room = c .before .before .before .before .before .before .before .before .before .before .before .before .before .before .before .before .before .before .before .before .before .before .before .before .before .before .before .before .before .before .before .before .pre .1 .0 in let h = (known (c .before .before .before .before .before .before .before .before .before .before .before .before .before .before .before .before .before .before .before .before .before .before .before .before .before .before .a .given .1) (c .before .before .before .before .before .before .before .before .before .before .before .before .before .before .before .before .before .before .before .before .before .before .before .before .before .before .before .before .close .ensures .reads kind.maplet refl)) in let i = (known (c .before .before .before .before .before .before .before .before .before .before .before .before .before .before .before .before .before .before .before .e .given .1) (c .before .before .before .before .before .before .before .before .before .before .before .before .before .before .before .before .before .before .before .before .before .before .before .term .ensures .0)) in let j = (known (c .before .before .before .before .before .before .before .before .before .f .given .1) (c .before .before .before .before .before .before .before .before .before .before .before .before .before .term2 .ensures .0)) in let l = (known (c .before .before .g .given .1) (c .before .before .before .before .before .before .pairs .ensures .0)) in search needs
 
 pairs-enum-known-p : (t : ℕ) → pairs-lts.Need-enum-known-p (pairs-claims t) (pairs-at t) pairs.Post
 pairs-enum-known-p t c = search needs
@@ -893,21 +896,21 @@ pairs-same-length-2 t c = let k = c .before .before .before .before .before .bef
 
 pairs-returns-2 : (t : ℕ) → pairs-lts.Need-returns-2 (pairs-claims t) (pairs-at t) pairs.Post
 unfolding computeForm
-pairs-returns-2 t c = let room = c .before .before .before .before .before .before .before .before .before .before .before .before .before .before .before .before .before .before .before .before .before .before .before .before .before .before .before .before .before .before .before .before .before .before .before .pre .1 .0 in let h = (known (c .before .before .before .before .before .before .before .before .before .before .before .before .before .before .before .before .before .before .before .before .before .before .before .before .before .before .before .before .before .a .given .1) (c .before .before .before .before .before .before .before .before .before .before .before .before .before .before .before .before .before .before .before .before .before .before .before .before .before .before .before .before .before .before .before .close .ensures .reads kind.maplet refl)) in let i = (known (c .before .before .before .before .before .before .before .before .before .before .before .before .before .before .before .before .before .before .before .before .before .before .e .given .1) (c .before .before .before .before .before .before .before .before .before .before .before .before .before .before .before .before .before .before .before .before .before .before .before .before .before .before .term .ensures)) in let j = (known (c .before .before .before .before .before .before .before .before .before .before .before .before .f .given .1) (c .before .before .before .before .before .before .before .before .before .before .before .before .before .before .before .before .term2 .ensures)) in let l = (known (c .before .before .before .before .before .g .given .1) (c .before .before .before .before .before .before .before .before .before .pairs .ensures)) in next (counted {c = (c .before .before .before .before .before .before .before .before .before .before .before .before .before .before .before .before .before .before .before .before .before .before .before .before .before .before .before .before .before .before .before .before .before .before .before .args .n)} {d = (c .before .before .before .before .before .before .before .before .before .before .before .before .before .before .before .before .before .before .before .before .before .before .before .before .before .before .before .before .before .before .before .before .before .before .before .args .n)} (omega arith) (framed (aTerm (c .before .before .before .before .before .before .before .before .before .before .before .before .before .before .before .before .before .before .before .before .before .before .before .before .before .before .before .before .before .before .before .before .before .before .before .args .d) (c .before .before .before .before .before .before .before .before .before .before .before .before .before .before .before .before .before .before .before .before .before .before .before .before .before .before .before .before .before .before .before .before .before .before .before .args .b) ∷ aPairs (c .before .before .before .before .before .before .before .before .before .before .before .before .before .before .before .before .before .before .before .before .before .before .before .before .before .before .before .before .before .before .before .before .before .before .before .args .d) (c .before .before .before .before .before .before .before .before .before .before .before .before .before .before .before .before .before .before .before .before .before .before .before .before .before .before .before .before .before .before .before .before .before .before .before .args .b) ∷ []) h)) (next (framed (aPairs (c .before .before .before .before .before .before .before .before .before .before .before .before .before .before .before .before .before .before .before .before .before .before .before .before .before .before .before .before .before .before .before .before .before .before .before .args .d) (c .before .before .before .before .before .before .before .before .before .before .before .before .before .before .before .before .before .before .before .before .before .before .before .before .before .before .before .before .before .before .before .before .before .before .before .args .b) ∷ []) i) (takes-kind {μ = aTerm (c .before .before .before .before .before .before .before .before .before .before .before .before .before .before .before .before .before .before .before .before .before .before .before .before .before .before .before .before .before .before .before .before .before .before .before .args .d) (c .before .before .before .before .before .before .before .before .before .before .before .before .before .before .before .before .before .before .before .before .before .before .before .before .before .before .before .before .before .before .before .before .before .before .before .args .b) ∷ exact kind.maplet ∷ aTerm (c .before .before .before .before .before .before .before .before .before .before .before .before .before .before .before .before .before .before .before .before .before .before .before .before .before .before .before .before .before .before .before .before .before .before .before .args .d) (c .before .before .before .before .before .before .before .before .before .before .before .before .before .before .before .before .before .before .before .before .before .before .before .before .before .before .before .before .before .before .before .before .before .before .before .args .b) ∷ aPairs (c .before .before .before .before .before .before .before .before .before .before .before .before .before .before .before .before .before .before .before .before .before .before .before .before .before .before .before .before .before .before .before .before .before .before .before .args .d) (c .before .before .before .before .before .before .before .before .before .before .before .before .before .before .before .before .before .before .before .before .before .before .before .before .before .before .before .before .before .before .before .before .before .before .before .args .b) ∷ []} {m = c .before .before .before .before .before .before .before .before .before .before .before .before .before .before .before .before .before .before .before .before .before .before .e .given .0 .1 .0 + 4} kind.comma (sym (c .before .before .before .before .before .before .before .before .before .before .before .before .before .before .before .before .before .before .before .before .kind-at .ensures .is) ∙ c .before .before .before .before .before .before .before .before .before .before .before .before .before .before .before .before .before .before .if2 .taken) (omega arith) (λ γ. refl) (counted (omega arith) (next (framed (exact kind.maplet ∷ aTerm (c .before .before .before .before .before .before .before .before .before .before .before .before .before .before .before .before .before .before .before .before .before .before .before .before .before .before .before .before .before .before .before .before .before .before .before .args .d) (c .before .before .before .before .before .before .before .before .before .before .before .before .before .before .before .before .before .before .before .before .before .before .before .before .before .before .before .before .before .before .before .before .before .before .before .args .b) ∷ aPairs (c .before .before .before .before .before .before .before .before .before .before .before .before .before .before .before .before .before .before .before .before .before .before .before .before .before .before .before .before .before .before .before .before .before .before .before .args .d) (c .before .before .before .before .before .before .before .before .before .before .before .before .before .before .before .before .before .before .before .before .before .before .before .before .before .before .before .before .before .before .before .before .before .before .before .args .b) ∷ []) j) l)) (omega arith)))
+pairs-returns-2 t c = (let room = c .before .before .before .before .before .before .before .before .before .before .before .before .before .before .before .before .before .before .before .before .before .before .before .before .before .before .before .before .before .before .before .before .before .before .before .pre .1 .0 in let h = (known (c .before .before .before .before .before .before .before .before .before .before .before .before .before .before .before .before .before .before .before .before .before .before .before .before .before .before .before .before .before .a .given .1) (c .before .before .before .before .before .before .before .before .before .before .before .before .before .before .before .before .before .before .before .before .before .before .before .before .before .before .before .before .before .before .before .close .ensures .reads kind.maplet refl)) in let i = (known (c .before .before .before .before .before .before .before .before .before .before .before .before .before .before .before .before .before .before .before .before .before .before .e .given .1) (c .before .before .before .before .before .before .before .before .before .before .before .before .before .before .before .before .before .before .before .before .before .before .before .before .before .before .term .ensures .0)) in let j = (known (c .before .before .before .before .before .before .before .before .before .before .before .before .f .given .1) (c .before .before .before .before .before .before .before .before .before .before .before .before .before .before .before .before .term2 .ensures .0)) in let l = (known (c .before .before .before .before .before .g .given .1) (c .before .before .before .before .before .before .before .before .before .pairs .ensures .0)) in next (counted {c = (c .before .before .before .before .before .before .before .before .before .before .before .before .before .before .before .before .before .before .before .before .before .before .before .before .before .before .before .before .before .before .before .before .before .before .before .args .n)} {d = (c .before .before .before .before .before .before .before .before .before .before .before .before .before .before .before .before .before .before .before .before .before .before .before .before .before .before .before .before .before .before .before .before .before .before .before .args .n)} (omega arith) (framed (aTerm (c .before .before .before .before .before .before .before .before .before .before .before .before .before .before .before .before .before .before .before .before .before .before .before .before .before .before .before .before .before .before .before .before .before .before .before .args .d) (c .before .before .before .before .before .before .before .before .before .before .before .before .before .before .before .before .before .before .before .before .before .before .before .before .before .before .before .before .before .before .before .before .before .before .before .args .b) ∷ aPairs (c .before .before .before .before .before .before .before .before .before .before .before .before .before .before .before .before .before .before .before .before .before .before .before .before .before .before .before .before .before .before .before .before .before .before .before .args .d) (c .before .before .before .before .before .before .before .before .before .before .before .before .before .before .before .before .before .before .before .before .before .before .before .before .before .before .before .before .before .before .before .before .before .before .before .args .b) ∷ []) h)) (next (framed (aPairs (c .before .before .before .before .before .before .before .before .before .before .before .before .before .before .before .before .before .before .before .before .before .before .before .before .before .before .before .before .before .before .before .before .before .before .before .args .d) (c .before .before .before .before .before .before .before .before .before .before .before .before .before .before .before .before .before .before .before .before .before .before .before .before .before .before .before .before .before .before .before .before .before .before .before .args .b) ∷ []) i) (takes-kind {μ = aTerm (c .before .before .before .before .before .before .before .before .before .before .before .before .before .before .before .before .before .before .before .before .before .before .before .before .before .before .before .before .before .before .before .before .before .before .before .args .d) (c .before .before .before .before .before .before .before .before .before .before .before .before .before .before .before .before .before .before .before .before .before .before .before .before .before .before .before .before .before .before .before .before .before .before .before .args .b) ∷ exact kind.maplet ∷ aTerm (c .before .before .before .before .before .before .before .before .before .before .before .before .before .before .before .before .before .before .before .before .before .before .before .before .before .before .before .before .before .before .before .before .before .before .before .args .d) (c .before .before .before .before .before .before .before .before .before .before .before .before .before .before .before .before .before .before .before .before .before .before .before .before .before .before .before .before .before .before .before .before .before .before .before .args .b) ∷ aPairs (c .before .before .before .before .before .before .before .before .before .before .before .before .before .before .before .before .before .before .before .before .before .before .before .before .before .before .before .before .before .before .before .before .before .before .before .args .d) (c .before .before .before .before .before .before .before .before .before .before .before .before .before .before .before .before .before .before .before .before .before .before .before .before .before .before .before .before .before .before .before .before .before .before .before .args .b) ∷ []} {m = c .before .before .before .before .before .before .before .before .before .before .before .before .before .before .before .before .before .before .before .before .before .before .e .given .0 .1 .0 + 4} kind.comma (sym (c .before .before .before .before .before .before .before .before .before .before .before .before .before .before .before .before .before .before .before .before .kind-at .ensures .is) ∙ c .before .before .before .before .before .before .before .before .before .before .before .before .before .before .before .before .before .before .if2 .taken) (omega arith) (λ γ. refl) (counted (omega arith) (next (framed (exact kind.maplet ∷ aTerm (c .before .before .before .before .before .before .before .before .before .before .before .before .before .before .before .before .before .before .before .before .before .before .before .before .before .before .before .before .before .before .before .before .before .before .before .args .d) (c .before .before .before .before .before .before .before .before .before .before .before .before .before .before .before .before .before .before .before .before .before .before .before .before .before .before .before .before .before .before .before .before .before .before .before .args .b) ∷ aPairs (c .before .before .before .before .before .before .before .before .before .before .before .before .before .before .before .before .before .before .before .before .before .before .before .before .before .before .before .before .before .before .before .before .before .before .before .args .d) (c .before .before .before .before .before .before .before .before .before .before .before .before .before .before .before .before .before .before .before .before .before .before .before .before .before .before .before .before .before .before .before .before .before .before .before .args .b) ∷ []) j) l)) (omega arith))), let t₁ = closed (c .before .before .before .before .before .before .before .before .before .before .before .before .before .before .before .before .before .before .before .before .before .before .before .before .before .before .before .before .before .a .given .1) (c .before .before .before .before .before .before .before .before .before .before .before .before .before .before .before .before .before .before .before .before .before .before .before .before .before .before .before .before .before .before .before .close .ensures) in let w₁ = (made (c .before .before .before .before .before .before .before .before .before .before .before .before .before .before .before .before .before .before .before .before .before .before .e .given .1) (c .before .before .before .before .before .before .before .before .before .before .before .before .before .before .before .before .before .before .before .before .before .before .before .before .before .before .term .ensures .1)) in let w₂ = (made (c .before .before .before .before .before .before .before .before .before .before .before .before .f .given .1) (c .before .before .before .before .before .before .before .before .before .before .before .before .before .before .before .before .term2 .ensures .1)) in let w₃ = (made (c .before .before .before .before .before .g .given .1) (c .before .before .before .before .before .before .before .before .before .pairs .ensures .1)) in makes (both (both (both (built w₁) (built w₂)) (built w₃)) (wrote (c .before .before .put2 .ensures))) (derived.pairsMore (t₁ .1) (from (t₁ .0) (w₁ .derives)) (sym (c .before .before .before .before .before .before .before .before .before .before .before .before .before .before .before .before .before .before .before .before .kind-at .ensures .is) ∙ c .before .before .before .before .before .before .before .before .before .before .before .before .before .before .before .before .before .before .if2 .taken) (w₂ .derives) (w₃ .derives)))
 
 pairs-same-length-3 : (t : ℕ) → pairs-lts.Need-same-length-3 (pairs-claims t) (pairs-at t) pairs.Post
 pairs-same-length-3 t c = let k = c .before .before .before .before .before .before .before .before .before .before .before .before .before .before .before .before .before .before .before .before .before .before .term .kept .1 .1 .1 .1 .1 .0 in search needs
 
 pairs-returns-3 : (t : ℕ) → pairs-lts.Need-returns-3 (pairs-claims t) (pairs-at t) pairs.Post
 unfolding computeForm
-pairs-returns-3 t c = let room = c .before .before .before .before .before .before .before .before .before .before .before .before .before .before .before .before .before .before .before .before .before .before .before .before .before .before .before .before .before .before .before .pre .1 .0 in let h = (known (c .before .before .before .before .before .before .before .before .before .before .before .before .before .before .before .before .before .before .before .before .before .before .before .before .before .a .given .1) (c .before .before .before .before .before .before .before .before .before .before .before .before .before .before .before .before .before .before .before .before .before .before .before .before .before .before .before .close .ensures .reads kind.maplet refl)) in let i = (known (c .before .before .before .before .before .before .before .before .before .before .before .before .before .before .before .before .before .before .e .given .1) (c .before .before .before .before .before .before .before .before .before .before .before .before .before .before .before .before .before .before .before .before .before .before .term .ensures)) in let j = (known (c .before .before .before .before .before .before .before .before .f .given .1) (c .before .before .before .before .before .before .before .before .before .before .before .before .term2 .ensures)) in next (counted {c = (c .before .before .before .before .before .before .before .before .before .before .before .before .before .before .before .before .before .before .before .before .before .before .before .before .before .before .before .before .before .before .before .args .n)} {d = (c .before .before .before .before .before .before .before .before .before .before .before .before .before .before .before .before .before .before .before .before .before .before .before .before .before .before .before .before .before .before .before .args .n)} (omega arith) (framed (aTerm (c .before .before .before .before .before .before .before .before .before .before .before .before .before .before .before .before .before .before .before .before .before .before .before .before .before .before .before .before .before .before .before .args .d) (c .before .before .before .before .before .before .before .before .before .before .before .before .before .before .before .before .before .before .before .before .before .before .before .before .before .before .before .before .before .before .before .args .b) ∷ aPairs (c .before .before .before .before .before .before .before .before .before .before .before .before .before .before .before .before .before .before .before .before .before .before .before .before .before .before .before .before .before .before .before .args .d) (c .before .before .before .before .before .before .before .before .before .before .before .before .before .before .before .before .before .before .before .before .before .before .before .before .before .before .before .before .before .before .before .args .b) ∷ []) h)) (next (framed (aPairs (c .before .before .before .before .before .before .before .before .before .before .before .before .before .before .before .before .before .before .before .before .before .before .before .before .before .before .before .before .before .before .before .args .d) (c .before .before .before .before .before .before .before .before .before .before .before .before .before .before .before .before .before .before .before .before .before .before .before .before .before .before .before .before .before .before .before .args .b) ∷ []) i) (takes-kind {μ = aTerm (c .before .before .before .before .before .before .before .before .before .before .before .before .before .before .before .before .before .before .before .before .before .before .before .before .before .before .before .before .before .before .before .args .d) (c .before .before .before .before .before .before .before .before .before .before .before .before .before .before .before .before .before .before .before .before .before .before .before .before .before .before .before .before .before .before .before .args .b) ∷ exact kind.maplet ∷ aTerm (c .before .before .before .before .before .before .before .before .before .before .before .before .before .before .before .before .before .before .before .before .before .before .before .before .before .before .before .before .before .before .before .args .d) (c .before .before .before .before .before .before .before .before .before .before .before .before .before .before .before .before .before .before .before .before .before .before .before .before .before .before .before .before .before .before .before .args .b) ∷ aPairs (c .before .before .before .before .before .before .before .before .before .before .before .before .before .before .before .before .before .before .before .before .before .before .before .before .before .before .before .before .before .before .before .args .d) (c .before .before .before .before .before .before .before .before .before .before .before .before .before .before .before .before .before .before .before .before .before .before .before .before .before .before .before .before .before .before .before .args .b) ∷ []} {m = c .before .before .before .before .before .before .before .before .before .before .before .before .before .before .before .before .before .before .e .given .0 .1 .0 + 4} kind.comma (sym (c .before .before .before .before .before .before .before .before .before .before .before .before .before .before .before .before .kind-at .ensures .is) ∙ c .before .before .before .before .before .before .before .before .before .before .before .before .before .before .if2 .taken) (omega arith) (λ γ. refl) (fails (next (framed (exact kind.maplet ∷ aTerm (c .before .before .before .before .before .before .before .before .before .before .before .before .before .before .before .before .before .before .before .before .before .before .before .before .before .before .before .before .before .before .before .args .d) (c .before .before .before .before .before .before .before .before .before .before .before .before .before .before .before .before .before .before .before .before .before .before .before .before .before .before .before .before .before .before .before .args .b) ∷ aPairs (c .before .before .before .before .before .before .before .before .before .before .before .before .before .before .before .before .before .before .before .before .before .before .before .before .before .before .before .before .before .before .before .args .d) (c .before .before .before .before .before .before .before .before .before .before .before .before .before .before .before .before .before .before .before .before .before .before .before .before .before .before .before .before .before .before .before .args .b) ∷ []) j) (known (c .before .p .given .1) (c .before .before .before .before .before .pairs .ensures)))) (omega arith)))
+pairs-returns-3 t c = (let room = c .before .before .before .before .before .before .before .before .before .before .before .before .before .before .before .before .before .before .before .before .before .before .before .before .before .before .before .before .before .before .before .pre .1 .0 in let h = (known (c .before .before .before .before .before .before .before .before .before .before .before .before .before .before .before .before .before .before .before .before .before .before .before .before .before .a .given .1) (c .before .before .before .before .before .before .before .before .before .before .before .before .before .before .before .before .before .before .before .before .before .before .before .before .before .before .before .close .ensures .reads kind.maplet refl)) in let i = (known (c .before .before .before .before .before .before .before .before .before .before .before .before .before .before .before .before .before .before .e .given .1) (c .before .before .before .before .before .before .before .before .before .before .before .before .before .before .before .before .before .before .before .before .before .before .term .ensures .0)) in let j = (known (c .before .before .before .before .before .before .before .before .f .given .1) (c .before .before .before .before .before .before .before .before .before .before .before .before .term2 .ensures .0)) in next (counted {c = (c .before .before .before .before .before .before .before .before .before .before .before .before .before .before .before .before .before .before .before .before .before .before .before .before .before .before .before .before .before .before .before .args .n)} {d = (c .before .before .before .before .before .before .before .before .before .before .before .before .before .before .before .before .before .before .before .before .before .before .before .before .before .before .before .before .before .before .before .args .n)} (omega arith) (framed (aTerm (c .before .before .before .before .before .before .before .before .before .before .before .before .before .before .before .before .before .before .before .before .before .before .before .before .before .before .before .before .before .before .before .args .d) (c .before .before .before .before .before .before .before .before .before .before .before .before .before .before .before .before .before .before .before .before .before .before .before .before .before .before .before .before .before .before .before .args .b) ∷ aPairs (c .before .before .before .before .before .before .before .before .before .before .before .before .before .before .before .before .before .before .before .before .before .before .before .before .before .before .before .before .before .before .before .args .d) (c .before .before .before .before .before .before .before .before .before .before .before .before .before .before .before .before .before .before .before .before .before .before .before .before .before .before .before .before .before .before .before .args .b) ∷ []) h)) (next (framed (aPairs (c .before .before .before .before .before .before .before .before .before .before .before .before .before .before .before .before .before .before .before .before .before .before .before .before .before .before .before .before .before .before .before .args .d) (c .before .before .before .before .before .before .before .before .before .before .before .before .before .before .before .before .before .before .before .before .before .before .before .before .before .before .before .before .before .before .before .args .b) ∷ []) i) (takes-kind {μ = aTerm (c .before .before .before .before .before .before .before .before .before .before .before .before .before .before .before .before .before .before .before .before .before .before .before .before .before .before .before .before .before .before .before .args .d) (c .before .before .before .before .before .before .before .before .before .before .before .before .before .before .before .before .before .before .before .before .before .before .before .before .before .before .before .before .before .before .before .args .b) ∷ exact kind.maplet ∷ aTerm (c .before .before .before .before .before .before .before .before .before .before .before .before .before .before .before .before .before .before .before .before .before .before .before .before .before .before .before .before .before .before .before .args .d) (c .before .before .before .before .before .before .before .before .before .before .before .before .before .before .before .before .before .before .before .before .before .before .before .before .before .before .before .before .before .before .before .args .b) ∷ aPairs (c .before .before .before .before .before .before .before .before .before .before .before .before .before .before .before .before .before .before .before .before .before .before .before .before .before .before .before .before .before .before .before .args .d) (c .before .before .before .before .before .before .before .before .before .before .before .before .before .before .before .before .before .before .before .before .before .before .before .before .before .before .before .before .before .before .before .args .b) ∷ []} {m = c .before .before .before .before .before .before .before .before .before .before .before .before .before .before .before .before .before .before .e .given .0 .1 .0 + 4} kind.comma (sym (c .before .before .before .before .before .before .before .before .before .before .before .before .before .before .before .before .kind-at .ensures .is) ∙ c .before .before .before .before .before .before .before .before .before .before .before .before .before .before .if2 .taken) (omega arith) (λ γ. refl) (fails (next (framed (exact kind.maplet ∷ aTerm (c .before .before .before .before .before .before .before .before .before .before .before .before .before .before .before .before .before .before .before .before .before .before .before .before .before .before .before .before .before .before .before .args .d) (c .before .before .before .before .before .before .before .before .before .before .before .before .before .before .before .before .before .before .before .before .before .before .before .before .before .before .before .before .before .before .before .args .b) ∷ aPairs (c .before .before .before .before .before .before .before .before .before .before .before .before .before .before .before .before .before .before .before .before .before .before .before .before .before .before .before .before .before .before .before .args .d) (c .before .before .before .before .before .before .before .before .before .before .before .before .before .before .before .before .before .before .before .before .before .before .before .before .before .before .before .before .before .before .before .args .b) ∷ []) j) (known (c .before .p .given .1) (c .before .before .before .before .before .pairs .ensures .0)))) (omega arith))), tt)
 
 pairs-same-length-4 : (t : ℕ) → pairs-lts.Need-same-length-4 (pairs-claims t) (pairs-at t) pairs.Post
 pairs-same-length-4 t c = let k = c .before .before .before .before .before .before .before .before .before .before .before .before .before .before .before .term .kept .1 .1 .1 .1 .1 .0 in search needs
 
 pairs-returns-4 : (t : ℕ) → pairs-lts.Need-returns-4 (pairs-claims t) (pairs-at t) pairs.Post
 unfolding computeForm
-pairs-returns-4 t c = let room = c .before .before .before .before .before .before .before .before .before .before .before .before .before .before .before .before .before .before .before .before .before .before .before .before .pre .1 .0 in let h = (known (c .before .before .before .before .before .before .before .before .before .before .before .before .before .before .before .before .before .before .a .given .1) (c .before .before .before .before .before .before .before .before .before .before .before .before .before .before .before .before .before .before .before .before .close .ensures .reads kind.maplet refl)) in let i = (known (c .before .before .before .before .before .before .before .before .before .before .before .e .given .1) (c .before .before .before .before .before .before .before .before .before .before .before .before .before .before .before .term .ensures)) in next (counted {c = (c .before .before .before .before .before .before .before .before .before .before .before .before .before .before .before .before .before .before .before .before .before .before .before .before .args .n)} {d = (c .before .before .before .before .before .before .before .before .before .before .before .before .before .before .before .before .before .before .before .before .before .before .before .before .args .n)} (omega arith) (framed (aTerm (c .before .before .before .before .before .before .before .before .before .before .before .before .before .before .before .before .before .before .before .before .before .before .before .before .args .d) (c .before .before .before .before .before .before .before .before .before .before .before .before .before .before .before .before .before .before .before .before .before .before .before .before .args .b) ∷ aPairs (c .before .before .before .before .before .before .before .before .before .before .before .before .before .before .before .before .before .before .before .before .before .before .before .before .args .d) (c .before .before .before .before .before .before .before .before .before .before .before .before .before .before .before .before .before .before .before .before .before .before .before .before .args .b) ∷ []) h)) (next (framed (aPairs (c .before .before .before .before .before .before .before .before .before .before .before .before .before .before .before .before .before .before .before .before .before .before .before .before .args .d) (c .before .before .before .before .before .before .before .before .before .before .before .before .before .before .before .before .before .before .before .before .before .before .before .before .args .b) ∷ []) i) (takes-kind {μ = aTerm (c .before .before .before .before .before .before .before .before .before .before .before .before .before .before .before .before .before .before .before .before .before .before .before .before .args .d) (c .before .before .before .before .before .before .before .before .before .before .before .before .before .before .before .before .before .before .before .before .before .before .before .before .args .b) ∷ exact kind.maplet ∷ aTerm (c .before .before .before .before .before .before .before .before .before .before .before .before .before .before .before .before .before .before .before .before .before .before .before .before .args .d) (c .before .before .before .before .before .before .before .before .before .before .before .before .before .before .before .before .before .before .before .before .before .before .before .before .args .b) ∷ aPairs (c .before .before .before .before .before .before .before .before .before .before .before .before .before .before .before .before .before .before .before .before .before .before .before .before .args .d) (c .before .before .before .before .before .before .before .before .before .before .before .before .before .before .before .before .before .before .before .before .before .before .before .before .args .b) ∷ []} {m = c .before .before .before .before .before .before .before .before .before .before .before .e .given .0 .1 .0 + 4} kind.comma (sym (c .before .before .before .before .before .before .before .before .before .kind-at .ensures .is) ∙ c .before .before .before .before .before .before .before .if2 .taken) (omega arith) (λ γ. refl) (fails (framed (exact kind.maplet ∷ aTerm (c .before .before .before .before .before .before .before .before .before .before .before .before .before .before .before .before .before .before .before .before .before .before .before .before .args .d) (c .before .before .before .before .before .before .before .before .before .before .before .before .before .before .before .before .before .before .before .before .before .before .before .before .args .b) ∷ aPairs (c .before .before .before .before .before .before .before .before .before .before .before .before .before .before .before .before .before .before .before .before .before .before .before .before .args .d) (c .before .before .before .before .before .before .before .before .before .before .before .before .before .before .before .before .before .before .before .before .before .before .before .before .args .b) ∷ []) (known (c .before .p2 .given .1) (c .before .before .before .before .before .term2 .ensures)))) (omega arith)))
+pairs-returns-4 t c = (let room = c .before .before .before .before .before .before .before .before .before .before .before .before .before .before .before .before .before .before .before .before .before .before .before .before .pre .1 .0 in let h = (known (c .before .before .before .before .before .before .before .before .before .before .before .before .before .before .before .before .before .before .a .given .1) (c .before .before .before .before .before .before .before .before .before .before .before .before .before .before .before .before .before .before .before .before .close .ensures .reads kind.maplet refl)) in let i = (known (c .before .before .before .before .before .before .before .before .before .before .before .e .given .1) (c .before .before .before .before .before .before .before .before .before .before .before .before .before .before .before .term .ensures .0)) in next (counted {c = (c .before .before .before .before .before .before .before .before .before .before .before .before .before .before .before .before .before .before .before .before .before .before .before .before .args .n)} {d = (c .before .before .before .before .before .before .before .before .before .before .before .before .before .before .before .before .before .before .before .before .before .before .before .before .args .n)} (omega arith) (framed (aTerm (c .before .before .before .before .before .before .before .before .before .before .before .before .before .before .before .before .before .before .before .before .before .before .before .before .args .d) (c .before .before .before .before .before .before .before .before .before .before .before .before .before .before .before .before .before .before .before .before .before .before .before .before .args .b) ∷ aPairs (c .before .before .before .before .before .before .before .before .before .before .before .before .before .before .before .before .before .before .before .before .before .before .before .before .args .d) (c .before .before .before .before .before .before .before .before .before .before .before .before .before .before .before .before .before .before .before .before .before .before .before .before .args .b) ∷ []) h)) (next (framed (aPairs (c .before .before .before .before .before .before .before .before .before .before .before .before .before .before .before .before .before .before .before .before .before .before .before .before .args .d) (c .before .before .before .before .before .before .before .before .before .before .before .before .before .before .before .before .before .before .before .before .before .before .before .before .args .b) ∷ []) i) (takes-kind {μ = aTerm (c .before .before .before .before .before .before .before .before .before .before .before .before .before .before .before .before .before .before .before .before .before .before .before .before .args .d) (c .before .before .before .before .before .before .before .before .before .before .before .before .before .before .before .before .before .before .before .before .before .before .before .before .args .b) ∷ exact kind.maplet ∷ aTerm (c .before .before .before .before .before .before .before .before .before .before .before .before .before .before .before .before .before .before .before .before .before .before .before .before .args .d) (c .before .before .before .before .before .before .before .before .before .before .before .before .before .before .before .before .before .before .before .before .before .before .before .before .args .b) ∷ aPairs (c .before .before .before .before .before .before .before .before .before .before .before .before .before .before .before .before .before .before .before .before .before .before .before .before .args .d) (c .before .before .before .before .before .before .before .before .before .before .before .before .before .before .before .before .before .before .before .before .before .before .before .before .args .b) ∷ []} {m = c .before .before .before .before .before .before .before .before .before .before .before .e .given .0 .1 .0 + 4} kind.comma (sym (c .before .before .before .before .before .before .before .before .before .kind-at .ensures .is) ∙ c .before .before .before .before .before .before .before .if2 .taken) (omega arith) (λ γ. refl) (fails (framed (exact kind.maplet ∷ aTerm (c .before .before .before .before .before .before .before .before .before .before .before .before .before .before .before .before .before .before .before .before .before .before .before .before .args .d) (c .before .before .before .before .before .before .before .before .before .before .before .before .before .before .before .before .before .before .before .before .before .before .before .before .args .b) ∷ aPairs (c .before .before .before .before .before .before .before .before .before .before .before .before .before .before .before .before .before .before .before .before .before .before .before .before .args .d) (c .before .before .before .before .before .before .before .before .before .before .before .before .before .before .before .before .before .before .before .before .before .before .before .before .args .b) ∷ []) (known (c .before .p2 .given .1) (c .before .before .before .before .before .term2 .ensures .0)))) (omega arith))), tt)
 
 pairs-enum-known-p-3 : (t : ℕ) → pairs-lts.Need-enum-known-p-3 (pairs-claims t) (pairs-at t) pairs.Post
 pairs-enum-known-p-3 t c = search needs
@@ -920,18 +923,18 @@ pairs-same-length-5 t c = let k = c .before .before .before .before .before .bef
 
 pairs-returns-5 : (t : ℕ) → pairs-lts.Need-returns-5 (pairs-claims t) (pairs-at t) pairs.Post
 unfolding computeForm
-pairs-returns-5 t c = let room = c .before .before .before .before .before .before .before .before .before .before .before .before .before .before .before .before .before .pre .1 .0 in let h = (known (c .before .before .before .before .before .before .before .before .before .before .before .a .given .1) (c .before .before .before .before .before .before .before .before .before .before .before .before .before .close .ensures .reads kind.maplet refl)) in let i = (known (c .before .before .before .before .e .given .1) (c .before .before .before .before .before .before .before .before .term .ensures)) in next (counted {c = (c .before .before .before .before .before .before .before .before .before .before .before .before .before .before .before .before .before .args .n)} {d = (c .before .before .before .before .before .before .before .before .before .before .before .before .before .before .before .before .before .args .n)} (omega arith) (framed (aTerm (c .before .before .before .before .before .before .before .before .before .before .before .before .before .before .before .before .before .args .d) (c .before .before .before .before .before .before .before .before .before .before .before .before .before .before .before .before .before .args .b) ∷ aPairs (c .before .before .before .before .before .before .before .before .before .before .before .before .before .before .before .before .before .args .d) (c .before .before .before .before .before .before .before .before .before .before .before .before .before .before .before .before .before .args .b) ∷ []) h)) (next (framed (aPairs (c .before .before .before .before .before .before .before .before .before .before .before .before .before .before .before .before .before .args .d) (c .before .before .before .before .before .before .before .before .before .before .before .before .before .before .before .before .before .args .b) ∷ []) i) (stops (omega arith) (λ κ e γ. pairs-stop (c .before .before .before .before .before .before .before .before .before .before .before .before .before .before .before .before .before .args .d) (c .before .before .before .before .before .before .before .before .before .before .before .before .before .before .before .before .before .args .b) κ γ (λ q. c .before .if1 .left ((c .before .before .kind-at .ensures .is) ∙ sym e ∙ q)) (λ q. c .if2 .left ((c .before .before .kind-at .ensures .is) ∙ sym e ∙ q))) (λ γ. refl)))
+pairs-returns-5 t c = (let room = c .before .before .before .before .before .before .before .before .before .before .before .before .before .before .before .before .before .pre .1 .0 in let h = (known (c .before .before .before .before .before .before .before .before .before .before .before .a .given .1) (c .before .before .before .before .before .before .before .before .before .before .before .before .before .close .ensures .reads kind.maplet refl)) in let i = (known (c .before .before .before .before .e .given .1) (c .before .before .before .before .before .before .before .before .term .ensures .0)) in next (counted {c = (c .before .before .before .before .before .before .before .before .before .before .before .before .before .before .before .before .before .args .n)} {d = (c .before .before .before .before .before .before .before .before .before .before .before .before .before .before .before .before .before .args .n)} (omega arith) (framed (aTerm (c .before .before .before .before .before .before .before .before .before .before .before .before .before .before .before .before .before .args .d) (c .before .before .before .before .before .before .before .before .before .before .before .before .before .before .before .before .before .args .b) ∷ aPairs (c .before .before .before .before .before .before .before .before .before .before .before .before .before .before .before .before .before .args .d) (c .before .before .before .before .before .before .before .before .before .before .before .before .before .before .before .before .before .args .b) ∷ []) h)) (next (framed (aPairs (c .before .before .before .before .before .before .before .before .before .before .before .before .before .before .before .before .before .args .d) (c .before .before .before .before .before .before .before .before .before .before .before .before .before .before .before .before .before .args .b) ∷ []) i) (stops (omega arith) (λ κ e γ. pairs-stop (c .before .before .before .before .before .before .before .before .before .before .before .before .before .before .before .before .before .args .d) (c .before .before .before .before .before .before .before .before .before .before .before .before .before .before .before .before .before .args .b) κ γ (λ q. c .before .if1 .left ((c .before .before .kind-at .ensures .is) ∙ sym e ∙ q)) (λ q. c .if2 .left ((c .before .before .kind-at .ensures .is) ∙ sym e ∙ q))) (λ γ. refl))), tt)
 
 pairs-same-length-6 : (t : ℕ) → pairs-lts.Need-same-length-6 (pairs-claims t) (pairs-at t) pairs.Post
 pairs-same-length-6 t c = let k = c .before .before .before .before .before .term .kept .1 .1 .1 .1 .1 .0 in search needs
 
 pairs-returns-6 : (t : ℕ) → pairs-lts.Need-returns-6 (pairs-claims t) (pairs-at t) pairs.Post
 unfolding computeForm
-pairs-returns-6 t c = let room = c .before .before .before .before .before .before .before .before .before .before .before .before .before .before .pre .1 .0 in let h = (known (c .before .before .before .before .before .before .before .before .a .given .1) (c .before .before .before .before .before .before .before .before .before .before .close .ensures .reads kind.maplet refl)) in next (counted {c = (c .before .before .before .before .before .before .before .before .before .before .before .before .before .before .args .n)} {d = (c .before .before .before .before .before .before .before .before .before .before .before .before .before .before .args .n)} (omega arith) (framed (aTerm (c .before .before .before .before .before .before .before .before .before .before .before .before .before .before .args .d) (c .before .before .before .before .before .before .before .before .before .before .before .before .before .before .args .b) ∷ aPairs (c .before .before .before .before .before .before .before .before .before .before .before .before .before .before .args .d) (c .before .before .before .before .before .before .before .before .before .before .before .before .before .before .args .b) ∷ []) h)) (fails (framed (aPairs (c .before .before .before .before .before .before .before .before .before .before .before .before .before .before .args .d) (c .before .before .before .before .before .before .before .before .before .before .before .before .before .before .args .b) ∷ []) (known (c .before .p3 .given .1) (c .before .before .before .before .before .term .ensures))))
+pairs-returns-6 t c = (let room = c .before .before .before .before .before .before .before .before .before .before .before .before .before .before .pre .1 .0 in let h = (known (c .before .before .before .before .before .before .before .before .a .given .1) (c .before .before .before .before .before .before .before .before .before .before .close .ensures .reads kind.maplet refl)) in next (counted {c = (c .before .before .before .before .before .before .before .before .before .before .before .before .before .before .args .n)} {d = (c .before .before .before .before .before .before .before .before .before .before .before .before .before .before .args .n)} (omega arith) (framed (aTerm (c .before .before .before .before .before .before .before .before .before .before .before .before .before .before .args .d) (c .before .before .before .before .before .before .before .before .before .before .before .before .before .before .args .b) ∷ aPairs (c .before .before .before .before .before .before .before .before .before .before .before .before .before .before .args .d) (c .before .before .before .before .before .before .before .before .before .before .before .before .before .before .args .b) ∷ []) h)) (fails (framed (aPairs (c .before .before .before .before .before .before .before .before .before .before .before .before .before .before .args .d) (c .before .before .before .before .before .before .before .before .before .before .before .before .before .before .args .b) ∷ []) (known (c .before .p3 .given .1) (c .before .before .before .before .before .term .ensures .0)))), tt)
 
 pairs-returns-7 : (t : ℕ) → pairs-lts.Need-returns-7 (pairs-claims t) (pairs-at t) pairs.Post
 unfolding computeForm
-pairs-returns-7 t c = let room = c .before .before .before .before .before .before .before .pre .1 .0 in fails (framed (aTerm (c .before .before .before .before .before .before .before .args .d) (c .before .before .before .before .before .before .before .args .b) ∷ aPairs (c .before .before .before .before .before .before .before .args .d) (c .before .before .before .before .before .before .before .args .b) ∷ []) (known (c .before .p4 .given .1) (c .before .before .before .close .ensures .reads kind.maplet refl)))
+pairs-returns-7 t c = (let room = c .before .before .before .before .before .before .before .pre .1 .0 in fails (framed (aTerm (c .before .before .before .before .before .before .before .args .d) (c .before .before .before .before .before .before .before .args .b) ∷ aPairs (c .before .before .before .before .before .before .before .args .d) (c .before .before .before .before .before .before .before .args .b) ∷ []) (known (c .before .p4 .given .1) (c .before .before .before .close .ensures .reads kind.maplet refl))), tt)
 
 paren-add-kind-at : (t : ℕ) → paren-lts.Need-add-kind-at (paren-claims t) (paren-at t) paren.Post
 paren-add-kind-at t c = search needs
@@ -952,7 +955,7 @@ paren-enum-known-e : (t : ℕ) → paren-lts.Need-enum-known-e (paren-claims t) 
 paren-enum-known-e t c = search needs
 
 paren-close-requires : (t : ℕ) → paren-lts.Need-close-requires (paren-claims t) (paren-at t) paren.Post
-paren-close-requires t c κs = let room = c .before .before .before .before .before .before .before .before .before .before .before .before .before .pre .1 .0 in let h = (known (c .before .e .given .1) (c .before .before .before .before .before .pred .ensures)) in search needs
+paren-close-requires t c κs = let room = c .before .before .before .before .before .before .before .before .before .before .before .before .before .pre .1 .0 in let h = (known (c .before .e .given .1) (c .before .before .before .before .before .pred .ensures .0)) in search needs
 
 paren-enum-known-p : (t : ℕ) → paren-lts.Need-enum-known-p (paren-claims t) (paren-at t) paren.Post
 paren-enum-known-p t c = search needs
@@ -962,14 +965,14 @@ paren-same-length t c = search needs
 
 paren-returns : (t : ℕ) → paren-lts.Need-returns (paren-claims t) (paren-at t) paren.Post
 unfolding computeForm
-paren-returns t c = wider (likewise (λ κ e γ. as-pred (c .before .before .before .before .before .before .before .before .before .before .before .before .before .before .args .d) (c .before .before .before .before .before .before .before .before .before .before .before .before .before .before .args .b) κ γ ((c .before .before .before .before .before .before .before .before .before .quantifier-of .ensures .classes .class κ (e ∙ sym (c .before .before .before .before .before .before .before .before .before .before .kind-at .ensures .is))) ∙ c .before .before .before .before .before .before .before .before .if1 .taken)) (λ γ. refl) (next (framed (exact kind.closeParen ∷ []) (known (c .before .before .e .given .1) (c .before .before .before .before .before .before .pred .ensures))) (c .close .ensures .reads kind.closeParen refl))) (omega arith)
+paren-returns t c = (wider (likewise (λ κ e γ. as-pred (c .before .before .before .before .before .before .before .before .before .before .before .before .before .before .args .d) (c .before .before .before .before .before .before .before .before .before .before .before .before .before .before .args .b) κ γ ((c .before .before .before .before .before .before .before .before .before .quantifier-of .ensures .classes .class κ (e ∙ sym (c .before .before .before .before .before .before .before .before .before .before .kind-at .ensures .is))) ∙ c .before .before .before .before .before .before .before .before .if1 .taken)) (λ γ. refl) (next (framed (exact kind.closeParen ∷ []) (known (c .before .before .e .given .1) (c .before .before .before .before .before .before .pred .ensures .0))) (c .close .ensures .reads kind.closeParen refl))) (omega arith), let w₁ = (made (c .before .before .e .given .1) (c .before .before .before .before .before .before .pred .ensures .1)) in closing (c .close .ensures) (λ q. makes (built w₁) (derived.parenthesised (c .before .before .before .before .before .before .before .before .before .before .before .before .before .before .pre .1 .4) (w₁ .derives) q)))
 
 paren-same-length-2 : (t : ℕ) → paren-lts.Need-same-length-2 (paren-claims t) (paren-at t) paren.Post
 paren-same-length-2 t c = search needs
 
 paren-returns-2 : (t : ℕ) → paren-lts.Need-returns-2 (paren-claims t) (paren-at t) paren.Post
 unfolding computeForm
-paren-returns-2 t c = likewise (λ κ e γ. as-pred (c .before .before .before .before .before .before .before .before .before .before .before .before .before .args .d) (c .before .before .before .before .before .before .before .before .before .before .before .before .before .args .b) κ γ ((c .before .before .before .before .before .before .before .before .quantifier-of .ensures .classes .class κ (e ∙ sym (c .before .before .before .before .before .before .before .before .before .kind-at .ensures .is))) ∙ c .before .before .before .before .before .before .before .if1 .taken)) (λ γ. refl) (fails (framed (exact kind.closeParen ∷ []) (known (c .before .p .given .1) (c .before .before .before .before .before .pred .ensures))))
+paren-returns-2 t c = (likewise (λ κ e γ. as-pred (c .before .before .before .before .before .before .before .before .before .before .before .before .before .args .d) (c .before .before .before .before .before .before .before .before .before .before .before .before .before .args .b) κ γ ((c .before .before .before .before .before .before .before .before .quantifier-of .ensures .classes .class κ (e ∙ sym (c .before .before .before .before .before .before .before .before .before .kind-at .ensures .is))) ∙ c .before .before .before .before .before .before .before .if1 .taken)) (λ γ. refl) (fails (framed (exact kind.closeParen ∷ []) (known (c .before .p .given .1) (c .before .before .before .before .before .pred .ensures .0)))), tt)
 
 paren-quantified-requires : (t : ℕ) → paren-lts.Need-quantified-requires (paren-claims t) (paren-at t) paren.Post
 paren-quantified-requires t c κs = search needs
@@ -989,7 +992,7 @@ pred-same-length t c = search needs
 
 pred-returns : (t : ℕ) → pred-lts.Need-returns (pred-claims t) (pred-at t) pred.Post
 unfolding computeForm
-pred-returns t c = whole-pred (c .before .before .pred-from .ensures)
+pred-returns t c = (whole-pred (c .before .before .pred-from .ensures .0), c .before .before .pred-from .ensures .1)
 
 pred-from-unary-requires : (t : ℕ) → pred-from-lts.Need-unary-requires (pred-from-claims t) (pred-from-at t) pred-from.Post
 pred-from-unary-requires t c κs = search needs
@@ -998,7 +1001,7 @@ pred-from-enum-known-e : (t : ℕ) → pred-from-lts.Need-enum-known-e (pred-fro
 pred-from-enum-known-e t c = search needs
 
 pred-from-pred-rest-requires : (t : ℕ) → pred-from-lts.Need-pred-rest-requires (pred-from-claims t) (pred-from-at t) pred-from.Post
-pred-from-pred-rest-requires t c κs = let room = c .before .before .before .before .before .before .before .before .before .before .before .pre .1 .0 in let h = (known (c .before .before .e .given .1) (c .before .before .before .before .before .before .unary .ensures)) in search needs
+pred-from-pred-rest-requires t c κs = let room = c .before .before .before .before .before .before .before .before .before .before .before .pre .1 .0 in let h = (known (c .before .before .e .given .1) (c .before .before .before .before .before .before .unary .ensures .0)) in search needs
 
 pred-from-enum-known-p : (t : ℕ) → pred-from-lts.Need-enum-known-p (pred-from-claims t) (pred-from-at t) pred-from.Post
 pred-from-enum-known-p t c = search needs
@@ -1008,14 +1011,14 @@ pred-from-same-length t c = search needs
 
 pred-from-returns : (t : ℕ) → pred-from-lts.Need-returns (pred-from-claims t) (pred-from-at t) pred-from.Post
 unfolding computeForm
-pred-from-returns t c = record { reads = λ base q. next (framed (aPredRest base (c .before .before .before .before .before .before .before .before .before .before .before .before .before .before .args .d) (c .before .before .before .before .before .before .before .before .before .before .before .before .before .before .args .b) ∷ []) (known (c .before .before .before .before .before .e .given .1) (c .before .before .before .before .before .before .before .before .before .unary .ensures))) (c .before .before .pred-rest .ensures .reads base q); stops = c .before .before .pred-rest .ensures .stops }
+pred-from-returns t c = (record { reads = λ base q. next (framed (aPredRest base (c .before .before .before .before .before .before .before .before .before .before .before .before .before .before .args .d) (c .before .before .before .before .before .before .before .before .before .before .before .before .before .before .args .b) ∷ []) (known (c .before .before .before .before .before .e .given .1) (c .before .before .before .before .before .before .before .before .before .unary .ensures .0))) (c .before .before .pred-rest .ensures .0 .reads base q); stops = c .before .before .pred-rest .ensures .0 .stops }, let w₁ = (made (c .before .before .before .before .before .e .given .1) (c .before .before .before .before .before .before .before .before .before .unary .ensures .1)) in onward _ (c .before .before .pred-rest .result) (built w₁) (λ k v x. derived.predFrom (w₁ .derives) x) (c .before .before .pred-rest .ensures .1))
 
 pred-from-same-length-2 : (t : ℕ) → pred-from-lts.Need-same-length-2 (pred-from-claims t) (pred-from-at t) pred-from.Post
 pred-from-same-length-2 t c = search needs
 
 pred-from-returns-2 : (t : ℕ) → pred-from-lts.Need-returns-2 (pred-from-claims t) (pred-from-at t) pred-from.Post
 unfolding computeForm
-pred-from-returns-2 t c = record { reads = λ base q. fails (framed (aPredRest base (c .before .before .before .before .before .before .before .before .before .before .args .d) (c .before .before .before .before .before .before .before .before .before .before .args .b) ∷ []) (known (c .before .p .given .1) (c .before .before .before .before .before .unary .ensures))); stops = tt }
+pred-from-returns-2 t c = (record { reads = λ base q. fails (framed (aPredRest base (c .before .before .before .before .before .before .before .before .before .before .args .d) (c .before .before .before .before .before .before .before .before .before .before .args .b) ∷ []) (known (c .before .p .given .1) (c .before .before .before .before .before .unary .ensures .0))); stops = tt }, tt)
 
 pred-rest-kind-at-requires : (t : ℕ) → pred-rest-lts.Need-kind-at-requires (pred-rest-claims t) (pred-rest-at t) pred-rest.Post
 pred-rest-kind-at-requires t c κs = search needs
@@ -1025,11 +1028,11 @@ pred-rest-connective-of-requires t c κs = search needs
 
 pred-rest-returns : (t : ℕ) → pred-rest-lts.Need-returns (pred-rest-claims t) (pred-rest-at t) pred-rest.Post
 unfolding computeForm
-pred-rest-returns t c = record { reads = λ base q. here (omega arith); stops = λ κ e. omega (arith, (c .before .connective-of .ensures .class κ (e ∙ sym (c .before .before .kind-at .ensures .is)))) }
+pred-rest-returns t c = (record { reads = λ base q. here (omega arith); stops = λ κ e. omega (arith, (c .before .connective-of .ensures .class κ (e ∙ sym (c .before .before .kind-at .ensures .is)))) }, nothing (derived.predStops (λ κ e. omega (arith, (c .before .connective-of .ensures .class κ (e ∙ sym (c .before .before .kind-at .ensures .is)))))))
 
 pred-rest-returns-2 : (t : ℕ) → pred-rest-lts.Need-returns-2 (pred-rest-claims t) (pred-rest-at t) pred-rest.Post
 unfolding computeForm
-pred-rest-returns-2 t c = record { reads = λ base q. deeper (opens (suc (c .before .before .before .before .before .before .before .before .args .d))) (omega arith) (open-deep (c .before .before .before .before .before .before .before .before .args .s .now) (c .before .before .before .before .before .before .before .before .args .at) (suc (c .before .before .before .before .before .before .before .before .args .d)) (omega arith) (other-kind (c .before .before .before .before .before .before .before .before .args .s .now) (c .before .before .before .before .before .before .before .before .args .at) (λ q. absurd (omega (arith, c .before .before .before .connective-of .ensures .class kind.minus (sym ((c .before .before .before .before .kind-at .ensures .is) ∙ q))))))) (λ κ e γ. pred-rest-step base (c .before .before .before .before .before .before .before .before .args .d) (c .before .before .before .before .before .before .before .before .args .b) κ γ ((c .before .before .before .connective-of .ensures .class κ (e ∙ sym (c .before .before .before .before .kind-at .ensures .is))) ∙ c .before .if2 .taken)); stops = tt }
+pred-rest-returns-2 t c = (record { reads = λ base q. deeper (opens (suc (c .before .before .before .before .before .before .before .before .args .d))) (omega arith) (open-deep (c .before .before .before .before .before .before .before .before .args .s .now) (c .before .before .before .before .before .before .before .before .args .at) (suc (c .before .before .before .before .before .before .before .before .args .d)) (omega arith) (other-kind (c .before .before .before .before .before .before .before .before .args .s .now) (c .before .before .before .before .before .before .before .before .args .at) (λ q. absurd (omega (arith, c .before .before .before .connective-of .ensures .class kind.minus (sym ((c .before .before .before .before .kind-at .ensures .is) ∙ q))))))) (λ κ e γ. pred-rest-step base (c .before .before .before .before .before .before .before .before .args .d) (c .before .before .before .before .before .before .before .before .args .b) κ γ ((c .before .before .before .connective-of .ensures .class κ (e ∙ sym (c .before .before .before .before .kind-at .ensures .is))) ∙ c .before .if2 .taken)); stops = tt }, tt)
 
 pred-rest-add-pred-from : (t : ℕ) → pred-rest-lts.Need-add-pred-from (pred-rest-claims t) (pred-rest-at t) pred-rest.Post
 pred-rest-add-pred-from t c = search needs
@@ -1047,10 +1050,10 @@ pred-rest-wide-requires : (t : ℕ) → pred-rest-lts.Need-wide-requires (pred-r
 pred-rest-wide-requires t c κs = search needs
 
 pred-rest-put-requires : (t : ℕ) → pred-rest-lts.Need-put-requires (pred-rest-claims t) (pred-rest-at t) pred-rest.Post
-pred-rest-put-requires t c κs = let room = c .before .before .before .before .before .before .before .before .before .before .before .before .before .before .before .before .before .pre .1 .0 in let h = known (c .before .before .before .e .given .1) (c .before .before .before .before .before .before .before .pred-from .ensures .reads 0 (λ z. absurd (omega arith))) in search needs
+pred-rest-put-requires t c κs = let room = c .before .before .before .before .before .before .before .before .before .before .before .before .before .before .before .before .before .pre .1 .0 in let h = known (c .before .before .before .e .given .1) (c .before .before .before .before .before .before .before .pred-from .ensures .0 .reads 0 (λ z. absurd (omega arith))) in search needs
 
 pred-rest-pred-rest-requires : (t : ℕ) → pred-rest-lts.Need-pred-rest-requires (pred-rest-claims t) (pred-rest-at t) pred-rest.Post
-pred-rest-pred-rest-requires t c κs = let room = c .before .before .before .before .before .before .before .before .before .before .before .before .before .before .before .before .before .before .before .before .before .pre .1 .0 in let h = known (c .before .before .before .before .before .before .before .e .given .1) (c .before .before .before .before .before .before .before .before .before .before .before .pred-from .ensures .reads 0 (λ z. absurd (omega arith))) in search needs
+pred-rest-pred-rest-requires t c κs = let room = c .before .before .before .before .before .before .before .before .before .before .before .before .before .before .before .before .before .before .before .before .before .pre .1 .0 in let h = known (c .before .before .before .before .before .before .before .e .given .1) (c .before .before .before .before .before .before .before .before .before .before .before .pred-from .ensures .0 .reads 0 (λ z. absurd (omega arith))) in search needs
 
 pred-rest-enum-known-p : (t : ℕ) → pred-rest-lts.Need-enum-known-p (pred-rest-claims t) (pred-rest-at t) pred-rest.Post
 pred-rest-enum-known-p t c = search needs
@@ -1060,14 +1063,14 @@ pred-rest-same-length t c = search needs
 
 pred-rest-returns-3 : (t : ℕ) → pred-rest-lts.Need-returns-3 (pred-rest-claims t) (pred-rest-at t) pred-rest.Post
 unfolding computeForm
-pred-rest-returns-3 t c = record { reads = λ base q. let h = (known (c .before .before .before .before .before .before .before .before .before .before .e .given .1) (c .before .before .before .before .before .before .before .before .before .before .before .before .before .before .pred-from .ensures .reads base (λ z. absurd (omega arith)))) in taken {μ = aUnary (suc (c .before .before .before .before .before .before .before .before .before .before .before .before .before .before .before .before .before .before .before .before .before .before .before .before .args .d)) (c .before .before .before .before .before .before .before .before .before .before .before .before .before .before .before .before .before .before .before .before .before .before .before .before .args .b) ∷ aPredRest base (suc (c .before .before .before .before .before .before .before .before .before .before .before .before .before .before .before .before .before .before .before .before .before .before .before .before .args .d)) (c .before .before .before .before .before .before .before .before .before .before .before .before .before .before .before .before .before .before .before .before .before .before .before .before .args .b) ∷ []} {m = (c .before .before .before .before .before .before .before .before .before .before .before .before .before .before .before .before .before .before .before .before .before .before .before .before .args .n) + 4} (opens (suc (c .before .before .before .before .before .before .before .before .before .before .before .before .before .before .before .before .before .before .before .before .before .before .before .before .args .d))) (omega arith) (open-well (c .before .before .before .before .before .before .before .before .before .before .before .before .before .before .before .before .before .before .before .before .before .before .before .before .args .s .now) (c .before .before .before .before .before .before .before .before .before .before .before .before .before .before .before .before .before .before .before .before .before .before .before .before .args .at) (suc (c .before .before .before .before .before .before .before .before .before .before .before .before .before .before .before .before .before .before .before .before .before .before .before .before .args .d)) (omega arith)) (λ κ e γ. pred-rest-step base (c .before .before .before .before .before .before .before .before .before .before .before .before .before .before .before .before .before .before .before .before .before .before .before .before .args .d) (c .before .before .before .before .before .before .before .before .before .before .before .before .before .before .before .before .before .before .before .before .before .before .before .before .args .b) κ γ ((c .before .before .before .before .before .before .before .before .before .before .before .before .before .before .before .before .before .before .before .connective-of .ensures .class κ (e ∙ sym (c .before .before .before .before .before .before .before .before .before .before .before .before .before .before .before .before .before .before .before .before .kind-at .ensures .is))) ∙ c .before .before .before .before .before .before .before .before .before .before .before .before .before .before .before .before .before .if2 .taken)) (next (counted (omega arith) (raised (λ x. aUnary x (c .before .before .before .before .before .before .before .before .before .before .before .before .before .before .before .before .before .before .before .before .before .before .before .before .args .b) ∷ aPredRest base x (c .before .before .before .before .before .before .before .before .before .before .before .before .before .before .before .before .before .before .before .before .before .before .before .before .args .b) ∷ []) (c .before .before .before .before .before .before .before .before .before .before .before .before .before .before .before .before .before .before .before .before .before .before .before .before .args .d) h)) (likewise (λ κ e γ. rest-depth base ((c .before .before .before .before .before .before .before .before .before .before .before .before .before .before .before .before .before .before .before .before .before .before .before .before .args .d) + 1) (c .before .before .before .before .before .before .before .before .before .before .before .before .before .before .before .before .before .before .before .before .before .before .before .before .args .d) (c .before .before .before .before .before .before .before .before .before .before .before .before .before .before .before .before .before .before .before .before .before .before .before .before .args .b) κ γ (known-level (c .before .before .before .before .before .before .before .before .before .before .before .before .before .before .before .before .before .before .before .before .before .before .before .before .args .s .now) 2 (c .before .before .before .before .before .before .before .before .before .before .e .given .1) (c .before .before .before .before .before .before .before .before .before .before .before .before .before .before .pred-from .ensures .stops) κ e)) (λ γ. refl) (c .before .before .pred-rest .ensures .reads base q))) (omega arith); stops = c .before .before .pred-rest .ensures .stops }
+pred-rest-returns-3 t c = (record { reads = λ base q. let h = (known (c .before .before .before .before .before .before .before .before .before .before .e .given .1) (c .before .before .before .before .before .before .before .before .before .before .before .before .before .before .pred-from .ensures .0 .reads base (λ z. absurd (omega arith)))) in taken {μ = aUnary (suc (c .before .before .before .before .before .before .before .before .before .before .before .before .before .before .before .before .before .before .before .before .before .before .before .before .args .d)) (c .before .before .before .before .before .before .before .before .before .before .before .before .before .before .before .before .before .before .before .before .before .before .before .before .args .b) ∷ aPredRest base (suc (c .before .before .before .before .before .before .before .before .before .before .before .before .before .before .before .before .before .before .before .before .before .before .before .before .args .d)) (c .before .before .before .before .before .before .before .before .before .before .before .before .before .before .before .before .before .before .before .before .before .before .before .before .args .b) ∷ []} {m = (c .before .before .before .before .before .before .before .before .before .before .before .before .before .before .before .before .before .before .before .before .before .before .before .before .args .n) + 4} (opens (suc (c .before .before .before .before .before .before .before .before .before .before .before .before .before .before .before .before .before .before .before .before .before .before .before .before .args .d))) (omega arith) (open-well (c .before .before .before .before .before .before .before .before .before .before .before .before .before .before .before .before .before .before .before .before .before .before .before .before .args .s .now) (c .before .before .before .before .before .before .before .before .before .before .before .before .before .before .before .before .before .before .before .before .before .before .before .before .args .at) (suc (c .before .before .before .before .before .before .before .before .before .before .before .before .before .before .before .before .before .before .before .before .before .before .before .before .args .d)) (omega arith)) (λ κ e γ. pred-rest-step base (c .before .before .before .before .before .before .before .before .before .before .before .before .before .before .before .before .before .before .before .before .before .before .before .before .args .d) (c .before .before .before .before .before .before .before .before .before .before .before .before .before .before .before .before .before .before .before .before .before .before .before .before .args .b) κ γ ((c .before .before .before .before .before .before .before .before .before .before .before .before .before .before .before .before .before .before .before .connective-of .ensures .class κ (e ∙ sym (c .before .before .before .before .before .before .before .before .before .before .before .before .before .before .before .before .before .before .before .before .kind-at .ensures .is))) ∙ c .before .before .before .before .before .before .before .before .before .before .before .before .before .before .before .before .before .if2 .taken)) (next (counted (omega arith) (raised (λ x. aUnary x (c .before .before .before .before .before .before .before .before .before .before .before .before .before .before .before .before .before .before .before .before .before .before .before .before .args .b) ∷ aPredRest base x (c .before .before .before .before .before .before .before .before .before .before .before .before .before .before .before .before .before .before .before .before .before .before .before .before .args .b) ∷ []) (c .before .before .before .before .before .before .before .before .before .before .before .before .before .before .before .before .before .before .before .before .before .before .before .before .args .d) h)) (likewise (λ κ e γ. rest-depth base ((c .before .before .before .before .before .before .before .before .before .before .before .before .before .before .before .before .before .before .before .before .before .before .before .before .args .d) + 1) (c .before .before .before .before .before .before .before .before .before .before .before .before .before .before .before .before .before .before .before .before .before .before .before .before .args .d) (c .before .before .before .before .before .before .before .before .before .before .before .before .before .before .before .before .before .before .before .before .before .before .before .before .args .b) κ γ (known-level (c .before .before .before .before .before .before .before .before .before .before .before .before .before .before .before .before .before .before .before .before .before .before .before .before .args .s .now) 2 (c .before .before .before .before .before .before .before .before .before .before .e .given .1) (c .before .before .before .before .before .before .before .before .before .before .before .before .before .before .pred-from .ensures .0 .stops) κ e)) (λ γ. refl) (c .before .before .pred-rest .ensures .0 .reads base q))) (omega arith); stops = c .before .before .pred-rest .ensures .0 .stops }, let w₁ = (made (c .before .before .before .before .before .before .before .before .before .before .e .given .1) (c .before .before .before .before .before .before .before .before .before .before .before .before .before .before .pred-from .ensures .1)) in onward _ (c .before .before .pred-rest .result) (both (built w₁) (node-of (c .before .before .before .before .before .before .before .wide .ensures ∙ (c .before .before .before .before .before .before .before .before .before .before .before .before .before .before .before .before .before .before .before .before .kind-at .ensures .is)) refl (c .before .before .before .before .before .before .put .ensures))) (λ k v x. derived.implied (class-at (c .before .before .before .before .before .before .before .before .before .before .before .before .before .before .before .before .before .before .before .before .kind-at .ensures .is) (c .before .before .before .before .before .before .before .before .before .before .before .before .before .before .before .before .before .if2 .taken) (c .before .before .before .before .before .before .before .before .before .before .before .before .before .before .before .before .before .before .before .connective-of .ensures)) (omega (arith, c .before .before .before .before .before .before .before .before .before .before .before .before .before .before .before .before .before .before .if1 .left, c .before .before .before .before .before .before .before .before .before .before .before .before .before .before .before .before .before .if2 .taken)) (w₁ .derives) x) (c .before .before .pred-rest .ensures .1))
 
 pred-rest-same-length-2 : (t : ℕ) → pred-rest-lts.Need-same-length-2 (pred-rest-claims t) (pred-rest-at t) pred-rest.Post
 pred-rest-same-length-2 t c = search needs
 
 pred-rest-returns-4 : (t : ℕ) → pred-rest-lts.Need-returns-4 (pred-rest-claims t) (pred-rest-at t) pred-rest.Post
 unfolding computeForm
-pred-rest-returns-4 t c = record { reads = λ base q. taken {μ = aUnary (suc (c .before .before .before .before .before .before .before .before .before .before .before .before .before .before .before .args .d)) (c .before .before .before .before .before .before .before .before .before .before .before .before .before .before .before .args .b) ∷ aPredRest base (suc (c .before .before .before .before .before .before .before .before .before .before .before .before .before .before .before .args .d)) (c .before .before .before .before .before .before .before .before .before .before .before .before .before .before .before .args .b) ∷ []} {m = (c .before .before .before .before .before .before .before .before .before .before .before .before .before .before .before .args .n) + 4} (opens (suc (c .before .before .before .before .before .before .before .before .before .before .before .before .before .before .before .args .d))) (omega arith) (open-well (c .before .before .before .before .before .before .before .before .before .before .before .before .before .before .before .args .s .now) (c .before .before .before .before .before .before .before .before .before .before .before .before .before .before .before .args .at) (suc (c .before .before .before .before .before .before .before .before .before .before .before .before .before .before .before .args .d)) (omega arith)) (λ κ e γ. pred-rest-step base (c .before .before .before .before .before .before .before .before .before .before .before .before .before .before .before .args .d) (c .before .before .before .before .before .before .before .before .before .before .before .before .before .before .before .args .b) κ γ ((c .before .before .before .before .before .before .before .before .before .before .connective-of .ensures .class κ (e ∙ sym (c .before .before .before .before .before .before .before .before .before .before .before .kind-at .ensures .is))) ∙ c .before .before .before .before .before .before .before .before .if2 .taken)) (fails (raised (λ x. aUnary x (c .before .before .before .before .before .before .before .before .before .before .before .before .before .before .before .args .b) ∷ aPredRest base x (c .before .before .before .before .before .before .before .before .before .before .before .before .before .before .before .args .b) ∷ []) (c .before .before .before .before .before .before .before .before .before .before .before .before .before .before .before .args .d) (known (c .before .p .given .1) (c .before .before .before .before .before .pred-from .ensures .reads base (λ z. absurd (omega arith)))))) (omega arith); stops = tt }
+pred-rest-returns-4 t c = (record { reads = λ base q. taken {μ = aUnary (suc (c .before .before .before .before .before .before .before .before .before .before .before .before .before .before .before .args .d)) (c .before .before .before .before .before .before .before .before .before .before .before .before .before .before .before .args .b) ∷ aPredRest base (suc (c .before .before .before .before .before .before .before .before .before .before .before .before .before .before .before .args .d)) (c .before .before .before .before .before .before .before .before .before .before .before .before .before .before .before .args .b) ∷ []} {m = (c .before .before .before .before .before .before .before .before .before .before .before .before .before .before .before .args .n) + 4} (opens (suc (c .before .before .before .before .before .before .before .before .before .before .before .before .before .before .before .args .d))) (omega arith) (open-well (c .before .before .before .before .before .before .before .before .before .before .before .before .before .before .before .args .s .now) (c .before .before .before .before .before .before .before .before .before .before .before .before .before .before .before .args .at) (suc (c .before .before .before .before .before .before .before .before .before .before .before .before .before .before .before .args .d)) (omega arith)) (λ κ e γ. pred-rest-step base (c .before .before .before .before .before .before .before .before .before .before .before .before .before .before .before .args .d) (c .before .before .before .before .before .before .before .before .before .before .before .before .before .before .before .args .b) κ γ ((c .before .before .before .before .before .before .before .before .before .before .connective-of .ensures .class κ (e ∙ sym (c .before .before .before .before .before .before .before .before .before .before .before .kind-at .ensures .is))) ∙ c .before .before .before .before .before .before .before .before .if2 .taken)) (fails (raised (λ x. aUnary x (c .before .before .before .before .before .before .before .before .before .before .before .before .before .before .before .args .b) ∷ aPredRest base x (c .before .before .before .before .before .before .before .before .before .before .before .before .before .before .before .args .b) ∷ []) (c .before .before .before .before .before .before .before .before .before .before .before .before .before .before .before .args .d) (known (c .before .p .given .1) (c .before .before .before .before .before .pred-from .ensures .0 .reads base (λ z. absurd (omega arith)))))) (omega arith); stops = tt }, tt)
 
 pred-rest-add-pred-from-3 : (t : ℕ) → pred-rest-lts.Need-add-pred-from-3 (pred-rest-claims t) (pred-rest-at t) pred-rest.Post
 pred-rest-add-pred-from-3 t c = search needs
@@ -1085,10 +1088,10 @@ pred-rest-wide-requires-2 : (t : ℕ) → pred-rest-lts.Need-wide-requires-2 (pr
 pred-rest-wide-requires-2 t c κs = search needs
 
 pred-rest-put-requires-2 : (t : ℕ) → pred-rest-lts.Need-put-requires-2 (pred-rest-claims t) (pred-rest-at t) pred-rest.Post
-pred-rest-put-requires-2 t c κs = let room = c .before .before .before .before .before .before .before .before .before .before .before .before .before .before .before .before .pre .1 .0 in let h = known (c .before .before .before .e2 .given .1) (c .before .before .before .before .before .before .before .pred-from2 .ensures .reads 0 (λ z. absurd (omega (arith, c .before .before .before .before .before .before .before .before .before .before .if1 .left, c .before .before .before .before .before .before .before .before .before .before .before .before .before .before .before .before .pre .1 .3)))) in search needs
+pred-rest-put-requires-2 t c κs = let room = c .before .before .before .before .before .before .before .before .before .before .before .before .before .before .before .before .pre .1 .0 in let h = known (c .before .before .before .e2 .given .1) (c .before .before .before .before .before .before .before .pred-from2 .ensures .0 .reads 0 (λ z. absurd (omega (arith, c .before .before .before .before .before .before .before .before .before .before .if1 .left, c .before .before .before .before .before .before .before .before .before .before .before .before .before .before .before .before .pre .1 .3)))) in search needs
 
 pred-rest-pred-rest-requires-2 : (t : ℕ) → pred-rest-lts.Need-pred-rest-requires-2 (pred-rest-claims t) (pred-rest-at t) pred-rest.Post
-pred-rest-pred-rest-requires-2 t c κs = let room = c .before .before .before .before .before .before .before .before .before .before .before .before .before .before .before .before .before .before .before .before .pre .1 .0 in let h = known (c .before .before .before .before .before .before .before .e2 .given .1) (c .before .before .before .before .before .before .before .before .before .before .before .pred-from2 .ensures .reads 0 (λ z. absurd (omega (arith, c .before .before .before .before .before .before .before .before .before .before .before .before .before .before .if1 .left, c .before .before .before .before .before .before .before .before .before .before .before .before .before .before .before .before .before .before .before .before .pre .1 .3)))) in search needs
+pred-rest-pred-rest-requires-2 t c κs = let room = c .before .before .before .before .before .before .before .before .before .before .before .before .before .before .before .before .before .before .before .before .pre .1 .0 in let h = known (c .before .before .before .before .before .before .before .e2 .given .1) (c .before .before .before .before .before .before .before .before .before .before .before .pred-from2 .ensures .0 .reads 0 (λ z. absurd (omega (arith, c .before .before .before .before .before .before .before .before .before .before .before .before .before .before .if1 .left, c .before .before .before .before .before .before .before .before .before .before .before .before .before .before .before .before .before .before .before .before .pre .1 .3)))) in search needs
 
 pred-rest-enum-known-p-2 : (t : ℕ) → pred-rest-lts.Need-enum-known-p-2 (pred-rest-claims t) (pred-rest-at t) pred-rest.Post
 pred-rest-enum-known-p-2 t c = search needs
@@ -1098,14 +1101,14 @@ pred-rest-same-length-3 t c = search needs
 
 pred-rest-returns-5 : (t : ℕ) → pred-rest-lts.Need-returns-5 (pred-rest-claims t) (pred-rest-at t) pred-rest.Post
 unfolding computeForm
-pred-rest-returns-5 t c = record { reads = λ base q. let h = (known (c .before .before .before .before .before .before .before .before .before .before .e2 .given .1) (c .before .before .before .before .before .before .before .before .before .before .before .before .before .before .pred-from2 .ensures .reads base (λ z. absurd (omega (arith, c .before .before .before .before .before .before .before .before .before .before .before .before .before .before .before .before .before .if1 .left, c .before .before .before .before .before .before .before .before .before .before .before .before .before .before .before .before .before .before .before .before .before .before .before .pre .1 .3))))) in takes {μ = aUnary (c .before .before .before .before .before .before .before .before .before .before .before .before .before .before .before .before .before .before .before .before .before .before .before .args .d) (c .before .before .before .before .before .before .before .before .before .before .before .before .before .before .before .before .before .before .before .before .before .before .before .args .b) ∷ aPredRest base (c .before .before .before .before .before .before .before .before .before .before .before .before .before .before .before .before .before .before .before .before .before .before .before .args .d) (c .before .before .before .before .before .before .before .before .before .before .before .before .before .before .before .before .before .before .before .before .before .before .before .args .b) ∷ []} {m = (c .before .before .before .before .before .before .before .before .before .before .before .before .before .before .before .before .before .before .before .before .before .before .before .args .n) + 4} (omega arith) (λ κ e γ. rest-connective base (c .before .before .before .before .before .before .before .before .before .before .before .before .before .before .before .before .before .before .before .before .before .before .before .args .d) (c .before .before .before .before .before .before .before .before .before .before .before .before .before .before .before .before .before .before .before .before .before .before .before .args .b) (c .before .before .before .before .before .before .before .before .before .before .before .before .before .before .before .before .before .before .connective-of .result) κ γ (c .before .before .before .before .before .before .before .before .before .before .before .before .before .before .before .before .before .before .connective-of .ensures .class κ (e ∙ sym (c .before .before .before .before .before .before .before .before .before .before .before .before .before .before .before .before .before .before .before .kind-at .ensures .is))) (omega (arith, c .before .before .before .before .before .before .before .before .before .before .before .before .before .before .before .before .before .if1 .left, c .before .before .before .before .before .before .before .before .before .before .before .before .before .before .before .before .before .before .before .before .before .before .before .pre .1 .3)) (c .before .before .before .before .before .before .before .before .before .before .before .before .before .before .before .before .if2 .left) (λ z. q (omega (arith, c .before .before .before .before .before .before .before .before .before .before .before .before .before .before .before .before .before .if1 .left, c .before .before .before .before .before .before .before .before .before .before .before .before .before .before .before .before .before .before .before .before .before .before .before .pre .1 .3)))) (next (counted (omega arith) h) (c .before .before .pred-rest2 .ensures .reads base q)) (omega arith); stops = c .before .before .pred-rest2 .ensures .stops }
+pred-rest-returns-5 t c = (record { reads = λ base q. let h = (known (c .before .before .before .before .before .before .before .before .before .before .e2 .given .1) (c .before .before .before .before .before .before .before .before .before .before .before .before .before .before .pred-from2 .ensures .0 .reads base (λ z. absurd (omega (arith, c .before .before .before .before .before .before .before .before .before .before .before .before .before .before .before .before .before .if1 .left, c .before .before .before .before .before .before .before .before .before .before .before .before .before .before .before .before .before .before .before .before .before .before .before .pre .1 .3))))) in takes {μ = aUnary (c .before .before .before .before .before .before .before .before .before .before .before .before .before .before .before .before .before .before .before .before .before .before .before .args .d) (c .before .before .before .before .before .before .before .before .before .before .before .before .before .before .before .before .before .before .before .before .before .before .before .args .b) ∷ aPredRest base (c .before .before .before .before .before .before .before .before .before .before .before .before .before .before .before .before .before .before .before .before .before .before .before .args .d) (c .before .before .before .before .before .before .before .before .before .before .before .before .before .before .before .before .before .before .before .before .before .before .before .args .b) ∷ []} {m = (c .before .before .before .before .before .before .before .before .before .before .before .before .before .before .before .before .before .before .before .before .before .before .before .args .n) + 4} (omega arith) (λ κ e γ. rest-connective base (c .before .before .before .before .before .before .before .before .before .before .before .before .before .before .before .before .before .before .before .before .before .before .before .args .d) (c .before .before .before .before .before .before .before .before .before .before .before .before .before .before .before .before .before .before .before .before .before .before .before .args .b) (c .before .before .before .before .before .before .before .before .before .before .before .before .before .before .before .before .before .before .connective-of .result) κ γ (c .before .before .before .before .before .before .before .before .before .before .before .before .before .before .before .before .before .before .connective-of .ensures .class κ (e ∙ sym (c .before .before .before .before .before .before .before .before .before .before .before .before .before .before .before .before .before .before .before .kind-at .ensures .is))) (omega (arith, c .before .before .before .before .before .before .before .before .before .before .before .before .before .before .before .before .before .if1 .left, c .before .before .before .before .before .before .before .before .before .before .before .before .before .before .before .before .before .before .before .before .before .before .before .pre .1 .3)) (c .before .before .before .before .before .before .before .before .before .before .before .before .before .before .before .before .if2 .left) (λ z. q (omega (arith, c .before .before .before .before .before .before .before .before .before .before .before .before .before .before .before .before .before .if1 .left, c .before .before .before .before .before .before .before .before .before .before .before .before .before .before .before .before .before .before .before .before .before .before .before .pre .1 .3)))) (next (counted (omega arith) h) (c .before .before .pred-rest2 .ensures .0 .reads base q)) (omega arith); stops = c .before .before .pred-rest2 .ensures .0 .stops }, let w₁ = (made (c .before .before .before .before .before .before .before .before .before .before .e2 .given .1) (c .before .before .before .before .before .before .before .before .before .before .before .before .before .before .pred-from2 .ensures .1)) in onward _ (c .before .before .pred-rest2 .result) (both (built w₁) (node-of (c .before .before .before .before .before .before .before .wide2 .ensures ∙ (c .before .before .before .before .before .before .before .before .before .before .before .before .before .before .before .before .before .before .before .kind-at .ensures .is)) refl (c .before .before .before .before .before .before .put2 .ensures))) (λ k v x. derived.connected (class-at (c .before .before .before .before .before .before .before .before .before .before .before .before .before .before .before .before .before .before .before .kind-at .ensures .is) refl (c .before .before .before .before .before .before .before .before .before .before .before .before .before .before .before .before .before .before .connective-of .ensures)) (omega (arith, c .before .before .before .before .before .before .before .before .before .before .before .before .before .before .before .before .before .if1 .left, c .before .before .before .before .before .before .before .before .before .before .before .before .before .before .before .before .before .before .before .before .before .before .before .pre .1 .3)) (c .before .before .before .before .before .before .before .before .before .before .before .before .before .before .before .before .if2 .left) (omega (arith, c .before .before .before .before .before .before .before .before .before .before .before .before .before .before .before .before .before .if1 .left)) (w₁ .derives) x) (c .before .before .pred-rest2 .ensures .1))
 
 pred-rest-same-length-4 : (t : ℕ) → pred-rest-lts.Need-same-length-4 (pred-rest-claims t) (pred-rest-at t) pred-rest.Post
 pred-rest-same-length-4 t c = search needs
 
 pred-rest-returns-6 : (t : ℕ) → pred-rest-lts.Need-returns-6 (pred-rest-claims t) (pred-rest-at t) pred-rest.Post
 unfolding computeForm
-pred-rest-returns-6 t c = record { reads = λ base q. takes {μ = aUnary (c .before .before .before .before .before .before .before .before .before .before .before .before .before .before .args .d) (c .before .before .before .before .before .before .before .before .before .before .before .before .before .before .args .b) ∷ aPredRest base (c .before .before .before .before .before .before .before .before .before .before .before .before .before .before .args .d) (c .before .before .before .before .before .before .before .before .before .before .before .before .before .before .args .b) ∷ []} {m = (c .before .before .before .before .before .before .before .before .before .before .before .before .before .before .args .n) + 4} (omega arith) (λ κ e γ. rest-connective base (c .before .before .before .before .before .before .before .before .before .before .before .before .before .before .args .d) (c .before .before .before .before .before .before .before .before .before .before .before .before .before .before .args .b) (c .before .before .before .before .before .before .before .before .before .connective-of .result) κ γ (c .before .before .before .before .before .before .before .before .before .connective-of .ensures .class κ (e ∙ sym (c .before .before .before .before .before .before .before .before .before .before .kind-at .ensures .is))) (omega (arith, c .before .before .before .before .before .before .before .before .if1 .left, c .before .before .before .before .before .before .before .before .before .before .before .before .before .before .pre .1 .3)) (c .before .before .before .before .before .before .before .if2 .left) (λ z. q (omega (arith, c .before .before .before .before .before .before .before .before .if1 .left, c .before .before .before .before .before .before .before .before .before .before .before .before .before .before .pre .1 .3)))) (fails (known (c .before .p2 .given .1) (c .before .before .before .before .before .pred-from2 .ensures .reads base (λ z. absurd (omega (arith, c .before .before .before .before .before .before .before .before .if1 .left, c .before .before .before .before .before .before .before .before .before .before .before .before .before .before .pre .1 .3)))))) (omega arith); stops = tt }
+pred-rest-returns-6 t c = (record { reads = λ base q. takes {μ = aUnary (c .before .before .before .before .before .before .before .before .before .before .before .before .before .before .args .d) (c .before .before .before .before .before .before .before .before .before .before .before .before .before .before .args .b) ∷ aPredRest base (c .before .before .before .before .before .before .before .before .before .before .before .before .before .before .args .d) (c .before .before .before .before .before .before .before .before .before .before .before .before .before .before .args .b) ∷ []} {m = (c .before .before .before .before .before .before .before .before .before .before .before .before .before .before .args .n) + 4} (omega arith) (λ κ e γ. rest-connective base (c .before .before .before .before .before .before .before .before .before .before .before .before .before .before .args .d) (c .before .before .before .before .before .before .before .before .before .before .before .before .before .before .args .b) (c .before .before .before .before .before .before .before .before .before .connective-of .result) κ γ (c .before .before .before .before .before .before .before .before .before .connective-of .ensures .class κ (e ∙ sym (c .before .before .before .before .before .before .before .before .before .before .kind-at .ensures .is))) (omega (arith, c .before .before .before .before .before .before .before .before .if1 .left, c .before .before .before .before .before .before .before .before .before .before .before .before .before .before .pre .1 .3)) (c .before .before .before .before .before .before .before .if2 .left) (λ z. q (omega (arith, c .before .before .before .before .before .before .before .before .if1 .left, c .before .before .before .before .before .before .before .before .before .before .before .before .before .before .pre .1 .3)))) (fails (known (c .before .p2 .given .1) (c .before .before .before .before .before .pred-from2 .ensures .0 .reads base (λ z. absurd (omega (arith, c .before .before .before .before .before .before .before .before .if1 .left, c .before .before .before .before .before .before .before .before .before .before .before .before .before .before .pre .1 .3)))))) (omega arith); stops = tt }, tt)
 
 quantified-add-x : (t : ℕ) → quantified-lts.Need-add-x (quantified-claims t) (quantified-at t) quantified.Post
 quantified-add-x t c = search needs
@@ -1119,7 +1122,7 @@ quantified-kind-at-requires t c κs = search needs
 
 quantified-returns : (t : ℕ) → quantified-lts.Need-returns (quantified-claims t) (quantified-at t) quantified.Post
 unfolding computeForm
-quantified-returns t c = let room = c .before .before .before .before .before .before .pre .1 .0 in takes {μ = aDeclared (binds (suc (c .before .before .before .before .before .before .args .b))) ∷ exact kind.colon ∷ aDomain ∷ exact kind.spot ∷ aUnary (c .before .before .before .before .before .before .args .d) (suc (c .before .before .before .before .before .before .args .b)) ∷ aPredRest (c .before .before .before .before .before .before .args .d) (c .before .before .before .before .before .before .args .d) (suc (c .before .before .before .before .before .before .args .b)) ∷ exact kind.closeParen ∷ []} {m = (c .before .before .before .before .before .before .args .n)} (omega arith) (λ κ e γ. quantifier-step (c .before .before .before .before .before .before .args .d) (c .before .before .before .before .before .before .args .b) κ γ (quantifier-code κ (omega (arith, c .before .before .before .before .before .before .pre .1 .4)) (omega (arith, c .before .before .before .before .before .before .pre .1 .5)))) (deeper-kind (λ γ. exact kind.colon ∷ aDomain ∷ exact kind.spot ∷ aUnary (c .before .before .before .before .before .before .args .d) (suc (c .before .before .before .before .before .before .args .b)) ∷ aPredRest (c .before .before .before .before .before .before .args .d) (c .before .before .before .before .before .before .args .d) (suc (c .before .before .before .before .before .before .args .b)) ∷ exact kind.closeParen ∷ γ) (binds (suc (c .before .before .before .before .before .before .args .b))) kind.plain (sym (c .before .before .kind-at .ensures .is) ∙ c .before .if1 .taken) (omega arith) (bound-elsewhere (c .before .before .before .before .before .before .args .s .now) ((c .before .before .before .before .before .before .args .at) + 1) (suc (c .before .before .before .before .before .before .args .b)) (omega arith) (λ q. absurd (omega (arith, c .before .before .before .before .before .before .pre .1 .4)))) (λ γ. refl)) (omega arith)
+quantified-returns t c = (let room = c .before .before .before .before .before .before .pre .1 .0 in takes {μ = aDeclared (binds (suc (c .before .before .before .before .before .before .args .b))) ∷ exact kind.colon ∷ aDomain ∷ exact kind.spot ∷ aUnary (c .before .before .before .before .before .before .args .d) (suc (c .before .before .before .before .before .before .args .b)) ∷ aPredRest (c .before .before .before .before .before .before .args .d) (c .before .before .before .before .before .before .args .d) (suc (c .before .before .before .before .before .before .args .b)) ∷ exact kind.closeParen ∷ []} {m = (c .before .before .before .before .before .before .args .n)} (omega arith) (λ κ e γ. quantifier-step (c .before .before .before .before .before .before .args .d) (c .before .before .before .before .before .before .args .b) κ γ (quantifier-code κ (omega (arith, c .before .before .before .before .before .before .pre .1 .4)) (omega (arith, c .before .before .before .before .before .before .pre .1 .5)))) (deeper-kind (λ γ. exact kind.colon ∷ aDomain ∷ exact kind.spot ∷ aUnary (c .before .before .before .before .before .before .args .d) (suc (c .before .before .before .before .before .before .args .b)) ∷ aPredRest (c .before .before .before .before .before .before .args .d) (c .before .before .before .before .before .before .args .d) (suc (c .before .before .before .before .before .before .args .b)) ∷ exact kind.closeParen ∷ γ) (binds (suc (c .before .before .before .before .before .before .args .b))) kind.plain (sym (c .before .before .kind-at .ensures .is) ∙ c .before .if1 .taken) (omega arith) (bound-elsewhere (c .before .before .before .before .before .before .args .s .now) ((c .before .before .before .before .before .before .args .at) + 1) (suc (c .before .before .before .before .before .before .args .b)) (omega arith) (λ q. absurd (omega (arith, c .before .before .before .before .before .before .pre .1 .4)))) (λ γ. refl)) (omega arith), tt)
 
 quantified-add-close : (t : ℕ) → quantified-lts.Need-add-close (quantified-claims t) (quantified-at t) quantified.Post
 quantified-add-close t c = let room = c .before .before .before .before .before .before .pre .1 .0 in search needs
@@ -1140,7 +1143,7 @@ quantified-enum-known-e t c = search needs
 
 quantified-close-requires-2 : (t : ℕ) → quantified-lts.Need-close-requires-2 (quantified-claims t) (quantified-at t) quantified.Post
 unfolding codeOf
-quantified-close-requires-2 t c κs = let room = c .before .before .before .before .before .before .before .before .before .before .before .before .before .before .pre .1 .0 in let h = (known (c .before .before .before .before .before .t .given .1) (c .before .before .before .before .before .before .before .close .ensures .reads kind.colon refl)) in let z = known-ahead _ (c .before .before .before .before .before .t .given .1) (c .before .before .before .before .before .before .before .close .ensures .ahead) in let i = (known (c .before .e .given .1) (c .before .before .before .domain .ensures)) in search needs
+quantified-close-requires-2 t c κs = let room = c .before .before .before .before .before .before .before .before .before .before .before .before .before .before .pre .1 .0 in let h = (known (c .before .before .before .before .before .t .given .1) (c .before .before .before .before .before .before .before .close .ensures .reads kind.colon refl)) in let z = known-ahead _ (c .before .before .before .before .before .t .given .1) (c .before .before .before .before .before .before .before .close .ensures .ahead) in let i = (known (c .before .e .given .1) (c .before .before .before .domain .ensures .0)) in search needs
 
 quantified-enum-known-f : (t : ℕ) → quantified-lts.Need-enum-known-f (quantified-claims t) (quantified-at t) quantified.Post
 quantified-enum-known-f t c = search needs
@@ -1150,18 +1153,18 @@ quantified-add-pred t c = search needs
 
 quantified-pred-requires : (t : ℕ) → quantified-lts.Need-pred-requires (quantified-claims t) (quantified-at t) quantified.Post
 unfolding codeOf
-quantified-pred-requires t c κs = let room = c .before .before .before .before .before .before .before .before .before .before .before .before .before .before .before .before .before .before .before .pre .1 .0 in let h = (known (c .before .before .before .before .before .before .before .before .before .before .t .given .1) (c .before .before .before .before .before .before .before .before .before .before .before .before .close .ensures .reads kind.colon refl)) in let z = known-ahead _ (c .before .before .before .before .before .before .before .before .before .before .t .given .1) (c .before .before .before .before .before .before .before .before .before .before .before .before .close .ensures .ahead) in let i = (known (c .before .before .before .before .before .before .e .given .1) (c .before .before .before .before .before .before .before .before .domain .ensures)) in let j = (known (c .before .before .f .given .1) (c .before .before .before .before .close2 .ensures .reads kind.spot refl)) in let y = known-ahead _ (c .before .before .f .given .1) (c .before .before .before .before .close2 .ensures .ahead) in search needs
+quantified-pred-requires t c κs = let room = c .before .before .before .before .before .before .before .before .before .before .before .before .before .before .before .before .before .before .before .pre .1 .0 in let h = (known (c .before .before .before .before .before .before .before .before .before .before .t .given .1) (c .before .before .before .before .before .before .before .before .before .before .before .before .close .ensures .reads kind.colon refl)) in let z = known-ahead _ (c .before .before .before .before .before .before .before .before .before .before .t .given .1) (c .before .before .before .before .before .before .before .before .before .before .before .before .close .ensures .ahead) in let i = (known (c .before .before .before .before .before .before .e .given .1) (c .before .before .before .before .before .before .before .before .domain .ensures .0)) in let j = (known (c .before .before .f .given .1) (c .before .before .before .before .close2 .ensures .reads kind.spot refl)) in let y = known-ahead _ (c .before .before .f .given .1) (c .before .before .before .before .close2 .ensures .ahead) in search needs
 
 quantified-enum-known-g : (t : ℕ) → quantified-lts.Need-enum-known-g (quantified-claims t) (quantified-at t) quantified.Post
 quantified-enum-known-g t c = search needs
 
 quantified-put-domain-requires : (t : ℕ) → quantified-lts.Need-put-domain-requires (quantified-claims t) (quantified-at t) quantified.Post
 unfolding codeOf
-quantified-put-domain-requires t c κs = let room = c .before .before .before .before .before .before .before .before .before .before .before .before .before .before .before .before .before .before .before .before .before .before .before .before .before .before .pre .1 .0 in let h = (known (c .before .before .before .before .before .before .before .before .before .before .before .before .before .before .before .before .before .t .given .1) (c .before .before .before .before .before .before .before .before .before .before .before .before .before .before .before .before .before .before .before .close .ensures .reads kind.colon refl)) in let z = known-ahead _ (c .before .before .before .before .before .before .before .before .before .before .before .before .before .before .before .before .before .t .given .1) (c .before .before .before .before .before .before .before .before .before .before .before .before .before .before .before .before .before .before .before .close .ensures .ahead) in let i = (known (c .before .before .before .before .before .before .before .before .before .before .before .before .before .e .given .1) (c .before .before .before .before .before .before .before .before .before .before .before .before .before .before .before .domain .ensures)) in let j = (known (c .before .before .before .before .before .before .before .before .before .f .given .1) (c .before .before .before .before .before .before .before .before .before .before .before .close2 .ensures .reads kind.spot refl)) in let y = known-ahead _ (c .before .before .before .before .before .before .before .before .before .f .given .1) (c .before .before .before .before .before .before .before .before .before .before .before .close2 .ensures .ahead) in let l = (known (c .before .before .g .given .1) (c .before .before .before .before .before .before .pred .ensures)) in search needs
+quantified-put-domain-requires t c κs = let room = c .before .before .before .before .before .before .before .before .before .before .before .before .before .before .before .before .before .before .before .before .before .before .before .before .before .before .pre .1 .0 in let h = (known (c .before .before .before .before .before .before .before .before .before .before .before .before .before .before .before .before .before .t .given .1) (c .before .before .before .before .before .before .before .before .before .before .before .before .before .before .before .before .before .before .before .close .ensures .reads kind.colon refl)) in let z = known-ahead _ (c .before .before .before .before .before .before .before .before .before .before .before .before .before .before .before .before .before .t .given .1) (c .before .before .before .before .before .before .before .before .before .before .before .before .before .before .before .before .before .before .before .close .ensures .ahead) in let i = (known (c .before .before .before .before .before .before .before .before .before .before .before .before .before .e .given .1) (c .before .before .before .before .before .before .before .before .before .before .before .before .before .before .before .domain .ensures .0)) in let j = (known (c .before .before .before .before .before .before .before .before .before .f .given .1) (c .before .before .before .before .before .before .before .before .before .before .before .close2 .ensures .reads kind.spot refl)) in let y = known-ahead _ (c .before .before .before .before .before .before .before .before .before .f .given .1) (c .before .before .before .before .before .before .before .before .before .before .before .close2 .ensures .ahead) in let l = (known (c .before .before .g .given .1) (c .before .before .before .before .before .before .pred .ensures .0)) in search needs
 
 quantified-name-number-requires : (t : ℕ) → quantified-lts.Need-name-number-requires (quantified-claims t) (quantified-at t) quantified.Post
 unfolding codeOf
-quantified-name-number-requires t c κs = let room = c .before .before .before .before .before .before .before .before .before .before .before .before .before .before .before .before .before .before .before .before .before .before .before .before .before .before .before .before .before .pre .1 .0 in search needs
+quantified-name-number-requires t c κs = search needs
 
 quantified-add-kind-at : (t : ℕ) → quantified-lts.Need-add-kind-at (quantified-claims t) (quantified-at t) quantified.Post
 quantified-add-kind-at t c = let room = c .before .before .before .before .before .before .before .before .before .before .before .before .before .before .before .before .before .before .before .before .before .before .before .before .before .before .before .before .before .before .pre .1 .0 in search needs
@@ -1179,11 +1182,11 @@ quantified-wide-requires t c κs = search needs
 
 quantified-put-requires : (t : ℕ) → quantified-lts.Need-put-requires (quantified-claims t) (quantified-at t) quantified.Post
 unfolding codeOf
-quantified-put-requires t c κs = let room = c .before .before .before .before .before .before .before .before .before .before .before .before .before .before .before .before .before .before .before .before .before .before .before .before .before .before .before .before .before .before .before .before .before .pre .1 .0 in let h = (known (c .before .before .before .before .before .before .before .before .before .before .before .before .before .before .before .before .before .before .before .before .before .before .before .before .t .given .1) (c .before .before .before .before .before .before .before .before .before .before .before .before .before .before .before .before .before .before .before .before .before .before .before .before .before .before .close .ensures .reads kind.colon refl)) in let z = known-ahead _ (c .before .before .before .before .before .before .before .before .before .before .before .before .before .before .before .before .before .before .before .before .before .before .before .before .t .given .1) (c .before .before .before .before .before .before .before .before .before .before .before .before .before .before .before .before .before .before .before .before .before .before .before .before .before .before .close .ensures .ahead) in let i = (known (c .before .before .before .before .before .before .before .before .before .before .before .before .before .before .before .before .before .before .before .before .e .given .1) (c .before .before .before .before .before .before .before .before .before .before .before .before .before .before .before .before .before .before .before .before .before .before .domain .ensures)) in let j = (known (c .before .before .before .before .before .before .before .before .before .before .before .before .before .before .before .before .f .given .1) (c .before .before .before .before .before .before .before .before .before .before .before .before .before .before .before .before .before .before .close2 .ensures .reads kind.spot refl)) in let y = known-ahead _ (c .before .before .before .before .before .before .before .before .before .before .before .before .before .before .before .before .f .given .1) (c .before .before .before .before .before .before .before .before .before .before .before .before .before .before .before .before .before .before .close2 .ensures .ahead) in let l = (known (c .before .before .before .before .before .before .before .before .before .g .given .1) (c .before .before .before .before .before .before .before .before .before .before .before .before .before .pred .ensures)) in search needs
+quantified-put-requires t c κs = let room = c .before .before .before .before .before .before .before .before .before .before .before .before .before .before .before .before .before .before .before .before .before .before .before .before .before .before .before .before .before .before .before .before .before .pre .1 .0 in let h = (known (c .before .before .before .before .before .before .before .before .before .before .before .before .before .before .before .before .before .before .before .before .before .before .before .before .t .given .1) (c .before .before .before .before .before .before .before .before .before .before .before .before .before .before .before .before .before .before .before .before .before .before .before .before .before .before .close .ensures .reads kind.colon refl)) in let z = known-ahead _ (c .before .before .before .before .before .before .before .before .before .before .before .before .before .before .before .before .before .before .before .before .before .before .before .before .t .given .1) (c .before .before .before .before .before .before .before .before .before .before .before .before .before .before .before .before .before .before .before .before .before .before .before .before .before .before .close .ensures .ahead) in let i = (known (c .before .before .before .before .before .before .before .before .before .before .before .before .before .before .before .before .before .before .before .before .e .given .1) (c .before .before .before .before .before .before .before .before .before .before .before .before .before .before .before .before .before .before .before .before .before .before .domain .ensures .0)) in let j = (known (c .before .before .before .before .before .before .before .before .before .before .before .before .before .before .before .before .f .given .1) (c .before .before .before .before .before .before .before .before .before .before .before .before .before .before .before .before .before .before .close2 .ensures .reads kind.spot refl)) in let y = known-ahead _ (c .before .before .before .before .before .before .before .before .before .before .before .before .before .before .before .before .f .given .1) (c .before .before .before .before .before .before .before .before .before .before .before .before .before .before .before .before .before .before .close2 .ensures .ahead) in let l = (known (c .before .before .before .before .before .before .before .before .before .g .given .1) (c .before .before .before .before .before .before .before .before .before .before .before .before .before .pred .ensures .0)) in search needs
 
 quantified-close-requires-3 : (t : ℕ) → quantified-lts.Need-close-requires-3 (quantified-claims t) (quantified-at t) quantified.Post
 unfolding codeOf
-quantified-close-requires-3 t c κs = let room = c .before .before .before .before .before .before .before .before .before .before .before .before .before .before .before .before .before .before .before .before .before .before .before .before .before .before .before .before .before .before .before .before .before .before .before .before .pre .1 .0 in let l = (known (c .before .before .before .before .before .before .before .before .before .before .before .before .g .given .1) (c .before .before .before .before .before .before .before .before .before .before .before .before .before .before .before .before .pred .ensures)) in search needs
+quantified-close-requires-3 t c κs = let room = c .before .before .before .before .before .before .before .before .before .before .before .before .before .before .before .before .before .before .before .before .before .before .before .before .before .before .before .before .before .before .before .before .before .before .before .before .pre .1 .0 in let l = (known (c .before .before .before .before .before .before .before .before .before .before .before .before .g .given .1) (c .before .before .before .before .before .before .before .before .before .before .before .before .before .before .before .before .pred .ensures .0)) in search needs
 
 quantified-enum-known-p : (t : ℕ) → quantified-lts.Need-enum-known-p (quantified-claims t) (quantified-at t) quantified.Post
 quantified-enum-known-p t c = search needs
@@ -1202,30 +1205,30 @@ quantified-same-length t c = search needs
 
 quantified-returns-2 : (t : ℕ) → quantified-lts.Need-returns-2 (quantified-claims t) (quantified-at t) quantified.Post
 unfolding computeForm
-quantified-returns-2 t c = let room = c .before .before .before .before .before .before .before .before .before .before .before .before .before .before .before .before .before .before .before .before .before .before .before .before .before .before .before .before .before .before .before .before .before .before .before .before .before .pre .1 .0 in let h = (known (c .before .before .before .before .before .before .before .before .before .before .before .before .before .before .before .before .before .before .before .before .before .before .before .before .before .before .before .before .t .given .1) (c .before .before .before .before .before .before .before .before .before .before .before .before .before .before .before .before .before .before .before .before .before .before .before .before .before .before .before .before .before .before .close .ensures .reads kind.colon refl)) in let z = known-ahead _ (c .before .before .before .before .before .before .before .before .before .before .before .before .before .before .before .before .before .before .before .before .before .before .before .before .before .before .before .before .t .given .1) (c .before .before .before .before .before .before .before .before .before .before .before .before .before .before .before .before .before .before .before .before .before .before .before .before .before .before .before .before .before .before .close .ensures .ahead) in let i = (known (c .before .before .before .before .before .before .before .before .before .before .before .before .before .before .before .before .before .before .before .before .before .before .before .before .e .given .1) (c .before .before .before .before .before .before .before .before .before .before .before .before .before .before .before .before .before .before .before .before .before .before .before .before .before .before .domain .ensures)) in let j = (known (c .before .before .before .before .before .before .before .before .before .before .before .before .before .before .before .before .before .before .before .before .f .given .1) (c .before .before .before .before .before .before .before .before .before .before .before .before .before .before .before .before .before .before .before .before .before .before .close2 .ensures .reads kind.spot refl)) in let y = known-ahead _ (c .before .before .before .before .before .before .before .before .before .before .before .before .before .before .before .before .before .before .before .before .f .given .1) (c .before .before .before .before .before .before .before .before .before .before .before .before .before .before .before .before .before .before .before .before .before .before .close2 .ensures .ahead) in let l = (known (c .before .before .before .before .before .before .before .before .before .before .before .before .before .g .given .1) (c .before .before .before .before .before .before .before .before .before .before .before .before .before .before .before .before .before .pred .ensures)) in takes {μ = aDeclared (binds (suc (c .before .before .before .before .before .before .before .before .before .before .before .before .before .before .before .before .before .before .before .before .before .before .before .before .before .before .before .before .before .before .before .before .before .before .before .before .before .args .b))) ∷ exact kind.colon ∷ aDomain ∷ exact kind.spot ∷ aUnary (c .before .before .before .before .before .before .before .before .before .before .before .before .before .before .before .before .before .before .before .before .before .before .before .before .before .before .before .before .before .before .before .before .before .before .before .before .before .args .d) (suc (c .before .before .before .before .before .before .before .before .before .before .before .before .before .before .before .before .before .before .before .before .before .before .before .before .before .before .before .before .before .before .before .before .before .before .before .before .before .args .b)) ∷ aPredRest (c .before .before .before .before .before .before .before .before .before .before .before .before .before .before .before .before .before .before .before .before .before .before .before .before .before .before .before .before .before .before .before .before .before .before .before .before .before .args .d) (c .before .before .before .before .before .before .before .before .before .before .before .before .before .before .before .before .before .before .before .before .before .before .before .before .before .before .before .before .before .before .before .before .before .before .before .before .before .args .d) (suc (c .before .before .before .before .before .before .before .before .before .before .before .before .before .before .before .before .before .before .before .before .before .before .before .before .before .before .before .before .before .before .before .before .before .before .before .before .before .args .b)) ∷ exact kind.closeParen ∷ []} {m = (c .before .before .before .before .before .before .before .before .before .before .before .before .before .before .before .before .before .before .before .before .before .before .before .before .before .before .before .before .before .before .before .before .before .before .before .before .before .args .n)} (omega arith) (λ κ e γ. quantifier-step (c .before .before .before .before .before .before .before .before .before .before .before .before .before .before .before .before .before .before .before .before .before .before .before .before .before .before .before .before .before .before .before .before .before .before .before .before .before .args .d) (c .before .before .before .before .before .before .before .before .before .before .before .before .before .before .before .before .before .before .before .before .before .before .before .before .before .before .before .before .before .before .before .before .before .before .before .before .before .args .b) κ γ (quantifier-code κ (omega (arith, c .before .before .before .before .before .before .before .before .before .before .before .before .before .before .before .before .before .before .before .before .before .before .before .before .before .before .before .before .before .before .before .before .before .before .before .before .before .pre .1 .4)) (omega (arith, c .before .before .before .before .before .before .before .before .before .before .before .before .before .before .before .before .before .before .before .before .before .before .before .before .before .before .before .before .before .before .before .before .before .before .before .before .before .pre .1 .5)))) (taken-kind {μ = exact kind.colon ∷ aDomain ∷ exact kind.spot ∷ aUnary (c .before .before .before .before .before .before .before .before .before .before .before .before .before .before .before .before .before .before .before .before .before .before .before .before .before .before .before .before .before .before .before .before .before .before .before .before .before .args .d) (suc (c .before .before .before .before .before .before .before .before .before .before .before .before .before .before .before .before .before .before .before .before .before .before .before .before .before .before .before .before .before .before .before .before .before .before .before .before .before .args .b)) ∷ aPredRest (c .before .before .before .before .before .before .before .before .before .before .before .before .before .before .before .before .before .before .before .before .before .before .before .before .before .before .before .before .before .before .before .before .before .before .before .before .before .args .d) (c .before .before .before .before .before .before .before .before .before .before .before .before .before .before .before .before .before .before .before .before .before .before .before .before .before .before .before .before .before .before .before .before .before .before .before .before .before .args .d) (suc (c .before .before .before .before .before .before .before .before .before .before .before .before .before .before .before .before .before .before .before .before .before .before .before .before .before .before .before .before .before .before .before .before .before .before .before .before .before .args .b)) ∷ exact kind.closeParen ∷ []} {m = (c .before .before .before .before .before .before .before .before .before .before .before .before .before .before .before .before .before .before .before .before .before .before .before .before .before .before .before .before .before .before .before .before .before .before .before .before .before .args .n)} (binds (suc (c .before .before .before .before .before .before .before .before .before .before .before .before .before .before .before .before .before .before .before .before .before .before .before .before .before .before .before .before .before .before .before .before .before .before .before .before .before .args .b))) kind.plain (sym (c .before .before .before .before .before .before .before .before .before .before .before .before .before .before .before .before .before .before .before .before .before .before .before .before .before .before .before .before .before .before .before .before .before .kind-at .ensures .is) ∙ c .before .before .before .before .before .before .before .before .before .before .before .before .before .before .before .before .before .before .before .before .before .before .before .before .before .before .before .before .before .before .before .before .if1 .taken) (omega arith) (bind-well (c .before .before .before .before .before .before .before .before .before .before .before .before .before .before .before .before .before .before .before .before .before .before .before .before .before .before .before .before .before .before .before .before .before .before .before .before .before .args .s .now) ((c .before .before .before .before .before .before .before .before .before .before .before .before .before .before .before .before .before .before .before .before .before .before .before .before .before .before .before .before .before .before .before .before .before .before .before .before .before .args .at) + 1 + 1) (suc (c .before .before .before .before .before .before .before .before .before .before .before .before .before .before .before .before .before .before .before .before .before .before .before .before .before .before .before .before .before .before .before .before .before .before .before .before .before .args .b)) (omega (arith, c .before .before .before .before .before .before .before .before .before .before .before .before .before .before .before .before .before .before .before .before .before .before .before .before .before .before .before .before .before .before .before .if2 .left))) (λ γ. refl) (next (counted {c = (c .before .before .before .before .before .before .before .before .before .before .before .before .before .before .before .before .before .before .before .before .before .before .before .before .before .before .before .before .before .before .before .before .before .before .before .before .before .args .n)} {d = (c .before .before .before .before .before .before .before .before .before .before .before .before .before .before .before .before .before .before .before .before .before .before .before .before .before .before .before .before .before .before .before .before .before .before .before .before .before .args .n) + 4} (omega arith) (framed (aDomain ∷ exact kind.spot ∷ aUnary (c .before .before .before .before .before .before .before .before .before .before .before .before .before .before .before .before .before .before .before .before .before .before .before .before .before .before .before .before .before .before .before .before .before .before .before .before .before .args .d) (suc (c .before .before .before .before .before .before .before .before .before .before .before .before .before .before .before .before .before .before .before .before .before .before .before .before .before .before .before .before .before .before .before .before .before .before .before .before .before .args .b)) ∷ aPredRest (c .before .before .before .before .before .before .before .before .before .before .before .before .before .before .before .before .before .before .before .before .before .before .before .before .before .before .before .before .before .before .before .before .before .before .before .before .before .args .d) (c .before .before .before .before .before .before .before .before .before .before .before .before .before .before .before .before .before .before .before .before .before .before .before .before .before .before .before .before .before .before .before .before .before .before .before .before .before .args .d) (suc (c .before .before .before .before .before .before .before .before .before .before .before .before .before .before .before .before .before .before .before .before .before .before .before .before .before .before .before .before .before .before .before .before .before .before .before .before .before .args .b)) ∷ exact kind.closeParen ∷ []) h)) (next (counted {c = (c .before .before .before .before .before .before .before .before .before .before .before .before .before .before .before .before .before .before .before .before .before .before .before .before .before .before .before .before .before .before .before .before .before .before .before .before .before .args .n) + 4} {d = (c .before .before .before .before .before .before .before .before .before .before .before .before .before .before .before .before .before .before .before .before .before .before .before .before .before .before .before .before .before .before .before .before .before .before .before .before .before .args .n) + 4} (omega arith) (framed (exact kind.spot ∷ aUnary (c .before .before .before .before .before .before .before .before .before .before .before .before .before .before .before .before .before .before .before .before .before .before .before .before .before .before .before .before .before .before .before .before .before .before .before .before .before .args .d) (suc (c .before .before .before .before .before .before .before .before .before .before .before .before .before .before .before .before .before .before .before .before .before .before .before .before .before .before .before .before .before .before .before .before .before .before .before .before .before .args .b)) ∷ aPredRest (c .before .before .before .before .before .before .before .before .before .before .before .before .before .before .before .before .before .before .before .before .before .before .before .before .before .before .before .before .before .before .before .before .before .before .before .before .before .args .d) (c .before .before .before .before .before .before .before .before .before .before .before .before .before .before .before .before .before .before .before .before .before .before .before .before .before .before .before .before .before .before .before .before .before .before .before .before .before .args .d) (suc (c .before .before .before .before .before .before .before .before .before .before .before .before .before .before .before .before .before .before .before .before .before .before .before .before .before .before .before .before .before .before .before .before .before .before .before .before .before .args .b)) ∷ exact kind.closeParen ∷ []) i)) (next (counted {c = (c .before .before .before .before .before .before .before .before .before .before .before .before .before .before .before .before .before .before .before .before .before .before .before .before .before .before .before .before .before .before .before .before .before .before .before .before .before .args .n) + 4} {d = (c .before .before .before .before .before .before .before .before .before .before .before .before .before .before .before .before .before .before .before .before .before .before .before .before .before .before .before .before .before .before .before .before .before .before .before .before .before .args .n) + 8} (omega arith) (framed (aUnary (c .before .before .before .before .before .before .before .before .before .before .before .before .before .before .before .before .before .before .before .before .before .before .before .before .before .before .before .before .before .before .before .before .before .before .before .before .before .args .d) (suc (c .before .before .before .before .before .before .before .before .before .before .before .before .before .before .before .before .before .before .before .before .before .before .before .before .before .before .before .before .before .before .before .before .before .before .before .before .before .args .b)) ∷ aPredRest (c .before .before .before .before .before .before .before .before .before .before .before .before .before .before .before .before .before .before .before .before .before .before .before .before .before .before .before .before .before .before .before .before .before .before .before .before .before .args .d) (c .before .before .before .before .before .before .before .before .before .before .before .before .before .before .before .before .before .before .before .before .before .before .before .before .before .before .before .before .before .before .before .before .before .before .before .before .before .args .d) (suc (c .before .before .before .before .before .before .before .before .before .before .before .before .before .before .before .before .before .before .before .before .before .before .before .before .before .before .before .before .before .before .before .before .before .before .before .before .before .args .b)) ∷ exact kind.closeParen ∷ []) j)) (next (counted {c = (c .before .before .before .before .before .before .before .before .before .before .before .before .before .before .before .before .before .before .before .before .before .before .before .before .before .before .before .before .before .before .before .before .before .before .before .before .before .args .n) + 8} (omega arith) (framed (exact kind.closeParen ∷ []) (raised (λ x. aUnary (c .before .before .before .before .before .before .before .before .before .before .before .before .before .before .before .before .before .before .before .before .before .before .before .before .before .before .before .before .before .before .before .before .before .before .before .before .before .args .d) x ∷ aPredRest (c .before .before .before .before .before .before .before .before .before .before .before .before .before .before .before .before .before .before .before .before .before .before .before .before .before .before .before .before .before .before .before .before .before .before .before .before .before .args .d) (c .before .before .before .before .before .before .before .before .before .before .before .before .before .before .before .before .before .before .before .before .before .before .before .before .before .before .before .before .before .before .before .before .before .before .before .before .before .args .d) x ∷ []) (c .before .before .before .before .before .before .before .before .before .before .before .before .before .before .before .before .before .before .before .before .before .before .before .before .before .before .before .before .before .before .before .before .before .before .before .before .before .args .b) l))) (c .close3 .ensures .reads kind.closeParen refl))))) (omega arith)) (omega arith)
+quantified-returns-2 t c = (let room = c .before .before .before .before .before .before .before .before .before .before .before .before .before .before .before .before .before .before .before .before .before .before .before .before .before .before .before .before .before .before .before .before .before .before .before .before .before .pre .1 .0 in let h = (known (c .before .before .before .before .before .before .before .before .before .before .before .before .before .before .before .before .before .before .before .before .before .before .before .before .before .before .before .before .t .given .1) (c .before .before .before .before .before .before .before .before .before .before .before .before .before .before .before .before .before .before .before .before .before .before .before .before .before .before .before .before .before .before .close .ensures .reads kind.colon refl)) in let z = known-ahead _ (c .before .before .before .before .before .before .before .before .before .before .before .before .before .before .before .before .before .before .before .before .before .before .before .before .before .before .before .before .t .given .1) (c .before .before .before .before .before .before .before .before .before .before .before .before .before .before .before .before .before .before .before .before .before .before .before .before .before .before .before .before .before .before .close .ensures .ahead) in let i = (known (c .before .before .before .before .before .before .before .before .before .before .before .before .before .before .before .before .before .before .before .before .before .before .before .before .e .given .1) (c .before .before .before .before .before .before .before .before .before .before .before .before .before .before .before .before .before .before .before .before .before .before .before .before .before .before .domain .ensures .0)) in let j = (known (c .before .before .before .before .before .before .before .before .before .before .before .before .before .before .before .before .before .before .before .before .f .given .1) (c .before .before .before .before .before .before .before .before .before .before .before .before .before .before .before .before .before .before .before .before .before .before .close2 .ensures .reads kind.spot refl)) in let y = known-ahead _ (c .before .before .before .before .before .before .before .before .before .before .before .before .before .before .before .before .before .before .before .before .f .given .1) (c .before .before .before .before .before .before .before .before .before .before .before .before .before .before .before .before .before .before .before .before .before .before .close2 .ensures .ahead) in let l = (known (c .before .before .before .before .before .before .before .before .before .before .before .before .before .g .given .1) (c .before .before .before .before .before .before .before .before .before .before .before .before .before .before .before .before .before .pred .ensures .0)) in takes {μ = aDeclared (binds (suc (c .before .before .before .before .before .before .before .before .before .before .before .before .before .before .before .before .before .before .before .before .before .before .before .before .before .before .before .before .before .before .before .before .before .before .before .before .before .args .b))) ∷ exact kind.colon ∷ aDomain ∷ exact kind.spot ∷ aUnary (c .before .before .before .before .before .before .before .before .before .before .before .before .before .before .before .before .before .before .before .before .before .before .before .before .before .before .before .before .before .before .before .before .before .before .before .before .before .args .d) (suc (c .before .before .before .before .before .before .before .before .before .before .before .before .before .before .before .before .before .before .before .before .before .before .before .before .before .before .before .before .before .before .before .before .before .before .before .before .before .args .b)) ∷ aPredRest (c .before .before .before .before .before .before .before .before .before .before .before .before .before .before .before .before .before .before .before .before .before .before .before .before .before .before .before .before .before .before .before .before .before .before .before .before .before .args .d) (c .before .before .before .before .before .before .before .before .before .before .before .before .before .before .before .before .before .before .before .before .before .before .before .before .before .before .before .before .before .before .before .before .before .before .before .before .before .args .d) (suc (c .before .before .before .before .before .before .before .before .before .before .before .before .before .before .before .before .before .before .before .before .before .before .before .before .before .before .before .before .before .before .before .before .before .before .before .before .before .args .b)) ∷ exact kind.closeParen ∷ []} {m = (c .before .before .before .before .before .before .before .before .before .before .before .before .before .before .before .before .before .before .before .before .before .before .before .before .before .before .before .before .before .before .before .before .before .before .before .before .before .args .n)} (omega arith) (λ κ e γ. quantifier-step (c .before .before .before .before .before .before .before .before .before .before .before .before .before .before .before .before .before .before .before .before .before .before .before .before .before .before .before .before .before .before .before .before .before .before .before .before .before .args .d) (c .before .before .before .before .before .before .before .before .before .before .before .before .before .before .before .before .before .before .before .before .before .before .before .before .before .before .before .before .before .before .before .before .before .before .before .before .before .args .b) κ γ (quantifier-code κ (omega (arith, c .before .before .before .before .before .before .before .before .before .before .before .before .before .before .before .before .before .before .before .before .before .before .before .before .before .before .before .before .before .before .before .before .before .before .before .before .before .pre .1 .4)) (omega (arith, c .before .before .before .before .before .before .before .before .before .before .before .before .before .before .before .before .before .before .before .before .before .before .before .before .before .before .before .before .before .before .before .before .before .before .before .before .before .pre .1 .5)))) (taken-kind {μ = exact kind.colon ∷ aDomain ∷ exact kind.spot ∷ aUnary (c .before .before .before .before .before .before .before .before .before .before .before .before .before .before .before .before .before .before .before .before .before .before .before .before .before .before .before .before .before .before .before .before .before .before .before .before .before .args .d) (suc (c .before .before .before .before .before .before .before .before .before .before .before .before .before .before .before .before .before .before .before .before .before .before .before .before .before .before .before .before .before .before .before .before .before .before .before .before .before .args .b)) ∷ aPredRest (c .before .before .before .before .before .before .before .before .before .before .before .before .before .before .before .before .before .before .before .before .before .before .before .before .before .before .before .before .before .before .before .before .before .before .before .before .before .args .d) (c .before .before .before .before .before .before .before .before .before .before .before .before .before .before .before .before .before .before .before .before .before .before .before .before .before .before .before .before .before .before .before .before .before .before .before .before .before .args .d) (suc (c .before .before .before .before .before .before .before .before .before .before .before .before .before .before .before .before .before .before .before .before .before .before .before .before .before .before .before .before .before .before .before .before .before .before .before .before .before .args .b)) ∷ exact kind.closeParen ∷ []} {m = (c .before .before .before .before .before .before .before .before .before .before .before .before .before .before .before .before .before .before .before .before .before .before .before .before .before .before .before .before .before .before .before .before .before .before .before .before .before .args .n)} (binds (suc (c .before .before .before .before .before .before .before .before .before .before .before .before .before .before .before .before .before .before .before .before .before .before .before .before .before .before .before .before .before .before .before .before .before .before .before .before .before .args .b))) kind.plain (sym (c .before .before .before .before .before .before .before .before .before .before .before .before .before .before .before .before .before .before .before .before .before .before .before .before .before .before .before .before .before .before .before .before .before .kind-at .ensures .is) ∙ c .before .before .before .before .before .before .before .before .before .before .before .before .before .before .before .before .before .before .before .before .before .before .before .before .before .before .before .before .before .before .before .before .if1 .taken) (omega arith) (bind-well (c .before .before .before .before .before .before .before .before .before .before .before .before .before .before .before .before .before .before .before .before .before .before .before .before .before .before .before .before .before .before .before .before .before .before .before .before .before .args .s .now) ((c .before .before .before .before .before .before .before .before .before .before .before .before .before .before .before .before .before .before .before .before .before .before .before .before .before .before .before .before .before .before .before .before .before .before .before .before .before .args .at) + 1 + 1) (suc (c .before .before .before .before .before .before .before .before .before .before .before .before .before .before .before .before .before .before .before .before .before .before .before .before .before .before .before .before .before .before .before .before .before .before .before .before .before .args .b)) (omega (arith, c .before .before .before .before .before .before .before .before .before .before .before .before .before .before .before .before .before .before .before .before .before .before .before .before .before .before .before .before .before .before .before .if2 .left))) (λ γ. refl) (next (counted {c = (c .before .before .before .before .before .before .before .before .before .before .before .before .before .before .before .before .before .before .before .before .before .before .before .before .before .before .before .before .before .before .before .before .before .before .before .before .before .args .n)} {d = (c .before .before .before .before .before .before .before .before .before .before .before .before .before .before .before .before .before .before .before .before .before .before .before .before .before .before .before .before .before .before .before .before .before .before .before .before .before .args .n) + 4} (omega arith) (framed (aDomain ∷ exact kind.spot ∷ aUnary (c .before .before .before .before .before .before .before .before .before .before .before .before .before .before .before .before .before .before .before .before .before .before .before .before .before .before .before .before .before .before .before .before .before .before .before .before .before .args .d) (suc (c .before .before .before .before .before .before .before .before .before .before .before .before .before .before .before .before .before .before .before .before .before .before .before .before .before .before .before .before .before .before .before .before .before .before .before .before .before .args .b)) ∷ aPredRest (c .before .before .before .before .before .before .before .before .before .before .before .before .before .before .before .before .before .before .before .before .before .before .before .before .before .before .before .before .before .before .before .before .before .before .before .before .before .args .d) (c .before .before .before .before .before .before .before .before .before .before .before .before .before .before .before .before .before .before .before .before .before .before .before .before .before .before .before .before .before .before .before .before .before .before .before .before .before .args .d) (suc (c .before .before .before .before .before .before .before .before .before .before .before .before .before .before .before .before .before .before .before .before .before .before .before .before .before .before .before .before .before .before .before .before .before .before .before .before .before .args .b)) ∷ exact kind.closeParen ∷ []) h)) (next (counted {c = (c .before .before .before .before .before .before .before .before .before .before .before .before .before .before .before .before .before .before .before .before .before .before .before .before .before .before .before .before .before .before .before .before .before .before .before .before .before .args .n) + 4} {d = (c .before .before .before .before .before .before .before .before .before .before .before .before .before .before .before .before .before .before .before .before .before .before .before .before .before .before .before .before .before .before .before .before .before .before .before .before .before .args .n) + 4} (omega arith) (framed (exact kind.spot ∷ aUnary (c .before .before .before .before .before .before .before .before .before .before .before .before .before .before .before .before .before .before .before .before .before .before .before .before .before .before .before .before .before .before .before .before .before .before .before .before .before .args .d) (suc (c .before .before .before .before .before .before .before .before .before .before .before .before .before .before .before .before .before .before .before .before .before .before .before .before .before .before .before .before .before .before .before .before .before .before .before .before .before .args .b)) ∷ aPredRest (c .before .before .before .before .before .before .before .before .before .before .before .before .before .before .before .before .before .before .before .before .before .before .before .before .before .before .before .before .before .before .before .before .before .before .before .before .before .args .d) (c .before .before .before .before .before .before .before .before .before .before .before .before .before .before .before .before .before .before .before .before .before .before .before .before .before .before .before .before .before .before .before .before .before .before .before .before .before .args .d) (suc (c .before .before .before .before .before .before .before .before .before .before .before .before .before .before .before .before .before .before .before .before .before .before .before .before .before .before .before .before .before .before .before .before .before .before .before .before .before .args .b)) ∷ exact kind.closeParen ∷ []) i)) (next (counted {c = (c .before .before .before .before .before .before .before .before .before .before .before .before .before .before .before .before .before .before .before .before .before .before .before .before .before .before .before .before .before .before .before .before .before .before .before .before .before .args .n) + 4} {d = (c .before .before .before .before .before .before .before .before .before .before .before .before .before .before .before .before .before .before .before .before .before .before .before .before .before .before .before .before .before .before .before .before .before .before .before .before .before .args .n) + 8} (omega arith) (framed (aUnary (c .before .before .before .before .before .before .before .before .before .before .before .before .before .before .before .before .before .before .before .before .before .before .before .before .before .before .before .before .before .before .before .before .before .before .before .before .before .args .d) (suc (c .before .before .before .before .before .before .before .before .before .before .before .before .before .before .before .before .before .before .before .before .before .before .before .before .before .before .before .before .before .before .before .before .before .before .before .before .before .args .b)) ∷ aPredRest (c .before .before .before .before .before .before .before .before .before .before .before .before .before .before .before .before .before .before .before .before .before .before .before .before .before .before .before .before .before .before .before .before .before .before .before .before .before .args .d) (c .before .before .before .before .before .before .before .before .before .before .before .before .before .before .before .before .before .before .before .before .before .before .before .before .before .before .before .before .before .before .before .before .before .before .before .before .before .args .d) (suc (c .before .before .before .before .before .before .before .before .before .before .before .before .before .before .before .before .before .before .before .before .before .before .before .before .before .before .before .before .before .before .before .before .before .before .before .before .before .args .b)) ∷ exact kind.closeParen ∷ []) j)) (next (counted {c = (c .before .before .before .before .before .before .before .before .before .before .before .before .before .before .before .before .before .before .before .before .before .before .before .before .before .before .before .before .before .before .before .before .before .before .before .before .before .args .n) + 8} (omega arith) (framed (exact kind.closeParen ∷ []) (raised (λ x. aUnary (c .before .before .before .before .before .before .before .before .before .before .before .before .before .before .before .before .before .before .before .before .before .before .before .before .before .before .before .before .before .before .before .before .before .before .before .before .before .args .d) x ∷ aPredRest (c .before .before .before .before .before .before .before .before .before .before .before .before .before .before .before .before .before .before .before .before .before .before .before .before .before .before .before .before .before .before .before .before .before .before .before .before .before .args .d) (c .before .before .before .before .before .before .before .before .before .before .before .before .before .before .before .before .before .before .before .before .before .before .before .before .before .before .before .before .before .before .before .before .before .before .before .before .before .args .d) x ∷ []) (c .before .before .before .before .before .before .before .before .before .before .before .before .before .before .before .before .before .before .before .before .before .before .before .before .before .before .before .before .before .before .before .before .before .before .before .before .before .args .b) l))) (c .close3 .ensures .reads kind.closeParen refl))))) (omega arith)) (omega arith), let t₁ = closed (c .before .before .before .before .before .before .before .before .before .before .before .before .before .before .before .before .before .before .before .before .before .before .before .before .before .before .before .before .t .given .1) (c .before .before .before .before .before .before .before .before .before .before .before .before .before .before .before .before .before .before .before .before .before .before .before .before .before .before .before .before .before .before .close .ensures) in let t₂ = showing (DomainAt (c .before .before .before .before .before .before .before .before .before .before .before .before .before .before .before .before .before .before .before .before .before .before .before .before .before .before .before .before .before .before .before .before .before .before .before .before .before .args .s .now) (c .before .before .before .before .before .before .before .before .before .before .before .before .before .before .before .before .before .before .before .before .before .before .before .before .before .before .before .before .t .given .0 .0)) _ (c .before .before .before .before .before .before .before .before .before .before .before .before .before .before .before .before .before .before .before .before .before .before .before .before .e .given .1) (c .before .before .before .before .before .before .before .before .before .before .before .before .before .before .before .before .before .before .before .before .before .before .before .before .before .before .domain .ensures .1) in let t₃ = closed (c .before .before .before .before .before .before .before .before .before .before .before .before .before .before .before .before .before .before .before .before .f .given .1) (c .before .before .before .before .before .before .before .before .before .before .before .before .before .before .before .before .before .before .before .before .before .before .close2 .ensures) in let w₁ = (made (c .before .before .before .before .before .before .before .before .before .before .before .before .before .g .given .1) (c .before .before .before .before .before .before .before .before .before .before .before .before .before .before .before .before .before .pred .ensures .1)) in closing (c .close3 .ensures) (λ q. makes (both (both (built w₁) (wrote (c .before .before .before .before .before .before .before .before .before .before .put-domain .ensures))) (node-of (c .before .before .before .before .before .before .before .name-number .ensures) (c .before .before .before .before .wide .ensures ∙ c .before .before .before .before .before .before .kind-at2 .ensures .is) (c .before .before .before .put .ensures))) (ranging (c .before .before .before .before .before .before .before .before .before .before .before .before .before .before .before .before .before .before .before .before .before .before .before .before .before .before .before .before .before .before .before .before .before .before .before .before .before .pre .1 .6) (c .before .before .before .before .before .before .before .before .before .before .before .before .before .before .before .before .before .before .before .before .before .before .before .before .before .before .before .before .before .before .before .before .before .before .before .before .before .pre .1 .4) (c .before .before .before .before .before .before .before .before .before .before .before .before .before .before .before .before .before .before .before .before .before .before .before .before .before .before .before .before .before .before .before .before .before .before .before .before .before .pre .1 .5) (sym (c .before .before .before .before .before .before .before .before .before .before .before .before .before .before .before .before .before .before .before .before .before .before .before .before .before .before .before .before .before .before .before .before .before .kind-at .ensures .is) ∙ c .before .before .before .before .before .before .before .before .before .before .before .before .before .before .before .before .before .before .before .before .before .before .before .before .before .before .before .before .before .before .before .before .if1 .taken) t₁ t₂ t₃ (w₁ .derives) q)))
 
 quantified-same-length-2 : (t : ℕ) → quantified-lts.Need-same-length-2 (quantified-claims t) (quantified-at t) quantified.Post
 quantified-same-length-2 t c = search needs
 
 quantified-returns-3 : (t : ℕ) → quantified-lts.Need-returns-3 (quantified-claims t) (quantified-at t) quantified.Post
 unfolding computeForm
-quantified-returns-3 t c = let room = c .before .before .before .before .before .before .before .before .before .before .before .before .before .before .before .before .before .before .before .before .before .before .before .before .before .pre .1 .0 in let h = (known (c .before .before .before .before .before .before .before .before .before .before .before .before .before .before .before .before .t .given .1) (c .before .before .before .before .before .before .before .before .before .before .before .before .before .before .before .before .before .before .close .ensures .reads kind.colon refl)) in let z = known-ahead _ (c .before .before .before .before .before .before .before .before .before .before .before .before .before .before .before .before .t .given .1) (c .before .before .before .before .before .before .before .before .before .before .before .before .before .before .before .before .before .before .close .ensures .ahead) in let i = (known (c .before .before .before .before .before .before .before .before .before .before .before .before .e .given .1) (c .before .before .before .before .before .before .before .before .before .before .before .before .before .before .domain .ensures)) in let j = (known (c .before .before .before .before .before .before .before .before .f .given .1) (c .before .before .before .before .before .before .before .before .before .before .close2 .ensures .reads kind.spot refl)) in let y = known-ahead _ (c .before .before .before .before .before .before .before .before .f .given .1) (c .before .before .before .before .before .before .before .before .before .before .close2 .ensures .ahead) in takes {μ = aDeclared (binds (suc (c .before .before .before .before .before .before .before .before .before .before .before .before .before .before .before .before .before .before .before .before .before .before .before .before .before .args .b))) ∷ exact kind.colon ∷ aDomain ∷ exact kind.spot ∷ aUnary (c .before .before .before .before .before .before .before .before .before .before .before .before .before .before .before .before .before .before .before .before .before .before .before .before .before .args .d) (suc (c .before .before .before .before .before .before .before .before .before .before .before .before .before .before .before .before .before .before .before .before .before .before .before .before .before .args .b)) ∷ aPredRest (c .before .before .before .before .before .before .before .before .before .before .before .before .before .before .before .before .before .before .before .before .before .before .before .before .before .args .d) (c .before .before .before .before .before .before .before .before .before .before .before .before .before .before .before .before .before .before .before .before .before .before .before .before .before .args .d) (suc (c .before .before .before .before .before .before .before .before .before .before .before .before .before .before .before .before .before .before .before .before .before .before .before .before .before .args .b)) ∷ exact kind.closeParen ∷ []} {m = (c .before .before .before .before .before .before .before .before .before .before .before .before .before .before .before .before .before .before .before .before .before .before .before .before .before .args .n)} (omega arith) (λ κ e γ. quantifier-step (c .before .before .before .before .before .before .before .before .before .before .before .before .before .before .before .before .before .before .before .before .before .before .before .before .before .args .d) (c .before .before .before .before .before .before .before .before .before .before .before .before .before .before .before .before .before .before .before .before .before .before .before .before .before .args .b) κ γ (quantifier-code κ (omega (arith, c .before .before .before .before .before .before .before .before .before .before .before .before .before .before .before .before .before .before .before .before .before .before .before .before .before .pre .1 .4)) (omega (arith, c .before .before .before .before .before .before .before .before .before .before .before .before .before .before .before .before .before .before .before .before .before .before .before .before .before .pre .1 .5)))) (taken-kind {μ = exact kind.colon ∷ aDomain ∷ exact kind.spot ∷ aUnary (c .before .before .before .before .before .before .before .before .before .before .before .before .before .before .before .before .before .before .before .before .before .before .before .before .before .args .d) (suc (c .before .before .before .before .before .before .before .before .before .before .before .before .before .before .before .before .before .before .before .before .before .before .before .before .before .args .b)) ∷ aPredRest (c .before .before .before .before .before .before .before .before .before .before .before .before .before .before .before .before .before .before .before .before .before .before .before .before .before .args .d) (c .before .before .before .before .before .before .before .before .before .before .before .before .before .before .before .before .before .before .before .before .before .before .before .before .before .args .d) (suc (c .before .before .before .before .before .before .before .before .before .before .before .before .before .before .before .before .before .before .before .before .before .before .before .before .before .args .b)) ∷ exact kind.closeParen ∷ []} {m = (c .before .before .before .before .before .before .before .before .before .before .before .before .before .before .before .before .before .before .before .before .before .before .before .before .before .args .n)} (binds (suc (c .before .before .before .before .before .before .before .before .before .before .before .before .before .before .before .before .before .before .before .before .before .before .before .before .before .args .b))) kind.plain (sym (c .before .before .before .before .before .before .before .before .before .before .before .before .before .before .before .before .before .before .before .before .before .kind-at .ensures .is) ∙ c .before .before .before .before .before .before .before .before .before .before .before .before .before .before .before .before .before .before .before .before .if1 .taken) (omega arith) (bind-well (c .before .before .before .before .before .before .before .before .before .before .before .before .before .before .before .before .before .before .before .before .before .before .before .before .before .args .s .now) ((c .before .before .before .before .before .before .before .before .before .before .before .before .before .before .before .before .before .before .before .before .before .before .before .before .before .args .at) + 1 + 1) (suc (c .before .before .before .before .before .before .before .before .before .before .before .before .before .before .before .before .before .before .before .before .before .before .before .before .before .args .b)) (omega (arith, c .before .before .before .before .before .before .before .before .before .before .before .before .before .before .before .before .before .before .before .if2 .left))) (λ γ. refl) (next (counted {c = (c .before .before .before .before .before .before .before .before .before .before .before .before .before .before .before .before .before .before .before .before .before .before .before .before .before .args .n)} {d = (c .before .before .before .before .before .before .before .before .before .before .before .before .before .before .before .before .before .before .before .before .before .before .before .before .before .args .n) + 4} (omega arith) (framed (aDomain ∷ exact kind.spot ∷ aUnary (c .before .before .before .before .before .before .before .before .before .before .before .before .before .before .before .before .before .before .before .before .before .before .before .before .before .args .d) (suc (c .before .before .before .before .before .before .before .before .before .before .before .before .before .before .before .before .before .before .before .before .before .before .before .before .before .args .b)) ∷ aPredRest (c .before .before .before .before .before .before .before .before .before .before .before .before .before .before .before .before .before .before .before .before .before .before .before .before .before .args .d) (c .before .before .before .before .before .before .before .before .before .before .before .before .before .before .before .before .before .before .before .before .before .before .before .before .before .args .d) (suc (c .before .before .before .before .before .before .before .before .before .before .before .before .before .before .before .before .before .before .before .before .before .before .before .before .before .args .b)) ∷ exact kind.closeParen ∷ []) h)) (next (counted {c = (c .before .before .before .before .before .before .before .before .before .before .before .before .before .before .before .before .before .before .before .before .before .before .before .before .before .args .n) + 4} {d = (c .before .before .before .before .before .before .before .before .before .before .before .before .before .before .before .before .before .before .before .before .before .before .before .before .before .args .n) + 4} (omega arith) (framed (exact kind.spot ∷ aUnary (c .before .before .before .before .before .before .before .before .before .before .before .before .before .before .before .before .before .before .before .before .before .before .before .before .before .args .d) (suc (c .before .before .before .before .before .before .before .before .before .before .before .before .before .before .before .before .before .before .before .before .before .before .before .before .before .args .b)) ∷ aPredRest (c .before .before .before .before .before .before .before .before .before .before .before .before .before .before .before .before .before .before .before .before .before .before .before .before .before .args .d) (c .before .before .before .before .before .before .before .before .before .before .before .before .before .before .before .before .before .before .before .before .before .before .before .before .before .args .d) (suc (c .before .before .before .before .before .before .before .before .before .before .before .before .before .before .before .before .before .before .before .before .before .before .before .before .before .args .b)) ∷ exact kind.closeParen ∷ []) i)) (next (counted {c = (c .before .before .before .before .before .before .before .before .before .before .before .before .before .before .before .before .before .before .before .before .before .before .before .before .before .args .n) + 4} {d = (c .before .before .before .before .before .before .before .before .before .before .before .before .before .before .before .before .before .before .before .before .before .before .before .before .before .args .n) + 8} (omega arith) (framed (aUnary (c .before .before .before .before .before .before .before .before .before .before .before .before .before .before .before .before .before .before .before .before .before .before .before .before .before .args .d) (suc (c .before .before .before .before .before .before .before .before .before .before .before .before .before .before .before .before .before .before .before .before .before .before .before .before .before .args .b)) ∷ aPredRest (c .before .before .before .before .before .before .before .before .before .before .before .before .before .before .before .before .before .before .before .before .before .before .before .before .before .args .d) (c .before .before .before .before .before .before .before .before .before .before .before .before .before .before .before .before .before .before .before .before .before .before .before .before .before .args .d) (suc (c .before .before .before .before .before .before .before .before .before .before .before .before .before .before .before .before .before .before .before .before .before .before .before .before .before .args .b)) ∷ exact kind.closeParen ∷ []) j)) (fails (framed (exact kind.closeParen ∷ []) (raised (λ x. aUnary (c .before .before .before .before .before .before .before .before .before .before .before .before .before .before .before .before .before .before .before .before .before .before .before .before .before .args .d) x ∷ aPredRest (c .before .before .before .before .before .before .before .before .before .before .before .before .before .before .before .before .before .before .before .before .before .before .before .before .before .args .d) (c .before .before .before .before .before .before .before .before .before .before .before .before .before .before .before .before .before .before .before .before .before .before .before .before .before .args .d) x ∷ []) (c .before .before .before .before .before .before .before .before .before .before .before .before .before .before .before .before .before .before .before .before .before .before .before .before .before .args .b) (known (c .before .p .given .1) (c .before .before .before .before .before .pred .ensures)))))))) (omega arith)) (omega arith)
+quantified-returns-3 t c = (let room = c .before .before .before .before .before .before .before .before .before .before .before .before .before .before .before .before .before .before .before .before .before .before .before .before .before .pre .1 .0 in let h = (known (c .before .before .before .before .before .before .before .before .before .before .before .before .before .before .before .before .t .given .1) (c .before .before .before .before .before .before .before .before .before .before .before .before .before .before .before .before .before .before .close .ensures .reads kind.colon refl)) in let z = known-ahead _ (c .before .before .before .before .before .before .before .before .before .before .before .before .before .before .before .before .t .given .1) (c .before .before .before .before .before .before .before .before .before .before .before .before .before .before .before .before .before .before .close .ensures .ahead) in let i = (known (c .before .before .before .before .before .before .before .before .before .before .before .before .e .given .1) (c .before .before .before .before .before .before .before .before .before .before .before .before .before .before .domain .ensures .0)) in let j = (known (c .before .before .before .before .before .before .before .before .f .given .1) (c .before .before .before .before .before .before .before .before .before .before .close2 .ensures .reads kind.spot refl)) in let y = known-ahead _ (c .before .before .before .before .before .before .before .before .f .given .1) (c .before .before .before .before .before .before .before .before .before .before .close2 .ensures .ahead) in takes {μ = aDeclared (binds (suc (c .before .before .before .before .before .before .before .before .before .before .before .before .before .before .before .before .before .before .before .before .before .before .before .before .before .args .b))) ∷ exact kind.colon ∷ aDomain ∷ exact kind.spot ∷ aUnary (c .before .before .before .before .before .before .before .before .before .before .before .before .before .before .before .before .before .before .before .before .before .before .before .before .before .args .d) (suc (c .before .before .before .before .before .before .before .before .before .before .before .before .before .before .before .before .before .before .before .before .before .before .before .before .before .args .b)) ∷ aPredRest (c .before .before .before .before .before .before .before .before .before .before .before .before .before .before .before .before .before .before .before .before .before .before .before .before .before .args .d) (c .before .before .before .before .before .before .before .before .before .before .before .before .before .before .before .before .before .before .before .before .before .before .before .before .before .args .d) (suc (c .before .before .before .before .before .before .before .before .before .before .before .before .before .before .before .before .before .before .before .before .before .before .before .before .before .args .b)) ∷ exact kind.closeParen ∷ []} {m = (c .before .before .before .before .before .before .before .before .before .before .before .before .before .before .before .before .before .before .before .before .before .before .before .before .before .args .n)} (omega arith) (λ κ e γ. quantifier-step (c .before .before .before .before .before .before .before .before .before .before .before .before .before .before .before .before .before .before .before .before .before .before .before .before .before .args .d) (c .before .before .before .before .before .before .before .before .before .before .before .before .before .before .before .before .before .before .before .before .before .before .before .before .before .args .b) κ γ (quantifier-code κ (omega (arith, c .before .before .before .before .before .before .before .before .before .before .before .before .before .before .before .before .before .before .before .before .before .before .before .before .before .pre .1 .4)) (omega (arith, c .before .before .before .before .before .before .before .before .before .before .before .before .before .before .before .before .before .before .before .before .before .before .before .before .before .pre .1 .5)))) (taken-kind {μ = exact kind.colon ∷ aDomain ∷ exact kind.spot ∷ aUnary (c .before .before .before .before .before .before .before .before .before .before .before .before .before .before .before .before .before .before .before .before .before .before .before .before .before .args .d) (suc (c .before .before .before .before .before .before .before .before .before .before .before .before .before .before .before .before .before .before .before .before .before .before .before .before .before .args .b)) ∷ aPredRest (c .before .before .before .before .before .before .before .before .before .before .before .before .before .before .before .before .before .before .before .before .before .before .before .before .before .args .d) (c .before .before .before .before .before .before .before .before .before .before .before .before .before .before .before .before .before .before .before .before .before .before .before .before .before .args .d) (suc (c .before .before .before .before .before .before .before .before .before .before .before .before .before .before .before .before .before .before .before .before .before .before .before .before .before .args .b)) ∷ exact kind.closeParen ∷ []} {m = (c .before .before .before .before .before .before .before .before .before .before .before .before .before .before .before .before .before .before .before .before .before .before .before .before .before .args .n)} (binds (suc (c .before .before .before .before .before .before .before .before .before .before .before .before .before .before .before .before .before .before .before .before .before .before .before .before .before .args .b))) kind.plain (sym (c .before .before .before .before .before .before .before .before .before .before .before .before .before .before .before .before .before .before .before .before .before .kind-at .ensures .is) ∙ c .before .before .before .before .before .before .before .before .before .before .before .before .before .before .before .before .before .before .before .before .if1 .taken) (omega arith) (bind-well (c .before .before .before .before .before .before .before .before .before .before .before .before .before .before .before .before .before .before .before .before .before .before .before .before .before .args .s .now) ((c .before .before .before .before .before .before .before .before .before .before .before .before .before .before .before .before .before .before .before .before .before .before .before .before .before .args .at) + 1 + 1) (suc (c .before .before .before .before .before .before .before .before .before .before .before .before .before .before .before .before .before .before .before .before .before .before .before .before .before .args .b)) (omega (arith, c .before .before .before .before .before .before .before .before .before .before .before .before .before .before .before .before .before .before .before .if2 .left))) (λ γ. refl) (next (counted {c = (c .before .before .before .before .before .before .before .before .before .before .before .before .before .before .before .before .before .before .before .before .before .before .before .before .before .args .n)} {d = (c .before .before .before .before .before .before .before .before .before .before .before .before .before .before .before .before .before .before .before .before .before .before .before .before .before .args .n) + 4} (omega arith) (framed (aDomain ∷ exact kind.spot ∷ aUnary (c .before .before .before .before .before .before .before .before .before .before .before .before .before .before .before .before .before .before .before .before .before .before .before .before .before .args .d) (suc (c .before .before .before .before .before .before .before .before .before .before .before .before .before .before .before .before .before .before .before .before .before .before .before .before .before .args .b)) ∷ aPredRest (c .before .before .before .before .before .before .before .before .before .before .before .before .before .before .before .before .before .before .before .before .before .before .before .before .before .args .d) (c .before .before .before .before .before .before .before .before .before .before .before .before .before .before .before .before .before .before .before .before .before .before .before .before .before .args .d) (suc (c .before .before .before .before .before .before .before .before .before .before .before .before .before .before .before .before .before .before .before .before .before .before .before .before .before .args .b)) ∷ exact kind.closeParen ∷ []) h)) (next (counted {c = (c .before .before .before .before .before .before .before .before .before .before .before .before .before .before .before .before .before .before .before .before .before .before .before .before .before .args .n) + 4} {d = (c .before .before .before .before .before .before .before .before .before .before .before .before .before .before .before .before .before .before .before .before .before .before .before .before .before .args .n) + 4} (omega arith) (framed (exact kind.spot ∷ aUnary (c .before .before .before .before .before .before .before .before .before .before .before .before .before .before .before .before .before .before .before .before .before .before .before .before .before .args .d) (suc (c .before .before .before .before .before .before .before .before .before .before .before .before .before .before .before .before .before .before .before .before .before .before .before .before .before .args .b)) ∷ aPredRest (c .before .before .before .before .before .before .before .before .before .before .before .before .before .before .before .before .before .before .before .before .before .before .before .before .before .args .d) (c .before .before .before .before .before .before .before .before .before .before .before .before .before .before .before .before .before .before .before .before .before .before .before .before .before .args .d) (suc (c .before .before .before .before .before .before .before .before .before .before .before .before .before .before .before .before .before .before .before .before .before .before .before .before .before .args .b)) ∷ exact kind.closeParen ∷ []) i)) (next (counted {c = (c .before .before .before .before .before .before .before .before .before .before .before .before .before .before .before .before .before .before .before .before .before .before .before .before .before .args .n) + 4} {d = (c .before .before .before .before .before .before .before .before .before .before .before .before .before .before .before .before .before .before .before .before .before .before .before .before .before .args .n) + 8} (omega arith) (framed (aUnary (c .before .before .before .before .before .before .before .before .before .before .before .before .before .before .before .before .before .before .before .before .before .before .before .before .before .args .d) (suc (c .before .before .before .before .before .before .before .before .before .before .before .before .before .before .before .before .before .before .before .before .before .before .before .before .before .args .b)) ∷ aPredRest (c .before .before .before .before .before .before .before .before .before .before .before .before .before .before .before .before .before .before .before .before .before .before .before .before .before .args .d) (c .before .before .before .before .before .before .before .before .before .before .before .before .before .before .before .before .before .before .before .before .before .before .before .before .before .args .d) (suc (c .before .before .before .before .before .before .before .before .before .before .before .before .before .before .before .before .before .before .before .before .before .before .before .before .before .args .b)) ∷ exact kind.closeParen ∷ []) j)) (fails (framed (exact kind.closeParen ∷ []) (raised (λ x. aUnary (c .before .before .before .before .before .before .before .before .before .before .before .before .before .before .before .before .before .before .before .before .before .before .before .before .before .args .d) x ∷ aPredRest (c .before .before .before .before .before .before .before .before .before .before .before .before .before .before .before .before .before .before .before .before .before .before .before .before .before .args .d) (c .before .before .before .before .before .before .before .before .before .before .before .before .before .before .before .before .before .before .before .before .before .before .before .before .before .args .d) x ∷ []) (c .before .before .before .before .before .before .before .before .before .before .before .before .before .before .before .before .before .before .before .before .before .before .before .before .before .args .b) (known (c .before .p .given .1) (c .before .before .before .before .before .pred .ensures .0)))))))) (omega arith)) (omega arith), tt)
 
 quantified-returns-4 : (t : ℕ) → quantified-lts.Need-returns-4 (quantified-claims t) (quantified-at t) quantified.Post
 unfolding computeForm
-quantified-returns-4 t c = let room = c .before .before .before .before .before .before .before .before .before .before .before .before .before .before .before .before .before .before .pre .1 .0 in let h = (known (c .before .before .before .before .before .before .before .before .before .t .given .1) (c .before .before .before .before .before .before .before .before .before .before .before .close .ensures .reads kind.colon refl)) in let z = known-ahead _ (c .before .before .before .before .before .before .before .before .before .t .given .1) (c .before .before .before .before .before .before .before .before .before .before .before .close .ensures .ahead) in let i = (known (c .before .before .before .before .before .e .given .1) (c .before .before .before .before .before .before .before .domain .ensures)) in takes {μ = aDeclared (binds (suc (c .before .before .before .before .before .before .before .before .before .before .before .before .before .before .before .before .before .before .args .b))) ∷ exact kind.colon ∷ aDomain ∷ exact kind.spot ∷ aUnary (c .before .before .before .before .before .before .before .before .before .before .before .before .before .before .before .before .before .before .args .d) (suc (c .before .before .before .before .before .before .before .before .before .before .before .before .before .before .before .before .before .before .args .b)) ∷ aPredRest (c .before .before .before .before .before .before .before .before .before .before .before .before .before .before .before .before .before .before .args .d) (c .before .before .before .before .before .before .before .before .before .before .before .before .before .before .before .before .before .before .args .d) (suc (c .before .before .before .before .before .before .before .before .before .before .before .before .before .before .before .before .before .before .args .b)) ∷ exact kind.closeParen ∷ []} {m = (c .before .before .before .before .before .before .before .before .before .before .before .before .before .before .before .before .before .before .args .n)} (omega arith) (λ κ e γ. quantifier-step (c .before .before .before .before .before .before .before .before .before .before .before .before .before .before .before .before .before .before .args .d) (c .before .before .before .before .before .before .before .before .before .before .before .before .before .before .before .before .before .before .args .b) κ γ (quantifier-code κ (omega (arith, c .before .before .before .before .before .before .before .before .before .before .before .before .before .before .before .before .before .before .pre .1 .4)) (omega (arith, c .before .before .before .before .before .before .before .before .before .before .before .before .before .before .before .before .before .before .pre .1 .5)))) (taken-kind {μ = exact kind.colon ∷ aDomain ∷ exact kind.spot ∷ aUnary (c .before .before .before .before .before .before .before .before .before .before .before .before .before .before .before .before .before .before .args .d) (suc (c .before .before .before .before .before .before .before .before .before .before .before .before .before .before .before .before .before .before .args .b)) ∷ aPredRest (c .before .before .before .before .before .before .before .before .before .before .before .before .before .before .before .before .before .before .args .d) (c .before .before .before .before .before .before .before .before .before .before .before .before .before .before .before .before .before .before .args .d) (suc (c .before .before .before .before .before .before .before .before .before .before .before .before .before .before .before .before .before .before .args .b)) ∷ exact kind.closeParen ∷ []} {m = (c .before .before .before .before .before .before .before .before .before .before .before .before .before .before .before .before .before .before .args .n)} (binds (suc (c .before .before .before .before .before .before .before .before .before .before .before .before .before .before .before .before .before .before .args .b))) kind.plain (sym (c .before .before .before .before .before .before .before .before .before .before .before .before .before .before .kind-at .ensures .is) ∙ c .before .before .before .before .before .before .before .before .before .before .before .before .before .if1 .taken) (omega arith) (bind-well (c .before .before .before .before .before .before .before .before .before .before .before .before .before .before .before .before .before .before .args .s .now) ((c .before .before .before .before .before .before .before .before .before .before .before .before .before .before .before .before .before .before .args .at) + 1 + 1) (suc (c .before .before .before .before .before .before .before .before .before .before .before .before .before .before .before .before .before .before .args .b)) (omega (arith, c .before .before .before .before .before .before .before .before .before .before .before .before .if2 .left))) (λ γ. refl) (next (counted {c = (c .before .before .before .before .before .before .before .before .before .before .before .before .before .before .before .before .before .before .args .n)} {d = (c .before .before .before .before .before .before .before .before .before .before .before .before .before .before .before .before .before .before .args .n) + 4} (omega arith) (framed (aDomain ∷ exact kind.spot ∷ aUnary (c .before .before .before .before .before .before .before .before .before .before .before .before .before .before .before .before .before .before .args .d) (suc (c .before .before .before .before .before .before .before .before .before .before .before .before .before .before .before .before .before .before .args .b)) ∷ aPredRest (c .before .before .before .before .before .before .before .before .before .before .before .before .before .before .before .before .before .before .args .d) (c .before .before .before .before .before .before .before .before .before .before .before .before .before .before .before .before .before .before .args .d) (suc (c .before .before .before .before .before .before .before .before .before .before .before .before .before .before .before .before .before .before .args .b)) ∷ exact kind.closeParen ∷ []) h)) (next (counted {c = (c .before .before .before .before .before .before .before .before .before .before .before .before .before .before .before .before .before .before .args .n) + 4} {d = (c .before .before .before .before .before .before .before .before .before .before .before .before .before .before .before .before .before .before .args .n) + 4} (omega arith) (framed (exact kind.spot ∷ aUnary (c .before .before .before .before .before .before .before .before .before .before .before .before .before .before .before .before .before .before .args .d) (suc (c .before .before .before .before .before .before .before .before .before .before .before .before .before .before .before .before .before .before .args .b)) ∷ aPredRest (c .before .before .before .before .before .before .before .before .before .before .before .before .before .before .before .before .before .before .args .d) (c .before .before .before .before .before .before .before .before .before .before .before .before .before .before .before .before .before .before .args .d) (suc (c .before .before .before .before .before .before .before .before .before .before .before .before .before .before .before .before .before .before .args .b)) ∷ exact kind.closeParen ∷ []) i)) (fails (framed (aUnary (c .before .before .before .before .before .before .before .before .before .before .before .before .before .before .before .before .before .before .args .d) (suc (c .before .before .before .before .before .before .before .before .before .before .before .before .before .before .before .before .before .before .args .b)) ∷ aPredRest (c .before .before .before .before .before .before .before .before .before .before .before .before .before .before .before .before .before .before .args .d) (c .before .before .before .before .before .before .before .before .before .before .before .before .before .before .before .before .before .before .args .d) (suc (c .before .before .before .before .before .before .before .before .before .before .before .before .before .before .before .before .before .before .args .b)) ∷ exact kind.closeParen ∷ []) (known (c .before .p2 .given .1) (c .before .before .before .close2 .ensures .reads kind.spot refl)))))) (omega arith)) (omega arith)
+quantified-returns-4 t c = (let room = c .before .before .before .before .before .before .before .before .before .before .before .before .before .before .before .before .before .before .pre .1 .0 in let h = (known (c .before .before .before .before .before .before .before .before .before .t .given .1) (c .before .before .before .before .before .before .before .before .before .before .before .close .ensures .reads kind.colon refl)) in let z = known-ahead _ (c .before .before .before .before .before .before .before .before .before .t .given .1) (c .before .before .before .before .before .before .before .before .before .before .before .close .ensures .ahead) in let i = (known (c .before .before .before .before .before .e .given .1) (c .before .before .before .before .before .before .before .domain .ensures .0)) in takes {μ = aDeclared (binds (suc (c .before .before .before .before .before .before .before .before .before .before .before .before .before .before .before .before .before .before .args .b))) ∷ exact kind.colon ∷ aDomain ∷ exact kind.spot ∷ aUnary (c .before .before .before .before .before .before .before .before .before .before .before .before .before .before .before .before .before .before .args .d) (suc (c .before .before .before .before .before .before .before .before .before .before .before .before .before .before .before .before .before .before .args .b)) ∷ aPredRest (c .before .before .before .before .before .before .before .before .before .before .before .before .before .before .before .before .before .before .args .d) (c .before .before .before .before .before .before .before .before .before .before .before .before .before .before .before .before .before .before .args .d) (suc (c .before .before .before .before .before .before .before .before .before .before .before .before .before .before .before .before .before .before .args .b)) ∷ exact kind.closeParen ∷ []} {m = (c .before .before .before .before .before .before .before .before .before .before .before .before .before .before .before .before .before .before .args .n)} (omega arith) (λ κ e γ. quantifier-step (c .before .before .before .before .before .before .before .before .before .before .before .before .before .before .before .before .before .before .args .d) (c .before .before .before .before .before .before .before .before .before .before .before .before .before .before .before .before .before .before .args .b) κ γ (quantifier-code κ (omega (arith, c .before .before .before .before .before .before .before .before .before .before .before .before .before .before .before .before .before .before .pre .1 .4)) (omega (arith, c .before .before .before .before .before .before .before .before .before .before .before .before .before .before .before .before .before .before .pre .1 .5)))) (taken-kind {μ = exact kind.colon ∷ aDomain ∷ exact kind.spot ∷ aUnary (c .before .before .before .before .before .before .before .before .before .before .before .before .before .before .before .before .before .before .args .d) (suc (c .before .before .before .before .before .before .before .before .before .before .before .before .before .before .before .before .before .before .args .b)) ∷ aPredRest (c .before .before .before .before .before .before .before .before .before .before .before .before .before .before .before .before .before .before .args .d) (c .before .before .before .before .before .before .before .before .before .before .before .before .before .before .before .before .before .before .args .d) (suc (c .before .before .before .before .before .before .before .before .before .before .before .before .before .before .before .before .before .before .args .b)) ∷ exact kind.closeParen ∷ []} {m = (c .before .before .before .before .before .before .before .before .before .before .before .before .before .before .before .before .before .before .args .n)} (binds (suc (c .before .before .before .before .before .before .before .before .before .before .before .before .before .before .before .before .before .before .args .b))) kind.plain (sym (c .before .before .before .before .before .before .before .before .before .before .before .before .before .before .kind-at .ensures .is) ∙ c .before .before .before .before .before .before .before .before .before .before .before .before .before .if1 .taken) (omega arith) (bind-well (c .before .before .before .before .before .before .before .before .before .before .before .before .before .before .before .before .before .before .args .s .now) ((c .before .before .before .before .before .before .before .before .before .before .before .before .before .before .before .before .before .before .args .at) + 1 + 1) (suc (c .before .before .before .before .before .before .before .before .before .before .before .before .before .before .before .before .before .before .args .b)) (omega (arith, c .before .before .before .before .before .before .before .before .before .before .before .before .if2 .left))) (λ γ. refl) (next (counted {c = (c .before .before .before .before .before .before .before .before .before .before .before .before .before .before .before .before .before .before .args .n)} {d = (c .before .before .before .before .before .before .before .before .before .before .before .before .before .before .before .before .before .before .args .n) + 4} (omega arith) (framed (aDomain ∷ exact kind.spot ∷ aUnary (c .before .before .before .before .before .before .before .before .before .before .before .before .before .before .before .before .before .before .args .d) (suc (c .before .before .before .before .before .before .before .before .before .before .before .before .before .before .before .before .before .before .args .b)) ∷ aPredRest (c .before .before .before .before .before .before .before .before .before .before .before .before .before .before .before .before .before .before .args .d) (c .before .before .before .before .before .before .before .before .before .before .before .before .before .before .before .before .before .before .args .d) (suc (c .before .before .before .before .before .before .before .before .before .before .before .before .before .before .before .before .before .before .args .b)) ∷ exact kind.closeParen ∷ []) h)) (next (counted {c = (c .before .before .before .before .before .before .before .before .before .before .before .before .before .before .before .before .before .before .args .n) + 4} {d = (c .before .before .before .before .before .before .before .before .before .before .before .before .before .before .before .before .before .before .args .n) + 4} (omega arith) (framed (exact kind.spot ∷ aUnary (c .before .before .before .before .before .before .before .before .before .before .before .before .before .before .before .before .before .before .args .d) (suc (c .before .before .before .before .before .before .before .before .before .before .before .before .before .before .before .before .before .before .args .b)) ∷ aPredRest (c .before .before .before .before .before .before .before .before .before .before .before .before .before .before .before .before .before .before .args .d) (c .before .before .before .before .before .before .before .before .before .before .before .before .before .before .before .before .before .before .args .d) (suc (c .before .before .before .before .before .before .before .before .before .before .before .before .before .before .before .before .before .before .args .b)) ∷ exact kind.closeParen ∷ []) i)) (fails (framed (aUnary (c .before .before .before .before .before .before .before .before .before .before .before .before .before .before .before .before .before .before .args .d) (suc (c .before .before .before .before .before .before .before .before .before .before .before .before .before .before .before .before .before .before .args .b)) ∷ aPredRest (c .before .before .before .before .before .before .before .before .before .before .before .before .before .before .before .before .before .before .args .d) (c .before .before .before .before .before .before .before .before .before .before .before .before .before .before .before .before .before .before .args .d) (suc (c .before .before .before .before .before .before .before .before .before .before .before .before .before .before .before .before .before .before .args .b)) ∷ exact kind.closeParen ∷ []) (known (c .before .p2 .given .1) (c .before .before .before .close2 .ensures .reads kind.spot refl)))))) (omega arith)) (omega arith), tt)
 
 quantified-returns-5 : (t : ℕ) → quantified-lts.Need-returns-5 (quantified-claims t) (quantified-at t) quantified.Post
 unfolding computeForm
-quantified-returns-5 t c = let room = c .before .before .before .before .before .before .before .before .before .before .before .before .before .before .pre .1 .0 in let h = (known (c .before .before .before .before .before .t .given .1) (c .before .before .before .before .before .before .before .close .ensures .reads kind.colon refl)) in let z = known-ahead _ (c .before .before .before .before .before .t .given .1) (c .before .before .before .before .before .before .before .close .ensures .ahead) in takes {μ = aDeclared (binds (suc (c .before .before .before .before .before .before .before .before .before .before .before .before .before .before .args .b))) ∷ exact kind.colon ∷ aDomain ∷ exact kind.spot ∷ aUnary (c .before .before .before .before .before .before .before .before .before .before .before .before .before .before .args .d) (suc (c .before .before .before .before .before .before .before .before .before .before .before .before .before .before .args .b)) ∷ aPredRest (c .before .before .before .before .before .before .before .before .before .before .before .before .before .before .args .d) (c .before .before .before .before .before .before .before .before .before .before .before .before .before .before .args .d) (suc (c .before .before .before .before .before .before .before .before .before .before .before .before .before .before .args .b)) ∷ exact kind.closeParen ∷ []} {m = (c .before .before .before .before .before .before .before .before .before .before .before .before .before .before .args .n)} (omega arith) (λ κ e γ. quantifier-step (c .before .before .before .before .before .before .before .before .before .before .before .before .before .before .args .d) (c .before .before .before .before .before .before .before .before .before .before .before .before .before .before .args .b) κ γ (quantifier-code κ (omega (arith, c .before .before .before .before .before .before .before .before .before .before .before .before .before .before .pre .1 .4)) (omega (arith, c .before .before .before .before .before .before .before .before .before .before .before .before .before .before .pre .1 .5)))) (taken-kind {μ = exact kind.colon ∷ aDomain ∷ exact kind.spot ∷ aUnary (c .before .before .before .before .before .before .before .before .before .before .before .before .before .before .args .d) (suc (c .before .before .before .before .before .before .before .before .before .before .before .before .before .before .args .b)) ∷ aPredRest (c .before .before .before .before .before .before .before .before .before .before .before .before .before .before .args .d) (c .before .before .before .before .before .before .before .before .before .before .before .before .before .before .args .d) (suc (c .before .before .before .before .before .before .before .before .before .before .before .before .before .before .args .b)) ∷ exact kind.closeParen ∷ []} {m = (c .before .before .before .before .before .before .before .before .before .before .before .before .before .before .args .n)} (binds (suc (c .before .before .before .before .before .before .before .before .before .before .before .before .before .before .args .b))) kind.plain (sym (c .before .before .before .before .before .before .before .before .before .before .kind-at .ensures .is) ∙ c .before .before .before .before .before .before .before .before .before .if1 .taken) (omega arith) (bind-well (c .before .before .before .before .before .before .before .before .before .before .before .before .before .before .args .s .now) ((c .before .before .before .before .before .before .before .before .before .before .before .before .before .before .args .at) + 1 + 1) (suc (c .before .before .before .before .before .before .before .before .before .before .before .before .before .before .args .b)) (omega (arith, c .before .before .before .before .before .before .before .before .if2 .left))) (λ γ. refl) (next (counted {c = (c .before .before .before .before .before .before .before .before .before .before .before .before .before .before .args .n)} {d = (c .before .before .before .before .before .before .before .before .before .before .before .before .before .before .args .n) + 4} (omega arith) (framed (aDomain ∷ exact kind.spot ∷ aUnary (c .before .before .before .before .before .before .before .before .before .before .before .before .before .before .args .d) (suc (c .before .before .before .before .before .before .before .before .before .before .before .before .before .before .args .b)) ∷ aPredRest (c .before .before .before .before .before .before .before .before .before .before .before .before .before .before .args .d) (c .before .before .before .before .before .before .before .before .before .before .before .before .before .before .args .d) (suc (c .before .before .before .before .before .before .before .before .before .before .before .before .before .before .args .b)) ∷ exact kind.closeParen ∷ []) h)) (fails (framed (exact kind.spot ∷ aUnary (c .before .before .before .before .before .before .before .before .before .before .before .before .before .before .args .d) (suc (c .before .before .before .before .before .before .before .before .before .before .before .before .before .before .args .b)) ∷ aPredRest (c .before .before .before .before .before .before .before .before .before .before .before .before .before .before .args .d) (c .before .before .before .before .before .before .before .before .before .before .before .before .before .before .args .d) (suc (c .before .before .before .before .before .before .before .before .before .before .before .before .before .before .args .b)) ∷ exact kind.closeParen ∷ []) (known (c .before .p3 .given .1) (c .before .before .before .domain .ensures))))) (omega arith)) (omega arith)
+quantified-returns-5 t c = (let room = c .before .before .before .before .before .before .before .before .before .before .before .before .before .before .pre .1 .0 in let h = (known (c .before .before .before .before .before .t .given .1) (c .before .before .before .before .before .before .before .close .ensures .reads kind.colon refl)) in let z = known-ahead _ (c .before .before .before .before .before .t .given .1) (c .before .before .before .before .before .before .before .close .ensures .ahead) in takes {μ = aDeclared (binds (suc (c .before .before .before .before .before .before .before .before .before .before .before .before .before .before .args .b))) ∷ exact kind.colon ∷ aDomain ∷ exact kind.spot ∷ aUnary (c .before .before .before .before .before .before .before .before .before .before .before .before .before .before .args .d) (suc (c .before .before .before .before .before .before .before .before .before .before .before .before .before .before .args .b)) ∷ aPredRest (c .before .before .before .before .before .before .before .before .before .before .before .before .before .before .args .d) (c .before .before .before .before .before .before .before .before .before .before .before .before .before .before .args .d) (suc (c .before .before .before .before .before .before .before .before .before .before .before .before .before .before .args .b)) ∷ exact kind.closeParen ∷ []} {m = (c .before .before .before .before .before .before .before .before .before .before .before .before .before .before .args .n)} (omega arith) (λ κ e γ. quantifier-step (c .before .before .before .before .before .before .before .before .before .before .before .before .before .before .args .d) (c .before .before .before .before .before .before .before .before .before .before .before .before .before .before .args .b) κ γ (quantifier-code κ (omega (arith, c .before .before .before .before .before .before .before .before .before .before .before .before .before .before .pre .1 .4)) (omega (arith, c .before .before .before .before .before .before .before .before .before .before .before .before .before .before .pre .1 .5)))) (taken-kind {μ = exact kind.colon ∷ aDomain ∷ exact kind.spot ∷ aUnary (c .before .before .before .before .before .before .before .before .before .before .before .before .before .before .args .d) (suc (c .before .before .before .before .before .before .before .before .before .before .before .before .before .before .args .b)) ∷ aPredRest (c .before .before .before .before .before .before .before .before .before .before .before .before .before .before .args .d) (c .before .before .before .before .before .before .before .before .before .before .before .before .before .before .args .d) (suc (c .before .before .before .before .before .before .before .before .before .before .before .before .before .before .args .b)) ∷ exact kind.closeParen ∷ []} {m = (c .before .before .before .before .before .before .before .before .before .before .before .before .before .before .args .n)} (binds (suc (c .before .before .before .before .before .before .before .before .before .before .before .before .before .before .args .b))) kind.plain (sym (c .before .before .before .before .before .before .before .before .before .before .kind-at .ensures .is) ∙ c .before .before .before .before .before .before .before .before .before .if1 .taken) (omega arith) (bind-well (c .before .before .before .before .before .before .before .before .before .before .before .before .before .before .args .s .now) ((c .before .before .before .before .before .before .before .before .before .before .before .before .before .before .args .at) + 1 + 1) (suc (c .before .before .before .before .before .before .before .before .before .before .before .before .before .before .args .b)) (omega (arith, c .before .before .before .before .before .before .before .before .if2 .left))) (λ γ. refl) (next (counted {c = (c .before .before .before .before .before .before .before .before .before .before .before .before .before .before .args .n)} {d = (c .before .before .before .before .before .before .before .before .before .before .before .before .before .before .args .n) + 4} (omega arith) (framed (aDomain ∷ exact kind.spot ∷ aUnary (c .before .before .before .before .before .before .before .before .before .before .before .before .before .before .args .d) (suc (c .before .before .before .before .before .before .before .before .before .before .before .before .before .before .args .b)) ∷ aPredRest (c .before .before .before .before .before .before .before .before .before .before .before .before .before .before .args .d) (c .before .before .before .before .before .before .before .before .before .before .before .before .before .before .args .d) (suc (c .before .before .before .before .before .before .before .before .before .before .before .before .before .before .args .b)) ∷ exact kind.closeParen ∷ []) h)) (fails (framed (exact kind.spot ∷ aUnary (c .before .before .before .before .before .before .before .before .before .before .before .before .before .before .args .d) (suc (c .before .before .before .before .before .before .before .before .before .before .before .before .before .before .args .b)) ∷ aPredRest (c .before .before .before .before .before .before .before .before .before .before .before .before .before .before .args .d) (c .before .before .before .before .before .before .before .before .before .before .before .before .before .before .args .d) (suc (c .before .before .before .before .before .before .before .before .before .before .before .before .before .before .args .b)) ∷ exact kind.closeParen ∷ []) (known (c .before .p3 .given .1) (c .before .before .before .domain .ensures .0))))) (omega arith)) (omega arith), tt)
 
 quantified-returns-6 : (t : ℕ) → quantified-lts.Need-returns-6 (quantified-claims t) (quantified-at t) quantified.Post
 unfolding computeForm
-quantified-returns-6 t c = let room = c .before .before .before .before .before .before .before .before .before .before .pre .1 .0 in takes {μ = aDeclared (binds (suc (c .before .before .before .before .before .before .before .before .before .before .args .b))) ∷ exact kind.colon ∷ aDomain ∷ exact kind.spot ∷ aUnary (c .before .before .before .before .before .before .before .before .before .before .args .d) (suc (c .before .before .before .before .before .before .before .before .before .before .args .b)) ∷ aPredRest (c .before .before .before .before .before .before .before .before .before .before .args .d) (c .before .before .before .before .before .before .before .before .before .before .args .d) (suc (c .before .before .before .before .before .before .before .before .before .before .args .b)) ∷ exact kind.closeParen ∷ []} {m = (c .before .before .before .before .before .before .before .before .before .before .args .n)} (omega arith) (λ κ e γ. quantifier-step (c .before .before .before .before .before .before .before .before .before .before .args .d) (c .before .before .before .before .before .before .before .before .before .before .args .b) κ γ (quantifier-code κ (omega (arith, c .before .before .before .before .before .before .before .before .before .before .pre .1 .4)) (omega (arith, c .before .before .before .before .before .before .before .before .before .before .pre .1 .5)))) (taken-kind {μ = exact kind.colon ∷ aDomain ∷ exact kind.spot ∷ aUnary (c .before .before .before .before .before .before .before .before .before .before .args .d) (suc (c .before .before .before .before .before .before .before .before .before .before .args .b)) ∷ aPredRest (c .before .before .before .before .before .before .before .before .before .before .args .d) (c .before .before .before .before .before .before .before .before .before .before .args .d) (suc (c .before .before .before .before .before .before .before .before .before .before .args .b)) ∷ exact kind.closeParen ∷ []} {m = (c .before .before .before .before .before .before .before .before .before .before .args .n)} (binds (suc (c .before .before .before .before .before .before .before .before .before .before .args .b))) kind.plain (sym (c .before .before .before .before .before .before .kind-at .ensures .is) ∙ c .before .before .before .before .before .if1 .taken) (omega arith) (bind-well (c .before .before .before .before .before .before .before .before .before .before .args .s .now) ((c .before .before .before .before .before .before .before .before .before .before .args .at) + 1 + 1) (suc (c .before .before .before .before .before .before .before .before .before .before .args .b)) (omega (arith, c .before .before .before .before .if2 .left))) (λ γ. refl) (fails (framed (aDomain ∷ exact kind.spot ∷ aUnary (c .before .before .before .before .before .before .before .before .before .before .args .d) (suc (c .before .before .before .before .before .before .before .before .before .before .args .b)) ∷ aPredRest (c .before .before .before .before .before .before .before .before .before .before .args .d) (c .before .before .before .before .before .before .before .before .before .before .args .d) (suc (c .before .before .before .before .before .before .before .before .before .before .args .b)) ∷ exact kind.closeParen ∷ []) (known (c .before .p4 .given .1) (c .before .before .before .close .ensures .reads kind.colon refl)))) (omega arith)) (omega arith)
+quantified-returns-6 t c = (let room = c .before .before .before .before .before .before .before .before .before .before .pre .1 .0 in takes {μ = aDeclared (binds (suc (c .before .before .before .before .before .before .before .before .before .before .args .b))) ∷ exact kind.colon ∷ aDomain ∷ exact kind.spot ∷ aUnary (c .before .before .before .before .before .before .before .before .before .before .args .d) (suc (c .before .before .before .before .before .before .before .before .before .before .args .b)) ∷ aPredRest (c .before .before .before .before .before .before .before .before .before .before .args .d) (c .before .before .before .before .before .before .before .before .before .before .args .d) (suc (c .before .before .before .before .before .before .before .before .before .before .args .b)) ∷ exact kind.closeParen ∷ []} {m = (c .before .before .before .before .before .before .before .before .before .before .args .n)} (omega arith) (λ κ e γ. quantifier-step (c .before .before .before .before .before .before .before .before .before .before .args .d) (c .before .before .before .before .before .before .before .before .before .before .args .b) κ γ (quantifier-code κ (omega (arith, c .before .before .before .before .before .before .before .before .before .before .pre .1 .4)) (omega (arith, c .before .before .before .before .before .before .before .before .before .before .pre .1 .5)))) (taken-kind {μ = exact kind.colon ∷ aDomain ∷ exact kind.spot ∷ aUnary (c .before .before .before .before .before .before .before .before .before .before .args .d) (suc (c .before .before .before .before .before .before .before .before .before .before .args .b)) ∷ aPredRest (c .before .before .before .before .before .before .before .before .before .before .args .d) (c .before .before .before .before .before .before .before .before .before .before .args .d) (suc (c .before .before .before .before .before .before .before .before .before .before .args .b)) ∷ exact kind.closeParen ∷ []} {m = (c .before .before .before .before .before .before .before .before .before .before .args .n)} (binds (suc (c .before .before .before .before .before .before .before .before .before .before .args .b))) kind.plain (sym (c .before .before .before .before .before .before .kind-at .ensures .is) ∙ c .before .before .before .before .before .if1 .taken) (omega arith) (bind-well (c .before .before .before .before .before .before .before .before .before .before .args .s .now) ((c .before .before .before .before .before .before .before .before .before .before .args .at) + 1 + 1) (suc (c .before .before .before .before .before .before .before .before .before .before .args .b)) (omega (arith, c .before .before .before .before .if2 .left))) (λ γ. refl) (fails (framed (aDomain ∷ exact kind.spot ∷ aUnary (c .before .before .before .before .before .before .before .before .before .before .args .d) (suc (c .before .before .before .before .before .before .before .before .before .before .args .b)) ∷ aPredRest (c .before .before .before .before .before .before .before .before .before .before .args .d) (c .before .before .before .before .before .before .before .before .before .before .args .d) (suc (c .before .before .before .before .before .before .before .before .before .before .args .b)) ∷ exact kind.closeParen ∷ []) (known (c .before .p4 .given .1) (c .before .before .before .close .ensures .reads kind.colon refl)))) (omega arith)) (omega arith), tt)
 
 quantified-returns-7 : (t : ℕ) → quantified-lts.Need-returns-7 (quantified-claims t) (quantified-at t) quantified.Post
 unfolding computeForm
-quantified-returns-7 t c = let room = c .before .before .before .before .before .pre .1 .0 in takes {μ = aDeclared (binds (suc (c .before .before .before .before .before .args .b))) ∷ exact kind.colon ∷ aDomain ∷ exact kind.spot ∷ aUnary (c .before .before .before .before .before .args .d) (suc (c .before .before .before .before .before .args .b)) ∷ aPredRest (c .before .before .before .before .before .args .d) (c .before .before .before .before .before .args .d) (suc (c .before .before .before .before .before .args .b)) ∷ exact kind.closeParen ∷ []} {m = (c .before .before .before .before .before .args .n)} (omega arith) (λ κ e γ. quantifier-step (c .before .before .before .before .before .args .d) (c .before .before .before .before .before .args .b) κ γ (quantifier-code κ (omega (arith, c .before .before .before .before .before .pre .1 .4)) (omega (arith, c .before .before .before .before .before .pre .1 .5)))) (stops (omega arith) (λ κ e γ. declared-stops (binds (suc (c .before .before .before .before .before .args .b))) κ _ (λ q. c .if1 .left ((c .before .kind-at .ensures .is) ∙ sym e ∙ q))) (λ γ. refl)) (omega arith)
+quantified-returns-7 t c = (let room = c .before .before .before .before .before .pre .1 .0 in takes {μ = aDeclared (binds (suc (c .before .before .before .before .before .args .b))) ∷ exact kind.colon ∷ aDomain ∷ exact kind.spot ∷ aUnary (c .before .before .before .before .before .args .d) (suc (c .before .before .before .before .before .args .b)) ∷ aPredRest (c .before .before .before .before .before .args .d) (c .before .before .before .before .before .args .d) (suc (c .before .before .before .before .before .args .b)) ∷ exact kind.closeParen ∷ []} {m = (c .before .before .before .before .before .args .n)} (omega arith) (λ κ e γ. quantifier-step (c .before .before .before .before .before .args .d) (c .before .before .before .before .before .args .b) κ γ (quantifier-code κ (omega (arith, c .before .before .before .before .before .pre .1 .4)) (omega (arith, c .before .before .before .before .before .pre .1 .5)))) (stops (omega arith) (λ κ e γ. declared-stops (binds (suc (c .before .before .before .before .before .args .b))) κ _ (λ q. c .if1 .left ((c .before .kind-at .ensures .is) ∙ sym e ∙ q))) (λ γ. refl)) (omega arith), tt)
 
 related-kind-at-requires : (t : ℕ) → related-lts.Need-kind-at-requires (related-claims t) (related-at t) related.Post
 related-kind-at-requires t c κs = search needs
@@ -1235,7 +1238,7 @@ related-membership-of-requires t c κs = search needs
 
 related-returns : (t : ℕ) → related-lts.Need-returns (related-claims t) (related-at t) related.Post
 unfolding computeForm
-related-returns t c = stops (omega arith) (λ κ e γ. mem-step (c .before .before .before .before .before .before .args .d) (c .before .before .before .before .before .before .args .b) κ γ ((c .before .membership-of .ensures .class κ (e ∙ sym (c .before .before .kind-at .ensures .is))) ∙ c .if1 .taken)) (λ γ. refl)
+related-returns t c = (stops (omega arith) (λ κ e γ. mem-step (c .before .before .before .before .before .before .args .d) (c .before .before .before .before .before .before .args .b) κ γ ((c .before .membership-of .ensures .classes .class κ (e ∙ sym (c .before .before .kind-at .ensures .is))) ∙ c .if1 .taken)) (λ γ. refl), tt)
 
 related-add-term : (t : ℕ) → related-lts.Need-add-term (related-claims t) (related-at t) related.Post
 related-add-term t c = search needs
@@ -1250,7 +1253,7 @@ related-wide-requires : (t : ℕ) → related-lts.Need-wide-requires (related-cl
 related-wide-requires t c κs = search needs
 
 related-put-requires : (t : ℕ) → related-lts.Need-put-requires (related-claims t) (related-at t) related.Post
-related-put-requires t c κs = let room = c .before .before .before .before .before .before .before .before .before .before .before .before .before .before .before .pre .1 .0 in let h = (known (c .before .before .before .e .given .1) (c .before .before .before .before .before .before .before .term .ensures)) in search needs
+related-put-requires t c κs = let room = c .before .before .before .before .before .before .before .before .before .before .before .before .before .before .before .pre .1 .0 in let h = (known (c .before .before .before .e .given .1) (c .before .before .before .before .before .before .before .term .ensures .0)) in search needs
 
 related-enum-known-p : (t : ℕ) → related-lts.Need-enum-known-p (related-claims t) (related-at t) related.Post
 related-enum-known-p t c = search needs
@@ -1260,21 +1263,21 @@ related-same-length t c = search needs
 
 related-returns-2 : (t : ℕ) → related-lts.Need-returns-2 (related-claims t) (related-at t) related.Post
 unfolding computeForm
-related-returns-2 t c = let h = (known (c .before .before .before .before .before .before .e .given .1) (c .before .before .before .before .before .before .before .before .before .before .term .ensures)) in takes {μ = aTerm (c .before .before .before .before .before .before .before .before .before .before .before .before .before .before .before .before .before .before .args .d) (c .before .before .before .before .before .before .before .before .before .before .before .before .before .before .before .before .before .before .args .b) ∷ []} {m = (c .before .before .before .before .before .before .before .before .before .before .before .before .before .before .before .before .before .before .args .n) + 4} (omega arith) (λ κ e γ. mem-some (c .before .before .before .before .before .before .before .before .before .before .before .before .before .before .before .before .before .before .args .d) (c .before .before .before .before .before .before .before .before .before .before .before .before .before .before .before .before .before .before .args .b) (c .before .before .before .before .before .before .before .before .before .before .before .before .before .membership-of .result) κ γ (c .before .before .before .before .before .before .before .before .before .before .before .before .before .membership-of .ensures .class κ (e ∙ sym (c .before .before .before .before .before .before .before .before .before .before .before .before .before .before .kind-at .ensures .is))) (c .before .before .before .before .before .before .before .before .before .before .before .before .if1 .left)) (counted (omega arith) h) (omega arith)
+related-returns-2 t c = (let h = (known (c .before .before .before .before .before .before .e .given .1) (c .before .before .before .before .before .before .before .before .before .before .term .ensures .0)) in takes {μ = aTerm (c .before .before .before .before .before .before .before .before .before .before .before .before .before .before .before .before .before .before .args .d) (c .before .before .before .before .before .before .before .before .before .before .before .before .before .before .before .before .before .before .args .b) ∷ []} {m = (c .before .before .before .before .before .before .before .before .before .before .before .before .before .before .before .before .before .before .args .n) + 4} (omega arith) (λ κ e γ. mem-some (c .before .before .before .before .before .before .before .before .before .before .before .before .before .before .before .before .before .before .args .d) (c .before .before .before .before .before .before .before .before .before .before .before .before .before .before .before .before .before .before .args .b) (c .before .before .before .before .before .before .before .before .before .before .before .before .before .membership-of .result) κ γ (c .before .before .before .before .before .before .before .before .before .before .before .before .before .membership-of .ensures .classes .class κ (e ∙ sym (c .before .before .before .before .before .before .before .before .before .before .before .before .before .before .kind-at .ensures .is))) (c .before .before .before .before .before .before .before .before .before .before .before .before .if1 .left)) (counted (omega arith) h) (omega arith), let w₁ = (made (c .before .before .before .before .before .before .e .given .1) (c .before .before .before .before .before .before .before .before .before .before .term .ensures .1)) in makes (both (built w₁) (node-of (c .before .before .before .wide .ensures ∙ (c .before .before .before .before .before .before .before .before .before .before .before .before .before .before .kind-at .ensures .is)) refl (c .before .before .put .ensures))) (derived.related (membership-at (c .before .before .before .before .before .before .before .before .before .before .before .before .before .before .kind-at .ensures .is) (c .before .before .before .before .before .before .before .before .before .before .before .before .before .membership-of .ensures .member (omega arith))) (w₁ .derives)))
 
 related-same-length-2 : (t : ℕ) → related-lts.Need-same-length-2 (related-claims t) (related-at t) related.Post
 related-same-length-2 t c = search needs
 
 related-returns-3 : (t : ℕ) → related-lts.Need-returns-3 (related-claims t) (related-at t) related.Post
 unfolding computeForm
-related-returns-3 t c = takes {μ = aTerm (c .before .before .before .before .before .before .before .before .before .before .before .before .before .args .d) (c .before .before .before .before .before .before .before .before .before .before .before .before .before .args .b) ∷ []} {m = (c .before .before .before .before .before .before .before .before .before .before .before .before .before .args .n)} (omega arith) (λ κ e γ. mem-some (c .before .before .before .before .before .before .before .before .before .before .before .before .before .args .d) (c .before .before .before .before .before .before .before .before .before .before .before .before .before .args .b) (c .before .before .before .before .before .before .before .before .membership-of .result) κ γ (c .before .before .before .before .before .before .before .before .membership-of .ensures .class κ (e ∙ sym (c .before .before .before .before .before .before .before .before .before .kind-at .ensures .is))) (c .before .before .before .before .before .before .before .if1 .left)) (fails (known (c .before .p .given .1) (c .before .before .before .before .before .term .ensures))) (omega arith)
+related-returns-3 t c = (takes {μ = aTerm (c .before .before .before .before .before .before .before .before .before .before .before .before .before .args .d) (c .before .before .before .before .before .before .before .before .before .before .before .before .before .args .b) ∷ []} {m = (c .before .before .before .before .before .before .before .before .before .before .before .before .before .args .n)} (omega arith) (λ κ e γ. mem-some (c .before .before .before .before .before .before .before .before .before .before .before .before .before .args .d) (c .before .before .before .before .before .before .before .before .before .before .before .before .before .args .b) (c .before .before .before .before .before .before .before .before .membership-of .result) κ γ (c .before .before .before .before .before .before .before .before .membership-of .ensures .classes .class κ (e ∙ sym (c .before .before .before .before .before .before .before .before .before .kind-at .ensures .is))) (c .before .before .before .before .before .before .before .if1 .left)) (fails (known (c .before .p .given .1) (c .before .before .before .before .before .term .ensures .0))) (omega arith), tt)
 
 such-add-t23 : (t : ℕ) → such-lts.Need-add-t23 (such-claims t) (such-at t) such.Post
 such-add-t23 t c = search needs
 
 such-returns : (t : ℕ) → such-lts.Need-returns (such-claims t) (such-at t) such.Post
 unfolding computeForm
-such-returns t c = let room = c .before .before .before .before .pre .1 .0 in deeper-kind (λ γ. aNamed (c .before .before .before .before .args .d) (c .before .before .before .before .args .b) ∷ γ) (binds (suc (c .before .before .before .before .args .b))) kind.plain (c .before .before .before .before .pre .1 .4) (omega (arith, inside (c .before .before .before .before .args .s .now) ((c .before .before .before .before .args .at) + 1) (omega (arith, c .before .before .before .before .pre .1 .4)))) (bound-deep (c .before .before .before .before .args .s .now) (c .before .before .before .before .args .at) (suc (c .before .before .before .before .args .b)) (omega arith) (c .before .before .before .before .pre .1 .5)) (λ γ. refl)
+such-returns t c = (let room = c .before .before .before .before .pre .1 .0 in deeper-kind (λ γ. aNamed (c .before .before .before .before .args .d) (c .before .before .before .before .args .b) ∷ γ) (binds (suc (c .before .before .before .before .args .b))) kind.plain (c .before .before .before .before .pre .1 .5) (omega (arith, inside (c .before .before .before .before .args .s .now) ((c .before .before .before .before .args .at) + 1) (omega (arith, c .before .before .before .before .pre .1 .5)))) (bound-deep (c .before .before .before .before .args .s .now) (c .before .before .before .before .args .at) (suc (c .before .before .before .before .args .b)) (omega arith) (c .before .before .before .before .pre .1 .6)) (λ γ. refl), tt)
 
 such-add-g : (t : ℕ) → such-lts.Need-add-g (such-claims t) (such-at t) such.Post
 such-add-g t c = search needs
@@ -1295,7 +1298,7 @@ such-name-of-requires t c κs = search needs
 
 such-returns-2 : (t : ℕ) → such-lts.Need-returns-2 (such-claims t) (such-at t) such.Post
 unfolding computeForm
-such-returns-2 t c = let room = c .before .before .before .before .before .before .before .pre .1 .0 in let z = inside (c .before .before .before .before .before .before .before .args .s .now) ((c .before .before .before .before .before .before .before .args .at) + 1 + 1) (omega (arith, c .before .before .before .before .before .before .before .pre .1 .5)) in taken-kind {μ = aNamed (c .before .before .before .before .before .before .before .args .d) (c .before .before .before .before .before .before .before .args .b) ∷ []} {m = (c .before .before .before .before .before .before .before .args .n)} (binds (suc (c .before .before .before .before .before .before .before .args .b))) kind.plain (c .before .before .before .before .before .before .before .pre .1 .4) (omega (arith, inside (c .before .before .before .before .before .before .before .args .s .now) ((c .before .before .before .before .before .before .before .args .at) + 1 + 1) (omega (arith, c .before .before .before .before .before .before .before .pre .1 .5)))) (bind-well (c .before .before .before .before .before .before .before .args .s .now) ((c .before .before .before .before .before .before .before .args .at) + 1) (suc (c .before .before .before .before .before .before .before .args .b)) (omega (arith, c .before .before .before .if1 .left))) (λ γ. refl) (takes-kind {μ = aName ∷ exact kind.bar ∷ aUnary (c .before .before .before .before .before .before .before .args .d) (suc (c .before .before .before .before .before .before .before .args .b)) ∷ aPredRest (c .before .before .before .before .before .before .before .args .d) (c .before .before .before .before .before .before .before .args .d) (suc (c .before .before .before .before .before .before .before .args .b)) ∷ exact kind.closeBrace ∷ []} {m = (c .before .before .before .before .before .before .before .args .n)} kind.colon (c .before .before .before .before .before .before .before .pre .1 .5) (inside (c .before .before .before .before .before .before .before .args .s .now) ((c .before .before .before .before .before .before .before .args .at) + 1 + 1) (omega (arith, c .before .before .before .before .before .before .before .pre .1 .5))) (λ γ. refl) (stops (omega arith) (λ κ e γ. name-step κ _ (c .before .name-of .ensures .class κ (e ∙ sym (c .before .before .kind-at .ensures .is)) ∙ c .if2 .taken)) (λ γ. refl)) (omega arith)) (omega arith)
+such-returns-2 t c = (let room = c .before .before .before .before .before .before .before .pre .1 .0 in let z = inside (c .before .before .before .before .before .before .before .args .s .now) ((c .before .before .before .before .before .before .before .args .at) + 1 + 1) (omega (arith, c .before .before .before .before .before .before .before .pre .1 .6)) in taken-kind {μ = aNamed (c .before .before .before .before .before .before .before .args .d) (c .before .before .before .before .before .before .before .args .b) ∷ []} {m = (c .before .before .before .before .before .before .before .args .n)} (binds (suc (c .before .before .before .before .before .before .before .args .b))) kind.plain (c .before .before .before .before .before .before .before .pre .1 .5) (omega (arith, inside (c .before .before .before .before .before .before .before .args .s .now) ((c .before .before .before .before .before .before .before .args .at) + 1 + 1) (omega (arith, c .before .before .before .before .before .before .before .pre .1 .6)))) (bind-well (c .before .before .before .before .before .before .before .args .s .now) ((c .before .before .before .before .before .before .before .args .at) + 1) (suc (c .before .before .before .before .before .before .before .args .b)) (omega (arith, c .before .before .before .if1 .left))) (λ γ. refl) (takes-kind {μ = aName ∷ exact kind.bar ∷ aUnary (c .before .before .before .before .before .before .before .args .d) (suc (c .before .before .before .before .before .before .before .args .b)) ∷ aPredRest (c .before .before .before .before .before .before .before .args .d) (c .before .before .before .before .before .before .before .args .d) (suc (c .before .before .before .before .before .before .before .args .b)) ∷ exact kind.closeBrace ∷ []} {m = (c .before .before .before .before .before .before .before .args .n)} kind.colon (c .before .before .before .before .before .before .before .pre .1 .6) (inside (c .before .before .before .before .before .before .before .args .s .now) ((c .before .before .before .before .before .before .before .args .at) + 1 + 1) (omega (arith, c .before .before .before .before .before .before .before .pre .1 .6))) (λ γ. refl) (stops (omega arith) (λ κ e γ. name-step κ _ (c .before .name-of .ensures .classes .class κ (e ∙ sym (c .before .before .kind-at .ensures .is)) ∙ c .if2 .taken)) (λ γ. refl)) (omega arith)) (omega arith), tt)
 
 such-add-close : (t : ℕ) → such-lts.Need-add-close (such-claims t) (such-at t) such.Post
 such-add-close t c = let room = c .before .before .before .before .before .before .before .pre .1 .0 in search needs
@@ -1319,26 +1322,26 @@ such-enum-known-f t c = search needs
 
 such-name-number-requires : (t : ℕ) → such-lts.Need-name-number-requires (such-claims t) (such-at t) such.Post
 unfolding codeOf
-such-name-number-requires t c κs = let room = c .before .before .before .before .before .before .before .before .before .before .before .before .before .before .before .before .before .before .pre .1 .0 in search needs
+such-name-number-requires t c κs = search needs
 
 such-put-requires : (t : ℕ) → such-lts.Need-put-requires (such-claims t) (such-at t) such.Post
 unfolding codeOf
-such-put-requires t c κs = let room = c .before .before .before .before .before .before .before .before .before .before .before .before .before .before .before .before .before .before .before .before .pre .1 .0 in let h = (known (c .before .before .before .before .before .before .before .before .before .before .e .given .1) (c .before .before .before .before .before .before .before .before .before .before .before .before .close .ensures .reads kind.bar refl)) in let j = (known (c .before .before .before .f .given .1) (c .before .before .before .before .before .before .before .pred .ensures)) in search needs
+such-put-requires t c κs = let room = c .before .before .before .before .before .before .before .before .before .before .before .before .before .before .before .before .before .before .before .before .pre .1 .0 in let h = (known (c .before .before .before .before .before .before .before .before .before .before .e .given .1) (c .before .before .before .before .before .before .before .before .before .before .before .before .close .ensures .reads kind.bar refl)) in let j = (known (c .before .before .before .f .given .1) (c .before .before .before .before .before .before .before .pred .ensures .0)) in search needs
 
 such-add-name-number : (t : ℕ) → such-lts.Need-add-name-number (such-claims t) (such-at t) such.Post
 such-add-name-number t c = let room = c .before .before .before .before .before .before .before .before .before .before .before .before .before .before .before .before .before .before .before .before .before .before .before .pre .1 .0 in search needs
 
 such-name-number-requires-2 : (t : ℕ) → such-lts.Need-name-number-requires-2 (such-claims t) (such-at t) such.Post
 unfolding codeOf
-such-name-number-requires-2 t c κs = let room = c .before .before .before .before .before .before .before .before .before .before .before .before .before .before .before .before .before .before .before .before .before .before .before .pre .1 .0 in search needs
+such-name-number-requires-2 t c κs = search needs
 
 such-put-requires-2 : (t : ℕ) → such-lts.Need-put-requires-2 (such-claims t) (such-at t) such.Post
 unfolding codeOf
-such-put-requires-2 t c κs = let room = c .before .before .before .before .before .before .before .before .before .before .before .before .before .before .before .before .before .before .before .before .before .before .before .before .before .pre .1 .0 in let h = (known (c .before .before .before .before .before .before .before .before .before .before .before .before .before .before .before .e .given .1) (c .before .before .before .before .before .before .before .before .before .before .before .before .before .before .before .before .before .close .ensures .reads kind.bar refl)) in let j = (known (c .before .before .before .before .before .before .before .before .f .given .1) (c .before .before .before .before .before .before .before .before .before .before .before .before .pred .ensures)) in search needs
+such-put-requires-2 t c κs = let room = c .before .before .before .before .before .before .before .before .before .before .before .before .before .before .before .before .before .before .before .before .before .before .before .before .before .pre .1 .0 in let h = (known (c .before .before .before .before .before .before .before .before .before .before .before .before .before .before .before .e .given .1) (c .before .before .before .before .before .before .before .before .before .before .before .before .before .before .before .before .before .close .ensures .reads kind.bar refl)) in let j = (known (c .before .before .before .before .before .before .before .before .f .given .1) (c .before .before .before .before .before .before .before .before .before .before .before .before .pred .ensures .0)) in search needs
 
 such-close-requires-2 : (t : ℕ) → such-lts.Need-close-requires-2 (such-claims t) (such-at t) such.Post
 unfolding codeOf
-such-close-requires-2 t c κs = let room = c .before .before .before .before .before .before .before .before .before .before .before .before .before .before .before .before .before .before .before .before .before .before .before .before .before .before .before .before .pre .1 .0 in let j = (known (c .before .before .before .before .before .before .before .before .before .before .before .f .given .1) (c .before .before .before .before .before .before .before .before .before .before .before .before .before .before .before .pred .ensures)) in search needs
+such-close-requires-2 t c κs = let room = c .before .before .before .before .before .before .before .before .before .before .before .before .before .before .before .before .before .before .before .before .before .before .before .before .before .before .before .before .pre .1 .0 in let j = (known (c .before .before .before .before .before .before .before .before .before .before .before .f .given .1) (c .before .before .before .before .before .before .before .before .before .before .before .before .before .before .before .pred .ensures .0)) in search needs
 
 such-enum-known-p : (t : ℕ) → such-lts.Need-enum-known-p (such-claims t) (such-at t) such.Post
 such-enum-known-p t c = search needs
@@ -1351,18 +1354,18 @@ such-same-length t c = search needs
 
 such-returns-3 : (t : ℕ) → such-lts.Need-returns-3 (such-claims t) (such-at t) such.Post
 unfolding computeForm
-such-returns-3 t c = let room = c .before .before .before .before .before .before .before .before .before .before .before .before .before .before .before .before .before .before .before .before .before .before .before .before .before .before .before .before .before .pre .1 .0 in let h = (known (c .before .before .before .before .before .before .before .before .before .before .before .before .before .before .before .before .before .before .before .e .given .1) (c .before .before .before .before .before .before .before .before .before .before .before .before .before .before .before .before .before .before .before .before .before .close .ensures .reads kind.bar refl)) in let i = known-ahead _ (c .before .before .before .before .before .before .before .before .before .before .before .before .before .before .before .before .before .before .before .e .given .1) (c .before .before .before .before .before .before .before .before .before .before .before .before .before .before .before .before .before .before .before .before .before .close .ensures .ahead) in let j = (known (c .before .before .before .before .before .before .before .before .before .before .before .before .f .given .1) (c .before .before .before .before .before .before .before .before .before .before .before .before .before .before .before .before .pred .ensures)) in taken-kind {μ = aNamed (c .before .before .before .before .before .before .before .before .before .before .before .before .before .before .before .before .before .before .before .before .before .before .before .before .before .before .before .before .before .args .d) (c .before .before .before .before .before .before .before .before .before .before .before .before .before .before .before .before .before .before .before .before .before .before .before .before .before .before .before .before .before .args .b) ∷ []} {m = (c .before .before .before .before .before .before .before .before .before .before .before .before .before .before .before .before .before .before .before .before .before .before .before .before .before .before .before .before .before .args .n)} (binds (suc (c .before .before .before .before .before .before .before .before .before .before .before .before .before .before .before .before .before .before .before .before .before .before .before .before .before .before .before .before .before .args .b))) kind.plain (c .before .before .before .before .before .before .before .before .before .before .before .before .before .before .before .before .before .before .before .before .before .before .before .before .before .before .before .before .before .pre .1 .4) (omega (arith, inside (c .before .before .before .before .before .before .before .before .before .before .before .before .before .before .before .before .before .before .before .before .before .before .before .before .before .before .before .before .before .args .s .now) ((c .before .before .before .before .before .before .before .before .before .before .before .before .before .before .before .before .before .before .before .before .before .before .before .before .before .before .before .before .before .args .at) + 1 + 1) (omega (arith, c .before .before .before .before .before .before .before .before .before .before .before .before .before .before .before .before .before .before .before .before .before .before .before .before .before .before .before .before .before .pre .1 .5)))) (bind-well (c .before .before .before .before .before .before .before .before .before .before .before .before .before .before .before .before .before .before .before .before .before .before .before .before .before .before .before .before .before .args .s .now) ((c .before .before .before .before .before .before .before .before .before .before .before .before .before .before .before .before .before .before .before .before .before .before .before .before .before .before .before .before .before .args .at) + 1) (suc (c .before .before .before .before .before .before .before .before .before .before .before .before .before .before .before .before .before .before .before .before .before .before .before .before .before .before .before .before .before .args .b)) (omega (arith, c .before .before .before .before .before .before .before .before .before .before .before .before .before .before .before .before .before .before .before .before .before .before .before .before .before .if1 .left))) (λ γ. refl) (takes-kind {μ = aName ∷ exact kind.bar ∷ aUnary (c .before .before .before .before .before .before .before .before .before .before .before .before .before .before .before .before .before .before .before .before .before .before .before .before .before .before .before .before .before .args .d) (suc (c .before .before .before .before .before .before .before .before .before .before .before .before .before .before .before .before .before .before .before .before .before .before .before .before .before .before .before .before .before .args .b)) ∷ aPredRest (c .before .before .before .before .before .before .before .before .before .before .before .before .before .before .before .before .before .before .before .before .before .before .before .before .before .before .before .before .before .args .d) (c .before .before .before .before .before .before .before .before .before .before .before .before .before .before .before .before .before .before .before .before .before .before .before .before .before .before .before .before .before .args .d) (suc (c .before .before .before .before .before .before .before .before .before .before .before .before .before .before .before .before .before .before .before .before .before .before .before .before .before .before .before .before .before .args .b)) ∷ exact kind.closeBrace ∷ []} {m = (c .before .before .before .before .before .before .before .before .before .before .before .before .before .before .before .before .before .before .before .before .before .before .before .before .before .before .before .before .before .args .n)} kind.colon (c .before .before .before .before .before .before .before .before .before .before .before .before .before .before .before .before .before .before .before .before .before .before .before .before .before .before .before .before .before .pre .1 .5) (inside (c .before .before .before .before .before .before .before .before .before .before .before .before .before .before .before .before .before .before .before .before .before .before .before .before .before .before .before .before .before .args .s .now) ((c .before .before .before .before .before .before .before .before .before .before .before .before .before .before .before .before .before .before .before .before .before .before .before .before .before .before .before .before .before .args .at) + 1 + 1) (omega (arith, c .before .before .before .before .before .before .before .before .before .before .before .before .before .before .before .before .before .before .before .before .before .before .before .before .before .before .before .before .before .pre .1 .5))) (λ γ. refl) (takes {μ = exact kind.bar ∷ aUnary (c .before .before .before .before .before .before .before .before .before .before .before .before .before .before .before .before .before .before .before .before .before .before .before .before .before .before .before .before .before .args .d) (suc (c .before .before .before .before .before .before .before .before .before .before .before .before .before .before .before .before .before .before .before .before .before .before .before .before .before .before .before .before .before .args .b)) ∷ aPredRest (c .before .before .before .before .before .before .before .before .before .before .before .before .before .before .before .before .before .before .before .before .before .before .before .before .before .before .before .before .before .args .d) (c .before .before .before .before .before .before .before .before .before .before .before .before .before .before .before .before .before .before .before .before .before .before .before .before .before .before .before .before .before .args .d) (suc (c .before .before .before .before .before .before .before .before .before .before .before .before .before .before .before .before .before .before .before .before .before .before .before .before .before .before .before .before .before .args .b)) ∷ exact kind.closeBrace ∷ []} {m = (c .before .before .before .before .before .before .before .before .before .before .before .before .before .before .before .before .before .before .before .before .before .before .before .before .before .before .before .before .before .args .n) + 4} (omega arith) (λ κ e γ. name-taken κ _ (λ q. c .before .before .before .before .before .before .before .before .before .before .before .before .before .before .before .before .before .before .before .before .before .before .if2 .left (sym (c .before .before .before .before .before .before .before .before .before .before .before .before .before .before .before .before .before .before .before .before .before .before .before .name-of .ensures .class κ (e ∙ sym (c .before .before .before .before .before .before .before .before .before .before .before .before .before .before .before .before .before .before .before .before .before .before .before .before .kind-at .ensures .is))) ∙ q))) (next (counted {c = (c .before .before .before .before .before .before .before .before .before .before .before .before .before .before .before .before .before .before .before .before .before .before .before .before .before .before .before .before .before .args .n) + 4} {d = (c .before .before .before .before .before .before .before .before .before .before .before .before .before .before .before .before .before .before .before .before .before .before .before .before .before .before .before .before .before .args .n) + 8} (omega arith) (framed (aUnary (c .before .before .before .before .before .before .before .before .before .before .before .before .before .before .before .before .before .before .before .before .before .before .before .before .before .before .before .before .before .args .d) (suc (c .before .before .before .before .before .before .before .before .before .before .before .before .before .before .before .before .before .before .before .before .before .before .before .before .before .before .before .before .before .args .b)) ∷ aPredRest (c .before .before .before .before .before .before .before .before .before .before .before .before .before .before .before .before .before .before .before .before .before .before .before .before .before .before .before .before .before .args .d) (c .before .before .before .before .before .before .before .before .before .before .before .before .before .before .before .before .before .before .before .before .before .before .before .before .before .before .before .before .before .args .d) (suc (c .before .before .before .before .before .before .before .before .before .before .before .before .before .before .before .before .before .before .before .before .before .before .before .before .before .before .before .before .before .args .b)) ∷ exact kind.closeBrace ∷ []) h)) (next (counted {c = (c .before .before .before .before .before .before .before .before .before .before .before .before .before .before .before .before .before .before .before .before .before .before .before .before .before .before .before .before .before .args .n) + 8} (omega arith) (framed (exact kind.closeBrace ∷ []) (raised (λ x. aUnary (c .before .before .before .before .before .before .before .before .before .before .before .before .before .before .before .before .before .before .before .before .before .before .before .before .before .before .before .before .before .args .d) x ∷ aPredRest (c .before .before .before .before .before .before .before .before .before .before .before .before .before .before .before .before .before .before .before .before .before .before .before .before .before .before .before .before .before .args .d) (c .before .before .before .before .before .before .before .before .before .before .before .before .before .before .before .before .before .before .before .before .before .before .before .before .before .before .before .before .before .args .d) x ∷ []) (c .before .before .before .before .before .before .before .before .before .before .before .before .before .before .before .before .before .before .before .before .before .before .before .before .before .before .before .before .before .args .b) j))) (c .close2 .ensures .reads kind.closeBrace refl))) (omega arith)) (omega arith)) (omega arith)
+such-returns-3 t c = (let room = c .before .before .before .before .before .before .before .before .before .before .before .before .before .before .before .before .before .before .before .before .before .before .before .before .before .before .before .before .before .pre .1 .0 in let h = (known (c .before .before .before .before .before .before .before .before .before .before .before .before .before .before .before .before .before .before .before .e .given .1) (c .before .before .before .before .before .before .before .before .before .before .before .before .before .before .before .before .before .before .before .before .before .close .ensures .reads kind.bar refl)) in let i = known-ahead _ (c .before .before .before .before .before .before .before .before .before .before .before .before .before .before .before .before .before .before .before .e .given .1) (c .before .before .before .before .before .before .before .before .before .before .before .before .before .before .before .before .before .before .before .before .before .close .ensures .ahead) in let j = (known (c .before .before .before .before .before .before .before .before .before .before .before .before .f .given .1) (c .before .before .before .before .before .before .before .before .before .before .before .before .before .before .before .before .pred .ensures .0)) in taken-kind {μ = aNamed (c .before .before .before .before .before .before .before .before .before .before .before .before .before .before .before .before .before .before .before .before .before .before .before .before .before .before .before .before .before .args .d) (c .before .before .before .before .before .before .before .before .before .before .before .before .before .before .before .before .before .before .before .before .before .before .before .before .before .before .before .before .before .args .b) ∷ []} {m = (c .before .before .before .before .before .before .before .before .before .before .before .before .before .before .before .before .before .before .before .before .before .before .before .before .before .before .before .before .before .args .n)} (binds (suc (c .before .before .before .before .before .before .before .before .before .before .before .before .before .before .before .before .before .before .before .before .before .before .before .before .before .before .before .before .before .args .b))) kind.plain (c .before .before .before .before .before .before .before .before .before .before .before .before .before .before .before .before .before .before .before .before .before .before .before .before .before .before .before .before .before .pre .1 .5) (omega (arith, inside (c .before .before .before .before .before .before .before .before .before .before .before .before .before .before .before .before .before .before .before .before .before .before .before .before .before .before .before .before .before .args .s .now) ((c .before .before .before .before .before .before .before .before .before .before .before .before .before .before .before .before .before .before .before .before .before .before .before .before .before .before .before .before .before .args .at) + 1 + 1) (omega (arith, c .before .before .before .before .before .before .before .before .before .before .before .before .before .before .before .before .before .before .before .before .before .before .before .before .before .before .before .before .before .pre .1 .6)))) (bind-well (c .before .before .before .before .before .before .before .before .before .before .before .before .before .before .before .before .before .before .before .before .before .before .before .before .before .before .before .before .before .args .s .now) ((c .before .before .before .before .before .before .before .before .before .before .before .before .before .before .before .before .before .before .before .before .before .before .before .before .before .before .before .before .before .args .at) + 1) (suc (c .before .before .before .before .before .before .before .before .before .before .before .before .before .before .before .before .before .before .before .before .before .before .before .before .before .before .before .before .before .args .b)) (omega (arith, c .before .before .before .before .before .before .before .before .before .before .before .before .before .before .before .before .before .before .before .before .before .before .before .before .before .if1 .left))) (λ γ. refl) (takes-kind {μ = aName ∷ exact kind.bar ∷ aUnary (c .before .before .before .before .before .before .before .before .before .before .before .before .before .before .before .before .before .before .before .before .before .before .before .before .before .before .before .before .before .args .d) (suc (c .before .before .before .before .before .before .before .before .before .before .before .before .before .before .before .before .before .before .before .before .before .before .before .before .before .before .before .before .before .args .b)) ∷ aPredRest (c .before .before .before .before .before .before .before .before .before .before .before .before .before .before .before .before .before .before .before .before .before .before .before .before .before .before .before .before .before .args .d) (c .before .before .before .before .before .before .before .before .before .before .before .before .before .before .before .before .before .before .before .before .before .before .before .before .before .before .before .before .before .args .d) (suc (c .before .before .before .before .before .before .before .before .before .before .before .before .before .before .before .before .before .before .before .before .before .before .before .before .before .before .before .before .before .args .b)) ∷ exact kind.closeBrace ∷ []} {m = (c .before .before .before .before .before .before .before .before .before .before .before .before .before .before .before .before .before .before .before .before .before .before .before .before .before .before .before .before .before .args .n)} kind.colon (c .before .before .before .before .before .before .before .before .before .before .before .before .before .before .before .before .before .before .before .before .before .before .before .before .before .before .before .before .before .pre .1 .6) (inside (c .before .before .before .before .before .before .before .before .before .before .before .before .before .before .before .before .before .before .before .before .before .before .before .before .before .before .before .before .before .args .s .now) ((c .before .before .before .before .before .before .before .before .before .before .before .before .before .before .before .before .before .before .before .before .before .before .before .before .before .before .before .before .before .args .at) + 1 + 1) (omega (arith, c .before .before .before .before .before .before .before .before .before .before .before .before .before .before .before .before .before .before .before .before .before .before .before .before .before .before .before .before .before .pre .1 .6))) (λ γ. refl) (takes {μ = exact kind.bar ∷ aUnary (c .before .before .before .before .before .before .before .before .before .before .before .before .before .before .before .before .before .before .before .before .before .before .before .before .before .before .before .before .before .args .d) (suc (c .before .before .before .before .before .before .before .before .before .before .before .before .before .before .before .before .before .before .before .before .before .before .before .before .before .before .before .before .before .args .b)) ∷ aPredRest (c .before .before .before .before .before .before .before .before .before .before .before .before .before .before .before .before .before .before .before .before .before .before .before .before .before .before .before .before .before .args .d) (c .before .before .before .before .before .before .before .before .before .before .before .before .before .before .before .before .before .before .before .before .before .before .before .before .before .before .before .before .before .args .d) (suc (c .before .before .before .before .before .before .before .before .before .before .before .before .before .before .before .before .before .before .before .before .before .before .before .before .before .before .before .before .before .args .b)) ∷ exact kind.closeBrace ∷ []} {m = (c .before .before .before .before .before .before .before .before .before .before .before .before .before .before .before .before .before .before .before .before .before .before .before .before .before .before .before .before .before .args .n) + 4} (omega arith) (λ κ e γ. name-taken κ _ (λ q. c .before .before .before .before .before .before .before .before .before .before .before .before .before .before .before .before .before .before .before .before .before .before .if2 .left (sym (c .before .before .before .before .before .before .before .before .before .before .before .before .before .before .before .before .before .before .before .before .before .before .before .name-of .ensures .classes .class κ (e ∙ sym (c .before .before .before .before .before .before .before .before .before .before .before .before .before .before .before .before .before .before .before .before .before .before .before .before .kind-at .ensures .is))) ∙ q))) (next (counted {c = (c .before .before .before .before .before .before .before .before .before .before .before .before .before .before .before .before .before .before .before .before .before .before .before .before .before .before .before .before .before .args .n) + 4} {d = (c .before .before .before .before .before .before .before .before .before .before .before .before .before .before .before .before .before .before .before .before .before .before .before .before .before .before .before .before .before .args .n) + 8} (omega arith) (framed (aUnary (c .before .before .before .before .before .before .before .before .before .before .before .before .before .before .before .before .before .before .before .before .before .before .before .before .before .before .before .before .before .args .d) (suc (c .before .before .before .before .before .before .before .before .before .before .before .before .before .before .before .before .before .before .before .before .before .before .before .before .before .before .before .before .before .args .b)) ∷ aPredRest (c .before .before .before .before .before .before .before .before .before .before .before .before .before .before .before .before .before .before .before .before .before .before .before .before .before .before .before .before .before .args .d) (c .before .before .before .before .before .before .before .before .before .before .before .before .before .before .before .before .before .before .before .before .before .before .before .before .before .before .before .before .before .args .d) (suc (c .before .before .before .before .before .before .before .before .before .before .before .before .before .before .before .before .before .before .before .before .before .before .before .before .before .before .before .before .before .args .b)) ∷ exact kind.closeBrace ∷ []) h)) (next (counted {c = (c .before .before .before .before .before .before .before .before .before .before .before .before .before .before .before .before .before .before .before .before .before .before .before .before .before .before .before .before .before .args .n) + 8} (omega arith) (framed (exact kind.closeBrace ∷ []) (raised (λ x. aUnary (c .before .before .before .before .before .before .before .before .before .before .before .before .before .before .before .before .before .before .before .before .before .before .before .before .before .before .before .before .before .args .d) x ∷ aPredRest (c .before .before .before .before .before .before .before .before .before .before .before .before .before .before .before .before .before .before .before .before .before .before .before .before .before .before .before .before .before .args .d) (c .before .before .before .before .before .before .before .before .before .before .before .before .before .before .before .before .before .before .before .before .before .before .before .before .before .before .before .before .before .args .d) x ∷ []) (c .before .before .before .before .before .before .before .before .before .before .before .before .before .before .before .before .before .before .before .before .before .before .before .before .before .before .before .before .before .args .b) j))) (c .close2 .ensures .reads kind.closeBrace refl))) (omega arith)) (omega arith)) (omega arith), let t₁ = closed (c .before .before .before .before .before .before .before .before .before .before .before .before .before .before .before .before .before .before .before .e .given .1) (c .before .before .before .before .before .before .before .before .before .before .before .before .before .before .before .before .before .before .before .before .before .close .ensures) in let w₁ = (made (c .before .before .before .before .before .before .before .before .before .before .before .before .f .given .1) (c .before .before .before .before .before .before .before .before .before .before .before .before .before .before .before .before .pred .ensures .1)) in closing (c .close2 .ensures) (λ q. makes (both (both (built w₁) (node-of (c .before .before .before .before .before .before .before .before .before .before .name-number .ensures) refl (c .before .before .before .before .before .before .before .before .put .ensures))) (node-of (c .before .before .before .before .before .name-number2 .ensures) refl (c .before .before .before .put2 .ensures))) (derived.such (c .before .before .before .before .before .before .before .before .before .before .before .before .before .before .before .before .before .before .before .before .before .before .before .before .before .before .before .before .before .pre .1 .4) (c .before .before .before .before .before .before .before .before .before .before .before .before .before .before .before .before .before .before .before .before .before .before .before .before .before .before .before .before .before .pre .1 .5) (c .before .before .before .before .before .before .before .before .before .before .before .before .before .before .before .before .before .before .before .before .before .before .before .before .before .before .before .before .before .pre .1 .6) (named-at (c .before .before .before .before .before .before .before .before .before .before .before .before .before .before .before .before .before .before .before .before .before .before .before .before .kind-at .ensures .is) (c .before .before .before .before .before .before .before .before .before .before .before .before .before .before .before .before .before .before .before .before .before .before .before .name-of .ensures .name (omega (arith, c .before .before .before .before .before .before .before .before .before .before .before .before .before .before .before .before .before .before .before .before .before .before .if2 .left)))) (t₁ .1) (from (t₁ .0) (w₁ .derives)) q)))
 
 such-same-length-2 : (t : ℕ) → such-lts.Need-same-length-2 (such-claims t) (such-at t) such.Post
 such-same-length-2 t c = search needs
 
 such-returns-4 : (t : ℕ) → such-lts.Need-returns-4 (such-claims t) (such-at t) such.Post
 unfolding computeForm
-such-returns-4 t c = let room = c .before .before .before .before .before .before .before .before .before .before .before .before .before .before .before .before .before .before .pre .1 .0 in let h = (known (c .before .before .before .before .before .before .before .before .e .given .1) (c .before .before .before .before .before .before .before .before .before .before .close .ensures .reads kind.bar refl)) in taken-kind {μ = aNamed (c .before .before .before .before .before .before .before .before .before .before .before .before .before .before .before .before .before .before .args .d) (c .before .before .before .before .before .before .before .before .before .before .before .before .before .before .before .before .before .before .args .b) ∷ []} {m = (c .before .before .before .before .before .before .before .before .before .before .before .before .before .before .before .before .before .before .args .n)} (binds (suc (c .before .before .before .before .before .before .before .before .before .before .before .before .before .before .before .before .before .before .args .b))) kind.plain (c .before .before .before .before .before .before .before .before .before .before .before .before .before .before .before .before .before .before .pre .1 .4) (omega (arith, inside (c .before .before .before .before .before .before .before .before .before .before .before .before .before .before .before .before .before .before .args .s .now) ((c .before .before .before .before .before .before .before .before .before .before .before .before .before .before .before .before .before .before .args .at) + 1 + 1) (omega (arith, c .before .before .before .before .before .before .before .before .before .before .before .before .before .before .before .before .before .before .pre .1 .5)))) (bind-well (c .before .before .before .before .before .before .before .before .before .before .before .before .before .before .before .before .before .before .args .s .now) ((c .before .before .before .before .before .before .before .before .before .before .before .before .before .before .before .before .before .before .args .at) + 1) (suc (c .before .before .before .before .before .before .before .before .before .before .before .before .before .before .before .before .before .before .args .b)) (omega (arith, c .before .before .before .before .before .before .before .before .before .before .before .before .before .before .if1 .left))) (λ γ. refl) (takes-kind {μ = aName ∷ exact kind.bar ∷ aUnary (c .before .before .before .before .before .before .before .before .before .before .before .before .before .before .before .before .before .before .args .d) (suc (c .before .before .before .before .before .before .before .before .before .before .before .before .before .before .before .before .before .before .args .b)) ∷ aPredRest (c .before .before .before .before .before .before .before .before .before .before .before .before .before .before .before .before .before .before .args .d) (c .before .before .before .before .before .before .before .before .before .before .before .before .before .before .before .before .before .before .args .d) (suc (c .before .before .before .before .before .before .before .before .before .before .before .before .before .before .before .before .before .before .args .b)) ∷ exact kind.closeBrace ∷ []} {m = (c .before .before .before .before .before .before .before .before .before .before .before .before .before .before .before .before .before .before .args .n)} kind.colon (c .before .before .before .before .before .before .before .before .before .before .before .before .before .before .before .before .before .before .pre .1 .5) (inside (c .before .before .before .before .before .before .before .before .before .before .before .before .before .before .before .before .before .before .args .s .now) ((c .before .before .before .before .before .before .before .before .before .before .before .before .before .before .before .before .before .before .args .at) + 1 + 1) (omega (arith, c .before .before .before .before .before .before .before .before .before .before .before .before .before .before .before .before .before .before .pre .1 .5))) (λ γ. refl) (takes {μ = exact kind.bar ∷ aUnary (c .before .before .before .before .before .before .before .before .before .before .before .before .before .before .before .before .before .before .args .d) (suc (c .before .before .before .before .before .before .before .before .before .before .before .before .before .before .before .before .before .before .args .b)) ∷ aPredRest (c .before .before .before .before .before .before .before .before .before .before .before .before .before .before .before .before .before .before .args .d) (c .before .before .before .before .before .before .before .before .before .before .before .before .before .before .before .before .before .before .args .d) (suc (c .before .before .before .before .before .before .before .before .before .before .before .before .before .before .before .before .before .before .args .b)) ∷ exact kind.closeBrace ∷ []} {m = (c .before .before .before .before .before .before .before .before .before .before .before .before .before .before .before .before .before .before .args .n) + 4} (omega arith) (λ κ e γ. name-taken κ _ (λ q. c .before .before .before .before .before .before .before .before .before .before .before .if2 .left (sym (c .before .before .before .before .before .before .before .before .before .before .before .before .name-of .ensures .class κ (e ∙ sym (c .before .before .before .before .before .before .before .before .before .before .before .before .before .kind-at .ensures .is))) ∙ q))) (next (counted {c = (c .before .before .before .before .before .before .before .before .before .before .before .before .before .before .before .before .before .before .args .n) + 4} {d = (c .before .before .before .before .before .before .before .before .before .before .before .before .before .before .before .before .before .before .args .n)} (omega arith) (framed (aUnary (c .before .before .before .before .before .before .before .before .before .before .before .before .before .before .before .before .before .before .args .d) (suc (c .before .before .before .before .before .before .before .before .before .before .before .before .before .before .before .before .before .before .args .b)) ∷ aPredRest (c .before .before .before .before .before .before .before .before .before .before .before .before .before .before .before .before .before .before .args .d) (c .before .before .before .before .before .before .before .before .before .before .before .before .before .before .before .before .before .before .args .d) (suc (c .before .before .before .before .before .before .before .before .before .before .before .before .before .before .before .before .before .before .args .b)) ∷ exact kind.closeBrace ∷ []) h)) (fails (framed (exact kind.closeBrace ∷ []) (raised (λ x. aUnary (c .before .before .before .before .before .before .before .before .before .before .before .before .before .before .before .before .before .before .args .d) x ∷ aPredRest (c .before .before .before .before .before .before .before .before .before .before .before .before .before .before .before .before .before .before .args .d) (c .before .before .before .before .before .before .before .before .before .before .before .before .before .before .before .before .before .before .args .d) x ∷ []) (c .before .before .before .before .before .before .before .before .before .before .before .before .before .before .before .before .before .before .args .b) (known (c .before .p .given .1) (c .before .before .before .before .before .pred .ensures)))))) (omega arith)) (omega arith)) (omega arith)
+such-returns-4 t c = (let room = c .before .before .before .before .before .before .before .before .before .before .before .before .before .before .before .before .before .before .pre .1 .0 in let h = (known (c .before .before .before .before .before .before .before .before .e .given .1) (c .before .before .before .before .before .before .before .before .before .before .close .ensures .reads kind.bar refl)) in taken-kind {μ = aNamed (c .before .before .before .before .before .before .before .before .before .before .before .before .before .before .before .before .before .before .args .d) (c .before .before .before .before .before .before .before .before .before .before .before .before .before .before .before .before .before .before .args .b) ∷ []} {m = (c .before .before .before .before .before .before .before .before .before .before .before .before .before .before .before .before .before .before .args .n)} (binds (suc (c .before .before .before .before .before .before .before .before .before .before .before .before .before .before .before .before .before .before .args .b))) kind.plain (c .before .before .before .before .before .before .before .before .before .before .before .before .before .before .before .before .before .before .pre .1 .5) (omega (arith, inside (c .before .before .before .before .before .before .before .before .before .before .before .before .before .before .before .before .before .before .args .s .now) ((c .before .before .before .before .before .before .before .before .before .before .before .before .before .before .before .before .before .before .args .at) + 1 + 1) (omega (arith, c .before .before .before .before .before .before .before .before .before .before .before .before .before .before .before .before .before .before .pre .1 .6)))) (bind-well (c .before .before .before .before .before .before .before .before .before .before .before .before .before .before .before .before .before .before .args .s .now) ((c .before .before .before .before .before .before .before .before .before .before .before .before .before .before .before .before .before .before .args .at) + 1) (suc (c .before .before .before .before .before .before .before .before .before .before .before .before .before .before .before .before .before .before .args .b)) (omega (arith, c .before .before .before .before .before .before .before .before .before .before .before .before .before .before .if1 .left))) (λ γ. refl) (takes-kind {μ = aName ∷ exact kind.bar ∷ aUnary (c .before .before .before .before .before .before .before .before .before .before .before .before .before .before .before .before .before .before .args .d) (suc (c .before .before .before .before .before .before .before .before .before .before .before .before .before .before .before .before .before .before .args .b)) ∷ aPredRest (c .before .before .before .before .before .before .before .before .before .before .before .before .before .before .before .before .before .before .args .d) (c .before .before .before .before .before .before .before .before .before .before .before .before .before .before .before .before .before .before .args .d) (suc (c .before .before .before .before .before .before .before .before .before .before .before .before .before .before .before .before .before .before .args .b)) ∷ exact kind.closeBrace ∷ []} {m = (c .before .before .before .before .before .before .before .before .before .before .before .before .before .before .before .before .before .before .args .n)} kind.colon (c .before .before .before .before .before .before .before .before .before .before .before .before .before .before .before .before .before .before .pre .1 .6) (inside (c .before .before .before .before .before .before .before .before .before .before .before .before .before .before .before .before .before .before .args .s .now) ((c .before .before .before .before .before .before .before .before .before .before .before .before .before .before .before .before .before .before .args .at) + 1 + 1) (omega (arith, c .before .before .before .before .before .before .before .before .before .before .before .before .before .before .before .before .before .before .pre .1 .6))) (λ γ. refl) (takes {μ = exact kind.bar ∷ aUnary (c .before .before .before .before .before .before .before .before .before .before .before .before .before .before .before .before .before .before .args .d) (suc (c .before .before .before .before .before .before .before .before .before .before .before .before .before .before .before .before .before .before .args .b)) ∷ aPredRest (c .before .before .before .before .before .before .before .before .before .before .before .before .before .before .before .before .before .before .args .d) (c .before .before .before .before .before .before .before .before .before .before .before .before .before .before .before .before .before .before .args .d) (suc (c .before .before .before .before .before .before .before .before .before .before .before .before .before .before .before .before .before .before .args .b)) ∷ exact kind.closeBrace ∷ []} {m = (c .before .before .before .before .before .before .before .before .before .before .before .before .before .before .before .before .before .before .args .n) + 4} (omega arith) (λ κ e γ. name-taken κ _ (λ q. c .before .before .before .before .before .before .before .before .before .before .before .if2 .left (sym (c .before .before .before .before .before .before .before .before .before .before .before .before .name-of .ensures .classes .class κ (e ∙ sym (c .before .before .before .before .before .before .before .before .before .before .before .before .before .kind-at .ensures .is))) ∙ q))) (next (counted {c = (c .before .before .before .before .before .before .before .before .before .before .before .before .before .before .before .before .before .before .args .n) + 4} {d = (c .before .before .before .before .before .before .before .before .before .before .before .before .before .before .before .before .before .before .args .n)} (omega arith) (framed (aUnary (c .before .before .before .before .before .before .before .before .before .before .before .before .before .before .before .before .before .before .args .d) (suc (c .before .before .before .before .before .before .before .before .before .before .before .before .before .before .before .before .before .before .args .b)) ∷ aPredRest (c .before .before .before .before .before .before .before .before .before .before .before .before .before .before .before .before .before .before .args .d) (c .before .before .before .before .before .before .before .before .before .before .before .before .before .before .before .before .before .before .args .d) (suc (c .before .before .before .before .before .before .before .before .before .before .before .before .before .before .before .before .before .before .args .b)) ∷ exact kind.closeBrace ∷ []) h)) (fails (framed (exact kind.closeBrace ∷ []) (raised (λ x. aUnary (c .before .before .before .before .before .before .before .before .before .before .before .before .before .before .before .before .before .before .args .d) x ∷ aPredRest (c .before .before .before .before .before .before .before .before .before .before .before .before .before .before .before .before .before .before .args .d) (c .before .before .before .before .before .before .before .before .before .before .before .before .before .before .before .before .before .before .args .d) x ∷ []) (c .before .before .before .before .before .before .before .before .before .before .before .before .before .before .before .before .before .before .args .b) (known (c .before .p .given .1) (c .before .before .before .before .before .pred .ensures .0)))))) (omega arith)) (omega arith)) (omega arith), tt)
 
 such-returns-5 : (t : ℕ) → such-lts.Need-returns-5 (such-claims t) (such-at t) such.Post
 unfolding computeForm
-such-returns-5 t c = let room = c .before .before .before .before .before .before .before .before .before .before .before .pre .1 .0 in taken-kind {μ = aNamed (c .before .before .before .before .before .before .before .before .before .before .before .args .d) (c .before .before .before .before .before .before .before .before .before .before .before .args .b) ∷ []} {m = (c .before .before .before .before .before .before .before .before .before .before .before .args .n)} (binds (suc (c .before .before .before .before .before .before .before .before .before .before .before .args .b))) kind.plain (c .before .before .before .before .before .before .before .before .before .before .before .pre .1 .4) (omega (arith, inside (c .before .before .before .before .before .before .before .before .before .before .before .args .s .now) ((c .before .before .before .before .before .before .before .before .before .before .before .args .at) + 1 + 1) (omega (arith, c .before .before .before .before .before .before .before .before .before .before .before .pre .1 .5)))) (bind-well (c .before .before .before .before .before .before .before .before .before .before .before .args .s .now) ((c .before .before .before .before .before .before .before .before .before .before .before .args .at) + 1) (suc (c .before .before .before .before .before .before .before .before .before .before .before .args .b)) (omega (arith, c .before .before .before .before .before .before .before .if1 .left))) (λ γ. refl) (takes-kind {μ = aName ∷ exact kind.bar ∷ aUnary (c .before .before .before .before .before .before .before .before .before .before .before .args .d) (suc (c .before .before .before .before .before .before .before .before .before .before .before .args .b)) ∷ aPredRest (c .before .before .before .before .before .before .before .before .before .before .before .args .d) (c .before .before .before .before .before .before .before .before .before .before .before .args .d) (suc (c .before .before .before .before .before .before .before .before .before .before .before .args .b)) ∷ exact kind.closeBrace ∷ []} {m = (c .before .before .before .before .before .before .before .before .before .before .before .args .n)} kind.colon (c .before .before .before .before .before .before .before .before .before .before .before .pre .1 .5) (inside (c .before .before .before .before .before .before .before .before .before .before .before .args .s .now) ((c .before .before .before .before .before .before .before .before .before .before .before .args .at) + 1 + 1) (omega (arith, c .before .before .before .before .before .before .before .before .before .before .before .pre .1 .5))) (λ γ. refl) (takes {μ = exact kind.bar ∷ aUnary (c .before .before .before .before .before .before .before .before .before .before .before .args .d) (suc (c .before .before .before .before .before .before .before .before .before .before .before .args .b)) ∷ aPredRest (c .before .before .before .before .before .before .before .before .before .before .before .args .d) (c .before .before .before .before .before .before .before .before .before .before .before .args .d) (suc (c .before .before .before .before .before .before .before .before .before .before .before .args .b)) ∷ exact kind.closeBrace ∷ []} {m = (c .before .before .before .before .before .before .before .before .before .before .before .args .n) + 4} (omega arith) (λ κ e γ. name-taken κ _ (λ q. c .before .before .before .before .if2 .left (sym (c .before .before .before .before .before .name-of .ensures .class κ (e ∙ sym (c .before .before .before .before .before .before .kind-at .ensures .is))) ∙ q))) (fails (framed (aUnary (c .before .before .before .before .before .before .before .before .before .before .before .args .d) (suc (c .before .before .before .before .before .before .before .before .before .before .before .args .b)) ∷ aPredRest (c .before .before .before .before .before .before .before .before .before .before .before .args .d) (c .before .before .before .before .before .before .before .before .before .before .before .args .d) (suc (c .before .before .before .before .before .before .before .before .before .before .before .args .b)) ∷ exact kind.closeBrace ∷ []) (known (c .before .p2 .given .1) (c .before .before .before .close .ensures .reads kind.bar refl)))) (omega arith)) (omega arith)) (omega arith)
+such-returns-5 t c = (let room = c .before .before .before .before .before .before .before .before .before .before .before .pre .1 .0 in taken-kind {μ = aNamed (c .before .before .before .before .before .before .before .before .before .before .before .args .d) (c .before .before .before .before .before .before .before .before .before .before .before .args .b) ∷ []} {m = (c .before .before .before .before .before .before .before .before .before .before .before .args .n)} (binds (suc (c .before .before .before .before .before .before .before .before .before .before .before .args .b))) kind.plain (c .before .before .before .before .before .before .before .before .before .before .before .pre .1 .5) (omega (arith, inside (c .before .before .before .before .before .before .before .before .before .before .before .args .s .now) ((c .before .before .before .before .before .before .before .before .before .before .before .args .at) + 1 + 1) (omega (arith, c .before .before .before .before .before .before .before .before .before .before .before .pre .1 .6)))) (bind-well (c .before .before .before .before .before .before .before .before .before .before .before .args .s .now) ((c .before .before .before .before .before .before .before .before .before .before .before .args .at) + 1) (suc (c .before .before .before .before .before .before .before .before .before .before .before .args .b)) (omega (arith, c .before .before .before .before .before .before .before .if1 .left))) (λ γ. refl) (takes-kind {μ = aName ∷ exact kind.bar ∷ aUnary (c .before .before .before .before .before .before .before .before .before .before .before .args .d) (suc (c .before .before .before .before .before .before .before .before .before .before .before .args .b)) ∷ aPredRest (c .before .before .before .before .before .before .before .before .before .before .before .args .d) (c .before .before .before .before .before .before .before .before .before .before .before .args .d) (suc (c .before .before .before .before .before .before .before .before .before .before .before .args .b)) ∷ exact kind.closeBrace ∷ []} {m = (c .before .before .before .before .before .before .before .before .before .before .before .args .n)} kind.colon (c .before .before .before .before .before .before .before .before .before .before .before .pre .1 .6) (inside (c .before .before .before .before .before .before .before .before .before .before .before .args .s .now) ((c .before .before .before .before .before .before .before .before .before .before .before .args .at) + 1 + 1) (omega (arith, c .before .before .before .before .before .before .before .before .before .before .before .pre .1 .6))) (λ γ. refl) (takes {μ = exact kind.bar ∷ aUnary (c .before .before .before .before .before .before .before .before .before .before .before .args .d) (suc (c .before .before .before .before .before .before .before .before .before .before .before .args .b)) ∷ aPredRest (c .before .before .before .before .before .before .before .before .before .before .before .args .d) (c .before .before .before .before .before .before .before .before .before .before .before .args .d) (suc (c .before .before .before .before .before .before .before .before .before .before .before .args .b)) ∷ exact kind.closeBrace ∷ []} {m = (c .before .before .before .before .before .before .before .before .before .before .before .args .n) + 4} (omega arith) (λ κ e γ. name-taken κ _ (λ q. c .before .before .before .before .if2 .left (sym (c .before .before .before .before .before .name-of .ensures .classes .class κ (e ∙ sym (c .before .before .before .before .before .before .kind-at .ensures .is))) ∙ q))) (fails (framed (aUnary (c .before .before .before .before .before .before .before .before .before .before .before .args .d) (suc (c .before .before .before .before .before .before .before .before .before .before .before .args .b)) ∷ aPredRest (c .before .before .before .before .before .before .before .before .before .before .before .args .d) (c .before .before .before .before .before .before .before .before .before .before .before .args .d) (suc (c .before .before .before .before .before .before .before .before .before .before .before .args .b)) ∷ exact kind.closeBrace ∷ []) (known (c .before .p2 .given .1) (c .before .before .before .close .ensures .reads kind.bar refl)))) (omega arith)) (omega arith)) (omega arith), tt)
 
 term-term-from-requires : (t : ℕ) → term-lts.Need-term-from-requires (term-claims t) (term-at t) term.Post
 term-term-from-requires t c κs = search needs
@@ -1372,7 +1375,7 @@ term-same-length t c = search needs
 
 term-returns : (t : ℕ) → term-lts.Need-returns (term-claims t) (term-at t) term.Post
 unfolding computeForm
-term-returns t c = whole-term (c .before .before .term-from .ensures)
+term-returns t c = (whole-term (c .before .before .term-from .ensures .0), c .before .before .term-from .ensures .1)
 
 term-from-operand-requires : (t : ℕ) → term-from-lts.Need-operand-requires (term-from-claims t) (term-from-at t) term-from.Post
 term-from-operand-requires t c κs = search needs
@@ -1381,7 +1384,7 @@ term-from-enum-known-e : (t : ℕ) → term-from-lts.Need-enum-known-e (term-fro
 term-from-enum-known-e t c = search needs
 
 term-from-term-rest-requires : (t : ℕ) → term-from-lts.Need-term-rest-requires (term-from-claims t) (term-from-at t) term-from.Post
-term-from-term-rest-requires t c κs = let room = c .before .before .before .before .before .before .before .before .before .before .before .pre .1 .0 in let h = (known (c .before .before .e .given .1) (c .before .before .before .before .before .before .operand .ensures)) in search needs
+term-from-term-rest-requires t c κs = let room = c .before .before .before .before .before .before .before .before .before .before .before .pre .1 .0 in let h = (known (c .before .before .e .given .1) (c .before .before .before .before .before .before .operand .ensures .0)) in search needs
 
 term-from-enum-known-p : (t : ℕ) → term-from-lts.Need-enum-known-p (term-from-claims t) (term-from-at t) term-from.Post
 term-from-enum-known-p t c = search needs
@@ -1391,14 +1394,14 @@ term-from-same-length t c = search needs
 
 term-from-returns : (t : ℕ) → term-from-lts.Need-returns (term-from-claims t) (term-from-at t) term-from.Post
 unfolding computeForm
-term-from-returns t c = record { reads = likewise (λ κ e γ. as-operand (c .before .before .before .before .before .before .before .before .before .before .before .before .before .before .args .d) (c .before .before .before .before .before .before .before .before .before .before .before .before .before .before .args .b) κ γ) (λ γ. refl) (next (framed (aTermRest (c .before .before .before .before .before .before .before .before .before .before .before .before .before .before .args .d) (c .before .before .before .before .before .before .before .before .before .before .before .before .before .before .args .b) ∷ []) (known (c .before .before .before .before .before .e .given .1) (c .before .before .before .before .before .before .before .before .before .operand .ensures))) (c .before .before .term-rest .ensures .reads)); stops = c .before .before .term-rest .ensures .stops }
+term-from-returns t c = (record { reads = likewise (λ κ e γ. as-operand (c .before .before .before .before .before .before .before .before .before .before .before .before .before .before .args .d) (c .before .before .before .before .before .before .before .before .before .before .before .before .before .before .args .b) κ γ) (λ γ. refl) (next (framed (aTermRest (c .before .before .before .before .before .before .before .before .before .before .before .before .before .before .args .d) (c .before .before .before .before .before .before .before .before .before .before .before .before .before .before .args .b) ∷ []) (known (c .before .before .before .before .before .e .given .1) (c .before .before .before .before .before .before .before .before .before .operand .ensures .0))) (c .before .before .term-rest .ensures .0 .reads)); stops = c .before .before .term-rest .ensures .0 .stops }, let w₁ = (made (c .before .before .before .before .before .e .given .1) (c .before .before .before .before .before .before .before .before .before .operand .ensures .1)) in onward _ (c .before .before .term-rest .result) (built w₁) (λ k v x. derived.termFrom (w₁ .derives) x) (c .before .before .term-rest .ensures .1))
 
 term-from-same-length-2 : (t : ℕ) → term-from-lts.Need-same-length-2 (term-from-claims t) (term-from-at t) term-from.Post
 term-from-same-length-2 t c = search needs
 
 term-from-returns-2 : (t : ℕ) → term-from-lts.Need-returns-2 (term-from-claims t) (term-from-at t) term-from.Post
 unfolding computeForm
-term-from-returns-2 t c = record { reads = likewise (λ κ e γ. as-operand (c .before .before .before .before .before .before .before .before .before .before .args .d) (c .before .before .before .before .before .before .before .before .before .before .args .b) κ γ) (λ γ. refl) (fails (framed (aTermRest (c .before .before .before .before .before .before .before .before .before .before .args .d) (c .before .before .before .before .before .before .before .before .before .before .args .b) ∷ []) (known (c .before .p .given .1) (c .before .before .before .before .before .operand .ensures)))); stops = tt }
+term-from-returns-2 t c = (record { reads = likewise (λ κ e γ. as-operand (c .before .before .before .before .before .before .before .before .before .before .args .d) (c .before .before .before .before .before .before .before .before .before .before .args .b) κ γ) (λ γ. refl) (fails (framed (aTermRest (c .before .before .before .before .before .before .before .before .before .before .args .d) (c .before .before .before .before .before .before .before .before .before .before .args .b) ∷ []) (known (c .before .p .given .1) (c .before .before .before .before .before .operand .ensures .0)))); stops = tt }, tt)
 
 term-rest-kind-at-requires : (t : ℕ) → term-rest-lts.Need-kind-at-requires (term-rest-claims t) (term-rest-at t) term-rest.Post
 term-rest-kind-at-requires t c κs = search needs
@@ -1411,7 +1414,7 @@ term-rest-level-of-requires t c κs = search needs
 
 term-rest-returns : (t : ℕ) → term-rest-lts.Need-returns (term-rest-claims t) (term-rest-at t) term-rest.Post
 unfolding computeForm
-term-rest-returns t c = record { reads = here (omega arith); stops = λ κ e. below-level _ (c .before .before .operator-of .result) (c .before .level-of .result) (c .before .before .before .before .before .before .before .args .min) (c .before .before .operator-of .ensures .class κ (e ∙ sym (c .before .before .before .kind-at .ensures .is))) (c .before .level-of .ensures) (omega arith) }
+term-rest-returns t c = (record { reads = here (omega arith); stops = λ κ e. below-level _ (c .before .before .operator-of .result) (c .before .level-of .result) (c .before .before .before .before .before .before .before .args .min) (c .before .before .operator-of .ensures .class κ (e ∙ sym (c .before .before .before .kind-at .ensures .is))) (c .before .level-of .ensures) (omega arith) }, nothing (derived.termStops (λ κ e. below-level _ (c .before .before .operator-of .result) (c .before .level-of .result) (c .before .before .before .before .before .before .before .args .min) (c .before .before .operator-of .ensures .class κ (e ∙ sym (c .before .before .before .kind-at .ensures .is))) (c .before .level-of .ensures) (omega arith))))
 
 term-rest-add-end : (t : ℕ) → term-rest-lts.Need-add-end (term-rest-claims t) (term-rest-at t) term-rest.Post
 term-rest-add-end t c = search needs
@@ -1432,10 +1435,10 @@ term-rest-division-requires : (t : ℕ) → term-rest-lts.Need-division-requires
 term-rest-division-requires t c κs = search needs
 
 term-rest-put-requires : (t : ℕ) → term-rest-lts.Need-put-requires (term-rest-claims t) (term-rest-at t) term-rest.Post
-term-rest-put-requires t c κs = let room = c .before .before .before .before .before .before .before .before .before .before .before .before .before .before .before .pre .1 .0 in let h = (known (c .before .before .before .before .e .given .1) (c .before .before .before .before .before .before .end .ensures .reads)) in search needs
+term-rest-put-requires t c κs = let room = c .before .before .before .before .before .before .before .before .before .before .before .before .before .before .before .pre .1 .0 in let h = (known (c .before .before .before .before .e .given .1) (c .before .before .before .before .before .before .end .ensures .0 .reads)) in search needs
 
 term-rest-term-rest-requires : (t : ℕ) → term-rest-lts.Need-term-rest-requires (term-rest-claims t) (term-rest-at t) term-rest.Post
-term-rest-term-rest-requires t c κs = let room = c .before .before .before .before .before .before .before .before .before .before .before .before .before .before .before .before .before .before .before .pre .1 .0 in let h = (known (c .before .before .before .before .before .before .before .before .e .given .1) (c .before .before .before .before .before .before .before .before .before .before .end .ensures .reads)) in let i = known-ahead _ (c .before .before .before .before .before .before .before .before .e .given .1) (c .before .before .before .before .before .before .before .before .before .before .end .ensures .ahead) in search needs
+term-rest-term-rest-requires t c κs = let room = c .before .before .before .before .before .before .before .before .before .before .before .before .before .before .before .before .before .before .before .pre .1 .0 in let h = (known (c .before .before .before .before .before .before .before .before .e .given .1) (c .before .before .before .before .before .before .before .before .before .before .end .ensures .0 .reads)) in let i = known-ahead _ (c .before .before .before .before .before .before .before .before .e .given .1) (c .before .before .before .before .before .before .before .before .before .before .end .ensures .0 .ahead) in search needs
 
 term-rest-enum-known-p : (t : ℕ) → term-rest-lts.Need-enum-known-p (term-rest-claims t) (term-rest-at t) term-rest.Post
 term-rest-enum-known-p t c = search needs
@@ -1445,11 +1448,11 @@ term-rest-same-length t c = search needs
 
 term-rest-returns-2 : (t : ℕ) → term-rest-lts.Need-returns-2 (term-rest-claims t) (term-rest-at t) term-rest.Post
 unfolding computeForm
-term-rest-returns-2 t c = let room = c .before .before .before .before .before .before .before .before .before .before .before .before .before .before .before .before .before .before .before .before .before .before .pre .1 .0 in let h = (known (c .before .before .before .before .before .before .before .before .before .before .before .e .given .1) (c .before .before .before .before .before .before .before .before .before .before .before .before .before .end .ensures .reads)) in let i = known-ahead _ (c .before .before .before .before .before .before .before .before .before .before .before .e .given .1) (c .before .before .before .before .before .before .before .before .before .before .before .before .before .end .ensures .ahead) in record { reads = takes {μ = anEnd ∷ aTermRest (c .before .before .before .before .before .before .before .before .before .before .before .before .before .before .before .before .before .before .before .before .before .before .args .d) (c .before .before .before .before .before .before .before .before .before .before .before .before .before .before .before .before .before .before .before .before .before .before .args .b) ∷ []} {m = (c .before .before .before .before .before .before .before .before .before .before .before .before .before .before .before .before .before .before .before .before .before .before .args .n)} (omega arith) (λ κ e γ. rest-division (c .before .before .before .before .before .before .before .before .before .before .before .before .before .before .before .before .before .before .before .before .before .before .args .d) (c .before .before .before .before .before .before .before .before .before .before .before .before .before .before .before .before .before .before .before .before .before .before .args .b) (c .before .before .before .before .before .before .before .before .before .before .before .before .before .before .before .before .before .operator-of .result) κ γ (c .before .before .before .before .before .before .before .before .before .before .before .before .before .before .before .before .before .operator-of .ensures .class κ (e ∙ sym (c .before .before .before .before .before .before .before .before .before .before .before .before .before .before .before .before .before .before .kind-at .ensures .is))) (omega arith)) (next (counted {c = (c .before .before .before .before .before .before .before .before .before .before .before .before .before .before .before .before .before .before .before .before .before .before .args .n)} (omega arith) (framed (aTermRest (c .before .before .before .before .before .before .before .before .before .before .before .before .before .before .before .before .before .before .before .before .before .before .args .d) (c .before .before .before .before .before .before .before .before .before .before .before .before .before .before .before .before .before .before .before .before .before .before .args .b) ∷ []) h)) (c .before .before .term-rest .ensures .reads)) (omega arith); stops = c .before .before .term-rest .ensures .stops }
+term-rest-returns-2 t c = (let room = c .before .before .before .before .before .before .before .before .before .before .before .before .before .before .before .before .before .before .before .before .before .before .pre .1 .0 in let h = (known (c .before .before .before .before .before .before .before .before .before .before .before .e .given .1) (c .before .before .before .before .before .before .before .before .before .before .before .before .before .end .ensures .0 .reads)) in let i = known-ahead _ (c .before .before .before .before .before .before .before .before .before .before .before .e .given .1) (c .before .before .before .before .before .before .before .before .before .before .before .before .before .end .ensures .0 .ahead) in record { reads = takes {μ = anEnd ∷ aTermRest (c .before .before .before .before .before .before .before .before .before .before .before .before .before .before .before .before .before .before .before .before .before .before .args .d) (c .before .before .before .before .before .before .before .before .before .before .before .before .before .before .before .before .before .before .before .before .before .before .args .b) ∷ []} {m = (c .before .before .before .before .before .before .before .before .before .before .before .before .before .before .before .before .before .before .before .before .before .before .args .n)} (omega arith) (λ κ e γ. rest-division (c .before .before .before .before .before .before .before .before .before .before .before .before .before .before .before .before .before .before .before .before .before .before .args .d) (c .before .before .before .before .before .before .before .before .before .before .before .before .before .before .before .before .before .before .before .before .before .before .args .b) (c .before .before .before .before .before .before .before .before .before .before .before .before .before .before .before .before .before .operator-of .result) κ γ (c .before .before .before .before .before .before .before .before .before .before .before .before .before .before .before .before .before .operator-of .ensures .class κ (e ∙ sym (c .before .before .before .before .before .before .before .before .before .before .before .before .before .before .before .before .before .before .kind-at .ensures .is))) (omega arith)) (next (counted {c = (c .before .before .before .before .before .before .before .before .before .before .before .before .before .before .before .before .before .before .before .before .before .before .args .n)} (omega arith) (framed (aTermRest (c .before .before .before .before .before .before .before .before .before .before .before .before .before .before .before .before .before .before .before .before .before .before .args .d) (c .before .before .before .before .before .before .before .before .before .before .before .before .before .before .before .before .before .before .before .before .before .before .args .b) ∷ []) h)) (c .before .before .term-rest .ensures .0 .reads)) (omega arith); stops = c .before .before .term-rest .ensures .0 .stops }, onward _ (c .before .before .term-rest .result) (node-of (c .before .before .before .before .before .before .before .before .before .magnitude .ensures) (c .before .before .before .before .before .before .before .before .division .ensures) (c .before .before .before .before .before .before .put .ensures)) (λ k v x. derived.divided (class-at (c .before .before .before .before .before .before .before .before .before .before .before .before .before .before .before .before .before .before .kind-at .ensures .is) refl (c .before .before .before .before .before .before .before .before .before .before .before .before .before .before .before .before .before .operator-of .ensures)) (omega arith) (omega (arith, level-two (c .before .before .before .before .before .before .before .before .before .before .before .before .before .before .before .before .before .operator-of .result), c .before .before .before .before .before .before .before .before .before .before .before .before .before .before .before .before .level-of .ensures, c .before .before .before .before .before .before .before .before .before .before .before .before .before .before .before .if1 .left)) (showing (EndAt (c .before .before .before .before .before .before .before .before .before .before .before .before .before .before .before .before .before .before .before .before .before .before .args .s .now) ((c .before .before .before .before .before .before .before .before .before .before .before .before .before .before .before .before .before .before .before .before .before .before .args .at) + 1)) _ (c .before .before .before .before .before .before .before .before .before .before .before .e .given .1) (c .before .before .before .before .before .before .before .before .before .before .before .before .before .end .ensures .1)) x) (c .before .before .term-rest .ensures .1))
 
 term-rest-returns-3 : (t : ℕ) → term-rest-lts.Need-returns-3 (term-rest-claims t) (term-rest-at t) term-rest.Post
 unfolding computeForm
-term-rest-returns-3 t c = record { reads = takes {μ = anEnd ∷ aTermRest (c .before .before .before .before .before .before .before .before .before .before .before .before .args .d) (c .before .before .before .before .before .before .before .before .before .before .before .before .args .b) ∷ []} {m = (c .before .before .before .before .before .before .before .before .before .before .before .before .args .n)} (omega arith) (λ κ e γ. rest-division (c .before .before .before .before .before .before .before .before .before .before .before .before .args .d) (c .before .before .before .before .before .before .before .before .before .before .before .before .args .b) (c .before .before .before .before .before .before .before .operator-of .result) κ γ (c .before .before .before .before .before .before .before .operator-of .ensures .class κ (e ∙ sym (c .before .before .before .before .before .before .before .before .kind-at .ensures .is))) (omega arith)) (fails (framed (aTermRest (c .before .before .before .before .before .before .before .before .before .before .before .before .args .d) (c .before .before .before .before .before .before .before .before .before .before .before .before .args .b) ∷ []) (known (c .before .p .given .1) (c .before .before .before .end .ensures .reads)))) (omega arith); stops = tt }
+term-rest-returns-3 t c = (record { reads = takes {μ = anEnd ∷ aTermRest (c .before .before .before .before .before .before .before .before .before .before .before .before .args .d) (c .before .before .before .before .before .before .before .before .before .before .before .before .args .b) ∷ []} {m = (c .before .before .before .before .before .before .before .before .before .before .before .before .args .n)} (omega arith) (λ κ e γ. rest-division (c .before .before .before .before .before .before .before .before .before .before .before .before .args .d) (c .before .before .before .before .before .before .before .before .before .before .before .before .args .b) (c .before .before .before .before .before .before .before .operator-of .result) κ γ (c .before .before .before .before .before .before .before .operator-of .ensures .class κ (e ∙ sym (c .before .before .before .before .before .before .before .before .kind-at .ensures .is))) (omega arith)) (fails (framed (aTermRest (c .before .before .before .before .before .before .before .before .before .before .before .before .args .d) (c .before .before .before .before .before .before .before .before .before .before .before .before .args .b) ∷ []) (known (c .before .p .given .1) (c .before .before .before .end .ensures .0 .reads)))) (omega arith); stops = tt }, tt)
 
 term-rest-add-term-from : (t : ℕ) → term-rest-lts.Need-add-term-from (term-rest-claims t) (term-rest-at t) term-rest.Post
 term-rest-add-term-from t c = search needs
@@ -1467,10 +1470,10 @@ term-rest-wide-requires : (t : ℕ) → term-rest-lts.Need-wide-requires (term-r
 term-rest-wide-requires t c κs = search needs
 
 term-rest-put-requires-2 : (t : ℕ) → term-rest-lts.Need-put-requires-2 (term-rest-claims t) (term-rest-at t) term-rest.Post
-term-rest-put-requires-2 t c κs = let room = c .before .before .before .before .before .before .before .before .before .before .before .before .before .before .before .before .before .pre .1 .0 in let h = known (c .before .before .before .e2 .given .1) (c .before .before .before .before .before .before .before .term-from .ensures .reads) in search needs
+term-rest-put-requires-2 t c κs = let room = c .before .before .before .before .before .before .before .before .before .before .before .before .before .before .before .before .before .pre .1 .0 in let h = known (c .before .before .before .e2 .given .1) (c .before .before .before .before .before .before .before .term-from .ensures .0 .reads) in search needs
 
 term-rest-term-rest-requires-2 : (t : ℕ) → term-rest-lts.Need-term-rest-requires-2 (term-rest-claims t) (term-rest-at t) term-rest.Post
-term-rest-term-rest-requires-2 t c κs = let room = c .before .before .before .before .before .before .before .before .before .before .before .before .before .before .before .before .before .before .before .before .before .pre .1 .0 in let h = known (c .before .before .before .before .before .before .before .e2 .given .1) (c .before .before .before .before .before .before .before .before .before .before .before .term-from .ensures .reads) in search needs
+term-rest-term-rest-requires-2 t c κs = let room = c .before .before .before .before .before .before .before .before .before .before .before .before .before .before .before .before .before .before .before .before .before .pre .1 .0 in let h = known (c .before .before .before .before .before .before .before .e2 .given .1) (c .before .before .before .before .before .before .before .before .before .before .before .term-from .ensures .0 .reads) in search needs
 
 term-rest-enum-known-p-2 : (t : ℕ) → term-rest-lts.Need-enum-known-p-2 (term-rest-claims t) (term-rest-at t) term-rest.Post
 term-rest-enum-known-p-2 t c = search needs
@@ -1480,14 +1483,14 @@ term-rest-same-length-2 t c = search needs
 
 term-rest-returns-4 : (t : ℕ) → term-rest-lts.Need-returns-4 (term-rest-claims t) (term-rest-at t) term-rest.Post
 unfolding computeForm
-term-rest-returns-4 t c = let room = c .before .before .before .before .before .before .before .before .before .before .before .before .before .before .before .before .before .before .before .before .before .before .before .before .pre .1 .0 in let h = known (c .before .before .before .before .before .before .before .before .before .before .e2 .given .1) (c .before .before .before .before .before .before .before .before .before .before .before .before .before .before .term-from .ensures .reads) in record { reads = takes {μ = aTerm (c .before .before .before .before .before .before .before .before .before .before .before .before .before .before .before .before .before .before .before .before .before .before .before .before .args .d) (c .before .before .before .before .before .before .before .before .before .before .before .before .before .before .before .before .before .before .before .before .before .before .before .before .args .b) ∷ []} {m = (c .before .before .before .before .before .before .before .before .before .before .before .before .before .before .before .before .before .before .before .before .before .before .before .before .args .n) + 4} (omega arith) (λ κ e γ. rest-binary (c .before .before .before .before .before .before .before .before .before .before .before .before .before .before .before .before .before .before .before .before .before .before .before .before .args .d) (c .before .before .before .before .before .before .before .before .before .before .before .before .before .before .before .before .before .before .before .before .before .before .before .before .args .b) (c .before .before .before .before .before .before .before .before .before .before .before .before .before .before .before .before .before .before .before .operator-of .result) κ γ (c .before .before .before .before .before .before .before .before .before .before .before .before .before .before .before .before .before .before .before .operator-of .ensures .class κ (e ∙ sym (c .before .before .before .before .before .before .before .before .before .before .before .before .before .before .before .before .before .before .before .before .kind-at .ensures .is))) (level-positive (c .before .before .before .before .before .before .before .before .before .before .before .before .before .before .before .before .before .before .before .operator-of .result) (omega (arith, c .before .before .before .before .before .before .before .before .before .before .before .before .before .before .before .before .before .before .level-of .ensures, c .before .before .before .before .before .before .before .before .before .before .before .before .before .before .before .before .before .if1 .left, c .before .before .before .before .before .before .before .before .before .before .before .before .before .before .before .before .before .before .before .before .before .before .before .before .pre .1 .3))) (omega arith)) (next (counted {c = (c .before .before .before .before .before .before .before .before .before .before .before .before .before .before .before .before .before .before .before .before .before .before .before .before .args .n) + 4} (omega arith) h) (c .before .before .term-rest2 .ensures .reads)) (omega arith); stops = c .before .before .term-rest2 .ensures .stops }
+term-rest-returns-4 t c = (let room = c .before .before .before .before .before .before .before .before .before .before .before .before .before .before .before .before .before .before .before .before .before .before .before .before .pre .1 .0 in let h = known (c .before .before .before .before .before .before .before .before .before .before .e2 .given .1) (c .before .before .before .before .before .before .before .before .before .before .before .before .before .before .term-from .ensures .0 .reads) in record { reads = takes {μ = aTerm (c .before .before .before .before .before .before .before .before .before .before .before .before .before .before .before .before .before .before .before .before .before .before .before .before .args .d) (c .before .before .before .before .before .before .before .before .before .before .before .before .before .before .before .before .before .before .before .before .before .before .before .before .args .b) ∷ []} {m = (c .before .before .before .before .before .before .before .before .before .before .before .before .before .before .before .before .before .before .before .before .before .before .before .before .args .n) + 4} (omega arith) (λ κ e γ. rest-binary (c .before .before .before .before .before .before .before .before .before .before .before .before .before .before .before .before .before .before .before .before .before .before .before .before .args .d) (c .before .before .before .before .before .before .before .before .before .before .before .before .before .before .before .before .before .before .before .before .before .before .before .before .args .b) (c .before .before .before .before .before .before .before .before .before .before .before .before .before .before .before .before .before .before .before .operator-of .result) κ γ (c .before .before .before .before .before .before .before .before .before .before .before .before .before .before .before .before .before .before .before .operator-of .ensures .class κ (e ∙ sym (c .before .before .before .before .before .before .before .before .before .before .before .before .before .before .before .before .before .before .before .before .kind-at .ensures .is))) (level-positive (c .before .before .before .before .before .before .before .before .before .before .before .before .before .before .before .before .before .before .before .operator-of .result) (omega (arith, c .before .before .before .before .before .before .before .before .before .before .before .before .before .before .before .before .before .before .level-of .ensures, c .before .before .before .before .before .before .before .before .before .before .before .before .before .before .before .before .before .if1 .left, c .before .before .before .before .before .before .before .before .before .before .before .before .before .before .before .before .before .before .before .before .before .before .before .before .pre .1 .3))) (omega arith)) (next (counted {c = (c .before .before .before .before .before .before .before .before .before .before .before .before .before .before .before .before .before .before .before .before .before .before .before .before .args .n) + 4} (omega arith) h) (c .before .before .term-rest2 .ensures .0 .reads)) (omega arith); stops = c .before .before .term-rest2 .ensures .0 .stops }, let w₁ = made (c .before .before .before .before .before .before .before .before .before .before .e2 .given .1) (c .before .before .before .before .before .before .before .before .before .before .before .before .before .before .term-from .ensures .1) in onward _ (c .before .before .term-rest2 .result) (both (built w₁) (node-of (c .before .before .before .before .before .before .before .wide .ensures ∙ (c .before .before .before .before .before .before .before .before .before .before .before .before .before .before .before .before .before .before .before .before .kind-at .ensures .is)) refl (c .before .before .before .before .before .before .put2 .ensures))) (λ k v x. derived.operated (class-at (c .before .before .before .before .before .before .before .before .before .before .before .before .before .before .before .before .before .before .before .before .kind-at .ensures .is) refl (c .before .before .before .before .before .before .before .before .before .before .before .before .before .before .before .before .before .before .before .operator-of .ensures)) (level-positive (c .before .before .before .before .before .before .before .before .before .before .before .before .before .before .before .before .before .before .before .operator-of .result) (omega (arith, c .before .before .before .before .before .before .before .before .before .before .before .before .before .before .before .before .before .before .level-of .ensures, c .before .before .before .before .before .before .before .before .before .before .before .before .before .before .before .before .before .if1 .left, c .before .before .before .before .before .before .before .before .before .before .before .before .before .before .before .before .before .before .before .before .before .before .before .before .pre .1 .3))) (omega arith) (omega (arith, level-class (c .before .before .before .before .before .before .before .before .before .before .before .before .before .before .before .before .before .before .before .operator-of .result), c .before .before .before .before .before .before .before .before .before .before .before .before .before .before .before .before .before .before .level-of .ensures, c .before .before .before .before .before .before .before .before .before .before .before .before .before .before .before .before .before .if1 .left)) (w₁ .derives) x) (c .before .before .term-rest2 .ensures .1))
 
 term-rest-same-length-3 : (t : ℕ) → term-rest-lts.Need-same-length-3 (term-rest-claims t) (term-rest-at t) term-rest.Post
 term-rest-same-length-3 t c = search needs
 
 term-rest-returns-5 : (t : ℕ) → term-rest-lts.Need-returns-5 (term-rest-claims t) (term-rest-at t) term-rest.Post
 unfolding computeForm
-term-rest-returns-5 t c = record { reads = takes {μ = aTerm (c .before .before .before .before .before .before .before .before .before .before .before .before .before .before .before .args .d) (c .before .before .before .before .before .before .before .before .before .before .before .before .before .before .before .args .b) ∷ []} {m = (c .before .before .before .before .before .before .before .before .before .before .before .before .before .before .before .args .n) + 4} (omega arith) (λ κ e γ. rest-binary (c .before .before .before .before .before .before .before .before .before .before .before .before .before .before .before .args .d) (c .before .before .before .before .before .before .before .before .before .before .before .before .before .before .before .args .b) (c .before .before .before .before .before .before .before .before .before .before .operator-of .result) κ γ (c .before .before .before .before .before .before .before .before .before .before .operator-of .ensures .class κ (e ∙ sym (c .before .before .before .before .before .before .before .before .before .before .before .kind-at .ensures .is))) (level-positive (c .before .before .before .before .before .before .before .before .before .before .operator-of .result) (omega (arith, c .before .before .before .before .before .before .before .before .before .level-of .ensures, c .before .before .before .before .before .before .before .before .if1 .left, c .before .before .before .before .before .before .before .before .before .before .before .before .before .before .before .pre .1 .3))) (omega arith)) (fails (known (c .before .p2 .given .1) (c .before .before .before .before .before .term-from .ensures .reads))) (omega arith); stops = tt }
+term-rest-returns-5 t c = (record { reads = takes {μ = aTerm (c .before .before .before .before .before .before .before .before .before .before .before .before .before .before .before .args .d) (c .before .before .before .before .before .before .before .before .before .before .before .before .before .before .before .args .b) ∷ []} {m = (c .before .before .before .before .before .before .before .before .before .before .before .before .before .before .before .args .n) + 4} (omega arith) (λ κ e γ. rest-binary (c .before .before .before .before .before .before .before .before .before .before .before .before .before .before .before .args .d) (c .before .before .before .before .before .before .before .before .before .before .before .before .before .before .before .args .b) (c .before .before .before .before .before .before .before .before .before .before .operator-of .result) κ γ (c .before .before .before .before .before .before .before .before .before .before .operator-of .ensures .class κ (e ∙ sym (c .before .before .before .before .before .before .before .before .before .before .before .kind-at .ensures .is))) (level-positive (c .before .before .before .before .before .before .before .before .before .before .operator-of .result) (omega (arith, c .before .before .before .before .before .before .before .before .before .level-of .ensures, c .before .before .before .before .before .before .before .before .if1 .left, c .before .before .before .before .before .before .before .before .before .before .before .before .before .before .before .pre .1 .3))) (omega arith)) (fails (known (c .before .p2 .given .1) (c .before .before .before .before .before .term-from .ensures .0 .reads))) (omega arith); stops = tt }, tt)
 
 unary-kind-at-requires : (t : ℕ) → unary-lts.Need-kind-at-requires (unary-claims t) (unary-at t) unary.Post
 unary-kind-at-requires t c κs = search needs
@@ -1502,7 +1505,7 @@ unary-enum-known-e : (t : ℕ) → unary-lts.Need-enum-known-e (unary-claims t) 
 unary-enum-known-e t c = search needs
 
 unary-atom-requires : (t : ℕ) → unary-lts.Need-atom-requires (unary-claims t) (unary-at t) unary.Post
-unary-atom-requires t c κs = let room = c .before .before .before .before .before .before .before .before .before .before .before .before .before .before .pre .1 .0 in let h = (known (c .before .before .e .given .1) (c .before .before .before .before .before .before .term .ensures)) in search needs
+unary-atom-requires t c κs = let room = c .before .before .before .before .before .before .before .before .before .before .before .before .before .before .pre .1 .0 in let h = (known (c .before .before .e .given .1) (c .before .before .before .before .before .before .term .ensures .0)) in search needs
 
 unary-enum-known-p : (t : ℕ) → unary-lts.Need-enum-known-p (unary-claims t) (unary-at t) unary.Post
 unary-enum-known-p t c = search needs
@@ -1512,14 +1515,14 @@ unary-same-length t c = search needs
 
 unary-returns : (t : ℕ) → unary-lts.Need-returns (unary-claims t) (unary-at t) unary.Post
 unfolding computeForm
-unary-returns t c = likewise (λ κ e γ. as-term (c .before .before .before .before .before .before .before .before .before .before .before .before .before .before .before .before .before .args .d) (c .before .before .before .before .before .before .before .before .before .before .before .before .before .before .before .before .before .args .b) κ γ ((c .before .before .before .before .before .before .before .before .before .before .before .before .pred-start-of .ensures .class κ (e ∙ sym (c .before .before .before .before .before .before .before .before .before .before .before .before .before .kind-at .ensures .is))) ∙ c .before .before .before .before .before .before .before .before .before .before .before .if1 .taken)) (λ γ. refl) (next (framed (aRel (c .before .before .before .before .before .before .before .before .before .before .before .before .before .before .before .before .before .args .d) (c .before .before .before .before .before .before .before .before .before .before .before .before .before .before .before .before .before .args .b) ∷ []) (known (c .before .before .before .before .before .e .given .1) (c .before .before .before .before .before .before .before .before .before .term .ensures))) (c .before .before .atom .ensures))
+unary-returns t c = (likewise (λ κ e γ. as-term (c .before .before .before .before .before .before .before .before .before .before .before .before .before .before .before .before .before .args .d) (c .before .before .before .before .before .before .before .before .before .before .before .before .before .before .before .before .before .args .b) κ γ ((c .before .before .before .before .before .before .before .before .before .before .before .before .pred-start-of .ensures .classes .class κ (e ∙ sym (c .before .before .before .before .before .before .before .before .before .before .before .before .before .kind-at .ensures .is))) ∙ c .before .before .before .before .before .before .before .before .before .before .before .if1 .taken)) (λ γ. refl) (next (framed (aRel (c .before .before .before .before .before .before .before .before .before .before .before .before .before .before .before .before .before .args .d) (c .before .before .before .before .before .before .before .before .before .before .before .before .before .before .before .before .before .args .b) ∷ []) (known (c .before .before .before .before .before .e .given .1) (c .before .before .before .before .before .before .before .before .before .term .ensures .0))) (c .before .before .atom .ensures .0)), let w₁ = (made (c .before .before .before .before .before .e .given .1) (c .before .before .before .before .before .before .before .before .before .term .ensures .1)) in onward _ (c .before .before .atom .result) (built w₁) (λ k v x. derived.atomic (w₁ .derives) x) (c .before .before .atom .ensures .1))
 
 unary-same-length-2 : (t : ℕ) → unary-lts.Need-same-length-2 (unary-claims t) (unary-at t) unary.Post
 unary-same-length-2 t c = search needs
 
 unary-returns-2 : (t : ℕ) → unary-lts.Need-returns-2 (unary-claims t) (unary-at t) unary.Post
 unfolding computeForm
-unary-returns-2 t c = likewise (λ κ e γ. as-term (c .before .before .before .before .before .before .before .before .before .before .before .before .before .args .d) (c .before .before .before .before .before .before .before .before .before .before .before .before .before .args .b) κ γ ((c .before .before .before .before .before .before .before .before .pred-start-of .ensures .class κ (e ∙ sym (c .before .before .before .before .before .before .before .before .before .kind-at .ensures .is))) ∙ c .before .before .before .before .before .before .before .if1 .taken)) (λ γ. refl) (fails (framed (aRel (c .before .before .before .before .before .before .before .before .before .before .before .before .before .args .d) (c .before .before .before .before .before .before .before .before .before .before .before .before .before .args .b) ∷ []) (known (c .before .p .given .1) (c .before .before .before .before .before .term .ensures))))
+unary-returns-2 t c = (likewise (λ κ e γ. as-term (c .before .before .before .before .before .before .before .before .before .before .before .before .before .args .d) (c .before .before .before .before .before .before .before .before .before .before .before .before .before .args .b) κ γ ((c .before .before .before .before .before .before .before .before .pred-start-of .ensures .classes .class κ (e ∙ sym (c .before .before .before .before .before .before .before .before .before .kind-at .ensures .is))) ∙ c .before .before .before .before .before .before .before .if1 .taken)) (λ γ. refl) (fails (framed (aRel (c .before .before .before .before .before .before .before .before .before .before .before .before .before .args .d) (c .before .before .before .before .before .before .before .before .before .before .before .before .before .args .b) ∷ []) (known (c .before .p .given .1) (c .before .before .before .before .before .term .ensures .0)))), tt)
 
 unary-wide-requires : (t : ℕ) → unary-lts.Need-wide-requires (unary-claims t) (unary-at t) unary.Post
 unary-wide-requires t c κs = search needs
@@ -1535,11 +1538,11 @@ unary-same-length-3 t c = search needs
 
 unary-returns-3 : (t : ℕ) → unary-lts.Need-returns-3 (unary-claims t) (unary-at t) unary.Post
 unfolding computeForm
-unary-returns-3 t c = takes {μ = []} (omega arith) (λ κ e γ. unary-step (c .before .before .before .before .before .before .before .before .before .before .before .before .args .d) (c .before .before .before .before .before .before .before .before .before .before .before .before .args .b) κ γ ((c .before .before .before .before .before .before .before .pred-start-of .ensures .class κ (e ∙ sym (c .before .before .before .before .before .before .before .before .kind-at .ensures .is))) ∙ c .before .before .before .before .before .if2 .taken)) (here (omega arith)) (omega arith)
+unary-returns-3 t c = (takes {μ = []} (omega arith) (λ κ e γ. unary-step (c .before .before .before .before .before .before .before .before .before .before .before .before .args .d) (c .before .before .before .before .before .before .before .before .before .before .before .before .args .b) κ γ ((c .before .before .before .before .before .before .before .pred-start-of .ensures .classes .class κ (e ∙ sym (c .before .before .before .before .before .before .before .before .kind-at .ensures .is))) ∙ c .before .before .before .before .before .if2 .taken)) (here (omega arith)) (omega arith), makes (node-of (c .before .before .before .wide .ensures ∙ (c .before .before .before .before .before .before .before .before .kind-at .ensures .is)) refl (c .before .before .put .ensures)) (derived.truthValue (class-at (c .before .before .before .before .before .before .before .before .kind-at .ensures .is) (c .before .before .before .before .before .if2 .taken) (c .before .before .before .before .before .before .before .pred-start-of .ensures .classes))))
 
 unary-returns-4 : (t : ℕ) → unary-lts.Need-returns-4 (unary-claims t) (unary-at t) unary.Post
 unfolding computeForm
-unary-returns-4 t c = deeper (opens (suc (c .before .before .before .before .before .before .before .before .before .args .d))) (omega arith) (open-deep (c .before .before .before .before .before .before .before .before .before .args .s .now) (c .before .before .before .before .before .before .before .before .before .args .at) (suc (c .before .before .before .before .before .before .before .before .before .args .d)) (omega arith) (other-kind (c .before .before .before .before .before .before .before .before .before .args .s .now) (c .before .before .before .before .before .before .before .before .before .args .at) (λ q. absurd (omega (arith, c .before .before .before .before .pred-start-of .ensures .class kind.minus (sym ((c .before .before .before .before .before .kind-at .ensures .is) ∙ q))))))) (λ κ e γ. unary-step (c .before .before .before .before .before .before .before .before .before .args .d) (c .before .before .before .before .before .before .before .before .before .args .b) κ γ ((c .before .before .before .before .pred-start-of .ensures .class κ (e ∙ sym (c .before .before .before .before .before .kind-at .ensures .is))) ∙ c .before .if3 .taken))
+unary-returns-4 t c = (deeper (opens (suc (c .before .before .before .before .before .before .before .before .before .args .d))) (omega arith) (open-deep (c .before .before .before .before .before .before .before .before .before .args .s .now) (c .before .before .before .before .before .before .before .before .before .args .at) (suc (c .before .before .before .before .before .before .before .before .before .args .d)) (omega arith) (other-kind (c .before .before .before .before .before .before .before .before .before .args .s .now) (c .before .before .before .before .before .before .before .before .before .args .at) (λ q. absurd (omega (arith, c .before .before .before .before .pred-start-of .ensures .classes .class kind.minus (sym ((c .before .before .before .before .before .kind-at .ensures .is) ∙ q))))))) (λ κ e γ. unary-step (c .before .before .before .before .before .before .before .before .before .args .d) (c .before .before .before .before .before .before .before .before .before .args .b) κ γ ((c .before .before .before .before .pred-start-of .ensures .classes .class κ (e ∙ sym (c .before .before .before .before .before .kind-at .ensures .is))) ∙ c .before .if3 .taken)), tt)
 
 unary-add-unary : (t : ℕ) → unary-lts.Need-add-unary (unary-claims t) (unary-at t) unary.Post
 unary-add-unary t c = search needs
@@ -1554,7 +1557,7 @@ unary-enum-known-e-2 : (t : ℕ) → unary-lts.Need-enum-known-e-2 (unary-claims
 unary-enum-known-e-2 t c = search needs
 
 unary-put-requires-2 : (t : ℕ) → unary-lts.Need-put-requires-2 (unary-claims t) (unary-at t) unary.Post
-unary-put-requires-2 t c κs = let room = c .before .before .before .before .before .before .before .before .before .before .before .before .before .before .before .before .before .pre .1 .0 in let h = (known (c .before .before .e2 .given .1) (c .before .before .before .before .before .before .unary .ensures)) in search needs
+unary-put-requires-2 t c κs = let room = c .before .before .before .before .before .before .before .before .before .before .before .before .before .before .before .before .before .pre .1 .0 in let h = (known (c .before .before .e2 .given .1) (c .before .before .before .before .before .before .unary .ensures .0)) in search needs
 
 unary-enum-known-p-2 : (t : ℕ) → unary-lts.Need-enum-known-p-2 (unary-claims t) (unary-at t) unary.Post
 unary-enum-known-p-2 t c = search needs
@@ -1564,31 +1567,31 @@ unary-same-length-4 t c = search needs
 
 unary-returns-5 : (t : ℕ) → unary-lts.Need-returns-5 (unary-claims t) (unary-at t) unary.Post
 unfolding computeForm
-unary-returns-5 t c = let h = (known (c .before .before .before .before .before .e2 .given .1) (c .before .before .before .before .before .before .before .before .before .unary .ensures)) in taken {μ = aUnary (suc (c .before .before .before .before .before .before .before .before .before .before .before .before .before .before .before .before .before .before .before .before .args .d)) (c .before .before .before .before .before .before .before .before .before .before .before .before .before .before .before .before .before .before .before .before .args .b) ∷ []} {m = (c .before .before .before .before .before .before .before .before .before .before .before .before .before .before .before .before .before .before .before .before .args .n) + 4} (opens (suc (c .before .before .before .before .before .before .before .before .before .before .before .before .before .before .before .before .before .before .before .before .args .d))) (omega arith) (open-well (c .before .before .before .before .before .before .before .before .before .before .before .before .before .before .before .before .before .before .before .before .args .s .now) (c .before .before .before .before .before .before .before .before .before .before .before .before .before .before .before .before .before .before .before .before .args .at) (suc (c .before .before .before .before .before .before .before .before .before .before .before .before .before .before .before .before .before .before .before .before .args .d)) (omega arith)) (λ κ e γ. unary-step (c .before .before .before .before .before .before .before .before .before .before .before .before .before .before .before .before .before .before .before .before .args .d) (c .before .before .before .before .before .before .before .before .before .before .before .before .before .before .before .before .before .before .before .before .args .b) κ γ ((c .before .before .before .before .before .before .before .before .before .before .before .before .before .before .before .pred-start-of .ensures .class κ (e ∙ sym (c .before .before .before .before .before .before .before .before .before .before .before .before .before .before .before .before .kind-at .ensures .is))) ∙ c .before .before .before .before .before .before .before .before .before .before .before .before .if3 .taken)) (counted (omega arith) (raised (λ x. aUnary x (c .before .before .before .before .before .before .before .before .before .before .before .before .before .before .before .before .before .before .before .before .args .b) ∷ []) (c .before .before .before .before .before .before .before .before .before .before .before .before .before .before .before .before .before .before .before .before .args .d) h)) (omega arith)
+unary-returns-5 t c = (let h = (known (c .before .before .before .before .before .e2 .given .1) (c .before .before .before .before .before .before .before .before .before .unary .ensures .0)) in taken {μ = aUnary (suc (c .before .before .before .before .before .before .before .before .before .before .before .before .before .before .before .before .before .before .before .before .args .d)) (c .before .before .before .before .before .before .before .before .before .before .before .before .before .before .before .before .before .before .before .before .args .b) ∷ []} {m = (c .before .before .before .before .before .before .before .before .before .before .before .before .before .before .before .before .before .before .before .before .args .n) + 4} (opens (suc (c .before .before .before .before .before .before .before .before .before .before .before .before .before .before .before .before .before .before .before .before .args .d))) (omega arith) (open-well (c .before .before .before .before .before .before .before .before .before .before .before .before .before .before .before .before .before .before .before .before .args .s .now) (c .before .before .before .before .before .before .before .before .before .before .before .before .before .before .before .before .before .before .before .before .args .at) (suc (c .before .before .before .before .before .before .before .before .before .before .before .before .before .before .before .before .before .before .before .before .args .d)) (omega arith)) (λ κ e γ. unary-step (c .before .before .before .before .before .before .before .before .before .before .before .before .before .before .before .before .before .before .before .before .args .d) (c .before .before .before .before .before .before .before .before .before .before .before .before .before .before .before .before .before .before .before .before .args .b) κ γ ((c .before .before .before .before .before .before .before .before .before .before .before .before .before .before .before .pred-start-of .ensures .classes .class κ (e ∙ sym (c .before .before .before .before .before .before .before .before .before .before .before .before .before .before .before .before .kind-at .ensures .is))) ∙ c .before .before .before .before .before .before .before .before .before .before .before .before .if3 .taken)) (counted (omega arith) (raised (λ x. aUnary x (c .before .before .before .before .before .before .before .before .before .before .before .before .before .before .before .before .before .before .before .before .args .b) ∷ []) (c .before .before .before .before .before .before .before .before .before .before .before .before .before .before .before .before .before .before .before .before .args .d) h)) (omega arith), let w₁ = (made (c .before .before .before .before .before .e2 .given .1) (c .before .before .before .before .before .before .before .before .before .unary .ensures .1)) in makes (both (built w₁) (wrote (c .before .before .put2 .ensures))) (derived.denied (class-at (c .before .before .before .before .before .before .before .before .before .before .before .before .before .before .before .before .kind-at .ensures .is) (c .before .before .before .before .before .before .before .before .before .before .before .before .if3 .taken) (c .before .before .before .before .before .before .before .before .before .before .before .before .before .before .before .pred-start-of .ensures .classes)) (w₁ .derives)))
 
 unary-same-length-5 : (t : ℕ) → unary-lts.Need-same-length-5 (unary-claims t) (unary-at t) unary.Post
 unary-same-length-5 t c = search needs
 
 unary-returns-6 : (t : ℕ) → unary-lts.Need-returns-6 (unary-claims t) (unary-at t) unary.Post
 unfolding computeForm
-unary-returns-6 t c = taken {μ = aUnary (suc (c .before .before .before .before .before .before .before .before .before .before .before .before .before .before .before .before .args .d)) (c .before .before .before .before .before .before .before .before .before .before .before .before .before .before .before .before .args .b) ∷ []} {m = (c .before .before .before .before .before .before .before .before .before .before .before .before .before .before .before .before .args .n) + 4} (opens (suc (c .before .before .before .before .before .before .before .before .before .before .before .before .before .before .before .before .args .d))) (omega arith) (open-well (c .before .before .before .before .before .before .before .before .before .before .before .before .before .before .before .before .args .s .now) (c .before .before .before .before .before .before .before .before .before .before .before .before .before .before .before .before .args .at) (suc (c .before .before .before .before .before .before .before .before .before .before .before .before .before .before .before .before .args .d)) (omega arith)) (λ κ e γ. unary-step (c .before .before .before .before .before .before .before .before .before .before .before .before .before .before .before .before .args .d) (c .before .before .before .before .before .before .before .before .before .before .before .before .before .before .before .before .args .b) κ γ ((c .before .before .before .before .before .before .before .before .before .before .before .pred-start-of .ensures .class κ (e ∙ sym (c .before .before .before .before .before .before .before .before .before .before .before .before .kind-at .ensures .is))) ∙ c .before .before .before .before .before .before .before .before .if3 .taken)) (fails (raised (λ x. aUnary x (c .before .before .before .before .before .before .before .before .before .before .before .before .before .before .before .before .args .b) ∷ []) (c .before .before .before .before .before .before .before .before .before .before .before .before .before .before .before .before .args .d) (known (c .before .p2 .given .1) (c .before .before .before .before .before .unary .ensures)))) (omega arith)
+unary-returns-6 t c = (taken {μ = aUnary (suc (c .before .before .before .before .before .before .before .before .before .before .before .before .before .before .before .before .args .d)) (c .before .before .before .before .before .before .before .before .before .before .before .before .before .before .before .before .args .b) ∷ []} {m = (c .before .before .before .before .before .before .before .before .before .before .before .before .before .before .before .before .args .n) + 4} (opens (suc (c .before .before .before .before .before .before .before .before .before .before .before .before .before .before .before .before .args .d))) (omega arith) (open-well (c .before .before .before .before .before .before .before .before .before .before .before .before .before .before .before .before .args .s .now) (c .before .before .before .before .before .before .before .before .before .before .before .before .before .before .before .before .args .at) (suc (c .before .before .before .before .before .before .before .before .before .before .before .before .before .before .before .before .args .d)) (omega arith)) (λ κ e γ. unary-step (c .before .before .before .before .before .before .before .before .before .before .before .before .before .before .before .before .args .d) (c .before .before .before .before .before .before .before .before .before .before .before .before .before .before .before .before .args .b) κ γ ((c .before .before .before .before .before .before .before .before .before .before .before .pred-start-of .ensures .classes .class κ (e ∙ sym (c .before .before .before .before .before .before .before .before .before .before .before .before .kind-at .ensures .is))) ∙ c .before .before .before .before .before .before .before .before .if3 .taken)) (fails (raised (λ x. aUnary x (c .before .before .before .before .before .before .before .before .before .before .before .before .before .before .before .before .args .b) ∷ []) (c .before .before .before .before .before .before .before .before .before .before .before .before .before .before .before .before .args .d) (known (c .before .p2 .given .1) (c .before .before .before .before .before .unary .ensures .0)))) (omega arith), tt)
 
 unary-returns-7 : (t : ℕ) → unary-lts.Need-returns-7 (unary-claims t) (unary-at t) unary.Post
 unfolding computeForm
-unary-returns-7 t c = deeper (opens (suc (c .before .before .before .before .before .before .before .before .before .args .d))) (omega arith) (open-deep (c .before .before .before .before .before .before .before .before .before .args .s .now) (c .before .before .before .before .before .before .before .before .before .args .at) (suc (c .before .before .before .before .before .before .before .before .before .args .d)) (omega arith) (other-kind (c .before .before .before .before .before .before .before .before .before .args .s .now) (c .before .before .before .before .before .before .before .before .before .args .at) (λ q. absurd (omega (arith, c .before .before .before .before .pred-start-of .ensures .class kind.minus (sym ((c .before .before .before .before .before .kind-at .ensures .is) ∙ q))))))) (λ κ e γ. paren-opens (c .before .before .before .before .before .before .before .before .before .args .d) (c .before .before .before .before .before .before .before .before .before .args .b) (c .before .before .before .before .pred-start-of .result) κ γ (c .before .before .before .before .pred-start-of .ensures .class κ (e ∙ sym (c .before .before .before .before .before .kind-at .ensures .is))) (omega arith))
+unary-returns-7 t c = (deeper (opens (suc (c .before .before .before .before .before .before .before .before .before .args .d))) (omega arith) (open-deep (c .before .before .before .before .before .before .before .before .before .args .s .now) (c .before .before .before .before .before .before .before .before .before .args .at) (suc (c .before .before .before .before .before .before .before .before .before .args .d)) (omega arith) (other-kind (c .before .before .before .before .before .before .before .before .before .args .s .now) (c .before .before .before .before .before .before .before .before .before .args .at) (λ q. absurd (omega (arith, c .before .before .before .before .pred-start-of .ensures .classes .class kind.minus (sym ((c .before .before .before .before .before .kind-at .ensures .is) ∙ q))))))) (λ κ e γ. paren-opens (c .before .before .before .before .before .before .before .before .before .args .d) (c .before .before .before .before .before .before .before .before .before .args .b) (c .before .before .before .before .pred-start-of .result) κ γ (c .before .before .before .before .pred-start-of .ensures .classes .class κ (e ∙ sym (c .before .before .before .before .before .kind-at .ensures .is))) (omega arith)), tt)
 
 unary-add-paren : (t : ℕ) → unary-lts.Need-add-paren (unary-claims t) (unary-at t) unary.Post
 unary-add-paren t c = search needs
 
 unary-paren-requires : (t : ℕ) → unary-lts.Need-paren-requires (unary-claims t) (unary-at t) unary.Post
-unary-paren-requires t c κs = search needs
+unary-paren-requires t c κs = let room = c .before .before .before .before .before .before .before .before .before .before .pre .1 .0 in let i = c .before .before .before .before .before .pred-start-of .ensures .paren (omega arith) in let k = (c .before .before .before .before .before .before .kind-at .ensures .is) in search needs
 
 unary-same-length-6 : (t : ℕ) → unary-lts.Need-same-length-6 (unary-claims t) (unary-at t) unary.Post
 unary-same-length-6 t c = search needs
 
 unary-returns-8 : (t : ℕ) → unary-lts.Need-returns-8 (unary-claims t) (unary-at t) unary.Post
 unfolding computeForm
-unary-returns-8 t c = taken {μ = aParen (suc (c .before .before .before .before .before .before .before .before .before .before .before .before .before .args .d)) (c .before .before .before .before .before .before .before .before .before .before .before .before .before .args .b) ∷ []} (opens (suc (c .before .before .before .before .before .before .before .before .before .before .before .before .before .args .d))) (omega arith) (open-well (c .before .before .before .before .before .before .before .before .before .before .before .before .before .args .s .now) (c .before .before .before .before .before .before .before .before .before .before .before .before .before .args .at) (suc (c .before .before .before .before .before .before .before .before .before .before .before .before .before .args .d)) (omega arith)) (λ κ e γ. paren-opens (c .before .before .before .before .before .before .before .before .before .before .before .before .before .args .d) (c .before .before .before .before .before .before .before .before .before .before .before .before .before .args .b) (c .before .before .before .before .before .before .before .before .pred-start-of .result) κ γ (c .before .before .before .before .before .before .before .before .pred-start-of .ensures .class κ (e ∙ sym (c .before .before .before .before .before .before .before .before .before .kind-at .ensures .is))) (omega arith)) (raised (λ x. aParen x (c .before .before .before .before .before .before .before .before .before .before .before .before .before .args .b) ∷ []) (c .before .before .before .before .before .before .before .before .before .before .before .before .before .args .d) (c .before .before .paren .ensures)) (omega arith)
+unary-returns-8 t c = (taken {μ = aParen (suc (c .before .before .before .before .before .before .before .before .before .before .before .before .before .args .d)) (c .before .before .before .before .before .before .before .before .before .before .before .before .before .args .b) ∷ []} (opens (suc (c .before .before .before .before .before .before .before .before .before .before .before .before .before .args .d))) (omega arith) (open-well (c .before .before .before .before .before .before .before .before .before .before .before .before .before .args .s .now) (c .before .before .before .before .before .before .before .before .before .before .before .before .before .args .at) (suc (c .before .before .before .before .before .before .before .before .before .before .before .before .before .args .d)) (omega arith)) (λ κ e γ. paren-opens (c .before .before .before .before .before .before .before .before .before .before .before .before .before .args .d) (c .before .before .before .before .before .before .before .before .before .before .before .before .before .args .b) (c .before .before .before .before .before .before .before .before .pred-start-of .result) κ γ (c .before .before .before .before .before .before .before .before .pred-start-of .ensures .classes .class κ (e ∙ sym (c .before .before .before .before .before .before .before .before .before .kind-at .ensures .is))) (omega arith)) (raised (λ x. aParen x (c .before .before .before .before .before .before .before .before .before .before .before .before .before .args .b) ∷ []) (c .before .before .before .before .before .before .before .before .before .before .before .before .before .args .d) (c .before .before .paren .ensures .0)) (omega arith), c .before .before .paren .ensures .1)
 
 pub +atom+brace+items+listed+member+operand+pairs+paren+pred+pred-from+pred-rest+quantified+related+such+term+term-from+term-rest+unary-spec : {M : Type 1} → statement M
 +atom+brace+items+listed+member+operand+pairs+paren+pred+pred-from+pred-rest+quantified+related+such+term+term-from+term-rest+unary-spec =

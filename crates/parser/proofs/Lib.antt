@@ -7,3 +7,7 @@ pub mod Alike
 pub mod RightSides
 pub mod Writing
 pub mod Standing
+pub mod TreesPlaces
+pub mod TreesSorts
+pub mod TreesWritten
+pub mod TreesRanges

@@ -11,3 +11,5 @@ pub mod TreesPlaces
 pub mod TreesSorts
 pub mod TreesWritten
 pub mod TreesRanges
+pub mod TreesTerms
+pub mod TreesPreds

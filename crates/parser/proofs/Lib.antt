@@ -13,3 +13,4 @@ pub mod TreesWritten
 pub mod TreesRanges
 pub mod TreesTerms
 pub mod TreesPreds
+pub mod TreesDerived

@@ -247,21 +247,23 @@ module _ {w : List Symbol} {ρ : Numbering} (t : Text w ρ) where
 
   -- a divisor, or an operator and a term, behind a term
   pub divided-in : {min o h i j : ℕ} {m : List ℕ} → (a : TermIn w ρ min h i m) → 2 ≤ termLevel (a .tree) → min ≤ 2 → Classes operators (getD (codes w) i 0) o → 3 ≤ o
-      → EndAt (codes w) (i + 1) j → TermIn w ρ min h j (m ++ node 4 i (magnitudeCode (codes w) (values ρ w) (i + 1)) (divisionCode (codes w) i))
+      → EndAt (codes w) (i + 1) j → (b : TermIn w ρ min h j (m ++ node 4 i (magnitudeCode (codes w) (values ρ w) (i + 1)) (divisionCode (codes w) i))) × (termLevel (b .tree) ≡ 2)
   unfolding TermGrouped plainTerm termCodes codeOf
   divided-in {i} a g l c r e =
       let o = division-at t c r in
       let e = end-in t e in
-      let x = term-width a in
-      record {
-        tree = divided (o .sort) (a .tree) (e .tree);
-        grouped = (g, a .grouped);
-        level = l;
-        ahead = let l = a .ahead in let k = e .width in omega arith;
-        inside = e .inside;
-        symbols = cc;
-        nodes = cc (division-code (codes w) i (o .sort) (e .tree .negative) (o .code) (e .sign));
-      }
+      let x = term-width a in (
+        record {
+          tree = divided (o .sort) (a .tree) (e .tree);
+          grouped = (g, a .grouped);
+          level = l;
+          ahead = let l = a .ahead in let k = e .width in omega arith;
+          inside = e .inside;
+          symbols = cc;
+          nodes = cc (division-code (codes w) i (o .sort) (e .tree .negative) (o .code) (e .sign));
+        },
+        refl,
+      )
 
   pub operated-in : {min o h i j : ℕ} {m n : List ℕ} → (a : TermIn w ρ min h i m) → o ≤ termLevel (a .tree) → min ≤ o → Classes operators (getD (codes w) i 0) o → 1 ≤ o → o ≤ 2
       → TermIn w ρ (o + 1) (i + 1) j n → (b : TermIn w ρ min h j (m ++ (n ++ node 5 i (getD (codes w) i 0) 0))) × (termLevel (b .tree) ≡ o)

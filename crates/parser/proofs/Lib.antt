@@ -8,3 +8,10 @@ pub mod RightSides
 pub mod Writing
 pub mod Standing
 pub mod Making
+pub mod TreesPlaces
+pub mod TreesSorts
+pub mod TreesWritten
+pub mod TreesRanges
+pub mod TreesTerms
+pub mod TreesPreds
+pub mod TreesDerived

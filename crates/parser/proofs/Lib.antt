@@ -7,3 +7,9 @@ pub mod Alike
 pub mod RightSides
 pub mod Writing
 pub mod Standing
+pub mod Steps
+pub mod Behind
+pub mod Widths
+pub mod DossierParts
+pub mod DossierBodies
+pub mod Dossiers

@@ -5,10 +5,10 @@ use Prim.Native.Nat.{ℕ, _+_, _≤_}
 use lib.ListN.{drop, getD}
 use Rattle.symbols.specs.Kinds as kind
 use Rattle.symbols.specs.Symbols.{Symbol, fixed, numeral, name}
-use Rattle.form.specs.Tree.{Term, Pred, Dossier}
-use Rattle.form.specs.Written.{Written, writeTerm, writePred}
+use Rattle.form.specs.Tree.{Term, Pred, TypeForm, Dossier}
+use Rattle.form.specs.Written.{Written, writeTerm, writePred, writeType}
 use Rattle.form.specs.Form.{termLevel, predLevel, TermGrouped, PredGrouped, Whole}
-use Rattle.form.specs.Codes.{Numbering, termWidth, predWidth, termCodes, predCodes, dossierCodes}
+use Rattle.form.specs.Codes.{Numbering, termWidth, predWidth, typeWidth, termCodes, predCodes, typeCodes, dossierCodes}
 use Rattle.form.proofs.Table.{AllSpelled}
 
 -- the value of a symbol, where ρ numbers letters
@@ -49,6 +49,12 @@ pub record PredAt (w : List Symbol) (ρ : Numbering) (min i j : ℕ) (n : List �
   pub symbols : drop i w ≡ symbolsIn (writePred tree 0 0 []) ++ drop j w
   pub width : j ≡ i + predWidth tree
   pub nodes : n ≡ predCodes tree i ρ
+
+pub record TypeAt (w : List Symbol) (ρ : Numbering) (i j : ℕ) (n : List ℕ) : Type 0 where
+  pub tree : TypeForm
+  pub symbols : drop i w ≡ symbolsIn (writeType tree []) ++ drop j w
+  pub width : j ≡ i + typeWidth tree
+  pub nodes : n ≡ typeCodes tree i ρ
 
 -- the dossier of a text, and its nodes
 pub record DossierAt (w : List Symbol) (ρ : Numbering) (n : List ℕ) : Type 0 where

@@ -13,3 +13,4 @@ pub mod Widths
 pub mod DossierParts
 pub mod DossierBodies
 pub mod Dossiers
+pub mod Texts

@@ -20,9 +20,9 @@ use Rattle.parser.proofs.Widths.{givensWidth, given-length}
 abbrev pub Derived : List Symbol → Numbering → Part → (i j : ℕ) → List ℕ → Type 0
 Derived w ρ x i j n = Derives (codes w) (values ρ w) x i j n
 
--- a predicate and a type that are derived stand in the text
+-- A predicate and a type that are derived stand in the text. Above the level 5 it would be false of predicates: one with `not` is of the level 5.
 pub record Trees : Type 0 where
-  pub pred-tree : (w : List Symbol) (ρ : Numbering) → Text w ρ → {min i j : ℕ} {n : List ℕ} → Derives (codes w) (values ρ w) (aPredFrom min) i j n → min ≤ 6
+  pub pred-tree : (w : List Symbol) (ρ : Numbering) → Text w ρ → {min i j : ℕ} {n : List ℕ} → Derives (codes w) (values ρ w) (aPredFrom min) i j n → min ≤ 5
       → PredAt w ρ min i j n
   pub type-tree : (w : List Symbol) (ρ : Numbering) → Text w ρ → {i j : ℕ} {n : List ℕ} → Derives (codes w) (values ρ w) aType i j n → TypeAt w ρ i j n
 

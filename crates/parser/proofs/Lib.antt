@@ -15,3 +15,10 @@ pub mod TreesRanges
 pub mod TreesTerms
 pub mod TreesPreds
 pub mod TreesDerived
+pub mod Steps
+pub mod Behind
+pub mod Widths
+pub mod DossierParts
+pub mod DossierBodies
+pub mod Dossiers
+pub mod Texts

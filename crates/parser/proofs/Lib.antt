@@ -6,4 +6,5 @@ pub mod RangeEnds
 pub mod Alike
 pub mod RightSides
 pub mod Writing
+pub mod Numbers
 pub mod Standing

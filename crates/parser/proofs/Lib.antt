@@ -6,6 +6,7 @@ pub mod RangeEnds
 pub mod Alike
 pub mod RightSides
 pub mod Writing
+pub mod Numbers
 pub mod Standing
 pub mod Making
 pub mod TreesPlaces

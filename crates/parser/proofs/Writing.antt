@@ -3,15 +3,15 @@ use mathlib.Core.Path.{_≡_, refl, ap, _∙_, sym}
 use mathlib.Core.List.{List, [], _∷_, _++_, append-assoc}
 use Prim.Native.Nat.{ℕ, suc, _+_, _≤_, _<_}
 use native.Mathlib.Omega.{arith}
-use lib.ListN.{length, take, set, length-set}
-use lib.Seq.{take-suc-set}
+use lib.ListN.{length, take, drop, set, length-set}
+use lib.Seq.{take-suc-set, drop-set-lt}
 use Rattle.form.specs.Codes.{node}
-use Rattle.parser.specs.Inner.{Puts}
+use Rattle.parser.specs.Inner.{Writes}
 
 one : (a : List ℕ) (m k v : ℕ) (x : List ℕ) → m < length a → k ≡ suc m → take m a ≡ x → take k (set a m v) ≡ x ++ (v ∷ [])
 one a m k v x l e q = ap (λ (i : ℕ). take i (set a m v)) e ∙ take-suc-set a m v l ∙ ap (λ (y : List ℕ). y ++ (v ∷ [])) q
 
-pub four : (a : List ℕ) (n k p x y : ℕ) → n + 4 ≤ length a → Puts a n k p x y (set (set (set (set a n y) (n + 1) x) (n + 2) p) (n + 3) k) (n + 4)
+pub four : (a : List ℕ) (n k p x y : ℕ) → n + 4 ≤ length a → Writes a n (node k p x y) (set (set (set (set a n y) (n + 1) x) (n + 2) p) (n + 3) k) (n + 4)
 four a n k p x y l =
     let a₁ : List ℕ = set a n y in
     let a₂ : List ℕ = set a₁ (n + 1) x in
@@ -27,4 +27,7 @@ four a n k p x y l =
           (one a₁ (n + 1) (n + 2) x _ (omega arith) (omega arith)
           (one a n (n + 1) y (take n a) (omega arith) (omega arith) refl)))
           ∙ simp append-assoc;
+      rest =
+          drop-set-lt (n + 4) a₃ (n + 3) k (omega arith) ∙ drop-set-lt (n + 4) a₂ (n + 2) p (omega arith)
+          ∙ drop-set-lt (n + 4) a₁ (n + 1) x (omega arith) ∙ drop-set-lt (n + 4) a n y (omega arith);
     }

@@ -118,11 +118,11 @@ pub fn put_domain(s: &[u8], v: &[u16], at: usize, code: &mut [u16], n: usize) ->
     ensures { λ r. ⌜ Writes (now (code .entry)) n (domainNode (now (s .entry)) (now (v .entry)) at) (now (code .exit)) r ⌝ }
 {
     let k = kind_at(s, at);
-    if name_of(k) == 1 {
-        let x = name_number(s, v, at);
-        return put(code, n, 1, at, x, 0);
+    if name_of(k) == 0 {
+        return put_range(s, v, at, code, n);
     }
-    put_range(s, v, at, code, n)
+    let x = name_number(s, v, at);
+    put(code, n, 1, at, x, 0)
 }
 
 // One name or two behind an `empty`.

@@ -7,15 +7,15 @@ use Rattle.parser.proofs.kinds.membership_of.Tie as tie
 
 returns : tie.Need-returns
 unfolding codeOf
-returns c = classed (omega arith) (omega arith) (omega arith)
+returns c = record { classes = classed (omega arith) (omega arith) (omega arith); member = λ q. (omega arith, omega arith) }
 
 returns-2 : tie.Need-returns-2
 unfolding codeOf
-returns-2 c = classed (omega arith) (omega arith) (omega arith)
+returns-2 c = record { classes = classed (omega arith) (omega arith) (omega arith); member = λ q. (omega arith, omega arith) }
 
 returns-3 : tie.Need-returns-3
 unfolding codeOf
-returns-3 c = classed (omega arith) (omega arith) (omega arith)
+returns-3 c = record { classes = classed (omega arith) (omega arith) (omega arith); member = λ q. (omega arith, omega arith) }
 
 pub membership-of-spec : {M : Type 1} → statement M
 membership-of-spec =

@@ -9,6 +9,8 @@ use Rattle.symbols.specs.Kinds as kind
 use Rattle.symbols.specs.Kinds.{Kind, codeOf, lookup}
 use Rattle.symbols.specs.Symbols.{Symbol, kindOf}
 use Rattle.symbols.specs.Refusals.{Refusal, noDossier, deep, manyDeclared}
+use Rattle.symbols.specs.Promises.{Scans}
+use Rattle.symbols.specs.declared.Scanned.the-variants.{Symbols}
 use Rattle.form.specs.Form.{kindAt}
 use Rattle.form.specs.Machine as machine
 use Rattle.form.specs.Machine.{kindBefore, Item, aTermRest, aPredRest, Run, failed, runFrom, starts}
@@ -201,3 +203,10 @@ pub record Named (k r : ℕ) : Type 0 where
   pub classes : Classes names k r
   pub name : 1 ≤ r → (2 ≤ k) × (k ≤ 5)
   pub none : r ≡ 0 → (2 ≤ k → k ≤ 5 → ⊥)
+
+-- what a scan that answers n symbols has left in the arrays
+pub record Left (text coded placed valued : List ℕ) (n : ℕ) : Type 0 where
+  pub codes₀ : List ℕ
+  pub starts₀ : List ℕ
+  pub values₀ : List ℕ
+  pub scans : Scans text codes₀ starts₀ values₀ coded placed valued (Symbols n)

@@ -1,7 +1,26 @@
 // Symbols to the structure of a dossier: numbers 4, 5, 6 and 7 of document 01.
+ghost use mathlib.Core.Path.{_≡_};
+ghost use mathlib.Core.Option.{none};
+ghost use Prim.Native.Nat.{_≤_};
+ghost use lib.ListN.{length, take, getD};
+ghost use Rattle.symbols.specs.Refusals.{numberOf};
+ghost use Rattle.parser.specs.Inner.{Left, refusalNumbered};
+ghost use Rattle.parser.specs.Promises.{Answers, Parses};
+use crate::bodies::dossier;
+use crate::copies::copy_nodes;
+use crate::headings::Heads;
+use crate::headings::headings;
+use symbols::Scanned;
+use symbols::scan;
+
+mod bodies;
+mod contents;
+mod copies;
+mod headings;
 mod kinds;
 mod nodes;
 mod ranges;
+mod sections;
 mod trees;
 
 // The place behind what was read, and how many numbers are written; or the place of a fault, and the refusal's number.
@@ -14,4 +33,68 @@ pub enum Read {
 pub enum Parsed {
     Structure(usize, usize),
     Refused(u8, usize),
+}
+
+// The structure of a text: its symbols, and the nodes of the dossier that it is.
+pub fn parse(
+    text: &[u8],
+    codes: &mut [u8; 4096],
+    starts: &mut [u16; 4096],
+    values: &mut [u16; 4096],
+    nodes: &mut [u16; 16384],
+) -> Parsed
+    ensures { λ r. ⌜ Parses (now (text .entry)) (now (codes .entry)) (now (starts .entry)) (now (values .entry)) (now (nodes .entry)) (now (codes .exit)) (now (starts .exit)) (now (values .exit)) (now (nodes .exit)) r ⌝ }
+{
+    match scan(text, codes, starts, values) {
+        Scanned::Symbols(n) => structure(text, codes, starts, values, n, nodes),
+        Scanned::LongText => Parsed::Refused(1, 32768),
+        Scanned::UnlistedSymbol(p) => Parsed::Refused(2, p),
+        Scanned::ManySymbols(p) => Parsed::Refused(3, p),
+    }
+}
+
+// The structure of the n symbols of a text. The nodes are made in an array of their own, so that a refusal leaves the lent one as it was.
+fn structure(
+    text: &[u8],
+    codes: &[u8],
+    starts: &[u16],
+    values: &[u16],
+    n: usize,
+    nodes: &mut [u16],
+) -> Parsed
+    requires { ⌜ Left (now text) (now codes) (now starts) (now values) n × (length (now codes) ≡ 4096) × (length (now starts) ≡ 4096) × (length (now values) ≡ 4096) × (length (now nodes) ≡ 16384) ⌝ }
+    ensures { λ r. ⌜ Answers (now (text .entry)) none (now (nodes .entry)) (now (nodes .exit)) r ⌝ }
+{
+    let mut made = [0u16; 16384];
+    match dossier(&codes[..n], &values[..n], &mut made) {
+        Read::At(e, m) => match headings(&made, m, n) {
+            Heads::Fit => {
+                copy_nodes(&made, nodes, m);
+                Parsed::Structure(n, m)
+            }
+            Heads::Differ(i) => Parsed::Refused(7, place_at(starts, n, i, text.len())),
+        },
+        Read::Fault(i, f) => Parsed::Refused(number_of(f), place_at(starts, n, i, text.len())),
+    }
+}
+
+// The first byte of a symbol, or the text's end.
+fn place_at(starts: &[u16], n: usize, i: usize, end: usize) -> usize
+    requires { ⌜ n ≤ length (now starts) ⌝ }
+    ensures { λ r. ⌜ r ≡ getD (take n (now (starts .entry))) i end ⌝ }
+{
+    if i < n {
+        return starts[i] as usize;
+    }
+    end
+}
+
+fn number_of(f: u8) -> u8
+    ensures { λ r. ⌜ r ≡ numberOf (refusalNumbered f) ⌝ }
+{
+    match f {
+        4 => 4,
+        5 => 5,
+        _ => 6,
+    }
 }

@@ -7,3 +7,6 @@ pub mod Alike
 pub mod RightSides
 pub mod Writing
 pub mod Standing
+pub mod Passing
+pub mod Itemised
+pub mod Placed

@@ -23,3 +23,7 @@ pub mod DossierParts
 pub mod DossierBodies
 pub mod Dossiers
 pub mod Texts
+pub mod Passing
+pub mod Itemised
+pub mod Placed
+pub mod Whole

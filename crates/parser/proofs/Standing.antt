@@ -4,7 +4,7 @@ use mathlib.Core.List.{List, [], _++_, map}
 use Prim.Native.Nat.{ℕ, _+_, _≤_}
 use lib.ListN.{drop, getD}
 use Rattle.symbols.specs.Kinds as kind
-use Rattle.symbols.specs.Symbols.{Name, Symbol, fixed, numeral, name}
+use Rattle.symbols.specs.Symbols.{Symbol, fixed, numeral, name}
 use Rattle.form.specs.Tree.{Term, Pred, TypeForm, Dossier}
 use Rattle.form.specs.Written.{Written, writeTerm, writePred, writeType}
 use Rattle.form.specs.Form.{termLevel, predLevel, TermGrouped, PredGrouped, Whole}
@@ -29,12 +29,6 @@ Small ρ (name x) = ρ (x .letters) ≤ 4095
 pub record Text (w : List Symbol) (ρ : Numbering) : Type 0 where
   pub spelled : AllSpelled w
   pub small : (i : ℕ) → Small ρ (getD w i (fixed kind.END))
-
--- names with the same number have the same letters
-abbrev pub Tells : Numbering → List Symbol → Type 0
-Tells ρ w =
-    (x y : Name) (i j : ℕ) → getD w i (fixed kind.END) ≡ name x → getD w j (fixed kind.END) ≡ name y → ρ (x .letters) ≡ ρ (y .letters)
-    → x .letters ≡ y .letters
 
 abbrev pub symbolsIn : List Written → List Symbol
 symbolsIn u = map (λ (x : Written). x .symbol) u

@@ -25,7 +25,8 @@ use Rattle.symbols.proofs.ValueLaws.{Named, same-value}
 use Rattle.form.proofs.Scanned.{scan-spelled}
 use Rattle.parser.specs.Inner.{codes}
 use Rattle.parser.specs.Promises.{textSymbols, numbering}
-use Rattle.parser.proofs.Standing.{valueBy, values, Small, Text, Tells}
+use Rattle.parser.proofs.Standing.{valueBy, values, Small, Text}
+use Rattle.parser.specs.Sections.{Tells}
 
 -- numbers are at most 1,000
 abbrev Below : Symbol → Type 0

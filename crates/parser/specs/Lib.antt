@@ -1,3 +1,4 @@
 pub mod Inner
 pub mod Derived
 pub mod Promises
+pub mod Sections

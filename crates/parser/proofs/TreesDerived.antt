@@ -1,6 +1,6 @@
 -- What the form pass derives are grouped trees.
 use mathlib.Core.Path.{_≡_, refl, ap, _∙_, sym, subst}
-use mathlib.Core.List.{List, [], _∷_, _++_, append-assoc, append-nil}
+use mathlib.Core.List.{List, [], _++_, append-assoc, append-nil}
 use Prim.Native.Nat.{ℕ, zero, suc, _+_, _≤_, _<_}
 use native.Mathlib.Omega.{arith}
 use lib.ListN.{getD}
@@ -54,7 +54,7 @@ level-of (suc zero) l = refl
 level-of (suc (suc zero)) l = refl
 level-of (suc (suc (suc o))) l = absurd (omega arith)
 
--- the left side's least level is at most 4, and where no connective of the level l + 1 or a higher one stands it is at most l, but for =>
+-- The least level of the left side of a connective of the level c. It is not above l where c is not, unless l is the level of =>, whose left side has the level 3.
 left-small : (c : ℕ) → c ≤ 4 → leftOf c ≤ 4
 left-small zero l = omega arith
 left-small (suc zero) l = omega arith
@@ -67,6 +67,7 @@ left-behind (suc zero) l a n = omega arith
 left-behind (suc (suc zero)) l a n = omega arith
 left-behind (suc (suc (suc c))) l a n = let e = ne-eqb (suc (suc (suc c))) 2 (λ x. omega arith) in rw e a
 
+-- behind a right side of => stands no other =>
 left-lowest : (c : ℕ) → c < 2 → leftOf c ≤ 2
 left-lowest zero l = omega arith
 left-lowest (suc zero) l = omega arith
@@ -88,7 +89,7 @@ TermRest w ρ min i j n = (h : ℕ) (m : List ℕ) (a : TermIn w ρ min h i m) �
 abbrev PredRest : (w : List Symbol) (ρ : Numbering) → (min i j : ℕ) → List ℕ → Type 0
 PredRest w ρ min i j n = (h : ℕ) (m : List ℕ) (a : PredIn w ρ min h i m) → PredFollows a → PredIn w ρ min h j (m ++ n)
 
--- what a part gives: items and pairs behind every first term, an atom behind every first term, and so on
+-- what is shown of a part: of items, pairs and what stands behind a term, for every term before; of parts that are no term and no predicate, nothing
 abbrev TreeOf : (w : List Symbol) (ρ : Numbering) → Part → (i j : ℕ) → List ℕ → Type 0
 TreeOf w ρ anOperand i j n = TermIn w ρ 3 i j n
 TreeOf w ρ someItems i j n = (h : ℕ) (m : List ℕ) → TermIn w ρ 1 h i m → ItemsIn w ρ h j (m ++ n)

@@ -1,7 +1,7 @@
 -- The symbol at a place of a text, by its code.
 use mathlib.Core.Path.{_≡_, refl, ap, _∙_, sym, subst}
-use mathlib.Core.Bool.{Bool, true, false, cond, true≢false}
-use mathlib.Core.List.{List, [], _∷_, map}
+use mathlib.Core.Bool.{true, cond, true≢false}
+use mathlib.Core.List.{List, [], _∷_}
 use Prim.Native.Nat.{ℕ, zero, suc, _+_, _-_, _*_, _≤_, _<_}
 use native.Mathlib.Omega.{arith}
 use native.Mathlib.Numerals.{add-one}
@@ -10,7 +10,7 @@ use lib.ListN.{length, drop, getD, List·getD-map}
 use lib.Seq.{drop-cons}
 use borrow.Author.Tests.{le-ltb, leb-true}
 use Rattle.symbols.specs.Kinds as kind
-use Rattle.symbols.specs.Kinds.{Kind, codeOf, lookup}
+use Rattle.symbols.specs.Kinds.{Kind, codeOf}
 use Rattle.symbols.specs.Symbols.{Symbol, fixed, numeral, name, Name, Ending, noEnding, prime, query, shriek, kindOf, kindOfName}
 use Rattle.form.specs.Tree.{Letters}
 use Rattle.form.specs.Codes.{Numbering, endingNumber, numberOfName, nameNumber}

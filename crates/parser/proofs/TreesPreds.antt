@@ -1,16 +1,16 @@
 -- Predicates from their parts: one law for each way in which the form pass derives a predicate.
-use mathlib.Core.Path.{_≡_, refl, ap, _∙_, sym}
+use mathlib.Core.Path.{_≡_, refl, ap, _∙_}
 use mathlib.Core.Bool.{Bool, true, false, cond}
-use mathlib.Core.List.{List, [], _∷_, _++_, append-assoc}
-use Prim.Native.Nat.{ℕ, suc, _+_, _≤_}
+use mathlib.Core.List.{List, _++_, append-assoc}
+use Prim.Native.Nat.{ℕ, _+_, _≤_}
 use native.Mathlib.Omega.{arith}
 use native.Mathlib.Numerals.{add-one}
 use lib.Dec.{eqb}
-use lib.ListN.{length, drop, getD}
+use lib.ListN.{getD}
 use Rattle.symbols.specs.Kinds as kind
 use Rattle.symbols.specs.Kinds.{codeOf}
 use Rattle.symbols.specs.Symbols.{Symbol, fixed}
-use Rattle.form.specs.Tree.{Connective, and, or, implies, iff, Pred, truth, falsity, negation, paren, quantified, connected, compared, member, within, related}
+use Rattle.form.specs.Tree.{Connective, and, or, implies, iff, truth, falsity, negation, paren, quantified, connected, compared, member, within, related}
 use Rattle.form.specs.Form.{connectiveLevel, leftLevel, rightLevel, predLevel, PredGrouped}
 use Rattle.form.specs.Codes.{Numbering, node, predCodes, domainWidth}
 use Rattle.form.proofs.Plain.{plainPred}

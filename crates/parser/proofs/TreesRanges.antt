@@ -1,10 +1,10 @@
 -- Ends, ranges, domains and types that the form pass derives are trees.
-use mathlib.Core.Path.{_≡_, refl, ap, _∙_, sym, subst}
+use mathlib.Core.Path.{_≡_, refl, ap, _∙_}
 use mathlib.Core.Bool.{Bool, true, false, cond}
-use mathlib.Core.List.{List, [], _∷_}
-use Prim.Native.Nat.{ℕ, suc, _+_, _-_, _≤_, _<_}
+use mathlib.Core.List.{List}
+use Prim.Native.Nat.{ℕ, _+_, _-_, _≤_, _<_}
 use native.Mathlib.Omega.{arith}
-use lib.Dec.{eqb, ltb, leb}
+use lib.Dec.{eqb}
 use lib.ListN.{length, drop, getD}
 use borrow.Author.Tests.{le-ltb, le-leb, lt-leb, eq-eqb, ne-eqb}
 use Rattle.symbols.specs.Kinds as kind
@@ -15,7 +15,7 @@ use Rattle.form.specs.Written.{arrowKind}
 use Rattle.form.specs.Codes.{Numbering, node, endWidth, endNumber, rangeCodes, domainCodes, domainWidth, typeCodes, arrowNumber}
 use Rattle.form.proofs.Plain.{plainEnd, plainRange, plainDomain, plainType}
 use Rattle.parser.specs.Inner.{codes}
-use Rattle.parser.specs.Derived.{nameCode, lowered, raised, endCode, magnitudeCode, rangeNode, isNameCode, domainNode, NameAt, EndAt, positive, negative, RangeAt, ranges}
+use Rattle.parser.specs.Derived.{nameCode, lowered, raised, endCode, magnitudeCode, rangeNode, isNameCode, domainNode, EndAt, positive, negative, RangeAt, ranges}
 use Rattle.parser.specs.Derived.{DomainAt, Derives, aType}
 use Rattle.parser.specs.Derived as derived
 use Rattle.parser.proofs.Standing.{values, Text, TypeAt}

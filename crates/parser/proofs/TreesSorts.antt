@@ -1,8 +1,8 @@
 -- The operator, connective, relation, quantifier or arrow at a place, by its code or class.
-use mathlib.Core.Path.{_≡_, refl, _∙_, sym, subst}
+use mathlib.Core.Path.{_≡_, refl, sym, subst}
 use mathlib.Core.Bool.{Bool, true, false}
-use mathlib.Core.List.{List, [], _∷_}
-use Prim.Native.Nat.{ℕ, suc, _+_, _≤_}
+use mathlib.Core.List.{List}
+use Prim.Native.Nat.{ℕ, _≤_}
 use native.Mathlib.Omega.{arith}
 use lib.Dec.{eqb}
 use lib.ListN.{getD}
@@ -10,21 +10,21 @@ use borrow.Author.Tests.{eqb-true, eqb-false}
 use Rattle.symbols.specs.Kinds as kind
 use Rattle.symbols.specs.Kinds.{Kind, codeOf, lookup}
 use Rattle.symbols.specs.Symbols.{Symbol}
-use Rattle.form.specs.Tree.{Prefix, negate, size, dom, ran, Operator, plus, minus, union, without, times, inter, Division, quotient, remainder}
-use Rattle.form.specs.Tree.{Connective, and, or, implies, iff, Quantifier, forall, exists, exists1, Comparison, equals, differs, less, atMost, Membership, isIn, notIn, Arrow, relation, partial, total}
+use Rattle.form.specs.Tree.{negate, size, dom, ran, Operator, plus, minus, union, without, times, inter, quotient, remainder}
+use Rattle.form.specs.Tree.{Connective, and, or, implies, iff, forall, exists, exists1, equals, differs, less, atMost, isIn, notIn, relation, partial, total}
 use Rattle.form.specs.Written.{prefixKind, operatorKind, divisionKind, connectiveKind, quantifierKind, comparisonKind, membershipKind, arrowKind}
 use Rattle.form.specs.Form.{operatorLevel, connectiveLevel}
 use Rattle.form.specs.Machine as machine
 use Rattle.form.specs.Machine.{starts}
 use Rattle.form.specs.Codes.{Numbering}
-use Rattle.form.proofs.Table.{Each, by-table, isFixed, _&_}
+use Rattle.form.proofs.Table.{by-table, isFixed, _&_}
 use Rattle.parser.specs.Inner.{codes, Classes, Starts, operators, connectives, predStarts, relations}
 use Rattle.parser.specs.Derived.{MemberAt}
 use Rattle.parser.specs.declared.kinds.Start.the-variants.{Leaf, Prefix as PrefixStart}
 use Rattle.parser.proofs.Standing.{Text}
 use Rattle.parser.proofs.TreesPlaces.{SortAt, SortOf, sort-at, class-at, coded-at}
 
--- operators by their level, and the two divisions
+-- an operator, or a connective, of the level l
 abbrev pub Leveled : ℕ → Type 0
 Leveled l = (o : Operator) × (operatorLevel o ≡ l)
 
@@ -44,6 +44,7 @@ truthKind false = kind.FALSE
 abbrev pub notKind : Unit {0} → Kind
 notKind x = kind.NOT
 
+-- how a symbol begins a term
 abbrev IsPrefix : machine.Start → Type 0
 IsPrefix machine.leaf = ⊥
 IsPrefix machine.prefixed = Unit {0}

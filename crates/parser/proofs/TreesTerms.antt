@@ -1,24 +1,24 @@
 -- Terms from their parts: one law for each way in which the form pass derives a term.
 use mathlib.Core.Path.{_≡_, refl, ap, _∙_, sym}
-use mathlib.Core.Bool.{Bool, true, false, cond, true≢false}
-use mathlib.Core.List.{List, [], _∷_, _++_, append-assoc}
-use Prim.Native.Nat.{ℕ, zero, suc, _+_, _≤_, _<_}
+use mathlib.Core.Bool.{Bool, true, false, true≢false}
+use mathlib.Core.List.{List, _∷_, _++_, append-assoc}
+use Prim.Native.Nat.{ℕ, _+_, _≤_}
 use native.Mathlib.Omega.{arith}
 use native.Mathlib.Numerals.{add-one}
 use lib.Dec.{eqb}
 use lib.ListN.{length, drop, getD}
 use borrow.Author.Tests.{eq-eqb, ne-eqb}
 use Rattle.symbols.specs.Kinds as kind
-use Rattle.symbols.specs.Kinds.{Kind, codeOf, lookup}
+use Rattle.symbols.specs.Kinds.{codeOf}
 use Rattle.symbols.specs.Symbols as symbol
 use Rattle.symbols.specs.Symbols.{Symbol, fixed, numeral, noEnding, Ending, prime, query, shriek, kindOfName}
 use Rattle.form.specs.Tree.{Division, quotient, remainder}
-use Rattle.form.specs.Tree.{Term, number, name, group, prefix, binary, divided, listed, pairs, such, emptySet, emptyPairs, Items, only, also, Pairs, onlyPair, alsoPair}
+use Rattle.form.specs.Tree.{number, name, group, prefix, binary, divided, listed, pairs, such, emptySet, emptyPairs, Items, only, also, Pairs, onlyPair, alsoPair}
 use Rattle.form.specs.Written.{divisionKind}
 use Rattle.form.specs.Form.{termLevel, TermGrouped, ItemsGrouped, PairsGrouped}
 use Rattle.form.specs.Codes.{Numbering, node, termCodes, itemsCodes, pairsCodes, signOf, divisionNumber}
 use Rattle.form.proofs.Plain.{plainTerm, plainItems, plainPairs}
-use Rattle.parser.specs.Inner.{codes, Classes, Starts, operators, levelOf}
+use Rattle.parser.specs.Inner.{codes, Classes, Starts, operators}
 use Rattle.parser.specs.Derived.{nameCode, magnitudeCode, divisionCode, leafNode, NameAt, EndAt}
 use Rattle.parser.specs.declared.kinds.Start.the-variants.{Leaf, Prefix}
 use Rattle.parser.proofs.Standing.{values, Text}

@@ -236,6 +236,9 @@ module _ {text codes₀ starts₀ values₀ coded starts valued : List ℕ} {r :
       first-filled text faultless (λ (x : Placed). codeIn (x .symbol)) codes₀ coded (h .coded)
       ∙ map-symbols (λ (s : Symbol). codeOf (kindOf s)) (λ (x : Placed). codeIn (x .symbol)) (λ x. refl) (symbols (scan text))
 
+  pub starts-first : take (length (textSymbols text)) starts ≡ map (λ (x : Placed). x .place) (symbols (scan text))
+  starts-first = first-filled text faultless (λ (x : Placed). x .place) starts₀ starts (h .placed)
+
   pub values-first : take (length (textSymbols text)) valued ≡ values (numbering text) (textSymbols text)
   values-first =
       first-filled text faultless (λ (x : Placed). valueAt r (symbols (scan text)) (x .symbol)) values₀ valued (h .valued)
@@ -243,22 +246,25 @@ module _ {text codes₀ starts₀ values₀ coded starts valued : List ℕ} {r :
       (λ x. value-by (symbols (scan text)) r (h .answer ∙ faultless) (x .symbol)) (symbols (scan text))
 
 -- what a scan that answers n symbols leaves
-pub record Known (text coded valued : List ℕ) (n : ℕ) : Type 0 where
+pub record Known (text coded starts valued : List ℕ) (n : ℕ) : Type 0 where
   pub few : n ≤ 4096
   pub count : length (textSymbols text) ≡ n
   pub codes-are : take n coded ≡ codes (textSymbols text)
+  pub starts-are : take n starts ≡ map (λ (x : Placed). x .place) (symbols (scan text))
   pub values-are : take n valued ≡ values (numbering text) (textSymbols text)
   pub symbols-are : Text (textSymbols text) (numbering text)
   pub tells : Tells (numbering text) (textSymbols text)
 
-pub known : {text codes₀ starts₀ values₀ coded starts valued : List ℕ} {n : ℕ} → Scans text codes₀ starts₀ values₀ coded starts valued (Symbols n) → Known text coded valued n
-known {text} {coded = coded} {valued = valued} {n = n} h =
+pub known : {text codes₀ starts₀ values₀ coded starts valued : List ℕ} {n : ℕ} → Scans text codes₀ starts₀ values₀ coded starts valued (Symbols n)
+    → Known text coded starts valued n
+known {text} {coded = coded} {starts = starts} {valued = valued} {n = n} h =
     let e : faultIn text ≡ none = sym (h .answer) in
     let c : length (textSymbols text) ≡ n = length-map (symbols (scan text)) (λ (x : Placed). x .symbol) ∙ sym (h .counted n refl) in
     record {
       few = h .few n refl;
       count = c;
       codes-are = ap (λ (k : ℕ). take k coded) (sym c) ∙ codes-first h e;
+      starts-are = ap (λ (k : ℕ). take k starts) (sym c) ∙ starts-first h e;
       values-are = ap (λ (k : ℕ). take k valued) (sym c) ∙ values-first h e;
       symbols-are = text-known text e;
       tells = text-tells text;

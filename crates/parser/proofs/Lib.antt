@@ -7,4 +7,5 @@ pub mod Alike
 pub mod RightSides
 pub mod Writing
 pub mod Numbers
+pub mod Showing
 pub mod Standing

@@ -1,4 +1,5 @@
 // Symbols to the structure of a dossier: numbers 4, 5, 6 and 7 of document 01.
+mod copies;
 mod kinds;
 mod nodes;
 mod ranges;

@@ -7,6 +7,7 @@ pub mod Alike
 pub mod RightSides
 pub mod Writing
 pub mod Numbers
+pub mod Showing
 pub mod Standing
 pub mod Making
 pub mod TreesPlaces

@@ -10,3 +10,9 @@ pub mod Standing
 pub mod Passing
 pub mod Itemised
 pub mod Placed
+pub mod Kept
+pub mod Rising
+pub mod Bodied
+pub mod Titled
+pub mod Known
+pub mod Answered

@@ -28,3 +28,9 @@ pub mod Passing
 pub mod Itemised
 pub mod Placed
 pub mod Whole
+pub mod Kept
+pub mod Rising
+pub mod Bodied
+pub mod Titled
+pub mod Known
+pub mod Answered

@@ -10,6 +10,7 @@ use crate::bodies::dossier;
 use crate::copies::copy_nodes;
 use crate::headings::Heads;
 use crate::headings::headings;
+use crate::sections::wide;
 use symbols::Scanned;
 use symbols::scan;
 
@@ -84,7 +85,7 @@ fn place_at(starts: &[u16], n: usize, i: usize, end: usize) -> usize
     ensures { λ r. ⌜ r ≡ getD (take n (now (starts .entry))) i end ⌝ }
 {
     if i < n {
-        return starts[i] as usize;
+        return wide(starts[i]);
     }
     end
 }

@@ -90,6 +90,14 @@ fixed-at {w} t κ {i} q l =
     let p = place t i (omega arith) in
     step-of p κ (le-leb 10 (codeOf κ) l) (told-kind (kindOf (getD w i (fixed kind.END))) κ (sym (p .code) ∙ q))
 
+-- the code of a name is by its ending
+pub ending-code : (e : Ending) → codeOf (kindOfName e) ≡ 2 + endingNumber e
+unfolding codeOf
+ending-code noEnding = refl
+ending-code prime = refl
+ending-code query = refl
+ending-code shriek = refl
+
 -- a number, by its value
 pub record NumberAt (w : List Symbol) (ρ : Numbering) (i : ℕ) : Type 0 where
   pub number : ℕ
@@ -104,13 +112,7 @@ number-at {w} {ρ} t {i} q = on (getD w i (fixed kind.END)) (place t i (omega ar
     on : (s : Symbol) → Place w ρ i s → NumberAt w ρ i
     on (fixed k) p = absurd (number-kind k (p .spelled) (told-kind kind.number k (sym q ∙ p .code)))
     on (numeral n) p = record { number = n; step = p .step; value = p .value; small = p .small }
-    on (name x) p = absurd (other (x .ending) (sym q ∙ p .code))
-      where
-        other : (e : Ending) → 1 ≡ codeOf (kindOfName e) → ⊥
-        other noEnding r = omega arith
-        other prime r = omega arith
-        other query r = omega arith
-        other shriek r = omega arith
+    on (name x) p = absurd (let c = ending-code (x .ending) in let k = p .code in omega arith)
 
 -- a name, with the code of its ending and its number
 pub record NamedAt (w : List Symbol) (ρ : Numbering) (i : ℕ) : Type 0 where
@@ -121,13 +123,6 @@ pub record NamedAt (w : List Symbol) (ρ : Numbering) (i : ℕ) : Type 0 where
 
 name-value : (v k x n : ℕ) → v ≡ x → x ≤ 4095 → k ≡ 2 + n → cond (ltb 4095 v) 0 (cond (ltb k 2) 0 (4 * v + (k - 2))) ≡ 4 * x + n
 name-value v k x n e l q = rw (le-ltb 4095 v (omega arith), le-ltb k 2 (omega arith)) (omega arith)
-
-ending-code : (e : Ending) → codeOf (kindOfName e) ≡ 2 + endingNumber e
-unfolding codeOf
-ending-code noEnding = refl
-ending-code prime = refl
-ending-code query = refl
-ending-code shriek = refl
 
 pub named-at : {w : List Symbol} {ρ : Numbering} {i : ℕ} {x : Name} → Place w ρ i (name x) → NamedAt w ρ i
 unfolding nameCode numberOfName

@@ -11,7 +11,7 @@ use borrow.Author.Tests.{eq-eqb, ne-eqb}
 use Rattle.symbols.specs.Kinds as kind
 use Rattle.symbols.specs.Kinds.{codeOf}
 use Rattle.symbols.specs.Symbols as symbol
-use Rattle.symbols.specs.Symbols.{Symbol, fixed, numeral, noEnding, Ending, prime, query, shriek, kindOfName}
+use Rattle.symbols.specs.Symbols.{Symbol, fixed, numeral}
 use Rattle.form.specs.Tree.{Division, quotient, remainder}
 use Rattle.form.specs.Tree.{number, name, group, prefix, binary, divided, listed, pairs, such, emptySet, emptyPairs, Items, only, also, Pairs, onlyPair, alsoPair}
 use Rattle.form.specs.Written.{divisionKind}
@@ -22,7 +22,7 @@ use Rattle.parser.specs.Inner.{codes, Classes, Starts, operators}
 use Rattle.parser.specs.Derived.{nameCode, magnitudeCode, divisionCode, leafNode, NameAt, EndAt}
 use Rattle.parser.specs.declared.kinds.Start.the-variants.{Leaf, Prefix}
 use Rattle.parser.proofs.Standing.{values, Text}
-use Rattle.parser.proofs.SymbolAt.{Place, place, fixed-at, named-at, name-at, plain-at}
+use Rattle.parser.proofs.SymbolAt.{Place, place, fixed-at, ending-code, named-at, name-at, plain-at}
 use Rattle.parser.proofs.OperatorAt.{leaf-kind, prefix-at, operator-at, division-at}
 use Rattle.parser.proofs.Spans.{TermIn, PredIn, term-width}
 use Rattle.parser.proofs.RangeTrees.{end-in}
@@ -43,13 +43,6 @@ pub record PairsIn (w : List Symbol) (ρ : Numbering) (i j : ℕ) (n : List ℕ)
   pub inside : j ≤ length w
   pub symbols : drop i w ≡ plainPairs tree (fixed kind.closeBrace ∷ drop j w)
   pub nodes : n ≡ pairsCodes tree i ρ
-
-name-code : (e : Ending) → codeOf (kindOfName e) ≡ 1 → ⊥
-unfolding codeOf
-name-code noEnding q = omega arith
-name-code prime q = omega arith
-name-code query q = omega arith
-name-code shriek q = omega arith
 
 division-code : (s : List ℕ) (i : ℕ) (o : Division) (b : Bool) → getD s i 0 ≡ codeOf (divisionKind o) → eqb (getD s (i + 1) 0) 29 ≡ b → divisionCode s i ≡ signOf b + divisionNumber o
 unfolding divisionCode codeOf
@@ -84,7 +77,7 @@ module _ {w : List Symbol} {ρ : Numbering} (t : Text w ρ) where
             ahead = omega arith;
             inside = a .step .inside;
             symbols = a .step .steps;
-            nodes = rw (ne-eqb (getD (codes w) i 0) 1 (λ e. name-code (x .ending) (sym (p .code) ∙ e))) (ap (λ (c : ℕ). node 2 i c 0) (a .number));
+            nodes = rw (ne-eqb (getD (codes w) i 0) 1 (λ e. let c = ending-code (x .ending) in let k = p .code in omega arith)) (ap (λ (c : ℕ). node 2 i c 0) (a .number));
           }
 
   pub prefixed-in : {i j : ℕ} {n : List ℕ} → Starts (getD (codes w) i 0) Prefix → TermIn w ρ 3 (i + 1) j n → TermIn w ρ 3 i j (n ++ node 3 i (getD (codes w) i 0) 0)

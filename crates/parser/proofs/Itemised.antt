@@ -5,8 +5,8 @@ use Prim.Native.Nat.{ℕ, suc, _+_, _≤_, _<_}
 use native.Mathlib.Omega.{arith}
 use lib.ListN.{length, getD, length-append}
 use lib.Seq.{getD-append-add}
-use Rattle.form.specs.Tree.{Letters, Pred, TypeForm, givenType, powerType, rangeType, arrowType, Declaration, declarations, Parameter, Given, elements, State, Operation}
-use Rattle.form.specs.Written.{endingOf, writeDeclarations}
+use Rattle.form.specs.Tree.{Letters, Pred, TypeForm, givenType, powerType, rangeType, arrowType, Declaration, declarations, Parameter, Given, elements, State}
+use Rattle.form.specs.Written.{writeDeclarations}
 use Rattle.form.specs.Codes.{node, Numbering, entryCodes, elementCodes, givenCodes, typeCodes, declarationCodes, parameterCodes, predCodes, conditionCodes, stateCodes}
 use Rattle.parser.specs.Sections.{sizeOf, sizeAt, In, Run, stops, passes, StateAt}
 
@@ -15,9 +15,6 @@ pub record Split (c : List ℕ) (n : ℕ) (q : List ℕ) : Type 0 where
   pub front : List ℕ
   pub whole : c ≡ front ++ q
   pub long : length front ≡ n
-
-pub split-all : (c : List ℕ) → Split c 0 c
-split-all c = record { front = []; whole = refl; long = refl }
 
 pub split-first : {c : List ℕ} (x q : List ℕ) → c ≡ x ++ q → Split c (length x) q
 split-first x q e = record { front = x; whole = e; long = refl }

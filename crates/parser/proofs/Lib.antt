@@ -7,6 +7,7 @@ pub mod Alike
 pub mod RightSides
 pub mod Writing
 pub mod Numbers
+pub mod Showing
 pub mod Standing
 pub mod Making
 pub mod SymbolAt
@@ -26,3 +27,9 @@ pub mod Passing
 pub mod Itemised
 pub mod Placed
 pub mod Whole
+pub mod Kept
+pub mod Rising
+pub mod Bodied
+pub mod Titled
+pub mod Known
+pub mod Answered

@@ -1,6 +1,5 @@
 -- Items of a dossier's nodes are passed over, one by one, by the code.
 use mathlib.Core.Path.{_≡_, refl, sym, ap, _∙_, subst, subst₂}
-use mathlib.Core.Bool.{Bool, true, false}
 use mathlib.Core.List.{List}
 use Prim.Native.Nat.{ℕ, _+_, _≤_, _<_}
 use native.Mathlib.Omega.{arith}
@@ -8,7 +7,7 @@ use borrow.Author.Tests.{leb-true, leb-false, ne-eqb}
 use lib.Dec.{leb}
 use lib.ListN.{take, getD}
 use lib.Seq.{getD-take}
-use Rattle.parser.specs.Sections.{Part, sizeOf, Sized, sizeAt, Skips, In, Inside, Run, stops, passes, StateAt}
+use Rattle.parser.specs.Sections.{Part, sizeOf, sizeAt, In, Inside, Run, stops, passes, StateAt}
 use Rattle.parser.specs.Sections.{Compares, fits, extra, wants, differs, agrees}
 use Rattle.parser.specs.declared.headings.Heads.{Heads}
 use Rattle.parser.specs.declared.headings.Heads.the-variants.{Fit, Differ}

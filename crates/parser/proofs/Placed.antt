@@ -1,7 +1,7 @@
 -- Where the parts of a dossier stand among its nodes, and that the pass over them finds these places.
 use mathlib.Core.Path.{_≡_, refl, sym, ap, _∙_, subst, subst₂}
-use mathlib.Core.List.{List, [], _∷_, _++_, append-assoc}
-use Prim.Native.Nat.{ℕ, suc, _+_, _≤_, _<_}
+use mathlib.Core.List.{List, [], _++_, append-assoc}
+use Prim.Native.Nat.{ℕ, _+_, _≤_}
 use native.Mathlib.Omega.{arith}
 use lib.ListN.{length, take, length-append}
 use lib.Seq.{length-take-le}
@@ -10,9 +10,9 @@ use Rattle.form.specs.Tree.{Dossier}
 use Rattle.form.specs.Written.{writeEntries, aGiven}
 use Rattle.form.specs.Headings.{givensAt, abstractAt, concreteAt, ainitAt, cinitAt, retrieveAt, operationsAt}
 use Rattle.form.specs.Codes.{Numbering, entryCodes, givenCodes, stateCodes, conditionCodes, operationCodes, contentsCodes, dossierCodes}
-use Rattle.parser.specs.Sections.{sizeOf, sizeAt, Run, StateAt, SectionsOf}
+use Rattle.parser.specs.Sections.{sizeOf, sizeAt, Run, StateAt}
 use Rattle.parser.specs.Sections.{entriesFrom, givensFrom, abstractFrom, concreteFrom, ainitFrom, cinitFrom, retrieveFrom, operationsFrom}
-use Rattle.parser.proofs.Itemised.{Split, split-all, split-first, split-next, split-length, items-run, entries-items, givens-items, ItemAt, state-at, condition-at}
+use Rattle.parser.proofs.Itemised.{Split, split-first, split-next, items-run, entries-items, givens-items, ItemAt, state-at, condition-at}
 use Rattle.parser.proofs.Itemised.{above, entries-above, givens-above, state-above}
 
 module _ (d : Dossier) (ρ : Numbering) where
@@ -105,7 +105,7 @@ module _ (d : Dossier) (ρ : Numbering) where
       (items-run (entries-items 1 one 1 (d .givenEntries) ρ) (operationPart ++ fromGivens) at-start
       (above 2 1 1 (operationPart ++ fromGivens) (entries-above entriesAt (d .operationEntries) ρ fromGivens (omega arith)) (omega arith)))
 
-  givens-from : entriesFrom d ρ + length operationPart ≡ givensFrom d ρ
+  pub givens-from : entriesFrom d ρ + length operationPart ≡ givensFrom d ρ
   unfolding entriesFrom givensFrom contentsCodes
   givens-from = sym (length-append givenPart operationPart)
 

@@ -18,7 +18,7 @@ use Rattle.form.proofs.Table.{AllSpelled}
 use Rattle.form.proofs.FormOf.{form-of}
 use Rattle.parser.specs.Inner.{codes, Left}
 use Rattle.parser.specs.Derived.{Derives, aDossier}
-use Rattle.parser.specs.Sections.{Tells, Headed, Decides}
+use Rattle.parser.specs.Sections.{Tells, Headed, Finds}
 use Rattle.parser.specs.Promises.{textSymbols, numbering, Answers, AnswersHeadings}
 use Rattle.parser.specs.declared.Parsed.{Parsed}
 use Rattle.parser.specs.declared.Parsed.the-variants.{Structure, Refused}
@@ -78,7 +78,7 @@ module _ {text coded placed valued : List ℕ} {n : ℕ} (left : Left text coded
     symbols-are : textSymbols text ≡ symbolsOf d
     symbols-are = sym (tree .whole .symbols)
 
-    decides : (h : Heads) → Headed made m n h → Decides d h
+    decides : (h : Heads) → Headed made m n h → Finds (headingFaults d) h
     decides h f =
         f d (numbering text) room nodes-are (sym (facts .count) ∙ ap length symbols-are)
         (subst (λ (w : List Symbol). Tells (numbering text) w) symbols-are (facts .tells))

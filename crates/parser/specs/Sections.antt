@@ -1,14 +1,14 @@
 -- Where the parts of a dossier begin among its nodes, and number 7 over them: what the pass over the headings promises.
 use mathlib.Core.Path.{_≡_}
 use mathlib.Core.Bool.{Bool, true, false, cond}
-use mathlib.Core.List.{List, [], _∷_, _++_}
-use mathlib.Core.Option.{Option, none, some}
-use Prim.Native.Nat.{ℕ, suc, _+_, _-_, _≤_, _<_}
+use mathlib.Core.List.{List}
+use mathlib.Core.Option.{none, some}
+use Prim.Native.Nat.{ℕ, _+_, _≤_, _<_}
 use lib.Dec.{eqb}
 use lib.ListN.{length, take, getD}
 use Rattle.symbols.specs.Kinds as kind
 use Rattle.symbols.specs.Symbols.{Name, Symbol, fixed, name}
-use Rattle.symbols.specs.Refusals.{fault, headingDiffers, least}
+use Rattle.symbols.specs.Refusals.{Fault, fault, headingDiffers, least}
 use Rattle.form.specs.Tree.{Dossier}
 use Rattle.form.specs.Written.{symbolsOf}
 use Rattle.form.specs.Headings.{headingFaults, givensAt, abstractAt, concreteAt, ainitAt, cinitAt, retrieveAt}
@@ -64,14 +64,14 @@ abbrev pub Tells : Numbering → List Symbol → Type 0
 Tells ρ w =
     (x y : Name) (i j : ℕ) → getD w i (fixed kind.END) ≡ name x → getD w j (fixed kind.END) ≡ name y → ρ (x .letters) ≡ ρ (y .letters) → x .letters ≡ y .letters
 
--- the least fault of number 7
-abbrev pub Decides : Dossier → Heads → Type 0
-Decides d Fit = least (headingFaults d) ≡ none
-Decides d (Differ p) = least (headingFaults d) ≡ some (fault p headingDiffers)
+-- the least of some faults of number 7
+abbrev pub Finds : List Fault → Heads → Type 0
+Finds f Fit = least f ≡ none
+Finds f (Differ p) = least f ≡ some (fault p headingDiffers)
 
 abbrev pub Headed : List ℕ → (m symbols : ℕ) → Heads → Type 0
 Headed a m symbols r =
-    (d : Dossier) (ρ : Numbering) → m ≤ length a → take m a ≡ dossierCodes d ρ → symbols ≡ length (symbolsOf d) → Tells ρ (symbolsOf d) → Decides d r
+    (d : Dossier) (ρ : Numbering) → m ≤ length a → take m a ≡ dossierCodes d ρ → symbols ≡ length (symbolsOf d) → Tells ρ (symbolsOf d) → Finds (headingFaults d) r
 
 -- What the functions promise each other, over the first m numbers of the array. Nothing below need be believed.
 abbrev pub Part : List ℕ → (at m k r : ℕ) → Type 0
@@ -84,14 +84,12 @@ sizeOf k n = cond (eqb k 6) 8 (cond (eqb k 7) (4 + n) 4)
 pub record Sized (k n r : ℕ) : Type 0 where
   pub size : r ≡ sizeOf k n
   pub some : 4 ≤ r
-  pub small : r ≤ 65540
 
 unfoldable pub sizeAt : List ℕ → ℕ → ℕ
 sizeAt t i = sizeOf (getD t (i + 3) 0) (getD t (i + 1) 0)
 
 pub record Skips (a : List ℕ) (m at r : ℕ) : Type 0 where
   pub within : r ≤ m
-  pub from : at ≤ r
   pub ahead : at < m → at < r
   pub exact : at + 4 ≤ m → at + sizeAt (take m a) at ≤ m → r ≡ at + sizeAt (take m a) at
 
@@ -112,7 +110,6 @@ pub data Run (t : List ℕ) (m low high : ℕ) : ℕ → ℕ → Type 0 where
 
 pub record RunsTo (a : List ℕ) (m low high at r : ℕ) : Type 0 where
   pub within : r ≤ m
-  pub from : at ≤ r
   pub exact : (e : ℕ) → Run (take m a) m low high at e → r ≡ e
 
 -- a state from i up to e

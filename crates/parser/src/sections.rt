@@ -34,7 +34,7 @@ pub fn wide(x: u16) -> usize
 }
 
 // How many numbers the nodes of an item have: behind a declared name stands its type, and a predicate says how many follow.
-pub fn item(shape: u16, count: u16) -> usize
+fn item(shape: u16, count: u16) -> usize
     ensures { λ r. ⌜ Sized shape count r ⌝ }
 {
     if shape == 6 {

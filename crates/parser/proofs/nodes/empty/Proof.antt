@@ -2,12 +2,14 @@
 use mathlib.Core.List.{[], _∷_}
 use borrow.Author.Needs.{needs}
 use Prim.Native.Nat.{_+_}
-use mathlib.Core.Path.{refl, sym, _∙_}
+use mathlib.Core.Path.{refl, sym, ap, _∙_}
 use native.Mathlib.Omega.{arith}
 use Rattle.form.specs.Machine.{anEmptyRest}
 use Rattle.form.specs.Computed.{computeForm}
-use Rattle.parser.proofs.Reading.{here, takes, stops, likewise}
+use Rattle.parser.specs.declared.Read.the-variants.{At}
+use Rattle.parser.proofs.Reading.{here, takes, stops, likewise, known}
 use Rattle.parser.proofs.Stepping.{name-step, second-step, name-taken, second-taken}
+use Rattle.parser.proofs.Showing.{name-at, empty-one, empty-two}
 use Rattle.parser.proofs.nodes.empty.Statement.{statement}
 use Rattle.parser.proofs.nodes.empty.Tie as tie
 
@@ -25,7 +27,7 @@ add-t15 c = search needs
 
 returns : tie.Need-returns
 unfolding computeForm
-returns c = stops (omega arith) (λ κ e γ. name-step κ (anEmptyRest ∷ γ) (c .before .name-of .ensures .class κ (e ∙ sym (c .before .before .kind-at .ensures .is)) ∙ c .if1 .taken)) (λ γ. refl)
+returns c = (stops (omega arith) (λ κ e γ. name-step κ (anEmptyRest ∷ γ) (c .before .name-of .ensures .classes .class κ (e ∙ sym (c .before .before .kind-at .ensures .is)) ∙ c .if1 .taken)) (λ γ. refl), tt)
 
 add-name-number : tie.Need-add-name-number
 add-name-number c = search needs
@@ -59,7 +61,7 @@ same-length c = search needs
 
 returns-2 : tie.Need-returns-2
 unfolding computeForm
-returns-2 c = takes {μ = anEmptyRest ∷ []} (omega arith) (λ κ e γ. name-taken κ (anEmptyRest ∷ γ) (λ q. c .before .before .before .before .before .before .before .before .if1 .left (sym (c .before .before .before .before .before .before .before .before .before .name-of .ensures .class κ (e ∙ sym (c .before .before .before .before .before .before .before .before .before .before .kind-at .ensures .is))) ∙ q))) (likewise (λ κ e γ. second-step κ γ (c .before .before .before .before .before .name-of2 .ensures .class κ (e ∙ sym (c .before .before .before .before .before .before .kind-at2 .ensures .is)) ∙ c .before .before .before .before .if2 .taken)) (λ γ. refl) (here (omega arith))) (omega arith)
+returns-2 c = (known (ap (λ m. At (c .before .before .before .before .before .before .before .before .before .before .before .before .before .before .args .at + 1 + 1) m) (sym (c .before .before .put .ensures .count))) (takes {μ = anEmptyRest ∷ []} (omega arith) (λ κ e γ. name-taken κ (anEmptyRest ∷ γ) (λ q. c .before .before .before .before .before .before .before .before .if1 .left (sym (c .before .before .before .before .before .before .before .before .before .name-of .ensures .classes .class κ (e ∙ sym (c .before .before .before .before .before .before .before .before .before .before .kind-at .ensures .is))) ∙ q))) (likewise (λ κ e γ. second-step κ γ (c .before .before .before .before .before .name-of2 .ensures .classes .class κ (e ∙ sym (c .before .before .before .before .before .before .kind-at2 .ensures .is)) ∙ c .before .before .before .before .if2 .taken)) (λ γ. refl) (here (omega arith))) (omega arith)), empty-one (c .before .before .before .before .before .before .before .before .before .before .before .before .before .before .pre .2) (name-at (c .before .before .before .before .before .before .before .before .before .before .kind-at .ensures .is) (c .before .before .before .before .before .before .before .before .before .name-of .ensures) (c .before .before .before .before .before .before .before .before .if1 .left)) (c .before .before .before .before .before .before .before .name-number .ensures) (c .before .before .put .ensures))
 
 add-name-number-2 : tie.Need-add-name-number-2
 add-name-number-2 c = search needs
@@ -87,7 +89,7 @@ same-length-2 c = search needs
 
 returns-3 : tie.Need-returns-3
 unfolding computeForm
-returns-3 c = takes {μ = anEmptyRest ∷ []} {m = c .before .before .before .before .before .before .before .before .before .before .before .before .before .before .before .args .n + 4} (omega arith) (λ κ e γ. name-taken κ (anEmptyRest ∷ γ) (λ q. c .before .before .before .before .before .before .before .before .before .if1 .left (sym (c .before .before .before .before .before .before .before .before .before .before .name-of .ensures .class κ (e ∙ sym (c .before .before .before .before .before .before .before .before .before .before .before .kind-at .ensures .is))) ∙ q))) (takes (omega arith) (λ κ e γ. second-taken κ γ (λ q. c .before .before .before .before .before .if2 .left (sym (c .before .before .before .before .before .before .name-of2 .ensures .class κ (e ∙ sym (c .before .before .before .before .before .before .before .kind-at2 .ensures .is))) ∙ q))) (here (omega arith)) (omega arith)) (omega arith)
+returns-3 c = (known (ap (λ m. At (c .before .before .before .before .before .before .before .before .before .before .before .before .before .before .before .args .at + 1 + 1 + 1) m) (sym (c .before .before .put2 .ensures .count))) (takes {μ = anEmptyRest ∷ []} {m = c .before .before .before .before .before .before .before .before .before .before .before .before .before .before .before .args .n + 4} (omega arith) (λ κ e γ. name-taken κ (anEmptyRest ∷ γ) (λ q. c .before .before .before .before .before .before .before .before .before .if1 .left (sym (c .before .before .before .before .before .before .before .before .before .before .name-of .ensures .classes .class κ (e ∙ sym (c .before .before .before .before .before .before .before .before .before .before .before .kind-at .ensures .is))) ∙ q))) (takes (omega arith) (λ κ e γ. second-taken κ γ (λ q. c .before .before .before .before .before .if2 .left (sym (c .before .before .before .before .before .before .name-of2 .ensures .classes .class κ (e ∙ sym (c .before .before .before .before .before .before .before .kind-at2 .ensures .is))) ∙ q))) (here (omega arith)) (omega arith)) (omega arith)), empty-two (c .before .before .before .before .before .before .before .before .before .before .before .before .before .before .before .pre .2) (name-at (c .before .before .before .before .before .before .before .before .before .before .before .kind-at .ensures .is) (c .before .before .before .before .before .before .before .before .before .before .name-of .ensures) (c .before .before .before .before .before .before .before .before .before .if1 .left)) (name-at (c .before .before .before .before .before .before .before .kind-at2 .ensures .is) (c .before .before .before .before .before .before .name-of2 .ensures) (c .before .before .before .before .before .if2 .left)) (c .before .before .before .before .before .before .before .before .name-number .ensures) (c .before .before .before .before .name-number2 .ensures) (c .before .before .put2 .ensures))
 
 pub empty-spec : {M : Type 1} → statement M
 empty-spec =

@@ -8,7 +8,7 @@ use Rattle.parser.proofs.sections.item.Statement.{statement}
 use Rattle.parser.proofs.sections.item.Tie as tie
 
 returns : tie.Need-returns
-returns c = record { size = size-six (c .before .args .shape) (c .before .args .count) (c .if1 .taken); some = omega arith; small = omega arith }
+returns c = record { size = size-six (c .before .args .shape) (c .before .args .count) (c .if1 .taken); some = omega arith }
 
 wide-requires : tie.Need-wide-requires
 wide-requires c κs = search needs
@@ -17,10 +17,10 @@ add-result : tie.Need-add-result
 add-result c = search needs
 
 returns-2 : tie.Need-returns-2
-returns-2 c = record { size = ap (λ (x : ℕ). 4 + x) (c .wide .ensures) ∙ size-seven (c .before .before .before .args .shape) (c .before .before .before .args .count) (c .before .if2 .taken); some = omega arith; small = omega arith }
+returns-2 c = record { size = ap (λ (x : ℕ). 4 + x) (c .wide .ensures) ∙ size-seven (c .before .before .before .args .shape) (c .before .before .before .args .count) (c .before .if2 .taken); some = omega arith }
 
 returns-3 : tie.Need-returns-3
-returns-3 c = record { size = size-other (c .before .before .args .shape) (c .before .before .args .count) (c .before .if1 .left) (c .if2 .left); some = omega arith; small = omega arith }
+returns-3 c = record { size = size-other (c .before .before .args .shape) (c .before .before .args .count) (c .before .if1 .left) (c .if2 .left); some = omega arith }
 
 pub item-spec : {M : Type 1} → statement M
 item-spec =

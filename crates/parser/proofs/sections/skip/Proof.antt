@@ -18,13 +18,13 @@ item-requires : tie.Need-item-requires
 item-requires c κs = search needs
 
 returns : tie.Need-returns
-returns c = record { within = omega arith; from = omega arith; ahead = omega arith; exact = λ l h. let e = skipped (c .before .before .before .before .before .args .nodes .now) (c .before .before .before .before .before .args .m) (c .before .before .before .before .before .args .at) (c .before .before .before .part .result) (c .before .before .part2 .result) (c .before .item .result) l (c .before .before .before .part .ensures) (c .before .before .part2 .ensures) (c .before .item .ensures .size) in omega arith }
+returns c = record { within = omega arith; ahead = omega arith; exact = λ l h. let e = skipped (c .before .before .before .before .before .args .nodes .now) (c .before .before .before .before .before .args .m) (c .before .before .before .before .before .args .at) (c .before .before .before .part .result) (c .before .before .part2 .result) (c .before .item .result) l (c .before .before .before .part .ensures) (c .before .before .part2 .ensures) (c .before .item .ensures .size) in omega arith }
 
 add-result : tie.Need-add-result
 add-result c = search needs
 
 returns-2 : tie.Need-returns-2
-returns-2 c = record { within = omega arith; from = omega arith; ahead = omega arith; exact = λ l h. let e = skipped (c .before .before .before .before .before .args .nodes .now) (c .before .before .before .before .before .args .m) (c .before .before .before .before .before .args .at) (c .before .before .before .part .result) (c .before .before .part2 .result) (c .before .item .result) l (c .before .before .before .part .ensures) (c .before .before .part2 .ensures) (c .before .item .ensures .size) in omega arith }
+returns-2 c = record { within = omega arith; ahead = omega arith; exact = λ l h. let e = skipped (c .before .before .before .before .before .args .nodes .now) (c .before .before .before .before .before .args .m) (c .before .before .before .before .before .args .at) (c .before .before .before .part .result) (c .before .before .part2 .result) (c .before .item .result) l (c .before .before .before .part .ensures) (c .before .before .part2 .ensures) (c .before .item .ensures .size) in omega arith }
 
 pub skip-spec : {M : Type 1} → statement M
 skip-spec =

@@ -155,7 +155,7 @@ end-plain e w = at (e .negative)
 range-plain : (r : Range) (w : List Written) → symbolsIn (writeRange r w) ≡ plainRange r (symbolsIn w)
 range-plain r w = end-plain (r .lower) _ ∙ ap (λ (l : List Symbol). plainEnd (r .lower) (fixed kind.upTo ∷ l)) (end-plain (r .upper) w)
 
-domain-plain : (t : Domain) (w : List Written) → symbolsIn (writeDomain t w) ≡ plainDomain t (symbolsIn w)
+pub domain-plain : (t : Domain) (w : List Written) → symbolsIn (writeDomain t w) ≡ plainDomain t (symbolsIn w)
 domain-plain (givenSet g) w = refl
 domain-plain (range r) w = range-plain r w
 
@@ -204,7 +204,7 @@ mutual
   pred-plain (related o t u v) d k w =
       term-plain t _ _ _ ∙ ap (λ (l : List Symbol). plainTerm t (fixed kind.maplet ∷ l)) (term-plain u _ _ _ ∙ ap (λ (l : List Symbol). plainTerm u (fixed (membershipKind o) ∷ l)) (term-plain v _ _ _))
 
-type-plain : (t : TypeForm) (w : List Written) → symbolsIn (writeType t w) ≡ plainType t (symbolsIn w)
+pub type-plain : (t : TypeForm) (w : List Written) → symbolsIn (writeType t w) ≡ plainType t (symbolsIn w)
 unfolding writeType
 type-plain (givenType g) w = refl
 type-plain (powerType g) w = refl

@@ -1,4 +1,4 @@
--- What stands behind a tree's symbols does not change them.
+-- What stands behind a tree's symbols does not change them: they are those of the tree alone, and then the others.
 use mathlib.Core.Path.{_≡_, refl, ap, _∙_, sym}
 use mathlib.Core.Bool.{Bool, true, false}
 use mathlib.Core.List.{List, [], _∷_, _++_}
@@ -10,9 +10,10 @@ use Rattle.form.specs.Tree.{Term, number, name, group, prefix, binary, divided,
 use Rattle.form.specs.Tree.{Pred, truth, falsity, negation, paren, quantified, connected, compared, member, within, related}
 use Rattle.form.specs.Tree.{TypeForm, givenType, powerType, rangeType, arrowType}
 use Rattle.form.specs.Written.{prefixKind, operatorKind, divisionKind, connectiveKind, quantifierKind, comparisonKind, membershipKind}
-use Rattle.form.specs.Written.{writeRange, writePred, writeType}
-use Rattle.form.proofs.Plain.{named, plainMinus, plainEnd, plainRange, plainDomain, plainTerm, plainItems, plainPairs, plainPred, plainType, pred-plain}
-use Rattle.parser.proofs.Standing.{symbolsIn}
+use Rattle.form.specs.Written.{writeDomain, writeTerm, writePred, writeType}
+use Rattle.form.proofs.Plain.{named, plainMinus, plainEnd, plainRange, plainDomain, plainTerm, plainItems, plainPairs, plainPred, plainType}
+use Rattle.form.proofs.Plain.{domain-plain, term-plain, pred-plain, type-plain}
+use Rattle.form.proofs.Takes.{symbolsIn}
 
 end-behind : (e : End) (u v : List Symbol) → plainEnd e (u ++ v) ≡ plainEnd e u ++ v
 end-behind e u v = on (e .negative)
@@ -30,10 +31,16 @@ domain-behind : (t : Domain) (u v : List Symbol) → plainDomain t (u ++ v) ≡ 
 domain-behind (givenSet g) u v = refl
 domain-behind (range r) u v = range-behind r u v
 
+type-behind : (t : TypeForm) (u v : List Symbol) → plainType t (u ++ v) ≡ plainType t u ++ v
+type-behind (givenType g) u v = refl
+type-behind (powerType g) u v = refl
+type-behind (rangeType r) u v = range-behind r u v
+type-behind (arrowType a g h) u v = refl
+
 mutual
   unfolding plainTerm
 
-  pub term-behind : (t : Term) (u v : List Symbol) → plainTerm t (u ++ v) ≡ plainTerm t u ++ v
+  term-behind : (t : Term) (u v : List Symbol) → plainTerm t (u ++ v) ≡ plainTerm t u ++ v
   term-behind (number n) u v = refl
   term-behind (name x) u v = refl
   term-behind (group t) u v = ap (λ (l : List Symbol). fixed kind.openBracket ∷ l) (term-behind t (fixed kind.closeBracket ∷ u) v)
@@ -50,12 +57,12 @@ mutual
   term-behind (emptySet g) u v = refl
   term-behind (emptyPairs g h) u v = refl
 
-  pub items-behind : (t : Items) (u v : List Symbol) → plainItems t (u ++ v) ≡ plainItems t u ++ v
+  items-behind : (t : Items) (u v : List Symbol) → plainItems t (u ++ v) ≡ plainItems t u ++ v
   items-behind (only t) u v = term-behind t u v
   items-behind (also t ts) u v =
       ap (λ (l : List Symbol). plainTerm t (fixed kind.comma ∷ l)) (items-behind ts u v) ∙ term-behind t (fixed kind.comma ∷ plainItems ts u) v
 
-  pub pairs-behind : (t : Pairs) (u v : List Symbol) → plainPairs t (u ++ v) ≡ plainPairs t u ++ v
+  pairs-behind : (t : Pairs) (u v : List Symbol) → plainPairs t (u ++ v) ≡ plainPairs t u ++ v
   pairs-behind (onlyPair s t) u v =
       ap (λ (l : List Symbol). plainTerm s (fixed kind.maplet ∷ l)) (term-behind t u v) ∙ term-behind s (fixed kind.maplet ∷ plainTerm t u) v
   pairs-behind (alsoPair s t ts) u v =
@@ -63,7 +70,7 @@ mutual
       ∙ ap (λ (l : List Symbol). plainTerm s (fixed kind.maplet ∷ l)) (term-behind t (fixed kind.comma ∷ plainPairs ts u) v)
       ∙ term-behind s (fixed kind.maplet ∷ plainTerm t (fixed kind.comma ∷ plainPairs ts u)) v
 
-  pub pred-behind : (p : Pred) (u v : List Symbol) → plainPred p (u ++ v) ≡ plainPred p u ++ v
+  pred-behind : (p : Pred) (u v : List Symbol) → plainPred p (u ++ v) ≡ plainPred p u ++ v
   pred-behind truth u v = refl
   pred-behind falsity u v = refl
   pred-behind (negation p) u v = ap (λ (l : List Symbol). fixed kind.NOT ∷ l) (pred-behind p u v)
@@ -85,23 +92,15 @@ mutual
       ∙ ap (λ (l : List Symbol). plainTerm r (fixed kind.maplet ∷ l)) (term-behind s (fixed (membershipKind o) ∷ plainTerm t u) v)
       ∙ term-behind r (fixed kind.maplet ∷ plainTerm s (fixed (membershipKind o) ∷ plainTerm t u)) v
 
--- a range with these signs
-abbrev pub signed : Range → (a b : Bool) → Range
-signed r a b = record { lower = record { negative = a; magnitude = r .lower .magnitude }; upper = record { negative = b; magnitude = r .upper .magnitude } }
+-- the symbols that a tree is written with, and others behind them, by the plain writing
+pub domain-on : (t : Domain) (u : List Symbol) → symbolsIn (writeDomain t []) ++ u ≡ plainDomain t u
+domain-on t u = ap (λ (l : List Symbol). l ++ u) (domain-plain t []) ∙ sym (domain-behind t [] u)
 
--- a predicate's and a type's symbols, by the plain writing
+pub term-on : (t : Term) (u : List Symbol) → symbolsIn (writeTerm t 0 0 []) ++ u ≡ plainTerm t u
+term-on t u = ap (λ (l : List Symbol). l ++ u) (term-plain t 0 0 []) ∙ sym (term-behind t [] u)
+
 pub pred-on : (p : Pred) (u : List Symbol) → symbolsIn (writePred p 0 0 []) ++ u ≡ plainPred p u
 pred-on p u = ap (λ (l : List Symbol). l ++ u) (pred-plain p 0 0 []) ∙ sym (pred-behind p [] u)
 
 pub type-on : (t : TypeForm) (u : List Symbol) → symbolsIn (writeType t []) ++ u ≡ plainType t u
-unfolding writeType
-type-on (givenType g) u = refl
-type-on (powerType g) u = refl
-type-on (arrowType a g h) u = refl
-type-on (rangeType r) u = on (r .lower .negative) (r .upper .negative)
-  where
-    on : (a b : Bool) → symbolsIn (writeRange (signed r a b) []) ++ u ≡ plainRange (signed r a b) u
-    on true true = refl
-    on true false = refl
-    on false true = refl
-    on false false = refl
+type-on t u = ap (λ (l : List Symbol). l ++ u) (type-plain t []) ∙ sym (type-behind t [] u)

@@ -18,10 +18,12 @@ use Rattle.parser.specs.Inner.{codes}
 use Rattle.parser.specs.Derived.{nameCode, aDeclaration, someDeclarations, someParameters, someOperations, aCondition, aState, aWhere}
 use Rattle.parser.specs.Derived.{declares, noDeclarations, declaresMore, noParameters, takesMore, condition, state, whereOf, noOperations, anOperation}
 use Rattle.parser.proofs.Standing.{values, Text}
-use Rattle.parser.proofs.Steps.{AnyName, ending-as, no-ending, directed, fixed-at, name-at, plain-at}
-use Rattle.parser.proofs.Behind.{pred-on, type-on}
+use Rattle.parser.proofs.SymbolAt.{NamedAt, ending-as, no-ending, directed, fixed-at, name-at, plain-at}
+use Rattle.parser.proofs.Spans.{pred-width}
+use Rattle.parser.proofs.RangeTrees.{type-in}
+use Rattle.parser.proofs.DerivedTrees.{pred-tree}
 use Rattle.parser.proofs.Widths.{declarationWidth, declarationsWidth, parametersWidth, stateWidth, operationsWidth, declarations-length, parameters-length, operation-length}
-use Rattle.parser.proofs.DossierParts.{Derived, Trees, headed, moved}
+use Rattle.parser.proofs.DossierEntries.{Derived, headed, moved}
 
 -- Where each part stands. κ is the word that it begins with; of a condition the one that it ends with; e is the ending of the name declared.
 record DeclarationAt (w : List Symbol) (ρ : Numbering) (e : Ending) (i j : ℕ) (n : List ℕ) : Type 0 where
@@ -70,22 +72,22 @@ pub record OperationsAt (w : List Symbol) (ρ : Numbering) (i j : ℕ) (n : List
   pub width : j ≡ i + operationsWidth tree
   pub nodes : n ≡ operationCodes i tree ρ
 
-module _ (trees : Trees) {w : List Symbol} {ρ : Numbering} (text : Text w ρ) where
-  declaration-tree : {i j : ℕ} {n : List ℕ} → Derived w ρ aDeclaration i j n → (x : AnyName w ρ i) × ((e : Ending) → x .which .ending ≡ e → DeclarationAt w ρ e i j n)
+module _ {w : List Symbol} {ρ : Numbering} (text : Text w ρ) where
+  declaration-tree : {i j : ℕ} {n : List ℕ} → Derived w ρ aDeclaration i j n → (x : NamedAt w ρ i) × ((e : Ending) → x .name .ending ≡ e → DeclarationAt w ρ e i j n)
   unfolding codeOf
   declaration-tree {i = i} (declares {j = j} a b d c) =
-      let x = name-at text i a in
-      let t = trees .type-tree w ρ text d in (
+      let x = name-at text a in
+      let t = type-in text d in (
         x,
         λ e q. let y = ending-as x q in
             record {
               tree = record { declared = y .letters; type = t .tree };
               symbols =
-                  y .symbols
+                  y .step .steps
                   ∙ ap (λ (u : List Symbol). named (y .letters) e ∷ u)
-                  (fixed-at text kind.colon (i + 1) b (omega arith)
+                  (fixed-at text kind.colon b (omega arith) .steps
                   ∙ ap (λ (u : List Symbol). fixed kind.colon ∷ u)
-                  (t .symbols ∙ type-on (t .tree) (drop j w) ∙ ap (plainType (t .tree)) (fixed-at text kind.semicolon j c (omega arith))));
+                  (t .symbols ∙ ap (plainType (t .tree)) (fixed-at text kind.semicolon c (omega arith) .steps)));
               width = let l = t .width in omega arith;
               nodes = headed refl (y .number) (moved (λ k. typeCodes (t .tree) k ρ) (i + 1 + 1) (i + 2) (t .nodes) (omega arith));
             },
@@ -96,7 +98,7 @@ module _ (trees : Trees) {w : List Symbol} {ρ : Numbering} (text : Text w ρ) w
   declarations-tree {i = i} noDeclarations = record { tree = []; symbols = refl; width = omega arith; nodes = refl }
   declarations-tree {i = i} (declaresMore {j = j} a d ds) =
       let x = declaration-tree d in
-      let y = x .1 noEnding (no-ending (x .0 .which .ending) (sym (x .0 .code) ∙ a)) in
+      let y = x .1 noEnding (no-ending (x .0 .name .ending) (sym (x .0 .code) ∙ a)) in
       let r = declarations-tree ds in
       let t = y .tree in
       record {
@@ -127,17 +129,17 @@ module _ (trees : Trees) {w : List Symbol} {ρ : Numbering} (text : Text w ρ) w
   parameters-tree {i = i} noParameters = record { tree = []; symbols = refl; width = omega arith; nodes = refl }
   parameters-tree (takesMore a b d ds) =
       let x = declaration-tree d in
-      let o = directed (x .0 .which .ending) (let c = x .0 .code in omega arith) in parameter-of (o .0) (x .1 (endingOf (o .0)) (o .1)) (parameters-tree ds)
+      let o = directed (x .0 .name .ending) (let c = x .0 .code in omega arith) in parameter-of (o .0) (x .1 (endingOf (o .0)) (o .1)) (parameters-tree ds)
 
   condition-tree : (κ : Kind) → 10 ≤ codeOf κ → {word i j : ℕ} {n : List ℕ} → word ≡ codeOf κ → Derived w ρ (aCondition word) i j n → ConditionAt w ρ κ i j n
   unfolding conditionCodes
   condition-tree κ l {i = i} q (condition {j = j} d e) =
-      let p = trees .pred-tree w ρ text d (omega arith) in
+      let p = pred-tree text d (omega arith) in
       record {
         tree = p .tree;
         grouped = p .grouped;
-        symbols = p .symbols ∙ pred-on (p .tree) (drop j w) ∙ ap (plainPred (p .tree)) (fixed-at text κ j (e ∙ q) l);
-        width = let m = p .width in omega arith;
+        symbols = p .symbols ∙ ap (plainPred (p .tree)) (fixed-at text κ (e ∙ q) l .steps);
+        width = let m = pred-width p in omega arith;
         nodes = ap (λ (m : List ℕ). node 7 i (length m) 0 ++ m) (p .nodes);
       }
 
@@ -155,8 +157,8 @@ module _ (trees : Trees) {w : List Symbol} {ρ : Numbering} (text : Text w ρ) w
             tree = record { firstDeclaration = y; otherDeclarations = ys; predicate = c .tree };
             grouped = c .grouped;
             symbols =
-                fixed-at text κ i a l
-                ∙ ap (λ (u : List Symbol). fixed κ ∷ u) (z ∙ ap (plainDeclarations (y ∷ ys)) (fixed-at text kind.WHERE j d (omega arith) ∙ ap (λ (u : List Symbol). fixed kind.WHERE ∷ u) (c .symbols)));
+                fixed-at text κ a l .steps
+                ∙ ap (λ (u : List Symbol). fixed κ ∷ u) (z ∙ ap (plainDeclarations (y ∷ ys)) (fixed-at text kind.WHERE d (omega arith) .steps ∙ ap (λ (u : List Symbol). fixed kind.WHERE ∷ u) (c .symbols)));
             width = let q = c .width in omega arith;
             nodes =
                 ap (λ (x : List ℕ). node 5 i 0 0 ++ x)
@@ -177,8 +179,8 @@ module _ (trees : Trees) {w : List Symbol} {ρ : Numbering} (text : Text w ρ) w
         tree = c .tree;
         grouped = c .grouped;
         symbols =
-            fixed-at text κ i (a ∙ q) l
-            ∙ ap (λ (u : List Symbol). fixed κ ∷ u) (fixed-at text kind.WHERE (i + 1) b (omega arith) ∙ ap (λ (u : List Symbol). fixed kind.WHERE ∷ u) (c .symbols));
+            fixed-at text κ (a ∙ q) l .steps
+            ∙ ap (λ (u : List Symbol). fixed κ ∷ u) (fixed-at text kind.WHERE b (omega arith) .steps ∙ ap (λ (u : List Symbol). fixed kind.WHERE ∷ u) (c .symbols));
         width = let m = c .width in omega arith;
         nodes = moved (λ k. conditionCodes k (c .tree) ρ) (i + 1 + 1) (i + 2) (c .nodes) (omega arith);
       }
@@ -188,7 +190,7 @@ module _ (trees : Trees) {w : List Symbol} {ρ : Numbering} (text : Text w ρ) w
       → OperationsAt w ρ h l (node 8 h (nameCode (codes w) (values ρ w) (h + 1)) 0 ++ (x ++ (m ++ (n ++ o))))
   unfolding operationCodes OperationsGrouped codeOf
   operation-of {h} {i} {j} {k} a b xs c p q r =
-      let t = plain-at text (h + 1) b in
+      let t = plain-at text b in
       let y : Operation = record { title = t .letters; parameters = xs .tree; abstractly = p .tree; concretely = q .tree } in
       let wx = xs .width in let wp = p .width in let wq = q .width in
       let lx = parameters-length 0 0 (xs .tree) [] in
@@ -196,13 +198,13 @@ module _ (trees : Trees) {w : List Symbol} {ρ : Numbering} (text : Text w ρ) w
         tree = y ∷ r .tree;
         grouped = (p .grouped, q .grouped, r .grouped);
         symbols =
-            fixed-at text kind.OP h a (omega arith)
+            fixed-at text kind.OP a (omega arith) .steps
             ∙ ap (λ (u : List Symbol). fixed kind.OP ∷ u)
-            (t .symbols
+            (t .step .steps
             ∙ ap (λ (u : List Symbol). named (t .letters) noEnding ∷ u)
             (xs .symbols
             ∙ ap (plainParameters (xs .tree))
-            (fixed-at text kind.ABSTRACT i c (omega arith)
+            (fixed-at text kind.ABSTRACT c (omega arith) .steps
             ∙ ap (λ (u : List Symbol). fixed kind.ABSTRACT ∷ u)
             (p .symbols
             ∙ ap (λ (u : List Symbol). plainPred (p .tree) (fixed kind.CONCRETE ∷ u))

@@ -17,9 +17,9 @@ use Rattle.form.proofs.Plain.{plainEntries, plainGivens, plainState, plainWhere
 use Rattle.parser.specs.Inner.{codes}
 use Rattle.parser.specs.Derived.{Derives, aDossier, dossier}
 use Rattle.parser.proofs.Standing.{values, Text, DossierAt}
-use Rattle.parser.proofs.Steps.{fixed-at}
+use Rattle.parser.proofs.SymbolAt.{fixed-at}
 use Rattle.parser.proofs.Widths.{entries-length, givensWidth, givens-length, stateWidth, state-length, where-length}
-use Rattle.parser.proofs.DossierParts.{Derived, Trees, EntriesAt, GivensAt, moved, entries-tree, givens-tree}
+use Rattle.parser.proofs.DossierEntries.{Derived, EntriesAt, GivensAt, moved, entries-tree, givens-tree}
 use Rattle.parser.proofs.DossierBodies.{StateAt, WhereAt, OperationsAt, state-tree, where-tree, operations-tree}
 
 -- the first symbol of each body
@@ -120,7 +120,7 @@ module _ {w : List Symbol} {ρ : Numbering} (text : Text w ρ) {a b c d e f g h 
 
   -- the word at the place k, and the symbols behind it
   word : (κ : Kind) (k : ℕ) {v : List Symbol} → getD (codes w) k 0 ≡ codeOf κ → 10 ≤ codeOf κ → drop (k + 1) w ≡ v → drop k w ≡ fixed κ ∷ v
-  word κ k x y z = fixed-at text κ k x y ∙ ap (λ (s : List Symbol). fixed κ ∷ s) z
+  word κ k x y z = fixed-at text κ {i = k} x y .steps ∙ ap (λ (s : List Symbol). fixed κ ∷ s) z
 
   made-at : getD (codes w) 0 0 ≡ 36 → getD (codes w) a 0 ≡ 38 → getD (codes w) (a + 1) 0 ≡ 39 → getD (codes w) (a + 1 + 1) 0 ≡ 40
       → getD (codes w) (a + 1 + 1 + 1) 0 ≡ 41 → getD (codes w) (a + 1 + 1 + 1 + 1) 0 ≡ 42 → getD (codes w) b 0 ≡ 44 → drop i w ≡ []
@@ -149,13 +149,13 @@ module _ {w : List Symbol} {ρ : Numbering} (text : Text w ρ) {a b c d e f g h 
       }
 
 -- up to the symbol i, where the text ends
-dossier-of : Trees → {w : List Symbol} {ρ : Numbering} → Text w ρ → {i : ℕ} {n : List ℕ} → Derived w ρ aDossier 0 i n → drop i w ≡ [] → DossierAt w ρ n
+dossier-of : {w : List Symbol} {ρ : Numbering} → Text w ρ → {i : ℕ} {n : List ℕ} → Derived w ρ aDossier 0 i n → drop i w ≡ [] → DossierAt w ρ n
 unfolding codeOf
-dossier-of trees text (dossier k₀ gs k₁ k₂ k₃ k₄ k₅ os k₆ bs s₁ s₂ w₁ w₂ w₃ ps) z =
+dossier-of text (dossier k₀ gs k₁ k₂ k₃ k₄ k₅ os k₆ bs s₁ s₂ w₁ w₂ w₃ ps) z =
     made-at text (entries-tree text kind.GIVEN (omega arith) refl gs) (entries-tree text kind.OP (omega arith) refl os) (givens-tree text bs)
-    (state-tree trees text kind.ABSTRACT (omega arith) refl s₁) (state-tree trees text kind.CONCRETE (omega arith) refl s₂)
-    (where-tree trees text kind.AINIT (omega arith) refl w₁) (where-tree trees text kind.CINIT (omega arith) refl w₂)
-    (where-tree trees text kind.RETRIEVE (omega arith) refl w₃) (operations-tree trees text ps) k₀ k₁ k₂ k₃ k₄ k₅ k₆ z
+    (state-tree text kind.ABSTRACT (omega arith) refl s₁) (state-tree text kind.CONCRETE (omega arith) refl s₂)
+    (where-tree text kind.AINIT (omega arith) refl w₁) (where-tree text kind.CINIT (omega arith) refl w₂)
+    (where-tree text kind.RETRIEVE (omega arith) refl w₃) (operations-tree text ps) k₀ k₁ k₂ k₃ k₄ k₅ k₆ z
 
-pub dossier-tree : Trees → (w : List Symbol) (ρ : Numbering) → Text w ρ → {n : List ℕ} → Derives (codes w) (values ρ w) aDossier 0 (length w) n → DossierAt w ρ n
-dossier-tree trees w ρ text d = dossier-of trees text d (drop-length w)
+pub dossier-tree : (w : List Symbol) (ρ : Numbering) → Text w ρ → {n : List ℕ} → Derives (codes w) (values ρ w) aDossier 0 (length w) n → DossierAt w ρ n
+dossier-tree w ρ text d = dossier-of text d (drop-length w)

@@ -182,14 +182,14 @@ module _ (text : List ℕ) (faultless : faultIn text ≡ none) where
   neither : (least (lengthFaults text) ≡ none) × (least (scanFaults 0 (scan text)) ≡ none)
   neither = none-both (least (lengthFaults text)) (least (scanFaults 0 (scan text))) faultless
 
-  pub short-text : length text ≤ 32768
+  short-text : length text ≤ 32768
   short-text = not-long text (none-least (lengthFaults text) (neither .0))
 
-  pub few-symbols : length (symbols (scan text)) ≤ 4096
+  few-symbols : length (symbols (scan text)) ≤ 4096
   few-symbols = let m = not-many (scan text) 0 (omega arith) (none-least (scanFaults 0 (scan text)) (neither .1)) in omega arith
 
   -- symbols are spelled, and the values of numbers and names are small
-  pub text-known : Text (textSymbols text) (numbering text)
+  text-known : Text (textSymbols text) (numbering text)
   text-known = record { spelled = scan-spelled text; small = λ i. on i (getD (textSymbols text) i (fixed kind.END)) refl (below-at (textSymbols text) i (all-below text)) }
     where
       on : (i : ℕ) (s : Symbol) → getD (textSymbols text) i (fixed kind.END) ≡ s → Below s → Small (numbering text) s
@@ -210,7 +210,7 @@ module _ (text : List ℕ) (faultless : faultIn text ≡ none) where
       (length-map (symbols (scan text)) f ∙ sym (length-map (symbols (scan text)) (λ (x : Placed). x .symbol)))
 
 -- names with the same number have the same letters
-pub text-tells : (text : List ℕ) → Tells (numbering text) (textSymbols text)
+text-tells : (text : List ℕ) → Tells (numbering text) (textSymbols text)
 text-tells text x y i j p q e =
     same-value (x .letters) (y .letters) (symbols (scan text)) (named-here (symbols (scan text)) i x p) (named-here (symbols (scan text)) j y q) e
 
@@ -230,16 +230,16 @@ value-by l (ManySymbols p) e s = let z : _≡_ {A = ℕ} 0 1 = cc in absurd (ome
 -- the codes and the values of the symbols stand in front of the arrays
 module _ {text codes₀ starts₀ values₀ coded starts valued : List ℕ} {r : Scanned} (h : Scans text codes₀ starts₀ values₀ coded starts valued r)
     (faultless : faultIn text ≡ none) where
-  pub codes-first : take (length (textSymbols text)) coded ≡ codes (textSymbols text)
+  codes-first : take (length (textSymbols text)) coded ≡ codes (textSymbols text)
   unfolding codes
   codes-first =
       first-filled text faultless (λ (x : Placed). codeIn (x .symbol)) codes₀ coded (h .coded)
       ∙ map-symbols (λ (s : Symbol). codeOf (kindOf s)) (λ (x : Placed). codeIn (x .symbol)) (λ x. refl) (symbols (scan text))
 
-  pub starts-first : take (length (textSymbols text)) starts ≡ map (λ (x : Placed). x .place) (symbols (scan text))
+  starts-first : take (length (textSymbols text)) starts ≡ map (λ (x : Placed). x .place) (symbols (scan text))
   starts-first = first-filled text faultless (λ (x : Placed). x .place) starts₀ starts (h .placed)
 
-  pub values-first : take (length (textSymbols text)) valued ≡ values (numbering text) (textSymbols text)
+  values-first : take (length (textSymbols text)) valued ≡ values (numbering text) (textSymbols text)
   values-first =
       first-filled text faultless (λ (x : Placed). valueAt r (symbols (scan text)) (x .symbol)) values₀ valued (h .valued)
       ∙ map-symbols (valueBy (numbering text)) (λ (x : Placed). valueAt r (symbols (scan text)) (x .symbol))

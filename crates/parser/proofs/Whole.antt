@@ -1,16 +1,16 @@
 -- What the parts of the form pass have found is what `parse` answers.
 use mathlib.Core.Path.{_≡_, refl, ap, ap₂, _∙_, sym, subst}
-use mathlib.Core.List.{List, _++_, map}
+use mathlib.Core.List.{List, _++_}
 use mathlib.Core.Option.{Option, none, some}
 use Prim.Native.Nat.{ℕ, _≤_}
 use lib.ListN.{length, take, drop, getD, length-map}
 use lib.Seq.{length-take-le}
-use Rattle.symbols.specs.Symbols.{Symbol, Placed, scan, symbols, placeAt}
+use Rattle.symbols.specs.Symbols.{Symbol, scan, symbols, placeAt}
 use Rattle.symbols.specs.Refusals.{Refusal, Fault, fault, numberOf, least, headingDiffers}
 use Rattle.form.specs.Tree.{Dossier}
 use Rattle.form.specs.Written.{symbolsOf}
 use Rattle.form.specs.Form.{refused, formed, FormOf, Forms}
-use Rattle.form.specs.Machine.{Run, complete, failed, run}
+use Rattle.form.specs.Machine.{complete, failed, run}
 use Rattle.form.specs.Parse.{form, outcomeOf}
 use Rattle.form.specs.Headings.{headingFaults}
 use Rattle.form.specs.Codes.{dossierCodes}
@@ -19,19 +19,14 @@ use Rattle.form.proofs.FormOf.{form-of}
 use Rattle.parser.specs.Inner.{codes, Left}
 use Rattle.parser.specs.Derived.{Derives, aDossier}
 use Rattle.parser.specs.Sections.{Tells, Headed, Finds}
-use Rattle.parser.specs.Promises.{textSymbols, numbering, Leaves, Answers, AnswersHeadings}
+use Rattle.parser.specs.Promises.{textSymbols, numbering, Answers, AnswersHeadings}
 use Rattle.parser.specs.declared.Parsed.{Parsed}
 use Rattle.parser.specs.declared.Parsed.the-variants.{Structure, Refused}
 use Rattle.parser.specs.declared.headings.Heads.{Heads}
 use Rattle.parser.specs.declared.headings.Heads.the-variants.{Fit, Differ}
 use Rattle.parser.proofs.Standing.{values, DossierAt}
-use Rattle.parser.proofs.DossierParts.{Trees}
 use Rattle.parser.proofs.Dossiers.{dossier-tree}
-use Rattle.parser.proofs.TreesDerived.{pred-tree, type-tree}
 use Rattle.parser.proofs.Texts.{Known, known}
-
-trees : Trees
-trees = record { pred-tree = pred-tree; type-tree = type-tree }
 
 -- the outcome of symbols at which the machine fails; of symbols that it takes to the end
 fails : (w : List Symbol) (i : ℕ) (q : Refusal) → AllSpelled w → run w ≡ failed i q → FormOf w (refused i q)
@@ -66,7 +61,7 @@ module _ {text coded placed valued : List ℕ} {n : ℕ} (left : Left text coded
 
     tree : DossierAt (textSymbols text) (numbering text) x
     tree =
-        dossier-tree trees (textSymbols text) (numbering text) (facts .symbols-are)
+        dossier-tree (textSymbols text) (numbering text) (facts .symbols-are)
         (subst (λ (k : ℕ). Derives (codes (textSymbols text)) (values (numbering text) (textSymbols text)) aDossier 0 k x) (all ∙ at-end)
         (subst (λ (s : List ℕ). Derives s (values (numbering text) (textSymbols text)) aDossier 0 e x) (facts .codes-are)
         (subst (λ (ν : List ℕ). Derives (take n coded) ν aDossier 0 e x) (facts .values-are) derived)))
@@ -103,8 +98,7 @@ module _ {text coded placed valued : List ℕ} {n : ℕ} (left : Left text coded
     -- the structure
     pub leaves : (nodes₀ nodes : List ℕ) (r : Parsed) → Headed made m n Fit → nodes ≡ take m made ++ drop m nodes₀ → r ≡ Structure n m → Answers text none nodes₀ nodes r
     leaves nodes₀ nodes r f b a =
-        answers nodes₀ nodes r none (decides Fit f)
-        (
+        answers nodes₀ nodes r none (decides Fit f) (
           a ∙ ap₂ Structure (sym (facts .count) ∙ length-map (symbols (scan text)) _) (sym long),
           b ∙ ap₂ (λ (x : List ℕ) (k : ℕ). x ++ drop k nodes₀) nodes-are (sym long),
         )

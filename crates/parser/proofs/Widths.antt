@@ -1,42 +1,37 @@
 -- How many symbols the parts of a dossier have.
 use mathlib.Core.Path.{_≡_, ap, _∙_, sym}
-use mathlib.Core.Bool.{Bool, true, false}
-use mathlib.Core.List.{List, [], _∷_}
+use mathlib.Core.List.{List, [], _∷_, _++_}
 use Prim.Native.Nat.{ℕ, suc, _+_, _*_}
 use native.Mathlib.Omega.{arith}
 use lib.ListN.{length, length-append, length-map}
 use Rattle.symbols.specs.Kinds as kind
 use Rattle.symbols.specs.Kinds.{Kind}
-use Rattle.form.specs.Tree.{Letters, Pred, TypeForm, givenType, powerType, rangeType, arrowType, Declaration, declarations, Parameter, Given, State, Operation}
-use Rattle.form.specs.Written.{Mark, Written, bare, inputsAfter, outputsAfter, writeRange, writePred, writeType, writeEntries, writeElements, writeGivens}
+use Rattle.symbols.specs.Symbols.{Symbol}
+use Rattle.form.specs.Tree.{Letters, Pred, TypeForm, Declaration, declarations, Parameter, Given, State, Operation}
+use Rattle.form.specs.Written.{Mark, Written, bare, inputsAfter, outputsAfter, writePred, writeType, writeEntries, writeElements, writeGivens}
 use Rattle.form.specs.Written.{writeDeclarations, writeWhere, writeState, writeParameters, writeOperations}
 use Rattle.form.specs.Headings.{givenLength, operationLength}
 use Rattle.form.specs.Codes.{predWidth, typeWidth}
-use Rattle.form.proofs.Plain.{pred-plain}
-use Rattle.parser.proofs.Standing.{symbolsIn}
-use Rattle.parser.proofs.Behind.{signed, pred-on}
+use Rattle.form.proofs.Takes.{symbolsIn}
+use Rattle.form.proofs.Plain.{pred-plain, type-plain}
+use Rattle.parser.proofs.Behind.{pred-on, type-on}
 
-pub pred-length : (p : Pred) (d k : ℕ) (w : List Written) → length (writePred p d k w) ≡ predWidth p + length w
+-- what is written before w, by the symbols
+before : (u v w : List Written) → symbolsIn u ≡ symbolsIn v ++ symbolsIn w → length u ≡ length v + length w
+before u v w e =
+    let f : Written → Symbol = λ x. x .symbol in
+    let a = length-map u f in
+    let b = length-map v f in
+    let c = length-map w f in
+    let d : length (symbolsIn u) ≡ length (symbolsIn v) + length (symbolsIn w) = ap length e ∙ length-append (symbolsIn v) (symbolsIn w) in omega arith
+
+pred-length : (p : Pred) (d k : ℕ) (w : List Written) → length (writePred p d k w) ≡ predWidth p + length w
 unfolding predWidth
-pred-length p d k w =
-    sym (length-map (writePred p d k w) (λ (x : Written). x .symbol))
-    ∙ ap length (pred-plain p d k w ∙ sym (pred-on p (symbolsIn w)))
-    ∙ length-append (symbolsIn (writePred p 0 0 [])) (symbolsIn w)
-    ∙ ap (λ (n : ℕ). n + length (symbolsIn w)) (length-map (writePred p 0 0 []) (λ (x : Written). x .symbol))
-    ∙ ap (λ (n : ℕ). length (writePred p 0 0 []) + n) (length-map w (λ (x : Written). x .symbol))
+pred-length p d k w = before (writePred p d k w) (writePred p 0 0 []) w (pred-plain p d k w ∙ sym (pred-on p (symbolsIn w)))
 
-pub type-length : (t : TypeForm) (w : List Written) → length (writeType t w) ≡ typeWidth t + length w
-unfolding writeType typeWidth
-type-length (givenType g) w = omega arith
-type-length (powerType g) w = omega arith
-type-length (arrowType a g h) w = omega arith
-type-length (rangeType r) w = on (r .lower .negative) (r .upper .negative)
-  where
-    on : (a b : Bool) → length (writeRange (signed r a b) w) ≡ length (writeRange (signed r a b) []) + length w
-    on true true = omega arith
-    on true false = omega arith
-    on false true = omega arith
-    on false false = omega arith
+type-length : (t : TypeForm) (w : List Written) → length (writeType t w) ≡ typeWidth t + length w
+unfolding typeWidth
+type-length t w = before (writeType t w) (writeType t []) w (type-plain t w ∙ sym (type-on t (symbolsIn w)))
 
 pub entries-length : (k : Kind) (m : ℕ → Mark) (n : ℕ) (xs : List Letters) (w : List Written) → length (writeEntries k m n xs w) ≡ 2 * length xs + length w
 unfolding writeEntries
@@ -48,7 +43,7 @@ unfolding writeElements
 elements-length n [] w = omega arith
 elements-length n (x ∷ xs) w = let r = elements-length (suc n) xs w in omega arith
 
-abbrev pub givenWidth : Given → ℕ
+abbrev givenWidth : Given → ℕ
 givenWidth g = 4 + length (g .otherElements)
 
 abbrev pub givensWidth : List Given → ℕ
@@ -104,14 +99,14 @@ pub state-length : (s : State) (w : List Written) → length (writeState s w) �
 unfolding writeState
 state-length s w = let e = where-length (s .predicate) w in let r = declarations-length 0 (declarations s) (writeWhere (s .predicate) w) in omega arith
 
-abbrev pub operationWidth : Operation → ℕ
+abbrev operationWidth : Operation → ℕ
 operationWidth o = 5 + (parametersWidth (o .parameters) + (predWidth (o .abstractly) + predWidth (o .concretely)))
 
 abbrev pub operationsWidth : List Operation → ℕ
 operationsWidth [] = 0
 operationsWidth (o ∷ os) = operationWidth o + operationsWidth os
 
-pub operations-length : (n : ℕ) (os : List Operation) (w : List Written) → length (writeOperations n os w) ≡ operationsWidth os + length w
+operations-length : (n : ℕ) (os : List Operation) (w : List Written) → length (writeOperations n os w) ≡ operationsWidth os + length w
 unfolding writeOperations
 operations-length n [] w = omega arith
 operations-length n (o ∷ os) w =

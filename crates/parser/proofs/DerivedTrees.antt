@@ -18,13 +18,13 @@ use Rattle.parser.specs.Derived.Derives.{predFrom, predStops, implied, c
 use Rattle.parser.specs.Derived.Derives.{overGiven, overRange, overSets, overPairs, declares, noEntries, anEntry, noElements, anElement, noGivens, aGiven, noDeclarations, declaresMore, noParameters, takesMore}
 use Rattle.parser.specs.Derived.Derives.{condition, state, whereOf, noOperations, anOperation, dossier}
 use Rattle.parser.specs.Derived.{Part, aDeclaration, someElements, someGivens, someDeclarations, someParameters, someOperations, aDossier, someEntries, aCondition, aState, aWhere}
-use Rattle.parser.proofs.Standing.{values, Text, TermAt, PredAt, TypeAt}
+use Rattle.parser.proofs.Standing.{values, Text}
 use Rattle.parser.proofs.Classes.{level-high}
-use Rattle.parser.proofs.TreesSorts.{operator-at, division-at, joinedKind, connective-at}
-use Rattle.parser.proofs.TreesWritten.{TermIn, PredIn, term-stands, pred-stands}
-use Rattle.parser.proofs.TreesRanges.{type-in}
-use Rattle.parser.proofs.TreesTerms.{ItemsIn, PairsIn, leaf-in, prefixed-in, bracketed-in, listed-in, paired-in, such-in, empty-one, empty-two, items-end, items-more, pairs-end, pairs-more, divided-in, operated-in}
-use Rattle.parser.proofs.TreesPreds.{leftOf, rightOf, truth-in, denied-in, parenthesised-in, quantified-in, compared-in, belongs-in, within-in, related-in, connected-in}
+use Rattle.parser.proofs.Making.{level-two}
+use Rattle.parser.proofs.OperatorAt.{operator-at, division-at, joinedKind, connective-at}
+use Rattle.parser.proofs.Spans.{TermIn, PredIn}
+use Rattle.parser.proofs.TermTrees.{ItemsIn, PairsIn, leaf-in, prefixed-in, bracketed-in, listed-in, paired-in, such-in, empty-one, empty-two, items-end, items-more, pairs-end, pairs-more, divided-in, operated-in}
+use Rattle.parser.proofs.PredTrees.{leftOf, rightOf, truth-in, denied-in, parenthesised-in, quantified-in, compared-in, belongs-in, within-in, related-in, connected-in}
 
 -- no operator of its level or a higher one stands behind a term, and no such connective behind a predicate
 term-rest-stops : {s ν : List ℕ} {min i j : ℕ} {n : List ℕ} → Derives s ν (aTermRest min) i j n → NoOperator s min j
@@ -42,11 +42,6 @@ pred-rest-stops (connected c p q l d r) = pred-rest-stops r
 
 pred-stops : {s ν : List ℕ} {min i j : ℕ} {n : List ℕ} → Derives s ν (aPredFrom min) i j n → NoConnective s min j
 pred-stops (predFrom d r) = pred-rest-stops r
-
-level-small : (o : ℕ) → levelOf o ≤ 2
-level-small zero = omega arith
-level-small (suc zero) = omega arith
-level-small (suc (suc o)) = omega arith
 
 level-of : (o : ℕ) → o ≤ 2 → levelOf o ≡ o
 level-of zero l = refl
@@ -147,7 +142,7 @@ module _ {w : List Symbol} {ρ : Numbering} (t : Text w ρ) where
       }
 
   term-of : {min i j k : ℕ} {m n : List ℕ} → min ≤ 3 → TermIn w ρ 3 i j m → TermRest w ρ min j k n → TermIn w ρ min i k (m ++ n)
-  term-of {i} {m} l a r = r i m (lower-term l a) (λ κ q. let x = level-small (lookup operators 0 κ) in let y = a .level in omega arith)
+  term-of {i} {m} l a r = r i m (lower-term l a) (λ κ q. let x = level-two (lookup operators 0 κ) in let y = a .level in omega arith)
 
   rest-divided : {min o i j k : ℕ} {n : List ℕ} → Classes operators (getD (codes w) i 0) o → 3 ≤ o → min ≤ 2 → EndAt (codes w) (i + 1) j → TermRest w ρ min j k n
       → TermRest w ρ min i k (node 4 i (magnitudeCode (codes w) (values ρ w) (i + 1)) (divisionCode (codes w) i) ++ n)
@@ -157,7 +152,7 @@ module _ {w : List Symbol} {ρ : Numbering} (t : Text w ρ) where
       let z = ap levelOf (c .class _ (sym (d .code))) ∙ level-high o (omega arith) in
       let v = divided-in t a (omega arith) l c g e in
       term-nodes (append-assoc m (node 4 i (magnitudeCode (codes w) (values ρ w) (i + 1)) (divisionCode (codes w) i)) n)
-      (r h _ (v .0) (λ κ q. let x = level-small (lookup operators 0 κ) in let y = v .1 in omega arith))
+      (r h _ (v .0) (λ κ q. let x = level-two (lookup operators 0 κ) in let y = v .1 in omega arith))
 
   rest-operated : {min o i j k : ℕ} {m n : List ℕ} → Classes operators (getD (codes w) i 0) o → 1 ≤ o → o ≤ 2 → min ≤ o → TermIn w ρ (o + 1) (i + 1) j m → NoOperator (codes w) (o + 1) j
       → TermRest w ρ min j k n → TermRest w ρ min i k ((m ++ node 5 i (getD (codes w) i 0) 0) ++ n)
@@ -267,12 +262,6 @@ module _ {w : List Symbol} {ρ : Numbering} (t : Text w ρ) where
   tree (anOperation p q d r e f g) = tt
   tree (dossier a b c d e f g h i j k l m n o p) = tt
 
--- a predicate, a term and a type
-pub pred-tree : (w : List Symbol) (ρ : Numbering) → Text w ρ → {min i j : ℕ} {n : List ℕ} → Derives (codes w) (values ρ w) (aPredFrom min) i j n → min ≤ 5 → PredAt w ρ min i j n
-pred-tree w ρ t d l = pred-stands (tree t d l)
-
-pub term-tree : (w : List Symbol) (ρ : Numbering) → Text w ρ → {min i j : ℕ} {n : List ℕ} → Derives (codes w) (values ρ w) (aTermFrom min) i j n → min ≤ 3 → TermAt w ρ min i j n
-term-tree w ρ t d l = term-stands (tree t d l)
-
-pub type-tree : (w : List Symbol) (ρ : Numbering) → Text w ρ → {i j : ℕ} {n : List ℕ} → Derives (codes w) (values ρ w) aType i j n → TypeAt w ρ i j n
-type-tree w ρ t d = type-in t d
+  -- above the level 5 it would be false: a predicate with `not` is of the level 5
+  pub pred-tree : {min i j : ℕ} {n : List ℕ} → Derives (codes w) (values ρ w) (aPredFrom min) i j n → min ≤ 5 → PredIn w ρ min i j n
+  pred-tree d l = tree d l

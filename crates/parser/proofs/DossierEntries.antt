@@ -12,19 +12,13 @@ use Rattle.form.specs.Headings.{givenLength}
 use Rattle.form.specs.Codes.{node, Numbering, entryCodes, elementCodes, givenCodes}
 use Rattle.form.proofs.Plain.{named, plainEntries, plainElements, plainGivens}
 use Rattle.parser.specs.Inner.{codes}
-use Rattle.parser.specs.Derived.{nameCode, Part, Derives, aPredFrom, aType, someEntries, someElements, someGivens, noEntries, anEntry, noElements, anElement, noGivens, aGiven}
-use Rattle.parser.proofs.Standing.{values, Text, PredAt, TypeAt}
-use Rattle.parser.proofs.Steps.{fixed-at, plain-at}
+use Rattle.parser.specs.Derived.{nameCode, Part, Derives, someEntries, someElements, someGivens, noEntries, anEntry, noElements, anElement, noGivens, aGiven}
+use Rattle.parser.proofs.Standing.{values, Text}
+use Rattle.parser.proofs.SymbolAt.{fixed-at, plain-at}
 use Rattle.parser.proofs.Widths.{givensWidth, given-length}
 
 abbrev pub Derived : List Symbol → Numbering → Part → (i j : ℕ) → List ℕ → Type 0
 Derived w ρ x i j n = Derives (codes w) (values ρ w) x i j n
-
--- A predicate and a type that are derived stand in the text. Above the level 5 it would be false of predicates: one with `not` is of the level 5.
-pub record Trees : Type 0 where
-  pub pred-tree : (w : List Symbol) (ρ : Numbering) → Text w ρ → {min i j : ℕ} {n : List ℕ} → Derives (codes w) (values ρ w) (aPredFrom min) i j n → min ≤ 5
-      → PredAt w ρ min i j n
-  pub type-tree : (w : List Symbol) (ρ : Numbering) → Text w ρ → {i j : ℕ} {n : List ℕ} → Derives (codes w) (values ρ w) aType i j n → TypeAt w ρ i j n
 
 -- Where each part stands, from the symbol i up to the symbol j, with the nodes n. κ is the word that it begins with.
 pub record EntriesAt (w : List Symbol) (ρ : Numbering) (κ : Kind) (shape i j : ℕ) (n : List ℕ) : Type 0 where
@@ -58,12 +52,12 @@ module _ {w : List Symbol} {ρ : Numbering} (text : Text w ρ) where
   unfolding entryCodes
   entries-tree κ l {i = i} q noEntries = record { tree = []; symbols = refl; width = omega arith; nodes = refl }
   entries-tree κ l {shape = shape} {i = i} q (anEntry a b d) =
-      let x = plain-at text (i + 1) b in
+      let x = plain-at text b in
       let r = entries-tree κ l q d in
       record {
         tree = x .letters ∷ r .tree;
         symbols =
-            fixed-at text κ i (a ∙ q) l ∙ ap (λ (u : List Symbol). fixed κ ∷ u) (x .symbols ∙ ap (λ (u : List Symbol). named (x .letters) noEnding ∷ u) (r .symbols));
+            fixed-at text κ (a ∙ q) l .steps ∙ ap (λ (u : List Symbol). fixed κ ∷ u) (x .step .steps ∙ ap (λ (u : List Symbol). named (x .letters) noEnding ∷ u) (r .symbols));
         width = let e = r .width in omega arith;
         nodes = headed (omega arith) (x .number) (moved (λ k. entryCodes shape k (r .tree) ρ) (i + 1 + 1) (i + 2) (r .nodes) (omega arith));
       }
@@ -72,11 +66,11 @@ module _ {w : List Symbol} {ρ : Numbering} (text : Text w ρ) where
   unfolding elementCodes
   elements-tree {i = i} noElements = record { tree = []; symbols = refl; width = omega arith; nodes = refl }
   elements-tree {i = i} (anElement a d) =
-      let x = plain-at text i a in
+      let x = plain-at text a in
       let r = elements-tree d in
       record {
         tree = x .letters ∷ r .tree;
-        symbols = x .symbols ∙ ap (λ (u : List Symbol). named (x .letters) noEnding ∷ u) (r .symbols);
+        symbols = x .step .steps ∙ ap (λ (u : List Symbol). named (x .letters) noEnding ∷ u) (r .symbols);
         width = let e = r .width in omega arith;
         nodes = headed refl (x .number) (moved (λ k. elementCodes k (r .tree) ρ) (i + 1) (suc i) (r .nodes) (omega arith));
       }
@@ -92,16 +86,16 @@ module _ {w : List Symbol} {ρ : Numbering} (text : Text w ρ) where
           → GivensAt w ρ i k (node 3 i (nameCode (codes w) (values ρ w) (i + 1)) 0 ++ (m ++ n))
       on [] y z o = let q : getD (codes w) j 0 ≡ 2 = ap (λ (k : ℕ). getD (codes w) k 0) (omega arith) ∙ c in absurd (omega arith)
       on (y ∷ ys) z v o =
-          let x = plain-at text (i + 1) b in
+          let x = plain-at text b in
           let g : Given = record { title = x .letters; firstElement = y; otherElements = ys } in
           record {
             tree = g ∷ r .tree;
             symbols =
-                fixed-at text kind.GIVEN i a (omega arith)
+                fixed-at text kind.GIVEN a (omega arith) .steps
                 ∙ ap (λ (u : List Symbol). fixed kind.GIVEN ∷ u)
-                (x .symbols
+                (x .step .steps
                 ∙ ap (λ (u : List Symbol). named (x .letters) noEnding ∷ u)
-                (z ∙ ap (plainElements (y ∷ ys)) (fixed-at text kind.END j d (omega arith) ∙ ap (λ (u : List Symbol). fixed kind.END ∷ u) (r .symbols))));
+                (z ∙ ap (plainElements (y ∷ ys)) (fixed-at text kind.END d (omega arith) .steps ∙ ap (λ (u : List Symbol). fixed kind.END ∷ u) (r .symbols))));
             width = let q = r .width in omega arith;
             nodes =
                 headed refl (x .number)

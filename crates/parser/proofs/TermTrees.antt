@@ -11,7 +11,7 @@ use borrow.Author.Tests.{eq-eqb, ne-eqb}
 use Rattle.symbols.specs.Kinds as kind
 use Rattle.symbols.specs.Kinds.{codeOf}
 use Rattle.symbols.specs.Symbols as symbol
-use Rattle.symbols.specs.Symbols.{Symbol, fixed, numeral, noEnding, Ending, prime, query, shriek, kindOfName}
+use Rattle.symbols.specs.Symbols.{Symbol, fixed, numeral}
 use Rattle.form.specs.Tree.{Division, quotient, remainder}
 use Rattle.form.specs.Tree.{number, name, group, prefix, binary, divided, listed, pairs, such, emptySet, emptyPairs, Items, only, also, Pairs, onlyPair, alsoPair}
 use Rattle.form.specs.Written.{divisionKind}
@@ -22,10 +22,10 @@ use Rattle.parser.specs.Inner.{codes, Classes, Starts, operators}
 use Rattle.parser.specs.Derived.{nameCode, magnitudeCode, divisionCode, leafNode, NameAt, EndAt}
 use Rattle.parser.specs.declared.kinds.Start.the-variants.{Leaf, Prefix}
 use Rattle.parser.proofs.Standing.{values, Text}
-use Rattle.parser.proofs.TreesPlaces.{Place, place, fixed-at, named-at, name-at, plain-at}
-use Rattle.parser.proofs.TreesSorts.{leaf-kind, prefix-at, operator-at, division-at}
-use Rattle.parser.proofs.TreesWritten.{TermIn, PredIn, term-width}
-use Rattle.parser.proofs.TreesRanges.{end-in}
+use Rattle.parser.proofs.SymbolAt.{Place, place, fixed-at, ending-code, named-at, name-at, plain-at}
+use Rattle.parser.proofs.OperatorAt.{leaf-kind, prefix-at, operator-at, division-at}
+use Rattle.parser.proofs.Spans.{TermIn, PredIn, term-width}
+use Rattle.parser.proofs.RangeTrees.{end-in}
 
 -- items, or pairs, up to their closing brace
 pub record ItemsIn (w : List Symbol) (ρ : Numbering) (i j : ℕ) (n : List ℕ) : Type 0 where
@@ -43,13 +43,6 @@ pub record PairsIn (w : List Symbol) (ρ : Numbering) (i j : ℕ) (n : List ℕ)
   pub inside : j ≤ length w
   pub symbols : drop i w ≡ plainPairs tree (fixed kind.closeBrace ∷ drop j w)
   pub nodes : n ≡ pairsCodes tree i ρ
-
-name-code : (e : Ending) → codeOf (kindOfName e) ≡ 1 → ⊥
-unfolding codeOf
-name-code noEnding q = omega arith
-name-code prime q = omega arith
-name-code query q = omega arith
-name-code shriek q = omega arith
 
 division-code : (s : List ℕ) (i : ℕ) (o : Division) (b : Bool) → getD s i 0 ≡ codeOf (divisionKind o) → eqb (getD s (i + 1) 0) 29 ≡ b → divisionCode s i ≡ signOf b + divisionNumber o
 unfolding divisionCode codeOf
@@ -84,7 +77,7 @@ module _ {w : List Symbol} {ρ : Numbering} (t : Text w ρ) where
             ahead = omega arith;
             inside = a .step .inside;
             symbols = a .step .steps;
-            nodes = rw (ne-eqb (getD (codes w) i 0) 1 (λ e. name-code (x .ending) (sym (p .code) ∙ e))) (ap (λ (c : ℕ). node 2 i c 0) (a .code));
+            nodes = rw (ne-eqb (getD (codes w) i 0) 1 (λ e. let c = ending-code (x .ending) in let k = p .code in omega arith)) (ap (λ (c : ℕ). node 2 i c 0) (a .number));
           }
 
   pub prefixed-in : {i j : ℕ} {n : List ℕ} → Starts (getD (codes w) i 0) Prefix → TermIn w ρ 3 (i + 1) j n → TermIn w ρ 3 i j (n ++ node 3 i (getD (codes w) i 0) 0)
@@ -105,8 +98,8 @@ module _ {w : List Symbol} {ρ : Numbering} (t : Text w ρ) where
   pub bracketed-in : {i j : ℕ} {n : List ℕ} → getD (codes w) i 0 ≡ 17 → TermIn w ρ 1 (i + 1) j n → getD (codes w) j 0 ≡ 18 → TermIn w ρ 3 i (j + 1) n
   unfolding TermGrouped plainTerm termCodes codeOf
   bracketed-in {i} p a q =
-      let x = fixed-at t kind.openBracket p refl refl (omega arith) in
-      let y = fixed-at t kind.closeBracket q refl refl (omega arith) in
+      let x = fixed-at t kind.openBracket p (omega arith) in
+      let y = fixed-at t kind.closeBracket q (omega arith) in
       let e = add-one i in
       record {
         tree = group (a .tree);
@@ -121,7 +114,7 @@ module _ {w : List Symbol} {ρ : Numbering} (t : Text w ρ) where
   pub listed-in : {i j : ℕ} {n : List ℕ} → getD (codes w) i 0 ≡ 19 → ItemsIn w ρ (i + 1) j n → TermIn w ρ 3 i j (n ++ node 7 i 0 0)
   unfolding TermGrouped plainTerm termCodes codeOf
   listed-in {i} p a =
-      let x = fixed-at t kind.openBrace p refl refl (omega arith) in
+      let x = fixed-at t kind.openBrace p (omega arith) in
       let e = add-one i in
       record {
         tree = listed (a .tree);
@@ -136,7 +129,7 @@ module _ {w : List Symbol} {ρ : Numbering} (t : Text w ρ) where
   pub paired-in : {i j : ℕ} {n : List ℕ} → getD (codes w) i 0 ≡ 19 → PairsIn w ρ (i + 1) j n → TermIn w ρ 3 i j (n ++ node 8 i 0 0)
   unfolding TermGrouped plainTerm termCodes codeOf
   paired-in {i} p a =
-      let x = fixed-at t kind.openBrace p refl refl (omega arith) in
+      let x = fixed-at t kind.openBrace p (omega arith) in
       let e = add-one i in
       record {
         tree = pairs (a .tree);
@@ -153,12 +146,12 @@ module _ {w : List Symbol} {ρ : Numbering} (t : Text w ρ) where
       → TermIn w ρ 3 i (j + 1) ((n ++ node 1 (i + 1 + 1 + 1) (nameCode (codes w) (values ρ w) (i + 1 + 1 + 1)) 0) ++ node 6 i (nameCode (codes w) (values ρ w) (i + 1)) 0)
   unfolding TermGrouped plainTerm termCodes codeOf
   such-in {i} {j} {n} o x c g b a q =
-      let o = fixed-at t kind.openBrace o refl refl (omega arith) in
+      let o = fixed-at t kind.openBrace o (omega arith) in
       let x = plain-at t x in
-      let c = fixed-at t kind.colon c refl refl (omega arith) in
+      let c = fixed-at t kind.colon c (omega arith) in
       let g = name-at t g in
-      let b = fixed-at t kind.bar b refl refl (omega arith) in
-      let q = fixed-at t kind.closeBrace q refl refl (omega arith) in
+      let b = fixed-at t kind.bar b (omega arith) in
+      let q = fixed-at t kind.closeBrace q (omega arith) in
       let e : i + 1 + 1 + 1 ≡ i + 3 = omega arith in
       let f : i + 1 + 1 + 1 + 1 + 1 ≡ i + 5 = omega arith in
       record {
@@ -174,7 +167,7 @@ module _ {w : List Symbol} {ρ : Numbering} (t : Text w ρ) where
   pub empty-one : {i : ℕ} → getD (codes w) i 0 ≡ 47 → NameAt (codes w) (i + 1) → TermIn w ρ 3 i (i + 1 + 1) (node 9 i (nameCode (codes w) (values ρ w) (i + 1)) 0)
   unfolding TermGrouped plainTerm termCodes codeOf
   empty-one {i} p g =
-      let x = fixed-at t kind.EMPTY p refl refl (omega arith) in
+      let x = fixed-at t kind.EMPTY p (omega arith) in
       let g = name-at t g in
       record { tree = emptySet (g .name); grouped = tt; level = omega arith; ahead = omega arith; inside = g .step .inside; symbols = cc; nodes = cc }
 
@@ -182,7 +175,7 @@ module _ {w : List Symbol} {ρ : Numbering} (t : Text w ρ) where
       → TermIn w ρ 3 i (i + 1 + 1 + 1) (node 10 i (nameCode (codes w) (values ρ w) (i + 1)) (nameCode (codes w) (values ρ w) (i + 1 + 1)))
   unfolding TermGrouped plainTerm termCodes codeOf
   empty-two {i} p g h =
-      let x = fixed-at t kind.EMPTY p refl refl (omega arith) in
+      let x = fixed-at t kind.EMPTY p (omega arith) in
       let g = name-at t g in
       let h = name-at t h in
       record { tree = emptyPairs (g .name) (h .name); grouped = tt; level = omega arith; ahead = omega arith; inside = h .step .inside; symbols = cc; nodes = cc }
@@ -191,13 +184,13 @@ module _ {w : List Symbol} {ρ : Numbering} (t : Text w ρ) where
   pub items-end : {i j : ℕ} {m : List ℕ} → TermIn w ρ 1 i j m → getD (codes w) j 0 ≡ 20 → ItemsIn w ρ i (j + 1) (m ++ node 1 0 0 0)
   unfolding TermGrouped plainTerm termCodes codeOf
   items-end a q =
-      let q = fixed-at t kind.closeBrace q refl refl (omega arith) in
+      let q = fixed-at t kind.closeBrace q (omega arith) in
       record { tree = only (a .tree); grouped = a .grouped; ahead = let l = a .ahead in omega arith; inside = q .inside; symbols = cc; nodes = cc }
 
   pub items-more : {i j k : ℕ} {m n : List ℕ} → TermIn w ρ 1 i j m → getD (codes w) j 0 ≡ 12 → ItemsIn w ρ (j + 1) k n → ItemsIn w ρ i k (m ++ (n ++ node 2 0 0 0))
   unfolding TermGrouped plainTerm termCodes codeOf
   items-more {i} {j} a q b =
-      let q = fixed-at t kind.comma q refl refl (omega arith) in
+      let q = fixed-at t kind.comma q (omega arith) in
       let x = term-width a in
       let e = add-one j in
       record {
@@ -213,8 +206,8 @@ module _ {w : List Symbol} {ρ : Numbering} (t : Text w ρ) where
       → PairsIn w ρ i (k + 1) (m ++ (n ++ node 1 0 0 0))
   unfolding TermGrouped plainTerm termCodes codeOf
   pairs-end {i} {j} a p b q =
-      let p = fixed-at t kind.maplet p refl refl (omega arith) in
-      let q = fixed-at t kind.closeBrace q refl refl (omega arith) in
+      let p = fixed-at t kind.maplet p (omega arith) in
+      let q = fixed-at t kind.closeBrace q (omega arith) in
       let x = term-width a in
       let e = add-one j in
       record {
@@ -230,8 +223,8 @@ module _ {w : List Symbol} {ρ : Numbering} (t : Text w ρ) where
       → PairsIn w ρ (k + 1) l n → PairsIn w ρ i l (m ++ (m' ++ (n ++ node 2 0 0 0)))
   unfolding TermGrouped plainTerm termCodes codeOf
   pairs-more {i} {j} {k} a p b q c =
-      let p = fixed-at t kind.maplet p refl refl (omega arith) in
-      let q = fixed-at t kind.comma q refl refl (omega arith) in
+      let p = fixed-at t kind.maplet p (omega arith) in
+      let q = fixed-at t kind.comma q (omega arith) in
       let x = term-width a in
       let y = term-width b in
       let e = add-one j in

@@ -12,16 +12,16 @@ use Rattle.symbols.specs.Kinds.{codeOf}
 use Rattle.symbols.specs.Symbols.{Symbol}
 use Rattle.form.specs.Tree.{End, Range, Domain, givenSet, range, Arrow, relation, partial, total, TypeForm, givenType, powerType, rangeType, arrowType}
 use Rattle.form.specs.Written.{arrowKind}
-use Rattle.form.specs.Codes.{Numbering, node, endWidth, endNumber, rangeCodes, domainCodes, domainWidth, typeCodes, arrowNumber}
+use Rattle.form.specs.Codes.{Numbering, node, endWidth, endNumber, rangeCodes, domainCodes, domainWidth, typeWidth, typeCodes, arrowNumber}
 use Rattle.form.proofs.Plain.{plainEnd, plainRange, plainDomain, plainType}
 use Rattle.parser.specs.Inner.{codes}
 use Rattle.parser.specs.Derived.{nameCode, lowered, raised, endCode, magnitudeCode, rangeNode, isNameCode, domainNode, EndAt, positive, negative, RangeAt, ranges}
 use Rattle.parser.specs.Derived.{DomainAt, Derives, aType}
 use Rattle.parser.specs.Derived as derived
-use Rattle.parser.proofs.Standing.{values, Text, TypeAt}
-use Rattle.parser.proofs.TreesPlaces.{fixed-at, number-at, name-at}
-use Rattle.parser.proofs.TreesSorts.{arrow-at}
-use Rattle.parser.proofs.TreesWritten.{domain-apart, type-apart}
+use Rattle.parser.proofs.Standing.{values, Text}
+use Rattle.parser.proofs.SymbolAt.{fixed-at, number-at, name-at}
+use Rattle.parser.proofs.OperatorAt.{arrow-at}
+use Rattle.parser.proofs.Spans.{domain-apart, type-apart}
 
 -- an end of a range, or a divisor, with its sign and numbers
 pub record EndIn (w : List Symbol) (ρ : Numbering) (i j : ℕ) : Type 0 where
@@ -49,6 +49,12 @@ pub record DomainIn (w : List Symbol) (ρ : Numbering) (i j : ℕ) : Type 0 wher
   pub symbols : drop i w ≡ plainDomain tree (drop j w)
   pub width : j ≡ i + domainWidth tree
   pub nodes : domainNode (codes w) (values ρ w) i ≡ domainCodes tree i ρ
+
+pub record TypeIn (w : List Symbol) (ρ : Numbering) (i j : ℕ) (n : List ℕ) : Type 0 where
+  pub tree : TypeForm
+  pub symbols : drop i w ≡ plainType tree (drop j w)
+  pub width : j ≡ i + typeWidth tree
+  pub nodes : n ≡ typeCodes tree i ρ
 
 unnamed-low : (k : ℕ) → k < 2 → isNameCode k ≡ false
 unnamed-low k l = rw (lt-leb 2 k l)
@@ -87,7 +93,7 @@ module _ {w : List Symbol} {ρ : Numbering} (t : Text w ρ) where
         unnamed = unnamed-low (getD (codes w) i 0) (omega arith);
       }
   end-in (negative {i} p q) =
-      let m = fixed-at t kind.minus p refl refl (omega arith) in
+      let m = fixed-at t kind.minus p (omega arith) in
       let n = number-at t q in
       let e : eqb (getD (codes w) i 0) 29 ≡ true = eq-eqb (getD (codes w) i 0) 29 p in
       record {
@@ -106,7 +112,7 @@ module _ {w : List Symbol} {ρ : Numbering} (t : Text w ρ) where
   range-in (ranges {i} {j} {k} x q y) =
       let a = end-in x in
       let b = end-in y in
-      let s = fixed-at t kind.upTo q refl refl (omega arith) in
+      let s = fixed-at t kind.upTo q (omega arith) in
       record {
         tree = record { lower = a .tree; upper = b .tree };
         ahead = omega arith;
@@ -127,7 +133,7 @@ module _ {w : List Symbol} {ρ : Numbering} (t : Text w ρ) where
         inside = l;
         symbols = g .step .steps;
         width = domain-apart w (omega arith) l (givenSet (g .name)) (g .step .steps);
-        nodes = rw (named-code (getD (codes w) i 0) (x .low) (x .high)) (ap (λ (c : ℕ). node 1 i c 0) (g .code));
+        nodes = rw (named-code (getD (codes w) i 0) (x .low) (x .high)) (ap (λ (c : ℕ). node 1 i c 0) (g .number));
       }
   domain-in (derived.DomainAt.overRange {i} x) =
       let r = range-in x in
@@ -140,8 +146,8 @@ module _ {w : List Symbol} {ρ : Numbering} (t : Text w ρ) where
         nodes = rw (r .unnamed) (r .nodes);
       }
 
-  type-stands : {i j : ℕ} {n : List ℕ} → i ≤ j → j ≤ length w → (f : TypeForm) → drop i w ≡ plainType f (drop j w) → n ≡ typeCodes f i ρ → TypeAt w ρ i j n
-  type-stands a b f e q = let s = type-apart w a b f e in record { tree = f; symbols = s .0; width = s .1; nodes = q }
+  type-of : {i j : ℕ} {n : List ℕ} → i ≤ j → j ≤ length w → (f : TypeForm) → drop i w ≡ plainType f (drop j w) → n ≡ typeCodes f i ρ → TypeIn w ρ i j n
+  type-of a b f e q = record { tree = f; symbols = e; width = type-apart w a b f e; nodes = q }
 
   arrow-code : (a : Arrow) → codeOf (arrowKind a) - 29 ≡ arrowNumber a
   unfolding codeOf
@@ -149,21 +155,21 @@ module _ {w : List Symbol} {ρ : Numbering} (t : Text w ρ) where
   arrow-code partial = refl
   arrow-code total = refl
 
-  pub type-in : {i j : ℕ} {n : List ℕ} → Derives (codes w) (values ρ w) aType i j n → TypeAt w ρ i j n
+  pub type-in : {i j : ℕ} {n : List ℕ} → Derives (codes w) (values ρ w) aType i j n → TypeIn w ρ i j n
   unfolding codeOf
   type-in (derived.Derives.overGiven {i} x) =
       let g = name-at t x in
-      type-stands (omega arith) (g .step .inside) (givenType (g .name)) (g .step .steps) (ap (λ (c : ℕ). node 1 i c 0) (g .code))
+      type-of (omega arith) (g .step .inside) (givenType (g .name)) (g .step .steps) (ap (λ (c : ℕ). node 1 i c 0) (g .number))
   type-in (derived.Derives.overRange x) =
       let r = range-in x in
-      type-stands (r .ahead) (r .inside) (rangeType (r .tree)) (r .symbols) (r .nodes)
+      type-of (r .ahead) (r .inside) (rangeType (r .tree)) (r .symbols) (r .nodes)
   type-in (derived.Derives.overSets {i} p x) =
-      let s = fixed-at t kind.POWER p refl refl (omega arith) in
+      let s = fixed-at t kind.POWER p (omega arith) in
       let g = name-at t x in
-      type-stands (omega arith) (g .step .inside) (powerType (g .name)) (cc) (ap (λ (c : ℕ). node 3 i c 0) (g .code))
+      type-of (omega arith) (g .step .inside) (powerType (g .name)) (cc) (ap (λ (c : ℕ). node 3 i c 0) (g .number))
   type-in (derived.Derives.overPairs {i} x lo hi y) =
       let g = name-at t x in
       let a = arrow-at t lo hi in
       let h = name-at t y in
-      type-stands (omega arith) (h .step .inside) (arrowType (a .sort) (g .name) (h .name)) (cc)
+      type-of (omega arith) (h .step .inside) (arrowType (a .sort) (g .name) (h .name)) (cc)
       (ap (λ (k : ℕ). node (k - 29) i (nameCode (codes w) (values ρ w) i) (nameCode (codes w) (values ρ w) (i + 1 + 1))) (a .code) ∙ cc (arrow-code (a .sort)))

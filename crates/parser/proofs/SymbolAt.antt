@@ -1,4 +1,4 @@
--- The symbol at a place of a text, by its code.
+-- The symbol at a place of a text, by its code, and the number of a name there.
 use mathlib.Core.Path.{_≡_, refl, ap, _∙_, sym, subst}
 use mathlib.Core.Bool.{true, cond, true≢false}
 use mathlib.Core.List.{List, [], _∷_}
@@ -8,21 +8,25 @@ use native.Mathlib.Numerals.{add-one}
 use lib.Dec.{ltb}
 use lib.ListN.{length, drop, getD, List·getD-map}
 use lib.Seq.{drop-cons}
-use borrow.Author.Tests.{le-ltb, leb-true}
+use borrow.Author.Tests.{le-ltb, leb-true, le-leb}
 use Rattle.symbols.specs.Kinds as kind
 use Rattle.symbols.specs.Kinds.{Kind, codeOf}
 use Rattle.symbols.specs.Symbols.{Symbol, fixed, numeral, name, Name, Ending, noEnding, prime, query, shriek, kindOf, kindOfName}
-use Rattle.form.specs.Tree.{Letters}
+use Rattle.form.specs.Tree.{Letters, Direction, inward, outward}
+use Rattle.form.specs.Written.{endingOf}
+use Rattle.form.specs.Form.{kindAt}
 use Rattle.form.specs.Codes.{Numbering, endingNumber, numberOfName, nameNumber}
-use Rattle.form.proofs.Table.{kinds, kindIn, kind-back, isFixed, Spelled, AllSpelled, Each, by-table}
+use Rattle.form.proofs.Table.{kind-back, isFixed, Spelled, AllSpelled, Each, by-table}
 use Rattle.form.proofs.Plain.{named}
 use Rattle.parser.specs.Inner.{codes, Classes}
 use Rattle.parser.specs.Derived.{nameCode, NameAt}
+use Rattle.parser.proofs.Reading.{code-at}
+use Rattle.parser.proofs.Classes.{told}
 use Rattle.parser.proofs.Standing.{valueBy, values, Small, Text}
 
 -- a kind is told by its code
-pub told-kind : (κ : Kind) (j : Kind) → codeOf κ ≡ codeOf j → κ ≡ j
-told-kind κ j e = sym (kind-back κ) ∙ ap (kindIn kinds) e ∙ kind-back j
+told-kind : (κ : Kind) (j : Kind) → codeOf κ ≡ codeOf j → κ ≡ j
+told-kind κ j e = told κ e ∙ kind-back j
 
 -- the symbol at a place, and that the text goes on behind it
 pub record Step (w : List Symbol) (i : ℕ) (s : Symbol) : Type 0 where
@@ -43,12 +47,6 @@ inside-text [] i h = absurd (omega arith)
 inside-text (s ∷ w) zero h = omega arith
 inside-text (s ∷ w) (suc i) h = let l : i < length w = inside-text w i h in omega arith
 
-code-of : (w : List Symbol) (i : ℕ) → i < length w → getD (codes w) i 0 ≡ codeOf (kindOf (getD w i (fixed kind.END)))
-unfolding codes
-code-of [] i l = absurd (omega arith)
-code-of (s ∷ w) zero l = refl
-code-of (s ∷ w) (suc i) l = code-of w i (omega arith)
-
 spelled-at : (w : List Symbol) (i : ℕ) → AllSpelled w → Spelled (getD w i (fixed kind.END))
 unfolding codeOf
 spelled-at [] i h = refl
@@ -56,11 +54,12 @@ spelled-at (s ∷ w) zero h = h .0
 spelled-at (s ∷ w) (suc i) h = spelled-at w i (h .1)
 
 pub place : {w : List Symbol} {ρ : Numbering} → Text w ρ → (i : ℕ) → 1 ≤ getD (codes w) i 0 → Place w ρ i (getD w i (fixed kind.END))
+unfolding kindAt
 place {w} {ρ} t i h =
     let l : i < length w = inside-text w i h in
     record {
       step = record { inside = omega arith; steps = drop-cons w i (fixed kind.END) l ∙ ap (λ (k : ℕ). getD w i (fixed kind.END) ∷ drop k w) (sym (add-one i)) };
-      code = code-of w i l;
+      code = sym (code-at w i l);
       value = List·getD-map (valueBy ρ) w i (fixed kind.END);
       spelled = spelled-at w i (t .spelled);
       small = t .small i;
@@ -83,13 +82,21 @@ fixed-kind (numeral n) κ f e = absurd (number-kind κ f e)
 fixed-kind (name x) κ f e = absurd (name-kind κ (x .ending) f e)
 
 -- a kind that is no number and no name is the whole symbol
-pub step-of : {w : List Symbol} {ρ : Numbering} {i : ℕ} {s : Symbol} → Place w ρ i s → (κ : Kind) → isFixed κ ≡ true → kindOf s ≡ κ → Step w i (fixed κ)
+step-of : {w : List Symbol} {ρ : Numbering} {i : ℕ} {s : Symbol} → Place w ρ i s → (κ : Kind) → isFixed κ ≡ true → kindOf s ≡ κ → Step w i (fixed κ)
 step-of {w} {i} {s} p κ f e = subst (λ (x : Symbol). Step w i x) (fixed-kind s κ f e) (p .step)
 
-pub fixed-at : {w : List Symbol} {ρ : Numbering} → Text w ρ → (κ : Kind) {i k : ℕ} → getD (codes w) i 0 ≡ k → k ≡ codeOf κ → isFixed κ ≡ true → 1 ≤ k → Step w i (fixed κ)
-fixed-at {w} t κ {i} {k} q c f l =
+pub fixed-at : {w : List Symbol} {ρ : Numbering} → Text w ρ → (κ : Kind) {i : ℕ} → getD (codes w) i 0 ≡ codeOf κ → 10 ≤ codeOf κ → Step w i (fixed κ)
+fixed-at {w} t κ {i} q l =
     let p = place t i (omega arith) in
-    step-of p κ f (told-kind (kindOf (getD w i (fixed kind.END))) κ (sym (p .code) ∙ q ∙ c))
+    step-of p κ (le-leb 10 (codeOf κ) l) (told-kind (kindOf (getD w i (fixed kind.END))) κ (sym (p .code) ∙ q))
+
+-- the code of a name is by its ending
+pub ending-code : (e : Ending) → codeOf (kindOfName e) ≡ 2 + endingNumber e
+unfolding codeOf
+ending-code noEnding = refl
+ending-code prime = refl
+ending-code query = refl
+ending-code shriek = refl
 
 -- a number, by its value
 pub record NumberAt (w : List Symbol) (ρ : Numbering) (i : ℕ) : Type 0 where
@@ -105,43 +112,28 @@ number-at {w} {ρ} t {i} q = on (getD w i (fixed kind.END)) (place t i (omega ar
     on : (s : Symbol) → Place w ρ i s → NumberAt w ρ i
     on (fixed k) p = absurd (number-kind k (p .spelled) (told-kind kind.number k (sym q ∙ p .code)))
     on (numeral n) p = record { number = n; step = p .step; value = p .value; small = p .small }
-    on (name x) p = absurd (other (x .ending) (sym q ∙ p .code))
-      where
-        other : (e : Ending) → 1 ≡ codeOf (kindOfName e) → ⊥
-        other noEnding r = omega arith
-        other prime r = omega arith
-        other query r = omega arith
-        other shriek r = omega arith
+    on (name x) p = absurd (let c = ending-code (x .ending) in let k = p .code in omega arith)
 
--- a name, by its letters and ending
+-- a name, with the code of its ending and its number
 pub record NamedAt (w : List Symbol) (ρ : Numbering) (i : ℕ) : Type 0 where
   pub name : Name
   pub step : Step w i (Symbol.name name)
-  pub code : nameCode (codes w) (values ρ w) i ≡ nameNumber ρ name
-  pub kind : getD (codes w) i 0 ≡ codeOf (kindOfName (name .ending))
+  pub code : getD (codes w) i 0 ≡ codeOf (kindOfName (name .ending))
+  pub number : nameCode (codes w) (values ρ w) i ≡ nameNumber ρ name
 
-name-value : (v k : ℕ) → v ≤ 4095 → 2 ≤ k → cond (ltb 4095 v) 0 (cond (ltb k 2) 0 (4 * v + (k - 2))) ≡ 4 * v + (k - 2)
-name-value v k a b = rw (le-ltb 4095 v a, le-ltb k 2 b)
-
-ending-code : (e : Ending) → (2 ≤ codeOf (kindOfName e)) × (codeOf (kindOfName e) - 2 ≡ endingNumber e)
-unfolding codeOf
-ending-code noEnding = (omega arith, refl)
-ending-code prime = (omega arith, refl)
-ending-code query = (omega arith, refl)
-ending-code shriek = (omega arith, refl)
+name-value : (v k x n : ℕ) → v ≡ x → x ≤ 4095 → k ≡ 2 + n → cond (ltb 4095 v) 0 (cond (ltb k 2) 0 (4 * v + (k - 2))) ≡ 4 * x + n
+name-value v k x n e l q = rw (le-ltb 4095 v (omega arith), le-ltb k 2 (omega arith)) (omega arith)
 
 pub named-at : {w : List Symbol} {ρ : Numbering} {i : ℕ} {x : Name} → Place w ρ i (name x) → NamedAt w ρ i
 unfolding nameCode numberOfName
 named-at {w} {ρ} {i} {x} p =
-    let e = ending-code (x .ending) in
-    let c = p .code in
     record {
       name = x;
       step = p .step;
-      code =
-          name-value (getD (values ρ w) i 0) (getD (codes w) i 0) (let v = p .value in let s = p .small in omega arith) (omega arith)
-          ∙ (let v = p .value in omega arith);
-      kind = p .code;
+      code = p .code;
+      number =
+          name-value (getD (values ρ w) i 0) (getD (codes w) i 0) (ρ (x .letters)) (endingNumber (x .ending)) (p .value) (p .small)
+          (p .code ∙ ending-code (x .ending));
     }
 
 -- a fixed symbol has no name's code
@@ -157,23 +149,39 @@ name-at {w} {ρ} t {i} h = on (getD w i (fixed kind.END)) (place t i (let l = h 
     on (numeral n) p = absurd (let c = p .code in let b = h .low in omega arith)
     on (name x) p = named-at p
 
--- a name without ending, by its letters
-pub record PlainAt (w : List Symbol) (ρ : Numbering) (i : ℕ) : Type 0 where
+-- a name with the ending e, by its letters
+pub record NamedAs (w : List Symbol) (ρ : Numbering) (e : Ending) (i : ℕ) : Type 0 where
   pub letters : Letters
-  pub step : Step w i (named letters noEnding)
-  pub code : nameCode (codes w) (values ρ w) i ≡ numberOfName ρ letters noEnding
+  pub step : Step w i (named letters e)
+  pub number : nameCode (codes w) (values ρ w) i ≡ numberOfName ρ letters e
 
-pub plain-at : {w : List Symbol} {ρ : Numbering} → Text w ρ → {i : ℕ} → getD (codes w) i 0 ≡ 2 → PlainAt w ρ i
+pub ending-as : {w : List Symbol} {ρ : Numbering} {i : ℕ} {e : Ending} (n : NamedAt w ρ i) → n .name .ending ≡ e → NamedAs w ρ e i
+ending-as {w} {ρ} {i} n q =
+    record {
+      letters = n .name .letters;
+      step = subst (λ (y : Ending). Step w i (named (n .name .letters) y)) q (n .step);
+      number = n .number ∙ ap (numberOfName ρ (n .name .letters)) q;
+    }
+
+-- the ending of a plain name; that of an input or an output
+pub no-ending : (e : Ending) → codeOf (kindOfName e) ≡ 2 → e ≡ noEnding
 unfolding codeOf
-plain-at {w} {ρ} t {i} h =
-    let n = name-at t {i = i} (record { low = omega arith; high = omega arith }) in
-    on (n .name .letters) (n .name .ending) (n .step) (n .code) (n .kind)
-  where
-    on : (x : Letters) (e : Ending) → Step w i (named x e) → nameCode (codes w) (values ρ w) i ≡ numberOfName ρ x e → getD (codes w) i 0 ≡ codeOf (kindOfName e) → PlainAt w ρ i
-    on x noEnding s c k = record { letters = x; step = s; code = c }
-    on x prime s c k = absurd (omega arith)
-    on x query s c k = absurd (omega arith)
-    on x shriek s c k = absurd (omega arith)
+no-ending noEnding q = refl
+no-ending prime q = absurd (omega arith)
+no-ending query q = absurd (omega arith)
+no-ending shriek q = absurd (omega arith)
+
+pub directed : (e : Ending) → 4 ≤ codeOf (kindOfName e) → (d : Direction) × (e ≡ endingOf d)
+unfolding codeOf
+directed noEnding q = absurd (omega arith)
+directed prime q = absurd (omega arith)
+directed query q = (inward, refl)
+directed shriek q = (outward, refl)
+
+-- a name without ending
+pub plain-at : {w : List Symbol} {ρ : Numbering} → Text w ρ → {i : ℕ} → getD (codes w) i 0 ≡ 2 → NamedAs w ρ noEnding i
+plain-at t {i} q =
+    let n = name-at t {i = i} (record { low = omega arith; high = omega arith }) in ending-as n (no-ending (n .name .ending) (sym (n .code) ∙ q))
 
 -- a symbol of one of several kinds
 pub record SortAt {A : Type 0} (f : A → Kind) (w : List Symbol) (i : ℕ) : Type 0 where

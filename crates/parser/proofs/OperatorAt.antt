@@ -22,16 +22,16 @@ use Rattle.parser.specs.Inner.{codes, Classes, Starts, operators, connec
 use Rattle.parser.specs.Derived.{MemberAt}
 use Rattle.parser.specs.declared.kinds.Start.the-variants.{Leaf, Prefix as PrefixStart}
 use Rattle.parser.proofs.Standing.{Text}
-use Rattle.parser.proofs.TreesPlaces.{SortAt, SortOf, sort-at, class-at, coded-at}
+use Rattle.parser.proofs.SymbolAt.{SortAt, SortOf, sort-at, class-at, coded-at}
 
 -- an operator, or a connective, of the level l
-abbrev pub Leveled : ℕ → Type 0
+abbrev Leveled : ℕ → Type 0
 Leveled l = (o : Operator) × (operatorLevel o ≡ l)
 
-abbrev pub leveledKind : {l : ℕ} → Leveled l → Kind
+abbrev leveledKind : {l : ℕ} → Leveled l → Kind
 leveledKind x = operatorKind (x .0)
 
-abbrev pub Joined : ℕ → Type 0
+abbrev Joined : ℕ → Type 0
 Joined l = (o : Connective) × (connectiveLevel o ≡ l)
 
 abbrev pub joinedKind : {l : ℕ} → Joined l → Kind
@@ -41,7 +41,7 @@ abbrev pub truthKind : Bool → Kind
 truthKind true = kind.TRUE
 truthKind false = kind.FALSE
 
-abbrev pub notKind : Unit {0} → Kind
+abbrev notKind : Unit {0} → Kind
 notKind x = kind.NOT
 
 -- how a symbol begins a term

@@ -17,10 +17,10 @@ use Rattle.form.proofs.Plain.{plainPred}
 use Rattle.parser.specs.Inner.{codes, Classes, connectives, predStarts, relations}
 use Rattle.parser.specs.Derived.{nameCode, rangeNode, domainNode, MemberAt, RangeAt, DomainAt}
 use Rattle.parser.proofs.Standing.{values, Text}
-use Rattle.parser.proofs.TreesPlaces.{Step, fixed-at, plain-at}
-use Rattle.parser.proofs.TreesSorts.{truthKind, truth-at, not-at, comparison-at, membership-at, quantifier-at, connective-at}
-use Rattle.parser.proofs.TreesWritten.{TermIn, PredIn, term-width, pred-width}
-use Rattle.parser.proofs.TreesRanges.{range-in, domain-in}
+use Rattle.parser.proofs.SymbolAt.{Step, fixed-at, plain-at}
+use Rattle.parser.proofs.OperatorAt.{truthKind, truth-at, not-at, comparison-at, membership-at, quantifier-at, connective-at}
+use Rattle.parser.proofs.Spans.{TermIn, PredIn, term-width, pred-width}
+use Rattle.parser.proofs.RangeTrees.{range-in, domain-in}
 
 -- the least levels of the two sides of a connective of the level l
 abbrev pub leftOf : ℕ → ℕ
@@ -68,8 +68,8 @@ module _ {w : List Symbol} {ρ : Numbering} (t : Text w ρ) where
   pub parenthesised-in : {i j : ℕ} {n : List ℕ} → getD (codes w) i 0 ≡ 15 → PredIn w ρ 1 (i + 1) j n → getD (codes w) j 0 ≡ 16 → PredIn w ρ 5 i (j + 1) n
   unfolding PredGrouped plainPred predCodes codeOf
   parenthesised-in {i} p a q =
-      let x = fixed-at t kind.openParen p refl refl (omega arith) in
-      let y = fixed-at t kind.closeParen q refl refl (omega arith) in
+      let x = fixed-at t kind.openParen p (omega arith) in
+      let y = fixed-at t kind.closeParen q (omega arith) in
       let e = add-one i in
       record {
         tree = paren (a .tree);
@@ -87,13 +87,13 @@ module _ {w : List Symbol} {ρ : Numbering} (t : Text w ρ) where
       ++ node 8 (i + 1) (nameCode (codes w) (values ρ w) (i + 1 + 1)) (getD (codes w) (i + 1) 0))
   unfolding PredGrouped plainPred predCodes codeOf
   quantified-in {i} {j} {k} {n} o lo hi x c d s a q =
-      let o = fixed-at t kind.openParen o refl refl (omega arith) in
+      let o = fixed-at t kind.openParen o (omega arith) in
       let f = quantifier-at t lo hi in
       let x = plain-at t x in
-      let c = fixed-at t kind.colon c refl refl (omega arith) in
+      let c = fixed-at t kind.colon c (omega arith) in
       let d = domain-in t d in
-      let s = fixed-at t kind.spot s refl refl (omega arith) in
-      let q = fixed-at t kind.closeParen q refl refl (omega arith) in
+      let s = fixed-at t kind.spot s (omega arith) in
+      let q = fixed-at t kind.closeParen q (omega arith) in
       let e = add-one i in
       let g : i + 1 + 1 + 1 + 1 ≡ i + 4 = omega arith in
       let h : j + 1 ≡ i + 5 + domainWidth (d .tree) = let y = d .width in omega arith in
@@ -164,7 +164,7 @@ module _ {w : List Symbol} {ρ : Numbering} (t : Text w ρ) where
       → PredIn w ρ 5 h k (m ++ (m' ++ (n ++ node 7 j (getD (codes w) j 0) 0)))
   unfolding PredGrouped plainPred predCodes codeOf
   related-in {h} {i} {j} a p b c d =
-      let p = fixed-at t kind.maplet p refl refl (omega arith) in
+      let p = fixed-at t kind.maplet p (omega arith) in
       let o = membership-at t c in
       let x = term-width a in
       let y = term-width b in

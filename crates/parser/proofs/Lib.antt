@@ -33,3 +33,4 @@ pub mod Bodied
 pub mod Titled
 pub mod Known
 pub mod Answered
+pub mod Placing

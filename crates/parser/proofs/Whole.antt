@@ -7,6 +7,9 @@ use lib.ListN.{length, take, drop, getD, length-map}
 use lib.Seq.{length-take-le}
 use Rattle.symbols.specs.Symbols.{Symbol, scan, symbols, placeAt}
 use Rattle.symbols.specs.Refusals.{Refusal, Fault, fault, numberOf, least, headingDiffers}
+use Rattle.symbols.specs.Promises.{Scans, faultOf}
+use Rattle.symbols.specs.declared.Scanned.{Scanned}
+use Rattle.symbols.specs.declared.Scanned.the-variants.{Symbols}
 use Rattle.form.specs.Tree.{Dossier}
 use Rattle.form.specs.Written.{symbolsOf}
 use Rattle.form.specs.Form.{refused, formed, FormOf, Forms}
@@ -16,10 +19,13 @@ use Rattle.form.specs.Headings.{headingFaults}
 use Rattle.form.specs.Codes.{dossierCodes}
 use Rattle.form.proofs.Table.{AllSpelled}
 use Rattle.form.proofs.FormOf.{form-of}
-use Rattle.parser.specs.Inner.{codes, Left}
+use Rattle.parser.specs.Inner.{codes, Left, refusalNumbered}
 use Rattle.parser.specs.Derived.{Derives, aDossier}
 use Rattle.parser.specs.Sections.{Tells, Headed, Finds}
-use Rattle.parser.specs.Promises.{textSymbols, numbering, Answers, AnswersHeadings}
+use Rattle.parser.specs.Promises.{textSymbols, numbering, Answers, AnswersHeadings, Parses}
+use Rattle.parser.specs.Dossiers.{Formed}
+use Rattle.parser.specs.declared.Read.{Read}
+use Rattle.parser.specs.declared.Read.the-variants as read
 use Rattle.parser.specs.declared.Parsed.{Parsed}
 use Rattle.parser.specs.declared.Parsed.the-variants.{Structure, Refused}
 use Rattle.parser.specs.declared.headings.Heads.{Heads}
@@ -102,3 +108,40 @@ module _ {text coded placed valued : List ℕ} {n : ℕ} (left : Left text coded
           a ∙ ap₂ Structure (sym (facts .count) ∙ length-map (symbols (scan text)) _) (sym long),
           b ∙ ap₂ (λ (x : List ℕ) (k : ℕ). x ++ drop k nodes₀) nodes-are (sym long),
         )
+
+-- what the functions below `structure` have answered, put together
+pub few-symbols : {text coded placed valued : List ℕ} {n : ℕ} → Left text coded placed valued n → n ≤ 4096
+few-symbols left = known (left .scans) .few
+
+pub formed-as : {s ν a b : List ℕ} {r t : Read} → r ≡ t → Formed s ν a b r → Formed s ν a b t
+formed-as {s} {ν} {a} {b} q f = subst (λ (x : Read). Formed s ν a b x) q f
+
+module _ {text coded placed valued : List ℕ} {n : ℕ} (left : Left text coded placed valued n) {a made : List ℕ} where
+  pub form-fault : {i f : ℕ} → Formed (take n coded) (take n valued) a made (read.Fault i f) → (nodes₀ : List ℕ) (r : Parsed)
+      → r ≡ Refused (numberOf (refusalNumbered f)) (getD (take n placed) i (length text)) → Answers text none nodes₀ nodes₀ r
+  form-fault {i} {f} g nodes₀ r = refuses-form left nodes₀ r i (refusalNumbered f) (g .exact (textSymbols text) (sym (known (left .scans) .codes-are)))
+
+  pub heading-fault : {e m i : ℕ} → Formed (take n coded) (take n valued) a made (read.At e m) → m ≤ length made → (h : Heads) → Headed made m n h → h ≡ Differ i
+      → (nodes₀ : List ℕ) (r : Parsed)
+      → r ≡ Refused 7 (getD (take n placed) i (length text)) → Answers text none nodes₀ nodes₀ r
+  heading-fault {e} {m} {i} g room h f q nodes₀ r =
+      refuses-heading left made m (g .exact (textSymbols text) (sym (known (left .scans) .codes-are))) (g .made .derives) (g .ended .0) (g .made .written) room nodes₀ r i
+      (subst (λ (x : Heads). Headed made m n x) q f)
+
+  pub whole-structure : {e m : ℕ} → Formed (take n coded) (take n valued) a made (read.At e m) → m ≤ length made → (h : Heads) → Headed made m n h → h ≡ Fit
+      → (nodes₀ nodes : List ℕ) (r : Parsed)
+      → nodes ≡ take m made ++ drop m nodes₀ → r ≡ Structure n m → Answers text none nodes₀ nodes r
+  whole-structure {e} {m} g room h f q nodes₀ nodes r =
+      leaves left made m (g .exact (textSymbols text) (sym (known (left .scans) .codes-are))) (g .made .derives) (g .ended .0) (g .made .written) room nodes₀ nodes r
+      (subst (λ (x : Heads). Headed made m n x) q f)
+
+-- what `scan` left is what `structure` counts on; its answer, and that of `structure`, are the answer of `parse`
+pub left-of : {text codes₀ starts₀ values₀ coded starts valued : List ℕ} {r : Scanned} {n : ℕ} → Scans text codes₀ starts₀ values₀ coded starts valued r → r ≡ Symbols n
+    → Left text coded starts valued n
+left-of {text} {codes₀} {starts₀} {values₀} {coded} {starts} {valued} h q =
+    record { codes₀ = codes₀; starts₀ = starts₀; values₀ = values₀; scans = subst (λ (x : Scanned). Scans text codes₀ starts₀ values₀ coded starts valued x) q h }
+
+pub parses : {text codes₀ starts₀ values₀ coded starts valued nodes₀ nodes : List ℕ} {p : Parsed} {r : Scanned} → Scans text codes₀ starts₀ values₀ coded starts valued r
+    → (g : Option Fault) → faultOf r ≡ g → Answers text g nodes₀ nodes p → Parses text codes₀ starts₀ values₀ nodes₀ coded starts valued nodes p
+parses {text} {nodes₀ = nodes₀} {nodes = nodes} {p = p} {r = r} h g e a =
+    record { scanned = r; scans = h; answers = subst (λ (x : Option Fault). Answers text x nodes₀ nodes p) (sym e) a }

@@ -105,14 +105,12 @@ pub data Derives (s ν : List ℕ) : Part → ℕ → ℕ → List ℕ → Type 
       → Derives s ν somePairs i (j + 1) (m ++ node 1 0 0 0)
   pairsMore : {i j k l : ℕ} {m m' n : List ℕ} → getD s i 0 ≡ 32 → Derives s ν (aTermFrom 1) (i + 1) j m → getD s j 0 ≡ 12 → Derives s ν (aTermFrom 1) (j + 1) k m'
       → Derives s ν somePairs k l n → Derives s ν somePairs i l (((m ++ m') ++ n) ++ node 2 0 0 0)
-
   termFrom : {min i j k : ℕ} {m n : List ℕ} → Derives s ν anOperand i j m → Derives s ν (aTermRest min) j k n → Derives s ν (aTermFrom min) i k (m ++ n)
   termStops : {min i : ℕ} → NoOperator s min i → Derives s ν (aTermRest min) i i []
   divided : {min o i j k : ℕ} {n : List ℕ} → Classes operators (getD s i 0) o → 3 ≤ o → min ≤ 2 → EndAt s (i + 1) j → Derives s ν (aTermRest min) j k n
       → Derives s ν (aTermRest min) i k (node 4 i (magnitudeCode s ν (i + 1)) (divisionCode s i) ++ n)
   operated : {min o i j k : ℕ} {m n : List ℕ} → Classes operators (getD s i 0) o → 1 ≤ o → o ≤ 2 → min ≤ o → Derives s ν (aTermFrom (o + 1)) (i + 1) j m
       → Derives s ν (aTermRest min) j k n → Derives s ν (aTermRest min) i k ((m ++ node 5 i (getD s i 0) 0) ++ n)
-
   predFrom : {min i j k : ℕ} {m n : List ℕ} → Derives s ν aUnary i j m → Derives s ν (aPredRest min) j k n → Derives s ν (aPredFrom min) i k (m ++ n)
   predStops : {min i : ℕ} → NoConnective s min i → Derives s ν (aPredRest min) i i []
   implied : {min i j k : ℕ} {m n : List ℕ} → Classes connectives (getD s i 0) 2 → min ≤ 2 → Derives s ν (aPredFrom 2) (i + 1) j m → Derives s ν (aPredRest min) j k n
@@ -131,7 +129,6 @@ pub data Derives (s ν : List ℕ) : Part → ℕ → ℕ → List ℕ → Type 
   within : {i j : ℕ} → MemberAt s i → RangeAt s (i + 1) j → Derives s ν anAtom i j (rangeNode s ν (i + 1) ++ node 6 i (getD s i 0) 0)
   mapped : {i j k : ℕ} {m n : List ℕ} → getD s i 0 ≡ 32 → Derives s ν (aTermFrom 1) (i + 1) j m → Derives s ν someRelated j k n → Derives s ν anAtom i k (m ++ n)
   related : {i j : ℕ} {n : List ℕ} → MemberAt s i → Derives s ν (aTermFrom 1) (i + 1) j n → Derives s ν someRelated i j (n ++ node 7 i (getD s i 0) 0)
-
   overGiven : {i : ℕ} → NameAt s i → Derives s ν aType i (i + 1) (node 1 i (nameCode s ν i) 0)
   overRange : {i j : ℕ} → RangeAt s i j → Derives s ν aType i j (rangeNode s ν i)
   overSets : {i : ℕ} → getD s i 0 ≡ 46 → NameAt s (i + 1) → Derives s ν aType i (i + 1 + 1) (node 3 i (nameCode s ν (i + 1)) 0)

@@ -14,7 +14,7 @@ use Rattle.form.specs.Tree.{Pred, truth, falsity, negation, paren, quantified, 
 use Rattle.form.specs.Written.{prefixKind, operatorKind, comparisonKind, connectiveKind, quantifierKind, membershipKind}
 use Rattle.form.specs.Codes.{node, Numbering, nameNumber, numberOfName, endNumber, endWidth, signOf, divisionNumber, termWidth, predWidth, domainWidth, rangeCodes, domainCodes, termCodes, itemsCodes, pairsCodes, predCodes}
 use Rattle.names.specs.declared.Seen.{Seen}
-use Rattle.names.specs.Inner.{Names, Sizes, domainKind, domainKey, termKind, termKey, predKey, Saw, DomainSeen, TermSeen, ItemsSeen, PairsSeen, PredSeen}
+use Rattle.names.specs.Inner.{Names, Sizes, termKind, termKey, predKey, Saw, DomainSeen, TermSeen, ItemsSeen, PairsSeen, PredSeen}
 
 -- the node that ends at e, and the numbers x before it
 pub record Last (code : List ℕ) (e : ℕ) (x : List ℕ) (k i a b : ℕ) : Type 0 where
@@ -39,14 +39,14 @@ module _ (code : List ℕ) (e : ℕ) (l : e ≤ length code) where
       let n : e ≡ length x + 4 = sym (length-take-le e code l) ∙ ap length q ∙ length-append x (node k i a b) in
       let lx : length x ≡ e - 4 = omega arith in
       let nth : (j : ℕ) → j < 4 → getD code (e - 4 + j) 0 ≡ getD (node k i a b) j 0 = λ j lt. at-place x k i a b q j lx n lt in
-      record
-        { isShape = nth 3 (omega arith)
-        ; isPlace = nth 2 (omega arith)
-        ; isFirst = nth 1 (omega arith)
-        ; isSecond = sym (getD-take e code (e - 4) 0 (omega arith)) ∙ ap (λ (y : List ℕ). getD y (e - 4) 0) q ∙ getD-at x b (a ∷ i ∷ k ∷ []) 0 (e - 4) lx
-        ; before = sym (take-take (e - 4) e code (omega arith)) ∙ ap (take (e - 4)) q ∙ take-at x (node k i a b) (e - 4) lx
-        ; long = lx
-        }
+      record {
+        isShape = nth 3 (omega arith);
+        isPlace = nth 2 (omega arith);
+        isFirst = nth 1 (omega arith);
+        isSecond = sym (getD-take e code (e - 4) 0 (omega arith)) ∙ ap (λ (y : List ℕ). getD y (e - 4) 0) q ∙ getD-at x b (a ∷ i ∷ k ∷ []) 0 (e - 4) lx;
+        before = sym (take-take (e - 4) e code (omega arith)) ∙ ap (take (e - 4)) q ∙ take-at x (node k i a b) (e - 4) lx;
+        long = lx;
+      }
     where
       at-place : (x : List ℕ) (k i a b : ℕ) → take e code ≡ x ++ node k i a b → (j : ℕ) → length x ≡ e - 4 → e ≡ length x + 4 → j < 4 → getD code (e - 4 + j) 0 ≡ getD (node k i a b) j 0
       at-place x k i a b q j lx n lt =
@@ -69,7 +69,7 @@ module _ (code : List ℕ) (e : ℕ) (l : e ≤ length code) where
   pub too-short : {p : List ℕ} {k : ℕ} (base : List ℕ) → Ends p k → e < 4 → take e code ≡ base ++ p → ⊥
   too-short {k = k} base n lt q =
       let w : e ≡ length base + length (n .front ++ node k (n .i) (n .a) (n .b)) =
-        sym (length-take-le e code l) ∙ ap length (q ∙ ap (λ (y : List ℕ). base ++ y) (n .ends)) ∙ length-append base (n .front ++ node k (n .i) (n .a) (n .b)) in
+      sym (length-take-le e code l) ∙ ap length (q ∙ ap (λ (y : List ℕ). base ++ y) (n .ends)) ∙ length-append base (n .front ++ node k (n .i) (n .a) (n .b)) in
       omega (arith, length-append (n .front) (node k (n .i) (n .a) (n .b)))
 
 -- what stands before the last part
@@ -275,21 +275,21 @@ RightP code e T z r p i = (ρ : Numbering) (base : List ℕ) → take e code ≡
 module _ (code : List ℕ) (e : ℕ) (l : e ≤ length code) (T : Names) (z : Sizes) where
   pub term-from : (k : ℕ) (U : Names) (r : Seen) → r .start ≤ e → U ≡ T → getD code (e - 4 + 3) 0 ≡ k → CaseT k (RightT code e T z r) → TermSeen code e T U z r
   unfolding termCodes termKind termKey
-  term-from k U r f g q h = record
-      { falls = f
-      ; kept = g
-      ; right = λ t i ρ base y. pickT (RightT code e T z r) (λ t i h. h) t i
-          (subst (λ (n : ℕ). CaseT n (RightT code e T z r)) (sym q ∙ shape-is code e l base (endsT t i ρ) y) h) ρ base y
-      }
+  term-from k U r f g q h = record {
+    falls = f;
+    kept = g;
+    right = λ t i ρ base y. pickT (RightT code e T z r) (λ t i h. h) t i
+        (subst (λ (n : ℕ). CaseT n (RightT code e T z r)) (sym q ∙ shape-is code e l base (endsT t i ρ) y) h) ρ base y;
+  }
 
   pub pred-from : (k : ℕ) (U : Names) (r : Seen) → r .start ≤ e → U ≡ T → getD code (e - 4 + 3) 0 ≡ k → CaseP k (RightP code e T z r) → PredSeen code e T U z r
   unfolding termCodes termKey
-  pred-from k U r f g q h = record
-      { falls = f
-      ; kept = g
-      ; right = λ p i ρ base y. pickP (RightP code e T z r) (λ p i h. h) p i
-          (subst (λ (n : ℕ). CaseP n (RightP code e T z r)) (sym q ∙ shape-is code e l base (endsP p i ρ) y) h) ρ base y
-      }
+  pred-from k U r f g q h = record {
+    falls = f;
+    kept = g;
+    right = λ p i ρ base y. pickP (RightP code e T z r) (λ p i h. h) p i
+        (subst (λ (n : ℕ). CaseP n (RightP code e T z r)) (sym q ∙ shape-is code e l base (endsP p i ρ) y) h) ρ base y;
+  }
 
   -- no nodes of a tree end here
   pub domain-short : (r : Seen) → r .start ≡ 0 → e < 4 → DomainSeen code e T r

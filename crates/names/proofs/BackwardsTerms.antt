@@ -16,7 +16,7 @@ use Rattle.names.specs.declared.Seen.{Seen}
 use Rattle.names.specs.declared.Node.{Node}
 use Rattle.names.specs.Inner.{Names, Sizes, entry, isFree, isNumber, isGiven, isElement, inReach, elementOf, setOf, pairOf, prefixFits, prefixType, operatorFits, shared, key, unlessKey, lesser, judgedKey, insideKey, rangeFits, overKey, braceKey}
 use Rattle.names.specs.Inner.{domainKind, domainKey, termKind, itemsKind, pairsKind, termKey, itemsKey, pairsKey, predKey, PrefixFits, PrefixType, OperatorFits, NodeAt, Saw, DomainSeen, TermSeen, ItemsSeen, PairSeen, PairsSeen, PredSeen}
-use Rattle.names.proofs.Backwards.{Last, last-node, one-part, two-parts, three-parts, middle, term-from}
+use Rattle.names.proofs.Backwards.{last-node, one-part, two-parts, three-parts, middle, term-from}
 
 -- faults from the faults of the parts
 pub seen-unless : {b c : Bool} {w i : ℕ} (n : ℕ) → b ≡ c → w ≡ i → unlessKey b (key w n) ≡ unlessKey c (key i n)
@@ -69,11 +69,11 @@ module _ (code : List ℕ) (e : ℕ) (l : e ≤ length code) (T : Names) (z : Si
       right (givenSet g) i ρ base y = absurd (q (last-node code e l base 1 i (nameNumber ρ g) 0 y .isShape))
       right (range c) i ρ base y =
           let h = last-node code e l base 2 (i + endWidth (c .lower)) (endNumber (c .lower)) (endNumber (c .upper)) y in
-          record
-            { kindIs = kq
-            ; faultIs = fq ∙ seen-unless 11 (bq ∙ ap₂ rangeFits (hn .firstIs ∙ h .isFirst) (hn .secondIs ∙ h .isSecond)) (wq ∙ hn .placeIs ∙ h .isPlace)
-            ; startIs = s ∙ sym (h .long)
-            }
+          record {
+            kindIs = kq;
+            faultIs = fq ∙ seen-unless 11 (bq ∙ ap₂ rangeFits (hn .firstIs ∙ h .isFirst) (hn .secondIs ∙ h .isSecond)) (wq ∙ hn .placeIs ∙ h .isPlace);
+            startIs = s ∙ sym (h .long);
+          }
 
   pub term-number : (r : Seen) → r .kind ≡ 1 → r .fault ≡ 0 → r .start ≡ e - 4 → getD code (e - 4 + 3) 0 ≡ 1 → TermSeen code e T T z r
   unfolding termCodes termKind termKey
@@ -86,9 +86,9 @@ module _ (code : List ℕ) (e : ℕ) (l : e ≤ length code) (T : Names) (z : Si
   unfolding termCodes termKind termKey
   term-name n r x w b hn q s xq kq wq bq fq = term-from code e l T z 2 T r (omega arith) refl q
       (λ g i ρ base y.
-        let h = last-node code e l base 2 i (nameNumber ρ g) 0 y in
-        let kx : r .kind ≡ entry T (nameNumber ρ g) = kq ∙ ap (entry T) (xq ∙ hn .firstIs ∙ h .isFirst) in
-        record { kindIs = kx; faultIs = fq ∙ seen-unless 9 (bq ∙ ap inReach kx) (wq ∙ hn .placeIs ∙ h .isPlace); startIs = s ∙ sym (h .long) })
+      let h = last-node code e l base 2 i (nameNumber ρ g) 0 y in
+      let kx : r .kind ≡ entry T (nameNumber ρ g) = kq ∙ ap (entry T) (xq ∙ hn .firstIs ∙ h .isFirst) in
+      record { kindIs = kx; faultIs = fq ∙ seen-unless 9 (bq ∙ ap inReach kx) (wq ∙ hn .placeIs ∙ h .isPlace); startIs = s ∙ sym (h .long) })
 
   -- empty G, empty G H
   pub term-empty : (n : Node) (r : Seen) (x v w k : ℕ) (b : Bool) → NodeAt code e n → getD code (e - 4 + 3) 0 ≡ 9 → r .start ≡ e - 4
@@ -97,13 +97,13 @@ module _ (code : List ℕ) (e : ℕ) (l : e ≤ length code) (T : Names) (z : Si
   unfolding termCodes termKind termKey
   term-empty n r x v w k b hn q s xq vq wq bq eq kq fq = term-from code e l T z 9 T r (omega arith) refl q
       (λ g i ρ base y.
-        let h = last-node code e l base 9 i (nameNumber ρ g) 0 y in
-        let vx : v ≡ entry T (nameNumber ρ g) = vq ∙ ap (entry T) (xq ∙ hn .firstIs ∙ h .isFirst) in
-        record
-          { kindIs = kq ∙ ap setOf (eq ∙ ap elementOf vx)
-          ; faultIs = fq ∙ seen-unless 9 (bq ∙ ap isGiven vx) (ap (λ (j : ℕ). j + 1) (wq ∙ hn .placeIs ∙ h .isPlace))
-          ; startIs = s ∙ sym (h .long)
-          })
+      let h = last-node code e l base 9 i (nameNumber ρ g) 0 y in
+      let vx : v ≡ entry T (nameNumber ρ g) = vq ∙ ap (entry T) (xq ∙ hn .firstIs ∙ h .isFirst) in
+      record {
+        kindIs = kq ∙ ap setOf (eq ∙ ap elementOf vx);
+        faultIs = fq ∙ seen-unless 9 (bq ∙ ap isGiven vx) (ap (λ (j : ℕ). j + 1) (wq ∙ hn .placeIs ∙ h .isPlace));
+        startIs = s ∙ sym (h .long);
+      })
 
   pub term-empty-pairs : (n : Node) (r : Seen) (x₁ x₂ v₁ v₂ w₁ w₂ k₁ k₂ f₁ f₂ f₃ m : ℕ) (b₁ b₂ : Bool) → NodeAt code e n → getD code (e - 4 + 3) 0 ≡ 10
       → r .start ≡ e - 4 → x₁ ≡ n .a → x₂ ≡ n .b → v₁ ≡ entry T x₁ → v₂ ≡ entry T x₂ → w₁ ≡ n .place → w₂ ≡ n .place → b₁ ≡ isGiven v₁ → b₂ ≡ isGiven v₂
@@ -112,19 +112,19 @@ module _ (code : List ℕ) (e : ℕ) (l : e ≤ length code) (T : Names) (z : Si
       → TermSeen code e T T z r
   unfolding termCodes termKind termKey
   term-empty-pairs n r x₁ x₂ v₁ v₂ w₁ w₂ k₁ k₂ f₁ f₂ f₃ m b₁ b₂ hn q s xq₁ xq₂ vq₁ vq₂ wq₁ wq₂ bq₁ bq₂ eq₁ eq₂ kq fq₁ fq₂ fq₃ mq fq =
-    term-from code e l T z 10 T r (omega arith) refl q
+      term-from code e l T z 10 T r (omega arith) refl q
       (λ g g′ i ρ base y.
-        let h = last-node code e l base 10 i (nameNumber ρ g) (nameNumber ρ g′) y in
-        let p₁ : v₁ ≡ entry T (nameNumber ρ g) = vq₁ ∙ ap (entry T) (xq₁ ∙ hn .firstIs ∙ h .isFirst) in
-        let p₂ : v₂ ≡ entry T (nameNumber ρ g′) = vq₂ ∙ ap (entry T) (xq₂ ∙ hn .secondIs ∙ h .isSecond) in
-        let at : n .place ≡ i = hn .placeIs ∙ h .isPlace in
-        record
-          { kindIs = kq ∙ ap₂ pairOf (eq₁ ∙ ap elementOf p₁) (eq₂ ∙ ap elementOf p₂)
-          ; faultIs = fq ∙ ap₂ lesser (fq₁ ∙ seen-unless 9 (bq₁ ∙ ap isGiven p₁) (ap (λ (j : ℕ). j + 1) (wq₁ ∙ at)))
-              (mq ∙ ap₂ lesser (fq₂ ∙ seen-unless 9 (bq₂ ∙ ap isGiven p₂) (ap (λ (j : ℕ). j + 2) (wq₂ ∙ at)))
-              (fq₃ ∙ ap₂ (λ (x y : ℕ). overKey z x y (n .place)) p₁ p₂ ∙ ap (overKey z (entry T (nameNumber ρ g)) (entry T (nameNumber ρ g′))) at))
-          ; startIs = s ∙ sym (h .long)
-          })
+      let h = last-node code e l base 10 i (nameNumber ρ g) (nameNumber ρ g′) y in
+      let p₁ : v₁ ≡ entry T (nameNumber ρ g) = vq₁ ∙ ap (entry T) (xq₁ ∙ hn .firstIs ∙ h .isFirst) in
+      let p₂ : v₂ ≡ entry T (nameNumber ρ g′) = vq₂ ∙ ap (entry T) (xq₂ ∙ hn .secondIs ∙ h .isSecond) in
+      let at : n .place ≡ i = hn .placeIs ∙ h .isPlace in
+      record {
+        kindIs = kq ∙ ap₂ pairOf (eq₁ ∙ ap elementOf p₁) (eq₂ ∙ ap elementOf p₂);
+        faultIs = fq ∙ ap₂ lesser (fq₁ ∙ seen-unless 9 (bq₁ ∙ ap isGiven p₁) (ap (λ (j : ℕ). j + 1) (wq₁ ∙ at)))
+            (mq ∙ ap₂ lesser (fq₂ ∙ seen-unless 9 (bq₂ ∙ ap isGiven p₂) (ap (λ (j : ℕ). j + 2) (wq₂ ∙ at)))
+            (fq₃ ∙ ap₂ (λ (x y : ℕ). overKey z x y (n .place)) p₁ p₂ ∙ ap (overKey z (entry T (nameNumber ρ g)) (entry T (nameNumber ρ g′))) at));
+        startIs = s ∙ sym (h .long);
+      })
 
   pub term-prefix : (U : Names) (n : Node) (v r : Seen) (b : Bool) → NodeAt code e n → getD code (e - 4 + 3) 0 ≡ 3 → TermSeen code (e - 4) T U z v
       → PrefixFits (n .a) (v .kind) b → PrefixType (n .a) (v .kind) (r .kind) → r .start ≡ v .start → r .fault ≡ judgedKey b (key (n .place) 10) (v .fault)
@@ -132,14 +132,14 @@ module _ (code : List ℕ) (e : ℕ) (l : e ≤ length code) (T : Names) (z : Si
   unfolding termCodes termKind termKey
   term-prefix U n v r b hn q hv bq kq sq fq = term-from code e l T z 3 U r (let f = hv .falls in omega arith) (hv .kept) q
       (λ o t i ρ base y.
-        let h = one-part code e l base (termCodes t (suc i) ρ) 3 i (codeOf (prefixKind o)) 0 y in
-        let s = hv .right t (suc i) ρ base (h .before) in
-        let is : codeOf (prefixKind o) ≡ n .a = sym (hn .firstIs ∙ h .isFirst) in
-        record
-          { kindIs = kq o is ∙ ap (prefixType o) (s .kindIs)
-          ; faultIs = fq ∙ seen-judged (bq o is ∙ ap (prefixFits o) (s .kindIs)) (hn .placeIs ∙ h .isPlace) (s .faultIs)
-          ; startIs = sq ∙ s .startIs
-          })
+      let h = one-part code e l base (termCodes t (suc i) ρ) 3 i (codeOf (prefixKind o)) 0 y in
+      let s = hv .right t (suc i) ρ base (h .before) in
+      let is : codeOf (prefixKind o) ≡ n .a = sym (hn .firstIs ∙ h .isFirst) in
+      record {
+        kindIs = kq o is ∙ ap (prefixType o) (s .kindIs);
+        faultIs = fq ∙ seen-judged (bq o is ∙ ap (prefixFits o) (s .kindIs)) (hn .placeIs ∙ h .isPlace) (s .faultIs);
+        startIs = sq ∙ s .startIs;
+      })
 
   pub term-divided : (U : Names) (n : Node) (v r : Seen) (w₁ w₂ g m : ℕ) → NodeAt code e n → getD code (e - 4 + 3) 0 ≡ 4 → TermSeen code (e - 4) T U z v
       → w₁ ≡ n .place → w₂ ≡ n .b → g ≡ unlessKey (ltb 0 (n .a)) (key (w₁ + 1 + w₂ % 2) 14) → m ≡ lesser (v .fault) g
@@ -148,16 +148,16 @@ module _ (code : List ℕ) (e : ℕ) (l : e ≤ length code) (T : Names) (z : Si
   unfolding termCodes termKind termKey isNumber
   term-divided U n v r w₁ w₂ g m hn q hv wq₁ wq₂ gq mq kq sq fq = term-from code e l T z 4 U r (let f = hv .falls in omega arith) (hv .kept) q
       (λ o t d i ρ base y.
-        let h = one-part code e l base (termCodes t i ρ) 4 (i + termWidth t) (d .magnitude) (signOf (d .negative) + divisionNumber o) y in
-        let s = hv .right t i ρ base (h .before) in
-        let at : n .place ≡ i + termWidth t = hn .placeIs ∙ h .isPlace in
-        let sign : w₂ % 2 ≡ signOf (d .negative) = ap (λ (x : ℕ). x % 2) (wq₂ ∙ hn .secondIs ∙ h .isSecond) ∙ sign-of (d .negative) o in
-        record
-          { kindIs = kq
-          ; faultIs = fq ∙ seen-judged (ap (λ (x : ℕ). eqb x 1) (s .kindIs)) at
-              (mq ∙ ap₂ lesser (s .faultIs) (gq ∙ seen-unless 14 (ap (ltb 0) (hn .firstIs ∙ h .isFirst)) (ap₂ (λ (x j : ℕ). x + 1 + j) (wq₁ ∙ at) sign)))
-          ; startIs = sq ∙ s .startIs
-          })
+      let h = one-part code e l base (termCodes t i ρ) 4 (i + termWidth t) (d .magnitude) (signOf (d .negative) + divisionNumber o) y in
+      let s = hv .right t i ρ base (h .before) in
+      let at : n .place ≡ i + termWidth t = hn .placeIs ∙ h .isPlace in
+      let sign : w₂ % 2 ≡ signOf (d .negative) = ap (λ (x : ℕ). x % 2) (wq₂ ∙ hn .secondIs ∙ h .isSecond) ∙ sign-of (d .negative) o in
+      record {
+        kindIs = kq;
+        faultIs = fq ∙ seen-judged (ap (λ (x : ℕ). eqb x 1) (s .kindIs)) at
+            (mq ∙ ap₂ lesser (s .faultIs) (gq ∙ seen-unless 14 (ap (ltb 0) (hn .firstIs ∙ h .isFirst)) (ap₂ (λ (x j : ℕ). x + 1 + j) (wq₁ ∙ at) sign)));
+        startIs = sq ∙ s .startIs;
+      })
 
   -- t and u, with an operator between them
   pub term-binary : (U W : Names) (n : Node) (v u r : Seen) (b : Bool) (m : ℕ) → NodeAt code e n → getD code (e - 4 + 3) 0 ≡ 5
@@ -167,18 +167,18 @@ module _ (code : List ℕ) (e : ℕ) (l : e ≤ length code) (T : Names) (z : Si
       → TermSeen code e T W z r
   unfolding termCodes termKind termKey
   term-binary U W n v u r b m hn q hu hv₀ bq mq kq sq fq =
-    let hv : TermSeen code (u .start) T W z v = subst (λ (X : Names). TermSeen code (u .start) X W z v) (hu .kept) hv₀ in
-    term-from code e l T z 5 W r (let f = hu .falls in let g = hv .falls in omega arith) (hv .kept) q
+      let hv : TermSeen code (u .start) T W z v = subst (λ (X : Names). TermSeen code (u .start) X W z v) (hu .kept) hv₀ in
+      term-from code e l T z 5 W r (let f = hu .falls in let g = hv .falls in omega arith) (hv .kept) q
       (λ o t₁ t₂ i ρ base y.
-        let h = two-parts code e l base (termCodes t₁ i ρ) (termCodes t₂ (suc (i + termWidth t₁)) ρ) 5 (i + termWidth t₁) (codeOf (operatorKind o)) 0 y in
-        let s₂ = hu .right t₂ (suc (i + termWidth t₁)) ρ (base ++ termCodes t₁ i ρ) (h .before) in
-        let s₁ = hv .right t₁ i ρ base (middle code (e - 4) (u .start) (base ++ termCodes t₁ i ρ) (termCodes t₂ (suc (i + termWidth t₁)) ρ) (h .before) (hu .falls) (s₂ .startIs)) in
-        record
-          { kindIs = kq ∙ s₁ .kindIs
-          ; faultIs = fq ∙ seen-judged (bq o (sym (hn .firstIs ∙ h .isFirst)) ∙ ap₂ (operatorFits o) (s₁ .kindIs) (s₂ .kindIs)) (hn .placeIs ∙ h .isPlace)
-              (mq ∙ ap₂ lesser (s₁ .faultIs) (s₂ .faultIs))
-          ; startIs = sq ∙ s₁ .startIs
-          })
+      let h = two-parts code e l base (termCodes t₁ i ρ) (termCodes t₂ (suc (i + termWidth t₁)) ρ) 5 (i + termWidth t₁) (codeOf (operatorKind o)) 0 y in
+      let s₂ = hu .right t₂ (suc (i + termWidth t₁)) ρ (base ++ termCodes t₁ i ρ) (h .before) in
+      let s₁ = hv .right t₁ i ρ base (middle code (e - 4) (u .start) (base ++ termCodes t₁ i ρ) (termCodes t₂ (suc (i + termWidth t₁)) ρ) (h .before) (hu .falls) (s₂ .startIs)) in
+      record {
+        kindIs = kq ∙ s₁ .kindIs;
+        faultIs = fq ∙ seen-judged (bq o (sym (hn .firstIs ∙ h .isFirst)) ∙ ap₂ (operatorFits o) (s₁ .kindIs) (s₂ .kindIs)) (hn .placeIs ∙ h .isPlace)
+            (mq ∙ ap₂ lesser (s₁ .faultIs) (s₂ .faultIs));
+        startIs = sq ∙ s₁ .startIs;
+      })
 
   -- {x : G | p}
   pub term-such : (U₁ U₂ U₃ : Names) (n : Node) (d p r : Seen) (x old : ℕ) → NodeAt code e n → getD code (e - 4 + 3) 0 ≡ 6
@@ -188,18 +188,18 @@ module _ (code : List ℕ) (e : ℕ) (l : e ≤ length code) (T : Names) (z : Si
       → TermSeen code e T U₃ z r
   unfolding termCodes termKind termKey domainKind domainKey
   term-such U₁ U₂ U₃ n d p r x old hn q hd hp b₁ b₃ xq oq kq sq fq =
-    term-from code e l T z 6 U₃ r (let f = hd .falls in let g = hp .falls in omega arith) (restored T U₁ U₂ U₃ x (d .kind) old b₁ (hp .kept) b₃ oq) q
+      term-from code e l T z 6 U₃ r (let f = hd .falls in let g = hp .falls in omega arith) (restored T U₁ U₂ U₃ x (d .kind) old b₁ (hp .kept) b₃ oq) q
       (λ y₁ g P i ρ base y.
-        let h = two-parts code e l base (predCodes P (i + 5) ρ) (node 1 (i + 3) (nameNumber ρ g) 0) 6 i (numberOfName ρ y₁ noEnding) 0 y in
-        let sD = hd .right (givenSet g) (i + 3) ρ (base ++ predCodes P (i + 5) ρ) (h .before) in
-        let sP = hp .right P (i + 5) ρ base (middle code (e - 4) (d .start) (base ++ predCodes P (i + 5) ρ) (node 1 (i + 3) (nameNumber ρ g) 0) (h .before) (hd .falls) (sD .startIs)) in
-        let xy : x ≡ numberOfName ρ y₁ noEnding = xq ∙ hn .firstIs ∙ h .isFirst in
-        record
-          { kindIs = kq ∙ ap setOf (sD .kindIs)
-          ; faultIs = fq ∙ seen-bound (n .place) (ap (λ (j : ℕ). j + 1) (hn .placeIs ∙ h .isPlace)) (oq ∙ ap (entry T) xy) (sD .faultIs)
-              (sP .faultIs ∙ ap (λ (X : Names). predKey P X ρ z (i + 5)) (b₁ ∙ ap₂ (set T) xy (sD .kindIs)))
-          ; startIs = sq ∙ sP .startIs
-          })
+      let h = two-parts code e l base (predCodes P (i + 5) ρ) (node 1 (i + 3) (nameNumber ρ g) 0) 6 i (numberOfName ρ y₁ noEnding) 0 y in
+      let sD = hd .right (givenSet g) (i + 3) ρ (base ++ predCodes P (i + 5) ρ) (h .before) in
+      let sP = hp .right P (i + 5) ρ base (middle code (e - 4) (d .start) (base ++ predCodes P (i + 5) ρ) (node 1 (i + 3) (nameNumber ρ g) 0) (h .before) (hd .falls) (sD .startIs)) in
+      let xy : x ≡ numberOfName ρ y₁ noEnding = xq ∙ hn .firstIs ∙ h .isFirst in
+      record {
+        kindIs = kq ∙ ap setOf (sD .kindIs);
+        faultIs = fq ∙ seen-bound (n .place) (ap (λ (j : ℕ). j + 1) (hn .placeIs ∙ h .isPlace)) (oq ∙ ap (entry T) xy) (sD .faultIs)
+            (sP .faultIs ∙ ap (λ (X : Names). predKey P X ρ z (i + 5)) (b₁ ∙ ap₂ (set T) xy (sD .kindIs)));
+        startIs = sq ∙ sP .startIs;
+      })
 
   -- {t, ...}, {t |-> t, ...}
   pub term-listed : (U : Names) (n : Node) (v r : Seen) (b : Bool) → NodeAt code e n → getD code (e - 4 + 3) 0 ≡ 7 → ItemsSeen code (e - 4) T U z v
@@ -208,13 +208,13 @@ module _ (code : List ℕ) (e : ℕ) (l : e ≤ length code) (T : Names) (z : Si
   unfolding termCodes termKind termKey
   term-listed U n v r b hn q hv bq kq sq fq = term-from code e l T z 7 U r (let f = hv .falls in omega arith) (hv .kept) q
       (λ ts i ρ base y.
-        let h = one-part code e l base (itemsCodes ts (suc i) ρ) 7 i 0 0 y in
-        let s = hv .right ts (suc i) ρ base (h .before) in
-        record
-          { kindIs = kq ∙ ap setOf (s .kindIs)
-          ; faultIs = fq ∙ seen-judged (bq ∙ ap isElement (s .kindIs)) (hn .placeIs ∙ h .isPlace) (s .faultIs)
-          ; startIs = sq ∙ s .startIs
-          })
+      let h = one-part code e l base (itemsCodes ts (suc i) ρ) 7 i 0 0 y in
+      let s = hv .right ts (suc i) ρ base (h .before) in
+      record {
+        kindIs = kq ∙ ap setOf (s .kindIs);
+        faultIs = fq ∙ seen-judged (bq ∙ ap isElement (s .kindIs)) (hn .placeIs ∙ h .isPlace) (s .faultIs);
+        startIs = sq ∙ s .startIs;
+      })
 
   pub term-pairs : (U : Names) (n : Node) (v r : Seen) (m : ℕ) → NodeAt code e n → getD code (e - 4 + 3) 0 ≡ 8 → PairsSeen code (e - 4) T U z v
       → m ≡ braceKey z (v .kind) (n .place) → r .kind ≡ v .kind → r .start ≡ v .start → r .fault ≡ insideKey (v .fault) m
@@ -222,13 +222,13 @@ module _ (code : List ℕ) (e : ℕ) (l : e ≤ length code) (T : Names) (z : Si
   unfolding termCodes termKind termKey
   term-pairs U n v r m hn q hv mq kq sq fq = term-from code e l T z 8 U r (let f = hv .falls in omega arith) (hv .kept) q
       (λ ts i ρ base y.
-        let h = one-part code e l base (pairsCodes ts (suc i) ρ) 8 i 0 0 y in
-        let s = hv .right ts (suc i) ρ base (h .before) in
-        record
-          { kindIs = kq ∙ s .kindIs
-          ; faultIs = fq ∙ ap₂ (λ (x y : ℕ). insideKey x y) (s .faultIs) (mq ∙ ap₂ (braceKey z) (s .kindIs) (hn .placeIs ∙ h .isPlace))
-          ; startIs = sq ∙ s .startIs
-          })
+      let h = one-part code e l base (pairsCodes ts (suc i) ρ) 8 i 0 0 y in
+      let s = hv .right ts (suc i) ρ base (h .before) in
+      record {
+        kindIs = kq ∙ s .kindIs;
+        faultIs = fq ∙ ap₂ (λ (x y : ℕ). insideKey x y) (s .faultIs) (mq ∙ ap₂ (braceKey z) (s .kindIs) (hn .placeIs ∙ h .isPlace));
+        startIs = sq ∙ s .startIs;
+      })
 
   -- the terms of a brace
   pub items-only : (U : Names) (v : Seen) → TermSeen code (e - 4) T U z v → getD code (e - 4 + 3) 0 ≡ 1 → ItemsSeen code e T U z v
@@ -257,15 +257,15 @@ module _ (code : List ℕ) (e : ℕ) (l : e ≤ length code) (T : Names) (z : Si
   -- two terms; the pairs of a brace
   pub pair-seen : (U W : Names) (v u r : Seen) → TermSeen code e T U z u → TermSeen code (u .start) U W z v
       → r .kind ≡ pairOf (v .kind) (u .kind) → r .start ≡ v .start → r .fault ≡ lesser (v .fault) (u .fault) → PairSeen code e T W z r
-  pair-seen U W v u r hu hv₀ kq sq fq = record
-      { falls = let f = hu .falls in let g = hv₀ .falls in omega arith
-      ; kept = hv₀ .kept ∙ hu .kept
-      ; right = λ t₁ t₂ i j ρ base y.
-          let hv : TermSeen code (u .start) T W z v = subst (λ (X : Names). TermSeen code (u .start) X W z v) (hu .kept) hv₀ in
-          let s₂ = hu .right t₂ j ρ (base ++ termCodes t₁ i ρ) y in
-          let s₁ = hv .right t₁ i ρ base (middle code e (u .start) (base ++ termCodes t₁ i ρ) (termCodes t₂ j ρ) y (hu .falls) (s₂ .startIs)) in
-          record { kindIs = kq ∙ ap₂ pairOf (s₁ .kindIs) (s₂ .kindIs); faultIs = fq ∙ ap₂ lesser (s₁ .faultIs) (s₂ .faultIs); startIs = sq ∙ s₁ .startIs }
-      }
+  pair-seen U W v u r hu hv₀ kq sq fq = record {
+    falls = let f = hu .falls in let g = hv₀ .falls in omega arith;
+    kept = hv₀ .kept ∙ hu .kept;
+    right = λ t₁ t₂ i j ρ base y.
+        let hv : TermSeen code (u .start) T W z v = subst (λ (X : Names). TermSeen code (u .start) X W z v) (hu .kept) hv₀ in
+        let s₂ = hu .right t₂ j ρ (base ++ termCodes t₁ i ρ) y in
+        let s₁ = hv .right t₁ i ρ base (middle code e (u .start) (base ++ termCodes t₁ i ρ) (termCodes t₂ j ρ) y (hu .falls) (s₂ .startIs)) in
+        record { kindIs = kq ∙ ap₂ pairOf (s₁ .kindIs) (s₂ .kindIs); faultIs = fq ∙ ap₂ lesser (s₁ .faultIs) (s₂ .faultIs); startIs = sq ∙ s₁ .startIs };
+  }
 
   pub pairs-only : (U : Names) (v : Seen) → PairSeen code (e - 4) T U z v → getD code (e - 4 + 3) 0 ≡ 1 → PairsSeen code e T U z v
   unfolding termCodes termKind termKey

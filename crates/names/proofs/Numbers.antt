@@ -1,19 +1,17 @@
 -- Laws of the tests and numbers of specs/Inner that the code of the pass computes one by one.
 use mathlib.Core.Path.{_≡_, refl, sym, ap, ap₂, _∙_}
 use mathlib.Core.Bool.{Bool, true, false, _&&_, cond}
-use mathlib.Core.List.{List}
-use Prim.Native.Nat.{ℕ, suc, _+_, _-_, _*_, _/_, _%_, _≤_, _<_}
+use Prim.Native.Nat.{ℕ, _+_, _-_, _*_, _/_, _%_, _≤_, _<_}
 use native.Mathlib.Omega.{arith}
 use native.Mathlib.Nat.{mul-le-mul}
 use lib.Dec.{eqb, leb, ltb}
-use lib.ListN.{getD}
-use borrow.Author.Tests.{leb-true, ltb-true, le-leb, lt-leb, lt-ltb, le-ltb, eq-eqb, ne-eqb}
+use borrow.Author.Tests.{leb-true, ltb-true, le-leb, lt-leb, eq-eqb, ne-eqb}
 use Rattle.symbols.proofs.Tests.{and-left, and-right}
 use Rattle.symbols.specs.Kinds.{codeOf}
 use Rattle.form.specs.Tree.{Prefix, negate, size, dom, ran, Operator, plus, minus, union, without, times, inter, Comparison, equals, differs, less, atMost}
 use Rattle.form.specs.Written.{prefixKind, operatorKind, comparisonKind}
-use Rattle.names.specs.Inner.{isFree, isNumber, isGiven, isElement, isSet, isPairs, inReach, elementOf, setOf, pairOf, domOf, ranOf, memberFits, relatedFits, shared, key, unlessKey, lesser, judgedKey, insideKey}
-use Rattle.names.specs.Inner.{Sizes, rangeFits, sizeIn, productFits, overKey, braceKey, prefixFits, prefixType, operatorFits, comparisonFits}
+use Rattle.names.specs.Inner.{isFree, isNumber, isGiven, isElement, isSet, isPairs, domOf, ranOf, key, unlessKey, lesser, insideKey}
+use Rattle.names.specs.Inner.{Sizes, productFits, overKey, braceKey, prefixFits, prefixType, operatorFits, comparisonFits}
 
 -- the branch taken
 pub cond-yes : {A : Type 0} (b c : Bool) (x y : A) → b ≡ c → b ≡ true → cond c x y ≡ x

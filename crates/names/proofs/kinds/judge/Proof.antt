@@ -1,8 +1,8 @@
 -- `kinds::judge` meets its contract. Assumes nothing.
 use borrow.Author.Tests.{eq-eqb, ne-eqb}
-use mathlib.Core.Path.{ap, _∙_}
 use borrow.Author.Needs.{needs}
 use Prim.Native.Nat.{ℕ}
+use mathlib.Core.Path.{ap, _∙_}
 use Rattle.names.specs.Inner.{key, unlessKey}
 use Rattle.names.proofs.kinds.judge.Statement.{statement}
 use Rattle.names.proofs.kinds.judge.Tie as tie

@@ -1,7 +1,7 @@
 -- `kinds::look` meets its contract. Assumes nothing.
-use mathlib.Core.Path.{sym}
 use lib.ListN.{List·getD-eq-default}
 use borrow.Author.Needs.{needs}
+use mathlib.Core.Path.{sym}
 use Rattle.names.proofs.kinds.look.Statement.{statement}
 use Rattle.names.proofs.kinds.look.Tie as tie
 

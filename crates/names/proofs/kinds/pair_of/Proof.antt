@@ -1,8 +1,8 @@
 -- `kinds::pair_of` meets its contract. Assumes nothing.
 use mathlib.Core.Bool.{_&&_}
-use mathlib.Core.Path.{sym}
 use borrow.Author.Needs.{needs}
 use Prim.Native.Nat.{_+_, _-_, _*_}
+use mathlib.Core.Path.{sym}
 use native.Mathlib.Omega.{arith}
 use Rattle.names.specs.Inner.{isElement, pairOf}
 use Rattle.names.proofs.Numbers.{cond-yes, cond-no, elements-bounds}

@@ -1,7 +1,7 @@
 -- `kinds::put` meets its contract. Assumes nothing.
-use mathlib.Core.Path.{sym}
 use lib.Seq.{set-out}
 use borrow.Author.Needs.{needs}
+use mathlib.Core.Path.{sym}
 use Rattle.names.proofs.kinds.put.Statement.{statement}
 use Rattle.names.proofs.kinds.put.Tie as tie
 

@@ -1,9 +1,9 @@
 -- `kinds::related_fits` meets its contract. Assumes nothing.
 use mathlib.Core.Bool.{_&&_}
 use lib.Dec.{eqb}
-use mathlib.Core.Path.{ap}
 use borrow.Author.Needs.{needs}
 use Prim.Native.Nat.{ℕ}
+use mathlib.Core.Path.{ap}
 use Rattle.names.specs.Inner.{isElement, pairOf, relatedFits}
 use Rattle.names.proofs.Numbers.{and-yes, and-no}
 use Rattle.names.proofs.kinds.related_fits.Statement.{statement}

@@ -1,7 +1,7 @@
 -- `kinds::set_of` meets its contract. Assumes nothing.
-use mathlib.Core.Path.{sym, _∙_}
 use borrow.Author.Needs.{needs}
 use Prim.Native.Nat.{_+_}
+use mathlib.Core.Path.{sym, _∙_}
 use native.Mathlib.Omega.{arith}
 use Rattle.names.specs.Inner.{isElement, setOf}
 use Rattle.names.proofs.Numbers.{cond-yes, cond-no, element-bounds}

@@ -1,7 +1,7 @@
 -- `kinds::size_in` meets its contract. Assumes nothing.
-use mathlib.Core.Path.{refl, sym}
 use lib.ListN.{List·getD-eq-default}
 use borrow.Author.Needs.{needs}
+use mathlib.Core.Path.{refl, sym}
 use native.Mathlib.Omega.{arith}
 use Rattle.names.specs.Inner.{sizeIn}
 use Rattle.names.proofs.kinds.size_in.Statement.{statement}

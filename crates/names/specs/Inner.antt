@@ -14,6 +14,7 @@ use Rattle.form.specs.Tree.{Pred, truth, falsity, negation, paren, quantified, 
 use Rattle.form.specs.Written.{prefixKind, operatorKind, comparisonKind}
 use Rattle.form.specs.Codes.{Numbering, nameNumber, numberOfName, endNumber, endWidth, signOf, termWidth, predWidth, domainWidth, domainCodes, termCodes, itemsCodes, pairsCodes, predCodes}
 use Rattle.names.specs.declared.Seen.{Seen}
+use Rattle.names.specs.declared.Node.{Node}
 
 -- What a name is, by its number: 0 free, 1 a number, 2 in use and no term, 8 + g the given set g, 16 + g an element of it, 32 + g a set over it,
 -- 64 + 8 g + h a set of pairs. The types of terms are numbered so as well; 0 is none.
@@ -237,6 +238,12 @@ OperatorFits o k l r = (p : Operator) → codeOf (operatorKind p) ≡ o → r �
 
 abbrev pub ComparisonFits : (o k l : ℕ) → Bool → Type 0
 ComparisonFits o k l r = (p : Comparison) → codeOf (comparisonKind p) ≡ o → r ≡ comparisonFits p k l
+
+-- the place and the numbers of the node that ends at e
+pub record NodeAt (code : List ℕ) (e : ℕ) (n : Node) : Type 0 where
+  pub placeIs : n .place ≡ getD code (e - 4 + 2) 0
+  pub firstIs : n .a ≡ getD code (e - 4 + 1) 0
+  pub secondIs : n .b ≡ getD code (e - 4) 0
 
 -- what was seen: the type k, the least fault f, where the nodes begin
 pub record Saw (r : Seen) (k f s : ℕ) : Type 0 where

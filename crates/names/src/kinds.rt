@@ -1,5 +1,6 @@
 // What names and terms are, by numbers (specs/Inner.antt).
 ghost use mathlib.Core.Path.{_≡_};
+ghost use mathlib.Core.Bool.{_&&_};
 ghost use Prim.Native.Nat.{_+_, _<_};
 ghost use lib.ListN.{set};
 ghost use Rattle.names.specs.Inner.{entry, isGiven, isElement, inReach, elementOf, setOf, pairOf, domOf, ranOf, memberFits, relatedFits, shared, key, unlessKey, lesser, judgedKey, insideKey, isFree, rangeFits, sizeIn, productFits, overKey, braceKey};
@@ -70,10 +71,23 @@ pub fn set_of(k: u16) -> u16
     0
 }
 
+// Two elements; two given sets.
+pub fn both_elements(k: u16, l: u16) -> bool
+    ensures { λ r. ⌜ r ≡ (isElement k && isElement l) ⌝ }
+{
+    is_element(k) && is_element(l)
+}
+
+pub fn both_given(k: u16, l: u16) -> bool
+    ensures { λ r. ⌜ r ≡ (isGiven k && isGiven l) ⌝ }
+{
+    is_given(k) && is_given(l)
+}
+
 pub fn pair_of(k: u16, l: u16) -> u16
     ensures { λ r. ⌜ r ≡ pairOf k l ⌝ }
 {
-    if is_element(k) && is_element(l) {
+    if both_elements(k, l) {
         return 64 + 8 * (k - 16) + (l - 16);
     }
     0
@@ -106,10 +120,7 @@ pub fn member_fits(k: u16, l: u16) -> bool
 pub fn related_fits(k: u16, l: u16, m: u16) -> bool
     ensures { λ r. ⌜ r ≡ relatedFits k l m ⌝ }
 {
-    if is_element(k) && is_element(l) {
-        return pair_of(k, l) == m;
-    }
-    false
+    both_elements(k, l) && pair_of(k, l) == m
 }
 
 // What two items of a brace have in common.
@@ -199,7 +210,7 @@ pub fn product_fits(sizes: &[u16], g: usize, h: usize) -> bool
 pub fn over_fault(sizes: &[u16], k: u16, l: u16, i: u16) -> u32
     ensures { λ r. ⌜ r ≡ overKey (now (sizes .entry)) k l i ⌝ }
 {
-    if is_given(k) && is_given(l) {
+    if both_given(k, l) {
         let fits = product_fits(sizes, index(k) - 8, index(l) - 8);
         return unless(fits, wide(i), 11);
     }

@@ -8,3 +8,10 @@ pub struct Seen {
     pub fault: u32,
     pub start: usize,
 }
+
+// A node's place in the text, and its two numbers.
+pub struct Node {
+    pub place: u16,
+    pub a: u16,
+    pub b: u16,
+}

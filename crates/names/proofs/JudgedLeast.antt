@@ -14,28 +14,28 @@ use Rattle.names.specs.Inner.{key, lesser, unlessKey, judgedKey, insideK
 use Rattle.names.proofs.Showing.{keyOf, leastKey}
 
 -- every fault has a number below 16: keys compare as places and numbers do
-abbrev pub Small : List Fault → Type 0
-Small [] = Unit {0}
-Small (f ∷ fs) = (numberOf (f .refusal) < 16) × Small fs
+pub data Small : List Fault → Type 0 where
+  no-fault : Small []
+  one-more : {f : Fault} {fs : List Fault} → numberOf (f .refusal) < 16 → Small fs → Small (f ∷ fs)
 
-pub small-append : (xs ys : List Fault) → Small xs → Small ys → Small (xs ++ ys)
-small-append [] ys h k = k
-small-append (x ∷ xs) ys h k = (h .0, small-append xs ys (h .1) k)
+pub small-append : {xs ys : List Fault} → Small xs → Small ys → Small (xs ++ ys)
+small-append no-fault k = k
+small-append (one-more n h) k = one-more n (small-append h k)
 
 pub small-unless : (ok : Bool) (f : Fault) → numberOf (f .refusal) < 16 → Small (unless ok f)
 unfolding unless
-small-unless true f h = tt
-small-unless false f h = (h, tt)
+small-unless true f h = no-fault
+small-unless false f h = one-more h no-fault
 
-pub small-whole : (ok : Bool) (f : Fault) (parts : List Fault) → numberOf (f .refusal) < 16 → Small parts → Small (whole ok f parts)
+pub small-whole : (ok : Bool) (f : Fault) {parts : List Fault} → numberOf (f .refusal) < 16 → Small parts → Small (whole ok f parts)
 unfolding whole
-small-whole ok f [] h k = small-unless ok f h
-small-whole ok f (x ∷ parts) h k = k
+small-whole ok f h no-fault = small-unless ok f h
+small-whole ok f h (one-more n k) = one-more n k
 
-pub small-inside : (xs ys : List Fault) → Small xs → Small ys → Small (inside xs ys)
+pub small-inside : {xs ys : List Fault} → Small xs → Small ys → Small (inside xs ys)
 unfolding inside
-small-inside [] ys h k = k
-small-inside (x ∷ xs) ys h k = h
+small-inside no-fault k = k
+small-inside (one-more n h) k = one-more n h
 
 -- ---- the lesser of two numbers, 0 being none ----
 
@@ -132,25 +132,25 @@ small-lesser f (some g) h k = on (before g f)
     on true = k
     on false = h
 
-small-least : (fs : List Fault) → Small fs → SmallOption (least fs)
+small-least : {fs : List Fault} → Small fs → SmallOption (least fs)
 unfolding least
-small-least [] h = tt
-small-least (f ∷ fs) h = small-lesser f (least fs) (h .0) (small-least fs (h .1))
+small-least no-fault = tt
+small-least (one-more {f = f} {fs = fs} n h) = small-lesser f (least fs) n (small-least h)
 
-least-cons : (f : Fault) (fs : List Fault) → Small (f ∷ fs) → leastKey (f ∷ fs) ≡ lesser (faultKey f) (leastKey fs)
+least-cons : (f : Fault) (fs : List Fault) → numberOf (f .refusal) < 16 → Small fs → leastKey (f ∷ fs) ≡ lesser (faultKey f) (leastKey fs)
 unfolding least
-least-cons f fs h = lesser-key f (least fs) (h .0) (small-least fs (h .1))
+least-cons f fs n h = lesser-key f (least fs) n (small-least h)
 
-pub least-append : (xs ys : List Fault) → Small xs → Small ys → leastKey (xs ++ ys) ≡ lesser (leastKey xs) (leastKey ys)
+pub least-append : {xs ys : List Fault} → Small xs → Small ys → leastKey (xs ++ ys) ≡ lesser (leastKey xs) (leastKey ys)
 unfolding least
-least-append [] ys h k = sym (zero-lesser (leastKey ys))
-least-append (f ∷ xs) ys h k =
-    least-cons f (xs ++ ys) (h .0, small-append xs ys (h .1) k) ∙ ap (lesser (faultKey f)) (least-append xs ys (h .1) k)
-    ∙ sym (lesser-assoc (faultKey f) (leastKey xs) (leastKey ys)) ∙ sym (ap (λ (z : ℕ). lesser z (leastKey ys)) (least-cons f xs h))
+least-append {ys = ys} no-fault k = sym (zero-lesser (leastKey ys))
+least-append {ys = ys} (one-more {f = f} {fs = xs} n h) k =
+    least-cons f (xs ++ ys) n (small-append h k) ∙ ap (lesser (faultKey f)) (least-append h k)
+    ∙ sym (lesser-assoc (faultKey f) (leastKey xs) (leastKey ys)) ∙ sym (ap (λ (z : ℕ). lesser z (leastKey ys)) (least-cons f xs n h))
 
 -- two parts, each by its own number
-pub two-parts : (a b : ℕ) (xs ys : List Fault) → Small xs → Small ys → a ≡ leastKey xs → b ≡ leastKey ys → lesser a b ≡ leastKey (xs ++ ys)
-two-parts a b xs ys h k p q = ap₂ lesser p q ∙ sym (least-append xs ys h k)
+pub two-parts : {a b : ℕ} {xs ys : List Fault} → Small xs → Small ys → a ≡ leastKey xs → b ≡ leastKey ys → lesser a b ≡ leastKey (xs ++ ys)
+two-parts h k p q = ap₂ lesser p q ∙ sym (least-append h k)
 
 least-nil : leastKey [] ≡ 0
 unfolding least

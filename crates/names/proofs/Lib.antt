@@ -1,3 +1,4 @@
 -- Names and types: the walk over nodes, and what it finds.
 pub mod Showing
 pub mod JudgedLeast
+pub mod JudgedWidths

@@ -2,3 +2,4 @@
 pub mod Showing
 pub mod JudgedLeast
 pub mod JudgedWidths
+pub mod JudgedRanges

@@ -27,7 +27,7 @@ end-stands true zero h = above {a = 0} {k = 1000 - 0} (omega arith)
 end-stands true (suc m) h = below {a = m} {k = 1000 - suc m} (omega arith)
 end-stands false m h = above refl
 
-both : (p q r s : Bool) → p ≡ r → (p ≡ true → q ≡ s) → (p && q) ≡ (r && s)
+pub both : (p q r s : Bool) → p ≡ r → (p ≡ true → q ≡ s) → (p && q) ≡ (r && s)
 both true q r s e f = ap₂ _&&_ e (f refl)
 both false q r s e f = ap (λ (b : Bool). b && s) e
 

@@ -3,3 +3,4 @@ pub mod Showing
 pub mod JudgedLeast
 pub mod JudgedWidths
 pub mod JudgedRanges
+pub mod JudgedTypes

@@ -4,3 +4,4 @@ pub mod JudgedLeast
 pub mod JudgedWidths
 pub mod JudgedRanges
 pub mod JudgedTypes
+pub mod JudgedScope

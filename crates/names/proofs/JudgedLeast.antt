@@ -62,7 +62,7 @@ zero-lesser : (b : ℕ) → lesser 0 b ≡ b
 unfolding lesser
 zero-lesser b = refl
 
-lesser-assoc : (a b c : ℕ) → lesser (lesser a b) c ≡ lesser a (lesser b c)
+pub lesser-assoc : (a b c : ℕ) → lesser (lesser a b) c ≡ lesser a (lesser b c)
 lesser-assoc zero b c = ap (λ (z : ℕ). lesser z c) (zero-lesser b) ∙ sym (zero-lesser (lesser b c))
 lesser-assoc (suc a) zero c = ap (λ (z : ℕ). lesser z c) (lesser-zero (suc a)) ∙ sym (ap (lesser (suc a)) (zero-lesser c))
 lesser-assoc (suc a) (suc b) zero = lesser-zero (lesser (suc a) (suc b)) ∙ sym (ap (lesser (suc a)) (lesser-zero (suc b)))

@@ -105,7 +105,7 @@ two-digits a b c d h k = on (eqb (0 + a) (0 + c)) refl (eqb (0 + b) (0 + d)) ref
     on true e false f = let ne : 0 + b ≡ 0 + d → ⊥ = eqb-false (0 + b) (0 + d) f in ne-eqb (64 + 8 * a + b) (64 + 8 * c + d) (omega (arith, eqb-true (0 + a) (0 + c) e))
     on false e q f = let ne : 0 + a ≡ 0 + c → ⊥ = eqb-false (0 + a) (0 + c) e in ne-eqb (64 + 8 * a + b) (64 + 8 * c + d) (omega arith)
 
-and-true : (p q : Bool) → ((p && true) && q) ≡ (p && q)
+pub and-true : (p q : Bool) → ((p && true) && q) ≡ (p && q)
 and-true true q = refl
 and-true false q = refl
 
@@ -185,7 +185,7 @@ module _ (gs : List Given) (few : length gs ≤ 8) where
           ne-eqb (c + indexOf gs g) (c + indexOf gs h)
           (λ k. no-yes (sym e ∙ ap (λ (x : Letters). same g x) (sym (index-same gs g h p q (omega arith))) ∙ same-refl g))
 
-  two-givens : (g h x y : Letters) → titled gs g ≡ true → titled gs h ≡ true → titled gs x ≡ true → titled gs y ≡ true
+  pub two-givens : (g h x y : Letters) → titled gs g ≡ true → titled gs h ≡ true → titled gs x ≡ true → titled gs y ≡ true
       → eqb (64 + 8 * indexOf gs g + indexOf gs h) (64 + 8 * indexOf gs x + indexOf gs y) ≡ (same g x && (same h y && true))
   two-givens g h x y p q r s =
       two-digits (indexOf gs g) (indexOf gs h) (indexOf gs x) (indexOf gs y) (index-few h q) (index-few y s)

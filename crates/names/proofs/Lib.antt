@@ -5,3 +5,4 @@ pub mod JudgedWidths
 pub mod JudgedRanges
 pub mod JudgedTypes
 pub mod JudgedScope
+pub mod JudgedBraces

@@ -152,7 +152,7 @@ least-append {ys = ys} (one-more {f = f} {fs = xs} n h) k =
 pub two-parts : {a b : ℕ} {xs ys : List Fault} → Small xs → Small ys → a ≡ leastKey xs → b ≡ leastKey ys → lesser a b ≡ leastKey (xs ++ ys)
 two-parts h k p q = ap₂ lesser p q ∙ sym (least-append h k)
 
-least-nil : leastKey [] ≡ 0
+pub least-nil : leastKey [] ≡ 0
 unfolding least
 least-nil = refl
 
@@ -194,7 +194,7 @@ Filled (x ∷ xs) = Unit {0}
 pub not-nil : {A : Type 0} (x : Fault) (xs : List Fault) → (x ∷ xs) ≡ [] → A
 not-nil x xs e = absurd (subst Filled e tt)
 
-unless-nil : (fits : Bool) (f : Fault) → unless fits f ≡ [] → fits ≡ true
+pub unless-nil : (fits : Bool) (f : Fault) → unless fits f ≡ [] → fits ≡ true
 unfolding unless
 unless-nil true f e = refl
 unless-nil false f e = not-nil f [] e

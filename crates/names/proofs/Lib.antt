@@ -6,3 +6,4 @@ pub mod JudgedRanges
 pub mod JudgedTypes
 pub mod JudgedScope
 pub mod JudgedBraces
+pub mod JudgedBinders

@@ -36,7 +36,7 @@ given-yes : (k n : ℕ) → n < 8 → k ≡ 8 + n → isGiven k ≡ true
 unfolding isGiven
 given-yes k n h e = ap₂ _&&_ (le-leb 8 k (omega arith)) (lt-ltb k 16 (omega arith))
 
-element-is : (k n : ℕ) → n < 8 → k ≡ 8 + n → elementOf k ≡ 16 + n
+pub element-is : (k n : ℕ) → n < 8 → k ≡ 8 + n → elementOf k ≡ 16 + n
 unfolding elementOf
 element-is k n h e = rw (given-yes k n h e) (omega arith)
 

@@ -7,3 +7,5 @@ pub mod JudgedTypes
 pub mod JudgedScope
 pub mod JudgedBraces
 pub mod JudgedBinders
+pub mod JudgedParts
+pub mod JudgedTerms

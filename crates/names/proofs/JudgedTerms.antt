@@ -1,0 +1,115 @@
+-- One term of each form: its number and least fault are those of its type and faults, if that holds of its parts.
+use mathlib.Core.Path.{_≡_, refl, ap, ap₂, _∙_, sym, subst, subst₂}
+use mathlib.Core.Bool.{Bool, true, false, _&&_, cond}
+use mathlib.Core.List.{List, [], _∷_, _++_}
+use mathlib.Core.Option.{Option, none, some}
+use Prim.Native.Nat.{ℕ, zero, suc, _+_, _-_, _*_, _≤_, _<_}
+use native.Mathlib.Omega.{arith}
+use native.Mathlib.Numerals.{add-one}
+use lib.Dec.{ltb}
+use lib.ListN.{length}
+use Rattle.symbols.specs.Symbols.{Name, noEnding}
+use Rattle.symbols.specs.Refusals.{Fault, fault, numberOf, nameUnknown, typesMisfit, zeroDivisor}
+use Rattle.form.specs.Tree.{Letters, Given, End, givenSet, Prefix, Operator, Division, Term, number, name, group, prefix, binary, divided, listed, pairs, such, emptySet, emptyPairs, Items, only, also, Pairs, onlyPair, alsoPair, Pred}
+use Rattle.form.specs.Codes.{Numbering, nameNumber, numberOfName, signOf, termWidth, predWidth}
+use Rattle.reader.specs.Carriers.{givenOf}
+use Rattle.reader.specs.Types as ty
+use Rattle.reader.specs.Types.{Ty, has, typeOf, pairsFit, pairsType}
+use Rattle.reader.specs.Scope.{Scope, typeOfName, binding}
+use Rattle.reader.specs.Names.{Judged, Listing, Checked, whole, inside, ofName, known, newName, divisorFaults, pairsFault, overFault, wholePairs, judgedPairs, domainCarrier, domainFaults, judgeTerm, judgeItems, judgePairs, judgePred}
+use Rattle.names.specs.Inner as inner
+use Rattle.names.specs.Inner.{Names, Sizes, entry, key, unlessKey, judgedKey, insideKey, lesser, isFree, isGiven, isNumber, inReach, elementOf, setOf, pairOf, domainKind, domainKey, overKey, bound}
+use Rattle.names.specs.Inner.{termKind, itemsKind, pairsKind, termKey, itemsKey, pairsKey, predKey}
+use Rattle.names.proofs.Showing.{indexOf, titled, typeCode, Known, knownNumber, knownElement, knownPairs, TypeIs, Numbered, Shows, leastKey}
+use Rattle.names.proofs.JudgedLeast.{least-nil, one-fault, unless-least, two-parts, lesser-assoc, whole-least, inside-least, whole-nil, inside-nil, append-nil-both, not-nil, small-append}
+use Rattle.names.proofs.JudgedWidths.{term-width, pred-width, term-steady, items-steady, pairs-steady, pred-steady, small-divisor, small-known, small-pairs}
+use Rattle.names.proofs.JudgedTypes.{no-yes, is-number, code-in-reach, prefix-fits, prefix-type, operator-fits, set-type, pair-of}
+use Rattle.names.proofs.JudgedBraces.{Common, CommonPairs, PairsType, items-only, items-also, brace-fits, brace-type, pairs-only, pairs-also, pairs-type}
+use Rattle.names.proofs.JudgedParts.{TermIs, ItemsAre, PairsAre, TermHolds, ItemsHold, PairsHold, PredHolds, term-next, divisor-least, whole-pairs-fit, name-is, set-over, pairs-over}
+use Rattle.names.proofs.JudgedBinders.{View, no-given, one-given, given-view, known-least, over-least, element-is, boundOver, binder-least, judged-inside, brace-least}
+
+-- terms one behind the other
+module _ (ρ : Numbering) (z : Sizes) (Γ : Scope) (T : Names) where
+  pub two-least : (t u : Term) → TermHolds ρ z Γ T t → TermHolds ρ z Γ T u → (i : ℕ)
+      → lesser (termKey t T ρ z i) (termKey u T ρ z (suc (i + termWidth t)))
+      ≡ leastKey (judgeTerm t Γ i .faults ++ judgeTerm u Γ (suc (judgeTerm t Γ i .next)) .faults)
+  two-least t u a b i =
+      two-parts (term-steady t Γ i .small) (term-steady u Γ (suc (judgeTerm t Γ i .next)) .small) (a i .least)
+      (ap (λ (n : ℕ). termKey u T ρ z (suc n)) (sym (term-next t Γ i)) ∙ b (suc (judgeTerm t Γ i .next)) .least)
+
+  pub third-at : (t u : Term) (i : ℕ) → judgeTerm u Γ (suc (judgeTerm t Γ i .next)) .next ≡ suc (i + termWidth t) + termWidth u
+  third-at t u i = omega (arith, term-next t Γ i, term-next u Γ (suc (judgeTerm t Γ i .next)))
+
+  -- a whole of two terms, at its operator
+  pub two-whole : (t u : Term) → TermHolds ρ z Γ T t → TermHolds ρ z Γ T u → (ok : ℕ → ℕ → Bool) (fits : Ty → Ty → Bool)
+      → ((v w : Ty) → Known (Γ .givens) v → Known (Γ .givens) w → ok (typeCode (Γ .givens) v) (typeCode (Γ .givens) w) ≡ fits v w) → (i : ℕ)
+      → judgedKey (ok (termKind t T ρ) (termKind u T ρ)) (key (i + termWidth t) 10) (lesser (termKey t T ρ z i) (termKey u T ρ z (suc (i + termWidth t))))
+      ≡ leastKey (whole (fits (judgeTerm t Γ i .type) (judgeTerm u Γ (suc (judgeTerm t Γ i .next)) .type)) (fault (judgeTerm t Γ i .next) typesMisfit)
+      (judgeTerm t Γ i .faults ++ judgeTerm u Γ (suc (judgeTerm t Γ i .next)) .faults))
+  unfolding numberOf
+  two-whole t u a b ok fits f i =
+      whole-least (ok (termKind t T ρ) (termKind u T ρ)) (fits (judgeTerm t Γ i .type) (judgeTerm u Γ (suc (judgeTerm t Γ i .next)) .type)) (i + termWidth t)
+      (judgeTerm t Γ i .next) typesMisfit (lesser (termKey t T ρ z i) (termKey u T ρ z (suc (i + termWidth t))))
+      (judgeTerm t Γ i .faults ++ judgeTerm u Γ (suc (judgeTerm t Γ i .next)) .faults) (two-least t u a b i) (term-next t Γ i)
+      (λ e. let h = append-nil-both (judgeTerm t Γ i .faults) (judgeTerm u Γ (suc (judgeTerm t Γ i .next)) .faults) e in
+      let v = a i .typed (h .0) in let w = b (suc (judgeTerm t Γ i .next)) .typed (h .1) in
+      ap₂ ok (v .0) (w .0) ∙ f (judgeTerm t Γ i .type) (judgeTerm u Γ (suc (judgeTerm t Γ i .next)) .type) (v .1) (w .1))
+
+  -- a whole of a term that must be a number and what stands behind it
+  pub number-whole : length (Γ .givens) ≤ 8 → (t : Term) → TermHolds ρ z Γ T t → (i n : ℕ) (fs : List Fault)
+      → lesser (termKey t T ρ z i) n ≡ leastKey (judgeTerm t Γ i .faults ++ fs)
+      → judgedKey (isNumber (termKind t T ρ)) (key (i + termWidth t) 10) (lesser (termKey t T ρ z i) n)
+      ≡ leastKey (whole (has (judgeTerm t Γ i .type) ty.isNumber) (fault (judgeTerm t Γ i .next) typesMisfit) (judgeTerm t Γ i .faults ++ fs))
+  unfolding numberOf
+  number-whole few t a i n fs h =
+      whole-least (isNumber (termKind t T ρ)) (has (judgeTerm t Γ i .type) ty.isNumber) (i + termWidth t) (judgeTerm t Γ i .next) typesMisfit
+      (lesser (termKey t T ρ z i) n) (judgeTerm t Γ i .faults ++ fs) h (term-next t Γ i)
+      (λ e. let w = a i .typed (append-nil-both (judgeTerm t Γ i .faults) fs e .0) in ap isNumber (w .0) ∙ is-number (Γ .givens) few (w .1))
+
+module _ (ρ : Numbering) (P : Letters → Type 0) (ν : Numbered ρ P) (z : Sizes) (Γ : Scope) (T : Names) (s : Shows ρ P Γ T z) where
+  number-holds : (n : ℕ) → TermHolds ρ z Γ T (number n)
+  unfolding judgeTerm termKind termKey
+  number-holds n i = record { least = sym least-nil; typed = λ e. (refl, knownNumber) }
+
+  name-holds : (x : Name) → P (x .letters) → TermHolds ρ z Γ T (name x)
+  unfolding judgeTerm termKind termKey
+  name-holds x px i = name-is (Γ .givens) (s .few) (typeOfName Γ x) (entry T (nameNumber ρ x)) i (s .typed x px)
+
+  group-holds : (t : Term) → TermHolds ρ z Γ T t → TermHolds ρ z Γ T (group t)
+  unfolding judgeTerm termKind termKey
+  group-holds t a i = record { least = a (suc i) .least; typed = a (suc i) .typed }
+
+  prefix-holds : (o : Prefix) (t : Term) → TermHolds ρ z Γ T t → TermHolds ρ z Γ T (prefix o t)
+  unfolding judgeTerm termKind termKey numberOf
+  prefix-holds o t a i =
+      record {
+        least =
+            whole-least (inner.prefixFits o (termKind t T ρ)) (ty.prefixFits o (judgeTerm t Γ (suc i) .type)) i i typesMisfit (termKey t T ρ z (suc i)) (judgeTerm t Γ (suc i) .faults)
+            (a (suc i) .least) refl (λ e. let w = a (suc i) .typed e in ap (inner.prefixFits o) (w .0) ∙ prefix-fits (Γ .givens) (s .few) o (w .1));
+        typed =
+            λ e. let h = whole-nil (ty.prefixFits o (judgeTerm t Γ (suc i) .type)) (fault i typesMisfit) (judgeTerm t Γ (suc i) .faults) e in
+            let w = a (suc i) .typed (h .none-in) in let v = prefix-type (Γ .givens) (s .few) o (w .1) (h .fit) in
+            (ap (inner.prefixType o) (w .0) ∙ v .0, v .1);
+      }
+
+  binary-holds : (o : Operator) (t u : Term) → TermHolds ρ z Γ T t → TermHolds ρ z Γ T u → TermHolds ρ z Γ T (binary o t u)
+  unfolding judgeTerm termKind termKey
+  binary-holds o t u a b i =
+      record {
+        least = two-whole ρ z Γ T t u a b (inner.operatorFits o) (ty.operatorFits o) (λ v w. operator-fits (Γ .givens) (s .few) o) i;
+        typed =
+            λ e. a i .typed (append-nil-both (judgeTerm t Γ i .faults) (judgeTerm u Γ (suc (judgeTerm t Γ i .next)) .faults)
+            (whole-nil (ty.operatorFits o (judgeTerm t Γ i .type) (judgeTerm u Γ (suc (judgeTerm t Γ i .next)) .type)) (fault (judgeTerm t Γ i .next) typesMisfit)
+            (judgeTerm t Γ i .faults ++ judgeTerm u Γ (suc (judgeTerm t Γ i .next)) .faults) e .none-in) .0);
+      }
+
+  divided-holds : (o : Division) (t : Term) (e : End) → TermHolds ρ z Γ T t → TermHolds ρ z Γ T (divided o t e)
+  unfolding judgeTerm termKind termKey
+  divided-holds o t e a i =
+      record {
+        least =
+            number-whole ρ z Γ T (s .few) t a i (unlessKey (ltb 0 (e .magnitude)) (key (i + termWidth t + 1 + signOf (e .negative)) 14)) (divisorFaults e (suc (judgeTerm t Γ i .next)))
+            (two-parts (term-steady t Γ i .small) (small-divisor e (suc (judgeTerm t Γ i .next))) (a i .least)
+            (divisor-least e (judgeTerm t Γ i .next) (i + termWidth t) (term-next t Γ i)));
+        typed = λ h. (refl, knownNumber);
+      }

@@ -14,11 +14,11 @@ use Rattle.form.specs.Tree.{Letters, Given, End, givenSet, Prefix, Operator, Di
 use Rattle.form.specs.Codes.{Numbering, nameNumber, numberOfName, signOf, termWidth, predWidth}
 use Rattle.reader.specs.Carriers.{givenOf}
 use Rattle.reader.specs.Types as ty
-use Rattle.reader.specs.Types.{Ty, has, typeOf, pairsFit, pairsType}
+use Rattle.reader.specs.Types.{Ty, has, typeOf, braceFits, pairsFit, pairsType}
 use Rattle.reader.specs.Scope.{Scope, typeOfName, binding}
 use Rattle.reader.specs.Names.{Judged, Listing, Checked, whole, inside, ofName, known, newName, divisorFaults, pairsFault, overFault, wholePairs, judgedPairs, domainCarrier, domainFaults, judgeTerm, judgeItems, judgePairs, judgePred}
 use Rattle.names.specs.Inner as inner
-use Rattle.names.specs.Inner.{Names, Sizes, entry, key, unlessKey, judgedKey, insideKey, lesser, isFree, isGiven, isNumber, inReach, elementOf, setOf, pairOf, domainKind, domainKey, overKey, bound}
+use Rattle.names.specs.Inner.{Names, Sizes, entry, key, unlessKey, judgedKey, insideKey, lesser, isFree, isGiven, isNumber, inReach, isElement, elementOf, setOf, pairOf, domainKind, domainKey, overKey, bound}
 use Rattle.names.specs.Inner.{termKind, itemsKind, pairsKind, termKey, itemsKey, pairsKey, predKey}
 use Rattle.names.proofs.Showing.{indexOf, titled, typeCode, Known, knownNumber, knownElement, knownPairs, TypeIs, Numbered, Shows, leastKey}
 use Rattle.names.proofs.JudgedLeast.{least-nil, one-fault, unless-least, two-parts, lesser-assoc, whole-least, inside-least, whole-nil, inside-nil, append-nil-both, not-nil, small-append}
@@ -67,19 +67,19 @@ module _ (ρ : Numbering) (z : Sizes) (Γ : Scope) (T : Names) where
       (λ e. let w = a i .typed (append-nil-both (judgeTerm t Γ i .faults) fs e .0) in ap isNumber (w .0) ∙ is-number (Γ .givens) few (w .1))
 
 module _ (ρ : Numbering) (P : Letters → Type 0) (ν : Numbered ρ P) (z : Sizes) (Γ : Scope) (T : Names) (s : Shows ρ P Γ T z) where
-  number-holds : (n : ℕ) → TermHolds ρ z Γ T (number n)
+  pub number-holds : (n : ℕ) → TermHolds ρ z Γ T (number n)
   unfolding judgeTerm termKind termKey
   number-holds n i = record { least = sym least-nil; typed = λ e. (refl, knownNumber) }
 
-  name-holds : (x : Name) → P (x .letters) → TermHolds ρ z Γ T (name x)
+  pub name-holds : (x : Name) → P (x .letters) → TermHolds ρ z Γ T (name x)
   unfolding judgeTerm termKind termKey
   name-holds x px i = name-is (Γ .givens) (s .few) (typeOfName Γ x) (entry T (nameNumber ρ x)) i (s .typed x px)
 
-  group-holds : (t : Term) → TermHolds ρ z Γ T t → TermHolds ρ z Γ T (group t)
+  pub group-holds : (t : Term) → TermHolds ρ z Γ T t → TermHolds ρ z Γ T (group t)
   unfolding judgeTerm termKind termKey
   group-holds t a i = record { least = a (suc i) .least; typed = a (suc i) .typed }
 
-  prefix-holds : (o : Prefix) (t : Term) → TermHolds ρ z Γ T t → TermHolds ρ z Γ T (prefix o t)
+  pub prefix-holds : (o : Prefix) (t : Term) → TermHolds ρ z Γ T t → TermHolds ρ z Γ T (prefix o t)
   unfolding judgeTerm termKind termKey numberOf
   prefix-holds o t a i =
       record {
@@ -92,7 +92,7 @@ module _ (ρ : Numbering) (P : Letters → Type 0) (ν : Numbered ρ P) (z : Siz
             (ap (inner.prefixType o) (w .0) ∙ v .0, v .1);
       }
 
-  binary-holds : (o : Operator) (t u : Term) → TermHolds ρ z Γ T t → TermHolds ρ z Γ T u → TermHolds ρ z Γ T (binary o t u)
+  pub binary-holds : (o : Operator) (t u : Term) → TermHolds ρ z Γ T t → TermHolds ρ z Γ T u → TermHolds ρ z Γ T (binary o t u)
   unfolding judgeTerm termKind termKey
   binary-holds o t u a b i =
       record {
@@ -103,7 +103,7 @@ module _ (ρ : Numbering) (P : Letters → Type 0) (ν : Numbered ρ P) (z : Siz
             (judgeTerm t Γ i .faults ++ judgeTerm u Γ (suc (judgeTerm t Γ i .next)) .faults) e .none-in) .0);
       }
 
-  divided-holds : (o : Division) (t : Term) (e : End) → TermHolds ρ z Γ T t → TermHolds ρ z Γ T (divided o t e)
+  pub divided-holds : (o : Division) (t : Term) (e : End) → TermHolds ρ z Γ T t → TermHolds ρ z Γ T (divided o t e)
   unfolding judgeTerm termKind termKey
   divided-holds o t e a i =
       record {
@@ -112,4 +112,120 @@ module _ (ρ : Numbering) (P : Letters → Type 0) (ν : Numbered ρ P) (z : Siz
             (two-parts (term-steady t Γ i .small) (small-divisor e (suc (judgeTerm t Γ i .next))) (a i .least)
             (divisor-least e (judgeTerm t Γ i .next) (i + termWidth t) (term-next t Γ i)));
         typed = λ h. (refl, knownNumber);
+      }
+
+  pub only-holds : (t : Term) → TermHolds ρ z Γ T t → ItemsHold ρ z Γ T (only t)
+  unfolding judgeTerm termKind termKey
+  only-holds t a i = record { least = a i .least; typed = λ e. items-only (Γ .givens) (s .few) (a i .typed e) }
+
+  pub also-holds : (t : Term) (ts : Items) → TermHolds ρ z Γ T t → ItemsHold ρ z Γ T ts → ItemsHold ρ z Γ T (also t ts)
+  unfolding judgeTerm termKind termKey
+  also-holds t ts a b i =
+      let j : ℕ = suc (judgeTerm t Γ i .next) in
+      record {
+        least =
+            two-parts (term-steady t Γ i .small) (items-steady ts Γ j .small) (a i .least) (ap (λ (n : ℕ). itemsKey ts T ρ z (suc n)) (sym (term-next t Γ i)) ∙ b j .least);
+        typed =
+            λ e. let h = append-nil-both (judgeTerm t Γ i .faults) (judgeItems ts Γ j .faults) e in
+            items-also (Γ .givens) (s .few) (a i .typed (h .0)) (b j .typed (h .1));
+      }
+
+  pub only-pair-holds : (t u : Term) → TermHolds ρ z Γ T t → TermHolds ρ z Γ T u → PairsHold ρ z Γ T (onlyPair t u)
+  unfolding judgeTerm termKind termKey
+  only-pair-holds t u a b i =
+      let j : ℕ = suc (judgeTerm t Γ i .next) in
+      record {
+        least = two-least ρ z Γ T t u a b i;
+        typed =
+            λ e. let h = append-nil-both (judgeTerm t Γ i .faults) (judgeTerm u Γ j .faults) e in pairs-only (Γ .givens) (s .few) (a i .typed (h .0)) (b j .typed (h .1));
+      }
+
+  pub also-pair-holds : (t u : Term) (ts : Pairs) → TermHolds ρ z Γ T t → TermHolds ρ z Γ T u → PairsHold ρ z Γ T ts → PairsHold ρ z Γ T (alsoPair t u ts)
+  unfolding judgeTerm termKind termKey
+  also-pair-holds t u ts a b c i =
+      let j : ℕ = suc (judgeTerm t Γ i .next) in
+      let m : ℕ = suc (judgeTerm u Γ j .next) in
+      record {
+        least =
+            two-parts (small-append (term-steady t Γ i .small) (term-steady u Γ j .small)) (pairs-steady ts Γ m .small) (two-least ρ z Γ T t u a b i)
+            (ap (λ (n : ℕ). pairsKey ts T ρ z (suc n)) (sym (third-at ρ z Γ T t u i)) ∙ c m .least);
+        typed =
+            λ e. let h = append-nil-both (judgeTerm t Γ i .faults ++ judgeTerm u Γ j .faults) (judgePairs ts Γ m .faults) e in
+            let k = append-nil-both (judgeTerm t Γ i .faults) (judgeTerm u Γ j .faults) (h .0) in
+            pairs-also (Γ .givens) (s .few) (a i .typed (k .0)) (b j .typed (k .1)) (c m .typed (h .1));
+      }
+
+  pub listed-holds : (ts : Items) → ItemsHold ρ z Γ T ts → TermHolds ρ z Γ T (listed ts)
+  unfolding judgeTerm termKind termKey numberOf
+  listed-holds ts a i =
+      let l : Listing Ty = judgeItems ts Γ (suc i) in
+      record {
+        least =
+            whole-least (isElement (itemsKind ts T ρ)) (braceFits (l .types)) i i typesMisfit (itemsKey ts T ρ z (suc i)) (l .faults) (a (suc i) .least) refl
+            (λ e. brace-fits (Γ .givens) (s .few) (a (suc i) .typed e));
+        typed =
+            λ e. let h = whole-nil (braceFits (l .types)) (fault i typesMisfit) (l .faults) e in brace-type (Γ .givens) (s .few) (a (suc i) .typed (h .none-in)) (h .fit);
+      }
+
+  pairs-typed : (ts : List (Ty × Ty)) (k i : ℕ) → CommonPairs (Γ .givens) ts k → wholePairs (Γ .givens) ts i ≡ [] → TypeIs (Γ .givens) (some (pairsType ts)) k
+  pairs-typed ts k i c e =
+      let w = pairs-type (Γ .givens) (s .few) c (whole-pairs-fit (Γ .givens) ts i e) in
+      subst (λ (t : Ty). TypeIs (Γ .givens) (some t) k) (sym (w .type-is)) (w .number-is, knownPairs (w .left-in) (w .right-in))
+
+  pub pairs-holds : (ts : Pairs) → PairsHold ρ z Γ T ts → TermHolds ρ z Γ T (pairs ts)
+  unfolding judgeTerm termKind termKey
+  pairs-holds ts a i =
+      let l : Listing (Ty × Ty) = judgePairs ts Γ (suc i) in
+      record {
+        least =
+            inside-least (pairsKey ts T ρ z (suc i)) (inner.braceKey z (pairsKind ts T ρ) i) (l .faults) (wholePairs (Γ .givens) (l .types) i) (a (suc i) .least)
+            (λ e. brace-least ρ P Γ T z s (l .types) (pairsKind ts T ρ) i (a (suc i) .typed e)) ∙ sym (ap leastKey (judged-inside (Γ .givens) l i));
+        typed =
+            λ e. let h = inside-nil (l .faults) (wholePairs (Γ .givens) (l .types) i) (sym (judged-inside (Γ .givens) l i) ∙ e) in
+            pairs-typed (l .types) (pairsKind ts T ρ) i (a (suc i) .typed (h .0)) (h .1);
+      }
+
+  pub such-holds : (x : Letters) (g : Name) (p : Pred) → P x → P (g .letters)
+      → (Shows ρ P (binding Γ x (domainCarrier (Γ .givens) (givenSet g))) (bound T (numberOfName ρ x noEnding) (domainKind (givenSet g) T ρ)) z
+      → PredHolds ρ z (binding Γ x (domainCarrier (Γ .givens) (givenSet g))) (bound T (numberOfName ρ x noEnding) (domainKind (givenSet g) T ρ)) p)
+      → TermHolds ρ z Γ T (such x g p)
+  unfolding judgeTerm termKind termKey domainKind domainKey
+  such-holds x g p px pg f i =
+      let b : Checked = judgePred p (binding Γ x (domainCarrier (Γ .givens) (givenSet g))) (i + 5) in
+      record {
+        least =
+            ap (λ (n : ℕ). insideKey (lesser (unlessKey (isFree (entry T (numberOfName ρ x noEnding))) (key n 8)) (domainKey (givenSet g) T ρ (i + 3)))
+            (predKey p (bound T (numberOfName ρ x noEnding) (domainKind (givenSet g) T ρ)) ρ z (i + 5))) (add-one i)
+            ∙ binder-least ρ P ν Γ T z s x px (givenSet g) pg (suc i) (i + 3) (b .faults) (predKey p (bound T (numberOfName ρ x noEnding) (domainKind (givenSet g) T ρ)) ρ z (i + 5))
+            (λ w. f w (i + 5));
+        typed =
+            λ e. let h = inside-nil (newName (Γ .taken) x (suc i) ++ known (givenOf (Γ .givens) g) (i + 3)) (b .faults) e .0 in
+            set-over (Γ .givens) z (s .few) (i + 3) (given-view ρ P Γ T z s g pg) (append-nil-both (newName (Γ .taken) x (suc i)) (known (givenOf (Γ .givens) g) (i + 3)) h .1);
+      }
+
+  pub empty-set-holds : (g : Name) → P (g .letters) → TermHolds ρ z Γ T (emptySet g)
+  unfolding judgeTerm termKind termKey
+  empty-set-holds g pg i =
+      record {
+        least =
+            ap (λ (n : ℕ). unlessKey (isGiven (entry T (nameNumber ρ g))) (key n 9)) (add-one i) ∙ known-least (Γ .givens) z (suc i) (given-view ρ P Γ T z s g pg);
+        typed = λ e. set-over (Γ .givens) z (s .few) (suc i) (given-view ρ P Γ T z s g pg) e;
+      }
+
+  pub empty-pairs-holds : (g h : Name) → P (g .letters) → P (h .letters) → TermHolds ρ z Γ T (emptyPairs g h)
+  unfolding judgeTerm termKind termKey
+  empty-pairs-holds g h pg ph i =
+      let v = given-view ρ P Γ T z s g pg in let w = given-view ρ P Γ T z s h ph in
+      let a : List Fault = known (givenOf (Γ .givens) g) (suc i) in let b : List Fault = known (givenOf (Γ .givens) h) (i + 2) in
+      let c : List Fault = pairsFault (givenOf (Γ .givens) g) (givenOf (Γ .givens) h) i in
+      record {
+        least =
+            ap (λ (n : ℕ). lesser (unlessKey (isGiven (entry T (nameNumber ρ g))) (key n 9))
+            (lesser (unlessKey (isGiven (entry T (nameNumber ρ h))) (key (i + 2) 9)) (overKey z (entry T (nameNumber ρ g)) (entry T (nameNumber ρ h)) i))) (add-one i)
+            ∙ sym (lesser-assoc _ _ _)
+            ∙ two-parts (small-append (small-known (givenOf (Γ .givens) g) (suc i)) (small-known (givenOf (Γ .givens) h) (i + 2))) (small-pairs (givenOf (Γ .givens) g) (givenOf (Γ .givens) h) i)
+            (two-parts (small-known (givenOf (Γ .givens) g) (suc i)) (small-known (givenOf (Γ .givens) h) (i + 2)) (known-least (Γ .givens) z (suc i) v) (known-least (Γ .givens) z (i + 2) w))
+            (over-least (Γ .givens) z i v w);
+        typed =
+            λ e. let k = append-nil-both a b (append-nil-both (a ++ b) c e .0) in pairs-over (Γ .givens) z (s .few) (suc i) (i + 2) v w (k .0) (k .1);
       }

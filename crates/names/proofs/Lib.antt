@@ -9,3 +9,5 @@ pub mod JudgedBraces
 pub mod JudgedBinders
 pub mod JudgedParts
 pub mod JudgedTerms
+pub mod JudgedPreds
+pub mod Judged

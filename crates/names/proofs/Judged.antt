@@ -1,8 +1,7 @@
 -- The numbers of specs/Inner are the types and faults of the definitions: where a table of names shows the scope, the key of a tree is that of its least
 -- fault, and the number of a term without faults is that of its type.
 use mathlib.Core.Path.{_≡_}
-use mathlib.Core.List.{List, []}
-use mathlib.Core.Option.{some}
+use mathlib.Core.List.{[]}
 use Prim.Native.Nat.{ℕ, _+_}
 use Rattle.symbols.specs.Symbols.{noEnding}
 use Rattle.form.specs.Tree.{Letters, givenSet}

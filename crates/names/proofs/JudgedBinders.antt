@@ -1,24 +1,23 @@
 -- Given sets by their numbers: what a name of one adds to the faults; the size of a type of pairs; what a name is bound over.
-use mathlib.Core.Path.{_≡_, refl, ap, ap₂, _∙_, sym, subst}
+use mathlib.Core.Path.{_≡_, refl, ap, ap₂, _∙_, sym}
 use mathlib.Core.Bool.{Bool, true, false, not, _&&_, cond}
 use mathlib.Core.List.{List, [], _∷_, _++_}
 use mathlib.Core.Option.{Option, none, some}
-use Prim.Native.Nat.{ℕ, zero, suc, _+_, _-_, _*_, _/_, _%_, _≤_, _<_}
+use Prim.Native.Nat.{ℕ, _+_, _-_, _*_, _/_, _%_, _<_}
 use native.Mathlib.Omega.{arith}
-use lib.Dec.{leb, ltb}
+use lib.Dec.{leb}
 use lib.IntN.{pos}
-use lib.ListN.{length, set}
 use borrow.Author.Tests.{le-leb, lt-ltb, not-true}
 use Rattle.symbols.specs.Symbols.{Name, noEnding}
-use Rattle.symbols.specs.Refusals.{Fault, fault, numberOf, unless, nameInUse, nameUnknown, typesMisfit, wideType}
-use Rattle.form.specs.Tree.{Letters, Given, Range, Domain, givenSet, range, Pred}
-use Rattle.form.specs.Codes.{Numbering, nameNumber, numberOfName, endNumber, endWidth}
-use Rattle.reader.specs.Carriers.{Carrier, elementsOf, sizeOf, plain, givenOf, rangeCarrier}
+use Rattle.symbols.specs.Refusals.{Fault, fault, numberOf, nameInUse, nameUnknown, typesMisfit, wideType}
+use Rattle.form.specs.Tree.{Letters, Given, Domain, givenSet, range}
+use Rattle.form.specs.Codes.{Numbering, nameNumber, numberOfName}
+use Rattle.reader.specs.Carriers.{Carrier, elementsOf, sizeOf, plain, givenOf}
 use Rattle.reader.specs.Types.{Ty, typeOf, pairsFit, pairsType}
 use Rattle.reader.specs.Scope.{Scope, isTaken, binding}
-use Rattle.reader.specs.Names.{Listing, inside, known, pairsFault, newName, domainCarrier, domainFaults, overFault, wholePairs, judgedPairs, judgePred}
-use Rattle.names.specs.Inner.{Names, Sizes, entry, key, unlessKey, insideKey, lesser, isFree, isGiven, isPairs, elementOf, sizeIn, productFits, overKey, braceKey, domainKind, domainKey, predKey, bound}
-use Rattle.names.proofs.Showing.{indexOf, titled, typeCode, knownNumber, knownElement, knownPairs, GivenIs, TypeIs, Numbered, Shows, DomainIn, leastKey}
+use Rattle.reader.specs.Names.{Listing, inside, known, pairsFault, newName, domainCarrier, domainFaults, overFault, wholePairs, judgedPairs}
+use Rattle.names.specs.Inner.{Names, Sizes, entry, key, unlessKey, insideKey, lesser, isFree, isGiven, isPairs, elementOf, sizeIn, productFits, overKey, braceKey, domainKind, domainKey, bound}
+use Rattle.names.proofs.Showing.{indexOf, titled, knownNumber, knownElement, GivenIs, TypeIs, Numbered, Shows, DomainIn, leastKey}
 use Rattle.names.proofs.JudgedLeast.{least-nil, one-fault, unless-least, two-parts, inside-least, append-nil-both, unless-nil, not-nil}
 use Rattle.names.proofs.JudgedWidths.{small-new, small-domain}
 use Rattle.names.proofs.JudgedRanges.{range-least}

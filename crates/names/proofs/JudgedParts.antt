@@ -1,31 +1,27 @@
 -- What is claimed of a tree: its number and least fault are those of its type and faults. Names, divisors, and types over given sets.
-use mathlib.Core.Path.{_≡_, refl, ap, ap₂, _∙_, sym, subst, subst₂}
-use mathlib.Core.Bool.{Bool, true, false, _&&_, cond}
-use mathlib.Core.List.{List, [], _∷_, _++_}
+use mathlib.Core.Path.{_≡_, refl, ap, ap₂, _∙_, sym, subst₂}
+use mathlib.Core.Bool.{Bool, true, false, cond}
+use mathlib.Core.List.{List, [], _∷_}
 use mathlib.Core.Option.{Option, none, some}
-use Prim.Native.Nat.{ℕ, zero, suc, _+_, _-_, _*_, _≤_, _<_}
+use Prim.Native.Nat.{ℕ, suc, _+_, _≤_}
 use native.Mathlib.Omega.{arith}
-use native.Mathlib.Numerals.{add-one}
 use lib.Dec.{ltb}
 use lib.ListN.{length}
-use Rattle.symbols.specs.Symbols.{Name, noEnding}
-use Rattle.symbols.specs.Refusals.{Fault, fault, numberOf, nameUnknown, typesMisfit, zeroDivisor}
-use Rattle.form.specs.Tree.{Letters, Given, End, givenSet, Prefix, Operator, Division, Term, number, name, group, prefix, binary, divided, listed, pairs, such, emptySet, emptyPairs, Items, only, also, Pairs, onlyPair, alsoPair, Pred}
-use Rattle.form.specs.Codes.{Numbering, nameNumber, numberOfName, signOf, termWidth, predWidth}
-use Rattle.reader.specs.Carriers.{givenOf}
+use Rattle.symbols.specs.Refusals.{fault, numberOf, nameUnknown, typesMisfit, zeroDivisor}
+use Rattle.form.specs.Tree.{Letters, Given, End, Term, Items, Pairs, Pred}
+use Rattle.form.specs.Codes.{Numbering, signOf, termWidth, predWidth}
 use Rattle.reader.specs.Types as ty
 use Rattle.reader.specs.Types.{Ty, has, typeOf, pairsFit, pairsType}
-use Rattle.reader.specs.Scope.{Scope, typeOfName, binding}
-use Rattle.reader.specs.Names.{Judged, Listing, Checked, whole, inside, ofName, known, newName, divisorFaults, pairsFault, overFault, wholePairs, judgedPairs, domainCarrier, domainFaults, judgeTerm, judgeItems, judgePairs, judgePred}
-use Rattle.names.specs.Inner as inner
-use Rattle.names.specs.Inner.{Names, Sizes, entry, key, unlessKey, judgedKey, insideKey, lesser, isFree, isGiven, isNumber, inReach, elementOf, setOf, pairOf, domainKind, domainKey, overKey, bound}
+use Rattle.reader.specs.Scope.{Scope}
+use Rattle.reader.specs.Names.{Judged, Listing, ofName, known, divisorFaults, overFault, wholePairs, judgeTerm, judgeItems, judgePairs, judgePred}
+use Rattle.names.specs.Inner.{Names, Sizes, key, unlessKey, inReach, elementOf, setOf, pairOf}
 use Rattle.names.specs.Inner.{termKind, itemsKind, pairsKind, termKey, itemsKey, pairsKey, predKey}
-use Rattle.names.proofs.Showing.{indexOf, titled, typeCode, Known, knownNumber, knownElement, knownPairs, TypeIs, Numbered, Shows, leastKey}
-use Rattle.names.proofs.JudgedLeast.{least-nil, one-fault, unless-least, two-parts, lesser-assoc, whole-least, inside-least, whole-nil, inside-nil, append-nil-both, not-nil, small-append}
-use Rattle.names.proofs.JudgedWidths.{term-width, pred-width, term-steady, items-steady, pairs-steady, pred-steady, small-divisor, small-known, small-pairs}
-use Rattle.names.proofs.JudgedTypes.{no-yes, is-number, code-in-reach, prefix-fits, prefix-type, operator-fits, set-type, pair-of}
-use Rattle.names.proofs.JudgedBraces.{Common, CommonPairs, PairsType, items-only, items-also, brace-fits, brace-type, pairs-only, pairs-also, pairs-type}
-use Rattle.names.proofs.JudgedBinders.{View, no-given, one-given, given-view, known-least, over-least, element-is, boundOver, binder-least, judged-inside, brace-least}
+use Rattle.names.proofs.Showing.{indexOf, knownElement, knownPairs, TypeIs, leastKey}
+use Rattle.names.proofs.JudgedLeast.{least-nil, one-fault, unless-least, not-nil}
+use Rattle.names.proofs.JudgedWidths.{term-width, pred-width, term-steady, pred-steady}
+use Rattle.names.proofs.JudgedTypes.{code-in-reach, set-type, pair-of}
+use Rattle.names.proofs.JudgedBraces.{Common, CommonPairs}
+use Rattle.names.proofs.JudgedBinders.{View, no-given, one-given, element-is, boundOver}
 
 -- ---- what is claimed of a term, the items of a brace, its pairs, a predicate ----
 

@@ -1,32 +1,32 @@
 -- One term of each form: its number and least fault are those of its type and faults, if that holds of its parts.
-use mathlib.Core.Path.{_≡_, refl, ap, ap₂, _∙_, sym, subst, subst₂}
-use mathlib.Core.Bool.{Bool, true, false, _&&_, cond}
-use mathlib.Core.List.{List, [], _∷_, _++_}
-use mathlib.Core.Option.{Option, none, some}
-use Prim.Native.Nat.{ℕ, zero, suc, _+_, _-_, _*_, _≤_, _<_}
+use mathlib.Core.Path.{_≡_, refl, ap, ap₂, _∙_, sym, subst}
+use mathlib.Core.Bool.{Bool}
+use mathlib.Core.List.{List, [], _++_}
+use mathlib.Core.Option.{some}
+use Prim.Native.Nat.{ℕ, suc, _+_, _≤_}
 use native.Mathlib.Omega.{arith}
 use native.Mathlib.Numerals.{add-one}
 use lib.Dec.{ltb}
 use lib.ListN.{length}
 use Rattle.symbols.specs.Symbols.{Name, noEnding}
-use Rattle.symbols.specs.Refusals.{Fault, fault, numberOf, nameUnknown, typesMisfit, zeroDivisor}
-use Rattle.form.specs.Tree.{Letters, Given, End, givenSet, Prefix, Operator, Division, Term, number, name, group, prefix, binary, divided, listed, pairs, such, emptySet, emptyPairs, Items, only, also, Pairs, onlyPair, alsoPair, Pred}
-use Rattle.form.specs.Codes.{Numbering, nameNumber, numberOfName, signOf, termWidth, predWidth}
+use Rattle.symbols.specs.Refusals.{Fault, fault, numberOf, typesMisfit}
+use Rattle.form.specs.Tree.{Letters, End, givenSet, Prefix, Operator, Division, Term, number, name, group, prefix, binary, divided, listed, pairs, such, emptySet, emptyPairs, Items, only, also, Pairs, onlyPair, alsoPair, Pred}
+use Rattle.form.specs.Codes.{Numbering, nameNumber, numberOfName, signOf, termWidth}
 use Rattle.reader.specs.Carriers.{givenOf}
 use Rattle.reader.specs.Types as ty
-use Rattle.reader.specs.Types.{Ty, has, typeOf, braceFits, pairsFit, pairsType}
+use Rattle.reader.specs.Types.{Ty, has, braceFits, pairsType}
 use Rattle.reader.specs.Scope.{Scope, typeOfName, binding}
-use Rattle.reader.specs.Names.{Judged, Listing, Checked, whole, inside, ofName, known, newName, divisorFaults, pairsFault, overFault, wholePairs, judgedPairs, domainCarrier, domainFaults, judgeTerm, judgeItems, judgePairs, judgePred}
+use Rattle.reader.specs.Names.{Listing, Checked, whole, known, newName, divisorFaults, pairsFault, wholePairs, domainCarrier, judgeTerm, judgeItems, judgePairs, judgePred}
 use Rattle.names.specs.Inner as inner
-use Rattle.names.specs.Inner.{Names, Sizes, entry, key, unlessKey, judgedKey, insideKey, lesser, isFree, isGiven, isNumber, inReach, isElement, elementOf, setOf, pairOf, domainKind, domainKey, overKey, bound}
+use Rattle.names.specs.Inner.{Names, Sizes, entry, key, unlessKey, judgedKey, insideKey, lesser, isFree, isGiven, isNumber, isElement, domainKind, domainKey, overKey, bound}
 use Rattle.names.specs.Inner.{termKind, itemsKind, pairsKind, termKey, itemsKey, pairsKey, predKey}
-use Rattle.names.proofs.Showing.{indexOf, titled, typeCode, Known, knownNumber, knownElement, knownPairs, TypeIs, Numbered, Shows, leastKey}
-use Rattle.names.proofs.JudgedLeast.{least-nil, one-fault, unless-least, two-parts, lesser-assoc, whole-least, inside-least, whole-nil, inside-nil, append-nil-both, not-nil, small-append}
-use Rattle.names.proofs.JudgedWidths.{term-width, pred-width, term-steady, items-steady, pairs-steady, pred-steady, small-divisor, small-known, small-pairs}
-use Rattle.names.proofs.JudgedTypes.{no-yes, is-number, code-in-reach, prefix-fits, prefix-type, operator-fits, set-type, pair-of}
-use Rattle.names.proofs.JudgedBraces.{Common, CommonPairs, PairsType, items-only, items-also, brace-fits, brace-type, pairs-only, pairs-also, pairs-type}
-use Rattle.names.proofs.JudgedParts.{TermIs, ItemsAre, PairsAre, TermHolds, ItemsHold, PairsHold, PredHolds, term-next, divisor-least, whole-pairs-fit, name-is, set-over, pairs-over}
-use Rattle.names.proofs.JudgedBinders.{View, no-given, one-given, given-view, known-least, over-least, element-is, boundOver, binder-least, judged-inside, brace-least}
+use Rattle.names.proofs.Showing.{typeCode, Known, knownNumber, knownPairs, TypeIs, Numbered, Shows, leastKey}
+use Rattle.names.proofs.JudgedLeast.{least-nil, two-parts, lesser-assoc, whole-least, inside-least, whole-nil, inside-nil, append-nil-both, small-append}
+use Rattle.names.proofs.JudgedWidths.{term-steady, items-steady, pairs-steady, small-divisor, small-known, small-pairs}
+use Rattle.names.proofs.JudgedTypes.{is-number, prefix-fits, prefix-type, operator-fits}
+use Rattle.names.proofs.JudgedBraces.{CommonPairs, items-only, items-also, brace-fits, brace-type, pairs-only, pairs-also, pairs-type}
+use Rattle.names.proofs.JudgedParts.{TermHolds, ItemsHold, PairsHold, PredHolds, term-next, divisor-least, whole-pairs-fit, name-is, set-over, pairs-over}
+use Rattle.names.proofs.JudgedBinders.{given-view, known-least, over-least, binder-least, judged-inside, brace-least}
 
 -- terms one behind the other
 module _ (ρ : Numbering) (z : Sizes) (Γ : Scope) (T : Names) where

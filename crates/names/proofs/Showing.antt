@@ -1,18 +1,18 @@
 -- What the numbers of the pass stand for: the scope that a table of names shows, and the type that a number is.
 use mathlib.Core.Path.{_≡_}
-use mathlib.Core.Bool.{Bool, true, false, not, cond}
+use mathlib.Core.Bool.{Bool, true, false, not}
 use mathlib.Core.List.{List, [], _∷_, map}
 use mathlib.Core.Option.{Option, none, some}
-use Prim.Native.Nat.{ℕ, zero, suc, _+_, _*_, _≤_, _<_}
+use Prim.Native.Nat.{ℕ, suc, _+_, _*_, _≤_, _<_}
 use lib.ListN.{length, getD}
 use Rattle.symbols.specs.Lists.{same, any}
 use Rattle.symbols.specs.Symbols.{Name, noEnding}
 use Rattle.symbols.specs.Refusals.{Fault, numberOf, least}
-use Rattle.form.specs.Tree.{Letters, Given, Domain, givenSet, range}
+use Rattle.form.specs.Tree.{Letters, Given, Range, Domain, givenSet, range}
 use Rattle.form.specs.Tree.{Term, number, name, group, prefix, binary, divided, listed, pairs, such, emptySet, emptyPairs, Items, only, also, Pairs, onlyPair, alsoPair}
 use Rattle.form.specs.Tree.{Pred, truth, falsity, negation, paren, quantified, connected, compared, member, within, related}
 use Rattle.form.specs.Codes.{Numbering, numberOfName, nameNumber}
-use Rattle.reader.specs.Carriers.{sizeOf, givenOf, plain}
+use Rattle.reader.specs.Carriers.{sizeOf, givenOf}
 use Rattle.reader.specs.Types as ty
 use Rattle.reader.specs.Types.{Ty, Sort}
 use Rattle.reader.specs.Scope.{Scope, isTaken, typeOfName}
@@ -72,10 +72,14 @@ pub record Shows (ρ : Numbering) (P : Letters → Type 0) (Γ : Scope) (T : Nam
   pub givens : (x : Name) → P (x .letters) → GivenIs (Γ .givens) (givenOf (Γ .givens) x) (entry T (nameNumber ρ x))
   pub typed : (x : Name) → P (x .letters) → TypeIs (Γ .givens) (typeOfName Γ x) (entry T (nameNumber ρ x))
 
+-- the ends of a range in a text are numbers to 1,000
+abbrev pub RangeIn : Range → Type 0
+RangeIn r = (r .lower .magnitude ≤ 1000) × (r .upper .magnitude ≤ 1000)
+
 -- all letters of a tree are the text's
 abbrev pub DomainIn : (Letters → Type 0) → Domain → Type 0
 DomainIn P (givenSet g) = P (g .letters)
-DomainIn P (range r) = Unit {0}
+DomainIn P (range r) = RangeIn r
 
 unfoldable mutual
   pub TermIn : (Letters → Type 0) → Term → Type 0
@@ -108,7 +112,7 @@ unfoldable mutual
   PredIn P (connected o p q) = PredIn P p × PredIn P q
   PredIn P (compared o t u) = TermIn P t × TermIn P u
   PredIn P (member o t u) = TermIn P t × TermIn P u
-  PredIn P (within o t r) = TermIn P t
+  PredIn P (within o t r) = TermIn P t × RangeIn r
   PredIn P (related o t u v) = TermIn P t × TermIn P u × TermIn P v
 
 -- the least of some faults, as a number

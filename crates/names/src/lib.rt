@@ -1,0 +1,17 @@
+// Names and types: numbers 8, 9, 10, 11 and 14 of document 01, over the nodes of a dossier.
+mod kinds;
+mod types;
+
+// The type of a tree, its least fault (place * 16 + number + 1) or 0, and where its nodes begin.
+pub struct Seen {
+    pub kind: u16,
+    pub fault: u32,
+    pub start: usize,
+}
+
+// A node's place in the text, and its two numbers.
+pub struct Node {
+    pub place: u16,
+    pub a: u16,
+    pub b: u16,
+}

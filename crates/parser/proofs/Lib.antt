@@ -34,3 +34,6 @@ pub mod Titled
 pub mod Known
 pub mod Answered
 pub mod Placing
+pub mod Listing
+pub mod Joining
+pub mod Fronts

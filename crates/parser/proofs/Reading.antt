@@ -56,7 +56,7 @@ count-step at n m (Fault e f) l h = tt
 abbrev pub Within : List ℕ → ℕ → (Kind → Kind → List Symbol → Type 0) → Type 0
 Within s at P = (w : List Symbol) → codes w ≡ s → P (kindBefore kind.END w at) (kindAt w at) (drop (suc at) w)
 
-step-at : (s : List ℕ) (at : ℕ) (ι : List Item) (w : List Symbol) → codes w ≡ s → at < length s → (x : List Item → Next)
+pub step-at : (s : List ℕ) (at : ℕ) (ι : List Item) (w : List Symbol) → codes w ≡ s → at < length s → (x : List Item → Next)
     → ((κ : Kind) → codeOf κ ≡ getD s at 0 → (γ : List Item) → step (ι ++ γ) κ ≡ x γ) → (γ : List Item)
     → runAt w at (ι ++ γ) ≡ onward (x γ) (settled (kindBefore kind.END w at) (kindAt w at) (drop (suc at) w)) at (runAt w (suc at))
 step-at s at ι w q l x h γ =

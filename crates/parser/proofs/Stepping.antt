@@ -153,7 +153,7 @@ unfolding act
 mem-step d b κ γ q =
     by-act (aMem d b) γ κ _ (lookup-mapped (either (then (aTerm d b ∷ [])) stuck) memberships κ ∙ ap (either (then (aTerm d b ∷ [])) stuck) q)
 
-naming : (a b : Act) (κ : Kind) {c : ℕ} → lookup names 0 κ ≡ c → onName a b κ ≡ either a b c
+pub naming : (a b : Act) (κ : Kind) {c : ℕ} → lookup names 0 κ ≡ c → onName a b κ ≡ either a b c
 unfolding onName
 naming a b κ q = lookup-mapped (either a b) names κ ∙ ap (either a b) q
 
@@ -165,7 +165,7 @@ pub second-step : (κ : Kind) (γ : List Item) {c : ℕ} → lookup names 0 κ �
 unfolding act
 second-step κ γ q = by-act anEmptyRest γ κ _ (naming (then []) skip κ q)
 
-either-some : (a b : Act) (c : ℕ) → (c ≡ 0 → ⊥) → either a b c ≡ a
+pub either-some : (a b : Act) (c : ℕ) → (c ≡ 0 → ⊥) → either a b c ≡ a
 either-some a b zero f = absurd (f refl)
 either-some a b (suc c) f = refl
 

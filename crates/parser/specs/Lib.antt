@@ -2,3 +2,4 @@ pub mod Inner
 pub mod Derived
 pub mod Promises
 pub mod Sections
+pub mod Dossiers

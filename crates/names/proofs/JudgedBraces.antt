@@ -1,20 +1,20 @@
 -- The items of a brace, and its pairs: what their numbers have in common, and whether their types fit.
-use mathlib.Core.Path.{_≡_, refl, ap, ap₂, _∙_, sym, subst}
+use mathlib.Core.Path.{_≡_, refl, ap, ap₂, _∙_, sym}
 use mathlib.Core.Bool.{Bool, true, false, _&&_, cond}
 use mathlib.Core.List.{List, [], _∷_}
 use mathlib.Core.Option.{some}
-use Prim.Native.Nat.{ℕ, zero, suc, _+_, _-_, _*_, _≤_, _<_}
+use Prim.Native.Nat.{ℕ, _+_, _-_, _*_, _≤_}
 use native.Mathlib.Omega.{arith}
 use lib.Dec.{eqb}
 use lib.ListN.{length}
-use borrow.Author.Tests.{eqb-true, eqb-false, ne-eqb, eq-eqb}
+use borrow.Author.Tests.{ne-eqb}
 use Rattle.symbols.specs.Lists.{same, all}
 use Rattle.form.specs.Tree.{Letters, Given}
 use Rattle.reader.specs.Types as ty
 use Rattle.reader.specs.Types.{Ty, has, sameOver, sameType, braceType, braceFits, pairsType, pairsFit}
 use Rattle.names.specs.Inner.{isElement, setOf, pairOf, shared}
-use Rattle.names.proofs.Showing.{indexOf, titled, typeCode, Known, knownPairs, TypeIs}
-use Rattle.names.proofs.JudgedTypes.{no-yes, and-both, and-true, type-same, ElementType, elementType, element-type, code-positive, is-element, same-types, two-givens, set-type, pair-of}
+use Rattle.names.proofs.Showing.{indexOf, titled, typeCode, Known, TypeIs}
+use Rattle.names.proofs.JudgedTypes.{no-yes, and-both, and-true, type-same, ElementType, elementType, element-type, code-positive, is-element, same-types, two-givens, set-type}
 
 cond-same : (b : Bool) (n : ℕ) → cond b n n ≡ n
 cond-same true n = refl

@@ -3,10 +3,10 @@ use mathlib.Core.Path.{_≡_, refl, ap, ap₂, _∙_, sym, subst}
 use mathlib.Core.Bool.{Bool, true, false, _&&_, _||_, cond}
 use mathlib.Core.List.{List, [], _∷_, _++_}
 use mathlib.Core.Option.{Option, none, some}
-use Prim.Native.Nat.{ℕ, zero, suc, _+_, _*_, _≤_, _<_}
+use Prim.Native.Nat.{ℕ, zero, suc, _≤_, _<_}
 use native.Mathlib.Omega.{arith}
 use lib.Dec.{eqb, ltb}
-use borrow.Author.Tests.{eqb-true, eqb-false, ne-eqb, eq-eqb, ltb-true, ltb-false, lt-ltb, le-ltb}
+use borrow.Author.Tests.{eqb-true, eqb-false, ne-eqb, ltb-true, ltb-false, lt-ltb, le-ltb}
 use Rattle.symbols.specs.Refusals as faults
 use Rattle.symbols.specs.Refusals.{Refusal, Fault, fault, numberOf, before, least, unless}
 use Rattle.reader.specs.Names.{whole, inside}
@@ -152,7 +152,7 @@ least-append {ys = ys} (one-more {f = f} {fs = xs} n h) k =
 pub two-parts : {a b : ℕ} {xs ys : List Fault} → Small xs → Small ys → a ≡ leastKey xs → b ≡ leastKey ys → lesser a b ≡ leastKey (xs ++ ys)
 two-parts h k p q = ap₂ lesser p q ∙ sym (least-append h k)
 
-least-nil : leastKey [] ≡ 0
+pub least-nil : leastKey [] ≡ 0
 unfolding least
 least-nil = refl
 
@@ -194,7 +194,7 @@ Filled (x ∷ xs) = Unit {0}
 pub not-nil : {A : Type 0} (x : Fault) (xs : List Fault) → (x ∷ xs) ≡ [] → A
 not-nil x xs e = absurd (subst Filled e tt)
 
-unless-nil : (fits : Bool) (f : Fault) → unless fits f ≡ [] → fits ≡ true
+pub unless-nil : (fits : Bool) (f : Fault) → unless fits f ≡ [] → fits ≡ true
 unfolding unless
 unless-nil true f e = refl
 unless-nil false f e = not-nil f [] e

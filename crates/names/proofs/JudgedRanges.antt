@@ -1,13 +1,13 @@
 -- Ranges: the ends as integers, and as numbers with 1,000 added.
 use mathlib.Core.Path.{_≡_, refl, ap, ap₂, _∙_, sym}
 use mathlib.Core.Bool.{Bool, true, false, _&&_, cond}
-use Prim.Native.Nat.{ℕ, zero, suc, _+_, _-_, _≤_, _<_}
+use Prim.Native.Nat.{ℕ, zero, suc, _+_, _-_, _≤_}
 use native.Mathlib.Omega.{arith}
 use lib.Dec.{leb, ltb}
-use lib.IntN.{ℤ, pos, negsuc, negℤ, _-ℤ_, subℕ}
-use lib.Signed.{leZ, ltZ}
-use borrow.Author.Tests.{leb-true, leb-false, le-leb, lt-leb, ltb-true, ltb-false, lt-ltb, le-ltb}
-use Rattle.form.specs.Tree.{End, Range}
+use lib.IntN.{ℤ, pos, negsuc, subℕ}
+use lib.Signed.{ltZ}
+use borrow.Author.Tests.{leb-true, leb-false, le-leb, lt-leb, le-ltb}
+use Rattle.form.specs.Tree.{Range}
 use Rattle.form.specs.Codes.{endNumber, endWidth}
 use Rattle.reader.specs.Carriers.{signed, endValue}
 use Rattle.reader.specs.Names as names

@@ -1,25 +1,24 @@
 -- Given sets found by name, and the scope inside a binder: the table of names that has the bound name in it shows it.
-use mathlib.Core.Path.{_≡_, refl, ap, ap₂, _∙_, sym, subst}
-use mathlib.Core.Bool.{Bool, true, false, not, _&&_, cond}
+use mathlib.Core.Path.{_≡_, refl, ap, _∙_, sym, subst}
+use mathlib.Core.Bool.{Bool, true, false, not}
 use mathlib.Core.List.{List, [], _∷_, map}
 use mathlib.Core.Option.{Option, none, some}
-use Prim.Native.Nat.{ℕ, zero, suc, _+_, _*_, _≤_, _<_}
+use Prim.Native.Nat.{ℕ, suc}
 use native.Mathlib.Omega.{arith}
-use lib.Dec.{eqb, leb, ltb}
-use lib.ListN.{length, getD, set, length-set}
+use lib.ListN.{getD, set, length-set}
 use lib.Seq.{getD-set-same, getD-set-other}
-use borrow.Author.Tests.{eqb-true, eqb-false, ne-eqb, eq-eqb, le-leb, lt-ltb}
+use borrow.Author.Tests.{ne-eqb}
 use Rattle.symbols.specs.Lists.{same, any, find}
 use Rattle.symbols.specs.Symbols.{Name, Ending, noEnding, prime, query, shriek}
 use Rattle.symbols.proofs.WordLaws.{same-refl, same-true}
 use Rattle.form.specs.Tree.{Letters, Given}
 use Rattle.form.specs.Codes.{Numbering, numberOfName, nameNumber}
 use Rattle.reader.specs.Carriers.{Carrier, Variable, sizeOf, sameName, plain, givenOf}
-use Rattle.reader.specs.Types.{Ty, typeOf}
+use Rattle.reader.specs.Types.{typeOf}
 use Rattle.reader.specs.Scope.{Scope, isTaken, typeOfName, binding}
-use Rattle.names.specs.Inner.{Names, Sizes, entry, isFree, isGiven, isElement, elementOf}
-use Rattle.names.proofs.Showing.{indexOf, titled, typeCode, Known, GivenIs, TypeIs, Numbered, Shows}
-use Rattle.names.proofs.JudgedTypes.{no-yes, index-in, code-positive, code-not-given}
+use Rattle.names.specs.Inner.{Names, Sizes, entry, isFree, isGiven}
+use Rattle.names.proofs.Showing.{indexOf, titled, GivenIs, TypeIs, Numbered, Shows}
+use Rattle.names.proofs.JudgedTypes.{no-yes, code-positive, code-not-given}
 
 pub any-here : {A : Type 0} (f : A → Bool) (x : A) (xs : List A) → f x ≡ true → any f (x ∷ xs) ≡ true
 unfolding any

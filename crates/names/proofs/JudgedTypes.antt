@@ -1,11 +1,11 @@
 -- Types by numbers: the tests of the definitions on types over given sets that there are, and those of the pass on their numbers.
 use mathlib.Core.Path.{_≡_, refl, ap, ap₂, _∙_, sym, subst}
-use mathlib.Core.Bool.{Bool, true, false, _&&_, _||_, cond}
+use mathlib.Core.Bool.{Bool, true, false, _&&_, _||_}
 use mathlib.Core.List.{List, [], _∷_}
 use mathlib.Core.Option.{some}
-use Prim.Native.Nat.{ℕ, zero, suc, _+_, _-_, _*_, _/_, _%_, _≤_, _<_}
+use Prim.Native.Nat.{ℕ, zero, suc, _+_, _*_, _≤_, _<_}
 use native.Mathlib.Omega.{arith}
-use lib.Dec.{eqb, leb, ltb}
+use lib.Dec.{eqb}
 use lib.ListN.{length}
 use borrow.Author.Tests.{eqb-true, eqb-false, ne-eqb, eq-eqb, le-leb, lt-leb, lt-ltb, le-ltb}
 use Rattle.symbols.specs.Lists.{same, any}

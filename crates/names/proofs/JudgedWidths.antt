@@ -1,25 +1,23 @@
 -- How many symbols a tree has: the length of what it is written with, and how far the judgement of it goes. Its faults have numbers below 16.
-use mathlib.Core.Path.{_≡_, refl, ap, _∙_, sym}
-use mathlib.Core.Bool.{Bool, true, false, not, cond}
+use mathlib.Core.Path.{_≡_, refl}
+use mathlib.Core.Bool.{Bool, true, false, cond}
 use mathlib.Core.List.{List, [], _∷_, _++_}
 use mathlib.Core.Option.{Option, none, some}
-use Prim.Native.Nat.{ℕ, zero, suc, _+_, _*_, _≤_, _<_}
+use Prim.Native.Nat.{ℕ, suc, _+_, _<_}
 use native.Mathlib.Omega.{arith}
-use lib.Dec.{leb}
 use lib.ListN.{length}
 use Rattle.symbols.specs.Kinds as kind
-use Rattle.symbols.specs.Symbols.{noEnding}
 use Rattle.symbols.specs.Refusals.{Fault, fault, numberOf, nameInUse, nameUnknown, typesMisfit, wideType, zeroDivisor}
-use Rattle.form.specs.Tree.{Letters, End, Range, Domain, givenSet, range, Given, Connective, and, or, implies, iff}
+use Rattle.form.specs.Tree.{Letters, End, Range, Domain, givenSet, range, Given}
 use Rattle.form.specs.Tree.{Term, number, name, group, prefix, binary, divided, listed, pairs, such, emptySet, emptyPairs, Items, only, also, Pairs, onlyPair, alsoPair}
 use Rattle.form.specs.Tree.{Pred, truth, falsity, negation, paren, quantified, connected, compared, member, within, related}
-use Rattle.form.specs.Written.{Written, bare, opening, used, declared, digits, binds, minusOf, writeEnd, writeRange, writeDomain, connective, rightDepth, writeTerm, writeItems, writePairs, writePred}
-use Rattle.form.specs.Written.{operatorKind, divisionKind, quantifierKind, comparisonKind, membershipKind}
+use Rattle.form.specs.Written.{Written, bare, digits, minusOf, writeEnd, writeRange, writeDomain, connective, rightDepth, writeTerm, writeItems, writePairs, writePred}
+use Rattle.form.specs.Written.{operatorKind, divisionKind, comparisonKind, membershipKind}
 use Rattle.form.specs.Codes.{endWidth, termWidth, predWidth, domainWidth}
-use Rattle.reader.specs.Carriers.{sizeOf, givenOf}
+use Rattle.reader.specs.Carriers.{givenOf}
 use Rattle.reader.specs.Types.{Ty, pairsFit, pairsType}
 use Rattle.reader.specs.Scope.{Scope, typeOfName, binding}
-use Rattle.reader.specs.Names.{Judged, Listing, Checked, whole, inside, ofName, known, rangeLength, rangeFaults, pairsFault, divisorFaults, newName, domainFaults, domainCarrier, domainLength}
+use Rattle.reader.specs.Names.{Listing, ofName, known, rangeFaults, pairsFault, divisorFaults, newName, domainFaults, domainCarrier, domainLength}
 use Rattle.reader.specs.Names.{overFault, wholePairs, judgedPairs, judgeTerm, judgeItems, judgePairs, judgePred}
 use Rattle.names.proofs.JudgedLeast.{Small, small-append, small-unless, small-whole, small-inside, no-fault, one-more}
 

@@ -6,3 +6,8 @@ pub mod JudgedRanges
 pub mod JudgedTypes
 pub mod JudgedScope
 pub mod JudgedBraces
+pub mod JudgedBinders
+pub mod JudgedParts
+pub mod JudgedTerms
+pub mod JudgedPreds
+pub mod Judged

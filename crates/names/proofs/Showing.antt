@@ -1,18 +1,18 @@
 -- What the numbers of the pass stand for: the scope that a table of names shows, and the type that a number is.
 use mathlib.Core.Path.{_≡_}
-use mathlib.Core.Bool.{Bool, true, false, not, cond}
+use mathlib.Core.Bool.{Bool, true, false, not}
 use mathlib.Core.List.{List, [], _∷_, map}
 use mathlib.Core.Option.{Option, none, some}
-use Prim.Native.Nat.{ℕ, zero, suc, _+_, _*_, _≤_, _<_}
+use Prim.Native.Nat.{ℕ, suc, _+_, _*_, _≤_, _<_}
 use lib.ListN.{length, getD}
 use Rattle.symbols.specs.Lists.{same, any}
 use Rattle.symbols.specs.Symbols.{Name, noEnding}
 use Rattle.symbols.specs.Refusals.{Fault, numberOf, least}
-use Rattle.form.specs.Tree.{Letters, Given, End, Range, Domain, givenSet, range}
+use Rattle.form.specs.Tree.{Letters, Given, Range, Domain, givenSet, range}
 use Rattle.form.specs.Tree.{Term, number, name, group, prefix, binary, divided, listed, pairs, such, emptySet, emptyPairs, Items, only, also, Pairs, onlyPair, alsoPair}
 use Rattle.form.specs.Tree.{Pred, truth, falsity, negation, paren, quantified, connected, compared, member, within, related}
 use Rattle.form.specs.Codes.{Numbering, numberOfName, nameNumber}
-use Rattle.reader.specs.Carriers.{sizeOf, givenOf, plain}
+use Rattle.reader.specs.Carriers.{sizeOf, givenOf}
 use Rattle.reader.specs.Types as ty
 use Rattle.reader.specs.Types.{Ty, Sort}
 use Rattle.reader.specs.Scope.{Scope, isTaken, typeOfName}

@@ -11,3 +11,4 @@ pub mod JudgedParts
 pub mod JudgedTerms
 pub mod JudgedPreds
 pub mod Judged
+pub mod PassedPlaces

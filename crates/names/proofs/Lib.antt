@@ -12,3 +12,4 @@ pub mod JudgedTerms
 pub mod JudgedPreds
 pub mod Judged
 pub mod PassedPlaces
+pub mod PassedOrder

@@ -13,3 +13,4 @@ pub mod JudgedPreds
 pub mod Judged
 pub mod PassedPlaces
 pub mod PassedOrder
+pub mod PassedTables

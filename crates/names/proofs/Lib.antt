@@ -14,3 +14,4 @@ pub mod Judged
 pub mod PassedPlaces
 pub mod PassedOrder
 pub mod PassedTables
+pub mod PassedTypes

@@ -15,3 +15,4 @@ pub mod PassedPlaces
 pub mod PassedOrder
 pub mod PassedTables
 pub mod PassedTypes
+pub mod PassedDeclared

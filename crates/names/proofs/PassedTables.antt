@@ -107,8 +107,8 @@ module _ (ρ : Numbering) (P : Letters → Type 0) (ν : Numbered ρ P) where
           uses = changed T (s .long) x px k (λ (y : Name) (n : ℕ). isFree n ≡ not (u′ y)) (w .use-is) (λ y py e. s .uses y py ∙ ap not (sym (h y e .0)));
           givens = changed T (s .long) x px k (λ (y : Name) (n : ℕ). GivenIs gs (givenOf gs y) n) (w .given-is) (λ y py e. s .givens y py);
           typed =
-            changed T (s .long) x px k (λ (y : Name) (n : ℕ). TypeIs gs (r′ y) n) (w .type-is)
-            (λ y py e. subst (λ (o : Option Ty). TypeIs gs o (entry T (nameNumber ρ y))) (sym (h y e .1)) (s .typed y py));
+              changed T (s .long) x px k (λ (y : Name) (n : ℕ). TypeIs gs (r′ y) n) (w .type-is)
+              (λ y py e. subst (λ (o : Option Ty). TypeIs gs o (entry T (nameNumber ρ y))) (sym (h y e .1)) (s .typed y py));
         }
 
     pub sees-same : {T : Names} {u u′ : Name → Bool} {r r′ : Name → Option Ty} → Sees ρ P gs T u r → ((y : Name) → (u y ≡ u′ y) × (r y ≡ r′ y)) → Sees ρ P gs T u′ r′

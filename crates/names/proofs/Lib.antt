@@ -16,3 +16,4 @@ pub mod PassedOrder
 pub mod PassedTables
 pub mod PassedTypes
 pub mod PassedDeclared
+pub mod PassedUse

@@ -87,7 +87,7 @@ module _ (ρ : Numbering) (P : Letters → Type 0) (ν : Numbered ρ P) where
   module _ (gs : List Given) where
     module _ (T : Names) (long : 16384 ≤ length T) (x : Name) (px : P (x .letters)) (k : ℕ) where
       -- a claim of each name and its entry, after a change at x
-      changed : (Q : Name → ℕ → Type 0) → Q x k → ((y : Name) → P (y .letters) → sameName x y ≡ false → Q y (entry T (nameNumber ρ y)))
+      pub changed : (Q : Name → ℕ → Type 0) → Q x k → ((y : Name) → P (y .letters) → sameName x y ≡ false → Q y (entry T (nameNumber ρ y)))
           → (y : Name) → P (y .letters) → Q y (entry (set T (nameNumber ρ x) k) (nameNumber ρ y))
       changed Q here there y py = on (sameName x y) refl
         where

@@ -17,3 +17,4 @@ pub mod PassedTables
 pub mod PassedTypes
 pub mod PassedDeclared
 pub mod PassedUse
+pub mod PassedGivens

@@ -18,3 +18,4 @@ pub mod PassedTypes
 pub mod PassedDeclared
 pub mod PassedUse
 pub mod PassedGivens
+pub mod PassedNamed

@@ -82,13 +82,13 @@ pub record Holds (ρ : Numbering) (P : Letters → Type 0) (T : Names) (f : Name
   pub are : (y : Name) → P (y .letters) → entry T (nameNumber ρ y) ≡ f y
 
 -- the entries tell which names are in use
-abbrev Marks : (Name → ℕ) → List Letters → Type 0
+abbrev pub Marks : (Name → ℕ) → List Letters → Type 0
 Marks f xs = (y : Name) → isFree (f y) ≡ not (inUse xs y)
 
-abbrev entered : Name → ℕ → (Name → ℕ) → Name → ℕ
+abbrev pub entered : Name → ℕ → (Name → ℕ) → Name → ℕ
 entered x k f y = cond (sameName x y) k (f y)
 
-abbrev givenEntered : Given → ℕ → (Name → ℕ) → Name → ℕ
+abbrev pub givenEntered : Given → ℕ → (Name → ℕ) → Name → ℕ
 givenEntered g k f y = cond (inUse (elements g) y) (16 + k) (entered (plain (g .title)) (8 + k) f y)
 
 unfoldable pub namedBy : List Given → ℕ → (Name → ℕ) → Name → ℕ

@@ -19,3 +19,4 @@ pub mod PassedDeclared
 pub mod PassedUse
 pub mod PassedGivens
 pub mod PassedNamed
+pub mod PassedStates

@@ -20,3 +20,4 @@ pub mod PassedUse
 pub mod PassedGivens
 pub mod PassedNamed
 pub mod PassedStates
+pub mod PassedScopes

@@ -152,6 +152,14 @@ given-names-use (g ∷ gs) y = on (sameName (plain (g .title)) y) refl (inUse (e
         any-there (λ (x : Letters). sameName (plain x) y) (g .title) (elements g ++ givenNames gs) p ∙ h ∙ ap (λ (c : Bool). cond c true (inUse (givenNames gs) y)) q ∙ k
         ∙ sym (ap₂ (λ (o r : Option Given). cond (isSome o) true (isSome r)) (element-there g gs y q) (title-there g gs y p))
 
+-- a title is in use
+pub title-taken : (gs : List Given) (l : Letters) (g : Given) → givenOf gs (plain l) ≡ some g → inUse (givenNames gs) (plain l) ≡ true
+title-taken gs l g e = given-names-use gs (plain l) ∙ ap (λ (o : Option Given). cond (isSome (elementOf gs (plain l))) true (isSome o)) e ∙ on (isSome (elementOf gs (plain l)))
+  where
+    on : (b : Bool) → cond b true true ≡ true
+    on true = refl
+    on false = refl
+
 -- the type of a name where no variables are in reach
 abbrev pub elementType : List Given → Name → Option Ty
 elementType gs y = typeOfName (record { givens = gs; taken = []; reach = [] }) y

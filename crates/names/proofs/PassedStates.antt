@@ -59,7 +59,7 @@ declarations-length n [] w = omega arith
 declarations-length n (d ∷ ds) w =
     omega (arith, type-length (d .type) (bare kind.semicolon ∷ writeDeclarations (suc n) ds w), declarations-length (suc n) ds w)
 
-abbrev namesOf : List Declaration → List Letters
+abbrev pub namesOf : List Declaration → List Letters
 namesOf ds = map (λ (d : Declaration). d .declared) ds
 
 pub typed-use : (ds : List Declaration) (y : Name) → hasTyped (variablesOf noEnding ds) y ≡ inUse (namesOf ds) y

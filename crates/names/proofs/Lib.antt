@@ -21,3 +21,4 @@ pub mod PassedGivens
 pub mod PassedNamed
 pub mod PassedStates
 pub mod PassedScopes
+pub mod PassedConditions

@@ -22,3 +22,4 @@ pub mod PassedNamed
 pub mod PassedStates
 pub mod PassedScopes
 pub mod PassedConditions
+pub mod PassedParameters

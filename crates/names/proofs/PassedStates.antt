@@ -67,7 +67,7 @@ unfolding variablesOf any
 typed-use [] y = refl
 typed-use (d ∷ ds) y = ap (λ (b : Bool). elim (sameName (plain (d .declared)) y) as (λ (c : Bool). Bool) [ true ↦ true | false ↦ b ]) (typed-use ds y)
 
-variables-one : (gs : List Given) (e : Ending) (d : Declaration) (ds : List Declaration) (c : Carrier) → carrierOf gs (d .type) ≡ some c
+pub variables-one : (gs : List Given) (e : Ending) (d : Declaration) (ds : List Declaration) (c : Carrier) → carrierOf gs (d .type) ≡ some c
     → variables gs e (d ∷ ds) ≡ record { called = record { letters = d .declared; ending = e }; carrier = c } ∷ variables gs e ds
 unfolding variables
 variables-one gs e d ds c h = rw (variables, h)

@@ -23,3 +23,4 @@ pub mod PassedStates
 pub mod PassedScopes
 pub mod PassedConditions
 pub mod PassedParameters
+pub mod PassedReach

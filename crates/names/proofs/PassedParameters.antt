@@ -91,6 +91,14 @@ other-none gs e (d ∷ ds) y h = on (carrierOf gs (d .type)) refl (other-none gs
         ap (λ (vs : List Variable). found vs y) (variables-one gs e d ds c k)
         ∙ find-there (λ (w : Variable). sameName (w .called) y) (record { called = nameOf (d .declared) e; carrier = c }) (variables gs e ds) (h (d .declared)) ∙ r
 
+pub inputs-none : (gs : List Given) (ps : List Parameter) (y : Name) → ((x : Letters) → sameName (nameOf x query) y ≡ false) → found (scopes.parametersOf gs inward ps) y ≡ none
+unfolding scopes.parametersOf
+inputs-none gs ps y h = other-none gs query (map (λ (x : Parameter). x .declaration) (filter (λ (x : Parameter). scopes.isInput (x .direction)) ps)) y h
+
+pub outputs-none : (gs : List Given) (ps : List Parameter) (y : Name) → ((x : Letters) → sameName (nameOf x shriek) y ≡ false) → found (scopes.parametersOf gs outward ps) y ≡ none
+unfolding scopes.parametersOf
+outputs-none gs ps y h = other-none gs shriek (map (λ (x : Parameter). x .declaration) (filter (λ (x : Parameter). scopes.isOutput (x .direction)) ps)) y h
+
 -- ---- primes ----
 
 pub record Primed (P : Letters → Type 0) (gs : List Given) (u : Name → Bool) (ds : List Declaration) : Type 0 where
@@ -178,13 +186,13 @@ module _ (gs : List Given) (l : Letters) where
   output-one inward d ps k e vs h =
       find-there (λ (w : Variable). sameName (w .called) (nameOf l shriek)) (record { called = nameOf (d .declared) query; carrier = k }) vs refl ∙ h
 
-  inputs-found : {P : Letters → Type 0} (ps : List Parameter) {vs : List Variable} → Carried P gs (parametersOf ps) vs
+  pub inputs-found : {P : Letters → Type 0} (ps : List Parameter) {vs : List Variable} → Carried P gs (parametersOf ps) vs
       → found vs (nameOf l query) ≡ found (scopes.parametersOf gs inward ps) (nameOf l query)
   unfolding scopes.parametersOf filter parametersOf variables find
   inputs-found [] no-carried = refl
   inputs-found (x ∷ ps) (one-carried {vs = vs} c i p q e f g h) = input-one (x .direction) (x .declaration) ps c f vs (inputs-found ps h)
 
-  outputs-found : {P : Letters → Type 0} (ps : List Parameter) {vs : List Variable} → Carried P gs (parametersOf ps) vs
+  pub outputs-found : {P : Letters → Type 0} (ps : List Parameter) {vs : List Variable} → Carried P gs (parametersOf ps) vs
       → found vs (nameOf l shriek) ≡ found (scopes.parametersOf gs outward ps) (nameOf l shriek)
   unfolding scopes.parametersOf filter parametersOf variables find
   outputs-found [] no-carried = refl

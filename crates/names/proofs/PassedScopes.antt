@@ -75,6 +75,25 @@ titles-spelt no-givens k h = absurd (omega arith)
 titles-spelt (one-given p q r) zero h = p
 titles-spelt (one-given p q r) (suc k) h = titles-spelt r k (omega arith)
 
+-- the entry of a name in use and out of reach, and of one not in use
+pub used-sits : (gs : List Given) (u : Name → Bool) (r : Name → Option Ty) (y : Name) → u y ≡ true → r y ≡ none → givenOf gs y ≡ none → Sits gs u r y 2
+unfolding isFree isGiven inReach isNumber
+used-sits gs u r y e f k =
+    record {
+      use-is = sym (ap not e);
+      given-is = subst (λ (o : Option Given). GivenIs gs o 2) (sym k) refl;
+      type-is = subst (λ (o : Option Ty). TypeIs gs o 2) (sym f) refl;
+    }
+
+pub free-sits : (gs : List Given) (u : Name → Bool) (r : Name → Option Ty) (y : Name) → u y ≡ false → r y ≡ none → givenOf gs y ≡ none → Sits gs u r y 0
+unfolding isFree isGiven inReach isNumber
+free-sits gs u r y e f k =
+    record {
+      use-is = sym (ap not e);
+      given-is = subst (λ (o : Option Given). GivenIs gs o 0) (sym k) refl;
+      type-is = subst (λ (o : Option Ty). TypeIs gs o 0) (sym f) refl;
+    }
+
 module _ (ρ : Numbering) (P : Letters → Type 0) (ν : Numbered ρ P) {gs : List Given} (p : GivensIn P gs) (z : Sizes) (d : Sized gs z) where
   -- the scope that a table shows
   pub shows : {T : Names} {u : Name → Bool} {r : Name → Option Ty} → Sees ρ P gs T u r → (xs : List Letters) (vs : List Variable) → TitlesIn gs xs
@@ -122,21 +141,12 @@ module _ (ρ : Numbering) (P : Letters → Type 0) (ν : Numbered ρ P) {gs : Li
         sees-same ρ P ν gs (shown-sees ρ P ν gs z d (g .carried) s)
         (λ y. (used-after (variables gs noEnding ds) u y ∙ ap (λ (b : Bool). cond b true (u y)) (sym (group-names y)) ∙ h y, after-found (g .fresh) r y))
 
-    two-sits : (u : Name → Bool) (r : Name → Option Ty) (y : Name) → u y ≡ true → r y ≡ none → givenOf gs y ≡ none → Sits gs u r y 2
-    unfolding isFree isGiven inReach isNumber
-    two-sits u r y e f k =
-        record {
-          use-is = sym (ap not e);
-          given-is = subst (λ (o : Option Given). GivenIs gs o 2) (sym k) refl;
-          type-is = subst (λ (o : Option Ty). TypeIs gs o 2) (sym f) refl;
-        }
-
     -- they go out of reach, and stay in use
     pub group-hidden : {T : Names} {u′ : Name → Bool} {r′ : Name → Option Ty} → Sees ρ P gs T u′ r′ → (u : Name → Bool) (r : Name → Option Ty)
         → ((y : Name) → hasTyped (variablesOf noEnding ds) y ≡ false → (u′ y ≡ u y) × (r′ y ≡ r y))
         → ((y : Name) → hasTyped (variablesOf noEnding ds) y ≡ true → (u y ≡ true) × (r y ≡ none)) → Sees ρ P gs (hidden (variablesOf noEnding ds) 0 2 T ρ) u r
     group-hidden s u r h k =
-        hidden-sees ρ P ν gs z d (g .carried) 2 s h (λ y e. two-sits u r y (k y e .0) (k y e .1) (g .away y e .0))
+        hidden-sees ρ P ν gs z d (g .carried) 2 s h (λ y e. used-sits gs u r y (k y e .0) (k y e .1) (g .away y e .0))
 
   -- ---- a state ----
 

@@ -24,3 +24,4 @@ pub mod PassedScopes
 pub mod PassedConditions
 pub mod PassedParameters
 pub mod PassedReach
+pub mod PassedOperations

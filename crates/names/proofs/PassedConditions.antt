@@ -56,7 +56,7 @@ where-length p w = omega (arith, pred-length p 0 0 (bare kind.END ∷ w))
 abbrev pub AreUsed : List Declaration → List Letters → Type 0
 AreUsed ds us = (y : Name) → hasTyped (variablesOf noEnding ds) y ≡ true → inUse us y ≡ true
 
-use-same : (b c : Bool) → (b ≡ true → c ≡ true) → cond b true c ≡ c
+pub use-same : (b c : Bool) → (b ≡ true → c ≡ true) → cond b true c ≡ c
 use-same true c h = sym (h refl)
 use-same false c h = refl
 

@@ -9,7 +9,7 @@ use borrow.Author.Tests.{eqb-true, ne-eqb, ltb-true, ltb-false, lt-ltb, le-ltb}
 use Rattle.symbols.specs.Refusals.{Fault, fault, numberOf, least}
 use Rattle.names.specs.Inner.{key, lesser, insideKey}
 use Rattle.names.proofs.Showing.{leastKey}
-use Rattle.names.proofs.JudgedLeast.{Small, no-fault, one-more, lesser-zero, least-append, least-nil, one-fault}
+use Rattle.names.proofs.JudgedLeast.{Small, no-fault, one-more, lesser-zero, lesser-assoc, least-append, least-nil, one-fault}
 use Rattle.names.proofs.PassedPlaces.{Within, nowhere, at-place, within-small}
 
 zero-lesser : (b : ℕ) → lesser 0 b ≡ b
@@ -39,6 +39,36 @@ lesser-comm (suc a) (suc b) = on (ltb b a) refl (ltb a b) refl
 
 pub swap-parts : {xs ys : List Fault} → Small xs → Small ys → leastKey (xs ++ ys) ≡ leastKey (ys ++ xs)
 swap-parts {xs} {ys} h k = least-append h k ∙ lesser-comm (leastKey xs) (leastKey ys) ∙ sym (least-append k h)
+
+-- two of four change places
+medial : (a b c e : ℕ) → lesser (lesser a b) (lesser c e) ≡ lesser (lesser a c) (lesser b e)
+medial a b c e =
+    lesser-assoc a b (lesser c e) ∙ ap (lesser a) (sym (lesser-assoc b c e) ∙ ap (λ (n : ℕ). lesser n e) (lesser-comm b c) ∙ lesser-assoc c b e)
+    ∙ sym (lesser-assoc a c (lesser b e))
+
+-- what is behind goes before
+before : (a c e : ℕ) → lesser a (lesser c e) ≡ lesser c (lesser a e)
+before a c e = sym (lesser-assoc a c e) ∙ ap (λ (n : ℕ). lesser n e) (lesser-comm a c) ∙ lesser-assoc c a e
+
+-- an operation's declarations and predicates, and those of the operations behind it
+pub operation-order : (n q a c f g : ℕ)
+    → lesser (lesser n (lesser q (lesser a c))) (lesser f g) ≡ lesser (lesser (lesser n q) f) (lesser a (lesser c g))
+operation-order n q a c f g =
+    ap (λ (m : ℕ). lesser m (lesser f g)) (sym (lesser-assoc n q (lesser a c))) ∙ medial (lesser n q) (lesser a c) f g
+    ∙ ap (lesser (lesser (lesser n q) f)) (lesser-assoc a c g)
+
+-- the parts of a dossier
+pub dossier-order : (g da pa dc pc ai ci re f k : ℕ)
+    → lesser g (lesser (lesser da pa) (lesser (lesser dc pc) (lesser (lesser ai (lesser ci re)) (lesser f k))))
+    ≡ lesser (lesser (lesser (lesser g da) dc) f) (lesser pa (lesser pc (lesser ai (lesser ci (lesser re k)))))
+dossier-order g da pa dc pc ai ci re f k =
+    let five : lesser (lesser ai (lesser ci re)) (lesser f k) ≡ lesser f (lesser ai (lesser ci (lesser re k)))
+    = before (lesser ai (lesser ci re)) f k ∙ ap (lesser f) (lesser-assoc ai (lesser ci re) k ∙ ap (lesser ai) (lesser-assoc ci re k)) in
+    ap (λ (n : ℕ). lesser g (lesser (lesser da pa) n)) (ap (lesser (lesser dc pc)) five ∙ medial dc pc f (lesser ai (lesser ci (lesser re k))))
+    ∙ ap (lesser g) (medial da pa (lesser dc f) (lesser pc (lesser ai (lesser ci (lesser re k)))))
+    ∙ sym (lesser-assoc g (lesser da (lesser dc f)) (lesser pa (lesser pc (lesser ai (lesser ci (lesser re k))))))
+    ∙ ap (λ (n : ℕ). lesser n (lesser pa (lesser pc (lesser ai (lesser ci (lesser re k))))))
+    (sym (lesser-assoc g da (lesser dc f)) ∙ sym (lesser-assoc (lesser g da) dc f))
 
 -- ---- places ----
 

@@ -26,7 +26,7 @@ use Rattle.names.proofs.PassedUse.{inUse, use-here}
 use Rattle.names.proofs.PassedGivens.{GivensIn}
 use Rattle.names.proofs.PassedNamed.{elementType, Base}
 use Rattle.names.proofs.PassedScopes.{Group, group-none, group-shown, group-hidden, used-sits, free-sits}
-use Rattle.names.proofs.PassedConditions.{AreUsed, found-append}
+use Rattle.names.proofs.PassedConditions.{AreUsed, use-same, found-append}
 use Rattle.names.proofs.PassedParameters.{nameOf, no-so, use-ending, variables-ending, parameters-ending, other-none, inputs-none, outputs-none, Primed, primed, shown-primed, hidden-primed, inputs-found, outputs-found}
 
 -- ---- the definitions' order of the lists ----
@@ -146,6 +146,17 @@ module _ (ρ : Numbering) (P : Letters → Type 0) (ν : Numbered ρ P) {gs : Li
 
       prime-none : (y : Name) → hasTyped (variablesOf prime ds) y ≡ false → hasName (variables gs prime ds) y ≡ false
       prime-none y e = sym (carried-names (primes .carried) y) ∙ e
+
+      -- the plain names in use are those of before
+      pub reaching-uses : (l : Letters)
+          → cond (hasName (variables gs prime ds) (plain l)) true (cond (hasTyped (variablesOf noEnding ds) (plain l)) true (cond (hasName (c .variables) (plain l)) true (inUse us (plain l))))
+          ≡ inUse us (plain l)
+      reaching-uses l =
+          let m = prime-none (plain l) (no-so (hasTyped (variablesOf prime ds) (plain l)) (λ h. omega (arith, variables-ending prime ds (plain l) h))) in
+          let n : hasName (c .variables) (plain l) ≡ false
+          = sym (carried-names (c .carried) (plain l)) ∙ no-so (hasTyped (parametersOf ps) (plain l)) (λ h. omega (arith, parameters-ending ps (plain l) h)) in
+          ap₂ (λ (x y : Bool). cond x true (cond (hasTyped (variablesOf noEnding ds) (plain l)) true (cond y true (inUse us (plain l))))) m n
+          ∙ use-same (hasTyped (variablesOf noEnding ds) (plain l)) (inUse us (plain l)) (used (plain l))
 
       plain-left : (y : Name) → hasTyped (variablesOf noEnding ds) y ≡ true
           → (cond (hasName (variables gs prime ds) y) true (cond (hasName (c .variables) y) true (inUse us y)) ≡ true)

@@ -25,3 +25,4 @@ pub mod PassedConditions
 pub mod PassedParameters
 pub mod PassedReach
 pub mod PassedOperations
+pub mod PassedDossier

@@ -43,10 +43,10 @@ use Rattle.names.proofs.PassedReach.{operation-reach, title-named, para
 abbrev pub reachIn : List Given → List Declaration → List Parameter → List Variable
 reachIn gs ds ps = variables gs noEnding ds ++ variables gs prime ds ++ scopes.parametersOf gs inward ps ++ scopes.parametersOf gs outward ps
 
-abbrev abstractFaults : List Given → List Declaration → List Letters → ℕ → Operation → List Fault
+abbrev pub abstractFaults : List Given → List Declaration → List Letters → ℕ → Operation → List Fault
 abstractFaults gs av us i o = judgePred (o .abstractly) (scope gs (o .title ∷ us) (reachIn gs av (o .parameters))) (abstractlyAt i o) .faults
 
-abbrev concreteFaults : List Given → List Declaration → List Letters → ℕ → Operation → List Fault
+abbrev pub concreteFaults : List Given → List Declaration → List Letters → ℕ → Operation → List Fault
 concreteFaults gs cv us i o =
     judgePred (o .concretely) (scope gs (o .title ∷ us) (reachIn gs cv (o .parameters))) (suc (abstractlyAt i o) + predWidth (o .abstractly)) .faults
 
@@ -79,7 +79,7 @@ module _ (gs : List Given) (av cv : List Declaration) (us : List Letters) (i : �
   unfolding any
   parameters-are = parameters-typed gs [] (i + 2) (o .parameters) (inUse (o .title ∷ us)) (λ y. parameter-unused (o .title ∷ us) y)
 
-  parameters-within : Within (i + 2) (i + 2 + typedWidth (parametersOf (o .parameters))) (parameterFaults gs [] (i + 2) (o .parameters))
+  pub parameters-within : Within (i + 2) (i + 2 + typedWidth (parametersOf (o .parameters))) (parameterFaults gs [] (i + 2) (o .parameters))
   parameters-within =
       subst (Within (i + 2) (i + 2 + typedWidth (parametersOf (o .parameters)))) (sym parameters-are) (typed-within gs (inUse (o .title ∷ us)) (i + 2) (parametersOf (o .parameters)))
 
@@ -104,7 +104,7 @@ module _ (gs : List Given) (av cv : List Declaration) (us : List Letters) (i : �
   title-within : Within i (i + 2) (newName us (o .title) (suc i))
   title-within = within-new us (o .title) (suc i) (omega arith) (omega arith)
 
-  text-within : Within i (i + operationLength o) (textOf gs av cv us i o)
+  pub text-within : Within i (i + operationLength o) (textOf gs av cv us i o)
   unfolding textOf
   text-within = let l = operation-length o in within-append (wider _ _ title-within (omega arith) (omega arith)) (wider _ _ behind-title (omega arith) (omega arith))
 

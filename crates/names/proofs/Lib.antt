@@ -26,3 +26,4 @@ pub mod PassedParameters
 pub mod PassedReach
 pub mod PassedOperations
 pub mod PassedDossier
+pub mod Passed

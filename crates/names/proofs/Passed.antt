@@ -1,6 +1,6 @@
 -- The first fault that the pass finds by numbers is the least fault of the definitions.
-use mathlib.Core.Path.{_≡_, refl, ap, _∙_, sym}
-use mathlib.Core.List.{List, [], _∷_, _++_, map}
+use mathlib.Core.Path.{_≡_, refl, _∙_, sym}
+use mathlib.Core.List.{List, [], _++_, map}
 use Prim.Native.Nat.{ℕ, suc, _+_, _≤_, _<_}
 use native.Mathlib.Omega.{arith}
 use lib.ListN.{length, getD}
@@ -8,26 +8,26 @@ use mathlib.Core.Bool.{not}
 use Rattle.symbols.specs.Lists.{any, concat}
 use Rattle.symbols.specs.Symbols.{Name, noEnding}
 use Rattle.symbols.specs.Refusals.{Fault}
-use Rattle.form.specs.Tree.{Letters, Given, declarations, Dossier}
+use Rattle.form.specs.Tree.{Letters, declarations, Dossier}
 use Rattle.form.specs.Headings.{givensAt, abstractAt, concreteAt, ainitAt, cinitAt, retrieveAt, operationsAt}
 use Rattle.form.specs.Codes.{Numbering}
 use Rattle.reader.specs.Carriers.{Variable, sizeOf}
-use Rattle.reader.specs.Scope.{variables, givenNames, stateNames, abstractTaken, concreteTaken, operationContexts, contexts}
-use Rattle.reader.specs.Names.{givenFaults, declarationFaults, operationFaults, contextFaults, judgePred, nameFaults}
+use Rattle.reader.specs.Scope.{variables, givenNames, stateNames, abstractTaken, concreteTaken, contexts}
+use Rattle.reader.specs.Names.{givenFaults, declarationFaults, contextFaults, judgePred, nameFaults}
 use Rattle.names.specs.Inner.{Names, Sizes, entry, isFree}
-use Rattle.names.specs.Passes.{variablesOf, predicateAt, givensNamed, stateNamed, conditionsNamed, dossierKey}
+use Rattle.names.specs.Passes.{variablesOf, predicateAt, dossierKey}
 use Rattle.names.proofs.Showing.{Numbered, PredIn, leastKey}
 use Rattle.names.proofs.JudgedLeast.{append-nil-both}
-use Rattle.names.proofs.JudgedWidths.{widePred, pred-steady}
+use Rattle.names.proofs.JudgedWidths.{pred-steady}
 use Rattle.names.proofs.PassedPlaces.{Within, within-small, within-append, pred-within, wider}
 use Rattle.names.proofs.PassedOrder.{behind}
 use Rattle.names.proofs.PassedTypes.{Sized}
 use Rattle.names.proofs.PassedDeclared.{TypedIn}
 use Rattle.names.proofs.PassedUse.{inUse, use-left, use-right}
-use Rattle.names.proofs.PassedGivens.{GivensIn, Holds, givensWidth, givens-length, givens-within, givens-least}
-use Rattle.names.proofs.PassedNamed.{Base, givens-sees}
+use Rattle.names.proofs.PassedGivens.{GivensIn, Holds, givens-length, givens-within, givens-least}
+use Rattle.names.proofs.PassedNamed.{givens-sees}
 use Rattle.names.proofs.PassedStates.{typed-use, scope}
-use Rattle.names.proofs.PassedScopes.{TitlesIn, titles-given, titles-more, Group, group, state-named, state-least}
+use Rattle.names.proofs.PassedScopes.{TitlesIn, titles-given, titles-more, group, state-named, state-least}
 use Rattle.names.proofs.PassedConditions.{AreUsed, where-length, conditions-named, conditions-least}
 use Rattle.names.proofs.PassedOperations.{textsOf, texts-within, operationsWidth, OperationsIn}
 use Rattle.names.proofs.PassedDossier.{operations-least, heads-small, contexts-small, texts-order, declarations-within, state-within, parts-order}

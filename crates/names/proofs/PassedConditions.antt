@@ -1,29 +1,29 @@
 -- ainit, cinit and retrieve: the names in their reach, their faults, and the table behind them.
-use mathlib.Core.Path.{_≡_, refl, ap, ap₂, _∙_, sym, subst}
-use mathlib.Core.Bool.{Bool, true, false, not, cond}
-use mathlib.Core.List.{List, [], _∷_, _++_, map}
-use mathlib.Core.Option.{Option, none, some}
-use Prim.Native.Nat.{ℕ, suc, _+_, _*_, _≤_, _<_}
+use mathlib.Core.Path.{_≡_, refl, ap, ap₂, _∙_, sym}
+use mathlib.Core.Bool.{Bool, true, false, cond}
+use mathlib.Core.List.{List, [], _∷_, _++_}
+use mathlib.Core.Option.{Option, none}
+use Prim.Native.Nat.{_+_}
 use native.Mathlib.Omega.{arith}
 use lib.ListN.{length}
 use Rattle.symbols.specs.Kinds as kind
-use Rattle.symbols.specs.Lists.{any, find}
+use Rattle.symbols.specs.Lists.{find}
 use Rattle.symbols.specs.Symbols.{Name, noEnding}
-use Rattle.form.specs.Tree.{Letters, Given, Declaration, declarations, State, Pred, Dossier}
+use Rattle.form.specs.Tree.{Letters, Given, Declaration, declarations, Pred, Dossier}
 use Rattle.form.specs.Written.{Written, bare, writeWhere}
 use Rattle.form.specs.Headings.{ainitAt, cinitAt, retrieveAt}
-use Rattle.form.specs.Codes.{Numbering, nameNumber}
-use Rattle.reader.specs.Carriers.{Variable, sameName, plain}
-use Rattle.reader.specs.Types.{Ty, typeOf}
-use Rattle.reader.specs.Scope.{Scope, variables}
+use Rattle.form.specs.Codes.{Numbering}
+use Rattle.reader.specs.Carriers.{Variable, sameName}
+use Rattle.reader.specs.Types.{Ty}
+use Rattle.reader.specs.Scope.{variables}
 use Rattle.reader.specs.Names.{judgePred}
-use Rattle.names.specs.Inner.{Names, Sizes, insideKey, predKey}
-use Rattle.names.specs.Passes.{Typed, variablesOf, shown, hidden, conditionsKey, conditionsNamed}
-use Rattle.names.proofs.Showing.{Numbered, Shows, PredIn, leastKey}
+use Rattle.names.specs.Inner.{Names, Sizes}
+use Rattle.names.specs.Passes.{variablesOf, shown, hidden, conditionsKey, conditionsNamed}
+use Rattle.names.proofs.Showing.{Numbered, PredIn, leastKey}
 use Rattle.names.proofs.JudgedWidths.{widePred, pred-length}
 use Rattle.names.proofs.JudgedScope.{find-here, find-there}
 use Rattle.names.proofs.Judged.{judged-pred}
-use Rattle.names.proofs.PassedPlaces.{Within, pred-within, within-append, wider}
+use Rattle.names.proofs.PassedPlaces.{pred-within, within-append, wider}
 use Rattle.names.proofs.PassedOrder.{behind}
 use Rattle.names.proofs.PassedTables.{Sees}
 use Rattle.names.proofs.PassedTypes.{Sized}

@@ -3,9 +3,8 @@ use mathlib.Core.Path.{_≡_, refl, ap, ap₂, _∙_, sym, subst}
 use mathlib.Core.Bool.{Bool, true, false, not, cond}
 use mathlib.Core.List.{List, [], _∷_, _++_}
 use mathlib.Core.Option.{Option, none, some}
-use Prim.Native.Nat.{ℕ, suc, _+_, _*_, _≤_, _<_}
+use Prim.Native.Nat.{ℕ, suc, _+_}
 use native.Mathlib.Omega.{arith}
-use lib.Dec.{eqb}
 use lib.ListN.{set}
 use borrow.Author.Tests.{ne-eqb, not-true}
 use Rattle.symbols.specs.Lists.{any, find}
@@ -16,8 +15,8 @@ use Rattle.form.specs.Codes.{Numbering, nameNumber, typeWidth}
 use Rattle.reader.specs.Carriers.{Carrier, Variable, sameName, givenOf, carrierOf}
 use Rattle.reader.specs.Types.{Ty, typeOf}
 use Rattle.reader.specs.Names.{typeFaults}
-use Rattle.names.specs.Inner.{Names, Sizes, entry, key, unlessKey, insideKey, lesser, isFree, isGiven}
-use Rattle.names.specs.Passes.{Typed, typeKind, typeKey, shown, hidden, declaredKey}
+use Rattle.names.specs.Inner.{Names, Sizes, key, unlessKey, isFree, isGiven}
+use Rattle.names.specs.Passes.{Typed, typeKind, shown, hidden, declaredKey}
 use Rattle.names.proofs.Showing.{GivenIs, TypeIs, Numbered, leastKey}
 use Rattle.names.proofs.JudgedLeast.{two-parts, least-nil, unless-least, unless-nil, append-nil-both}
 use Rattle.names.proofs.JudgedTypes.{no-yes, code-positive, code-not-given}
@@ -25,7 +24,7 @@ use Rattle.names.proofs.JudgedScope.{any-here, any-there, find-here, fi
 use Rattle.names.proofs.PassedPlaces.{Within, nowhere, within-small, within-append, within-used, wider}
 use Rattle.names.proofs.PassedOrder.{behind}
 use Rattle.names.proofs.PassedTables.{Sees, Sits, same-name, name-refl, put, sees-same, unused}
-use Rattle.names.proofs.PassedTypes.{TypeIn, Sized, Carries, type-within, type-carries, type-least, type-kind}
+use Rattle.names.proofs.PassedTypes.{TypeIn, Sized, type-within, type-carries, type-least, type-kind}
 
 -- one more name in use, and in reach
 abbrev pub useOf : Name → (Name → Bool) → Name → Bool

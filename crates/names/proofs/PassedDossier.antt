@@ -1,23 +1,22 @@
 -- The parts of a dossier: all operations, the places of each part, and the order of the definitions' list of faults.
-use mathlib.Core.Path.{_≡_, refl, ap, ap₂, _∙_, sym, subst}
+use mathlib.Core.Path.{_≡_, refl, ap₂, _∙_, sym, subst}
 use mathlib.Core.List.{List, [], _∷_, _++_, map}
-use Prim.Native.Nat.{ℕ, suc, _+_, _*_, _≤_, _<_}
+use Prim.Native.Nat.{ℕ, suc, _+_}
 use native.Mathlib.Omega.{arith}
 use lib.ListN.{length}
 use Rattle.symbols.specs.Lists.{concat}
 use Rattle.symbols.specs.Symbols.{noEnding}
 use Rattle.symbols.specs.Refusals.{Fault}
 use Rattle.form.specs.Tree.{Letters, Given, Declaration, declarations, State, Operation, Dossier}
-use Rattle.form.specs.Written.{Written, writeDeclarations, writeWhere, writeState}
+use Rattle.form.specs.Written.{writeWhere, writeState}
 use Rattle.form.specs.Headings.{operationLength}
-use Rattle.form.specs.Codes.{Numbering, predWidth, abstractlyAt}
-use Rattle.reader.specs.Carriers.{Variable}
-use Rattle.reader.specs.Scope.{Scope, isTaken, variables, stateNames, operationContexts}
+use Rattle.form.specs.Codes.{Numbering, predWidth}
+use Rattle.reader.specs.Scope.{Scope, operationContexts}
 use Rattle.reader.specs.Names.{newName, declarationFaults, parameterFaults, operationFaults, contextFaults, judgePred}
 use Rattle.names.specs.Inner.{Names, Sizes, lesser}
-use Rattle.names.specs.Passes.{variablesOf, predicateAt, operationNamed, operationsKey}
+use Rattle.names.specs.Passes.{variablesOf, predicateAt, operationsKey}
 use Rattle.names.proofs.Showing.{Numbered, leastKey}
-use Rattle.names.proofs.JudgedLeast.{Small, no-fault, small-append, least-nil, least-append, two-parts, append-nil-both}
+use Rattle.names.proofs.JudgedLeast.{Small, no-fault, small-append, least-nil, two-parts, append-nil-both}
 use Rattle.names.proofs.JudgedWidths.{widePred, small-new, pred-steady}
 use Rattle.names.proofs.PassedPlaces.{Within, within-small, within-append, pred-within, wider}
 use Rattle.names.proofs.PassedOrder.{behind, operation-order, dossier-order}
@@ -26,7 +25,7 @@ use Rattle.names.proofs.PassedDeclared.{typedWidth, typed-within}
 use Rattle.names.proofs.PassedUse.{inUse, taken-is, use-there}
 use Rattle.names.proofs.PassedGivens.{GivensIn}
 use Rattle.names.proofs.PassedNamed.{Base}
-use Rattle.names.proofs.PassedStates.{declarations-typed, declarations-length, scope}
+use Rattle.names.proofs.PassedStates.{declarations-typed, declarations-length}
 use Rattle.names.proofs.PassedScopes.{TitlesIn, titles-more, Group}
 use Rattle.names.proofs.PassedConditions.{AreUsed, where-length}
 use Rattle.names.proofs.PassedOperations.{textOf, textsOf, text-within, texts-within, parameters-within, OperationsIn, no-operations, one-operation, operation-named, operation-least}

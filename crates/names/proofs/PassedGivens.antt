@@ -1,35 +1,30 @@
 -- Given sets: the key of their declarations is that of their least fault, and what the table says behind them.
-use mathlib.Core.Path.{_≡_, refl, ap, ap₂, _∙_, sym, subst}
+use mathlib.Core.Path.{_≡_, refl, ap, _∙_, sym}
 use mathlib.Core.Bool.{Bool, true, false, not, cond}
 use mathlib.Core.List.{List, [], _∷_, _++_, append-assoc}
-use mathlib.Core.Option.{Option, none, some}
-use Prim.Native.Nat.{ℕ, suc, _+_, _*_, _≤_, _<_}
+use Prim.Native.Nat.{ℕ, suc, _+_, _≤_}
 use native.Mathlib.Omega.{arith}
-use lib.Dec.{eqb}
 use lib.ListN.{length, set, length-set}
 use borrow.Author.Tests.{ne-eqb}
 use Rattle.symbols.specs.Kinds as kind
-use Rattle.symbols.specs.Lists.{same, any, find}
+use Rattle.symbols.specs.Lists.{any}
 use Rattle.symbols.specs.Symbols.{Name, noEnding}
-use Rattle.symbols.specs.Refusals.{Fault, fault, numberOf, unless, nameInUse}
-use Rattle.symbols.proofs.WordLaws.{same-refl, same-true}
+use Rattle.symbols.specs.Refusals.{numberOf, nameInUse}
 use Rattle.form.specs.Tree.{Letters, Given, elements}
 use Rattle.form.specs.Written.{Written, bare, writeElements, writeGivens}
 use Rattle.form.specs.Headings.{givenLength}
 use Rattle.form.specs.Codes.{Numbering, numberOfName, nameNumber}
-use Rattle.reader.specs.Carriers.{sameName, plain, givenOf}
-use Rattle.reader.specs.Scope.{isTaken, elementOf, givenNames}
+use Rattle.reader.specs.Carriers.{sameName, plain}
+use Rattle.reader.specs.Scope.{isTaken, givenNames}
 use Rattle.reader.specs.Names.{newName, elementFaults, givenFaults}
-use Rattle.names.specs.Inner.{Names, entry, key, unlessKey, insideKey, isFree}
+use Rattle.names.specs.Inner.{Names, entry, key, unlessKey, isFree}
 use Rattle.names.specs.Passes.{elementsNamed, elementsKey, givenNamed, givensNamed, givensKey}
-use Rattle.names.proofs.Showing.{indexOf, titled, Numbered, leastKey}
+use Rattle.names.proofs.Showing.{Numbered, leastKey}
 use Rattle.names.proofs.JudgedLeast.{least-nil, unless-least}
-use Rattle.names.proofs.JudgedTypes.{no-yes}
-use Rattle.names.proofs.JudgedScope.{any-here, any-there, find-here, find-there, index-here, index-there, titled-finds}
 use Rattle.names.proofs.PassedPlaces.{Within, nowhere, within-append, within-new, wider}
 use Rattle.names.proofs.PassedOrder.{behind}
 use Rattle.names.proofs.PassedTables.{name-refl, changed}
-use Rattle.names.proofs.PassedUse.{inUse, taken-is, any-append, use-here, elements-new, GivenNew, given-new, Unnamed, givens-new, title-use, element-use}
+use Rattle.names.proofs.PassedUse.{inUse, taken-is, any-append}
 
 -- ---- places ----
 

@@ -3,9 +3,9 @@ use mathlib.Core.Path.{_≡_, refl, ap, ap₂, _∙_, sym, subst}
 use mathlib.Core.Bool.{Bool, true, false, not, _&&_, _||_, cond}
 use mathlib.Core.List.{List, [], _∷_, _++_}
 use mathlib.Core.Option.{Option, none, some}
-use Prim.Native.Nat.{ℕ, suc, _+_, _*_, _≤_, _<_}
+use Prim.Native.Nat.{ℕ, suc, _+_, _≤_}
 use native.Mathlib.Omega.{arith}
-use lib.Dec.{eqb, leb, ltb}
+use lib.Dec.{eqb, ltb}
 use lib.ListN.{length}
 use borrow.Author.Tests.{ne-eqb, le-leb, lt-leb, le-ltb}
 use Rattle.symbols.specs.Lists.{same, any, find}
@@ -16,7 +16,7 @@ use Rattle.form.specs.Headings.{givenLength}
 use Rattle.form.specs.Codes.{Numbering, nameNumber}
 use Rattle.reader.specs.Carriers.{elementsOf, sameName, plain, givenOf}
 use Rattle.reader.specs.Types.{Ty, typeOf}
-use Rattle.reader.specs.Scope.{Scope, elementOf, givenNames, typeOfName}
+use Rattle.reader.specs.Scope.{elementOf, givenNames, typeOfName}
 use Rattle.reader.specs.Names.{givenFaults}
 use Rattle.names.specs.Inner.{Names, entry, isFree, isNumber, isGiven, inReach}
 use Rattle.names.specs.Passes.{givensNamed}

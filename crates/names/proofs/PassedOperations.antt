@@ -1,33 +1,30 @@
 -- Operations: their first fault in the order of the text, and the table behind each.
-use mathlib.Core.Path.{_≡_, refl, ap, ap₂, _∙_, sym, subst}
-use mathlib.Core.Bool.{Bool, true, false, not, cond}
-use mathlib.Core.List.{List, [], _∷_, _++_, map}
-use mathlib.Core.Option.{Option, none, some}
-use Prim.Native.Nat.{ℕ, suc, _+_, _*_, _≤_, _<_}
+use mathlib.Core.Path.{_≡_, ap, ap₂, _∙_, sym, subst}
+use mathlib.Core.Bool.{Bool, not}
+use mathlib.Core.List.{List, [], _∷_, _++_}
+use Prim.Native.Nat.{ℕ, suc, _+_}
 use native.Mathlib.Omega.{arith}
-use lib.ListN.{length}
 use Rattle.symbols.specs.Kinds as kind
-use Rattle.symbols.specs.Lists.{any, concat}
-use Rattle.symbols.specs.Symbols.{Name, noEnding, prime}
-use Rattle.symbols.specs.Refusals.{Fault, fault, numberOf, unless, nameInUse}
-use Rattle.form.specs.Tree.{Letters, Given, Declaration, declarations, inward, outward, Parameter, Operation, Dossier, Pred}
-use Rattle.form.specs.Written.{Written, bare, writeParameters, writePred, writeOperations}
+use Rattle.symbols.specs.Lists.{any}
+use Rattle.symbols.specs.Symbols.{noEnding, prime}
+use Rattle.symbols.specs.Refusals.{Fault, numberOf, nameInUse}
+use Rattle.form.specs.Tree.{Letters, Given, Declaration, inward, outward, Parameter, Operation}
+use Rattle.form.specs.Written.{bare, writePred, writeOperations}
 use Rattle.form.specs.Headings.{operationLength}
 use Rattle.form.specs.Codes.{Numbering, numberOfName, predWidth, abstractlyAt}
 use Rattle.reader.specs.Carriers.{Variable, plain}
-use Rattle.reader.specs.Types.{Ty}
 use Rattle.reader.specs.Scope as scopes
-use Rattle.reader.specs.Scope.{Scope, Context, isTaken, variables, operationContexts}
-use Rattle.reader.specs.Names.{newName, parameterName, parameterFaults, operationFaults, contextFaults, judgePred}
-use Rattle.names.specs.Inner.{Names, Sizes, entry, key, unlessKey, insideKey, isFree, lesser, predKey}
-use Rattle.names.specs.Passes.{variablesOf, parametersOf, titleNamed, parametersShown, shown, reaching, leaving, operationNamed, operationKey, operationsKey}
-use Rattle.names.proofs.Showing.{Numbered, Shows, PredIn, leastKey}
-use Rattle.names.proofs.JudgedLeast.{Small, no-fault, small-append, least-nil, least-append, unless-least, append-nil-both}
-use Rattle.names.proofs.JudgedWidths.{widePred, pred-length, pred-width, pred-steady}
+use Rattle.reader.specs.Scope.{isTaken, variables}
+use Rattle.reader.specs.Names.{newName, parameterFaults, judgePred}
+use Rattle.names.specs.Inner.{Names, Sizes, entry, key, unlessKey, isFree}
+use Rattle.names.specs.Passes.{parametersOf, titleNamed, operationNamed, operationKey}
+use Rattle.names.proofs.Showing.{Numbered, PredIn, leastKey}
+use Rattle.names.proofs.JudgedLeast.{unless-least}
+use Rattle.names.proofs.JudgedWidths.{widePred, pred-length, pred-width}
 use Rattle.names.proofs.Judged.{judged-pred}
-use Rattle.names.proofs.PassedPlaces.{Within, nowhere, within-small, within-append, within-new, pred-within, wider}
-use Rattle.names.proofs.PassedOrder.{behind, operation-order}
-use Rattle.names.proofs.PassedTables.{Sees, unused}
+use Rattle.names.proofs.PassedPlaces.{Within, nowhere, within-append, within-new, pred-within, wider}
+use Rattle.names.proofs.PassedOrder.{behind}
+use Rattle.names.proofs.PassedTables.{unused}
 use Rattle.names.proofs.PassedTypes.{Sized}
 use Rattle.names.proofs.PassedDeclared.{typedFaults, typedWidth, typed-within, TypedIn, Clear, clear, declared-least}
 use Rattle.names.proofs.PassedUse.{inUse, taken-is, use-there, new-unused}

@@ -1,15 +1,15 @@
--- The least fault of parts whose faults lie one behind the other is that of the first part that has one; and lists of faults may change places.
-use mathlib.Core.Path.{_≡_, refl, ap, ap₂, _∙_, sym, subst}
-use mathlib.Core.Bool.{Bool, true, false, cond}
+-- The least fault of parts whose faults lie one behind the other is that of the first part that has one; and parts may change places in a list of faults.
+use mathlib.Core.Path.{_≡_, refl, ap, _∙_, sym, subst}
+use mathlib.Core.Bool.{Bool, true, false}
 use mathlib.Core.List.{List, [], _∷_, _++_}
-use Prim.Native.Nat.{ℕ, zero, suc, _+_, _*_, _≤_, _<_}
+use Prim.Native.Nat.{ℕ, zero, suc, _*_, _≤_, _<_}
 use native.Mathlib.Omega.{arith}
-use lib.Dec.{eqb, ltb}
-use borrow.Author.Tests.{eqb-true, ne-eqb, ltb-true, ltb-false, lt-ltb, le-ltb}
-use Rattle.symbols.specs.Refusals.{Fault, fault, numberOf, least}
-use Rattle.names.specs.Inner.{key, lesser, insideKey}
+use lib.Dec.{ltb}
+use borrow.Author.Tests.{ne-eqb, ltb-true, ltb-false, lt-ltb, le-ltb}
+use Rattle.symbols.specs.Refusals.{Fault, numberOf, least}
+use Rattle.names.specs.Inner.{lesser, insideKey}
 use Rattle.names.proofs.Showing.{leastKey}
-use Rattle.names.proofs.JudgedLeast.{Small, no-fault, one-more, lesser-zero, lesser-assoc, least-append, least-nil, one-fault}
+use Rattle.names.proofs.JudgedLeast.{no-fault, one-more, lesser-zero, lesser-assoc, least-append, least-nil, one-fault}
 use Rattle.names.proofs.PassedPlaces.{Within, nowhere, at-place, within-small}
 
 zero-lesser : (b : ℕ) → lesser 0 b ≡ b
@@ -36,9 +36,6 @@ lesser-comm (suc a) (suc b) = on (ltb b a) refl (ltb a b) refl
         let l = ltb-false b a h in let m = ltb-false a b k in
         let e : a ≡ b = omega arith in
         sucs-left a b l ∙ ap suc e ∙ sym (sucs-left b a m)
-
-pub swap-parts : {xs ys : List Fault} → Small xs → Small ys → leastKey (xs ++ ys) ≡ leastKey (ys ++ xs)
-swap-parts {xs} {ys} h k = least-append h k ∙ lesser-comm (leastKey xs) (leastKey ys) ∙ sym (least-append k h)
 
 -- two of four change places
 medial : (a b c e : ℕ) → lesser (lesser a b) (lesser c e) ≡ lesser (lesser a c) (lesser b e)

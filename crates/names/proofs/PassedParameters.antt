@@ -3,7 +3,7 @@ use mathlib.Core.Path.{_≡_, refl, ap, ap₂, _∙_, sym, subst}
 use mathlib.Core.Bool.{Bool, true, false, not, cond}
 use mathlib.Core.List.{List, [], _∷_, _++_, map}
 use mathlib.Core.Option.{Option, none, some}
-use Prim.Native.Nat.{ℕ, suc, _+_, _*_, _≤_, _<_}
+use Prim.Native.Nat.{ℕ, _+_, _*_, _≤_}
 use native.Mathlib.Omega.{arith}
 use lib.ListN.{length, set}
 use Rattle.symbols.specs.Kinds as kind
@@ -12,22 +12,20 @@ use Rattle.symbols.specs.Symbols.{Name, Ending, noEnding, prime, query, shriek}
 use Rattle.symbols.specs.Refusals.{Fault, fault, unless, nameInUse}
 use Rattle.form.specs.Tree.{Letters, Given, Declaration, Direction, inward, outward, Parameter}
 use Rattle.form.specs.Written.{Written, bare, endingOf, inputsAfter, outputsAfter, writeParameters}
-use Rattle.form.specs.Codes.{Numbering, numberOfName, nameNumber, typeWidth}
-use Rattle.reader.specs.Carriers.{Carrier, Variable, endingCode, sameName, plain, givenOf, carrierOf}
-use Rattle.reader.specs.Types.{Ty}
+use Rattle.form.specs.Codes.{Numbering, numberOfName, typeWidth}
+use Rattle.reader.specs.Carriers.{Carrier, Variable, endingCode, sameName, plain, carrierOf}
 use Rattle.reader.specs.Scope as scopes
 use Rattle.reader.specs.Scope.{variables}
 use Rattle.reader.specs.Names.{typeFaults, parameterName, parameterFaults}
 use Rattle.names.specs.Inner.{Names}
-use Rattle.names.specs.Passes.{Typed, variablesOf, parametersOf, typeKind, shown, hidden}
+use Rattle.names.specs.Passes.{variablesOf, parametersOf, typeKind, shown, hidden}
 use Rattle.names.proofs.JudgedTypes.{no-yes}
-use Rattle.names.proofs.JudgedScope.{any-here, any-there, find-here, find-there, ended}
+use Rattle.names.proofs.JudgedScope.{find-there, ended}
 use Rattle.names.proofs.PassedTables.{same-name}
 use Rattle.names.proofs.PassedTypes.{type-length}
-use Rattle.names.proofs.PassedDeclared.{useOf, typedFaults, typedWidth, Carried, no-carried, one-carried, Fresh, no-fresh, one-fresh, found, orType, hasName, hasTyped, found-none}
+use Rattle.names.proofs.PassedDeclared.{useOf, typedFaults, typedWidth, Carried, no-carried, one-carried, Fresh, no-fresh, one-fresh, found, hasTyped}
 use Rattle.names.proofs.PassedUse.{inUse}
 use Rattle.names.proofs.PassedStates.{variables-one}
-use Rattle.names.proofs.PassedConditions.{found-append}
 
 abbrev pub nameOf : Letters → Ending → Name
 nameOf l e = record { letters = l; ending = e }

@@ -1,21 +1,20 @@
 -- The faults of a tree lie within its symbols.
-use mathlib.Core.Path.{_≡_, refl}
 use mathlib.Core.Bool.{Bool, true, false, cond}
 use mathlib.Core.List.{List, [], _∷_, _++_}
 use mathlib.Core.Option.{Option, none, some}
-use Prim.Native.Nat.{ℕ, zero, suc, _+_, _*_, _≤_, _<_}
+use Prim.Native.Nat.{ℕ, suc, _+_, _≤_, _<_}
 use native.Mathlib.Omega.{arith}
 use Rattle.symbols.specs.Refusals.{Fault, fault, numberOf, unless, nameInUse, nameUnknown, typesMisfit, wideType, zeroDivisor}
-use Rattle.form.specs.Tree.{Letters, End, Range, Domain, givenSet, range, Given}
+use Rattle.form.specs.Tree.{Letters, End, Range, givenSet, range, Given}
 use Rattle.form.specs.Tree.{Term, number, name, group, prefix, binary, divided, listed, pairs, such, emptySet, emptyPairs, Items, only, also, Pairs, onlyPair, alsoPair}
 use Rattle.form.specs.Tree.{Pred, truth, falsity, negation, paren, quantified, connected, compared, member, within, related}
 use Rattle.reader.specs.Carriers.{givenOf}
 use Rattle.reader.specs.Types.{Ty, pairsFit, pairsType}
 use Rattle.reader.specs.Scope.{Scope, typeOfName, binding}
-use Rattle.reader.specs.Names.{Listing, whole, inside, ofName, known, endLength, rangeLength, rangeFaults, pairsFault, divisorFaults, newName, domainCarrier, domainLength}
+use Rattle.reader.specs.Names.{Listing, whole, inside, ofName, known, endLength, rangeLength, rangeFaults, pairsFault, divisorFaults, newName, domainCarrier}
 use Rattle.reader.specs.Names.{overFault, wholePairs, judgedPairs, judgeTerm, judgeItems, judgePairs, judgePred}
 use Rattle.names.proofs.JudgedLeast.{Small, no-fault, one-more}
-use Rattle.names.proofs.JudgedWidths.{wideTerm, wideItems, widePairs, widePred, term-steady, items-steady, pairs-steady, pred-steady}
+use Rattle.names.proofs.JudgedWidths.{wideTerm, wideItems, widePairs, widePred, term-steady, pred-steady}
 
 -- every fault lies at a place from a on and below b, and its number is below 16
 pub data Within (a b : ℕ) : List Fault → Type 0 where

@@ -1,17 +1,17 @@
 -- The names in reach of an operation's predicates: variables plain and primed, inputs and outputs; and the table once they are out of reach again.
 use mathlib.Core.Path.{_≡_, refl, ap, ap₂, _∙_, sym, subst}
-use mathlib.Core.Bool.{Bool, true, false, not, cond}
-use mathlib.Core.List.{List, [], _∷_, _++_}
-use mathlib.Core.Option.{Option, none, some}
-use Prim.Native.Nat.{ℕ, suc, _+_, _*_, _≤_, _<_}
+use mathlib.Core.Bool.{Bool, true, false, cond}
+use mathlib.Core.List.{List, _∷_, _++_}
+use mathlib.Core.Option.{Option, none}
+use Prim.Native.Nat.{_≤_, _<_}
 use native.Mathlib.Omega.{arith}
 use lib.ListN.{set}
-use Rattle.symbols.specs.Lists.{any, find}
+use Rattle.symbols.specs.Lists.{any}
 use Rattle.symbols.specs.Symbols.{Name, Ending, noEnding, prime, query, shriek}
 use Rattle.form.specs.Tree.{Letters, Given, Declaration, inward, outward, Parameter}
 use Rattle.form.specs.Codes.{Numbering, numberOfName}
 use Rattle.reader.specs.Carriers.{Variable, endingCode, sameName, plain, givenOf}
-use Rattle.reader.specs.Types.{Ty, typeOf}
+use Rattle.reader.specs.Types.{Ty}
 use Rattle.reader.specs.Scope as scopes
 use Rattle.reader.specs.Scope.{variables}
 use Rattle.names.specs.Inner.{Names, Sizes}
@@ -21,7 +21,7 @@ use Rattle.names.proofs.JudgedTypes.{no-yes}
 use Rattle.names.proofs.JudgedScope.{any-there}
 use Rattle.names.proofs.PassedTables.{Sees, Sits, same-name, name-refl, put, sees-same, unused}
 use Rattle.names.proofs.PassedTypes.{Sized}
-use Rattle.names.proofs.PassedDeclared.{Carried, no-carried, one-carried, Fresh, fresh-none, Clear, found, orType, after-found, hasName, used-after, hasTyped, carried-names, found-none, shown-sees, hidden-sees}
+use Rattle.names.proofs.PassedDeclared.{Carried, no-carried, one-carried, fresh-none, Clear, found, orType, after-found, hasName, used-after, hasTyped, carried-names, found-none, shown-sees, hidden-sees}
 use Rattle.names.proofs.PassedUse.{inUse, use-here}
 use Rattle.names.proofs.PassedGivens.{GivensIn}
 use Rattle.names.proofs.PassedNamed.{elementType, Base}

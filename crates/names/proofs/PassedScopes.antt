@@ -1,37 +1,36 @@
 -- The variables of a state in reach and out of reach: what the table says, and the scope that it shows.
-use mathlib.Core.Path.{_≡_, refl, ap, ap₂, _∙_, sym, subst}
+use mathlib.Core.Path.{_≡_, refl, ap, _∙_, sym, subst}
 use mathlib.Core.Bool.{Bool, true, false, not, cond}
-use mathlib.Core.List.{List, [], _∷_, _++_, map}
-use mathlib.Core.Option.{Option, none, some}
-use Prim.Native.Nat.{ℕ, zero, suc, _+_, _*_, _≤_, _<_}
+use mathlib.Core.List.{List, [], _++_, map}
+use mathlib.Core.Option.{Option, none}
+use Prim.Native.Nat.{ℕ, zero, suc, _+_, _<_}
 use native.Mathlib.Omega.{arith}
 use lib.ListN.{length, getD}
-use Rattle.symbols.specs.Lists.{same, any, find}
-use Rattle.symbols.specs.Symbols.{Name, Ending, noEnding, prime}
-use Rattle.form.specs.Tree.{Letters, Given, elements, Declaration, declarations, State, Pred}
+use Rattle.symbols.specs.Lists.{same, any}
+use Rattle.symbols.specs.Symbols.{Name, noEnding}
+use Rattle.form.specs.Tree.{Letters, Given, Declaration, declarations, State}
 use Rattle.form.specs.Codes.{Numbering, nameNumber}
-use Rattle.reader.specs.Carriers.{Carrier, Variable, sameName, plain, givenOf, carrierOf}
-use Rattle.reader.specs.Types.{Ty, typeOf}
-use Rattle.reader.specs.Scope.{Scope, isTaken, typeOfName, variables, givenNames, stateNames}
+use Rattle.reader.specs.Carriers.{Variable, sameName, plain, givenOf}
+use Rattle.reader.specs.Types.{Ty}
+use Rattle.reader.specs.Scope.{isTaken, variables, givenNames, stateNames}
 use Rattle.reader.specs.Names.{declarationFaults, judgePred}
-use Rattle.names.specs.Inner.{Names, Sizes, entry, insideKey, isFree, isNumber, isGiven, inReach, predKey}
-use Rattle.names.specs.Passes.{Typed, variablesOf, shown, hidden, declaredKey, predicateAt, stateKey, stateNamed}
+use Rattle.names.specs.Inner.{Names, Sizes, entry, isFree, isNumber, isGiven, inReach}
+use Rattle.names.specs.Passes.{Typed, variablesOf, shown, hidden, predicateAt, stateKey, stateNamed}
 use Rattle.names.proofs.Showing.{titled, GivenIs, TypeIs, Numbered, Shows, PredIn, leastKey}
 use Rattle.names.proofs.JudgedTypes.{no-yes}
-use Rattle.names.proofs.JudgedWidths.{widePred}
-use Rattle.names.proofs.JudgedScope.{any-here, any-there, titled-finds}
+use Rattle.names.proofs.JudgedScope.{titled-finds}
 use Rattle.names.proofs.Judged.{judged-pred}
 use Rattle.names.proofs.PassedPlaces.{Within, pred-within}
 use Rattle.names.proofs.PassedOrder.{behind}
 use Rattle.names.proofs.PassedTables.{Sees, Sits, same-name, sees-same, unused}
-use Rattle.names.proofs.PassedTypes.{TypeIn, Sized}
-use Rattle.names.proofs.PassedDeclared.{useOf, usedAfter, after, typedFaults, typedWidth, typed-within, TypedIn, no-typed, one-typed, Carried}
-use Rattle.names.proofs.PassedDeclared.{Fresh, no-fresh, one-fresh, Clear, clear, found, orType, after-found, hasName, used-after, hasTyped, carried-names, found-none}
+use Rattle.names.proofs.PassedTypes.{Sized}
+use Rattle.names.proofs.PassedDeclared.{useOf, typedWidth, typed-within, TypedIn, no-typed, one-typed, Carried}
+use Rattle.names.proofs.PassedDeclared.{Fresh, no-fresh, one-fresh, clear, found, orType, after-found, hasName, used-after, hasTyped, carried-names, found-none}
 use Rattle.names.proofs.PassedDeclared.{declared-least, shown-sees, hidden-sees}
 use Rattle.names.proofs.PassedUse.{inUse, taken-is, any-append, use-left}
-use Rattle.names.proofs.PassedGivens.{AllIn, GivensIn, no-givens, one-given}
+use Rattle.names.proofs.PassedGivens.{GivensIn, no-givens, one-given}
 use Rattle.names.proofs.PassedNamed.{elementType, Base, title-taken}
-use Rattle.names.proofs.PassedStates.{declarations-typed, declarations-length, namesOf, typed-use, carried-variables, scope, type-found}
+use Rattle.names.proofs.PassedStates.{declarations-typed, declarations-length, typed-use, carried-variables, scope, type-found}
 
 fresh-unused : {u : Name → Bool} {vs : List Variable} → Fresh u vs → (y : Name) → hasName vs y ≡ true → u y ≡ false
 unfolding any

@@ -1,38 +1,28 @@
 -- The variables of a state: its declarations without faults, the names in reach of its predicate, and the table behind it.
-use mathlib.Core.Path.{_≡_, refl, ap, ap₂, _∙_, sym, subst}
+use mathlib.Core.Path.{_≡_, refl, ap, ap₂, _∙_, sym}
 use mathlib.Core.Bool.{Bool, true, false, not, cond}
 use mathlib.Core.List.{List, [], _∷_, _++_, map}
 use mathlib.Core.Option.{Option, none, some}
-use Prim.Native.Nat.{ℕ, suc, _+_, _*_, _≤_, _<_}
+use Prim.Native.Nat.{ℕ, suc, _+_}
 use native.Mathlib.Omega.{arith}
-use lib.ListN.{length, getD}
+use lib.ListN.{length}
 use Rattle.symbols.specs.Kinds as kind
 use Rattle.symbols.specs.Lists.{same, any, find}
-use Rattle.symbols.specs.Symbols.{Name, Ending, noEnding, prime}
+use Rattle.symbols.specs.Symbols.{Name, Ending, noEnding}
 use Rattle.symbols.specs.Refusals.{Fault, fault, unless, nameInUse}
-use Rattle.form.specs.Tree.{Letters, Given, Declaration, declarations, State, Pred}
+use Rattle.form.specs.Tree.{Letters, Given, Declaration}
 use Rattle.form.specs.Written.{Written, bare, writeDeclarations}
-use Rattle.form.specs.Codes.{Numbering, nameNumber, typeWidth}
-use Rattle.reader.specs.Carriers.{Carrier, Variable, sameName, plain, givenOf, carrierOf}
-use Rattle.reader.specs.Types.{Ty, typeOf}
-use Rattle.reader.specs.Scope.{Scope, isTaken, typeOfName, variables, givenNames, stateNames}
-use Rattle.reader.specs.Names.{newName, typeFaults, declarationFaults, judgePred}
-use Rattle.names.specs.Inner.{Names, Sizes, entry, insideKey, isFree, isGiven, inReach, predKey}
-use Rattle.names.specs.Passes.{Typed, variablesOf, shown, hidden, declaredKey, predicateAt, stateKey, stateNamed}
-use Rattle.names.proofs.Showing.{titled, GivenIs, TypeIs, Numbered, Shows, PredIn, leastKey}
-use Rattle.names.proofs.JudgedTypes.{no-yes}
-use Rattle.names.proofs.JudgedWidths.{widePred}
-use Rattle.names.proofs.JudgedScope.{any-here, any-there, titled-finds, ended}
-use Rattle.names.proofs.Judged.{judged-pred}
-use Rattle.names.proofs.PassedPlaces.{Within, pred-within}
-use Rattle.names.proofs.PassedOrder.{behind}
-use Rattle.names.proofs.PassedTables.{Sees, Sits, same-name, unused}
-use Rattle.names.proofs.PassedTypes.{TypeIn, Sized, type-length}
-use Rattle.names.proofs.PassedDeclared.{useOf, usedAfter, after, typedFaults, typedWidth, typed-within, TypedIn, no-typed, one-typed, Carried, no-carried, one-carried}
-use Rattle.names.proofs.PassedDeclared.{Fresh, no-fresh, one-fresh, Clear, clear, found, orType, after-found, hasName, used-after, hasTyped, carried-names, found-none}
-use Rattle.names.proofs.PassedDeclared.{declared-least, shown-sees, hidden-sees}
-use Rattle.names.proofs.PassedUse.{inUse, same-sym, taken-is, any-append}
-use Rattle.names.proofs.PassedNamed.{elementType, Base, given-names-use}
+use Rattle.form.specs.Codes.{typeWidth}
+use Rattle.reader.specs.Carriers.{Carrier, Variable, sameName, plain, carrierOf}
+use Rattle.reader.specs.Types.{typeOf}
+use Rattle.reader.specs.Scope.{Scope, isTaken, typeOfName, variables}
+use Rattle.reader.specs.Names.{newName, typeFaults, declarationFaults}
+use Rattle.names.specs.Passes.{variablesOf}
+use Rattle.names.proofs.PassedTypes.{type-length}
+use Rattle.names.proofs.PassedDeclared.{useOf, typedFaults, typedWidth, Carried, no-carried, one-carried}
+use Rattle.names.proofs.PassedDeclared.{found, orType, hasTyped}
+use Rattle.names.proofs.PassedUse.{inUse, same-sym}
+use Rattle.names.proofs.PassedNamed.{elementType}
 
 -- ---- the definitions' declarations, as declared names ----
 

@@ -1,23 +1,23 @@
 -- What a table of names says of each name, and what a change of one entry makes of it.
-use mathlib.Core.Path.{_≡_, refl, ap, ap₂, _∙_, sym, subst}
-use mathlib.Core.Bool.{Bool, true, false, not, cond}
-use mathlib.Core.List.{List, [], _∷_}
+use mathlib.Core.Path.{_≡_, refl, ap, _∙_, sym, subst}
+use mathlib.Core.Bool.{Bool, true, false, not}
+use mathlib.Core.List.{List}
 use mathlib.Core.Option.{Option, none, some}
-use Prim.Native.Nat.{ℕ, zero, suc, _+_, _*_, _≤_, _<_}
+use Prim.Native.Nat.{ℕ, zero, suc, _≤_, _<_}
 use native.Mathlib.Omega.{arith}
 use lib.Dec.{eqb}
-use lib.ListN.{length, getD, set, length-set}
+use lib.ListN.{length, set, length-set}
 use lib.Seq.{getD-set-same, getD-set-other}
-use borrow.Author.Tests.{eqb-true, eqb-false, ne-eqb, eq-eqb}
-use Rattle.symbols.specs.Lists.{same, any, find}
+use borrow.Author.Tests.{eqb-true, eq-eqb}
+use Rattle.symbols.specs.Lists.{same}
 use Rattle.symbols.specs.Symbols.{Name, Ending, noEnding, prime, query, shriek}
 use Rattle.symbols.proofs.WordLaws.{same-refl, same-true}
 use Rattle.form.specs.Tree.{Letters, Given}
 use Rattle.form.specs.Codes.{Numbering, endingNumber, numberOfName, nameNumber}
-use Rattle.reader.specs.Carriers.{endingCode, sameName, plain, givenOf}
+use Rattle.reader.specs.Carriers.{endingCode, sameName, givenOf}
 use Rattle.reader.specs.Types.{Ty}
-use Rattle.names.specs.Inner.{Names, entry, isFree, isGiven, inReach}
-use Rattle.names.proofs.Showing.{indexOf, typeCode, GivenIs, TypeIs, Numbered}
+use Rattle.names.specs.Inner.{Names, entry, isFree}
+use Rattle.names.proofs.Showing.{GivenIs, TypeIs, Numbered}
 use Rattle.names.proofs.JudgedTypes.{no-yes, code-positive}
 
 -- ---- names ----

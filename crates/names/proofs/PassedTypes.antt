@@ -1,20 +1,20 @@
 -- Declared types by the table of names: the number of a type is that of its carrier's type, and its key that of its least fault.
-use mathlib.Core.Path.{_≡_, refl, ap, ap₂, _∙_, sym, subst}
-use mathlib.Core.Bool.{Bool, true, false, not, cond}
-use mathlib.Core.List.{List, [], _∷_, _++_, map}
+use mathlib.Core.Path.{_≡_, refl, ap, _∙_, sym, subst}
+use mathlib.Core.Bool.{Bool}
+use mathlib.Core.List.{List, [], _++_, map}
 use mathlib.Core.Option.{Option, none, some}
-use Prim.Native.Nat.{ℕ, suc, _+_, _*_, _≤_, _<_}
+use Prim.Native.Nat.{ℕ, suc, _+_, _≤_, _<_}
 use native.Mathlib.Omega.{arith}
 use lib.ListN.{length, getD}
 use Rattle.symbols.specs.Symbols.{Name}
-use Rattle.symbols.specs.Refusals.{Fault, fault, nameUnknown}
+use Rattle.symbols.specs.Refusals.{fault, nameUnknown}
 use Rattle.form.specs.Tree.{Letters, Given, Arrow, TypeForm, givenType, powerType, rangeType, arrowType}
 use Rattle.form.specs.Written.{Written, writeType}
 use Rattle.form.specs.Codes.{Numbering, nameNumber, typeWidth}
 use Rattle.reader.specs.Carriers.{Carrier, elementsOf, subsetsOf, pairsOf, rangeCarrier, sizeOf, givenOf, carrierOf}
 use Rattle.reader.specs.Types.{Ty, typeOf}
-use Rattle.reader.specs.Names.{known, rangeFaults, pairsFault, typeFaults}
-use Rattle.names.specs.Inner.{Names, Sizes, entry, key, unlessKey, lesser, isGiven, sizeIn, overKey, domainKey}
+use Rattle.reader.specs.Names.{known, pairsFault, typeFaults}
+use Rattle.names.specs.Inner.{Names, Sizes, entry, key, unlessKey, isGiven, sizeIn, overKey, domainKey}
 use Rattle.names.specs.Passes.{typeKind, typeKey}
 use Rattle.names.proofs.Showing.{indexOf, knownNumber, GivenIs, TypeIs, RangeIn, leastKey}
 use Rattle.names.proofs.JudgedLeast.{small-append, lesser-assoc, two-parts, not-nil, append-nil-both}

@@ -1,5 +1,5 @@
 -- Names in use: the lists of the definitions, searched by whole names; and given sets without faults, none of whose names is in use before.
-use mathlib.Core.Path.{_≡_, refl, ap, ap₂, _∙_, sym, subst}
+use mathlib.Core.Path.{_≡_, refl, ap, ap₂, _∙_, sym}
 use mathlib.Core.Bool.{Bool, true, false, not, cond}
 use mathlib.Core.List.{List, [], _∷_, _++_}
 use mathlib.Core.Option.{Option, none, some}
@@ -7,8 +7,8 @@ use Prim.Native.Nat.{ℕ, suc, _+_}
 use native.Mathlib.Omega.{arith}
 use borrow.Author.Tests.{not-true}
 use Rattle.symbols.specs.Lists.{same, any, find}
-use Rattle.symbols.specs.Symbols.{Name, noEnding}
-use Rattle.symbols.specs.Refusals.{Fault, fault, unless, nameInUse}
+use Rattle.symbols.specs.Symbols.{Name}
+use Rattle.symbols.specs.Refusals.{fault, nameInUse}
 use Rattle.symbols.proofs.WordLaws.{same-refl, same-true}
 use Rattle.form.specs.Tree.{Letters, Given, elements}
 use Rattle.form.specs.Headings.{givenLength}
@@ -18,8 +18,8 @@ use Rattle.reader.specs.Names.{newName, elementFaults, givenFaults}
 use Rattle.names.proofs.Showing.{titled}
 use Rattle.names.proofs.JudgedLeast.{unless-nil, append-nil-both}
 use Rattle.names.proofs.JudgedTypes.{no-yes}
-use Rattle.names.proofs.JudgedScope.{any-here, any-there, find-here, find-there}
-use Rattle.names.proofs.PassedTables.{same-name, name-refl}
+use Rattle.names.proofs.JudgedScope.{any-here, any-there, find-there}
+use Rattle.names.proofs.PassedTables.{same-name}
 
 abbrev pub inUse : List Letters → Name → Bool
 inUse xs y = any (λ (x : Letters). sameName (plain x) y) xs

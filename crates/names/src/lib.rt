@@ -1,4 +1,5 @@
 // Names and types: numbers 8, 9, 10, 11 and 14 of document 01, over the nodes of a dossier.
+mod declared;
 mod kinds;
 mod types;
 

@@ -1,0 +1,74 @@
+// Declarations: names that come into use with their types, and names in reach of a predicate.
+ghost use mathlib.Core.Path.{_≡_};
+ghost use Prim.Native.Nat.{_+_, _≤_, _<_};
+ghost use lib.ListN.{length};
+ghost use Rattle.names.specs.Inner.{isGiven, overKey, key, unlessKey};
+ghost use Rattle.names.specs.Parts.{TypeKinded, TypeFaulted, pairsKeyAt};
+use crate::kinds::element_of;
+use crate::kinds::index;
+use crate::kinds::is_given;
+use crate::kinds::lesser_of;
+use crate::kinds::look;
+use crate::kinds::pair_of;
+use crate::kinds::product_fits;
+use crate::kinds::put;
+use crate::kinds::range_fits;
+use crate::kinds::set_of;
+use crate::kinds::unless;
+use crate::kinds::wide;
+
+// What a name of a declared type is: the type's node begins at `at`.
+pub fn type_kind(code: &[u16], at: usize, names: &[u16]) -> u16
+    requires { ⌜ at + 4 ≤ length (now code) ⌝ }
+    ensures { λ r. ⌜ TypeKinded (now (code .entry)) at (now (names .entry)) r ⌝ }
+{
+    let g = element_of(look(names, index(code[at + 1])));
+    match code[at + 3] {
+        1 => g,
+        2 => 1,
+        3 => set_of(g),
+        _ => pair_of(g, element_of(look(names, index(code[at])))),
+    }
+}
+
+// The first fault of a declared type.
+pub fn type_fault(code: &[u16], at: usize, names: &[u16], sizes: &[u16]) -> u32
+    requires { ⌜ at + 4 ≤ length (now code) ⌝ }
+    ensures { λ r. ⌜ TypeFaulted (now (code .entry)) at (now (names .entry)) (now (sizes .entry)) r ⌝ }
+{
+    let a = code[at + 1];
+    let b = code[at];
+    let i = wide(code[at + 2]);
+    match code[at + 3] {
+        1 => unless(is_given(look(names, index(a))), i, 9),
+        2 => unless(range_fits(a, b), i, 11),
+        3 => unless(is_given(look(names, index(a))), i + 1, 9),
+        _ => pairs_fault(i, look(names, index(a)), look(names, index(b)), sizes),
+    }
+}
+
+// The first fault of a type of pairs, by what its two names are.
+fn pairs_fault(i: u32, g: u16, h: u16, sizes: &[u16]) -> u32
+    requires { ⌜ i < 65536 ⌝ }
+    ensures { λ r. ⌜ r ≡ pairsKeyAt i g h (now (sizes .entry)) ⌝ }
+{
+    let first = unless(is_given(g), i, 9);
+    let second = unless(is_given(h), i + 2, 9);
+    let over = over_arrow(sizes, g, h, i + 1);
+    lesser_of(first, lesser_of(second, over))
+}
+
+// The fault of pairs over two names, at a place that need not be below 65,536.
+fn over_arrow(sizes: &[u16], k: u16, l: u16, i: u32) -> u32
+    requires { ⌜ i < 262144 ⌝ }
+    ensures { λ r. ⌜ r ≡ overKey (now (sizes .entry)) k l i ⌝ }
+{
+    if is_given(k) {
+        if is_given(l) {
+            let fits = product_fits(sizes, index(k) - 8, index(l) - 8);
+            return unless(fits, i, 11);
+        }
+        return 0;
+    }
+    0
+}

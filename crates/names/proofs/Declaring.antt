@@ -1,19 +1,19 @@
 -- Declarations by their nodes: what a declared type's node holds, and a walk over declarations.
-use mathlib.Core.Path.{_≡_, refl, ap, sym, _∙_}
+use mathlib.Core.Path.{_≡_, refl, ap, ap₂, sym, _∙_}
 use mathlib.Core.Bool.{Bool, true, false, cond}
 use mathlib.Core.List.{List, [], _∷_, _++_}
 use Prim.Native.Nat.{ℕ, suc, _+_, _-_, _≤_, _<_}
 use native.Mathlib.Nat.{add-zero}
 use native.Mathlib.Omega.{arith}
 use lib.Dec.{eqb, leb}
-use lib.ListN.{length, drop, getD}
-use lib.Seq.{getD-drop}
+use lib.ListN.{length, drop, getD, set, length-drop, length-append}
+use lib.Seq.{getD-drop, drop-drop, drop-at}
 use borrow.Author.Tests.{ne-eqb, leb-true}
 use Rattle.form.specs.Tree.{TypeForm, givenType, powerType, rangeType, arrowType, Arrow, relation, partial, total}
-use Rattle.form.specs.Codes.{Numbering, node, nameNumber, endNumber, endWidth, arrowNumber, typeCodes}
-use Rattle.names.specs.Inner.{Names, Sizes, entry, isGiven, elementOf, setOf, pairOf, key, unlessKey, rangeFits, productFits, overKey, domainKey}
-use Rattle.names.specs.Passes.{typeKind, typeKey}
-use Rattle.names.specs.Parts.{TypeKinded, TypeFaulted, pairsKeyAt}
+use Rattle.form.specs.Codes.{Numbering, node, nameNumber, endNumber, endWidth, arrowNumber, typeCodes, typeWidth}
+use Rattle.names.specs.Inner.{Names, Sizes, entry, isFree, lesser, insideKey, isGiven, elementOf, setOf, pairOf, key, unlessKey, rangeFits, productFits, overKey, domainKey}
+use Rattle.names.specs.Passes.{Typed, typedCodes, typeKind, typeKey, shown, hidden, declaredKey}
+use Rattle.names.specs.Parts.{TypeKinded, TypeFaulted, pairsKeyAt, typedCode, typedKey, DeclarationFaulted, Reached}
 
 -- what a node holds
 module _ (code : List ℕ) (at k i a b : ℕ) (rest : List ℕ) (e : drop at code ≡ node k i a b ++ rest) where
@@ -162,3 +162,146 @@ given-above k p a b = go (leb 8 k) refl
     go : (t : Bool) → leb 8 k ≡ t → 8 ≤ k
     go true e = leb-true 8 k e
     go false e = let w : false ≡ true = (rw e at (sym a ∙ b)) in let n : _≡_ {A = ℕ} 0 1 = cc in omega arith
+
+-- a declaration has eight numbers; its type begins at the fourth
+pub typed-eight : (x : Typed) (i : ℕ) (ρ : Numbering) → length (typedCode i x ρ) ≡ 8
+typed-eight x i ρ = ap (λ (l : List ℕ). length (node 6 i (nameNumber ρ (x .called)) 0 ++ l)) (as-node (x .type) (i + 2) ρ)
+
+pub typed-type : (code : List ℕ) (at : ℕ) (x : Typed) (i : ℕ) (ρ : Numbering) (rest : List ℕ) → drop at code ≡ typedCode i x ρ ++ rest
+    → drop (at + 4) code ≡ typeCodes (x .type) (i + 2) ρ ++ rest
+typed-type code at x i ρ rest e = sym (drop-drop 4 at code) ∙ ap (λ (l : List ℕ). drop 4 l) e
+
+-- what is left of declarations at a place, where a function F of them and of the names has the value v
+pub record Rest {X : Type 0} (F : List Typed → ℕ → Names → Numbering → X) (code : List ℕ) (at : ℕ) (T : Names) (ρ : Numbering) (v : X) : Type 0 where
+  pub left : List Typed
+  pub place : ℕ
+  pub here : drop at code ≡ typedCodes place left ρ
+  pub same : F left place T ρ ≡ v
+
+abbrev pub Walked : {X : Type 0} (F : List Typed → ℕ → Names → Numbering → X) (code : List ℕ) (at : ℕ) (T U : Names) → Type 0
+Walked F code at T U = (xs : List Typed) (i : ℕ) (ρ : Numbering) → code ≡ typedCodes i xs ρ → Rest F code at U ρ (F xs i T ρ)
+
+pub start : {X : Type 0} (F : List Typed → ℕ → Names → Numbering → X) (code : List ℕ) (T : Names) → Walked F code 0 T T
+start F code T xs i ρ e = record { left = xs; place = i; here = e; same = refl }
+
+-- one declaration further, over which F does not change
+module _ {X : Type 0} (F : List Typed → ℕ → Names → Numbering → X) (code : List ℕ) (at : ℕ) (T U : Names) (ρ : Numbering) (v : X) where
+  pub step : (U' : Names) → at + 8 ≤ length code
+      → ((x : Typed) (xs : List Typed) (j : ℕ) (rest : List ℕ) → drop at code ≡ typedCode j x ρ ++ rest → F (x ∷ xs) j U ρ ≡ F xs (j + 3 + typeWidth (x .type)) U' ρ)
+      → (xs : List Typed) (j : ℕ) → drop at code ≡ typedCodes j xs ρ → F xs j U ρ ≡ v → Rest F code (at + 8) U' ρ v
+  unfolding typedCodes
+  step U' room change [] j e s = let short : length code - at ≡ 0 = (sym (length-drop at code) ∙ ap (λ (l : List ℕ). length l) e) in elim (never short) [ ]
+    where
+      never : length code - at ≡ 0 → ⊥
+      never q = omega arith
+  step U' room change (x ∷ xs) j e s =
+      record {
+        left = xs;
+        place = j + 3 + typeWidth (x .type);
+        here = sym (drop-drop 8 at code) ∙ (ap (λ (l : List ℕ). drop 8 l) e ∙ drop-at (typedCode j x ρ) (typedCodes (j + 3 + typeWidth (x .type)) xs ρ) 8 (typed-eight x j ρ));
+        same = sym (change x xs j (typedCodes (j + 3 + typeWidth (x .type)) xs ρ) e) ∙ s;
+      }
+
+  -- at a declaration whose F is w
+  pub stop : (w : X) → at + 8 ≤ length code
+      → ((x : Typed) (xs : List Typed) (j : ℕ) (rest : List ℕ) → drop at code ≡ typedCode j x ρ ++ rest → F (x ∷ xs) j U ρ ≡ w)
+      → (xs : List Typed) (j : ℕ) → drop at code ≡ typedCodes j xs ρ → F xs j U ρ ≡ v → w ≡ v
+  unfolding typedCodes
+  stop w room is [] j e s = let short : length code - at ≡ 0 = (sym (length-drop at code) ∙ ap (λ (l : List ℕ). length l) e) in elim (never short) [ ]
+    where
+      never : length code - at ≡ 0 → ⊥
+      never q = omega arith
+  stop w room is (x ∷ xs) j e s = sym (is x xs j (typedCodes (j + 3 + typeWidth (x .type)) xs ρ) e) ∙ s
+
+  -- behind the last declaration
+  pub finish : (w : X) → length code < at + 8
+      → ((j : ℕ) → F [] j U ρ ≡ w)
+      → (xs : List Typed) (j : ℕ) → drop at code ≡ typedCodes j xs ρ → F xs j U ρ ≡ v → w ≡ v
+  unfolding typedCodes
+  finish w room is [] j e s = sym (is j) ∙ s
+  finish w room is (x ∷ xs) j e s = elim (behind x xs j e) [ ]
+    where
+      behind : (x : Typed) (xs : List Typed) (j : ℕ) → drop at code ≡ typedCode j x ρ ++ typedCodes (j + 3 + typeWidth (x .type)) xs ρ → ⊥
+      behind x xs j e =
+          let long : length code - at ≡ length (typedCode j x ρ) + length (typedCodes (j + 3 + typeWidth (x .type)) xs ρ) = sym (length-drop at code) ∙ (ap (λ (l : List ℕ). length l) e ∙ length-append (typedCode j x ρ) (typedCodes (j + 3 + typeWidth (x .type)) xs ρ)) in
+          let eight = typed-eight x j ρ in
+          omega arith
+
+pub on : {X : Type 0} (F : List Typed → ℕ → Names → Numbering → X) (code : List ℕ) (at : ℕ) (T U U' : Names) → Walked F code at T U → at + 8 ≤ length code
+    → ((ρ : Numbering) (x : Typed) (xs : List Typed) (j : ℕ) (rest : List ℕ) → drop at code ≡ typedCode j x ρ ++ rest → F (x ∷ xs) j U ρ ≡ F xs (j + 3 + typeWidth (x .type)) U' ρ)
+    → Walked F code (at + 8) T U'
+on F code at T U U' w room change xs i ρ e =
+    let r = w xs i ρ e in step F code at T U ρ (F xs i T ρ) U' room (change ρ) (r .left) (r .place) (r .here) (r .same)
+
+pub stopped : {X : Type 0} (F : List Typed → ℕ → Names → Numbering → X) (code : List ℕ) (at : ℕ) (T U : Names) (v : X) → Walked F code at T U → at + 8 ≤ length code
+    → ((ρ : Numbering) (x : Typed) (xs : List Typed) (j : ℕ) (rest : List ℕ) → drop at code ≡ typedCode j x ρ ++ rest → F (x ∷ xs) j U ρ ≡ v)
+    → (xs : List Typed) (i : ℕ) (ρ : Numbering) → code ≡ typedCodes i xs ρ → v ≡ F xs i T ρ
+stopped F code at T U v w room is xs i ρ e = let r = w xs i ρ e in stop F code at T U ρ (F xs i T ρ) v room (is ρ) (r .left) (r .place) (r .here) (r .same)
+
+pub finished : {X : Type 0} (F : List Typed → ℕ → Names → Numbering → X) (code : List ℕ) (at : ℕ) (T U : Names) (v : X) → Walked F code at T U → length code < at + 8
+    → ((j : ℕ) (ρ : Numbering) → F [] j U ρ ≡ v)
+    → (xs : List Typed) (i : ℕ) (ρ : Numbering) → code ≡ typedCodes i xs ρ → v ≡ F xs i T ρ
+finished F code at T U v w room is xs i ρ e =
+    let r = w xs i ρ e in finish F code at T U ρ (F xs i T ρ) v room (λ j. is j ρ) (r .left) (r .place) (r .here) (r .same)
+
+-- the three functions of declarations that the code computes
+abbrev pub keyed : Sizes → List Typed → ℕ → Names → Numbering → ℕ
+keyed z xs i T ρ = declaredKey xs T ρ z i
+
+abbrev pub showing : ℕ → List Typed → ℕ → Names → Numbering → Names
+showing s xs i T ρ = shown xs s T ρ
+
+abbrev pub hiding : ℕ → ℕ → List Typed → ℕ → Names → Numbering → Names
+hiding s k xs i T ρ = hidden xs s k T ρ
+
+pub inside-none : (a b : ℕ) → a ≡ 0 → insideKey a b ≡ b
+inside-none a b e = ap (λ (n : ℕ). insideKey n b) e
+
+pub inside-some : (a b : ℕ) → (a ≡ 0 → ⊥) → insideKey a b ≡ a
+inside-some a b n = rw (ne-eqb a 0 n)
+
+module _ (code : List ℕ) (at : ℕ) (T U : Names) where
+  pub shown-on : (s : ℕ) → Reached code at s T U
+      → (ρ : Numbering) (x : Typed) (xs : List Typed) (j : ℕ) (rest : List ℕ) → drop at code ≡ typedCode j x ρ ++ rest
+      → showing s (x ∷ xs) j T ρ ≡ showing s xs (j + 3 + typeWidth (x .type)) U ρ
+  unfolding shown
+  shown-on s h ρ x xs j rest e = sym (ap (λ (t : Names). shown xs s t ρ) (h x j ρ rest e))
+
+  pub hidden-on : (s k a : ℕ) → a ≡ getD code (at + 1) 0 → U ≡ set T (a + s) k
+      → (ρ : Numbering) (x : Typed) (xs : List Typed) (j : ℕ) (rest : List ℕ) → drop at code ≡ typedCode j x ρ ++ rest
+      → hiding s k (x ∷ xs) j T ρ ≡ hiding s k xs (j + 3 + typeWidth (x .type)) U ρ
+  unfolding hidden
+  hidden-on s k a p h ρ x xs j rest e =
+      let n : a ≡ nameNumber ρ (x .called) = p ∙ node-a code at 6 j (nameNumber ρ (x .called)) 0 (typeCodes (x .type) (j + 2) ρ ++ rest) e in
+      sym (ap (λ (t : Names). hidden xs s k t ρ) (h ∙ ap (λ (m : ℕ). set T (m + s) k) n))
+
+  pub keyed-on : (z : Sizes) (f : ℕ) → DeclarationFaulted code at T z f → f ≡ 0 → Reached code at 0 T U
+      → (ρ : Numbering) (x : Typed) (xs : List Typed) (j : ℕ) (rest : List ℕ) → drop at code ≡ typedCode j x ρ ++ rest
+      → keyed z (x ∷ xs) j T ρ ≡ keyed z xs (j + 3 + typeWidth (x .type)) U ρ
+  unfolding declaredKey
+  keyed-on z f p q h ρ x xs j rest e =
+      inside-none (typedKey x T ρ z j) _ (sym (p x j ρ rest e) ∙ q)
+      ∙ sym (ap (λ (t : Names). declaredKey xs t ρ z (j + 3 + typeWidth (x .type))) (h x j ρ rest e ∙ ap (λ (m : ℕ). set T m (typeKind (x .type) T ρ)) (add-zero (nameNumber ρ (x .called)))))
+
+  pub keyed-stop : (z : Sizes) (f : ℕ) → DeclarationFaulted code at T z f → (f ≡ 0 → ⊥)
+      → (ρ : Numbering) (x : Typed) (xs : List Typed) (j : ℕ) (rest : List ℕ) → drop at code ≡ typedCode j x ρ ++ rest
+      → keyed z (x ∷ xs) j T ρ ≡ f
+  unfolding declaredKey
+  keyed-stop z f p q ρ x xs j rest e =
+      let d = p x j ρ rest e in
+      inside-some (typedKey x T ρ z j) (declaredKey xs (set T (nameNumber ρ (x .called)) (typeKind (x .type) T ρ)) ρ z (j + 3 + typeWidth (x .type))) (λ n. q (d ∙ n)) ∙ sym d
+
+-- the first fault of one declaration, by its parts
+pub declaration-fault : (code : List ℕ) (at : ℕ) (T : Names) (z : Sizes) (m old w here r f : ℕ) → m ≡ getD code (at + 1) 0 → old ≡ entry T m
+    → w ≡ getD code (at + 2) 0 → here ≡ unlessKey (eqb old 0) (key w 8) → TypeFaulted code (at + 4) T z f → r ≡ lesser here f → DeclarationFaulted code at T z r
+unfolding isFree
+declaration-fault code at T z m old w here r f p q s t u v x i ρ rest e =
+    let a = node-a code at 6 i (nameNumber ρ (x .called)) 0 (typeCodes (x .type) (i + 2) ρ ++ rest) e in
+    let b = node-place code at 6 i (nameNumber ρ (x .called)) 0 (typeCodes (x .type) (i + 2) ρ ++ rest) e in
+    let o : old ≡ entry T (nameNumber ρ (x .called)) = q ∙ ap (λ (n : ℕ). entry T n) (p ∙ a) in
+    v ∙ ap₂ lesser (t ∙ ap₂ (λ (n k : ℕ). unlessKey (eqb n 0) (key k 8)) o (s ∙ b)) (u (x .type) (i + 2) ρ rest (typed-type code at x i ρ rest e))
+
+pub reached : (code : List ℕ) (at s : ℕ) (T U : Names) (m k : ℕ) → m ≡ getD code (at + 1) 0 → TypeKinded code (at + 4) T k → U ≡ set T (m + s) k → Reached code at s T U
+reached code at s T U m k p q h x i ρ rest e =
+    let a = node-a code at 6 i (nameNumber ρ (x .called)) 0 (typeCodes (x .type) (i + 2) ρ ++ rest) e in
+    h ∙ ap₂ (λ (n l : ℕ). set T (n + s) l) (p ∙ a) (q (x .type) (i + 2) ρ rest (typed-type code at x i ρ rest e))

@@ -3,11 +3,11 @@
 use mathlib.Core.Path.{_≡_}
 use mathlib.Core.List.{List, _++_}
 use Prim.Native.Nat.{ℕ, _+_}
-use lib.ListN.{drop}
+use lib.ListN.{drop, set}
 use Rattle.form.specs.Tree.{TypeForm}
-use Rattle.form.specs.Codes.{Numbering, typeCodes}
-use Rattle.names.specs.Inner.{Names, Sizes, isGiven, key, unlessKey, lesser, overKey}
-use Rattle.names.specs.Passes.{Typed, typeKind, typeKey}
+use Rattle.form.specs.Codes.{Numbering, node, nameNumber, typeCodes}
+use Rattle.names.specs.Inner.{Names, Sizes, entry, isFree, isGiven, key, unlessKey, lesser, overKey}
+use Rattle.names.specs.Passes.{Typed, typedCodes, typeKind, typeKey, shown, hidden, declaredKey}
 
 -- a declared type, whose node begins at `at`
 abbrev pub TypeKinded : (code : List ℕ) (at : ℕ) (T : Names) (r : ℕ) → Type 0
@@ -19,3 +19,30 @@ TypeFaulted code at T z r = (t : TypeForm) (i : ℕ) (ρ : Numbering) (rest : Li
 -- the first fault of a type of pairs over two names, by what these are
 unfoldable pub pairsKeyAt : (i k l : ℕ) → Sizes → ℕ
 pairsKeyAt i k l z = lesser (unlessKey (isGiven k) (key i 9)) (lesser (unlessKey (isGiven l) (key (i + 2) 9)) (overKey z k l (i + 1)))
+
+-- one declaration: its nodes, and its first fault
+abbrev pub typedCode : (i : ℕ) → Typed → Numbering → List ℕ
+typedCode i x ρ = node 6 i (nameNumber ρ (x .called)) 0 ++ typeCodes (x .type) (i + 2) ρ
+
+abbrev pub typedKey : Typed → Names → Numbering → Sizes → (i : ℕ) → ℕ
+typedKey x T ρ z i = lesser (unlessKey (isFree (entry T (nameNumber ρ (x .called)))) (key i 8)) (typeKey (x .type) T ρ z (i + 2))
+
+abbrev pub DeclarationFaulted : (code : List ℕ) (at : ℕ) (T : Names) (z : Sizes) (r : ℕ) → Type 0
+DeclarationFaulted code at T z r = (x : Typed) (i : ℕ) (ρ : Numbering) (rest : List ℕ) → drop at code ≡ typedCode i x ρ ++ rest → r ≡ typedKey x T ρ z i
+
+abbrev pub Reached : (code : List ℕ) (at shift : ℕ) (T U : Names) → Type 0
+Reached code at s T U =
+    (x : Typed) (i : ℕ) (ρ : Numbering) (rest : List ℕ)
+    → drop at code ≡ typedCode i x ρ ++ rest
+    → U ≡ set T (nameNumber ρ (x .called) + s) (typeKind (x .type) T ρ)
+
+-- declarations, whose nodes are all of `code`
+pub record DeclaredSeen (code : List ℕ) (T U : Names) (z : Sizes) (r : ℕ) : Type 0 where
+  pub right : (xs : List Typed) (i : ℕ) (ρ : Numbering) → code ≡ typedCodes i xs ρ → r ≡ declaredKey xs T ρ z i
+  pub named : (xs : List Typed) (i : ℕ) (ρ : Numbering) → code ≡ typedCodes i xs ρ → r ≡ 0 → U ≡ shown xs 0 T ρ
+
+abbrev pub ShownSeen : (code : List ℕ) (shift : ℕ) (T U : Names) → Type 0
+ShownSeen code s T U = (xs : List Typed) (i : ℕ) (ρ : Numbering) → code ≡ typedCodes i xs ρ → U ≡ shown xs s T ρ
+
+abbrev pub HiddenSeen : (code : List ℕ) (shift k : ℕ) (T U : Names) → Type 0
+HiddenSeen code s k T U = (xs : List Typed) (i : ℕ) (ρ : Numbering) → code ≡ typedCodes i xs ρ → U ≡ hidden xs s k T ρ

@@ -3,7 +3,7 @@ ghost use mathlib.Core.Path.{_≡_};
 ghost use Prim.Native.Nat.{_+_, _≤_, _<_};
 ghost use lib.ListN.{length};
 ghost use Rattle.names.specs.Inner.{isGiven, overKey, key, unlessKey};
-ghost use Rattle.names.specs.Parts.{TypeKinded, TypeFaulted, pairsKeyAt};
+ghost use Rattle.names.specs.Parts.{TypeKinded, TypeFaulted, pairsKeyAt, DeclarationFaulted, Reached, DeclaredSeen, ShownSeen, HiddenSeen};
 use crate::kinds::element_of;
 use crate::kinds::index;
 use crate::kinds::is_given;
@@ -71,4 +71,64 @@ fn over_arrow(sizes: &[u16], k: u16, l: u16, i: u32) -> u32
         return 0;
     }
     0
+}
+
+// Declarations, each of which brings its name into reach: the first fault.
+pub fn declare(code: &[u16], names: &mut [u16], sizes: &[u16]) -> u32
+    ensures { λ r. ⌜ DeclaredSeen (now (code .entry)) (now (names .entry)) (now (names .exit)) (now (sizes .entry)) r ⌝ }
+{
+    let mut at: usize = 0;
+    while 8 <= code.len() - at {
+        let f = declaration_fault(code, at, names, sizes);
+        if f != 0 {
+            return f;
+        }
+        reach(code, at, 0, names);
+        at += 8;
+    }
+    0
+}
+
+// The first fault of the declaration whose node begins at `at`.
+fn declaration_fault(code: &[u16], at: usize, names: &[u16], sizes: &[u16]) -> u32
+    requires { ⌜ at + 8 ≤ length (now code) ⌝ }
+    ensures { λ r. ⌜ DeclarationFaulted (now (code .entry)) at (now (names .entry)) (now (sizes .entry)) r ⌝ }
+{
+    let old = look(names, index(code[at + 1]));
+    let here = unless(old == 0, wide(code[at + 2]), 8);
+    let of_type = type_fault(code, at + 4, names, sizes);
+    lesser_of(here, of_type)
+}
+
+// A declared name comes into reach, with `shift` added to its number.
+fn reach(code: &[u16], at: usize, shift: usize, names: &mut [u16])
+    requires { ⌜ (at + 8 ≤ length (now code)) × (shift < 65536) ⌝ }
+    ensures { λ r. ⌜ Reached (now (code .entry)) at shift (now (names .entry)) (now (names .exit)) ⌝ }
+{
+    let k = type_kind(code, at + 4, names);
+    put(names, index(code[at + 1]) + shift, k);
+}
+
+// Declared names come into reach.
+pub fn show(code: &[u16], shift: usize, names: &mut [u16])
+    requires { ⌜ shift < 65536 ⌝ }
+    ensures { λ r. ⌜ ShownSeen (now (code .entry)) shift (now (names .entry)) (now (names .exit)) ⌝ }
+{
+    let mut at: usize = 0;
+    while 8 <= code.len() - at {
+        reach(code, at, shift, names);
+        at += 8;
+    }
+}
+
+// Declared names become k.
+pub fn hide(code: &[u16], shift: usize, k: u16, names: &mut [u16])
+    requires { ⌜ shift < 65536 ⌝ }
+    ensures { λ r. ⌜ HiddenSeen (now (code .entry)) shift k (now (names .entry)) (now (names .exit)) ⌝ }
+{
+    let mut at: usize = 0;
+    while 8 <= code.len() - at {
+        put(names, index(code[at + 1]) + shift, k);
+        at += 8;
+    }
 }

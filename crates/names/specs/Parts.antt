@@ -1,13 +1,14 @@
 -- What the functions of the pass promise of whatever declarations, predicates and operations the nodes are those of; T has the names at entry, U at exit.
 -- Nothing here need be believed.
 use mathlib.Core.Path.{_≡_}
-use mathlib.Core.List.{List, _++_}
-use Prim.Native.Nat.{ℕ, _+_}
-use lib.ListN.{drop, set}
-use Rattle.form.specs.Tree.{TypeForm}
-use Rattle.form.specs.Codes.{Numbering, node, nameNumber, typeCodes}
+use mathlib.Core.List.{List, _++_, map}
+use Prim.Native.Nat.{ℕ, _+_, _-_, _≤_, _<_}
+use lib.ListN.{length, drop, getD, set}
+use Rattle.form.specs.Tree.{TypeForm, Given}
+use Rattle.form.specs.Codes.{Numbering, node, nameNumber, typeCodes, givenCodes}
+use Rattle.reader.specs.Carriers.{sizeOf}
 use Rattle.names.specs.Inner.{Names, Sizes, entry, isFree, isGiven, key, unlessKey, lesser, overKey}
-use Rattle.names.specs.Passes.{Typed, typedCodes, typeKind, typeKey, shown, hidden, declaredKey}
+use Rattle.names.specs.Passes.{Typed, typedCodes, typeKind, typeKey, shown, hidden, declaredKey, givensKey, givensNamed}
 
 -- a declared type, whose node begins at `at`
 abbrev pub TypeKinded : (code : List ℕ) (at : ℕ) (T : Names) (r : ℕ) → Type 0
@@ -46,3 +47,32 @@ ShownSeen code s T U = (xs : List Typed) (i : ℕ) (ρ : Numbering) → code ≡
 
 abbrev pub HiddenSeen : (code : List ℕ) (shift k : ℕ) (T U : Names) → Type 0
 HiddenSeen code s k T U = (xs : List Typed) (i : ℕ) (ρ : Numbering) → code ≡ typedCodes i xs ρ → U ≡ hidden xs s k T ρ
+
+-- the node of a given set's body or of an element, at `at`, where g given sets have begun
+pub record Counted (code : List ℕ) (at g r : ℕ) : Type 0 where
+  pub few : r ≤ 8
+  pub title : getD code (at + 3) 0 ≡ 3 → g < 8 → r ≡ g + 1
+  pub element : (getD code (at + 3) 0 ≡ 3 → ⊥) → r ≡ g
+
+pub record GivenFaulted (code : List ℕ) (at : ℕ) (T : Names) (r : ℕ) : Type 0 where
+  pub title : getD code (at + 3) 0 ≡ 3 → r ≡ unlessKey (isFree (entry T (getD code (at + 1) 0))) (key (getD code (at + 2) 0 + 1) 8)
+  pub element : (getD code (at + 3) 0 ≡ 3 → ⊥) → r ≡ unlessKey (isFree (entry T (getD code (at + 1) 0))) (key (getD code (at + 2) 0) 8)
+
+pub record GivenKind (code : List ℕ) (at g r : ℕ) : Type 0 where
+  pub title : getD code (at + 3) 0 ≡ 3 → r ≡ 7 + g
+  pub element : (getD code (at + 3) 0 ≡ 3 → ⊥) → r ≡ 15 + g
+
+pub record SizeCounted (code : List ℕ) (at g : ℕ) (z z' : Sizes) : Type 0 where
+  pub title : getD code (at + 3) 0 ≡ 3 → 1 ≤ g → z' ≡ set z (g - 1) 0
+  pub element : (getD code (at + 3) 0 ≡ 3 → ⊥) → 1 ≤ g → getD z (g - 1) 0 < 8 → z' ≡ set z (g - 1) (getD z (g - 1) 0 + 1)
+
+-- at most eight given sets of at most eight elements each
+pub record Fewer (gs : List Given) : Type 0 where
+  pub sets : length gs ≤ 8
+  pub elements : (k : ℕ) → getD (map sizeOf gs) k 0 ≤ 8
+
+pub record GivenSeen (code : List ℕ) (T U : Names) (z : Sizes) (r : ℕ) : Type 0 where
+  pub right : (gs : List Given) (i : ℕ) (ρ : Numbering) → code ≡ givenCodes i gs ρ → Fewer gs → r ≡ givensKey gs 0 T ρ i
+  pub named : (gs : List Given) (i : ℕ) (ρ : Numbering) → code ≡ givenCodes i gs ρ → Fewer gs → r ≡ 0 → U ≡ givensNamed gs 0 T ρ
+  pub sized : (gs : List Given) (i : ℕ) (ρ : Numbering) → code ≡ givenCodes i gs ρ → Fewer gs → r ≡ 0
+      → (k : ℕ) → k < length gs → getD z k 0 ≡ getD (map sizeOf gs) k 0

@@ -3,7 +3,7 @@ ghost use mathlib.Core.Path.{_≡_};
 ghost use Prim.Native.Nat.{_+_, _≤_, _<_};
 ghost use lib.ListN.{length};
 ghost use Rattle.names.specs.Inner.{isGiven, overKey, key, unlessKey};
-ghost use Rattle.names.specs.Parts.{TypeKinded, TypeFaulted, pairsKeyAt, DeclarationFaulted, Reached, DeclaredSeen, ShownSeen, HiddenSeen};
+ghost use Rattle.names.specs.Parts.{TypeKinded, TypeFaulted, pairsKeyAt, DeclarationFaulted, Reached, DeclaredSeen, ShownSeen, HiddenSeen, Counted, GivenFaulted, GivenKind, SizeCounted, GivenSeen};
 use crate::kinds::element_of;
 use crate::kinds::index;
 use crate::kinds::is_given;
@@ -130,5 +130,83 @@ pub fn hide(code: &[u16], shift: usize, k: u16, names: &mut [u16])
     while 8 <= code.len() - at {
         put(names, index(code[at + 1]) + shift, k);
         at += 8;
+    }
+}
+
+// The given sets, and how many elements each has: the first fault.
+pub fn give(code: &[u16], names: &mut [u16], sizes: &mut [u16]) -> u32
+    requires { ⌜ 8 ≤ length (now sizes) ⌝ }
+    ensures { λ r. ⌜ GivenSeen (now (code .entry)) (now (names .entry)) (now (names .exit)) (now (sizes .exit)) r ⌝ }
+{
+    let mut at: usize = 0;
+    let mut g: u16 = 0;
+    while 4 <= code.len() - at {
+        let f = given_fault(code, at, names);
+        if f != 0 {
+            return f;
+        }
+        g = counted(code, at, g);
+        let k = given_kind(code, at, g);
+        put(names, index(code[at + 1]), k);
+        count_given(code, at, g, sizes);
+        at += 4;
+    }
+    0
+}
+
+// How many given sets have begun behind the node at `at`; 8 at most.
+fn counted(code: &[u16], at: usize, g: u16) -> u16
+    requires { ⌜ (at + 4 ≤ length (now code)) × (g ≤ 8) ⌝ }
+    ensures { λ r. ⌜ Counted (now (code .entry)) at g r ⌝ }
+{
+    if code[at + 3] != 3 {
+        return g;
+    }
+    if g < 8 {
+        return g + 1;
+    }
+    g
+}
+
+// A title stands behind its heading, an element at its own place.
+fn given_fault(code: &[u16], at: usize, names: &[u16]) -> u32
+    requires { ⌜ at + 4 ≤ length (now code) ⌝ }
+    ensures { λ r. ⌜ GivenFaulted (now (code .entry)) at (now (names .entry)) r ⌝ }
+{
+    let old = look(names, index(code[at + 1]));
+    let i = wide(code[at + 2]);
+    if code[at + 3] == 3 {
+        return unless(old == 0, i + 1, 8);
+    }
+    unless(old == 0, i, 8)
+}
+
+// What the title of the given set g is, counted from 1, or one of its elements.
+fn given_kind(code: &[u16], at: usize, g: u16) -> u16
+    requires { ⌜ (at + 4 ≤ length (now code)) × (g ≤ 8) ⌝ }
+    ensures { λ r. ⌜ GivenKind (now (code .entry)) at g r ⌝ }
+{
+    if code[at + 3] == 3 {
+        return 7 + g;
+    }
+    15 + g
+}
+
+// The given set g, counted from 1, has one more element, or begins; 8 elements at most.
+fn count_given(code: &[u16], at: usize, g: u16, sizes: &mut [u16])
+    requires { ⌜ at + 4 ≤ length (now code) ⌝ }
+    ensures { λ r. ⌜ SizeCounted (now (code .entry)) at g (now (sizes .entry)) (now (sizes .exit)) ⌝ }
+{
+    if g == 0 {
+        return;
+    }
+    let x = index(g) - 1;
+    if code[at + 3] == 3 {
+        put(sizes, x, 0);
+        return;
+    }
+    let n = look(sizes, x);
+    if n < 8 {
+        put(sizes, x, n + 1);
     }
 }

@@ -2,13 +2,15 @@
 -- Nothing here need be believed.
 use mathlib.Core.Path.{_≡_}
 use mathlib.Core.List.{List, _++_, map}
-use Prim.Native.Nat.{ℕ, _+_, _-_, _≤_, _<_}
+use Prim.Native.Nat.{ℕ, suc, _+_, _-_, _≤_, _<_}
 use lib.ListN.{length, drop, getD, set}
-use Rattle.form.specs.Tree.{TypeForm, Given}
-use Rattle.form.specs.Codes.{Numbering, node, nameNumber, typeCodes, givenCodes}
+use Rattle.form.specs.Tree.{TypeForm, Declaration, declarations, Given, State, Operation, Pred, Dossier}
+use Rattle.form.specs.Codes.{Numbering, node, nameNumber, numberOfName, typeCodes, givenCodes, predWidth, abstractlyAt, declarationCodes, parameterCodes, conditionCodes, stateCodes, operationCodes}
+use Rattle.form.specs.Headings.{ainitAt, cinitAt, retrieveAt}
+use Rattle.symbols.specs.Symbols.{noEnding}
 use Rattle.reader.specs.Carriers.{sizeOf}
-use Rattle.names.specs.Inner.{Names, Sizes, entry, isFree, isGiven, key, unlessKey, lesser, overKey}
-use Rattle.names.specs.Passes.{Typed, typedCodes, typeKind, typeKey, shown, hidden, declaredKey, givensKey, givensNamed}
+use Rattle.names.specs.Inner.{Names, Sizes, entry, isFree, isGiven, key, unlessKey, lesser, insideKey, overKey, predKey}
+use Rattle.names.specs.Passes.{Typed, typedCodes, typeKind, typeKey, shown, hidden, declaredKey, givensKey, givensNamed, stateKey, stateNamed, reaching, leaving, operationKey, operationNamed, operationsKey, conditionsKey, conditionsNamed}
 
 -- a declared type, whose node begins at `at`
 abbrev pub TypeKinded : (code : List ℕ) (at : ℕ) (T : Names) (r : ℕ) → Type 0
@@ -76,3 +78,83 @@ pub record GivenSeen (code : List ℕ) (T U : Names) (z : Sizes) (r : ℕ) : Typ
   pub named : (gs : List Given) (i : ℕ) (ρ : Numbering) → code ≡ givenCodes i gs ρ → Fewer gs → r ≡ 0 → U ≡ givensNamed gs 0 T ρ
   pub sized : (gs : List Given) (i : ℕ) (ρ : Numbering) → code ≡ givenCodes i gs ρ → Fewer gs → r ≡ 0
       → (k : ℕ) → k < length gs → getD z k 0 ≡ getD (map sizeOf gs) k 0
+
+-- the end of declarations, of a predicate that begins at `at`, of an operation
+pub record DeclaredEnd (code : List ℕ) (r : ℕ) : Type 0 where
+  pub within : r ≤ length code
+  pub right : (xs : List Typed) (i : ℕ) (ρ : Numbering) (rest : List ℕ) → code ≡ typedCodes i xs ρ ++ rest → (getD rest 3 0 ≡ 6 → ⊥) → r ≡ length (typedCodes i xs ρ)
+
+pub record PredicateEnd (code : List ℕ) (at r : ℕ) : Type 0 where
+  pub behind : at ≤ r
+  pub within : r ≤ length code
+  pub right : (p : Pred) (i : ℕ) (ρ : Numbering) (rest : List ℕ) → drop at code ≡ conditionCodes i p ρ ++ rest → r ≡ at + length (conditionCodes i p ρ)
+
+abbrev pub operationCode : (i : ℕ) → Operation → Numbering → List ℕ
+operationCode i o ρ =
+    node 8 i (numberOfName ρ (o .title) noEnding) 0
+    ++ (parameterCodes (i + 2) (o .parameters) ρ
+    ++ (conditionCodes (abstractlyAt i o) (o .abstractly) ρ ++ conditionCodes (suc (abstractlyAt i o) + predWidth (o .abstractly)) (o .concretely) ρ))
+
+pub record OperationEnd (code : List ℕ) (at r : ℕ) : Type 0 where
+  pub behind : at + 4 ≤ r
+  pub within : r ≤ length code
+  pub right : (o : Operation) (i : ℕ) (ρ : Numbering) (rest : List ℕ) → drop at code ≡ operationCode i o ρ ++ rest → r ≡ at + length (operationCode i o ρ)
+
+-- a predicate with its node in front; a state
+pub record ConditionSeen (code : List ℕ) (T U : Names) (z : Sizes) (r : ℕ) : Type 0 where
+  pub kept : U ≡ T
+  pub right : (p : Pred) (i : ℕ) (ρ : Numbering) → code ≡ conditionCodes i p ρ → r ≡ predKey p T ρ z i
+
+pub record StateSeen (code : List ℕ) (T U : Names) (z : Sizes) (r : ℕ) : Type 0 where
+  pub right : (s : State) (i : ℕ) (ρ : Numbering) → code ≡ stateCodes i s ρ → r ≡ stateKey s T ρ z i
+  pub named : (s : State) (i : ℕ) (ρ : Numbering) → code ≡ stateCodes i s ρ → r ≡ 0 → U ≡ stateNamed s T ρ
+
+-- the variables of a state in reach, and out of reach; a predicate between
+abbrev pub ReachingSeen : (variables : List ℕ) (T U : Names) → Type 0
+ReachingSeen vs T U = (ds : List Declaration) (i : ℕ) (ρ : Numbering) → vs ≡ declarationCodes i ds ρ → U ≡ reaching ds T ρ
+
+abbrev pub LeavingSeen : (variables : List ℕ) (T U : Names) → Type 0
+LeavingSeen vs T U = (ds : List Declaration) (i : ℕ) (ρ : Numbering) → vs ≡ declarationCodes i ds ρ → U ≡ leaving ds T ρ
+
+pub record SideSeen (code variables : List ℕ) (T U : Names) (z : Sizes) (r : ℕ) : Type 0 where
+  pub right : (p : Pred) (ds : List Declaration) (i j : ℕ) (ρ : Numbering) → code ≡ conditionCodes i p ρ → variables ≡ declarationCodes j ds ρ
+      → r ≡ predKey p (reaching ds T ρ) ρ z i
+  pub named : (ds : List Declaration) (j : ℕ) (ρ : Numbering) → variables ≡ declarationCodes j ds ρ → U ≡ leaving ds (reaching ds T ρ) ρ
+
+-- the nodes of the variables of both states
+pub record Variables (av cv : List Declaration) (ρ : Numbering) (abstracts concretes : List ℕ) : Type 0 where
+  pub i : ℕ
+  pub j : ℕ
+  pub first : abstracts ≡ declarationCodes i av ρ
+  pub second : concretes ≡ declarationCodes j cv ρ
+
+pub record SidesSeen (code abstracts concretes : List ℕ) (T U : Names) (z : Sizes) (r : ℕ) : Type 0 where
+  pub right : (p q : Pred) (i j : ℕ) (av cv : List Declaration) (ρ : Numbering) → code ≡ conditionCodes i p ρ ++ conditionCodes j q ρ → Variables av cv ρ abstracts concretes
+      → r ≡ insideKey (predKey p (reaching av T ρ) ρ z i) (predKey q (reaching cv (leaving av (reaching av T ρ) ρ) ρ) ρ z j)
+  pub named : (p q : Pred) (i j : ℕ) (av cv : List Declaration) (ρ : Numbering) → code ≡ conditionCodes i p ρ ++ conditionCodes j q ρ → Variables av cv ρ abstracts concretes
+      → r ≡ 0 → U ≡ leaving cv (reaching cv (leaving av (reaching av T ρ) ρ) ρ) ρ
+
+pub record OperationSeen (code abstracts concretes : List ℕ) (T U : Names) (z : Sizes) (r : ℕ) : Type 0 where
+  pub right : (o : Operation) (i : ℕ) (av cv : List Declaration) (ρ : Numbering) → code ≡ operationCode i o ρ → Variables av cv ρ abstracts concretes
+      → r ≡ operationKey o av cv T ρ z i
+  pub named : (o : Operation) (i : ℕ) (av cv : List Declaration) (ρ : Numbering) → code ≡ operationCode i o ρ → Variables av cv ρ abstracts concretes
+      → r ≡ 0 → U ≡ operationNamed o av cv T ρ
+
+abbrev pub OperationsSeen : (code abstracts concretes : List ℕ) (T : Names) (z : Sizes) (r : ℕ) → Type 0
+OperationsSeen code abstracts concretes T z r =
+    (os : List Operation) (i : ℕ) (av cv : List Declaration) (ρ : Numbering)
+    → code ≡ operationCodes i os ρ
+    → Variables av cv ρ abstracts concretes
+    → r ≡ operationsKey os av cv T ρ z i
+
+-- ainit, cinit and retrieve
+abbrev pub threeCodes : Dossier → Numbering → List ℕ
+threeCodes d ρ =
+    conditionCodes (ainitAt d + 2) (d .ainit) ρ
+    ++ (conditionCodes (cinitAt d + 2) (d .cinit) ρ ++ conditionCodes (retrieveAt d + 2) (d .retrieve) ρ)
+
+pub record ConditionsSeen (code abstracts concretes : List ℕ) (T U : Names) (z : Sizes) (r : ℕ) : Type 0 where
+  pub right : (d : Dossier) (ρ : Numbering) → code ≡ threeCodes d ρ → Variables (declarations (d .abstract)) (declarations (d .concrete)) ρ abstracts concretes
+      → r ≡ conditionsKey d T ρ z
+  pub named : (d : Dossier) (ρ : Numbering) → code ≡ threeCodes d ρ → Variables (declarations (d .abstract)) (declarations (d .concrete)) ρ abstracts concretes
+      → r ≡ 0 → U ≡ conditionsNamed d T ρ

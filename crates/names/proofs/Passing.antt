@@ -6,7 +6,7 @@ use Prim.Native.Nat.{ℕ, suc, _+_, _-_, _≤_, _<_}
 use native.Mathlib.Nat.{add-zero, zero-add}
 use native.Mathlib.Omega.{arith}
 use lib.Dec.{eqb}
-use Rattle.form.specs.Headings.{operationLength}
+use Rattle.form.specs.Headings.{abstractAt, concreteAt, ainitAt, cinitAt, retrieveAt, operationsAt, operationLength}
 use lib.ListN.{length, take, drop, getD, set, length-drop, length-append}
 use lib.Seq.{getD-drop, drop-drop, drop-at, take-at, take-length, take-all}
 use Rattle.symbols.specs.Symbols.{Ending, noEnding}
@@ -14,8 +14,8 @@ use Rattle.form.specs.Tree.{Declaration, declarations, Parameter, Pred, State, 
 use Rattle.form.specs.Written.{endingOf}
 use Rattle.form.specs.Codes.{Numbering, node, numberOfName, predWidth, abstractlyAt, predCodes, typeWidth, declarationCodes, parameterCodes, conditionCodes, stateCodes, operationCodes}
 use Rattle.names.specs.Inner.{Names, Sizes, entry, isFree, key, unlessKey, predKey, insideKey, PredSeen}
-use Rattle.names.specs.Passes.{Typed, typedCodes, variablesOf, parametersOf, shown, hidden, declaredKey, predicateAt, stateKey, stateNamed, reaching, leaving, titleNamed, parametersShown, operationKey, operationNamed, operationsKey}
-use Rattle.names.specs.Parts.{typedCode, DeclaredEnd, PredicateEnd, ConditionSeen, DeclaredSeen, ShownSeen, HiddenSeen, StateSeen, ReachingSeen, LeavingSeen, SideSeen, SidesSeen, Variables, operationCode, OperationEnd, OperationSeen, OperationsSeen}
+use Rattle.names.specs.Passes.{Typed, typedCodes, variablesOf, parametersOf, shown, hidden, declaredKey, predicateAt, stateKey, stateNamed, reaching, leaving, titleNamed, parametersShown, operationKey, operationNamed, operationsKey, conditionsKey, conditionsNamed}
+use Rattle.names.specs.Parts.{typedCode, DeclaredEnd, PredicateEnd, ConditionSeen, DeclaredSeen, ShownSeen, HiddenSeen, StateSeen, ReachingSeen, LeavingSeen, SideSeen, SidesSeen, Variables, operationCode, OperationEnd, OperationSeen, OperationsSeen, threeCodes, ConditionsSeen, PartOf, VariablesOf, LaterSeen}
 use Rattle.names.specs.declared.Seen.{Seen}
 use Rattle.names.proofs.Declaring.{node-a, node-shape, typed-eight, inside-none, inside-some}
 
@@ -212,7 +212,7 @@ module _ (code rest vs cs : List ℕ) (n : ℕ) (end : DeclaredEnd rest n) (rest
               hid (variablesIn s) (suc i) ρ (state-front s i ρ e) ∙ ap (λ (c : Names). hidden (variablesIn s) 0 2 c ρ) (seen .kept ∙ t);
         }
 
-never-state : (code : List ℕ) → length code < 4 → (s : State) (i : ℕ) (ρ : Numbering) → code ≡ stateCodes i s ρ → ⊥
+pub never-state : (code : List ℕ) → length code < 4 → (s : State) (i : ℕ) (ρ : Numbering) → code ≡ stateCodes i s ρ → ⊥
 unfolding stateCodes
 never-state code h s i ρ e =
     let l : length code ≡ 4 + length (declarationCodes (suc i) (declarations s) ρ ++ conditionCodes (predicateAt i s) (s .predicate) ρ) = ap (λ (c : List ℕ). length c) e ∙ length-append (node 5 i 0 0) (declarationCodes (suc i) (declarations s) ρ ++ conditionCodes (predicateAt i s) (s .predicate) ρ) in
@@ -420,3 +420,235 @@ operation-short code A C T U z r h =
     never o i ρ e =
         let l : length code ≡ 4 + length (parameterCodes (i + 2) (o .parameters) ρ ++ (abstractCodes i o ρ ++ concreteCodes i o ρ)) = ap (λ (c : List ℕ). length c) e ∙ length-append (node 8 i (numberOfName ρ (o .title) noEnding) 0) (parameterCodes (i + 2) (o .parameters) ρ ++ (abstractCodes i o ρ ++ concreteCodes i o ρ)) in
         omega arith
+
+four-first : (a b : List ℕ) → length a ≡ 4 → 4 ≤ length (a ++ b)
+four-first a b e = let l = length-append a b in omega arith
+
+-- a walk over operations: those that are left have the first fault of all
+pub record Onward (code : List ℕ) (at : ℕ) (U : Names) (z : Sizes) (av cv : List Declaration) (ρ : Numbering) (v : ℕ) : Type 0 where
+  pub left : List Operation
+  pub place : ℕ
+  pub here : drop at code ≡ operationCodes place left ρ
+  pub same : operationsKey left av cv U ρ z place ≡ v
+
+abbrev pub Operations-on : (code A C : List ℕ) (at : ℕ) (T U : Names) (z : Sizes) → Type 0
+Operations-on code A C at T U z =
+    (os : List Operation) (i : ℕ) (av cv : List Declaration) (ρ : Numbering) → code ≡ operationCodes i os ρ → Variables av cv ρ A C
+    → Onward code at U z av cv ρ (operationsKey os av cv T ρ z i)
+
+pub onward-start : (code A C : List ℕ) (T : Names) (z : Sizes) → Operations-on code A C 0 T T z
+onward-start code A C T z os i av cv ρ e v = record { left = os; place = i; here = e; same = refl }
+
+first-operation : (o : Operation) (os : List Operation) (i : ℕ) (ρ : Numbering) → operationCodes i (o ∷ os) ρ ≡ operationCode i o ρ ++ operationCodes (i + operationLength o) os ρ
+unfolding operationCodes
+first-operation o os i ρ =
+    let n = node 8 i (numberOfName ρ (o .title) noEnding) 0 in
+    let p = parameterCodes (i + 2) (o .parameters) ρ in
+    let a = abstractCodes i o ρ in
+    let c = concreteCodes i o ρ in
+    let r = operationCodes (i + operationLength o) os ρ in
+    sym (ap (λ (l : List ℕ). n ++ l) (append-assoc p (a ++ c) r ∙ ap (λ (l : List ℕ). p ++ l) (append-assoc a c r)))
+
+no-operation : (i : ℕ) (ρ : Numbering) → length (operationCodes i [] ρ) ≡ 0
+unfolding operationCodes
+no-operation i ρ = refl
+
+module _ (code A C part : List ℕ) (at n : ℕ) (U U' : Names) (z : Sizes) (f : ℕ) (room : at + 4 ≤ length code) (end : OperationEnd code at n)
+    (part-is : part ≡ take (n - at) (drop at code)) (seen : OperationSeen part A C U U' z f) (av cv : List Declaration) (ρ : Numbering) (vs : Variables av cv ρ A C) (v : ℕ) where
+  none-left : (j : ℕ) → drop at code ≡ operationCodes j [] ρ → ⊥
+  none-left j e = let l : length code - at ≡ 0 = sym (length-drop at code) ∙ (ap (λ (l : List ℕ). length l) e ∙ no-operation j ρ) in omega arith
+
+  module _ (o : Operation) (os : List Operation) (j : ℕ) (e : drop at code ≡ operationCodes j (o ∷ os) ρ) where
+    split : drop at code ≡ operationCode j o ρ ++ operationCodes (j + operationLength o) os ρ
+    split = e ∙ first-operation o os j ρ
+
+    end-at : n ≡ at + length (operationCode j o ρ)
+    end-at = end .right o j ρ (operationCodes (j + operationLength o) os ρ) split
+
+    part-first : part ≡ operationCode j o ρ
+    part-first = part-is ∙ front (drop at code) (n - at) (operationCode j o ρ) (operationCodes (j + operationLength o) os ρ) split (let q = end-at in omega arith)
+
+    part-behind : drop n code ≡ operationCodes (j + operationLength o) os ρ
+    part-behind =
+        ap (λ (m : ℕ). drop m code) end-at
+        ∙ (sym (drop-drop (length (operationCode j o ρ)) at code)
+        ∙ back (drop at code) (length (operationCode j o ρ)) (operationCode j o ρ) (operationCodes (j + operationLength o) os ρ) split refl)
+
+  onward-step : f ≡ 0 → (os : List Operation) (j : ℕ) → drop at code ≡ operationCodes j os ρ → operationsKey os av cv U ρ z j ≡ v → Onward code n U' z av cv ρ v
+  unfolding operationsKey
+  onward-step q [] j e s = elim (none-left j e) [ ]
+  onward-step q (o ∷ os) j e s =
+      let d = seen .right o j av cv ρ (part-first o os j e) vs in
+      let t = seen .named o j av cv ρ (part-first o os j e) vs q in
+      record {
+        left = os;
+        place = j + operationLength o;
+        here = part-behind o os j e;
+        same =
+            ap (λ (c : Names). operationsKey os av cv c ρ z (j + operationLength o)) t
+            ∙ (sym (inside-none (operationKey o av cv U ρ z j) (operationsKey os av cv (operationNamed o av cv U ρ) ρ z (j + operationLength o)) (sym d ∙ q)) ∙ s);
+      }
+
+  onward-stop : (f ≡ 0 → ⊥) → (os : List Operation) (j : ℕ) → drop at code ≡ operationCodes j os ρ → operationsKey os av cv U ρ z j ≡ v → f ≡ v
+  unfolding operationsKey
+  onward-stop q [] j e s = elim (none-left j e) [ ]
+  onward-stop q (o ∷ os) j e s =
+      let d = seen .right o j av cv ρ (part-first o os j e) vs in
+      d ∙ (sym (inside-some (operationKey o av cv U ρ z j) (operationsKey os av cv (operationNamed o av cv U ρ) ρ z (j + operationLength o)) (λ w. q (d ∙ w))) ∙ s)
+
+onward-end : (code : List ℕ) (at : ℕ) (U : Names) (z : Sizes) (av cv : List Declaration) (ρ : Numbering) (v : ℕ) → length code < at + 4
+    → (os : List Operation) (j : ℕ) → drop at code ≡ operationCodes j os ρ → operationsKey os av cv U ρ z j ≡ v → 0 ≡ v
+unfolding operationsKey
+onward-end code at U z av cv ρ v h [] j e s = s
+onward-end code at U z av cv ρ v h (o ∷ os) j e s = elim (long (length (operationCode j o ρ ++ operationCodes (j + operationLength o) os ρ)) all more) [ ]
+  where
+    long : (n : ℕ) → length code - at ≡ n → 4 ≤ n → ⊥
+    long n p q = omega arith
+
+    all : length code - at ≡ length (operationCode j o ρ ++ operationCodes (j + operationLength o) os ρ)
+    all = sym (length-drop at code) ∙ ap (λ (l : List ℕ). length l) (e ∙ first-operation o os j ρ)
+
+    more : 4 ≤ length (operationCode j o ρ ++ operationCodes (j + operationLength o) os ρ)
+    more = four-first (node 8 j (numberOfName ρ (o .title) noEnding) 0) ((parameterCodes (j + 2) (o .parameters) ρ ++ (abstractCodes j o ρ ++ concreteCodes j o ρ)) ++ operationCodes (j + operationLength o) os ρ) refl
+
+pub operations-on : (code A C part : List ℕ) (at n : ℕ) (T U U' : Names) (z : Sizes) (f : ℕ) → at + 4 ≤ length code → OperationEnd code at n → part ≡ take (n - at) (drop at code)
+    → OperationSeen part A C U U' z f → f ≡ 0 → Operations-on code A C at T U z → Operations-on code A C n T U' z
+operations-on code A C part at n T U U' z f room end is seen q w os i av cv ρ e v =
+    let r = w os i av cv ρ e v in
+    onward-step code A C part at n U U' z f room end is seen av cv ρ v (operationsKey os av cv T ρ z i) q (r .left) (r .place) (r .here) (r .same)
+
+pub operations-stopped : (code A C part : List ℕ) (at n : ℕ) (T U U' : Names) (z : Sizes) (f : ℕ) → at + 4 ≤ length code → OperationEnd code at n → part ≡ take (n - at) (drop at code)
+    → OperationSeen part A C U U' z f → (f ≡ 0 → ⊥) → Operations-on code A C at T U z → OperationsSeen code A C T z f
+operations-stopped code A C part at n T U U' z f room end is seen q w os i av cv ρ e v =
+    let r = w os i av cv ρ e v in
+    onward-stop code A C part at n U U' z f room end is seen av cv ρ v (operationsKey os av cv T ρ z i) q (r .left) (r .place) (r .here) (r .same)
+
+pub operations-ended : (code A C : List ℕ) (at : ℕ) (T U : Names) (z : Sizes) → length code < at + 4 → Operations-on code A C at T U z → OperationsSeen code A C T z 0
+operations-ended code A C at T U z h w os i av cv ρ e v =
+    let r = w os i av cv ρ e v in onward-end code at U z av cv ρ (operationsKey os av cv T ρ z i) h (r .left) (r .place) (r .here) (r .same)
+
+-- ainit, cinit and retrieve, one behind the other
+module _ (code fs bs cs : List ℕ) (p q : ℕ) (pe : PredicateEnd code 0 p) (qe : PredicateEnd code p q) (fs-is : fs ≡ take p code) (bs-is : bs ≡ take (q - p) (drop p code))
+    (cs-is : cs ≡ drop q code) (d : Dossier) (ρ : Numbering) (e : code ≡ threeCodes d ρ) where
+  abbrev ainitCodes : List ℕ
+  ainitCodes = conditionCodes (ainitAt d + 2) (d .ainit) ρ
+
+  abbrev cinitCodes : List ℕ
+  cinitCodes = conditionCodes (cinitAt d + 2) (d .cinit) ρ
+
+  abbrev retrieveCodes : List ℕ
+  retrieveCodes = conditionCodes (retrieveAt d + 2) (d .retrieve) ρ
+
+  ainit-end : p ≡ length ainitCodes
+  ainit-end = pe .right (d .ainit) (ainitAt d + 2) ρ (cinitCodes ++ retrieveCodes) e ∙ zero-add (length ainitCodes)
+
+  behind-ainit : drop p code ≡ cinitCodes ++ retrieveCodes
+  behind-ainit = back code p ainitCodes (cinitCodes ++ retrieveCodes) e ainit-end
+
+  cinit-end : q ≡ p + length cinitCodes
+  cinit-end = qe .right (d .cinit) (cinitAt d + 2) ρ retrieveCodes behind-ainit
+
+  pub ainit-part : fs ≡ ainitCodes
+  ainit-part = fs-is ∙ front code p ainitCodes (cinitCodes ++ retrieveCodes) e ainit-end
+
+  pub cinit-part : bs ≡ cinitCodes
+  cinit-part = bs-is ∙ front (drop p code) (q - p) cinitCodes retrieveCodes behind-ainit (let l = cinit-end in omega arith)
+
+  pub retrieve-part : cs ≡ retrieveCodes
+  retrieve-part =
+      cs-is
+      ∙ (ap (λ (n : ℕ). drop n code) cinit-end
+      ∙ (sym (drop-drop (length cinitCodes) p code) ∙ back (drop p code) (length cinitCodes) cinitCodes retrieveCodes behind-ainit refl))
+
+module _ (code A C fs : List ℕ) (p q : ℕ) (pe : PredicateEnd code 0 p) (qe : PredicateEnd code p q) (fs-is : fs ≡ take p code) (T T₁ T₂ : Names) (z : Sizes) (f : ℕ)
+    (one : ShownSeen A 0 T T₁) (seen : ConditionSeen fs T₁ T₂ z f) where
+  abbrev firstOf : Dossier → List Typed
+  firstOf d = variablesIn (d .abstract)
+
+  abbrev secondOf : Dossier → List Typed
+  secondOf d = variablesIn (d .concrete)
+
+  module _ (d : Dossier) (ρ : Numbering) (v : Variables (declarations (d .abstract)) (declarations (d .concrete)) ρ A C) where
+    abstract-variables : A ≡ typedCodes (v .i) (firstOf d) ρ
+    abstract-variables = v .first ∙ sym (variables-codes (v .i) (declarations (d .abstract)) ρ)
+
+    concrete-variables : C ≡ typedCodes (v .j) (secondOf d) ρ
+    concrete-variables = v .second ∙ sym (variables-codes (v .j) (declarations (d .concrete)) ρ)
+
+    with-abstract : T₁ ≡ shown (firstOf d) 0 T ρ
+    with-abstract = one (firstOf d) (v .i) ρ abstract-variables
+
+    ainit-fault : code ≡ threeCodes d ρ → f ≡ predKey (d .ainit) (shown (firstOf d) 0 T ρ) ρ z (ainitAt d + 2)
+    ainit-fault e =
+        seen .right (d .ainit) (ainitAt d + 2) ρ (ainit-part code fs (take (q - p) (drop p code)) (drop q code) p q pe qe fs-is refl refl d ρ e)
+        ∙ ap (λ (t : Names). predKey (d .ainit) t ρ z (ainitAt d + 2)) with-abstract
+
+  abbrev afterAbstract : Dossier → Numbering → Names
+  afterAbstract d ρ = hidden (firstOf d) 0 2 (shown (firstOf d) 0 T ρ) ρ
+
+  abbrev withConcrete : Dossier → Numbering → Names
+  withConcrete d ρ = shown (secondOf d) 0 (afterAbstract d ρ) ρ
+
+  abbrev cinitKey : Dossier → Numbering → ℕ
+  cinitKey d ρ = predKey (d .cinit) (withConcrete d ρ) ρ z (cinitAt d + 2)
+
+  abbrev retrieveKey : Dossier → Numbering → ℕ
+  retrieveKey d ρ = predKey (d .retrieve) (shown (firstOf d) 0 (withConcrete d ρ) ρ) ρ z (retrieveAt d + 2)
+
+  pub conditions-first : (f ≡ 0 → ⊥) → (U : Names) → ConditionsSeen code A C T U z f
+  unfolding conditionsKey
+  conditions-first not U =
+      record {
+        right =
+            λ d ρ e v.
+            let k = ainit-fault d ρ v e in
+            k ∙ sym (inside-some (predKey (d .ainit) (shown (firstOf d) 0 T ρ) ρ z (ainitAt d + 2)) (insideKey (cinitKey d ρ) (retrieveKey d ρ)) (λ w. not (k ∙ w)));
+        named = λ d ρ e v w. elim (not w) [ ];
+      }
+
+  module _ (f-none : f ≡ 0) (bs : List ℕ) (bs-is : bs ≡ take (q - p) (drop p code)) (T₃ T₄ T₅ : Names) (g : ℕ) (hid : HiddenSeen A 0 2 T₂ T₃) (two : ShownSeen C 0 T₃ T₄)
+      (seen₂ : ConditionSeen bs T₄ T₅ z g) where
+    module _ (d : Dossier) (ρ : Numbering) (v : Variables (declarations (d .abstract)) (declarations (d .concrete)) ρ A C) where
+      with-concrete : T₄ ≡ withConcrete d ρ
+      with-concrete =
+          two (secondOf d) (v .j) ρ (concrete-variables d ρ v)
+          ∙ ap (λ (t : Names). shown (secondOf d) 0 t ρ)
+          (hid (firstOf d) (v .i) ρ (abstract-variables d ρ v) ∙ ap (λ (t : Names). hidden (firstOf d) 0 2 t ρ) (seen .kept ∙ with-abstract d ρ v))
+
+      cinit-fault : code ≡ threeCodes d ρ → g ≡ cinitKey d ρ
+      cinit-fault e =
+          seen₂ .right (d .cinit) (cinitAt d + 2) ρ (cinit-part code fs bs (drop q code) p q pe qe fs-is bs-is refl d ρ e)
+          ∙ ap (λ (t : Names). predKey (d .cinit) t ρ z (cinitAt d + 2)) with-concrete
+
+    pub conditions-second : (g ≡ 0 → ⊥) → (U : Names) → ConditionsSeen code A C T U z g
+    unfolding conditionsKey
+    conditions-second not U =
+        record {
+          right =
+              λ d ρ e v.
+              let k = cinit-fault d ρ v e in
+              k
+              ∙ (sym (inside-some (cinitKey d ρ) (retrieveKey d ρ) (λ w. not (k ∙ w)))
+              ∙ sym (inside-none (predKey (d .ainit) (shown (firstOf d) 0 T ρ) ρ z (ainitAt d + 2)) (insideKey (cinitKey d ρ) (retrieveKey d ρ)) (sym (ainit-fault d ρ v e) ∙ f-none)));
+          named = λ d ρ e v w. elim (not w) [ ];
+        }
+
+    pub conditions-third : g ≡ 0 → (cs : List ℕ) → cs ≡ drop q code → (T₆ T₇ T₈ U : Names) (h : ℕ) → ShownSeen A 0 T₅ T₆ → ConditionSeen cs T₆ T₇ z h → HiddenSeen A 0 2 T₇ T₈
+        → HiddenSeen C 0 2 T₈ U → ConditionsSeen code A C T U z h
+    unfolding conditionsKey conditionsNamed
+    conditions-third g-none cs cs-is T₆ T₇ T₈ U h three seen₃ hid₂ hid₃ =
+        record {
+          right =
+              λ d ρ e v.
+              let t : T₆ ≡ shown (firstOf d) 0 (withConcrete d ρ) ρ = three (firstOf d) (v .i) ρ (abstract-variables d ρ v) ∙ ap (λ (t : Names). shown (firstOf d) 0 t ρ) (seen₂ .kept ∙ with-concrete d ρ v) in
+              seen₃ .right (d .retrieve) (retrieveAt d + 2) ρ (retrieve-part code fs bs cs p q pe qe fs-is bs-is cs-is d ρ e)
+              ∙ (ap (λ (t : Names). predKey (d .retrieve) t ρ z (retrieveAt d + 2)) t
+              ∙ (sym (inside-none (cinitKey d ρ) (retrieveKey d ρ) (sym (cinit-fault d ρ v e) ∙ g-none))
+              ∙ sym (inside-none (predKey (d .ainit) (shown (firstOf d) 0 T ρ) ρ z (ainitAt d + 2)) (insideKey (cinitKey d ρ) (retrieveKey d ρ)) (sym (ainit-fault d ρ v e) ∙ f-none))));
+          named =
+              λ d ρ e v w.
+              let t : T₆ ≡ shown (firstOf d) 0 (withConcrete d ρ) ρ = three (firstOf d) (v .i) ρ (abstract-variables d ρ v) ∙ ap (λ (t : Names). shown (firstOf d) 0 t ρ) (seen₂ .kept ∙ with-concrete d ρ v) in
+              hid₃ (secondOf d) (v .j) ρ (concrete-variables d ρ v)
+              ∙ ap (λ (t : Names). hidden (secondOf d) 0 2 t ρ)
+              (hid₂ (firstOf d) (v .i) ρ (abstract-variables d ρ v) ∙ ap (λ (t : Names). hidden (firstOf d) 0 2 t ρ) (seen₃ .kept ∙ t));
+        }

@@ -3,14 +3,14 @@
 use mathlib.Core.Path.{_≡_}
 use mathlib.Core.List.{List, _++_, map}
 use Prim.Native.Nat.{ℕ, suc, _+_, _-_, _≤_, _<_}
-use lib.ListN.{length, drop, getD, set}
+use lib.ListN.{length, take, drop, getD, set, replicate}
 use Rattle.form.specs.Tree.{TypeForm, Declaration, declarations, Given, State, Operation, Pred, Dossier}
 use Rattle.form.specs.Codes.{Numbering, node, nameNumber, numberOfName, typeCodes, givenCodes, predWidth, abstractlyAt, declarationCodes, parameterCodes, conditionCodes, stateCodes, operationCodes}
-use Rattle.form.specs.Headings.{ainitAt, cinitAt, retrieveAt}
+use Rattle.form.specs.Headings.{givensAt, abstractAt, concreteAt, ainitAt, cinitAt, retrieveAt, operationsAt}
 use Rattle.symbols.specs.Symbols.{noEnding}
 use Rattle.reader.specs.Carriers.{sizeOf}
 use Rattle.names.specs.Inner.{Names, Sizes, entry, isFree, isGiven, key, unlessKey, lesser, insideKey, overKey, predKey}
-use Rattle.names.specs.Passes.{Typed, typedCodes, typeKind, typeKey, shown, hidden, declaredKey, givensKey, givensNamed, stateKey, stateNamed, reaching, leaving, operationKey, operationNamed, operationsKey, conditionsKey, conditionsNamed}
+use Rattle.names.specs.Passes.{Typed, typedCodes, typeKind, typeKey, shown, hidden, declaredKey, givensKey, givensNamed, stateKey, stateNamed, reaching, leaving, operationKey, operationNamed, operationsKey, conditionsKey, conditionsNamed, dossierKey}
 
 -- a declared type, whose node begins at `at`
 abbrev pub TypeKinded : (code : List ℕ) (at : ℕ) (T : Names) (r : ℕ) → Type 0
@@ -158,3 +158,38 @@ pub record ConditionsSeen (code abstracts concretes : List ℕ) (T U : Names) (z
       → r ≡ conditionsKey d T ρ z
   pub named : (d : Dossier) (ρ : Numbering) → code ≡ threeCodes d ρ → Variables (declarations (d .abstract)) (declarations (d .concrete)) ρ abstracts concretes
       → r ≡ 0 → U ≡ conditionsNamed d T ρ
+
+-- some of the nodes; the variables of a state
+abbrev pub PartOf : (nodes : List ℕ) (from to : ℕ) (r : List ℕ) → Type 0
+PartOf nodes from to r = from ≤ to → to ≤ length nodes → r ≡ take (to - from) (drop from nodes)
+
+abbrev pub VariablesOf : (code r : List ℕ) → Type 0
+VariablesOf code r = (s : State) (i : ℕ) (ρ : Numbering) → code ≡ stateCodes i s ρ → r ≡ declarationCodes (suc i) (declarations s) ρ
+
+-- what stands behind the states
+abbrev pub LaterSeen : (three last abstracts concretes : List ℕ) (T : Names) (z : Sizes) (r : ℕ) → Type 0
+LaterSeen three last abstracts concretes T z r =
+    (d : Dossier) (ρ : Numbering)
+    → three ≡ threeCodes d ρ
+    → last ≡ operationCodes (operationsAt d) (d .operations) ρ
+    → abstracts ≡ stateCodes (abstractAt d) (d .abstract) ρ
+    → concretes ≡ stateCodes (concreteAt d) (d .concrete) ρ
+    → r ≡ insideKey (conditionsKey d T ρ z) (operationsKey (d .operations) (declarations (d .abstract)) (declarations (d .concrete)) (conditionsNamed d T ρ) ρ z (operationsAt d))
+
+-- the parts of a dossier stand between the places
+pub record Placed (nodes : List ℕ) (m givens abstracts concretes ainit after : ℕ) (d : Dossier) (ρ : Numbering) : Type 0 where
+  pub inside : m ≤ length nodes
+  pub ordered : (givens ≤ abstracts) × (abstracts ≤ concretes) × (concretes ≤ ainit) × (ainit ≤ after) × (after ≤ m)
+  pub givenPart : take (abstracts - givens) (drop givens nodes) ≡ givenCodes (givensAt d) (d .givens) ρ
+  pub abstractPart : take (concretes - abstracts) (drop abstracts nodes) ≡ stateCodes (abstractAt d) (d .abstract) ρ
+  pub concretePart : take (ainit - concretes) (drop concretes nodes) ≡ stateCodes (concreteAt d) (d .concrete) ρ
+  pub conditionPart : take (after - ainit) (drop ainit nodes) ≡ threeCodes d ρ
+  pub operationPart : take (m - after) (drop after nodes) ≡ operationCodes (operationsAt d) (d .operations) ρ
+
+-- the whole pass, from a table of n names that are free
+pub record CheckSeen (nodes : List ℕ) (m givens abstracts concretes ainit after n : ℕ) (z : Sizes) (r : ℕ) : Type 0 where
+  pub right : (d : Dossier) (ρ : Numbering) → Placed nodes m givens abstracts concretes ainit after d ρ → Fewer (d .givens)
+      → r ≡ dossierKey d (replicate n 0) ρ z
+  pub sized : (d : Dossier) (ρ : Numbering) → Placed nodes m givens abstracts concretes ainit after d ρ → Fewer (d .givens)
+      → givensKey (d .givens) 0 (replicate n 0) ρ (givensAt d) ≡ 0
+      → (k : ℕ) → k < length (d .givens) → getD z k 0 ≡ getD (map sizeOf (d .givens)) k 0

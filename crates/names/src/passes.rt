@@ -1,9 +1,10 @@
 // The pass over a whole dossier, in the order of the text: the first fault is the least.
 ghost use mathlib.Core.Path.{_≡_};
 ghost use Prim.Native.Nat.{_+_, _≤_};
-ghost use lib.ListN.{length, getD};
-ghost use Rattle.names.specs.Parts.{DeclaredEnd, PredicateEnd, OperationEnd, ConditionSeen, StateSeen, ReachingSeen, LeavingSeen, SideSeen, SidesSeen, OperationSeen, OperationsSeen, ConditionsSeen};
+ghost use lib.ListN.{length, getD, replicate};
+ghost use Rattle.names.specs.Parts.{DeclaredEnd, PredicateEnd, OperationEnd, ConditionSeen, StateSeen, ReachingSeen, LeavingSeen, SideSeen, SidesSeen, OperationSeen, OperationsSeen, ConditionsSeen, PartOf, VariablesOf, LaterSeen, CheckSeen};
 use crate::declared::declare;
+use crate::declared::give;
 use crate::declared::hide;
 use crate::declared::show;
 use crate::kinds::index;
@@ -206,4 +207,96 @@ fn conditions(
     hide(abstracts, 0, 2, names);
     hide(concretes, 0, 2, names);
     h
+}
+
+// All numbers become 0.
+fn clear(a: &mut [u16])
+    ensures { λ r. ⌜ now (a .exit) ≡ replicate (length (now (a .entry))) 0 ⌝ }
+{
+    let mut i: usize = 0;
+    while i < a.len() {
+        a[i] = 0;
+        i += 1;
+    }
+}
+
+// The nodes from one place to another; none where the places are not in order.
+fn part(nodes: &[u16], from: usize, to: usize) -> &[u16]
+    ensures { λ r. ⌜ PartOf (now (nodes .entry)) from to (now r) ⌝ }
+{
+    if from <= to {
+        if to <= nodes.len() {
+            return &nodes[from..to];
+        }
+    }
+    &nodes[..0]
+}
+
+// The nodes of the variables of a state.
+fn variables_of(code: &[u16]) -> &[u16]
+    ensures { λ r. ⌜ VariablesOf (now (code .entry)) (now r) ⌝ }
+{
+    if code.len() < 4 {
+        return code;
+    }
+    let rest = &code[4..];
+    let e = declared_end(rest);
+    &rest[..e]
+}
+
+// What stands behind the states, which are given.
+fn later(
+    three: &[u16],
+    last: &[u16],
+    abstracts: &[u16],
+    concretes: &[u16],
+    names: &mut [u16],
+    sizes: &[u16],
+) -> u32
+    ensures { λ r. ⌜ LaterSeen (now (three .entry)) (now (last .entry)) (now (abstracts .entry)) (now (concretes .entry)) (now (names .entry)) (now (sizes .entry)) r ⌝ }
+{
+    let av = variables_of(abstracts);
+    let cv = variables_of(concretes);
+    let f = conditions(three, av, cv, names, sizes);
+    if f != 0 {
+        return f;
+    }
+    operations(last, av, cv, names, sizes)
+}
+
+// The least fault of the pass (place * 16 + number + 1, places by symbols), or 0. The nodes are a dossier's, up to m; the places are where its parts begin.
+pub fn check(
+    nodes: &[u16],
+    m: usize,
+    givens: usize,
+    abstracts: usize,
+    concretes: usize,
+    ainit: usize,
+    after: usize,
+    names: &mut [u16],
+    sizes: &mut [u16],
+) -> u32
+    requires { ⌜ 8 ≤ length (now sizes) ⌝ }
+    ensures { λ r. ⌜ CheckSeen (now (nodes .entry)) m givens abstracts concretes ainit after (length (now (names .entry))) (now (sizes .exit)) r ⌝ }
+{
+    clear(names);
+    clear(sizes);
+    let first = part(nodes, givens, abstracts);
+    let f = give(first, names, sizes);
+    if f != 0 {
+        return f;
+    }
+    let one = part(nodes, abstracts, concretes);
+    let a = state(one, names, sizes);
+    if a != 0 {
+        return a;
+    }
+    let two = part(nodes, concretes, ainit);
+    let c = state(two, names, sizes);
+    if c != 0 {
+        return c;
+    }
+    let three = part(nodes, ainit, after);
+    let last = part(nodes, after, m);
+    later(three, last, one, two, names, sizes)
 }

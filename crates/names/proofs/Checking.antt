@@ -1,23 +1,23 @@
 -- The whole pass: its tables are cleared, and its parts are those of a dossier.
 use mathlib.Core.Path.{_≡_, refl, ap, ap₂, sym, _∙_}
 use mathlib.Core.Bool.{Bool, true, false}
-use mathlib.Core.List.{List, [], _∷_, _++_, map}
+use mathlib.Core.List.{List, [], _∷_, _++_, map, append-assoc}
 use Prim.Native.Nat.{ℕ, zero, suc, _+_, _-_, _≤_, _<_}
 use native.Mathlib.Omega.{arith}
 use lib.Dec.{eqb}
 use borrow.Author.Tests.{eqb-true, eqb-false}
-use lib.ListN.{length, take, drop, getD, set, replicate, length-replicate}
-use lib.Seq.{ext-getD, getD-set-same, getD-set-other}
+use lib.ListN.{length, take, drop, getD, set, replicate, length-replicate, length-append, take-append-drop}
+use lib.Seq.{drop-drop, length-take-le, ext-getD, getD-set-same, getD-set-other}
 use Rattle.symbols.specs.Symbols.{noEnding}
 use Rattle.form.specs.Tree.{Declaration, declarations, State, Operation, Dossier}
-use Rattle.form.specs.Headings.{givensAt, abstractAt, concreteAt, operationsAt}
-use Rattle.form.specs.Codes.{Numbering, givenCodes, declarationCodes, stateCodes, operationCodes}
+use Rattle.form.specs.Headings.{givensAt, abstractAt, concreteAt, ainitAt, cinitAt, retrieveAt, operationsAt}
+use Rattle.form.specs.Codes.{Numbering, contentsCodes, conditionCodes, dossierCodes, givenCodes, declarationCodes, stateCodes, operationCodes}
 use Rattle.reader.specs.Carriers.{sizeOf}
 use Rattle.names.specs.Inner.{Names, Sizes, insideKey}
 use Rattle.names.specs.Passes.{givensKey, givensNamed, stateKey, stateNamed, conditionsKey, conditionsNamed, operationsKey, dossierKey}
 use Rattle.names.specs.Parts.{DeclaredEnd, Fewer, GivenSeen, StateSeen, ConditionsSeen, OperationsSeen, Variables, threeCodes, PartOf, VariablesOf, LaterSeen, Placed, CheckSeen}
 use Rattle.names.proofs.Declaring.{inside-none, inside-some}
-use Rattle.names.proofs.Passing.{never-state, state-front, variables-codes}
+use Rattle.names.proofs.Passing.{never-state, state-front, variables-codes, front, back}
 
 zeros-at : (n k : ℕ) → _≡_ {A = ℕ} (getD (replicate n 0) k 0) 0
 zeros-at zero k = refl
@@ -185,3 +185,74 @@ module _ (nodes : List ℕ) (m gi ab co ai af n : ℕ) (first : List ℕ) (first
                 ∙ (sym (inside-none (concreteKey d ρ) (laterKey d ρ (namesThree d ρ)) (sym (two-fault d ρ at few) ∙ c-none)) ∙ past-one d ρ at few));
             sized = sizes-right;
           }
+
+-- one part, and what stands behind it
+next-part : (nodes x q : List ℕ) (k j : ℕ) → drop k nodes ≡ x ++ q → j ≡ k + length x → take (j - k) (drop k nodes) ≡ x
+next-part nodes x q k j e l = front (drop k nodes) (j - k) x q e (omega arith)
+
+next-rest : (nodes x q : List ℕ) (k j : ℕ) → drop k nodes ≡ x ++ q → j ≡ k + length x → drop j nodes ≡ q
+next-rest nodes x q k j e l = ap (λ (n : ℕ). drop n nodes) l ∙ (sym (drop-drop (length x) k nodes) ∙ back (drop k nodes) (length x) x q e refl)
+
+-- the parts of a dossier's nodes, where the places are the lengths of what stands in front
+module _ (nodes : List ℕ) (m : ℕ) (d : Dossier) (ρ : Numbering) (inside : m ≤ length nodes) (e : take m nodes ≡ dossierCodes d ρ) (g a c i o : ℕ) (g-is : g ≡ length (contentsCodes d ρ))
+    (a-is : a ≡ g + length (givenCodes (givensAt d) (d .givens) ρ)) (c-is : c ≡ a + length (stateCodes (abstractAt d) (d .abstract) ρ))
+    (i-is : i ≡ c + length (stateCodes (concreteAt d) (d .concrete) ρ)) (o-is : o ≡ i + length (threeCodes d ρ)) where
+  abbrev G : List ℕ
+  G = givenCodes (givensAt d) (d .givens) ρ
+
+  abbrev S : List ℕ
+  S = stateCodes (abstractAt d) (d .abstract) ρ
+
+  abbrev S' : List ℕ
+  S' = stateCodes (concreteAt d) (d .concrete) ρ
+
+  abbrev O : List ℕ
+  O = operationCodes (operationsAt d) (d .operations) ρ
+
+  grouped : dossierCodes d ρ ≡ contentsCodes d ρ ++ (G ++ (S ++ (S' ++ (threeCodes d ρ ++ O))))
+  unfolding dossierCodes
+  grouped =
+      let x = conditionCodes (ainitAt d + 2) (d .ainit) ρ in
+      let y = conditionCodes (cinitAt d + 2) (d .cinit) ρ in
+      let w = conditionCodes (retrieveAt d + 2) (d .retrieve) ρ in
+      sym (ap (λ (l : List ℕ). contentsCodes d ρ ++ (G ++ (S ++ (S' ++ l)))) (append-assoc x (y ++ w) O ∙ ap (λ (l : List ℕ). x ++ l) (append-assoc y w O)))
+
+  all : nodes ≡ contentsCodes d ρ ++ (G ++ (S ++ (S' ++ (threeCodes d ρ ++ (O ++ drop m nodes)))))
+  all =
+      sym (take-append-drop m nodes)
+      ∙ (ap (λ (l : List ℕ). l ++ drop m nodes) (e ∙ grouped) ∙ simp append-assoc)
+
+  total : m ≡ o + length O
+  total =
+      let t : m ≡ length (contentsCodes d ρ ++ (G ++ (S ++ (S' ++ (threeCodes d ρ ++ O))))) = sym (length-take-le m nodes inside) ∙ ap (λ (l : List ℕ). length l) (e ∙ grouped) in
+      let l₁ = length-append (contentsCodes d ρ) (G ++ (S ++ (S' ++ (threeCodes d ρ ++ O)))) in
+      let l₂ = length-append G (S ++ (S' ++ (threeCodes d ρ ++ O))) in
+      let l₃ = length-append S (S' ++ (threeCodes d ρ ++ O)) in
+      let l₄ = length-append S' (threeCodes d ρ ++ O) in
+      let l₅ = length-append (threeCodes d ρ) O in
+      omega arith
+
+  from-givens : drop g nodes ≡ G ++ (S ++ (S' ++ (threeCodes d ρ ++ (O ++ drop m nodes))))
+  from-givens = back nodes g (contentsCodes d ρ) (G ++ (S ++ (S' ++ (threeCodes d ρ ++ (O ++ drop m nodes))))) all g-is
+
+  from-abstract : drop a nodes ≡ S ++ (S' ++ (threeCodes d ρ ++ (O ++ drop m nodes)))
+  from-abstract = next-rest nodes G (S ++ (S' ++ (threeCodes d ρ ++ (O ++ drop m nodes)))) g a from-givens a-is
+
+  from-concrete : drop c nodes ≡ S' ++ (threeCodes d ρ ++ (O ++ drop m nodes))
+  from-concrete = next-rest nodes S (S' ++ (threeCodes d ρ ++ (O ++ drop m nodes))) a c from-abstract c-is
+
+  from-ainit : drop i nodes ≡ threeCodes d ρ ++ (O ++ drop m nodes)
+  from-ainit = next-rest nodes S' (threeCodes d ρ ++ (O ++ drop m nodes)) c i from-concrete i-is
+
+  pub placed : Placed nodes m g a c i o d ρ
+  placed =
+      let t = total in
+      record {
+        inside = inside;
+        ordered = omega arith;
+        givenPart = next-part nodes G (S ++ (S' ++ (threeCodes d ρ ++ (O ++ drop m nodes)))) g a from-givens a-is;
+        abstractPart = next-part nodes S (S' ++ (threeCodes d ρ ++ (O ++ drop m nodes))) a c from-abstract c-is;
+        concretePart = next-part nodes S' (threeCodes d ρ ++ (O ++ drop m nodes)) c i from-concrete i-is;
+        conditionPart = next-part nodes (threeCodes d ρ) (O ++ drop m nodes) i o from-ainit o-is;
+        operationPart = next-part nodes O (drop m nodes) o m (next-rest nodes (threeCodes d ρ) (O ++ drop m nodes) i o from-ainit o-is) total;
+      }

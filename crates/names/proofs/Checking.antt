@@ -1,17 +1,16 @@
 -- The whole pass: its tables are cleared, and its parts are those of a dossier.
-use mathlib.Core.Path.{_≡_, refl, ap, ap₂, sym, _∙_}
+use mathlib.Core.Path.{_≡_, refl, ap, sym, _∙_}
 use mathlib.Core.Bool.{Bool, true, false}
-use mathlib.Core.List.{List, [], _∷_, _++_, map, append-assoc}
+use mathlib.Core.List.{List, _++_, map, append-assoc}
 use Prim.Native.Nat.{ℕ, zero, suc, _+_, _-_, _≤_, _<_}
 use native.Mathlib.Omega.{arith}
 use lib.Dec.{eqb}
 use borrow.Author.Tests.{eqb-true, eqb-false}
 use lib.ListN.{length, take, drop, getD, set, replicate, length-replicate, length-append, take-append-drop}
 use lib.Seq.{drop-drop, length-take-le, ext-getD, getD-set-same, getD-set-other}
-use Rattle.symbols.specs.Symbols.{noEnding}
-use Rattle.form.specs.Tree.{Declaration, declarations, State, Operation, Dossier}
+use Rattle.form.specs.Tree.{declarations, Dossier}
 use Rattle.form.specs.Headings.{givensAt, abstractAt, concreteAt, ainitAt, cinitAt, retrieveAt, operationsAt}
-use Rattle.form.specs.Codes.{Numbering, contentsCodes, conditionCodes, dossierCodes, givenCodes, declarationCodes, stateCodes, operationCodes}
+use Rattle.form.specs.Codes.{Numbering, contentsCodes, conditionCodes, dossierCodes, givenCodes, stateCodes, operationCodes}
 use Rattle.reader.specs.Carriers.{sizeOf}
 use Rattle.names.specs.Inner.{Names, Sizes, insideKey}
 use Rattle.names.specs.Passes.{givensKey, givensNamed, stateKey, stateNamed, conditionsKey, conditionsNamed, operationsKey, dossierKey}

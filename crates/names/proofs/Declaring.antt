@@ -2,14 +2,14 @@
 use mathlib.Core.Path.{_≡_, refl, ap, ap₂, sym, _∙_}
 use mathlib.Core.Bool.{Bool, true, false, cond}
 use mathlib.Core.List.{List, [], _∷_, _++_}
-use Prim.Native.Nat.{ℕ, suc, _+_, _-_, _≤_, _<_}
+use Prim.Native.Nat.{ℕ, _+_, _-_, _≤_, _<_}
 use native.Mathlib.Nat.{add-zero}
 use native.Mathlib.Omega.{arith}
 use lib.Dec.{eqb, leb}
 use lib.ListN.{length, drop, getD, set, length-drop, length-append}
 use lib.Seq.{getD-drop, drop-drop, drop-at}
 use borrow.Author.Tests.{ne-eqb, leb-true}
-use Rattle.form.specs.Tree.{TypeForm, givenType, powerType, rangeType, arrowType, Arrow, relation, partial, total}
+use Rattle.form.specs.Tree.{TypeForm, givenType, powerType, rangeType, arrowType, relation, partial, total}
 use Rattle.form.specs.Codes.{Numbering, node, nameNumber, endNumber, endWidth, arrowNumber, typeCodes, typeWidth}
 use Rattle.names.specs.Inner.{Names, Sizes, entry, isFree, lesser, insideKey, isGiven, elementOf, setOf, pairOf, key, unlessKey, rangeFits, productFits, overKey, domainKey}
 use Rattle.names.specs.Passes.{Typed, typedCodes, typeKind, typeKey, shown, hidden, declaredKey}

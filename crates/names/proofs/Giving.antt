@@ -1,15 +1,15 @@
 -- The walk over the nodes of given sets: titles and elements, the names that they make, and how many elements each set has.
 use mathlib.Core.Path.{_≡_, refl, ap, ap₂, sym, _∙_}
-use mathlib.Core.Bool.{Bool, true, false, cond}
+use mathlib.Core.Bool.{Bool, true, false}
 use mathlib.Core.List.{List, [], _∷_, _++_, map}
-use Prim.Native.Nat.{ℕ, zero, suc, _+_, _-_, _≤_, _<_}
+use Prim.Native.Nat.{ℕ, suc, _+_, _-_, _≤_, _<_}
 use native.Mathlib.Nat.{add-zero, zero-add}
 use native.Mathlib.Numerals.{add-one}
 use native.Mathlib.Omega.{arith}
-use lib.Dec.{eqb, ltb}
+use lib.Dec.{ltb}
 use borrow.Author.Tests.{ltb-true, ltb-false}
 use lib.ListN.{length, drop, getD, set, length-drop, length-append, length-map}
-use lib.Seq.{getD-drop, drop-drop, drop-at, getD-set-same, getD-set-other}
+use lib.Seq.{drop-drop, getD-set-same, getD-set-other}
 use Rattle.symbols.specs.Symbols.{noEnding}
 use Rattle.form.specs.Tree.{Letters, Given, elements}
 use Rattle.form.specs.Headings.{givenLength}

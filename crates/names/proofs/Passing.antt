@@ -1,23 +1,22 @@
 -- The parts of a dossier by their nodes: where each ends, and what the pass makes of it.
 use mathlib.Core.Path.{_≡_, refl, ap, ap₂, sym, _∙_}
-use mathlib.Core.Bool.{Bool, true, false, cond}
 use mathlib.Core.List.{List, [], _∷_, _++_, append-assoc}
 use Prim.Native.Nat.{ℕ, suc, _+_, _-_, _≤_, _<_}
 use native.Mathlib.Nat.{add-zero, zero-add}
 use native.Mathlib.Omega.{arith}
 use lib.Dec.{eqb}
-use Rattle.form.specs.Headings.{abstractAt, concreteAt, ainitAt, cinitAt, retrieveAt, operationsAt, operationLength}
+use Rattle.form.specs.Headings.{ainitAt, cinitAt, retrieveAt, operationLength}
 use lib.ListN.{length, take, drop, getD, set, length-drop, length-append}
 use lib.Seq.{getD-drop, drop-drop, drop-at, take-at, take-length, take-all}
-use Rattle.symbols.specs.Symbols.{Ending, noEnding}
+use Rattle.symbols.specs.Symbols.{noEnding}
 use Rattle.form.specs.Tree.{Declaration, declarations, Parameter, Pred, State, Operation, Dossier}
 use Rattle.form.specs.Written.{endingOf}
 use Rattle.form.specs.Codes.{Numbering, node, numberOfName, predWidth, abstractlyAt, predCodes, typeWidth, declarationCodes, parameterCodes, conditionCodes, stateCodes, operationCodes}
 use Rattle.names.specs.Inner.{Names, Sizes, entry, isFree, key, unlessKey, predKey, insideKey, PredSeen}
 use Rattle.names.specs.Passes.{Typed, typedCodes, variablesOf, parametersOf, shown, hidden, declaredKey, predicateAt, stateKey, stateNamed, reaching, leaving, titleNamed, parametersShown, operationKey, operationNamed, operationsKey, conditionsKey, conditionsNamed}
-use Rattle.names.specs.Parts.{typedCode, DeclaredEnd, PredicateEnd, ConditionSeen, DeclaredSeen, ShownSeen, HiddenSeen, StateSeen, ReachingSeen, LeavingSeen, SideSeen, SidesSeen, Variables, operationCode, OperationEnd, OperationSeen, OperationsSeen, threeCodes, ConditionsSeen, PartOf, VariablesOf, LaterSeen}
+use Rattle.names.specs.Parts.{typedCode, DeclaredEnd, PredicateEnd, ConditionSeen, DeclaredSeen, ShownSeen, HiddenSeen, StateSeen, ReachingSeen, LeavingSeen, SideSeen, SidesSeen, Variables, operationCode, OperationEnd, OperationSeen, OperationsSeen, threeCodes, ConditionsSeen}
 use Rattle.names.specs.declared.Seen.{Seen}
-use Rattle.names.proofs.Declaring.{node-a, node-shape, typed-eight, inside-none, inside-some}
+use Rattle.names.proofs.Declaring.{node-a, typed-eight, inside-none, inside-some}
 
 -- the nodes of variables and of parameters are those of their names with their types
 pub variables-codes : (i : ℕ) (ds : List Declaration) (ρ : Numbering) → typedCodes i (variablesOf noEnding ds) ρ ≡ declarationCodes i ds ρ

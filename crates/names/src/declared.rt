@@ -2,7 +2,7 @@
 ghost use mathlib.Core.Path.{_≡_};
 ghost use Prim.Native.Nat.{_+_, _≤_, _<_};
 ghost use lib.ListN.{length};
-ghost use Rattle.names.specs.Inner.{isGiven, overKey, key, unlessKey};
+ghost use Rattle.names.specs.Inner.{overKey};
 ghost use Rattle.names.specs.Parts.{TypeKinded, TypeFaulted, pairsKeyAt, DeclarationFaulted, Reached, DeclaredSeen, ShownSeen, HiddenSeen, Counted, GivenFaulted, GivenKind, SizeCounted, GivenSeen};
 use crate::kinds::element_of;
 use crate::kinds::index;

@@ -1,7 +1,7 @@
 // The pass over a whole dossier, in the order of the text: the first fault is the least.
 ghost use mathlib.Core.Path.{_≡_};
 ghost use Prim.Native.Nat.{_+_, _≤_};
-ghost use lib.ListN.{length, getD, replicate};
+ghost use lib.ListN.{length, replicate};
 ghost use Rattle.names.specs.Parts.{DeclaredEnd, PredicateEnd, OperationEnd, ConditionSeen, StateSeen, ReachingSeen, LeavingSeen, SideSeen, SidesSeen, OperationSeen, OperationsSeen, ConditionsSeen, PartOf, VariablesOf, LaterSeen, CheckSeen};
 use crate::declared::declare;
 use crate::declared::give;

@@ -3,6 +3,10 @@ pub mod Numbers
 pub mod Backwards
 pub mod BackwardsTerms
 pub mod BackwardsPreds
+pub mod Checking
+pub mod Declaring
+pub mod Giving
+pub mod Passing
 pub mod Showing
 pub mod JudgedLeast
 pub mod JudgedWidths

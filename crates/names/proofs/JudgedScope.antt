@@ -28,19 +28,19 @@ pub any-there : {A : Type 0} (f : A → Bool) (x : A) (xs : List A) → f x ≡ 
 unfolding any
 any-there f x xs e = ap (λ (b : Bool). elim b [ true ↦ true | false ↦ any f xs ]) e
 
-find-here : {A : Type 0} (f : A → Bool) (x : A) (xs : List A) → f x ≡ true → find f (x ∷ xs) ≡ some x
+pub find-here : {A : Type 0} (f : A → Bool) (x : A) (xs : List A) → f x ≡ true → find f (x ∷ xs) ≡ some x
 unfolding find
 find-here f x xs e = ap (λ (b : Bool). elim b [ true ↦ some x | false ↦ find f xs ]) e
 
-find-there : {A : Type 0} (f : A → Bool) (x : A) (xs : List A) → f x ≡ false → find f (x ∷ xs) ≡ find f xs
+pub find-there : {A : Type 0} (f : A → Bool) (x : A) (xs : List A) → f x ≡ false → find f (x ∷ xs) ≡ find f xs
 unfolding find
 find-there f x xs e = ap (λ (b : Bool). elim b [ true ↦ some x | false ↦ find f xs ]) e
 
-index-here : (g : Given) (gs : List Given) (x : Letters) → same (g .title) x ≡ true → indexOf (g ∷ gs) x ≡ 0
+pub index-here : (g : Given) (gs : List Given) (x : Letters) → same (g .title) x ≡ true → indexOf (g ∷ gs) x ≡ 0
 unfolding indexOf
 index-here g gs x e = ap (λ (b : Bool). elim b as (λ (c : Bool). ℕ) [ true ↦ 0 | false ↦ suc (indexOf gs x) ]) e
 
-index-there : (g : Given) (gs : List Given) (x : Letters) → same (g .title) x ≡ false → indexOf (g ∷ gs) x ≡ suc (indexOf gs x)
+pub index-there : (g : Given) (gs : List Given) (x : Letters) → same (g .title) x ≡ false → indexOf (g ∷ gs) x ≡ suc (indexOf gs x)
 unfolding indexOf
 index-there g gs x e = ap (λ (b : Bool). elim b as (λ (c : Bool). ℕ) [ true ↦ 0 | false ↦ suc (indexOf gs x) ]) e
 
@@ -90,7 +90,7 @@ found-plain (h ∷ gs) l g e = on (same (h .title) l) refl (found-plain gs l g) 
     on false p r e = found-there h gs (plain l) g p (r e)
 
 -- a name with an ending is no given set's
-ended : (gs : List Given) (l : Letters) (e : Ending) → ((t : Letters) → sameName (plain t) (record { letters = l; ending = e }) ≡ false)
+pub ended : (gs : List Given) (l : Letters) (e : Ending) → ((t : Letters) → sameName (plain t) (record { letters = l; ending = e }) ≡ false)
     → givenOf gs (record { letters = l; ending = e }) ≡ none
 unfolding givenOf find
 ended [] l e h = refl

@@ -71,7 +71,7 @@ end-length e w = at (e .negative)
     at true = omega arith
     at false = omega arith
 
-range-length : (r : Range) (w : List Written) → length (writeRange r w) ≡ wideRange r + length w
+pub range-length : (r : Range) (w : List Written) → length (writeRange r w) ≡ wideRange r + length w
 range-length r w = omega (arith, end-length (r .lower) (bare kind.upTo ∷ writeEnd (r .upper) w), end-length (r .upper) w)
 
 domain-length : (t : Domain) (w : List Written) → length (writeDomain t w) ≡ wideDomain t + length w
@@ -103,7 +103,7 @@ mutual
   pairs-length (alsoPair t u ts) d k w =
       omega (arith, term-length t d k (bare kind.maplet ∷ writeTerm u d k (bare kind.comma ∷ writePairs ts d k w)), term-length u d k (bare kind.comma ∷ writePairs ts d k w), pairs-length ts d k w)
 
-  pred-length : (p : Pred) (d k : ℕ) (w : List Written) → length (writePred p d k w) ≡ widePred p + length w
+  pub pred-length : (p : Pred) (d k : ℕ) (w : List Written) → length (writePred p d k w) ≡ widePred p + length w
   pred-length truth d k w = omega arith
   pred-length falsity d k w = omega arith
   pred-length (negation p) d k w = omega (arith, pred-length p (suc d) k w)

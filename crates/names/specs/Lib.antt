@@ -1,2 +1,3 @@
 pub mod Inner
+pub mod Parts
 pub mod Passes

@@ -1,5 +1,7 @@
 // Names and types: numbers 8, 9, 10, 11 and 14 of document 01, over the nodes of a dossier.
+mod declared;
 mod kinds;
+mod passes;
 mod types;
 
 // The type of a tree, its least fault (place * 16 + number + 1) or 0, and where its nodes begin.

@@ -1,0 +1,1 @@
+-- Sizes by numbers are the sizes of the definitions.

@@ -1,1 +1,3 @@
 -- Sizes by numbers are the sizes of the definitions.
+pub mod MeasuredScope
+pub mod MeasuredWidths

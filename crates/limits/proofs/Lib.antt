@@ -1,3 +1,5 @@
 -- Sizes by numbers are the sizes of the definitions.
 pub mod MeasuredScope
 pub mod MeasuredWidths
+pub mod MeasuredParts
+pub mod Measured

@@ -3,3 +3,4 @@ pub mod MeasuredScope
 pub mod MeasuredWidths
 pub mod MeasuredParts
 pub mod Measured
+pub mod Counted

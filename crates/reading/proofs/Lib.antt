@@ -1,1 +1,4 @@
 -- What the passes of a text hand on.
+pub mod Occurring
+pub mod Few
+pub mod Named

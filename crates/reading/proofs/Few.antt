@@ -1,20 +1,19 @@
 -- A dossier without faults of form has at most eight given sets, and at most eight elements in each.
 use mathlib.Core.Path.{_≡_, refl, ap, _∙_, sym, subst}
 use mathlib.Core.Bool.{Bool, true, false}
-use mathlib.Core.List.{List, [], _∷_, _++_, map}
-use mathlib.Core.Option.{Option, some}
+use mathlib.Core.List.{List, [], _∷_, map}
+use mathlib.Core.Option.{some}
 use Prim.Native.Nat.{ℕ, zero, suc, pred, _+_, _≤_, _<_}
 use native.Mathlib.Omega.{arith}
 use lib.Dec.{ltb}
 use lib.ListN.{length, take, drop, getD, take-append-drop, length-map}
 use borrow.Author.Tests.{ltb-true, ltb-false, lt-ltb}
-use Rattle.symbols.specs.Kinds as kind
 use Rattle.symbols.specs.Kinds.{Kind}
-use Rattle.symbols.specs.Symbols.{Symbol, fixed}
-use Rattle.symbols.specs.Refusals.{Refusal, manyDeclared}
+use Rattle.symbols.specs.Symbols.{Symbol}
+use Rattle.symbols.specs.Refusals.{manyDeclared}
 use Rattle.form.specs.Tree.{Letters, Given, Dossier}
 use Rattle.form.specs.Written.{Mark, unmarked, aGiven, anElement, Written, writeElements, writeGivens, written, symbolsOf}
-use Rattle.form.specs.Form.{Whole, Begins, TooMuch, FormFault, atMark, Forms, kindAt, refuse, excess, settled}
+use Rattle.form.specs.Form.{Whole, Begins, atMark, Forms, kindAt, refuse, excess, settled}
 use Rattle.parser.proofs.Kept as kept
 use Rattle.reader.specs.Carriers.{sizeOf}
 use Rattle.names.specs.Parts.{Fewer}
@@ -37,7 +36,7 @@ marked : {m : Mark} {u : List Written} → Has m u → Marked m u
 marked (here e) = record { at = 0; inside = omega arith; is = e }
 marked (there h) = let k = marked h in let l = k .inside in record { at = suc (k .at); inside = omega arith; is = k .is }
 
--- a mark that no text may have stands at no symbol of a dossier without faults
+-- a mark over a limit stands at no symbol of a dossier without faults
 no-mark : {w : List Symbol} {d : Dossier} → Forms w d → (m : Mark) → ((k s : Kind) (rest : List Symbol) → settled k s rest m ≡ some manyDeclared) → ¬ Has m (written d)
 unfolding symbolsOf
 no-mark {w} {d} f m over h =

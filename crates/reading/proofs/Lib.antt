@@ -2,3 +2,4 @@
 pub mod Occurring
 pub mod Few
 pub mod Named
+pub mod Least

@@ -1,17 +1,17 @@
 -- Where all names of a dossier's symbols have letters of P and all numbers are at most 1,000, so it is with the dossier's trees.
-use mathlib.Core.Path.{_≡_, refl, subst}
+use mathlib.Core.Path.{subst}
 use mathlib.Core.Bool.{Bool, true, false}
 use mathlib.Core.List.{List, [], _∷_}
-use Prim.Native.Nat.{ℕ, _≤_}
+use Prim.Native.Nat.{_≤_}
 use Rattle.symbols.specs.Kinds.{Kind}
-use Rattle.symbols.specs.Symbols.{Ending, noEnding, Symbol, fixed, numeral}
+use Rattle.symbols.specs.Symbols.{noEnding, Symbol, numeral}
 use Rattle.form.specs.Tree.{Letters, End, Range, Domain, givenSet, range}
 use Rattle.form.specs.Tree.{Term, number, name, group, prefix, binary, divided, listed, pairs, such, emptySet, emptyPairs, Items, only, also, Pairs, onlyPair, alsoPair}
 use Rattle.form.specs.Tree.{Pred, truth, falsity, negation, paren, quantified, connected, compared, member, within, related}
-use Rattle.form.specs.Tree.{TypeForm, givenType, powerType, rangeType, arrowType, Declaration, declarations, Parameter, Given, State, Operation, Dossier}
+use Rattle.form.specs.Tree.{TypeForm, givenType, powerType, rangeType, arrowType, Declaration, declarations, Parameter, Given, Operation, Dossier}
 use Rattle.form.specs.Written.{symbolsOf}
 use Rattle.form.proofs.Plain.{plainMinus, plainEnd, plainRange, plainDomain, plainTerm, plainItems, plainPairs, plainPred, plainType, plainEntries, plainElements, plainGivens}
-use Rattle.form.proofs.Plain.{plainDeclarations, plainWhere, plainState, plainParameters, plainOperations, plainDossier, dossier-plain}
+use Rattle.form.proofs.Plain.{plainDeclarations, plainWhere, plainParameters, plainOperations, plainDossier, dossier-plain}
 use Rattle.names.specs.Passes.{variablesOf, parametersOf}
 use Rattle.names.proofs.Showing.{RangeIn, DomainIn, TermIn, ItemsIn, PairsIn, PredIn}
 use Rattle.names.proofs.PassedTypes.{TypeIn}
@@ -19,7 +19,7 @@ use Rattle.names.proofs.PassedDeclared.{TypedIn, no-typed, one-typed}
 use Rattle.names.proofs.PassedGivens.{AllIn, none-in, one-in, GivensIn, no-givens, one-given}
 use Rattle.names.proofs.PassedOperations.{OperationsIn, no-operations, one-operation}
 use Rattle.names.proofs.Passed.{DossierIn}
-use Rattle.reading.proofs.Occurring.{Fits, AllFit, none-fit, one-fits}
+use Rattle.reading.proofs.Occurring.{Fits, AllFit, one-fits}
 
 module _ (P : Letters → Type 0) where
   first : {s : Symbol} {w : List Symbol} → AllFit P (s ∷ w) → Fits P s

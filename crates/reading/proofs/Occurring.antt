@@ -1,12 +1,11 @@
 -- The letters of a text, and that each has a number of its own.
 use mathlib.Core.Path.{_≡_, refl, ap, _∙_, sym, subst}
 use mathlib.Core.List.{List, [], _∷_}
-use Prim.Native.Nat.{ℕ, zero, suc, _≤_}
+use Prim.Native.Nat.{ℕ, suc, _≤_}
 use lib.ListN.{getD}
 use Rattle.symbols.specs.Kinds as kind
 use Rattle.symbols.specs.Symbols.{Name, Symbol, fixed, numeral, name}
 use Rattle.form.specs.Tree.{Letters}
-use Rattle.form.specs.Codes.{Numbering}
 use Rattle.parser.specs.Promises.{textSymbols, numbering}
 use Rattle.parser.specs.Sections.{Tells}
 use Rattle.parser.proofs.Standing.{Small, Text}

@@ -1,0 +1,114 @@
+-- A dossier without faults of form has at most eight given sets, and at most eight elements in each.
+use mathlib.Core.Path.{_≡_, refl, ap, _∙_, sym, subst}
+use mathlib.Core.Bool.{Bool, true, false}
+use mathlib.Core.List.{List, [], _∷_, map}
+use mathlib.Core.Option.{some}
+use Prim.Native.Nat.{ℕ, zero, suc, pred, _+_, _≤_, _<_}
+use native.Mathlib.Omega.{arith}
+use lib.Dec.{ltb}
+use lib.ListN.{length, take, drop, getD, take-append-drop, length-map}
+use borrow.Author.Tests.{ltb-true, ltb-false, lt-ltb}
+use Rattle.symbols.specs.Kinds.{Kind}
+use Rattle.symbols.specs.Symbols.{Symbol}
+use Rattle.symbols.specs.Refusals.{manyDeclared}
+use Rattle.form.specs.Tree.{Letters, Given, Dossier}
+use Rattle.form.specs.Written.{Mark, unmarked, aGiven, anElement, Written, writeElements, writeGivens, written, symbolsOf}
+use Rattle.form.specs.Form.{Whole, Begins, atMark, Forms, kindAt, refuse, excess, settled}
+use Rattle.parser.proofs.Kept as kept
+use Rattle.reader.specs.Carriers.{sizeOf}
+use Rattle.names.specs.Parts.{Fewer}
+
+-- some symbol has the mark
+data Has (m : Mark) : List Written → Type 0 where
+  here : {x : Written} {u : List Written} → x .mark ≡ m → Has m (x ∷ u)
+  there : {x : Written} {u : List Written} → Has m u → Has m (x ∷ u)
+
+-- it has it still with more symbols in front
+behind : (m : Mark) (x y : Written) (u v : List Written) → Has m u → Has m (x ∷ u)
+behind m x y u v h = there h
+
+record Marked (m : Mark) (u : List Written) : Type 0 where
+  at : ℕ
+  inside : at < length u
+  is : getD (map (λ (x : Written). x .mark) u) at unmarked ≡ m
+
+marked : {m : Mark} {u : List Written} → Has m u → Marked m u
+marked (here e) = record { at = 0; inside = omega arith; is = e }
+marked (there h) = let k = marked h in let l = k .inside in record { at = suc (k .at); inside = omega arith; is = k .is }
+
+-- a mark over a limit stands at no symbol of a dossier without faults
+no-mark : {w : List Symbol} {d : Dossier} → Forms w d → (m : Mark) → ((k s : Kind) (rest : List Symbol) → settled k s rest m ≡ some manyDeclared) → ¬ Has m (written d)
+unfolding symbolsOf
+no-mark {w} {d} f m over h =
+    let k = marked h in
+    let l = k .inside in
+    let n : length w ≡ length (written d) = ap (length {A = Symbol}) (sym (f .whole .symbols)) ∙ length-map (written d) (λ (x : Written). x .symbol) in
+    let b : Begins (take (suc (k .at)) w) =
+    record {
+      dossier = d;
+      rest = drop (suc (k .at)) w;
+      whole = subst (λ (u : List Symbol). Whole u d) (sym (take-append-drop (suc (k .at)) w)) (f .whole);
+    } in
+    f .faultless (k .at) manyDeclared
+    (atMark
+    (record {
+      inside = omega arith;
+      begins = b;
+      over = ap (settled (kindAt w (pred (k .at))) (kindAt w (k .at)) (drop (suc (k .at)) w)) (k .is) ∙ over _ _ _;
+    }))
+
+refused : (n : ℕ) → 9 ≤ n → refuse (ltb 8 n) manyDeclared ≡ some manyDeclared
+unfolding refuse
+refused n l = ap (λ (b : Bool). refuse b manyDeclared) (lt-ltb 8 n l)
+
+given-over : (n : ℕ) → 9 ≤ n → (k s : Kind) (rest : List Symbol) → settled k s rest (aGiven n) ≡ some manyDeclared
+unfolding settled excess
+given-over n l k s rest = refused n l
+
+element-over : (n : ℕ) → 9 ≤ n → (k s : Kind) (rest : List Symbol) → settled k s rest (anElement n) ≡ some manyDeclared
+unfolding settled excess
+element-over n l k s rest = refused n l
+
+-- no mark of a family has a number over 8
+abbrev None : (ℕ → Mark) → List Written → Type 0
+None m u = (n : ℕ) → 9 ≤ n → ¬ Has (m n) u
+
+-- one more of a list, after n of them
+one-more : (n k : ℕ) → ¬ (9 ≤ suc n) → (suc n ≤ 8 → suc n + k ≤ 8) → n + suc k ≤ 8
+one-more n k h r = on (ltb 8 (suc n)) refl
+  where
+    on : (b : Bool) → ltb 8 (suc n) ≡ b → n + suc k ≤ 8
+    on true e = absurd (h (ltb-true 8 (suc n) e))
+    on false e = let m = r (ltb-false 8 (suc n) e) in omega arith
+
+few-elements : (n : ℕ) (xs : List Letters) (w : List Written) → None anElement (writeElements n xs w) → n ≤ 8 → n + length xs ≤ 8
+unfolding writeElements
+few-elements n [] w h l = omega arith
+few-elements n (x ∷ xs) w h l = one-more n (length xs) (λ q. h (suc n) q (here refl)) (few-elements (suc n) xs w (λ k q p. h k q (there p)))
+
+few-sets : (n : ℕ) (gs : List Given) (w : List Written) → None aGiven (writeGivens n gs w) → n ≤ 8 → n + length gs ≤ 8
+unfolding writeGivens
+few-sets n [] w h l = omega arith
+few-sets n (g ∷ gs) w h l =
+    one-more n (length gs) (λ q. h (suc n) q (there (here refl)))
+    (few-sets (suc n) gs w
+    (λ k q p. h k q (there (there (kept.elements (λ u v. Has (aGiven k) u) (behind (aGiven k)) 0 0 (g .firstElement ∷ g .otherElements) _ [] (there p))))))
+
+few-in-each : (n : ℕ) (gs : List Given) (w : List Written) → None anElement (writeGivens n gs w) → (k : ℕ) → getD (map sizeOf gs) k 0 ≤ 8
+unfolding writeGivens
+few-in-each n [] w h k = omega arith
+few-in-each n (g ∷ gs) w h zero =
+    let m = few-elements 0 (g .firstElement ∷ g .otherElements) _ (λ k q p. h k q (there (there p))) (omega arith) in omega arith
+few-in-each n (g ∷ gs) w h (suc k) =
+    few-in-each (suc n) gs w
+    (λ i q p. h i q (there (there (kept.elements (λ u v. Has (anElement i) u) (behind (anElement i)) 0 0 (g .firstElement ∷ g .otherElements) _ [] (there p)))))
+    k
+
+pub forms-fewer : {w : List Symbol} {d : Dossier} → Forms w d → Fewer (d .givens)
+unfolding written
+forms-fewer {w} {d} f =
+    let m = few-sets 0 (d .givens) _ (λ n l h. no-mark f (aGiven n) (given-over n l) (kept.contents (λ u v. Has (aGiven n) u) (behind (aGiven n)) d _ [] h)) (omega arith) in
+    record {
+      sets = omega arith;
+      elements = few-in-each 0 (d .givens) _ (λ n l h. no-mark f (anElement n) (element-over n l) (kept.contents (λ u v. Has (anElement n) u) (behind (anElement n)) d _ [] h));
+    }

@@ -1,0 +1,5 @@
+-- What the passes of a text hand on.
+pub mod Occurring
+pub mod Few
+pub mod Named
+pub mod Least

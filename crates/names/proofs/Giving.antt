@@ -1,5 +1,5 @@
 -- The walk over the nodes of given sets: titles and elements, the names that they make, and how many elements each set has.
-use mathlib.Core.Path.{_≡_, refl, ap, ap₂, sym, _∙_}
+use mathlib.Core.Path.{_≡_, refl, ap, ap₂, sym, _∙_, subst}
 use mathlib.Core.Bool.{Bool, true, false}
 use mathlib.Core.List.{List, [], _∷_, _++_, map}
 use Prim.Native.Nat.{ℕ, suc, _+_, _-_, _≤_, _<_}
@@ -17,7 +17,7 @@ use Rattle.form.specs.Codes.{Numbering, node, numberOfName, elementCodes, given
 use Rattle.reader.specs.Carriers.{sizeOf}
 use Rattle.names.specs.Inner.{Names, Sizes, entry, isFree, key, unlessKey, insideKey}
 use Rattle.names.specs.Passes.{elementsKey, elementsNamed, givensKey, givensNamed}
-use Rattle.names.specs.Parts.{Counted, GivenFaulted, GivenKind, SizeCounted, Fewer}
+use Rattle.names.specs.Parts.{Counted, GivenFaulted, GivenKind, SizeCounted, Fewer, GivenSeen}
 use Rattle.names.proofs.Declaring.{node-a, node-place, node-shape, inside-none, inside-some}
 
 -- what is left at a place, where g given sets have begun: elements of the last one, and further sets
@@ -256,3 +256,7 @@ module _ (code : List ℕ) (at g : ℕ) (T : Names) (z : Sizes) (ρ : Numbering)
 
   pub ended : length code < at + 4 → Left code at g T z ρ fault names target → Ended
   ended room r = ending room (r .es) (r .gs) (r .j) (r .l) (r .here) (r .few) (r .faults) (r .named) (r .done) (r .last)
+
+-- the same from an equal table
+pub given-from : {code T T' U z : List ℕ} {r : ℕ} → T ≡ T' → GivenSeen code T U z r → GivenSeen code T' U z r
+given-from {code} {T} {T'} {U} {z} {r} e s = subst (λ (X : List ℕ). GivenSeen code X U z r) e s

@@ -18,7 +18,7 @@ use crate::kinds::unless;
 use crate::kinds::wide;
 
 // What a name of a declared type is: the type's node begins at `at`.
-pub fn type_kind(code: &[u16], at: usize, names: &[u16]) -> u16
+pub(crate) fn type_kind(code: &[u16], at: usize, names: &[u16]) -> u16
     requires { ⌜ at + 4 ≤ length (now code) ⌝ }
     ensures { λ r. ⌜ TypeKinded (now (code .entry)) at (now (names .entry)) r ⌝ }
 {
@@ -32,7 +32,7 @@ pub fn type_kind(code: &[u16], at: usize, names: &[u16]) -> u16
 }
 
 // The first fault of a declared type.
-pub fn type_fault(code: &[u16], at: usize, names: &[u16], sizes: &[u16]) -> u32
+pub(crate) fn type_fault(code: &[u16], at: usize, names: &[u16], sizes: &[u16]) -> u32
     requires { ⌜ at + 4 ≤ length (now code) ⌝ }
     ensures { λ r. ⌜ TypeFaulted (now (code .entry)) at (now (names .entry)) (now (sizes .entry)) r ⌝ }
 {
@@ -110,7 +110,7 @@ fn reach(code: &[u16], at: usize, shift: usize, names: &mut [u16])
 }
 
 // Declared names come into reach.
-pub fn show(code: &[u16], shift: usize, names: &mut [u16])
+pub(crate) fn show(code: &[u16], shift: usize, names: &mut [u16])
     requires { ⌜ shift < 65536 ⌝ }
     ensures { λ r. ⌜ ShownSeen (now (code .entry)) shift (now (names .entry)) (now (names .exit)) ⌝ }
 {
@@ -122,7 +122,7 @@ pub fn show(code: &[u16], shift: usize, names: &mut [u16])
 }
 
 // Declared names become k.
-pub fn hide(code: &[u16], shift: usize, k: u16, names: &mut [u16])
+pub(crate) fn hide(code: &[u16], shift: usize, k: u16, names: &mut [u16])
     requires { ⌜ shift < 65536 ⌝ }
     ensures { λ r. ⌜ HiddenSeen (now (code .entry)) shift k (now (names .entry)) (now (names .exit)) ⌝ }
 {
@@ -134,7 +134,7 @@ pub fn hide(code: &[u16], shift: usize, k: u16, names: &mut [u16])
 }
 
 // The given sets, and how many elements each has: the first fault.
-pub fn give(code: &[u16], names: &mut [u16], sizes: &mut [u16]) -> u32
+pub(crate) fn give(code: &[u16], names: &mut [u16], sizes: &mut [u16]) -> u32
     requires { ⌜ 8 ≤ length (now sizes) ⌝ }
     ensures { λ r. ⌜ GivenSeen (now (code .entry)) (now (names .entry)) (now (names .exit)) (now (sizes .exit)) r ⌝ }
 {

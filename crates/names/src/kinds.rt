@@ -134,7 +134,7 @@ pub fn shared_kind(k: u16, l: u16) -> u16
 }
 
 // The fault with the number n at the place i, unless all is well.
-pub fn unless(ok: bool, i: u32, n: u32) -> u32
+pub(crate) fn unless(ok: bool, i: u32, n: u32) -> u32
     requires { ⌜ (i < 262144) × (n < 16) ⌝ }
     ensures { λ r. ⌜ r ≡ unlessKey ok (key i n) ⌝ }
 {

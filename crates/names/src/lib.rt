@@ -1,6 +1,12 @@
 // Names and types: numbers 8, 9, 10, 11 and 14 of document 01, over the nodes of a dossier.
+ghost use lib.ListN.{length, replicate};
+ghost use Rattle.names.specs.Parts.{GivenSeen, CheckSeen};
+use crate::declared::give;
+use crate::passes::check;
+use crate::passes::clear;
+
 mod declared;
-mod kinds;
+pub mod kinds;
 mod passes;
 mod types;
 
@@ -16,4 +22,40 @@ pub struct Node {
     pub place: u16,
     pub a: u16,
     pub b: u16,
+}
+
+// The least fault of the pass (place * 16 + number + 1, places by symbols), or 0. The nodes are a dossier's, up to m; the places are where its parts begin.
+pub fn least_fault(
+    nodes: &[u16],
+    m: usize,
+    givens: usize,
+    abstracts: usize,
+    concretes: usize,
+    ainit: usize,
+    after: usize,
+    names: &mut [u16],
+    sizes: &mut [u16; 8],
+) -> u32
+    ensures { λ r. ⌜ CheckSeen (now (nodes .entry)) m givens abstracts concretes ainit after (length (now (names .entry))) (now (sizes .exit)) r ⌝ }
+{
+    check(
+        nodes,
+        m,
+        givens,
+        abstracts,
+        concretes,
+        ainit,
+        after,
+        names,
+        sizes,
+    )
+}
+
+// The given sets by name, and how many elements each has, from the nodes of their bodies: the first fault of number 8 among them, or 0.
+pub fn given_sets(code: &[u16], names: &mut [u16], sizes: &mut [u16; 8]) -> u32
+    ensures { λ r. ⌜ GivenSeen (now (code .entry)) (replicate (length (now (names .entry))) 0) (now (names .exit)) (now (sizes .exit)) r ⌝ }
+{
+    clear(names);
+    clear(sizes);
+    give(code, names, sizes)
 }

@@ -210,7 +210,7 @@ fn conditions(
 }
 
 // All numbers become 0.
-fn clear(a: &mut [u16])
+pub fn clear(a: &mut [u16])
     ensures { λ r. ⌜ now (a .exit) ≡ replicate (length (now (a .entry))) 0 ⌝ }
 {
     let mut i: usize = 0;
@@ -265,7 +265,7 @@ fn later(
 }
 
 // The least fault of the pass (place * 16 + number + 1, places by symbols), or 0. The nodes are a dossier's, up to m; the places are where its parts begin.
-pub fn check(
+pub(crate) fn check(
     nodes: &[u16],
     m: usize,
     givens: usize,

@@ -356,7 +356,7 @@ fn pair(code: &[u16], end: usize, names: &mut [u16], sizes: &[u16]) -> Seen
 }
 
 // The predicate whose nodes end at `end`.
-pub fn pred(code: &[u16], end: usize, names: &mut [u16], sizes: &[u16]) -> Seen
+pub(crate) fn pred(code: &[u16], end: usize, names: &mut [u16], sizes: &[u16]) -> Seen
     requires { ⌜ end ≤ length (now code) ⌝ }
     ensures { λ r. ⌜ PredSeen (now (code .entry)) end (now (names .entry)) (now (names .exit)) (now (sizes .entry)) r ⌝ }
 {

@@ -158,7 +158,7 @@ fn bodies(s: &[u8], v: &[u16], at: usize, code: &mut [u16], n: usize) -> Read
     }
 }
 
-pub fn dossier(s: &[u8], v: &[u16], code: &mut [u16]) -> Read
+pub(crate) fn dossier(s: &[u8], v: &[u16], code: &mut [u16]) -> Read
     requires { ⌜ (length (now s) ≤ 4096) × (4 * length (now s) ≤ length (now code)) ⌝ }
     ensures { λ r. ⌜ Formed (now (s .entry)) (now (v .entry)) (now (code .entry)) (now (code .exit)) r ⌝ }
 {

@@ -74,7 +74,7 @@ fn words(s: &[u8], at: usize, n: usize) -> Read
     }
 }
 
-pub fn contents(s: &[u8], v: &[u16], code: &mut [u16]) -> Read
+pub(crate) fn contents(s: &[u8], v: &[u16], code: &mut [u16]) -> Read
     requires { ⌜ (length (now s) ≤ 4096) × (4 * length (now s) ≤ length (now code)) ⌝ }
     ensures { λ r. ⌜ Reads (now (s .entry)) 0 0 (aDossier ∷ []) (someBodies 0 ∷ []) r × ContentsMade (now (s .entry)) (now (v .entry)) (now (code .exit)) r ⌝ }
 {
@@ -130,7 +130,7 @@ fn given(s: &[u8], v: &[u16], at: usize, code: &mut [u16], n: usize) -> Read
 }
 
 // The bodies of given sets.
-pub fn givens(s: &[u8], v: &[u16], start: usize, code: &mut [u16], from: usize) -> Read
+pub(crate) fn givens(s: &[u8], v: &[u16], start: usize, code: &mut [u16], from: usize) -> Read
     requires { ⌜ Room (now s) (now code) start from ⌝ }
     ensures { λ r. ⌜ Reads (now (s .entry)) start from (someBodies 0 ∷ []) (twoStates ++ (threeConditions ++ (someOperations 0 ∷ []))) r × Made (now (s .entry)) (now (v .entry)) someGivens start from (now (code .entry)) (now (code .exit)) r ⌝ }
 {
@@ -230,7 +230,7 @@ fn declaration(s: &[u8], v: &[u16], at: usize, code: &mut [u16], n: usize) -> Re
 }
 
 // The declarations of a state, one or more, up to its `where`.
-pub fn declarations(s: &[u8], v: &[u16], start: usize, code: &mut [u16], from: usize) -> Read
+pub(crate) fn declarations(s: &[u8], v: &[u16], start: usize, code: &mut [u16], from: usize) -> Read
     requires { ⌜ Room (now s) (now code) start from ⌝ }
     ensures { λ r. ⌜ Reads (now (s .entry)) start from (aDeclared (aVariable 1) ∷ aTyped ++ (someDeclarations 1 ∷ [])) (exact kind.WHERE ∷ []) r × Made (now (s .entry)) (now (v .entry)) part.someDeclarations start from (now (code .entry)) (now (code .exit)) r × When (getD (now (s .entry)) start 0 ≡ 2) r ⌝ }
 {
@@ -299,7 +299,7 @@ fn outputs(c: u8, o: u8) -> u8
 }
 
 // The parameters of an operation, up to its `abstract`.
-pub fn parameters(s: &[u8], v: &[u16], start: usize, code: &mut [u16], from: usize) -> Read
+pub(crate) fn parameters(s: &[u8], v: &[u16], start: usize, code: &mut [u16], from: usize) -> Read
     requires { ⌜ Room (now s) (now code) start from ⌝ }
     ensures { λ r. ⌜ Reads (now (s .entry)) start from (someParameters 0 0 ∷ []) (exact kind.ABSTRACT ∷ []) r × Made (now (s .entry)) (now (v .entry)) part.someParameters start from (now (code .entry)) (now (code .exit)) r ⌝ }
 {

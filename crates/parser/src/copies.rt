@@ -5,7 +5,7 @@ ghost use Prim.Native.Nat.{_≤_};
 ghost use lib.ListN.{length, take, drop};
 
 // The first n numbers; what stands behind them stays.
-pub fn copy_nodes(from: &[u16], to: &mut [u16], n: usize)
+pub(crate) fn copy_nodes(from: &[u16], to: &mut [u16], n: usize)
     requires { ⌜ (n ≤ length (now from)) × (n ≤ length (now to)) ⌝ }
     ensures { λ _. ⌜ now (to .exit) ≡ take n (now (from .entry)) ++ drop n (now (to .entry)) ⌝ }
 {

@@ -14,7 +14,7 @@ use crate::kinds::value_at;
 use crate::kinds::wide;
 
 // A node behind the first n numbers.
-pub fn put(code: &mut [u16], n: usize, shape: u16, place: usize, x: u16, y: u16) -> usize
+pub(crate) fn put(code: &mut [u16], n: usize, shape: u16, place: usize, x: u16, y: u16) -> usize
     requires { ⌜ (n + 4 ≤ length (now code)) × (place < 65536) ⌝ }
     ensures { λ r. ⌜ Writes (now (code .entry)) n (node shape place x y) (now (code .exit)) r ⌝ }
 {
@@ -41,7 +41,7 @@ pub fn name_number(s: &[u8], v: &[u16], at: usize) -> u16
 }
 
 // An end of a range, plus 1,000.
-pub fn signed(s: &[u8], v: &[u16], at: usize) -> u16
+pub(crate) fn signed(s: &[u8], v: &[u16], at: usize) -> u16
     requires { ⌜ at ≤ 4100 ⌝ }
     ensures { λ r. ⌜ r ≡ endCode (now (s .entry)) (now (v .entry)) at ⌝ }
 {
@@ -60,7 +60,7 @@ pub fn signed(s: &[u8], v: &[u16], at: usize) -> u16
 }
 
 // A divisor's magnitude; the sign, and which of the two divisions it is.
-pub fn magnitude(s: &[u8], v: &[u16], at: usize) -> u16
+pub(crate) fn magnitude(s: &[u8], v: &[u16], at: usize) -> u16
     requires { ⌜ at ≤ 4100 ⌝ }
     ensures { λ r. ⌜ r ≡ magnitudeCode (now (s .entry)) (now (v .entry)) at ⌝ }
 {
@@ -70,7 +70,7 @@ pub fn magnitude(s: &[u8], v: &[u16], at: usize) -> u16
     value_at(v, at)
 }
 
-pub fn division(s: &[u8], at: usize) -> u16
+pub(crate) fn division(s: &[u8], at: usize) -> u16
     requires { ⌜ at ≤ 4100 ⌝ }
     ensures { λ r. ⌜ r ≡ divisionCode (now (s .entry)) at ⌝ }
 {
@@ -87,7 +87,7 @@ pub fn division(s: &[u8], at: usize) -> u16
 }
 
 // The node of a number or a name.
-pub fn leaf(s: &[u8], v: &[u16], at: usize, code: &mut [u16], n: usize) -> usize
+pub(crate) fn leaf(s: &[u8], v: &[u16], at: usize, code: &mut [u16], n: usize) -> usize
     requires { ⌜ (n + 4 ≤ length (now code)) × (at < 65536) ⌝ }
     ensures { λ r. ⌜ Writes (now (code .entry)) n (leafNode (now (s .entry)) (now (v .entry)) at) (now (code .exit)) r ⌝ }
 {
@@ -100,7 +100,7 @@ pub fn leaf(s: &[u8], v: &[u16], at: usize, code: &mut [u16], n: usize) -> usize
 }
 
 // The node of a..b.
-pub fn put_range(s: &[u8], v: &[u16], at: usize, code: &mut [u16], n: usize) -> usize
+pub(crate) fn put_range(s: &[u8], v: &[u16], at: usize, code: &mut [u16], n: usize) -> usize
     requires { ⌜ (n + 4 ≤ length (now code)) × (at ≤ 4096) ⌝ }
     ensures { λ r. ⌜ Writes (now (code .entry)) n (rangeNode (now (s .entry)) (now (v .entry)) at) (now (code .exit)) r ⌝ }
 {
@@ -113,7 +113,7 @@ pub fn put_range(s: &[u8], v: &[u16], at: usize, code: &mut [u16], n: usize) -> 
     put(code, n, 2, at + 1, x, y)
 }
 
-pub fn put_domain(s: &[u8], v: &[u16], at: usize, code: &mut [u16], n: usize) -> usize
+pub(crate) fn put_domain(s: &[u8], v: &[u16], at: usize, code: &mut [u16], n: usize) -> usize
     requires { ⌜ (n + 4 ≤ length (now code)) × (at ≤ 4096) ⌝ }
     ensures { λ r. ⌜ Writes (now (code .entry)) n (domainNode (now (s .entry)) (now (v .entry)) at) (now (code .exit)) r ⌝ }
 {
@@ -126,7 +126,7 @@ pub fn put_domain(s: &[u8], v: &[u16], at: usize, code: &mut [u16], n: usize) ->
 }
 
 // One name or two behind an `empty`.
-pub fn empty(s: &[u8], v: &[u16], at: usize, code: &mut [u16], n: usize) -> Read
+pub(crate) fn empty(s: &[u8], v: &[u16], at: usize, code: &mut [u16], n: usize) -> Read
     requires { ⌜ Room (now s) (now code) at n × (at < length (now s)) × (getD (now s) at 0 ≡ 47) ⌝ }
     ensures { λ r. ⌜ Reads (now (s .entry)) (at + 1) (n + 4) (aName ∷ anEmptyRest ∷ []) [] r × Made (now (s .entry)) (now (v .entry)) anOperand at n (now (code .entry)) (now (code .exit)) r ⌝ }
 {

@@ -11,7 +11,7 @@ use crate::kinds::kind_at;
 use crate::kinds::name_of;
 
 // A symbol of the kind with the code k.
-pub fn close(s: &[u8], at: usize, k: u8, n: usize) -> Read
+pub(crate) fn close(s: &[u8], at: usize, k: u8, n: usize) -> Read
     requires { ⌜ at ≤ length (now s) ⌝ }
     ensures { λ r. ⌜ Closes (now (s .entry)) at k n r ⌝ }
 {
@@ -25,7 +25,7 @@ pub fn close(s: &[u8], at: usize, k: u8, n: usize) -> Read
 }
 
 // A number, which may carry -.
-pub fn end(s: &[u8], at: usize, n: usize) -> Read
+pub(crate) fn end(s: &[u8], at: usize, n: usize) -> Read
     requires { ⌜ (at ≤ length (now s)) × (length (now s) ≤ 4096) ⌝ }
     ensures { λ r. ⌜ Advances (now (s .entry)) at n (anEnd ∷ []) [] r × Shown (EndAt (now (s .entry)) at) n r ⌝ }
 {
@@ -36,7 +36,7 @@ pub fn end(s: &[u8], at: usize, n: usize) -> Read
 }
 
 // Is the symbol the - of a range after `in` or `notin`?
-pub fn range_end(s: &[u8], at: usize) -> bool
+pub(crate) fn range_end(s: &[u8], at: usize) -> bool
     requires { ⌜ (at < length (now s)) × (length (now s) ≤ 4096) ⌝ }
     ensures { λ r. ⌜ RangeEnd (now (s .entry)) at r ⌝ }
 {
@@ -63,7 +63,7 @@ pub fn range_end(s: &[u8], at: usize) -> bool
 }
 
 // Does a range stand here, and no term?
-pub fn is_range(s: &[u8], at: usize) -> bool
+pub(crate) fn is_range(s: &[u8], at: usize) -> bool
     requires { ⌜ (at ≤ length (now s)) × (length (now s) ≤ 4096) ⌝ }
     ensures { λ r. ⌜ Ranged (now (s .entry)) at r ⌝ }
 {
@@ -87,7 +87,7 @@ pub fn is_range(s: &[u8], at: usize) -> bool
 }
 
 // a..b
-pub fn range(s: &[u8], at: usize, n: usize) -> Read
+pub(crate) fn range(s: &[u8], at: usize, n: usize) -> Read
     requires { ⌜ (at ≤ length (now s)) × (length (now s) ≤ 4096) ⌝ }
     ensures { λ r. ⌜ Advances (now (s .entry)) at n (anEnd ∷ exact kind.upTo ∷ anEnd ∷ []) [] r × Shown (RangeAt (now (s .entry)) at) n r ⌝ }
 {
@@ -101,7 +101,7 @@ pub fn range(s: &[u8], at: usize, n: usize) -> Read
 }
 
 // What a bound name ranges over.
-pub fn domain(s: &[u8], at: usize, n: usize) -> Read
+pub(crate) fn domain(s: &[u8], at: usize, n: usize) -> Read
     requires { ⌜ (at ≤ length (now s)) × (length (now s) ≤ 4096) ⌝ }
     ensures { λ r. ⌜ Reads (now (s .entry)) at n (aDomain ∷ []) [] r × Shown (DomainAt (now (s .entry)) at) n r ⌝ }
 {

@@ -17,7 +17,7 @@ pub struct Bounds {
 }
 
 // A number of the node at a place; 0 where no node can stand.
-pub fn part(nodes: &[u16], at: usize, m: usize, k: usize) -> u16
+pub(crate) fn part(nodes: &[u16], at: usize, m: usize, k: usize) -> u16
     requires { ⌜ (at ≤ m) × (k ≤ 3) ⌝ }
     ensures { λ r. ⌜ Part (now (nodes .entry)) at m k r ⌝ }
 {
@@ -47,7 +47,7 @@ fn item(shape: u16, count: u16) -> usize
 }
 
 // The place behind the item that stands at a place; the end where it would leave the nodes.
-pub fn skip(nodes: &[u16], at: usize, m: usize) -> usize
+pub(crate) fn skip(nodes: &[u16], at: usize, m: usize) -> usize
     requires { ⌜ at ≤ m ⌝ }
     ensures { λ r. ⌜ Skips (now (nodes .entry)) m at r ⌝ }
 {
@@ -77,7 +77,7 @@ fn inside(nodes: &[u16], at: usize, m: usize, low: u16, high: u16) -> bool
 }
 
 // The place behind the items of the shapes low to high that stand at a place.
-pub fn run(nodes: &[u16], at: usize, m: usize, low: u16, high: u16) -> usize
+pub(crate) fn run(nodes: &[u16], at: usize, m: usize, low: u16, high: u16) -> usize
     requires { ⌜ at ≤ m ⌝ }
     ensures { λ r. ⌜ RunsTo (now (nodes .entry)) m low high at r ⌝ }
 {

@@ -278,7 +278,7 @@ fn pairs(s: &[u8], v: &[u16], at: usize, d: u8, b: u8, code: &mut [u16], n: usiz
     }
 }
 
-pub fn pred(s: &[u8], v: &[u16], at: usize, d: u8, b: u8, code: &mut [u16], n: usize) -> Read
+pub(crate) fn pred(s: &[u8], v: &[u16], at: usize, d: u8, b: u8, code: &mut [u16], n: usize) -> Read
     requires { ⌜ Room (now s) (now code) at n × (d ≤ 24) × (b ≤ 3) ⌝ }
     ensures { λ r. ⌜ Reads (now (s .entry)) at n (aUnary d b ∷ aPredRest d d b ∷ []) [] r × Made (now (s .entry)) (now (v .entry)) (aPredFrom 1) at n (now (code .entry)) (now (code .exit)) r ⌝ }
 {

@@ -34,7 +34,7 @@ pub fn in_run(b: u8) -> bool
 }
 
 // How many letters and digits stand from `at` on.
-pub fn run_from(s: &[u8], at: usize) -> usize
+pub(crate) fn run_from(s: &[u8], at: usize) -> usize
     requires { ⌜ at ≤ length (now s) ⌝ }
     ensures { λ r. ⌜ r ≡ length (run (drop at (now (s .entry)))) ⌝ }
 {

@@ -114,7 +114,7 @@ pub fn mark_of(a: u8, b: u8, e: u8) -> Token
 }
 
 // The longest mark from `at` on.
-pub fn mark_at(s: &[u8], at: usize) -> Token
+pub(crate) fn mark_at(s: &[u8], at: usize) -> Token
     requires { ⌜ at < length (now s) ⌝ }
     ensures { λ r. ⌜ r ≡ tokenOf (longest marks (drop at (now (s .entry)))) ⌝ }
 {

@@ -31,7 +31,7 @@ pub fn is_name(code: u8) -> bool
 }
 
 // Eight letters of a name, from letter `skip` on, packed; 0 for another symbol.
-pub fn letters_at(s: &[u8], code: u8, at: usize, skip: usize) -> u64
+pub(crate) fn letters_at(s: &[u8], code: u8, at: usize, skip: usize) -> u64
     requires { ⌜ (at ≤ length (now s)) × (length (now s) ≤ 32768) × (skip ≤ 8) ⌝ }
     ensures { λ r. ⌜ r ≡ cond (isName code) (packed 8 (drop skip (run (drop at (now (s .entry)))))) 0 ⌝ }
 {
@@ -43,7 +43,7 @@ pub fn letters_at(s: &[u8], code: u8, at: usize, skip: usize) -> u64
 }
 
 // The letters of each name, packed; 0 for another symbol.
-pub fn pack_names(
+pub(crate) fn pack_names(
     s: &[u8],
     codes: &[u8],
     starts: &[u16],
@@ -65,7 +65,7 @@ pub fn pack_names(
 }
 
 // The letters of symbol m are a and b.
-pub fn same_letters(low: &[u64], high: &[u64], m: usize, a: u64, b: u64) -> bool
+pub(crate) fn same_letters(low: &[u64], high: &[u64], m: usize, a: u64, b: u64) -> bool
     requires { ⌜ (m < length (now low)) × (m < length (now high)) ⌝ }
     ensures { λ r. ⌜ r ≡ (eqb (getD (now (low .entry)) m 0) a && eqb (getD (now (high .entry)) m 0) b) ⌝ }
 {
@@ -76,7 +76,7 @@ pub fn same_letters(low: &[u64], high: &[u64], m: usize, a: u64, b: u64) -> bool
 }
 
 // The walk by the letters of symbol i.
-pub fn walk(low: &[u64], high: &[u64], tree: &[u16], i: usize) -> Stop
+pub(crate) fn walk(low: &[u64], high: &[u64], tree: &[u16], i: usize) -> Stop
     requires { ⌜ (i < 4096) × (length (now low) ≡ 4096) × (length (now high) ≡ 4096) × (length (now tree) ≡ 8193) × ((k : ℕ) → getD (now tree) k 0 ≤ 4096) ⌝ }
     ensures { λ r. ⌜ r ≡ walkFrom 128 (now (low .entry)) (now (high .entry)) (now (tree .entry)) (getD (now (low .entry)) i 0) (getD (now (high .entry)) i 0) (getD (now (low .entry)) i 0) (getD (now (high .entry)) i 0) 8192 ⌝ }
 {
@@ -104,7 +104,7 @@ pub fn walk(low: &[u64], high: &[u64], tree: &[u16], i: usize) -> Stop
 }
 
 // The first symbol that has the letters of symbol i, one by one: for a walk that is too deep, which no letters make.
-pub fn first_like(low: &[u64], high: &[u64], i: usize) -> usize
+pub(crate) fn first_like(low: &[u64], high: &[u64], i: usize) -> usize
     requires { ⌜ (i < 4096) × (length (now low) ≡ 4096) × (length (now high) ≡ 4096) ⌝ }
     ensures { λ r. ⌜ IsFirst (now (low .entry)) (now (high .entry)) i r ⌝ }
 {
@@ -121,7 +121,7 @@ pub fn first_like(low: &[u64], high: &[u64], i: usize) -> usize
 }
 
 // The value of symbol i: of a name the number of the first one with its letters, which is put into the tree if it is i; of another symbol `old`.
-pub fn number_of(low: &[u64], high: &[u64], tree: &mut [u16], i: usize, old: u16) -> u16
+pub(crate) fn number_of(low: &[u64], high: &[u64], tree: &mut [u16], i: usize, old: u16) -> u16
     requires { ⌜ Tree (now low) (now high) (now tree) i × (i < 4096) × (length (now low) ≡ 4096) × (length (now high) ≡ 4096) × (length (now tree) ≡ 8193) ⌝ }
     ensures { λ r. ⌜ Tree (now (low .entry)) (now (high .entry)) (now (tree .exit)) (i + 1) × (length (now (tree .exit)) ≡ 8193) × (getD (now (low .entry)) i 0 ≡ 0 → r ≡ old) × ((getD (now (low .entry)) i 0 ≡ 0 → ⊥) → IsFirst (now (low .entry)) (now (high .entry)) i r) ⌝ }
 {
@@ -140,7 +140,7 @@ pub fn number_of(low: &[u64], high: &[u64], tree: &mut [u16], i: usize, old: u16
 }
 
 // The value of each name: the number of the first symbol that has its letters.
-pub fn number_names(s: &[u8], codes: &[u8], starts: &[u16], values: &mut [u16], n: usize)
+pub(crate) fn number_names(s: &[u8], codes: &[u8], starts: &[u16], values: &mut [u16], n: usize)
     requires { ⌜ Rows (now s) (now codes) (now starts) n × (length (now codes) ≡ 4096) × (length (now starts) ≡ 4096) × (length (now values) ≡ 4096) × ((i : ℕ) → i < n → getD (now values) i 0 ≡ getD (filledNumbers (now s)) i 0) ⌝ }
     ensures { λ r. ⌜ now (values .exit) ≡ filledValues (now (s .entry)) (now (values .entry)) ⌝ }
 {

@@ -9,7 +9,7 @@ use crate::classes::run_from;
 use crate::codes;
 
 // The number that one more digit makes of v, or 1001 where b is no digit or the number is over 1,000.
-pub fn more(v: u16, b: u8) -> u16
+pub(crate) fn more(v: u16, b: u8) -> u16
     requires { ⌜ v ≤ 1000 ⌝ }
     ensures { λ r. ⌜ r ≡ moreOf v b ⌝ }
 {
@@ -27,7 +27,7 @@ pub fn more(v: u16, b: u8) -> u16
 }
 
 // The number that the bytes from `at` to `e` write, or 1001 where they are not digits or it is over 1,000.
-pub fn decimal(s: &[u8], at: usize, e: usize) -> u16
+pub(crate) fn decimal(s: &[u8], at: usize, e: usize) -> u16
     requires { ⌜ (at ≤ e) × (e ≤ length (now s)) ⌝ }
     ensures { λ r. ⌜ r ≡ decimalOr 0 (take (e - at) (drop at (now (s .entry)))) ⌝ }
 {
@@ -44,7 +44,7 @@ pub fn decimal(s: &[u8], at: usize, e: usize) -> u16
 }
 
 // The number from `at` on, which has no leading zero.
-pub fn number_at(s: &[u8], at: usize) -> Token
+pub(crate) fn number_at(s: &[u8], at: usize) -> Token
     requires { ⌜ (at < length (now s)) × (classOf (getD (now s) at 0) ≡ digit) ⌝ }
     ensures { λ r. ⌜ r ≡ tokenOf (byClass digit (drop at (now (s .entry)))) ⌝ }
 {

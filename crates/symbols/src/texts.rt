@@ -13,7 +13,7 @@ use crate::numbers::number_at;
 use crate::words::word_at;
 
 // What stands at `at`.
-pub fn token_at(s: &[u8], at: usize) -> Token
+pub(crate) fn token_at(s: &[u8], at: usize) -> Token
     requires { ⌜ (at < length (now s)) × (length (now s) ≤ 32768) ⌝ }
     ensures { λ r. ⌜ r ≡ tokenOf (symbolAt (drop at (now (s .entry)))) ⌝ }
 {
@@ -28,7 +28,12 @@ pub fn token_at(s: &[u8], at: usize) -> Token
 }
 
 // The codes, the places and the values of the symbols of `s`; a name's value is left at 0.
-pub fn scan_symbols(s: &[u8], codes: &mut [u8], starts: &mut [u16], values: &mut [u16]) -> Scanned
+pub(crate) fn scan_symbols(
+    s: &[u8],
+    codes: &mut [u8],
+    starts: &mut [u16],
+    values: &mut [u16],
+) -> Scanned
     requires { ⌜ (length (now s) ≤ 32768) × (length (now codes) ≡ 4096) × (length (now starts) ≡ 4096) × (length (now values) ≡ 4096) ⌝ }
     ensures { λ r. ⌜ Takes (now (s .entry)) (now (codes .entry)) (now (starts .entry)) (now (values .entry)) (now (codes .exit)) (now (starts .exit)) (now (values .exit)) r ⌝ }
 {

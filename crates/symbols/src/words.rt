@@ -51,7 +51,7 @@ pub fn word_code(key: u64) -> u8
 }
 
 // Byte k of the run from `at` to `e`, or 0 past its end.
-pub fn run_byte(s: &[u8], at: usize, e: usize, k: usize) -> u64
+pub(crate) fn run_byte(s: &[u8], at: usize, e: usize, k: usize) -> u64
     requires { ⌜ (e ≤ length (now s)) × (at ≤ 65536) × (k ≤ 8) ⌝ }
     ensures { λ r. ⌜ (r ≡ getD (take (e - at) (drop at (now (s .entry)))) k 0) × (r < 256) ⌝ }
 {
@@ -63,7 +63,7 @@ pub fn run_byte(s: &[u8], at: usize, e: usize, k: usize) -> u64
 }
 
 // The first eight bytes of the run from `at` to `e`, packed, the first one lowest.
-pub fn eight(s: &[u8], at: usize, e: usize) -> u64
+pub(crate) fn eight(s: &[u8], at: usize, e: usize) -> u64
     requires { ⌜ (e ≤ length (now s)) × (at ≤ 65536) ⌝ }
     ensures { λ r. ⌜ r ≡ packed 8 (take (e - at) (drop at (now (s .entry)))) ⌝ }
 {
@@ -91,7 +91,7 @@ pub fn ending_of(b: u8) -> u8
 }
 
 // The reserved word that the run of n bytes from `at` on is, or 0: none is longer than eight bytes.
-pub fn reserved_at(s: &[u8], at: usize, n: usize) -> u8
+pub(crate) fn reserved_at(s: &[u8], at: usize, n: usize) -> u8
     requires { ⌜ (at ≤ length (now s)) × (length (now s) ≤ 32768) × (n ≡ length (run (drop at (now s)))) ⌝ }
     ensures { λ r. ⌜ r ≡ wordCode (reserved words (run (drop at (now (s .entry))))) ⌝ }
 {
@@ -103,7 +103,7 @@ pub fn reserved_at(s: &[u8], at: usize, n: usize) -> u8
 }
 
 // The name of n letters with that ending, or the reserved word, which takes no ending.
-pub fn word_of(n: usize, ending: u8, word: u8) -> Token
+pub(crate) fn word_of(n: usize, ending: u8, word: u8) -> Token
     requires { ⌜ (n ≤ 32768) × (ending ≤ 3) ⌝ }
     ensures { λ t. ⌜ ((r : List ℕ) (e : Ending) (o : Option Kind) → n ≡ length r → ending ≡ endingCode e → word ≡ wordCode o → t ≡ tokenOf (wordOf r e o)) ⌝ }
 {
@@ -123,7 +123,7 @@ pub fn word_of(n: usize, ending: u8, word: u8) -> Token
 }
 
 // The name or reserved word from `at` on.
-pub fn word_at(s: &[u8], at: usize) -> Token
+pub(crate) fn word_at(s: &[u8], at: usize) -> Token
     requires { ⌜ (at ≤ length (now s)) × (length (now s) ≤ 32768) ⌝ }
     ensures { λ r. ⌜ r ≡ tokenOf (byClass letter (drop at (now (s .entry)))) ⌝ }
 {

@@ -10,7 +10,7 @@ use Rattle.evaluator.specs.Values as values
 
 unfoldable pub computeHolds : Pred → meaning.Environment → Bool
 unfolding
-    computeRead computeDiv bindings.pairSets bindings.valuesOf bindings.flat bindings.bindings meaning.placeIn meaning.valueOf meaning.sizeOfGiven
+    computeRead computeDiv bindings.pairSets bindings.valuesOf bindings.flat bindings.bindings meaning.valueOf meaning.sizeOfGiven
     meaning.elementValues meaning.numberValues meaning.domainValues meaning.quantify meaning.inRange meaning.isMember meaning.isPairOf meaning.value
     meaning.itemsValue meaning.pairsValue meaning.holds operations.abstractBindings operations.concreteBindings operations.outputBindings
     operations.isState operations.abstractInitial operations.concreteInitial operations.related operations.after operations.allows operations.abstractStep

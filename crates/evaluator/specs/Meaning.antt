@@ -2,7 +2,7 @@
 use mathlib.Core.Bool.{Bool, true, false, not, _&&_}
 use mathlib.Core.List.{List, [], _∷_, map}
 use mathlib.Core.Option.{Option, none, some}
-use Prim.Native.Nat.{ℕ, suc, _+_}
+use Prim.Native.Nat.{ℕ, _+_}
 use lib.Dec.{eqb}
 use lib.IntN.{ℤ, pos, _+ℤ_, _-ℤ_, natAbs}
 use lib.Signed.{leZ}
@@ -12,7 +12,7 @@ use Rattle.form.specs.Tree.{Letters, End, Range, Domain, givenSet, range, Quant
 use Rattle.form.specs.Tree.{Term, number, name, group, prefix, binary, divided, listed, pairs, such, emptySet, emptyPairs, Items, only, also, Pairs, onlyPair, alsoPair}
 use Rattle.form.specs.Tree.{Pred, truth, falsity, negation, paren, quantified, connected, compared, member, within, related, Given, elements}
 use Rattle.reader.specs.Carriers.{sizeOf, endValue, sameName, plain, givenOf}
-use Rattle.reader.specs.Scope.{elementOf}
+use Rattle.reader.specs.Scope.{elementOf, placeIn}
 use Rattle.sets.specs.Sets as sets
 use Rattle.evaluator.specs.Values as val
 use Rattle.evaluator.specs.Values.{Value, bits, prefixValue, operatorValue, divisionValue, singleton, pairBit, singlePair, compare, asked, connect}
@@ -24,11 +24,6 @@ Binding = List (Name × Value)
 pub record Environment : Type 0 where
   pub givens : List Given
   pub values : Binding
-
--- the place of an element among those listed
-unfoldable pub placeIn : List Letters → Name → ℕ
-placeIn [] x = 0
-placeIn (e ∷ es) x = elim (sameName (plain e) x) [ true ↦ 0 | false ↦ suc (placeIn es x) ]
 
 abbrev pub elementValue : Option Given → Name → Value
 elementValue none x = val.element 0 0

@@ -16,7 +16,7 @@ unfolding
     names.whole names.inside names.rangeFits names.rangeFaults names.pairsFault names.divisorFaults names.newName names.wholePairs names.judgedPairs
     names.judgeTerm names.judgeItems names.judgePairs names.judgePred names.typeFaults names.declarationFaults names.elementFaults names.givenFaults
     names.parameterFaults names.operationFaults names.contextFaults names.nameFaults read.readSizes read.readBindings read.readNames
-    read.readHeadings read.readForm read.readSymbols read.read scope.isTaken scope.elementOf scope.typeOfName scope.variables scope.parametersOf
+    read.readHeadings read.readForm read.readSymbols read.read scope.isTaken scope.elementOf scope.placeIn scope.typeOfName scope.variables scope.parametersOf
     scope.givenNames scope.operationContexts scope.contexts types.has types.sameOver types.sameType types.isAnySet types.areNumbers types.memberFits
     types.relatedFits types.braceFits types.pairsFit
 computeRead text = read.read text

@@ -30,6 +30,11 @@ isTaken xs x = any (same x) xs
 unfoldable pub elementOf : List Given → Name → Option Given
 elementOf gs x = find (λ (g : Given). any (λ (e : Letters). sameName (plain e) x) (elements g)) gs
 
+-- the place of an element among those listed
+unfoldable pub placeIn : List Letters → Name → ℕ
+placeIn [] x = 0
+placeIn (e ∷ es) x = elim (sameName (plain e) x) [ true ↦ 0 | false ↦ suc (placeIn es x) ]
+
 abbrev orElement : Option Variable → Option Given → Option Ty
 orElement (some v) g = some (typeOf (v .carrier))
 orElement none none = none

@@ -1,3 +1,4 @@
 pub mod Table
 pub mod Resolved
 pub mod Walks
+pub mod Dossiers

@@ -1,11 +1,10 @@
 -- The table of a tree has as many numbers as its nodes (form/specs/Codes).
 use mathlib.Core.Path.{_≡_, refl, ap₂, _∙_, sym}
-use mathlib.Core.Bool.{Bool, true, false}
 use mathlib.Core.List.{List, _++_, _∷_}
 use mathlib.Core.Option.{Option, none, some}
 use Prim.Native.Nat.{ℕ, suc, _+_}
 use lib.ListN.{length, length-append}
-use Rattle.symbols.specs.Symbols.{Name, noEnding}
+use Rattle.symbols.specs.Symbols.{Name}
 use Rattle.form.specs.Tree.{Given, elements, Domain, givenSet, range}
 use Rattle.form.specs.Tree.{Term, number, name, group, prefix, binary, divided, listed, pairs, such, emptySet, emptyPairs, Items, only, also, Pairs, onlyPair, alsoPair}
 use Rattle.form.specs.Tree.{Pred, truth, falsity, negation, paren, quantified, connected, compared, member, within, related}

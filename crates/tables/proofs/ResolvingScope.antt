@@ -95,8 +95,11 @@ module _ (ρ : Numbering) (P : Letters → Type 0) (Γ : Scope) (W′ : Slots) (
   out-of-reach : (x : Name) → slotOf W′ x ≡ none → elementOf (Γ .givens) x ≡ none → typeOfName Γ x ≡ none
   unfolding typeOfName
   out-of-reach x e f =
-      rw (any-none (λ (v : Variable). v .called) x (Γ .reach)
-      (sym (ap (any (λ (y : Name). sameName y x)) (w .slots)) ∙ none-any (λ (w : Name × ℕ). w .0) x W′ e), f)
+      rw (
+        any-none (λ (v : Variable). v .called) x (Γ .reach)
+            (sym (ap (any (λ (y : Name). sameName y x)) (w .slots)) ∙ none-any (λ (w : Name × ℕ). w .0) x W′ e),
+        f,
+      )
       refl
 
   pub name-resolved : (x : Name) → P (x .letters) → (i : ℕ) → judgeTerm (name x) Γ i .faults ≡ [] → table.placed (entry W (nameNumber ρ x)) ≡ resolved.nameTable Γ W′ x

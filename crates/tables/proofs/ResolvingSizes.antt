@@ -1,21 +1,20 @@
 -- The sizes that nodes carry: by the number of a term's type, and by the given sets that its type is over.
 use mathlib.Core.Path.{_≡_, refl, ap, ap₂, _∙_, sym}
-use mathlib.Core.Bool.{Bool, true, false, _&&_, cond}
+use mathlib.Core.Bool.{Bool, true, _&&_, cond}
 use mathlib.Core.List.{List, [], map}
 use mathlib.Core.Option.{Option, none, some}
 use Prim.Native.Nat.{ℕ, _+_, _-_, _*_, _/_, _%_, _<_}
 use native.Mathlib.Omega.{arith}
 use lib.ListN.{getD}
 use borrow.Author.Tests.{le-leb, lt-ltb}
-use Rattle.symbols.specs.Symbols.{Name}
 use Rattle.form.specs.Tree.{Letters, Domain, givenSet, range, Given, Term}
-use Rattle.form.specs.Codes.{Numbering, node, nameNumber}
-use Rattle.reader.specs.Carriers.{sizeOf, plain, givenOf}
+use Rattle.form.specs.Codes.{Numbering, node}
+use Rattle.reader.specs.Carriers.{sizeOf, plain}
 use Rattle.reader.specs.Types as ty
 use Rattle.reader.specs.Types.{Ty, has}
 use Rattle.reader.specs.Scope.{Scope}
 use Rattle.reader.specs.Names.{judgeTerm}
-use Rattle.names.specs.Inner.{Names, Sizes, entry, isGiven, sizeIn, termKind}
+use Rattle.names.specs.Inner.{Names, Sizes, isGiven, sizeIn, termKind}
 use Rattle.names.proofs.Showing.{indexOf, titled, typeCode, Known, knownNumber, knownElement, knownSet, knownPairs, Numbered, Shows, DomainIn, TermIn}
 use Rattle.names.proofs.Judged.{judged-term}
 use Rattle.names.proofs.JudgedTypes.{ElementType, elementType, element-type, index-in, index-few, is-pairs, is-element}

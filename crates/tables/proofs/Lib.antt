@@ -1,1 +1,7 @@
--- Nothing yet.
+-- The table by numbers is the table by the definitions.
+pub mod ResolvingTypes
+pub mod ResolvingSizes
+pub mod ResolvingScope
+pub mod ResolvingParts
+pub mod Resolving
+pub mod ResolvingLength

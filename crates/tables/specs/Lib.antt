@@ -2,3 +2,4 @@ pub mod Table
 pub mod Resolved
 pub mod Walks
 pub mod Dossiers
+pub mod Passes

@@ -4,7 +4,6 @@ pub mod MeasuredWidths
 pub mod MeasuredParts
 pub mod Measured
 pub mod Counted
-
 -- The walk for sizes.
 pub mod WalkingNumbers
 pub mod Walking

@@ -128,7 +128,7 @@ module _ (code : List ℕ) (e : ℕ) (l : e ≤ length code) (S : Bounds) where
       λ z. let w = lesser-none (termOver t₁ S ρ i) (termOver t₂ S ρ j) z in
       mq o (sym (hn .firstIs ∙ h .isFirst)) ∙ ap₂ (operatorBound o) (s₁ .boundIs (w .0)) (s₂ .boundIs (w .1)) in
       let fault = fq ∙ over-seen m (operatorBound o (termBound t₁ S ρ) (termBound t₂ S ρ)) (n .place) (i + termWidth t₁) g (lesser (termOver t₁ S ρ i) (termOver t₂ S ρ j))
-          (hn .placeIs ∙ h .isPlace) (gq ∙ ap₂ lesser (s₁ .faultIs) (s₂ .faultIs)) size in
+      (hn .placeIs ∙ h .isPlace) (gq ∙ ap₂ lesser (s₁ .faultIs) (s₂ .faultIs)) size in
       record {
         faultIs = fault;
         boundIs = λ z.

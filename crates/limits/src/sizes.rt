@@ -247,10 +247,10 @@ fn such(code: &[u16], end: usize, bounds: &mut [u16]) -> Sized
     let n = node_at(code, end);
     let x = index(n.a);
     let d = domain(code, end - 4);
-    let old = look(bounds, x);
+    let was = look(bounds, x);
     put(bounds, x, 0);
     let p = pred(code, d.start, bounds);
-    put(bounds, x, old);
+    put(bounds, x, was);
     Sized {
         bound: 0,
         fault: p.fault,

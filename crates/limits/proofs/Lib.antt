@@ -4,3 +4,8 @@ pub mod MeasuredWidths
 pub mod MeasuredParts
 pub mod Measured
 pub mod Counted
+-- The walk for sizes.
+pub mod WalkingNumbers
+pub mod Walking
+pub mod WalkingTerms
+pub mod WalkingPreds

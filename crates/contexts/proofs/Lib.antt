@@ -1,1 +1,1 @@
--- Nothing yet.
+pub mod Structure

@@ -1,1 +1,3 @@
 pub mod Structure
+pub mod Filling
+pub mod Located

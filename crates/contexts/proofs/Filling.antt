@@ -108,9 +108,9 @@ operation-put {a} {m} {from} {n} {first} {last} {middle} {end} {s} {s₁} {s₂}
     }
 
 -- one operation is behind
-pub ahead-next : {t : List ℕ} {m at k r : ℕ} {s s' s₀ w : List ℕ} {n : ℕ} → m ≤ 65535 → at < m → Ahead t m at k s s₀ w n → OperationPut t m at (9 + 4 * k) s s' r
-    → Ahead t m r (k + 1) s' s₀ w n
-ahead-next {t} {m} {at} {k} {r} {s} {s'} {s₀} {w} {n} h l x p = go (x .left) (x .count) (x .whole) (x .sum) (x .rest)
+pub ahead-next : {t : List ℕ} {m at k r : ℕ} {s s' s₀ w : List ℕ} {n : ℕ} → Ahead t m at k s s₀ w n → OperationPut t m at (9 + 4 * k) s s' r
+    → m ≤ 65535 → at < m → Ahead t m r (k + 1) s' s₀ w n
+ahead-next {t} {m} {at} {k} {r} {s} {s'} {s₀} {w} {n} x p h l = go (x .left) (x .count) (x .whole) (x .sum) (x .rest)
   where
     go : (v : List ℕ) (j : ℕ) → w ≡ x .front ++ v → n ≡ k + j → OperationsIn t m at v j → Ahead t m r (k + 1) s' s₀ w n
     go v j e f (no-operation i) = absurd (omega arith)
@@ -133,8 +133,8 @@ pub record Done (k n : ℕ) (s₀ s w : List ℕ) : Type 0 where
   pub counts : k ≡ n
   pub fills : Filled s₀ s w
 
-pub ahead-done : {t : List ℕ} {m at k : ℕ} {s s₀ w : List ℕ} {n : ℕ} → ((i : ℕ) → n ≡ k + suc i → at < m → ⊥) → Ahead t m at k s s₀ w n → Done k n s₀ s w
-ahead-done {t} {m} {at} {k} {s} {s₀} {w} {n} h x = go (x .left) (x .count) (x .whole) (x .sum) (x .rest)
+pub ahead-done : {t : List ℕ} {m at k : ℕ} {s s₀ w : List ℕ} {n : ℕ} → Ahead t m at k s s₀ w n → ((i : ℕ) → n ≡ k + suc i → at < m → ⊥) → Done k n s₀ s w
+ahead-done {t} {m} {at} {k} {s} {s₀} {w} {n} x h = go (x .left) (x .count) (x .whole) (x .sum) (x .rest)
   where
     go : (v : List ℕ) (j : ℕ) → w ≡ x .front ++ v → n ≡ k + j → OperationsIn t m at v j → Done k n s₀ s w
     go v j e f (no-operation i) =

@@ -102,7 +102,7 @@ operation-put {a} {m} {from} {n} {first} {last} {middle} {end} {s} {s₁} {s₂}
           let t₁ : Filled s₀ s₁ (w ++ (first ∷ last ∷ middle ∷ [])) = y .fills s₀ w (omega arith) (omega arith) (omega arith) k i in
           let t₂ : Filled s₀ s₂ ((w ++ (first ∷ last ∷ middle ∷ [])) ++ (end ∷ [])) = z .fills s₀ (w ++ (first ∷ last ∷ middle ∷ [])) (omega arith) (omega arith) t₁ in
           let t : Filled s₀ s₂ (w ++ (first ∷ last ∷ middle ∷ end ∷ [])) =
-              subst (λ (o : List ℕ). Filled s₀ s₂ o) (append-assoc w (first ∷ last ∷ middle ∷ []) (end ∷ [])) t₂ in
+          subst (λ (o : List ℕ). Filled s₀ s₂ o) (append-assoc w (first ∷ last ∷ middle ∷ []) (end ∷ [])) t₂ in
           let o : _≡_ {A = List ℕ} (first ∷ last ∷ middle ∷ end ∷ []) (b ∷ c ∷ e ∷ f ∷ []) = λ i₁. u₁ i₁ ∷ v .is i₁ ∷ u₃ i₁ ∷ u₄ i₁ ∷ [] in
           subst (λ (r : List ℕ). Filled s₀ s₂ (w ++ r)) o t;
     }

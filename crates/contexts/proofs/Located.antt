@@ -111,20 +111,20 @@ spanned {a} {m} {s₀} {s₁} {s₂} {s₃} {s₄} {r} x y p q t o =
           let W : List ℕ = a₁ ∷ a₂ ∷ x .concretes ∷ c₁ ∷ c₂ ∷ x .ainit ∷ x .cinit ∷ x .retrieve ∷ x .operations ∷ [] in
           let S : List ℕ = operationSpans (operationsFrom d ρ) (operationsAt d) (d .operations) ρ in
           let f₁ : Filled s₀ s₁ Y =
-              p .fills s₀ [] a₁ a₂ h (omega arith) refl (subst (λ (i : ℕ). Declared (take m a) m i a₁ a₂) (sym (X .abstracts)) (Q .abstract)) (record { filled = refl }) in
+          p .fills s₀ [] a₁ a₂ h (omega arith) refl (subst (λ (i : ℕ). Declared (take m a) m i a₁ a₂) (sym (X .abstracts)) (Q .abstract)) (record { filled = refl }) in
           let f₂ : Filled s₀ s₂ Z = q .fills s₀ Y c₁ c₂ h (omega arith) refl (subst (λ (i : ℕ). Declared (take m a) m i c₁ c₂) (sym e₁) (Q .concrete)) f₁ in
           let f₃ : Filled s₀ s₃ W = t .fills s₀ Z (omega arith) (omega arith) (omega arith) refl f₂ in
           let g : Ahead (take m a) m (x .operations) 0 s₃ s₀ (W ++ S) (length (d .operations)) =
-              record {
-                front = W;
-                left = S;
-                count = length (d .operations);
-                whole = refl;
-                long = refl;
-                sum = omega arith;
-                rest = subst (λ (i : ℕ). OperationsIn (take m a) m i S (length (d .operations))) (sym e₅) (Q .operations);
-                written = f₃;
-              } in
+          record {
+            front = W;
+            left = S;
+            count = length (d .operations);
+            whole = refl;
+            long = refl;
+            sum = omega arith;
+            rest = subst (λ (i : ℕ). OperationsIn (take m a) m i S (length (d .operations))) (sym e₅) (Q .operations);
+            written = f₃;
+          } in
           let k : W ++ S ≡ spansOf d ρ = λ i. a₁ ∷ a₂ ∷ e₁ i ∷ c₁ ∷ c₂ ∷ e₂ i ∷ e₃ i ∷ e₄ i ∷ e₅ i ∷ S in
           let f₄ : Filled s₀ s₄ (spansOf d ρ) = subst (λ (w : List ℕ). Filled s₀ s₄ w) k (o .fills s₀ (W ++ S) (length (d .operations)) h n g) in
           (o .counts s₀ (W ++ S) (length (d .operations)) h n g, f₄ .filled);

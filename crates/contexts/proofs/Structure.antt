@@ -31,7 +31,7 @@ stand {c} x q s from to e f =
     let k = length-append x q in
     let h : to - from ≡ length x = omega arith in
     let g : drop from c ≡ x ++ q =
-        ap (λ (i : ℕ). drop i c) (e ∙ sym (s .long)) ∙ ap (λ (w : List ℕ). drop (length (s .front)) w) (s .whole) ∙ drop-append-seam (s .front) (x ++ q) in
+    ap (λ (i : ℕ). drop i c) (e ∙ sym (s .long)) ∙ ap (λ (w : List ℕ). drop (length (s .front)) w) (s .whole) ∙ drop-append-seam (s .front) (x ++ q) in
     record {
       ordered = omega arith;
       inside = omega arith;
@@ -87,8 +87,8 @@ operations-stand {c} {spans} n k i (o ∷ os) ρ z y w s =
     let e : ℕ = b + length A in
     let f : ℕ = e + length C in
     let g : (P ++ (A ++ (C ++ R))) ++ z ≡ P ++ (A ++ (C ++ (R ++ z))) =
-        append-assoc P (A ++ (C ++ R)) z
-        ∙ ap (λ (l : List ℕ). P ++ l) (append-assoc A (C ++ R) z ∙ ap (λ (l : List ℕ). A ++ l) (append-assoc C R z)) in
+    append-assoc P (A ++ (C ++ R)) z
+    ∙ ap (λ (l : List ℕ). P ++ l) (append-assoc A (C ++ R) z ∙ ap (λ (l : List ℕ). A ++ l) (append-assoc C R z)) in
     let w₁ : Split c (n + 4) (P ++ (A ++ (C ++ (R ++ z)))) = split-as g (split-next (node 8 i (numberOfName ρ (o .title) noEnding) 0) ((P ++ (A ++ (C ++ R))) ++ z) w) in
     let w₂ : Split c b (A ++ (C ++ (R ++ z))) = split-next P (A ++ (C ++ (R ++ z))) w₁ in
     let w₃ : Split c e (C ++ (R ++ z)) = split-next A (C ++ (R ++ z)) w₂ in
@@ -149,8 +149,8 @@ structured d ρ nodes spans m l e rest g =
     let s₇ : span spans 7 ≡ retrieveFrom d ρ = ap (λ (x : List ℕ). getD x 7 0) g in
     let s₈ : span spans 8 ≡ operationsFrom d ρ = ap (λ (x : List ℕ). getD x 8 0) g in
     let nine : List ℕ =
-        (abstractFrom d ρ + 4) ∷ (abstractFrom d ρ + 4 + length abstractDeclared) ∷ concreteFrom d ρ ∷ (concreteFrom d ρ + 4)
-        ∷ (concreteFrom d ρ + 4 + length concreteDeclared) ∷ ainitFrom d ρ ∷ cinitFrom d ρ ∷ retrieveFrom d ρ ∷ operationsFrom d ρ ∷ [] in
+    (abstractFrom d ρ + 4) ∷ (abstractFrom d ρ + 4 + length abstractDeclared) ∷ concreteFrom d ρ ∷ (concreteFrom d ρ + 4)
+    ∷ (concreteFrom d ρ + 4 + length concreteDeclared) ∷ ainitFrom d ρ ∷ cinitFrom d ρ ∷ retrieveFrom d ρ ∷ operationsFrom d ρ ∷ [] in
     let s₉ : Split spans 9 (S ++ rest) = split-first nine (S ++ rest) g in
     record {
       counted = refl;

@@ -1,12 +1,12 @@
 -- Numbers are written one behind the other, and places are found: what the functions of this crate count on.
-use mathlib.Core.Path.{_≡_, refl, sym, ap, _∙_, subst}
+use mathlib.Core.Path.{_≡_, sym, ap, _∙_, subst}
 use mathlib.Core.List.{List, [], _∷_, _++_, append-assoc, append-nil}
 use Prim.Native.Nat.{ℕ, suc, _+_, _-_, _*_, _≤_, _<_}
 use native.Mathlib.Omega.{arith}
 use lib.ListN.{length, take, drop, getD, set, length-set, length-append, length-drop}
 use lib.Seq.{set-append-seam, drop-cons}
-use Rattle.parser.specs.Sections.{sizeAt, Run, Skips, RunsTo}
-use Rattle.contexts.specs.Inner.{Filled, Puts, Three, Item, Declared, OperationIn, StatePut, OperationPut, OperationsIn, no-operation, an-operation, Ahead}
+use Rattle.parser.specs.Sections.{Run, Skips, RunsTo}
+use Rattle.contexts.specs.Inner.{Filled, Puts, Three, Item, Declared, StatePut, OperationPut, OperationsIn, no-operation, an-operation, Ahead}
 
 -- a number in the place behind w
 pub puts : (s : List ℕ) (n v x : ℕ) → (x ≤ 65535 → v ≡ x) → n < length s → Puts n x s (set s n v)

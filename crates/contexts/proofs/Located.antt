@@ -1,19 +1,19 @@
 -- The items of a dossier's nodes stand where its spans say: what the code finds.
-use mathlib.Core.Path.{_≡_, refl, sym, ap, _∙_, subst, subst₂}
-use mathlib.Core.List.{List, [], _∷_, _++_, append-assoc, append-nil}
-use Prim.Native.Nat.{ℕ, suc, _+_, _*_, _≤_}
+use mathlib.Core.Path.{_≡_, refl, sym, subst}
+use mathlib.Core.List.{List, [], _∷_, _++_, append-assoc}
+use Prim.Native.Nat.{ℕ, suc, _+_, _≤_}
 use native.Mathlib.Omega.{arith}
-use lib.ListN.{length, take, drop, length-append}
+use lib.ListN.{length, take}
 use Rattle.form.specs.Tree.{declarations, State, Operation, Dossier}
 use Rattle.form.specs.Headings.{abstractAt, concreteAt, operationsAt, operationLength}
 use Rattle.form.specs.Codes.{node, Numbering, numberOfName, declarationCodes, parameterCodes, conditionCodes, stateCodes, operationCodes, abstractlyAt, predWidth, dossierCodes}
 use Rattle.symbols.specs.Symbols.{noEnding}
-use Rattle.parser.specs.Sections.{sizeOf, sizeAt, Run, SectionsOf, abstractFrom, concreteFrom, ainitFrom, cinitFrom, retrieveFrom, operationsFrom}
+use Rattle.parser.specs.Sections.{sizeOf, sizeAt, SectionsOf, abstractFrom, concreteFrom, operationsFrom}
 use Rattle.parser.specs.declared.sections.Bounds.{Bounds}
 use Rattle.parser.proofs.Itemised.{Split, split-next, split-as, split-length, size-here, items-run, declarations-items, parameters-items, condition-above, above, ItemAt, condition-at}
 use Rattle.parser.proofs.Placed.{fromConcrete, fromAinit, at-abstract, at-operations, Laid, laid, of-array}
 use Rattle.contexts.specs.Spans.{operationSpans, spansOf, predicateAt, Spanned}
-use Rattle.contexts.specs.Inner.{Filled, Three, Item, Declared, OperationIn, StatePut, OperationsIn, no-operation, an-operation, Ahead, OperationsPut}
+use Rattle.contexts.specs.Inner.{Filled, Three, Item, Declared, StatePut, OperationsIn, no-operation, an-operation, Ahead, OperationsPut}
 use Rattle.contexts.proofs.Structure.{at-concrete}
 
 item-of : {t : List ℕ} {m i e : ℕ} → ItemAt t m i e → Item t m i e

@@ -1,5 +1,5 @@
 -- The parts of a dossier stand where its spans say: what the passes behind use.
-use mathlib.Core.Path.{_≡_, refl, sym, ap, _∙_, subst}
+use mathlib.Core.Path.{_≡_, refl, sym, ap, _∙_}
 use mathlib.Core.List.{List, [], _∷_, _++_, append-assoc}
 use Prim.Native.Nat.{ℕ, suc, _+_, _-_, _*_, _≤_}
 use native.Mathlib.Omega.{arith}
@@ -11,8 +11,8 @@ use Rattle.form.specs.Codes.{node, Numbering, numberOfName, predCodes, declarat
 use Rattle.symbols.specs.Symbols.{noEnding}
 use Rattle.parser.specs.Sections.{abstractFrom, concreteFrom, ainitFrom, cinitFrom, retrieveFrom, operationsFrom}
 use Rattle.parser.proofs.Itemised.{Split, split-first, split-next, split-as, split-at, split-length}
-use Rattle.parser.proofs.Placed.{fromOperations, fromRetrieve, fromCinit, fromAinit, fromConcrete, fromAbstract, at-abstract, at-operations}
-use Rattle.contexts.specs.Spans.{operationSpans, spansOf, Stands, PredAt, span, HeadingAt, OperationAt, OperationsAt, no-more, one-more, predicateAt, StateAt, Structured}
+use Rattle.parser.proofs.Placed.{fromOperations, fromRetrieve, fromCinit, fromAinit, fromConcrete, at-abstract, at-operations}
+use Rattle.contexts.specs.Spans.{operationSpans, spansOf, Stands, PredAt, span, HeadingAt, OperationsAt, no-more, one-more, predicateAt, StateAt, Structured}
 
 -- more numbers behind all
 pub split-longer : {c t q : List ℕ} {n : ℕ} (z : List ℕ) → t ≡ c ++ z → Split c n q → Split t n (q ++ z)

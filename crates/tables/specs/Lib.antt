@@ -2,4 +2,5 @@ pub mod Table
 pub mod Resolved
 pub mod Walks
 pub mod Dossiers
+pub mod Conjuncts
 pub mod Passes

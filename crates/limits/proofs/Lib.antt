@@ -6,3 +6,6 @@ pub mod Measured
 pub mod Counted
 pub mod BindCounts
 pub mod BindSpans
+pub mod Fitting
+pub mod BindFaults
+pub mod BindGivens

@@ -2,17 +2,16 @@
 use mathlib.Core.Path.{_≡_, refl, ap, ap₂, sym, _∙_}
 use mathlib.Core.Bool.{Bool, true, false, cond}
 use mathlib.Core.List.{List, [], _∷_, _++_}
-use Prim.Native.Nat.{ℕ, zero, suc, _+_, _-_, _*_, _^_, _%_, _≤_, _<_, min}
+use Prim.Native.Nat.{ℕ, zero, suc, _+_, _-_, _*_, _^_, _%_, _≤_, _<_}
 use native.Mathlib.Nat.{pow-zero, pow-suc, mul-le-mul}
 use native.Mathlib.Omega.{arith}
 use lib.Dec.{eqb, leb}
 use lib.ListN.{length, drop, getD}
-use borrow.Author.Tests.{leb-true, leb-false, le-leb, lt-leb, eq-eqb, ne-eqb}
+use borrow.Author.Tests.{leb-true, leb-false, lt-leb, eq-eqb, ne-eqb}
 use Rattle.form.specs.Tree.{TypeForm, givenType, powerType, rangeType, arrowType, relation, partial, total}
-use Rattle.form.specs.Codes.{Numbering, node, nameNumber, endNumber, endWidth, arrowNumber, typeCodes, typeWidth}
-use Rattle.names.specs.Inner.{Names, Sizes, entry, sizeIn}
-use Rattle.names.specs.Passes.{Typed, typedCodes}
-use Rattle.names.specs.Parts.{typedCode}
+use Rattle.form.specs.Codes.{Numbering, node, nameNumber, endNumber, endWidth, arrowNumber, typeCodes}
+use Rattle.names.specs.Inner.{Names, Sizes}
+use Rattle.names.specs.Passes.{Typed}
 use Rattle.names.proofs.Declaring.{node-a, node-b, node-shape, typed-type, Walked, start, on, finished}
 use Rattle.limits.specs.Bindings.{cap, sizeAt, countBy, typeCount, typedFactor, typedCount, TypeCounted, FactorCounted, GroupCounted}
 

@@ -4,7 +4,7 @@ use mathlib.Core.Path.{_≡_, refl, ap, ap₂, _∙_, sym}
 use mathlib.Core.Bool.{Bool, true, false, _&&_, cond}
 use mathlib.Core.List.{List, [], _∷_, _++_, map}
 use mathlib.Core.Option.{Option, none, some}
-use Prim.Native.Nat.{ℕ, zero, suc, _+_, _-_, _*_, _^_, _%_, _≤_, _<_}
+use Prim.Native.Nat.{ℕ, zero, suc, _+_, _-_, _*_, _^_, _%_, _≤_}
 use native.Mathlib.Omega.{arith}
 use lib.Dec.{eqb, leb}
 use lib.IntN.{ℤ, pos, negsuc, subℕ, _-ℤ_, natAbs}
@@ -12,12 +12,12 @@ use lib.Signed.{leZ, ltZ}
 use borrow.Author.Tests.{leb-true, le-ltb}
 use Rattle.symbols.specs.Lists.{filter}
 use Rattle.symbols.specs.Symbols.{Name, Ending, noEnding, prime, query, shriek}
-use Rattle.symbols.specs.Refusals.{Fault, fault, numberOf, unless, manyBindings, nameUnknown, wideType}
-use Rattle.form.specs.Tree.{Letters, Range, Arrow, relation, partial, total, TypeForm, givenType, powerType, rangeType, arrowType, Given, Declaration, declarations, Direction, inward, outward, Parameter, Operation, Dossier}
+use Rattle.symbols.specs.Refusals.{fault, numberOf, unless, manyBindings, nameUnknown, wideType}
+use Rattle.form.specs.Tree.{Letters, Range, Arrow, relation, partial, total, TypeForm, givenType, powerType, rangeType, arrowType, Given, Declaration, Direction, inward, outward, Parameter, Operation, Dossier}
 use Rattle.form.specs.Written.{endingOf}
 use Rattle.form.specs.Headings.{abstractAt, concreteAt, operationsAt, operationLength}
 use Rattle.form.specs.Codes.{Numbering, endingNumber, numberOfName, nameNumber, endNumber}
-use Rattle.reader.specs.Carriers.{Carrier, elementsOf, subsetsOf, pairsOf, Variable, sizeOf, signed, endValue, rangeCarrier, arrowCount, countOf, givenOf, carrierOf}
+use Rattle.reader.specs.Carriers.{Carrier, elementsOf, subsetsOf, pairsOf, sizeOf, signed, endValue, rangeCarrier, arrowCount, countOf, givenOf, carrierOf}
 use Rattle.reader.specs.Names.{endLength, rangeFits, rangeFaults, known, pairsFault, typeFaults}
 use Rattle.reader.specs.Scope as scope
 use Rattle.reader.specs.Scope.{variables, isInput, isOutput, unprimed, inputs, outputs}
@@ -26,9 +26,8 @@ use Rattle.names.specs.Inner.{Names, Sizes, key, unlessKey, lesser}
 use Rattle.names.specs.Passes.{Typed, variablesOf, parametersOf}
 use Rattle.names.proofs.JudgedLeast.{Small, no-fault, small-append, small-unless, lesser-assoc, least-nil, unless-least, two-parts, unless-nil, not-nil, append-nil-both}
 use Rattle.names.proofs.JudgedTypes.{no-yes}
-use Rattle.contexts.specs.Spans.{Structured}
 use Rattle.limits.specs.Fit.{TypesFit, no-types, one-type, OperationsFit, no-operations, one-operation, DeclaredFit}
-use Rattle.limits.specs.Bindings.{sizeAt, typeCount, typedFactor, typedCount, stateOver, operationOver, operationsOver, StateBound, OperationsBound, TypeShown, TypesShown, one-shown, OperationsShown, operation-shown, GivensShown, leastKey, BindingsSeen}
+use Rattle.limits.specs.Bindings.{sizeAt, typeCount, typedCount, stateOver, operationOver, operationsOver, StateBound, OperationsBound, TypeShown, TypesShown, one-shown, OperationsShown, operation-shown, GivensShown, leastKey, BindingsSeen}
 
 -- ---- ranges ----
 

@@ -1,7 +1,7 @@
 -- The table of names and the sizes that the pass over given sets makes tell the sizes of the given sets in declared types.
 use mathlib.Core.Path.{_≡_, refl, ap, _∙_, sym, subst}
 use mathlib.Core.List.{List, [], map}
-use mathlib.Core.Option.{Option, none, some}
+use mathlib.Core.Option.{Option}
 use Prim.Native.Nat.{ℕ, zero, suc, _+_, _-_, _≤_, _<_}
 use native.Mathlib.Omega.{arith}
 use lib.ListN.{length, getD, replicate, length-replicate}
@@ -9,11 +9,11 @@ use Rattle.symbols.specs.Symbols.{Name}
 use Rattle.form.specs.Tree.{Letters, TypeForm, givenType, powerType, rangeType, arrowType, Given, Operation, Dossier}
 use Rattle.form.specs.Headings.{givensAt}
 use Rattle.form.specs.Codes.{Numbering, nameNumber}
-use Rattle.reader.specs.Carriers.{sizeOf, givenOf}
+use Rattle.reader.specs.Carriers.{sizeOf}
 use Rattle.reader.specs.Scope.{givenNames}
-use Rattle.reader.specs.Names.{givenFaults, nameFaults}
+use Rattle.reader.specs.Names.{nameFaults}
 use Rattle.names.specs.Inner.{Names, Sizes, entry, sizeIn}
-use Rattle.names.specs.Passes.{Typed, parametersOf, givensNamed}
+use Rattle.names.specs.Passes.{Typed, givensNamed}
 use Rattle.names.proofs.Showing.{indexOf, GivenIs, Numbered}
 use Rattle.names.proofs.JudgedTypes.{index-in}
 use Rattle.names.proofs.JudgedScope.{found}

@@ -7,15 +7,15 @@ use native.Mathlib.Omega.{arith}
 use lib.Dec.{leb}
 use lib.ListN.{length, getD, List·getD-eq-default}
 use Rattle.symbols.specs.Symbols.{noEnding}
-use Rattle.form.specs.Tree.{Declaration, declarations, Parameter, State, Operation}
+use Rattle.form.specs.Tree.{declarations, Operation}
 use Rattle.form.specs.Headings.{operationLength}
-use Rattle.form.specs.Codes.{Numbering, parameterCodes, declarationCodes}
+use Rattle.form.specs.Codes.{Numbering}
 use Rattle.names.specs.Inner.{Names, Sizes, key, unlessKey, lesser}
 use Rattle.names.specs.Passes.{Typed, variablesOf, parametersOf, typedCodes}
 use Rattle.names.specs.Parts.{PartOf}
 use Rattle.names.proofs.JudgedLeast.{lesser-zero, lesser-assoc}
 use Rattle.names.proofs.Passing.{variables-codes, parameters-codes}
-use Rattle.contexts.specs.Spans.{Stands, span, HeadingAt, OperationAt, OperationsAt, no-more, one-more, StateAt}
+use Rattle.contexts.specs.Spans.{Stands, span, HeadingAt, OperationsAt, one-more}
 use Rattle.limits.specs.Bindings.{typedCount, stateOver, operationOver, operationsOver, GroupCounted, HeadingFaulted, StateBound, OperationBound, OperationsBound}
 use Rattle.limits.proofs.BindCounts.{cap-leb}
 

@@ -54,9 +54,9 @@ parts : (d : Dossier) → nameFaults d ≡ [] → Parts d
 unfolding nameFaults
 parts d e =
     let p = append-nil-both
-        (givenFaults [] (givensAt d) (d .givens) ++ declarationFaults (d .givens) (givenNames (d .givens)) (suc (abstractAt d)) (declarations (d .abstract))
-        ++ declarationFaults (d .givens) (abstractTaken d) (suc (concreteAt d)) (declarations (d .concrete)) ++ operationFaults (d .givens) (concreteTaken d) (operationsAt d) (d .operations))
-        (concat (map contextFaults (contexts d))) e in
+    (givenFaults [] (givensAt d) (d .givens) ++ declarationFaults (d .givens) (givenNames (d .givens)) (suc (abstractAt d)) (declarations (d .abstract))
+    ++ declarationFaults (d .givens) (abstractTaken d) (suc (concreteAt d)) (declarations (d .concrete)) ++ operationFaults (d .givens) (concreteTaken d) (operationsAt d) (d .operations))
+    (concat (map contextFaults (contexts d))) e in
     let q = append-nil-both _ (operationFaults (d .givens) (concreteTaken d) (operationsAt d) (d .operations)) (p .0) in
     let r = append-nil-both _ (declarationFaults (d .givens) (abstractTaken d) (suc (concreteAt d)) (declarations (d .concrete))) (q .0) in
     let s = append-nil-both (givenFaults [] (givensAt d) (d .givens)) _ (r .0) in

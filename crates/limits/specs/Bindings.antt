@@ -9,7 +9,7 @@ use lib.Dec.{eqb, leb}
 use lib.ListN.{length, drop}
 use Rattle.symbols.specs.Symbols.{Name, noEnding}
 use Rattle.symbols.specs.Refusals.{Fault, numberOf, least}
-use Rattle.form.specs.Tree.{Arrow, relation, partial, total, TypeForm, givenType, powerType, rangeType, arrowType, Given, declarations, State, Operation, Dossier}
+use Rattle.form.specs.Tree.{relation, partial, total, TypeForm, givenType, powerType, rangeType, arrowType, Given, declarations, State, Operation, Dossier}
 use Rattle.form.specs.Headings.{operationLength}
 use Rattle.form.specs.Codes.{Numbering, nameNumber, endNumber, typeCodes}
 use Rattle.reader.specs.Carriers.{sizeOf, givenOf}

@@ -79,14 +79,7 @@ fn type_count(code: &[u16], at: usize, limit: u32, names: &[u16], sizes: &[u16])
 }
 
 // What a declared name adds to the product: nothing, where it has another ending.
-fn factor(
-    code: &[u16],
-    at: usize,
-    ending: u16,
-    limit: u32,
-    names: &[u16],
-    sizes: &[u16],
-) -> u32
+fn factor(code: &[u16], at: usize, ending: u16, limit: u32, names: &[u16], sizes: &[u16]) -> u32
     requires { ⌜ (at + 8 ≤ length (now code)) × (limit ≤ 4096) ⌝ }
     ensures { λ r. ⌜ FactorCounted (now (code .entry)) at ending limit (now (names .entry)) (now (sizes .entry)) r × (r ≤ 65536) ⌝ }
 {

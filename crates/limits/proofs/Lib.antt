@@ -1,4 +1,4 @@
--- Sizes by numbers are the sizes of the definitions.
+-- Sizes and bindings by numbers are those of the definitions.
 pub mod MeasuredScope
 pub mod MeasuredWidths
 pub mod MeasuredParts
@@ -9,3 +9,8 @@ pub mod WalkingNumbers
 pub mod Walking
 pub mod WalkingTerms
 pub mod WalkingPreds
+pub mod BindCounts
+pub mod BindSpans
+pub mod Fitting
+pub mod BindFaults
+pub mod BindGivens

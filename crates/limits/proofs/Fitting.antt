@@ -1,0 +1,76 @@
+-- A dossier without faults of the pass over names has no declared type at fault.
+use mathlib.Core.Path.{_≡_}
+use mathlib.Core.Bool.{not}
+use mathlib.Core.List.{List, [], _∷_, _++_, map}
+use Prim.Native.Nat.{ℕ, suc, _+_}
+use lib.ListN.{length}
+use Rattle.symbols.specs.Lists.{any, concat}
+use Rattle.symbols.specs.Refusals.{Fault, fault, nameInUse, unless}
+use Rattle.form.specs.Tree.{Letters, Given, Declaration, declarations, Parameter, Operation, Dossier}
+use Rattle.form.specs.Written.{writeType}
+use Rattle.form.specs.Headings.{givensAt, abstractAt, concreteAt, operationsAt, operationLength}
+use Rattle.reader.specs.Carriers.{sameName}
+use Rattle.reader.specs.Scope.{givenNames, abstractTaken, concreteTaken, contexts}
+use Rattle.reader.specs.Names.{newName, typeFaults, declarationFaults, givenFaults, parameterName, parameterFaults, operationFaults, contextFaults, nameFaults}
+use Rattle.names.proofs.JudgedLeast.{append-nil-both}
+use Rattle.limits.specs.Fit.{TypesFit, no-types, one-type, OperationsFit, no-operations, one-operation, DeclaredFit}
+
+declared-types : (gs : List Given) (xs : List Letters) (i : ℕ) (ds : List Declaration) → declarationFaults gs xs i ds ≡ [] → TypesFit gs ds
+unfolding declarationFaults
+declared-types gs xs i [] e = no-types
+declared-types gs xs i (d ∷ ds) e =
+    let a = append-nil-both (newName xs (d .declared) i ++ typeFaults gs (d .type) (i + 2)) (declarationFaults gs (d .declared ∷ xs) (i + 3 + length (writeType (d .type) [])) ds) e in
+    let b = append-nil-both (newName xs (d .declared) i) (typeFaults gs (d .type) (i + 2)) (a .0) in
+    one-type (i + 2) (b .1) (declared-types gs (d .declared ∷ xs) (i + 3 + length (writeType (d .type) [])) ds (a .1))
+
+-- a parameter's name that is in use
+abbrev nameFault : List Parameter → Parameter → ℕ → List Fault
+nameFault xs y i = unless (not (any (λ (x : Parameter). sameName (parameterName x) (parameterName y)) xs)) (fault i nameInUse)
+
+parameter-types : (gs : List Given) (xs : List Parameter) (i : ℕ) (ys : List Parameter) → parameterFaults gs xs i ys ≡ [] → TypesFit gs (map (λ (x : Parameter). x .declaration) ys)
+unfolding parameterFaults
+parameter-types gs xs i [] e = no-types
+parameter-types gs xs i (y ∷ ys) e =
+    let a = append-nil-both (nameFault xs y i ++ typeFaults gs (y .declaration .type) (i + 2)) (parameterFaults gs (y ∷ xs) (i + 3 + length (writeType (y .declaration .type) [])) ys) e in
+    let b = append-nil-both (nameFault xs y i) (typeFaults gs (y .declaration .type) (i + 2)) (a .0) in
+    one-type (i + 2) (b .1) (parameter-types gs (y ∷ xs) (i + 3 + length (writeType (y .declaration .type) [])) ys (a .1))
+
+operation-types : (gs : List Given) (xs : List Letters) (i : ℕ) (os : List Operation) → operationFaults gs xs i os ≡ [] → OperationsFit gs os
+unfolding operationFaults
+operation-types gs xs i [] e = no-operations
+operation-types gs xs i (o ∷ os) e =
+    let a = append-nil-both (newName xs (o .title) (suc i) ++ parameterFaults gs [] (i + 2) (o .parameters)) (operationFaults gs (o .title ∷ xs) (i + operationLength o) os) e in
+    let b = append-nil-both (newName xs (o .title) (suc i)) (parameterFaults gs [] (i + 2) (o .parameters)) (a .0) in
+    one-operation (parameter-types gs [] (i + 2) (o .parameters) (b .1)) (operation-types gs (o .title ∷ xs) (i + operationLength o) os (a .1))
+
+-- the parts of the list of faults, in its order
+record Parts (d : Dossier) : Type 0 where
+  given-part : givenFaults [] (givensAt d) (d .givens) ≡ []
+  abstract-part : declarationFaults (d .givens) (givenNames (d .givens)) (suc (abstractAt d)) (declarations (d .abstract)) ≡ []
+  concrete-part : declarationFaults (d .givens) (abstractTaken d) (suc (concreteAt d)) (declarations (d .concrete)) ≡ []
+  operation-part : operationFaults (d .givens) (concreteTaken d) (operationsAt d) (d .operations) ≡ []
+
+parts : (d : Dossier) → nameFaults d ≡ [] → Parts d
+unfolding nameFaults
+parts d e =
+    let p = append-nil-both
+    (givenFaults [] (givensAt d) (d .givens) ++ declarationFaults (d .givens) (givenNames (d .givens)) (suc (abstractAt d)) (declarations (d .abstract))
+    ++ declarationFaults (d .givens) (abstractTaken d) (suc (concreteAt d)) (declarations (d .concrete)) ++ operationFaults (d .givens) (concreteTaken d) (operationsAt d) (d .operations))
+    (concat (map contextFaults (contexts d))) e in
+    let q = append-nil-both _ (operationFaults (d .givens) (concreteTaken d) (operationsAt d) (d .operations)) (p .0) in
+    let r = append-nil-both _ (declarationFaults (d .givens) (abstractTaken d) (suc (concreteAt d)) (declarations (d .concrete))) (q .0) in
+    let s = append-nil-both (givenFaults [] (givensAt d) (d .givens)) _ (r .0) in
+    record { given-part = s .0; abstract-part = s .1; concrete-part = r .1; operation-part = q .1 }
+
+pub declared-fit : (d : Dossier) → nameFaults d ≡ [] → DeclaredFit d
+declared-fit d e =
+    let p = parts d e in
+    record {
+      abstracts = declared-types (d .givens) (givenNames (d .givens)) (suc (abstractAt d)) (declarations (d .abstract)) (p .abstract-part);
+      concretes = declared-types (d .givens) (abstractTaken d) (suc (concreteAt d)) (declarations (d .concrete)) (p .concrete-part);
+      parameters = operation-types (d .givens) (concreteTaken d) (operationsAt d) (d .operations) (p .operation-part);
+    }
+
+-- nor a given set
+pub givens-fit : (d : Dossier) → nameFaults d ≡ [] → givenFaults [] (givensAt d) (d .givens) ≡ []
+givens-fit d e = parts d e .given-part

@@ -267,13 +267,6 @@ outputs-other zero o f = refl
 outputs-other (suc zero) o f = absurd (f refl)
 outputs-other (suc (suc c)) o f = refl
 
--- a place with a code is inside
-pub in-text : (s : List ℕ) (at : ℕ) → 1 ≤ getD s at 0 → at < length s
-in-text [] zero h = absurd (omega arith)
-in-text [] (suc at) h = absurd (omega arith)
-in-text (x ∷ s) zero h = omega arith
-in-text (x ∷ s) (suc at) h = let l = in-text s at h in omega arith
-
 pub inputs-few : (c i o : ℕ) → countBy c i o < 3 → i ≤ 3 → inputsBy c i ≤ 3
 inputs-few zero i o h l = l
 inputs-few (suc zero) i o h l = omega arith

@@ -14,8 +14,8 @@ use Rattle.parser.specs.Derived.{noOperations}
 use Rattle.parser.specs.Dossiers.{MoreAt, aConditionTo}
 use Rattle.parser.proofs.Reading.{here, next, takes-kind, taken-kind, stops, likewise, fails, framed, known}
 use Rattle.parser.proofs.Listing.{count-well, count-over, operations, crowded-kind, declared-takes, declared-stops, operation-word, operations-behind}
-use Rattle.parser.proofs.Joining.{more-none, more-then, more-made}
-use Rattle.parser.proofs.Fronts.{more-known}
+use Rattle.parser.proofs.ListNodes.{more-none, more-then, more-made}
+use Rattle.parser.proofs.BodyNodes.{more-known}
 use Rattle.parser.proofs.bodies.operations.Statement.{statement}
 use Rattle.symbols.specs.Kinds as kind
 use Rattle.parser.specs.Derived as part

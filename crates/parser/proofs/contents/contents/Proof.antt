@@ -13,7 +13,7 @@ use Rattle.parser.specs.Derived.{Made}
 use Rattle.parser.specs.Dossiers.{ofGivens, ofOperations, WordsAt, fiveWords}
 use Rattle.parser.proofs.Reading.{next, takes-kind, likewise, fails, framed, known}
 use Rattle.parser.proofs.Listing.{dossier-first}
-use Rattle.parser.proofs.Joining.{closed, contents-made}
+use Rattle.parser.proofs.ListNodes.{closed, contents-made}
 use Rattle.parser.proofs.contents.contents.Statement.{statement}
 use Rattle.symbols.specs.Kinds as kind
 use Rattle.parser.specs.Derived as part

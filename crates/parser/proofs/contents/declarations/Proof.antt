@@ -15,7 +15,7 @@ use Rattle.parser.specs.Derived.{NameAt, Made, aDeclaration, noDeclarati
 use Rattle.parser.specs.Dossiers.{MoreAt, aTyped}
 use Rattle.parser.proofs.Reading.{here, next, taken, taken-kind, stops, likewise, likewise-kind, fails, framed, known}
 use Rattle.parser.proofs.Listing.{count-well, count-over, variables, crowded-kind, declared-stops, declaration-first, declaration-takes, declarations-behind}
-use Rattle.parser.proofs.Joining.{more-none, more-then, more-made, more-part}
+use Rattle.parser.proofs.ListNodes.{more-none, more-then, more-made, more-part}
 use Rattle.parser.proofs.contents.declarations.Statement.{statement}
 use Rattle.symbols.specs.Kinds as kind
 use Rattle.parser.specs.Derived as part

@@ -15,7 +15,7 @@ use Rattle.parser.specs.Derived.{noElements}
 use Rattle.parser.specs.Dossiers.{MoreAt}
 use Rattle.parser.proofs.Reading.{here, next, taken, taken-kind, stops, likewise, likewise-kind}
 use Rattle.parser.proofs.Listing.{count-well, count-over, elements, crowded-kind, declared-stops, element-first, element-takes, elements-behind}
-use Rattle.parser.proofs.Joining.{more-none, more-then, more-made, more-node}
+use Rattle.parser.proofs.ListNodes.{more-none, more-then, more-made, more-node}
 use Rattle.parser.proofs.contents.elements.Statement.{statement}
 use Rattle.symbols.specs.Kinds as kind
 use Rattle.parser.specs.Derived as part

@@ -15,7 +15,7 @@ use Rattle.parser.specs.Derived.{noEntries, anEntry}
 use Rattle.parser.specs.Dossiers.{EntriesOf, MoreAt}
 use Rattle.parser.proofs.Reading.{here, next, takes, taken, taken-kind, stops, likewise}
 use Rattle.parser.proofs.Listing.{count-well, count-over, entry-counts, crowded-kind, declared-takes, declared-stops, entry-word, entry-behind, entry-ends}
-use Rattle.parser.proofs.Joining.{more-none, more-then, more-made, more-node}
+use Rattle.parser.proofs.ListNodes.{more-none, more-then, more-made, more-node}
 use Rattle.parser.proofs.contents.entries.Statement.{statement}
 use Rattle.symbols.specs.Kinds as kind
 use Rattle.parser.specs.Derived as part

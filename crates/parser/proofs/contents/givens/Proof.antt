@@ -15,7 +15,7 @@ use Rattle.parser.specs.Derived.{someGivens, noGivens}
 use Rattle.parser.specs.Dossiers.{MoreAt, More}
 use Rattle.parser.proofs.Reading.{here, next, takes-kind, taken, taken-kind, stops, likewise, fails, framed, known}
 use Rattle.parser.proofs.Listing.{count-well, count-over, givens, crowded-kind, declared-takes, declared-stops, given-word, givens-behind}
-use Rattle.parser.proofs.Joining.{more-none, more-then, more-made}
+use Rattle.parser.proofs.ListNodes.{more-none, more-then, more-made}
 use Rattle.parser.proofs.contents.givens.Statement.{statement}
 use Rattle.symbols.specs.Kinds as kind
 use Rattle.parser.proofs.contents.givens.Tie as tie

@@ -13,7 +13,7 @@ use Rattle.parser.specs.Derived.{NameAt, RangeAt, overRange, overSets}
 use Rattle.parser.proofs.Reading.{here, takes, takes-kind, taken, stops, likewise, fails, known, counted, known-ahead}
 use Rattle.parser.proofs.Stepping.{name-step, name-taken}
 use Rattle.parser.proofs.Listing.{type-name, type-range}
-use Rattle.parser.proofs.Joining.{made-node}
+use Rattle.parser.proofs.ListNodes.{made-node}
 use Rattle.parser.proofs.contents.type_form.Statement.{statement}
 use Rattle.symbols.specs.Kinds as kind
 use Rattle.parser.proofs.contents.type_form.Tie as tie

@@ -78,10 +78,6 @@ crowded {s} {at} {ι = ι} ρ x l f h =
       same = λ w q γ. step-at s at ι w q l (λ δ. go x (ρ δ)) h γ ∙ ap (λ (y : Option Refusal). unlessOver y at (runAt w (suc at)) (ρ γ)) (f w q);
     }
 
-pub crowded-kind : {s : List ℕ} {at n : ℕ} {ι ο : List Item} (ρ : List Item → List Item) (x : Mark) (j : Kind) → getD s at 0 ≡ codeOf j → at < length s
-    → Within s at (λ k j v. settled k j v x ≡ some manyDeclared) → ((γ : List Item) → step (ι ++ γ) j ≡ go x (ρ γ)) → Reads s at n ι ο (Fault at 6)
-crowded-kind {ι = ι} ρ x j q l f h = crowded ρ x l f (only (λ κ. (γ : List Item) → step (ι ++ γ) κ ≡ go x (ρ γ)) j q h)
-
 -- a declared name
 pub declared-takes : (m : Mark) (γ : List Item) → step (aDeclared m ∷ γ) kind.plain ≡ go m γ
 unfolding computeForm

@@ -7,6 +7,7 @@ pub mod Checking
 pub mod Declaring
 pub mod Giving
 pub mod Passing
+pub mod PassingOperations
 pub mod Showing
 pub mod JudgedLeast
 pub mod JudgedWidths

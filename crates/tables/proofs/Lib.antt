@@ -6,3 +6,5 @@ pub mod ResolvingParts
 pub mod Resolving
 pub mod ResolvingLength
 pub mod TabledShown
+pub mod TabledTypes
+pub mod Tabled

@@ -1,30 +1,27 @@
 -- The tables of names that the pass makes for the contexts of a dossier without faults: each shows the names in reach of its predicate.
-use mathlib.Core.Path.{_≡_, refl, ap₂, _∙_, sym}
-use mathlib.Core.Bool.{not}
+use mathlib.Core.Path.{_≡_, refl, _∙_, sym}
 use mathlib.Core.List.{List, [], _∷_, _++_, map}
-use mathlib.Core.Option.{Option}
 use Prim.Native.Nat.{ℕ, zero, suc, _+_, _≤_, _<_}
 use native.Mathlib.Omega.{arith}
 use lib.ListN.{length, getD, replicate, length-replicate}
 use Rattle.symbols.specs.Lists.{any, concat}
 use Rattle.symbols.specs.Symbols.{Name, noEnding}
 use Rattle.symbols.specs.Refusals.{Fault}
-use Rattle.form.specs.Tree.{Letters, Given, Declaration, declarations, Parameter, State, Operation, Dossier}
+use Rattle.form.specs.Tree.{Letters, Given, Declaration, declarations, State, Operation, Dossier}
 use Rattle.form.specs.Headings.{givensAt, abstractAt, concreteAt, operationsAt, operationLength}
 use Rattle.form.specs.Codes.{Numbering}
-use Rattle.reader.specs.Carriers.{Variable, plain, sizeOf}
-use Rattle.reader.specs.Types.{Ty}
-use Rattle.reader.specs.Scope.{Scope, Context, variables, givenNames, stateNames, abstractTaken, concreteTaken, operationContexts, contexts}
+use Rattle.reader.specs.Carriers.{sizeOf}
+use Rattle.reader.specs.Scope.{Context, variables, givenNames, stateNames, abstractTaken, concreteTaken, operationContexts, contexts}
 use Rattle.reader.specs.Names.{newName, givenFaults, declarationFaults, parameterFaults, operationFaults, contextFaults, nameFaults}
 use Rattle.names.specs.Inner.{Names, Sizes, entry}
-use Rattle.names.specs.Passes.{variablesOf, parametersOf, shown, hidden, reaching, leaving, titleNamed, parametersShown, givensNamed, stateNamed, operationNamed, conditionsNamed}
+use Rattle.names.specs.Passes.{variablesOf, parametersOf, shown, hidden, reaching, leaving, titleNamed, parametersShown, givensNamed}
 use Rattle.names.proofs.Showing.{Numbered, Shows}
 use Rattle.names.proofs.JudgedLeast.{append-nil-both}
 use Rattle.names.proofs.PassedTables.{Sees, unused}
 use Rattle.names.proofs.PassedTypes.{Sized}
 use Rattle.names.proofs.PassedDeclared.{TypedIn, Clear, clear, found, orType}
 use Rattle.names.proofs.PassedUse.{inUse, use-left, use-right, use-there, new-unused}
-use Rattle.names.proofs.PassedGivens.{GivensIn, Holds}
+use Rattle.names.proofs.PassedGivens.{GivensIn}
 use Rattle.names.proofs.PassedNamed.{elementType, Base, givens-sees}
 use Rattle.names.proofs.PassedStates.{typed-use, scope}
 use Rattle.names.proofs.PassedScopes.{TitlesIn, titles-given, titles-more, shows, Group, group, state-shown, state-named}

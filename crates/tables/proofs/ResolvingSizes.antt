@@ -52,7 +52,7 @@ unfolding isGiven
 given-yes k n h e = ap₂ _&&_ (le-leb 8 k (omega arith)) (lt-ltb k 16 (omega arith))
 
 -- a name that is a given set's, or none's
-view-size : {gs : List Given} {z : Sizes} {l : Letters} {o : Option Given} {k : ℕ} → View gs z l o k → table.givenSize z k ≡ sizeFound o
+pub view-size : {gs : List Given} {z : Sizes} {l : Letters} {o : Option Given} {k : ℕ} → View gs z l o k → table.givenSize z k ≡ sizeFound o
 unfolding table.givenSize
 view-size {z = z} {k = k} (no-given h) = ap (λ (b : Bool). cond b (sizeIn z (k - 8)) 0) h
 view-size {gs = gs} {z = z} {k = k} (one-given g c t h s e) =

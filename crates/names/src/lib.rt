@@ -5,7 +5,7 @@ use crate::declared::give;
 use crate::passes::check;
 use crate::passes::clear;
 
-mod declared;
+pub mod declared;
 pub mod kinds;
 mod passes;
 mod types;

@@ -8,7 +8,7 @@ use crate::passes::clear;
 pub mod declared;
 pub mod kinds;
 mod passes;
-mod types;
+pub mod types;
 
 // The type of a tree, its least fault (place * 16 + number + 1) or 0, and where its nodes begin.
 pub struct Seen {

@@ -5,3 +5,9 @@ pub mod ResolvingScope
 pub mod ResolvingParts
 pub mod Resolving
 pub mod ResolvingLength
+-- The walk that writes the table: pieces of the table, and what each shape of node writes.
+pub mod Patching
+pub mod Making
+pub mod Walking
+pub mod Leaves
+pub mod WalkingTerms

@@ -1,13 +1,3 @@
--- The table by numbers is the table by the definitions.
-pub mod ResolvingTypes
-pub mod ResolvingSizes
-pub mod ResolvingScope
-pub mod ResolvingParts
-pub mod Resolving
-pub mod ResolvingLength
--- The walk that writes the table: pieces of the table, and what each shape of node writes.
+-- The walk that writes the table.
 pub mod Patching
-pub mod Making
-pub mod Walking
 pub mod Leaves
-pub mod WalkingTerms

@@ -3,3 +3,4 @@ pub mod Resolved
 pub mod Walks
 pub mod Dossiers
 pub mod Passes
+pub mod Parts

@@ -101,17 +101,16 @@ fn declaration_fault(code: &[u16], at: usize, names: &[u16], sizes: &[u16]) -> u
 }
 
 // A declared name comes into reach, with `shift` added to its number.
-fn reach(code: &[u16], at: usize, shift: usize, names: &mut [u16])
-    requires { ⌜ (at + 8 ≤ length (now code)) × (shift < 65536) ⌝ }
+fn reach(code: &[u16], at: usize, shift: u16, names: &mut [u16])
+    requires { ⌜ at + 8 ≤ length (now code) ⌝ }
     ensures { λ r. ⌜ Reached (now (code .entry)) at shift (now (names .entry)) (now (names .exit)) ⌝ }
 {
     let k = type_kind(code, at + 4, names);
-    put(names, index(code[at + 1]) + shift, k);
+    put(names, index(code[at + 1]) + shift as usize, k);
 }
 
 // Declared names come into reach.
-pub(crate) fn show(code: &[u16], shift: usize, names: &mut [u16])
-    requires { ⌜ shift < 65536 ⌝ }
+pub fn show(code: &[u16], shift: u16, names: &mut [u16])
     ensures { λ r. ⌜ ShownSeen (now (code .entry)) shift (now (names .entry)) (now (names .exit)) ⌝ }
 {
     let mut at: usize = 0;
@@ -122,13 +121,12 @@ pub(crate) fn show(code: &[u16], shift: usize, names: &mut [u16])
 }
 
 // Declared names become k.
-pub(crate) fn hide(code: &[u16], shift: usize, k: u16, names: &mut [u16])
-    requires { ⌜ shift < 65536 ⌝ }
+pub fn hide(code: &[u16], shift: u16, k: u16, names: &mut [u16])
     ensures { λ r. ⌜ HiddenSeen (now (code .entry)) shift k (now (names .entry)) (now (names .exit)) ⌝ }
 {
     let mut at: usize = 0;
     while 8 <= code.len() - at {
-        put(names, index(code[at + 1]) + shift, k);
+        put(names, index(code[at + 1]) + shift as usize, k);
         at += 8;
     }
 }

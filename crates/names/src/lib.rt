@@ -5,10 +5,10 @@ use crate::declared::give;
 use crate::passes::check;
 use crate::passes::clear;
 
-mod declared;
+pub mod declared;
 pub mod kinds;
 mod passes;
-mod types;
+pub mod types;
 
 // The type of a tree, its least fault (place * 16 + number + 1) or 0, and where its nodes begin.
 pub struct Seen {

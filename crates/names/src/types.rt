@@ -40,7 +40,7 @@ fn prefix_fits(o: u16, k: u16) -> bool
     }
 }
 
-fn prefix_type(o: u16, k: u16) -> u16
+pub fn prefix_type(o: u16, k: u16) -> u16
     ensures { λ r. ⌜ PrefixType o k r ⌝ }
 {
     match o {

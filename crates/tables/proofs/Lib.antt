@@ -8,3 +8,6 @@ pub mod ResolvingLength
 pub mod TabledShown
 pub mod TabledTypes
 pub mod Tabled
+-- The walk that writes the table.
+pub mod Patching
+pub mod Leaves

@@ -4,3 +4,4 @@ pub mod Walks
 pub mod Dossiers
 pub mod Conjuncts
 pub mod Passes
+pub mod Parts

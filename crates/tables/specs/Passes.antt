@@ -1,5 +1,6 @@
 -- The table of a whole dossier by numbers: what each name is and where its value is found, in each context, and what is written.
 -- That this is Dossiers.tableOf is proofs/Tabled. Nothing here need be believed.
+use mathlib.Core.Bool.{cond}
 use mathlib.Core.List.{List, [], _∷_, map}
 use Prim.Native.Nat.{ℕ, suc, _+_, _-_, _*_}
 use lib.ListN.{set}
@@ -8,10 +9,10 @@ use Rattle.form.specs.Tree.{Letters, Given, elements, TypeForm, givenType, powe
 use Rattle.form.specs.Codes.{Numbering, node, nameNumber, numberOfName, endNumber, arrowNumber}
 use Rattle.reader.specs.Scope.{Context, contexts}
 use Rattle.reader.specs.Names.{parameterName}
-use Rattle.names.specs.Inner.{Names, Sizes, entry}
+use Rattle.names.specs.Inner.{Names, Sizes, entry, isGiven}
 use Rattle.names.specs.Passes.{Typed, variablesOf, parametersOf, shown, hidden, stateNamed, reaching, leaving, parametersShown, operationNamed, conditionsNamed}
 use Rattle.contexts.specs.Spans.{spansOf, span}
-use Rattle.tables.specs.Table.{Places, givenSize, predTable}
+use Rattle.tables.specs.Table.{Places, givenSize, rangeCount, predTable}
 use Rattle.tables.specs.Walks.{patch}
 use Rattle.tables.specs.Dossiers.{startsOf}
 
@@ -88,13 +89,16 @@ withTables (c ∷ cs) (T ∷ Ts) [] qs z ρ out = out
 withTables (c ∷ cs) (T ∷ Ts) (W ∷ Ws) [] z ρ out = out
 withTables (c ∷ cs) (T ∷ Ts) (W ∷ Ws) (q ∷ qs) z ρ out = withTables cs Ts Ws qs z ρ (patch q (predTable (c .predicate) T W z ρ 38 q) out)
 
--- the carriers, by what the names of given sets are
+-- the carriers, by what the names of given sets are; the number of the given set that a name is
+unfoldable pub givenIndex : ℕ → ℕ
+givenIndex k = cond (isGiven k) (k - 8) 0
+
 unfoldable pub typeNode : TypeForm → Names → Sizes → Numbering → List ℕ
-typeNode (givenType g) T z ρ = node 1 (entry T (nameNumber ρ g) - 8) (givenSize z (entry T (nameNumber ρ g))) 0
-typeNode (rangeType r) T z ρ = node 2 0 (endNumber (r .lower)) (endNumber (r .upper) + 1 - endNumber (r .lower))
-typeNode (powerType g) T z ρ = node 3 (entry T (nameNumber ρ g) - 8) (givenSize z (entry T (nameNumber ρ g))) 0
+typeNode (givenType g) T z ρ = node 1 (givenIndex (entry T (nameNumber ρ g))) (givenSize z (entry T (nameNumber ρ g))) 0
+typeNode (rangeType r) T z ρ = node 2 0 (endNumber (r .lower)) (rangeCount (endNumber (r .lower)) (endNumber (r .upper)))
+typeNode (powerType g) T z ρ = node 3 (givenIndex (entry T (nameNumber ρ g))) (givenSize z (entry T (nameNumber ρ g))) 0
 typeNode (arrowType a g h) T z ρ =
-    node (arrowNumber a) (8 * (entry T (nameNumber ρ g) - 8) + (entry T (nameNumber ρ h) - 8)) (givenSize z (entry T (nameNumber ρ g))) (givenSize z (entry T (nameNumber ρ h)))
+    node (arrowNumber a) (8 * givenIndex (entry T (nameNumber ρ g)) + givenIndex (entry T (nameNumber ρ h))) (givenSize z (entry T (nameNumber ρ g))) (givenSize z (entry T (nameNumber ρ h)))
 
 unfoldable pub withNodes : Names → Sizes → Numbering → (q : ℕ) → List Declaration → List ℕ → List ℕ
 withNodes T z ρ q [] out = out

@@ -13,7 +13,7 @@ use Rattle.form.specs.Tree.{Term, number, name, group, prefix, binary, divided,
 use Rattle.form.specs.Tree.{Pred, truth, falsity, negation, paren, quantified, connected, compared, member, within, related}
 use Rattle.form.specs.Written.{prefixKind, operatorKind, connectiveKind, quantifierKind, comparisonKind, membershipKind}
 use Rattle.form.specs.Codes.{Numbering, node, nameNumber, numberOfName, endNumber, signOf, divisionNumber}
-use Rattle.names.specs.Inner.{Names, Sizes, entry, isGiven, isElement, isPairs, elementOf, sizeIn, termKind, domainKind}
+use Rattle.names.specs.Inner.{Names, Sizes, entry, isGiven, isElement, isPairs, elementOf, rangeFits, sizeIn, termKind, domainKind}
 
 -- where the value of each name is found, by its number: below 64 the slot, from 64 on the place of an element in its given set
 abbrev pub Places : Type 0
@@ -40,10 +40,14 @@ secondSize z k = cond (isPairs k) (sizeIn z ((k - 64) % 8)) 0
 unfoldable pub placed : ℕ → List ℕ
 placed w = cond (ltb w 64) (node 2 0 w 0) (node 1 0 (w - 64) 0)
 
+-- how many numbers a range has, by its ends with 1,000 added; one of more than 64 is at fault (names/specs/Inner)
+unfoldable pub rangeCount : ℕ → ℕ → ℕ
+rangeCount a b = cond (rangeFits a b) (b + 1 - a) 0
+
 -- 13 the values that a name is bound over, or a range: the first, with 1,000 added, and how many
 unfoldable pub domainTable : Domain → Names → Sizes → Numbering → List ℕ
 domainTable (givenSet g) T z ρ = node 13 0 1000 (givenSize z (entry T (nameNumber ρ g)))
-domainTable (range r) T z ρ = node 13 0 (endNumber (r .lower)) (endNumber (r .upper) + 1 - endNumber (r .lower))
+domainTable (range r) T z ρ = node 13 0 (endNumber (r .lower)) (rangeCount (endNumber (r .lower)) (endNumber (r .upper)))
 
 abbrev pub relatedShape : Membership → ℕ
 relatedShape isIn = 22

@@ -4,3 +4,5 @@ pub mod Making
 pub mod Walking
 pub mod Leaves
 pub mod WalkingTerms
+pub mod WalkingBraces
+pub mod WalkingPreds

@@ -1,5 +1,8 @@
 // The table that the evaluator runs, from the nodes of a dossier.
 
+mod nodes;
+mod walk;
+
 // The type of a tree, and where its nodes begin.
 pub struct Made {
     pub kind: u16,

@@ -6,6 +6,7 @@ use mathlib.Core.Path.{refl, _∙_}
 use borrow.Author.Needs.{needs}
 use lib.ListN.{getD}
 use Rattle.names.proofs.Backwards.{eight, ten}
+use Rattle.tables.proofs.Leaves.{start-small, node-room, call-room, before-before}
 use Rattle.tables.proofs.Walking.{term-short, items-short, pairs-short, pred-short, term-other, pred-other}
 use Rattle.tables.proofs.WalkingTerms.{term-prefix, term-divided, term-binary, term-such, term-listed, term-pairs}
 use Rattle.tables.proofs.WalkingBraces.{items-only, items-also, pairs-only, pairs-also}
@@ -336,10 +337,10 @@ compared-term-requires-2 : (t : ℕ) → compared-lts.Need-term-requires-2 (comp
 compared-term-requires-2 t c κs = search needs
 
 compared-small-requires : (t : ℕ) → compared-lts.Need-small-requires (compared-claims t) (compared-at t) compared.Post
-compared-small-requires t c κs = search needs
+compared-small-requires t c κs = start-small (c .before .before .before .before .before .before .before .before .before .before .before .before .before .before .before .before .before .term .ensures .walked .falls) (c .before .before .before .before .before .before .before .before .before .before .before .before .before .before .before .before .before .before .before .before .before .before .before .before .before .before .before .pre .1 .0) (c .before .before .before .before .before .before .before .before .before .before .before .before .before .before .before .before .before .before .before .before .before .before .before .before .before .before .before .pre .1 .1) (c .before .before .before .before .before .before .before .before .before .before .before .before .before .before .before .before .before .before .before .before .before .before .before .before .before .before .before .pre .1 .2)
 
 compared-set-node-requires : (t : ℕ) → compared-lts.Need-set-node-requires (compared-claims t) (compared-at t) compared.Post
-compared-set-node-requires t c κs = search needs
+compared-set-node-requires t c κs = node-room (c .before .before .before .before .before .before .before .before .before .before .before .before .before .before .before .before .before .before .before .before .before .before .before .before .before .before .before .before .pre .1 .3) (c .before .before .before .before .before .before .before .before .before .before .before .before .before .before .before .before .before .before .before .before .before .before .before .before .before .before .before .before .pre .1 .0) (c .before .before .before .before .before .before .before .before .before .before .before .before .before .before .before .before .before .before .before .before .before .before .before .before .before .before .before .before .pre .1 .1) (c .before .before .before .before .before .before .before .before .before .before .before .before .before .before .before .before .before .before .before .before .before .before .before .before .before .before .before .before .pre .1 .2) (c .before .before .before .before .before .before .before .before .term2 .ensures .walked .long ∙ c .before .before .before .before .before .before .before .before .before .before .before .before .before .before .before .before .before .before .term .ensures .walked .long)
 
 compared-same-length : (t : ℕ) → compared-lts.Need-same-length (compared-claims t) (compared-at t) compared.Post
 compared-same-length t c = search needs
@@ -369,10 +370,10 @@ connected-pred-requires-2 : (t : ℕ) → connected-lts.Need-pred-requires-2 (co
 connected-pred-requires-2 t c κs = search needs
 
 connected-small-requires : (t : ℕ) → connected-lts.Need-small-requires (connected-claims t) (connected-at t) connected.Post
-connected-small-requires t c κs = search needs
+connected-small-requires t c κs = start-small (c .before .before .before .before .before .before .before .before .before .before .before .before .before .before .before .before .before .pred .ensures .walked .falls) (c .before .before .before .before .before .before .before .before .before .before .before .before .before .before .before .before .before .before .before .before .before .before .before .before .before .before .before .pre .1 .0) (c .before .before .before .before .before .before .before .before .before .before .before .before .before .before .before .before .before .before .before .before .before .before .before .before .before .before .before .pre .1 .1) (c .before .before .before .before .before .before .before .before .before .before .before .before .before .before .before .before .before .before .before .before .before .before .before .before .before .before .before .pre .1 .2)
 
 connected-set-node-requires : (t : ℕ) → connected-lts.Need-set-node-requires (connected-claims t) (connected-at t) connected.Post
-connected-set-node-requires t c κs = search needs
+connected-set-node-requires t c κs = node-room (c .before .before .before .before .before .before .before .before .before .before .before .before .before .before .before .before .before .before .before .before .before .before .before .before .before .before .before .before .pre .1 .3) (c .before .before .before .before .before .before .before .before .before .before .before .before .before .before .before .before .before .before .before .before .before .before .before .before .before .before .before .before .pre .1 .0) (c .before .before .before .before .before .before .before .before .before .before .before .before .before .before .before .before .before .before .before .before .before .before .before .before .before .before .before .before .pre .1 .1) (c .before .before .before .before .before .before .before .before .before .before .before .before .before .before .before .before .before .before .before .before .before .before .before .before .before .before .before .before .pre .1 .2) (c .before .before .before .before .before .before .before .before .pred2 .ensures .walked .long ∙ c .before .before .before .before .before .before .before .before .before .before .before .before .before .before .before .before .before .before .pred .ensures .walked .long)
 
 connected-same-length : (t : ℕ) → connected-lts.Need-same-length (connected-claims t) (connected-at t) connected.Post
 connected-same-length t c = search needs
@@ -456,10 +457,10 @@ items-term-requires-2 : (t : ℕ) → items-lts.Need-term-requires-2 (items-clai
 items-term-requires-2 t c κs = search needs
 
 items-small-requires : (t : ℕ) → items-lts.Need-small-requires (items-claims t) (items-at t) items.Post
-items-small-requires t c κs = search needs
+items-small-requires t c κs = start-small (c .before .before .before .before .before .before .before .before .before .before .before .before .before .before .before .before .before .items .ensures .walked .falls) (c .before .before .before .before .before .before .before .before .before .before .before .before .before .before .before .before .before .before .before .before .before .before .before .before .before .before .before .before .before .pre .1 .0) (c .before .before .before .before .before .before .before .before .before .before .before .before .before .before .before .before .before .before .before .before .before .before .before .before .before .before .before .before .before .pre .1 .1) (c .before .before .before .before .before .before .before .before .before .before .before .before .before .before .before .before .before .before .before .before .before .before .before .before .before .before .before .before .before .pre .1 .2)
 
 items-set-node-requires-2 : (t : ℕ) → items-lts.Need-set-node-requires-2 (items-claims t) (items-at t) items.Post
-items-set-node-requires-2 t c κs = search needs
+items-set-node-requires-2 t c κs = node-room (c .before .before .before .before .before .before .before .before .before .before .before .before .before .before .before .before .before .before .before .before .before .before .before .before .if1 .left) (c .before .before .before .before .before .before .before .before .before .before .before .before .before .before .before .before .before .before .before .before .before .before .before .before .before .before .before .before .before .before .pre .1 .0) (c .before .before .before .before .before .before .before .before .before .before .before .before .before .before .before .before .before .before .before .before .before .before .before .before .before .before .before .before .before .before .pre .1 .1) (c .before .before .before .before .before .before .before .before .before .before .before .before .before .before .before .before .before .before .before .before .before .before .before .before .before .before .before .before .before .before .pre .1 .2) (c .before .before .before .before .before .before .before .before .term2 .ensures .walked .long ∙ c .before .before .before .before .before .before .before .before .before .before .before .before .before .before .before .before .before .before .items .ensures .walked .long)
 
 items-shared-kind-requires : (t : ℕ) → items-lts.Need-shared-kind-requires (items-claims t) (items-at t) items.Post
 items-shared-kind-requires t c κs = search needs
@@ -492,10 +493,10 @@ joined-term-requires-2 : (t : ℕ) → joined-lts.Need-term-requires-2 (joined-c
 joined-term-requires-2 t c κs = search needs
 
 joined-small-requires : (t : ℕ) → joined-lts.Need-small-requires (joined-claims t) (joined-at t) joined.Post
-joined-small-requires t c κs = search needs
+joined-small-requires t c κs = start-small (c .before .before .before .before .before .before .before .before .before .before .before .before .before .before .before .before .before .term .ensures .walked .falls) (c .before .before .before .before .before .before .before .before .before .before .before .before .before .before .before .before .before .before .before .before .before .before .before .before .before .before .before .pre .1 .0) (c .before .before .before .before .before .before .before .before .before .before .before .before .before .before .before .before .before .before .before .before .before .before .before .before .before .before .before .pre .1 .1) (c .before .before .before .before .before .before .before .before .before .before .before .before .before .before .before .before .before .before .before .before .before .before .before .before .before .before .before .pre .1 .2)
 
 joined-set-node-requires : (t : ℕ) → joined-lts.Need-set-node-requires (joined-claims t) (joined-at t) joined.Post
-joined-set-node-requires t c κs = search needs
+joined-set-node-requires t c κs = node-room (c .before .before .before .before .before .before .before .before .before .before .before .before .before .before .before .before .before .before .before .before .before .before .before .before .before .before .before .before .pre .1 .3) (c .before .before .before .before .before .before .before .before .before .before .before .before .before .before .before .before .before .before .before .before .before .before .before .before .before .before .before .before .pre .1 .0) (c .before .before .before .before .before .before .before .before .before .before .before .before .before .before .before .before .before .before .before .before .before .before .before .before .before .before .before .before .pre .1 .1) (c .before .before .before .before .before .before .before .before .before .before .before .before .before .before .before .before .before .before .before .before .before .before .before .before .before .before .before .before .pre .1 .2) (c .before .before .before .before .before .before .before .before .term2 .ensures .walked .long ∙ c .before .before .before .before .before .before .before .before .before .before .before .before .before .before .before .before .before .before .term .ensures .walked .long)
 
 joined-same-length : (t : ℕ) → joined-lts.Need-same-length (joined-claims t) (joined-at t) joined.Post
 joined-same-length t c = search needs
@@ -519,13 +520,13 @@ last-pair-term-requires-2 : (t : ℕ) → last-pair-lts.Need-term-requires-2 (la
 last-pair-term-requires-2 t c κs = search needs
 
 last-pair-small-requires : (t : ℕ) → last-pair-lts.Need-small-requires (last-pair-claims t) (last-pair-at t) last-pair.Post
-last-pair-small-requires t c κs = search needs
+last-pair-small-requires t c κs = start-small (c .before .before .before .before .before .before .before .before .before .before .before .before .before .before .before .before .before .term .ensures .walked .falls) (c .before .before .before .before .before .before .before .before .before .before .before .before .before .before .before .before .before .before .before .before .before .before .before .before .before .before .pre .1 .0) (c .before .before .before .before .before .before .before .before .before .before .before .before .before .before .before .before .before .before .before .before .before .before .before .before .before .before .pre .1 .1) (c .before .before .before .before .before .before .before .before .before .before .before .before .before .before .before .before .before .before .before .before .before .before .before .before .before .before .pre .1 .2)
 
 last-pair-element-size-requires : (t : ℕ) → last-pair-lts.Need-element-size-requires (last-pair-claims t) (last-pair-at t) last-pair.Post
 last-pair-element-size-requires t c κs = search needs
 
 last-pair-set-node-requires : (t : ℕ) → last-pair-lts.Need-set-node-requires (last-pair-claims t) (last-pair-at t) last-pair.Post
-last-pair-set-node-requires t c κs = search needs
+last-pair-set-node-requires t c κs = node-room (c .before .before .before .before .before .before .before .before .before .before .before .before .before .before .before .before .before .before .before .before .before .before .before .before .before .before .before .before .pre .1 .3) (c .before .before .before .before .before .before .before .before .before .before .before .before .before .before .before .before .before .before .before .before .before .before .before .before .before .before .before .before .pre .1 .0) (c .before .before .before .before .before .before .before .before .before .before .before .before .before .before .before .before .before .before .before .before .before .before .before .before .before .before .before .before .pre .1 .1) (c .before .before .before .before .before .before .before .before .before .before .before .before .before .before .before .before .before .before .before .before .before .before .before .before .before .before .before .before .pre .1 .2) (c .before .before .before .before .before .before .before .before .before .term2 .ensures .walked .long ∙ c .before .before .before .before .before .before .before .before .before .before .before .before .before .before .before .before .before .before .before .term .ensures .walked .long)
 
 last-pair-pair-of-requires : (t : ℕ) → last-pair-lts.Need-pair-of-requires (last-pair-claims t) (last-pair-at t) last-pair.Post
 last-pair-pair-of-requires t c κs = search needs
@@ -582,10 +583,10 @@ member-term-requires-2 : (t : ℕ) → member-lts.Need-term-requires-2 (member-c
 member-term-requires-2 t c κs = search needs
 
 member-small-requires : (t : ℕ) → member-lts.Need-small-requires (member-claims t) (member-at t) member.Post
-member-small-requires t c κs = search needs
+member-small-requires t c κs = start-small (c .before .before .before .before .before .before .before .before .before .before .before .before .before .before .before .before .before .term .ensures .walked .falls) (c .before .before .before .before .before .before .before .before .before .before .before .before .before .before .before .before .before .before .before .before .before .before .before .before .before .before .before .pre .1 .0) (c .before .before .before .before .before .before .before .before .before .before .before .before .before .before .before .before .before .before .before .before .before .before .before .before .before .before .before .pre .1 .1) (c .before .before .before .before .before .before .before .before .before .before .before .before .before .before .before .before .before .before .before .before .before .before .before .before .before .before .before .pre .1 .2)
 
 member-set-node-requires : (t : ℕ) → member-lts.Need-set-node-requires (member-claims t) (member-at t) member.Post
-member-set-node-requires t c κs = search needs
+member-set-node-requires t c κs = node-room (c .before .before .before .before .before .before .before .before .before .before .before .before .before .before .before .before .before .before .before .before .before .before .before .before .before .before .before .before .pre .1 .3) (c .before .before .before .before .before .before .before .before .before .before .before .before .before .before .before .before .before .before .before .before .before .before .before .before .before .before .before .before .pre .1 .0) (c .before .before .before .before .before .before .before .before .before .before .before .before .before .before .before .before .before .before .before .before .before .before .before .before .before .before .before .before .pre .1 .1) (c .before .before .before .before .before .before .before .before .before .before .before .before .before .before .before .before .before .before .before .before .before .before .before .before .before .before .before .before .pre .1 .2) (c .before .before .before .before .before .before .before .before .term2 .ensures .walked .long ∙ c .before .before .before .before .before .before .before .before .before .before .before .before .before .before .before .before .before .before .term .ensures .walked .long)
 
 member-same-length : (t : ℕ) → member-lts.Need-same-length (member-claims t) (member-at t) member.Post
 member-same-length t c = search needs
@@ -630,19 +631,19 @@ next-pair-term-requires : (t : ℕ) → next-pair-lts.Need-term-requires (next-p
 next-pair-term-requires t c κs = search needs
 
 next-pair-term-requires-2 : (t : ℕ) → next-pair-lts.Need-term-requires-2 (next-pair-claims t) (next-pair-at t) next-pair.Post
-next-pair-term-requires-2 t c κs = search needs
+next-pair-term-requires-2 t c κs = call-room (c .before .before .before .before .before .before .before .before .before .before .before .before .before .before .before .before .before .before .before .before .before .before .before .before .before .before .before .before .pre .0) (c .before .before .before .before .before .before .before .before .before .before .before .before .before .before .before .before .before .before .before .before .before .before .before .before .before .before .before .before .pre .1 .3) (before-before (c .before .before .before .before .before .before .before .before .before .term .ensures .walked .falls) (c .before .before .before .before .before .before .before .before .before .before .before .before .before .before .before .before .before .before .before .pairs .ensures .walked .falls)) (c .before .before .before .before .before .before .before .before .before .before .before .before .before .before .before .before .before .before .before .before .before .before .before .before .before .before .before .before .pre .1 .0) (c .before .before .before .before .before .before .before .before .before .before .before .before .before .before .before .before .before .before .before .before .before .before .before .before .before .before .before .before .pre .1 .1) (c .before .before .before .before .before .before .before .before .before .before .before .before .before .before .before .before .before .before .before .before .before .before .before .before .before .before .before .before .pre .1 .2) (c .before .before .before .before .before .before .before .before .before .term .ensures .walked .long ∙ c .before .before .before .before .before .before .before .before .before .before .before .before .before .before .before .before .before .before .before .pairs .ensures .walked .long)
 
 next-pair-element-size-requires : (t : ℕ) → next-pair-lts.Need-element-size-requires (next-pair-claims t) (next-pair-at t) next-pair.Post
 next-pair-element-size-requires t c κs = search needs
 
 next-pair-small-requires : (t : ℕ) → next-pair-lts.Need-small-requires (next-pair-claims t) (next-pair-at t) next-pair.Post
-next-pair-small-requires t c κs = search needs
+next-pair-small-requires t c κs = start-small (before-before (c .before .before .before .before .before .before .before .before .before .before .before .before .before .before .before .before .before .before .term .ensures .walked .falls) (c .before .before .before .before .before .before .before .before .before .before .before .before .before .before .before .before .before .before .before .before .before .before .before .before .before .before .before .before .pairs .ensures .walked .falls)) (c .before .before .before .before .before .before .before .before .before .before .before .before .before .before .before .before .before .before .before .before .before .before .before .before .before .before .before .before .before .before .before .before .before .before .before .before .before .pre .1 .0) (c .before .before .before .before .before .before .before .before .before .before .before .before .before .before .before .before .before .before .before .before .before .before .before .before .before .before .before .before .before .before .before .before .before .before .before .before .before .pre .1 .1) (c .before .before .before .before .before .before .before .before .before .before .before .before .before .before .before .before .before .before .before .before .before .before .before .before .before .before .before .before .before .before .before .before .before .before .before .before .before .pre .1 .2)
 
 next-pair-small-requires-2 : (t : ℕ) → next-pair-lts.Need-small-requires-2 (next-pair-claims t) (next-pair-at t) next-pair.Post
-next-pair-small-requires-2 t c κs = search needs
+next-pair-small-requires-2 t c κs = start-small (c .before .before .before .before .before .before .before .before .before .before .before .before .before .before .before .before .before .before .before .before .before .before .before .before .before .before .before .before .before .pairs .ensures .walked .falls) (c .before .before .before .before .before .before .before .before .before .before .before .before .before .before .before .before .before .before .before .before .before .before .before .before .before .before .before .before .before .before .before .before .before .before .before .before .before .before .pre .1 .0) (c .before .before .before .before .before .before .before .before .before .before .before .before .before .before .before .before .before .before .before .before .before .before .before .before .before .before .before .before .before .before .before .before .before .before .before .before .before .before .pre .1 .1) (c .before .before .before .before .before .before .before .before .before .before .before .before .before .before .before .before .before .before .before .before .before .before .before .before .before .before .before .before .before .before .before .before .before .before .before .before .before .before .pre .1 .2)
 
 next-pair-set-node-requires : (t : ℕ) → next-pair-lts.Need-set-node-requires (next-pair-claims t) (next-pair-at t) next-pair.Post
-next-pair-set-node-requires t c κs = search needs
+next-pair-set-node-requires t c κs = node-room (c .before .before .before .before .before .before .before .before .before .before .before .before .before .before .before .before .before .before .before .before .before .before .before .before .before .before .before .before .before .before .before .before .before .before .before .before .before .before .before .pre .1 .3) (c .before .before .before .before .before .before .before .before .before .before .before .before .before .before .before .before .before .before .before .before .before .before .before .before .before .before .before .before .before .before .before .before .before .before .before .before .before .before .before .pre .1 .0) (c .before .before .before .before .before .before .before .before .before .before .before .before .before .before .before .before .before .before .before .before .before .before .before .before .before .before .before .before .before .before .before .before .before .before .before .before .before .before .before .pre .1 .1) (c .before .before .before .before .before .before .before .before .before .before .before .before .before .before .before .before .before .before .before .before .before .before .before .before .before .before .before .before .before .before .before .before .before .before .before .before .before .before .before .pre .1 .2) (c .before .before .before .before .before .before .before .before .before .before .term2 .ensures .walked .long ∙ c .before .before .before .before .before .before .before .before .before .before .before .before .before .before .before .before .before .before .before .before .term .ensures .walked .long ∙ c .before .before .before .before .before .before .before .before .before .before .before .before .before .before .before .before .before .before .before .before .before .before .before .before .before .before .before .before .before .before .pairs .ensures .walked .long)
 
 next-pair-pair-of-requires : (t : ℕ) → next-pair-lts.Need-pair-of-requires (next-pair-claims t) (next-pair-at t) next-pair.Post
 next-pair-pair-of-requires t c κs = search needs
@@ -651,13 +652,13 @@ next-pair-shared-kind-requires : (t : ℕ) → next-pair-lts.Need-shared-kind-re
 next-pair-shared-kind-requires t c κs = search needs
 
 next-pair-same-length : (t : ℕ) → next-pair-lts.Need-same-length (next-pair-claims t) (next-pair-at t) next-pair.Post
-next-pair-same-length t c = search needs
+next-pair-same-length t c = c .before .before .before .before .before .before .before .before .before .before .before .before .before .before .before .term2 .kept .1 .1 .1 .0 ∙ (c .before .before .before .before .before .before .before .before .before .before .before .before .before .before .before .before .before .before .before .before .before .before .before .before .before .term .kept .1 .1 .1 .0 ∙ c .before .before .before .before .before .before .before .before .before .before .before .before .before .before .before .before .before .before .before .before .before .before .before .before .before .before .before .before .before .before .before .before .before .before .before .pairs .kept .1 .1 .1 .0)
 
 next-pair-same-length-2 : (t : ℕ) → next-pair-lts.Need-same-length-2 (next-pair-claims t) (next-pair-at t) next-pair.Post
-next-pair-same-length-2 t c = search needs
+next-pair-same-length-2 t c = c .before .before .before .before .before .before .before .before .before .before .before .before .before .before .before .term2 .kept .1 .1 .1 .1 .0 ∙ (c .before .before .before .before .before .before .before .before .before .before .before .before .before .before .before .before .before .before .before .before .before .before .before .before .before .term .kept .1 .1 .1 .1 .0 ∙ c .before .before .before .before .before .before .before .before .before .before .before .before .before .before .before .before .before .before .before .before .before .before .before .before .before .before .before .before .before .before .before .before .before .before .before .pairs .kept .1 .1 .1 .1 .0)
 
 next-pair-same-length-3 : (t : ℕ) → next-pair-lts.Need-same-length-3 (next-pair-claims t) (next-pair-at t) next-pair.Post
-next-pair-same-length-3 t c = search needs
+next-pair-same-length-3 t c = c .before .before .before .before .set-node .kept .0 ∙ (c .before .before .before .before .before .before .before .before .before .before .before .before .before .before .before .term2 .kept .1 .1 .1 .1 .1 .1 .0 ∙ (c .before .before .before .before .before .before .before .before .before .before .before .before .before .before .before .before .before .before .before .before .before .before .before .before .before .term .kept .1 .1 .1 .1 .1 .1 .0 ∙ c .before .before .before .before .before .before .before .before .before .before .before .before .before .before .before .before .before .before .before .before .before .before .before .before .before .before .before .before .before .before .before .before .before .before .before .pairs .kept .1 .1 .1 .1 .1 .1 .0))
 
 next-pair-returns : (t : ℕ) → next-pair-lts.Need-returns (next-pair-claims t) (next-pair-at t) next-pair.Post
 next-pair-returns t c = pairs-also (c .before .before .before .before .before .before .before .before .before .before .before .before .before .before .before .before .before .before .before .before .before .before .before .before .before .before .before .before .before .before .before .before .before .before .before .before .before .before .before .before .before .before .before .before .args .code .now) (c .before .before .before .before .before .before .before .before .before .before .before .before .before .before .before .before .before .before .before .before .before .before .before .before .before .before .before .before .before .before .before .before .before .before .before .before .before .before .before .before .before .before .before .before .args .end) (c .before .before .before .before .before .before .before .before .before .before .before .before .before .before .before .before .before .before .before .before .before .before .before .before .before .before .before .before .before .before .before .before .before .before .before .before .before .before .before .before .before .before .before .before .args .slot) (c .before .before .before .before .before .before .before .before .before .before .before .before .before .before .before .before .before .before .before .before .before .before .before .before .before .before .before .before .before .before .before .before .before .before .before .before .before .before .before .before .before .before .before .before .pre .1 .0) (c .before .before .before .before .before .before .before .before .before .before .before .before .before .before .before .before .before .before .before .before .before .before .before .before .before .before .before .before .before .before .before .before .before .before .before .before .before .before .before .before .before .before .before .before .pre .1 .3) (c .before .before .before .before .before .before .before .before .before .before .before .before .before .before .before .before .before .before .before .before .before .before .before .before .before .before .before .before .before .before .before .before .before .before .before .before .before .before .before .before .before .before .before .before .args .names .now) (c .before .before .before .before .before .before .before .before .before .before .before .before .before .before .before .before .before .before .before .before .before .before .before .before .before .before .before .before .before .before .before .before .before .before .before .before .before .before .before .before .before .before .before .before .args .places .now) (c .before .before .before .before .before .before .before .before .before .before .before .before .before .before .before .before .before .before .before .before .before .before .before .before .before .before .before .before .before .before .before .before .before .before .before .before .before .before .before .before .before .before .before .before .args .sizes .now) (c .before .before .before .before .before .before .before .before .before .before .before .before .before .before .before .before .before .before .before .before .before .before .before .before .before .before .before .before .before .before .before .before .before .before .before .before .before .before .before .before .before .before .before .before .args .out .now) (c .before .before .before .before .before .before .before .before .before .before .before .before .before .before .before .before .before .before .before .before .before .before .before .before .before .before .before .before .before .before .before .before .before .before .before .before .before .before .before .before .before .before .before .before .pre .1 .1) _ _ _ _ _ _ _ _ _ _ (c .before .before .before .before .before .before .before .before .before .before .before .before .before .before .before .before .before .before .before .before .before .before .before .before .before .before .before .before .before .before .before .before .before .before .before .pairs .result) (c .before .before .before .before .before .before .before .before .before .before .before .before .before .before .before .before .before .before .before .before .before .before .before .before .before .term .result) (c .before .before .before .before .before .before .before .before .before .before .before .before .before .before .before .term2 .result) _ (c .before .pair-of .result) (c .before .before .before .before .before .before .small .result) (c .before .before .before .before .before .before .before .before .element-size .result) (c .before .before .before .before .before .small2 .result) (c .before .before .before .before .before .before .before .before .before .before .before .before .before .before .before .before .before .before .before .before .before .before .before .before .before .before .before .before .before .before .before .before .before .before .before .before .before .before .before .before .before .before .before .before .pre .1 .4) (c .before .before .before .before .before .before .before .before .before .before .before .before .before .before .before .before .before .before .before .before .before .before .before .before .before .before .before .before .before .before .before .before .before .before .before .pairs .ensures) (c .before .before .before .before .before .before .before .before .before .before .before .before .before .before .before .before .before .before .before .before .before .before .before .before .before .term .ensures) (c .before .before .before .before .before .before .before .before .before .before .before .before .before .before .before .term2 .ensures) (c .before .before .before .before .before .before .small .ensures) (c .before .before .before .before .before .before .before .before .element-size .ensures) (c .before .before .before .before .before .small2 .ensures) (c .before .pair-of .ensures) (c .before .before .before .before .set-node .ensures) (c .shared-kind .ensures) refl
@@ -939,7 +940,7 @@ quantified-next-slot-requires : (t : ℕ) → quantified-lts.Need-next-slot-requ
 quantified-next-slot-requires t c κs = search needs
 
 quantified-pred-requires : (t : ℕ) → quantified-lts.Need-pred-requires (quantified-claims t) (quantified-at t) quantified.Post
-quantified-pred-requires t c κs = search needs
+quantified-pred-requires t c κs = call-room (c .before .before .before .before .before .before .before .before .before .before .before .before .before .before .before .before .before .before .before .before .before .before .before .before .before .before .before .before .before .pre .0) (c .before .before .before .before .before .before .before .before .before .before .before .before .before .before .before .before .before .before .before .before .before .before .before .before .before .before .before .before .before .pre .1 .3) (c .before .before .before .before .before .before .before .before .before .before .before .before .before .before .before .before .before .before .domain .ensures .falls) (c .before .before .before .before .before .before .before .before .before .before .before .before .before .before .before .before .before .before .before .before .before .before .before .before .before .before .before .before .before .pre .1 .0) (c .before .before .before .before .before .before .before .before .before .before .before .before .before .before .before .before .before .before .before .before .before .before .before .before .before .before .before .before .before .pre .1 .1) (c .before .before .before .before .before .before .before .before .before .before .before .before .before .before .before .before .before .before .before .before .before .before .before .before .before .before .before .before .before .pre .1 .2) (c .before .before .before .before .before .before .before .before .before .before .before .before .before .before .before .before .before .before .domain .ensures .long)
 
 quantified-put-requires-3 : (t : ℕ) → quantified-lts.Need-put-requires-3 (quantified-claims t) (quantified-at t) quantified.Post
 quantified-put-requires-3 t c κs = search needs
@@ -948,7 +949,7 @@ quantified-put-requires-4 : (t : ℕ) → quantified-lts.Need-put-requires-4 (qu
 quantified-put-requires-4 t c κs = search needs
 
 quantified-set-node-requires : (t : ℕ) → quantified-lts.Need-set-node-requires (quantified-claims t) (quantified-at t) quantified.Post
-quantified-set-node-requires t c κs = search needs
+quantified-set-node-requires t c κs = node-room (c .before .before .before .before .before .before .before .before .before .before .before .before .before .before .before .before .before .before .before .before .before .before .before .before .before .before .before .before .before .before .before .before .before .before .before .before .before .before .before .before .before .before .before .before .before .pre .1 .3) (c .before .before .before .before .before .before .before .before .before .before .before .before .before .before .before .before .before .before .before .before .before .before .before .before .before .before .before .before .before .before .before .before .before .before .before .before .before .before .before .before .before .before .before .before .before .pre .1 .0) (c .before .before .before .before .before .before .before .before .before .before .before .before .before .before .before .before .before .before .before .before .before .before .before .before .before .before .before .before .before .before .before .before .before .before .before .before .before .before .before .before .before .before .before .before .before .pre .1 .1) (c .before .before .before .before .before .before .before .before .before .before .before .before .before .before .before .before .before .before .before .before .before .before .before .before .before .before .before .before .before .before .before .before .before .before .before .before .before .before .before .before .before .before .before .before .before .pre .1 .2) (c .before .before .before .before .before .before .before .before .before .before .before .before .before .before .before .pred .ensures .walked .long ∙ c .before .before .before .before .before .before .before .before .before .before .before .before .before .before .before .before .before .before .before .before .before .before .before .before .before .before .before .before .before .before .before .before .before .before .domain .ensures .long)
 
 quantified-same-length : (t : ℕ) → quantified-lts.Need-same-length (quantified-claims t) (quantified-at t) quantified.Post
 quantified-same-length t c = search needs
@@ -957,7 +958,7 @@ quantified-same-length-2 : (t : ℕ) → quantified-lts.Need-same-length-2 (quan
 quantified-same-length-2 t c = search needs
 
 quantified-same-length-3 : (t : ℕ) → quantified-lts.Need-same-length-3 (quantified-claims t) (quantified-at t) quantified.Post
-quantified-same-length-3 t c = search needs
+quantified-same-length-3 t c = c .before .before .set-node .kept .0 ∙ (c .before .before .before .before .before .before .before .before .before .before .before .before .before .before .before .before .before .before .pred .kept .1 .1 .1 .1 .1 .1 .0 ∙ c .before .before .before .before .before .before .before .before .before .before .before .before .before .before .before .before .before .before .before .before .before .before .before .before .before .before .before .before .before .before .before .before .before .before .before .before .before .domain .kept .1 .1 .1 .1 .0)
 
 quantified-returns : (t : ℕ) → quantified-lts.Need-returns (quantified-claims t) (quantified-at t) quantified.Post
 quantified-returns t c = pred-quantified (c .before .before .before .before .before .before .before .before .before .before .before .before .before .before .before .before .before .before .before .before .before .before .before .before .before .before .before .before .before .before .before .before .before .before .before .before .before .before .before .before .before .before .before .before .before .before .before .before .args .code .now) (c .before .before .before .before .before .before .before .before .before .before .before .before .before .before .before .before .before .before .before .before .before .before .before .before .before .before .before .before .before .before .before .before .before .before .before .before .before .before .before .before .before .before .before .before .before .before .before .before .args .end) (c .before .before .before .before .before .before .before .before .before .before .before .before .before .before .before .before .before .before .before .before .before .before .before .before .before .before .before .before .before .before .before .before .before .before .before .before .before .before .before .before .before .before .before .before .before .before .before .before .args .slot) (c .before .before .before .before .before .before .before .before .before .before .before .before .before .before .before .before .before .before .before .before .before .before .before .before .before .before .before .before .before .before .before .before .before .before .before .before .before .before .before .before .before .before .before .before .before .before .before .before .pre .1 .0) (c .before .before .before .before .before .before .before .before .before .before .before .before .before .before .before .before .before .before .before .before .before .before .before .before .before .before .before .before .before .before .before .before .before .before .before .before .before .before .before .before .before .before .before .before .before .before .before .before .pre .1 .3) (c .before .before .before .before .before .before .before .before .before .before .before .before .before .before .before .before .before .before .before .before .before .before .before .before .before .before .before .before .before .before .before .before .before .before .before .before .before .before .before .before .before .before .before .before .before .before .before .before .args .names .now) (c .before .before .before .before .before .before .before .before .before .before .before .before .before .before .before .before .before .before .before .before .before .before .before .before .before .before .before .before .before .before .before .before .before .before .before .before .before .before .before .before .before .before .before .before .before .before .before .before .args .places .now) (c .before .before .before .before .before .before .before .before .before .before .before .before .before .before .before .before .before .before .before .before .before .before .before .before .before .before .before .before .before .before .before .before .before .before .before .before .before .before .before .before .before .before .before .before .before .before .before .before .args .sizes .now) (c .before .before .before .before .before .before .before .before .before .before .before .before .before .before .before .before .before .before .before .before .before .before .before .before .before .before .before .before .before .before .before .before .before .before .before .before .before .before .before .before .before .before .before .before .before .before .before .before .args .out .now) (c .before .before .before .before .before .before .before .before .before .before .before .before .before .before .before .before .before .before .before .before .before .before .before .before .before .before .before .before .before .before .before .before .before .before .before .before .before .before .before .before .before .before .before .before .before .before .before .before .pre .1 .1) _ _ _ _ _ _ _ _ _ (c .before .before .before .before .before .before .before .before .before .before .before .before .before .before .before .before .before .before .before .before .before .before .before .before .before .before .before .before .before .before .before .before .before .before .before .before .before .domain .result) (c .before .before .before .before .before .before .before .before .before .before .before .before .before .before .before .before .before .before .pred .result) _ (c .before .before .before .before .before .before .before .before .before .before .before .before .before .before .before .before .before .before .before .before .before .before .before .before .before .before .before .before .before .before .before .before .before .before .before .before .before .before .before .before .before .index .result) (c .before .before .before .before .before .before .before .before .before .before .before .before .before .before .before .before .before .before .before .before .before .before .before .before .before .before .before .before .before .before .before .before .before .look3 .result) (c .before .before .before .before .before .before .before .before .before .before .before .before .before .before .before .before .before .before .before .before .before .before .before .before .before .before .before .before .before .before .before .look4 .result) (c .before .before .before .before .before .before .before .before .before .before .before .before .before .before .before .before .before .before .before .before .before .before .next-slot .result) (c .before .before .before .before .before .before .before .before .before .before .before .before .before .before .before .before .before .before .before .before .before .before .before .before .before .before .before .before .before .before .before .before .before .before .before .before .before .before .before .before .look2 .result) (c .before .before .before .before .before .before .before .before .before .before .before .before .before .before .before .before .before .before .before .before .before .before .before .before .before .before .before .before .before .before .before .before .before .before .before .before .before .before .before .before .before .before .before .before .before .before .before .before .pre .1 .4) (c .before .before .before .before .before .before .before .before .before .before .before .before .before .before .before .before .before .before .before .before .before .before .before .before .before .before .before .before .before .before .before .before .before .before .before .before .before .domain .ensures) (c .before .before .before .before .before .before .before .before .before .before .before .before .before .before .before .before .before .before .pred .ensures) (c .before .before .before .before .before .before .before .before .before .before .before .before .before .before .before .before .before .before .before .before .before .before .next-slot .ensures) (c .before .before .before .before .before .before .before .before .before .before .before .before .before .before .before .before .before .before .before .before .before .before .before .before .before .before .before .before .before .put .ensures) (c .before .before .before .before .before .before .before .before .before .before .put3 .ensures) (c .before .before .before .before .before .before .before .before .before .before .before .before .before .before .before .before .before .before .before .before .before .before .before .before .before .put2 .ensures) (c .before .before .before .before .before .before .put4 .ensures) (c .before .before .before .before .before .before .before .before .before .before .before .before .before .before .before .before .before .before .before .before .before .before .before .before .before .before .before .before .before .before .before .before .before .before .before .before .before .before .before .before .before .index .ensures .0 ∙ c .before .before .before .before .before .before .before .before .before .before .before .before .before .before .before .before .before .before .before .before .before .before .before .before .before .before .before .before .before .before .before .before .before .before .before .before .before .before .before .before .before .before .look .ensures) (c .before .before .before .before .before .before .before .before .before .before .before .before .before .before .before .before .before .before .before .before .before .before .before .before .before .before .before .before .before .before .before .before .before .look3 .ensures) (c .before .before .before .before .before .before .before .before .before .before .before .before .before .before .before .before .before .before .before .before .before .before .before .before .before .before .before .before .before .before .before .look4 .ensures) (c .before .before .before .before .before .before .before .before .before .before .before .before .before .before .before .before .before .before .before .before .before .before .before .before .before .before .before .before .before .before .before .before .before .before .before .before .before .before .before .before .look2 .ensures) (c .before .before .set-node .ensures) refl refl
@@ -978,7 +979,7 @@ related-term-requires-2 : (t : ℕ) → related-lts.Need-term-requires-2 (relate
 related-term-requires-2 t c κs = search needs
 
 related-term-requires-3 : (t : ℕ) → related-lts.Need-term-requires-3 (related-claims t) (related-at t) related.Post
-related-term-requires-3 t c κs = search needs
+related-term-requires-3 t c κs = call-room (c .before .before .before .before .before .before .before .before .before .before .before .before .before .before .before .before .before .before .before .before .before .before .before .before .before .before .before .before .before .pre .0) (c .before .before .before .before .before .before .before .before .before .before .before .before .before .before .before .before .before .before .before .before .before .before .before .before .before .before .before .before .before .pre .1 .3) (before-before (c .before .before .before .before .before .before .before .before .before .term2 .ensures .walked .falls) (c .before .before .before .before .before .before .before .before .before .before .before .before .before .before .before .before .before .before .before .term .ensures .walked .falls)) (c .before .before .before .before .before .before .before .before .before .before .before .before .before .before .before .before .before .before .before .before .before .before .before .before .before .before .before .before .before .pre .1 .0) (c .before .before .before .before .before .before .before .before .before .before .before .before .before .before .before .before .before .before .before .before .before .before .before .before .before .before .before .before .before .pre .1 .1) (c .before .before .before .before .before .before .before .before .before .before .before .before .before .before .before .before .before .before .before .before .before .before .before .before .before .before .before .before .before .pre .1 .2) (c .before .before .before .before .before .before .before .before .before .term2 .ensures .walked .long ∙ c .before .before .before .before .before .before .before .before .before .before .before .before .before .before .before .before .before .before .before .term .ensures .walked .long)
 
 related-element-size-requires : (t : ℕ) → related-lts.Need-element-size-requires (related-claims t) (related-at t) related.Post
 related-element-size-requires t c κs = search needs
@@ -987,22 +988,22 @@ related-related-shape-requires : (t : ℕ) → related-lts.Need-related-shape-re
 related-related-shape-requires t c κs = search needs
 
 related-small-requires : (t : ℕ) → related-lts.Need-small-requires (related-claims t) (related-at t) related.Post
-related-small-requires t c κs = search needs
+related-small-requires t c κs = start-small (before-before (c .before .before .before .before .before .before .before .before .before .before .before .before .before .before .before .before .before .before .before .term2 .ensures .walked .falls) (c .before .before .before .before .before .before .before .before .before .before .before .before .before .before .before .before .before .before .before .before .before .before .before .before .before .before .before .before .before .term .ensures .walked .falls)) (c .before .before .before .before .before .before .before .before .before .before .before .before .before .before .before .before .before .before .before .before .before .before .before .before .before .before .before .before .before .before .before .before .before .before .before .before .before .before .before .pre .1 .0) (c .before .before .before .before .before .before .before .before .before .before .before .before .before .before .before .before .before .before .before .before .before .before .before .before .before .before .before .before .before .before .before .before .before .before .before .before .before .before .before .pre .1 .1) (c .before .before .before .before .before .before .before .before .before .before .before .before .before .before .before .before .before .before .before .before .before .before .before .before .before .before .before .before .before .before .before .before .before .before .before .before .before .before .before .pre .1 .2)
 
 related-small-requires-2 : (t : ℕ) → related-lts.Need-small-requires-2 (related-claims t) (related-at t) related.Post
-related-small-requires-2 t c κs = search needs
+related-small-requires-2 t c κs = start-small (c .before .before .before .before .before .before .before .before .before .before .before .before .before .before .before .before .before .before .before .before .before .before .before .before .before .before .before .before .before .before .term .ensures .walked .falls) (c .before .before .before .before .before .before .before .before .before .before .before .before .before .before .before .before .before .before .before .before .before .before .before .before .before .before .before .before .before .before .before .before .before .before .before .before .before .before .before .before .pre .1 .0) (c .before .before .before .before .before .before .before .before .before .before .before .before .before .before .before .before .before .before .before .before .before .before .before .before .before .before .before .before .before .before .before .before .before .before .before .before .before .before .before .before .pre .1 .1) (c .before .before .before .before .before .before .before .before .before .before .before .before .before .before .before .before .before .before .before .before .before .before .before .before .before .before .before .before .before .before .before .before .before .before .before .before .before .before .before .before .pre .1 .2)
 
 related-set-node-requires : (t : ℕ) → related-lts.Need-set-node-requires (related-claims t) (related-at t) related.Post
-related-set-node-requires t c κs = search needs
+related-set-node-requires t c κs = node-room (c .before .before .before .before .before .before .before .before .before .before .before .before .before .before .before .before .before .before .before .before .before .before .before .before .before .before .before .before .before .before .before .before .before .before .before .before .before .before .before .before .before .pre .1 .3) (c .before .before .before .before .before .before .before .before .before .before .before .before .before .before .before .before .before .before .before .before .before .before .before .before .before .before .before .before .before .before .before .before .before .before .before .before .before .before .before .before .before .pre .1 .0) (c .before .before .before .before .before .before .before .before .before .before .before .before .before .before .before .before .before .before .before .before .before .before .before .before .before .before .before .before .before .before .before .before .before .before .before .before .before .before .before .before .before .pre .1 .1) (c .before .before .before .before .before .before .before .before .before .before .before .before .before .before .before .before .before .before .before .before .before .before .before .before .before .before .before .before .before .before .before .before .before .before .before .before .before .before .before .before .before .pre .1 .2) (c .before .before .before .before .before .before .before .before .before .before .before .term3 .ensures .walked .long ∙ c .before .before .before .before .before .before .before .before .before .before .before .before .before .before .before .before .before .before .before .before .before .term2 .ensures .walked .long ∙ c .before .before .before .before .before .before .before .before .before .before .before .before .before .before .before .before .before .before .before .before .before .before .before .before .before .before .before .before .before .before .before .term .ensures .walked .long)
 
 related-same-length : (t : ℕ) → related-lts.Need-same-length (related-claims t) (related-at t) related.Post
-related-same-length t c = search needs
+related-same-length t c = c .before .before .before .before .before .before .before .before .before .before .before .before .before .before .term3 .kept .1 .1 .1 .0 ∙ (c .before .before .before .before .before .before .before .before .before .before .before .before .before .before .before .before .before .before .before .before .before .before .before .before .term2 .kept .1 .1 .1 .0 ∙ c .before .before .before .before .before .before .before .before .before .before .before .before .before .before .before .before .before .before .before .before .before .before .before .before .before .before .before .before .before .before .before .before .before .before .term .kept .1 .1 .1 .0)
 
 related-same-length-2 : (t : ℕ) → related-lts.Need-same-length-2 (related-claims t) (related-at t) related.Post
-related-same-length-2 t c = search needs
+related-same-length-2 t c = c .before .before .before .before .before .before .before .before .before .before .before .before .before .before .term3 .kept .1 .1 .1 .1 .0 ∙ (c .before .before .before .before .before .before .before .before .before .before .before .before .before .before .before .before .before .before .before .before .before .before .before .before .term2 .kept .1 .1 .1 .1 .0 ∙ c .before .before .before .before .before .before .before .before .before .before .before .before .before .before .before .before .before .before .before .before .before .before .before .before .before .before .before .before .before .before .before .before .before .before .term .kept .1 .1 .1 .1 .0)
 
 related-same-length-3 : (t : ℕ) → related-lts.Need-same-length-3 (related-claims t) (related-at t) related.Post
-related-same-length-3 t c = search needs
+related-same-length-3 t c = c .before .before .set-node .kept .0 ∙ (c .before .before .before .before .before .before .before .before .before .before .before .before .before .before .term3 .kept .1 .1 .1 .1 .1 .1 .0 ∙ (c .before .before .before .before .before .before .before .before .before .before .before .before .before .before .before .before .before .before .before .before .before .before .before .before .term2 .kept .1 .1 .1 .1 .1 .1 .0 ∙ c .before .before .before .before .before .before .before .before .before .before .before .before .before .before .before .before .before .before .before .before .before .before .before .before .before .before .before .before .before .before .before .before .before .before .term .kept .1 .1 .1 .1 .1 .1 .0))
 
 related-returns : (t : ℕ) → related-lts.Need-returns (related-claims t) (related-at t) related.Post
 related-returns t c = pred-related (c .before .before .before .before .before .before .before .before .before .before .before .before .before .before .before .before .before .before .before .before .before .before .before .before .before .before .before .before .before .before .before .before .before .before .before .before .before .before .before .before .before .before .before .before .args .code .now) (c .before .before .before .before .before .before .before .before .before .before .before .before .before .before .before .before .before .before .before .before .before .before .before .before .before .before .before .before .before .before .before .before .before .before .before .before .before .before .before .before .before .before .before .before .args .end) (c .before .before .before .before .before .before .before .before .before .before .before .before .before .before .before .before .before .before .before .before .before .before .before .before .before .before .before .before .before .before .before .before .before .before .before .before .before .before .before .before .before .before .before .before .args .slot) (c .before .before .before .before .before .before .before .before .before .before .before .before .before .before .before .before .before .before .before .before .before .before .before .before .before .before .before .before .before .before .before .before .before .before .before .before .before .before .before .before .before .before .before .before .pre .1 .0) (c .before .before .before .before .before .before .before .before .before .before .before .before .before .before .before .before .before .before .before .before .before .before .before .before .before .before .before .before .before .before .before .before .before .before .before .before .before .before .before .before .before .before .before .before .pre .1 .3) (c .before .before .before .before .before .before .before .before .before .before .before .before .before .before .before .before .before .before .before .before .before .before .before .before .before .before .before .before .before .before .before .before .before .before .before .before .before .before .before .before .before .before .before .before .args .names .now) (c .before .before .before .before .before .before .before .before .before .before .before .before .before .before .before .before .before .before .before .before .before .before .before .before .before .before .before .before .before .before .before .before .before .before .before .before .before .before .before .before .before .before .before .before .args .places .now) (c .before .before .before .before .before .before .before .before .before .before .before .before .before .before .before .before .before .before .before .before .before .before .before .before .before .before .before .before .before .before .before .before .before .before .before .before .before .before .before .before .before .before .before .before .args .sizes .now) (c .before .before .before .before .before .before .before .before .before .before .before .before .before .before .before .before .before .before .before .before .before .before .before .before .before .before .before .before .before .before .before .before .before .before .before .before .before .before .before .before .before .before .before .before .args .out .now) (c .before .before .before .before .before .before .before .before .before .before .before .before .before .before .before .before .before .before .before .before .before .before .before .before .before .before .before .before .before .before .before .before .before .before .before .before .before .before .before .before .before .before .before .before .pre .1 .1) _ _ _ _ _ _ _ _ _ _ (c .before .before .before .before .before .before .before .before .before .before .before .before .before .before .before .before .before .before .before .before .before .before .before .before .before .before .before .before .before .before .before .before .before .before .term .result) (c .before .before .before .before .before .before .before .before .before .before .before .before .before .before .before .before .before .before .before .before .before .before .before .before .term2 .result) (c .before .before .before .before .before .before .before .before .before .before .before .before .before .before .term3 .result) _ (c .before .before .before .before .before .before .before .before .before .before .before .before .before .before .before .before .before .before .before .before .before .before .before .before .before .before .before .before .before .before .before .before .before .before .before .before .before .before .look .result) (c .before .before .before .before .before .related-shape .result) (c .before .before .before .before .small .result) (c .before .before .before .before .before .before .before .element-size .result) (c .before .before .before .small2 .result) (c .before .before .before .before .before .before .before .before .before .before .before .before .before .before .before .before .before .before .before .before .before .before .before .before .before .before .before .before .before .before .before .before .before .before .before .before .before .before .before .before .before .before .before .before .pre .1 .4) (c .before .before .before .before .before .before .before .before .before .before .before .before .before .before .before .before .before .before .before .before .before .before .before .before .before .before .before .before .before .before .before .before .before .before .term .ensures) (c .before .before .before .before .before .before .before .before .before .before .before .before .before .before .before .before .before .before .before .before .before .before .before .before .term2 .ensures) (c .before .before .before .before .before .before .before .before .before .before .before .before .before .before .term3 .ensures) (c .before .before .before .before .before .before .before .before .before .before .before .before .before .before .before .before .before .before .before .before .before .before .before .before .before .before .before .before .before .before .before .before .before .before .before .before .before .before .look .ensures) (c .before .before .before .before .before .related-shape .ensures) (c .before .before .before .before .small .ensures) (c .before .before .before .before .before .before .before .element-size .ensures) (c .before .before .before .small2 .ensures) (c .before .before .set-node .ensures) refl refl
@@ -1038,7 +1039,7 @@ such-next-slot-requires : (t : ℕ) → such-lts.Need-next-slot-requires (such-c
 such-next-slot-requires t c κs = search needs
 
 such-pred-requires : (t : ℕ) → such-lts.Need-pred-requires (such-claims t) (such-at t) such.Post
-such-pred-requires t c κs = search needs
+such-pred-requires t c κs = call-room (c .before .before .before .before .before .before .before .before .before .before .before .before .before .before .before .before .before .before .before .before .before .before .before .before .before .before .before .before .pre .0) (c .before .before .before .before .before .before .before .before .before .before .before .before .before .before .before .before .before .before .before .before .before .before .before .before .before .before .before .before .pre .1 .3) (c .before .before .before .before .before .before .before .before .before .before .before .before .before .before .before .before .before .before .domain .ensures .falls) (c .before .before .before .before .before .before .before .before .before .before .before .before .before .before .before .before .before .before .before .before .before .before .before .before .before .before .before .before .pre .1 .0) (c .before .before .before .before .before .before .before .before .before .before .before .before .before .before .before .before .before .before .before .before .before .before .before .before .before .before .before .before .pre .1 .1) (c .before .before .before .before .before .before .before .before .before .before .before .before .before .before .before .before .before .before .before .before .before .before .before .before .before .before .before .before .pre .1 .2) (c .before .before .before .before .before .before .before .before .before .before .before .before .before .before .before .before .before .before .domain .ensures .long)
 
 such-put-requires-3 : (t : ℕ) → such-lts.Need-put-requires-3 (such-claims t) (such-at t) such.Post
 such-put-requires-3 t c κs = search needs
@@ -1047,7 +1048,7 @@ such-put-requires-4 : (t : ℕ) → such-lts.Need-put-requires-4 (such-claims t)
 such-put-requires-4 t c κs = search needs
 
 such-set-node-requires : (t : ℕ) → such-lts.Need-set-node-requires (such-claims t) (such-at t) such.Post
-such-set-node-requires t c κs = search needs
+such-set-node-requires t c κs = node-room (c .before .before .before .before .before .before .before .before .before .before .before .before .before .before .before .before .before .before .before .before .before .before .before .before .before .before .before .before .before .before .before .before .before .before .before .before .before .before .before .before .before .before .before .before .pre .1 .3) (c .before .before .before .before .before .before .before .before .before .before .before .before .before .before .before .before .before .before .before .before .before .before .before .before .before .before .before .before .before .before .before .before .before .before .before .before .before .before .before .before .before .before .before .before .pre .1 .0) (c .before .before .before .before .before .before .before .before .before .before .before .before .before .before .before .before .before .before .before .before .before .before .before .before .before .before .before .before .before .before .before .before .before .before .before .before .before .before .before .before .before .before .before .before .pre .1 .1) (c .before .before .before .before .before .before .before .before .before .before .before .before .before .before .before .before .before .before .before .before .before .before .before .before .before .before .before .before .before .before .before .before .before .before .before .before .before .before .before .before .before .before .before .before .pre .1 .2) (c .before .before .before .before .before .before .before .before .before .before .before .before .before .before .before .pred .ensures .walked .long ∙ c .before .before .before .before .before .before .before .before .before .before .before .before .before .before .before .before .before .before .before .before .before .before .before .before .before .before .before .before .before .before .before .before .before .before .domain .ensures .long)
 
 such-set-of-requires : (t : ℕ) → such-lts.Need-set-of-requires (such-claims t) (such-at t) such.Post
 such-set-of-requires t c κs = search needs
@@ -1059,7 +1060,7 @@ such-same-length-2 : (t : ℕ) → such-lts.Need-same-length-2 (such-claims t) (
 such-same-length-2 t c = search needs
 
 such-same-length-3 : (t : ℕ) → such-lts.Need-same-length-3 (such-claims t) (such-at t) such.Post
-such-same-length-3 t c = search needs
+such-same-length-3 t c = c .before .before .before .set-node .kept .0 ∙ (c .before .before .before .before .before .before .before .before .before .before .before .before .before .before .before .before .before .before .before .pred .kept .1 .1 .1 .1 .1 .1 .0 ∙ c .before .before .before .before .before .before .before .before .before .before .before .before .before .before .before .before .before .before .before .before .before .before .before .before .before .before .before .before .before .before .before .before .before .before .before .before .before .before .domain .kept .1 .1 .1 .1 .0)
 
 such-returns : (t : ℕ) → such-lts.Need-returns (such-claims t) (such-at t) such.Post
 such-returns t c = term-such (c .before .before .before .before .before .before .before .before .before .before .before .before .before .before .before .before .before .before .before .before .before .before .before .before .before .before .before .before .before .before .before .before .before .before .before .before .before .before .before .before .before .before .before .before .before .before .before .before .args .code .now) (c .before .before .before .before .before .before .before .before .before .before .before .before .before .before .before .before .before .before .before .before .before .before .before .before .before .before .before .before .before .before .before .before .before .before .before .before .before .before .before .before .before .before .before .before .before .before .before .before .args .end) (c .before .before .before .before .before .before .before .before .before .before .before .before .before .before .before .before .before .before .before .before .before .before .before .before .before .before .before .before .before .before .before .before .before .before .before .before .before .before .before .before .before .before .before .before .before .before .before .before .args .slot) (c .before .before .before .before .before .before .before .before .before .before .before .before .before .before .before .before .before .before .before .before .before .before .before .before .before .before .before .before .before .before .before .before .before .before .before .before .before .before .before .before .before .before .before .before .before .before .before .before .pre .1 .0) (c .before .before .before .before .before .before .before .before .before .before .before .before .before .before .before .before .before .before .before .before .before .before .before .before .before .before .before .before .before .before .before .before .before .before .before .before .before .before .before .before .before .before .before .before .before .before .before .before .pre .1 .3) (c .before .before .before .before .before .before .before .before .before .before .before .before .before .before .before .before .before .before .before .before .before .before .before .before .before .before .before .before .before .before .before .before .before .before .before .before .before .before .before .before .before .before .before .before .before .before .before .before .args .names .now) (c .before .before .before .before .before .before .before .before .before .before .before .before .before .before .before .before .before .before .before .before .before .before .before .before .before .before .before .before .before .before .before .before .before .before .before .before .before .before .before .before .before .before .before .before .before .before .before .before .args .places .now) (c .before .before .before .before .before .before .before .before .before .before .before .before .before .before .before .before .before .before .before .before .before .before .before .before .before .before .before .before .before .before .before .before .before .before .before .before .before .before .before .before .before .before .before .before .before .before .before .before .args .sizes .now) (c .before .before .before .before .before .before .before .before .before .before .before .before .before .before .before .before .before .before .before .before .before .before .before .before .before .before .before .before .before .before .before .before .before .before .before .before .before .before .before .before .before .before .before .before .before .before .before .before .args .out .now) (c .before .before .before .before .before .before .before .before .before .before .before .before .before .before .before .before .before .before .before .before .before .before .before .before .before .before .before .before .before .before .before .before .before .before .before .before .before .before .before .before .before .before .before .before .before .before .before .before .pre .1 .1) _ _ _ _ _ _ _ _ _ (c .before .before .before .before .before .before .before .before .before .before .before .before .before .before .before .before .before .before .before .before .before .before .before .before .before .before .before .before .before .before .before .before .before .before .before .before .before .before .domain .result) (c .before .before .before .before .before .before .before .before .before .before .before .before .before .before .before .before .before .before .before .pred .result) _ (c .before .before .before .before .before .before .before .before .before .before .before .before .before .before .before .before .before .before .before .before .before .before .before .before .before .before .before .before .before .before .before .before .before .before .before .before .before .before .before .before .before .index .result) (c .before .before .before .before .before .before .before .before .before .before .before .before .before .before .before .before .before .before .before .before .before .before .before .before .before .before .before .before .before .before .before .before .before .before .look2 .result) (c .before .before .before .before .before .before .before .before .before .before .before .before .before .before .before .before .before .before .before .before .before .before .before .before .before .before .before .before .before .before .before .before .look3 .result) (c .before .before .before .before .before .before .before .before .before .before .before .before .before .before .before .before .before .before .before .before .before .before .before .next-slot .result) (c .before .before .before .before .before .before .before .before .before .before .before .before .before .before .before .before .before .before .before .before .before .before .before .before .before .before .before .before .before .before .before .before .before .before .before .before .before .before .before .before .before .before .before .before .before .before .before .before .pre .1 .4) (c .before .before .before .before .before .before .before .before .before .before .before .before .before .before .before .before .before .before .before .before .before .before .before .before .before .before .before .before .before .before .before .before .before .before .before .before .before .before .domain .ensures) (c .before .before .before .before .before .before .before .before .before .before .before .before .before .before .before .before .before .before .before .pred .ensures) (c .before .before .before .before .before .before .before .before .before .before .before .before .before .before .before .before .before .before .before .before .before .before .before .next-slot .ensures) (c .before .before .before .before .before .before .before .before .before .before .before .before .before .before .before .before .before .before .before .before .before .before .before .before .before .before .before .before .before .before .put .ensures) (c .before .before .before .before .before .before .before .before .before .before .before .put3 .ensures) (c .before .before .before .before .before .before .before .before .before .before .before .before .before .before .before .before .before .before .before .before .before .before .before .before .before .before .put2 .ensures) (c .before .before .before .before .before .before .before .put4 .ensures) (c .before .before .before .before .before .before .before .before .before .before .before .before .before .before .before .before .before .before .before .before .before .before .before .before .before .before .before .before .before .before .before .before .before .before .before .before .before .before .before .before .before .index .ensures .0 ∙ c .before .before .before .before .before .before .before .before .before .before .before .before .before .before .before .before .before .before .before .before .before .before .before .before .before .before .before .before .before .before .before .before .before .before .before .before .before .before .before .before .before .before .look .ensures) (c .before .before .before .before .before .before .before .before .before .before .before .before .before .before .before .before .before .before .before .before .before .before .before .before .before .before .before .before .before .before .before .before .before .before .look2 .ensures) (c .before .before .before .before .before .before .before .before .before .before .before .before .before .before .before .before .before .before .before .before .before .before .before .before .before .before .before .before .before .before .before .before .look3 .ensures) (c .before .before .before .set-node .ensures) (c .set-of .ensures) refl

@@ -2,7 +2,7 @@
 use mathlib.Core.Path.{_≡_, refl, sym, ap, _∙_}
 use mathlib.Core.Bool.{Bool, true, false, cond}
 use mathlib.Core.List.{List}
-use Prim.Native.Nat.{ℕ, _+_, _-_, _/_, _%_, _≤_, _<_}
+use Prim.Native.Nat.{ℕ, _+_, _-_, _*_, _/_, _%_, _≤_, _<_}
 use native.Mathlib.Omega.{arith}
 use lib.Dec.{leb, ltb}
 use lib.ListN.{length, set, length-set}
@@ -116,3 +116,18 @@ in-fourth out at b a i h =
     let n = length-set (set out at b) (at + 1) a in
     let m = length-set out at b in
     omega arith
+
+-- a place before e is a number of the table; the node that ends at e is inside, whatever calls kept the length
+pub start-small : {x e c o : ℕ} → x ≤ e - 4 → e ≤ c → c ≤ o → o ≤ 16384 → x < 65536
+start-small h p q m = omega arith
+
+pub node-room : {e c o n : ℕ} → 4 ≤ e → e ≤ c → c ≤ o → o ≤ 16384 → n ≡ o → (e - 4 + 4 ≤ n) × (n ≤ 16384)
+node-room far p q m h = (omega arith, omega arith)
+
+-- what a call for a part before e asks: the measure t of its caller falls, and there is room
+pub call-room : {x e c o n t : ℕ} → 3 * e ≡ t → 4 ≤ e → x ≤ e - 4 → e ≤ c → c ≤ o → o ≤ 16384 → n ≡ o
+    → (3 * x + 1 < t) × ((x ≤ c) × (c ≤ n) × (n ≤ 16384))
+call-room tq far h p q m nq = (omega arith, (omega arith, omega arith, omega arith))
+
+pub before-before : {x y e : ℕ} → x ≤ y → y ≤ e → x ≤ e
+before-before h p = omega arith

@@ -11,3 +11,6 @@ pub mod Tabled
 -- The walk that writes the table.
 pub mod Patching
 pub mod Leaves
+pub mod WalkingTerms
+pub mod WalkingBraces
+pub mod WalkingPreds

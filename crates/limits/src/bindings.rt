@@ -4,13 +4,13 @@ ghost use mathlib.Core.Bool.{_&&_};
 ghost use Prim.Native.Nat.{_+_, _-_, _*_, _^_, _≤_, _<_};
 ghost use lib.Dec.{leb};
 ghost use lib.ListN.{length};
-ghost use Rattle.names.specs.Parts.{PartOf};
 ghost use Rattle.limits.specs.Bindings.{cap, sizeAt, TypeCounted, FactorCounted, GroupCounted, HeadingFaulted, StateBound, OperationBound, OperationsBound, BindingsSeen};
 use names::kinds::index;
 use names::kinds::lesser_of;
 use names::kinds::look;
 use names::kinds::size_in;
 use names::kinds::wide;
+use names::passes::part;
 
 // A product of counts; the limit and one for all above it.
 fn product(limit: u32, n: u32, m: u32) -> u32
@@ -115,18 +115,6 @@ fn heading_fault(nodes: &[u16], from: usize, ok: bool) -> u32
         return 0;
     }
     wide(look(nodes, from - 4 + 2)) * 16 + 13
-}
-
-// The nodes from one place to another; none where the places are not in order.
-fn part(nodes: &[u16], from: usize, to: usize) -> &[u16]
-    ensures { λ r. ⌜ PartOf (now (nodes .entry)) from to (now r) ⌝ }
-{
-    if from <= to {
-        if to <= nodes.len() {
-            return &nodes[from..to];
-        }
-    }
-    &nodes[..0]
 }
 
 // The state whose variables stand from the span k on.

@@ -7,6 +7,7 @@ use names::least_fault;
 use parser::Parsed;
 use parser::parse;
 use parser::sections::sections;
+use parser::sections::wide;
 
 // How many symbols and how many numbers of nodes a text has that is a dossier; or the number of its refusal, and the place.
 pub enum Reading {
@@ -77,7 +78,7 @@ fn place_at(starts: &[u16], n: usize, i: usize, end: usize) -> usize
     ensures { λ r. ⌜ r ≡ getD (take n (now (starts .entry))) i end ⌝ }
 {
     if i < n {
-        return starts[i] as usize;
+        return wide(starts[i]);
     }
     end
 }

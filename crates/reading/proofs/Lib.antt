@@ -7,3 +7,4 @@ pub mod Keys
 pub mod Parted
 pub mod Joined
 pub mod Passes
+pub mod Later

@@ -69,7 +69,10 @@ fn refused(key: u32, starts: &[u16], n: usize, end: usize) -> Reading
     ensures { λ r. ⌜ Refuses key (now (starts .entry)) n end r ⌝ }
 {
     let code = key - 1;
-    Reading::Refused((code % 16) as u8, place_at(starts, n, (code / 16) as usize, end))
+    Reading::Refused(
+        (code % 16) as u8,
+        place_at(starts, n, (code / 16) as usize, end),
+    )
 }
 
 // The first byte of a symbol, or the text's end.

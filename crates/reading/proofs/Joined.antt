@@ -34,7 +34,7 @@ pub record RefusedAs (text : List ℕ) (k p : ℕ) : Type 0 where
 -- the text is a dossier by form: the passes behind number 7 decide
 pub record Structured (text starts nodes : List ℕ) (n m : ℕ) : Type 0 where
   pub dossier : Dossier
-  pub stands : Stands text starts nodes n m dossier
+  pub stands : length nodes ≡ 16384 → Stands text starts nodes n m dossier
   pub reads : read text ≡ readNames text dossier
   pub count : n ≡ length (symbols (scan text))
   pub size : m ≡ length (dossierCodes dossier (numbering text))
@@ -82,8 +82,8 @@ module _ (nodes₀ nodes : List ℕ) {text codes₀ starts₀ values₀ codes st
     read-by-form o f = read-scanned ∙ ap (λ (x : Option Fault). pass x (readForm text)) faultless ∙ read-formed o f
 
     stands : (d : Dossier) → Forms (textSymbols text) d → nodes ≡ dossierCodes d (numbering text) ++ drop (length (dossierCodes d (numbering text))) nodes₀
-        → Stands text starts nodes (length (symbols (scan text))) (length (dossierCodes d (numbering text))) d
-    stands d f e =
+        → length nodes ≡ 16384 → Stands text starts nodes (length (symbols (scan text))) (length (dossierCodes d (numbering text))) d
+    stands d f e room =
         let c : List ℕ = dossierCodes d (numbering text) in
         let l = length-append c (drop (length c) nodes₀) in
         let n : length nodes ≡ length (c ++ drop (length c) nodes₀) = ap (length {A = ℕ}) e in
@@ -96,6 +96,7 @@ module _ (nodes₀ nodes : List ℕ) {text codes₀ starts₀ values₀ codes st
           scans = symbols-scanned s h faultless;
           forms = f;
           inside = omega arith;
+          short = omega arith;
           nodes-are = ap (take (length c)) e ∙ take-at c (drop (length c) nodes₀) (length c) refl;
         }
 

@@ -120,18 +120,19 @@ module _ {text codes₀ starts₀ values₀ nodes₀ codes starts values nodes :
   told : (t : Parsed) → q ≡ t → Told text starts nodes t
   told t e = subst (Told text starts nodes) e (read-is p)
 
-  pub few-symbols : {n m : ℕ} → q ≡ parsed.Structure n m → n ≤ 4096
-  few-symbols {n} {m} e = known (told (parsed.Structure n m) e .stands .scans) .few
+  pub few-symbols : {n m : ℕ} → length nodes ≡ 16384 → q ≡ parsed.Structure n m → n ≤ 4096
+  few-symbols {n} {m} room e = known (told (parsed.Structure n m) e .stands room .scans) .few
 
-  pub reads-structure : {n m : ℕ} → q ≡ parsed.Structure n m → (r : Reading) → Checks starts n (length text) nodes m r
+  pub reads-structure : {n m : ℕ} → length nodes ≡ 16384 → q ≡ parsed.Structure n m → (r : Reading) → Checks starts n (length text) nodes m r
       → Reads text codes₀ starts₀ values₀ nodes₀ codes starts values nodes r
-  reads-structure {n} {m} e r checks =
+  reads-structure {n} {m} room e r checks =
       let t = told (parsed.Structure n m) e in
+      let st = t .stands room in
       record {
         parsed = q;
         parses = p;
         answers = λ later.
-            subst (λ (x : definition.Reading). ReadIs text x r) (sym (t .reads ∙ later (t .dossier) (t .stands .forms))) (checks text (t .dossier) (t .stands) refl);
+            subst (λ (x : definition.Reading). ReadIs text x r) (sym (t .reads ∙ later (t .dossier) (st .forms))) (checks text (t .dossier) st refl);
       }
 
   pub reads-refusal : {k i : ℕ} → q ≡ parsed.Refused k i → (r : Reading) → r ≡ Refused k i → Reads text codes₀ starts₀ values₀ nodes₀ codes starts values nodes r

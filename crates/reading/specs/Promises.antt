@@ -47,6 +47,7 @@ pub record Stands (text starts nodes : List ℕ) (n m : ℕ) (d : Dossier) : Typ
   pub scans : Scans text codes₀ starts₀ values₀ codes starts values (Symbols n)
   pub forms : Forms (textSymbols text) d
   pub inside : m ≤ length nodes
+  pub short : m ≤ 16384
   pub nodes-are : take m nodes ≡ dossierCodes d (numbering text)
 
 -- a pass answers with its least fault as a number (place * 16 + number + 1), or 0

@@ -13,13 +13,13 @@ enum-known-n : tie.Need-enum-known-n
 enum-known-n c = search needs
 
 checked-requires : tie.Need-checked-requires
-checked-requires c κs = omega (arith, few-symbols (c .before .before .before .before .before .before .before .parse .ensures) (c .before .before .before .before .before .n .given .1))
+checked-requires c κs = omega (arith, few-symbols (c .before .before .before .before .before .before .before .parse .ensures) (search needs) (c .before .before .before .before .before .n .given .1))
 
 enum-known-k : tie.Need-enum-known-k
 enum-known-k c = search needs
 
 returns : tie.Need-returns
-returns c = reads-structure (c .before .before .before .before .before .before .before .before .parse .ensures) (c .before .before .before .before .before .before .n .given .1) _ (c .checked .ensures)
+returns c = reads-structure (c .before .before .before .before .before .before .before .before .parse .ensures) (search needs) (c .before .before .before .before .before .before .n .given .1) _ (c .checked .ensures)
 
 returns-2 : tie.Need-returns-2
 returns-2 c = reads-refusal (c .before .before .before .parse .ensures) (c .before .k .given .1) _ refl

@@ -104,16 +104,6 @@ pass-goes-on text fs k r is no-fault x h = on (least fs) refl
     on none e = h
     on (some f) e = let z : 0 ≡ keyOf (some f) = sym no-fault ∙ is ∙ ap keyOf e in absurd (omega arith)
 
--- ---- the passes over the structure ----
-
-module _ (starts : List ℕ) (n end : ℕ) (nodes : List ℕ) (m : ℕ) (z : Sizes) (k : ℕ) (named : Named nodes m z k) (r : Reading) where
-  pub names-refuse : (k ≡ 0 → ⊥) → Refuses k starts n end r → Checks starts n end nodes m r
-  names-refuse some-fault apart text d st e = pass-refuses st (names-small d) k end r (named .least text starts n d st) some-fault e apart (reading d)
-
-  pub names-pass : k ≡ 0 → r ≡ Read n m → Checks starts n end nodes m r
-  names-pass no-fault is text d st e =
-      pass-goes-on text (nameFaults d) k r (named .least text starts n d st) no-fault (reading d) (all-passed st r is)
-
 -- ---- the text ----
 
 module _ {text codes₀ starts₀ values₀ nodes₀ codes starts values nodes : List ℕ} {q : Parsed} (p : Parses text codes₀ starts₀ values₀ nodes₀ codes starts values nodes q) where
@@ -131,8 +121,7 @@ module _ {text codes₀ starts₀ values₀ nodes₀ codes starts values nodes :
       record {
         parsed = q;
         parses = p;
-        answers = λ later.
-            subst (λ (x : definition.Reading). ReadIs text x r) (sym (t .reads ∙ later (t .dossier) (st .forms))) (checks text (t .dossier) st refl);
+        answers = subst (λ (x : definition.Reading). ReadIs text x r) (sym (t .reads)) (checks text (t .dossier) st refl);
       }
 
   pub reads-refusal : {k i : ℕ} → q ≡ parsed.Refused k i → (r : Reading) → r ≡ Refused k i → Reads text codes₀ starts₀ values₀ nodes₀ codes starts values nodes r
@@ -141,6 +130,6 @@ module _ {text codes₀ starts₀ values₀ nodes₀ codes starts values nodes :
       record {
         parsed = q;
         parses = p;
-        answers = λ later.
+        answers =
             subst (λ (x : definition.Reading). ReadIs text x r) (sym (t .reads)) (is ∙ sym (ap₂ Refused (t .number) (t .place)));
       }

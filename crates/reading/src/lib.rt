@@ -2,8 +2,14 @@
 ghost use Prim.Native.Nat.{_≤_};
 ghost use mathlib.Core.Path.{_≡_};
 ghost use lib.ListN.{length, take, getD};
-ghost use Rattle.reading.specs.Promises.{Reads, Named, Refuses, Checks};
+ghost use Rattle.reader.specs.Limits.{bindingFaults, sizeFaults};
+ghost use Rattle.reading.specs.Promises.{Reads, Named, Finds, Refuses, Checks};
+use contexts::spans;
+use limits::bindings::bindings;
+use limits::measures::measures;
+use names::given_sets;
 use names::least_fault;
+use names::passes::part;
 use parser::Parsed;
 use parser::parse;
 use parser::sections::sections;
@@ -41,6 +47,14 @@ fn checked(starts: &[u16], n: usize, end: usize, nodes: &[u16], m: usize) -> Rea
     if key != 0 {
         return refused(key, starts, n, end);
     }
+    let more = bindings_key(nodes, m);
+    if more != 0 {
+        return refused(more, starts, n, end);
+    }
+    let last = sizes_key(nodes, m);
+    if last != 0 {
+        return refused(last, starts, n, end);
+    }
     Reading::Read(n, m)
 }
 
@@ -61,6 +75,30 @@ fn names_key(nodes: &[u16], m: usize, sizes: &mut [u16; 8]) -> u32
         &mut names,
         sizes,
     )
+}
+
+// Number 12, where names have no fault.
+fn bindings_key(nodes: &[u16], m: usize) -> u32
+    ensures { λ r. ⌜ Finds bindingFaults (now (nodes .entry)) m r ⌝ }
+{
+    let mut names = [0u16; 16384];
+    let mut sizes = [0u16; 8];
+    let mut places = [0u16; 80];
+    let at = sections(nodes, m);
+    let k = spans(nodes, m, &mut places);
+    let code = part(nodes, at.givens, at.abstracts);
+    given_sets(code, &mut names, &mut sizes);
+    bindings(nodes, &places, k, &names, &sizes)
+}
+
+// Number 13, where names have no fault.
+fn sizes_key(nodes: &[u16], m: usize) -> u32
+    ensures { λ r. ⌜ Finds sizeFaults (now (nodes .entry)) m r ⌝ }
+{
+    let mut bounds = [0u16; 16384];
+    let mut places = [0u16; 80];
+    let k = spans(nodes, m, &mut places);
+    measures(nodes, &places, k, &mut bounds)
 }
 
 // The refusal of a fault by its number.

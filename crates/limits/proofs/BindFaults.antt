@@ -22,12 +22,12 @@ use Rattle.reader.specs.Names.{endLength, rangeFits, rangeFaults, known, pairsF
 use Rattle.reader.specs.Scope as scope
 use Rattle.reader.specs.Scope.{variables, isInput, isOutput, unprimed, inputs, outputs}
 use Rattle.reader.specs.Limits.{bindingCount, operationBindings, bindingFaults}
-use Rattle.names.specs.Inner.{Names, Sizes, key, unlessKey, lesser}
+use Rattle.names.specs.Inner.{Names, Sizes, key, unlessKey, lesser, leastKey}
 use Rattle.names.specs.Passes.{Typed, variablesOf, parametersOf}
 use Rattle.names.proofs.JudgedLeast.{Small, no-fault, small-append, small-unless, lesser-assoc, least-nil, unless-least, two-parts, unless-nil, not-nil, append-nil-both}
 use Rattle.names.proofs.JudgedTypes.{no-yes}
 use Rattle.limits.specs.Fit.{TypesFit, no-types, one-type, OperationsFit, no-operations, one-operation, DeclaredFit}
-use Rattle.limits.specs.Bindings.{sizeAt, typeCount, typedCount, stateOver, operationOver, operationsOver, StateBound, OperationsBound, TypeShown, TypesShown, one-shown, OperationsShown, operation-shown, GivensShown, leastKey, BindingsSeen}
+use Rattle.limits.specs.Bindings.{sizeAt, typeCount, typedCount, stateOver, operationOver, operationsOver, StateBound, OperationsBound, TypeShown, TypesShown, one-shown, OperationsShown, operation-shown, GivensShown, BindingsSeen}
 
 -- ---- ranges ----
 

@@ -8,13 +8,12 @@ use Prim.Native.Nat.{ℕ, _+_, _-_, _*_, _^_, _%_, _≤_, min}
 use lib.Dec.{eqb, leb}
 use lib.ListN.{length, drop}
 use Rattle.symbols.specs.Symbols.{Name, noEnding}
-use Rattle.symbols.specs.Refusals.{Fault, numberOf, least}
 use Rattle.form.specs.Tree.{relation, partial, total, TypeForm, givenType, powerType, rangeType, arrowType, Given, declarations, State, Operation, Dossier}
 use Rattle.form.specs.Headings.{operationLength}
 use Rattle.form.specs.Codes.{Numbering, nameNumber, endNumber, typeCodes}
 use Rattle.reader.specs.Carriers.{sizeOf, givenOf}
 use Rattle.reader.specs.Limits.{bindingFaults}
-use Rattle.names.specs.Inner.{Names, Sizes, entry, sizeIn, key, unlessKey, lesser}
+use Rattle.names.specs.Inner.{Names, Sizes, entry, sizeIn, key, unlessKey, lesser, leastKey}
 use Rattle.names.specs.Passes.{Typed, variablesOf, parametersOf, typedCodes}
 use Rattle.names.specs.Parts.{typedCode}
 use Rattle.contexts.specs.Spans.{HeadingAt, OperationAt, OperationsAt, StateAt, Structured}
@@ -111,13 +110,6 @@ pub record GivensShown (T : Names) (z : Sizes) (d : Dossier) (ρ : Numbering) : 
   pub concretes : TypesShown T z (d .givens) ρ (variablesOf noEnding (declarations (d .concrete)))
   pub parameters : OperationsShown T z (d .givens) ρ (d .operations)
 
--- the least of some faults, as a number
-abbrev pub keyOf : Option Fault → ℕ
-keyOf none = 0
-keyOf (some f) = key (f .place) (numberOf (f .refusal))
-
-abbrev pub leastKey : List Fault → ℕ
-leastKey fs = keyOf (least fs)
-
+-- the pass finds the least fault
 abbrev pub BindingsSeen : (nodes spans : List ℕ) (n : ℕ) (T : Names) (z : Sizes) (r : ℕ) → Type 0
 BindingsSeen nodes spans n T z r = (d : Dossier) (ρ : Numbering) → Structured nodes spans n d ρ → DeclaredFit d → GivensShown T z d ρ → r ≡ leastKey (bindingFaults d)

@@ -15,9 +15,9 @@ use Rattle.form.proofs.Lengths.{givens-length}
 use Rattle.reader.specs.Carriers.{Variable, sizeOf}
 use Rattle.reader.specs.Scope.{variables, givenNames, stateNames, abstractTaken, concreteTaken, contexts}
 use Rattle.reader.specs.Names.{givenFaults, declarationFaults, contextFaults, judgePred, nameFaults}
-use Rattle.names.specs.Inner.{Names, Sizes, entry, isFree}
+use Rattle.names.specs.Inner.{Names, Sizes, entry, isFree, leastKey}
 use Rattle.names.specs.Passes.{variablesOf, predicateAt, dossierKey}
-use Rattle.names.proofs.Showing.{Numbered, PredIn, leastKey}
+use Rattle.names.proofs.Showing.{Numbered, PredIn}
 use Rattle.names.proofs.JudgedLeast.{append-nil-both}
 use Rattle.names.proofs.JudgedWidths.{pred-steady}
 use Rattle.names.proofs.PassedPlaces.{Within, within-small, within-append, pred-within, wider}

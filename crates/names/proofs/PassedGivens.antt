@@ -16,9 +16,9 @@ use Rattle.form.proofs.Lengths.{givensWidth, given-length}
 use Rattle.reader.specs.Carriers.{sameName, plain}
 use Rattle.reader.specs.Scope.{isTaken, givenNames}
 use Rattle.reader.specs.Names.{newName, elementFaults, givenFaults}
-use Rattle.names.specs.Inner.{Names, entry, key, unlessKey, isFree}
+use Rattle.names.specs.Inner.{Names, entry, key, unlessKey, isFree, leastKey}
 use Rattle.names.specs.Passes.{elementsNamed, elementsKey, givenNamed, givensNamed, givensKey}
-use Rattle.names.proofs.Showing.{Numbered, leastKey}
+use Rattle.names.proofs.Showing.{Numbered}
 use Rattle.names.proofs.JudgedLeast.{least-nil, unless-least}
 use Rattle.names.proofs.PassedPlaces.{Within, nowhere, within-append, within-new, wider}
 use Rattle.names.proofs.PassedOrder.{behind}

@@ -15,9 +15,9 @@ use Rattle.form.proofs.Lengths.{range-length}
 use Rattle.reader.specs.Carriers.{Carrier, elementsOf, subsetsOf, pairsOf, rangeCarrier, sizeOf, givenOf, carrierOf}
 use Rattle.reader.specs.Types.{Ty, typeOf}
 use Rattle.reader.specs.Names.{known, pairsFault, typeFaults}
-use Rattle.names.specs.Inner.{Names, Sizes, entry, key, unlessKey, isGiven, sizeIn, overKey, domainKey}
+use Rattle.names.specs.Inner.{Names, Sizes, entry, key, unlessKey, isGiven, sizeIn, overKey, domainKey, leastKey}
 use Rattle.names.specs.Passes.{typeKind, typeKey}
-use Rattle.names.proofs.Showing.{indexOf, knownNumber, GivenIs, TypeIs, RangeIn, leastKey}
+use Rattle.names.proofs.Showing.{indexOf, knownNumber, GivenIs, TypeIs, RangeIn}
 use Rattle.names.proofs.JudgedLeast.{small-append, lesser-assoc, two-parts, not-nil, append-nil-both}
 use Rattle.names.proofs.JudgedWidths.{small-known, small-pairs}
 use Rattle.names.proofs.JudgedRanges.{range-least}

@@ -1,7 +1,7 @@
 -- What `read` promises of every text: the answer of document 01 (reader/specs/Read), and what it leaves in the lent arrays.
 use mathlib.Core.Path.{_≡_}
 use mathlib.Core.List.{List, map}
-use mathlib.Core.Option.{Option, none, some}
+use mathlib.Core.Option.{none}
 use Prim.Native.Nat.{ℕ, _≤_, _<_}
 use lib.ListN.{length, take, getD}
 use Rattle.symbols.specs.Symbols.{scan, symbols}
@@ -17,7 +17,7 @@ use Rattle.reader.specs.Carriers.{sizeOf}
 use Rattle.reader.specs.Names.{nameFaults}
 use Rattle.reader.specs.Read as definition
 use Rattle.reader.specs.Read.{refusal, reading, readNames, read}
-use Rattle.names.specs.Inner.{Sizes, key}
+use Rattle.names.specs.Inner.{Sizes, key, keyOf}
 use Rattle.reading.specs.declared.Reading.{Reading}
 use Rattle.reading.specs.declared.Reading.the-variants.{Read, Refused}
 
@@ -46,12 +46,7 @@ pub record Stands (text starts nodes : List ℕ) (n m : ℕ) (d : Dossier) : Typ
   pub short : m ≤ 16384
   pub nodes-are : take m nodes ≡ dossierCodes d (numbering text)
 
--- a pass answers with its least fault as a number (place * 16 + number + 1), or 0
-abbrev pub keyOf : Option Fault → ℕ
-keyOf none = 0
-keyOf (some f) = key (f .place) (numberOf (f .refusal))
-
--- names, and how many elements each given set has where no fault was found
+-- a pass answers with its least fault as a number (place * 16 + number + 1), or 0: names, and how many elements each given set has where no fault was found
 pub record Named (nodes : List ℕ) (m : ℕ) (z : Sizes) (r : ℕ) : Type 0 where
   pub least : (text starts : List ℕ) (n : ℕ) (d : Dossier) → Stands text starts nodes n m d → r ≡ keyOf (least (nameFaults d))
   pub sized : (text starts : List ℕ) (n : ℕ) (d : Dossier) → Stands text starts nodes n m d → r ≡ 0

@@ -5,3 +5,4 @@ pub mod ResolvingScope
 pub mod ResolvingParts
 pub mod Resolving
 pub mod ResolvingLength
+pub mod PlacingSlots

@@ -6,3 +6,5 @@ pub mod ResolvingParts
 pub mod Resolving
 pub mod ResolvingLength
 pub mod PlacingSlots
+pub mod PlacingDeclared
+pub mod PlacingGivens

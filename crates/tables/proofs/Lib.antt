@@ -8,3 +8,4 @@ pub mod ResolvingLength
 pub mod PlacingSlots
 pub mod PlacingDeclared
 pub mod PlacingGivens
+pub mod PlacingParameters

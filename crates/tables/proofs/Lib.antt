@@ -9,3 +9,5 @@ pub mod PlacingSlots
 pub mod PlacingDeclared
 pub mod PlacingGivens
 pub mod PlacingParameters
+pub mod PlacingStates
+pub mod PlacingContexts

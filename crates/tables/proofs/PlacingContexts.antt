@@ -20,7 +20,7 @@ use Rattle.names.proofs.Passed.{DossierIn}
 use Rattle.tables.specs.Table.{Places}
 use Rattle.tables.specs.Resolved.{Slots, slotted}
 use Rattle.tables.specs.Dossiers.{abstractSlots, concreteSlots, parameterSlots, operationSlots, slotsOf}
-use Rattle.tables.specs.Passes.{parametersPlaced, statesPlaced, operationPlaces, placesOf}
+use Rattle.tables.specs.Passes.{parametersPlaced, operationPlaces, placesOf}
 use Rattle.tables.proofs.ResolvingScope.{PlacesShown}
 use Rattle.tables.proofs.PlacingSlots.{into, joined, slotted-names, names-append, shown-by}
 use Rattle.tables.proofs.PlacingParameters.{numbered, inputs-slotted, outputs-slotted, inputs-few, outputs-few, parameters-hold}

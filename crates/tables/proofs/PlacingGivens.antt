@@ -16,7 +16,6 @@ use Rattle.reader.specs.Names.{newName, elementFaults, givenFaults}
 use Rattle.names.proofs.Showing.{Numbered}
 use Rattle.names.proofs.JudgedLeast.{append-nil-both}
 use Rattle.names.proofs.JudgedTypes.{no-yes}
-use Rattle.names.proofs.JudgedScope.{any-there}
 use Rattle.names.proofs.PassedUse.{inUse, use-left, use-right, use-here, use-there, elements-new, given-new, givens-new, element-use}
 use Rattle.names.proofs.PassedGivens.{AllIn, none-in, one-in, GivensIn, no-givens, one-given, Holds, entered}
 use Rattle.names.proofs.PassedParameters.{nameOf, use-ending}

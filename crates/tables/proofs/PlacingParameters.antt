@@ -13,7 +13,7 @@ use Rattle.symbols.specs.Refusals.{fault, unless, nameInUse}
 use Rattle.form.specs.Tree.{Letters, Given, Declaration, Direction, inward, outward, Parameter}
 use Rattle.form.specs.Written.{endingOf, writeType}
 use Rattle.form.specs.Codes.{Numbering}
-use Rattle.reader.specs.Carriers.{Carrier, Variable, endingCode, sameName, carrierOf}
+use Rattle.reader.specs.Carriers.{Carrier, endingCode, sameName, carrierOf}
 use Rattle.reader.specs.Scope as scopes
 use Rattle.reader.specs.Scope.{variables, isInput, isOutput}
 use Rattle.reader.specs.Names.{typeFaults, parameterName, parameterFaults}

@@ -24,7 +24,7 @@ use Rattle.tables.specs.Passes.{parametersPlaced, operationPlaces, place
 use Rattle.tables.proofs.ResolvingScope.{PlacesShown}
 use Rattle.tables.proofs.PlacingSlots.{into, joined, slotted-names, names-append, shown-by}
 use Rattle.tables.proofs.PlacingParameters.{numbered, inputs-slotted, outputs-slotted, inputs-few, outputs-few, parameters-hold}
-use Rattle.tables.proofs.PlacingStates.{Operated, none-operated, one-operated, Faultless, no-faults, FewEach, none-each, one-each, Few, below}
+use Rattle.tables.proofs.PlacingStates.{Operated, none-operated, one-operated, Separate, no-faults, FewEach, none-each, one-each, Few, below}
 use Rattle.tables.proofs.PlacingStates.{abstractPrimed, concretePrimed, Told, stateEntries, states-told, parameters-told, states-hold}
 
 -- contexts, each with its slots and its table of places
@@ -66,7 +66,7 @@ module _ (ρ : Numbering) (P : Letters → Type 0) (d : Dossier) {T : Places} (f
       (two-names (abstractSlots d) (concreteSlots d) (unprimed d (d .abstract)) (unprimed d (d .concrete))
       (slotted-names 0 (unprimed d (d .abstract))) (slotted-names 8 (unprimed d (d .concrete))))
 
-module _ (ρ : Numbering) (P : Letters → Type 0) (ν : Numbered ρ P) (d : Dossier) (h : Faultless d) where
+module _ (ρ : Numbering) (P : Letters → Type 0) (ν : Numbered ρ P) (d : Dossier) (h : Separate d) where
   operations-placed : {os : List Operation} → OperationsIn P os → Operated (d .givens) os → FewEach os → (i : ℕ) (xs : List Letters) {T : Places} (f : Name → ℕ) → Holds ρ P T f → Told d f
       → AllPlaced ρ P (operationContexts d i xs os) (operationSlots d os) (operationPlaces os T ρ)
   unfolding operationContexts operationSlots operationPlaces

@@ -5,18 +5,19 @@ use mathlib.Core.List.{List, [], _∷_, _++_, map}
 use Prim.Native.Nat.{ℕ, suc, _+_, _≤_}
 use native.Mathlib.Omega.{arith}
 use lib.ListN.{length}
-use Rattle.symbols.specs.Lists.{concat, filter}
+use Rattle.symbols.specs.Lists.{filter}
 use Rattle.symbols.specs.Symbols.{Name, Ending, noEnding, prime}
 use Rattle.form.specs.Tree.{Letters, Given, Declaration, declarations, Parameter, Operation, Dossier}
 use Rattle.form.specs.Headings.{givensAt, abstractAt, concreteAt, operationsAt, operationLength}
 use Rattle.form.specs.Codes.{Numbering}
 use Rattle.reader.specs.Carriers.{Variable, endingCode, plain}
-use Rattle.reader.specs.Scope.{givenNames, stateNames, abstractTaken, concreteTaken, contexts, unprimed, primed, variables, isInput, isOutput}
-use Rattle.reader.specs.Names.{newName, givenFaults, declarationFaults, parameterFaults, operationFaults, contextFaults, nameFaults}
+use Rattle.reader.specs.Scope.{givenNames, stateNames, abstractTaken, concreteTaken, unprimed, primed, variables, isInput, isOutput}
+use Rattle.reader.specs.Names.{newName, givenFaults, parameterFaults, operationFaults, nameFaults}
 use Rattle.names.proofs.Showing.{Numbered}
 use Rattle.names.proofs.JudgedLeast.{append-nil-both}
 use Rattle.names.proofs.PassedUse.{inUse, use-left, use-right}
 use Rattle.names.proofs.PassedGivens.{Holds}
+use Rattle.names.proofs.Faultless as parts
 use Rattle.names.proofs.Passed.{DossierIn}
 use Rattle.tables.specs.Table.{Places}
 use Rattle.tables.specs.Resolved.{Slots, slotted}
@@ -44,28 +45,20 @@ operated gs xs i (o ∷ os) e =
     let b = append-nil-both (newName xs (o .title) (suc i)) p (a .0) in
     one-operated (parametrised gs [] (i + 2) (o .parameters) (b .1)) (operated gs (o .title ∷ xs) (i + operationLength o) os (a .1))
 
-pub record Faultless (d : Dossier) : Type 0 where
+pub record Separate (d : Dossier) : Type 0 where
   pub givens-are : givenFaults [] (givensAt d) (d .givens) ≡ []
   pub abstract-are : Declared (d .givens) (givenNames (d .givens)) (declarations (d .abstract))
   pub concrete-are : Declared (d .givens) (abstractTaken d) (declarations (d .concrete))
   pub operations-are : Operated (d .givens) (d .operations)
 
-pub no-faults : (d : Dossier) → nameFaults d ≡ [] → Faultless d
-unfolding nameFaults
+pub no-faults : (d : Dossier) → nameFaults d ≡ [] → Separate d
 no-faults d e =
-    let G = givenFaults [] (givensAt d) (d .givens) in
-    let A = declarationFaults (d .givens) (givenNames (d .givens)) (suc (abstractAt d)) (declarations (d .abstract)) in
-    let C = declarationFaults (d .givens) (abstractTaken d) (suc (concreteAt d)) (declarations (d .concrete)) in
-    let O = operationFaults (d .givens) (concreteTaken d) (operationsAt d) (d .operations) in
-    let k = append-nil-both (G ++ A ++ C ++ O) (concat (map contextFaults (contexts d))) e in
-    let l = append-nil-both (G ++ A ++ C) O (k .0) in
-    let m = append-nil-both (G ++ A) C (l .0) in
-    let n = append-nil-both G A (m .0) in
+    let p = parts.faultless d e in
     record {
-      givens-are = n .0;
-      abstract-are = faultless (d .givens) (givenNames (d .givens)) (suc (abstractAt d)) (declarations (d .abstract)) (n .1);
-      concrete-are = faultless (d .givens) (abstractTaken d) (suc (concreteAt d)) (declarations (d .concrete)) (m .1);
-      operations-are = operated (d .givens) (concreteTaken d) (operationsAt d) (d .operations) (l .1);
+      givens-are = p .givens-new;
+      abstract-are = faultless (d .givens) (givenNames (d .givens)) (suc (abstractAt d)) (declarations (d .abstract)) (p .abstract-new);
+      concrete-are = faultless (d .givens) (abstractTaken d) (suc (concreteAt d)) (declarations (d .concrete)) (p .concrete-new);
+      operations-are = operated (d .givens) (concreteTaken d) (operationsAt d) (d .operations) (p .operations-new);
     }
 
 -- what number 6 gives: at most eight variables in a state, three inputs and three outputs in an operation
@@ -118,7 +111,7 @@ abstractEntries d f = into (abstractPrimed d) (into (abstractSlots d) (intoGiven
 abbrev pub stateEntries : Dossier → (Name → ℕ) → Name → ℕ
 stateEntries d f = into (concretePrimed d) (into (concreteSlots d) (abstractEntries d f))
 
-module _ (d : Dossier) (h : Faultless d) where
+module _ (d : Dossier) (h : Separate d) where
   -- variables of one state, plain and primed, have different endings
   primes-off : {xs : List Letters} {ds : List Declaration} → Declared (d .givens) xs ds → (s r : ℕ)
       → Off (slotted s (variables (d .givens) noEnding ds)) (slotted r (variables (d .givens) prime ds))

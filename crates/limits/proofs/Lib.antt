@@ -4,3 +4,4 @@ pub mod MeasuredWidths
 pub mod MeasuredParts
 pub mod Measured
 pub mod Counted
+pub mod Measures

@@ -1,2 +1,4 @@
 pub mod Inner
 pub mod Walks
+pub mod Fit
+pub mod Passes

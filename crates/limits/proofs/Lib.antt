@@ -4,4 +4,6 @@ pub mod MeasuredWidths
 pub mod MeasuredParts
 pub mod Measured
 pub mod Counted
-pub mod Measures
+pub mod MeasuredDossier
+pub mod Marking
+pub mod Reaching

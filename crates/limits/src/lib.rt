@@ -1,6 +1,7 @@
 // Sizes: number 13 of document 01, over the nodes of a dossier.
 ghost use mathlib.Core.Path.{_≡_};
 
+pub mod measures;
 mod sizes;
 
 // The size of a term, its least fault (place * 16 + number + 1) or 0, and where its nodes begin. A term at fault has the size 0.

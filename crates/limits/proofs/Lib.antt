@@ -7,3 +7,5 @@ pub mod Counted
 pub mod MeasuredDossier
 pub mod Marking
 pub mod Reaching
+pub mod Measuring
+pub mod Operating

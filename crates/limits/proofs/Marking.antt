@@ -75,9 +75,9 @@ mark-step on code s n S U W p b w e =
 less-none : (n : ℕ) → n - 0 ≡ n
 less-none n = omega arith
 
-pub mark-end : (on : Bool) (code : List ℕ) (s n : ℕ) (S U : Bounds) → (0 < n → ⊥) → MarkedFrom on code s n S U → U ≡ marks on code s S
+pub mark-end : (on : Bool) (code : List ℕ) (s n : ℕ) (S U : Bounds) → n ≤ 0 → MarkedFrom on code s n S U → U ≡ marks on code s S
 mark-end on code s zero S U h w = w ∙ ap (λ (k : ℕ). marksOf on k code s S) (less-none (length code / 8))
-mark-end on code s (suc n) S U h w = elim (h (omega arith)) [ ]
+mark-end on code s (suc n) S U h w = absurd (omega arith)
 
 -- ---- marks that are taken away ----
 

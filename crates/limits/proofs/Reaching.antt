@@ -162,3 +162,127 @@ plain-ending ρ x = omega arith
 pub primed-ending : (ρ : Numbering) (x : Letters) → numberOfName ρ x noEnding + 1 ≡ numberOfName ρ x prime
 unfolding numberOfName
 primed-ending ρ x = omega arith
+
+-- ---- parameters ----
+
+parameter-count : (i : ℕ) (xs : List Parameter) (ρ : Numbering) → length (parameterCodes i xs ρ) ≡ 8 * length xs
+unfolding parameterCodes
+parameter-count i [] ρ = refl
+parameter-count i (x ∷ xs) ρ =
+    let a = length-append (declarationCode i (endingOf (x .direction)) (x .declaration) ρ) (parameterCodes (i + 3 + typeWidth (x .declaration .type)) xs ρ) in
+    let b = node-long i (endingOf (x .direction)) (x .declaration) ρ [] (x .declaration .type) in
+    let c = parameter-count (i + 3 + typeWidth (x .declaration .type)) xs ρ in
+    omega arith
+
+-- an output's number is no input's
+out-of-inputs : (ρ : Numbering) (x y : Letters) → numberOfName ρ y shriek ≡ numberOfName ρ x query → ⊥
+unfolding numberOfName
+out-of-inputs ρ x y e = omega arith
+
+carried-apart : (ρ : Numbering) (x y : Letters) (o : Option Carrier) (vs : List Variable) (S : Bounds) (n : ℕ)
+    → shownOn vs ρ (set S (numberOfName ρ y shriek) n) ≡ set (shownOn vs ρ S) (numberOfName ρ y shriek) n
+    → shownOn (carried (record { letters = x; ending = query }) o vs) ρ (set S (numberOfName ρ y shriek) n)
+    ≡ set (shownOn (carried (record { letters = x; ending = query }) o vs) ρ S) (numberOfName ρ y shriek) n
+unfolding shownOn
+carried-apart ρ x y none vs S n h = h
+carried-apart ρ x y (some c) vs S n h =
+    ap (λ (T : Bounds). set T (numberOfName ρ x query) (largest c)) h
+    ∙ set-comm (shownOn vs ρ S) (numberOfName ρ y shriek) (numberOfName ρ x query) n (largest c) (out-of-inputs ρ x y)
+
+-- so an output may be marked before or after the inputs
+inputs-apart : (gs : List Given) (ρ : Numbering) (ds : List Declaration) (y : Letters) (S : Bounds) (n : ℕ)
+    → shownOn (variables gs query ds) ρ (set S (numberOfName ρ y shriek) n) ≡ set (shownOn (variables gs query ds) ρ S) (numberOfName ρ y shriek) n
+unfolding variables shownOn
+inputs-apart gs ρ [] y S n = refl
+inputs-apart gs ρ (d ∷ ds) y S n = carried-apart ρ (d .declared) y (carrierOf gs (d .type)) (variables gs query ds) S n (inputs-apart gs ρ ds y S n)
+
+inputs-over : (gs : List Given) (ρ : Numbering) (xs : List Parameter) (y : Letters) (S : Bounds) (n : ℕ)
+    → shownOn (parametersOf gs inward xs) ρ (set S (numberOfName ρ y shriek) n) ≡ set (shownOn (parametersOf gs inward xs) ρ S) (numberOfName ρ y shriek) n
+unfolding parametersOf
+inputs-over gs ρ xs y S n = inputs-apart gs ρ (map (λ (x : Parameter). x .declaration) (filter (λ (x : Parameter). isInput (x .direction)) xs)) y S n
+
+no-shift : (n : ℕ) → n + 0 ≡ n
+no-shift n = omega arith
+
+abbrev inputsOf : List Given → List Parameter → List Variable
+inputsOf gs xs = parametersOf gs inward xs
+
+abbrev outputsOf : List Given → List Parameter → List Variable
+outputsOf gs xs = parametersOf gs outward xs
+
+-- a parameter in front
+module _ (gs : List Given) (x : Parameter) (xs : List Parameter) where
+  abbrev front : Ending → List Variable → List Variable
+  front e vs = carried (record { letters = x .declaration .declared; ending = e }) (carrierOf gs (x .declaration .type)) vs
+
+  input-in : x .direction ≡ inward → inputsOf gs (x ∷ xs) ≡ front query (inputsOf gs xs)
+  unfolding parametersOf filter variables
+  input-in e =
+      ap (λ (d : Direction). variables gs query (map (λ (y : Parameter). y .declaration)
+      (elim (isInput d) as (λ (b : Bool). List Parameter) [ true ↦ x ∷ filter (λ (y : Parameter). isInput (y .direction)) xs | false ↦ filter (λ (y : Parameter). isInput (y .direction)) xs ]))) e
+
+  input-out : x .direction ≡ inward → outputsOf gs (x ∷ xs) ≡ outputsOf gs xs
+  unfolding parametersOf filter
+  input-out e =
+      ap (λ (d : Direction). variables gs shriek (map (λ (y : Parameter). y .declaration)
+      (elim (isOutput d) as (λ (b : Bool). List Parameter) [ true ↦ x ∷ filter (λ (y : Parameter). isOutput (y .direction)) xs | false ↦ filter (λ (y : Parameter). isOutput (y .direction)) xs ]))) e
+
+  output-in : x .direction ≡ outward → inputsOf gs (x ∷ xs) ≡ inputsOf gs xs
+  unfolding parametersOf filter
+  output-in e =
+      ap (λ (d : Direction). variables gs query (map (λ (y : Parameter). y .declaration)
+      (elim (isInput d) as (λ (b : Bool). List Parameter) [ true ↦ x ∷ filter (λ (y : Parameter). isInput (y .direction)) xs | false ↦ filter (λ (y : Parameter). isInput (y .direction)) xs ]))) e
+
+  output-out : x .direction ≡ outward → outputsOf gs (x ∷ xs) ≡ front shriek (outputsOf gs xs)
+  unfolding parametersOf filter variables
+  output-out e =
+      ap (λ (d : Direction). variables gs shriek (map (λ (y : Parameter). y .declaration)
+      (elim (isOutput d) as (λ (b : Bool). List Parameter) [ true ↦ x ∷ filter (λ (y : Parameter). isOutput (y .direction)) xs | false ↦ filter (λ (y : Parameter). isOutput (y .direction)) xs ]))) e
+
+head-fit : {gs : List Given} {d : Declaration} {ds : List Declaration} → TypesFit gs (d ∷ ds) → Carries gs (d .type)
+head-fit {gs} {d} (fits.one-type j f t) = type-carries gs (d .type) j f
+
+tail-fit : {gs : List Given} {d : Declaration} {ds : List Declaration} → TypesFit gs (d ∷ ds) → TypesFit gs ds
+tail-fit (fits.one-type j f t) = t
+
+head-near : {d : Declaration} {ds : List Declaration} → TypesNear (d ∷ ds) → EndsNear (d .type)
+head-near (near.one-type h u) = h
+
+tail-near : {d : Declaration} {ds : List Declaration} → TypesNear (d ∷ ds) → TypesNear ds
+tail-near (near.one-type h u) = u
+
+module _ (gs : List Given) (ρ : Numbering) (S : Bounds) where
+  -- the inputs over the outputs
+  abbrev both : List Parameter → Bounds
+  both xs = shownOn (inputsOf gs xs) ρ (shownOn (outputsOf gs xs) ρ S)
+
+  abbrev added : Parameter → Ending → Bounds → Bounds
+  added x e T = set T (numberOfName ρ (x .declaration .declared) e) (typeBound (x .declaration .type))
+
+  parameter-one : (x : Parameter) (xs : List Parameter) → Carries gs (x .declaration .type) → EndsNear (x .declaration .type) → (e : Direction) → x .direction ≡ e
+      → added x (endingOf e) (both xs) ≡ both (x ∷ xs)
+  parameter-one x xs k h inward e =
+      sym (ap₂ (λ (vs ws : List Variable). shownOn vs ρ (shownOn ws ρ S)) (input-in gs x xs e) (input-out gs x xs e)
+      ∙ declared-shown gs ρ (record { letters = x .declaration .declared; ending = query }) (x .declaration .type) 0 (inputsOf gs xs) (shownOn (outputsOf gs xs) ρ S) h k)
+  parameter-one x xs k h outward e =
+      sym (ap₂ (λ (vs ws : List Variable). shownOn vs ρ (shownOn ws ρ S)) (output-in gs x xs e) (output-out gs x xs e)
+      ∙ ap (shownOn (inputsOf gs xs) ρ) (declared-shown gs ρ (record { letters = x .declaration .declared; ending = shriek }) (x .declaration .type) 0 (outputsOf gs xs) S h k)
+      ∙ apart xs)
+    where
+      apart : (ys : List Parameter) → shownOn (inputsOf gs ys) ρ (added x shriek (shownOn (outputsOf gs xs) ρ S)) ≡ added x shriek (shownOn (inputsOf gs ys) ρ (shownOn (outputsOf gs xs) ρ S))
+      apart ys = inputs-over gs ρ ys (x .declaration .declared) (shownOn (outputsOf gs xs) ρ S) (typeBound (x .declaration .type))
+
+  parameters-of : (xs : List Parameter) → TypesFit gs (map (λ (x : Parameter). x .declaration) xs) → TypesNear (map (λ (x : Parameter). x .declaration) xs) → (i : ℕ)
+      → marksOf true (length xs) (parameterCodes i xs ρ) 0 S ≡ both xs
+  unfolding marksOf parameterCodes parametersOf shownOn variables filter
+  parameters-of [] t u i = refl
+  parameters-of (x ∷ xs) t u i =
+      one-marked i (endingOf (x .direction)) (x .declaration) ρ (parameterCodes (i + 3 + typeWidth (x .declaration .type)) xs ρ) (length xs) 0 S
+      ∙ ap₂ (λ (T : Bounds) (n : ℕ). set T n (typeBound (x .declaration .type))) (parameters-of xs (tail-fit t) (tail-near u) (i + 3 + typeWidth (x .declaration .type)))
+      (no-shift (numberOfName ρ (x .declaration .declared) (endingOf (x .direction))))
+      ∙ parameter-one x xs (head-fit t) (head-near u) (x .direction) refl
+
+  pub parameters-marks : (xs : List Parameter) → TypesFit gs (map (λ (x : Parameter). x .declaration) xs) → TypesNear (map (λ (x : Parameter). x .declaration) xs) → (i : ℕ)
+      → marks true (parameterCodes i xs ρ) 0 S ≡ both xs
+  parameters-marks xs t u i =
+      ap (λ (k : ℕ). marksOf true k (parameterCodes i xs ρ) 0 S) (eighth (length (parameterCodes i xs ρ)) (length xs) (parameter-count i xs ρ)) ∙ parameters-of xs t u i

@@ -108,8 +108,10 @@ away (suc k) code s x S T = on (eqb x (getD code 1 0 + s)) refl (away k (drop 8 
     on true e w = inl (ap (λ (y : ℕ). getD (set (marksOf false k (drop 8 code) s S) y 0) x 0) (sym (eqb-true x _ e)) ∙ zero-set (marksOf false k (drop 8 code) s S) x)
     on false e (inl z) = inl (getD-set-other (marksOf false k (drop 8 code) s S) (getD code 1 0 + s) x 0 0 (eqb-false x _ e) ∙ z)
     on false e (inr w) =
-        inr (getD-set-other (marksOf false k (drop 8 code) s S) (getD code 1 0 + s) x 0 0 (eqb-false x _ e) ∙ w .0,
-        getD-set-other (marksOf true k (drop 8 code) s T) (getD code 1 0 + s) x (entrySize true code 4) 0 (eqb-false x _ e) ∙ w .1)
+        inr (
+          getD-set-other (marksOf false k (drop 8 code) s S) (getD code 1 0 + s) x 0 0 (eqb-false x _ e) ∙ w .0,
+          getD-set-other (marksOf true k (drop 8 code) s T) (getD code 1 0 + s) x (entrySize true code 4) 0 (eqb-false x _ e) ∙ w .1,
+        )
 
 zeros-at : (n k : ℕ) → _≡_ {A = ℕ} (getD (replicate n 0) k 0) 0
 zeros-at zero k = refl

@@ -8,6 +8,7 @@ use native.Mathlib.Omega.{arith}
 use lib.ListN.{length, getD, set, replicate, length-set, length-replicate}
 use Rattle.symbols.specs.Lists.{filter, find, concat}
 use Rattle.symbols.specs.Symbols.{Name, Ending, noEnding, prime}
+use Rattle.form.specs.Tree.{TypeForm, givenType, powerType, rangeType, arrowType}
 use Rattle.form.specs.Tree.{Letters, Given, Declaration, declarations, Parameter, Direction, inward, outward, State, Operation, Dossier}
 use Rattle.form.specs.Headings.{operationLength}
 use Rattle.form.specs.Codes.{Numbering, nameNumber}
@@ -25,8 +26,11 @@ use Rattle.names.proofs.PassedTypes.{TypeIn}
 use Rattle.names.proofs.PassedDeclared.{TypedIn, no-typed, one-typed}
 use Rattle.names.proofs.PassedOperations.{OperationsIn, no-operations, one-operation}
 use Rattle.names.proofs.Passed.{DossierIn}
+use Rattle.contexts.specs.Spans.{Structured}
 use Rattle.limits.specs.Inner.{Bounds}
-use Rattle.limits.specs.Passes.{shownSizes, contextOver, leastOver}
+use Rattle.limits.specs.Fit.{DeclaredFit}
+use Rattle.limits.specs.Passes as near
+use Rattle.limits.specs.Passes.{shownSizes, contextOver, leastOver, EndsNear, TypesNear, OperationsNear, DeclaredNear, MeasuresSeen}
 use Rattle.limits.proofs.MeasuredScope.{SizesShown, sizeFound, sizeOfName}
 use Rattle.limits.proofs.MeasuredWidths.{pred-steady}
 use Rattle.limits.proofs.Measured.{measured-pred}
@@ -166,3 +170,42 @@ pub measures-least : (ρ : Numbering) (P : Letters → Type 0) → Numbered ρ P
     → leastOver (contexts d) ρ n ≡ leastKey (sizeFaults d)
 unfolding sizeFaults
 measures-least ρ P ν d h n l = contexts-least ρ P ν n l (contexts-in d h)
+
+-- ---- the ends of declared ranges are a text's ----
+
+head-type : {P : Letters → Type 0} {x : Typed} {xs : List Typed} → TypedIn P (x ∷ xs) → TypeIn P (x .type)
+head-type (one-typed p t h) = t
+
+type-near : (P : Letters → Type 0) (t : TypeForm) → TypeIn P t → EndsNear t
+type-near P (givenType g) h = tt
+type-near P (powerType g) h = tt
+type-near P (rangeType r) h = h
+type-near P (arrowType a g k) h = tt
+
+declared-near : {P : Letters → Type 0} (ds : List Declaration) → TypedIn P (variablesOf noEnding ds) → TypesNear ds
+unfolding variablesOf
+declared-near [] h = near.no-types
+declared-near {P} (d ∷ ds) h = near.one-type (type-near P (d .type) (head-type h)) (declared-near ds (tail-in h))
+
+parameters-near : {P : Letters → Type 0} (xs : List Parameter) → TypedIn P (parametersOf xs) → TypesNear (map (λ (x : Parameter). x .declaration) xs)
+unfolding parametersOf
+parameters-near [] h = near.no-types
+parameters-near {P} (x ∷ xs) h = near.one-type (type-near P (x .declaration .type) (head-type h)) (parameters-near xs (tail-in h))
+
+operations-near : {P : Letters → Type 0} {os : List Operation} → OperationsIn P os → OperationsNear os
+operations-near no-operations = near.no-operations
+operations-near (one-operation {o = o} p t a c k) = near.one-operation (parameters-near (o .parameters) t) (operations-near k)
+
+-- what `measures` asks for beside the fit
+pub dossier-near : (P : Letters → Type 0) (d : Dossier) → DossierIn P d → DeclaredNear d
+dossier-near P d h =
+    record {
+      abstracts = declared-near (declarations (d .abstract)) (h .abstract-in);
+      concretes = declared-near (declarations (d .concrete)) (h .concrete-in);
+      parameters = operations-near (h .operations-in);
+    }
+
+-- the fault that `measures` finds is the least of the definitions' list
+pub measures-fault : (nodes spans : List ℕ) (m n r : ℕ) → MeasuresSeen nodes spans m n r → (ρ : Numbering) (P : Letters → Type 0) → Numbered ρ P → (d : Dossier) → DossierIn P d
+    → Structured nodes spans m d ρ → DeclaredFit d → 16384 ≤ n → r ≡ leastKey (sizeFaults d)
+measures-fault nodes spans m n r h ρ P ν d i s f l = h d ρ s f (dossier-near P d i) ∙ measures-least ρ P ν d i n l

@@ -112,10 +112,11 @@ operations-seen nodes spans n a c k f S U w h =
 pub operations-more : (nodes spans : List ℕ) (n : ℕ) (a c : List ℕ) (k f g h : ℕ) (S T U : Bounds) → OperationSeen nodes spans k a c T U g → h ≡ lesser f g → k < n
     → (Clear S → (T ≡ S) × OperationsOn nodes spans n a c (length S) k f) → Clear S → (U ≡ S) × OperationsOn nodes spans n a c (length S) (k + 1) h
 operations-more nodes spans n a c k f g h S T U seen e below w l =
-    let t = clear-on S T (w l .0) l in
-    (seen .kept t ∙ w l .0,
-    subst (λ (m : ℕ). OperationsOn nodes spans n a c m (k + 1) h) (ap length (w l .0))
-    (operations-on nodes spans n a c k f g h T U t seen e below (subst (λ (m : ℕ). OperationsOn nodes spans n a c m k f) (sym (ap length (w l .0))) (w l .1))))
+    let t = clear-on S T (w l .0) l in (
+      seen .kept t ∙ w l .0,
+      subst (λ (m : ℕ). OperationsOn nodes spans n a c m (k + 1) h) (ap length (w l .0))
+          (operations-on nodes spans n a c k f g h T U t seen e below (subst (λ (m : ℕ). OperationsOn nodes spans n a c m k f) (sym (ap length (w l .0))) (w l .1))),
+    )
 
 -- ---- how many operations the spans have room for ----
 
@@ -172,13 +173,13 @@ measures-seen nodes spans a c n x₁ y₁ x₂ y₂ S S₁ S₂ S₃ S₄ f g h 
     let k₃ : S₃ ≡ S₁ = B .kept l₂ ∙ k₂ in
     let l₃ = clear-on S₁ S₃ k₃ l₁ in
     let y : Ready nodes spans n a c d ρ =
-        record {
-          structured = s;
-          fit = t;
-          near = u;
-          abstracts = part-stands nodes x₁ y₁ _ _ a _ p₁ q₁ w₁ (s .abstract .variables);
-          concretes = part-stands nodes x₂ y₂ _ _ c _ p₂ q₂ w₂ (s .concrete .variables);
-        } in
+    record {
+      structured = s;
+      fit = t;
+      near = u;
+      abstracts = part-stands nodes x₁ y₁ _ _ a _ p₁ q₁ w₁ (s .abstract .variables);
+      concretes = part-stands nodes x₂ y₂ _ _ c _ p₂ q₂ w₂ (s .concrete .variables);
+    } in
     e
     ∙ ap₂ lesser (A .right d ρ l₁ y ∙ ap (statesOver d ρ) m₁)
     (ap₂ lesser (B .right d ρ l₂ y ∙ ap (conditionsOver d ρ) (ap length k₂ ∙ m₁)) (C .right d ρ l₃ y ∙ ap (λ (N : ℕ). operationsOver d ρ N) (ap length k₃ ∙ m₁)))

@@ -79,7 +79,14 @@ fn mark(code: &[u16], shift: usize, on: bool, bounds: &mut [u16])
 }
 
 // Three groups of variables, of which the second is shifted.
-fn mark_all(first: &[u16], second: &[u16], shift: usize, third: &[u16], on: bool, bounds: &mut [u16])
+fn mark_all(
+    first: &[u16],
+    second: &[u16],
+    shift: usize,
+    third: &[u16],
+    on: bool,
+    bounds: &mut [u16],
+)
     requires { ⌜ shift ≤ 1 ⌝ }
     ensures { λ r. ⌜ now (bounds .exit) ≡ marked on (now (first .entry)) (now (second .entry)) shift (now (third .entry)) (now (bounds .entry)) ⌝ }
 {
@@ -132,7 +139,14 @@ fn conditions(nodes: &[u16], spans: &[u16], a: &[u16], c: &[u16], bounds: &mut [
 }
 
 // The two predicates of the operation k: the variables of a state, the same primed, and the parameters.
-fn operation(nodes: &[u16], spans: &[u16], k: usize, a: &[u16], c: &[u16], bounds: &mut [u16]) -> u32
+fn operation(
+    nodes: &[u16],
+    spans: &[u16],
+    k: usize,
+    a: &[u16],
+    c: &[u16],
+    bounds: &mut [u16],
+) -> u32
     requires { ⌜ k ≤ 18 ⌝ }
     ensures { λ r. ⌜ OperationSeen (now (nodes .entry)) (now (spans .entry)) k (now (a .entry)) (now (c .entry)) (now (bounds .entry)) (now (bounds .exit)) r ⌝ }
 {
@@ -144,7 +158,14 @@ fn operation(nodes: &[u16], spans: &[u16], k: usize, a: &[u16], c: &[u16], bound
 }
 
 // The first n operations.
-fn operations(nodes: &[u16], spans: &[u16], n: usize, a: &[u16], c: &[u16], bounds: &mut [u16]) -> u32
+fn operations(
+    nodes: &[u16],
+    spans: &[u16],
+    n: usize,
+    a: &[u16],
+    c: &[u16],
+    bounds: &mut [u16],
+) -> u32
     requires { ⌜ (n ≤ 18) × (length (now spans) ≡ 80) ⌝ }
     ensures { λ r. ⌜ PartSeen (now (nodes .entry)) (now (spans .entry)) n (now (a .entry)) (now (c .entry)) operationsOver (now (bounds .entry)) (now (bounds .exit)) r ⌝ }
 {

@@ -40,7 +40,7 @@ fn operator_bound(o: u16, a: u64, b: u64) -> u64
 }
 
 // The absolute value of an end of a range, which stands with 1,000 added.
-fn absolute_of(a: u16) -> u64
+pub(crate) fn absolute_of(a: u16) -> u64
     ensures { λ r. ⌜ (r ≡ absolute a) × (r ≤ 65535) ⌝ }
 {
     if a < 1000 {
@@ -49,7 +49,7 @@ fn absolute_of(a: u16) -> u64
     (a - 1000) as u64
 }
 
-fn greater_of(a: u64, b: u64) -> u64
+pub(crate) fn greater_of(a: u64, b: u64) -> u64
     ensures { λ r. ⌜ r ≡ max a b ⌝ }
 {
     if a < b {

@@ -4,14 +4,15 @@ use mathlib.Core.Bool.{not}
 use mathlib.Core.List.{List, [], _∷_, _++_, map}
 use Prim.Native.Nat.{ℕ, suc, _+_}
 use lib.ListN.{length}
-use Rattle.symbols.specs.Lists.{any, concat}
+use Rattle.symbols.specs.Lists.{any}
 use Rattle.symbols.specs.Refusals.{Fault, fault, nameInUse, unless}
 use Rattle.form.specs.Tree.{Letters, Given, Declaration, declarations, Parameter, Operation, Dossier}
 use Rattle.form.specs.Written.{writeType}
 use Rattle.form.specs.Headings.{givensAt, abstractAt, concreteAt, operationsAt, operationLength}
 use Rattle.reader.specs.Carriers.{sameName}
-use Rattle.reader.specs.Scope.{givenNames, abstractTaken, concreteTaken, contexts}
-use Rattle.reader.specs.Names.{newName, typeFaults, declarationFaults, givenFaults, parameterName, parameterFaults, operationFaults, contextFaults, nameFaults}
+use Rattle.reader.specs.Scope.{givenNames, abstractTaken, concreteTaken}
+use Rattle.reader.specs.Names.{newName, typeFaults, declarationFaults, givenFaults, parameterName, parameterFaults, operationFaults, nameFaults}
+use Rattle.names.proofs.Faultless.{faultless}
 use Rattle.names.proofs.JudgedLeast.{append-nil-both}
 use Rattle.limits.specs.Fit.{TypesFit, no-types, one-type, OperationsFit, no-operations, one-operation, DeclaredFit}
 
@@ -43,34 +44,15 @@ operation-types gs xs i (o ∷ os) e =
     let b = append-nil-both (newName xs (o .title) (suc i)) (parameterFaults gs [] (i + 2) (o .parameters)) (a .0) in
     one-operation (parameter-types gs [] (i + 2) (o .parameters) (b .1)) (operation-types gs (o .title ∷ xs) (i + operationLength o) os (a .1))
 
--- the parts of the list of faults, in its order
-record Parts (d : Dossier) : Type 0 where
-  given-part : givenFaults [] (givensAt d) (d .givens) ≡ []
-  abstract-part : declarationFaults (d .givens) (givenNames (d .givens)) (suc (abstractAt d)) (declarations (d .abstract)) ≡ []
-  concrete-part : declarationFaults (d .givens) (abstractTaken d) (suc (concreteAt d)) (declarations (d .concrete)) ≡ []
-  operation-part : operationFaults (d .givens) (concreteTaken d) (operationsAt d) (d .operations) ≡ []
-
-parts : (d : Dossier) → nameFaults d ≡ [] → Parts d
-unfolding nameFaults
-parts d e =
-    let p = append-nil-both
-    (givenFaults [] (givensAt d) (d .givens) ++ declarationFaults (d .givens) (givenNames (d .givens)) (suc (abstractAt d)) (declarations (d .abstract))
-    ++ declarationFaults (d .givens) (abstractTaken d) (suc (concreteAt d)) (declarations (d .concrete)) ++ operationFaults (d .givens) (concreteTaken d) (operationsAt d) (d .operations))
-    (concat (map contextFaults (contexts d))) e in
-    let q = append-nil-both _ (operationFaults (d .givens) (concreteTaken d) (operationsAt d) (d .operations)) (p .0) in
-    let r = append-nil-both _ (declarationFaults (d .givens) (abstractTaken d) (suc (concreteAt d)) (declarations (d .concrete))) (q .0) in
-    let s = append-nil-both (givenFaults [] (givensAt d) (d .givens)) _ (r .0) in
-    record { given-part = s .0; abstract-part = s .1; concrete-part = r .1; operation-part = q .1 }
-
 pub declared-fit : (d : Dossier) → nameFaults d ≡ [] → DeclaredFit d
 declared-fit d e =
-    let p = parts d e in
+    let p = faultless d e in
     record {
-      abstracts = declared-types (d .givens) (givenNames (d .givens)) (suc (abstractAt d)) (declarations (d .abstract)) (p .abstract-part);
-      concretes = declared-types (d .givens) (abstractTaken d) (suc (concreteAt d)) (declarations (d .concrete)) (p .concrete-part);
-      parameters = operation-types (d .givens) (concreteTaken d) (operationsAt d) (d .operations) (p .operation-part);
+      abstracts = declared-types (d .givens) (givenNames (d .givens)) (suc (abstractAt d)) (declarations (d .abstract)) (p .abstract-new);
+      concretes = declared-types (d .givens) (abstractTaken d) (suc (concreteAt d)) (declarations (d .concrete)) (p .concrete-new);
+      parameters = operation-types (d .givens) (concreteTaken d) (operationsAt d) (d .operations) (p .operations-new);
     }
 
 -- nor a given set
 pub givens-fit : (d : Dossier) → nameFaults d ≡ [] → givenFaults [] (givensAt d) (d .givens) ≡ []
-givens-fit d e = parts d e .given-part
+givens-fit d e = faultless d e .givens-new

@@ -14,3 +14,8 @@ pub mod BindSpans
 pub mod Fitting
 pub mod BindFaults
 pub mod BindGivens
+pub mod MeasuredDossier
+pub mod Marking
+pub mod Reaching
+pub mod Measuring
+pub mod Operating

@@ -52,7 +52,7 @@ fn division_bound(b: u16, a: u16, t: u64) -> u64
 }
 
 // The absolute value of an end of a range, which stands with 1,000 added.
-fn absolute_of(a: u16) -> u64
+pub(crate) fn absolute_of(a: u16) -> u64
     ensures { λ r. ⌜ (r ≡ absolute a) × (r ≤ 65535) ⌝ }
 {
     if a < 1000 {
@@ -61,7 +61,7 @@ fn absolute_of(a: u16) -> u64
     (a - 1000) as u64
 }
 
-fn greater_of(a: u64, b: u64) -> u64
+pub(crate) fn greater_of(a: u64, b: u64) -> u64
     requires { ⌜ (a ≤ 65535) × (b ≤ 65535) ⌝ }
     ensures { λ r. ⌜ (r ≡ max a b) × (r ≤ 65535) ⌝ }
 {

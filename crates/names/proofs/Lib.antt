@@ -36,3 +36,4 @@ pub mod PassedReach
 pub mod PassedOperations
 pub mod PassedDossier
 pub mod Passed
+pub mod Faultless

@@ -13,7 +13,7 @@ use Rattle.form.specs.Tree.{Membership, isIn, notIn}
 use Rattle.form.specs.Written.{membershipKind}
 use Rattle.form.specs.Codes.{node}
 use Rattle.names.specs.Inner.{Sizes, entry, isGiven, isElement, isPairs, rangeFits, sizeIn}
-use Rattle.names.proofs.Numbers.{cond-yes, cond-no, given-bounds, element-bounds}
+use Rattle.names.proofs.Numbers.{cond-yes, cond-no}
 use Rattle.tables.specs.Table.{nextSlot, givenSize, elementSize, firstSize, secondSize, rangeCount, relatedShape, placed}
 use Rattle.tables.specs.Walks.{TruthOf}
 

@@ -14,3 +14,9 @@ pub mod Leaves
 pub mod WalkingTerms
 pub mod WalkingBraces
 pub mod WalkingPreds
+pub mod PlacingSlots
+pub mod PlacingDeclared
+pub mod PlacingGivens
+pub mod PlacingParameters
+pub mod PlacingStates
+pub mod PlacingContexts

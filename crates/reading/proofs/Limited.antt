@@ -27,7 +27,7 @@ use Rattle.limits.specs.Passes.{MeasuresSeen}
 use Rattle.limits.proofs.Fitting.{declared-fit}
 use Rattle.limits.proofs.BindGivens.{givens-shown}
 use Rattle.limits.proofs.MeasuredWidths.{pred-steady}
-use Rattle.limits.proofs.MeasuredDossier.{measures-least, declared-near}
+use Rattle.limits.proofs.MeasuredDossier.{dossier-near, measures-least}
 use Rattle.reading.specs.Occurring.{Occurs}
 use Rattle.reading.specs.Promises.{Stands, Finds}
 use Rattle.reading.proofs.Few.{forms-fewer, forms-few-operations}
@@ -82,5 +82,5 @@ pub sizes-found : (nodes spans₀ spans : List ℕ) (m k l r : ℕ) → Spanned 
 sizes-found nodes spans₀ spans m k l r spanned long seen text starts n d st e =
     let none-at = none-least (nameFaults d) e in
     let in-text = dossier-in text (st .scans) (st .forms) in
-    seen d (numbering text) (parted st spans₀ spans k spanned) (declared-fit d none-at) (declared-near d in-text)
+    seen d (numbering text) (parted st spans₀ spans k spanned) (declared-fit d none-at) (dossier-near (Occurs text) d in-text)
     ∙ measures-least (numbering text) (Occurs text) (letters-numbered text (st .scans)) d in-text l long

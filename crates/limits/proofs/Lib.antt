@@ -4,8 +4,8 @@ pub mod MeasuredWidths
 pub mod MeasuredParts
 pub mod Measured
 pub mod Counted
-pub mod MeasuredDossier
 pub mod Marking
 pub mod Reaching
+pub mod MeasuredDossier
 pub mod Measuring
 pub mod Operating

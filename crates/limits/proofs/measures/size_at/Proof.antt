@@ -48,7 +48,7 @@ cast-result : tie.Need-cast-result
 cast-result c = search needs
 
 returns-3 : tie.Need-returns-3
-returns-3 c = size-range (c .before .before .before .before .before .before .before .before .before .args .on) (c .before .before .before .before .before .before .before .before .before .args .code .now) (c .before .before .before .before .before .before .before .before .before .args .at) (c .before .before .before .absolute-of .result) (c .before .absolute-of2 .result) (c .greater-of .result) (not-false (c .before .before .before .before .before .before .before .before .before .args .on) (c .before .before .before .before .before .before .before .if1 .left)) (c .before .before .before .before .before .if2 .left) (c .before .before .before .absolute-of .ensures .0) (c .before .absolute-of2 .ensures .0) (c .greater-of .ensures)
+returns-3 c = size-range (c .before .before .before .before .before .before .before .before .before .args .on) (c .before .before .before .before .before .before .before .before .before .args .code .now) (c .before .before .before .before .before .before .before .before .before .args .at) (c .before .before .before .absolute-of .result) (c .before .absolute-of2 .result) (c .greater-of .result) (not-false (c .before .before .before .before .before .before .before .before .before .args .on) (c .before .before .before .before .before .before .before .if1 .left)) (c .before .before .before .before .before .if2 .left) (c .before .before .before .absolute-of .ensures .0) (c .before .absolute-of2 .ensures .0) (c .greater-of .ensures .0)
 
 pub size-at-spec : {M : Type 1} → statement M
 size-at-spec =

@@ -1,10 +1,10 @@
 -- The passes for bindings and sizes over the structure of a text: each finds the least of its faults, where that for names found none.
 use mathlib.Core.Path.{_≡_, refl, ap, _∙_, sym, subst}
 use mathlib.Core.List.{List, [], _∷_, map}
-use mathlib.Core.Option.{none, some}
-use Prim.Native.Nat.{ℕ, _≤_}
+use mathlib.Core.Option.{none}
+use Prim.Native.Nat.{ℕ, _≤_, _<_}
 use native.Mathlib.Omega.{arith}
-use lib.ListN.{length, replicate}
+use lib.ListN.{length, getD, replicate}
 use Rattle.symbols.specs.Refusals.{Fault, least}
 use Rattle.form.specs.Tree.{Dossier}
 use Rattle.form.specs.Headings.{givensAt}
@@ -17,7 +17,7 @@ use Rattle.reader.specs.Scope.{Context, contexts}
 use Rattle.reader.specs.Names.{nameFaults}
 use Rattle.reader.specs.Limits.{bindingFaults, contextSizes, sizeFaults}
 use Rattle.names.specs.Inner.{Names, Sizes, keyOf}
-use Rattle.names.specs.Passes.{givensKey}
+use Rattle.names.specs.Passes.{givensKey, givensNamed}
 use Rattle.names.specs.Parts.{PartOf, GivenSeen}
 use Rattle.names.proofs.JudgedLeast.{Small}
 use Rattle.contexts.specs.Spans.{Spanned, Structured}
@@ -29,7 +29,7 @@ use Rattle.limits.proofs.BindGivens.{givens-shown}
 use Rattle.limits.proofs.MeasuredWidths.{pred-steady}
 use Rattle.limits.proofs.MeasuredDossier.{dossier-near, measures-least}
 use Rattle.reading.specs.Occurring.{Occurs}
-use Rattle.reading.specs.Promises.{Stands, Finds}
+use Rattle.reading.specs.Promises.{Stands, Tabled, Finds}
 use Rattle.reading.proofs.Few.{forms-fewer, forms-few-operations}
 use Rattle.reading.proofs.Least.{letters-numbered, dossier-in, names-from-free}
 use Rattle.reading.proofs.Keys.{contexts-small}
@@ -63,19 +63,42 @@ module _ {text starts nodes : List ℕ} {n m : ℕ} {d : Dossier} (st : Stands t
       givens-none d (replicate l 0) (numbering text) (map sizeOf (d .givens))
       (names-from-free text (st .scans) (st .forms) l long (map sizeOf (d .givens)) (λ z k h. refl) ∙ ap keyOf e)
 
+-- the table of given sets
+module _ (nodes : List ℕ) (m : ℕ) (b : Bounds) (l : ℕ) (T : Names) (z : Sizes) (r : ℕ) (code : List ℕ) (s : Sectioned nodes m b) (part : PartOf nodes (b .givens) (b .abstracts) code)
+    (seen : GivenSeen code (replicate l 0) T z r) (long : 16384 ≤ l) {text starts : List ℕ} {n : ℕ} {d : Dossier} (st : Stands text starts nodes n m d)
+    (no-fault : least (nameFaults d) ≡ none) where
+  given-part : code ≡ givenCodes (givensAt d) (d .givens) (numbering text)
+  given-part =
+      let at = sectioned-placed nodes m d (numbering text) (st .inside) (st .nodes-are) b s in
+      let o = at .ordered in
+      let i = at .inside in
+      part (omega arith) (omega arith) ∙ at .givenPart
+
+  none-seen : r ≡ 0
+  none-seen = seen .right (d .givens) (givensAt d) (numbering text) given-part (forms-fewer (st .forms)) ∙ givens-right st l long no-fault
+
+  table-named : T ≡ givensNamed (d .givens) 0 (replicate l 0) (numbering text)
+  table-named = seen .named (d .givens) (givensAt d) (numbering text) given-part (forms-fewer (st .forms)) none-seen
+
+  table-sized : (k : ℕ) → k < length (d .givens) → getD z k 0 ≡ getD (map sizeOf (d .givens)) k 0
+  table-sized = seen .sized (d .givens) (givensAt d) (numbering text) given-part (forms-fewer (st .forms)) none-seen
+
+pub tabled : (nodes : List ℕ) (m : ℕ) (b : Bounds) (l : ℕ) (T : Names) (z : Sizes) (r : ℕ) (code : List ℕ) → Sectioned nodes m b
+    → PartOf nodes (b .givens) (b .abstracts) code → GivenSeen code (replicate l 0) T z r → Tabled nodes m l T z
+tabled nodes m b l T z r code s part seen =
+    record {
+      named = λ long text starts n d st e. table-named nodes m b l T z r code s part seen long st e;
+      sized = λ long text starts n d st e. table-sized nodes m b l T z r code s part seen long st e;
+    }
+
 -- 12
-pub bindings-found : (nodes spans₀ spans code : List ℕ) (m k l : ℕ) (b : Bounds) (T : Names) (z : Sizes) (q r : ℕ) → Sectioned nodes m b → Spanned nodes m spans₀ spans k
-    → PartOf nodes (b .givens) (b .abstracts) code → GivenSeen code (replicate l 0) T z q → 16384 ≤ l → BindingsSeen nodes spans k T z r → Finds bindingFaults nodes m r
-bindings-found nodes spans₀ spans code m k l b T z q r sectioned spanned part given long seen text starts n d st e =
-    let at = sectioned-placed nodes m d (numbering text) (st .inside) (st .nodes-are) b sectioned in
-    let few = forms-fewer (st .forms) in
-    let is : code ≡ givenCodes (givensAt d) (d .givens) (numbering text) =
-        part (at .ordered .0) (omega (arith, at .inside, at .ordered .1, at .ordered .2, at .ordered .3, at .ordered .4)) ∙ at .givenPart in
-    let zero : q ≡ 0 = given .right (d .givens) (givensAt d) (numbering text) is few ∙ givens-right st l long e in
+pub bindings-found : (nodes spans₀ spans : List ℕ) (m k l : ℕ) (T : Names) (z : Sizes) (r : ℕ) → Tabled nodes m l T z → 16384 ≤ l → Spanned nodes m spans₀ spans k
+    → BindingsSeen nodes spans k T z r → Finds bindingFaults nodes m r
+bindings-found nodes spans₀ spans m k l T z r table long spanned seen text starts n d st e =
     let none-at = none-least (nameFaults d) e in
     seen d (numbering text) (parted st spans₀ spans k spanned) (declared-fit d none-at)
-    (givens-shown (numbering text) (Occurs text) (letters-numbered text (st .scans)) d (dossier-in text (st .scans) (st .forms)) none-at (few .sets) l long T
-    (given .named (d .givens) (givensAt d) (numbering text) is few zero) z (given .sized (d .givens) (givensAt d) (numbering text) is few zero))
+    (givens-shown (numbering text) (Occurs text) (letters-numbered text (st .scans)) d (dossier-in text (st .scans) (st .forms)) none-at (forms-fewer (st .forms) .sets) l long T
+    (table .named long text starts n d st e) z (table .sized long text starts n d st e))
 
 -- 13
 pub sizes-found : (nodes spans₀ spans : List ℕ) (m k l r : ℕ) → Spanned nodes m spans₀ spans k → 16384 ≤ l → MeasuresSeen nodes spans k l r → Finds sizeFaults nodes m r

@@ -3,7 +3,7 @@ use mathlib.Core.Path.{_≡_}
 use mathlib.Core.List.{List, map}
 use mathlib.Core.Option.{none}
 use Prim.Native.Nat.{ℕ, _≤_, _<_}
-use lib.ListN.{length, take, getD}
+use lib.ListN.{length, take, getD, replicate}
 use Rattle.symbols.specs.Symbols.{scan, symbols}
 use Rattle.symbols.specs.Refusals.{Fault, numberOf, least}
 use Rattle.symbols.specs.Promises.{Scans}
@@ -17,7 +17,8 @@ use Rattle.reader.specs.Carriers.{sizeOf}
 use Rattle.reader.specs.Names.{nameFaults}
 use Rattle.reader.specs.Read as definition
 use Rattle.reader.specs.Read.{refusal, reading, readNames, read}
-use Rattle.names.specs.Inner.{Sizes, key, keyOf}
+use Rattle.names.specs.Inner.{Names, Sizes, key, keyOf}
+use Rattle.names.specs.Passes.{givensNamed}
 use Rattle.reading.specs.declared.Reading.{Reading}
 use Rattle.reading.specs.declared.Reading.the-variants.{Read, Refused}
 
@@ -50,6 +51,13 @@ pub record Stands (text starts nodes : List ℕ) (n m : ℕ) (d : Dossier) : Typ
 pub record Named (nodes : List ℕ) (m : ℕ) (z : Sizes) (r : ℕ) : Type 0 where
   pub least : (text starts : List ℕ) (n : ℕ) (d : Dossier) → Stands text starts nodes n m d → r ≡ keyOf (least (nameFaults d))
   pub sized : (text starts : List ℕ) (n : ℕ) (d : Dossier) → Stands text starts nodes n m d → r ≡ 0
+      → (k : ℕ) → k < length (d .givens) → getD z k 0 ≡ getD (map sizeOf (d .givens)) k 0
+
+-- the given sets by name, in a table of l names, and their sizes; for the passes behind that for names
+pub record Tabled (nodes : List ℕ) (m l : ℕ) (T : Names) (z : Sizes) : Type 0 where
+  pub named : 16384 ≤ l → (text starts : List ℕ) (n : ℕ) (d : Dossier) → Stands text starts nodes n m d → least (nameFaults d) ≡ none
+      → T ≡ givensNamed (d .givens) 0 (replicate l 0) (numbering text)
+  pub sized : 16384 ≤ l → (text starts : List ℕ) (n : ℕ) (d : Dossier) → Stands text starts nodes n m d → least (nameFaults d) ≡ none
       → (k : ℕ) → k < length (d .givens) → getD z k 0 ≡ getD (map sizeOf (d .givens)) k 0
 
 -- a pass behind that for names finds the least of its faults, where that one found none

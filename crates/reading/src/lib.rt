@@ -3,7 +3,7 @@ ghost use Prim.Native.Nat.{_≤_};
 ghost use mathlib.Core.Path.{_≡_};
 ghost use lib.ListN.{length, take, getD};
 ghost use Rattle.reader.specs.Limits.{bindingFaults, sizeFaults};
-ghost use Rattle.reading.specs.Promises.{Reads, Named, Finds, Refuses, Checks};
+ghost use Rattle.reading.specs.Promises.{Reads, Named, Tabled, Finds, Refuses, Checks};
 use contexts::spans;
 use limits::bindings::bindings;
 use limits::measures::measures;
@@ -77,6 +77,14 @@ fn names_key(nodes: &[u16], m: usize, sizes: &mut [u16; 8]) -> u32
     )
 }
 
+// The given sets by name, and their sizes.
+fn given_table(nodes: &[u16], m: usize, names: &mut [u16], sizes: &mut [u16; 8])
+    ensures { λ _. ⌜ Tabled (now (nodes .entry)) m (length (now (names .entry))) (now (names .exit)) (now (sizes .exit)) ⌝ }
+{
+    let at = sections(nodes, m);
+    given_sets(part(nodes, at.givens, at.abstracts), names, sizes);
+}
+
 // Number 12, where names have no fault.
 fn bindings_key(nodes: &[u16], m: usize) -> u32
     ensures { λ r. ⌜ Finds bindingFaults (now (nodes .entry)) m r ⌝ }
@@ -84,10 +92,8 @@ fn bindings_key(nodes: &[u16], m: usize) -> u32
     let mut names = [0u16; 16384];
     let mut sizes = [0u16; 8];
     let mut places = [0u16; 80];
-    let at = sections(nodes, m);
+    given_table(nodes, m, &mut names, &mut sizes);
     let k = spans(nodes, m, &mut places);
-    let code = part(nodes, at.givens, at.abstracts);
-    given_sets(code, &mut names, &mut sizes);
     bindings(nodes, &places, k, &names, &sizes)
 }
 

@@ -4,20 +4,14 @@ use Rattle.reading.proofs.Limited.{bindings-found}
 use Rattle.reading.proofs.bindings_key.Statement.{statement}
 use Rattle.reading.proofs.bindings_key.Tie as tie
 
-sections-requires : tie.Need-sections-requires
-sections-requires c κs = search needs
+slice-aggregate-given-table : tie.Need-slice-aggregate-given-table
+slice-aggregate-given-table c = search needs
+
+given-table-requires : tie.Need-given-table-requires
+given-table-requires c κs = search needs
 
 spans-requires : tie.Need-spans-requires
 spans-requires c κs = search needs
-
-part-requires : tie.Need-part-requires
-part-requires c κs = search needs
-
-slice-aggregate-given-sets : tie.Need-slice-aggregate-given-sets
-slice-aggregate-given-sets c = search needs
-
-given-sets-requires : tie.Need-given-sets-requires
-given-sets-requires c κs = search needs
 
 slice-aggregate-bindings : tie.Need-slice-aggregate-bindings
 slice-aggregate-bindings c = search needs
@@ -26,9 +20,8 @@ bindings-requires : tie.Need-bindings-requires
 bindings-requires c κs = search needs
 
 returns : tie.Need-returns
-returns c = bindings-found _ _ _ _ _ _ _ _ _ _ _ _ (c .before .before .before .before .before .before .before .before .before .before .before .sections .ensures) (c .before .before .before .before .before .before .before .before .before .spans .ensures) (c .before .before .before .before .before .before .before .before .part .ensures) (c .before .before .before .before .before .given-sets .ensures) (search needs) (c .bindings .ensures)
+returns c = bindings-found _ _ _ _ _ _ _ _ _ (c .before .before .before .before .before .before .before .given-table .ensures) (search needs) (c .before .before .before .before .spans .ensures) (c .bindings .ensures)
 
 pub bindings-key-spec : {M : Type 1} → statement M
 bindings-key-spec =
-    tie.close (tie.spec sections-requires spans-requires part-requires slice-aggregate-given-sets given-sets-requires slice-aggregate-bindings bindings-requires
-    returns)
+    tie.close (tie.spec slice-aggregate-given-table given-table-requires spans-requires slice-aggregate-bindings bindings-requires returns)

@@ -1,9 +1,6 @@
 -- `nodes::set_node` meets its contract. Assumes nothing.
-use Prim.Native.Nat.{_<_, _+_}
-use lib.Seq.{lt-length-set}
 use borrow.Author.Needs.{needs}
-use native.Mathlib.Omega.{arith}
-use lib.ListN.{length}
+use Rattle.tables.proofs.Leaves.{in-second, in-third, in-fourth}
 use Rattle.tables.proofs.Patching.{four-stores}
 use Rattle.tables.proofs.nodes.set_node.Statement.{statement}
 use Rattle.tables.proofs.nodes.set_node.Tie as tie
@@ -21,7 +18,7 @@ mul-out-2 : tie.Need-mul-out-2
 mul-out-2 c = search needs
 
 slice-write-out-2 : tie.Need-slice-write-out-2
-slice-write-out-2 c = lt-length-set _ _ _ (let room = c .pre .0 in let p : (c .args .at) + 1 < length (c .args .out .now) = omega arith in p)
+slice-write-out-2 c = in-second (c .args .out .now) (c .args .at) (c .args .b) (c .pre .0)
 
 add-out-2 : tie.Need-add-out-2
 add-out-2 c = search needs
@@ -30,7 +27,7 @@ mul-out-3 : tie.Need-mul-out-3
 mul-out-3 c = search needs
 
 slice-write-out-3 : tie.Need-slice-write-out-3
-slice-write-out-3 c = lt-length-set _ _ _ (lt-length-set _ _ _ (let room = c .pre .0 in let p : (c .args .at) + 2 < length (c .args .out .now) = omega arith in p))
+slice-write-out-3 c = in-third (c .args .out .now) (c .args .at) (c .args .b) (c .args .a) (c .pre .0)
 
 add-out-3 : tie.Need-add-out-3
 add-out-3 c = search needs
@@ -39,7 +36,7 @@ mul-out-4 : tie.Need-mul-out-4
 mul-out-4 c = search needs
 
 slice-write-out-4 : tie.Need-slice-write-out-4
-slice-write-out-4 c = lt-length-set _ _ _ (lt-length-set _ _ _ (lt-length-set _ _ _ (let room = c .pre .0 in let p : (c .args .at) + 3 < length (c .args .out .now) = omega arith in p)))
+slice-write-out-4 c = in-fourth (c .args .out .now) (c .args .at) (c .args .b) (c .args .a) (c .args .i) (c .pre .0)
 
 same-length : tie.Need-same-length
 same-length c = search needs

@@ -22,7 +22,7 @@ sub-loop : tie.Need-sub-loop Inv-loop μ-loop
 sub-loop c = search needs
 
 place-element-requires : tie.Need-place-element-requires Inv-loop μ-loop
-place-element-requires c κs = let b = c .before .before .loop .inv .1 .1 .0 in let a = c .before .before .loop .inv .1 .0 in let r = c .before .before .before .before .before .pre in (omega arith, (omega arith, omega arith))
+place-element-requires c κs = let b = c .before .before .loop .inv .1 .1 .0 in let a = c .before .before .loop .inv .1 .0 in let r = c .before .before .before .before .before .pre in (omega arith, omega arith, omega arith)
 
 add-at : tie.Need-add-at Inv-loop μ-loop
 add-at c = search needs

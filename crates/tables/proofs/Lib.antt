@@ -1,7 +1,13 @@
--- The walk that writes the table.
+-- The table by numbers is the table by the definitions.
+pub mod ResolvingTypes
+pub mod ResolvingSizes
+pub mod ResolvingScope
+pub mod ResolvingParts
+pub mod Resolving
+pub mod ResolvingLength
+-- The walk that writes the table: pieces of the table, and what each shape of node writes.
 pub mod Patching
+pub mod Making
+pub mod Walking
 pub mod Leaves
-pub mod WritingPlaces
-pub mod WritingTypes
-pub mod WritingContexts
-pub mod WritingAll
+pub mod WalkingTerms

@@ -2,19 +2,20 @@
 use mathlib.Core.Path.{_≡_, refl, sym, ap, _∙_}
 use mathlib.Core.Bool.{Bool, true, false, cond}
 use mathlib.Core.List.{List}
-use Prim.Native.Nat.{ℕ, _+_, _-_, _/_, _%_, _≤_, _<_}
+use Prim.Native.Nat.{ℕ, _+_, _-_, _*_, _/_, _%_, _≤_, _<_}
 use native.Mathlib.Omega.{arith}
 use lib.Dec.{leb, ltb}
+use lib.ListN.{length, set, length-set}
 use borrow.Author.Tests.{le-leb, lt-leb, lt-ltb, le-ltb, leb-true, ltb-true}
 use Rattle.symbols.proofs.Tests.{and-left, and-right}
-use Rattle.symbols.specs.Kinds as kind
 use Rattle.symbols.specs.Kinds.{codeOf}
 use Rattle.form.specs.Tree.{Membership, isIn, notIn}
 use Rattle.form.specs.Written.{membershipKind}
 use Rattle.form.specs.Codes.{node}
 use Rattle.names.specs.Inner.{Sizes, entry, isGiven, isElement, isPairs, rangeFits, sizeIn}
-use Rattle.names.proofs.Numbers.{cond-yes, cond-no, given-bounds, element-bounds}
+use Rattle.names.proofs.Numbers.{cond-yes, cond-no}
 use Rattle.tables.specs.Table.{nextSlot, givenSize, elementSize, firstSize, secondSize, rangeCount, relatedShape, placed}
+use Rattle.tables.specs.Walks.{TruthOf}
 
 pub slot-next : (s : ℕ) → s < 63 → s + 1 ≡ nextSlot s
 unfolding nextSlot
@@ -94,10 +95,39 @@ unfolding codeOf
 shape-notin o h isIn e = absurd (h (sym e))
 shape-notin o h notIn e = refl
 
-pub truth-yes : (o : ℕ) → o ≡ 48 → (codeOf kind.TRUE ≡ o → 1 ≡ 1) × (codeOf kind.FALSE ≡ o → 1 ≡ 0)
+pub truth-yes : (o : ℕ) → o ≡ 48 → TruthOf o 1
 unfolding codeOf
 truth-yes o h = (λ e. refl, λ e. absurd (omega arith))
 
-pub truth-no : (o : ℕ) → (o ≡ 48 → ⊥) → (codeOf kind.TRUE ≡ o → 0 ≡ 1) × (codeOf kind.FALSE ≡ o → 0 ≡ 0)
+pub truth-no : (o : ℕ) → (o ≡ 48 → ⊥) → TruthOf o 0
 unfolding codeOf
 truth-no o h = (λ e. absurd (h (sym e)), λ e. refl)
+
+-- the places of a node's second, third and fourth numbers, after the stores before
+pub in-second : (out : List ℕ) (at b : ℕ) → at + 4 ≤ length out → at + 1 < length (set out at b)
+in-second out at b h = let n = length-set out at b in omega arith
+
+pub in-third : (out : List ℕ) (at b a : ℕ) → at + 4 ≤ length out → at + 2 < length (set (set out at b) (at + 1) a)
+in-third out at b a h = let n = length-set (set out at b) (at + 1) a in let m = length-set out at b in omega arith
+
+pub in-fourth : (out : List ℕ) (at b a i : ℕ) → at + 4 ≤ length out → at + 3 < length (set (set (set out at b) (at + 1) a) (at + 2) i)
+in-fourth out at b a i h =
+    let k = length-set (set (set out at b) (at + 1) a) (at + 2) i in
+    let n = length-set (set out at b) (at + 1) a in
+    let m = length-set out at b in
+    omega arith
+
+-- a place before e is a number of the table; the node that ends at e is inside, whatever calls kept the length
+pub start-small : {x e c o : ℕ} → x ≤ e - 4 → e ≤ c → c ≤ o → o ≤ 16384 → x < 65536
+start-small h p q m = omega arith
+
+pub node-room : {e c o n : ℕ} → 4 ≤ e → e ≤ c → c ≤ o → o ≤ 16384 → n ≡ o → (e - 4 + 4 ≤ n) × (n ≤ 16384)
+node-room far p q m h = (omega arith, omega arith)
+
+-- what a call for a part before e asks: the measure t of its caller falls, and there is room
+pub call-room : {x e c o n t : ℕ} → 3 * e ≡ t → 4 ≤ e → x ≤ e - 4 → e ≤ c → c ≤ o → o ≤ 16384 → n ≡ o
+    → (3 * x + 1 < t) × ((x ≤ c) × (c ≤ n) × (n ≤ 16384))
+call-room tq far h p q m nq = (omega arith, (omega arith, omega arith, omega arith))
+
+pub before-before : {x y e : ℕ} → x ≤ y → y ≤ e → x ≤ e
+before-before h p = omega arith

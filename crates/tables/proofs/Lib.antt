@@ -11,3 +11,10 @@ pub mod Making
 pub mod Walking
 pub mod Leaves
 pub mod WalkingTerms
+pub mod WalkingBraces
+pub mod WalkingPreds
+-- The whole table: places, carriers, and each predicate with the names in its reach.
+pub mod WritingPlaces
+pub mod WritingTypes
+pub mod WritingContexts
+pub mod WritingAll

@@ -1,8 +1,7 @@
 -- What the walk promises of every tree that ends in a node of one shape, from what holds of the trees of one constructor.
 use mathlib.Core.Path.{_≡_, refl, sym, _∙_, subst}
-use mathlib.Core.Bool.{true, false, cond}
 use mathlib.Core.List.{List, [], _++_}
-use Prim.Native.Nat.{ℕ, suc, _+_, _-_, _≤_, _<_}
+use Prim.Native.Nat.{ℕ, _+_, _-_, _≤_, _<_}
 use native.Mathlib.Omega.{arith}
 use lib.ListN.{length, take, getD}
 use Rattle.form.specs.Tree.{Term, Pred}
@@ -33,15 +32,15 @@ no-term : (code : List ℕ) (e : ℕ) (l : e ≤ length code) → (1 ≤ getD co
     → (t : Term) (i : ℕ) (ρ : Numbering) (base : List ℕ) → take e code ≡ base ++ termCodes t i ρ → ⊥
 unfolding aKind
 no-term code e l n t i ρ base y =
-    let a : 0 ≡ termKind t [] ρ = term-rest code e l [] [] (aKind 0) refl n .right t i ρ base y .kindIs in
-    let b : 1 ≡ termKind t [] ρ = term-rest code e l [] [] (aKind 1) refl n .right t i ρ base y .kindIs in
-    let c : 0 ≡ 1 = a ∙ sym b in
+    let a : _≡_ {A = ℕ} 0 (termKind t [] ρ) = term-rest code e l [] [] (aKind 0) refl n .right t i ρ base y .kindIs in
+    let b : _≡_ {A = ℕ} 1 (termKind t [] ρ) = term-rest code e l [] [] (aKind 1) refl n .right t i ρ base y .kindIs in
+    let c : _≡_ {A = ℕ} 0 1 = a ∙ sym b in
     absurd (omega arith)
 
 no-pred : (code : List ℕ) (e : ℕ) (l : e ≤ length code) → (1 ≤ getD code (e - 4 + 3) 0 → getD code (e - 4 + 3) 0 ≤ 8 → ⊥)
     → (p : Pred) (i : ℕ) (ρ : Numbering) (base : List ℕ) → take e code ≡ base ++ predCodes p i ρ → ⊥
 unfolding aKind
-no-pred code e l n p i ρ base y = let b : 1 ≡ 0 = pred-rest code e l [] [] (aKind 1) refl n .right p i ρ base y .kindIs in absurd (omega arith)
+no-pred code e l n p i ρ base y = let b : _≡_ {A = ℕ} 1 0 = pred-rest code e l [] [] (aKind 1) refl n .right p i ρ base y .kindIs in absurd (omega arith)
 
 -- a promise from names and places that are those of before
 module _ (code : List ℕ) (e s : ℕ) (T U U′ : Names) (W Y Y′ : Places) (z : Sizes) (o o′ : List ℕ) (v : Made) where

@@ -3,19 +3,19 @@ use mathlib.Core.Path.{_≡_, refl, sym, ap, ap₂, _∙_}
 use mathlib.Core.List.{List, _++_}
 use Prim.Native.Nat.{ℕ, suc, _+_, _-_, _≤_}
 use native.Mathlib.Omega.{arith}
-use lib.ListN.{length, take, getD, set}
+use lib.ListN.{length, getD, set}
 use Rattle.symbols.specs.Kinds.{codeOf}
 use Rattle.symbols.specs.Symbols.{noEnding}
-use Rattle.form.specs.Tree.{givenSet, Items, only, also, Pairs, onlyPair, alsoPair}
+use Rattle.form.specs.Tree.{givenSet}
 use Rattle.form.specs.Written.{prefixKind, operatorKind}
-use Rattle.form.specs.Codes.{node, Numbering, nameNumber, numberOfName, signOf, divisionNumber, termWidth, termCodes, itemsCodes, pairsCodes, predCodes}
-use Rattle.names.specs.Inner.{Names, Sizes, entry, elementOf, setOf, pairOf, prefixType, shared, domainKind, termKind, itemsKind, pairsKind, PrefixType}
-use Rattle.names.proofs.Backwards.{last-node, one-part, two-parts, three-parts, middle}
+use Rattle.form.specs.Codes.{node, nameNumber, numberOfName, signOf, divisionNumber, termWidth, termCodes, itemsCodes, pairsCodes, predCodes}
+use Rattle.names.specs.Inner.{Names, Sizes, entry, elementOf, setOf, pairOf, prefixType, domainKind, termKind, PrefixType}
+use Rattle.names.proofs.Backwards.{last-node, one-part, two-parts, middle}
 use Rattle.names.proofs.BackwardsTerms.{restored}
 use Rattle.tables.specs.declared.Made.{Made}
-use Rattle.tables.specs.Table.{Places, nextSlot, elementSize, firstSize, secondSize, placed, domainTable, termTable, itemsTable, pairsTable, predTable}
-use Rattle.tables.specs.Walks.{patch, Makes, Walked, DomainMade, TermMade, ItemsMade, PairsMade, PredMade}
-use Rattle.tables.proofs.Making.{Noded, noded-long, leaf-walked, one-walked, then-walked, leaf-made, one-made, two-made, three-made}
+use Rattle.tables.specs.Table.{Places, nextSlot, firstSize, secondSize, placed, domainTable, termTable}
+use Rattle.tables.specs.Walks.{patch, Walked, DomainMade, TermMade, ItemsMade, PairsMade, PredMade}
+use Rattle.tables.proofs.Making.{Noded, noded-long, leaf-walked, one-walked, then-walked, leaf-made, one-made, two-made}
 use Rattle.tables.proofs.Walking.{term-from, term-again, pred-again}
 
 -- a node by its three numbers

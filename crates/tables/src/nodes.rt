@@ -27,10 +27,7 @@ pub(crate) fn set_node(out: &mut [u16], at: usize, shape: u16, i: u16, a: u16, b
 pub(crate) fn nothing() -> Made
     ensures { λ r. ⌜ r .start ≡ 0 ⌝ }
 {
-    Made {
-        kind: 0,
-        start: 0,
-    }
+    Made { kind: 0, start: 0 }
 }
 
 // A place in the table, as a number of it.

@@ -5,6 +5,9 @@ pub mod ResolvingScope
 pub mod ResolvingParts
 pub mod Resolving
 pub mod ResolvingLength
+pub mod TabledShown
+pub mod TabledTypes
+pub mod Tabled
 -- The walk that writes the table: pieces of the table, and what each shape of node writes.
 pub mod Patching
 pub mod Making

@@ -1,1 +1,3 @@
--- Nothing yet.
+pub mod Structure
+pub mod Filling
+pub mod Located

@@ -76,8 +76,8 @@ pub record Structured (nodes spans : List ℕ) (n : ℕ) (d : Dossier) (ρ : Num
   pub retrieve : PredAt nodes (span spans 7) (span spans 8) (retrieveAt d + 2) (d .retrieve) ρ
   pub operations : OperationsAt nodes spans ρ 0 (operationsAt d) (d .operations)
 
--- what the function promises: for the nodes of a dossier of at most 16 operations
+-- what the function promises: for the nodes of a dossier of at most 16 operations, whose places are numbers of 16 bits
 pub record Spanned (nodes : List ℕ) (m : ℕ) (spans₀ spans : List ℕ) (r : ℕ) : Type 0 where
   pub few : r ≤ 16
-  pub exact : (d : Dossier) (ρ : Numbering) → m ≤ length nodes → take m nodes ≡ dossierCodes d ρ → length (d .operations) ≤ 16
+  pub exact : (d : Dossier) (ρ : Numbering) → m ≤ length nodes → take m nodes ≡ dossierCodes d ρ → length (d .operations) ≤ 16 → m ≤ 65535
       → (r ≡ length (d .operations)) × (spans ≡ spansOf d ρ ++ drop (length (spansOf d ρ)) spans₀)

@@ -26,3 +26,4 @@ pub mod ParseTrees
 pub mod ParseParts
 pub mod ParseDossier
 pub mod FormOf
+pub mod Lengths

@@ -12,7 +12,8 @@ use Rattle.form.specs.Codes.{Numbering, numberOfName, termWidth, predWidth}
 use Rattle.reader.specs.Carriers.{largest, plain}
 use Rattle.reader.specs.Names.{domainCarrier, domainLength}
 use Rattle.reader.specs.Limits.{Sizes, sizeTerm, sizePred}
-use Rattle.names.proofs.Showing.{Numbered, DomainIn, TermIn, ItemsIn, PairsIn, PredIn, leastKey}
+use Rattle.names.specs.Inner.{leastKey}
+use Rattle.names.proofs.Showing.{Numbered, DomainIn, TermIn, ItemsIn, PairsIn, PredIn}
 use Rattle.names.proofs.JudgedLeast.{least-nil}
 use Rattle.names.proofs.JudgedWidths.{domain-width}
 use Rattle.limits.specs.Inner.{Bounds, prefixBound, divisionBound, termBound, termOver, predOver}

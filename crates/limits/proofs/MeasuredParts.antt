@@ -9,8 +9,7 @@ use Rattle.form.specs.Tree.{End, Prefix, negate, size, dom, ran, Operator, plus
 use Rattle.form.specs.Tree.{Term, Items, Pairs, Pred}
 use Rattle.form.specs.Codes.{Numbering, termWidth, predWidth}
 use Rattle.reader.specs.Limits.{Sized, Sizes, operatorSize, prefixSize, divisionSize, sizeTerm, sizeItems, sizePairs, sizePred}
-use Rattle.names.specs.Inner.{lesser}
-use Rattle.names.proofs.Showing.{leastKey}
+use Rattle.names.specs.Inner.{lesser, leastKey}
 use Rattle.names.proofs.JudgedLeast.{two-parts, whole-least, small-append}
 use Rattle.limits.specs.Inner.{Bounds, prefixBound, operatorBound, divisionBound, termBound, termOver, itemsOver, pairsOver, predOver}
 use Rattle.limits.proofs.MeasuredWidths.{term-steady, items-steady, pairs-steady, pred-steady, term-next, pred-next}

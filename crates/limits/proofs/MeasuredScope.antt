@@ -19,8 +19,7 @@ use Rattle.reader.specs.Names.{domainCarrier}
 use Rattle.reader.specs.Limits.{Sizes}
 use Rattle.names.specs.Inner.{entry}
 use Rattle.names.proofs.Showing.{Numbered, DomainIn}
-use Rattle.names.proofs.JudgedTypes.{no-yes}
-use Rattle.names.proofs.JudgedScope.{find-here, find-there}
+use Rattle.names.proofs.JudgedScope.{find-here, find-there, apart, turned}
 use Rattle.limits.specs.Inner.{Bounds, absolute, domainBound}
 
 -- the size of a name that was looked up; nameSize of reader/specs/Limits, which is private there
@@ -46,17 +45,6 @@ module _ (ρ : Numbering) (P : Letters → Type 0) (ν : Numbered ρ P) (Γ : Si
   unfolding numberOfName
   this = getD-set-same S (numberOfName ρ x noEnding) n 0 (omega (arith, ν .small x px, s .long))
 
-  -- other letters have another number, whatever their endings
-  apart : (y : Letters) → P y → same y x ≡ false → ρ y ≡ ρ x → ⊥
-  apart y py h e = no-yes (sym h ∙ ap (same y) (sym (ν .own y x py px e)) ∙ same-refl y)
-
-  turned : (y : Letters) → same y x ≡ false → same x y ≡ false
-  turned y e = on (same x y) refl
-    where
-      on : (b : Bool) → same x y ≡ b → b ≡ false
-      on true h = no-yes (sym e ∙ ap (same y) (same-true x y h) ∙ same-refl y)
-      on false h = refl
-
   size-here : (y : Name) → sameName (plain x) y ≡ true → sizeOfName ((plain x, n) ∷ Γ) y ≡ n
   size-here y e = ap sizeFound (find-here (λ (z : Name × ℕ). sameName (z .0) y) (plain x, n) Γ e)
 
@@ -80,7 +68,7 @@ module _ (ρ : Numbering) (P : Letters → Type 0) (ν : Numbered ρ P) (Γ : Si
       on noEnding true q =
           subst (λ (l : Letters). entry (set S (numberOfName ρ x noEnding) n) (numberOfName ρ l noEnding) ≡ sizeOfName ((plain x, n) ∷ Γ) (plain l))
           (sym (same-true (y .letters) x q)) this-size
-      on noEnding false q = other-size (plain (y .letters)) py (turned (y .letters) q) (λ e. apart (y .letters) py q (omega arith))
+      on noEnding false q = other-size (plain (y .letters)) py (turned x (y .letters) q) (λ e. apart ρ P ν x (y .letters) px py q (omega arith))
       on prime b q = other-size (record { letters = y .letters; ending = prime }) py refl (omega arith)
       on query b q = other-size (record { letters = y .letters; ending = query }) py refl (omega arith)
       on shriek b q = other-size (record { letters = y .letters; ending = shriek }) py refl (omega arith)

@@ -1,14 +1,15 @@
 -- What the walk over the nodes promises of whatever tree they are the nodes of, by the numbers of Inner. Nothing here need be believed.
 use mathlib.Core.Path.{_≡_}
 use mathlib.Core.List.{List, _++_}
-use Prim.Native.Nat.{ℕ, _≤_}
+use mathlib.Core.Bool.{Bool}
+use Prim.Native.Nat.{ℕ, _+_, _≤_}
 use lib.ListN.{length, take}
 use Rattle.symbols.specs.Kinds.{codeOf}
-use Rattle.form.specs.Tree.{Prefix, Operator, Domain, Term, Items, Pairs, Pred}
+use Rattle.form.specs.Tree.{Prefix, Operator, Division, Domain, Term, Items, Pairs, Pred}
 use Rattle.form.specs.Written.{prefixKind, operatorKind}
-use Rattle.form.specs.Codes.{Numbering, domainCodes, termCodes, itemsCodes, pairsCodes, predCodes}
+use Rattle.form.specs.Codes.{Numbering, signOf, divisionNumber, domainCodes, termCodes, itemsCodes, pairsCodes, predCodes}
 use Rattle.names.specs.Inner.{lesser}
-use Rattle.limits.specs.Inner.{Bounds, prefixBound, operatorBound, domainBound, termBound, termOver, itemsOver, pairsOver, predOver}
+use Rattle.limits.specs.Inner.{Bounds, prefixBound, operatorBound, divisionBound, domainBound, termBound, termOver, itemsOver, pairsOver, predOver}
 use Rattle.limits.specs.declared.Sized.{Sized}
 
 -- the code tells prefixes and operators by their symbols' codes
@@ -17,6 +18,10 @@ PrefixBound o a r = (p : Prefix) → codeOf (prefixKind p) ≡ o → r ≡ prefi
 
 abbrev pub OperatorBound : (o a b r : ℕ) → Type 0
 OperatorBound o a b r = (p : Operator) → codeOf (operatorKind p) ≡ o → r ≡ operatorBound p a b
+
+-- the number of a division has its divisor's sign beside it
+abbrev pub DivisionBound : (o n a r : ℕ) → Type 0
+DivisionBound o n a r = (p : Division) (s : Bool) → signOf s + divisionNumber p ≡ o → r ≡ divisionBound p a n
 
 -- what was seen: the least fault f; the size n where there is none; where the nodes begin
 pub record Saw (r : Sized) (n f s : ℕ) : Type 0 where

@@ -18,7 +18,7 @@ use Rattle.names.specs.Parts.{DeclaredEnd, Fewer, GivenSeen, StateSeen, 
 use Rattle.names.proofs.Declaring.{inside-none, inside-some}
 use Rattle.names.proofs.Passing.{never-state, state-front, variables-codes, front, back}
 
-zeros-at : (n k : ℕ) → _≡_ {A = ℕ} (getD (replicate n 0) k 0) 0
+pub zeros-at : (n k : ℕ) → _≡_ {A = ℕ} (getD (replicate n 0) k 0) 0
 zeros-at zero k = refl
 zeros-at (suc n) zero = refl
 zeros-at (suc n) (suc k) = zeros-at n k

@@ -10,8 +10,8 @@ use Rattle.form.specs.Tree.{Pred, truth, falsity, negation, paren, quantified, 
 use Rattle.form.specs.Codes.{Numbering, numberOfName, termWidth, predWidth}
 use Rattle.reader.specs.Scope.{Scope, binding}
 use Rattle.reader.specs.Names.{domainCarrier, judgeTerm, judgePred}
-use Rattle.names.specs.Inner.{Names, Sizes, bound, domainKind, termKind, termKey, predKey}
-use Rattle.names.proofs.Showing.{Known, typeCode, Numbered, Shows, TermIn, ItemsIn, PairsIn, PredIn, leastKey}
+use Rattle.names.specs.Inner.{Names, Sizes, bound, domainKind, termKind, termKey, predKey, leastKey}
+use Rattle.names.proofs.Showing.{Known, typeCode, Numbered, Shows, TermIn, ItemsIn, PairsIn, PredIn}
 use Rattle.names.proofs.JudgedParts.{TermHolds, ItemsHold, PairsHold, PredHolds, term-next, pred-next}
 use Rattle.names.proofs.JudgedTerms as term
 use Rattle.names.proofs.JudgedPreds as pred

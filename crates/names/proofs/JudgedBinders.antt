@@ -16,8 +16,8 @@ use Rattle.reader.specs.Carriers.{Carrier, elementsOf, sizeOf, plain, givenOf}
 use Rattle.reader.specs.Types.{Ty, typeOf, pairsFit, pairsType}
 use Rattle.reader.specs.Scope.{Scope, isTaken, binding}
 use Rattle.reader.specs.Names.{Listing, inside, known, pairsFault, newName, domainCarrier, domainFaults, overFault, wholePairs, judgedPairs}
-use Rattle.names.specs.Inner.{Names, Sizes, entry, key, unlessKey, insideKey, lesser, isFree, isGiven, isPairs, elementOf, sizeIn, productFits, overKey, braceKey, domainKind, domainKey, bound}
-use Rattle.names.proofs.Showing.{indexOf, titled, knownNumber, knownElement, GivenIs, TypeIs, Numbered, Shows, DomainIn, leastKey}
+use Rattle.names.specs.Inner.{Names, Sizes, entry, key, unlessKey, insideKey, lesser, isFree, isGiven, isPairs, elementOf, sizeIn, productFits, overKey, braceKey, domainKind, domainKey, bound, leastKey}
+use Rattle.names.proofs.Showing.{indexOf, titled, knownNumber, knownElement, GivenIs, TypeIs, Numbered, Shows, DomainIn}
 use Rattle.names.proofs.JudgedLeast.{least-nil, one-fault, unless-least, two-parts, inside-least, append-nil-both, unless-nil, not-nil}
 use Rattle.names.proofs.JudgedWidths.{small-new, small-domain}
 use Rattle.names.proofs.JudgedRanges.{range-least}

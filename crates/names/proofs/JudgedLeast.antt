@@ -10,8 +10,7 @@ use borrow.Author.Tests.{eqb-true, eqb-false, ne-eqb, ltb-true, ltb-false, lt-lt
 use Rattle.symbols.specs.Refusals as faults
 use Rattle.symbols.specs.Refusals.{Refusal, Fault, fault, numberOf, before, least, unless}
 use Rattle.reader.specs.Names.{whole, inside}
-use Rattle.names.specs.Inner.{key, lesser, unlessKey, judgedKey, insideKey}
-use Rattle.names.proofs.Showing.{keyOf, leastKey}
+use Rattle.names.specs.Inner.{key, lesser, unlessKey, judgedKey, insideKey, keyOf, leastKey}
 
 -- every fault has a number below 16: keys compare as places and numbers do
 pub data Small : List Fault → Type 0 where

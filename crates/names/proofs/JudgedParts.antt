@@ -14,9 +14,9 @@ use Rattle.reader.specs.Types as ty
 use Rattle.reader.specs.Types.{Ty, has, typeOf, pairsFit, pairsType}
 use Rattle.reader.specs.Scope.{Scope}
 use Rattle.reader.specs.Names.{Judged, Listing, ofName, known, divisorFaults, overFault, wholePairs, judgeTerm, judgeItems, judgePairs, judgePred}
-use Rattle.names.specs.Inner.{Names, Sizes, key, unlessKey, inReach, elementOf, setOf, pairOf}
+use Rattle.names.specs.Inner.{Names, Sizes, key, unlessKey, inReach, elementOf, setOf, pairOf, leastKey}
 use Rattle.names.specs.Inner.{termKind, itemsKind, pairsKind, termKey, itemsKey, pairsKey, predKey}
-use Rattle.names.proofs.Showing.{indexOf, knownElement, knownPairs, TypeIs, leastKey}
+use Rattle.names.proofs.Showing.{indexOf, knownElement, knownPairs, TypeIs}
 use Rattle.names.proofs.JudgedLeast.{least-nil, one-fault, unless-least, not-nil}
 use Rattle.names.proofs.JudgedWidths.{term-width, pred-width, term-steady, pred-steady}
 use Rattle.names.proofs.JudgedTypes.{code-in-reach, set-type, pair-of}

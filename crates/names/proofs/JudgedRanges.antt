@@ -13,8 +13,8 @@ use Rattle.reader.specs.Carriers.{signed, endValue}
 use Rattle.reader.specs.Names as names
 use Rattle.reader.specs.Names.{rangeFaults}
 use Rattle.symbols.specs.Refusals.{numberOf, wideType}
-use Rattle.names.specs.Inner.{rangeFits, key, unlessKey}
-use Rattle.names.proofs.Showing.{RangeIn, leastKey}
+use Rattle.names.specs.Inner.{rangeFits, key, unlessKey, leastKey}
+use Rattle.names.proofs.Showing.{RangeIn}
 use Rattle.names.proofs.JudgedLeast.{unless-least}
 
 -- the number k stands for the integer z: it is z + 1,000

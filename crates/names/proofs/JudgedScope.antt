@@ -139,6 +139,17 @@ untitled (g ∷ gs) l e = on (same (g .title) l) refl (untitled gs l) e
 
 -- ---- binders ----
 
+-- other letters have another number, whatever their endings
+pub apart : (ρ : Numbering) (P : Letters → Type 0) → Numbered ρ P → (x y : Letters) → P x → P y → same y x ≡ false → ρ y ≡ ρ x → ⊥
+apart ρ P ν x y px py h e = no-yes (sym h ∙ ap (same y) (sym (ν .own y x py px e)) ∙ same-refl y)
+
+pub turned : (x y : Letters) → same y x ≡ false → same x y ≡ false
+turned x y e = on (same x y) refl
+  where
+    on : (b : Bool) → same x y ≡ b → b ≡ false
+    on true h = no-yes (sym e ∙ ap (same y) (same-true x y h) ∙ same-refl y)
+    on false h = refl
+
 module _ (ρ : Numbering) (P : Letters → Type 0) (ν : Numbered ρ P) (Γ : Scope) (T : Names) (z : Sizes) (s : Shows ρ P Γ T z)
     (x : Letters) (px : P x) (new : isTaken (Γ .taken) x ≡ false) (c : Carrier) (k : ℕ) (w : TypeIs (Γ .givens) (some (typeOf c)) k) where
   -- a name other than the bound one
@@ -148,10 +159,6 @@ module _ (ρ : Numbering) (P : Letters → Type 0) (ν : Numbered ρ P) (Γ : Sc
   this : entry (set T (numberOfName ρ x noEnding) k) (numberOfName ρ x noEnding) ≡ k
   unfolding numberOfName
   this = getD-set-same T (numberOfName ρ x noEnding) k 0 (omega (arith, ν .small x px, s .long))
-
-  -- other letters have another number, whatever their endings
-  apart : (y : Letters) → P y → same y x ≡ false → ρ y ≡ ρ x → ⊥
-  apart y py h e = no-yes (sym h ∙ ap (same y) (sym (ν .own y x py px e)) ∙ same-refl y)
 
   binding-uses : (y : Letters) → P y
       → isFree (entry (set T (numberOfName ρ x noEnding) k) (numberOfName ρ y noEnding)) ≡ not (isTaken (x ∷ Γ .taken) y)
@@ -163,7 +170,7 @@ module _ (ρ : Numbering) (P : Letters → Type 0) (ν : Numbered ρ P) (Γ : Sc
           ap (λ (l : Letters). isFree (entry (set T (numberOfName ρ x noEnding) k) (numberOfName ρ l noEnding))) (same-true y x e) ∙ ap isFree this
           ∙ ne-eqb k 0 (omega (arith, code-positive (Γ .givens) (s .few) (w .1), w .0)) ∙ sym (ap not (any-here (same y) x (Γ .taken) e))
       on false e =
-          ap isFree (other (plain y) (λ q. apart y py e (omega arith))) ∙ s .uses y py ∙ sym (ap not (any-there (same y) x (Γ .taken) e))
+          ap isFree (other (plain y) (λ q. apart ρ P ν x y px py e (omega arith))) ∙ s .uses y py ∙ sym (ap not (any-there (same y) x (Γ .taken) e))
 
   -- a name with another number is what it was
   other-given : (y : Name) → P (y .letters) → (nameNumber ρ y ≡ numberOfName ρ x noEnding → ⊥)
@@ -185,7 +192,7 @@ module _ (ρ : Numbering) (P : Letters → Type 0) (ν : Numbered ρ P) (Γ : Sc
       on noEnding true q =
           subst (λ (l : Letters). GivenIs (Γ .givens) (givenOf (Γ .givens) (plain l)) (entry (set T (numberOfName ρ x noEnding) k) (numberOfName ρ l noEnding)))
           (sym (same-true (y .letters) x q)) this-given
-      on noEnding false q = other-given (plain (y .letters)) py (λ e. apart (y .letters) py q (omega arith))
+      on noEnding false q = other-given (plain (y .letters)) py (λ e. apart ρ P ν x (y .letters) px py q (omega arith))
       on prime b q = other-given (record { letters = y .letters; ending = prime }) py (omega arith)
       on query b q = other-given (record { letters = y .letters; ending = query }) py (omega arith)
       on shriek b q = other-given (record { letters = y .letters; ending = shriek }) py (omega arith)
@@ -209,13 +216,6 @@ module _ (ρ : Numbering) (P : Letters → Type 0) (ν : Numbered ρ P) (Γ : Sc
   unfolding sameName
   this-typed = rw (typed-here (plain x) (same-refl x), this) w
 
-  turned : (y : Letters) → same y x ≡ false → same x y ≡ false
-  turned y e = on (same x y) refl
-    where
-      on : (b : Bool) → same x y ≡ b → b ≡ false
-      on true h = no-yes (sym e ∙ ap (same y) (same-true x y h) ∙ same-refl y)
-      on false h = refl
-
   binding-typed : (y : Name) → P (y .letters) → TypeIs (Γ .givens) (typeOfName (binding Γ x c) y) (entry (set T (numberOfName ρ x noEnding) k) (nameNumber ρ y))
   unfolding numberOfName sameName
   binding-typed y py = on (y .ending) (same (y .letters) x) refl
@@ -226,7 +226,7 @@ module _ (ρ : Numbering) (P : Letters → Type 0) (ν : Numbered ρ P) (Γ : Sc
       on noEnding true q =
           subst (λ (l : Letters). TypeIs (Γ .givens) (typeOfName (binding Γ x c) (plain l)) (entry (set T (numberOfName ρ x noEnding) k) (numberOfName ρ l noEnding)))
           (sym (same-true (y .letters) x q)) this-typed
-      on noEnding false q = other-typed (plain (y .letters)) py (turned (y .letters) q) (λ e. apart (y .letters) py q (omega arith))
+      on noEnding false q = other-typed (plain (y .letters)) py (turned x (y .letters) q) (λ e. apart ρ P ν x (y .letters) px py q (omega arith))
       on prime b q = other-typed (record { letters = y .letters; ending = prime }) py refl (omega arith)
       on query b q = other-typed (record { letters = y .letters; ending = query }) py refl (omega arith)
       on shriek b q = other-typed (record { letters = y .letters; ending = shriek }) py refl (omega arith)

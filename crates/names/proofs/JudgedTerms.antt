@@ -18,9 +18,9 @@ use Rattle.reader.specs.Types.{Ty, has, braceFits, pairsType}
 use Rattle.reader.specs.Scope.{Scope, typeOfName, binding}
 use Rattle.reader.specs.Names.{Listing, Checked, whole, known, newName, divisorFaults, pairsFault, wholePairs, domainCarrier, judgeTerm, judgeItems, judgePairs, judgePred}
 use Rattle.names.specs.Inner as inner
-use Rattle.names.specs.Inner.{Names, Sizes, entry, key, unlessKey, judgedKey, insideKey, lesser, isFree, isGiven, isNumber, isElement, domainKind, domainKey, overKey, bound}
+use Rattle.names.specs.Inner.{Names, Sizes, entry, key, unlessKey, judgedKey, insideKey, lesser, isFree, isGiven, isNumber, isElement, domainKind, domainKey, overKey, bound, leastKey}
 use Rattle.names.specs.Inner.{termKind, itemsKind, pairsKind, termKey, itemsKey, pairsKey, predKey}
-use Rattle.names.proofs.Showing.{typeCode, Known, knownNumber, knownPairs, TypeIs, Numbered, Shows, leastKey}
+use Rattle.names.proofs.Showing.{typeCode, Known, knownNumber, knownPairs, TypeIs, Numbered, Shows}
 use Rattle.names.proofs.JudgedLeast.{least-nil, two-parts, lesser-assoc, whole-least, inside-least, whole-nil, inside-nil, append-nil-both, small-append}
 use Rattle.names.proofs.JudgedWidths.{term-steady, items-steady, pairs-steady, small-divisor, small-known, small-pairs}
 use Rattle.names.proofs.JudgedTypes.{is-number, prefix-fits, prefix-type, operator-fits}

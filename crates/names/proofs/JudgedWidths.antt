@@ -11,9 +11,10 @@ use Rattle.symbols.specs.Refusals.{Fault, fault, numberOf, nameInUse, nameUnkno
 use Rattle.form.specs.Tree.{Letters, End, Range, Domain, givenSet, range, Given}
 use Rattle.form.specs.Tree.{Term, number, name, group, prefix, binary, divided, listed, pairs, such, emptySet, emptyPairs, Items, only, also, Pairs, onlyPair, alsoPair}
 use Rattle.form.specs.Tree.{Pred, truth, falsity, negation, paren, quantified, connected, compared, member, within, related}
-use Rattle.form.specs.Written.{Written, bare, digits, minusOf, writeEnd, writeRange, writeDomain, connective, rightDepth, writeTerm, writeItems, writePairs, writePred}
+use Rattle.form.specs.Written.{Written, bare, writeEnd, writeRange, writeDomain, connective, rightDepth, writeTerm, writeItems, writePairs, writePred}
 use Rattle.form.specs.Written.{operatorKind, divisionKind, comparisonKind, membershipKind}
 use Rattle.form.specs.Codes.{endWidth, termWidth, predWidth, domainWidth}
+use Rattle.form.proofs.Lengths.{end-length, range-length}
 use Rattle.reader.specs.Carriers.{givenOf}
 use Rattle.reader.specs.Types.{Ty, pairsFit, pairsType}
 use Rattle.reader.specs.Scope.{Scope, typeOfName, binding}
@@ -63,16 +64,6 @@ unfoldable mutual
   widePred (related o t u v) = wideTerm t + 1 + wideTerm u + 1 + wideTerm v
 
 -- ---- what is written ----
-
-end-length : (e : End) (w : List Written) → length (writeEnd e w) ≡ endWidth e + length w
-end-length e w = at (e .negative)
-  where
-    at : (b : Bool) → length (minusOf b (digits (e .magnitude) ∷ w)) ≡ cond b 2 1 + length w
-    at true = omega arith
-    at false = omega arith
-
-pub range-length : (r : Range) (w : List Written) → length (writeRange r w) ≡ wideRange r + length w
-range-length r w = omega (arith, end-length (r .lower) (bare kind.upTo ∷ writeEnd (r .upper) w), end-length (r .upper) w)
 
 domain-length : (t : Domain) (w : List Written) → length (writeDomain t w) ≡ wideDomain t + length w
 domain-length (givenSet g) w = omega arith

@@ -7,6 +7,7 @@ pub mod Checking
 pub mod Declaring
 pub mod Giving
 pub mod Passing
+pub mod PassingOperations
 pub mod Showing
 pub mod JudgedLeast
 pub mod JudgedWidths
@@ -35,3 +36,4 @@ pub mod PassedReach
 pub mod PassedOperations
 pub mod PassedDossier
 pub mod Passed
+pub mod Faultless

@@ -11,12 +11,13 @@ use Rattle.symbols.specs.Refusals.{Fault}
 use Rattle.form.specs.Tree.{Letters, declarations, Dossier}
 use Rattle.form.specs.Headings.{givensAt, abstractAt, concreteAt, ainitAt, cinitAt, retrieveAt, operationsAt}
 use Rattle.form.specs.Codes.{Numbering}
+use Rattle.form.proofs.Lengths.{givens-length}
 use Rattle.reader.specs.Carriers.{Variable, sizeOf}
 use Rattle.reader.specs.Scope.{variables, givenNames, stateNames, abstractTaken, concreteTaken, contexts}
 use Rattle.reader.specs.Names.{givenFaults, declarationFaults, contextFaults, judgePred, nameFaults}
-use Rattle.names.specs.Inner.{Names, Sizes, entry, isFree}
+use Rattle.names.specs.Inner.{Names, Sizes, entry, isFree, leastKey}
 use Rattle.names.specs.Passes.{variablesOf, predicateAt, dossierKey}
-use Rattle.names.proofs.Showing.{Numbered, PredIn, leastKey}
+use Rattle.names.proofs.Showing.{Numbered, PredIn}
 use Rattle.names.proofs.JudgedLeast.{append-nil-both}
 use Rattle.names.proofs.JudgedWidths.{pred-steady}
 use Rattle.names.proofs.PassedPlaces.{Within, within-small, within-append, pred-within, wider}
@@ -24,7 +25,7 @@ use Rattle.names.proofs.PassedOrder.{behind}
 use Rattle.names.proofs.PassedTypes.{Sized}
 use Rattle.names.proofs.PassedDeclared.{TypedIn}
 use Rattle.names.proofs.PassedUse.{inUse, use-left, use-right}
-use Rattle.names.proofs.PassedGivens.{GivensIn, Holds, givens-length, givens-within, givens-least}
+use Rattle.names.proofs.PassedGivens.{GivensIn, Holds, givens-within, givens-least}
 use Rattle.names.proofs.PassedNamed.{givens-sees}
 use Rattle.names.proofs.PassedStates.{typed-use, scope}
 use Rattle.names.proofs.PassedScopes.{TitlesIn, titles-given, titles-more, group, state-named, state-least}

@@ -17,9 +17,9 @@ use Rattle.reader.specs.Carriers.{Variable, sameName}
 use Rattle.reader.specs.Types.{Ty}
 use Rattle.reader.specs.Scope.{variables}
 use Rattle.reader.specs.Names.{judgePred}
-use Rattle.names.specs.Inner.{Names, Sizes}
+use Rattle.names.specs.Inner.{Names, Sizes, leastKey}
 use Rattle.names.specs.Passes.{variablesOf, shown, hidden, conditionsKey, conditionsNamed}
-use Rattle.names.proofs.Showing.{Numbered, PredIn, leastKey}
+use Rattle.names.proofs.Showing.{Numbered, PredIn}
 use Rattle.names.proofs.JudgedWidths.{widePred, pred-length}
 use Rattle.names.proofs.JudgedScope.{find-here, find-there}
 use Rattle.names.proofs.Judged.{judged-pred}

@@ -15,9 +15,9 @@ use Rattle.form.specs.Codes.{Numbering, nameNumber, typeWidth}
 use Rattle.reader.specs.Carriers.{Carrier, Variable, sameName, givenOf, carrierOf}
 use Rattle.reader.specs.Types.{Ty, typeOf}
 use Rattle.reader.specs.Names.{typeFaults}
-use Rattle.names.specs.Inner.{Names, Sizes, key, unlessKey, isFree, isGiven}
+use Rattle.names.specs.Inner.{Names, Sizes, key, unlessKey, isFree, isGiven, leastKey}
 use Rattle.names.specs.Passes.{Typed, typeKind, shown, hidden, declaredKey}
-use Rattle.names.proofs.Showing.{GivenIs, TypeIs, Numbered, leastKey}
+use Rattle.names.proofs.Showing.{GivenIs, TypeIs, Numbered}
 use Rattle.names.proofs.JudgedLeast.{two-parts, least-nil, unless-least, unless-nil, append-nil-both}
 use Rattle.names.proofs.JudgedTypes.{no-yes, code-positive, code-not-given}
 use Rattle.names.proofs.JudgedScope.{any-here, any-there, find-here, find-there}

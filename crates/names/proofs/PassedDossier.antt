@@ -13,9 +13,9 @@ use Rattle.form.specs.Headings.{operationLength}
 use Rattle.form.specs.Codes.{Numbering, predWidth}
 use Rattle.reader.specs.Scope.{Scope, operationContexts}
 use Rattle.reader.specs.Names.{newName, declarationFaults, parameterFaults, operationFaults, contextFaults, judgePred}
-use Rattle.names.specs.Inner.{Names, Sizes, lesser}
+use Rattle.names.specs.Inner.{Names, Sizes, lesser, leastKey}
 use Rattle.names.specs.Passes.{variablesOf, predicateAt, operationsKey}
-use Rattle.names.proofs.Showing.{Numbered, leastKey}
+use Rattle.names.proofs.Showing.{Numbered}
 use Rattle.names.proofs.JudgedLeast.{Small, no-fault, small-append, least-nil, two-parts, append-nil-both}
 use Rattle.names.proofs.JudgedWidths.{widePred, small-new, pred-steady}
 use Rattle.names.proofs.PassedPlaces.{Within, within-small, within-append, pred-within, wider}

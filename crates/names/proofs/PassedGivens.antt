@@ -6,20 +6,19 @@ use Prim.Native.Nat.{ℕ, suc, _+_, _≤_}
 use native.Mathlib.Omega.{arith}
 use lib.ListN.{length, set, length-set}
 use borrow.Author.Tests.{ne-eqb}
-use Rattle.symbols.specs.Kinds as kind
 use Rattle.symbols.specs.Lists.{any}
 use Rattle.symbols.specs.Symbols.{Name, noEnding}
 use Rattle.symbols.specs.Refusals.{numberOf, nameInUse}
 use Rattle.form.specs.Tree.{Letters, Given, elements}
-use Rattle.form.specs.Written.{Written, bare, writeElements, writeGivens}
 use Rattle.form.specs.Headings.{givenLength}
 use Rattle.form.specs.Codes.{Numbering, numberOfName, nameNumber}
+use Rattle.form.proofs.Lengths.{givensWidth, given-length}
 use Rattle.reader.specs.Carriers.{sameName, plain}
 use Rattle.reader.specs.Scope.{isTaken, givenNames}
 use Rattle.reader.specs.Names.{newName, elementFaults, givenFaults}
-use Rattle.names.specs.Inner.{Names, entry, key, unlessKey, isFree}
+use Rattle.names.specs.Inner.{Names, entry, key, unlessKey, isFree, leastKey}
 use Rattle.names.specs.Passes.{elementsNamed, elementsKey, givenNamed, givensNamed, givensKey}
-use Rattle.names.proofs.Showing.{Numbered, leastKey}
+use Rattle.names.proofs.Showing.{Numbered}
 use Rattle.names.proofs.JudgedLeast.{least-nil, unless-least}
 use Rattle.names.proofs.PassedPlaces.{Within, nowhere, within-append, within-new, wider}
 use Rattle.names.proofs.PassedOrder.{behind}
@@ -28,24 +27,6 @@ use Rattle.names.proofs.PassedUse.{inUse, taken-is, any-append}
 
 -- ---- places ----
 
-elements-length : (n : ℕ) (es : List Letters) (w : List Written) → length (writeElements n es w) ≡ length es + length w
-unfolding writeElements
-elements-length n [] w = omega arith
-elements-length n (e ∷ es) w = omega (arith, elements-length (suc n) es w)
-
-given-length : (g : Given) → givenLength g ≡ 3 + length (elements g)
-unfolding givenLength writeGivens
-given-length g = omega (arith, elements-length 0 (elements g) (bare kind.END ∷ []))
-
-unfoldable pub givensWidth : List Given → ℕ
-givensWidth [] = 0
-givensWidth (g ∷ gs) = 3 + length (elements g) + givensWidth gs
-
-pub givens-length : (n : ℕ) (gs : List Given) (w : List Written) → length (writeGivens n gs w) ≡ givensWidth gs + length w
-unfolding writeGivens givensWidth
-givens-length n [] w = omega arith
-givens-length n (g ∷ gs) w = omega (arith, elements-length 0 (elements g) (bare kind.END ∷ writeGivens (suc n) gs w), givens-length (suc n) gs w)
-
 elements-within : (xs : List Letters) (i : ℕ) (es : List Letters) → Within i (i + length es) (elementFaults xs i es)
 unfolding elementFaults
 elements-within xs i [] = nowhere
@@ -53,7 +34,7 @@ elements-within xs i (e ∷ es) =
     within-append (within-new xs e i (omega arith) (omega arith)) (wider _ _ (elements-within (e ∷ xs) (suc i) es) (omega arith) (omega arith))
 
 pub givens-within : (xs : List Letters) (i : ℕ) (gs : List Given) → Within i (i + givensWidth gs) (givenFaults xs i gs)
-unfolding givenFaults givensWidth
+unfolding givenFaults
 givens-within xs i [] = nowhere
 givens-within xs i (g ∷ gs) =
     let l = given-length g in

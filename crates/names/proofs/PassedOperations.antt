@@ -16,9 +16,9 @@ use Rattle.reader.specs.Carriers.{Variable, plain}
 use Rattle.reader.specs.Scope as scopes
 use Rattle.reader.specs.Scope.{isTaken, variables}
 use Rattle.reader.specs.Names.{newName, parameterFaults, judgePred}
-use Rattle.names.specs.Inner.{Names, Sizes, entry, key, unlessKey, isFree}
+use Rattle.names.specs.Inner.{Names, Sizes, entry, key, unlessKey, isFree, leastKey}
 use Rattle.names.specs.Passes.{parametersOf, titleNamed, operationNamed, operationKey}
-use Rattle.names.proofs.Showing.{Numbered, PredIn, leastKey}
+use Rattle.names.proofs.Showing.{Numbered, PredIn}
 use Rattle.names.proofs.JudgedLeast.{unless-least}
 use Rattle.names.proofs.JudgedWidths.{widePred, pred-length, pred-width}
 use Rattle.names.proofs.Judged.{judged-pred}

@@ -13,6 +13,7 @@ use Rattle.symbols.specs.Refusals.{Fault, fault, unless, nameInUse}
 use Rattle.form.specs.Tree.{Letters, Given, Declaration, Direction, inward, outward, Parameter}
 use Rattle.form.specs.Written.{Written, bare, endingOf, inputsAfter, outputsAfter, writeParameters}
 use Rattle.form.specs.Codes.{Numbering, numberOfName, typeWidth}
+use Rattle.form.proofs.Lengths.{type-length}
 use Rattle.reader.specs.Carriers.{Carrier, Variable, endingCode, sameName, plain, carrierOf}
 use Rattle.reader.specs.Scope as scopes
 use Rattle.reader.specs.Scope.{variables}
@@ -22,7 +23,6 @@ use Rattle.names.specs.Passes.{variablesOf, parametersOf, typeKind, show
 use Rattle.names.proofs.JudgedTypes.{no-yes}
 use Rattle.names.proofs.JudgedScope.{find-there, ended}
 use Rattle.names.proofs.PassedTables.{same-name}
-use Rattle.names.proofs.PassedTypes.{type-length}
 use Rattle.names.proofs.PassedDeclared.{useOf, typedFaults, typedWidth, Carried, no-carried, one-carried, Fresh, no-fresh, one-fresh, found, hasTyped}
 use Rattle.names.proofs.PassedUse.{inUse}
 use Rattle.names.proofs.PassedStates.{variables-one}

@@ -22,7 +22,7 @@ use Rattle.names.proofs.JudgedScope.{any-there}
 use Rattle.names.proofs.PassedTables.{Sees, Sits, same-name, name-refl, put, sees-same, unused}
 use Rattle.names.proofs.PassedTypes.{Sized}
 use Rattle.names.proofs.PassedDeclared.{Carried, no-carried, one-carried, fresh-none, Clear, found, orType, after-found, hasName, used-after, hasTyped, carried-names, found-none, shown-sees, hidden-sees}
-use Rattle.names.proofs.PassedUse.{inUse, use-here}
+use Rattle.names.proofs.PassedUse.{inUse, use-here, cond-right}
 use Rattle.names.proofs.PassedGivens.{GivensIn}
 use Rattle.names.proofs.PassedNamed.{elementType, Base}
 use Rattle.names.proofs.PassedScopes.{Group, group-none, group-shown, group-hidden, used-sits, free-sits}
@@ -82,10 +82,6 @@ module _ (gs : List Given) (ds : List Declaration) (ps : List Parameter) {P : Le
       ∙ found-append (variables gs noEnding ds) (variables gs prime ds) y (orType (found (scopes.parametersOf gs inward ps) y) (orType (found (scopes.parametersOf gs outward ps) y) t)))
 
 -- ---- tables ----
-
-cond-right : (b c : Bool) → c ≡ true → cond b true c ≡ true
-cond-right true c e = refl
-cond-right false c e = e
 
 carried-letters : {P : Letters → Type 0} {gs : List Given} {xs : List Typed} {vs : List Variable} → Carried P gs xs vs → (y : Name) → hasTyped xs y ≡ true → P (y .letters)
 unfolding any

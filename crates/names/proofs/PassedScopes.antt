@@ -14,9 +14,9 @@ use Rattle.reader.specs.Carriers.{Variable, sameName, plain, givenOf}
 use Rattle.reader.specs.Types.{Ty}
 use Rattle.reader.specs.Scope.{isTaken, variables, givenNames, stateNames}
 use Rattle.reader.specs.Names.{declarationFaults, judgePred}
-use Rattle.names.specs.Inner.{Names, Sizes, entry, isFree, isNumber, isGiven, inReach}
+use Rattle.names.specs.Inner.{Names, Sizes, entry, isFree, isNumber, isGiven, inReach, leastKey}
 use Rattle.names.specs.Passes.{Typed, variablesOf, shown, hidden, predicateAt, stateKey, stateNamed}
-use Rattle.names.proofs.Showing.{titled, GivenIs, TypeIs, Numbered, Shows, PredIn, leastKey}
+use Rattle.names.proofs.Showing.{titled, GivenIs, TypeIs, Numbered, Shows, PredIn}
 use Rattle.names.proofs.JudgedTypes.{no-yes}
 use Rattle.names.proofs.JudgedScope.{titled-finds}
 use Rattle.names.proofs.Judged.{judged-pred}

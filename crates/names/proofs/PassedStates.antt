@@ -13,12 +13,12 @@ use Rattle.symbols.specs.Refusals.{Fault, fault, unless, nameInUse}
 use Rattle.form.specs.Tree.{Letters, Given, Declaration}
 use Rattle.form.specs.Written.{Written, bare, writeDeclarations}
 use Rattle.form.specs.Codes.{typeWidth}
+use Rattle.form.proofs.Lengths.{type-length}
 use Rattle.reader.specs.Carriers.{Carrier, Variable, sameName, plain, carrierOf}
 use Rattle.reader.specs.Types.{typeOf}
 use Rattle.reader.specs.Scope.{Scope, isTaken, typeOfName, variables}
 use Rattle.reader.specs.Names.{newName, typeFaults, declarationFaults}
 use Rattle.names.specs.Passes.{variablesOf}
-use Rattle.names.proofs.PassedTypes.{type-length}
 use Rattle.names.proofs.PassedDeclared.{useOf, typedFaults, typedWidth, Carried, no-carried, one-carried}
 use Rattle.names.proofs.PassedDeclared.{found, orType, hasTyped}
 use Rattle.names.proofs.PassedUse.{inUse, same-sym}

@@ -9,16 +9,17 @@ use lib.ListN.{length, getD}
 use Rattle.symbols.specs.Symbols.{Name}
 use Rattle.symbols.specs.Refusals.{fault, nameUnknown}
 use Rattle.form.specs.Tree.{Letters, Given, Arrow, TypeForm, givenType, powerType, rangeType, arrowType}
-use Rattle.form.specs.Written.{Written, writeType}
+use Rattle.form.specs.Written.{writeType}
 use Rattle.form.specs.Codes.{Numbering, nameNumber, typeWidth}
+use Rattle.form.proofs.Lengths.{range-length}
 use Rattle.reader.specs.Carriers.{Carrier, elementsOf, subsetsOf, pairsOf, rangeCarrier, sizeOf, givenOf, carrierOf}
 use Rattle.reader.specs.Types.{Ty, typeOf}
 use Rattle.reader.specs.Names.{known, pairsFault, typeFaults}
-use Rattle.names.specs.Inner.{Names, Sizes, entry, key, unlessKey, isGiven, sizeIn, overKey, domainKey}
+use Rattle.names.specs.Inner.{Names, Sizes, entry, key, unlessKey, isGiven, sizeIn, overKey, domainKey, leastKey}
 use Rattle.names.specs.Passes.{typeKind, typeKey}
-use Rattle.names.proofs.Showing.{indexOf, knownNumber, GivenIs, TypeIs, RangeIn, leastKey}
+use Rattle.names.proofs.Showing.{indexOf, knownNumber, GivenIs, TypeIs, RangeIn}
 use Rattle.names.proofs.JudgedLeast.{small-append, lesser-assoc, two-parts, not-nil, append-nil-both}
-use Rattle.names.proofs.JudgedWidths.{small-known, small-pairs, range-length}
+use Rattle.names.proofs.JudgedWidths.{small-known, small-pairs}
 use Rattle.names.proofs.JudgedRanges.{range-least}
 use Rattle.names.proofs.JudgedTypes.{index-in}
 use Rattle.names.proofs.JudgedScope.{found}
@@ -35,13 +36,6 @@ TypeIn P (rangeType r) = RangeIn r
 TypeIn P (arrowType a g h) = P (g .letters) × P (h .letters)
 
 -- ---- places ----
-
-pub type-length : (t : TypeForm) (w : List Written) → length (writeType t w) ≡ typeWidth t + length w
-unfolding writeType typeWidth
-type-length (givenType g) w = omega arith
-type-length (powerType g) w = omega arith
-type-length (rangeType r) w = omega (arith, range-length r w, range-length r [])
-type-length (arrowType a g h) w = omega arith
 
 pub type-within : (gs : List Given) (t : TypeForm) (i : ℕ) → Within i (i + typeWidth t) (typeFaults gs t i)
 unfolding writeType typeWidth typeFaults

@@ -52,7 +52,7 @@ any-append f (x ∷ xs) ys = on (f x) (any-append f xs ys)
 pub use-left : (xs ys : List Letters) (y : Name) → inUse xs y ≡ true → inUse (xs ++ ys) y ≡ true
 use-left xs ys y e = any-append (λ (x : Letters). sameName (plain x) y) xs ys ∙ ap (λ (b : Bool). cond b true (inUse ys y)) e
 
-cond-right : (b c : Bool) → c ≡ true → cond b true c ≡ true
+pub cond-right : (b c : Bool) → c ≡ true → cond b true c ≡ true
 cond-right true c e = refl
 cond-right false c e = e
 

@@ -7,7 +7,6 @@ use Prim.Native.Nat.{ℕ, suc, _+_, _*_, _≤_, _<_}
 use lib.ListN.{length, getD}
 use Rattle.symbols.specs.Lists.{same, any}
 use Rattle.symbols.specs.Symbols.{Name, noEnding}
-use Rattle.symbols.specs.Refusals.{Fault, numberOf, least}
 use Rattle.form.specs.Tree.{Letters, Given, Range, Domain, givenSet, range}
 use Rattle.form.specs.Tree.{Term, number, name, group, prefix, binary, divided, listed, pairs, such, emptySet, emptyPairs, Items, only, also, Pairs, onlyPair, alsoPair}
 use Rattle.form.specs.Tree.{Pred, truth, falsity, negation, paren, quantified, connected, compared, member, within, related}
@@ -16,7 +15,7 @@ use Rattle.reader.specs.Carriers.{sizeOf, givenOf}
 use Rattle.reader.specs.Types as ty
 use Rattle.reader.specs.Types.{Ty, Sort}
 use Rattle.reader.specs.Scope.{Scope, isTaken, typeOfName}
-use Rattle.names.specs.Inner.{Names, Sizes, entry, isFree, isGiven, inReach, key}
+use Rattle.names.specs.Inner.{Names, Sizes, entry, isFree, isGiven, inReach}
 
 -- the number of the given set with this title
 unfoldable pub indexOf : List Given → Letters → ℕ
@@ -114,11 +113,3 @@ unfoldable mutual
   PredIn P (member o t u) = TermIn P t × TermIn P u
   PredIn P (within o t r) = TermIn P t × RangeIn r
   PredIn P (related o t u v) = TermIn P t × TermIn P u × TermIn P v
-
--- the least of some faults, as a number
-abbrev pub keyOf : Option Fault → ℕ
-keyOf none = 0
-keyOf (some f) = key (f .place) (numberOf (f .refusal))
-
-abbrev pub leastKey : List Fault → ℕ
-leastKey fs = keyOf (least fs)

@@ -3,11 +3,13 @@
 use mathlib.Core.Path.{_≡_}
 use mathlib.Core.Bool.{Bool, true, false, _&&_, _||_, cond}
 use mathlib.Core.List.{List, _++_}
+use mathlib.Core.Option.{Option, none, some}
 use Prim.Native.Nat.{ℕ, suc, _+_, _-_, _*_, _/_, _%_, _≤_}
 use lib.Dec.{eqb, leb, ltb}
 use lib.ListN.{length, take, getD, set}
 use Rattle.symbols.specs.Kinds.{codeOf}
 use Rattle.symbols.specs.Symbols.{noEnding}
+use Rattle.symbols.specs.Refusals.{Fault, numberOf, least}
 use Rattle.form.specs.Tree.{Prefix, negate, size, dom, ran, Operator, plus, minus, union, without, times, inter, Comparison, equals, differs, less, atMost, End, Range, Domain, givenSet, range}
 use Rattle.form.specs.Tree.{Term, number, name, group, prefix, binary, divided, listed, pairs, such, emptySet, emptyPairs, Items, only, also, Pairs, onlyPair, alsoPair}
 use Rattle.form.specs.Tree.{Pred, truth, falsity, negation, paren, quantified, connected, compared, member, within, related}
@@ -105,6 +107,14 @@ shared k l = cond (eqb k l) k 0
 -- a fault by its place and number, and one added; 0 for none
 abbrev pub key : ℕ → ℕ → ℕ
 key i n = i * 16 + n + 1
+
+-- the least of some faults, as a number
+abbrev pub keyOf : Option Fault → ℕ
+keyOf none = 0
+keyOf (some f) = key (f .place) (numberOf (f .refusal))
+
+abbrev pub leastKey : List Fault → ℕ
+leastKey fs = keyOf (least fs)
 
 abbrev pub unlessKey : Bool → ℕ → ℕ
 unlessKey ok f = cond ok 0 f

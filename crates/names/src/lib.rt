@@ -7,7 +7,7 @@ use crate::passes::clear;
 
 pub mod declared;
 pub mod kinds;
-mod passes;
+pub mod passes;
 pub mod types;
 
 // The type of a tree, its least fault (place * 16 + number + 1) or 0, and where its nodes begin.

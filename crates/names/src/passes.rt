@@ -221,7 +221,7 @@ pub fn clear(a: &mut [u16])
 }
 
 // The nodes from one place to another; none where the places are not in order.
-fn part(nodes: &[u16], from: usize, to: usize) -> &[u16]
+pub fn part(nodes: &[u16], from: usize, to: usize) -> &[u16]
     ensures { λ r. ⌜ PartOf (now (nodes .entry)) from to (now r) ⌝ }
 {
     if from <= to {

@@ -19,7 +19,7 @@ use Rattle.parser.specs.declared.Read.{Read}
 use Rattle.parser.specs.declared.Read.the-variants.{At, Fault}
 use Rattle.parser.proofs.Classes.{Misses, lookup-miss, by-table-or, spanned}
 use Rattle.form.proofs.Table.{_&_}
-use Rattle.parser.proofs.Reading.{only, here, next, likewise, fails, takes, takes-kind, taken, joined, Within, Alike, alike, alike-now, alike-then}
+use Rattle.parser.proofs.Reading.{here, next, likewise, fails, takes, taken, joined, Within, Alike, alike, alike-now, alike-then}
 use Rattle.parser.proofs.RangeEnds.{is-end, range-well, used-well}
 use Rattle.parser.proofs.Stepping.{by-act, first-entry, atOperator, operating, rest-step, pred-rest-step, atPredStart, predStarting, either, lookup-mapped, division, binary, connecting, any-depth, unary-step, atRelation, rel-step, mem-step}
 

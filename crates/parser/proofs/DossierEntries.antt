@@ -15,7 +15,7 @@ use Rattle.parser.specs.Inner.{codes}
 use Rattle.parser.specs.Derived.{nameCode, Part, Derives, someEntries, someElements, someGivens, noEntries, anEntry, noElements, anElement, noGivens, aGiven}
 use Rattle.parser.proofs.Standing.{values, Text}
 use Rattle.parser.proofs.SymbolAt.{fixed-at, plain-at}
-use Rattle.parser.proofs.Widths.{givensWidth, given-length}
+use Rattle.form.proofs.Lengths.{givensWidth, given-length}
 
 abbrev pub Derived : List Symbol → Numbering → Part → (i j : ℕ) → List ℕ → Type 0
 Derived w ρ x i j n = Derives (codes w) (values ρ w) x i j n

@@ -18,7 +18,8 @@ use Rattle.parser.specs.Inner.{codes}
 use Rattle.parser.specs.Derived.{Derives, aDossier, dossier}
 use Rattle.parser.proofs.Standing.{values, Text, DossierAt}
 use Rattle.parser.proofs.SymbolAt.{fixed-at}
-use Rattle.parser.proofs.Widths.{entries-length, givensWidth, givens-length, stateWidth, state-length, where-length}
+use Rattle.form.proofs.Lengths.{givensWidth, givens-length}
+use Rattle.parser.proofs.Widths.{entries-length, stateWidth, state-length, where-length}
 use Rattle.parser.proofs.DossierEntries.{Derived, EntriesAt, GivensAt, moved, entries-tree, givens-tree}
 use Rattle.parser.proofs.DossierBodies.{StateAt, WhereAt, OperationsAt, state-tree, where-tree, operations-tree}
 

@@ -35,5 +35,5 @@ pub mod Known
 pub mod Answered
 pub mod Placing
 pub mod Listing
-pub mod Joining
-pub mod Fronts
+pub mod ListNodes
+pub mod BodyNodes

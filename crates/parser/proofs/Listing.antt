@@ -78,10 +78,6 @@ crowded {s} {at} {ι = ι} ρ x l f h =
       same = λ w q γ. step-at s at ι w q l (λ δ. go x (ρ δ)) h γ ∙ ap (λ (y : Option Refusal). unlessOver y at (runAt w (suc at)) (ρ γ)) (f w q);
     }
 
-pub crowded-kind : {s : List ℕ} {at n : ℕ} {ι ο : List Item} (ρ : List Item → List Item) (x : Mark) (j : Kind) → getD s at 0 ≡ codeOf j → at < length s
-    → Within s at (λ k j v. settled k j v x ≡ some manyDeclared) → ((γ : List Item) → step (ι ++ γ) j ≡ go x (ρ γ)) → Reads s at n ι ο (Fault at 6)
-crowded-kind {ι = ι} ρ x j q l f h = crowded ρ x l f (only (λ κ. (γ : List Item) → step (ι ++ γ) κ ≡ go x (ρ γ)) j q h)
-
 -- a declared name
 pub declared-takes : (m : Mark) (γ : List Item) → step (aDeclared m ∷ γ) kind.plain ≡ go m γ
 unfolding computeForm
@@ -266,13 +262,6 @@ pub outputs-other : (c o : ℕ) → (c ≡ 1 → ⊥) → outputsBy c o ≡ o + 
 outputs-other zero o f = refl
 outputs-other (suc zero) o f = absurd (f refl)
 outputs-other (suc (suc c)) o f = refl
-
--- a place with a code is inside
-pub in-text : (s : List ℕ) (at : ℕ) → 1 ≤ getD s at 0 → at < length s
-in-text [] zero h = absurd (omega arith)
-in-text [] (suc at) h = absurd (omega arith)
-in-text (x ∷ s) zero h = omega arith
-in-text (x ∷ s) (suc at) h = let l = in-text s at h in omega arith
 
 pub inputs-few : (c i o : ℕ) → countBy c i o < 3 → i ≤ 3 → inputsBy c i ≤ 3
 inputs-few zero i o h l = l

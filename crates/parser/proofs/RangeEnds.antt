@@ -15,6 +15,7 @@ use Rattle.symbols.specs.Kinds as kind
 use Rattle.symbols.specs.Kinds.{Kind, codeOf, is}
 use Rattle.symbols.specs.Symbols.{Symbol, fixed, kindOf}
 use Rattle.symbols.specs.Refusals.{Refusal, deep}
+use Rattle.symbols.proofs.Tests.{and-right-false}
 use Rattle.form.specs.Written.{opens, binds}
 use Rattle.form.specs.Form.{kindAt, isRangeEnd, isUsed, settled, excess, refuse}
 use Rattle.parser.specs.Inner.{codes, rangeEndAt, RangeEnd}
@@ -203,12 +204,8 @@ pub bound-deep : (s : List ℕ) (p n : ℕ) → 3 < n → getD s (p + 1 + 1) 0 �
 unfolding settled
 bound-deep s p n h b = behind s p (λ k j v. settled k j v (binds n) ≡ some deep) (λ w q.
     ap (λ (x : Bool). cond x none (excess (binds n)))
-    (used-test w q p ∙ ap (λ (x : Bool). eqb (getD s p 0) 19 && not x) (eq-eqb (getD s (p + 1 + 1) 0) 10 b) ∙ nothing (eqb (getD s p 0) 19))
+    (used-test w q p ∙ ap (λ (x : Bool). eqb (getD s p 0) 19 && not x) (eq-eqb (getD s (p + 1 + 1) 0) 10 b) ∙ and-right-false (eqb (getD s p 0) 19) false refl)
     ∙ bind-over n h)
-  where
-    nothing : (b : Bool) → (b && false) ≡ false
-    nothing true = refl
-    nothing false = refl
 
 -- behind anything but {
 pub bound-elsewhere : (s : List ℕ) (p n : ℕ) → 3 < n → (getD s p 0 ≡ 19 → ⊥) → Within s (p + 1) (λ k j v. settled k j v (binds n) ≡ some deep)

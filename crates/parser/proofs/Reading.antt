@@ -23,7 +23,7 @@ use Rattle.parser.specs.declared.Read.{Read}
 use Rattle.parser.specs.declared.Read.the-variants.{At, Fault}
 use Rattle.form.proofs.Table.{kinds, kindIn, kind-back}
 
--- what holds of the kind j holds of every kind with its code
+-- what holds of the kind j holds of every kind with its code: where a symbol's kind is known, its step alone is asked for
 pub only : (P : Kind → Type 0) {k : ℕ} (j : Kind) → k ≡ codeOf j → P j → (κ : Kind) → codeOf κ ≡ k → P κ
 only P j q p κ e = subst P (sym (kind-back j) ∙ ap (kindIn kinds) (sym (e ∙ q)) ∙ kind-back κ) p
 
@@ -85,11 +85,6 @@ module _ {s : List ℕ} {at n : ℕ} {ι ο : List Item} where
   unfolding settled
   takes l h a c = taken unmarked l (λ w q. refl) h a c
 
-  -- the same, where the symbol's kind is known
-  pub takes-kind : {μ : List Item} {r : Read} {m : ℕ} (j : Kind) → getD s at 0 ≡ codeOf j → at < length s
-      → ((γ : List Item) → step (ι ++ γ) j ≡ go unmarked (μ ++ γ)) → Reads s (at + 1) m μ ο r → m ≤ n + 4 → Reads s at n ι ο r
-  takes-kind {μ} j q l h a c = takes l (only (λ κ. (γ : List Item) → step (ι ++ γ) κ ≡ go unmarked (μ ++ γ)) j q h) a c
-
   -- a symbol's mark counts too much
   pub deeper : {ρ : List Item → List Item} (x : Mark) → at < length s → Within s at (λ k j v. settled k j v x ≡ some deep)
       → ((κ : Kind) → codeOf κ ≡ getD s at 0 → (γ : List Item) → step (ι ++ γ) κ ≡ go x (ρ γ)) → Reads s at n ι ο (Fault at 5)
@@ -100,14 +95,6 @@ module _ {s : List ℕ} {at n : ℕ} {ι ο : List Item} where
         count = tt;
         same = λ w q γ. step-at s at ι w q l (λ δ. go x (ρ δ)) h γ ∙ ap (λ (y : Option Refusal). unlessOver y at (runAt w (suc at)) (ρ γ)) (f w q);
       }
-
-  pub taken-kind : {μ : List Item} {r : Read} {m : ℕ} (x : Mark) (j : Kind) → getD s at 0 ≡ codeOf j → at < length s → Within s at (λ k j v. settled k j v x ≡ none)
-      → ((γ : List Item) → step (ι ++ γ) j ≡ go x (μ ++ γ)) → Reads s (at + 1) m μ ο r → m ≤ n + 4 → Reads s at n ι ο r
-  taken-kind {μ} x j q l f h a c = taken x l f (only (λ κ. (γ : List Item) → step (ι ++ γ) κ ≡ go x (μ ++ γ)) j q h) a c
-
-  pub deeper-kind : (ρ : List Item → List Item) (x : Mark) (j : Kind) → getD s at 0 ≡ codeOf j → at < length s → Within s at (λ k j v. settled k j v x ≡ some deep)
-      → ((γ : List Item) → step (ι ++ γ) j ≡ go x (ρ γ)) → Reads s at n ι ο (Fault at 5)
-  deeper-kind ρ x j q l f h = deeper {ρ = ρ} x l f (only (λ κ. (γ : List Item) → step (ι ++ γ) κ ≡ go x (ρ γ)) j q h)
 
   -- a symbol, or the end, fits nothing
   pub stops : at ≤ length s → ((κ : Kind) → codeOf κ ≡ getD s at 0 → (γ : List Item) → step (ι ++ γ) κ ≡ halt) → ((γ : List Item) → ends (ι ++ γ) ≡ false)
@@ -136,10 +123,6 @@ module _ {s : List ℕ} {at n : ℕ} {ι ο : List Item} where
       on w q γ false t =
           let lw : length w ≤ at = let z = ltb-false at (length w) t in omega arith in
           run-end w at (ι ++ γ) lw ∙ ap (λ (y : Bool). cond y complete (failed at noDossier)) (e γ) ∙ sym (run-end w at (μ ++ γ) lw)
-
-  pub likewise-kind : {μ : List Item} {r : Read} (j : Kind) → getD s at 0 ≡ codeOf j → ((γ : List Item) → step (ι ++ γ) j ≡ step (μ ++ γ) j)
-      → ((γ : List Item) → ends (ι ++ γ) ≡ ends (μ ++ γ)) → Reads s at n μ ο r → Reads s at n ι ο r
-  likewise-kind {μ} j q h e a = likewise (only (λ κ. (γ : List Item) → step (ι ++ γ) κ ≡ step (μ ++ γ) κ) j q h) e a
 
   -- a part at fault
   pub fails : {μ : List Item} {e f m : ℕ} → Reads s at m ι μ (Fault e f) → Reads s at n ι ο (Fault e f)

@@ -19,7 +19,7 @@ use Rattle.form.specs.Computed.{computeForm}
 use Rattle.parser.specs.declared.Read.{Read}
 use Rattle.parser.specs.declared.Read.the-variants.{At}
 use Rattle.parser.proofs.Classes.{lookup-miss}
-use Rattle.parser.proofs.Reading.{only, here, takes-kind, taken, joined, Within, Alike, alike, alike-now, alike-then}
+use Rattle.parser.proofs.Reading.{only, here, takes, taken, joined, Within, Alike, alike, alike-now, alike-then}
 use Rattle.parser.proofs.RangeEnds.{is-end, range-well, used-well}
 use Rattle.parser.proofs.Alike.{frame, named, unnamed}
 
@@ -45,8 +45,8 @@ as-listed s at d b o f = on (eqb (getD s (at + 1) 0) 2) refl
         let p : getD s (at + 1) 0 ≡ 2 = eqb-true (getD s (at + 1) 0) 2 q in
         alike-then s (at + 1) (aBrace d b ∷ []) (aTerm d b ∷ aFirst d b ∷ []) (aNamed d b ∷ []) (aTermRest d b ∷ aFirst d b ∷ []) (binds (suc b)) unmarked
         (inside s (at + 1) (omega arith))
-        (only (λ κ. (γ : List Item) → step (aBrace d b ∷ γ) κ ≡ go (binds (suc b)) (aNamed d b ∷ γ)) kind.plain p (λ γ. refl))
-        (only (λ κ. (γ : List Item) → step (aTerm d b ∷ aFirst d b ∷ γ) κ ≡ go unmarked (aTermRest d b ∷ aFirst d b ∷ γ)) kind.plain p (λ γ. refl))
+        (only _ kind.plain p (λ γ. refl))
+        (only _ kind.plain p (λ γ. refl))
         (used-well s at (suc b) o (f p))
         (alike-now s (at + 1 + 1) (aNamed d b ∷ []) (aTermRest d b ∷ aFirst d b ∷ []) (λ κ e γ. named d b κ γ (λ c. f p (sym e ∙ c))) (λ γ. refl))
     on false q =
@@ -78,8 +78,8 @@ as-neg s at d b f = on (eqb (getD s at 0) 1) refl
     on true q =
         let p : getD s at 0 ≡ 1 = eqb-true (getD s at 0) 1 q in
         alike-then s at (aNeg d b ∷ []) (anOperand (suc d) b ∷ aTermRest d b ∷ []) (aNumRest d b ∷ []) (aTermRest d b ∷ []) unmarked unmarked (inside s at (omega arith))
-        (only (λ κ. (γ : List Item) → step (aNeg d b ∷ γ) κ ≡ go unmarked (aNumRest d b ∷ γ)) kind.number p (λ γ. refl))
-        (only (λ κ. (γ : List Item) → step (anOperand (suc d) b ∷ aTermRest d b ∷ γ) κ ≡ go unmarked (aTermRest d b ∷ γ)) kind.number p (λ γ. refl))
+        (only _ kind.number p (λ γ. refl))
+        (only _ kind.number p (λ γ. refl))
         (λ w e. refl)
         (alike-now s (at + 1) (aNumRest d b ∷ []) (aTermRest d b ∷ []) (λ κ e γ. unending d b κ γ (λ c. f p (sym e ∙ c))) (λ γ. refl))
     on false q = alike-now s at (aNeg d b ∷ []) (anOperand (suc d) b ∷ aTermRest d b ∷ []) (λ κ e γ. unsigned d b κ γ (λ c. eqb-false (getD s at 0) 1 q (sym e ∙ c))) (λ γ. refl)
@@ -94,15 +94,15 @@ as-right s at d b f g = on (eqb (getD s at 0) 1) refl (eqb (getD s at 0) 29) ref
     on true q v e =
         let p : getD s at 0 ≡ 1 = eqb-true (getD s at 0) 1 q in
         alike-then s at (aRight d b ∷ []) (aTerm d b ∷ []) (aNumRest d b ∷ []) (aTermRest d b ∷ []) unmarked unmarked (inside s at (omega arith))
-        (only (λ κ. (γ : List Item) → step (aRight d b ∷ γ) κ ≡ go unmarked (aNumRest d b ∷ γ)) kind.number p (λ γ. refl))
-        (only (λ κ. (γ : List Item) → step (aTerm d b ∷ γ) κ ≡ go unmarked (aTermRest d b ∷ γ)) kind.number p (λ γ. refl))
+        (only _ kind.number p (λ γ. refl))
+        (only _ kind.number p (λ γ. refl))
         (λ w e. refl)
         (alike-now s (at + 1) (aNumRest d b ∷ []) (aTermRest d b ∷ []) (λ κ e γ. unending d b κ γ (λ c. f p (sym e ∙ c))) (λ γ. refl))
     on false q true e =
         let p : getD s at 0 ≡ 29 = eqb-true (getD s at 0) 29 e in
         alike-then s at (aRight d b ∷ []) (aTerm d b ∷ []) (aNeg d b ∷ []) (anOperand (suc d) b ∷ aTermRest d b ∷ []) (opens (suc d)) (opens (suc d)) (inside s at (omega arith))
-        (only (λ κ. (γ : List Item) → step (aRight d b ∷ γ) κ ≡ go (opens (suc d)) (aNeg d b ∷ γ)) kind.minus p (λ γ. refl))
-        (only (λ κ. (γ : List Item) → step (aTerm d b ∷ γ) κ ≡ go (opens (suc d)) (anOperand (suc d) b ∷ aTermRest d b ∷ γ)) kind.minus p (λ γ. refl))
+        (only _ kind.minus p (λ γ. refl))
+        (only _ kind.minus p (λ γ. refl))
         (λ w e. refl) (as-neg s (at + 1) d b (g p))
     on false q false e =
         alike-now s at (aRight d b ∷ []) (aTerm d b ∷ [])
@@ -117,19 +117,19 @@ pub right-range : {s : List ℕ} (p : ℕ) {n d b : ℕ} {ο : List Item} {r : R
 unfolding computeForm
 right-range {s} p {n} {d} {b} lo hi (positive x y) a =
     joined {m = 0} {c = 0} {d = 0} {ρ = anEnd ∷ []}
-    (takes-kind {μ = aNumRest d b ∷ []} {m = 0} kind.number x (inside s (p + 1) (omega arith)) (λ γ. refl)
-    (takes-kind {μ = anEnd ∷ []} {m = 0} kind.upTo y (inside s (p + 1 + 1) (omega arith)) (λ γ. refl) (here (past s (p + 1 + 1) (omega arith))) (omega arith)) (omega arith))
-    (takes-kind {μ = exact kind.upTo ∷ anEnd ∷ []} {m = 0} kind.number x (inside s (p + 1) (omega arith)) (λ γ. refl)
-    (takes-kind {μ = anEnd ∷ []} {m = 0} kind.upTo y (inside s (p + 1 + 1) (omega arith)) (λ γ. refl) (here (past s (p + 1 + 1) (omega arith))) (omega arith)) (omega arith))
+    (takes {μ = aNumRest d b ∷ []} {m = 0} (inside s (p + 1) (omega arith)) (only _ kind.number x (λ γ. refl))
+    (takes {μ = anEnd ∷ []} {m = 0} (inside s (p + 1 + 1) (omega arith)) (only _ kind.upTo y (λ γ. refl)) (here (past s (p + 1 + 1) (omega arith))) (omega arith)) (omega arith))
+    (takes {μ = exact kind.upTo ∷ anEnd ∷ []} {m = 0} (inside s (p + 1) (omega arith)) (only _ kind.number x (λ γ. refl))
+    (takes {μ = anEnd ∷ []} {m = 0} (inside s (p + 1 + 1) (omega arith)) (only _ kind.upTo y (λ γ. refl)) (here (past s (p + 1 + 1) (omega arith))) (omega arith)) (omega arith))
     a
 right-range {s} p {n} {d} {b} lo hi (negative x y z) a =
     let e : rangeEndAt s (p + 1) ≡ true = is-end s p (p + 1) (omega arith) lo hi x y (ap (λ (j : ℕ). getD s j 0) (omega arith) ∙ z) in
     joined {m = 0} {c = 0} {d = 0} {ρ = anEnd ∷ []}
     (taken {μ = aNeg d b ∷ []} {m = 0} (opens (suc d)) (inside s (p + 1) (omega arith)) (range-well s (p + 1) (suc d) e)
-    (only (λ κ. (γ : List Item) → step (aRight d b ∷ γ) κ ≡ go (opens (suc d)) (aNeg d b ∷ γ)) kind.minus x (λ γ. refl))
-    (takes-kind {μ = aNumRest d b ∷ []} {m = 0} kind.number y (inside s (p + 1 + 1) (omega arith)) (λ γ. refl)
-    (takes-kind {μ = anEnd ∷ []} {m = 0} kind.upTo z (inside s (p + 1 + 1 + 1) (omega arith)) (λ γ. refl) (here (past s (p + 1 + 1 + 1) (omega arith))) (omega arith)) (omega arith)) (omega arith))
-    (takes-kind {μ = exact kind.number ∷ exact kind.upTo ∷ anEnd ∷ []} {m = 0} kind.minus x (inside s (p + 1) (omega arith)) (λ γ. refl)
-    (takes-kind {μ = exact kind.upTo ∷ anEnd ∷ []} {m = 0} kind.number y (inside s (p + 1 + 1) (omega arith)) (λ γ. refl)
-    (takes-kind {μ = anEnd ∷ []} {m = 0} kind.upTo z (inside s (p + 1 + 1 + 1) (omega arith)) (λ γ. refl) (here (past s (p + 1 + 1 + 1) (omega arith))) (omega arith)) (omega arith)) (omega arith))
+    (only _ kind.minus x (λ γ. refl))
+    (takes {μ = aNumRest d b ∷ []} {m = 0} (inside s (p + 1 + 1) (omega arith)) (only _ kind.number y (λ γ. refl))
+    (takes {μ = anEnd ∷ []} {m = 0} (inside s (p + 1 + 1 + 1) (omega arith)) (only _ kind.upTo z (λ γ. refl)) (here (past s (p + 1 + 1 + 1) (omega arith))) (omega arith)) (omega arith)) (omega arith))
+    (takes {μ = exact kind.number ∷ exact kind.upTo ∷ anEnd ∷ []} {m = 0} (inside s (p + 1) (omega arith)) (only _ kind.minus x (λ γ. refl))
+    (takes {μ = exact kind.upTo ∷ anEnd ∷ []} {m = 0} (inside s (p + 1 + 1) (omega arith)) (only _ kind.number y (λ γ. refl))
+    (takes {μ = anEnd ∷ []} {m = 0} (inside s (p + 1 + 1 + 1) (omega arith)) (only _ kind.upTo z (λ γ. refl)) (here (past s (p + 1 + 1 + 1) (omega arith))) (omega arith)) (omega arith)) (omega arith))
     a

@@ -8,6 +8,7 @@ use native.Mathlib.Omega.{arith}
 use borrow.Author.Tests.{le-ltb}
 use lib.Dec.{eqb, ltb}
 use Rattle.symbols.specs.Refusals.{Refusal, Fault, fault, headingDiffers, numberOf, before, lesser, least}
+use Rattle.symbols.proofs.Tests.{and-right-false}
 use Rattle.parser.specs.Sections.{Finds}
 use Rattle.parser.specs.declared.headings.Heads.{Heads}
 use Rattle.parser.specs.declared.headings.Heads.the-variants.{Fit, Differ}
@@ -30,11 +31,7 @@ unfolding before numberOf
 not-before f g l p q =
     ap (λ (b : Bool). b || eqb (g .place) (f .place) && ltb (numberOf (g .refusal)) (numberOf (f .refusal))) (le-ltb (g .place) (f .place) l)
     ∙ ap (λ (r : Refusal). eqb (g .place) (f .place) && ltb (numberOf r) (numberOf (f .refusal))) q
-    ∙ ap (λ (r : Refusal). eqb (g .place) (f .place) && ltb 7 (numberOf r)) p ∙ never (eqb (g .place) (f .place))
-  where
-    never : (b : Bool) → (b && false) ≡ false
-    never true = refl
-    never false = refl
+    ∙ ap (λ (r : Refusal). eqb (g .place) (f .place) && ltb 7 (numberOf r)) p ∙ and-right-false (eqb (g .place) (f .place)) false refl
 
 least-first : (i : ℕ) (fs : List Fault) → Rising i fs → least fs ≡ headOf fs
 unfolding least lesser headOf

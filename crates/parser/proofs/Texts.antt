@@ -20,6 +20,7 @@ use Rattle.symbols.specs.Symbols.{Placed, Scan, done, stopped, next, scanned, s
 use Rattle.symbols.specs.Promises.{codeIn, taken, filled, firstOf, faultOf, faultIn, written, hasLetters, firstNamed, valueAt, Scans}
 use Rattle.symbols.specs.declared.Scanned.{Scanned}
 use Rattle.symbols.specs.declared.Scanned.the-variants.{Symbols, LongText, UnlistedSymbol, ManySymbols}
+use Rattle.symbols.proofs.Tests.{and-right}
 use Rattle.symbols.proofs.WordLaws.{same-refl}
 use Rattle.symbols.proofs.ValueLaws.{Named, same-value}
 use Rattle.form.proofs.Scanned.{scan-spelled}
@@ -43,17 +44,13 @@ abbrev AllBelow : List Symbol → Type 0
 AllBelow [] = Unit {0}
 AllBelow (s ∷ w) = Below s × AllBelow w
 
-last-true : (a b : Bool) → (a && b) ≡ true → b ≡ true
-last-true true b h = h
-last-true false b h = absurd (true≢false (sym h))
-
 number-below : (r : List ℕ) → BelowFound (numberFound r)
 unfolding numberFound isNumber
 number-below r =
     on (isNumber r)
     (λ e.
     leb-true (decimalFrom 0 r) 1000
-    (last-true (all (λ (b : ℕ). isDigit (classOf b)) r && (eqb (length r) 1 || not (eqb (getD r 0 48) 48))) (leb (decimalFrom 0 r) 1000) e))
+    (and-right (all (λ (b : ℕ). isDigit (classOf b)) r && (eqb (length r) 1 || not (eqb (getD r 0 48) 48))) (leb (decimalFrom 0 r) 1000) e))
   where
     on : (b : Bool) → (b ≡ true → decimalFrom 0 r ≤ 1000) → BelowFound (cond b (found (numeral (decimalFrom 0 r)) (length r)) unlisted)
     on true h = h refl

@@ -1,4 +1,4 @@
--- How many symbols the parts of a dossier have.
+-- How many symbols the parts of a dossier have; given sets and types are in form/proofs/Lengths.
 use mathlib.Core.Path.{_≡_, ap, _∙_, sym}
 use mathlib.Core.List.{List, [], _∷_, _++_}
 use Prim.Native.Nat.{ℕ, suc, _+_, _*_}
@@ -7,14 +7,15 @@ use lib.ListN.{length, length-append, length-map}
 use Rattle.symbols.specs.Kinds as kind
 use Rattle.symbols.specs.Kinds.{Kind}
 use Rattle.symbols.specs.Symbols.{Symbol}
-use Rattle.form.specs.Tree.{Letters, Pred, TypeForm, Declaration, declarations, Parameter, Given, State, Operation}
-use Rattle.form.specs.Written.{Mark, Written, bare, inputsAfter, outputsAfter, writePred, writeType, writeEntries, writeElements, writeGivens}
+use Rattle.form.specs.Tree.{Letters, Pred, Declaration, declarations, Parameter, State, Operation}
+use Rattle.form.specs.Written.{Mark, Written, bare, inputsAfter, outputsAfter, writePred, writeEntries}
 use Rattle.form.specs.Written.{writeDeclarations, writeWhere, writeState, writeParameters, writeOperations}
-use Rattle.form.specs.Headings.{givenLength, operationLength}
+use Rattle.form.specs.Headings.{operationLength}
 use Rattle.form.specs.Codes.{predWidth, typeWidth}
 use Rattle.form.proofs.Takes.{symbolsIn}
-use Rattle.form.proofs.Plain.{pred-plain, type-plain}
-use Rattle.parser.proofs.Behind.{pred-on, type-on}
+use Rattle.form.proofs.Plain.{pred-plain}
+use Rattle.form.proofs.Lengths.{type-length}
+use Rattle.parser.proofs.Behind.{pred-on}
 
 -- what is written before w, by the symbols
 before : (u v w : List Written) → symbolsIn u ≡ symbolsIn v ++ symbolsIn w → length u ≡ length v + length w
@@ -29,37 +30,10 @@ pred-length : (p : Pred) (d k : ℕ) (w : List Written) → length (writePred p 
 unfolding predWidth
 pred-length p d k w = before (writePred p d k w) (writePred p 0 0 []) w (pred-plain p d k w ∙ sym (pred-on p (symbolsIn w)))
 
-type-length : (t : TypeForm) (w : List Written) → length (writeType t w) ≡ typeWidth t + length w
-unfolding typeWidth
-type-length t w = before (writeType t w) (writeType t []) w (type-plain t w ∙ sym (type-on t (symbolsIn w)))
-
 pub entries-length : (k : Kind) (m : ℕ → Mark) (n : ℕ) (xs : List Letters) (w : List Written) → length (writeEntries k m n xs w) ≡ 2 * length xs + length w
 unfolding writeEntries
 entries-length k m n [] w = omega arith
 entries-length k m n (x ∷ xs) w = let r = entries-length k m (suc n) xs w in omega arith
-
-elements-length : (n : ℕ) (xs : List Letters) (w : List Written) → length (writeElements n xs w) ≡ length xs + length w
-unfolding writeElements
-elements-length n [] w = omega arith
-elements-length n (x ∷ xs) w = let r = elements-length (suc n) xs w in omega arith
-
-abbrev givenWidth : Given → ℕ
-givenWidth g = 4 + length (g .otherElements)
-
-abbrev pub givensWidth : List Given → ℕ
-givensWidth [] = 0
-givensWidth (g ∷ gs) = givenWidth g + givensWidth gs
-
-pub givens-length : (n : ℕ) (gs : List Given) (w : List Written) → length (writeGivens n gs w) ≡ givensWidth gs + length w
-unfolding writeGivens
-givens-length n [] w = omega arith
-givens-length n (g ∷ gs) w =
-    let r = givens-length (suc n) gs w in
-    let e = elements-length 0 (g .firstElement ∷ g .otherElements) (bare kind.END ∷ writeGivens (suc n) gs w) in omega arith
-
-pub given-length : (g : Given) → givenLength g ≡ givenWidth g
-unfolding givenLength
-given-length g = let r = givens-length 0 (g ∷ []) [] in omega arith
 
 abbrev pub declarationWidth : Declaration → ℕ
 declarationWidth d = 3 + typeWidth (d .type)

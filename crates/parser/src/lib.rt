@@ -21,7 +21,7 @@ mod headings;
 mod kinds;
 mod nodes;
 mod ranges;
-mod sections;
+pub mod sections;
 mod trees;
 
 // The place behind what was read, and how many numbers are written; or the place of a fault, and the refusal's number.

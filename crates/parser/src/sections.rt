@@ -88,6 +88,25 @@ pub(crate) fn run(nodes: &[u16], at: usize, m: usize, low: u16, high: u16) -> us
     i
 }
 
+// The same from any place: the end where none stands there.
+pub fn skip_from(nodes: &[u16], at: usize, m: usize) -> usize
+    ensures { λ r. ⌜ Skips (now (nodes .entry)) m at r ⌝ }
+{
+    if m < at {
+        return m;
+    }
+    skip(nodes, at, m)
+}
+
+pub fn run_from(nodes: &[u16], at: usize, m: usize, low: u16, high: u16) -> usize
+    ensures { λ r. ⌜ (at ≤ m → RunsTo (now (nodes .entry)) m low high at r) ⌝ }
+{
+    if m < at {
+        return m;
+    }
+    run(nodes, at, m, low, high)
+}
+
 // The place behind a state: its heading, declarations and predicate.
 fn state(nodes: &[u16], at: usize, m: usize) -> usize
     requires { ⌜ at ≤ m ⌝ }

@@ -1,4 +1,4 @@
--- A dossier without faults of form has at most eight given sets, and at most eight elements in each.
+-- A dossier without faults of form has at most eight given sets, at most eight elements in each, and at most sixteen operations.
 use mathlib.Core.Path.{_≡_, refl, ap, _∙_, sym, subst}
 use mathlib.Core.Bool.{Bool, true, false}
 use mathlib.Core.List.{List, [], _∷_, map}
@@ -11,8 +11,8 @@ use borrow.Author.Tests.{ltb-true, ltb-false, lt-ltb}
 use Rattle.symbols.specs.Kinds.{Kind}
 use Rattle.symbols.specs.Symbols.{Symbol}
 use Rattle.symbols.specs.Refusals.{manyDeclared}
-use Rattle.form.specs.Tree.{Letters, Given, Dossier}
-use Rattle.form.specs.Written.{Mark, unmarked, aGiven, anElement, Written, writeElements, writeGivens, written, symbolsOf}
+use Rattle.form.specs.Tree.{Letters, Given, Operation, Dossier}
+use Rattle.form.specs.Written.{Mark, unmarked, aGiven, anElement, anOperation, Written, writeElements, writeGivens, writeOperations, written, symbolsOf}
 use Rattle.form.specs.Form.{Whole, Begins, atMark, Forms, kindAt, refuse, excess, settled}
 use Rattle.parser.proofs.Kept as kept
 use Rattle.reader.specs.Carriers.{sizeOf}
@@ -112,3 +112,40 @@ forms-fewer {w} {d} f =
       sets = omega arith;
       elements = few-in-each 0 (d .givens) _ (λ n l h. no-mark f (anElement n) (element-over n l) (kept.contents (λ u v. Has (anElement n) u) (behind (anElement n)) d _ [] h));
     }
+
+-- ---- operations ----
+
+operation-over : (n : ℕ) → 17 ≤ n → (k s : Kind) (rest : List Symbol) → settled k s rest (anOperation n) ≡ some manyDeclared
+unfolding settled excess refuse
+operation-over n l k s rest = ap (λ (b : Bool). refuse b manyDeclared) (lt-ltb 16 n l)
+
+one-of-sixteen : (n k : ℕ) → ¬ (17 ≤ suc n) → (suc n ≤ 16 → suc n + k ≤ 16) → n + suc k ≤ 16
+one-of-sixteen n k h r = on (ltb 16 (suc n)) refl
+  where
+    on : (b : Bool) → ltb 16 (suc n) ≡ b → n + suc k ≤ 16
+    on true e = absurd (h (ltb-true 16 (suc n) e))
+    on false e = let m = r (ltb-false 16 (suc n) e) in omega arith
+
+few-operations : (n : ℕ) (os : List Operation) (w : List Written) → ((k : ℕ) → 17 ≤ k → ¬ Has (anOperation k) (writeOperations n os w)) → n ≤ 16 → n + length os ≤ 16
+unfolding writeOperations
+few-operations n [] w h l = omega arith
+few-operations n (o ∷ os) w h l =
+    one-of-sixteen n (length os) (λ q. h (suc n) q (there (here refl)))
+    (few-operations (suc n) os w (λ k q p. h k q (kept.operation (λ u v. Has (anOperation k) u) (behind (anOperation k)) n n o os os w w p)))
+
+-- what stands in the operations stands in the dossier
+in-operations : (d : Dossier) (m : Mark) → Has m (writeOperations 0 (d .operations) []) → Has m (written d)
+unfolding written
+in-operations d m h =
+    let b = behind m in
+    kept.contents (λ u v. Has m u) b d _ []
+    (kept.givens (λ u v. Has m u) b 0 0 (d .givens) _ []
+    (there (kept.state (λ u v. Has m u) b (d .abstract) _ []
+    (there (kept.state (λ u v. Has m u) b (d .concrete) _ []
+    (there (kept.condition (λ u v. Has m u) b (d .ainit) _ []
+    (there (kept.condition (λ u v. Has m u) b (d .cinit) _ []
+    (there (kept.condition (λ u v. Has m u) b (d .retrieve) _ [] h)))))))))))
+
+pub forms-few-operations : {w : List Symbol} {d : Dossier} → Forms w d → length (d .operations) ≤ 16
+forms-few-operations {w} {d} f =
+    let m = few-operations 0 (d .operations) [] (λ k q h. no-mark f (anOperation k) (operation-over k q) (in-operations d (anOperation k) h)) (omega arith) in omega arith

@@ -16,11 +16,12 @@ use Rattle.parser.specs.Promises.{textSymbols, numbering}
 use Rattle.parser.proofs.Texts.{known}
 use Rattle.reader.specs.Carriers.{sizeOf}
 use Rattle.reader.specs.Names.{nameFaults}
-use Rattle.names.specs.Inner.{Names, Sizes, entry}
+use Rattle.names.specs.Inner.{Names, Sizes, entry, leastKey}
 use Rattle.names.specs.Passes.{givensKey, dossierKey}
-use Rattle.names.proofs.Showing.{Numbered, leastKey}
+use Rattle.names.proofs.Showing.{Numbered}
 use Rattle.names.proofs.Passed.{DossierIn, passed}
-use Rattle.reading.proofs.Occurring.{Occurs, AllFit, occurs-numbered, text-fits}
+use Rattle.reading.specs.Occurring.{Occurs, AllFit}
+use Rattle.reading.proofs.Occurring.{occurs-numbered, text-fits}
 use Rattle.reading.proofs.Few.{forms-fewer}
 use Rattle.reading.proofs.Named.{symbols-in}
 

@@ -3,3 +3,9 @@ pub mod Occurring
 pub mod Few
 pub mod Named
 pub mod Least
+pub mod Keys
+pub mod Parted
+pub mod Joined
+pub mod Passes
+pub mod Later
+pub mod Faultless

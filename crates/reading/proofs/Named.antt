@@ -19,7 +19,7 @@ use Rattle.names.proofs.PassedDeclared.{TypedIn, no-typed, one-typed}
 use Rattle.names.proofs.PassedGivens.{AllIn, none-in, one-in, GivensIn, no-givens, one-given}
 use Rattle.names.proofs.PassedOperations.{OperationsIn, no-operations, one-operation}
 use Rattle.names.proofs.Passed.{DossierIn}
-use Rattle.reading.proofs.Occurring.{Fits, AllFit, one-fits}
+use Rattle.reading.specs.Occurring.{Fits, AllFit, one-fits}
 
 module _ (P : Letters → Type 0) where
   first : {s : Symbol} {w : List Symbol} → AllFit P (s ∷ w) → Fits P s

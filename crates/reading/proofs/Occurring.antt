@@ -4,29 +4,13 @@ use mathlib.Core.List.{List, [], _∷_}
 use Prim.Native.Nat.{ℕ, suc, _≤_}
 use lib.ListN.{getD}
 use Rattle.symbols.specs.Kinds as kind
-use Rattle.symbols.specs.Symbols.{Name, Symbol, fixed, numeral, name}
+use Rattle.symbols.specs.Symbols.{Symbol, fixed, numeral, name}
 use Rattle.form.specs.Tree.{Letters}
 use Rattle.parser.specs.Promises.{textSymbols, numbering}
 use Rattle.parser.specs.Sections.{Tells}
 use Rattle.parser.proofs.Standing.{Small, Text}
 use Rattle.names.proofs.Showing.{Numbered}
-
--- some symbol of the text is a name with the letters x
-pub record Occurs (text : List ℕ) (x : Letters) : Type 0 where
-  pub at : ℕ
-  pub called : Name
-  pub stands : getD (textSymbols text) at (fixed kind.END) ≡ name called
-  pub spelt : called .letters ≡ x
-
--- names have letters of P, and numbers are at most 1,000
-abbrev pub Fits : (Letters → Type 0) → Symbol → Type 0
-Fits P (fixed k) = Unit {0}
-Fits P (numeral n) = n ≤ 1000
-Fits P (name x) = P (x .letters)
-
-pub data AllFit (P : Letters → Type 0) : List Symbol → Type 0 where
-  none-fit : AllFit P []
-  one-fits : {s : Symbol} {w : List Symbol} → Fits P s → AllFit P w → AllFit P (s ∷ w)
+use Rattle.reading.specs.Occurring.{Occurs, Fits, AllFit, none-fit, one-fits}
 
 pub all-fit : (P : Letters → Type 0) (w : List Symbol) → ((i : ℕ) → Fits P (getD w i (fixed kind.END))) → AllFit P w
 all-fit P [] h = none-fit

@@ -1,0 +1,2 @@
+pub mod Occurring
+pub mod Promises

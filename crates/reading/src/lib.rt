@@ -1,11 +1,87 @@
-// The reading of a text: the passes in their order.
+// The reading of a text: the passes of document 01 in their order.
+ghost use Prim.Native.Nat.{_≤_};
 ghost use mathlib.Core.Path.{_≡_};
+ghost use lib.ListN.{length, take, getD};
+ghost use Rattle.reading.specs.Promises.{Reads, Named, Refuses, Checks};
+use names::least_fault;
+use parser::Parsed;
+use parser::parse;
+use parser::sections::sections;
+use parser::sections::wide;
 
-// How many names a text can have, by letters and endings.
-pub const NAMES_LIMIT: usize = 16384;
+// How many symbols and how many numbers of nodes a text has that is a dossier; or the number of its refusal, and the place.
+pub enum Reading {
+    Read(usize, usize),
+    Refused(u8, usize),
+}
 
-pub fn names_limit() -> usize
-    ensures { λ r. ⌜ r ≡ 16384 ⌝ }
+// What a text is. Its symbols stand in the first three arrays, and its nodes in the last where numbers 1 to 7 found no fault.
+pub fn read(
+    text: &[u8],
+    codes: &mut [u8; 4096],
+    starts: &mut [u16; 4096],
+    values: &mut [u16; 4096],
+    nodes: &mut [u16; 16384],
+) -> Reading
+    ensures { λ r. ⌜ Reads (now (text .entry)) (now (codes .entry)) (now (starts .entry)) (now (values .entry)) (now (nodes .entry)) (now (codes .exit)) (now (starts .exit)) (now (values .exit)) (now (nodes .exit)) r ⌝ }
 {
-    NAMES_LIMIT
+    match parse(text, codes, starts, values, nodes) {
+        Parsed::Structure(n, m) => checked(starts, n, text.len(), nodes, m),
+        Parsed::Refused(k, p) => Reading::Refused(k, p),
+    }
+}
+
+// The passes over the structure of a text, which has n symbols and m numbers of nodes: the first that finds a fault refuses.
+fn checked(starts: &[u16], n: usize, end: usize, nodes: &[u16], m: usize) -> Reading
+    requires { ⌜ n ≤ length (now starts) ⌝ }
+    ensures { λ r. ⌜ Checks (now (starts .entry)) n end (now (nodes .entry)) m r ⌝ }
+{
+    let mut sizes = [0u16; 8];
+    let key = names_key(nodes, m, &mut sizes);
+    if key != 0 {
+        return refused(key, starts, n, end);
+    }
+    Reading::Read(n, m)
+}
+
+// Numbers 8 to 11 and 14: the least fault (place * 16 + number + 1, places by symbols), or 0; and how many elements each given set has.
+fn names_key(nodes: &[u16], m: usize, sizes: &mut [u16; 8]) -> u32
+    ensures { λ r. ⌜ Named (now (nodes .entry)) m (now (sizes .exit)) r ⌝ }
+{
+    let mut names = [0u16; 16384];
+    let at = sections(nodes, m);
+    least_fault(
+        nodes,
+        m,
+        at.givens,
+        at.abstracts,
+        at.concretes,
+        at.ainit,
+        at.operations,
+        &mut names,
+        sizes,
+    )
+}
+
+// The refusal of a fault by its number.
+fn refused(key: u32, starts: &[u16], n: usize, end: usize) -> Reading
+    requires { ⌜ (1 ≤ key) × (n ≤ length (now starts)) ⌝ }
+    ensures { λ r. ⌜ Refuses key (now (starts .entry)) n end r ⌝ }
+{
+    let code = key - 1;
+    Reading::Refused(
+        (code % 16) as u8,
+        place_at(starts, n, (code / 16) as usize, end),
+    )
+}
+
+// The first byte of a symbol, or the text's end.
+fn place_at(starts: &[u16], n: usize, i: usize, end: usize) -> usize
+    requires { ⌜ n ≤ length (now starts) ⌝ }
+    ensures { λ r. ⌜ r ≡ getD (take n (now (starts .entry))) i end ⌝ }
+{
+    if i < n {
+        return wide(starts[i]);
+    }
+    end
 }

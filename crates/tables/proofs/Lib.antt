@@ -8,6 +8,12 @@ pub mod ResolvingLength
 pub mod TabledShown
 pub mod TabledTypes
 pub mod Tabled
+pub mod PlacingSlots
+pub mod PlacingDeclared
+pub mod PlacingGivens
+pub mod PlacingParameters
+pub mod PlacingStates
+pub mod PlacingContexts
 -- The walk that writes the table: pieces of the table, and what each shape of node writes.
 pub mod Patching
 pub mod Making

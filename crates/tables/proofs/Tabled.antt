@@ -21,6 +21,7 @@ use Rattle.names.proofs.PassedNamed.{Base}
 use Rattle.names.proofs.PassedStates.{scope}
 use Rattle.names.proofs.PassedScopes.{titles-given, shows}
 use Rattle.names.proofs.PassedOperations.{OperationsIn, no-operations, one-operation}
+use Rattle.names.proofs.Faultless.{faultless}
 use Rattle.names.proofs.Passed.{DossierIn}
 use Rattle.tables.specs.Table.{Places}
 use Rattle.tables.specs.Resolved.{Slots}
@@ -29,14 +30,9 @@ use Rattle.tables.specs.Dossiers.{slotsOf, startsOf, withPredicates, tab
 use Rattle.tables.specs.Passes.{kindsOf, placesOf, withTables, tableBy}
 use Rattle.tables.proofs.ResolvingScope.{PlacesShown}
 use Rattle.tables.proofs.Resolving.{resolved-pred}
-use Rattle.tables.proofs.TabledShown.{AllShown, none-shown, one-shown, faultless, free-sees, contexts-shown}
+use Rattle.tables.proofs.TabledShown.{AllShown, none-shown, one-shown, free-sees, contexts-shown}
+use Rattle.tables.proofs.PlacingContexts.{AllPlaced, none-placed, one-placed}
 use Rattle.tables.proofs.TabledTypes.{declared-written}
-
--- each context with its slots and its table of places
-pub data AllPlaced (ρ : Numbering) (P : Letters → Type 0) : List Context → List Slots → List Places → Type 0 where
-  none-placed : AllPlaced ρ P [] [] []
-  one-placed : {c : Context} {cs : List Context} {S : Slots} {Ss : List Slots} {W : Places} {Ws : List Places} → PlacesShown ρ P (c .scope) S W → AllPlaced ρ P cs Ss Ws
-      → AllPlaced ρ P (c ∷ cs) (S ∷ Ss) (W ∷ Ws)
 
 -- ---- the predicates are the text's ----
 

@@ -29,6 +29,7 @@ use Rattle.names.proofs.PassedConditions.{found-append, AreUsed, again, leave, 
 use Rattle.names.proofs.PassedParameters.{parameters-typed, parameter-unused}
 use Rattle.names.proofs.PassedReach.{operation-reach, title-named, parameters-shown, reaching-sees, leaving-sees, reaching-uses}
 use Rattle.names.proofs.PassedOperations.{reachIn, OperationsIn, no-operations, one-operation, operation-named}
+use Rattle.names.proofs.Faultless.{Faultless, faultless}
 use Rattle.names.proofs.Passed.{DossierIn}
 use Rattle.tables.specs.Passes.{operationKinds, kindsOf}
 
@@ -38,26 +39,6 @@ pub data AllShown (ρ : Numbering) (P : Letters → Type 0) (z : Sizes) : List C
   one-shown : {c : Context} {cs : List Context} {T : Names} {Ts : List Names} → Shows ρ P (c .scope) T z → AllShown ρ P z cs Ts → AllShown ρ P z (c ∷ cs) (T ∷ Ts)
 
 -- ---- no faults, part by part ----
-
-pub record Faultless (d : Dossier) : Type 0 where
-  pub givens-new : givenFaults [] (givensAt d) (d .givens) ≡ []
-  pub abstract-new : declarationFaults (d .givens) (givenNames (d .givens)) (suc (abstractAt d)) (declarations (d .abstract)) ≡ []
-  pub concrete-new : declarationFaults (d .givens) (abstractTaken d) (suc (concreteAt d)) (declarations (d .concrete)) ≡ []
-  pub operations-new : operationFaults (d .givens) (concreteTaken d) (operationsAt d) (d .operations) ≡ []
-  pub contexts-clear : concat (map contextFaults (contexts d)) ≡ []
-
-pub faultless : (d : Dossier) → nameFaults d ≡ [] → Faultless d
-unfolding nameFaults
-faultless d e =
-    let g : List Fault = givenFaults [] (givensAt d) (d .givens) in
-    let a : List Fault = declarationFaults (d .givens) (givenNames (d .givens)) (suc (abstractAt d)) (declarations (d .abstract)) in
-    let c : List Fault = declarationFaults (d .givens) (abstractTaken d) (suc (concreteAt d)) (declarations (d .concrete)) in
-    let o : List Fault = operationFaults (d .givens) (concreteTaken d) (operationsAt d) (d .operations) in
-    let s = append-nil-both (g ++ a ++ c ++ o) (concat (map contextFaults (contexts d))) e in
-    let r = append-nil-both (g ++ a ++ c) o (s .0) in
-    let q = append-nil-both (g ++ a) c (r .0) in
-    let p = append-nil-both g a (q .0) in
-    record { givens-new = p .0; abstract-new = p .1; concrete-new = q .1; operations-new = r .1; contexts-clear = s .1 }
 
 -- what an operation without faults in its head adds
 pub record HeadNew (gs : List Given) (us : List Letters) (i : ℕ) (o : Operation) (os : List Operation) : Type 0 where

@@ -27,6 +27,7 @@ use Rattle.names.proofs.PassedTables.{same-name}
 use Rattle.names.proofs.PassedTypes.{TypeIn}
 use Rattle.names.proofs.PassedDeclared.{TypedIn, no-typed, one-typed}
 use Rattle.names.proofs.PassedOperations.{OperationsIn, no-operations, one-operation}
+use Rattle.names.proofs.Faultless.{Faultless}
 use Rattle.names.proofs.Passed.{DossierIn}
 use Rattle.contexts.specs.Spans.{spansOf, span}
 use Rattle.tables.specs.Table as table
@@ -35,7 +36,7 @@ use Rattle.tables.specs.Walks.{patch}
 use Rattle.tables.specs.Dossiers.{givenPlace, typeTable, withCarriers, withParameters, declared}
 use Rattle.tables.specs.Passes.{givenIndex, typeNode, withNodes, withOperations, declaredNodes}
 use Rattle.tables.proofs.ResolvingSizes.{view-size, view-index, indexFound, range-counted}
-use Rattle.tables.proofs.TabledShown.{Faultless, head-new}
+use Rattle.tables.proofs.TabledShown.{head-new}
 
 -- ---- the place of a given set ----
 

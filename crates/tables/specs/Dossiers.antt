@@ -1,4 +1,4 @@
--- The table of a whole dossier: its predicates, and the carriers of its declared names, at the places of their nodes; the groups of variables; the conjuncts.
+-- The table of a whole dossier: its predicates, and the carriers of its declared names, at the places of their nodes; the groups of variables.
 use mathlib.Core.Bool.{Bool, true, false, _||_, cond}
 use mathlib.Core.List.{List, [], _∷_, _++_, map}
 use mathlib.Core.Option.{Option, none, some}
@@ -8,7 +8,6 @@ use lib.ListN.{length, replicate}
 use Rattle.symbols.specs.Lists.{find, filter}
 use Rattle.symbols.specs.Symbols.{Name}
 use Rattle.form.specs.Tree.{Letters, Given, Range, Domain, TypeForm, givenType, powerType, rangeType, arrowType, Declaration, declarations, Parameter, State, Operation, Dossier}
-use Rattle.form.specs.Tree.{Pred, truth, falsity, negation, paren, quantified, connected, compared, member, within, related, Connective, and, or, implies, iff}
 use Rattle.form.specs.Codes.{Numbering, node, endNumber, arrowNumber, numberOfName}
 use Rattle.reader.specs.Carriers.{Variable, sameName}
 use Rattle.reader.specs.Scope.{Scope, Context, placeIn, contexts, unprimed, primed, inputs, outputs, isInput, isOutput}
@@ -111,26 +110,3 @@ unfoldable pub groupsOf : Dossier → Numbering → List ℕ
 groupsOf d ρ =
     let s : List ℕ = spansOf d ρ in
     row 8 (stateRow (span s 0) (declarations (d .abstract))) ++ row 8 (stateRow (span s 3) (declarations (d .concrete))) ++ operationRows s 0 (d .operations)
-
--- The conjuncts of a predicate whose table begins at q: where each one's nodes begin and end, in the order of the text
-abbrev pub isAnd : Connective → Bool
-isAnd and = true
-isAnd or = false
-isAnd implies = false
-isAnd iff = false
-
-abbrev pub one : (q : ℕ) → List ℕ → List (ℕ × ℕ)
-one q piece = (q, q + length piece) ∷ []
-
-unfoldable pub conjuncts : Pred → Scope → Slots → (q : ℕ) → List (ℕ × ℕ)
-conjuncts truth Γ W q = one q (predTable truth Γ W 38 q)
-conjuncts falsity Γ W q = one q (predTable falsity Γ W 38 q)
-conjuncts (negation p) Γ W q = one q (predTable (negation p) Γ W 38 q)
-conjuncts (paren p) Γ W q = conjuncts p Γ W q
-conjuncts (quantified k x t p) Γ W q = one q (predTable (quantified k x t p) Γ W 38 q)
-conjuncts (connected o p r) Γ W q =
-    cond (isAnd o) (conjuncts p Γ W q ++ conjuncts r Γ W (q + length (predTable p Γ W 38 q))) (one q (predTable (connected o p r) Γ W 38 q))
-conjuncts (compared o t u) Γ W q = one q (predTable (compared o t u) Γ W 38 q)
-conjuncts (member o t u) Γ W q = one q (predTable (member o t u) Γ W 38 q)
-conjuncts (within o t r) Γ W q = one q (predTable (within o t r) Γ W 38 q)
-conjuncts (related o t u v) Γ W q = one q (predTable (related o t u v) Γ W 38 q)

@@ -2,5 +2,6 @@ pub mod Table
 pub mod Resolved
 pub mod Walks
 pub mod Dossiers
+pub mod Conjuncts
 pub mod Passes
 pub mod Parts

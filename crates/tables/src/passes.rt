@@ -167,7 +167,14 @@ fn span_at(spans: &[u16], k: usize) -> usize
 }
 
 // The carriers of the operations' parameters.
-fn set_parameter_types(nodes: &[u16], spans: &[u16], n: usize, names: &[u16], sizes: &[u16], out: &mut [u16])
+fn set_parameter_types(
+    nodes: &[u16],
+    spans: &[u16],
+    n: usize,
+    names: &[u16],
+    sizes: &[u16],
+    out: &mut [u16],
+)
     requires { ⌜ (n ≤ 16) × (length (now nodes) ≤ length (now out)) × (length (now out) ≤ 16384) ⌝ }
     ensures { λ r. ⌜ OperationTypesSet (now (nodes .entry)) (now (spans .entry)) n (now (names .entry)) (now (sizes .entry)) (now (out .entry)) (now (out .exit)) ⌝ }
 {
@@ -181,17 +188,45 @@ fn set_parameter_types(nodes: &[u16], spans: &[u16], n: usize, names: &[u16], si
 }
 
 // The carriers of all declared names.
-fn set_declared(nodes: &[u16], spans: &[u16], n: usize, names: &[u16], sizes: &[u16], out: &mut [u16])
+fn set_declared(
+    nodes: &[u16],
+    spans: &[u16],
+    n: usize,
+    names: &[u16],
+    sizes: &[u16],
+    out: &mut [u16],
+)
     requires { ⌜ (n ≤ 16) × (length (now nodes) ≤ length (now out)) × (length (now out) ≤ 16384) ⌝ }
     ensures { λ r. ⌜ DeclaredSet (now (nodes .entry)) (now (spans .entry)) n (now (names .entry)) (now (sizes .entry)) (now (out .entry)) (now (out .exit)) ⌝ }
 {
-    set_types(nodes, span_at(spans, 0), span_at(spans, 1), names, sizes, out);
-    set_types(nodes, span_at(spans, 3), span_at(spans, 4), names, sizes, out);
+    set_types(
+        nodes,
+        span_at(spans, 0),
+        span_at(spans, 1),
+        names,
+        sizes,
+        out,
+    );
+    set_types(
+        nodes,
+        span_at(spans, 3),
+        span_at(spans, 4),
+        names,
+        sizes,
+        out,
+    );
     set_parameter_types(nodes, spans, n, names, sizes, out);
 }
 
 // A predicate that ends at a place.
-fn set_predicate(nodes: &[u16], end: usize, names: &mut [u16], places: &mut [u16], sizes: &[u16], out: &mut [u16])
+fn set_predicate(
+    nodes: &[u16],
+    end: usize,
+    names: &mut [u16],
+    places: &mut [u16],
+    sizes: &[u16],
+    out: &mut [u16],
+)
     requires { ⌜ (length (now nodes) ≤ length (now out)) × (length (now out) ≤ 16384) ⌝ }
     ensures { λ r. ⌜ PredicateSet (now (nodes .entry)) end (now (names .entry)) (now (names .exit)) (now (places .entry)) (now (places .exit)) (now (sizes .entry)) (now (out .entry)) (now (out .exit)) ⌝ }
 {
@@ -324,7 +359,19 @@ fn set_operations(
         let last = span_at(spans, 9 + 4 * k + 1);
         let middle = span_at(spans, 9 + 4 * k + 2);
         let end = span_at(spans, 9 + 4 * k + 3);
-        set_operation(nodes, first, last, middle, end, abstracts, concretes, names, places, sizes, out);
+        set_operation(
+            nodes,
+            first,
+            last,
+            middle,
+            end,
+            abstracts,
+            concretes,
+            names,
+            places,
+            sizes,
+            out,
+        );
         k += 1;
     }
 }
@@ -346,10 +393,40 @@ fn set_contexts(
 {
     let s4 = span_at(spans, 4);
     let s5 = span_at(spans, 5);
-    set_state(nodes, span_at(spans, 0), span_at(spans, 1), span_at(spans, 2), names, places, sizes, out);
+    set_state(
+        nodes,
+        span_at(spans, 0),
+        span_at(spans, 1),
+        span_at(spans, 2),
+        names,
+        places,
+        sizes,
+        out,
+    );
     set_state(nodes, span_at(spans, 3), s4, s5, names, places, sizes, out);
-    set_conditions(nodes, span_at(spans, 6), span_at(spans, 7), span_at(spans, 8), abstracts, concretes, names, places, sizes, out);
-    set_operations(nodes, spans, n, abstracts, concretes, names, places, sizes, out);
+    set_conditions(
+        nodes,
+        span_at(spans, 6),
+        span_at(spans, 7),
+        span_at(spans, 8),
+        abstracts,
+        concretes,
+        names,
+        places,
+        sizes,
+        out,
+    );
+    set_operations(
+        nodes,
+        spans,
+        n,
+        abstracts,
+        concretes,
+        names,
+        places,
+        sizes,
+        out,
+    );
 }
 
 // At most 16 operations.
@@ -399,5 +476,15 @@ pub fn write(
     ensures { λ r. ⌜ TableWritten (now (nodes .entry)) (now (spans .entry)) operations givens abstracts (now (names .entry)) (now (sizes .entry)) (now (out .entry)) (now (out .exit)) ⌝ }
 {
     let mut places = [0u16; 16384];
-    set_table(nodes, spans, operations, givens, abstracts, names, &mut places, sizes, out);
+    set_table(
+        nodes,
+        spans,
+        operations,
+        givens,
+        abstracts,
+        names,
+        &mut places,
+        sizes,
+        out,
+    );
 }

@@ -5,7 +5,8 @@ use Rattle.form.specs.Machine.{someOperations}
 use Rattle.parser.specs.Dossiers.{threeConditions}
 use Rattle.parser.proofs.Reading.{next, fails, framed, known}
 use Rattle.parser.proofs.Listing.{operations}
-use Rattle.parser.proofs.Fronts.{made-known, sequence-known, sequence-last, sequence-then, sequence-onto}
+use Rattle.parser.proofs.Making.{made}
+use Rattle.parser.proofs.BodyNodes.{sequence-known, sequence-last, sequence-then, sequence-onto}
 use Rattle.parser.proofs.bodies.bodies.Statement.{statement}
 use Rattle.parser.specs.Derived as part
 use Rattle.parser.proofs.bodies.bodies.Tie as tie
@@ -44,7 +45,7 @@ same-length : tie.Need-same-length
 same-length c = search needs
 
 returns : tie.Need-returns
-returns c = (next (known (c .before .before .before .before .before .before .before .before .before .before .before .before .before .before .before .before .before .before .before .a .given .1) (c .before .before .before .before .before .before .before .before .before .before .before .before .before .before .before .before .before .before .before .before .before .before .before .givens .ensures .0)) (next (framed (threeConditions ++ (someOperations 0 ∷ [])) (known (c .before .before .before .before .before .before .before .before .before .before .before .before .b .given .1) (c .before .before .before .before .before .before .before .before .before .before .before .before .before .before .before .before .states .ensures .0))) (next (framed (someOperations 0 ∷ []) (known (c .before .before .before .before .before .c .given .1) (c .before .before .before .before .before .before .before .before .before .conditions .ensures .0))) (c .before .before .operations .ensures .0))), sequence-then (part.aState 38 ∷ part.aState 39 ∷ part.aWhere 40 ∷ part.aWhere 41 ∷ part.aWhere 42 ∷ part.someOperations ∷ []) (c .before .before .operations .last .1 .1 .1 .0) (c .before .before .operations .result) (made-known (c .before .before .before .before .before .before .before .before .before .before .before .before .before .before .before .before .before .before .before .a .given .1) (c .before .before .before .before .before .before .before .before .before .before .before .before .before .before .before .before .before .before .before .before .before .before .before .givens .ensures .1)) (sequence-onto (part.aWhere 40 ∷ part.aWhere 41 ∷ part.aWhere 42 ∷ part.someOperations ∷ []) (c .before .before .operations .last .1 .1 .1 .0) (c .before .before .operations .result) (sequence-known (c .before .before .before .before .before .before .before .before .before .before .before .before .b .given .1) (c .before .before .before .before .before .before .before .before .before .before .before .before .before .before .before .before .states .ensures .1)) (sequence-onto (part.someOperations ∷ []) (c .before .before .operations .last .1 .1 .1 .0) (c .before .before .operations .result) (sequence-known (c .before .before .before .before .before .c .given .1) (c .before .before .before .before .before .before .before .before .before .conditions .ensures .1)) (sequence-last (c .before .before .before .before .before .before .before .before .before .before .before .before .before .before .before .before .before .before .before .before .before .before .before .before .before .before .before .before .args .s .now) (c .before .before .before .before .before .before .before .before .before .before .before .before .before .before .before .before .before .before .before .before .before .before .before .before .before .before .before .before .args .v .now) part.someOperations (c .before .before .before .before .before .c .given .0 .0) (c .before .before .before .before .before .c .given .0 .1 .0) (c .before .before .before .before .before .before .before .before .before .conditions .last .1 .1 .1 .0) (c .before .before .operations .last .1 .1 .1 .0) (c .before .before .operations .result) (c .before .before .operations .ensures .1)))))
+returns c = (next (known (c .before .before .before .before .before .before .before .before .before .before .before .before .before .before .before .before .before .before .before .a .given .1) (c .before .before .before .before .before .before .before .before .before .before .before .before .before .before .before .before .before .before .before .before .before .before .before .givens .ensures .0)) (next (framed (threeConditions ++ (someOperations 0 ∷ [])) (known (c .before .before .before .before .before .before .before .before .before .before .before .before .b .given .1) (c .before .before .before .before .before .before .before .before .before .before .before .before .before .before .before .before .states .ensures .0))) (next (framed (someOperations 0 ∷ []) (known (c .before .before .before .before .before .c .given .1) (c .before .before .before .before .before .before .before .before .before .conditions .ensures .0))) (c .before .before .operations .ensures .0))), sequence-then (part.aState 38 ∷ part.aState 39 ∷ part.aWhere 40 ∷ part.aWhere 41 ∷ part.aWhere 42 ∷ part.someOperations ∷ []) (c .before .before .operations .last .1 .1 .1 .0) (c .before .before .operations .result) (made (c .before .before .before .before .before .before .before .before .before .before .before .before .before .before .before .before .before .before .before .a .given .1) (c .before .before .before .before .before .before .before .before .before .before .before .before .before .before .before .before .before .before .before .before .before .before .before .givens .ensures .1)) (sequence-onto (part.aWhere 40 ∷ part.aWhere 41 ∷ part.aWhere 42 ∷ part.someOperations ∷ []) (c .before .before .operations .last .1 .1 .1 .0) (c .before .before .operations .result) (sequence-known (c .before .before .before .before .before .before .before .before .before .before .before .before .b .given .1) (c .before .before .before .before .before .before .before .before .before .before .before .before .before .before .before .before .states .ensures .1)) (sequence-onto (part.someOperations ∷ []) (c .before .before .operations .last .1 .1 .1 .0) (c .before .before .operations .result) (sequence-known (c .before .before .before .before .before .c .given .1) (c .before .before .before .before .before .before .before .before .before .conditions .ensures .1)) (sequence-last (c .before .before .before .before .before .before .before .before .before .before .before .before .before .before .before .before .before .before .before .before .before .before .before .before .before .before .before .before .args .s .now) (c .before .before .before .before .before .before .before .before .before .before .before .before .before .before .before .before .before .before .before .before .before .before .before .before .before .before .before .before .args .v .now) part.someOperations (c .before .before .before .before .before .c .given .0 .0) (c .before .before .before .before .before .c .given .0 .1 .0) (c .before .before .before .before .before .before .before .before .before .conditions .last .1 .1 .1 .0) (c .before .before .operations .last .1 .1 .1 .0) (c .before .before .operations .result) (c .before .before .operations .ensures .1)))))
 
 same-length-2 : tie.Need-same-length-2
 same-length-2 c = search needs

@@ -7,7 +7,8 @@ use Rattle.symbols.specs.Kinds.{codeOf}
 use Rattle.form.specs.Machine.{exact}
 use Rattle.parser.specs.Derived.{MadeAt}
 use Rattle.parser.proofs.Reading.{fails, framed, known}
-use Rattle.parser.proofs.Fronts.{long-written, then-closes, made-known, condition-made}
+use Rattle.parser.proofs.Making.{made}
+use Rattle.parser.proofs.BodyNodes.{long-written, then-closes, condition-made}
 use Rattle.parser.proofs.bodies.condition.Statement.{statement}
 use Rattle.parser.specs.Derived as part
 use Rattle.parser.proofs.bodies.condition.Tie as tie
@@ -22,16 +23,16 @@ enum-known-e : tie.Need-enum-known-e
 enum-known-e c = search needs
 
 add-put : tie.Need-add-put
-add-put c = let room = c .before .before .before .before .before .before .before .before .before .before .before .pre in let h = (known (c .before .before .e .given .1) (c .before .before .before .before .before .before .pred .ensures .0)) in let l = (c .before .before .before .before .before .before .pred .kept .1 .1 .1 .1 .1 .0) in let d : MadeAt (c .before .before .before .before .before .before .before .before .before .before .before .args .s .now) (c .before .before .before .before .before .before .before .before .before .before .before .args .v .now) (part.aPredFrom 1) (c .before .before .before .before .before .before .before .before .before .before .before .args .at) (c .before .before .before .before .before .before .before .before .before .before .before .args .n + 4) (c .before .before .before .before .before .before .before .before .before .before .before .args .code .now) (c .before .before .before .before .before .before .pred .last .1 .1 .1 .1 .1 .0) (c .before .before .e .given .0 .0) (c .before .before .e .given .0 .1 .0) = (made-known (c .before .before .e .given .1) (c .before .before .before .before .before .before .pred .ensures .1)) in let u = long-written (c .before .before .before .before .before .before .before .before .before .before .before .args .n + 4) (c .before .before .e .given .0 .1 .0) (c .before .before .before .before .before .before .before .before .before .before .before .args .code .now) (c .before .before .before .before .before .before .pred .last .1 .1 .1 .1 .1 .0) (d .nodes) (d .written) (omega arith) (omega arith) in search needs
+add-put c = let room = c .before .before .before .before .before .before .before .before .before .before .before .pre in let h = (known (c .before .before .e .given .1) (c .before .before .before .before .before .before .pred .ensures .0)) in let l = (c .before .before .before .before .before .before .pred .kept .1 .1 .1 .1 .1 .0) in let d : MadeAt (c .before .before .before .before .before .before .before .before .before .before .before .args .s .now) (c .before .before .before .before .before .before .before .before .before .before .before .args .v .now) (part.aPredFrom 1) (c .before .before .before .before .before .before .before .before .before .before .before .args .at) (c .before .before .before .before .before .before .before .before .before .before .before .args .n + 4) (c .before .before .before .before .before .before .before .before .before .before .before .args .code .now) (c .before .before .before .before .before .before .pred .last .1 .1 .1 .1 .1 .0) (c .before .before .e .given .0 .0) (c .before .before .e .given .0 .1 .0) = (made (c .before .before .e .given .1) (c .before .before .before .before .before .before .pred .ensures .1)) in let u = long-written (c .before .before .before .before .before .before .before .before .before .before .before .args .n + 4) (c .before .before .e .given .0 .1 .0) (c .before .before .before .before .before .before .before .before .before .before .before .args .code .now) (c .before .before .before .before .before .before .pred .last .1 .1 .1 .1 .1 .0) (d .nodes) (d .written) (omega arith) (omega arith) in search needs
 
 sub-put : tie.Need-sub-put
-sub-put c = let room = c .before .before .before .before .before .before .before .before .before .before .before .pre in let h = (known (c .before .before .e .given .1) (c .before .before .before .before .before .before .pred .ensures .0)) in let l = (c .before .before .before .before .before .before .pred .kept .1 .1 .1 .1 .1 .0) in let d : MadeAt (c .before .before .before .before .before .before .before .before .before .before .before .args .s .now) (c .before .before .before .before .before .before .before .before .before .before .before .args .v .now) (part.aPredFrom 1) (c .before .before .before .before .before .before .before .before .before .before .before .args .at) (c .before .before .before .before .before .before .before .before .before .before .before .args .n + 4) (c .before .before .before .before .before .before .before .before .before .before .before .args .code .now) (c .before .before .before .before .before .before .pred .last .1 .1 .1 .1 .1 .0) (c .before .before .e .given .0 .0) (c .before .before .e .given .0 .1 .0) = (made-known (c .before .before .e .given .1) (c .before .before .before .before .before .before .pred .ensures .1)) in let u = long-written (c .before .before .before .before .before .before .before .before .before .before .before .args .n + 4) (c .before .before .e .given .0 .1 .0) (c .before .before .before .before .before .before .before .before .before .before .before .args .code .now) (c .before .before .before .before .before .before .pred .last .1 .1 .1 .1 .1 .0) (d .nodes) (d .written) (omega arith) (omega arith) in search needs
+sub-put c = let room = c .before .before .before .before .before .before .before .before .before .before .before .pre in let h = (known (c .before .before .e .given .1) (c .before .before .before .before .before .before .pred .ensures .0)) in let l = (c .before .before .before .before .before .before .pred .kept .1 .1 .1 .1 .1 .0) in let d : MadeAt (c .before .before .before .before .before .before .before .before .before .before .before .args .s .now) (c .before .before .before .before .before .before .before .before .before .before .before .args .v .now) (part.aPredFrom 1) (c .before .before .before .before .before .before .before .before .before .before .before .args .at) (c .before .before .before .before .before .before .before .before .before .before .before .args .n + 4) (c .before .before .before .before .before .before .before .before .before .before .before .args .code .now) (c .before .before .before .before .before .before .pred .last .1 .1 .1 .1 .1 .0) (c .before .before .e .given .0 .0) (c .before .before .e .given .0 .1 .0) = (made (c .before .before .e .given .1) (c .before .before .before .before .before .before .pred .ensures .1)) in let u = long-written (c .before .before .before .before .before .before .before .before .before .before .before .args .n + 4) (c .before .before .e .given .0 .1 .0) (c .before .before .before .before .before .before .before .before .before .before .before .args .code .now) (c .before .before .before .before .before .before .pred .last .1 .1 .1 .1 .1 .0) (d .nodes) (d .written) (omega arith) (omega arith) in search needs
 
 cast-put : tie.Need-cast-put
-cast-put c = let room = c .before .before .before .before .before .before .before .before .before .before .before .pre in let h = (known (c .before .before .e .given .1) (c .before .before .before .before .before .before .pred .ensures .0)) in let l = (c .before .before .before .before .before .before .pred .kept .1 .1 .1 .1 .1 .0) in let d : MadeAt (c .before .before .before .before .before .before .before .before .before .before .before .args .s .now) (c .before .before .before .before .before .before .before .before .before .before .before .args .v .now) (part.aPredFrom 1) (c .before .before .before .before .before .before .before .before .before .before .before .args .at) (c .before .before .before .before .before .before .before .before .before .before .before .args .n + 4) (c .before .before .before .before .before .before .before .before .before .before .before .args .code .now) (c .before .before .before .before .before .before .pred .last .1 .1 .1 .1 .1 .0) (c .before .before .e .given .0 .0) (c .before .before .e .given .0 .1 .0) = (made-known (c .before .before .e .given .1) (c .before .before .before .before .before .before .pred .ensures .1)) in let u = long-written (c .before .before .before .before .before .before .before .before .before .before .before .args .n + 4) (c .before .before .e .given .0 .1 .0) (c .before .before .before .before .before .before .before .before .before .before .before .args .code .now) (c .before .before .before .before .before .before .pred .last .1 .1 .1 .1 .1 .0) (d .nodes) (d .written) (omega arith) (omega arith) in search needs
+cast-put c = let room = c .before .before .before .before .before .before .before .before .before .before .before .pre in let h = (known (c .before .before .e .given .1) (c .before .before .before .before .before .before .pred .ensures .0)) in let l = (c .before .before .before .before .before .before .pred .kept .1 .1 .1 .1 .1 .0) in let d : MadeAt (c .before .before .before .before .before .before .before .before .before .before .before .args .s .now) (c .before .before .before .before .before .before .before .before .before .before .before .args .v .now) (part.aPredFrom 1) (c .before .before .before .before .before .before .before .before .before .before .before .args .at) (c .before .before .before .before .before .before .before .before .before .before .before .args .n + 4) (c .before .before .before .before .before .before .before .before .before .before .before .args .code .now) (c .before .before .before .before .before .before .pred .last .1 .1 .1 .1 .1 .0) (c .before .before .e .given .0 .0) (c .before .before .e .given .0 .1 .0) = (made (c .before .before .e .given .1) (c .before .before .before .before .before .before .pred .ensures .1)) in let u = long-written (c .before .before .before .before .before .before .before .before .before .before .before .args .n + 4) (c .before .before .e .given .0 .1 .0) (c .before .before .before .before .before .before .before .before .before .before .before .args .code .now) (c .before .before .before .before .before .before .pred .last .1 .1 .1 .1 .1 .0) (d .nodes) (d .written) (omega arith) (omega arith) in search needs
 
 put-requires : tie.Need-put-requires
-put-requires c κs = let room = c .before .before .before .before .before .before .before .before .before .before .before .pre in let h = (known (c .before .before .e .given .1) (c .before .before .before .before .before .before .pred .ensures .0)) in let l = (c .before .before .before .before .before .before .pred .kept .1 .1 .1 .1 .1 .0) in let d : MadeAt (c .before .before .before .before .before .before .before .before .before .before .before .args .s .now) (c .before .before .before .before .before .before .before .before .before .before .before .args .v .now) (part.aPredFrom 1) (c .before .before .before .before .before .before .before .before .before .before .before .args .at) (c .before .before .before .before .before .before .before .before .before .before .before .args .n + 4) (c .before .before .before .before .before .before .before .before .before .before .before .args .code .now) (c .before .before .before .before .before .before .pred .last .1 .1 .1 .1 .1 .0) (c .before .before .e .given .0 .0) (c .before .before .e .given .0 .1 .0) = (made-known (c .before .before .e .given .1) (c .before .before .before .before .before .before .pred .ensures .1)) in let u = long-written (c .before .before .before .before .before .before .before .before .before .before .before .args .n + 4) (c .before .before .e .given .0 .1 .0) (c .before .before .before .before .before .before .before .before .before .before .before .args .code .now) (c .before .before .before .before .before .before .pred .last .1 .1 .1 .1 .1 .0) (d .nodes) (d .written) (omega arith) (omega arith) in search needs
+put-requires c κs = let room = c .before .before .before .before .before .before .before .before .before .before .before .pre in let h = (known (c .before .before .e .given .1) (c .before .before .before .before .before .before .pred .ensures .0)) in let l = (c .before .before .before .before .before .before .pred .kept .1 .1 .1 .1 .1 .0) in let d : MadeAt (c .before .before .before .before .before .before .before .before .before .before .before .args .s .now) (c .before .before .before .before .before .before .before .before .before .before .before .args .v .now) (part.aPredFrom 1) (c .before .before .before .before .before .before .before .before .before .before .before .args .at) (c .before .before .before .before .before .before .before .before .before .before .before .args .n + 4) (c .before .before .before .before .before .before .before .before .before .before .before .args .code .now) (c .before .before .before .before .before .before .pred .last .1 .1 .1 .1 .1 .0) (c .before .before .e .given .0 .0) (c .before .before .e .given .0 .1 .0) = (made (c .before .before .e .given .1) (c .before .before .before .before .before .before .pred .ensures .1)) in let u = long-written (c .before .before .before .before .before .before .before .before .before .before .before .args .n + 4) (c .before .before .e .given .0 .1 .0) (c .before .before .before .before .before .before .before .before .before .before .before .args .code .now) (c .before .before .before .before .before .before .pred .last .1 .1 .1 .1 .1 .0) (d .nodes) (d .written) (omega arith) (omega arith) in search needs
 
 close-requires : tie.Need-close-requires
 close-requires c κs = let room = c .before .before .before .before .before .before .before .before .before .before .before .before .before .before .pre in let h = (known (c .before .before .before .before .before .e .given .1) (c .before .before .before .before .before .before .before .before .before .pred .ensures .0)) in search needs
@@ -44,7 +45,7 @@ same-length c = search needs
 
 returns : tie.Need-returns
 unfolding codeOf
-returns c = let room = c .before .before .before .before .before .before .before .before .before .before .before .before .before .before .before .pre in let h = (known (c .before .before .before .before .before .before .e .given .1) (c .before .before .before .before .before .before .before .before .before .before .pred .ensures .0)) in let l = (c .before .before .before .before .before .before .before .before .before .before .pred .kept .1 .1 .1 .1 .1 .0) in let d : MadeAt (c .before .before .before .before .before .before .before .before .before .before .before .before .before .before .before .args .s .now) (c .before .before .before .before .before .before .before .before .before .before .before .before .before .before .before .args .v .now) (part.aPredFrom 1) (c .before .before .before .before .before .before .before .before .before .before .before .before .before .before .before .args .at) (c .before .before .before .before .before .before .before .before .before .before .before .before .before .before .before .args .n + 4) (c .before .before .before .before .before .before .before .before .before .before .before .before .before .before .before .args .code .now) (c .before .before .before .before .before .before .before .before .before .before .pred .last .1 .1 .1 .1 .1 .0) (c .before .before .before .before .before .before .e .given .0 .0) (c .before .before .before .before .before .before .e .given .0 .1 .0) = (made-known (c .before .before .before .before .before .before .e .given .1) (c .before .before .before .before .before .before .before .before .before .before .pred .ensures .1)) in let u = long-written (c .before .before .before .before .before .before .before .before .before .before .before .before .before .before .before .args .n + 4) (c .before .before .before .before .before .before .e .given .0 .1 .0) (c .before .before .before .before .before .before .before .before .before .before .before .before .before .before .before .args .code .now) (c .before .before .before .before .before .before .before .before .before .before .pred .last .1 .1 .1 .1 .1 .0) (d .nodes) (d .written) (omega arith) (omega arith) in (λ κ q. then-closes κ (c .close .result) q (framed (exact κ ∷ []) h) (c .close .ensures), condition-made (c .close .result) d (c .before .before .before .put .ensures) (omega arith) (omega arith) (omega arith) (c .close .ensures))
+returns c = let room = c .before .before .before .before .before .before .before .before .before .before .before .before .before .before .before .pre in let h = (known (c .before .before .before .before .before .before .e .given .1) (c .before .before .before .before .before .before .before .before .before .before .pred .ensures .0)) in let l = (c .before .before .before .before .before .before .before .before .before .before .pred .kept .1 .1 .1 .1 .1 .0) in let d : MadeAt (c .before .before .before .before .before .before .before .before .before .before .before .before .before .before .before .args .s .now) (c .before .before .before .before .before .before .before .before .before .before .before .before .before .before .before .args .v .now) (part.aPredFrom 1) (c .before .before .before .before .before .before .before .before .before .before .before .before .before .before .before .args .at) (c .before .before .before .before .before .before .before .before .before .before .before .before .before .before .before .args .n + 4) (c .before .before .before .before .before .before .before .before .before .before .before .before .before .before .before .args .code .now) (c .before .before .before .before .before .before .before .before .before .before .pred .last .1 .1 .1 .1 .1 .0) (c .before .before .before .before .before .before .e .given .0 .0) (c .before .before .before .before .before .before .e .given .0 .1 .0) = (made (c .before .before .before .before .before .before .e .given .1) (c .before .before .before .before .before .before .before .before .before .before .pred .ensures .1)) in let u = long-written (c .before .before .before .before .before .before .before .before .before .before .before .before .before .before .before .args .n + 4) (c .before .before .before .before .before .before .e .given .0 .1 .0) (c .before .before .before .before .before .before .before .before .before .before .before .before .before .before .before .args .code .now) (c .before .before .before .before .before .before .before .before .before .before .pred .last .1 .1 .1 .1 .1 .0) (d .nodes) (d .written) (omega arith) (omega arith) in (λ κ q. then-closes κ (c .close .result) q (framed (exact κ ∷ []) h) (c .close .ensures), condition-made (c .close .result) d (c .before .before .before .put .ensures) (omega arith) (omega arith) (omega arith) (c .close .ensures))
 
 same-length-2 : tie.Need-same-length-2
 same-length-2 c = search needs

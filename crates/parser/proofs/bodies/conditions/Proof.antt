@@ -5,7 +5,8 @@ use borrow.Author.Needs.{needs}
 use Rattle.symbols.specs.Kinds.{codeOf}
 use Rattle.parser.specs.Dossiers.{aWhereOf}
 use Rattle.parser.proofs.Reading.{next, fails, framed, known}
-use Rattle.parser.proofs.Fronts.{made-known, sequence-last, sequence-then}
+use Rattle.parser.proofs.Making.{made}
+use Rattle.parser.proofs.BodyNodes.{sequence-last, sequence-then}
 use Rattle.parser.proofs.bodies.conditions.Statement.{statement}
 use Rattle.symbols.specs.Kinds as kind
 use Rattle.parser.specs.Derived as part
@@ -39,7 +40,7 @@ same-length c = search needs
 
 returns : tie.Need-returns
 unfolding codeOf
-returns c = (next (framed (aWhereOf kind.CINIT ++ aWhereOf kind.RETRIEVE) (known (c .before .before .before .before .before .before .before .before .before .before .before .before .a .given .1) (c .before .before .before .before .before .before .before .before .before .before .before .before .before .before .before .before .where-of .ensures .0 kind.AINIT refl))) (next (framed (aWhereOf kind.RETRIEVE) (known (c .before .before .before .before .before .b .given .1) (c .before .before .before .before .before .before .before .before .before .where-of2 .ensures .0 kind.CINIT refl))) (c .before .before .where-of3 .ensures .0 kind.RETRIEVE refl)), sequence-then (part.aWhere 41 ∷ part.aWhere 42 ∷ []) (c .before .before .where-of3 .last .1 .1 .1 .1 .0) (c .before .before .where-of3 .result) (made-known (c .before .before .before .before .before .before .before .before .before .before .before .before .a .given .1) (c .before .before .before .before .before .before .before .before .before .before .before .before .before .before .before .before .where-of .ensures .1)) (sequence-then (part.aWhere 42 ∷ []) (c .before .before .where-of3 .last .1 .1 .1 .1 .0) (c .before .before .where-of3 .result) (made-known (c .before .before .before .before .before .b .given .1) (c .before .before .before .before .before .before .before .before .before .where-of2 .ensures .1)) (sequence-last (c .before .before .before .before .before .before .before .before .before .before .before .before .before .before .before .before .before .before .before .before .before .args .s .now) (c .before .before .before .before .before .before .before .before .before .before .before .before .before .before .before .before .before .before .before .before .before .args .v .now) (part.aWhere 42) (c .before .before .before .before .before .b .given .0 .0) (c .before .before .before .before .before .b .given .0 .1 .0) (c .before .before .before .before .before .before .before .before .before .where-of2 .last .1 .1 .1 .1 .0) (c .before .before .where-of3 .last .1 .1 .1 .1 .0) (c .before .before .where-of3 .result) (c .before .before .where-of3 .ensures .1))))
+returns c = (next (framed (aWhereOf kind.CINIT ++ aWhereOf kind.RETRIEVE) (known (c .before .before .before .before .before .before .before .before .before .before .before .before .a .given .1) (c .before .before .before .before .before .before .before .before .before .before .before .before .before .before .before .before .where-of .ensures .0 kind.AINIT refl))) (next (framed (aWhereOf kind.RETRIEVE) (known (c .before .before .before .before .before .b .given .1) (c .before .before .before .before .before .before .before .before .before .where-of2 .ensures .0 kind.CINIT refl))) (c .before .before .where-of3 .ensures .0 kind.RETRIEVE refl)), sequence-then (part.aWhere 41 ∷ part.aWhere 42 ∷ []) (c .before .before .where-of3 .last .1 .1 .1 .1 .0) (c .before .before .where-of3 .result) (made (c .before .before .before .before .before .before .before .before .before .before .before .before .a .given .1) (c .before .before .before .before .before .before .before .before .before .before .before .before .before .before .before .before .where-of .ensures .1)) (sequence-then (part.aWhere 42 ∷ []) (c .before .before .where-of3 .last .1 .1 .1 .1 .0) (c .before .before .where-of3 .result) (made (c .before .before .before .before .before .b .given .1) (c .before .before .before .before .before .before .before .before .before .where-of2 .ensures .1)) (sequence-last (c .before .before .before .before .before .before .before .before .before .before .before .before .before .before .before .before .before .before .before .before .before .args .s .now) (c .before .before .before .before .before .before .before .before .before .before .before .before .before .before .before .before .before .before .before .before .before .args .v .now) (part.aWhere 42) (c .before .before .before .before .before .b .given .0 .0) (c .before .before .before .before .before .b .given .0 .1 .0) (c .before .before .before .before .before .before .before .before .before .where-of2 .last .1 .1 .1 .1 .0) (c .before .before .where-of3 .last .1 .1 .1 .1 .0) (c .before .before .where-of3 .result) (c .before .before .where-of3 .ensures .1))))
 
 same-length-2 : tie.Need-same-length-2
 same-length-2 c = search needs

@@ -7,8 +7,9 @@ use native.Mathlib.Omega.{arith}
 use Rattle.symbols.specs.Kinds.{codeOf}
 use Rattle.parser.specs.Dossiers.{aConditionTo}
 use Rattle.parser.proofs.Reading.{next, fails, framed, known, counted}
-use Rattle.parser.proofs.Joining.{closed}
-use Rattle.parser.proofs.Fronts.{made-known, operation-made}
+use Rattle.parser.proofs.Making.{made}
+use Rattle.parser.proofs.ListNodes.{closed}
+use Rattle.parser.proofs.BodyNodes.{operation-made}
 use Rattle.parser.proofs.bodies.operation.Statement.{statement}
 use Rattle.symbols.specs.Kinds as kind
 use Rattle.parser.proofs.bodies.operation.Tie as tie
@@ -66,7 +67,7 @@ same-length c = search needs
 
 returns : tie.Need-returns
 unfolding codeOf
-returns c = let room = c .before .before .before .before .before .before .before .before .before .before .before .before .before .before .before .before .before .before .before .before .before .before .before .before .before .before .before .before .before .before .pre .0 in let l = c .before .before .before .before .before .before .before .before .before .before .before .before .before .before .before .before .before .before .before .before .before .before .before .before .before .before .before .before .before .before .pre .1 in let w = c .before .before .before .before .before .before .before .before .before .before .before .before .before .before .before .before .before .before .before .before .before .before .before .before .put .ensures .count in let h = (known (c .before .before .before .before .before .before .before .before .before .before .before .before .before .before .before .before .a .given .1) (c .before .before .before .before .before .before .before .before .before .before .before .before .before .before .before .before .before .before .before .before .parameters .ensures .0)) in let o = (closed (c .before .before .before .before .before .before .before .before .before .before .before .before .b .given .1) (c .before .before .before .before .before .before .before .before .before .before .before .before .before .before .close .ensures)) .0 .0 in let y = (closed (c .before .before .before .before .before .before .before .before .before .before .before .before .b .given .1) (c .before .before .before .before .before .before .before .before .before .before .before .before .before .before .close .ensures)) .1 in let i = (known (c .before .before .before .before .before .before .before .before .before .before .before .before .b .given .1) (c .before .before .before .before .before .before .before .before .before .before .before .before .before .before .close .ensures .reads kind.ABSTRACT refl)) in let j = (known (c .before .before .before .before .before .e .given .1) (c .before .before .before .before .before .before .before .before .before .condition .ensures .0 kind.CONCRETE refl)) in (next (counted {c = (c .before .before .before .before .before .before .before .before .before .before .before .before .before .before .before .before .before .before .before .before .before .before .before .before .before .before .before .before .before .before .args .n) + 4} {d = c .before .before .before .before .before .before .before .before .before .before .before .before .before .before .before .before .a .given .0 .1 .0} (omega arith) (framed (aConditionTo kind.CONCRETE ++ aConditionTo kind.END) h)) (next (counted {c = c .before .before .before .before .before .before .before .before .before .before .before .before .before .before .before .before .a .given .0 .1 .0} {d = c .before .before .before .before .before .before .before .before .before .before .before .before .before .before .before .before .a .given .0 .1 .0} (omega arith) (framed (aConditionTo kind.CONCRETE ++ aConditionTo kind.END) i)) (next (framed (aConditionTo kind.END) j) (c .before .before .condition2 .ensures .0 kind.END refl))), operation-made (c .before .before .condition2 .last .1 .1 .1 .1 .0) (c .before .before .condition2 .result) (c .before .before .before .before .before .before .before .before .before .before .before .before .before .before .before .before .before .before .before .before .before .before .before .before .before .before .before .before .before .before .pre .2) (c .before .before .before .before .before .before .before .before .before .before .before .before .before .before .before .before .before .before .before .before .before .before .before .before .before .before .before .before .before .before .pre .3) (c .before .before .before .before .before .before .before .before .before .before .before .before .before .before .before .before .before .before .before .before .before .before .before .before .before .before .name-number .ensures) (c .before .before .before .before .before .before .before .before .before .before .before .before .before .before .before .before .before .before .before .before .before .before .before .before .put .ensures) (made-known (c .before .before .before .before .before .before .before .before .before .before .before .before .before .before .before .before .a .given .1) (c .before .before .before .before .before .before .before .before .before .before .before .before .before .before .before .before .before .before .before .before .parameters .ensures .1)) (closed (c .before .before .before .before .before .before .before .before .before .before .before .before .b .given .1) (c .before .before .before .before .before .before .before .before .before .before .before .before .before .before .close .ensures)) (made-known (c .before .before .before .before .before .e .given .1) (c .before .before .before .before .before .before .before .before .before .condition .ensures .1)) (c .before .before .condition2 .ensures .1))
+returns c = let room = c .before .before .before .before .before .before .before .before .before .before .before .before .before .before .before .before .before .before .before .before .before .before .before .before .before .before .before .before .before .before .pre .0 in let l = c .before .before .before .before .before .before .before .before .before .before .before .before .before .before .before .before .before .before .before .before .before .before .before .before .before .before .before .before .before .before .pre .1 in let w = c .before .before .before .before .before .before .before .before .before .before .before .before .before .before .before .before .before .before .before .before .before .before .before .before .put .ensures .count in let h = (known (c .before .before .before .before .before .before .before .before .before .before .before .before .before .before .before .before .a .given .1) (c .before .before .before .before .before .before .before .before .before .before .before .before .before .before .before .before .before .before .before .before .parameters .ensures .0)) in let o = (closed (c .before .before .before .before .before .before .before .before .before .before .before .before .b .given .1) (c .before .before .before .before .before .before .before .before .before .before .before .before .before .before .close .ensures)) .0 .0 in let y = (closed (c .before .before .before .before .before .before .before .before .before .before .before .before .b .given .1) (c .before .before .before .before .before .before .before .before .before .before .before .before .before .before .close .ensures)) .1 in let i = (known (c .before .before .before .before .before .before .before .before .before .before .before .before .b .given .1) (c .before .before .before .before .before .before .before .before .before .before .before .before .before .before .close .ensures .reads kind.ABSTRACT refl)) in let j = (known (c .before .before .before .before .before .e .given .1) (c .before .before .before .before .before .before .before .before .before .condition .ensures .0 kind.CONCRETE refl)) in (next (counted {c = (c .before .before .before .before .before .before .before .before .before .before .before .before .before .before .before .before .before .before .before .before .before .before .before .before .before .before .before .before .before .before .args .n) + 4} {d = c .before .before .before .before .before .before .before .before .before .before .before .before .before .before .before .before .a .given .0 .1 .0} (omega arith) (framed (aConditionTo kind.CONCRETE ++ aConditionTo kind.END) h)) (next (counted {c = c .before .before .before .before .before .before .before .before .before .before .before .before .before .before .before .before .a .given .0 .1 .0} {d = c .before .before .before .before .before .before .before .before .before .before .before .before .before .before .before .before .a .given .0 .1 .0} (omega arith) (framed (aConditionTo kind.CONCRETE ++ aConditionTo kind.END) i)) (next (framed (aConditionTo kind.END) j) (c .before .before .condition2 .ensures .0 kind.END refl))), operation-made (c .before .before .condition2 .last .1 .1 .1 .1 .0) (c .before .before .condition2 .result) (c .before .before .before .before .before .before .before .before .before .before .before .before .before .before .before .before .before .before .before .before .before .before .before .before .before .before .before .before .before .before .pre .2) (c .before .before .before .before .before .before .before .before .before .before .before .before .before .before .before .before .before .before .before .before .before .before .before .before .before .before .before .before .before .before .pre .3) (c .before .before .before .before .before .before .before .before .before .before .before .before .before .before .before .before .before .before .before .before .before .before .before .before .before .before .name-number .ensures) (c .before .before .before .before .before .before .before .before .before .before .before .before .before .before .before .before .before .before .before .before .before .before .before .before .put .ensures) (made (c .before .before .before .before .before .before .before .before .before .before .before .before .before .before .before .before .a .given .1) (c .before .before .before .before .before .before .before .before .before .before .before .before .before .before .before .before .before .before .before .before .parameters .ensures .1)) (closed (c .before .before .before .before .before .before .before .before .before .before .before .before .b .given .1) (c .before .before .before .before .before .before .before .before .before .before .before .before .before .before .close .ensures)) (made (c .before .before .before .before .before .e .given .1) (c .before .before .before .before .before .before .before .before .before .condition .ensures .1)) (c .before .before .condition2 .ensures .1))
 
 same-length-2 : tie.Need-same-length-2
 same-length-2 c = search needs

@@ -12,10 +12,10 @@ use Rattle.parser.specs.Inner.{Reads}
 use Rattle.parser.specs.declared.Read.the-variants.{At}
 use Rattle.parser.specs.Derived.{noOperations}
 use Rattle.parser.specs.Dossiers.{MoreAt, aConditionTo}
-use Rattle.parser.proofs.Reading.{here, next, takes-kind, taken-kind, stops, likewise, fails, framed, known}
-use Rattle.parser.proofs.Listing.{count-well, count-over, operations, crowded-kind, declared-takes, declared-stops, operation-word, operations-behind}
-use Rattle.parser.proofs.Joining.{more-none, more-then, more-made}
-use Rattle.parser.proofs.Fronts.{more-known}
+use Rattle.parser.proofs.Reading.{only, here, next, takes, taken, stops, likewise, fails, framed, known}
+use Rattle.parser.proofs.Listing.{count-well, count-over, operations, crowded, declared-takes, declared-stops, operation-word, operations-behind}
+use Rattle.parser.proofs.ListNodes.{more-none, more-then, more-made}
+use Rattle.parser.proofs.BodyNodes.{more-known}
 use Rattle.parser.proofs.bodies.operations.Statement.{statement}
 use Rattle.symbols.specs.Kinds as kind
 use Rattle.parser.specs.Derived as part
@@ -47,7 +47,7 @@ same-length c = search needs
 
 returns : tie.Need-returns Inv-loop μ-loop
 unfolding computeForm
-returns c = let room = c .before .before .before .before .before .before .before .before .before .pre in let i = c .before .before .before .before .before .loop .inv .0 in let l = c .before .before .before .before .before .loop .inv .2 in let l₂ = c .before .before .before .before .before .loop .inv .3 in let z = c .before .before .before .before .kind-at .ensures .inside in let y = c .before .before .kind-at2 .ensures .inside in (next i (takes-kind {μ = aDeclared (anOperation ((c .before .before .before .before .before .loop .k) + 1)) ∷ someParameters 0 0 ∷ (aConditionTo kind.CONCRETE ++ (aConditionTo kind.END ++ (someOperations ((c .before .before .before .before .before .loop .k) + 1) ∷ [])))} {m = c .before .before .before .before .before .loop .n} kind.OP (sym (c .before .before .before .before .kind-at .ensures .is) ∙ c .before .before .before .if1 .taken) (omega arith) (λ γ. operation-word (c .before .before .before .before .before .loop .k) γ) (crowded-kind (λ γ. someParameters 0 0 ∷ ((aConditionTo kind.CONCRETE ++ (aConditionTo kind.END ++ (someOperations ((c .before .before .before .before .before .loop .k) + 1) ∷ []))) ++ γ)) (anOperation ((c .before .before .before .before .before .loop .k) + 1)) kind.plain (sym (c .before .before .kind-at2 .ensures .is) ∙ c .before .if2 .taken) (omega arith) (count-over (c .before .before .before .before .before .before .before .before .before .args .s .now) ((c .before .before .before .before .before .loop .at) + 1) ((c .before .before .before .before .before .loop .k) + 1) operations (omega arith)) (λ γ. declared-takes (anOperation ((c .before .before .before .before .before .loop .k) + 1)) (someParameters 0 0 ∷ ((aConditionTo kind.CONCRETE ++ (aConditionTo kind.END ++ (someOperations ((c .before .before .before .before .before .loop .k) + 1) ∷ []))) ++ γ)))) (omega arith)), tt)
+returns c = let room = c .before .before .before .before .before .before .before .before .before .pre in let i = c .before .before .before .before .before .loop .inv .0 in let l = c .before .before .before .before .before .loop .inv .2 in let l₂ = c .before .before .before .before .before .loop .inv .3 in let z = c .before .before .before .before .kind-at .ensures .inside in let y = c .before .before .kind-at2 .ensures .inside in (next i (takes {μ = aDeclared (anOperation ((c .before .before .before .before .before .loop .k) + 1)) ∷ someParameters 0 0 ∷ (aConditionTo kind.CONCRETE ++ (aConditionTo kind.END ++ (someOperations ((c .before .before .before .before .before .loop .k) + 1) ∷ [])))} {m = c .before .before .before .before .before .loop .n} (omega arith) (only _ kind.OP (sym (c .before .before .before .before .kind-at .ensures .is) ∙ c .before .before .before .if1 .taken) (λ γ. operation-word (c .before .before .before .before .before .loop .k) γ)) (crowded (λ γ. someParameters 0 0 ∷ ((aConditionTo kind.CONCRETE ++ (aConditionTo kind.END ++ (someOperations ((c .before .before .before .before .before .loop .k) + 1) ∷ []))) ++ γ)) (anOperation ((c .before .before .before .before .before .loop .k) + 1)) (omega arith) (count-over (c .before .before .before .before .before .before .before .before .before .args .s .now) ((c .before .before .before .before .before .loop .at) + 1) ((c .before .before .before .before .before .loop .k) + 1) operations (omega arith)) (only _ kind.plain (sym (c .before .before .kind-at2 .ensures .is) ∙ c .before .if2 .taken) (λ γ. declared-takes (anOperation ((c .before .before .before .before .before .loop .k) + 1)) (someParameters 0 0 ∷ ((aConditionTo kind.CONCRETE ++ (aConditionTo kind.END ++ (someOperations ((c .before .before .before .before .before .loop .k) + 1) ∷ []))) ++ γ))))) (omega arith)), tt)
 
 operation-requires : tie.Need-operation-requires Inv-loop μ-loop
 operation-requires c κs = let room = c .before .before .before .before .before .before .before .before .before .before .pre in let i = c .before .before .before .before .before .before .loop .inv .0 in let l = c .before .before .before .before .before .before .loop .inv .2 in let l₂ = c .before .before .before .before .before .before .loop .inv .3 in let z = c .before .before .before .before .before .kind-at .ensures .inside in let y = c .before .before .before .kind-at2 .ensures .inside in (record { inside = omega arith; few = omega arith; written = omega arith; long = omega arith }, omega arith, sym (c .before .before .before .before .before .kind-at .ensures .is) ∙ c .before .before .before .before .if1 .taken, sym (c .before .before .before .kind-at2 .ensures .is) ∙ c .before .before .if2 .taken)
@@ -63,7 +63,7 @@ loop-less c = let room = c .before .before .before .before .before .before .befo
 
 loop-again : tie.Need-loop-again Inv-loop μ-loop
 unfolding computeForm
-loop-again c = let room = c .before .before .before .before .before .before .before .before .before .before .before .before .before .before .before .before .pre in let i = c .before .before .before .before .before .before .before .before .before .before .before .before .loop .inv .0 in let l = c .before .before .before .before .before .before .before .before .before .before .before .before .loop .inv .2 in let l₂ = c .before .before .before .before .before .before .before .before .before .before .before .before .loop .inv .3 in let z = c .before .before .before .before .before .before .before .before .before .before .before .kind-at .ensures .inside in let y = c .before .before .before .before .before .before .before .before .before .kind-at2 .ensures .inside in let h = known (c .before .e .given .1) (c .before .before .before .before .before .operation .ensures .0) in (next i (takes-kind {μ = aDeclared (anOperation ((c .before .before .before .before .before .before .before .before .before .before .before .before .loop .k) + 1)) ∷ someParameters 0 0 ∷ (aConditionTo kind.CONCRETE ++ (aConditionTo kind.END ++ (someOperations ((c .before .before .before .before .before .before .before .before .before .before .before .before .loop .k) + 1) ∷ [])))} {m = c .before .before .before .before .before .before .before .before .before .before .before .before .loop .n} kind.OP (sym (c .before .before .before .before .before .before .before .before .before .before .before .kind-at .ensures .is) ∙ c .before .before .before .before .before .before .before .before .before .before .if1 .taken) (omega arith) (λ γ. operation-word (c .before .before .before .before .before .before .before .before .before .before .before .before .loop .k) γ) (taken-kind {μ = someParameters 0 0 ∷ (aConditionTo kind.CONCRETE ++ (aConditionTo kind.END ++ (someOperations ((c .before .before .before .before .before .before .before .before .before .before .before .before .loop .k) + 1) ∷ [])))} {m = c .before .before .before .before .before .before .before .before .before .before .before .before .loop .n + 4} (anOperation ((c .before .before .before .before .before .before .before .before .before .before .before .before .loop .k) + 1)) kind.plain (sym (c .before .before .before .before .before .before .before .before .before .kind-at2 .ensures .is) ∙ c .before .before .before .before .before .before .before .before .if2 .taken) (omega arith) (count-well (c .before .before .before .before .before .before .before .before .before .before .before .before .before .before .before .before .args .s .now) ((c .before .before .before .before .before .before .before .before .before .before .before .before .loop .at) + 1) ((c .before .before .before .before .before .before .before .before .before .before .before .before .loop .k) + 1) operations (omega arith)) (λ γ. declared-takes (anOperation ((c .before .before .before .before .before .before .before .before .before .before .before .before .loop .k) + 1)) (someParameters 0 0 ∷ ((aConditionTo kind.CONCRETE ++ (aConditionTo kind.END ++ (someOperations ((c .before .before .before .before .before .before .before .before .before .before .before .before .loop .k) + 1) ∷ []))) ++ γ))) (framed (someOperations ((c .before .before .before .before .before .before .before .before .before .before .before .before .loop .k) + 1) ∷ []) h) (omega arith)) (omega arith)), more-then (c .before .before .before .before .before .before .before .before .before .before .before .before .loop .inv .1) (more-known (c .before .e .given .1) (c .before .before .before .before .before .operation .ensures .1)), search needs, omega arith)
+loop-again c = let room = c .before .before .before .before .before .before .before .before .before .before .before .before .before .before .before .before .pre in let i = c .before .before .before .before .before .before .before .before .before .before .before .before .loop .inv .0 in let l = c .before .before .before .before .before .before .before .before .before .before .before .before .loop .inv .2 in let l₂ = c .before .before .before .before .before .before .before .before .before .before .before .before .loop .inv .3 in let z = c .before .before .before .before .before .before .before .before .before .before .before .kind-at .ensures .inside in let y = c .before .before .before .before .before .before .before .before .before .kind-at2 .ensures .inside in let h = known (c .before .e .given .1) (c .before .before .before .before .before .operation .ensures .0) in (next i (takes {μ = aDeclared (anOperation ((c .before .before .before .before .before .before .before .before .before .before .before .before .loop .k) + 1)) ∷ someParameters 0 0 ∷ (aConditionTo kind.CONCRETE ++ (aConditionTo kind.END ++ (someOperations ((c .before .before .before .before .before .before .before .before .before .before .before .before .loop .k) + 1) ∷ [])))} {m = c .before .before .before .before .before .before .before .before .before .before .before .before .loop .n} (omega arith) (only _ kind.OP (sym (c .before .before .before .before .before .before .before .before .before .before .before .kind-at .ensures .is) ∙ c .before .before .before .before .before .before .before .before .before .before .if1 .taken) (λ γ. operation-word (c .before .before .before .before .before .before .before .before .before .before .before .before .loop .k) γ)) (taken {μ = someParameters 0 0 ∷ (aConditionTo kind.CONCRETE ++ (aConditionTo kind.END ++ (someOperations ((c .before .before .before .before .before .before .before .before .before .before .before .before .loop .k) + 1) ∷ [])))} {m = c .before .before .before .before .before .before .before .before .before .before .before .before .loop .n + 4} (anOperation ((c .before .before .before .before .before .before .before .before .before .before .before .before .loop .k) + 1)) (omega arith) (count-well (c .before .before .before .before .before .before .before .before .before .before .before .before .before .before .before .before .args .s .now) ((c .before .before .before .before .before .before .before .before .before .before .before .before .loop .at) + 1) ((c .before .before .before .before .before .before .before .before .before .before .before .before .loop .k) + 1) operations (omega arith)) (only _ kind.plain (sym (c .before .before .before .before .before .before .before .before .before .kind-at2 .ensures .is) ∙ c .before .before .before .before .before .before .before .before .if2 .taken) (λ γ. declared-takes (anOperation ((c .before .before .before .before .before .before .before .before .before .before .before .before .loop .k) + 1)) (someParameters 0 0 ∷ ((aConditionTo kind.CONCRETE ++ (aConditionTo kind.END ++ (someOperations ((c .before .before .before .before .before .before .before .before .before .before .before .before .loop .k) + 1) ∷ []))) ++ γ)))) (framed (someOperations ((c .before .before .before .before .before .before .before .before .before .before .before .before .loop .k) + 1) ∷ []) h) (omega arith)) (omega arith)), more-then (c .before .before .before .before .before .before .before .before .before .before .before .before .loop .inv .1) (more-known (c .before .e .given .1) (c .before .before .before .before .before .operation .ensures .1)), search needs, omega arith)
 
 enum-known-p : tie.Need-enum-known-p Inv-loop μ-loop
 enum-known-p c = search needs
@@ -73,7 +73,7 @@ same-length-2 c = search needs
 
 returns-2 : tie.Need-returns-2 Inv-loop μ-loop
 unfolding computeForm
-returns-2 c = let room = c .before .before .before .before .before .before .before .before .before .before .before .before .before .before .before .before .pre in let i = c .before .before .before .before .before .before .before .before .before .before .before .before .loop .inv .0 in let l = c .before .before .before .before .before .before .before .before .before .before .before .before .loop .inv .2 in let l₂ = c .before .before .before .before .before .before .before .before .before .before .before .before .loop .inv .3 in let z = c .before .before .before .before .before .before .before .before .before .before .before .kind-at .ensures .inside in let y = c .before .before .before .before .before .before .before .before .before .kind-at2 .ensures .inside in (next i (takes-kind {μ = aDeclared (anOperation ((c .before .before .before .before .before .before .before .before .before .before .before .before .loop .k) + 1)) ∷ someParameters 0 0 ∷ (aConditionTo kind.CONCRETE ++ (aConditionTo kind.END ++ (someOperations ((c .before .before .before .before .before .before .before .before .before .before .before .before .loop .k) + 1) ∷ [])))} {m = c .before .before .before .before .before .before .before .before .before .before .before .before .loop .n} kind.OP (sym (c .before .before .before .before .before .before .before .before .before .before .before .kind-at .ensures .is) ∙ c .before .before .before .before .before .before .before .before .before .before .if1 .taken) (omega arith) (λ γ. operation-word (c .before .before .before .before .before .before .before .before .before .before .before .before .loop .k) γ) (taken-kind {μ = someParameters 0 0 ∷ (aConditionTo kind.CONCRETE ++ (aConditionTo kind.END ++ (someOperations ((c .before .before .before .before .before .before .before .before .before .before .before .before .loop .k) + 1) ∷ [])))} {m = c .before .before .before .before .before .before .before .before .before .before .before .before .loop .n + 4} (anOperation ((c .before .before .before .before .before .before .before .before .before .before .before .before .loop .k) + 1)) kind.plain (sym (c .before .before .before .before .before .before .before .before .before .kind-at2 .ensures .is) ∙ c .before .before .before .before .before .before .before .before .if2 .taken) (omega arith) (count-well (c .before .before .before .before .before .before .before .before .before .before .before .before .before .before .before .before .args .s .now) ((c .before .before .before .before .before .before .before .before .before .before .before .before .loop .at) + 1) ((c .before .before .before .before .before .before .before .before .before .before .before .before .loop .k) + 1) operations (omega arith)) (λ γ. declared-takes (anOperation ((c .before .before .before .before .before .before .before .before .before .before .before .before .loop .k) + 1)) (someParameters 0 0 ∷ ((aConditionTo kind.CONCRETE ++ (aConditionTo kind.END ++ (someOperations ((c .before .before .before .before .before .before .before .before .before .before .before .before .loop .k) + 1) ∷ []))) ++ γ))) (fails (framed (someOperations ((c .before .before .before .before .before .before .before .before .before .before .before .before .loop .k) + 1) ∷ []) (known (c .before .p .given .1) (c .before .before .before .before .before .operation .ensures .0)))) (omega arith)) (omega arith)), tt)
+returns-2 c = let room = c .before .before .before .before .before .before .before .before .before .before .before .before .before .before .before .before .pre in let i = c .before .before .before .before .before .before .before .before .before .before .before .before .loop .inv .0 in let l = c .before .before .before .before .before .before .before .before .before .before .before .before .loop .inv .2 in let l₂ = c .before .before .before .before .before .before .before .before .before .before .before .before .loop .inv .3 in let z = c .before .before .before .before .before .before .before .before .before .before .before .kind-at .ensures .inside in let y = c .before .before .before .before .before .before .before .before .before .kind-at2 .ensures .inside in (next i (takes {μ = aDeclared (anOperation ((c .before .before .before .before .before .before .before .before .before .before .before .before .loop .k) + 1)) ∷ someParameters 0 0 ∷ (aConditionTo kind.CONCRETE ++ (aConditionTo kind.END ++ (someOperations ((c .before .before .before .before .before .before .before .before .before .before .before .before .loop .k) + 1) ∷ [])))} {m = c .before .before .before .before .before .before .before .before .before .before .before .before .loop .n} (omega arith) (only _ kind.OP (sym (c .before .before .before .before .before .before .before .before .before .before .before .kind-at .ensures .is) ∙ c .before .before .before .before .before .before .before .before .before .before .if1 .taken) (λ γ. operation-word (c .before .before .before .before .before .before .before .before .before .before .before .before .loop .k) γ)) (taken {μ = someParameters 0 0 ∷ (aConditionTo kind.CONCRETE ++ (aConditionTo kind.END ++ (someOperations ((c .before .before .before .before .before .before .before .before .before .before .before .before .loop .k) + 1) ∷ [])))} {m = c .before .before .before .before .before .before .before .before .before .before .before .before .loop .n + 4} (anOperation ((c .before .before .before .before .before .before .before .before .before .before .before .before .loop .k) + 1)) (omega arith) (count-well (c .before .before .before .before .before .before .before .before .before .before .before .before .before .before .before .before .args .s .now) ((c .before .before .before .before .before .before .before .before .before .before .before .before .loop .at) + 1) ((c .before .before .before .before .before .before .before .before .before .before .before .before .loop .k) + 1) operations (omega arith)) (only _ kind.plain (sym (c .before .before .before .before .before .before .before .before .before .kind-at2 .ensures .is) ∙ c .before .before .before .before .before .before .before .before .if2 .taken) (λ γ. declared-takes (anOperation ((c .before .before .before .before .before .before .before .before .before .before .before .before .loop .k) + 1)) (someParameters 0 0 ∷ ((aConditionTo kind.CONCRETE ++ (aConditionTo kind.END ++ (someOperations ((c .before .before .before .before .before .before .before .before .before .before .before .before .loop .k) + 1) ∷ []))) ++ γ)))) (fails (framed (someOperations ((c .before .before .before .before .before .before .before .before .before .before .before .before .loop .k) + 1) ∷ []) (known (c .before .p .given .1) (c .before .before .before .before .before .operation .ensures .0)))) (omega arith)) (omega arith)), tt)
 
 add-t21 : tie.Need-add-t21 Inv-loop μ-loop
 add-t21 c = let room = c .before .before .before .before .before .before .before .before .pre in let i = c .before .before .before .before .loop .inv .0 in let l = c .before .before .before .before .loop .inv .2 in let l₂ = c .before .before .before .before .loop .inv .3 in let z = c .before .before .before .kind-at .ensures .inside in search needs
@@ -83,7 +83,7 @@ same-length-3 c = search needs
 
 returns-3 : tie.Need-returns-3 Inv-loop μ-loop
 unfolding computeForm
-returns-3 c = let room = c .before .before .before .before .before .before .before .before .pre in let i = c .before .before .before .before .loop .inv .0 in let l = c .before .before .before .before .loop .inv .2 in let l₂ = c .before .before .before .before .loop .inv .3 in let z = c .before .before .before .kind-at .ensures .inside in (next i (takes-kind {μ = aDeclared (anOperation ((c .before .before .before .before .loop .k) + 1)) ∷ someParameters 0 0 ∷ (aConditionTo kind.CONCRETE ++ (aConditionTo kind.END ++ (someOperations ((c .before .before .before .before .loop .k) + 1) ∷ [])))} {m = c .before .before .before .before .loop .n} kind.OP (sym (c .before .before .before .kind-at .ensures .is) ∙ c .before .before .if1 .taken) (omega arith) (λ γ. operation-word (c .before .before .before .before .loop .k) γ) (stops (omega arith) (λ κ q γ. declared-stops (anOperation ((c .before .before .before .before .loop .k) + 1)) κ (someParameters 0 0 ∷ ((aConditionTo kind.CONCRETE ++ (aConditionTo kind.END ++ (someOperations ((c .before .before .before .before .loop .k) + 1) ∷ []))) ++ γ)) (λ h. c .if2 .left ((c .before .kind-at2 .ensures .is) ∙ sym q ∙ h))) (λ γ. refl)) (omega arith)), tt)
+returns-3 c = let room = c .before .before .before .before .before .before .before .before .pre in let i = c .before .before .before .before .loop .inv .0 in let l = c .before .before .before .before .loop .inv .2 in let l₂ = c .before .before .before .before .loop .inv .3 in let z = c .before .before .before .kind-at .ensures .inside in (next i (takes {μ = aDeclared (anOperation ((c .before .before .before .before .loop .k) + 1)) ∷ someParameters 0 0 ∷ (aConditionTo kind.CONCRETE ++ (aConditionTo kind.END ++ (someOperations ((c .before .before .before .before .loop .k) + 1) ∷ [])))} {m = c .before .before .before .before .loop .n} (omega arith) (only _ kind.OP (sym (c .before .before .before .kind-at .ensures .is) ∙ c .before .before .if1 .taken) (λ γ. operation-word (c .before .before .before .before .loop .k) γ)) (stops (omega arith) (λ κ q γ. declared-stops (anOperation ((c .before .before .before .before .loop .k) + 1)) κ (someParameters 0 0 ∷ ((aConditionTo kind.CONCRETE ++ (aConditionTo kind.END ++ (someOperations ((c .before .before .before .before .loop .k) + 1) ∷ []))) ++ γ)) (λ h. c .if2 .left ((c .before .kind-at2 .ensures .is) ∙ sym q ∙ h))) (λ γ. refl)) (omega arith)), tt)
 
 same-length-4 : tie.Need-same-length-4 Inv-loop μ-loop
 same-length-4 c = search needs

@@ -5,7 +5,8 @@ use borrow.Author.Needs.{needs}
 use Rattle.symbols.specs.Kinds.{codeOf}
 use Rattle.parser.specs.Dossiers.{aStateOf}
 use Rattle.parser.proofs.Reading.{next, fails, framed, known}
-use Rattle.parser.proofs.Fronts.{made-known, sequence-last, sequence-then}
+use Rattle.parser.proofs.Making.{made}
+use Rattle.parser.proofs.BodyNodes.{sequence-last, sequence-then}
 use Rattle.parser.proofs.bodies.states.Statement.{statement}
 use Rattle.symbols.specs.Kinds as kind
 use Rattle.parser.specs.Derived as part
@@ -29,7 +30,7 @@ same-length c = search needs
 
 returns : tie.Need-returns
 unfolding codeOf
-returns c = (next (framed (aStateOf kind.CONCRETE) (known (c .before .before .before .before .before .a .given .1) (c .before .before .before .before .before .before .before .before .before .state .ensures .0 kind.ABSTRACT refl))) (c .before .before .state2 .ensures .0 kind.CONCRETE refl), sequence-then (part.aState 39 ∷ []) (c .before .before .state2 .last .1 .1 .1 .1 .0) (c .before .before .state2 .result) (made-known (c .before .before .before .before .before .a .given .1) (c .before .before .before .before .before .before .before .before .before .state .ensures .1)) (sequence-last (c .before .before .before .before .before .before .before .before .before .before .before .before .before .before .args .s .now) (c .before .before .before .before .before .before .before .before .before .before .before .before .before .before .args .v .now) (part.aState 39) (c .before .before .before .before .before .a .given .0 .0) (c .before .before .before .before .before .a .given .0 .1 .0) (c .before .before .before .before .before .before .before .before .before .state .last .1 .1 .1 .1 .0) (c .before .before .state2 .last .1 .1 .1 .1 .0) (c .before .before .state2 .result) (c .before .before .state2 .ensures .1)))
+returns c = (next (framed (aStateOf kind.CONCRETE) (known (c .before .before .before .before .before .a .given .1) (c .before .before .before .before .before .before .before .before .before .state .ensures .0 kind.ABSTRACT refl))) (c .before .before .state2 .ensures .0 kind.CONCRETE refl), sequence-then (part.aState 39 ∷ []) (c .before .before .state2 .last .1 .1 .1 .1 .0) (c .before .before .state2 .result) (made (c .before .before .before .before .before .a .given .1) (c .before .before .before .before .before .before .before .before .before .state .ensures .1)) (sequence-last (c .before .before .before .before .before .before .before .before .before .before .before .before .before .before .args .s .now) (c .before .before .before .before .before .before .before .before .before .before .before .before .before .before .args .v .now) (part.aState 39) (c .before .before .before .before .before .a .given .0 .0) (c .before .before .before .before .before .a .given .0 .1 .0) (c .before .before .before .before .before .before .before .before .before .state .last .1 .1 .1 .1 .0) (c .before .before .state2 .last .1 .1 .1 .1 .0) (c .before .before .state2 .result) (c .before .before .state2 .ensures .1)))
 
 same-length-2 : tie.Need-same-length-2
 same-length-2 c = search needs

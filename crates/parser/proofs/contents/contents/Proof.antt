@@ -11,9 +11,9 @@ use Rattle.parser.specs.declared.Read.{Read}
 use Rattle.parser.specs.declared.Read.the-variants.{Fault}
 use Rattle.parser.specs.Derived.{Made}
 use Rattle.parser.specs.Dossiers.{ofGivens, ofOperations, WordsAt, fiveWords}
-use Rattle.parser.proofs.Reading.{next, takes-kind, likewise, fails, framed, known}
+use Rattle.parser.proofs.Reading.{only, next, takes, likewise, fails, framed, known}
 use Rattle.parser.proofs.Listing.{dossier-first}
-use Rattle.parser.proofs.Joining.{closed, contents-made}
+use Rattle.parser.proofs.ListNodes.{closed, contents-made}
 use Rattle.parser.proofs.contents.contents.Statement.{statement}
 use Rattle.symbols.specs.Kinds as kind
 use Rattle.parser.specs.Derived as part
@@ -68,28 +68,28 @@ same-length c = search needs
 
 returns : tie.Need-returns
 unfolding computeForm
-returns c = let few = c .before .before .before .before .before .before .before .before .before .before .before .before .before .before .before .before .before .before .before .before .before .before .before .before .before .before .pre .0 in let long = c .before .before .before .before .before .before .before .before .before .before .before .before .before .before .before .before .before .before .before .before .before .before .before .before .before .before .pre .1 in let ha = (known (c .before .before .before .before .before .before .before .before .before .before .before .before .before .before .before .before .before .before .before .before .a .given .1) (c .before .before .before .before .before .before .before .before .before .before .before .before .before .before .before .before .before .before .before .before .before .before .close .ensures .reads kind.CONTENTS refl)) in let za = closed (c .before .before .before .before .before .before .before .before .before .before .before .before .before .before .before .before .before .before .before .before .a .given .1) (c .before .before .before .before .before .before .before .before .before .before .before .before .before .before .before .before .before .before .before .before .before .before .close .ensures) in let za₀ = za .0 .0 in let za₁ = za .1 in let hb = known (c .before .before .before .before .before .before .before .before .before .before .before .before .before .b .given .1) (c .before .before .before .before .before .before .before .before .before .before .before .before .before .before .before .before .before .entries .ensures .0 someEntries (fiveWords ++ (someOpEntries 0 ∷ [])) aGiven ofGivens) in let mb = subst (λ (z : Read). Made (c .before .before .before .before .before .before .before .before .before .before .before .before .before .before .before .before .before .before .before .before .before .before .before .before .before .before .args .s .now) (c .before .before .before .before .before .before .before .before .before .before .before .before .before .before .before .before .before .before .before .before .before .before .before .before .before .before .args .v .now) (part.someEntries 37 1) (c .before .before .before .before .before .before .before .before .before .before .before .before .before .before .before .before .before .before .before .before .a .given .0 .0) (c .before .before .before .before .before .before .before .before .before .before .before .before .before .before .before .before .before .before .before .before .a .given .0 .1 .0) (c .before .before .before .before .before .before .before .before .before .before .before .before .before .before .before .before .before .before .before .before .before .before .before .before .before .before .args .code .now) (c .before .before .before .before .before .before .before .before .before .before .before .before .before .before .before .before .before .entries .last .1 .1 .1 .1 .1 .1 .0) z) (c .before .before .before .before .before .before .before .before .before .before .before .before .before .b .given .1) (c .before .before .before .before .before .before .before .before .before .before .before .before .before .before .before .before .before .entries .ensures .1) in let hc = (known (c .before .before .before .before .before .before .before .before .before .c .given .1) (c .before .before .before .before .before .before .before .before .before .before .before .words .ensures .0)) in let wc = subst (λ (z : Read). Shown (WordsAt (c .before .before .before .before .before .before .before .before .before .before .before .before .before .before .before .before .before .before .before .before .before .before .before .before .before .before .args .s .now) (c .before .before .before .before .before .before .before .before .before .before .before .before .before .b .given .0 .0)) (c .before .before .before .before .before .before .before .before .before .before .before .before .before .b .given .0 .1 .0) z) (c .before .before .before .before .before .before .before .before .before .c .given .1) (c .before .before .before .before .before .before .before .before .before .before .before .words .ensures .1) in let wc₁ = wc .1 in let wc₀ = wc .0 .place in let hd = known (c .before .before .d .given .1) (c .before .before .before .before .before .before .entries2 .ensures .0 someOpEntries (exact kind.END ∷ someBodies 0 ∷ []) anOperation ofOperations) in let md = subst (λ (z : Read). Made (c .before .before .before .before .before .before .before .before .before .before .before .before .before .before .before .before .before .before .before .before .before .before .before .before .before .before .args .s .now) (c .before .before .before .before .before .before .before .before .before .before .before .before .before .before .before .before .before .before .before .before .before .before .before .before .before .before .args .v .now) (part.someEntries 43 2) (c .before .before .before .before .before .before .before .before .before .c .given .0 .0) (c .before .before .before .before .before .before .before .before .before .c .given .0 .1 .0) (c .before .before .before .before .before .before .before .before .before .before .before .before .before .before .before .before .before .entries .last .1 .1 .1 .1 .1 .1 .0) (c .before .before .before .before .before .before .entries2 .last .1 .1 .1 .1 .1 .1 .0) z) (c .before .before .d .given .1) (c .before .before .before .before .before .before .entries2 .ensures .1) in (takes-kind {μ = someEntries 0 ∷ []} {m = c .before .before .before .before .before .before .before .before .before .before .before .before .before .before .before .before .before .before .before .before .a .given .0 .1 .0} kind.CONTENTS (za .0 .1) (omega arith) (λ γ. refl) (subst (λ j. Reads (c .before .before .before .before .before .before .before .before .before .before .before .before .before .before .before .before .before .before .before .before .before .before .before .before .before .before .args .s .now) j (c .before .before .before .before .before .before .before .before .before .before .before .before .before .before .before .before .before .before .before .before .a .given .0 .1 .0) (someEntries 0 ∷ []) (someBodies 0 ∷ []) (c .close2 .result)) za₀ (next hb (next (framed (someOpEntries 0 ∷ []) hc) (next hd (framed (someBodies 0 ∷ []) (c .close2 .ensures .reads kind.END refl)))))) (omega arith), contents-made (c .close2 .result) za mb wc md (c .close2 .ensures))
+returns c = let few = c .before .before .before .before .before .before .before .before .before .before .before .before .before .before .before .before .before .before .before .before .before .before .before .before .before .before .pre .0 in let long = c .before .before .before .before .before .before .before .before .before .before .before .before .before .before .before .before .before .before .before .before .before .before .before .before .before .before .pre .1 in let ha = (known (c .before .before .before .before .before .before .before .before .before .before .before .before .before .before .before .before .before .before .before .before .a .given .1) (c .before .before .before .before .before .before .before .before .before .before .before .before .before .before .before .before .before .before .before .before .before .before .close .ensures .reads kind.CONTENTS refl)) in let za = closed (c .before .before .before .before .before .before .before .before .before .before .before .before .before .before .before .before .before .before .before .before .a .given .1) (c .before .before .before .before .before .before .before .before .before .before .before .before .before .before .before .before .before .before .before .before .before .before .close .ensures) in let za₀ = za .0 .0 in let za₁ = za .1 in let hb = known (c .before .before .before .before .before .before .before .before .before .before .before .before .before .b .given .1) (c .before .before .before .before .before .before .before .before .before .before .before .before .before .before .before .before .before .entries .ensures .0 someEntries (fiveWords ++ (someOpEntries 0 ∷ [])) aGiven ofGivens) in let mb = subst (λ (z : Read). Made (c .before .before .before .before .before .before .before .before .before .before .before .before .before .before .before .before .before .before .before .before .before .before .before .before .before .before .args .s .now) (c .before .before .before .before .before .before .before .before .before .before .before .before .before .before .before .before .before .before .before .before .before .before .before .before .before .before .args .v .now) (part.someEntries 37 1) (c .before .before .before .before .before .before .before .before .before .before .before .before .before .before .before .before .before .before .before .before .a .given .0 .0) (c .before .before .before .before .before .before .before .before .before .before .before .before .before .before .before .before .before .before .before .before .a .given .0 .1 .0) (c .before .before .before .before .before .before .before .before .before .before .before .before .before .before .before .before .before .before .before .before .before .before .before .before .before .before .args .code .now) (c .before .before .before .before .before .before .before .before .before .before .before .before .before .before .before .before .before .entries .last .1 .1 .1 .1 .1 .1 .0) z) (c .before .before .before .before .before .before .before .before .before .before .before .before .before .b .given .1) (c .before .before .before .before .before .before .before .before .before .before .before .before .before .before .before .before .before .entries .ensures .1) in let hc = (known (c .before .before .before .before .before .before .before .before .before .c .given .1) (c .before .before .before .before .before .before .before .before .before .before .before .words .ensures .0)) in let wc = subst (λ (z : Read). Shown (WordsAt (c .before .before .before .before .before .before .before .before .before .before .before .before .before .before .before .before .before .before .before .before .before .before .before .before .before .before .args .s .now) (c .before .before .before .before .before .before .before .before .before .before .before .before .before .b .given .0 .0)) (c .before .before .before .before .before .before .before .before .before .before .before .before .before .b .given .0 .1 .0) z) (c .before .before .before .before .before .before .before .before .before .c .given .1) (c .before .before .before .before .before .before .before .before .before .before .before .words .ensures .1) in let wc₁ = wc .1 in let wc₀ = wc .0 .place in let hd = known (c .before .before .d .given .1) (c .before .before .before .before .before .before .entries2 .ensures .0 someOpEntries (exact kind.END ∷ someBodies 0 ∷ []) anOperation ofOperations) in let md = subst (λ (z : Read). Made (c .before .before .before .before .before .before .before .before .before .before .before .before .before .before .before .before .before .before .before .before .before .before .before .before .before .before .args .s .now) (c .before .before .before .before .before .before .before .before .before .before .before .before .before .before .before .before .before .before .before .before .before .before .before .before .before .before .args .v .now) (part.someEntries 43 2) (c .before .before .before .before .before .before .before .before .before .c .given .0 .0) (c .before .before .before .before .before .before .before .before .before .c .given .0 .1 .0) (c .before .before .before .before .before .before .before .before .before .before .before .before .before .before .before .before .before .entries .last .1 .1 .1 .1 .1 .1 .0) (c .before .before .before .before .before .before .entries2 .last .1 .1 .1 .1 .1 .1 .0) z) (c .before .before .d .given .1) (c .before .before .before .before .before .before .entries2 .ensures .1) in (takes {μ = someEntries 0 ∷ []} {m = c .before .before .before .before .before .before .before .before .before .before .before .before .before .before .before .before .before .before .before .before .a .given .0 .1 .0} (omega arith) (only _ kind.CONTENTS (za .0 .1) (λ γ. refl)) (subst (λ j. Reads (c .before .before .before .before .before .before .before .before .before .before .before .before .before .before .before .before .before .before .before .before .before .before .before .before .before .before .args .s .now) j (c .before .before .before .before .before .before .before .before .before .before .before .before .before .before .before .before .before .before .before .before .a .given .0 .1 .0) (someEntries 0 ∷ []) (someBodies 0 ∷ []) (c .close2 .result)) za₀ (next hb (next (framed (someOpEntries 0 ∷ []) hc) (next hd (framed (someBodies 0 ∷ []) (c .close2 .ensures .reads kind.END refl)))))) (omega arith), contents-made (c .close2 .result) za mb wc md (c .close2 .ensures))
 
 same-length-2 : tie.Need-same-length-2
 same-length-2 c = search needs
 
 returns-2 : tie.Need-returns-2
 unfolding computeForm
-returns-2 c = let few = c .before .before .before .before .before .before .before .before .before .before .before .before .before .before .before .before .before .before .before .before .before .before .before .before .before .pre .0 in let long = c .before .before .before .before .before .before .before .before .before .before .before .before .before .before .before .before .before .before .before .before .before .before .before .before .before .pre .1 in let ha = (known (c .before .before .before .before .before .before .before .before .before .before .before .before .before .before .before .before .before .before .before .a .given .1) (c .before .before .before .before .before .before .before .before .before .before .before .before .before .before .before .before .before .before .before .before .before .close .ensures .reads kind.CONTENTS refl)) in let za = closed (c .before .before .before .before .before .before .before .before .before .before .before .before .before .before .before .before .before .before .before .a .given .1) (c .before .before .before .before .before .before .before .before .before .before .before .before .before .before .before .before .before .before .before .before .before .close .ensures) in let za₀ = za .0 .0 in let za₁ = za .1 in let hb = known (c .before .before .before .before .before .before .before .before .before .before .before .before .b .given .1) (c .before .before .before .before .before .before .before .before .before .before .before .before .before .before .before .before .entries .ensures .0 someEntries (fiveWords ++ (someOpEntries 0 ∷ [])) aGiven ofGivens) in let mb = subst (λ (z : Read). Made (c .before .before .before .before .before .before .before .before .before .before .before .before .before .before .before .before .before .before .before .before .before .before .before .before .before .args .s .now) (c .before .before .before .before .before .before .before .before .before .before .before .before .before .before .before .before .before .before .before .before .before .before .before .before .before .args .v .now) (part.someEntries 37 1) (c .before .before .before .before .before .before .before .before .before .before .before .before .before .before .before .before .before .before .before .a .given .0 .0) (c .before .before .before .before .before .before .before .before .before .before .before .before .before .before .before .before .before .before .before .a .given .0 .1 .0) (c .before .before .before .before .before .before .before .before .before .before .before .before .before .before .before .before .before .before .before .before .before .before .before .before .before .args .code .now) (c .before .before .before .before .before .before .before .before .before .before .before .before .before .before .before .before .entries .last .1 .1 .1 .1 .1 .1 .0) z) (c .before .before .before .before .before .before .before .before .before .before .before .before .b .given .1) (c .before .before .before .before .before .before .before .before .before .before .before .before .before .before .before .before .entries .ensures .1) in let hc = (known (c .before .before .before .before .before .before .before .before .c .given .1) (c .before .before .before .before .before .before .before .before .before .before .words .ensures .0)) in let wc = subst (λ (z : Read). Shown (WordsAt (c .before .before .before .before .before .before .before .before .before .before .before .before .before .before .before .before .before .before .before .before .before .before .before .before .before .args .s .now) (c .before .before .before .before .before .before .before .before .before .before .before .before .b .given .0 .0)) (c .before .before .before .before .before .before .before .before .before .before .before .before .b .given .0 .1 .0) z) (c .before .before .before .before .before .before .before .before .c .given .1) (c .before .before .before .before .before .before .before .before .before .before .words .ensures .1) in let wc₁ = wc .1 in let wc₀ = wc .0 .place in (takes-kind {μ = someEntries 0 ∷ []} {m = c .before .before .before .before .before .before .before .before .before .before .before .before .before .before .before .before .before .before .before .a .given .0 .1 .0} kind.CONTENTS (za .0 .1) (omega arith) (λ γ. refl) (subst (λ j. Reads (c .before .before .before .before .before .before .before .before .before .before .before .before .before .before .before .before .before .before .before .before .before .before .before .before .before .args .s .now) j (c .before .before .before .before .before .before .before .before .before .before .before .before .before .before .before .before .before .before .before .a .given .0 .1 .0) (someEntries 0 ∷ []) (someBodies 0 ∷ []) (Fault (c .before .p .given .0 .0) (c .before .p .given .0 .1 .0))) za₀ (next hb (next (framed (someOpEntries 0 ∷ []) hc) (fails (known (c .before .p .given .1) (c .before .before .before .before .before .entries2 .ensures .0 someOpEntries (exact kind.END ∷ someBodies 0 ∷ []) anOperation ofOperations)))))) (omega arith), tt)
+returns-2 c = let few = c .before .before .before .before .before .before .before .before .before .before .before .before .before .before .before .before .before .before .before .before .before .before .before .before .before .pre .0 in let long = c .before .before .before .before .before .before .before .before .before .before .before .before .before .before .before .before .before .before .before .before .before .before .before .before .before .pre .1 in let ha = (known (c .before .before .before .before .before .before .before .before .before .before .before .before .before .before .before .before .before .before .before .a .given .1) (c .before .before .before .before .before .before .before .before .before .before .before .before .before .before .before .before .before .before .before .before .before .close .ensures .reads kind.CONTENTS refl)) in let za = closed (c .before .before .before .before .before .before .before .before .before .before .before .before .before .before .before .before .before .before .before .a .given .1) (c .before .before .before .before .before .before .before .before .before .before .before .before .before .before .before .before .before .before .before .before .before .close .ensures) in let za₀ = za .0 .0 in let za₁ = za .1 in let hb = known (c .before .before .before .before .before .before .before .before .before .before .before .before .b .given .1) (c .before .before .before .before .before .before .before .before .before .before .before .before .before .before .before .before .entries .ensures .0 someEntries (fiveWords ++ (someOpEntries 0 ∷ [])) aGiven ofGivens) in let mb = subst (λ (z : Read). Made (c .before .before .before .before .before .before .before .before .before .before .before .before .before .before .before .before .before .before .before .before .before .before .before .before .before .args .s .now) (c .before .before .before .before .before .before .before .before .before .before .before .before .before .before .before .before .before .before .before .before .before .before .before .before .before .args .v .now) (part.someEntries 37 1) (c .before .before .before .before .before .before .before .before .before .before .before .before .before .before .before .before .before .before .before .a .given .0 .0) (c .before .before .before .before .before .before .before .before .before .before .before .before .before .before .before .before .before .before .before .a .given .0 .1 .0) (c .before .before .before .before .before .before .before .before .before .before .before .before .before .before .before .before .before .before .before .before .before .before .before .before .before .args .code .now) (c .before .before .before .before .before .before .before .before .before .before .before .before .before .before .before .before .entries .last .1 .1 .1 .1 .1 .1 .0) z) (c .before .before .before .before .before .before .before .before .before .before .before .before .b .given .1) (c .before .before .before .before .before .before .before .before .before .before .before .before .before .before .before .before .entries .ensures .1) in let hc = (known (c .before .before .before .before .before .before .before .before .c .given .1) (c .before .before .before .before .before .before .before .before .before .before .words .ensures .0)) in let wc = subst (λ (z : Read). Shown (WordsAt (c .before .before .before .before .before .before .before .before .before .before .before .before .before .before .before .before .before .before .before .before .before .before .before .before .before .args .s .now) (c .before .before .before .before .before .before .before .before .before .before .before .before .b .given .0 .0)) (c .before .before .before .before .before .before .before .before .before .before .before .before .b .given .0 .1 .0) z) (c .before .before .before .before .before .before .before .before .c .given .1) (c .before .before .before .before .before .before .before .before .before .before .words .ensures .1) in let wc₁ = wc .1 in let wc₀ = wc .0 .place in (takes {μ = someEntries 0 ∷ []} {m = c .before .before .before .before .before .before .before .before .before .before .before .before .before .before .before .before .before .before .before .a .given .0 .1 .0} (omega arith) (only _ kind.CONTENTS (za .0 .1) (λ γ. refl)) (subst (λ j. Reads (c .before .before .before .before .before .before .before .before .before .before .before .before .before .before .before .before .before .before .before .before .before .before .before .before .before .args .s .now) j (c .before .before .before .before .before .before .before .before .before .before .before .before .before .before .before .before .before .before .before .a .given .0 .1 .0) (someEntries 0 ∷ []) (someBodies 0 ∷ []) (Fault (c .before .p .given .0 .0) (c .before .p .given .0 .1 .0))) za₀ (next hb (next (framed (someOpEntries 0 ∷ []) hc) (fails (known (c .before .p .given .1) (c .before .before .before .before .before .entries2 .ensures .0 someOpEntries (exact kind.END ∷ someBodies 0 ∷ []) anOperation ofOperations)))))) (omega arith), tt)
 
 same-length-3 : tie.Need-same-length-3
 same-length-3 c = search needs
 
 returns-3 : tie.Need-returns-3
 unfolding computeForm
-returns-3 c = let few = c .before .before .before .before .before .before .before .before .before .before .before .before .before .before .before .before .before .before .pre .0 in let long = c .before .before .before .before .before .before .before .before .before .before .before .before .before .before .before .before .before .before .pre .1 in let ha = (known (c .before .before .before .before .before .before .before .before .before .before .before .before .a .given .1) (c .before .before .before .before .before .before .before .before .before .before .before .before .before .before .close .ensures .reads kind.CONTENTS refl)) in let za = closed (c .before .before .before .before .before .before .before .before .before .before .before .before .a .given .1) (c .before .before .before .before .before .before .before .before .before .before .before .before .before .before .close .ensures) in let za₀ = za .0 .0 in let za₁ = za .1 in let hb = known (c .before .before .before .before .before .b .given .1) (c .before .before .before .before .before .before .before .before .before .entries .ensures .0 someEntries (fiveWords ++ (someOpEntries 0 ∷ [])) aGiven ofGivens) in let mb = subst (λ (z : Read). Made (c .before .before .before .before .before .before .before .before .before .before .before .before .before .before .before .before .before .before .args .s .now) (c .before .before .before .before .before .before .before .before .before .before .before .before .before .before .before .before .before .before .args .v .now) (part.someEntries 37 1) (c .before .before .before .before .before .before .before .before .before .before .before .before .a .given .0 .0) (c .before .before .before .before .before .before .before .before .before .before .before .before .a .given .0 .1 .0) (c .before .before .before .before .before .before .before .before .before .before .before .before .before .before .before .before .before .before .args .code .now) (c .before .before .before .before .before .before .before .before .before .entries .last .1 .1 .1 .1 .1 .1 .0) z) (c .before .before .before .before .before .b .given .1) (c .before .before .before .before .before .before .before .before .before .entries .ensures .1) in (takes-kind {μ = someEntries 0 ∷ []} {m = c .before .before .before .before .before .before .before .before .before .before .before .before .a .given .0 .1 .0} kind.CONTENTS (za .0 .1) (omega arith) (λ γ. refl) (subst (λ j. Reads (c .before .before .before .before .before .before .before .before .before .before .before .before .before .before .before .before .before .before .args .s .now) j (c .before .before .before .before .before .before .before .before .before .before .before .before .a .given .0 .1 .0) (someEntries 0 ∷ []) (someBodies 0 ∷ []) (Fault (c .before .p2 .given .0 .0) (c .before .p2 .given .0 .1 .0))) za₀ (next hb (fails (framed (someOpEntries 0 ∷ []) (known (c .before .p2 .given .1) (c .before .before .before .words .ensures .0)))))) (omega arith), tt)
+returns-3 c = let few = c .before .before .before .before .before .before .before .before .before .before .before .before .before .before .before .before .before .before .pre .0 in let long = c .before .before .before .before .before .before .before .before .before .before .before .before .before .before .before .before .before .before .pre .1 in let ha = (known (c .before .before .before .before .before .before .before .before .before .before .before .before .a .given .1) (c .before .before .before .before .before .before .before .before .before .before .before .before .before .before .close .ensures .reads kind.CONTENTS refl)) in let za = closed (c .before .before .before .before .before .before .before .before .before .before .before .before .a .given .1) (c .before .before .before .before .before .before .before .before .before .before .before .before .before .before .close .ensures) in let za₀ = za .0 .0 in let za₁ = za .1 in let hb = known (c .before .before .before .before .before .b .given .1) (c .before .before .before .before .before .before .before .before .before .entries .ensures .0 someEntries (fiveWords ++ (someOpEntries 0 ∷ [])) aGiven ofGivens) in let mb = subst (λ (z : Read). Made (c .before .before .before .before .before .before .before .before .before .before .before .before .before .before .before .before .before .before .args .s .now) (c .before .before .before .before .before .before .before .before .before .before .before .before .before .before .before .before .before .before .args .v .now) (part.someEntries 37 1) (c .before .before .before .before .before .before .before .before .before .before .before .before .a .given .0 .0) (c .before .before .before .before .before .before .before .before .before .before .before .before .a .given .0 .1 .0) (c .before .before .before .before .before .before .before .before .before .before .before .before .before .before .before .before .before .before .args .code .now) (c .before .before .before .before .before .before .before .before .before .entries .last .1 .1 .1 .1 .1 .1 .0) z) (c .before .before .before .before .before .b .given .1) (c .before .before .before .before .before .before .before .before .before .entries .ensures .1) in (takes {μ = someEntries 0 ∷ []} {m = c .before .before .before .before .before .before .before .before .before .before .before .before .a .given .0 .1 .0} (omega arith) (only _ kind.CONTENTS (za .0 .1) (λ γ. refl)) (subst (λ j. Reads (c .before .before .before .before .before .before .before .before .before .before .before .before .before .before .before .before .before .before .args .s .now) j (c .before .before .before .before .before .before .before .before .before .before .before .before .a .given .0 .1 .0) (someEntries 0 ∷ []) (someBodies 0 ∷ []) (Fault (c .before .p2 .given .0 .0) (c .before .p2 .given .0 .1 .0))) za₀ (next hb (fails (framed (someOpEntries 0 ∷ []) (known (c .before .p2 .given .1) (c .before .before .before .words .ensures .0)))))) (omega arith), tt)
 
 same-length-4 : tie.Need-same-length-4
 same-length-4 c = search needs
 
 returns-4 : tie.Need-returns-4
 unfolding computeForm
-returns-4 c = let few = c .before .before .before .before .before .before .before .before .before .before .before .before .before .before .pre .0 in let long = c .before .before .before .before .before .before .before .before .before .before .before .before .before .before .pre .1 in let ha = (known (c .before .before .before .before .before .before .before .before .a .given .1) (c .before .before .before .before .before .before .before .before .before .before .close .ensures .reads kind.CONTENTS refl)) in let za = closed (c .before .before .before .before .before .before .before .before .a .given .1) (c .before .before .before .before .before .before .before .before .before .before .close .ensures) in let za₀ = za .0 .0 in let za₁ = za .1 in (takes-kind {μ = someEntries 0 ∷ []} {m = c .before .before .before .before .before .before .before .before .a .given .0 .1 .0} kind.CONTENTS (za .0 .1) (omega arith) (λ γ. refl) (subst (λ j. Reads (c .before .before .before .before .before .before .before .before .before .before .before .before .before .before .args .s .now) j (c .before .before .before .before .before .before .before .before .a .given .0 .1 .0) (someEntries 0 ∷ []) (someBodies 0 ∷ []) (Fault (c .before .p3 .given .0 .0) (c .before .p3 .given .0 .1 .0))) za₀ (fails (known (c .before .p3 .given .1) (c .before .before .before .before .before .entries .ensures .0 someEntries (fiveWords ++ (someOpEntries 0 ∷ [])) aGiven ofGivens)))) (omega arith), tt)
+returns-4 c = let few = c .before .before .before .before .before .before .before .before .before .before .before .before .before .before .pre .0 in let long = c .before .before .before .before .before .before .before .before .before .before .before .before .before .before .pre .1 in let ha = (known (c .before .before .before .before .before .before .before .before .a .given .1) (c .before .before .before .before .before .before .before .before .before .before .close .ensures .reads kind.CONTENTS refl)) in let za = closed (c .before .before .before .before .before .before .before .before .a .given .1) (c .before .before .before .before .before .before .before .before .before .before .close .ensures) in let za₀ = za .0 .0 in let za₁ = za .1 in (takes {μ = someEntries 0 ∷ []} {m = c .before .before .before .before .before .before .before .before .a .given .0 .1 .0} (omega arith) (only _ kind.CONTENTS (za .0 .1) (λ γ. refl)) (subst (λ j. Reads (c .before .before .before .before .before .before .before .before .before .before .before .before .before .before .args .s .now) j (c .before .before .before .before .before .before .before .before .a .given .0 .1 .0) (someEntries 0 ∷ []) (someBodies 0 ∷ []) (Fault (c .before .p3 .given .0 .0) (c .before .p3 .given .0 .1 .0))) za₀ (fails (known (c .before .p3 .given .1) (c .before .before .before .before .before .entries .ensures .0 someEntries (fiveWords ++ (someOpEntries 0 ∷ [])) aGiven ofGivens)))) (omega arith), tt)
 
 returns-5 : tie.Need-returns-5
 unfolding computeForm

@@ -9,7 +9,7 @@ use Rattle.form.specs.Codes.{node}
 use Rattle.parser.specs.declared.Read.{Read}
 use Rattle.parser.specs.Derived.{Made}
 use Rattle.parser.proofs.Reading.{next, fails, framed, known, wider}
-use Rattle.parser.proofs.Joining.{closed, declaration-made, renumber}
+use Rattle.parser.proofs.ListNodes.{closed, declaration-made, renumber}
 use Rattle.parser.proofs.contents.declaration.Statement.{statement}
 use Rattle.symbols.specs.Kinds as kind
 use Rattle.parser.specs.Derived as part

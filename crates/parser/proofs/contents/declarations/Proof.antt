@@ -13,9 +13,9 @@ use Rattle.parser.specs.declared.Read.{Read}
 use Rattle.parser.specs.declared.Read.the-variants.{At}
 use Rattle.parser.specs.Derived.{NameAt, Made, aDeclaration, noDeclarations, declaresMore}
 use Rattle.parser.specs.Dossiers.{MoreAt, aTyped}
-use Rattle.parser.proofs.Reading.{here, next, taken, taken-kind, stops, likewise, likewise-kind, fails, framed, known}
-use Rattle.parser.proofs.Listing.{count-well, count-over, variables, crowded-kind, declared-stops, declaration-first, declaration-takes, declarations-behind}
-use Rattle.parser.proofs.Joining.{more-none, more-then, more-made, more-part}
+use Rattle.parser.proofs.Reading.{only, here, next, taken, stops, likewise, fails, framed, known}
+use Rattle.parser.proofs.Listing.{count-well, count-over, variables, crowded, declared-stops, declaration-first, declaration-takes, declarations-behind}
+use Rattle.parser.proofs.ListNodes.{more-none, more-then, more-made, more-part}
 use Rattle.parser.proofs.contents.declarations.Statement.{statement}
 use Rattle.symbols.specs.Kinds as kind
 use Rattle.parser.specs.Derived as part
@@ -32,7 +32,7 @@ kind-at-requires c κs = search needs
 
 loop-holds : tie.Need-loop-holds Inv-loop μ-loop
 unfolding computeForm
-loop-holds c = let room = c .before .before .before .before .before .pre in (likewise-kind kind.plain (sym (c .before .kind-at .ensures .is) ∙ c .if1 .taken) (λ γ. declaration-first γ) (λ γ. refl) (here (omega arith)), more-none _ _ _, refl, omega arith)
+loop-holds c = let room = c .before .before .before .before .before .pre in (likewise (only _ kind.plain (sym (c .before .kind-at .ensures .is) ∙ c .if1 .taken) (λ γ. declaration-first γ)) (λ γ. refl) (here (omega arith)), more-none _ _ _, refl, omega arith)
 
 kind-at-requires-2 : tie.Need-kind-at-requires-2 Inv-loop μ-loop
 kind-at-requires-2 c κs = search needs
@@ -42,7 +42,7 @@ same-length c = search needs
 
 returns : tie.Need-returns Inv-loop μ-loop
 unfolding computeForm
-returns c = let room = c .before .before .before .before .before .before .before .before .before .pre in let i = c .before .before .before .loop .inv .0 in let l = c .before .before .before .loop .inv .2 in let z = c .before .before .kind-at2 .ensures .inside in (next i (crowded-kind (λ γ. aTyped ++ (someDeclarations ((c .before .before .before .loop .k) + 1) ∷ γ)) (aVariable ((c .before .before .before .loop .k) + 1)) kind.plain (sym (c .before .before .kind-at2 .ensures .is) ∙ c .before .if2 .taken) (omega arith) (count-over (c .before .before .before .before .before .before .before .before .before .args .s .now) (c .before .before .before .loop .at) ((c .before .before .before .loop .k) + 1) variables (omega arith)) (λ γ. declaration-takes (c .before .before .before .loop .k) γ)), tt, tt)
+returns c = let room = c .before .before .before .before .before .before .before .before .before .pre in let i = c .before .before .before .loop .inv .0 in let l = c .before .before .before .loop .inv .2 in let z = c .before .before .kind-at2 .ensures .inside in (next i (crowded (λ γ. aTyped ++ (someDeclarations ((c .before .before .before .loop .k) + 1) ∷ γ)) (aVariable ((c .before .before .before .loop .k) + 1)) (omega arith) (count-over (c .before .before .before .before .before .before .before .before .before .args .s .now) (c .before .before .before .loop .at) ((c .before .before .before .loop .k) + 1) variables (omega arith)) (only _ kind.plain (sym (c .before .before .kind-at2 .ensures .is) ∙ c .before .if2 .taken) (λ γ. declaration-takes (c .before .before .before .loop .k) γ))), tt, tt)
 
 declaration-requires : tie.Need-declaration-requires Inv-loop μ-loop
 declaration-requires c κs = let room = c .before .before .before .before .before .before .before .before .before .before .pre in let i = c .before .before .before .before .loop .inv .0 in let l = c .before .before .before .before .loop .inv .2 in let z = c .before .before .before .kind-at2 .ensures .inside in let b : NameAt (c .before .before .before .before .before .before .before .before .before .before .args .s .now) (c .before .before .before .before .loop .at) = record { low = omega (arith, (c .before .before .before .kind-at2 .ensures .is)); high = omega (arith, (c .before .before .before .kind-at2 .ensures .is)) } in search needs
@@ -58,7 +58,7 @@ loop-less c = let room = c .before .before .before .before .before .before .befo
 
 loop-again : tie.Need-loop-again Inv-loop μ-loop
 unfolding computeForm
-loop-again c = let room = c .before .before .before .before .before .before .before .before .before .before .before .before .before .before .before .before .pre in let i = c .before .before .before .before .before .before .before .before .before .before .loop .inv .0 in let l = c .before .before .before .before .before .before .before .before .before .before .loop .inv .2 in let z = c .before .before .before .before .before .before .before .before .before .kind-at2 .ensures .inside in let h = (known (c .before .e .given .1) (c .before .before .before .before .before .declaration .ensures .0)) in (next i (taken-kind {μ = aTyped ++ (someDeclarations ((c .before .before .before .before .before .before .before .before .before .before .loop .k) + 1) ∷ [])} {m = c .before .before .before .before .before .before .before .before .before .before .loop .n + 4} (aVariable ((c .before .before .before .before .before .before .before .before .before .before .loop .k) + 1)) kind.plain (sym (c .before .before .before .before .before .before .before .before .before .kind-at2 .ensures .is) ∙ c .before .before .before .before .before .before .before .before .if2 .taken) (omega arith) (count-well (c .before .before .before .before .before .before .before .before .before .before .before .before .before .before .before .before .args .s .now) (c .before .before .before .before .before .before .before .before .before .before .loop .at) ((c .before .before .before .before .before .before .before .before .before .before .loop .k) + 1) variables (omega arith)) (λ γ. declaration-takes (c .before .before .before .before .before .before .before .before .before .before .loop .k) γ) (framed (someDeclarations ((c .before .before .before .before .before .before .before .before .before .before .loop .k) + 1) ∷ []) h) (omega arith)), more-then (c .before .before .before .before .before .before .before .before .before .before .loop .inv .1) (let p = subst (λ (z : Read). Made (c .before .before .before .before .before .before .before .before .before .before .before .before .before .before .before .before .args .s .now) (c .before .before .before .before .before .before .before .before .before .before .before .before .before .before .before .before .args .v .now) aDeclaration (c .before .before .before .before .before .before .before .before .before .before .loop .at) (c .before .before .before .before .before .before .before .before .before .before .loop .n) (c .before .before .before .before .before .before .before .before .before .before .loop .code) (c .before .before .before .before .before .declaration .last .1 .1 .1 .0) z) (c .before .e .given .1) (c .before .before .before .before .before .declaration .ensures .1) in more-part p (λ j u d. declaresMore (sym (c .before .before .before .before .before .before .before .before .before .kind-at2 .ensures .is) ∙ c .before .before .before .before .before .before .before .before .if2 .taken) (p .derives) d)), search needs, omega arith)
+loop-again c = let room = c .before .before .before .before .before .before .before .before .before .before .before .before .before .before .before .before .pre in let i = c .before .before .before .before .before .before .before .before .before .before .loop .inv .0 in let l = c .before .before .before .before .before .before .before .before .before .before .loop .inv .2 in let z = c .before .before .before .before .before .before .before .before .before .kind-at2 .ensures .inside in let h = (known (c .before .e .given .1) (c .before .before .before .before .before .declaration .ensures .0)) in (next i (taken {μ = aTyped ++ (someDeclarations ((c .before .before .before .before .before .before .before .before .before .before .loop .k) + 1) ∷ [])} {m = c .before .before .before .before .before .before .before .before .before .before .loop .n + 4} (aVariable ((c .before .before .before .before .before .before .before .before .before .before .loop .k) + 1)) (omega arith) (count-well (c .before .before .before .before .before .before .before .before .before .before .before .before .before .before .before .before .args .s .now) (c .before .before .before .before .before .before .before .before .before .before .loop .at) ((c .before .before .before .before .before .before .before .before .before .before .loop .k) + 1) variables (omega arith)) (only _ kind.plain (sym (c .before .before .before .before .before .before .before .before .before .kind-at2 .ensures .is) ∙ c .before .before .before .before .before .before .before .before .if2 .taken) (λ γ. declaration-takes (c .before .before .before .before .before .before .before .before .before .before .loop .k) γ)) (framed (someDeclarations ((c .before .before .before .before .before .before .before .before .before .before .loop .k) + 1) ∷ []) h) (omega arith)), more-then (c .before .before .before .before .before .before .before .before .before .before .loop .inv .1) (let p = subst (λ (z : Read). Made (c .before .before .before .before .before .before .before .before .before .before .before .before .before .before .before .before .args .s .now) (c .before .before .before .before .before .before .before .before .before .before .before .before .before .before .before .before .args .v .now) aDeclaration (c .before .before .before .before .before .before .before .before .before .before .loop .at) (c .before .before .before .before .before .before .before .before .before .before .loop .n) (c .before .before .before .before .before .before .before .before .before .before .loop .code) (c .before .before .before .before .before .declaration .last .1 .1 .1 .0) z) (c .before .e .given .1) (c .before .before .before .before .before .declaration .ensures .1) in more-part p (λ j u d. declaresMore (sym (c .before .before .before .before .before .before .before .before .before .kind-at2 .ensures .is) ∙ c .before .before .before .before .before .before .before .before .if2 .taken) (p .derives) d)), search needs, omega arith)
 
 enum-known-p : tie.Need-enum-known-p Inv-loop μ-loop
 enum-known-p c = search needs
@@ -68,7 +68,7 @@ same-length-2 c = search needs
 
 returns-2 : tie.Need-returns-2 Inv-loop μ-loop
 unfolding computeForm
-returns-2 c = let room = c .before .before .before .before .before .before .before .before .before .before .before .before .before .before .before .before .pre in let i = c .before .before .before .before .before .before .before .before .before .before .loop .inv .0 in let l = c .before .before .before .before .before .before .before .before .before .before .loop .inv .2 in let z = c .before .before .before .before .before .before .before .before .before .kind-at2 .ensures .inside in (next i (taken-kind {μ = aTyped ++ (someDeclarations ((c .before .before .before .before .before .before .before .before .before .before .loop .k) + 1) ∷ [])} {m = c .before .before .before .before .before .before .before .before .before .before .loop .n + 4} (aVariable ((c .before .before .before .before .before .before .before .before .before .before .loop .k) + 1)) kind.plain (sym (c .before .before .before .before .before .before .before .before .before .kind-at2 .ensures .is) ∙ c .before .before .before .before .before .before .before .before .if2 .taken) (omega arith) (count-well (c .before .before .before .before .before .before .before .before .before .before .before .before .before .before .before .before .args .s .now) (c .before .before .before .before .before .before .before .before .before .before .loop .at) ((c .before .before .before .before .before .before .before .before .before .before .loop .k) + 1) variables (omega arith)) (λ γ. declaration-takes (c .before .before .before .before .before .before .before .before .before .before .loop .k) γ) (fails (framed (someDeclarations ((c .before .before .before .before .before .before .before .before .before .before .loop .k) + 1) ∷ []) (known (c .before .p .given .1) (c .before .before .before .before .before .declaration .ensures .0)))) (omega arith)), tt, tt)
+returns-2 c = let room = c .before .before .before .before .before .before .before .before .before .before .before .before .before .before .before .before .pre in let i = c .before .before .before .before .before .before .before .before .before .before .loop .inv .0 in let l = c .before .before .before .before .before .before .before .before .before .before .loop .inv .2 in let z = c .before .before .before .before .before .before .before .before .before .kind-at2 .ensures .inside in (next i (taken {μ = aTyped ++ (someDeclarations ((c .before .before .before .before .before .before .before .before .before .before .loop .k) + 1) ∷ [])} {m = c .before .before .before .before .before .before .before .before .before .before .loop .n + 4} (aVariable ((c .before .before .before .before .before .before .before .before .before .before .loop .k) + 1)) (omega arith) (count-well (c .before .before .before .before .before .before .before .before .before .before .before .before .before .before .before .before .args .s .now) (c .before .before .before .before .before .before .before .before .before .before .loop .at) ((c .before .before .before .before .before .before .before .before .before .before .loop .k) + 1) variables (omega arith)) (only _ kind.plain (sym (c .before .before .before .before .before .before .before .before .before .kind-at2 .ensures .is) ∙ c .before .before .before .before .before .before .before .before .if2 .taken) (λ γ. declaration-takes (c .before .before .before .before .before .before .before .before .before .before .loop .k) γ)) (fails (framed (someDeclarations ((c .before .before .before .before .before .before .before .before .before .before .loop .k) + 1) ∷ []) (known (c .before .p .given .1) (c .before .before .before .before .before .declaration .ensures .0)))) (omega arith)), tt, tt)
 
 same-length-3 : tie.Need-same-length-3 Inv-loop μ-loop
 same-length-3 c = search needs

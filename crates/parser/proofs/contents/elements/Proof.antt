@@ -13,9 +13,9 @@ use Rattle.parser.specs.Inner.{Reads}
 use Rattle.parser.specs.declared.Read.the-variants.{At}
 use Rattle.parser.specs.Derived.{noElements}
 use Rattle.parser.specs.Dossiers.{MoreAt}
-use Rattle.parser.proofs.Reading.{here, next, taken, taken-kind, stops, likewise, likewise-kind}
-use Rattle.parser.proofs.Listing.{count-well, count-over, elements, crowded-kind, declared-stops, element-first, element-takes, elements-behind}
-use Rattle.parser.proofs.Joining.{more-none, more-then, more-made, more-node}
+use Rattle.parser.proofs.Reading.{only, here, next, taken, stops, likewise}
+use Rattle.parser.proofs.Listing.{count-well, count-over, elements, crowded, declared-stops, element-first, element-takes, elements-behind}
+use Rattle.parser.proofs.ListNodes.{more-none, more-then, more-made, more-node}
 use Rattle.parser.proofs.contents.elements.Statement.{statement}
 use Rattle.symbols.specs.Kinds as kind
 use Rattle.parser.specs.Derived as part
@@ -32,7 +32,7 @@ kind-at-requires c κs = search needs
 
 loop-holds : tie.Need-loop-holds Inv-loop μ-loop
 unfolding computeForm
-loop-holds c = let room = c .before .before .before .before .before .pre in (likewise-kind kind.plain (sym (c .before .kind-at .ensures .is) ∙ c .if1 .taken) (λ γ. element-first γ) (λ γ. refl) (here (omega arith)), more-none _ _ _, refl, omega arith)
+loop-holds c = let room = c .before .before .before .before .before .pre in (likewise (only _ kind.plain (sym (c .before .kind-at .ensures .is) ∙ c .if1 .taken) (λ γ. element-first γ)) (λ γ. refl) (here (omega arith)), more-none _ _ _, refl, omega arith)
 
 kind-at-requires-2 : tie.Need-kind-at-requires-2 Inv-loop μ-loop
 kind-at-requires-2 c κs = search needs
@@ -42,7 +42,7 @@ same-length c = search needs
 
 returns : tie.Need-returns Inv-loop μ-loop
 unfolding computeForm
-returns c = let room = c .before .before .before .before .before .before .before .before .before .pre in let i = c .before .before .before .loop .inv .0 in let l = c .before .before .before .loop .inv .2 in let z = c .before .before .kind-at2 .ensures .inside in (next i (crowded-kind (λ γ. someElements ((c .before .before .before .loop .k) + 1) ∷ γ) (anElement ((c .before .before .before .loop .k) + 1)) kind.plain (sym (c .before .before .kind-at2 .ensures .is) ∙ c .before .if2 .taken) (omega arith) (count-over (c .before .before .before .before .before .before .before .before .before .args .s .now) (c .before .before .before .loop .at) ((c .before .before .before .loop .k) + 1) elements (omega arith)) (λ γ. element-takes (c .before .before .before .loop .k) γ)), tt, tt)
+returns c = let room = c .before .before .before .before .before .before .before .before .before .pre in let i = c .before .before .before .loop .inv .0 in let l = c .before .before .before .loop .inv .2 in let z = c .before .before .kind-at2 .ensures .inside in (next i (crowded (λ γ. someElements ((c .before .before .before .loop .k) + 1) ∷ γ) (anElement ((c .before .before .before .loop .k) + 1)) (omega arith) (count-over (c .before .before .before .before .before .before .before .before .before .args .s .now) (c .before .before .before .loop .at) ((c .before .before .before .loop .k) + 1) elements (omega arith)) (only _ kind.plain (sym (c .before .before .kind-at2 .ensures .is) ∙ c .before .if2 .taken) (λ γ. element-takes (c .before .before .before .loop .k) γ))), tt, tt)
 
 name-number-requires : tie.Need-name-number-requires Inv-loop μ-loop
 name-number-requires c κs = search needs
@@ -61,7 +61,7 @@ loop-less c = let room = c .before .before .before .before .before .before .befo
 
 loop-again : tie.Need-loop-again Inv-loop μ-loop
 unfolding computeForm
-loop-again c = let room = c .before .before .before .before .before .before .before .before .before .before .before .before .before .before .pre in let i = c .before .before .before .before .before .before .before .before .loop .inv .0 in let l = c .before .before .before .before .before .before .before .before .loop .inv .2 in let z = c .before .before .before .before .before .before .before .kind-at2 .ensures .inside in let p = c .before .before .put .ensures .count in (next i (taken-kind {μ = someElements ((c .before .before .before .before .before .before .before .before .loop .k) + 1) ∷ []} {m = c .before .before .put .result} (anElement ((c .before .before .before .before .before .before .before .before .loop .k) + 1)) kind.plain (sym (c .before .before .before .before .before .before .before .kind-at2 .ensures .is) ∙ c .before .before .before .before .before .before .if2 .taken) (omega arith) (count-well (c .before .before .before .before .before .before .before .before .before .before .before .before .before .before .args .s .now) (c .before .before .before .before .before .before .before .before .loop .at) ((c .before .before .before .before .before .before .before .before .loop .k) + 1) elements (omega arith)) (λ γ. element-takes (c .before .before .before .before .before .before .before .before .loop .k) γ) (here (omega arith)) (omega arith)), more-then (c .before .before .before .before .before .before .before .before .loop .inv .1) (more-node (c .before .before .put .ensures) (ap (λ y. node 4 (c .before .before .before .before .before .before .before .before .loop .at) y 0) (c .before .before .before .before .name-number .ensures)) (λ j u d. part.anElement (sym (c .before .before .before .before .before .before .before .kind-at2 .ensures .is) ∙ c .before .before .before .before .before .before .if2 .taken) d)), search needs, omega arith)
+loop-again c = let room = c .before .before .before .before .before .before .before .before .before .before .before .before .before .before .pre in let i = c .before .before .before .before .before .before .before .before .loop .inv .0 in let l = c .before .before .before .before .before .before .before .before .loop .inv .2 in let z = c .before .before .before .before .before .before .before .kind-at2 .ensures .inside in let p = c .before .before .put .ensures .count in (next i (taken {μ = someElements ((c .before .before .before .before .before .before .before .before .loop .k) + 1) ∷ []} {m = c .before .before .put .result} (anElement ((c .before .before .before .before .before .before .before .before .loop .k) + 1)) (omega arith) (count-well (c .before .before .before .before .before .before .before .before .before .before .before .before .before .before .args .s .now) (c .before .before .before .before .before .before .before .before .loop .at) ((c .before .before .before .before .before .before .before .before .loop .k) + 1) elements (omega arith)) (only _ kind.plain (sym (c .before .before .before .before .before .before .before .kind-at2 .ensures .is) ∙ c .before .before .before .before .before .before .if2 .taken) (λ γ. element-takes (c .before .before .before .before .before .before .before .before .loop .k) γ)) (here (omega arith)) (omega arith)), more-then (c .before .before .before .before .before .before .before .before .loop .inv .1) (more-node (c .before .before .put .ensures) (ap (λ y. node 4 (c .before .before .before .before .before .before .before .before .loop .at) y 0) (c .before .before .before .before .name-number .ensures)) (λ j u d. part.anElement (sym (c .before .before .before .before .before .before .before .kind-at2 .ensures .is) ∙ c .before .before .before .before .before .before .if2 .taken) d)), search needs, omega arith)
 
 same-length-2 : tie.Need-same-length-2 Inv-loop μ-loop
 same-length-2 c = search needs

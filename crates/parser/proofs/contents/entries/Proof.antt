@@ -13,9 +13,9 @@ use Rattle.parser.specs.Inner.{Reads}
 use Rattle.parser.specs.declared.Read.the-variants.{At}
 use Rattle.parser.specs.Derived.{noEntries, anEntry}
 use Rattle.parser.specs.Dossiers.{EntriesOf, MoreAt}
-use Rattle.parser.proofs.Reading.{here, next, takes, taken, taken-kind, stops, likewise}
-use Rattle.parser.proofs.Listing.{count-well, count-over, entry-counts, crowded-kind, declared-takes, declared-stops, entry-word, entry-behind, entry-ends}
-use Rattle.parser.proofs.Joining.{more-none, more-then, more-made, more-node}
+use Rattle.parser.proofs.Reading.{only, here, next, takes, taken, stops, likewise}
+use Rattle.parser.proofs.Listing.{count-well, count-over, entry-counts, crowded, declared-takes, declared-stops, entry-word, entry-behind, entry-ends}
+use Rattle.parser.proofs.ListNodes.{more-none, more-then, more-made, more-node}
 use Rattle.parser.proofs.contents.entries.Statement.{statement}
 use Rattle.symbols.specs.Kinds as kind
 use Rattle.parser.specs.Derived as part
@@ -47,7 +47,7 @@ same-length c = search needs
 
 returns : tie.Need-returns Inv-loop μ-loop
 unfolding computeForm
-returns c = let room = c .before .before .before .before .before .before .before .before .before .pre .0 in let word = c .before .before .before .before .before .before .before .before .before .pre .1 in let l = c .before .before .before .before .before .loop .inv .1 in let l₁ = c .before .before .before .before .before .loop .inv .2 in let l₂ = c .before .before .before .before .before .loop .inv .3 in let l₃ = c .before .before .before .before .before .loop .inv .4 in let l₄ = c .before .before .before .before .before .loop .inv .5 in let l₅ = c .before .before .before .before .before .loop .inv .6 in let z = c .before .before .before .before .kind-at .ensures .inside in let y = c .before .before .kind-at2 .ensures .inside in (λ f ο x e. next (c .before .before .before .before .before .loop .inv .0 f ο x e) (takes {μ = aDeclared (x ((c .before .before .before .before .before .loop .k) + 1)) ∷ f ((c .before .before .before .before .before .loop .k) + 1) ∷ []} {m = c .before .before .before .before .before .loop .n} (omega arith) (λ κ q γ. entry-word e (c .before .before .before .before .before .loop .k) κ γ (q ∙ sym (c .before .before .before .before .kind-at .ensures .is) ∙ c .before .before .before .if1 .taken)) (crowded-kind (λ γ. f ((c .before .before .before .before .before .loop .k) + 1) ∷ γ) (x ((c .before .before .before .before .before .loop .k) + 1)) kind.plain (sym (c .before .before .kind-at2 .ensures .is) ∙ c .before .if2 .taken) (omega arith) (count-over (c .before .before .before .before .before .before .before .before .before .args .s .now) ((c .before .before .before .before .before .loop .at) + 1) ((c .before .before .before .before .before .loop .k) + 1) (entry-counts e) (omega arith)) (λ γ. declared-takes (x ((c .before .before .before .before .before .loop .k) + 1)) (f ((c .before .before .before .before .before .loop .k) + 1) ∷ γ))) (omega arith)), tt)
+returns c = let room = c .before .before .before .before .before .before .before .before .before .pre .0 in let word = c .before .before .before .before .before .before .before .before .before .pre .1 in let l = c .before .before .before .before .before .loop .inv .1 in let l₁ = c .before .before .before .before .before .loop .inv .2 in let l₂ = c .before .before .before .before .before .loop .inv .3 in let l₃ = c .before .before .before .before .before .loop .inv .4 in let l₄ = c .before .before .before .before .before .loop .inv .5 in let l₅ = c .before .before .before .before .before .loop .inv .6 in let z = c .before .before .before .before .kind-at .ensures .inside in let y = c .before .before .kind-at2 .ensures .inside in (λ f ο x e. next (c .before .before .before .before .before .loop .inv .0 f ο x e) (takes {μ = aDeclared (x ((c .before .before .before .before .before .loop .k) + 1)) ∷ f ((c .before .before .before .before .before .loop .k) + 1) ∷ []} {m = c .before .before .before .before .before .loop .n} (omega arith) (λ κ q γ. entry-word e (c .before .before .before .before .before .loop .k) κ γ (q ∙ sym (c .before .before .before .before .kind-at .ensures .is) ∙ c .before .before .before .if1 .taken)) (crowded (λ γ. f ((c .before .before .before .before .before .loop .k) + 1) ∷ γ) (x ((c .before .before .before .before .before .loop .k) + 1)) (omega arith) (count-over (c .before .before .before .before .before .before .before .before .before .args .s .now) ((c .before .before .before .before .before .loop .at) + 1) ((c .before .before .before .before .before .loop .k) + 1) (entry-counts e) (omega arith)) (only _ kind.plain (sym (c .before .before .kind-at2 .ensures .is) ∙ c .before .if2 .taken) (λ γ. declared-takes (x ((c .before .before .before .before .before .loop .k) + 1)) (f ((c .before .before .before .before .before .loop .k) + 1) ∷ γ)))) (omega arith)), tt)
 
 add-name-number : tie.Need-add-name-number Inv-loop μ-loop
 add-name-number c = let room = c .before .before .before .before .before .before .before .before .before .pre .0 in let word = c .before .before .before .before .before .before .before .before .before .pre .1 in let l = c .before .before .before .before .before .loop .inv .1 in let l₁ = c .before .before .before .before .before .loop .inv .2 in let l₂ = c .before .before .before .before .before .loop .inv .3 in let l₃ = c .before .before .before .before .before .loop .inv .4 in let l₄ = c .before .before .before .before .before .loop .inv .5 in let l₅ = c .before .before .before .before .before .loop .inv .6 in let z = c .before .before .before .before .kind-at .ensures .inside in search needs
@@ -75,7 +75,7 @@ loop-less c = let room = c .before .before .before .before .before .before .befo
 
 loop-again : tie.Need-loop-again Inv-loop μ-loop
 unfolding computeForm
-loop-again c = let room = c .before .before .before .before .before .before .before .before .before .before .before .before .before .before .pre .0 in let word = c .before .before .before .before .before .before .before .before .before .before .before .before .before .before .pre .1 in let l = c .before .before .before .before .before .before .before .before .before .before .loop .inv .1 in let l₁ = c .before .before .before .before .before .before .before .before .before .before .loop .inv .2 in let l₂ = c .before .before .before .before .before .before .before .before .before .before .loop .inv .3 in let l₃ = c .before .before .before .before .before .before .before .before .before .before .loop .inv .4 in let l₄ = c .before .before .before .before .before .before .before .before .before .before .loop .inv .5 in let l₅ = c .before .before .before .before .before .before .before .before .before .before .loop .inv .6 in let z = c .before .before .before .before .before .before .before .before .before .kind-at .ensures .inside in let y = c .before .before .before .before .before .before .before .kind-at2 .ensures .inside in let p = c .before .before .put .ensures .count in (λ f ο x e. next (c .before .before .before .before .before .before .before .before .before .before .loop .inv .0 f ο x e) (takes {μ = aDeclared (x ((c .before .before .before .before .before .before .before .before .before .before .loop .k) + 1)) ∷ f ((c .before .before .before .before .before .before .before .before .before .before .loop .k) + 1) ∷ []} {m = c .before .before .before .before .before .before .before .before .before .before .loop .n} (omega arith) (λ κ q γ. entry-word e (c .before .before .before .before .before .before .before .before .before .before .loop .k) κ γ (q ∙ sym (c .before .before .before .before .before .before .before .before .before .kind-at .ensures .is) ∙ c .before .before .before .before .before .before .before .before .if1 .taken)) (taken-kind {μ = f ((c .before .before .before .before .before .before .before .before .before .before .loop .k) + 1) ∷ []} {m = c .before .before .put .result} (x ((c .before .before .before .before .before .before .before .before .before .before .loop .k) + 1)) kind.plain (sym (c .before .before .before .before .before .before .before .kind-at2 .ensures .is) ∙ c .before .before .before .before .before .before .if2 .taken) (omega arith) (count-well (c .before .before .before .before .before .before .before .before .before .before .before .before .before .before .args .s .now) ((c .before .before .before .before .before .before .before .before .before .before .loop .at) + 1) ((c .before .before .before .before .before .before .before .before .before .before .loop .k) + 1) (entry-counts e) (omega arith)) (λ γ. declared-takes (x ((c .before .before .before .before .before .before .before .before .before .before .loop .k) + 1)) (f ((c .before .before .before .before .before .before .before .before .before .before .loop .k) + 1) ∷ γ)) (here (omega arith)) (omega arith)) (omega arith)), more-then (c .before .before .before .before .before .before .before .before .before .before .loop .inv .1) (more-node (c .before .before .put .ensures) (ap (λ y. node (c .before .before .before .before .before .before .before .before .before .before .before .before .before .before .args .shape) ((c .before .before .before .before .before .before .before .before .before .before .loop .at) + 1) y 0) (c .before .before .before .before .name-number .ensures)) (λ j u d. anEntry (sym (c .before .before .before .before .before .before .before .before .before .kind-at .ensures .is) ∙ c .before .before .before .before .before .before .before .before .if1 .taken) (sym (c .before .before .before .before .before .before .before .kind-at2 .ensures .is) ∙ c .before .before .before .before .before .before .if2 .taken) d)), search needs, omega arith, omega arith, omega arith, omega arith)
+loop-again c = let room = c .before .before .before .before .before .before .before .before .before .before .before .before .before .before .pre .0 in let word = c .before .before .before .before .before .before .before .before .before .before .before .before .before .before .pre .1 in let l = c .before .before .before .before .before .before .before .before .before .before .loop .inv .1 in let l₁ = c .before .before .before .before .before .before .before .before .before .before .loop .inv .2 in let l₂ = c .before .before .before .before .before .before .before .before .before .before .loop .inv .3 in let l₃ = c .before .before .before .before .before .before .before .before .before .before .loop .inv .4 in let l₄ = c .before .before .before .before .before .before .before .before .before .before .loop .inv .5 in let l₅ = c .before .before .before .before .before .before .before .before .before .before .loop .inv .6 in let z = c .before .before .before .before .before .before .before .before .before .kind-at .ensures .inside in let y = c .before .before .before .before .before .before .before .kind-at2 .ensures .inside in let p = c .before .before .put .ensures .count in (λ f ο x e. next (c .before .before .before .before .before .before .before .before .before .before .loop .inv .0 f ο x e) (takes {μ = aDeclared (x ((c .before .before .before .before .before .before .before .before .before .before .loop .k) + 1)) ∷ f ((c .before .before .before .before .before .before .before .before .before .before .loop .k) + 1) ∷ []} {m = c .before .before .before .before .before .before .before .before .before .before .loop .n} (omega arith) (λ κ q γ. entry-word e (c .before .before .before .before .before .before .before .before .before .before .loop .k) κ γ (q ∙ sym (c .before .before .before .before .before .before .before .before .before .kind-at .ensures .is) ∙ c .before .before .before .before .before .before .before .before .if1 .taken)) (taken {μ = f ((c .before .before .before .before .before .before .before .before .before .before .loop .k) + 1) ∷ []} {m = c .before .before .put .result} (x ((c .before .before .before .before .before .before .before .before .before .before .loop .k) + 1)) (omega arith) (count-well (c .before .before .before .before .before .before .before .before .before .before .before .before .before .before .args .s .now) ((c .before .before .before .before .before .before .before .before .before .before .loop .at) + 1) ((c .before .before .before .before .before .before .before .before .before .before .loop .k) + 1) (entry-counts e) (omega arith)) (only _ kind.plain (sym (c .before .before .before .before .before .before .before .kind-at2 .ensures .is) ∙ c .before .before .before .before .before .before .if2 .taken) (λ γ. declared-takes (x ((c .before .before .before .before .before .before .before .before .before .before .loop .k) + 1)) (f ((c .before .before .before .before .before .before .before .before .before .before .loop .k) + 1) ∷ γ))) (here (omega arith)) (omega arith)) (omega arith)), more-then (c .before .before .before .before .before .before .before .before .before .before .loop .inv .1) (more-node (c .before .before .put .ensures) (ap (λ y. node (c .before .before .before .before .before .before .before .before .before .before .before .before .before .before .args .shape) ((c .before .before .before .before .before .before .before .before .before .before .loop .at) + 1) y 0) (c .before .before .before .before .name-number .ensures)) (λ j u d. anEntry (sym (c .before .before .before .before .before .before .before .before .before .kind-at .ensures .is) ∙ c .before .before .before .before .before .before .before .before .if1 .taken) (sym (c .before .before .before .before .before .before .before .kind-at2 .ensures .is) ∙ c .before .before .before .before .before .before .if2 .taken) d)), search needs, omega arith, omega arith, omega arith, omega arith)
 
 add-t21 : tie.Need-add-t21 Inv-loop μ-loop
 add-t21 c = let room = c .before .before .before .before .before .before .before .before .pre .0 in let word = c .before .before .before .before .before .before .before .before .pre .1 in let l = c .before .before .before .before .loop .inv .1 in let l₁ = c .before .before .before .before .loop .inv .2 in let l₂ = c .before .before .before .before .loop .inv .3 in let l₃ = c .before .before .before .before .loop .inv .4 in let l₄ = c .before .before .before .before .loop .inv .5 in let l₅ = c .before .before .before .before .loop .inv .6 in let z = c .before .before .before .kind-at .ensures .inside in search needs

@@ -12,7 +12,7 @@ use Rattle.parser.specs.Derived.{Made}
 use Rattle.parser.specs.Dossiers.{When}
 use Rattle.parser.proofs.Reading.{next, fails, known, wider}
 use Rattle.parser.proofs.Listing.{elements}
-use Rattle.parser.proofs.Joining.{given-more}
+use Rattle.parser.proofs.ListNodes.{given-more}
 use Rattle.parser.proofs.contents.given.Statement.{statement}
 use Rattle.symbols.specs.Kinds as kind
 use Rattle.parser.specs.Derived as part

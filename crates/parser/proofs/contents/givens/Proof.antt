@@ -13,9 +13,9 @@ use Rattle.parser.specs.declared.Read.{Read}
 use Rattle.parser.specs.declared.Read.the-variants.{At}
 use Rattle.parser.specs.Derived.{someGivens, noGivens}
 use Rattle.parser.specs.Dossiers.{MoreAt, More}
-use Rattle.parser.proofs.Reading.{here, next, takes-kind, taken, taken-kind, stops, likewise, fails, framed, known}
-use Rattle.parser.proofs.Listing.{count-well, count-over, givens, crowded-kind, declared-takes, declared-stops, given-word, givens-behind}
-use Rattle.parser.proofs.Joining.{more-none, more-then, more-made}
+use Rattle.parser.proofs.Reading.{only, here, next, takes, taken, stops, likewise, fails, framed, known}
+use Rattle.parser.proofs.Listing.{count-well, count-over, givens, crowded, declared-takes, declared-stops, given-word, givens-behind}
+use Rattle.parser.proofs.ListNodes.{more-none, more-then, more-made}
 use Rattle.parser.proofs.contents.givens.Statement.{statement}
 use Rattle.symbols.specs.Kinds as kind
 use Rattle.parser.proofs.contents.givens.Tie as tie
@@ -47,7 +47,7 @@ same-length c = search needs
 
 returns : tie.Need-returns Inv-loop μ-loop
 unfolding computeForm
-returns c = let room = c .before .before .before .before .before .before .before .before .before .pre in let i = c .before .before .before .before .before .loop .inv .0 in let l = c .before .before .before .before .before .loop .inv .2 in let z = c .before .before .before .before .kind-at .ensures .inside in let y = c .before .before .kind-at2 .ensures .inside in (next i (takes-kind {μ = aDeclared (aGiven ((c .before .before .before .before .before .loop .k) + 1)) ∷ aDeclared (anElement 1) ∷ someElements 1 ∷ someBodies ((c .before .before .before .before .before .loop .k) + 1) ∷ []} {m = c .before .before .before .before .before .loop .n + 4} kind.GIVEN (sym (c .before .before .before .before .kind-at .ensures .is) ∙ c .before .before .before .if1 .taken) (omega arith) (λ γ. given-word (c .before .before .before .before .before .loop .k) γ) (crowded-kind (λ γ. aDeclared (anElement 1) ∷ someElements 1 ∷ someBodies ((c .before .before .before .before .before .loop .k) + 1) ∷ γ) (aGiven ((c .before .before .before .before .before .loop .k) + 1)) kind.plain (sym (c .before .before .kind-at2 .ensures .is) ∙ c .before .if2 .taken) (omega arith) (count-over (c .before .before .before .before .before .before .before .before .before .args .s .now) ((c .before .before .before .before .before .loop .at) + 1) ((c .before .before .before .before .before .loop .k) + 1) givens (omega arith)) (λ γ. declared-takes (aGiven ((c .before .before .before .before .before .loop .k) + 1)) (aDeclared (anElement 1) ∷ someElements 1 ∷ someBodies ((c .before .before .before .before .before .loop .k) + 1) ∷ γ))) (omega arith)), tt)
+returns c = let room = c .before .before .before .before .before .before .before .before .before .pre in let i = c .before .before .before .before .before .loop .inv .0 in let l = c .before .before .before .before .before .loop .inv .2 in let z = c .before .before .before .before .kind-at .ensures .inside in let y = c .before .before .kind-at2 .ensures .inside in (next i (takes {μ = aDeclared (aGiven ((c .before .before .before .before .before .loop .k) + 1)) ∷ aDeclared (anElement 1) ∷ someElements 1 ∷ someBodies ((c .before .before .before .before .before .loop .k) + 1) ∷ []} {m = c .before .before .before .before .before .loop .n + 4} (omega arith) (only _ kind.GIVEN (sym (c .before .before .before .before .kind-at .ensures .is) ∙ c .before .before .before .if1 .taken) (λ γ. given-word (c .before .before .before .before .before .loop .k) γ)) (crowded (λ γ. aDeclared (anElement 1) ∷ someElements 1 ∷ someBodies ((c .before .before .before .before .before .loop .k) + 1) ∷ γ) (aGiven ((c .before .before .before .before .before .loop .k) + 1)) (omega arith) (count-over (c .before .before .before .before .before .before .before .before .before .args .s .now) ((c .before .before .before .before .before .loop .at) + 1) ((c .before .before .before .before .before .loop .k) + 1) givens (omega arith)) (only _ kind.plain (sym (c .before .before .kind-at2 .ensures .is) ∙ c .before .if2 .taken) (λ γ. declared-takes (aGiven ((c .before .before .before .before .before .loop .k) + 1)) (aDeclared (anElement 1) ∷ someElements 1 ∷ someBodies ((c .before .before .before .before .before .loop .k) + 1) ∷ γ)))) (omega arith)), tt)
 
 given-requires : tie.Need-given-requires Inv-loop μ-loop
 given-requires c κs = let room = c .before .before .before .before .before .before .before .before .before .before .pre in let i = c .before .before .before .before .before .before .loop .inv .0 in let l = c .before .before .before .before .before .before .loop .inv .2 in let z = c .before .before .before .before .before .kind-at .ensures .inside in let y = c .before .before .before .kind-at2 .ensures .inside in let k = (c .before .before .before .before .before .kind-at .ensures .is) in let j = (c .before .before .before .kind-at2 .ensures .is) in search needs
@@ -63,7 +63,7 @@ loop-less c = let room = c .before .before .before .before .before .before .befo
 
 loop-again : tie.Need-loop-again Inv-loop μ-loop
 unfolding computeForm
-loop-again c = let room = c .before .before .before .before .before .before .before .before .before .before .before .before .before .before .before .before .pre in let i = c .before .before .before .before .before .before .before .before .before .before .before .before .loop .inv .0 in let l = c .before .before .before .before .before .before .before .before .before .before .before .before .loop .inv .2 in let z = c .before .before .before .before .before .before .before .before .before .before .before .kind-at .ensures .inside in let y = c .before .before .before .before .before .before .before .before .before .kind-at2 .ensures .inside in let h = (known (c .before .e .given .1) (c .before .before .before .before .before .given .ensures .0)) in (next i (takes-kind {μ = aDeclared (aGiven ((c .before .before .before .before .before .before .before .before .before .before .before .before .loop .k) + 1)) ∷ aDeclared (anElement 1) ∷ someElements 1 ∷ someBodies ((c .before .before .before .before .before .before .before .before .before .before .before .before .loop .k) + 1) ∷ []} {m = c .before .before .before .before .before .before .before .before .before .before .before .before .loop .n + 4} kind.GIVEN (sym (c .before .before .before .before .before .before .before .before .before .before .before .kind-at .ensures .is) ∙ c .before .before .before .before .before .before .before .before .before .before .if1 .taken) (omega arith) (λ γ. given-word (c .before .before .before .before .before .before .before .before .before .before .before .before .loop .k) γ) (taken-kind {μ = aDeclared (anElement 1) ∷ someElements 1 ∷ someBodies ((c .before .before .before .before .before .before .before .before .before .before .before .before .loop .k) + 1) ∷ []} {m = c .before .before .before .before .before .before .before .before .before .before .before .before .loop .n + 4} (aGiven ((c .before .before .before .before .before .before .before .before .before .before .before .before .loop .k) + 1)) kind.plain (sym (c .before .before .before .before .before .before .before .before .before .kind-at2 .ensures .is) ∙ c .before .before .before .before .before .before .before .before .if2 .taken) (omega arith) (count-well (c .before .before .before .before .before .before .before .before .before .before .before .before .before .before .before .before .args .s .now) ((c .before .before .before .before .before .before .before .before .before .before .before .before .loop .at) + 1) ((c .before .before .before .before .before .before .before .before .before .before .before .before .loop .k) + 1) givens (omega arith)) (λ γ. declared-takes (aGiven ((c .before .before .before .before .before .before .before .before .before .before .before .before .loop .k) + 1)) (aDeclared (anElement 1) ∷ someElements 1 ∷ someBodies ((c .before .before .before .before .before .before .before .before .before .before .before .before .loop .k) + 1) ∷ γ)) (framed (someBodies ((c .before .before .before .before .before .before .before .before .before .before .before .before .loop .k) + 1) ∷ []) h) (omega arith)) (omega arith)), more-then (c .before .before .before .before .before .before .before .before .before .before .before .before .loop .inv .1) (subst (λ (z : Read). More (c .before .before .before .before .before .before .before .before .before .before .before .before .before .before .before .before .args .s .now) (c .before .before .before .before .before .before .before .before .before .before .before .before .before .before .before .before .args .v .now) someGivens (c .before .before .before .before .before .before .before .before .before .before .before .before .loop .at) (c .before .before .before .before .before .before .before .before .before .before .before .before .loop .n) (c .before .before .before .before .before .before .before .before .before .before .before .before .loop .code) (c .before .before .before .before .before .given .last .1 .1 .1 .0) z) (c .before .e .given .1) (c .before .before .before .before .before .given .ensures .1)), search needs, omega arith)
+loop-again c = let room = c .before .before .before .before .before .before .before .before .before .before .before .before .before .before .before .before .pre in let i = c .before .before .before .before .before .before .before .before .before .before .before .before .loop .inv .0 in let l = c .before .before .before .before .before .before .before .before .before .before .before .before .loop .inv .2 in let z = c .before .before .before .before .before .before .before .before .before .before .before .kind-at .ensures .inside in let y = c .before .before .before .before .before .before .before .before .before .kind-at2 .ensures .inside in let h = (known (c .before .e .given .1) (c .before .before .before .before .before .given .ensures .0)) in (next i (takes {μ = aDeclared (aGiven ((c .before .before .before .before .before .before .before .before .before .before .before .before .loop .k) + 1)) ∷ aDeclared (anElement 1) ∷ someElements 1 ∷ someBodies ((c .before .before .before .before .before .before .before .before .before .before .before .before .loop .k) + 1) ∷ []} {m = c .before .before .before .before .before .before .before .before .before .before .before .before .loop .n + 4} (omega arith) (only _ kind.GIVEN (sym (c .before .before .before .before .before .before .before .before .before .before .before .kind-at .ensures .is) ∙ c .before .before .before .before .before .before .before .before .before .before .if1 .taken) (λ γ. given-word (c .before .before .before .before .before .before .before .before .before .before .before .before .loop .k) γ)) (taken {μ = aDeclared (anElement 1) ∷ someElements 1 ∷ someBodies ((c .before .before .before .before .before .before .before .before .before .before .before .before .loop .k) + 1) ∷ []} {m = c .before .before .before .before .before .before .before .before .before .before .before .before .loop .n + 4} (aGiven ((c .before .before .before .before .before .before .before .before .before .before .before .before .loop .k) + 1)) (omega arith) (count-well (c .before .before .before .before .before .before .before .before .before .before .before .before .before .before .before .before .args .s .now) ((c .before .before .before .before .before .before .before .before .before .before .before .before .loop .at) + 1) ((c .before .before .before .before .before .before .before .before .before .before .before .before .loop .k) + 1) givens (omega arith)) (only _ kind.plain (sym (c .before .before .before .before .before .before .before .before .before .kind-at2 .ensures .is) ∙ c .before .before .before .before .before .before .before .before .if2 .taken) (λ γ. declared-takes (aGiven ((c .before .before .before .before .before .before .before .before .before .before .before .before .loop .k) + 1)) (aDeclared (anElement 1) ∷ someElements 1 ∷ someBodies ((c .before .before .before .before .before .before .before .before .before .before .before .before .loop .k) + 1) ∷ γ))) (framed (someBodies ((c .before .before .before .before .before .before .before .before .before .before .before .before .loop .k) + 1) ∷ []) h) (omega arith)) (omega arith)), more-then (c .before .before .before .before .before .before .before .before .before .before .before .before .loop .inv .1) (subst (λ (z : Read). More (c .before .before .before .before .before .before .before .before .before .before .before .before .before .before .before .before .args .s .now) (c .before .before .before .before .before .before .before .before .before .before .before .before .before .before .before .before .args .v .now) someGivens (c .before .before .before .before .before .before .before .before .before .before .before .before .loop .at) (c .before .before .before .before .before .before .before .before .before .before .before .before .loop .n) (c .before .before .before .before .before .before .before .before .before .before .before .before .loop .code) (c .before .before .before .before .before .given .last .1 .1 .1 .0) z) (c .before .e .given .1) (c .before .before .before .before .before .given .ensures .1)), search needs, omega arith)
 
 enum-known-p : tie.Need-enum-known-p Inv-loop μ-loop
 enum-known-p c = search needs
@@ -73,7 +73,7 @@ same-length-2 c = search needs
 
 returns-2 : tie.Need-returns-2 Inv-loop μ-loop
 unfolding computeForm
-returns-2 c = let room = c .before .before .before .before .before .before .before .before .before .before .before .before .before .before .before .before .pre in let i = c .before .before .before .before .before .before .before .before .before .before .before .before .loop .inv .0 in let l = c .before .before .before .before .before .before .before .before .before .before .before .before .loop .inv .2 in let z = c .before .before .before .before .before .before .before .before .before .before .before .kind-at .ensures .inside in let y = c .before .before .before .before .before .before .before .before .before .kind-at2 .ensures .inside in (next i (takes-kind {μ = aDeclared (aGiven ((c .before .before .before .before .before .before .before .before .before .before .before .before .loop .k) + 1)) ∷ aDeclared (anElement 1) ∷ someElements 1 ∷ someBodies ((c .before .before .before .before .before .before .before .before .before .before .before .before .loop .k) + 1) ∷ []} {m = c .before .before .before .before .before .before .before .before .before .before .before .before .loop .n + 4} kind.GIVEN (sym (c .before .before .before .before .before .before .before .before .before .before .before .kind-at .ensures .is) ∙ c .before .before .before .before .before .before .before .before .before .before .if1 .taken) (omega arith) (λ γ. given-word (c .before .before .before .before .before .before .before .before .before .before .before .before .loop .k) γ) (taken-kind {μ = aDeclared (anElement 1) ∷ someElements 1 ∷ someBodies ((c .before .before .before .before .before .before .before .before .before .before .before .before .loop .k) + 1) ∷ []} {m = c .before .before .before .before .before .before .before .before .before .before .before .before .loop .n + 4} (aGiven ((c .before .before .before .before .before .before .before .before .before .before .before .before .loop .k) + 1)) kind.plain (sym (c .before .before .before .before .before .before .before .before .before .kind-at2 .ensures .is) ∙ c .before .before .before .before .before .before .before .before .if2 .taken) (omega arith) (count-well (c .before .before .before .before .before .before .before .before .before .before .before .before .before .before .before .before .args .s .now) ((c .before .before .before .before .before .before .before .before .before .before .before .before .loop .at) + 1) ((c .before .before .before .before .before .before .before .before .before .before .before .before .loop .k) + 1) givens (omega arith)) (λ γ. declared-takes (aGiven ((c .before .before .before .before .before .before .before .before .before .before .before .before .loop .k) + 1)) (aDeclared (anElement 1) ∷ someElements 1 ∷ someBodies ((c .before .before .before .before .before .before .before .before .before .before .before .before .loop .k) + 1) ∷ γ)) (fails (framed (someBodies ((c .before .before .before .before .before .before .before .before .before .before .before .before .loop .k) + 1) ∷ []) (known (c .before .p .given .1) (c .before .before .before .before .before .given .ensures .0)))) (omega arith)) (omega arith)), tt)
+returns-2 c = let room = c .before .before .before .before .before .before .before .before .before .before .before .before .before .before .before .before .pre in let i = c .before .before .before .before .before .before .before .before .before .before .before .before .loop .inv .0 in let l = c .before .before .before .before .before .before .before .before .before .before .before .before .loop .inv .2 in let z = c .before .before .before .before .before .before .before .before .before .before .before .kind-at .ensures .inside in let y = c .before .before .before .before .before .before .before .before .before .kind-at2 .ensures .inside in (next i (takes {μ = aDeclared (aGiven ((c .before .before .before .before .before .before .before .before .before .before .before .before .loop .k) + 1)) ∷ aDeclared (anElement 1) ∷ someElements 1 ∷ someBodies ((c .before .before .before .before .before .before .before .before .before .before .before .before .loop .k) + 1) ∷ []} {m = c .before .before .before .before .before .before .before .before .before .before .before .before .loop .n + 4} (omega arith) (only _ kind.GIVEN (sym (c .before .before .before .before .before .before .before .before .before .before .before .kind-at .ensures .is) ∙ c .before .before .before .before .before .before .before .before .before .before .if1 .taken) (λ γ. given-word (c .before .before .before .before .before .before .before .before .before .before .before .before .loop .k) γ)) (taken {μ = aDeclared (anElement 1) ∷ someElements 1 ∷ someBodies ((c .before .before .before .before .before .before .before .before .before .before .before .before .loop .k) + 1) ∷ []} {m = c .before .before .before .before .before .before .before .before .before .before .before .before .loop .n + 4} (aGiven ((c .before .before .before .before .before .before .before .before .before .before .before .before .loop .k) + 1)) (omega arith) (count-well (c .before .before .before .before .before .before .before .before .before .before .before .before .before .before .before .before .args .s .now) ((c .before .before .before .before .before .before .before .before .before .before .before .before .loop .at) + 1) ((c .before .before .before .before .before .before .before .before .before .before .before .before .loop .k) + 1) givens (omega arith)) (only _ kind.plain (sym (c .before .before .before .before .before .before .before .before .before .kind-at2 .ensures .is) ∙ c .before .before .before .before .before .before .before .before .if2 .taken) (λ γ. declared-takes (aGiven ((c .before .before .before .before .before .before .before .before .before .before .before .before .loop .k) + 1)) (aDeclared (anElement 1) ∷ someElements 1 ∷ someBodies ((c .before .before .before .before .before .before .before .before .before .before .before .before .loop .k) + 1) ∷ γ))) (fails (framed (someBodies ((c .before .before .before .before .before .before .before .before .before .before .before .before .loop .k) + 1) ∷ []) (known (c .before .p .given .1) (c .before .before .before .before .before .given .ensures .0)))) (omega arith)) (omega arith)), tt)
 
 add-t21 : tie.Need-add-t21 Inv-loop μ-loop
 add-t21 c = let room = c .before .before .before .before .before .before .before .before .pre in let i = c .before .before .before .before .loop .inv .0 in let l = c .before .before .before .before .loop .inv .2 in let z = c .before .before .before .kind-at .ensures .inside in search needs
@@ -83,7 +83,7 @@ same-length-3 c = search needs
 
 returns-3 : tie.Need-returns-3 Inv-loop μ-loop
 unfolding computeForm
-returns-3 c = let room = c .before .before .before .before .before .before .before .before .pre in let i = c .before .before .before .before .loop .inv .0 in let l = c .before .before .before .before .loop .inv .2 in let z = c .before .before .before .kind-at .ensures .inside in (next i (takes-kind {μ = aDeclared (aGiven ((c .before .before .before .before .loop .k) + 1)) ∷ aDeclared (anElement 1) ∷ someElements 1 ∷ someBodies ((c .before .before .before .before .loop .k) + 1) ∷ []} {m = c .before .before .before .before .loop .n + 4} kind.GIVEN (sym (c .before .before .before .kind-at .ensures .is) ∙ c .before .before .if1 .taken) (omega arith) (λ γ. given-word (c .before .before .before .before .loop .k) γ) (stops (omega arith) (λ κ q γ. declared-stops (aGiven ((c .before .before .before .before .loop .k) + 1)) κ (aDeclared (anElement 1) ∷ someElements 1 ∷ someBodies ((c .before .before .before .before .loop .k) + 1) ∷ γ) (λ h. c .if2 .left ((c .before .kind-at2 .ensures .is) ∙ sym q ∙ h))) (λ γ. refl)) (omega arith)), tt)
+returns-3 c = let room = c .before .before .before .before .before .before .before .before .pre in let i = c .before .before .before .before .loop .inv .0 in let l = c .before .before .before .before .loop .inv .2 in let z = c .before .before .before .kind-at .ensures .inside in (next i (takes {μ = aDeclared (aGiven ((c .before .before .before .before .loop .k) + 1)) ∷ aDeclared (anElement 1) ∷ someElements 1 ∷ someBodies ((c .before .before .before .before .loop .k) + 1) ∷ []} {m = c .before .before .before .before .loop .n + 4} (omega arith) (only _ kind.GIVEN (sym (c .before .before .before .kind-at .ensures .is) ∙ c .before .before .if1 .taken) (λ γ. given-word (c .before .before .before .before .loop .k) γ)) (stops (omega arith) (λ κ q γ. declared-stops (aGiven ((c .before .before .before .before .loop .k) + 1)) κ (aDeclared (anElement 1) ∷ someElements 1 ∷ someBodies ((c .before .before .before .before .loop .k) + 1) ∷ γ) (λ h. c .if2 .left ((c .before .kind-at2 .ensures .is) ∙ sym q ∙ h))) (λ γ. refl)) (omega arith)), tt)
 
 same-length-4 : tie.Need-same-length-4 Inv-loop μ-loop
 same-length-4 c = search needs

@@ -11,7 +11,7 @@ use Rattle.parser.specs.Derived.{overGiven, overPairs}
 use Rattle.parser.proofs.Reading.{here, takes, taken, stops, likewise, counted}
 use Rattle.parser.proofs.Stepping.{name-step, name-taken}
 use Rattle.parser.proofs.Listing.{type-rest-step, type-rest-taken}
-use Rattle.parser.proofs.Joining.{made-node}
+use Rattle.parser.proofs.ListNodes.{made-node}
 use Rattle.parser.proofs.contents.named.Statement.{statement}
 use Rattle.parser.proofs.contents.named.Tie as tie
 

@@ -14,8 +14,9 @@ use Rattle.parser.specs.declared.Read.the-variants.{At}
 use Rattle.parser.specs.Derived.{NameAt, Made, aDeclaration, noParameters, takesMore}
 use Rattle.parser.specs.Dossiers.{MoreAt, Directs, aTyped, countBy, inputsBy, outputsBy, markBy}
 use Rattle.parser.proofs.Reading.{here, next, taken, likewise, fails, framed, known}
-use Rattle.parser.proofs.Listing.{crowded, parameter-takes, parameters-behind, parameter-well, parameter-over, in-text, inputs-few, outputs-few}
-use Rattle.parser.proofs.Joining.{more-none, more-then, more-made, more-part}
+use Rattle.parser.proofs.Listing.{crowded, parameter-takes, parameters-behind, parameter-well, parameter-over, inputs-few, outputs-few}
+use Rattle.parser.proofs.RightSides.{inside}
+use Rattle.parser.proofs.ListNodes.{more-none, more-then, more-made, more-part}
 use Rattle.parser.proofs.contents.parameters.Statement.{statement}
 use Rattle.parser.specs.Derived as part
 use Rattle.parser.proofs.contents.parameters.Tie as tie
@@ -47,11 +48,11 @@ same-length c = search needs
 
 returns : tie.Need-returns Inv-loop μ-loop
 unfolding computeForm
-returns c = let room = c .before .before .before .before .before .before .before .before .before .pre in let i = c .before .before .before .loop .inv .0 in let l = c .before .before .before .loop .inv .2 in let d₀ = (c .before .before .before .loop .inv .5) .low in let d₁ = (c .before .before .before .loop .inv .5) .high in let z : (c .before .before .before .loop .at) < length (c .before .before .before .before .before .before .before .before .before .args .s .now) = in-text (c .before .before .before .before .before .before .before .before .before .args .s .now) (c .before .before .before .loop .at) (omega arith) in (next i (crowded (λ γ. aTyped ++ (someParameters (inputsBy (c .before .before .before .loop .c) (c .before .before .before .loop .i)) (outputsBy (c .before .before .before .loop .c) (c .before .before .before .loop .o)) ∷ γ)) (markBy (c .before .before .before .loop .c) (c .before .before .before .loop .i) (c .before .before .before .loop .o)) z (parameter-over (c .before .before .before .before .before .before .before .before .before .args .s .now) (c .before .before .before .loop .at) (c .before .before .before .loop .c) (c .before .before .before .loop .i) (c .before .before .before .loop .o) (leb-true 3 (countBy (c .before .before .before .loop .c) (c .before .before .before .loop .i) (c .before .before .before .loop .o)) (sym (c .before .full .ensures) ∙ c .if1 .taken))) (λ κ e γ. parameter-takes (c .before .before .before .loop .i) (c .before .before .before .loop .o) (c .before .before .before .loop .c) κ γ ((c .before .before .before .loop .inv .5) .classes .class κ e) (c .before .before .loop-test .taken))), tt)
+returns c = let room = c .before .before .before .before .before .before .before .before .before .pre in let i = c .before .before .before .loop .inv .0 in let l = c .before .before .before .loop .inv .2 in let d₀ = (c .before .before .before .loop .inv .5) .low in let d₁ = (c .before .before .before .loop .inv .5) .high in let z : (c .before .before .before .loop .at) < length (c .before .before .before .before .before .before .before .before .before .args .s .now) = inside (c .before .before .before .before .before .before .before .before .before .args .s .now) (c .before .before .before .loop .at) (omega arith) in (next i (crowded (λ γ. aTyped ++ (someParameters (inputsBy (c .before .before .before .loop .c) (c .before .before .before .loop .i)) (outputsBy (c .before .before .before .loop .c) (c .before .before .before .loop .o)) ∷ γ)) (markBy (c .before .before .before .loop .c) (c .before .before .before .loop .i) (c .before .before .before .loop .o)) z (parameter-over (c .before .before .before .before .before .before .before .before .before .args .s .now) (c .before .before .before .loop .at) (c .before .before .before .loop .c) (c .before .before .before .loop .i) (c .before .before .before .loop .o) (leb-true 3 (countBy (c .before .before .before .loop .c) (c .before .before .before .loop .i) (c .before .before .before .loop .o)) (sym (c .before .full .ensures) ∙ c .if1 .taken))) (λ κ e γ. parameter-takes (c .before .before .before .loop .i) (c .before .before .before .loop .o) (c .before .before .before .loop .c) κ γ ((c .before .before .before .loop .inv .5) .classes .class κ e) (c .before .before .loop-test .taken))), tt)
 
 declaration-requires : tie.Need-declaration-requires Inv-loop μ-loop
 unfolding computeForm
-declaration-requires c κs = let room = c .before .before .before .before .before .before .before .before .before .before .pre in let i = c .before .before .before .before .loop .inv .0 in let l = c .before .before .before .before .loop .inv .2 in let d₀ = (c .before .before .before .before .loop .inv .5) .low in let d₁ = (c .before .before .before .before .loop .inv .5) .high in let z : (c .before .before .before .before .loop .at) < length (c .before .before .before .before .before .before .before .before .before .before .args .s .now) = in-text (c .before .before .before .before .before .before .before .before .before .before .args .s .now) (c .before .before .before .before .loop .at) (omega arith) in let b : NameAt (c .before .before .before .before .before .before .before .before .before .before .args .s .now) (c .before .before .before .before .loop .at) = record { low = omega arith; high = omega arith } in search needs
+declaration-requires c κs = let room = c .before .before .before .before .before .before .before .before .before .before .pre in let i = c .before .before .before .before .loop .inv .0 in let l = c .before .before .before .before .loop .inv .2 in let d₀ = (c .before .before .before .before .loop .inv .5) .low in let d₁ = (c .before .before .before .before .loop .inv .5) .high in let z : (c .before .before .before .before .loop .at) < length (c .before .before .before .before .before .before .before .before .before .before .args .s .now) = inside (c .before .before .before .before .before .before .before .before .before .before .args .s .now) (c .before .before .before .before .loop .at) (omega arith) in let b : NameAt (c .before .before .before .before .before .before .before .before .before .before .args .s .now) (c .before .before .before .before .loop .at) = record { low = omega arith; high = omega arith } in search needs
 
 enum-known-e : tie.Need-enum-known-e Inv-loop μ-loop
 enum-known-e c = search needs
@@ -73,11 +74,11 @@ unfolding computeForm
 direction-of-requires-2 c κs = search needs
 
 loop-less : tie.Need-loop-less Inv-loop μ-loop
-loop-less c = let room = c .before .before .before .before .before .before .before .before .before .before .before .before .before .before .before .before .before .before .before .before .pre in let i = c .before .before .before .before .before .before .before .before .before .before .before .before .before .before .loop .inv .0 in let l = c .before .before .before .before .before .before .before .before .before .before .before .before .before .before .loop .inv .2 in let d₀ = (c .before .before .before .before .before .before .before .before .before .before .before .before .before .before .loop .inv .5) .low in let d₁ = (c .before .before .before .before .before .before .before .before .before .before .before .before .before .before .loop .inv .5) .high in let z : (c .before .before .before .before .before .before .before .before .before .before .before .before .before .before .loop .at) < length (c .before .before .before .before .before .before .before .before .before .before .before .before .before .before .before .before .before .before .before .before .args .s .now) = in-text (c .before .before .before .before .before .before .before .before .before .before .before .before .before .before .before .before .before .before .before .before .args .s .now) (c .before .before .before .before .before .before .before .before .before .before .before .before .before .before .loop .at) (omega arith) in let h = (known (c .before .before .before .before .before .e .given .1) (c .before .before .before .before .before .before .before .before .before .declaration .ensures .0)) in let f = h .from in let g = h .within in omega arith
+loop-less c = let room = c .before .before .before .before .before .before .before .before .before .before .before .before .before .before .before .before .before .before .before .before .pre in let i = c .before .before .before .before .before .before .before .before .before .before .before .before .before .before .loop .inv .0 in let l = c .before .before .before .before .before .before .before .before .before .before .before .before .before .before .loop .inv .2 in let d₀ = (c .before .before .before .before .before .before .before .before .before .before .before .before .before .before .loop .inv .5) .low in let d₁ = (c .before .before .before .before .before .before .before .before .before .before .before .before .before .before .loop .inv .5) .high in let z : (c .before .before .before .before .before .before .before .before .before .before .before .before .before .before .loop .at) < length (c .before .before .before .before .before .before .before .before .before .before .before .before .before .before .before .before .before .before .before .before .args .s .now) = inside (c .before .before .before .before .before .before .before .before .before .before .before .before .before .before .before .before .before .before .before .before .args .s .now) (c .before .before .before .before .before .before .before .before .before .before .before .before .before .before .loop .at) (omega arith) in let h = (known (c .before .before .before .before .before .e .given .1) (c .before .before .before .before .before .before .before .before .before .declaration .ensures .0)) in let f = h .from in let g = h .within in omega arith
 
 loop-again : tie.Need-loop-again Inv-loop μ-loop
 unfolding computeForm
-loop-again c = let room = c .before .before .before .before .before .before .before .before .before .before .before .before .before .before .before .before .before .before .before .before .pre in let i = c .before .before .before .before .before .before .before .before .before .before .before .before .before .before .loop .inv .0 in let l = c .before .before .before .before .before .before .before .before .before .before .before .before .before .before .loop .inv .2 in let d₀ = (c .before .before .before .before .before .before .before .before .before .before .before .before .before .before .loop .inv .5) .low in let d₁ = (c .before .before .before .before .before .before .before .before .before .before .before .before .before .before .loop .inv .5) .high in let z : (c .before .before .before .before .before .before .before .before .before .before .before .before .before .before .loop .at) < length (c .before .before .before .before .before .before .before .before .before .before .before .before .before .before .before .before .before .before .before .before .args .s .now) = in-text (c .before .before .before .before .before .before .before .before .before .before .before .before .before .before .before .before .before .before .before .before .args .s .now) (c .before .before .before .before .before .before .before .before .before .before .before .before .before .before .loop .at) (omega arith) in let h = (known (c .before .before .before .before .before .e .given .1) (c .before .before .before .before .before .before .before .before .before .declaration .ensures .0)) in (subst (λ x. Reads (c .before .before .before .before .before .before .before .before .before .before .before .before .before .before .before .before .before .before .before .before .args .s .now) (c .before .before .before .before .before .before .before .before .before .before .before .before .before .before .before .before .before .before .before .before .args .start) (c .before .before .before .before .before .before .before .before .before .before .before .before .before .before .before .before .before .before .before .before .args .from) (someParameters 0 0 ∷ []) (x ∷ []) (At (c .before .before .before .before .before .e .given .0 .0) (c .before .before .before .before .before .e .given .0 .1 .0))) (let a = c .before .before .before .inputs .ensures in let b = c .before .before .outputs .ensures in cc) (next i (taken {μ = aTyped ++ (someParameters (inputsBy (c .before .before .before .before .before .before .before .before .before .before .before .before .before .before .loop .c) (c .before .before .before .before .before .before .before .before .before .before .before .before .before .before .loop .i)) (outputsBy (c .before .before .before .before .before .before .before .before .before .before .before .before .before .before .loop .c) (c .before .before .before .before .before .before .before .before .before .before .before .before .before .before .loop .o)) ∷ [])} {m = c .before .before .before .before .before .before .before .before .before .before .before .before .before .before .loop .n + 4} (markBy (c .before .before .before .before .before .before .before .before .before .before .before .before .before .before .loop .c) (c .before .before .before .before .before .before .before .before .before .before .before .before .before .before .loop .i) (c .before .before .before .before .before .before .before .before .before .before .before .before .before .before .loop .o)) z (parameter-well (c .before .before .before .before .before .before .before .before .before .before .before .before .before .before .before .before .before .before .before .before .args .s .now) (c .before .before .before .before .before .before .before .before .before .before .before .before .before .before .loop .at) (c .before .before .before .before .before .before .before .before .before .before .before .before .before .before .loop .c) (c .before .before .before .before .before .before .before .before .before .before .before .before .before .before .loop .i) (c .before .before .before .before .before .before .before .before .before .before .before .before .before .before .loop .o) (leb-false 3 (countBy (c .before .before .before .before .before .before .before .before .before .before .before .before .before .before .loop .c) (c .before .before .before .before .before .before .before .before .before .before .before .before .before .before .loop .i) (c .before .before .before .before .before .before .before .before .before .before .before .before .before .before .loop .o)) (sym (c .before .before .before .before .before .before .before .before .before .before .before .before .full .ensures) ∙ c .before .before .before .before .before .before .before .before .before .before .before .if1 .left))) (λ κ e γ. parameter-takes (c .before .before .before .before .before .before .before .before .before .before .before .before .before .before .loop .i) (c .before .before .before .before .before .before .before .before .before .before .before .before .before .before .loop .o) (c .before .before .before .before .before .before .before .before .before .before .before .before .before .before .loop .c) κ γ ((c .before .before .before .before .before .before .before .before .before .before .before .before .before .before .loop .inv .5) .classes .class κ e) (c .before .before .before .before .before .before .before .before .before .before .before .before .before .loop-test .taken)) (framed (someParameters (inputsBy (c .before .before .before .before .before .before .before .before .before .before .before .before .before .before .loop .c) (c .before .before .before .before .before .before .before .before .before .before .before .before .before .before .loop .i)) (outputsBy (c .before .before .before .before .before .before .before .before .before .before .before .before .before .before .loop .c) (c .before .before .before .before .before .before .before .before .before .before .before .before .before .before .loop .o)) ∷ []) h) (omega arith))), more-then (c .before .before .before .before .before .before .before .before .before .before .before .before .before .before .loop .inv .1) (let p = subst (λ (z : Read). Made (c .before .before .before .before .before .before .before .before .before .before .before .before .before .before .before .before .before .before .before .before .args .s .now) (c .before .before .before .before .before .before .before .before .before .before .before .before .before .before .before .before .before .before .before .before .args .v .now) aDeclaration (c .before .before .before .before .before .before .before .before .before .before .before .before .before .before .loop .at) (c .before .before .before .before .before .before .before .before .before .before .before .before .before .before .loop .n) (c .before .before .before .before .before .before .before .before .before .before .before .before .before .before .loop .code) (c .before .before .before .before .before .before .before .before .before .declaration .last .1 .1 .1 .0) z) (c .before .before .before .before .before .e .given .1) (c .before .before .before .before .before .before .before .before .before .declaration .ensures .1) in more-part p (λ j u d. takesMore (omega arith) (omega arith) (p .derives) d)), search needs, subst (λ x. x ≤ 3) (sym (c .before .before .before .inputs .ensures)) (inputs-few (c .before .before .before .before .before .before .before .before .before .before .before .before .before .before .loop .c) (c .before .before .before .before .before .before .before .before .before .before .before .before .before .before .loop .i) (c .before .before .before .before .before .before .before .before .before .before .before .before .before .before .loop .o) (leb-false 3 (countBy (c .before .before .before .before .before .before .before .before .before .before .before .before .before .before .loop .c) (c .before .before .before .before .before .before .before .before .before .before .before .before .before .before .loop .i) (c .before .before .before .before .before .before .before .before .before .before .before .before .before .before .loop .o)) (sym (c .before .before .before .before .before .before .before .before .before .before .before .before .full .ensures) ∙ c .before .before .before .before .before .before .before .before .before .before .before .if1 .left)) (c .before .before .before .before .before .before .before .before .before .before .before .before .before .before .loop .inv .3)), subst (λ x. x ≤ 3) (sym (c .before .before .outputs .ensures)) (outputs-few (c .before .before .before .before .before .before .before .before .before .before .before .before .before .before .loop .c) (c .before .before .before .before .before .before .before .before .before .before .before .before .before .before .loop .i) (c .before .before .before .before .before .before .before .before .before .before .before .before .before .before .loop .o) (leb-false 3 (countBy (c .before .before .before .before .before .before .before .before .before .before .before .before .before .before .loop .c) (c .before .before .before .before .before .before .before .before .before .before .before .before .before .before .loop .i) (c .before .before .before .before .before .before .before .before .before .before .before .before .before .before .loop .o)) (sym (c .before .before .before .before .before .before .before .before .before .before .before .before .full .ensures) ∙ c .before .before .before .before .before .before .before .before .before .before .before .if1 .left)) (c .before .before .before .before .before .before .before .before .before .before .before .before .before .before .loop .inv .4)), subst (λ x. Directs x (c .direction-of2 .result)) (c .before .kind-at2 .ensures .is) (c .direction-of2 .ensures))
+loop-again c = let room = c .before .before .before .before .before .before .before .before .before .before .before .before .before .before .before .before .before .before .before .before .pre in let i = c .before .before .before .before .before .before .before .before .before .before .before .before .before .before .loop .inv .0 in let l = c .before .before .before .before .before .before .before .before .before .before .before .before .before .before .loop .inv .2 in let d₀ = (c .before .before .before .before .before .before .before .before .before .before .before .before .before .before .loop .inv .5) .low in let d₁ = (c .before .before .before .before .before .before .before .before .before .before .before .before .before .before .loop .inv .5) .high in let z : (c .before .before .before .before .before .before .before .before .before .before .before .before .before .before .loop .at) < length (c .before .before .before .before .before .before .before .before .before .before .before .before .before .before .before .before .before .before .before .before .args .s .now) = inside (c .before .before .before .before .before .before .before .before .before .before .before .before .before .before .before .before .before .before .before .before .args .s .now) (c .before .before .before .before .before .before .before .before .before .before .before .before .before .before .loop .at) (omega arith) in let h = (known (c .before .before .before .before .before .e .given .1) (c .before .before .before .before .before .before .before .before .before .declaration .ensures .0)) in (subst (λ x. Reads (c .before .before .before .before .before .before .before .before .before .before .before .before .before .before .before .before .before .before .before .before .args .s .now) (c .before .before .before .before .before .before .before .before .before .before .before .before .before .before .before .before .before .before .before .before .args .start) (c .before .before .before .before .before .before .before .before .before .before .before .before .before .before .before .before .before .before .before .before .args .from) (someParameters 0 0 ∷ []) (x ∷ []) (At (c .before .before .before .before .before .e .given .0 .0) (c .before .before .before .before .before .e .given .0 .1 .0))) (let a = c .before .before .before .inputs .ensures in let b = c .before .before .outputs .ensures in cc) (next i (taken {μ = aTyped ++ (someParameters (inputsBy (c .before .before .before .before .before .before .before .before .before .before .before .before .before .before .loop .c) (c .before .before .before .before .before .before .before .before .before .before .before .before .before .before .loop .i)) (outputsBy (c .before .before .before .before .before .before .before .before .before .before .before .before .before .before .loop .c) (c .before .before .before .before .before .before .before .before .before .before .before .before .before .before .loop .o)) ∷ [])} {m = c .before .before .before .before .before .before .before .before .before .before .before .before .before .before .loop .n + 4} (markBy (c .before .before .before .before .before .before .before .before .before .before .before .before .before .before .loop .c) (c .before .before .before .before .before .before .before .before .before .before .before .before .before .before .loop .i) (c .before .before .before .before .before .before .before .before .before .before .before .before .before .before .loop .o)) z (parameter-well (c .before .before .before .before .before .before .before .before .before .before .before .before .before .before .before .before .before .before .before .before .args .s .now) (c .before .before .before .before .before .before .before .before .before .before .before .before .before .before .loop .at) (c .before .before .before .before .before .before .before .before .before .before .before .before .before .before .loop .c) (c .before .before .before .before .before .before .before .before .before .before .before .before .before .before .loop .i) (c .before .before .before .before .before .before .before .before .before .before .before .before .before .before .loop .o) (leb-false 3 (countBy (c .before .before .before .before .before .before .before .before .before .before .before .before .before .before .loop .c) (c .before .before .before .before .before .before .before .before .before .before .before .before .before .before .loop .i) (c .before .before .before .before .before .before .before .before .before .before .before .before .before .before .loop .o)) (sym (c .before .before .before .before .before .before .before .before .before .before .before .before .full .ensures) ∙ c .before .before .before .before .before .before .before .before .before .before .before .if1 .left))) (λ κ e γ. parameter-takes (c .before .before .before .before .before .before .before .before .before .before .before .before .before .before .loop .i) (c .before .before .before .before .before .before .before .before .before .before .before .before .before .before .loop .o) (c .before .before .before .before .before .before .before .before .before .before .before .before .before .before .loop .c) κ γ ((c .before .before .before .before .before .before .before .before .before .before .before .before .before .before .loop .inv .5) .classes .class κ e) (c .before .before .before .before .before .before .before .before .before .before .before .before .before .loop-test .taken)) (framed (someParameters (inputsBy (c .before .before .before .before .before .before .before .before .before .before .before .before .before .before .loop .c) (c .before .before .before .before .before .before .before .before .before .before .before .before .before .before .loop .i)) (outputsBy (c .before .before .before .before .before .before .before .before .before .before .before .before .before .before .loop .c) (c .before .before .before .before .before .before .before .before .before .before .before .before .before .before .loop .o)) ∷ []) h) (omega arith))), more-then (c .before .before .before .before .before .before .before .before .before .before .before .before .before .before .loop .inv .1) (let p = subst (λ (z : Read). Made (c .before .before .before .before .before .before .before .before .before .before .before .before .before .before .before .before .before .before .before .before .args .s .now) (c .before .before .before .before .before .before .before .before .before .before .before .before .before .before .before .before .before .before .before .before .args .v .now) aDeclaration (c .before .before .before .before .before .before .before .before .before .before .before .before .before .before .loop .at) (c .before .before .before .before .before .before .before .before .before .before .before .before .before .before .loop .n) (c .before .before .before .before .before .before .before .before .before .before .before .before .before .before .loop .code) (c .before .before .before .before .before .before .before .before .before .declaration .last .1 .1 .1 .0) z) (c .before .before .before .before .before .e .given .1) (c .before .before .before .before .before .before .before .before .before .declaration .ensures .1) in more-part p (λ j u d. takesMore (omega arith) (omega arith) (p .derives) d)), search needs, subst (λ x. x ≤ 3) (sym (c .before .before .before .inputs .ensures)) (inputs-few (c .before .before .before .before .before .before .before .before .before .before .before .before .before .before .loop .c) (c .before .before .before .before .before .before .before .before .before .before .before .before .before .before .loop .i) (c .before .before .before .before .before .before .before .before .before .before .before .before .before .before .loop .o) (leb-false 3 (countBy (c .before .before .before .before .before .before .before .before .before .before .before .before .before .before .loop .c) (c .before .before .before .before .before .before .before .before .before .before .before .before .before .before .loop .i) (c .before .before .before .before .before .before .before .before .before .before .before .before .before .before .loop .o)) (sym (c .before .before .before .before .before .before .before .before .before .before .before .before .full .ensures) ∙ c .before .before .before .before .before .before .before .before .before .before .before .if1 .left)) (c .before .before .before .before .before .before .before .before .before .before .before .before .before .before .loop .inv .3)), subst (λ x. x ≤ 3) (sym (c .before .before .outputs .ensures)) (outputs-few (c .before .before .before .before .before .before .before .before .before .before .before .before .before .before .loop .c) (c .before .before .before .before .before .before .before .before .before .before .before .before .before .before .loop .i) (c .before .before .before .before .before .before .before .before .before .before .before .before .before .before .loop .o) (leb-false 3 (countBy (c .before .before .before .before .before .before .before .before .before .before .before .before .before .before .loop .c) (c .before .before .before .before .before .before .before .before .before .before .before .before .before .before .loop .i) (c .before .before .before .before .before .before .before .before .before .before .before .before .before .before .loop .o)) (sym (c .before .before .before .before .before .before .before .before .before .before .before .before .full .ensures) ∙ c .before .before .before .before .before .before .before .before .before .before .before .if1 .left)) (c .before .before .before .before .before .before .before .before .before .before .before .before .before .before .loop .inv .4)), subst (λ x. Directs x (c .direction-of2 .result)) (c .before .kind-at2 .ensures .is) (c .direction-of2 .ensures))
 
 enum-known-p : tie.Need-enum-known-p Inv-loop μ-loop
 enum-known-p c = search needs
@@ -87,7 +88,7 @@ same-length-2 c = search needs
 
 returns-2 : tie.Need-returns-2 Inv-loop μ-loop
 unfolding computeForm
-returns-2 c = let room = c .before .before .before .before .before .before .before .before .before .before .before .before .before .before .before .before .pre in let i = c .before .before .before .before .before .before .before .before .before .before .loop .inv .0 in let l = c .before .before .before .before .before .before .before .before .before .before .loop .inv .2 in let d₀ = (c .before .before .before .before .before .before .before .before .before .before .loop .inv .5) .low in let d₁ = (c .before .before .before .before .before .before .before .before .before .before .loop .inv .5) .high in let z : (c .before .before .before .before .before .before .before .before .before .before .loop .at) < length (c .before .before .before .before .before .before .before .before .before .before .before .before .before .before .before .before .args .s .now) = in-text (c .before .before .before .before .before .before .before .before .before .before .before .before .before .before .before .before .args .s .now) (c .before .before .before .before .before .before .before .before .before .before .loop .at) (omega arith) in (next i (taken {μ = aTyped ++ (someParameters (inputsBy (c .before .before .before .before .before .before .before .before .before .before .loop .c) (c .before .before .before .before .before .before .before .before .before .before .loop .i)) (outputsBy (c .before .before .before .before .before .before .before .before .before .before .loop .c) (c .before .before .before .before .before .before .before .before .before .before .loop .o)) ∷ [])} {m = c .before .before .before .before .before .before .before .before .before .before .loop .n + 4} (markBy (c .before .before .before .before .before .before .before .before .before .before .loop .c) (c .before .before .before .before .before .before .before .before .before .before .loop .i) (c .before .before .before .before .before .before .before .before .before .before .loop .o)) z (parameter-well (c .before .before .before .before .before .before .before .before .before .before .before .before .before .before .before .before .args .s .now) (c .before .before .before .before .before .before .before .before .before .before .loop .at) (c .before .before .before .before .before .before .before .before .before .before .loop .c) (c .before .before .before .before .before .before .before .before .before .before .loop .i) (c .before .before .before .before .before .before .before .before .before .before .loop .o) (leb-false 3 (countBy (c .before .before .before .before .before .before .before .before .before .before .loop .c) (c .before .before .before .before .before .before .before .before .before .before .loop .i) (c .before .before .before .before .before .before .before .before .before .before .loop .o)) (sym (c .before .before .before .before .before .before .before .before .full .ensures) ∙ c .before .before .before .before .before .before .before .if1 .left))) (λ κ e γ. parameter-takes (c .before .before .before .before .before .before .before .before .before .before .loop .i) (c .before .before .before .before .before .before .before .before .before .before .loop .o) (c .before .before .before .before .before .before .before .before .before .before .loop .c) κ γ ((c .before .before .before .before .before .before .before .before .before .before .loop .inv .5) .classes .class κ e) (c .before .before .before .before .before .before .before .before .before .loop-test .taken)) (fails (framed (someParameters (inputsBy (c .before .before .before .before .before .before .before .before .before .before .loop .c) (c .before .before .before .before .before .before .before .before .before .before .loop .i)) (outputsBy (c .before .before .before .before .before .before .before .before .before .before .loop .c) (c .before .before .before .before .before .before .before .before .before .before .loop .o)) ∷ []) (known (c .before .p .given .1) (c .before .before .before .before .before .declaration .ensures .0)))) (omega arith)), tt)
+returns-2 c = let room = c .before .before .before .before .before .before .before .before .before .before .before .before .before .before .before .before .pre in let i = c .before .before .before .before .before .before .before .before .before .before .loop .inv .0 in let l = c .before .before .before .before .before .before .before .before .before .before .loop .inv .2 in let d₀ = (c .before .before .before .before .before .before .before .before .before .before .loop .inv .5) .low in let d₁ = (c .before .before .before .before .before .before .before .before .before .before .loop .inv .5) .high in let z : (c .before .before .before .before .before .before .before .before .before .before .loop .at) < length (c .before .before .before .before .before .before .before .before .before .before .before .before .before .before .before .before .args .s .now) = inside (c .before .before .before .before .before .before .before .before .before .before .before .before .before .before .before .before .args .s .now) (c .before .before .before .before .before .before .before .before .before .before .loop .at) (omega arith) in (next i (taken {μ = aTyped ++ (someParameters (inputsBy (c .before .before .before .before .before .before .before .before .before .before .loop .c) (c .before .before .before .before .before .before .before .before .before .before .loop .i)) (outputsBy (c .before .before .before .before .before .before .before .before .before .before .loop .c) (c .before .before .before .before .before .before .before .before .before .before .loop .o)) ∷ [])} {m = c .before .before .before .before .before .before .before .before .before .before .loop .n + 4} (markBy (c .before .before .before .before .before .before .before .before .before .before .loop .c) (c .before .before .before .before .before .before .before .before .before .before .loop .i) (c .before .before .before .before .before .before .before .before .before .before .loop .o)) z (parameter-well (c .before .before .before .before .before .before .before .before .before .before .before .before .before .before .before .before .args .s .now) (c .before .before .before .before .before .before .before .before .before .before .loop .at) (c .before .before .before .before .before .before .before .before .before .before .loop .c) (c .before .before .before .before .before .before .before .before .before .before .loop .i) (c .before .before .before .before .before .before .before .before .before .before .loop .o) (leb-false 3 (countBy (c .before .before .before .before .before .before .before .before .before .before .loop .c) (c .before .before .before .before .before .before .before .before .before .before .loop .i) (c .before .before .before .before .before .before .before .before .before .before .loop .o)) (sym (c .before .before .before .before .before .before .before .before .full .ensures) ∙ c .before .before .before .before .before .before .before .if1 .left))) (λ κ e γ. parameter-takes (c .before .before .before .before .before .before .before .before .before .before .loop .i) (c .before .before .before .before .before .before .before .before .before .before .loop .o) (c .before .before .before .before .before .before .before .before .before .before .loop .c) κ γ ((c .before .before .before .before .before .before .before .before .before .before .loop .inv .5) .classes .class κ e) (c .before .before .before .before .before .before .before .before .before .loop-test .taken)) (fails (framed (someParameters (inputsBy (c .before .before .before .before .before .before .before .before .before .before .loop .c) (c .before .before .before .before .before .before .before .before .before .before .loop .i)) (outputsBy (c .before .before .before .before .before .before .before .before .before .before .loop .c) (c .before .before .before .before .before .before .before .before .before .before .loop .o)) ∷ []) (known (c .before .p .given .1) (c .before .before .before .before .before .declaration .ensures .0)))) (omega arith)), tt)
 
 same-length-3 : tie.Need-same-length-3 Inv-loop μ-loop
 same-length-3 c = search needs

@@ -10,10 +10,10 @@ use Rattle.form.specs.Codes.{node}
 use Rattle.parser.specs.Inner.{Shown}
 use Rattle.parser.specs.declared.Read.{Read}
 use Rattle.parser.specs.Derived.{NameAt, RangeAt, overRange, overSets}
-use Rattle.parser.proofs.Reading.{here, takes, takes-kind, taken, stops, likewise, fails, known, counted, known-ahead}
+use Rattle.parser.proofs.Reading.{only, here, takes, taken, stops, likewise, fails, known, counted, known-ahead}
 use Rattle.parser.proofs.Stepping.{name-step, name-taken}
 use Rattle.parser.proofs.Listing.{type-name, type-range}
-use Rattle.parser.proofs.Joining.{made-node}
+use Rattle.parser.proofs.ListNodes.{made-node}
 use Rattle.parser.proofs.contents.type_form.Statement.{statement}
 use Rattle.symbols.specs.Kinds as kind
 use Rattle.parser.proofs.contents.type_form.Tie as tie
@@ -35,7 +35,7 @@ add-t19 c = let room = c .before .before .before .before .before .before .before
 
 returns : tie.Need-returns
 unfolding computeForm
-returns c = let room = c .before .before .before .before .before .before .before .before .pre in let z = c .before .before .before .before .kind-at .ensures .inside in (takes-kind {μ = aName ∷ []} {m = (c .before .before .before .before .before .before .before .before .args .n)} kind.POWER (sym (c .before .before .before .before .kind-at .ensures .is) ∙ c .before .before .before .if1 .taken) (omega arith) (λ γ. refl) (stops (omega arith) (λ κ e γ. name-step κ γ ((c .before .name-of .ensures .classes .class κ (e ∙ sym (c .before .before .kind-at2 .ensures .is))) ∙ c .if2 .taken)) (λ γ. refl)) (omega arith), tt)
+returns c = let room = c .before .before .before .before .before .before .before .before .pre in let z = c .before .before .before .before .kind-at .ensures .inside in (takes {μ = aName ∷ []} {m = (c .before .before .before .before .before .before .before .before .args .n)} (omega arith) (only _ kind.POWER (sym (c .before .before .before .before .kind-at .ensures .is) ∙ c .before .before .before .if1 .taken) (λ γ. refl)) (stops (omega arith) (λ κ e γ. name-step κ γ ((c .before .name-of .ensures .classes .class κ (e ∙ sym (c .before .before .kind-at2 .ensures .is))) ∙ c .if2 .taken)) (λ γ. refl)) (omega arith), tt)
 
 add-name-number : tie.Need-add-name-number
 add-name-number c = let room = c .before .before .before .before .before .before .before .before .pre in let z = c .before .before .before .before .kind-at .ensures .inside in search needs
@@ -57,7 +57,7 @@ same-length c = search needs
 
 returns-2 : tie.Need-returns-2
 unfolding computeForm
-returns-2 c = let room = c .before .before .before .before .before .before .before .before .before .before .before .before .before .pre in let z = c .before .before .before .before .before .before .before .before .before .kind-at .ensures .inside in let y = c .before .before .before .before .before .before .before .kind-at2 .ensures .inside in let g = c .before .before .before .before .before .before .name-of .ensures in let p = c .before .before .put .ensures .count in (takes-kind {μ = aName ∷ []} {m = (c .before .before .before .before .before .before .before .before .before .before .before .before .before .args .n)} kind.POWER (sym (c .before .before .before .before .before .before .before .before .before .kind-at .ensures .is) ∙ c .before .before .before .before .before .before .before .before .if1 .taken) (omega arith) (λ γ. refl) (takes {μ = []} {m = c .before .before .put .result} (omega arith) (λ κ e γ. name-taken κ γ (λ q. c .before .before .before .before .before .if2 .left (sym (c .before .before .before .before .before .before .name-of .ensures .classes .class κ (e ∙ sym (c .before .before .before .before .before .before .before .kind-at2 .ensures .is))) ∙ q))) (here (omega arith)) (omega arith)) (omega arith), made-node (c .before .before .put .ensures) (ap (λ y. node 3 (c .before .before .before .before .before .before .before .before .before .before .before .before .before .args .at) y 0) (c .before .before .before .before .name-number .ensures)) (overSets (sym (c .before .before .before .before .before .before .before .before .before .kind-at .ensures .is) ∙ c .before .before .before .before .before .before .before .before .if1 .taken) (let q = c .before .before .before .before .before .before .name-of .ensures .name (omega arith) in record { low = omega (arith, (c .before .before .before .before .before .before .before .kind-at2 .ensures .is)); high = omega (arith, (c .before .before .before .before .before .before .before .kind-at2 .ensures .is)) })))
+returns-2 c = let room = c .before .before .before .before .before .before .before .before .before .before .before .before .before .pre in let z = c .before .before .before .before .before .before .before .before .before .kind-at .ensures .inside in let y = c .before .before .before .before .before .before .before .kind-at2 .ensures .inside in let g = c .before .before .before .before .before .before .name-of .ensures in let p = c .before .before .put .ensures .count in (takes {μ = aName ∷ []} {m = (c .before .before .before .before .before .before .before .before .before .before .before .before .before .args .n)} (omega arith) (only _ kind.POWER (sym (c .before .before .before .before .before .before .before .before .before .kind-at .ensures .is) ∙ c .before .before .before .before .before .before .before .before .if1 .taken) (λ γ. refl)) (takes {μ = []} {m = c .before .before .put .result} (omega arith) (λ κ e γ. name-taken κ γ (λ q. c .before .before .before .before .before .if2 .left (sym (c .before .before .before .before .before .before .name-of .ensures .classes .class κ (e ∙ sym (c .before .before .before .before .before .before .before .kind-at2 .ensures .is))) ∙ q))) (here (omega arith)) (omega arith)) (omega arith), made-node (c .before .before .put .ensures) (ap (λ y. node 3 (c .before .before .before .before .before .before .before .before .before .before .before .before .before .args .at) y 0) (c .before .before .before .before .name-number .ensures)) (overSets (sym (c .before .before .before .before .before .before .before .before .before .kind-at .ensures .is) ∙ c .before .before .before .before .before .before .before .before .if1 .taken) (let q = c .before .before .before .before .before .before .name-of .ensures .name (omega arith) in record { low = omega (arith, (c .before .before .before .before .before .before .before .kind-at2 .ensures .is)); high = omega (arith, (c .before .before .before .before .before .before .before .kind-at2 .ensures .is)) })))
 
 name-of-requires-2 : tie.Need-name-of-requires-2
 name-of-requires-2 c κs = search needs

@@ -5,7 +5,7 @@ use borrow.Author.Needs.{needs}
 use Rattle.form.specs.Machine.{exact}
 use Rattle.form.specs.Computed.{computeForm}
 use Rattle.parser.proofs.Reading.{next, fails, framed, known}
-use Rattle.parser.proofs.Joining.{closed, words-shown}
+use Rattle.parser.proofs.ListNodes.{closed, words-shown}
 use Rattle.parser.proofs.contents.words.Statement.{statement}
 use Rattle.symbols.specs.Kinds as kind
 use Rattle.parser.proofs.contents.words.Tie as tie

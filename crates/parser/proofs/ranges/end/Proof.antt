@@ -4,7 +4,7 @@ use Prim.Native.Nat.{_+_}
 use mathlib.Core.Path.{refl, sym, _∙_}
 use native.Mathlib.Omega.{arith}
 use Rattle.form.specs.Computed.{computeForm}
-use Rattle.parser.proofs.Reading.{takes-kind, likewise, ahead-from}
+use Rattle.parser.proofs.Reading.{only, takes, likewise, ahead-from}
 use Rattle.parser.proofs.Stepping.{end-unsigned}
 use Rattle.parser.proofs.Showing.{positive-end, negative-end}
 use Rattle.parser.proofs.ranges.end.Statement.{statement}
@@ -22,7 +22,7 @@ close-requires c κs = search needs
 
 returns : tie.Need-returns
 unfolding computeForm
-returns c = (record { reads = takes-kind kind.minus (sym (c .before .before .kind-at .ensures .is) ∙ c .before .if1 .taken) (omega (arith, c .before .before .kind-at .ensures .inside)) (λ γ. refl) (c .close .ensures .reads kind.number refl) (omega arith); ahead = ahead-from (c .before .before .before .before .args .at) (c .before .before .before .before .args .at + 1) (c .close .result) (omega arith) (c .close .ensures .ahead) }, negative-end (c .before .before .before .before .args .s .now) (c .before .before .before .before .args .at) (c .before .before .before .before .args .n) (c .close .result) (sym (c .before .before .kind-at .ensures .is) ∙ c .before .if1 .taken) (c .close .ensures .shown))
+returns c = (record { reads = takes (omega (arith, c .before .before .kind-at .ensures .inside)) (only _ kind.minus (sym (c .before .before .kind-at .ensures .is) ∙ c .before .if1 .taken) (λ γ. refl)) (c .close .ensures .reads kind.number refl) (omega arith); ahead = ahead-from (c .before .before .before .before .args .at) (c .before .before .before .before .args .at + 1) (c .close .result) (omega arith) (c .close .ensures .ahead) }, negative-end (c .before .before .before .before .args .s .now) (c .before .before .before .before .args .at) (c .before .before .before .before .args .n) (c .close .result) (sym (c .before .before .kind-at .ensures .is) ∙ c .before .if1 .taken) (c .close .ensures .shown))
 
 close-requires-2 : tie.Need-close-requires-2
 close-requires-2 c κs = search needs

@@ -12,7 +12,7 @@ use Rattle.form.specs.Written.{opens, binds}
 use Rattle.form.specs.Machine.{exact, aName, anEmptyRest, anEnd, aDomain, aTerm, anOperand, aTermRest, aRel, aMem, aRight, aBrace, aNamed, aFirst, aList, aPairs, aUnary, aParen, aPredRest, aDeclared}
 use Rattle.parser.specs.Inner.{Ranged, startAs}
 use Rattle.form.specs.Computed.{computeForm}
-use Rattle.parser.proofs.Reading.{here, next, takes, takes-kind, taken, deeper, stops, likewise, likewise-kind, fails, framed, known, counted, taken-kind, deeper-kind, alike, wider, raised, known-ahead}
+use Rattle.parser.proofs.Reading.{only, here, next, takes, taken, deeper, stops, likewise, fails, framed, known, counted, alike, wider, raised, known-ahead}
 use Rattle.parser.proofs.RangeEnds.{open-well, open-deep, range-well, other-kind, bind-well, bound-deep, bound-elsewhere}
 use Rattle.parser.proofs.Stepping.{name-step, name-taken, rel-step, mem-step, unary-step, pred-rest-step}
 use Rattle.parser.proofs.Alike.{operand-step, as-operand, as-term, as-pred, quantifier-step, as-list, list-stops, pairs-stop, whole-term, whole-pred, known-level, below-level, level-positive, rest-division, rest-binary, rest-connective, rest-depth, paren-opens, rel-pair, mem-some, quantifier-code, declared-stops, known-code}
@@ -460,7 +460,7 @@ items-same-length t c = search needs
 
 items-returns : (t : ℕ) → items-lts.Need-returns (items-claims t) (items-at t) items.Post
 unfolding computeForm
-items-returns t c = (let room = c .before .before .before .before .before .before .before .before .before .pre .1 .0 in takes-kind {μ = []} kind.closeBrace (sym (c .before .before .before .before .before .kind-at .ensures .is) ∙ c .before .before .before .before .if1 .taken) (omega arith) (λ γ. refl) (here (omega arith)) (omega arith), makes (wrote (c .before .before .put .ensures)) (derived.itemsEnd (sym (c .before .before .before .before .before .kind-at .ensures .is) ∙ c .before .before .before .before .if1 .taken)))
+items-returns t c = (let room = c .before .before .before .before .before .before .before .before .before .pre .1 .0 in takes {μ = []} (omega arith) (only _ kind.closeBrace (sym (c .before .before .before .before .before .kind-at .ensures .is) ∙ c .before .before .before .before .if1 .taken) (λ γ. refl)) (here (omega arith)) (omega arith), makes (wrote (c .before .before .put .ensures)) (derived.itemsEnd (sym (c .before .before .before .before .before .kind-at .ensures .is) ∙ c .before .before .before .before .if1 .taken)))
 
 items-add-term : (t : ℕ) → items-lts.Need-add-term (items-claims t) (items-at t) items.Post
 items-add-term t c = search needs
@@ -491,21 +491,21 @@ items-same-length-2 t c = search needs
 
 items-returns-2 : (t : ℕ) → items-lts.Need-returns-2 (items-claims t) (items-at t) items.Post
 unfolding computeForm
-items-returns-2 t c = (let room = c .before .before .before .before .before .before .before .before .before .before .before .before .before .before .before .before .before .before .before .before .before .before .before .before .pre .1 .0 in let h = (known (c .before .before .before .before .before .before .before .before .before .before .before .before .e .given .1) (c .before .before .before .before .before .before .before .before .before .before .before .before .before .before .before .before .term .ensures .0)) in let i = (known (c .before .before .before .before .before .f .given .1) (c .before .before .before .before .before .before .before .before .before .items .ensures .0)) in takes-kind {μ = aTerm (c .before .before .before .before .before .before .before .before .before .before .before .before .before .before .before .before .before .before .before .before .before .before .before .before .args .d) (c .before .before .before .before .before .before .before .before .before .before .before .before .before .before .before .before .before .before .before .before .before .before .before .before .args .b) ∷ aList (c .before .before .before .before .before .before .before .before .before .before .before .before .before .before .before .before .before .before .before .before .before .before .before .before .args .d) (c .before .before .before .before .before .before .before .before .before .before .before .before .before .before .before .before .before .before .before .before .before .before .before .before .args .b) ∷ []} {m = (c .before .before .before .before .before .before .before .before .before .before .before .before .before .before .before .before .before .before .before .before .before .before .before .before .args .n) + 4} kind.comma (sym (c .before .before .before .before .before .before .before .before .before .before .before .before .before .before .before .before .before .before .before .before .kind-at .ensures .is) ∙ c .before .before .before .before .before .before .before .before .before .before .before .before .before .before .before .before .before .before .if2 .taken) (omega arith) (λ γ. refl) (counted (omega arith) (next (framed (aList (c .before .before .before .before .before .before .before .before .before .before .before .before .before .before .before .before .before .before .before .before .before .before .before .before .args .d) (c .before .before .before .before .before .before .before .before .before .before .before .before .before .before .before .before .before .before .before .before .before .before .before .before .args .b) ∷ []) h) i)) (omega arith), let w₁ = (made (c .before .before .before .before .before .before .before .before .before .before .before .before .e .given .1) (c .before .before .before .before .before .before .before .before .before .before .before .before .before .before .before .before .term .ensures .1)) in let w₂ = (made (c .before .before .before .before .before .f .given .1) (c .before .before .before .before .before .before .before .before .before .items .ensures .1)) in makes (both (both (built w₁) (built w₂)) (wrote (c .before .before .put2 .ensures))) (derived.itemsMore (sym (c .before .before .before .before .before .before .before .before .before .before .before .before .before .before .before .before .before .before .before .before .kind-at .ensures .is) ∙ c .before .before .before .before .before .before .before .before .before .before .before .before .before .before .before .before .before .before .if2 .taken) (w₁ .derives) (w₂ .derives)))
+items-returns-2 t c = (let room = c .before .before .before .before .before .before .before .before .before .before .before .before .before .before .before .before .before .before .before .before .before .before .before .before .pre .1 .0 in let h = (known (c .before .before .before .before .before .before .before .before .before .before .before .before .e .given .1) (c .before .before .before .before .before .before .before .before .before .before .before .before .before .before .before .before .term .ensures .0)) in let i = (known (c .before .before .before .before .before .f .given .1) (c .before .before .before .before .before .before .before .before .before .items .ensures .0)) in takes {μ = aTerm (c .before .before .before .before .before .before .before .before .before .before .before .before .before .before .before .before .before .before .before .before .before .before .before .before .args .d) (c .before .before .before .before .before .before .before .before .before .before .before .before .before .before .before .before .before .before .before .before .before .before .before .before .args .b) ∷ aList (c .before .before .before .before .before .before .before .before .before .before .before .before .before .before .before .before .before .before .before .before .before .before .before .before .args .d) (c .before .before .before .before .before .before .before .before .before .before .before .before .before .before .before .before .before .before .before .before .before .before .before .before .args .b) ∷ []} {m = (c .before .before .before .before .before .before .before .before .before .before .before .before .before .before .before .before .before .before .before .before .before .before .before .before .args .n) + 4} (omega arith) (only _ kind.comma (sym (c .before .before .before .before .before .before .before .before .before .before .before .before .before .before .before .before .before .before .before .before .kind-at .ensures .is) ∙ c .before .before .before .before .before .before .before .before .before .before .before .before .before .before .before .before .before .before .if2 .taken) (λ γ. refl)) (counted (omega arith) (next (framed (aList (c .before .before .before .before .before .before .before .before .before .before .before .before .before .before .before .before .before .before .before .before .before .before .before .before .args .d) (c .before .before .before .before .before .before .before .before .before .before .before .before .before .before .before .before .before .before .before .before .before .before .before .before .args .b) ∷ []) h) i)) (omega arith), let w₁ = (made (c .before .before .before .before .before .before .before .before .before .before .before .before .e .given .1) (c .before .before .before .before .before .before .before .before .before .before .before .before .before .before .before .before .term .ensures .1)) in let w₂ = (made (c .before .before .before .before .before .f .given .1) (c .before .before .before .before .before .before .before .before .before .items .ensures .1)) in makes (both (both (built w₁) (built w₂)) (wrote (c .before .before .put2 .ensures))) (derived.itemsMore (sym (c .before .before .before .before .before .before .before .before .before .before .before .before .before .before .before .before .before .before .before .before .kind-at .ensures .is) ∙ c .before .before .before .before .before .before .before .before .before .before .before .before .before .before .before .before .before .before .if2 .taken) (w₁ .derives) (w₂ .derives)))
 
 items-same-length-3 : (t : ℕ) → items-lts.Need-same-length-3 (items-claims t) (items-at t) items.Post
 items-same-length-3 t c = search needs
 
 items-returns-3 : (t : ℕ) → items-lts.Need-returns-3 (items-claims t) (items-at t) items.Post
 unfolding computeForm
-items-returns-3 t c = (let room = c .before .before .before .before .before .before .before .before .before .before .before .before .before .before .before .before .before .before .before .before .pre .1 .0 in let h = (known (c .before .before .before .before .before .before .before .before .e .given .1) (c .before .before .before .before .before .before .before .before .before .before .before .before .term .ensures .0)) in takes-kind {μ = aTerm (c .before .before .before .before .before .before .before .before .before .before .before .before .before .before .before .before .before .before .before .before .args .d) (c .before .before .before .before .before .before .before .before .before .before .before .before .before .before .before .before .before .before .before .before .args .b) ∷ aList (c .before .before .before .before .before .before .before .before .before .before .before .before .before .before .before .before .before .before .before .before .args .d) (c .before .before .before .before .before .before .before .before .before .before .before .before .before .before .before .before .before .before .before .before .args .b) ∷ []} {m = (c .before .before .before .before .before .before .before .before .before .before .before .before .before .before .before .before .before .before .before .before .args .n)} kind.comma (sym (c .before .before .before .before .before .before .before .before .before .before .before .before .before .before .before .before .kind-at .ensures .is) ∙ c .before .before .before .before .before .before .before .before .before .before .before .before .before .before .if2 .taken) (omega arith) (λ γ. refl) (fails (next (framed (aList (c .before .before .before .before .before .before .before .before .before .before .before .before .before .before .before .before .before .before .before .before .args .d) (c .before .before .before .before .before .before .before .before .before .before .before .before .before .before .before .before .before .before .before .before .args .b) ∷ []) h) (known (c .before .p .given .1) (c .before .before .before .before .before .items .ensures .0)))) (omega arith), tt)
+items-returns-3 t c = (let room = c .before .before .before .before .before .before .before .before .before .before .before .before .before .before .before .before .before .before .before .before .pre .1 .0 in let h = (known (c .before .before .before .before .before .before .before .before .e .given .1) (c .before .before .before .before .before .before .before .before .before .before .before .before .term .ensures .0)) in takes {μ = aTerm (c .before .before .before .before .before .before .before .before .before .before .before .before .before .before .before .before .before .before .before .before .args .d) (c .before .before .before .before .before .before .before .before .before .before .before .before .before .before .before .before .before .before .before .before .args .b) ∷ aList (c .before .before .before .before .before .before .before .before .before .before .before .before .before .before .before .before .before .before .before .before .args .d) (c .before .before .before .before .before .before .before .before .before .before .before .before .before .before .before .before .before .before .before .before .args .b) ∷ []} {m = (c .before .before .before .before .before .before .before .before .before .before .before .before .before .before .before .before .before .before .before .before .args .n)} (omega arith) (only _ kind.comma (sym (c .before .before .before .before .before .before .before .before .before .before .before .before .before .before .before .before .kind-at .ensures .is) ∙ c .before .before .before .before .before .before .before .before .before .before .before .before .before .before .if2 .taken) (λ γ. refl)) (fails (next (framed (aList (c .before .before .before .before .before .before .before .before .before .before .before .before .before .before .before .before .before .before .before .before .args .d) (c .before .before .before .before .before .before .before .before .before .before .before .before .before .before .before .before .before .before .before .before .args .b) ∷ []) h) (known (c .before .p .given .1) (c .before .before .before .before .before .items .ensures .0)))) (omega arith), tt)
 
 items-same-length-4 : (t : ℕ) → items-lts.Need-same-length-4 (items-claims t) (items-at t) items.Post
 items-same-length-4 t c = search needs
 
 items-returns-4 : (t : ℕ) → items-lts.Need-returns-4 (items-claims t) (items-at t) items.Post
 unfolding computeForm
-items-returns-4 t c = (let room = c .before .before .before .before .before .before .before .before .before .before .before .before .before .pre .1 .0 in takes-kind {μ = aTerm (c .before .before .before .before .before .before .before .before .before .before .before .before .before .args .d) (c .before .before .before .before .before .before .before .before .before .before .before .before .before .args .b) ∷ aList (c .before .before .before .before .before .before .before .before .before .before .before .before .before .args .d) (c .before .before .before .before .before .before .before .before .before .before .before .before .before .args .b) ∷ []} {m = (c .before .before .before .before .before .before .before .before .before .before .before .before .before .args .n)} kind.comma (sym (c .before .before .before .before .before .before .before .before .before .kind-at .ensures .is) ∙ c .before .before .before .before .before .before .before .if2 .taken) (omega arith) (λ γ. refl) (fails (framed (aList (c .before .before .before .before .before .before .before .before .before .before .before .before .before .args .d) (c .before .before .before .before .before .before .before .before .before .before .before .before .before .args .b) ∷ []) (known (c .before .p2 .given .1) (c .before .before .before .before .before .term .ensures .0)))) (omega arith), tt)
+items-returns-4 t c = (let room = c .before .before .before .before .before .before .before .before .before .before .before .before .before .pre .1 .0 in takes {μ = aTerm (c .before .before .before .before .before .before .before .before .before .before .before .before .before .args .d) (c .before .before .before .before .before .before .before .before .before .before .before .before .before .args .b) ∷ aList (c .before .before .before .before .before .before .before .before .before .before .before .before .before .args .d) (c .before .before .before .before .before .before .before .before .before .before .before .before .before .args .b) ∷ []} {m = (c .before .before .before .before .before .before .before .before .before .before .before .before .before .args .n)} (omega arith) (only _ kind.comma (sym (c .before .before .before .before .before .before .before .before .before .kind-at .ensures .is) ∙ c .before .before .before .before .before .before .before .if2 .taken) (λ γ. refl)) (fails (framed (aList (c .before .before .before .before .before .before .before .before .before .before .before .before .before .args .d) (c .before .before .before .before .before .before .before .before .before .before .before .before .before .args .b) ∷ []) (known (c .before .p2 .given .1) (c .before .before .before .before .before .term .ensures .0)))) (omega arith), tt)
 
 items-returns-5 : (t : ℕ) → items-lts.Need-returns-5 (items-claims t) (items-at t) items.Post
 unfolding computeForm
@@ -540,14 +540,14 @@ listed-same-length t c = search needs
 
 listed-returns : (t : ℕ) → listed-lts.Need-returns (listed-claims t) (listed-at t) listed.Post
 unfolding computeForm
-listed-returns t c = (let room = c .before .before .before .before .before .before .before .before .before .before .before .before .before .before .before .before .before .before .before .before .before .before .before .pre .1 .0 in let h = (known (c .before .before .before .before .before .before .before .before .before .before .before .before .before .before .e .given .1) (c .before .before .before .before .before .before .before .before .before .before .before .before .before .before .before .before .before .before .term .ensures .0)) in let i = (known (c .before .before .before .before .before .f .given .1) (c .before .before .before .before .before .before .before .before .before .pairs .ensures .0)) in counted (omega arith) (alike (as-listed (c .before .before .before .before .before .before .before .before .before .before .before .before .before .before .before .before .before .before .before .before .before .before .before .args .s .now) (c .before .before .before .before .before .before .before .before .before .before .before .before .before .before .before .before .before .before .before .before .before .before .before .args .at) (c .before .before .before .before .before .before .before .before .before .before .before .before .before .before .before .before .before .before .before .before .before .before .before .args .d) (c .before .before .before .before .before .before .before .before .before .before .before .before .before .before .before .before .before .before .before .before .before .before .before .args .b) (c .before .before .before .before .before .before .before .before .before .before .before .before .before .before .before .before .before .before .before .before .before .before .before .pre .1 .4) (c .before .before .before .before .before .before .before .before .before .before .before .before .before .before .before .before .before .before .before .before .before .before .before .pre .1 .5)) (next (framed (aFirst (c .before .before .before .before .before .before .before .before .before .before .before .before .before .before .before .before .before .before .before .before .before .before .before .args .d) (c .before .before .before .before .before .before .before .before .before .before .before .before .before .before .before .before .before .before .before .before .before .before .before .args .b) ∷ []) h) (likewise-kind kind.maplet (sym (c .before .before .before .before .before .before .before .before .before .before .before .before .kind-at .ensures .is) ∙ c .before .before .before .before .before .before .before .before .before .before .before .if1 .taken) (λ γ. refl) (λ γ. refl) i))), let w₁ = (made (c .before .before .before .before .before .before .before .before .before .before .before .before .before .before .e .given .1) (c .before .before .before .before .before .before .before .before .before .before .before .before .before .before .before .before .before .before .term .ensures .1)) in let w₂ = (made (c .before .before .before .before .before .f .given .1) (c .before .before .before .before .before .before .before .before .before .pairs .ensures .1)) in makes (both (both (built w₁) (built w₂)) (wrote (c .before .before .put .ensures))) (derived.paired (c .before .before .before .before .before .before .before .before .before .before .before .before .before .before .before .before .before .before .before .before .before .before .before .pre .1 .4) (w₁ .derives) (w₂ .derives)))
+listed-returns t c = (let room = c .before .before .before .before .before .before .before .before .before .before .before .before .before .before .before .before .before .before .before .before .before .before .before .pre .1 .0 in let h = (known (c .before .before .before .before .before .before .before .before .before .before .before .before .before .before .e .given .1) (c .before .before .before .before .before .before .before .before .before .before .before .before .before .before .before .before .before .before .term .ensures .0)) in let i = (known (c .before .before .before .before .before .f .given .1) (c .before .before .before .before .before .before .before .before .before .pairs .ensures .0)) in counted (omega arith) (alike (as-listed (c .before .before .before .before .before .before .before .before .before .before .before .before .before .before .before .before .before .before .before .before .before .before .before .args .s .now) (c .before .before .before .before .before .before .before .before .before .before .before .before .before .before .before .before .before .before .before .before .before .before .before .args .at) (c .before .before .before .before .before .before .before .before .before .before .before .before .before .before .before .before .before .before .before .before .before .before .before .args .d) (c .before .before .before .before .before .before .before .before .before .before .before .before .before .before .before .before .before .before .before .before .before .before .before .args .b) (c .before .before .before .before .before .before .before .before .before .before .before .before .before .before .before .before .before .before .before .before .before .before .before .pre .1 .4) (c .before .before .before .before .before .before .before .before .before .before .before .before .before .before .before .before .before .before .before .before .before .before .before .pre .1 .5)) (next (framed (aFirst (c .before .before .before .before .before .before .before .before .before .before .before .before .before .before .before .before .before .before .before .before .before .before .before .args .d) (c .before .before .before .before .before .before .before .before .before .before .before .before .before .before .before .before .before .before .before .before .before .before .before .args .b) ∷ []) h) (likewise (only _ kind.maplet (sym (c .before .before .before .before .before .before .before .before .before .before .before .before .kind-at .ensures .is) ∙ c .before .before .before .before .before .before .before .before .before .before .before .if1 .taken) (λ γ. refl)) (λ γ. refl) i))), let w₁ = (made (c .before .before .before .before .before .before .before .before .before .before .before .before .before .before .e .given .1) (c .before .before .before .before .before .before .before .before .before .before .before .before .before .before .before .before .before .before .term .ensures .1)) in let w₂ = (made (c .before .before .before .before .before .f .given .1) (c .before .before .before .before .before .before .before .before .before .pairs .ensures .1)) in makes (both (both (built w₁) (built w₂)) (wrote (c .before .before .put .ensures))) (derived.paired (c .before .before .before .before .before .before .before .before .before .before .before .before .before .before .before .before .before .before .before .before .before .before .before .pre .1 .4) (w₁ .derives) (w₂ .derives)))
 
 listed-same-length-2 : (t : ℕ) → listed-lts.Need-same-length-2 (listed-claims t) (listed-at t) listed.Post
 listed-same-length-2 t c = search needs
 
 listed-returns-2 : (t : ℕ) → listed-lts.Need-returns-2 (listed-claims t) (listed-at t) listed.Post
 unfolding computeForm
-listed-returns-2 t c = (let room = c .before .before .before .before .before .before .before .before .before .before .before .before .before .before .before .before .before .before .before .pre .1 .0 in let h = (known (c .before .before .before .before .before .before .before .before .before .before .e .given .1) (c .before .before .before .before .before .before .before .before .before .before .before .before .before .before .term .ensures .0)) in wider (alike (as-listed (c .before .before .before .before .before .before .before .before .before .before .before .before .before .before .before .before .before .before .before .args .s .now) (c .before .before .before .before .before .before .before .before .before .before .before .before .before .before .before .before .before .before .before .args .at) (c .before .before .before .before .before .before .before .before .before .before .before .before .before .before .before .before .before .before .before .args .d) (c .before .before .before .before .before .before .before .before .before .before .before .before .before .before .before .before .before .before .before .args .b) (c .before .before .before .before .before .before .before .before .before .before .before .before .before .before .before .before .before .before .before .pre .1 .4) (c .before .before .before .before .before .before .before .before .before .before .before .before .before .before .before .before .before .before .before .pre .1 .5)) (next (framed (aFirst (c .before .before .before .before .before .before .before .before .before .before .before .before .before .before .before .before .before .before .before .args .d) (c .before .before .before .before .before .before .before .before .before .before .before .before .before .before .before .before .before .before .before .args .b) ∷ []) h) (likewise-kind kind.maplet (sym (c .before .before .before .before .before .before .before .before .kind-at .ensures .is) ∙ c .before .before .before .before .before .before .before .if1 .taken) (λ γ. refl) (λ γ. refl) (known (c .before .p .given .1) (c .before .before .before .before .before .pairs .ensures .0))))) (omega arith), tt)
+listed-returns-2 t c = (let room = c .before .before .before .before .before .before .before .before .before .before .before .before .before .before .before .before .before .before .before .pre .1 .0 in let h = (known (c .before .before .before .before .before .before .before .before .before .before .e .given .1) (c .before .before .before .before .before .before .before .before .before .before .before .before .before .before .term .ensures .0)) in wider (alike (as-listed (c .before .before .before .before .before .before .before .before .before .before .before .before .before .before .before .before .before .before .before .args .s .now) (c .before .before .before .before .before .before .before .before .before .before .before .before .before .before .before .before .before .before .before .args .at) (c .before .before .before .before .before .before .before .before .before .before .before .before .before .before .before .before .before .before .before .args .d) (c .before .before .before .before .before .before .before .before .before .before .before .before .before .before .before .before .before .before .before .args .b) (c .before .before .before .before .before .before .before .before .before .before .before .before .before .before .before .before .before .before .before .pre .1 .4) (c .before .before .before .before .before .before .before .before .before .before .before .before .before .before .before .before .before .before .before .pre .1 .5)) (next (framed (aFirst (c .before .before .before .before .before .before .before .before .before .before .before .before .before .before .before .before .before .before .before .args .d) (c .before .before .before .before .before .before .before .before .before .before .before .before .before .before .before .before .before .before .before .args .b) ∷ []) h) (likewise (only _ kind.maplet (sym (c .before .before .before .before .before .before .before .before .kind-at .ensures .is) ∙ c .before .before .before .before .before .before .before .if1 .taken) (λ γ. refl)) (λ γ. refl) (known (c .before .p .given .1) (c .before .before .before .before .before .pairs .ensures .0))))) (omega arith), tt)
 
 listed-items-requires : (t : ℕ) → listed-lts.Need-items-requires (listed-claims t) (listed-at t) listed.Post
 listed-items-requires t c κs = let room = c .before .before .before .before .before .before .before .before .before .before .before .before .before .pre .1 .0 in let h = (known (c .before .before .before .before .e .given .1) (c .before .before .before .before .before .before .before .before .term .ensures .0)) in search needs
@@ -705,7 +705,7 @@ operand-same-length t c = search needs
 
 operand-returns : (t : ℕ) → operand-lts.Need-returns (operand-claims t) (operand-at t) operand.Post
 unfolding computeForm
-operand-returns t c = (let room = c .before .before .before .before .before .before .before .before .before .before .before .before .before .before .before .before .before .before .before .pre .1 .0 in let h = known-code (c .before .before .before .before .before .before .before .before .before .before .before .before .before .before .before .kind-at .result) (c .before .before .before .before .before .before .before .before .before .before .before .before .enum-told2 .given .1) (c .before .before .before .before .before .before .before .before .before .before .before .before .before .before .start-of .ensures) in let i = c .before .before .before .before .before .before .before .before .before .before .range-end .ensures .minus (c .before .before .before .before .before .before .before .before .before .if2 .taken) in let j = inside (c .before .before .before .before .before .before .before .before .before .before .before .before .before .before .before .before .before .before .before .args .s .now) ((c .before .before .before .before .before .before .before .before .before .before .before .before .before .before .before .before .before .before .before .args .at) + 1) (omega (arith, i .1)) in taken {μ = anOperand (suc (c .before .before .before .before .before .before .before .before .before .before .before .before .before .before .before .before .before .before .before .args .d)) (c .before .before .before .before .before .before .before .before .before .before .before .before .before .before .before .before .before .before .before .args .b) ∷ []} {m = (c .before .before .before .before .before .before .before .before .before .before .before .before .before .before .before .before .before .before .before .args .n) + 4} (opens (suc (c .before .before .before .before .before .before .before .before .before .before .before .before .before .before .before .before .before .before .before .args .d))) (omega arith) (range-well (c .before .before .before .before .before .before .before .before .before .before .before .before .before .before .before .before .before .before .before .args .s .now) (c .before .before .before .before .before .before .before .before .before .before .before .before .before .before .before .before .before .before .before .args .at) (suc (c .before .before .before .before .before .before .before .before .before .before .before .before .before .before .before .before .before .before .before .args .d)) (c .before .before .before .before .before .before .before .before .before .before .range-end .ensures .test ∙ c .before .before .before .before .before .before .before .before .before .if2 .taken)) (λ κ e γ. operand-step (c .before .before .before .before .before .before .before .before .before .before .before .before .before .before .before .before .before .before .before .args .d) (c .before .before .before .before .before .before .before .before .before .before .before .before .before .before .before .before .before .before .before .args .b) κ γ _ (c .before .before .before .before .before .before .before .before .before .before .before .before .before .before .start-of .ensures .start κ (e ∙ sym (c .before .before .before .before .before .before .before .before .before .before .before .before .before .before .before .kind-at .ensures .is)) ∙ ap startAs (c .before .before .before .before .before .before .before .before .before .before .before .before .enum-told2 .given .1))) (takes-kind {μ = []} kind.number (i .1) (omega arith) (λ γ. refl) (here (omega arith)) (omega arith)) (omega arith), makes (both (wrote (c .before .before .before .before .before .before .before .leaf2 .ensures)) (node-of (c .before .before .before .wide .ensures ∙ (c .before .before .before .before .before .before .before .before .before .before .before .before .before .before .before .kind-at .ensures .is)) refl (c .before .before .put .ensures))) (derived.prefixed (start-at (c .before .before .before .before .before .before .before .before .before .before .before .before .before .before .before .kind-at .ensures .is) (c .before .before .before .before .before .before .before .before .before .before .before .before .enum-told2 .given .1) (c .before .before .before .before .before .before .before .before .before .before .before .before .before .before .start-of .ensures)) (derived.leaf (number-start (c .before .before .before .before .before .before .before .before .before .before .range-end .ensures .minus (c .before .before .before .before .before .before .before .before .before .if2 .taken) .1)))))
+operand-returns t c = (let room = c .before .before .before .before .before .before .before .before .before .before .before .before .before .before .before .before .before .before .before .pre .1 .0 in let h = known-code (c .before .before .before .before .before .before .before .before .before .before .before .before .before .before .before .kind-at .result) (c .before .before .before .before .before .before .before .before .before .before .before .before .enum-told2 .given .1) (c .before .before .before .before .before .before .before .before .before .before .before .before .before .before .start-of .ensures) in let i = c .before .before .before .before .before .before .before .before .before .before .range-end .ensures .minus (c .before .before .before .before .before .before .before .before .before .if2 .taken) in let j = inside (c .before .before .before .before .before .before .before .before .before .before .before .before .before .before .before .before .before .before .before .args .s .now) ((c .before .before .before .before .before .before .before .before .before .before .before .before .before .before .before .before .before .before .before .args .at) + 1) (omega (arith, i .1)) in taken {μ = anOperand (suc (c .before .before .before .before .before .before .before .before .before .before .before .before .before .before .before .before .before .before .before .args .d)) (c .before .before .before .before .before .before .before .before .before .before .before .before .before .before .before .before .before .before .before .args .b) ∷ []} {m = (c .before .before .before .before .before .before .before .before .before .before .before .before .before .before .before .before .before .before .before .args .n) + 4} (opens (suc (c .before .before .before .before .before .before .before .before .before .before .before .before .before .before .before .before .before .before .before .args .d))) (omega arith) (range-well (c .before .before .before .before .before .before .before .before .before .before .before .before .before .before .before .before .before .before .before .args .s .now) (c .before .before .before .before .before .before .before .before .before .before .before .before .before .before .before .before .before .before .before .args .at) (suc (c .before .before .before .before .before .before .before .before .before .before .before .before .before .before .before .before .before .before .before .args .d)) (c .before .before .before .before .before .before .before .before .before .before .range-end .ensures .test ∙ c .before .before .before .before .before .before .before .before .before .if2 .taken)) (λ κ e γ. operand-step (c .before .before .before .before .before .before .before .before .before .before .before .before .before .before .before .before .before .before .before .args .d) (c .before .before .before .before .before .before .before .before .before .before .before .before .before .before .before .before .before .before .before .args .b) κ γ _ (c .before .before .before .before .before .before .before .before .before .before .before .before .before .before .start-of .ensures .start κ (e ∙ sym (c .before .before .before .before .before .before .before .before .before .before .before .before .before .before .before .kind-at .ensures .is)) ∙ ap startAs (c .before .before .before .before .before .before .before .before .before .before .before .before .enum-told2 .given .1))) (takes {μ = []} (omega arith) (only _ kind.number (i .1) (λ γ. refl)) (here (omega arith)) (omega arith)) (omega arith), makes (both (wrote (c .before .before .before .before .before .before .before .leaf2 .ensures)) (node-of (c .before .before .before .wide .ensures ∙ (c .before .before .before .before .before .before .before .before .before .before .before .before .before .before .before .kind-at .ensures .is)) refl (c .before .before .put .ensures))) (derived.prefixed (start-at (c .before .before .before .before .before .before .before .before .before .before .before .before .before .before .before .kind-at .ensures .is) (c .before .before .before .before .before .before .before .before .before .before .before .before .enum-told2 .given .1) (c .before .before .before .before .before .before .before .before .before .before .before .before .before .before .start-of .ensures)) (derived.leaf (number-start (c .before .before .before .before .before .before .before .before .before .before .range-end .ensures .minus (c .before .before .before .before .before .before .before .before .before .if2 .taken) .1)))))
 
 operand-returns-2 : (t : ℕ) → operand-lts.Need-returns-2 (operand-claims t) (operand-at t) operand.Post
 unfolding computeForm
@@ -862,7 +862,7 @@ pairs-same-length t c = let k = c .before .before .before .before .before .befor
 
 pairs-returns : (t : ℕ) → pairs-lts.Need-returns (pairs-claims t) (pairs-at t) pairs.Post
 unfolding computeForm
-pairs-returns t c = (let room = c .before .before .before .before .before .before .before .before .before .before .before .before .before .before .before .before .before .before .before .before .pre .1 .0 in let h = (known (c .before .before .before .before .before .before .before .before .before .before .before .before .before .before .a .given .1) (c .before .before .before .before .before .before .before .before .before .before .before .before .before .before .before .before .close .ensures .reads kind.maplet refl)) in let i = (known (c .before .before .before .before .before .before .before .e .given .1) (c .before .before .before .before .before .before .before .before .before .before .before .term .ensures .0)) in next (counted {c = (c .before .before .before .before .before .before .before .before .before .before .before .before .before .before .before .before .before .before .before .before .args .n)} {d = (c .before .before .before .before .before .before .before .before .before .before .before .before .before .before .before .before .before .before .before .before .args .n)} (omega arith) (framed (aTerm (c .before .before .before .before .before .before .before .before .before .before .before .before .before .before .before .before .before .before .before .before .args .d) (c .before .before .before .before .before .before .before .before .before .before .before .before .before .before .before .before .before .before .before .before .args .b) ∷ aPairs (c .before .before .before .before .before .before .before .before .before .before .before .before .before .before .before .before .before .before .before .before .args .d) (c .before .before .before .before .before .before .before .before .before .before .before .before .before .before .before .before .before .before .before .before .args .b) ∷ []) h)) (next (framed (aPairs (c .before .before .before .before .before .before .before .before .before .before .before .before .before .before .before .before .before .before .before .before .args .d) (c .before .before .before .before .before .before .before .before .before .before .before .before .before .before .before .before .before .before .before .before .args .b) ∷ []) i) (takes-kind {μ = []} kind.closeBrace (sym (c .before .before .before .before .before .kind-at .ensures .is) ∙ c .before .before .before .before .if1 .taken) (omega arith) (λ γ. refl) (here (omega arith)) (omega arith))), let t₁ = closed (c .before .before .before .before .before .before .before .before .before .before .before .before .before .before .a .given .1) (c .before .before .before .before .before .before .before .before .before .before .before .before .before .before .before .before .close .ensures) in let w₁ = (made (c .before .before .before .before .before .before .before .e .given .1) (c .before .before .before .before .before .before .before .before .before .before .before .term .ensures .1)) in makes (both (built w₁) (wrote (c .before .before .put .ensures))) (derived.pairsEnd (t₁ .1) (from (t₁ .0) (w₁ .derives)) (sym (c .before .before .before .before .before .kind-at .ensures .is) ∙ c .before .before .before .before .if1 .taken)))
+pairs-returns t c = (let room = c .before .before .before .before .before .before .before .before .before .before .before .before .before .before .before .before .before .before .before .before .pre .1 .0 in let h = (known (c .before .before .before .before .before .before .before .before .before .before .before .before .before .before .a .given .1) (c .before .before .before .before .before .before .before .before .before .before .before .before .before .before .before .before .close .ensures .reads kind.maplet refl)) in let i = (known (c .before .before .before .before .before .before .before .e .given .1) (c .before .before .before .before .before .before .before .before .before .before .before .term .ensures .0)) in next (counted {c = (c .before .before .before .before .before .before .before .before .before .before .before .before .before .before .before .before .before .before .before .before .args .n)} {d = (c .before .before .before .before .before .before .before .before .before .before .before .before .before .before .before .before .before .before .before .before .args .n)} (omega arith) (framed (aTerm (c .before .before .before .before .before .before .before .before .before .before .before .before .before .before .before .before .before .before .before .before .args .d) (c .before .before .before .before .before .before .before .before .before .before .before .before .before .before .before .before .before .before .before .before .args .b) ∷ aPairs (c .before .before .before .before .before .before .before .before .before .before .before .before .before .before .before .before .before .before .before .before .args .d) (c .before .before .before .before .before .before .before .before .before .before .before .before .before .before .before .before .before .before .before .before .args .b) ∷ []) h)) (next (framed (aPairs (c .before .before .before .before .before .before .before .before .before .before .before .before .before .before .before .before .before .before .before .before .args .d) (c .before .before .before .before .before .before .before .before .before .before .before .before .before .before .before .before .before .before .before .before .args .b) ∷ []) i) (takes {μ = []} (omega arith) (only _ kind.closeBrace (sym (c .before .before .before .before .before .kind-at .ensures .is) ∙ c .before .before .before .before .if1 .taken) (λ γ. refl)) (here (omega arith)) (omega arith))), let t₁ = closed (c .before .before .before .before .before .before .before .before .before .before .before .before .before .before .a .given .1) (c .before .before .before .before .before .before .before .before .before .before .before .before .before .before .before .before .close .ensures) in let w₁ = (made (c .before .before .before .before .before .before .before .e .given .1) (c .before .before .before .before .before .before .before .before .before .before .before .term .ensures .1)) in makes (both (built w₁) (wrote (c .before .before .put .ensures))) (derived.pairsEnd (t₁ .1) (from (t₁ .0) (w₁ .derives)) (sym (c .before .before .before .before .before .kind-at .ensures .is) ∙ c .before .before .before .before .if1 .taken)))
 
 pairs-add-term : (t : ℕ) → pairs-lts.Need-add-term (pairs-claims t) (pairs-at t) pairs.Post
 pairs-add-term t c = search needs
@@ -896,21 +896,21 @@ pairs-same-length-2 t c = let k = c .before .before .before .before .before .bef
 
 pairs-returns-2 : (t : ℕ) → pairs-lts.Need-returns-2 (pairs-claims t) (pairs-at t) pairs.Post
 unfolding computeForm
-pairs-returns-2 t c = (let room = c .before .before .before .before .before .before .before .before .before .before .before .before .before .before .before .before .before .before .before .before .before .before .before .before .before .before .before .before .before .before .before .before .before .before .before .pre .1 .0 in let h = (known (c .before .before .before .before .before .before .before .before .before .before .before .before .before .before .before .before .before .before .before .before .before .before .before .before .before .before .before .before .before .a .given .1) (c .before .before .before .before .before .before .before .before .before .before .before .before .before .before .before .before .before .before .before .before .before .before .before .before .before .before .before .before .before .before .before .close .ensures .reads kind.maplet refl)) in let i = (known (c .before .before .before .before .before .before .before .before .before .before .before .before .before .before .before .before .before .before .before .before .before .before .e .given .1) (c .before .before .before .before .before .before .before .before .before .before .before .before .before .before .before .before .before .before .before .before .before .before .before .before .before .before .term .ensures .0)) in let j = (known (c .before .before .before .before .before .before .before .before .before .before .before .before .f .given .1) (c .before .before .before .before .before .before .before .before .before .before .before .before .before .before .before .before .term2 .ensures .0)) in let l = (known (c .before .before .before .before .before .g .given .1) (c .before .before .before .before .before .before .before .before .before .pairs .ensures .0)) in next (counted {c = (c .before .before .before .before .before .before .before .before .before .before .before .before .before .before .before .before .before .before .before .before .before .before .before .before .before .before .before .before .before .before .before .before .before .before .before .args .n)} {d = (c .before .before .before .before .before .before .before .before .before .before .before .before .before .before .before .before .before .before .before .before .before .before .before .before .before .before .before .before .before .before .before .before .before .before .before .args .n)} (omega arith) (framed (aTerm (c .before .before .before .before .before .before .before .before .before .before .before .before .before .before .before .before .before .before .before .before .before .before .before .before .before .before .before .before .before .before .before .before .before .before .before .args .d) (c .before .before .before .before .before .before .before .before .before .before .before .before .before .before .before .before .before .before .before .before .before .before .before .before .before .before .before .before .before .before .before .before .before .before .before .args .b) ∷ aPairs (c .before .before .before .before .before .before .before .before .before .before .before .before .before .before .before .before .before .before .before .before .before .before .before .before .before .before .before .before .before .before .before .before .before .before .before .args .d) (c .before .before .before .before .before .before .before .before .before .before .before .before .before .before .before .before .before .before .before .before .before .before .before .before .before .before .before .before .before .before .before .before .before .before .before .args .b) ∷ []) h)) (next (framed (aPairs (c .before .before .before .before .before .before .before .before .before .before .before .before .before .before .before .before .before .before .before .before .before .before .before .before .before .before .before .before .before .before .before .before .before .before .before .args .d) (c .before .before .before .before .before .before .before .before .before .before .before .before .before .before .before .before .before .before .before .before .before .before .before .before .before .before .before .before .before .before .before .before .before .before .before .args .b) ∷ []) i) (takes-kind {μ = aTerm (c .before .before .before .before .before .before .before .before .before .before .before .before .before .before .before .before .before .before .before .before .before .before .before .before .before .before .before .before .before .before .before .before .before .before .before .args .d) (c .before .before .before .before .before .before .before .before .before .before .before .before .before .before .before .before .before .before .before .before .before .before .before .before .before .before .before .before .before .before .before .before .before .before .before .args .b) ∷ exact kind.maplet ∷ aTerm (c .before .before .before .before .before .before .before .before .before .before .before .before .before .before .before .before .before .before .before .before .before .before .before .before .before .before .before .before .before .before .before .before .before .before .before .args .d) (c .before .before .before .before .before .before .before .before .before .before .before .before .before .before .before .before .before .before .before .before .before .before .before .before .before .before .before .before .before .before .before .before .before .before .before .args .b) ∷ aPairs (c .before .before .before .before .before .before .before .before .before .before .before .before .before .before .before .before .before .before .before .before .before .before .before .before .before .before .before .before .before .before .before .before .before .before .before .args .d) (c .before .before .before .before .before .before .before .before .before .before .before .before .before .before .before .before .before .before .before .before .before .before .before .before .before .before .before .before .before .before .before .before .before .before .before .args .b) ∷ []} {m = c .before .before .before .before .before .before .before .before .before .before .before .before .before .before .before .before .before .before .before .before .before .before .e .given .0 .1 .0 + 4} kind.comma (sym (c .before .before .before .before .before .before .before .before .before .before .before .before .before .before .before .before .before .before .before .before .kind-at .ensures .is) ∙ c .before .before .before .before .before .before .before .before .before .before .before .before .before .before .before .before .before .before .if2 .taken) (omega arith) (λ γ. refl) (counted (omega arith) (next (framed (exact kind.maplet ∷ aTerm (c .before .before .before .before .before .before .before .before .before .before .before .before .before .before .before .before .before .before .before .before .before .before .before .before .before .before .before .before .before .before .before .before .before .before .before .args .d) (c .before .before .before .before .before .before .before .before .before .before .before .before .before .before .before .before .before .before .before .before .before .before .before .before .before .before .before .before .before .before .before .before .before .before .before .args .b) ∷ aPairs (c .before .before .before .before .before .before .before .before .before .before .before .before .before .before .before .before .before .before .before .before .before .before .before .before .before .before .before .before .before .before .before .before .before .before .before .args .d) (c .before .before .before .before .before .before .before .before .before .before .before .before .before .before .before .before .before .before .before .before .before .before .before .before .before .before .before .before .before .before .before .before .before .before .before .args .b) ∷ []) j) l)) (omega arith))), let t₁ = closed (c .before .before .before .before .before .before .before .before .before .before .before .before .before .before .before .before .before .before .before .before .before .before .before .before .before .before .before .before .before .a .given .1) (c .before .before .before .before .before .before .before .before .before .before .before .before .before .before .before .before .before .before .before .before .before .before .before .before .before .before .before .before .before .before .before .close .ensures) in let w₁ = (made (c .before .before .before .before .before .before .before .before .before .before .before .before .before .before .before .before .before .before .before .before .before .before .e .given .1) (c .before .before .before .before .before .before .before .before .before .before .before .before .before .before .before .before .before .before .before .before .before .before .before .before .before .before .term .ensures .1)) in let w₂ = (made (c .before .before .before .before .before .before .before .before .before .before .before .before .f .given .1) (c .before .before .before .before .before .before .before .before .before .before .before .before .before .before .before .before .term2 .ensures .1)) in let w₃ = (made (c .before .before .before .before .before .g .given .1) (c .before .before .before .before .before .before .before .before .before .pairs .ensures .1)) in makes (both (both (both (built w₁) (built w₂)) (built w₃)) (wrote (c .before .before .put2 .ensures))) (derived.pairsMore (t₁ .1) (from (t₁ .0) (w₁ .derives)) (sym (c .before .before .before .before .before .before .before .before .before .before .before .before .before .before .before .before .before .before .before .before .kind-at .ensures .is) ∙ c .before .before .before .before .before .before .before .before .before .before .before .before .before .before .before .before .before .before .if2 .taken) (w₂ .derives) (w₃ .derives)))
+pairs-returns-2 t c = (let room = c .before .before .before .before .before .before .before .before .before .before .before .before .before .before .before .before .before .before .before .before .before .before .before .before .before .before .before .before .before .before .before .before .before .before .before .pre .1 .0 in let h = (known (c .before .before .before .before .before .before .before .before .before .before .before .before .before .before .before .before .before .before .before .before .before .before .before .before .before .before .before .before .before .a .given .1) (c .before .before .before .before .before .before .before .before .before .before .before .before .before .before .before .before .before .before .before .before .before .before .before .before .before .before .before .before .before .before .before .close .ensures .reads kind.maplet refl)) in let i = (known (c .before .before .before .before .before .before .before .before .before .before .before .before .before .before .before .before .before .before .before .before .before .before .e .given .1) (c .before .before .before .before .before .before .before .before .before .before .before .before .before .before .before .before .before .before .before .before .before .before .before .before .before .before .term .ensures .0)) in let j = (known (c .before .before .before .before .before .before .before .before .before .before .before .before .f .given .1) (c .before .before .before .before .before .before .before .before .before .before .before .before .before .before .before .before .term2 .ensures .0)) in let l = (known (c .before .before .before .before .before .g .given .1) (c .before .before .before .before .before .before .before .before .before .pairs .ensures .0)) in next (counted {c = (c .before .before .before .before .before .before .before .before .before .before .before .before .before .before .before .before .before .before .before .before .before .before .before .before .before .before .before .before .before .before .before .before .before .before .before .args .n)} {d = (c .before .before .before .before .before .before .before .before .before .before .before .before .before .before .before .before .before .before .before .before .before .before .before .before .before .before .before .before .before .before .before .before .before .before .before .args .n)} (omega arith) (framed (aTerm (c .before .before .before .before .before .before .before .before .before .before .before .before .before .before .before .before .before .before .before .before .before .before .before .before .before .before .before .before .before .before .before .before .before .before .before .args .d) (c .before .before .before .before .before .before .before .before .before .before .before .before .before .before .before .before .before .before .before .before .before .before .before .before .before .before .before .before .before .before .before .before .before .before .before .args .b) ∷ aPairs (c .before .before .before .before .before .before .before .before .before .before .before .before .before .before .before .before .before .before .before .before .before .before .before .before .before .before .before .before .before .before .before .before .before .before .before .args .d) (c .before .before .before .before .before .before .before .before .before .before .before .before .before .before .before .before .before .before .before .before .before .before .before .before .before .before .before .before .before .before .before .before .before .before .before .args .b) ∷ []) h)) (next (framed (aPairs (c .before .before .before .before .before .before .before .before .before .before .before .before .before .before .before .before .before .before .before .before .before .before .before .before .before .before .before .before .before .before .before .before .before .before .before .args .d) (c .before .before .before .before .before .before .before .before .before .before .before .before .before .before .before .before .before .before .before .before .before .before .before .before .before .before .before .before .before .before .before .before .before .before .before .args .b) ∷ []) i) (takes {μ = aTerm (c .before .before .before .before .before .before .before .before .before .before .before .before .before .before .before .before .before .before .before .before .before .before .before .before .before .before .before .before .before .before .before .before .before .before .before .args .d) (c .before .before .before .before .before .before .before .before .before .before .before .before .before .before .before .before .before .before .before .before .before .before .before .before .before .before .before .before .before .before .before .before .before .before .before .args .b) ∷ exact kind.maplet ∷ aTerm (c .before .before .before .before .before .before .before .before .before .before .before .before .before .before .before .before .before .before .before .before .before .before .before .before .before .before .before .before .before .before .before .before .before .before .before .args .d) (c .before .before .before .before .before .before .before .before .before .before .before .before .before .before .before .before .before .before .before .before .before .before .before .before .before .before .before .before .before .before .before .before .before .before .before .args .b) ∷ aPairs (c .before .before .before .before .before .before .before .before .before .before .before .before .before .before .before .before .before .before .before .before .before .before .before .before .before .before .before .before .before .before .before .before .before .before .before .args .d) (c .before .before .before .before .before .before .before .before .before .before .before .before .before .before .before .before .before .before .before .before .before .before .before .before .before .before .before .before .before .before .before .before .before .before .before .args .b) ∷ []} {m = c .before .before .before .before .before .before .before .before .before .before .before .before .before .before .before .before .before .before .before .before .before .before .e .given .0 .1 .0 + 4} (omega arith) (only _ kind.comma (sym (c .before .before .before .before .before .before .before .before .before .before .before .before .before .before .before .before .before .before .before .before .kind-at .ensures .is) ∙ c .before .before .before .before .before .before .before .before .before .before .before .before .before .before .before .before .before .before .if2 .taken) (λ γ. refl)) (counted (omega arith) (next (framed (exact kind.maplet ∷ aTerm (c .before .before .before .before .before .before .before .before .before .before .before .before .before .before .before .before .before .before .before .before .before .before .before .before .before .before .before .before .before .before .before .before .before .before .before .args .d) (c .before .before .before .before .before .before .before .before .before .before .before .before .before .before .before .before .before .before .before .before .before .before .before .before .before .before .before .before .before .before .before .before .before .before .before .args .b) ∷ aPairs (c .before .before .before .before .before .before .before .before .before .before .before .before .before .before .before .before .before .before .before .before .before .before .before .before .before .before .before .before .before .before .before .before .before .before .before .args .d) (c .before .before .before .before .before .before .before .before .before .before .before .before .before .before .before .before .before .before .before .before .before .before .before .before .before .before .before .before .before .before .before .before .before .before .before .args .b) ∷ []) j) l)) (omega arith))), let t₁ = closed (c .before .before .before .before .before .before .before .before .before .before .before .before .before .before .before .before .before .before .before .before .before .before .before .before .before .before .before .before .before .a .given .1) (c .before .before .before .before .before .before .before .before .before .before .before .before .before .before .before .before .before .before .before .before .before .before .before .before .before .before .before .before .before .before .before .close .ensures) in let w₁ = (made (c .before .before .before .before .before .before .before .before .before .before .before .before .before .before .before .before .before .before .before .before .before .before .e .given .1) (c .before .before .before .before .before .before .before .before .before .before .before .before .before .before .before .before .before .before .before .before .before .before .before .before .before .before .term .ensures .1)) in let w₂ = (made (c .before .before .before .before .before .before .before .before .before .before .before .before .f .given .1) (c .before .before .before .before .before .before .before .before .before .before .before .before .before .before .before .before .term2 .ensures .1)) in let w₃ = (made (c .before .before .before .before .before .g .given .1) (c .before .before .before .before .before .before .before .before .before .pairs .ensures .1)) in makes (both (both (both (built w₁) (built w₂)) (built w₃)) (wrote (c .before .before .put2 .ensures))) (derived.pairsMore (t₁ .1) (from (t₁ .0) (w₁ .derives)) (sym (c .before .before .before .before .before .before .before .before .before .before .before .before .before .before .before .before .before .before .before .before .kind-at .ensures .is) ∙ c .before .before .before .before .before .before .before .before .before .before .before .before .before .before .before .before .before .before .if2 .taken) (w₂ .derives) (w₃ .derives)))
 
 pairs-same-length-3 : (t : ℕ) → pairs-lts.Need-same-length-3 (pairs-claims t) (pairs-at t) pairs.Post
 pairs-same-length-3 t c = let k = c .before .before .before .before .before .before .before .before .before .before .before .before .before .before .before .before .before .before .before .before .before .before .term .kept .1 .1 .1 .1 .1 .0 in search needs
 
 pairs-returns-3 : (t : ℕ) → pairs-lts.Need-returns-3 (pairs-claims t) (pairs-at t) pairs.Post
 unfolding computeForm
-pairs-returns-3 t c = (let room = c .before .before .before .before .before .before .before .before .before .before .before .before .before .before .before .before .before .before .before .before .before .before .before .before .before .before .before .before .before .before .before .pre .1 .0 in let h = (known (c .before .before .before .before .before .before .before .before .before .before .before .before .before .before .before .before .before .before .before .before .before .before .before .before .before .a .given .1) (c .before .before .before .before .before .before .before .before .before .before .before .before .before .before .before .before .before .before .before .before .before .before .before .before .before .before .before .close .ensures .reads kind.maplet refl)) in let i = (known (c .before .before .before .before .before .before .before .before .before .before .before .before .before .before .before .before .before .before .e .given .1) (c .before .before .before .before .before .before .before .before .before .before .before .before .before .before .before .before .before .before .before .before .before .before .term .ensures .0)) in let j = (known (c .before .before .before .before .before .before .before .before .f .given .1) (c .before .before .before .before .before .before .before .before .before .before .before .before .term2 .ensures .0)) in next (counted {c = (c .before .before .before .before .before .before .before .before .before .before .before .before .before .before .before .before .before .before .before .before .before .before .before .before .before .before .before .before .before .before .before .args .n)} {d = (c .before .before .before .before .before .before .before .before .before .before .before .before .before .before .before .before .before .before .before .before .before .before .before .before .before .before .before .before .before .before .before .args .n)} (omega arith) (framed (aTerm (c .before .before .before .before .before .before .before .before .before .before .before .before .before .before .before .before .before .before .before .before .before .before .before .before .before .before .before .before .before .before .before .args .d) (c .before .before .before .before .before .before .before .before .before .before .before .before .before .before .before .before .before .before .before .before .before .before .before .before .before .before .before .before .before .before .before .args .b) ∷ aPairs (c .before .before .before .before .before .before .before .before .before .before .before .before .before .before .before .before .before .before .before .before .before .before .before .before .before .before .before .before .before .before .before .args .d) (c .before .before .before .before .before .before .before .before .before .before .before .before .before .before .before .before .before .before .before .before .before .before .before .before .before .before .before .before .before .before .before .args .b) ∷ []) h)) (next (framed (aPairs (c .before .before .before .before .before .before .before .before .before .before .before .before .before .before .before .before .before .before .before .before .before .before .before .before .before .before .before .before .before .before .before .args .d) (c .before .before .before .before .before .before .before .before .before .before .before .before .before .before .before .before .before .before .before .before .before .before .before .before .before .before .before .before .before .before .before .args .b) ∷ []) i) (takes-kind {μ = aTerm (c .before .before .before .before .before .before .before .before .before .before .before .before .before .before .before .before .before .before .before .before .before .before .before .before .before .before .before .before .before .before .before .args .d) (c .before .before .before .before .before .before .before .before .before .before .before .before .before .before .before .before .before .before .before .before .before .before .before .before .before .before .before .before .before .before .before .args .b) ∷ exact kind.maplet ∷ aTerm (c .before .before .before .before .before .before .before .before .before .before .before .before .before .before .before .before .before .before .before .before .before .before .before .before .before .before .before .before .before .before .before .args .d) (c .before .before .before .before .before .before .before .before .before .before .before .before .before .before .before .before .before .before .before .before .before .before .before .before .before .before .before .before .before .before .before .args .b) ∷ aPairs (c .before .before .before .before .before .before .before .before .before .before .before .before .before .before .before .before .before .before .before .before .before .before .before .before .before .before .before .before .before .before .before .args .d) (c .before .before .before .before .before .before .before .before .before .before .before .before .before .before .before .before .before .before .before .before .before .before .before .before .before .before .before .before .before .before .before .args .b) ∷ []} {m = c .before .before .before .before .before .before .before .before .before .before .before .before .before .before .before .before .before .before .e .given .0 .1 .0 + 4} kind.comma (sym (c .before .before .before .before .before .before .before .before .before .before .before .before .before .before .before .before .kind-at .ensures .is) ∙ c .before .before .before .before .before .before .before .before .before .before .before .before .before .before .if2 .taken) (omega arith) (λ γ. refl) (fails (next (framed (exact kind.maplet ∷ aTerm (c .before .before .before .before .before .before .before .before .before .before .before .before .before .before .before .before .before .before .before .before .before .before .before .before .before .before .before .before .before .before .before .args .d) (c .before .before .before .before .before .before .before .before .before .before .before .before .before .before .before .before .before .before .before .before .before .before .before .before .before .before .before .before .before .before .before .args .b) ∷ aPairs (c .before .before .before .before .before .before .before .before .before .before .before .before .before .before .before .before .before .before .before .before .before .before .before .before .before .before .before .before .before .before .before .args .d) (c .before .before .before .before .before .before .before .before .before .before .before .before .before .before .before .before .before .before .before .before .before .before .before .before .before .before .before .before .before .before .before .args .b) ∷ []) j) (known (c .before .p .given .1) (c .before .before .before .before .before .pairs .ensures .0)))) (omega arith))), tt)
+pairs-returns-3 t c = (let room = c .before .before .before .before .before .before .before .before .before .before .before .before .before .before .before .before .before .before .before .before .before .before .before .before .before .before .before .before .before .before .before .pre .1 .0 in let h = (known (c .before .before .before .before .before .before .before .before .before .before .before .before .before .before .before .before .before .before .before .before .before .before .before .before .before .a .given .1) (c .before .before .before .before .before .before .before .before .before .before .before .before .before .before .before .before .before .before .before .before .before .before .before .before .before .before .before .close .ensures .reads kind.maplet refl)) in let i = (known (c .before .before .before .before .before .before .before .before .before .before .before .before .before .before .before .before .before .before .e .given .1) (c .before .before .before .before .before .before .before .before .before .before .before .before .before .before .before .before .before .before .before .before .before .before .term .ensures .0)) in let j = (known (c .before .before .before .before .before .before .before .before .f .given .1) (c .before .before .before .before .before .before .before .before .before .before .before .before .term2 .ensures .0)) in next (counted {c = (c .before .before .before .before .before .before .before .before .before .before .before .before .before .before .before .before .before .before .before .before .before .before .before .before .before .before .before .before .before .before .before .args .n)} {d = (c .before .before .before .before .before .before .before .before .before .before .before .before .before .before .before .before .before .before .before .before .before .before .before .before .before .before .before .before .before .before .before .args .n)} (omega arith) (framed (aTerm (c .before .before .before .before .before .before .before .before .before .before .before .before .before .before .before .before .before .before .before .before .before .before .before .before .before .before .before .before .before .before .before .args .d) (c .before .before .before .before .before .before .before .before .before .before .before .before .before .before .before .before .before .before .before .before .before .before .before .before .before .before .before .before .before .before .before .args .b) ∷ aPairs (c .before .before .before .before .before .before .before .before .before .before .before .before .before .before .before .before .before .before .before .before .before .before .before .before .before .before .before .before .before .before .before .args .d) (c .before .before .before .before .before .before .before .before .before .before .before .before .before .before .before .before .before .before .before .before .before .before .before .before .before .before .before .before .before .before .before .args .b) ∷ []) h)) (next (framed (aPairs (c .before .before .before .before .before .before .before .before .before .before .before .before .before .before .before .before .before .before .before .before .before .before .before .before .before .before .before .before .before .before .before .args .d) (c .before .before .before .before .before .before .before .before .before .before .before .before .before .before .before .before .before .before .before .before .before .before .before .before .before .before .before .before .before .before .before .args .b) ∷ []) i) (takes {μ = aTerm (c .before .before .before .before .before .before .before .before .before .before .before .before .before .before .before .before .before .before .before .before .before .before .before .before .before .before .before .before .before .before .before .args .d) (c .before .before .before .before .before .before .before .before .before .before .before .before .before .before .before .before .before .before .before .before .before .before .before .before .before .before .before .before .before .before .before .args .b) ∷ exact kind.maplet ∷ aTerm (c .before .before .before .before .before .before .before .before .before .before .before .before .before .before .before .before .before .before .before .before .before .before .before .before .before .before .before .before .before .before .before .args .d) (c .before .before .before .before .before .before .before .before .before .before .before .before .before .before .before .before .before .before .before .before .before .before .before .before .before .before .before .before .before .before .before .args .b) ∷ aPairs (c .before .before .before .before .before .before .before .before .before .before .before .before .before .before .before .before .before .before .before .before .before .before .before .before .before .before .before .before .before .before .before .args .d) (c .before .before .before .before .before .before .before .before .before .before .before .before .before .before .before .before .before .before .before .before .before .before .before .before .before .before .before .before .before .before .before .args .b) ∷ []} {m = c .before .before .before .before .before .before .before .before .before .before .before .before .before .before .before .before .before .before .e .given .0 .1 .0 + 4} (omega arith) (only _ kind.comma (sym (c .before .before .before .before .before .before .before .before .before .before .before .before .before .before .before .before .kind-at .ensures .is) ∙ c .before .before .before .before .before .before .before .before .before .before .before .before .before .before .if2 .taken) (λ γ. refl)) (fails (next (framed (exact kind.maplet ∷ aTerm (c .before .before .before .before .before .before .before .before .before .before .before .before .before .before .before .before .before .before .before .before .before .before .before .before .before .before .before .before .before .before .before .args .d) (c .before .before .before .before .before .before .before .before .before .before .before .before .before .before .before .before .before .before .before .before .before .before .before .before .before .before .before .before .before .before .before .args .b) ∷ aPairs (c .before .before .before .before .before .before .before .before .before .before .before .before .before .before .before .before .before .before .before .before .before .before .before .before .before .before .before .before .before .before .before .args .d) (c .before .before .before .before .before .before .before .before .before .before .before .before .before .before .before .before .before .before .before .before .before .before .before .before .before .before .before .before .before .before .before .args .b) ∷ []) j) (known (c .before .p .given .1) (c .before .before .before .before .before .pairs .ensures .0)))) (omega arith))), tt)
 
 pairs-same-length-4 : (t : ℕ) → pairs-lts.Need-same-length-4 (pairs-claims t) (pairs-at t) pairs.Post
 pairs-same-length-4 t c = let k = c .before .before .before .before .before .before .before .before .before .before .before .before .before .before .before .term .kept .1 .1 .1 .1 .1 .0 in search needs
 
 pairs-returns-4 : (t : ℕ) → pairs-lts.Need-returns-4 (pairs-claims t) (pairs-at t) pairs.Post
 unfolding computeForm
-pairs-returns-4 t c = (let room = c .before .before .before .before .before .before .before .before .before .before .before .before .before .before .before .before .before .before .before .before .before .before .before .before .pre .1 .0 in let h = (known (c .before .before .before .before .before .before .before .before .before .before .before .before .before .before .before .before .before .before .a .given .1) (c .before .before .before .before .before .before .before .before .before .before .before .before .before .before .before .before .before .before .before .before .close .ensures .reads kind.maplet refl)) in let i = (known (c .before .before .before .before .before .before .before .before .before .before .before .e .given .1) (c .before .before .before .before .before .before .before .before .before .before .before .before .before .before .before .term .ensures .0)) in next (counted {c = (c .before .before .before .before .before .before .before .before .before .before .before .before .before .before .before .before .before .before .before .before .before .before .before .before .args .n)} {d = (c .before .before .before .before .before .before .before .before .before .before .before .before .before .before .before .before .before .before .before .before .before .before .before .before .args .n)} (omega arith) (framed (aTerm (c .before .before .before .before .before .before .before .before .before .before .before .before .before .before .before .before .before .before .before .before .before .before .before .before .args .d) (c .before .before .before .before .before .before .before .before .before .before .before .before .before .before .before .before .before .before .before .before .before .before .before .before .args .b) ∷ aPairs (c .before .before .before .before .before .before .before .before .before .before .before .before .before .before .before .before .before .before .before .before .before .before .before .before .args .d) (c .before .before .before .before .before .before .before .before .before .before .before .before .before .before .before .before .before .before .before .before .before .before .before .before .args .b) ∷ []) h)) (next (framed (aPairs (c .before .before .before .before .before .before .before .before .before .before .before .before .before .before .before .before .before .before .before .before .before .before .before .before .args .d) (c .before .before .before .before .before .before .before .before .before .before .before .before .before .before .before .before .before .before .before .before .before .before .before .before .args .b) ∷ []) i) (takes-kind {μ = aTerm (c .before .before .before .before .before .before .before .before .before .before .before .before .before .before .before .before .before .before .before .before .before .before .before .before .args .d) (c .before .before .before .before .before .before .before .before .before .before .before .before .before .before .before .before .before .before .before .before .before .before .before .before .args .b) ∷ exact kind.maplet ∷ aTerm (c .before .before .before .before .before .before .before .before .before .before .before .before .before .before .before .before .before .before .before .before .before .before .before .before .args .d) (c .before .before .before .before .before .before .before .before .before .before .before .before .before .before .before .before .before .before .before .before .before .before .before .before .args .b) ∷ aPairs (c .before .before .before .before .before .before .before .before .before .before .before .before .before .before .before .before .before .before .before .before .before .before .before .before .args .d) (c .before .before .before .before .before .before .before .before .before .before .before .before .before .before .before .before .before .before .before .before .before .before .before .before .args .b) ∷ []} {m = c .before .before .before .before .before .before .before .before .before .before .before .e .given .0 .1 .0 + 4} kind.comma (sym (c .before .before .before .before .before .before .before .before .before .kind-at .ensures .is) ∙ c .before .before .before .before .before .before .before .if2 .taken) (omega arith) (λ γ. refl) (fails (framed (exact kind.maplet ∷ aTerm (c .before .before .before .before .before .before .before .before .before .before .before .before .before .before .before .before .before .before .before .before .before .before .before .before .args .d) (c .before .before .before .before .before .before .before .before .before .before .before .before .before .before .before .before .before .before .before .before .before .before .before .before .args .b) ∷ aPairs (c .before .before .before .before .before .before .before .before .before .before .before .before .before .before .before .before .before .before .before .before .before .before .before .before .args .d) (c .before .before .before .before .before .before .before .before .before .before .before .before .before .before .before .before .before .before .before .before .before .before .before .before .args .b) ∷ []) (known (c .before .p2 .given .1) (c .before .before .before .before .before .term2 .ensures .0)))) (omega arith))), tt)
+pairs-returns-4 t c = (let room = c .before .before .before .before .before .before .before .before .before .before .before .before .before .before .before .before .before .before .before .before .before .before .before .before .pre .1 .0 in let h = (known (c .before .before .before .before .before .before .before .before .before .before .before .before .before .before .before .before .before .before .a .given .1) (c .before .before .before .before .before .before .before .before .before .before .before .before .before .before .before .before .before .before .before .before .close .ensures .reads kind.maplet refl)) in let i = (known (c .before .before .before .before .before .before .before .before .before .before .before .e .given .1) (c .before .before .before .before .before .before .before .before .before .before .before .before .before .before .before .term .ensures .0)) in next (counted {c = (c .before .before .before .before .before .before .before .before .before .before .before .before .before .before .before .before .before .before .before .before .before .before .before .before .args .n)} {d = (c .before .before .before .before .before .before .before .before .before .before .before .before .before .before .before .before .before .before .before .before .before .before .before .before .args .n)} (omega arith) (framed (aTerm (c .before .before .before .before .before .before .before .before .before .before .before .before .before .before .before .before .before .before .before .before .before .before .before .before .args .d) (c .before .before .before .before .before .before .before .before .before .before .before .before .before .before .before .before .before .before .before .before .before .before .before .before .args .b) ∷ aPairs (c .before .before .before .before .before .before .before .before .before .before .before .before .before .before .before .before .before .before .before .before .before .before .before .before .args .d) (c .before .before .before .before .before .before .before .before .before .before .before .before .before .before .before .before .before .before .before .before .before .before .before .before .args .b) ∷ []) h)) (next (framed (aPairs (c .before .before .before .before .before .before .before .before .before .before .before .before .before .before .before .before .before .before .before .before .before .before .before .before .args .d) (c .before .before .before .before .before .before .before .before .before .before .before .before .before .before .before .before .before .before .before .before .before .before .before .before .args .b) ∷ []) i) (takes {μ = aTerm (c .before .before .before .before .before .before .before .before .before .before .before .before .before .before .before .before .before .before .before .before .before .before .before .before .args .d) (c .before .before .before .before .before .before .before .before .before .before .before .before .before .before .before .before .before .before .before .before .before .before .before .before .args .b) ∷ exact kind.maplet ∷ aTerm (c .before .before .before .before .before .before .before .before .before .before .before .before .before .before .before .before .before .before .before .before .before .before .before .before .args .d) (c .before .before .before .before .before .before .before .before .before .before .before .before .before .before .before .before .before .before .before .before .before .before .before .before .args .b) ∷ aPairs (c .before .before .before .before .before .before .before .before .before .before .before .before .before .before .before .before .before .before .before .before .before .before .before .before .args .d) (c .before .before .before .before .before .before .before .before .before .before .before .before .before .before .before .before .before .before .before .before .before .before .before .before .args .b) ∷ []} {m = c .before .before .before .before .before .before .before .before .before .before .before .e .given .0 .1 .0 + 4} (omega arith) (only _ kind.comma (sym (c .before .before .before .before .before .before .before .before .before .kind-at .ensures .is) ∙ c .before .before .before .before .before .before .before .if2 .taken) (λ γ. refl)) (fails (framed (exact kind.maplet ∷ aTerm (c .before .before .before .before .before .before .before .before .before .before .before .before .before .before .before .before .before .before .before .before .before .before .before .before .args .d) (c .before .before .before .before .before .before .before .before .before .before .before .before .before .before .before .before .before .before .before .before .before .before .before .before .args .b) ∷ aPairs (c .before .before .before .before .before .before .before .before .before .before .before .before .before .before .before .before .before .before .before .before .before .before .before .before .args .d) (c .before .before .before .before .before .before .before .before .before .before .before .before .before .before .before .before .before .before .before .before .before .before .before .before .args .b) ∷ []) (known (c .before .p2 .given .1) (c .before .before .before .before .before .term2 .ensures .0)))) (omega arith))), tt)
 
 pairs-enum-known-p-3 : (t : ℕ) → pairs-lts.Need-enum-known-p-3 (pairs-claims t) (pairs-at t) pairs.Post
 pairs-enum-known-p-3 t c = search needs
@@ -1122,7 +1122,7 @@ quantified-kind-at-requires t c κs = search needs
 
 quantified-returns : (t : ℕ) → quantified-lts.Need-returns (quantified-claims t) (quantified-at t) quantified.Post
 unfolding computeForm
-quantified-returns t c = (let room = c .before .before .before .before .before .before .pre .1 .0 in takes {μ = aDeclared (binds (suc (c .before .before .before .before .before .before .args .b))) ∷ exact kind.colon ∷ aDomain ∷ exact kind.spot ∷ aUnary (c .before .before .before .before .before .before .args .d) (suc (c .before .before .before .before .before .before .args .b)) ∷ aPredRest (c .before .before .before .before .before .before .args .d) (c .before .before .before .before .before .before .args .d) (suc (c .before .before .before .before .before .before .args .b)) ∷ exact kind.closeParen ∷ []} {m = (c .before .before .before .before .before .before .args .n)} (omega arith) (λ κ e γ. quantifier-step (c .before .before .before .before .before .before .args .d) (c .before .before .before .before .before .before .args .b) κ γ (quantifier-code κ (omega (arith, c .before .before .before .before .before .before .pre .1 .4)) (omega (arith, c .before .before .before .before .before .before .pre .1 .5)))) (deeper-kind (λ γ. exact kind.colon ∷ aDomain ∷ exact kind.spot ∷ aUnary (c .before .before .before .before .before .before .args .d) (suc (c .before .before .before .before .before .before .args .b)) ∷ aPredRest (c .before .before .before .before .before .before .args .d) (c .before .before .before .before .before .before .args .d) (suc (c .before .before .before .before .before .before .args .b)) ∷ exact kind.closeParen ∷ γ) (binds (suc (c .before .before .before .before .before .before .args .b))) kind.plain (sym (c .before .before .kind-at .ensures .is) ∙ c .before .if1 .taken) (omega arith) (bound-elsewhere (c .before .before .before .before .before .before .args .s .now) ((c .before .before .before .before .before .before .args .at) + 1) (suc (c .before .before .before .before .before .before .args .b)) (omega arith) (λ q. absurd (omega (arith, c .before .before .before .before .before .before .pre .1 .4)))) (λ γ. refl)) (omega arith), tt)
+quantified-returns t c = (let room = c .before .before .before .before .before .before .pre .1 .0 in takes {μ = aDeclared (binds (suc (c .before .before .before .before .before .before .args .b))) ∷ exact kind.colon ∷ aDomain ∷ exact kind.spot ∷ aUnary (c .before .before .before .before .before .before .args .d) (suc (c .before .before .before .before .before .before .args .b)) ∷ aPredRest (c .before .before .before .before .before .before .args .d) (c .before .before .before .before .before .before .args .d) (suc (c .before .before .before .before .before .before .args .b)) ∷ exact kind.closeParen ∷ []} {m = (c .before .before .before .before .before .before .args .n)} (omega arith) (λ κ e γ. quantifier-step (c .before .before .before .before .before .before .args .d) (c .before .before .before .before .before .before .args .b) κ γ (quantifier-code κ (omega (arith, c .before .before .before .before .before .before .pre .1 .4)) (omega (arith, c .before .before .before .before .before .before .pre .1 .5)))) (deeper {ρ = λ γ. exact kind.colon ∷ aDomain ∷ exact kind.spot ∷ aUnary (c .before .before .before .before .before .before .args .d) (suc (c .before .before .before .before .before .before .args .b)) ∷ aPredRest (c .before .before .before .before .before .before .args .d) (c .before .before .before .before .before .before .args .d) (suc (c .before .before .before .before .before .before .args .b)) ∷ exact kind.closeParen ∷ γ} (binds (suc (c .before .before .before .before .before .before .args .b))) (omega arith) (bound-elsewhere (c .before .before .before .before .before .before .args .s .now) ((c .before .before .before .before .before .before .args .at) + 1) (suc (c .before .before .before .before .before .before .args .b)) (omega arith) (λ q. absurd (omega (arith, c .before .before .before .before .before .before .pre .1 .4)))) (only _ kind.plain (sym (c .before .before .kind-at .ensures .is) ∙ c .before .if1 .taken) (λ γ. refl))) (omega arith), tt)
 
 quantified-add-close : (t : ℕ) → quantified-lts.Need-add-close (quantified-claims t) (quantified-at t) quantified.Post
 quantified-add-close t c = let room = c .before .before .before .before .before .before .pre .1 .0 in search needs
@@ -1205,26 +1205,26 @@ quantified-same-length t c = search needs
 
 quantified-returns-2 : (t : ℕ) → quantified-lts.Need-returns-2 (quantified-claims t) (quantified-at t) quantified.Post
 unfolding computeForm
-quantified-returns-2 t c = (let room = c .before .before .before .before .before .before .before .before .before .before .before .before .before .before .before .before .before .before .before .before .before .before .before .before .before .before .before .before .before .before .before .before .before .before .before .before .before .pre .1 .0 in let h = (known (c .before .before .before .before .before .before .before .before .before .before .before .before .before .before .before .before .before .before .before .before .before .before .before .before .before .before .before .before .t .given .1) (c .before .before .before .before .before .before .before .before .before .before .before .before .before .before .before .before .before .before .before .before .before .before .before .before .before .before .before .before .before .before .close .ensures .reads kind.colon refl)) in let z = known-ahead _ (c .before .before .before .before .before .before .before .before .before .before .before .before .before .before .before .before .before .before .before .before .before .before .before .before .before .before .before .before .t .given .1) (c .before .before .before .before .before .before .before .before .before .before .before .before .before .before .before .before .before .before .before .before .before .before .before .before .before .before .before .before .before .before .close .ensures .ahead) in let i = (known (c .before .before .before .before .before .before .before .before .before .before .before .before .before .before .before .before .before .before .before .before .before .before .before .before .e .given .1) (c .before .before .before .before .before .before .before .before .before .before .before .before .before .before .before .before .before .before .before .before .before .before .before .before .before .before .domain .ensures .0)) in let j = (known (c .before .before .before .before .before .before .before .before .before .before .before .before .before .before .before .before .before .before .before .before .f .given .1) (c .before .before .before .before .before .before .before .before .before .before .before .before .before .before .before .before .before .before .before .before .before .before .close2 .ensures .reads kind.spot refl)) in let y = known-ahead _ (c .before .before .before .before .before .before .before .before .before .before .before .before .before .before .before .before .before .before .before .before .f .given .1) (c .before .before .before .before .before .before .before .before .before .before .before .before .before .before .before .before .before .before .before .before .before .before .close2 .ensures .ahead) in let l = (known (c .before .before .before .before .before .before .before .before .before .before .before .before .before .g .given .1) (c .before .before .before .before .before .before .before .before .before .before .before .before .before .before .before .before .before .pred .ensures .0)) in takes {μ = aDeclared (binds (suc (c .before .before .before .before .before .before .before .before .before .before .before .before .before .before .before .before .before .before .before .before .before .before .before .before .before .before .before .before .before .before .before .before .before .before .before .before .before .args .b))) ∷ exact kind.colon ∷ aDomain ∷ exact kind.spot ∷ aUnary (c .before .before .before .before .before .before .before .before .before .before .before .before .before .before .before .before .before .before .before .before .before .before .before .before .before .before .before .before .before .before .before .before .before .before .before .before .before .args .d) (suc (c .before .before .before .before .before .before .before .before .before .before .before .before .before .before .before .before .before .before .before .before .before .before .before .before .before .before .before .before .before .before .before .before .before .before .before .before .before .args .b)) ∷ aPredRest (c .before .before .before .before .before .before .before .before .before .before .before .before .before .before .before .before .before .before .before .before .before .before .before .before .before .before .before .before .before .before .before .before .before .before .before .before .before .args .d) (c .before .before .before .before .before .before .before .before .before .before .before .before .before .before .before .before .before .before .before .before .before .before .before .before .before .before .before .before .before .before .before .before .before .before .before .before .before .args .d) (suc (c .before .before .before .before .before .before .before .before .before .before .before .before .before .before .before .before .before .before .before .before .before .before .before .before .before .before .before .before .before .before .before .before .before .before .before .before .before .args .b)) ∷ exact kind.closeParen ∷ []} {m = (c .before .before .before .before .before .before .before .before .before .before .before .before .before .before .before .before .before .before .before .before .before .before .before .before .before .before .before .before .before .before .before .before .before .before .before .before .before .args .n)} (omega arith) (λ κ e γ. quantifier-step (c .before .before .before .before .before .before .before .before .before .before .before .before .before .before .before .before .before .before .before .before .before .before .before .before .before .before .before .before .before .before .before .before .before .before .before .before .before .args .d) (c .before .before .before .before .before .before .before .before .before .before .before .before .before .before .before .before .before .before .before .before .before .before .before .before .before .before .before .before .before .before .before .before .before .before .before .before .before .args .b) κ γ (quantifier-code κ (omega (arith, c .before .before .before .before .before .before .before .before .before .before .before .before .before .before .before .before .before .before .before .before .before .before .before .before .before .before .before .before .before .before .before .before .before .before .before .before .before .pre .1 .4)) (omega (arith, c .before .before .before .before .before .before .before .before .before .before .before .before .before .before .before .before .before .before .before .before .before .before .before .before .before .before .before .before .before .before .before .before .before .before .before .before .before .pre .1 .5)))) (taken-kind {μ = exact kind.colon ∷ aDomain ∷ exact kind.spot ∷ aUnary (c .before .before .before .before .before .before .before .before .before .before .before .before .before .before .before .before .before .before .before .before .before .before .before .before .before .before .before .before .before .before .before .before .before .before .before .before .before .args .d) (suc (c .before .before .before .before .before .before .before .before .before .before .before .before .before .before .before .before .before .before .before .before .before .before .before .before .before .before .before .before .before .before .before .before .before .before .before .before .before .args .b)) ∷ aPredRest (c .before .before .before .before .before .before .before .before .before .before .before .before .before .before .before .before .before .before .before .before .before .before .before .before .before .before .before .before .before .before .before .before .before .before .before .before .before .args .d) (c .before .before .before .before .before .before .before .before .before .before .before .before .before .before .before .before .before .before .before .before .before .before .before .before .before .before .before .before .before .before .before .before .before .before .before .before .before .args .d) (suc (c .before .before .before .before .before .before .before .before .before .before .before .before .before .before .before .before .before .before .before .before .before .before .before .before .before .before .before .before .before .before .before .before .before .before .before .before .before .args .b)) ∷ exact kind.closeParen ∷ []} {m = (c .before .before .before .before .before .before .before .before .before .before .before .before .before .before .before .before .before .before .before .before .before .before .before .before .before .before .before .before .before .before .before .before .before .before .before .before .before .args .n)} (binds (suc (c .before .before .before .before .before .before .before .before .before .before .before .before .before .before .before .before .before .before .before .before .before .before .before .before .before .before .before .before .before .before .before .before .before .before .before .before .before .args .b))) kind.plain (sym (c .before .before .before .before .before .before .before .before .before .before .before .before .before .before .before .before .before .before .before .before .before .before .before .before .before .before .before .before .before .before .before .before .before .kind-at .ensures .is) ∙ c .before .before .before .before .before .before .before .before .before .before .before .before .before .before .before .before .before .before .before .before .before .before .before .before .before .before .before .before .before .before .before .before .if1 .taken) (omega arith) (bind-well (c .before .before .before .before .before .before .before .before .before .before .before .before .before .before .before .before .before .before .before .before .before .before .before .before .before .before .before .before .before .before .before .before .before .before .before .before .before .args .s .now) ((c .before .before .before .before .before .before .before .before .before .before .before .before .before .before .before .before .before .before .before .before .before .before .before .before .before .before .before .before .before .before .before .before .before .before .before .before .before .args .at) + 1 + 1) (suc (c .before .before .before .before .before .before .before .before .before .before .before .before .before .before .before .before .before .before .before .before .before .before .before .before .before .before .before .before .before .before .before .before .before .before .before .before .before .args .b)) (omega (arith, c .before .before .before .before .before .before .before .before .before .before .before .before .before .before .before .before .before .before .before .before .before .before .before .before .before .before .before .before .before .before .before .if2 .left))) (λ γ. refl) (next (counted {c = (c .before .before .before .before .before .before .before .before .before .before .before .before .before .before .before .before .before .before .before .before .before .before .before .before .before .before .before .before .before .before .before .before .before .before .before .before .before .args .n)} {d = (c .before .before .before .before .before .before .before .before .before .before .before .before .before .before .before .before .before .before .before .before .before .before .before .before .before .before .before .before .before .before .before .before .before .before .before .before .before .args .n) + 4} (omega arith) (framed (aDomain ∷ exact kind.spot ∷ aUnary (c .before .before .before .before .before .before .before .before .before .before .before .before .before .before .before .before .before .before .before .before .before .before .before .before .before .before .before .before .before .before .before .before .before .before .before .before .before .args .d) (suc (c .before .before .before .before .before .before .before .before .before .before .before .before .before .before .before .before .before .before .before .before .before .before .before .before .before .before .before .before .before .before .before .before .before .before .before .before .before .args .b)) ∷ aPredRest (c .before .before .before .before .before .before .before .before .before .before .before .before .before .before .before .before .before .before .before .before .before .before .before .before .before .before .before .before .before .before .before .before .before .before .before .before .before .args .d) (c .before .before .before .before .before .before .before .before .before .before .before .before .before .before .before .before .before .before .before .before .before .before .before .before .before .before .before .before .before .before .before .before .before .before .before .before .before .args .d) (suc (c .before .before .before .before .before .before .before .before .before .before .before .before .before .before .before .before .before .before .before .before .before .before .before .before .before .before .before .before .before .before .before .before .before .before .before .before .before .args .b)) ∷ exact kind.closeParen ∷ []) h)) (next (counted {c = (c .before .before .before .before .before .before .before .before .before .before .before .before .before .before .before .before .before .before .before .before .before .before .before .before .before .before .before .before .before .before .before .before .before .before .before .before .before .args .n) + 4} {d = (c .before .before .before .before .before .before .before .before .before .before .before .before .before .before .before .before .before .before .before .before .before .before .before .before .before .before .before .before .before .before .before .before .before .before .before .before .before .args .n) + 4} (omega arith) (framed (exact kind.spot ∷ aUnary (c .before .before .before .before .before .before .before .before .before .before .before .before .before .before .before .before .before .before .before .before .before .before .before .before .before .before .before .before .before .before .before .before .before .before .before .before .before .args .d) (suc (c .before .before .before .before .before .before .before .before .before .before .before .before .before .before .before .before .before .before .before .before .before .before .before .before .before .before .before .before .before .before .before .before .before .before .before .before .before .args .b)) ∷ aPredRest (c .before .before .before .before .before .before .before .before .before .before .before .before .before .before .before .before .before .before .before .before .before .before .before .before .before .before .before .before .before .before .before .before .before .before .before .before .before .args .d) (c .before .before .before .before .before .before .before .before .before .before .before .before .before .before .before .before .before .before .before .before .before .before .before .before .before .before .before .before .before .before .before .before .before .before .before .before .before .args .d) (suc (c .before .before .before .before .before .before .before .before .before .before .before .before .before .before .before .before .before .before .before .before .before .before .before .before .before .before .before .before .before .before .before .before .before .before .before .before .before .args .b)) ∷ exact kind.closeParen ∷ []) i)) (next (counted {c = (c .before .before .before .before .before .before .before .before .before .before .before .before .before .before .before .before .before .before .before .before .before .before .before .before .before .before .before .before .before .before .before .before .before .before .before .before .before .args .n) + 4} {d = (c .before .before .before .before .before .before .before .before .before .before .before .before .before .before .before .before .before .before .before .before .before .before .before .before .before .before .before .before .before .before .before .before .before .before .before .before .before .args .n) + 8} (omega arith) (framed (aUnary (c .before .before .before .before .before .before .before .before .before .before .before .before .before .before .before .before .before .before .before .before .before .before .before .before .before .before .before .before .before .before .before .before .before .before .before .before .before .args .d) (suc (c .before .before .before .before .before .before .before .before .before .before .before .before .before .before .before .before .before .before .before .before .before .before .before .before .before .before .before .before .before .before .before .before .before .before .before .before .before .args .b)) ∷ aPredRest (c .before .before .before .before .before .before .before .before .before .before .before .before .before .before .before .before .before .before .before .before .before .before .before .before .before .before .before .before .before .before .before .before .before .before .before .before .before .args .d) (c .before .before .before .before .before .before .before .before .before .before .before .before .before .before .before .before .before .before .before .before .before .before .before .before .before .before .before .before .before .before .before .before .before .before .before .before .before .args .d) (suc (c .before .before .before .before .before .before .before .before .before .before .before .before .before .before .before .before .before .before .before .before .before .before .before .before .before .before .before .before .before .before .before .before .before .before .before .before .before .args .b)) ∷ exact kind.closeParen ∷ []) j)) (next (counted {c = (c .before .before .before .before .before .before .before .before .before .before .before .before .before .before .before .before .before .before .before .before .before .before .before .before .before .before .before .before .before .before .before .before .before .before .before .before .before .args .n) + 8} (omega arith) (framed (exact kind.closeParen ∷ []) (raised (λ x. aUnary (c .before .before .before .before .before .before .before .before .before .before .before .before .before .before .before .before .before .before .before .before .before .before .before .before .before .before .before .before .before .before .before .before .before .before .before .before .before .args .d) x ∷ aPredRest (c .before .before .before .before .before .before .before .before .before .before .before .before .before .before .before .before .before .before .before .before .before .before .before .before .before .before .before .before .before .before .before .before .before .before .before .before .before .args .d) (c .before .before .before .before .before .before .before .before .before .before .before .before .before .before .before .before .before .before .before .before .before .before .before .before .before .before .before .before .before .before .before .before .before .before .before .before .before .args .d) x ∷ []) (c .before .before .before .before .before .before .before .before .before .before .before .before .before .before .before .before .before .before .before .before .before .before .before .before .before .before .before .before .before .before .before .before .before .before .before .before .before .args .b) l))) (c .close3 .ensures .reads kind.closeParen refl))))) (omega arith)) (omega arith), let t₁ = closed (c .before .before .before .before .before .before .before .before .before .before .before .before .before .before .before .before .before .before .before .before .before .before .before .before .before .before .before .before .t .given .1) (c .before .before .before .before .before .before .before .before .before .before .before .before .before .before .before .before .before .before .before .before .before .before .before .before .before .before .before .before .before .before .close .ensures) in let t₂ = showing (DomainAt (c .before .before .before .before .before .before .before .before .before .before .before .before .before .before .before .before .before .before .before .before .before .before .before .before .before .before .before .before .before .before .before .before .before .before .before .before .before .args .s .now) (c .before .before .before .before .before .before .before .before .before .before .before .before .before .before .before .before .before .before .before .before .before .before .before .before .before .before .before .before .t .given .0 .0)) _ (c .before .before .before .before .before .before .before .before .before .before .before .before .before .before .before .before .before .before .before .before .before .before .before .before .e .given .1) (c .before .before .before .before .before .before .before .before .before .before .before .before .before .before .before .before .before .before .before .before .before .before .before .before .before .before .domain .ensures .1) in let t₃ = closed (c .before .before .before .before .before .before .before .before .before .before .before .before .before .before .before .before .before .before .before .before .f .given .1) (c .before .before .before .before .before .before .before .before .before .before .before .before .before .before .before .before .before .before .before .before .before .before .close2 .ensures) in let w₁ = (made (c .before .before .before .before .before .before .before .before .before .before .before .before .before .g .given .1) (c .before .before .before .before .before .before .before .before .before .before .before .before .before .before .before .before .before .pred .ensures .1)) in closing (c .close3 .ensures) (λ q. makes (both (both (built w₁) (wrote (c .before .before .before .before .before .before .before .before .before .before .put-domain .ensures))) (node-of (c .before .before .before .before .before .before .before .name-number .ensures) (c .before .before .before .before .wide .ensures ∙ c .before .before .before .before .before .before .kind-at2 .ensures .is) (c .before .before .before .put .ensures))) (ranging (c .before .before .before .before .before .before .before .before .before .before .before .before .before .before .before .before .before .before .before .before .before .before .before .before .before .before .before .before .before .before .before .before .before .before .before .before .before .pre .1 .6) (c .before .before .before .before .before .before .before .before .before .before .before .before .before .before .before .before .before .before .before .before .before .before .before .before .before .before .before .before .before .before .before .before .before .before .before .before .before .pre .1 .4) (c .before .before .before .before .before .before .before .before .before .before .before .before .before .before .before .before .before .before .before .before .before .before .before .before .before .before .before .before .before .before .before .before .before .before .before .before .before .pre .1 .5) (sym (c .before .before .before .before .before .before .before .before .before .before .before .before .before .before .before .before .before .before .before .before .before .before .before .before .before .before .before .before .before .before .before .before .before .kind-at .ensures .is) ∙ c .before .before .before .before .before .before .before .before .before .before .before .before .before .before .before .before .before .before .before .before .before .before .before .before .before .before .before .before .before .before .before .before .if1 .taken) t₁ t₂ t₃ (w₁ .derives) q)))
+quantified-returns-2 t c = (let room = c .before .before .before .before .before .before .before .before .before .before .before .before .before .before .before .before .before .before .before .before .before .before .before .before .before .before .before .before .before .before .before .before .before .before .before .before .before .pre .1 .0 in let h = (known (c .before .before .before .before .before .before .before .before .before .before .before .before .before .before .before .before .before .before .before .before .before .before .before .before .before .before .before .before .t .given .1) (c .before .before .before .before .before .before .before .before .before .before .before .before .before .before .before .before .before .before .before .before .before .before .before .before .before .before .before .before .before .before .close .ensures .reads kind.colon refl)) in let z = known-ahead _ (c .before .before .before .before .before .before .before .before .before .before .before .before .before .before .before .before .before .before .before .before .before .before .before .before .before .before .before .before .t .given .1) (c .before .before .before .before .before .before .before .before .before .before .before .before .before .before .before .before .before .before .before .before .before .before .before .before .before .before .before .before .before .before .close .ensures .ahead) in let i = (known (c .before .before .before .before .before .before .before .before .before .before .before .before .before .before .before .before .before .before .before .before .before .before .before .before .e .given .1) (c .before .before .before .before .before .before .before .before .before .before .before .before .before .before .before .before .before .before .before .before .before .before .before .before .before .before .domain .ensures .0)) in let j = (known (c .before .before .before .before .before .before .before .before .before .before .before .before .before .before .before .before .before .before .before .before .f .given .1) (c .before .before .before .before .before .before .before .before .before .before .before .before .before .before .before .before .before .before .before .before .before .before .close2 .ensures .reads kind.spot refl)) in let y = known-ahead _ (c .before .before .before .before .before .before .before .before .before .before .before .before .before .before .before .before .before .before .before .before .f .given .1) (c .before .before .before .before .before .before .before .before .before .before .before .before .before .before .before .before .before .before .before .before .before .before .close2 .ensures .ahead) in let l = (known (c .before .before .before .before .before .before .before .before .before .before .before .before .before .g .given .1) (c .before .before .before .before .before .before .before .before .before .before .before .before .before .before .before .before .before .pred .ensures .0)) in takes {μ = aDeclared (binds (suc (c .before .before .before .before .before .before .before .before .before .before .before .before .before .before .before .before .before .before .before .before .before .before .before .before .before .before .before .before .before .before .before .before .before .before .before .before .before .args .b))) ∷ exact kind.colon ∷ aDomain ∷ exact kind.spot ∷ aUnary (c .before .before .before .before .before .before .before .before .before .before .before .before .before .before .before .before .before .before .before .before .before .before .before .before .before .before .before .before .before .before .before .before .before .before .before .before .before .args .d) (suc (c .before .before .before .before .before .before .before .before .before .before .before .before .before .before .before .before .before .before .before .before .before .before .before .before .before .before .before .before .before .before .before .before .before .before .before .before .before .args .b)) ∷ aPredRest (c .before .before .before .before .before .before .before .before .before .before .before .before .before .before .before .before .before .before .before .before .before .before .before .before .before .before .before .before .before .before .before .before .before .before .before .before .before .args .d) (c .before .before .before .before .before .before .before .before .before .before .before .before .before .before .before .before .before .before .before .before .before .before .before .before .before .before .before .before .before .before .before .before .before .before .before .before .before .args .d) (suc (c .before .before .before .before .before .before .before .before .before .before .before .before .before .before .before .before .before .before .before .before .before .before .before .before .before .before .before .before .before .before .before .before .before .before .before .before .before .args .b)) ∷ exact kind.closeParen ∷ []} {m = (c .before .before .before .before .before .before .before .before .before .before .before .before .before .before .before .before .before .before .before .before .before .before .before .before .before .before .before .before .before .before .before .before .before .before .before .before .before .args .n)} (omega arith) (λ κ e γ. quantifier-step (c .before .before .before .before .before .before .before .before .before .before .before .before .before .before .before .before .before .before .before .before .before .before .before .before .before .before .before .before .before .before .before .before .before .before .before .before .before .args .d) (c .before .before .before .before .before .before .before .before .before .before .before .before .before .before .before .before .before .before .before .before .before .before .before .before .before .before .before .before .before .before .before .before .before .before .before .before .before .args .b) κ γ (quantifier-code κ (omega (arith, c .before .before .before .before .before .before .before .before .before .before .before .before .before .before .before .before .before .before .before .before .before .before .before .before .before .before .before .before .before .before .before .before .before .before .before .before .before .pre .1 .4)) (omega (arith, c .before .before .before .before .before .before .before .before .before .before .before .before .before .before .before .before .before .before .before .before .before .before .before .before .before .before .before .before .before .before .before .before .before .before .before .before .before .pre .1 .5)))) (taken {μ = exact kind.colon ∷ aDomain ∷ exact kind.spot ∷ aUnary (c .before .before .before .before .before .before .before .before .before .before .before .before .before .before .before .before .before .before .before .before .before .before .before .before .before .before .before .before .before .before .before .before .before .before .before .before .before .args .d) (suc (c .before .before .before .before .before .before .before .before .before .before .before .before .before .before .before .before .before .before .before .before .before .before .before .before .before .before .before .before .before .before .before .before .before .before .before .before .before .args .b)) ∷ aPredRest (c .before .before .before .before .before .before .before .before .before .before .before .before .before .before .before .before .before .before .before .before .before .before .before .before .before .before .before .before .before .before .before .before .before .before .before .before .before .args .d) (c .before .before .before .before .before .before .before .before .before .before .before .before .before .before .before .before .before .before .before .before .before .before .before .before .before .before .before .before .before .before .before .before .before .before .before .before .before .args .d) (suc (c .before .before .before .before .before .before .before .before .before .before .before .before .before .before .before .before .before .before .before .before .before .before .before .before .before .before .before .before .before .before .before .before .before .before .before .before .before .args .b)) ∷ exact kind.closeParen ∷ []} {m = (c .before .before .before .before .before .before .before .before .before .before .before .before .before .before .before .before .before .before .before .before .before .before .before .before .before .before .before .before .before .before .before .before .before .before .before .before .before .args .n)} (binds (suc (c .before .before .before .before .before .before .before .before .before .before .before .before .before .before .before .before .before .before .before .before .before .before .before .before .before .before .before .before .before .before .before .before .before .before .before .before .before .args .b))) (omega arith) (bind-well (c .before .before .before .before .before .before .before .before .before .before .before .before .before .before .before .before .before .before .before .before .before .before .before .before .before .before .before .before .before .before .before .before .before .before .before .before .before .args .s .now) ((c .before .before .before .before .before .before .before .before .before .before .before .before .before .before .before .before .before .before .before .before .before .before .before .before .before .before .before .before .before .before .before .before .before .before .before .before .before .args .at) + 1 + 1) (suc (c .before .before .before .before .before .before .before .before .before .before .before .before .before .before .before .before .before .before .before .before .before .before .before .before .before .before .before .before .before .before .before .before .before .before .before .before .before .args .b)) (omega (arith, c .before .before .before .before .before .before .before .before .before .before .before .before .before .before .before .before .before .before .before .before .before .before .before .before .before .before .before .before .before .before .before .if2 .left))) (only _ kind.plain (sym (c .before .before .before .before .before .before .before .before .before .before .before .before .before .before .before .before .before .before .before .before .before .before .before .before .before .before .before .before .before .before .before .before .before .kind-at .ensures .is) ∙ c .before .before .before .before .before .before .before .before .before .before .before .before .before .before .before .before .before .before .before .before .before .before .before .before .before .before .before .before .before .before .before .before .if1 .taken) (λ γ. refl)) (next (counted {c = (c .before .before .before .before .before .before .before .before .before .before .before .before .before .before .before .before .before .before .before .before .before .before .before .before .before .before .before .before .before .before .before .before .before .before .before .before .before .args .n)} {d = (c .before .before .before .before .before .before .before .before .before .before .before .before .before .before .before .before .before .before .before .before .before .before .before .before .before .before .before .before .before .before .before .before .before .before .before .before .before .args .n) + 4} (omega arith) (framed (aDomain ∷ exact kind.spot ∷ aUnary (c .before .before .before .before .before .before .before .before .before .before .before .before .before .before .before .before .before .before .before .before .before .before .before .before .before .before .before .before .before .before .before .before .before .before .before .before .before .args .d) (suc (c .before .before .before .before .before .before .before .before .before .before .before .before .before .before .before .before .before .before .before .before .before .before .before .before .before .before .before .before .before .before .before .before .before .before .before .before .before .args .b)) ∷ aPredRest (c .before .before .before .before .before .before .before .before .before .before .before .before .before .before .before .before .before .before .before .before .before .before .before .before .before .before .before .before .before .before .before .before .before .before .before .before .before .args .d) (c .before .before .before .before .before .before .before .before .before .before .before .before .before .before .before .before .before .before .before .before .before .before .before .before .before .before .before .before .before .before .before .before .before .before .before .before .before .args .d) (suc (c .before .before .before .before .before .before .before .before .before .before .before .before .before .before .before .before .before .before .before .before .before .before .before .before .before .before .before .before .before .before .before .before .before .before .before .before .before .args .b)) ∷ exact kind.closeParen ∷ []) h)) (next (counted {c = (c .before .before .before .before .before .before .before .before .before .before .before .before .before .before .before .before .before .before .before .before .before .before .before .before .before .before .before .before .before .before .before .before .before .before .before .before .before .args .n) + 4} {d = (c .before .before .before .before .before .before .before .before .before .before .before .before .before .before .before .before .before .before .before .before .before .before .before .before .before .before .before .before .before .before .before .before .before .before .before .before .before .args .n) + 4} (omega arith) (framed (exact kind.spot ∷ aUnary (c .before .before .before .before .before .before .before .before .before .before .before .before .before .before .before .before .before .before .before .before .before .before .before .before .before .before .before .before .before .before .before .before .before .before .before .before .before .args .d) (suc (c .before .before .before .before .before .before .before .before .before .before .before .before .before .before .before .before .before .before .before .before .before .before .before .before .before .before .before .before .before .before .before .before .before .before .before .before .before .args .b)) ∷ aPredRest (c .before .before .before .before .before .before .before .before .before .before .before .before .before .before .before .before .before .before .before .before .before .before .before .before .before .before .before .before .before .before .before .before .before .before .before .before .before .args .d) (c .before .before .before .before .before .before .before .before .before .before .before .before .before .before .before .before .before .before .before .before .before .before .before .before .before .before .before .before .before .before .before .before .before .before .before .before .before .args .d) (suc (c .before .before .before .before .before .before .before .before .before .before .before .before .before .before .before .before .before .before .before .before .before .before .before .before .before .before .before .before .before .before .before .before .before .before .before .before .before .args .b)) ∷ exact kind.closeParen ∷ []) i)) (next (counted {c = (c .before .before .before .before .before .before .before .before .before .before .before .before .before .before .before .before .before .before .before .before .before .before .before .before .before .before .before .before .before .before .before .before .before .before .before .before .before .args .n) + 4} {d = (c .before .before .before .before .before .before .before .before .before .before .before .before .before .before .before .before .before .before .before .before .before .before .before .before .before .before .before .before .before .before .before .before .before .before .before .before .before .args .n) + 8} (omega arith) (framed (aUnary (c .before .before .before .before .before .before .before .before .before .before .before .before .before .before .before .before .before .before .before .before .before .before .before .before .before .before .before .before .before .before .before .before .before .before .before .before .before .args .d) (suc (c .before .before .before .before .before .before .before .before .before .before .before .before .before .before .before .before .before .before .before .before .before .before .before .before .before .before .before .before .before .before .before .before .before .before .before .before .before .args .b)) ∷ aPredRest (c .before .before .before .before .before .before .before .before .before .before .before .before .before .before .before .before .before .before .before .before .before .before .before .before .before .before .before .before .before .before .before .before .before .before .before .before .before .args .d) (c .before .before .before .before .before .before .before .before .before .before .before .before .before .before .before .before .before .before .before .before .before .before .before .before .before .before .before .before .before .before .before .before .before .before .before .before .before .args .d) (suc (c .before .before .before .before .before .before .before .before .before .before .before .before .before .before .before .before .before .before .before .before .before .before .before .before .before .before .before .before .before .before .before .before .before .before .before .before .before .args .b)) ∷ exact kind.closeParen ∷ []) j)) (next (counted {c = (c .before .before .before .before .before .before .before .before .before .before .before .before .before .before .before .before .before .before .before .before .before .before .before .before .before .before .before .before .before .before .before .before .before .before .before .before .before .args .n) + 8} (omega arith) (framed (exact kind.closeParen ∷ []) (raised (λ x. aUnary (c .before .before .before .before .before .before .before .before .before .before .before .before .before .before .before .before .before .before .before .before .before .before .before .before .before .before .before .before .before .before .before .before .before .before .before .before .before .args .d) x ∷ aPredRest (c .before .before .before .before .before .before .before .before .before .before .before .before .before .before .before .before .before .before .before .before .before .before .before .before .before .before .before .before .before .before .before .before .before .before .before .before .before .args .d) (c .before .before .before .before .before .before .before .before .before .before .before .before .before .before .before .before .before .before .before .before .before .before .before .before .before .before .before .before .before .before .before .before .before .before .before .before .before .args .d) x ∷ []) (c .before .before .before .before .before .before .before .before .before .before .before .before .before .before .before .before .before .before .before .before .before .before .before .before .before .before .before .before .before .before .before .before .before .before .before .before .before .args .b) l))) (c .close3 .ensures .reads kind.closeParen refl))))) (omega arith)) (omega arith), let t₁ = closed (c .before .before .before .before .before .before .before .before .before .before .before .before .before .before .before .before .before .before .before .before .before .before .before .before .before .before .before .before .t .given .1) (c .before .before .before .before .before .before .before .before .before .before .before .before .before .before .before .before .before .before .before .before .before .before .before .before .before .before .before .before .before .before .close .ensures) in let t₂ = showing (DomainAt (c .before .before .before .before .before .before .before .before .before .before .before .before .before .before .before .before .before .before .before .before .before .before .before .before .before .before .before .before .before .before .before .before .before .before .before .before .before .args .s .now) (c .before .before .before .before .before .before .before .before .before .before .before .before .before .before .before .before .before .before .before .before .before .before .before .before .before .before .before .before .t .given .0 .0)) _ (c .before .before .before .before .before .before .before .before .before .before .before .before .before .before .before .before .before .before .before .before .before .before .before .before .e .given .1) (c .before .before .before .before .before .before .before .before .before .before .before .before .before .before .before .before .before .before .before .before .before .before .before .before .before .before .domain .ensures .1) in let t₃ = closed (c .before .before .before .before .before .before .before .before .before .before .before .before .before .before .before .before .before .before .before .before .f .given .1) (c .before .before .before .before .before .before .before .before .before .before .before .before .before .before .before .before .before .before .before .before .before .before .close2 .ensures) in let w₁ = (made (c .before .before .before .before .before .before .before .before .before .before .before .before .before .g .given .1) (c .before .before .before .before .before .before .before .before .before .before .before .before .before .before .before .before .before .pred .ensures .1)) in closing (c .close3 .ensures) (λ q. makes (both (both (built w₁) (wrote (c .before .before .before .before .before .before .before .before .before .before .put-domain .ensures))) (node-of (c .before .before .before .before .before .before .before .name-number .ensures) (c .before .before .before .before .wide .ensures ∙ c .before .before .before .before .before .before .kind-at2 .ensures .is) (c .before .before .before .put .ensures))) (ranging (c .before .before .before .before .before .before .before .before .before .before .before .before .before .before .before .before .before .before .before .before .before .before .before .before .before .before .before .before .before .before .before .before .before .before .before .before .before .pre .1 .6) (c .before .before .before .before .before .before .before .before .before .before .before .before .before .before .before .before .before .before .before .before .before .before .before .before .before .before .before .before .before .before .before .before .before .before .before .before .before .pre .1 .4) (c .before .before .before .before .before .before .before .before .before .before .before .before .before .before .before .before .before .before .before .before .before .before .before .before .before .before .before .before .before .before .before .before .before .before .before .before .before .pre .1 .5) (sym (c .before .before .before .before .before .before .before .before .before .before .before .before .before .before .before .before .before .before .before .before .before .before .before .before .before .before .before .before .before .before .before .before .before .kind-at .ensures .is) ∙ c .before .before .before .before .before .before .before .before .before .before .before .before .before .before .before .before .before .before .before .before .before .before .before .before .before .before .before .before .before .before .before .before .if1 .taken) t₁ t₂ t₃ (w₁ .derives) q)))
 
 quantified-same-length-2 : (t : ℕ) → quantified-lts.Need-same-length-2 (quantified-claims t) (quantified-at t) quantified.Post
 quantified-same-length-2 t c = search needs
 
 quantified-returns-3 : (t : ℕ) → quantified-lts.Need-returns-3 (quantified-claims t) (quantified-at t) quantified.Post
 unfolding computeForm
-quantified-returns-3 t c = (let room = c .before .before .before .before .before .before .before .before .before .before .before .before .before .before .before .before .before .before .before .before .before .before .before .before .before .pre .1 .0 in let h = (known (c .before .before .before .before .before .before .before .before .before .before .before .before .before .before .before .before .t .given .1) (c .before .before .before .before .before .before .before .before .before .before .before .before .before .before .before .before .before .before .close .ensures .reads kind.colon refl)) in let z = known-ahead _ (c .before .before .before .before .before .before .before .before .before .before .before .before .before .before .before .before .t .given .1) (c .before .before .before .before .before .before .before .before .before .before .before .before .before .before .before .before .before .before .close .ensures .ahead) in let i = (known (c .before .before .before .before .before .before .before .before .before .before .before .before .e .given .1) (c .before .before .before .before .before .before .before .before .before .before .before .before .before .before .domain .ensures .0)) in let j = (known (c .before .before .before .before .before .before .before .before .f .given .1) (c .before .before .before .before .before .before .before .before .before .before .close2 .ensures .reads kind.spot refl)) in let y = known-ahead _ (c .before .before .before .before .before .before .before .before .f .given .1) (c .before .before .before .before .before .before .before .before .before .before .close2 .ensures .ahead) in takes {μ = aDeclared (binds (suc (c .before .before .before .before .before .before .before .before .before .before .before .before .before .before .before .before .before .before .before .before .before .before .before .before .before .args .b))) ∷ exact kind.colon ∷ aDomain ∷ exact kind.spot ∷ aUnary (c .before .before .before .before .before .before .before .before .before .before .before .before .before .before .before .before .before .before .before .before .before .before .before .before .before .args .d) (suc (c .before .before .before .before .before .before .before .before .before .before .before .before .before .before .before .before .before .before .before .before .before .before .before .before .before .args .b)) ∷ aPredRest (c .before .before .before .before .before .before .before .before .before .before .before .before .before .before .before .before .before .before .before .before .before .before .before .before .before .args .d) (c .before .before .before .before .before .before .before .before .before .before .before .before .before .before .before .before .before .before .before .before .before .before .before .before .before .args .d) (suc (c .before .before .before .before .before .before .before .before .before .before .before .before .before .before .before .before .before .before .before .before .before .before .before .before .before .args .b)) ∷ exact kind.closeParen ∷ []} {m = (c .before .before .before .before .before .before .before .before .before .before .before .before .before .before .before .before .before .before .before .before .before .before .before .before .before .args .n)} (omega arith) (λ κ e γ. quantifier-step (c .before .before .before .before .before .before .before .before .before .before .before .before .before .before .before .before .before .before .before .before .before .before .before .before .before .args .d) (c .before .before .before .before .before .before .before .before .before .before .before .before .before .before .before .before .before .before .before .before .before .before .before .before .before .args .b) κ γ (quantifier-code κ (omega (arith, c .before .before .before .before .before .before .before .before .before .before .before .before .before .before .before .before .before .before .before .before .before .before .before .before .before .pre .1 .4)) (omega (arith, c .before .before .before .before .before .before .before .before .before .before .before .before .before .before .before .before .before .before .before .before .before .before .before .before .before .pre .1 .5)))) (taken-kind {μ = exact kind.colon ∷ aDomain ∷ exact kind.spot ∷ aUnary (c .before .before .before .before .before .before .before .before .before .before .before .before .before .before .before .before .before .before .before .before .before .before .before .before .before .args .d) (suc (c .before .before .before .before .before .before .before .before .before .before .before .before .before .before .before .before .before .before .before .before .before .before .before .before .before .args .b)) ∷ aPredRest (c .before .before .before .before .before .before .before .before .before .before .before .before .before .before .before .before .before .before .before .before .before .before .before .before .before .args .d) (c .before .before .before .before .before .before .before .before .before .before .before .before .before .before .before .before .before .before .before .before .before .before .before .before .before .args .d) (suc (c .before .before .before .before .before .before .before .before .before .before .before .before .before .before .before .before .before .before .before .before .before .before .before .before .before .args .b)) ∷ exact kind.closeParen ∷ []} {m = (c .before .before .before .before .before .before .before .before .before .before .before .before .before .before .before .before .before .before .before .before .before .before .before .before .before .args .n)} (binds (suc (c .before .before .before .before .before .before .before .before .before .before .before .before .before .before .before .before .before .before .before .before .before .before .before .before .before .args .b))) kind.plain (sym (c .before .before .before .before .before .before .before .before .before .before .before .before .before .before .before .before .before .before .before .before .before .kind-at .ensures .is) ∙ c .before .before .before .before .before .before .before .before .before .before .before .before .before .before .before .before .before .before .before .before .if1 .taken) (omega arith) (bind-well (c .before .before .before .before .before .before .before .before .before .before .before .before .before .before .before .before .before .before .before .before .before .before .before .before .before .args .s .now) ((c .before .before .before .before .before .before .before .before .before .before .before .before .before .before .before .before .before .before .before .before .before .before .before .before .before .args .at) + 1 + 1) (suc (c .before .before .before .before .before .before .before .before .before .before .before .before .before .before .before .before .before .before .before .before .before .before .before .before .before .args .b)) (omega (arith, c .before .before .before .before .before .before .before .before .before .before .before .before .before .before .before .before .before .before .before .if2 .left))) (λ γ. refl) (next (counted {c = (c .before .before .before .before .before .before .before .before .before .before .before .before .before .before .before .before .before .before .before .before .before .before .before .before .before .args .n)} {d = (c .before .before .before .before .before .before .before .before .before .before .before .before .before .before .before .before .before .before .before .before .before .before .before .before .before .args .n) + 4} (omega arith) (framed (aDomain ∷ exact kind.spot ∷ aUnary (c .before .before .before .before .before .before .before .before .before .before .before .before .before .before .before .before .before .before .before .before .before .before .before .before .before .args .d) (suc (c .before .before .before .before .before .before .before .before .before .before .before .before .before .before .before .before .before .before .before .before .before .before .before .before .before .args .b)) ∷ aPredRest (c .before .before .before .before .before .before .before .before .before .before .before .before .before .before .before .before .before .before .before .before .before .before .before .before .before .args .d) (c .before .before .before .before .before .before .before .before .before .before .before .before .before .before .before .before .before .before .before .before .before .before .before .before .before .args .d) (suc (c .before .before .before .before .before .before .before .before .before .before .before .before .before .before .before .before .before .before .before .before .before .before .before .before .before .args .b)) ∷ exact kind.closeParen ∷ []) h)) (next (counted {c = (c .before .before .before .before .before .before .before .before .before .before .before .before .before .before .before .before .before .before .before .before .before .before .before .before .before .args .n) + 4} {d = (c .before .before .before .before .before .before .before .before .before .before .before .before .before .before .before .before .before .before .before .before .before .before .before .before .before .args .n) + 4} (omega arith) (framed (exact kind.spot ∷ aUnary (c .before .before .before .before .before .before .before .before .before .before .before .before .before .before .before .before .before .before .before .before .before .before .before .before .before .args .d) (suc (c .before .before .before .before .before .before .before .before .before .before .before .before .before .before .before .before .before .before .before .before .before .before .before .before .before .args .b)) ∷ aPredRest (c .before .before .before .before .before .before .before .before .before .before .before .before .before .before .before .before .before .before .before .before .before .before .before .before .before .args .d) (c .before .before .before .before .before .before .before .before .before .before .before .before .before .before .before .before .before .before .before .before .before .before .before .before .before .args .d) (suc (c .before .before .before .before .before .before .before .before .before .before .before .before .before .before .before .before .before .before .before .before .before .before .before .before .before .args .b)) ∷ exact kind.closeParen ∷ []) i)) (next (counted {c = (c .before .before .before .before .before .before .before .before .before .before .before .before .before .before .before .before .before .before .before .before .before .before .before .before .before .args .n) + 4} {d = (c .before .before .before .before .before .before .before .before .before .before .before .before .before .before .before .before .before .before .before .before .before .before .before .before .before .args .n) + 8} (omega arith) (framed (aUnary (c .before .before .before .before .before .before .before .before .before .before .before .before .before .before .before .before .before .before .before .before .before .before .before .before .before .args .d) (suc (c .before .before .before .before .before .before .before .before .before .before .before .before .before .before .before .before .before .before .before .before .before .before .before .before .before .args .b)) ∷ aPredRest (c .before .before .before .before .before .before .before .before .before .before .before .before .before .before .before .before .before .before .before .before .before .before .before .before .before .args .d) (c .before .before .before .before .before .before .before .before .before .before .before .before .before .before .before .before .before .before .before .before .before .before .before .before .before .args .d) (suc (c .before .before .before .before .before .before .before .before .before .before .before .before .before .before .before .before .before .before .before .before .before .before .before .before .before .args .b)) ∷ exact kind.closeParen ∷ []) j)) (fails (framed (exact kind.closeParen ∷ []) (raised (λ x. aUnary (c .before .before .before .before .before .before .before .before .before .before .before .before .before .before .before .before .before .before .before .before .before .before .before .before .before .args .d) x ∷ aPredRest (c .before .before .before .before .before .before .before .before .before .before .before .before .before .before .before .before .before .before .before .before .before .before .before .before .before .args .d) (c .before .before .before .before .before .before .before .before .before .before .before .before .before .before .before .before .before .before .before .before .before .before .before .before .before .args .d) x ∷ []) (c .before .before .before .before .before .before .before .before .before .before .before .before .before .before .before .before .before .before .before .before .before .before .before .before .before .args .b) (known (c .before .p .given .1) (c .before .before .before .before .before .pred .ensures .0)))))))) (omega arith)) (omega arith), tt)
+quantified-returns-3 t c = (let room = c .before .before .before .before .before .before .before .before .before .before .before .before .before .before .before .before .before .before .before .before .before .before .before .before .before .pre .1 .0 in let h = (known (c .before .before .before .before .before .before .before .before .before .before .before .before .before .before .before .before .t .given .1) (c .before .before .before .before .before .before .before .before .before .before .before .before .before .before .before .before .before .before .close .ensures .reads kind.colon refl)) in let z = known-ahead _ (c .before .before .before .before .before .before .before .before .before .before .before .before .before .before .before .before .t .given .1) (c .before .before .before .before .before .before .before .before .before .before .before .before .before .before .before .before .before .before .close .ensures .ahead) in let i = (known (c .before .before .before .before .before .before .before .before .before .before .before .before .e .given .1) (c .before .before .before .before .before .before .before .before .before .before .before .before .before .before .domain .ensures .0)) in let j = (known (c .before .before .before .before .before .before .before .before .f .given .1) (c .before .before .before .before .before .before .before .before .before .before .close2 .ensures .reads kind.spot refl)) in let y = known-ahead _ (c .before .before .before .before .before .before .before .before .f .given .1) (c .before .before .before .before .before .before .before .before .before .before .close2 .ensures .ahead) in takes {μ = aDeclared (binds (suc (c .before .before .before .before .before .before .before .before .before .before .before .before .before .before .before .before .before .before .before .before .before .before .before .before .before .args .b))) ∷ exact kind.colon ∷ aDomain ∷ exact kind.spot ∷ aUnary (c .before .before .before .before .before .before .before .before .before .before .before .before .before .before .before .before .before .before .before .before .before .before .before .before .before .args .d) (suc (c .before .before .before .before .before .before .before .before .before .before .before .before .before .before .before .before .before .before .before .before .before .before .before .before .before .args .b)) ∷ aPredRest (c .before .before .before .before .before .before .before .before .before .before .before .before .before .before .before .before .before .before .before .before .before .before .before .before .before .args .d) (c .before .before .before .before .before .before .before .before .before .before .before .before .before .before .before .before .before .before .before .before .before .before .before .before .before .args .d) (suc (c .before .before .before .before .before .before .before .before .before .before .before .before .before .before .before .before .before .before .before .before .before .before .before .before .before .args .b)) ∷ exact kind.closeParen ∷ []} {m = (c .before .before .before .before .before .before .before .before .before .before .before .before .before .before .before .before .before .before .before .before .before .before .before .before .before .args .n)} (omega arith) (λ κ e γ. quantifier-step (c .before .before .before .before .before .before .before .before .before .before .before .before .before .before .before .before .before .before .before .before .before .before .before .before .before .args .d) (c .before .before .before .before .before .before .before .before .before .before .before .before .before .before .before .before .before .before .before .before .before .before .before .before .before .args .b) κ γ (quantifier-code κ (omega (arith, c .before .before .before .before .before .before .before .before .before .before .before .before .before .before .before .before .before .before .before .before .before .before .before .before .before .pre .1 .4)) (omega (arith, c .before .before .before .before .before .before .before .before .before .before .before .before .before .before .before .before .before .before .before .before .before .before .before .before .before .pre .1 .5)))) (taken {μ = exact kind.colon ∷ aDomain ∷ exact kind.spot ∷ aUnary (c .before .before .before .before .before .before .before .before .before .before .before .before .before .before .before .before .before .before .before .before .before .before .before .before .before .args .d) (suc (c .before .before .before .before .before .before .before .before .before .before .before .before .before .before .before .before .before .before .before .before .before .before .before .before .before .args .b)) ∷ aPredRest (c .before .before .before .before .before .before .before .before .before .before .before .before .before .before .before .before .before .before .before .before .before .before .before .before .before .args .d) (c .before .before .before .before .before .before .before .before .before .before .before .before .before .before .before .before .before .before .before .before .before .before .before .before .before .args .d) (suc (c .before .before .before .before .before .before .before .before .before .before .before .before .before .before .before .before .before .before .before .before .before .before .before .before .before .args .b)) ∷ exact kind.closeParen ∷ []} {m = (c .before .before .before .before .before .before .before .before .before .before .before .before .before .before .before .before .before .before .before .before .before .before .before .before .before .args .n)} (binds (suc (c .before .before .before .before .before .before .before .before .before .before .before .before .before .before .before .before .before .before .before .before .before .before .before .before .before .args .b))) (omega arith) (bind-well (c .before .before .before .before .before .before .before .before .before .before .before .before .before .before .before .before .before .before .before .before .before .before .before .before .before .args .s .now) ((c .before .before .before .before .before .before .before .before .before .before .before .before .before .before .before .before .before .before .before .before .before .before .before .before .before .args .at) + 1 + 1) (suc (c .before .before .before .before .before .before .before .before .before .before .before .before .before .before .before .before .before .before .before .before .before .before .before .before .before .args .b)) (omega (arith, c .before .before .before .before .before .before .before .before .before .before .before .before .before .before .before .before .before .before .before .if2 .left))) (only _ kind.plain (sym (c .before .before .before .before .before .before .before .before .before .before .before .before .before .before .before .before .before .before .before .before .before .kind-at .ensures .is) ∙ c .before .before .before .before .before .before .before .before .before .before .before .before .before .before .before .before .before .before .before .before .if1 .taken) (λ γ. refl)) (next (counted {c = (c .before .before .before .before .before .before .before .before .before .before .before .before .before .before .before .before .before .before .before .before .before .before .before .before .before .args .n)} {d = (c .before .before .before .before .before .before .before .before .before .before .before .before .before .before .before .before .before .before .before .before .before .before .before .before .before .args .n) + 4} (omega arith) (framed (aDomain ∷ exact kind.spot ∷ aUnary (c .before .before .before .before .before .before .before .before .before .before .before .before .before .before .before .before .before .before .before .before .before .before .before .before .before .args .d) (suc (c .before .before .before .before .before .before .before .before .before .before .before .before .before .before .before .before .before .before .before .before .before .before .before .before .before .args .b)) ∷ aPredRest (c .before .before .before .before .before .before .before .before .before .before .before .before .before .before .before .before .before .before .before .before .before .before .before .before .before .args .d) (c .before .before .before .before .before .before .before .before .before .before .before .before .before .before .before .before .before .before .before .before .before .before .before .before .before .args .d) (suc (c .before .before .before .before .before .before .before .before .before .before .before .before .before .before .before .before .before .before .before .before .before .before .before .before .before .args .b)) ∷ exact kind.closeParen ∷ []) h)) (next (counted {c = (c .before .before .before .before .before .before .before .before .before .before .before .before .before .before .before .before .before .before .before .before .before .before .before .before .before .args .n) + 4} {d = (c .before .before .before .before .before .before .before .before .before .before .before .before .before .before .before .before .before .before .before .before .before .before .before .before .before .args .n) + 4} (omega arith) (framed (exact kind.spot ∷ aUnary (c .before .before .before .before .before .before .before .before .before .before .before .before .before .before .before .before .before .before .before .before .before .before .before .before .before .args .d) (suc (c .before .before .before .before .before .before .before .before .before .before .before .before .before .before .before .before .before .before .before .before .before .before .before .before .before .args .b)) ∷ aPredRest (c .before .before .before .before .before .before .before .before .before .before .before .before .before .before .before .before .before .before .before .before .before .before .before .before .before .args .d) (c .before .before .before .before .before .before .before .before .before .before .before .before .before .before .before .before .before .before .before .before .before .before .before .before .before .args .d) (suc (c .before .before .before .before .before .before .before .before .before .before .before .before .before .before .before .before .before .before .before .before .before .before .before .before .before .args .b)) ∷ exact kind.closeParen ∷ []) i)) (next (counted {c = (c .before .before .before .before .before .before .before .before .before .before .before .before .before .before .before .before .before .before .before .before .before .before .before .before .before .args .n) + 4} {d = (c .before .before .before .before .before .before .before .before .before .before .before .before .before .before .before .before .before .before .before .before .before .before .before .before .before .args .n) + 8} (omega arith) (framed (aUnary (c .before .before .before .before .before .before .before .before .before .before .before .before .before .before .before .before .before .before .before .before .before .before .before .before .before .args .d) (suc (c .before .before .before .before .before .before .before .before .before .before .before .before .before .before .before .before .before .before .before .before .before .before .before .before .before .args .b)) ∷ aPredRest (c .before .before .before .before .before .before .before .before .before .before .before .before .before .before .before .before .before .before .before .before .before .before .before .before .before .args .d) (c .before .before .before .before .before .before .before .before .before .before .before .before .before .before .before .before .before .before .before .before .before .before .before .before .before .args .d) (suc (c .before .before .before .before .before .before .before .before .before .before .before .before .before .before .before .before .before .before .before .before .before .before .before .before .before .args .b)) ∷ exact kind.closeParen ∷ []) j)) (fails (framed (exact kind.closeParen ∷ []) (raised (λ x. aUnary (c .before .before .before .before .before .before .before .before .before .before .before .before .before .before .before .before .before .before .before .before .before .before .before .before .before .args .d) x ∷ aPredRest (c .before .before .before .before .before .before .before .before .before .before .before .before .before .before .before .before .before .before .before .before .before .before .before .before .before .args .d) (c .before .before .before .before .before .before .before .before .before .before .before .before .before .before .before .before .before .before .before .before .before .before .before .before .before .args .d) x ∷ []) (c .before .before .before .before .before .before .before .before .before .before .before .before .before .before .before .before .before .before .before .before .before .before .before .before .before .args .b) (known (c .before .p .given .1) (c .before .before .before .before .before .pred .ensures .0)))))))) (omega arith)) (omega arith), tt)
 
 quantified-returns-4 : (t : ℕ) → quantified-lts.Need-returns-4 (quantified-claims t) (quantified-at t) quantified.Post
 unfolding computeForm
-quantified-returns-4 t c = (let room = c .before .before .before .before .before .before .before .before .before .before .before .before .before .before .before .before .before .before .pre .1 .0 in let h = (known (c .before .before .before .before .before .before .before .before .before .t .given .1) (c .before .before .before .before .before .before .before .before .before .before .before .close .ensures .reads kind.colon refl)) in let z = known-ahead _ (c .before .before .before .before .before .before .before .before .before .t .given .1) (c .before .before .before .before .before .before .before .before .before .before .before .close .ensures .ahead) in let i = (known (c .before .before .before .before .before .e .given .1) (c .before .before .before .before .before .before .before .domain .ensures .0)) in takes {μ = aDeclared (binds (suc (c .before .before .before .before .before .before .before .before .before .before .before .before .before .before .before .before .before .before .args .b))) ∷ exact kind.colon ∷ aDomain ∷ exact kind.spot ∷ aUnary (c .before .before .before .before .before .before .before .before .before .before .before .before .before .before .before .before .before .before .args .d) (suc (c .before .before .before .before .before .before .before .before .before .before .before .before .before .before .before .before .before .before .args .b)) ∷ aPredRest (c .before .before .before .before .before .before .before .before .before .before .before .before .before .before .before .before .before .before .args .d) (c .before .before .before .before .before .before .before .before .before .before .before .before .before .before .before .before .before .before .args .d) (suc (c .before .before .before .before .before .before .before .before .before .before .before .before .before .before .before .before .before .before .args .b)) ∷ exact kind.closeParen ∷ []} {m = (c .before .before .before .before .before .before .before .before .before .before .before .before .before .before .before .before .before .before .args .n)} (omega arith) (λ κ e γ. quantifier-step (c .before .before .before .before .before .before .before .before .before .before .before .before .before .before .before .before .before .before .args .d) (c .before .before .before .before .before .before .before .before .before .before .before .before .before .before .before .before .before .before .args .b) κ γ (quantifier-code κ (omega (arith, c .before .before .before .before .before .before .before .before .before .before .before .before .before .before .before .before .before .before .pre .1 .4)) (omega (arith, c .before .before .before .before .before .before .before .before .before .before .before .before .before .before .before .before .before .before .pre .1 .5)))) (taken-kind {μ = exact kind.colon ∷ aDomain ∷ exact kind.spot ∷ aUnary (c .before .before .before .before .before .before .before .before .before .before .before .before .before .before .before .before .before .before .args .d) (suc (c .before .before .before .before .before .before .before .before .before .before .before .before .before .before .before .before .before .before .args .b)) ∷ aPredRest (c .before .before .before .before .before .before .before .before .before .before .before .before .before .before .before .before .before .before .args .d) (c .before .before .before .before .before .before .before .before .before .before .before .before .before .before .before .before .before .before .args .d) (suc (c .before .before .before .before .before .before .before .before .before .before .before .before .before .before .before .before .before .before .args .b)) ∷ exact kind.closeParen ∷ []} {m = (c .before .before .before .before .before .before .before .before .before .before .before .before .before .before .before .before .before .before .args .n)} (binds (suc (c .before .before .before .before .before .before .before .before .before .before .before .before .before .before .before .before .before .before .args .b))) kind.plain (sym (c .before .before .before .before .before .before .before .before .before .before .before .before .before .before .kind-at .ensures .is) ∙ c .before .before .before .before .before .before .before .before .before .before .before .before .before .if1 .taken) (omega arith) (bind-well (c .before .before .before .before .before .before .before .before .before .before .before .before .before .before .before .before .before .before .args .s .now) ((c .before .before .before .before .before .before .before .before .before .before .before .before .before .before .before .before .before .before .args .at) + 1 + 1) (suc (c .before .before .before .before .before .before .before .before .before .before .before .before .before .before .before .before .before .before .args .b)) (omega (arith, c .before .before .before .before .before .before .before .before .before .before .before .before .if2 .left))) (λ γ. refl) (next (counted {c = (c .before .before .before .before .before .before .before .before .before .before .before .before .before .before .before .before .before .before .args .n)} {d = (c .before .before .before .before .before .before .before .before .before .before .before .before .before .before .before .before .before .before .args .n) + 4} (omega arith) (framed (aDomain ∷ exact kind.spot ∷ aUnary (c .before .before .before .before .before .before .before .before .before .before .before .before .before .before .before .before .before .before .args .d) (suc (c .before .before .before .before .before .before .before .before .before .before .before .before .before .before .before .before .before .before .args .b)) ∷ aPredRest (c .before .before .before .before .before .before .before .before .before .before .before .before .before .before .before .before .before .before .args .d) (c .before .before .before .before .before .before .before .before .before .before .before .before .before .before .before .before .before .before .args .d) (suc (c .before .before .before .before .before .before .before .before .before .before .before .before .before .before .before .before .before .before .args .b)) ∷ exact kind.closeParen ∷ []) h)) (next (counted {c = (c .before .before .before .before .before .before .before .before .before .before .before .before .before .before .before .before .before .before .args .n) + 4} {d = (c .before .before .before .before .before .before .before .before .before .before .before .before .before .before .before .before .before .before .args .n) + 4} (omega arith) (framed (exact kind.spot ∷ aUnary (c .before .before .before .before .before .before .before .before .before .before .before .before .before .before .before .before .before .before .args .d) (suc (c .before .before .before .before .before .before .before .before .before .before .before .before .before .before .before .before .before .before .args .b)) ∷ aPredRest (c .before .before .before .before .before .before .before .before .before .before .before .before .before .before .before .before .before .before .args .d) (c .before .before .before .before .before .before .before .before .before .before .before .before .before .before .before .before .before .before .args .d) (suc (c .before .before .before .before .before .before .before .before .before .before .before .before .before .before .before .before .before .before .args .b)) ∷ exact kind.closeParen ∷ []) i)) (fails (framed (aUnary (c .before .before .before .before .before .before .before .before .before .before .before .before .before .before .before .before .before .before .args .d) (suc (c .before .before .before .before .before .before .before .before .before .before .before .before .before .before .before .before .before .before .args .b)) ∷ aPredRest (c .before .before .before .before .before .before .before .before .before .before .before .before .before .before .before .before .before .before .args .d) (c .before .before .before .before .before .before .before .before .before .before .before .before .before .before .before .before .before .before .args .d) (suc (c .before .before .before .before .before .before .before .before .before .before .before .before .before .before .before .before .before .before .args .b)) ∷ exact kind.closeParen ∷ []) (known (c .before .p2 .given .1) (c .before .before .before .close2 .ensures .reads kind.spot refl)))))) (omega arith)) (omega arith), tt)
+quantified-returns-4 t c = (let room = c .before .before .before .before .before .before .before .before .before .before .before .before .before .before .before .before .before .before .pre .1 .0 in let h = (known (c .before .before .before .before .before .before .before .before .before .t .given .1) (c .before .before .before .before .before .before .before .before .before .before .before .close .ensures .reads kind.colon refl)) in let z = known-ahead _ (c .before .before .before .before .before .before .before .before .before .t .given .1) (c .before .before .before .before .before .before .before .before .before .before .before .close .ensures .ahead) in let i = (known (c .before .before .before .before .before .e .given .1) (c .before .before .before .before .before .before .before .domain .ensures .0)) in takes {μ = aDeclared (binds (suc (c .before .before .before .before .before .before .before .before .before .before .before .before .before .before .before .before .before .before .args .b))) ∷ exact kind.colon ∷ aDomain ∷ exact kind.spot ∷ aUnary (c .before .before .before .before .before .before .before .before .before .before .before .before .before .before .before .before .before .before .args .d) (suc (c .before .before .before .before .before .before .before .before .before .before .before .before .before .before .before .before .before .before .args .b)) ∷ aPredRest (c .before .before .before .before .before .before .before .before .before .before .before .before .before .before .before .before .before .before .args .d) (c .before .before .before .before .before .before .before .before .before .before .before .before .before .before .before .before .before .before .args .d) (suc (c .before .before .before .before .before .before .before .before .before .before .before .before .before .before .before .before .before .before .args .b)) ∷ exact kind.closeParen ∷ []} {m = (c .before .before .before .before .before .before .before .before .before .before .before .before .before .before .before .before .before .before .args .n)} (omega arith) (λ κ e γ. quantifier-step (c .before .before .before .before .before .before .before .before .before .before .before .before .before .before .before .before .before .before .args .d) (c .before .before .before .before .before .before .before .before .before .before .before .before .before .before .before .before .before .before .args .b) κ γ (quantifier-code κ (omega (arith, c .before .before .before .before .before .before .before .before .before .before .before .before .before .before .before .before .before .before .pre .1 .4)) (omega (arith, c .before .before .before .before .before .before .before .before .before .before .before .before .before .before .before .before .before .before .pre .1 .5)))) (taken {μ = exact kind.colon ∷ aDomain ∷ exact kind.spot ∷ aUnary (c .before .before .before .before .before .before .before .before .before .before .before .before .before .before .before .before .before .before .args .d) (suc (c .before .before .before .before .before .before .before .before .before .before .before .before .before .before .before .before .before .before .args .b)) ∷ aPredRest (c .before .before .before .before .before .before .before .before .before .before .before .before .before .before .before .before .before .before .args .d) (c .before .before .before .before .before .before .before .before .before .before .before .before .before .before .before .before .before .before .args .d) (suc (c .before .before .before .before .before .before .before .before .before .before .before .before .before .before .before .before .before .before .args .b)) ∷ exact kind.closeParen ∷ []} {m = (c .before .before .before .before .before .before .before .before .before .before .before .before .before .before .before .before .before .before .args .n)} (binds (suc (c .before .before .before .before .before .before .before .before .before .before .before .before .before .before .before .before .before .before .args .b))) (omega arith) (bind-well (c .before .before .before .before .before .before .before .before .before .before .before .before .before .before .before .before .before .before .args .s .now) ((c .before .before .before .before .before .before .before .before .before .before .before .before .before .before .before .before .before .before .args .at) + 1 + 1) (suc (c .before .before .before .before .before .before .before .before .before .before .before .before .before .before .before .before .before .before .args .b)) (omega (arith, c .before .before .before .before .before .before .before .before .before .before .before .before .if2 .left))) (only _ kind.plain (sym (c .before .before .before .before .before .before .before .before .before .before .before .before .before .before .kind-at .ensures .is) ∙ c .before .before .before .before .before .before .before .before .before .before .before .before .before .if1 .taken) (λ γ. refl)) (next (counted {c = (c .before .before .before .before .before .before .before .before .before .before .before .before .before .before .before .before .before .before .args .n)} {d = (c .before .before .before .before .before .before .before .before .before .before .before .before .before .before .before .before .before .before .args .n) + 4} (omega arith) (framed (aDomain ∷ exact kind.spot ∷ aUnary (c .before .before .before .before .before .before .before .before .before .before .before .before .before .before .before .before .before .before .args .d) (suc (c .before .before .before .before .before .before .before .before .before .before .before .before .before .before .before .before .before .before .args .b)) ∷ aPredRest (c .before .before .before .before .before .before .before .before .before .before .before .before .before .before .before .before .before .before .args .d) (c .before .before .before .before .before .before .before .before .before .before .before .before .before .before .before .before .before .before .args .d) (suc (c .before .before .before .before .before .before .before .before .before .before .before .before .before .before .before .before .before .before .args .b)) ∷ exact kind.closeParen ∷ []) h)) (next (counted {c = (c .before .before .before .before .before .before .before .before .before .before .before .before .before .before .before .before .before .before .args .n) + 4} {d = (c .before .before .before .before .before .before .before .before .before .before .before .before .before .before .before .before .before .before .args .n) + 4} (omega arith) (framed (exact kind.spot ∷ aUnary (c .before .before .before .before .before .before .before .before .before .before .before .before .before .before .before .before .before .before .args .d) (suc (c .before .before .before .before .before .before .before .before .before .before .before .before .before .before .before .before .before .before .args .b)) ∷ aPredRest (c .before .before .before .before .before .before .before .before .before .before .before .before .before .before .before .before .before .before .args .d) (c .before .before .before .before .before .before .before .before .before .before .before .before .before .before .before .before .before .before .args .d) (suc (c .before .before .before .before .before .before .before .before .before .before .before .before .before .before .before .before .before .before .args .b)) ∷ exact kind.closeParen ∷ []) i)) (fails (framed (aUnary (c .before .before .before .before .before .before .before .before .before .before .before .before .before .before .before .before .before .before .args .d) (suc (c .before .before .before .before .before .before .before .before .before .before .before .before .before .before .before .before .before .before .args .b)) ∷ aPredRest (c .before .before .before .before .before .before .before .before .before .before .before .before .before .before .before .before .before .before .args .d) (c .before .before .before .before .before .before .before .before .before .before .before .before .before .before .before .before .before .before .args .d) (suc (c .before .before .before .before .before .before .before .before .before .before .before .before .before .before .before .before .before .before .args .b)) ∷ exact kind.closeParen ∷ []) (known (c .before .p2 .given .1) (c .before .before .before .close2 .ensures .reads kind.spot refl)))))) (omega arith)) (omega arith), tt)
 
 quantified-returns-5 : (t : ℕ) → quantified-lts.Need-returns-5 (quantified-claims t) (quantified-at t) quantified.Post
 unfolding computeForm
-quantified-returns-5 t c = (let room = c .before .before .before .before .before .before .before .before .before .before .before .before .before .before .pre .1 .0 in let h = (known (c .before .before .before .before .before .t .given .1) (c .before .before .before .before .before .before .before .close .ensures .reads kind.colon refl)) in let z = known-ahead _ (c .before .before .before .before .before .t .given .1) (c .before .before .before .before .before .before .before .close .ensures .ahead) in takes {μ = aDeclared (binds (suc (c .before .before .before .before .before .before .before .before .before .before .before .before .before .before .args .b))) ∷ exact kind.colon ∷ aDomain ∷ exact kind.spot ∷ aUnary (c .before .before .before .before .before .before .before .before .before .before .before .before .before .before .args .d) (suc (c .before .before .before .before .before .before .before .before .before .before .before .before .before .before .args .b)) ∷ aPredRest (c .before .before .before .before .before .before .before .before .before .before .before .before .before .before .args .d) (c .before .before .before .before .before .before .before .before .before .before .before .before .before .before .args .d) (suc (c .before .before .before .before .before .before .before .before .before .before .before .before .before .before .args .b)) ∷ exact kind.closeParen ∷ []} {m = (c .before .before .before .before .before .before .before .before .before .before .before .before .before .before .args .n)} (omega arith) (λ κ e γ. quantifier-step (c .before .before .before .before .before .before .before .before .before .before .before .before .before .before .args .d) (c .before .before .before .before .before .before .before .before .before .before .before .before .before .before .args .b) κ γ (quantifier-code κ (omega (arith, c .before .before .before .before .before .before .before .before .before .before .before .before .before .before .pre .1 .4)) (omega (arith, c .before .before .before .before .before .before .before .before .before .before .before .before .before .before .pre .1 .5)))) (taken-kind {μ = exact kind.colon ∷ aDomain ∷ exact kind.spot ∷ aUnary (c .before .before .before .before .before .before .before .before .before .before .before .before .before .before .args .d) (suc (c .before .before .before .before .before .before .before .before .before .before .before .before .before .before .args .b)) ∷ aPredRest (c .before .before .before .before .before .before .before .before .before .before .before .before .before .before .args .d) (c .before .before .before .before .before .before .before .before .before .before .before .before .before .before .args .d) (suc (c .before .before .before .before .before .before .before .before .before .before .before .before .before .before .args .b)) ∷ exact kind.closeParen ∷ []} {m = (c .before .before .before .before .before .before .before .before .before .before .before .before .before .before .args .n)} (binds (suc (c .before .before .before .before .before .before .before .before .before .before .before .before .before .before .args .b))) kind.plain (sym (c .before .before .before .before .before .before .before .before .before .before .kind-at .ensures .is) ∙ c .before .before .before .before .before .before .before .before .before .if1 .taken) (omega arith) (bind-well (c .before .before .before .before .before .before .before .before .before .before .before .before .before .before .args .s .now) ((c .before .before .before .before .before .before .before .before .before .before .before .before .before .before .args .at) + 1 + 1) (suc (c .before .before .before .before .before .before .before .before .before .before .before .before .before .before .args .b)) (omega (arith, c .before .before .before .before .before .before .before .before .if2 .left))) (λ γ. refl) (next (counted {c = (c .before .before .before .before .before .before .before .before .before .before .before .before .before .before .args .n)} {d = (c .before .before .before .before .before .before .before .before .before .before .before .before .before .before .args .n) + 4} (omega arith) (framed (aDomain ∷ exact kind.spot ∷ aUnary (c .before .before .before .before .before .before .before .before .before .before .before .before .before .before .args .d) (suc (c .before .before .before .before .before .before .before .before .before .before .before .before .before .before .args .b)) ∷ aPredRest (c .before .before .before .before .before .before .before .before .before .before .before .before .before .before .args .d) (c .before .before .before .before .before .before .before .before .before .before .before .before .before .before .args .d) (suc (c .before .before .before .before .before .before .before .before .before .before .before .before .before .before .args .b)) ∷ exact kind.closeParen ∷ []) h)) (fails (framed (exact kind.spot ∷ aUnary (c .before .before .before .before .before .before .before .before .before .before .before .before .before .before .args .d) (suc (c .before .before .before .before .before .before .before .before .before .before .before .before .before .before .args .b)) ∷ aPredRest (c .before .before .before .before .before .before .before .before .before .before .before .before .before .before .args .d) (c .before .before .before .before .before .before .before .before .before .before .before .before .before .before .args .d) (suc (c .before .before .before .before .before .before .before .before .before .before .before .before .before .before .args .b)) ∷ exact kind.closeParen ∷ []) (known (c .before .p3 .given .1) (c .before .before .before .domain .ensures .0))))) (omega arith)) (omega arith), tt)
+quantified-returns-5 t c = (let room = c .before .before .before .before .before .before .before .before .before .before .before .before .before .before .pre .1 .0 in let h = (known (c .before .before .before .before .before .t .given .1) (c .before .before .before .before .before .before .before .close .ensures .reads kind.colon refl)) in let z = known-ahead _ (c .before .before .before .before .before .t .given .1) (c .before .before .before .before .before .before .before .close .ensures .ahead) in takes {μ = aDeclared (binds (suc (c .before .before .before .before .before .before .before .before .before .before .before .before .before .before .args .b))) ∷ exact kind.colon ∷ aDomain ∷ exact kind.spot ∷ aUnary (c .before .before .before .before .before .before .before .before .before .before .before .before .before .before .args .d) (suc (c .before .before .before .before .before .before .before .before .before .before .before .before .before .before .args .b)) ∷ aPredRest (c .before .before .before .before .before .before .before .before .before .before .before .before .before .before .args .d) (c .before .before .before .before .before .before .before .before .before .before .before .before .before .before .args .d) (suc (c .before .before .before .before .before .before .before .before .before .before .before .before .before .before .args .b)) ∷ exact kind.closeParen ∷ []} {m = (c .before .before .before .before .before .before .before .before .before .before .before .before .before .before .args .n)} (omega arith) (λ κ e γ. quantifier-step (c .before .before .before .before .before .before .before .before .before .before .before .before .before .before .args .d) (c .before .before .before .before .before .before .before .before .before .before .before .before .before .before .args .b) κ γ (quantifier-code κ (omega (arith, c .before .before .before .before .before .before .before .before .before .before .before .before .before .before .pre .1 .4)) (omega (arith, c .before .before .before .before .before .before .before .before .before .before .before .before .before .before .pre .1 .5)))) (taken {μ = exact kind.colon ∷ aDomain ∷ exact kind.spot ∷ aUnary (c .before .before .before .before .before .before .before .before .before .before .before .before .before .before .args .d) (suc (c .before .before .before .before .before .before .before .before .before .before .before .before .before .before .args .b)) ∷ aPredRest (c .before .before .before .before .before .before .before .before .before .before .before .before .before .before .args .d) (c .before .before .before .before .before .before .before .before .before .before .before .before .before .before .args .d) (suc (c .before .before .before .before .before .before .before .before .before .before .before .before .before .before .args .b)) ∷ exact kind.closeParen ∷ []} {m = (c .before .before .before .before .before .before .before .before .before .before .before .before .before .before .args .n)} (binds (suc (c .before .before .before .before .before .before .before .before .before .before .before .before .before .before .args .b))) (omega arith) (bind-well (c .before .before .before .before .before .before .before .before .before .before .before .before .before .before .args .s .now) ((c .before .before .before .before .before .before .before .before .before .before .before .before .before .before .args .at) + 1 + 1) (suc (c .before .before .before .before .before .before .before .before .before .before .before .before .before .before .args .b)) (omega (arith, c .before .before .before .before .before .before .before .before .if2 .left))) (only _ kind.plain (sym (c .before .before .before .before .before .before .before .before .before .before .kind-at .ensures .is) ∙ c .before .before .before .before .before .before .before .before .before .if1 .taken) (λ γ. refl)) (next (counted {c = (c .before .before .before .before .before .before .before .before .before .before .before .before .before .before .args .n)} {d = (c .before .before .before .before .before .before .before .before .before .before .before .before .before .before .args .n) + 4} (omega arith) (framed (aDomain ∷ exact kind.spot ∷ aUnary (c .before .before .before .before .before .before .before .before .before .before .before .before .before .before .args .d) (suc (c .before .before .before .before .before .before .before .before .before .before .before .before .before .before .args .b)) ∷ aPredRest (c .before .before .before .before .before .before .before .before .before .before .before .before .before .before .args .d) (c .before .before .before .before .before .before .before .before .before .before .before .before .before .before .args .d) (suc (c .before .before .before .before .before .before .before .before .before .before .before .before .before .before .args .b)) ∷ exact kind.closeParen ∷ []) h)) (fails (framed (exact kind.spot ∷ aUnary (c .before .before .before .before .before .before .before .before .before .before .before .before .before .before .args .d) (suc (c .before .before .before .before .before .before .before .before .before .before .before .before .before .before .args .b)) ∷ aPredRest (c .before .before .before .before .before .before .before .before .before .before .before .before .before .before .args .d) (c .before .before .before .before .before .before .before .before .before .before .before .before .before .before .args .d) (suc (c .before .before .before .before .before .before .before .before .before .before .before .before .before .before .args .b)) ∷ exact kind.closeParen ∷ []) (known (c .before .p3 .given .1) (c .before .before .before .domain .ensures .0))))) (omega arith)) (omega arith), tt)
 
 quantified-returns-6 : (t : ℕ) → quantified-lts.Need-returns-6 (quantified-claims t) (quantified-at t) quantified.Post
 unfolding computeForm
-quantified-returns-6 t c = (let room = c .before .before .before .before .before .before .before .before .before .before .pre .1 .0 in takes {μ = aDeclared (binds (suc (c .before .before .before .before .before .before .before .before .before .before .args .b))) ∷ exact kind.colon ∷ aDomain ∷ exact kind.spot ∷ aUnary (c .before .before .before .before .before .before .before .before .before .before .args .d) (suc (c .before .before .before .before .before .before .before .before .before .before .args .b)) ∷ aPredRest (c .before .before .before .before .before .before .before .before .before .before .args .d) (c .before .before .before .before .before .before .before .before .before .before .args .d) (suc (c .before .before .before .before .before .before .before .before .before .before .args .b)) ∷ exact kind.closeParen ∷ []} {m = (c .before .before .before .before .before .before .before .before .before .before .args .n)} (omega arith) (λ κ e γ. quantifier-step (c .before .before .before .before .before .before .before .before .before .before .args .d) (c .before .before .before .before .before .before .before .before .before .before .args .b) κ γ (quantifier-code κ (omega (arith, c .before .before .before .before .before .before .before .before .before .before .pre .1 .4)) (omega (arith, c .before .before .before .before .before .before .before .before .before .before .pre .1 .5)))) (taken-kind {μ = exact kind.colon ∷ aDomain ∷ exact kind.spot ∷ aUnary (c .before .before .before .before .before .before .before .before .before .before .args .d) (suc (c .before .before .before .before .before .before .before .before .before .before .args .b)) ∷ aPredRest (c .before .before .before .before .before .before .before .before .before .before .args .d) (c .before .before .before .before .before .before .before .before .before .before .args .d) (suc (c .before .before .before .before .before .before .before .before .before .before .args .b)) ∷ exact kind.closeParen ∷ []} {m = (c .before .before .before .before .before .before .before .before .before .before .args .n)} (binds (suc (c .before .before .before .before .before .before .before .before .before .before .args .b))) kind.plain (sym (c .before .before .before .before .before .before .kind-at .ensures .is) ∙ c .before .before .before .before .before .if1 .taken) (omega arith) (bind-well (c .before .before .before .before .before .before .before .before .before .before .args .s .now) ((c .before .before .before .before .before .before .before .before .before .before .args .at) + 1 + 1) (suc (c .before .before .before .before .before .before .before .before .before .before .args .b)) (omega (arith, c .before .before .before .before .if2 .left))) (λ γ. refl) (fails (framed (aDomain ∷ exact kind.spot ∷ aUnary (c .before .before .before .before .before .before .before .before .before .before .args .d) (suc (c .before .before .before .before .before .before .before .before .before .before .args .b)) ∷ aPredRest (c .before .before .before .before .before .before .before .before .before .before .args .d) (c .before .before .before .before .before .before .before .before .before .before .args .d) (suc (c .before .before .before .before .before .before .before .before .before .before .args .b)) ∷ exact kind.closeParen ∷ []) (known (c .before .p4 .given .1) (c .before .before .before .close .ensures .reads kind.colon refl)))) (omega arith)) (omega arith), tt)
+quantified-returns-6 t c = (let room = c .before .before .before .before .before .before .before .before .before .before .pre .1 .0 in takes {μ = aDeclared (binds (suc (c .before .before .before .before .before .before .before .before .before .before .args .b))) ∷ exact kind.colon ∷ aDomain ∷ exact kind.spot ∷ aUnary (c .before .before .before .before .before .before .before .before .before .before .args .d) (suc (c .before .before .before .before .before .before .before .before .before .before .args .b)) ∷ aPredRest (c .before .before .before .before .before .before .before .before .before .before .args .d) (c .before .before .before .before .before .before .before .before .before .before .args .d) (suc (c .before .before .before .before .before .before .before .before .before .before .args .b)) ∷ exact kind.closeParen ∷ []} {m = (c .before .before .before .before .before .before .before .before .before .before .args .n)} (omega arith) (λ κ e γ. quantifier-step (c .before .before .before .before .before .before .before .before .before .before .args .d) (c .before .before .before .before .before .before .before .before .before .before .args .b) κ γ (quantifier-code κ (omega (arith, c .before .before .before .before .before .before .before .before .before .before .pre .1 .4)) (omega (arith, c .before .before .before .before .before .before .before .before .before .before .pre .1 .5)))) (taken {μ = exact kind.colon ∷ aDomain ∷ exact kind.spot ∷ aUnary (c .before .before .before .before .before .before .before .before .before .before .args .d) (suc (c .before .before .before .before .before .before .before .before .before .before .args .b)) ∷ aPredRest (c .before .before .before .before .before .before .before .before .before .before .args .d) (c .before .before .before .before .before .before .before .before .before .before .args .d) (suc (c .before .before .before .before .before .before .before .before .before .before .args .b)) ∷ exact kind.closeParen ∷ []} {m = (c .before .before .before .before .before .before .before .before .before .before .args .n)} (binds (suc (c .before .before .before .before .before .before .before .before .before .before .args .b))) (omega arith) (bind-well (c .before .before .before .before .before .before .before .before .before .before .args .s .now) ((c .before .before .before .before .before .before .before .before .before .before .args .at) + 1 + 1) (suc (c .before .before .before .before .before .before .before .before .before .before .args .b)) (omega (arith, c .before .before .before .before .if2 .left))) (only _ kind.plain (sym (c .before .before .before .before .before .before .kind-at .ensures .is) ∙ c .before .before .before .before .before .if1 .taken) (λ γ. refl)) (fails (framed (aDomain ∷ exact kind.spot ∷ aUnary (c .before .before .before .before .before .before .before .before .before .before .args .d) (suc (c .before .before .before .before .before .before .before .before .before .before .args .b)) ∷ aPredRest (c .before .before .before .before .before .before .before .before .before .before .args .d) (c .before .before .before .before .before .before .before .before .before .before .args .d) (suc (c .before .before .before .before .before .before .before .before .before .before .args .b)) ∷ exact kind.closeParen ∷ []) (known (c .before .p4 .given .1) (c .before .before .before .close .ensures .reads kind.colon refl)))) (omega arith)) (omega arith), tt)
 
 quantified-returns-7 : (t : ℕ) → quantified-lts.Need-returns-7 (quantified-claims t) (quantified-at t) quantified.Post
 unfolding computeForm
@@ -1277,7 +1277,7 @@ such-add-t23 t c = search needs
 
 such-returns : (t : ℕ) → such-lts.Need-returns (such-claims t) (such-at t) such.Post
 unfolding computeForm
-such-returns t c = (let room = c .before .before .before .before .pre .1 .0 in deeper-kind (λ γ. aNamed (c .before .before .before .before .args .d) (c .before .before .before .before .args .b) ∷ γ) (binds (suc (c .before .before .before .before .args .b))) kind.plain (c .before .before .before .before .pre .1 .5) (omega (arith, inside (c .before .before .before .before .args .s .now) ((c .before .before .before .before .args .at) + 1) (omega (arith, c .before .before .before .before .pre .1 .5)))) (bound-deep (c .before .before .before .before .args .s .now) (c .before .before .before .before .args .at) (suc (c .before .before .before .before .args .b)) (omega arith) (c .before .before .before .before .pre .1 .6)) (λ γ. refl), tt)
+such-returns t c = (let room = c .before .before .before .before .pre .1 .0 in deeper {ρ = λ γ. aNamed (c .before .before .before .before .args .d) (c .before .before .before .before .args .b) ∷ γ} (binds (suc (c .before .before .before .before .args .b))) (omega (arith, inside (c .before .before .before .before .args .s .now) ((c .before .before .before .before .args .at) + 1) (omega (arith, c .before .before .before .before .pre .1 .5)))) (bound-deep (c .before .before .before .before .args .s .now) (c .before .before .before .before .args .at) (suc (c .before .before .before .before .args .b)) (omega arith) (c .before .before .before .before .pre .1 .6)) (only _ kind.plain (c .before .before .before .before .pre .1 .5) (λ γ. refl)), tt)
 
 such-add-g : (t : ℕ) → such-lts.Need-add-g (such-claims t) (such-at t) such.Post
 such-add-g t c = search needs
@@ -1298,7 +1298,7 @@ such-name-of-requires t c κs = search needs
 
 such-returns-2 : (t : ℕ) → such-lts.Need-returns-2 (such-claims t) (such-at t) such.Post
 unfolding computeForm
-such-returns-2 t c = (let room = c .before .before .before .before .before .before .before .pre .1 .0 in let z = inside (c .before .before .before .before .before .before .before .args .s .now) ((c .before .before .before .before .before .before .before .args .at) + 1 + 1) (omega (arith, c .before .before .before .before .before .before .before .pre .1 .6)) in taken-kind {μ = aNamed (c .before .before .before .before .before .before .before .args .d) (c .before .before .before .before .before .before .before .args .b) ∷ []} {m = (c .before .before .before .before .before .before .before .args .n)} (binds (suc (c .before .before .before .before .before .before .before .args .b))) kind.plain (c .before .before .before .before .before .before .before .pre .1 .5) (omega (arith, inside (c .before .before .before .before .before .before .before .args .s .now) ((c .before .before .before .before .before .before .before .args .at) + 1 + 1) (omega (arith, c .before .before .before .before .before .before .before .pre .1 .6)))) (bind-well (c .before .before .before .before .before .before .before .args .s .now) ((c .before .before .before .before .before .before .before .args .at) + 1) (suc (c .before .before .before .before .before .before .before .args .b)) (omega (arith, c .before .before .before .if1 .left))) (λ γ. refl) (takes-kind {μ = aName ∷ exact kind.bar ∷ aUnary (c .before .before .before .before .before .before .before .args .d) (suc (c .before .before .before .before .before .before .before .args .b)) ∷ aPredRest (c .before .before .before .before .before .before .before .args .d) (c .before .before .before .before .before .before .before .args .d) (suc (c .before .before .before .before .before .before .before .args .b)) ∷ exact kind.closeBrace ∷ []} {m = (c .before .before .before .before .before .before .before .args .n)} kind.colon (c .before .before .before .before .before .before .before .pre .1 .6) (inside (c .before .before .before .before .before .before .before .args .s .now) ((c .before .before .before .before .before .before .before .args .at) + 1 + 1) (omega (arith, c .before .before .before .before .before .before .before .pre .1 .6))) (λ γ. refl) (stops (omega arith) (λ κ e γ. name-step κ _ (c .before .name-of .ensures .classes .class κ (e ∙ sym (c .before .before .kind-at .ensures .is)) ∙ c .if2 .taken)) (λ γ. refl)) (omega arith)) (omega arith), tt)
+such-returns-2 t c = (let room = c .before .before .before .before .before .before .before .pre .1 .0 in let z = inside (c .before .before .before .before .before .before .before .args .s .now) ((c .before .before .before .before .before .before .before .args .at) + 1 + 1) (omega (arith, c .before .before .before .before .before .before .before .pre .1 .6)) in taken {μ = aNamed (c .before .before .before .before .before .before .before .args .d) (c .before .before .before .before .before .before .before .args .b) ∷ []} {m = (c .before .before .before .before .before .before .before .args .n)} (binds (suc (c .before .before .before .before .before .before .before .args .b))) (omega (arith, inside (c .before .before .before .before .before .before .before .args .s .now) ((c .before .before .before .before .before .before .before .args .at) + 1 + 1) (omega (arith, c .before .before .before .before .before .before .before .pre .1 .6)))) (bind-well (c .before .before .before .before .before .before .before .args .s .now) ((c .before .before .before .before .before .before .before .args .at) + 1) (suc (c .before .before .before .before .before .before .before .args .b)) (omega (arith, c .before .before .before .if1 .left))) (only _ kind.plain (c .before .before .before .before .before .before .before .pre .1 .5) (λ γ. refl)) (takes {μ = aName ∷ exact kind.bar ∷ aUnary (c .before .before .before .before .before .before .before .args .d) (suc (c .before .before .before .before .before .before .before .args .b)) ∷ aPredRest (c .before .before .before .before .before .before .before .args .d) (c .before .before .before .before .before .before .before .args .d) (suc (c .before .before .before .before .before .before .before .args .b)) ∷ exact kind.closeBrace ∷ []} {m = (c .before .before .before .before .before .before .before .args .n)} (inside (c .before .before .before .before .before .before .before .args .s .now) ((c .before .before .before .before .before .before .before .args .at) + 1 + 1) (omega (arith, c .before .before .before .before .before .before .before .pre .1 .6))) (only _ kind.colon (c .before .before .before .before .before .before .before .pre .1 .6) (λ γ. refl)) (stops (omega arith) (λ κ e γ. name-step κ _ (c .before .name-of .ensures .classes .class κ (e ∙ sym (c .before .before .kind-at .ensures .is)) ∙ c .if2 .taken)) (λ γ. refl)) (omega arith)) (omega arith), tt)
 
 such-add-close : (t : ℕ) → such-lts.Need-add-close (such-claims t) (such-at t) such.Post
 such-add-close t c = let room = c .before .before .before .before .before .before .before .pre .1 .0 in search needs
@@ -1354,18 +1354,18 @@ such-same-length t c = search needs
 
 such-returns-3 : (t : ℕ) → such-lts.Need-returns-3 (such-claims t) (such-at t) such.Post
 unfolding computeForm
-such-returns-3 t c = (let room = c .before .before .before .before .before .before .before .before .before .before .before .before .before .before .before .before .before .before .before .before .before .before .before .before .before .before .before .before .before .pre .1 .0 in let h = (known (c .before .before .before .before .before .before .before .before .before .before .before .before .before .before .before .before .before .before .before .e .given .1) (c .before .before .before .before .before .before .before .before .before .before .before .before .before .before .before .before .before .before .before .before .before .close .ensures .reads kind.bar refl)) in let i = known-ahead _ (c .before .before .before .before .before .before .before .before .before .before .before .before .before .before .before .before .before .before .before .e .given .1) (c .before .before .before .before .before .before .before .before .before .before .before .before .before .before .before .before .before .before .before .before .before .close .ensures .ahead) in let j = (known (c .before .before .before .before .before .before .before .before .before .before .before .before .f .given .1) (c .before .before .before .before .before .before .before .before .before .before .before .before .before .before .before .before .pred .ensures .0)) in taken-kind {μ = aNamed (c .before .before .before .before .before .before .before .before .before .before .before .before .before .before .before .before .before .before .before .before .before .before .before .before .before .before .before .before .before .args .d) (c .before .before .before .before .before .before .before .before .before .before .before .before .before .before .before .before .before .before .before .before .before .before .before .before .before .before .before .before .before .args .b) ∷ []} {m = (c .before .before .before .before .before .before .before .before .before .before .before .before .before .before .before .before .before .before .before .before .before .before .before .before .before .before .before .before .before .args .n)} (binds (suc (c .before .before .before .before .before .before .before .before .before .before .before .before .before .before .before .before .before .before .before .before .before .before .before .before .before .before .before .before .before .args .b))) kind.plain (c .before .before .before .before .before .before .before .before .before .before .before .before .before .before .before .before .before .before .before .before .before .before .before .before .before .before .before .before .before .pre .1 .5) (omega (arith, inside (c .before .before .before .before .before .before .before .before .before .before .before .before .before .before .before .before .before .before .before .before .before .before .before .before .before .before .before .before .before .args .s .now) ((c .before .before .before .before .before .before .before .before .before .before .before .before .before .before .before .before .before .before .before .before .before .before .before .before .before .before .before .before .before .args .at) + 1 + 1) (omega (arith, c .before .before .before .before .before .before .before .before .before .before .before .before .before .before .before .before .before .before .before .before .before .before .before .before .before .before .before .before .before .pre .1 .6)))) (bind-well (c .before .before .before .before .before .before .before .before .before .before .before .before .before .before .before .before .before .before .before .before .before .before .before .before .before .before .before .before .before .args .s .now) ((c .before .before .before .before .before .before .before .before .before .before .before .before .before .before .before .before .before .before .before .before .before .before .before .before .before .before .before .before .before .args .at) + 1) (suc (c .before .before .before .before .before .before .before .before .before .before .before .before .before .before .before .before .before .before .before .before .before .before .before .before .before .before .before .before .before .args .b)) (omega (arith, c .before .before .before .before .before .before .before .before .before .before .before .before .before .before .before .before .before .before .before .before .before .before .before .before .before .if1 .left))) (λ γ. refl) (takes-kind {μ = aName ∷ exact kind.bar ∷ aUnary (c .before .before .before .before .before .before .before .before .before .before .before .before .before .before .before .before .before .before .before .before .before .before .before .before .before .before .before .before .before .args .d) (suc (c .before .before .before .before .before .before .before .before .before .before .before .before .before .before .before .before .before .before .before .before .before .before .before .before .before .before .before .before .before .args .b)) ∷ aPredRest (c .before .before .before .before .before .before .before .before .before .before .before .before .before .before .before .before .before .before .before .before .before .before .before .before .before .before .before .before .before .args .d) (c .before .before .before .before .before .before .before .before .before .before .before .before .before .before .before .before .before .before .before .before .before .before .before .before .before .before .before .before .before .args .d) (suc (c .before .before .before .before .before .before .before .before .before .before .before .before .before .before .before .before .before .before .before .before .before .before .before .before .before .before .before .before .before .args .b)) ∷ exact kind.closeBrace ∷ []} {m = (c .before .before .before .before .before .before .before .before .before .before .before .before .before .before .before .before .before .before .before .before .before .before .before .before .before .before .before .before .before .args .n)} kind.colon (c .before .before .before .before .before .before .before .before .before .before .before .before .before .before .before .before .before .before .before .before .before .before .before .before .before .before .before .before .before .pre .1 .6) (inside (c .before .before .before .before .before .before .before .before .before .before .before .before .before .before .before .before .before .before .before .before .before .before .before .before .before .before .before .before .before .args .s .now) ((c .before .before .before .before .before .before .before .before .before .before .before .before .before .before .before .before .before .before .before .before .before .before .before .before .before .before .before .before .before .args .at) + 1 + 1) (omega (arith, c .before .before .before .before .before .before .before .before .before .before .before .before .before .before .before .before .before .before .before .before .before .before .before .before .before .before .before .before .before .pre .1 .6))) (λ γ. refl) (takes {μ = exact kind.bar ∷ aUnary (c .before .before .before .before .before .before .before .before .before .before .before .before .before .before .before .before .before .before .before .before .before .before .before .before .before .before .before .before .before .args .d) (suc (c .before .before .before .before .before .before .before .before .before .before .before .before .before .before .before .before .before .before .before .before .before .before .before .before .before .before .before .before .before .args .b)) ∷ aPredRest (c .before .before .before .before .before .before .before .before .before .before .before .before .before .before .before .before .before .before .before .before .before .before .before .before .before .before .before .before .before .args .d) (c .before .before .before .before .before .before .before .before .before .before .before .before .before .before .before .before .before .before .before .before .before .before .before .before .before .before .before .before .before .args .d) (suc (c .before .before .before .before .before .before .before .before .before .before .before .before .before .before .before .before .before .before .before .before .before .before .before .before .before .before .before .before .before .args .b)) ∷ exact kind.closeBrace ∷ []} {m = (c .before .before .before .before .before .before .before .before .before .before .before .before .before .before .before .before .before .before .before .before .before .before .before .before .before .before .before .before .before .args .n) + 4} (omega arith) (λ κ e γ. name-taken κ _ (λ q. c .before .before .before .before .before .before .before .before .before .before .before .before .before .before .before .before .before .before .before .before .before .before .if2 .left (sym (c .before .before .before .before .before .before .before .before .before .before .before .before .before .before .before .before .before .before .before .before .before .before .before .name-of .ensures .classes .class κ (e ∙ sym (c .before .before .before .before .before .before .before .before .before .before .before .before .before .before .before .before .before .before .before .before .before .before .before .before .kind-at .ensures .is))) ∙ q))) (next (counted {c = (c .before .before .before .before .before .before .before .before .before .before .before .before .before .before .before .before .before .before .before .before .before .before .before .before .before .before .before .before .before .args .n) + 4} {d = (c .before .before .before .before .before .before .before .before .before .before .before .before .before .before .before .before .before .before .before .before .before .before .before .before .before .before .before .before .before .args .n) + 8} (omega arith) (framed (aUnary (c .before .before .before .before .before .before .before .before .before .before .before .before .before .before .before .before .before .before .before .before .before .before .before .before .before .before .before .before .before .args .d) (suc (c .before .before .before .before .before .before .before .before .before .before .before .before .before .before .before .before .before .before .before .before .before .before .before .before .before .before .before .before .before .args .b)) ∷ aPredRest (c .before .before .before .before .before .before .before .before .before .before .before .before .before .before .before .before .before .before .before .before .before .before .before .before .before .before .before .before .before .args .d) (c .before .before .before .before .before .before .before .before .before .before .before .before .before .before .before .before .before .before .before .before .before .before .before .before .before .before .before .before .before .args .d) (suc (c .before .before .before .before .before .before .before .before .before .before .before .before .before .before .before .before .before .before .before .before .before .before .before .before .before .before .before .before .before .args .b)) ∷ exact kind.closeBrace ∷ []) h)) (next (counted {c = (c .before .before .before .before .before .before .before .before .before .before .before .before .before .before .before .before .before .before .before .before .before .before .before .before .before .before .before .before .before .args .n) + 8} (omega arith) (framed (exact kind.closeBrace ∷ []) (raised (λ x. aUnary (c .before .before .before .before .before .before .before .before .before .before .before .before .before .before .before .before .before .before .before .before .before .before .before .before .before .before .before .before .before .args .d) x ∷ aPredRest (c .before .before .before .before .before .before .before .before .before .before .before .before .before .before .before .before .before .before .before .before .before .before .before .before .before .before .before .before .before .args .d) (c .before .before .before .before .before .before .before .before .before .before .before .before .before .before .before .before .before .before .before .before .before .before .before .before .before .before .before .before .before .args .d) x ∷ []) (c .before .before .before .before .before .before .before .before .before .before .before .before .before .before .before .before .before .before .before .before .before .before .before .before .before .before .before .before .before .args .b) j))) (c .close2 .ensures .reads kind.closeBrace refl))) (omega arith)) (omega arith)) (omega arith), let t₁ = closed (c .before .before .before .before .before .before .before .before .before .before .before .before .before .before .before .before .before .before .before .e .given .1) (c .before .before .before .before .before .before .before .before .before .before .before .before .before .before .before .before .before .before .before .before .before .close .ensures) in let w₁ = (made (c .before .before .before .before .before .before .before .before .before .before .before .before .f .given .1) (c .before .before .before .before .before .before .before .before .before .before .before .before .before .before .before .before .pred .ensures .1)) in closing (c .close2 .ensures) (λ q. makes (both (both (built w₁) (node-of (c .before .before .before .before .before .before .before .before .before .before .name-number .ensures) refl (c .before .before .before .before .before .before .before .before .put .ensures))) (node-of (c .before .before .before .before .before .name-number2 .ensures) refl (c .before .before .before .put2 .ensures))) (derived.such (c .before .before .before .before .before .before .before .before .before .before .before .before .before .before .before .before .before .before .before .before .before .before .before .before .before .before .before .before .before .pre .1 .4) (c .before .before .before .before .before .before .before .before .before .before .before .before .before .before .before .before .before .before .before .before .before .before .before .before .before .before .before .before .before .pre .1 .5) (c .before .before .before .before .before .before .before .before .before .before .before .before .before .before .before .before .before .before .before .before .before .before .before .before .before .before .before .before .before .pre .1 .6) (named-at (c .before .before .before .before .before .before .before .before .before .before .before .before .before .before .before .before .before .before .before .before .before .before .before .before .kind-at .ensures .is) (c .before .before .before .before .before .before .before .before .before .before .before .before .before .before .before .before .before .before .before .before .before .before .before .name-of .ensures .name (omega (arith, c .before .before .before .before .before .before .before .before .before .before .before .before .before .before .before .before .before .before .before .before .before .before .if2 .left)))) (t₁ .1) (from (t₁ .0) (w₁ .derives)) q)))
+such-returns-3 t c = (let room = c .before .before .before .before .before .before .before .before .before .before .before .before .before .before .before .before .before .before .before .before .before .before .before .before .before .before .before .before .before .pre .1 .0 in let h = (known (c .before .before .before .before .before .before .before .before .before .before .before .before .before .before .before .before .before .before .before .e .given .1) (c .before .before .before .before .before .before .before .before .before .before .before .before .before .before .before .before .before .before .before .before .before .close .ensures .reads kind.bar refl)) in let i = known-ahead _ (c .before .before .before .before .before .before .before .before .before .before .before .before .before .before .before .before .before .before .before .e .given .1) (c .before .before .before .before .before .before .before .before .before .before .before .before .before .before .before .before .before .before .before .before .before .close .ensures .ahead) in let j = (known (c .before .before .before .before .before .before .before .before .before .before .before .before .f .given .1) (c .before .before .before .before .before .before .before .before .before .before .before .before .before .before .before .before .pred .ensures .0)) in taken {μ = aNamed (c .before .before .before .before .before .before .before .before .before .before .before .before .before .before .before .before .before .before .before .before .before .before .before .before .before .before .before .before .before .args .d) (c .before .before .before .before .before .before .before .before .before .before .before .before .before .before .before .before .before .before .before .before .before .before .before .before .before .before .before .before .before .args .b) ∷ []} {m = (c .before .before .before .before .before .before .before .before .before .before .before .before .before .before .before .before .before .before .before .before .before .before .before .before .before .before .before .before .before .args .n)} (binds (suc (c .before .before .before .before .before .before .before .before .before .before .before .before .before .before .before .before .before .before .before .before .before .before .before .before .before .before .before .before .before .args .b))) (omega (arith, inside (c .before .before .before .before .before .before .before .before .before .before .before .before .before .before .before .before .before .before .before .before .before .before .before .before .before .before .before .before .before .args .s .now) ((c .before .before .before .before .before .before .before .before .before .before .before .before .before .before .before .before .before .before .before .before .before .before .before .before .before .before .before .before .before .args .at) + 1 + 1) (omega (arith, c .before .before .before .before .before .before .before .before .before .before .before .before .before .before .before .before .before .before .before .before .before .before .before .before .before .before .before .before .before .pre .1 .6)))) (bind-well (c .before .before .before .before .before .before .before .before .before .before .before .before .before .before .before .before .before .before .before .before .before .before .before .before .before .before .before .before .before .args .s .now) ((c .before .before .before .before .before .before .before .before .before .before .before .before .before .before .before .before .before .before .before .before .before .before .before .before .before .before .before .before .before .args .at) + 1) (suc (c .before .before .before .before .before .before .before .before .before .before .before .before .before .before .before .before .before .before .before .before .before .before .before .before .before .before .before .before .before .args .b)) (omega (arith, c .before .before .before .before .before .before .before .before .before .before .before .before .before .before .before .before .before .before .before .before .before .before .before .before .before .if1 .left))) (only _ kind.plain (c .before .before .before .before .before .before .before .before .before .before .before .before .before .before .before .before .before .before .before .before .before .before .before .before .before .before .before .before .before .pre .1 .5) (λ γ. refl)) (takes {μ = aName ∷ exact kind.bar ∷ aUnary (c .before .before .before .before .before .before .before .before .before .before .before .before .before .before .before .before .before .before .before .before .before .before .before .before .before .before .before .before .before .args .d) (suc (c .before .before .before .before .before .before .before .before .before .before .before .before .before .before .before .before .before .before .before .before .before .before .before .before .before .before .before .before .before .args .b)) ∷ aPredRest (c .before .before .before .before .before .before .before .before .before .before .before .before .before .before .before .before .before .before .before .before .before .before .before .before .before .before .before .before .before .args .d) (c .before .before .before .before .before .before .before .before .before .before .before .before .before .before .before .before .before .before .before .before .before .before .before .before .before .before .before .before .before .args .d) (suc (c .before .before .before .before .before .before .before .before .before .before .before .before .before .before .before .before .before .before .before .before .before .before .before .before .before .before .before .before .before .args .b)) ∷ exact kind.closeBrace ∷ []} {m = (c .before .before .before .before .before .before .before .before .before .before .before .before .before .before .before .before .before .before .before .before .before .before .before .before .before .before .before .before .before .args .n)} (inside (c .before .before .before .before .before .before .before .before .before .before .before .before .before .before .before .before .before .before .before .before .before .before .before .before .before .before .before .before .before .args .s .now) ((c .before .before .before .before .before .before .before .before .before .before .before .before .before .before .before .before .before .before .before .before .before .before .before .before .before .before .before .before .before .args .at) + 1 + 1) (omega (arith, c .before .before .before .before .before .before .before .before .before .before .before .before .before .before .before .before .before .before .before .before .before .before .before .before .before .before .before .before .before .pre .1 .6))) (only _ kind.colon (c .before .before .before .before .before .before .before .before .before .before .before .before .before .before .before .before .before .before .before .before .before .before .before .before .before .before .before .before .before .pre .1 .6) (λ γ. refl)) (takes {μ = exact kind.bar ∷ aUnary (c .before .before .before .before .before .before .before .before .before .before .before .before .before .before .before .before .before .before .before .before .before .before .before .before .before .before .before .before .before .args .d) (suc (c .before .before .before .before .before .before .before .before .before .before .before .before .before .before .before .before .before .before .before .before .before .before .before .before .before .before .before .before .before .args .b)) ∷ aPredRest (c .before .before .before .before .before .before .before .before .before .before .before .before .before .before .before .before .before .before .before .before .before .before .before .before .before .before .before .before .before .args .d) (c .before .before .before .before .before .before .before .before .before .before .before .before .before .before .before .before .before .before .before .before .before .before .before .before .before .before .before .before .before .args .d) (suc (c .before .before .before .before .before .before .before .before .before .before .before .before .before .before .before .before .before .before .before .before .before .before .before .before .before .before .before .before .before .args .b)) ∷ exact kind.closeBrace ∷ []} {m = (c .before .before .before .before .before .before .before .before .before .before .before .before .before .before .before .before .before .before .before .before .before .before .before .before .before .before .before .before .before .args .n) + 4} (omega arith) (λ κ e γ. name-taken κ _ (λ q. c .before .before .before .before .before .before .before .before .before .before .before .before .before .before .before .before .before .before .before .before .before .before .if2 .left (sym (c .before .before .before .before .before .before .before .before .before .before .before .before .before .before .before .before .before .before .before .before .before .before .before .name-of .ensures .classes .class κ (e ∙ sym (c .before .before .before .before .before .before .before .before .before .before .before .before .before .before .before .before .before .before .before .before .before .before .before .before .kind-at .ensures .is))) ∙ q))) (next (counted {c = (c .before .before .before .before .before .before .before .before .before .before .before .before .before .before .before .before .before .before .before .before .before .before .before .before .before .before .before .before .before .args .n) + 4} {d = (c .before .before .before .before .before .before .before .before .before .before .before .before .before .before .before .before .before .before .before .before .before .before .before .before .before .before .before .before .before .args .n) + 8} (omega arith) (framed (aUnary (c .before .before .before .before .before .before .before .before .before .before .before .before .before .before .before .before .before .before .before .before .before .before .before .before .before .before .before .before .before .args .d) (suc (c .before .before .before .before .before .before .before .before .before .before .before .before .before .before .before .before .before .before .before .before .before .before .before .before .before .before .before .before .before .args .b)) ∷ aPredRest (c .before .before .before .before .before .before .before .before .before .before .before .before .before .before .before .before .before .before .before .before .before .before .before .before .before .before .before .before .before .args .d) (c .before .before .before .before .before .before .before .before .before .before .before .before .before .before .before .before .before .before .before .before .before .before .before .before .before .before .before .before .before .args .d) (suc (c .before .before .before .before .before .before .before .before .before .before .before .before .before .before .before .before .before .before .before .before .before .before .before .before .before .before .before .before .before .args .b)) ∷ exact kind.closeBrace ∷ []) h)) (next (counted {c = (c .before .before .before .before .before .before .before .before .before .before .before .before .before .before .before .before .before .before .before .before .before .before .before .before .before .before .before .before .before .args .n) + 8} (omega arith) (framed (exact kind.closeBrace ∷ []) (raised (λ x. aUnary (c .before .before .before .before .before .before .before .before .before .before .before .before .before .before .before .before .before .before .before .before .before .before .before .before .before .before .before .before .before .args .d) x ∷ aPredRest (c .before .before .before .before .before .before .before .before .before .before .before .before .before .before .before .before .before .before .before .before .before .before .before .before .before .before .before .before .before .args .d) (c .before .before .before .before .before .before .before .before .before .before .before .before .before .before .before .before .before .before .before .before .before .before .before .before .before .before .before .before .before .args .d) x ∷ []) (c .before .before .before .before .before .before .before .before .before .before .before .before .before .before .before .before .before .before .before .before .before .before .before .before .before .before .before .before .before .args .b) j))) (c .close2 .ensures .reads kind.closeBrace refl))) (omega arith)) (omega arith)) (omega arith), let t₁ = closed (c .before .before .before .before .before .before .before .before .before .before .before .before .before .before .before .before .before .before .before .e .given .1) (c .before .before .before .before .before .before .before .before .before .before .before .before .before .before .before .before .before .before .before .before .before .close .ensures) in let w₁ = (made (c .before .before .before .before .before .before .before .before .before .before .before .before .f .given .1) (c .before .before .before .before .before .before .before .before .before .before .before .before .before .before .before .before .pred .ensures .1)) in closing (c .close2 .ensures) (λ q. makes (both (both (built w₁) (node-of (c .before .before .before .before .before .before .before .before .before .before .name-number .ensures) refl (c .before .before .before .before .before .before .before .before .put .ensures))) (node-of (c .before .before .before .before .before .name-number2 .ensures) refl (c .before .before .before .put2 .ensures))) (derived.such (c .before .before .before .before .before .before .before .before .before .before .before .before .before .before .before .before .before .before .before .before .before .before .before .before .before .before .before .before .before .pre .1 .4) (c .before .before .before .before .before .before .before .before .before .before .before .before .before .before .before .before .before .before .before .before .before .before .before .before .before .before .before .before .before .pre .1 .5) (c .before .before .before .before .before .before .before .before .before .before .before .before .before .before .before .before .before .before .before .before .before .before .before .before .before .before .before .before .before .pre .1 .6) (named-at (c .before .before .before .before .before .before .before .before .before .before .before .before .before .before .before .before .before .before .before .before .before .before .before .before .kind-at .ensures .is) (c .before .before .before .before .before .before .before .before .before .before .before .before .before .before .before .before .before .before .before .before .before .before .before .name-of .ensures .name (omega (arith, c .before .before .before .before .before .before .before .before .before .before .before .before .before .before .before .before .before .before .before .before .before .before .if2 .left)))) (t₁ .1) (from (t₁ .0) (w₁ .derives)) q)))
 
 such-same-length-2 : (t : ℕ) → such-lts.Need-same-length-2 (such-claims t) (such-at t) such.Post
 such-same-length-2 t c = search needs
 
 such-returns-4 : (t : ℕ) → such-lts.Need-returns-4 (such-claims t) (such-at t) such.Post
 unfolding computeForm
-such-returns-4 t c = (let room = c .before .before .before .before .before .before .before .before .before .before .before .before .before .before .before .before .before .before .pre .1 .0 in let h = (known (c .before .before .before .before .before .before .before .before .e .given .1) (c .before .before .before .before .before .before .before .before .before .before .close .ensures .reads kind.bar refl)) in taken-kind {μ = aNamed (c .before .before .before .before .before .before .before .before .before .before .before .before .before .before .before .before .before .before .args .d) (c .before .before .before .before .before .before .before .before .before .before .before .before .before .before .before .before .before .before .args .b) ∷ []} {m = (c .before .before .before .before .before .before .before .before .before .before .before .before .before .before .before .before .before .before .args .n)} (binds (suc (c .before .before .before .before .before .before .before .before .before .before .before .before .before .before .before .before .before .before .args .b))) kind.plain (c .before .before .before .before .before .before .before .before .before .before .before .before .before .before .before .before .before .before .pre .1 .5) (omega (arith, inside (c .before .before .before .before .before .before .before .before .before .before .before .before .before .before .before .before .before .before .args .s .now) ((c .before .before .before .before .before .before .before .before .before .before .before .before .before .before .before .before .before .before .args .at) + 1 + 1) (omega (arith, c .before .before .before .before .before .before .before .before .before .before .before .before .before .before .before .before .before .before .pre .1 .6)))) (bind-well (c .before .before .before .before .before .before .before .before .before .before .before .before .before .before .before .before .before .before .args .s .now) ((c .before .before .before .before .before .before .before .before .before .before .before .before .before .before .before .before .before .before .args .at) + 1) (suc (c .before .before .before .before .before .before .before .before .before .before .before .before .before .before .before .before .before .before .args .b)) (omega (arith, c .before .before .before .before .before .before .before .before .before .before .before .before .before .before .if1 .left))) (λ γ. refl) (takes-kind {μ = aName ∷ exact kind.bar ∷ aUnary (c .before .before .before .before .before .before .before .before .before .before .before .before .before .before .before .before .before .before .args .d) (suc (c .before .before .before .before .before .before .before .before .before .before .before .before .before .before .before .before .before .before .args .b)) ∷ aPredRest (c .before .before .before .before .before .before .before .before .before .before .before .before .before .before .before .before .before .before .args .d) (c .before .before .before .before .before .before .before .before .before .before .before .before .before .before .before .before .before .before .args .d) (suc (c .before .before .before .before .before .before .before .before .before .before .before .before .before .before .before .before .before .before .args .b)) ∷ exact kind.closeBrace ∷ []} {m = (c .before .before .before .before .before .before .before .before .before .before .before .before .before .before .before .before .before .before .args .n)} kind.colon (c .before .before .before .before .before .before .before .before .before .before .before .before .before .before .before .before .before .before .pre .1 .6) (inside (c .before .before .before .before .before .before .before .before .before .before .before .before .before .before .before .before .before .before .args .s .now) ((c .before .before .before .before .before .before .before .before .before .before .before .before .before .before .before .before .before .before .args .at) + 1 + 1) (omega (arith, c .before .before .before .before .before .before .before .before .before .before .before .before .before .before .before .before .before .before .pre .1 .6))) (λ γ. refl) (takes {μ = exact kind.bar ∷ aUnary (c .before .before .before .before .before .before .before .before .before .before .before .before .before .before .before .before .before .before .args .d) (suc (c .before .before .before .before .before .before .before .before .before .before .before .before .before .before .before .before .before .before .args .b)) ∷ aPredRest (c .before .before .before .before .before .before .before .before .before .before .before .before .before .before .before .before .before .before .args .d) (c .before .before .before .before .before .before .before .before .before .before .before .before .before .before .before .before .before .before .args .d) (suc (c .before .before .before .before .before .before .before .before .before .before .before .before .before .before .before .before .before .before .args .b)) ∷ exact kind.closeBrace ∷ []} {m = (c .before .before .before .before .before .before .before .before .before .before .before .before .before .before .before .before .before .before .args .n) + 4} (omega arith) (λ κ e γ. name-taken κ _ (λ q. c .before .before .before .before .before .before .before .before .before .before .before .if2 .left (sym (c .before .before .before .before .before .before .before .before .before .before .before .before .name-of .ensures .classes .class κ (e ∙ sym (c .before .before .before .before .before .before .before .before .before .before .before .before .before .kind-at .ensures .is))) ∙ q))) (next (counted {c = (c .before .before .before .before .before .before .before .before .before .before .before .before .before .before .before .before .before .before .args .n) + 4} {d = (c .before .before .before .before .before .before .before .before .before .before .before .before .before .before .before .before .before .before .args .n)} (omega arith) (framed (aUnary (c .before .before .before .before .before .before .before .before .before .before .before .before .before .before .before .before .before .before .args .d) (suc (c .before .before .before .before .before .before .before .before .before .before .before .before .before .before .before .before .before .before .args .b)) ∷ aPredRest (c .before .before .before .before .before .before .before .before .before .before .before .before .before .before .before .before .before .before .args .d) (c .before .before .before .before .before .before .before .before .before .before .before .before .before .before .before .before .before .before .args .d) (suc (c .before .before .before .before .before .before .before .before .before .before .before .before .before .before .before .before .before .before .args .b)) ∷ exact kind.closeBrace ∷ []) h)) (fails (framed (exact kind.closeBrace ∷ []) (raised (λ x. aUnary (c .before .before .before .before .before .before .before .before .before .before .before .before .before .before .before .before .before .before .args .d) x ∷ aPredRest (c .before .before .before .before .before .before .before .before .before .before .before .before .before .before .before .before .before .before .args .d) (c .before .before .before .before .before .before .before .before .before .before .before .before .before .before .before .before .before .before .args .d) x ∷ []) (c .before .before .before .before .before .before .before .before .before .before .before .before .before .before .before .before .before .before .args .b) (known (c .before .p .given .1) (c .before .before .before .before .before .pred .ensures .0)))))) (omega arith)) (omega arith)) (omega arith), tt)
+such-returns-4 t c = (let room = c .before .before .before .before .before .before .before .before .before .before .before .before .before .before .before .before .before .before .pre .1 .0 in let h = (known (c .before .before .before .before .before .before .before .before .e .given .1) (c .before .before .before .before .before .before .before .before .before .before .close .ensures .reads kind.bar refl)) in taken {μ = aNamed (c .before .before .before .before .before .before .before .before .before .before .before .before .before .before .before .before .before .before .args .d) (c .before .before .before .before .before .before .before .before .before .before .before .before .before .before .before .before .before .before .args .b) ∷ []} {m = (c .before .before .before .before .before .before .before .before .before .before .before .before .before .before .before .before .before .before .args .n)} (binds (suc (c .before .before .before .before .before .before .before .before .before .before .before .before .before .before .before .before .before .before .args .b))) (omega (arith, inside (c .before .before .before .before .before .before .before .before .before .before .before .before .before .before .before .before .before .before .args .s .now) ((c .before .before .before .before .before .before .before .before .before .before .before .before .before .before .before .before .before .before .args .at) + 1 + 1) (omega (arith, c .before .before .before .before .before .before .before .before .before .before .before .before .before .before .before .before .before .before .pre .1 .6)))) (bind-well (c .before .before .before .before .before .before .before .before .before .before .before .before .before .before .before .before .before .before .args .s .now) ((c .before .before .before .before .before .before .before .before .before .before .before .before .before .before .before .before .before .before .args .at) + 1) (suc (c .before .before .before .before .before .before .before .before .before .before .before .before .before .before .before .before .before .before .args .b)) (omega (arith, c .before .before .before .before .before .before .before .before .before .before .before .before .before .before .if1 .left))) (only _ kind.plain (c .before .before .before .before .before .before .before .before .before .before .before .before .before .before .before .before .before .before .pre .1 .5) (λ γ. refl)) (takes {μ = aName ∷ exact kind.bar ∷ aUnary (c .before .before .before .before .before .before .before .before .before .before .before .before .before .before .before .before .before .before .args .d) (suc (c .before .before .before .before .before .before .before .before .before .before .before .before .before .before .before .before .before .before .args .b)) ∷ aPredRest (c .before .before .before .before .before .before .before .before .before .before .before .before .before .before .before .before .before .before .args .d) (c .before .before .before .before .before .before .before .before .before .before .before .before .before .before .before .before .before .before .args .d) (suc (c .before .before .before .before .before .before .before .before .before .before .before .before .before .before .before .before .before .before .args .b)) ∷ exact kind.closeBrace ∷ []} {m = (c .before .before .before .before .before .before .before .before .before .before .before .before .before .before .before .before .before .before .args .n)} (inside (c .before .before .before .before .before .before .before .before .before .before .before .before .before .before .before .before .before .before .args .s .now) ((c .before .before .before .before .before .before .before .before .before .before .before .before .before .before .before .before .before .before .args .at) + 1 + 1) (omega (arith, c .before .before .before .before .before .before .before .before .before .before .before .before .before .before .before .before .before .before .pre .1 .6))) (only _ kind.colon (c .before .before .before .before .before .before .before .before .before .before .before .before .before .before .before .before .before .before .pre .1 .6) (λ γ. refl)) (takes {μ = exact kind.bar ∷ aUnary (c .before .before .before .before .before .before .before .before .before .before .before .before .before .before .before .before .before .before .args .d) (suc (c .before .before .before .before .before .before .before .before .before .before .before .before .before .before .before .before .before .before .args .b)) ∷ aPredRest (c .before .before .before .before .before .before .before .before .before .before .before .before .before .before .before .before .before .before .args .d) (c .before .before .before .before .before .before .before .before .before .before .before .before .before .before .before .before .before .before .args .d) (suc (c .before .before .before .before .before .before .before .before .before .before .before .before .before .before .before .before .before .before .args .b)) ∷ exact kind.closeBrace ∷ []} {m = (c .before .before .before .before .before .before .before .before .before .before .before .before .before .before .before .before .before .before .args .n) + 4} (omega arith) (λ κ e γ. name-taken κ _ (λ q. c .before .before .before .before .before .before .before .before .before .before .before .if2 .left (sym (c .before .before .before .before .before .before .before .before .before .before .before .before .name-of .ensures .classes .class κ (e ∙ sym (c .before .before .before .before .before .before .before .before .before .before .before .before .before .kind-at .ensures .is))) ∙ q))) (next (counted {c = (c .before .before .before .before .before .before .before .before .before .before .before .before .before .before .before .before .before .before .args .n) + 4} {d = (c .before .before .before .before .before .before .before .before .before .before .before .before .before .before .before .before .before .before .args .n)} (omega arith) (framed (aUnary (c .before .before .before .before .before .before .before .before .before .before .before .before .before .before .before .before .before .before .args .d) (suc (c .before .before .before .before .before .before .before .before .before .before .before .before .before .before .before .before .before .before .args .b)) ∷ aPredRest (c .before .before .before .before .before .before .before .before .before .before .before .before .before .before .before .before .before .before .args .d) (c .before .before .before .before .before .before .before .before .before .before .before .before .before .before .before .before .before .before .args .d) (suc (c .before .before .before .before .before .before .before .before .before .before .before .before .before .before .before .before .before .before .args .b)) ∷ exact kind.closeBrace ∷ []) h)) (fails (framed (exact kind.closeBrace ∷ []) (raised (λ x. aUnary (c .before .before .before .before .before .before .before .before .before .before .before .before .before .before .before .before .before .before .args .d) x ∷ aPredRest (c .before .before .before .before .before .before .before .before .before .before .before .before .before .before .before .before .before .before .args .d) (c .before .before .before .before .before .before .before .before .before .before .before .before .before .before .before .before .before .before .args .d) x ∷ []) (c .before .before .before .before .before .before .before .before .before .before .before .before .before .before .before .before .before .before .args .b) (known (c .before .p .given .1) (c .before .before .before .before .before .pred .ensures .0)))))) (omega arith)) (omega arith)) (omega arith), tt)
 
 such-returns-5 : (t : ℕ) → such-lts.Need-returns-5 (such-claims t) (such-at t) such.Post
 unfolding computeForm
-such-returns-5 t c = (let room = c .before .before .before .before .before .before .before .before .before .before .before .pre .1 .0 in taken-kind {μ = aNamed (c .before .before .before .before .before .before .before .before .before .before .before .args .d) (c .before .before .before .before .before .before .before .before .before .before .before .args .b) ∷ []} {m = (c .before .before .before .before .before .before .before .before .before .before .before .args .n)} (binds (suc (c .before .before .before .before .before .before .before .before .before .before .before .args .b))) kind.plain (c .before .before .before .before .before .before .before .before .before .before .before .pre .1 .5) (omega (arith, inside (c .before .before .before .before .before .before .before .before .before .before .before .args .s .now) ((c .before .before .before .before .before .before .before .before .before .before .before .args .at) + 1 + 1) (omega (arith, c .before .before .before .before .before .before .before .before .before .before .before .pre .1 .6)))) (bind-well (c .before .before .before .before .before .before .before .before .before .before .before .args .s .now) ((c .before .before .before .before .before .before .before .before .before .before .before .args .at) + 1) (suc (c .before .before .before .before .before .before .before .before .before .before .before .args .b)) (omega (arith, c .before .before .before .before .before .before .before .if1 .left))) (λ γ. refl) (takes-kind {μ = aName ∷ exact kind.bar ∷ aUnary (c .before .before .before .before .before .before .before .before .before .before .before .args .d) (suc (c .before .before .before .before .before .before .before .before .before .before .before .args .b)) ∷ aPredRest (c .before .before .before .before .before .before .before .before .before .before .before .args .d) (c .before .before .before .before .before .before .before .before .before .before .before .args .d) (suc (c .before .before .before .before .before .before .before .before .before .before .before .args .b)) ∷ exact kind.closeBrace ∷ []} {m = (c .before .before .before .before .before .before .before .before .before .before .before .args .n)} kind.colon (c .before .before .before .before .before .before .before .before .before .before .before .pre .1 .6) (inside (c .before .before .before .before .before .before .before .before .before .before .before .args .s .now) ((c .before .before .before .before .before .before .before .before .before .before .before .args .at) + 1 + 1) (omega (arith, c .before .before .before .before .before .before .before .before .before .before .before .pre .1 .6))) (λ γ. refl) (takes {μ = exact kind.bar ∷ aUnary (c .before .before .before .before .before .before .before .before .before .before .before .args .d) (suc (c .before .before .before .before .before .before .before .before .before .before .before .args .b)) ∷ aPredRest (c .before .before .before .before .before .before .before .before .before .before .before .args .d) (c .before .before .before .before .before .before .before .before .before .before .before .args .d) (suc (c .before .before .before .before .before .before .before .before .before .before .before .args .b)) ∷ exact kind.closeBrace ∷ []} {m = (c .before .before .before .before .before .before .before .before .before .before .before .args .n) + 4} (omega arith) (λ κ e γ. name-taken κ _ (λ q. c .before .before .before .before .if2 .left (sym (c .before .before .before .before .before .name-of .ensures .classes .class κ (e ∙ sym (c .before .before .before .before .before .before .kind-at .ensures .is))) ∙ q))) (fails (framed (aUnary (c .before .before .before .before .before .before .before .before .before .before .before .args .d) (suc (c .before .before .before .before .before .before .before .before .before .before .before .args .b)) ∷ aPredRest (c .before .before .before .before .before .before .before .before .before .before .before .args .d) (c .before .before .before .before .before .before .before .before .before .before .before .args .d) (suc (c .before .before .before .before .before .before .before .before .before .before .before .args .b)) ∷ exact kind.closeBrace ∷ []) (known (c .before .p2 .given .1) (c .before .before .before .close .ensures .reads kind.bar refl)))) (omega arith)) (omega arith)) (omega arith), tt)
+such-returns-5 t c = (let room = c .before .before .before .before .before .before .before .before .before .before .before .pre .1 .0 in taken {μ = aNamed (c .before .before .before .before .before .before .before .before .before .before .before .args .d) (c .before .before .before .before .before .before .before .before .before .before .before .args .b) ∷ []} {m = (c .before .before .before .before .before .before .before .before .before .before .before .args .n)} (binds (suc (c .before .before .before .before .before .before .before .before .before .before .before .args .b))) (omega (arith, inside (c .before .before .before .before .before .before .before .before .before .before .before .args .s .now) ((c .before .before .before .before .before .before .before .before .before .before .before .args .at) + 1 + 1) (omega (arith, c .before .before .before .before .before .before .before .before .before .before .before .pre .1 .6)))) (bind-well (c .before .before .before .before .before .before .before .before .before .before .before .args .s .now) ((c .before .before .before .before .before .before .before .before .before .before .before .args .at) + 1) (suc (c .before .before .before .before .before .before .before .before .before .before .before .args .b)) (omega (arith, c .before .before .before .before .before .before .before .if1 .left))) (only _ kind.plain (c .before .before .before .before .before .before .before .before .before .before .before .pre .1 .5) (λ γ. refl)) (takes {μ = aName ∷ exact kind.bar ∷ aUnary (c .before .before .before .before .before .before .before .before .before .before .before .args .d) (suc (c .before .before .before .before .before .before .before .before .before .before .before .args .b)) ∷ aPredRest (c .before .before .before .before .before .before .before .before .before .before .before .args .d) (c .before .before .before .before .before .before .before .before .before .before .before .args .d) (suc (c .before .before .before .before .before .before .before .before .before .before .before .args .b)) ∷ exact kind.closeBrace ∷ []} {m = (c .before .before .before .before .before .before .before .before .before .before .before .args .n)} (inside (c .before .before .before .before .before .before .before .before .before .before .before .args .s .now) ((c .before .before .before .before .before .before .before .before .before .before .before .args .at) + 1 + 1) (omega (arith, c .before .before .before .before .before .before .before .before .before .before .before .pre .1 .6))) (only _ kind.colon (c .before .before .before .before .before .before .before .before .before .before .before .pre .1 .6) (λ γ. refl)) (takes {μ = exact kind.bar ∷ aUnary (c .before .before .before .before .before .before .before .before .before .before .before .args .d) (suc (c .before .before .before .before .before .before .before .before .before .before .before .args .b)) ∷ aPredRest (c .before .before .before .before .before .before .before .before .before .before .before .args .d) (c .before .before .before .before .before .before .before .before .before .before .before .args .d) (suc (c .before .before .before .before .before .before .before .before .before .before .before .args .b)) ∷ exact kind.closeBrace ∷ []} {m = (c .before .before .before .before .before .before .before .before .before .before .before .args .n) + 4} (omega arith) (λ κ e γ. name-taken κ _ (λ q. c .before .before .before .before .if2 .left (sym (c .before .before .before .before .before .name-of .ensures .classes .class κ (e ∙ sym (c .before .before .before .before .before .before .kind-at .ensures .is))) ∙ q))) (fails (framed (aUnary (c .before .before .before .before .before .before .before .before .before .before .before .args .d) (suc (c .before .before .before .before .before .before .before .before .before .before .before .args .b)) ∷ aPredRest (c .before .before .before .before .before .before .before .before .before .before .before .args .d) (c .before .before .before .before .before .before .before .before .before .before .before .args .d) (suc (c .before .before .before .before .before .before .before .before .before .before .before .args .b)) ∷ exact kind.closeBrace ∷ []) (known (c .before .p2 .given .1) (c .before .before .before .close .ensures .reads kind.bar refl)))) (omega arith)) (omega arith)) (omega arith), tt)
 
 term-term-from-requires : (t : ℕ) → term-lts.Need-term-from-requires (term-claims t) (term-at t) term.Post
 term-term-from-requires t c κs = search needs

@@ -16,7 +16,8 @@ use Rattle.parser.specs.Dossiers.{More, MoreAt, Sequence, nothing, behin
 use Rattle.parser.specs.declared.Read.{Read}
 use Rattle.parser.specs.declared.Read.the-variants.{At, Fault}
 use Rattle.parser.proofs.Reading.{as-long, run-at, run-end, next}
-use Rattle.parser.proofs.Joining.{then-written}
+use Rattle.parser.proofs.Making.{from}
+use Rattle.parser.proofs.ListNodes.{then-written}
 
 take-length : (m : ℕ) (b : List ℕ) → m ≤ length b → length (take m b) ≡ m
 take-length zero b l = refl
@@ -66,13 +67,6 @@ in-front {n} {r} {b} {c} {x} m a y w e h l g =
     sym (take-append-drop r (take m c)) ∙ ap (λ (z : List ℕ). z ++ drop r (take m c)) (take-twice r m c g ∙ w .nodes ∙ ap (λ (z : List ℕ). z ++ x) p)
     ∙ ap (λ (z : List ℕ). (take n a ++ x) ++ z) q ∙ append-assoc (take n a) x y
 
--- behind the end stands no kind's code
-pub inside-of : (s : List ℕ) (at : ℕ) → 1 ≤ getD s at 0 → at < length s
-inside-of [] zero h = absurd (omega arith)
-inside-of [] (suc at) h = absurd (omega arith)
-inside-of (x ∷ s) zero h = omega arith
-inside-of (x ∷ s) (suc at) h = let l = inside-of s at h in omega arith
-
 -- a symbol closes what was read, with room left for one more node
 pub then-closes : {s : List ℕ} {at n e m k : ℕ} {ι : List Item} (κ : Kind) (r : Read) → codeOf κ ≡ k → Reads s at (n + 4) ι (exact κ ∷ []) (At e m) → Closes s e k m r → Reads s at n ι [] r
 then-closes {s} {at} {n} {e} {m} κ (At f c) q a b =
@@ -93,9 +87,6 @@ when-known P q h = subst (λ (y : Read). When P y) q h
 
 module _ {s ν : List ℕ} where
   -- results that are known
-  pub made-known : {x : Part} {i n : ℕ} {a b : List ℕ} {r : Read} {j m : ℕ} → r ≡ At j m → Made s ν x i n a b r → MadeAt s ν x i n a b j m
-  made-known {x} {i} {n} {a} {b} q h = subst (λ (y : Read). Made s ν x i n a b y) q h
-
   pub more-known : {x : Part} {i n : ℕ} {a b : List ℕ} {r : Read} {j m : ℕ} → r ≡ At j m → More s ν x i n a b r → MoreAt s ν x i n a b j m
   more-known {x} {i} {n} {a} {b} q h = subst (λ (y : Read). More s ν x i n a b y) q h
 
@@ -104,9 +95,6 @@ module _ {s ν : List ℕ} where
 
   pub contents-known : {b : List ℕ} {r : Read} {j m : ℕ} → r ≡ At j m → ContentsMade s ν b r → ContentsAt s ν b j m
   contents-known {b} q h = subst (λ (y : Read). ContentsMade s ν b y) q h
-
-  from : {x : Part} {i j k : ℕ} {n : List ℕ} → i ≡ j → Derives s ν x i k n → Derives s ν x j k n
-  from {x} {k = k} {n} q d = subst (λ (z : ℕ). Derives s ν x z k n) q d
 
   -- a predicate, the node in front of it and the word behind it
   pub condition-made : {word i n e m p r : ℕ} {a b c : List ℕ} (t : Read) → MadeAt s ν (aPredFrom 1) i (n + 4) a b e m → Writes b n (node 7 i p 0) c r → (n + 4) + p ≡ m
@@ -202,7 +190,7 @@ dossier-made {s} {ν} {a} {b} {c} {e} {m} {j} {l} h z = on (z .nodes) (z .parts)
           nodes = h .givenNodes ++ (h .operationNodes ++ (n₁ ++ (n₂ ++ (n₃ ++ (n₄ ++ (n₅ ++ (n₆ ++ n₇)))))));
           derives =
               dossier (h .first) (h .givens) (h .five .abstract) (h .five .concrete) (h .five .ainit) (h .five .cinit) (h .five .retrieve) (h .operations) (h .end)
-              (subst (λ (o : ℕ). Derives s ν someGivens o j₁ n₁) (h .place) d₁) d₂ d₃ d₄ d₅ d₆ d₇;
+              (from (h .place) d₁) d₂ d₃ d₄ d₅ d₆ d₇;
           written =
               then-written [] (h .givenNodes ++ h .operationNodes) (n₁ ++ (n₂ ++ (n₃ ++ (n₄ ++ (n₅ ++ (n₆ ++ (n₇ ++ []))))))) (h .written) q
               ∙ append-assoc (h .givenNodes) (h .operationNodes) (n₁ ++ (n₂ ++ (n₃ ++ (n₄ ++ (n₅ ++ (n₆ ++ (n₇ ++ [])))))))

@@ -11,6 +11,7 @@ use Rattle.parser.specs.Derived.{Part, Derives, Made, MadeAt, NameAt, na
 use Rattle.parser.specs.Dossiers.{WordsAt, ContentsMade, More, MoreAt, behind}
 use Rattle.parser.specs.declared.Read.{Read}
 use Rattle.parser.specs.declared.Read.the-variants.{At, Fault}
+use Rattle.parser.proofs.Making.{from}
 
 -- what is written behind something written
 pub then-written : (p x y : List ℕ) {l k : List ℕ} → l ≡ p ++ x → k ≡ l ++ y → k ≡ p ++ (x ++ y)
@@ -47,10 +48,7 @@ module _ {s ν : List ℕ} {x : Part} where
 pub closed : {s : List ℕ} {at k n e m : ℕ} {r : Read} → r ≡ At e m → Closes s at k n r → ((e ≡ at + 1) × (getD s at 0 ≡ k)) × (m ≡ n)
 closed {s} {at} {k} {n} q h = subst (λ (z : Read). Shown (λ (e : ℕ). (e ≡ at + 1) × (getD s at 0 ≡ k)) n z) q (h .shown)
 
--- a part that begins at the symbol i
-from-place : {s ν : List ℕ} {x : Part} {i j k : ℕ} {u : List ℕ} → i ≡ j → Derives s ν x i k u → Derives s ν x j k u
-from-place {s} {ν} {x} {k = k} {u} q d = subst (λ (z : ℕ). Derives s ν x z k u) q d
-
+-- a part that ends at a place known by other words
 to-place : {s ν : List ℕ} {x : Part} {i j k : ℕ} {u : List ℕ} → j ≡ k → Derives s ν x i j u → Derives s ν x i k u
 to-place {s} {ν} {x} {i} {u = u} q d = subst (λ (z : ℕ). Derives s ν x i z u) q d
 
@@ -60,7 +58,7 @@ pub declaration-made : {s ν a b c y : List ℕ} {at i n m e o : ℕ} (r : Read)
 declaration-made {s} {ν} {a} {b} {c} {y} {at} {i} {n} {m} {e} {o} (At f q) g h t w z p x =
     record {
       nodes = node 6 at (nameCode s ν at) 0 ++ p .nodes;
-      derives = to-place (sym (x .shown .0 .0)) (declares g t (from-place h (p .derives)) (x .shown .0 .1));
+      derives = to-place (sym (x .shown .0 .0)) (declares g t (from h (p .derives)) (x .shown .0 .1));
       written =
           ap (λ (k : ℕ). take k c) (x .shown .1)
           ∙ then-written (take n a) (node 6 at (nameCode s ν at) 0) (p .nodes) (w .nodes ∙ ap (λ (l : List ℕ). take n a ++ l) z) (p .written);
@@ -80,7 +78,7 @@ given-more {s} {ν} {a} {b} {c} {y} {at} {n} {m} {e} {o} (At f q) g h t w z p x 
       nodes = node 3 at (nameCode s ν (at + 1)) 0 ++ p .nodes;
       more = λ k u d.
           subst (λ (l : List ℕ). Derives s ν someGivens at k l) (sym (append-assoc (node 3 at (nameCode s ν (at + 1)) 0) (p .nodes) u))
-          (aGiven g h t (p .derives) (x .shown .0 .1) (from-place (x .shown .0 .0) d));
+          (aGiven g h t (p .derives) (x .shown .0 .1) (from (x .shown .0 .0) d));
       written =
           ap (λ (k : ℕ). take k c) (x .shown .1)
           ∙ then-written (take n a) (node 3 at (nameCode s ν (at + 1)) 0) (p .nodes) (w .nodes ∙ ap (λ (l : List ℕ). take n a ++ l) z) (p .written);
@@ -121,7 +119,7 @@ contents-made {s} {ν} {a} {b} {c} {i} {j} {k} {e} {m} {x} {y} {z} (At f o) p g 
       givenNodes = g .nodes;
       operationNodes = h .nodes;
       first = p .0 .1;
-      givens = from-place (p .0 .0) (g .derives);
+      givens = from (p .0 .0) (g .derives);
       five = record {
         abstract = w .0 .abstract;
         concrete = w .0 .concrete;
@@ -130,7 +128,7 @@ contents-made {s} {ν} {a} {b} {c} {i} {j} {k} {e} {m} {x} {y} {z} (At f o) p g 
         retrieve = w .0 .retrieve;
         place = refl;
       };
-      operations = from-place (w .0 .place) (h .derives);
+      operations = from (w .0 .place) (h .derives);
       end = q .shown .0 .1;
       place = q .shown .0 .0;
       written =

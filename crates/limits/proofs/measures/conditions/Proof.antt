@@ -1,0 +1,46 @@
+-- `measures::conditions` meets its contract. Assumes nothing.
+use borrow.Author.Needs.{needs}
+use mathlib.Core.Path.{ap, _∙_}
+use native.Mathlib.Omega.{arith}
+use Rattle.names.specs.Inner.{lesser}
+use Rattle.limits.proofs.Measuring.{conditions-seen}
+use Rattle.limits.proofs.measures.conditions.Statement.{statement}
+use Rattle.limits.proofs.measures.conditions.Tie as tie
+
+part-requires : tie.Need-part-requires
+part-requires c κs = search needs
+
+place-requires : tie.Need-place-requires
+place-requires c κs = search needs
+
+context-requires : tie.Need-context-requires
+context-requires c κs = search needs
+
+place-requires-2 : tie.Need-place-requires-2
+place-requires-2 c κs = search needs
+
+context-requires-2 : tie.Need-context-requires-2
+context-requires-2 c κs = search needs
+
+place-requires-3 : tie.Need-place-requires-3
+place-requires-3 c κs = search needs
+
+context-requires-3 : tie.Need-context-requires-3
+context-requires-3 c κs = search needs
+
+lesser-of-requires : tie.Need-lesser-of-requires
+lesser-of-requires c κs = search needs
+
+lesser-of-requires-2 : tie.Need-lesser-of-requires-2
+lesser-of-requires-2 c κs = search needs
+
+same-length : tie.Need-same-length
+same-length c = c .before .before .before .before .context3 .kept .1 .1 .1 .1 .1 .1 .0 ∙ (c .before .before .before .before .before .before .before .before .before .context2 .kept .1 .1 .1 .1 .1 .1 .0 ∙ c .before .before .before .before .before .before .before .before .before .before .before .before .before .before .context .kept .1 .1 .1 .1 .1 .1 .0)
+
+returns : tie.Need-returns
+returns c = conditions-seen (c .before .before .before .before .before .before .before .before .before .before .before .before .before .before .before .before .before .before .before .before .before .before .before .args .nodes .now) (c .before .before .before .before .before .before .before .before .before .before .before .before .before .before .before .before .before .before .before .before .before .before .before .args .spans .now) (c .before .before .before .before .before .before .before .before .before .before .before .before .before .before .before .before .before .before .before .before .before .before .before .args .a .now) (c .before .before .before .before .before .before .before .before .before .before .before .before .before .before .before .before .before .before .before .before .before .before .before .args .c .now) _ _ _ _ (c .before .before .before .before .before .before .before .before .before .before .before .before .before .before .before .before .before .before .before .before .before .before .before .args .bounds .now) _ _ _ (c .before .before .before .before .before .before .before .before .before .before .before .before .before .before .context .result) (c .before .before .before .before .before .before .before .before .before .context2 .result) (c .before .before .before .before .context3 .result) _ (c .before .before .before .before .before .before .before .before .before .before .before .before .before .before .before .before .before .part .ensures (omega arith) (omega arith)) (c .before .before .before .before .before .before .before .before .before .before .before .before .before .before .before .before .place .ensures) (c .before .before .before .before .before .before .before .before .before .before .before .place2 .ensures) (c .before .before .before .before .before .before .place3 .ensures) (c .before .before .before .before .before .before .before .before .before .before .before .before .before .before .context .ensures) (c .before .before .before .before .before .before .before .before .before .context2 .ensures) (c .before .before .before .before .context3 .ensures) (c .lesser-of2 .ensures ∙ ap (lesser (c .before .before .before .before .before .before .before .before .before .before .before .before .before .before .context .result)) (c .before .lesser-of .ensures))
+
+pub conditions-spec : {M : Type 1} → statement M
+conditions-spec =
+    tie.close (tie.spec part-requires place-requires context-requires place-requires-2 context-requires-2 place-requires-3 context-requires-3 lesser-of-requires
+    lesser-of-requires-2 same-length returns)

@@ -1,0 +1,146 @@
+-- What the passes answer, put together: a pass with a fault refuses, one without goes on, and behind the last the text is a dossier.
+use mathlib.Core.Path.{_≡_, refl, ap, ap₂, _∙_, sym, subst}
+use mathlib.Core.Bool.{Bool, true, false, cond}
+use mathlib.Core.List.{List}
+use mathlib.Core.Option.{Option, none, some}
+use Prim.Native.Nat.{ℕ, _≤_, _<_, _-_, _/_, _%_}
+use native.Mathlib.Omega.{arith}
+use lib.Dec.{eqb}
+use lib.ListN.{length, take, getD, replicate}
+use lib.Seq.{length-take-le}
+use borrow.Author.Tests.{eqb-true}
+use Rattle.symbols.specs.Symbols.{scan, symbols, placeAt}
+use Rattle.symbols.specs.Refusals.{Fault, numberOf, least}
+use Rattle.form.specs.Tree.{Dossier}
+use Rattle.form.specs.Headings.{givensAt}
+use Rattle.form.specs.Codes.{Numbering, dossierCodes}
+use Rattle.parser.specs.Promises.{numbering, Parses}
+use Rattle.parser.specs.Sections.{Sectioned}
+use Rattle.parser.specs.declared.Parsed.{Parsed}
+use Rattle.parser.specs.declared.Parsed.the-variants as parsed
+use Rattle.parser.specs.declared.sections.Bounds.{Bounds}
+use Rattle.parser.proofs.Texts.{known}
+use Rattle.reader.specs.Names.{nameFaults}
+use Rattle.reader.specs.Read as definition
+use Rattle.reader.specs.Read.{reading, pass, located, read}
+use Rattle.names.specs.Inner.{Names, Sizes, insideKey}
+use Rattle.names.specs.Passes.{givensKey, dossierKey}
+use Rattle.names.specs.Parts.{CheckSeen}
+use Rattle.names.proofs.JudgedLeast.{Small}
+use Rattle.reading.specs.Promises.{ReadIs, Reads, Stands, keyOf, Named, Refuses, Checks}
+use Rattle.reading.specs.declared.Reading.{Reading}
+use Rattle.reading.specs.declared.Reading.the-variants.{Read, Refused}
+use Rattle.reading.proofs.Few.{forms-fewer}
+use Rattle.reading.proofs.Least.{names-from-free}
+use Rattle.reading.proofs.Keys.{same-key, key-number, key-place, least-small, names-small}
+use Rattle.reading.proofs.Parted.{sectioned-placed}
+use Rattle.reading.proofs.Joined.{Structured, Told, read-is}
+
+-- ---- names ----
+
+-- no fault in the whole, none in what comes first
+inside-zero : (a b : ℕ) → insideKey a b ≡ 0 → a ≡ 0
+inside-zero a b e = on (eqb a 0) refl e
+  where
+    on : (t : Bool) → eqb a 0 ≡ t → cond t b a ≡ 0 → a ≡ 0
+    on true p q = eqb-true a 0 p
+    on false p q = q
+
+givens-none : (d : Dossier) (T : Names) (ρ : Numbering) (z : Sizes) → dossierKey d T ρ z ≡ 0 → givensKey (d .givens) 0 T ρ (givensAt d) ≡ 0
+unfolding dossierKey
+givens-none d T ρ z e = inside-zero (givensKey (d .givens) 0 T ρ (givensAt d)) _ e
+
+-- the pass over the parts between the sections
+pub named-all : (nodes : List ℕ) (m : ℕ) (b : Bounds) (l : ℕ) (z : Sizes) (r : ℕ) → Sectioned nodes m b
+    → CheckSeen nodes m (b .givens) (b .abstracts) (b .concretes) (b .ainit) (b .operations) l z r → 16384 ≤ l → Named nodes m z r
+named-all nodes m b l z r s c long =
+    record {
+      least = λ text starts n d st.
+          let at = sectioned-placed nodes m d (numbering text) (st .inside) (st .nodes-are) b s in
+          c .right d (numbering text) at (forms-fewer (st .forms))
+          ∙ names-from-free text (st .scans) (st .forms) l long z (c .sized d (numbering text) at (forms-fewer (st .forms)))
+          ∙ same-key (least (nameFaults d));
+      sized = λ text starts n d st e.
+          let at = sectioned-placed nodes m d (numbering text) (st .inside) (st .nodes-are) b s in
+          c .sized d (numbering text) at (forms-fewer (st .forms))
+          (givens-none d (replicate l 0) (numbering text) z (sym (c .right d (numbering text) at (forms-fewer (st .forms))) ∙ e));
+    }
+
+-- ---- one pass ----
+
+-- a number taken apart
+pub apart : (k : ℕ) (starts : List ℕ) (n end : ℕ) (r : Reading) (q p : ℕ) → r ≡ Refused q p → q ≡ (k - 1) % 16 → p ≡ getD (take n starts) ((k - 1) / 16) end
+    → Refuses k starts n end r
+apart k starts n end r q p e f g i c l h =
+    e ∙ ap₂ Refused (f ∙ key-number k i c l h) (g ∙ ap (λ (x : ℕ). getD (take n starts) x end) (key-place k i c l h))
+
+module _ {text starts nodes : List ℕ} {n m : ℕ} {d : Dossier} (st : Stands text starts nodes n m d) where
+  place-is : (i : ℕ) → getD (take n starts) i (length text) ≡ placeAt text i
+  unfolding placeAt
+  place-is i = ap (λ (l : List ℕ). getD l i (length text)) (known (st .scans) .starts-are)
+
+  -- a pass that found a fault refuses
+  pub pass-refuses : {fs : List Fault} → Small fs → (k end : ℕ) (r : Reading) → k ≡ keyOf (least fs) → (k ≡ 0 → ⊥) → end ≡ length text → Refuses k starts n end r
+      → (x : definition.Reading) → ReadIs text (pass (located text (least fs)) x) r
+  pass-refuses {fs} small k end r is some-fault at-end apart x = on (least fs) refl
+    where
+      on : (o : Option Fault) → least fs ≡ o → ReadIs text (pass (located text o) x) r
+      on none e = absurd (some-fault (is ∙ ap keyOf e))
+      on (some f) e =
+          apart (f .place) (numberOf (f .refusal)) (least-small small f e) (is ∙ ap keyOf e)
+          ∙ ap (Refused (numberOf (f .refusal))) (ap (getD (take n starts) (f .place)) at-end ∙ place-is (f .place))
+
+  -- the last pass is past
+  pub all-passed : (r : Reading) → r ≡ Read n m → ReadIs text (reading d) r
+  all-passed r e =
+      e ∙ ap₂ Read (st .scans .counted n refl) (sym (length-take-le m nodes (st .inside)) ∙ ap (length {A = ℕ}) (st .nodes-are))
+
+-- a pass that found none goes on
+pub pass-goes-on : (text : List ℕ) (fs : List Fault) (k : ℕ) (r : Reading) → k ≡ keyOf (least fs) → k ≡ 0 → (x : definition.Reading) → ReadIs text x r
+    → ReadIs text (pass (located text (least fs)) x) r
+pass-goes-on text fs k r is no-fault x h = on (least fs) refl
+  where
+    on : (o : Option Fault) → least fs ≡ o → ReadIs text (pass (located text o) x) r
+    on none e = h
+    on (some f) e = let z : 0 ≡ keyOf (some f) = sym no-fault ∙ is ∙ ap keyOf e in absurd (omega arith)
+
+-- ---- the passes over the structure ----
+
+module _ (starts : List ℕ) (n end : ℕ) (nodes : List ℕ) (m : ℕ) (z : Sizes) (k : ℕ) (named : Named nodes m z k) (r : Reading) where
+  pub names-refuse : (k ≡ 0 → ⊥) → Refuses k starts n end r → Checks starts n end nodes m r
+  names-refuse some-fault apart text d st e = pass-refuses st (names-small d) k end r (named .least text starts n d st) some-fault e apart (reading d)
+
+  pub names-pass : k ≡ 0 → r ≡ Read n m → Checks starts n end nodes m r
+  names-pass no-fault is text d st e =
+      pass-goes-on text (nameFaults d) k r (named .least text starts n d st) no-fault (reading d) (all-passed st r is)
+
+-- ---- the text ----
+
+module _ {text codes₀ starts₀ values₀ nodes₀ codes starts values nodes : List ℕ} {q : Parsed} (p : Parses text codes₀ starts₀ values₀ nodes₀ codes starts values nodes q) where
+  told : (t : Parsed) → q ≡ t → Told text starts nodes t
+  told t e = subst (Told text starts nodes) e (read-is p)
+
+  pub few-symbols : {n m : ℕ} → length nodes ≡ 16384 → q ≡ parsed.Structure n m → n ≤ 4096
+  few-symbols {n} {m} room e = known (told (parsed.Structure n m) e .stands room .scans) .few
+
+  pub reads-structure : {n m : ℕ} → length nodes ≡ 16384 → q ≡ parsed.Structure n m → (r : Reading) → Checks starts n (length text) nodes m r
+      → Reads text codes₀ starts₀ values₀ nodes₀ codes starts values nodes r
+  reads-structure {n} {m} room e r checks =
+      let t = told (parsed.Structure n m) e in
+      let st = t .stands room in
+      record {
+        parsed = q;
+        parses = p;
+        answers = λ later.
+            subst (λ (x : definition.Reading). ReadIs text x r) (sym (t .reads ∙ later (t .dossier) (st .forms))) (checks text (t .dossier) st refl);
+      }
+
+  pub reads-refusal : {k i : ℕ} → q ≡ parsed.Refused k i → (r : Reading) → r ≡ Refused k i → Reads text codes₀ starts₀ values₀ nodes₀ codes starts values nodes r
+  reads-refusal {k} {i} e r is =
+      let t = told (parsed.Refused k i) e in
+      record {
+        parsed = q;
+        parses = p;
+        answers = λ later.
+            subst (λ (x : definition.Reading). ReadIs text x r) (sym (t .reads)) (is ∙ sym (ap₂ Refused (t .number) (t .place)));
+      }

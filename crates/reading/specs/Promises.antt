@@ -1,0 +1,70 @@
+-- What `read` promises of every text: the answer of document 01 (reader/specs/Read), and what it leaves in the lent arrays.
+use mathlib.Core.Path.{_≡_}
+use mathlib.Core.List.{List, map}
+use mathlib.Core.Option.{Option, none, some}
+use Prim.Native.Nat.{ℕ, _≤_, _<_}
+use lib.ListN.{length, take, getD}
+use Rattle.symbols.specs.Symbols.{scan, symbols}
+use Rattle.symbols.specs.Refusals.{Fault, numberOf, least}
+use Rattle.symbols.specs.Promises.{Scans}
+use Rattle.symbols.specs.declared.Scanned.the-variants.{Symbols}
+use Rattle.form.specs.Tree.{Dossier}
+use Rattle.form.specs.Form.{Forms}
+use Rattle.form.specs.Codes.{dossierCodes}
+use Rattle.parser.specs.Promises.{textSymbols, numbering, Parses}
+use Rattle.parser.specs.declared.Parsed.{Parsed}
+use Rattle.reader.specs.Carriers.{sizeOf}
+use Rattle.reader.specs.Names.{nameFaults}
+use Rattle.reader.specs.Read as definition
+use Rattle.reader.specs.Read.{refusal, reading, pass, located, readNames, read}
+use Rattle.names.specs.Inner.{Sizes, key}
+use Rattle.reading.specs.declared.Reading.{Reading}
+use Rattle.reading.specs.declared.Reading.the-variants.{Read, Refused}
+
+-- the answer that a reading is: the refusal's number and place, or how many symbols and how many numbers of nodes there are
+abbrev pub ReadIs : List ℕ → definition.Reading → Reading → Type 0
+ReadIs text (refusal f) r = r ≡ Refused (numberOf (f .refusal)) (f .place)
+ReadIs text (reading d) r = r ≡ Read (length (symbols (scan text))) (length (dossierCodes d (numbering text)))
+
+-- the passes behind number 7 so far: names. Numbers 12 and 13 join here.
+abbrev pub passes : List ℕ → Dossier → definition.Reading
+passes text d = pass (located text (least (nameFaults d))) (reading d)
+
+pub record Reads (text codes₀ starts₀ values₀ nodes₀ codes starts values nodes : List ℕ) (r : Reading) : Type 0 where
+  pub parsed : Parsed
+  pub parses : Parses text codes₀ starts₀ values₀ nodes₀ codes starts values nodes parsed
+  pub answers : ((d : Dossier) → Forms (textSymbols text) d → readNames text d ≡ passes text d) → ReadIs text (read text) r
+
+-- What the functions promise each other. Nothing below need be believed.
+
+-- the first m of the nodes are those of the text's dossier, and n symbols begin where `starts` says
+pub record Stands (text starts nodes : List ℕ) (n m : ℕ) (d : Dossier) : Type 0 where
+  pub codes₀ : List ℕ
+  pub starts₀ : List ℕ
+  pub values₀ : List ℕ
+  pub codes : List ℕ
+  pub values : List ℕ
+  pub scans : Scans text codes₀ starts₀ values₀ codes starts values (Symbols n)
+  pub forms : Forms (textSymbols text) d
+  pub inside : m ≤ length nodes
+  pub short : m ≤ 16384
+  pub nodes-are : take m nodes ≡ dossierCodes d (numbering text)
+
+-- a pass answers with its least fault as a number (place * 16 + number + 1), or 0
+abbrev pub keyOf : Option Fault → ℕ
+keyOf none = 0
+keyOf (some f) = key (f .place) (numberOf (f .refusal))
+
+-- names, and how many elements each given set has where no fault was found
+pub record Named (nodes : List ℕ) (m : ℕ) (z : Sizes) (r : ℕ) : Type 0 where
+  pub least : (text starts : List ℕ) (n : ℕ) (d : Dossier) → Stands text starts nodes n m d → r ≡ keyOf (least (nameFaults d))
+  pub sized : (text starts : List ℕ) (n : ℕ) (d : Dossier) → Stands text starts nodes n m d → r ≡ 0
+      → (k : ℕ) → k < length (d .givens) → getD z k 0 ≡ getD (map sizeOf (d .givens)) k 0
+
+-- a number taken apart; the place by its first byte
+abbrev pub Refuses : (key : ℕ) (starts : List ℕ) (n end : ℕ) → Reading → Type 0
+Refuses k starts n end r = (i q : ℕ) → q < 16 → k ≡ key i q → r ≡ Refused q (getD (take n starts) i end)
+
+-- the passes over the structure of a text
+abbrev pub Checks : (starts : List ℕ) (n end : ℕ) (nodes : List ℕ) (m : ℕ) → Reading → Type 0
+Checks starts n end nodes m r = (text : List ℕ) (d : Dossier) → Stands text starts nodes n m d → end ≡ length text → ReadIs text (passes text d) r

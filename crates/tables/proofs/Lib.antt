@@ -27,3 +27,4 @@ pub mod WritingPlaces
 pub mod WritingTypes
 pub mod WritingContexts
 pub mod WritingAll
+pub mod WritingReady

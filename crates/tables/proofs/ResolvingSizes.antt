@@ -15,8 +15,8 @@ use Rattle.reader.specs.Types as ty
 use Rattle.reader.specs.Types.{Ty, has}
 use Rattle.reader.specs.Scope.{Scope}
 use Rattle.reader.specs.Names.{rangeFaults, domainFaults, judgeTerm}
-use Rattle.names.specs.Inner.{Names, Sizes, isGiven, key, unlessKey, rangeFits, sizeIn, termKind}
-use Rattle.names.proofs.Showing.{indexOf, titled, typeCode, Known, knownNumber, knownElement, knownSet, knownPairs, Numbered, Shows, RangeIn, DomainIn, TermIn, leastKey}
+use Rattle.names.specs.Inner.{Names, Sizes, isGiven, key, unlessKey, leastKey, rangeFits, sizeIn, termKind}
+use Rattle.names.proofs.Showing.{indexOf, titled, typeCode, Known, knownNumber, knownElement, knownSet, knownPairs, Numbered, Shows, RangeIn, DomainIn, TermIn}
 use Rattle.names.proofs.Judged.{judged-term}
 use Rattle.names.proofs.JudgedTypes.{ElementType, elementType, element-type, index-in, index-few, is-pairs, is-element}
 use Rattle.names.proofs.JudgedRanges.{range-least}

@@ -8,15 +8,23 @@ pub mod ResolvingLength
 pub mod TabledShown
 pub mod TabledTypes
 pub mod Tabled
--- The walk that writes the table.
-pub mod Patching
-pub mod Leaves
-pub mod WalkingTerms
-pub mod WalkingBraces
-pub mod WalkingPreds
 pub mod PlacingSlots
 pub mod PlacingDeclared
 pub mod PlacingGivens
 pub mod PlacingParameters
 pub mod PlacingStates
 pub mod PlacingContexts
+-- The walk that writes the table: pieces of the table, and what each shape of node writes.
+pub mod Patching
+pub mod Making
+pub mod Walking
+pub mod Leaves
+pub mod WalkingTerms
+pub mod WalkingBraces
+pub mod WalkingPreds
+-- The whole table: places, carriers, and each predicate with the names in its reach.
+pub mod WritingPlaces
+pub mod WritingTypes
+pub mod WritingContexts
+pub mod WritingAll
+pub mod WritingReady

@@ -157,7 +157,8 @@ module _ (ρ : Numbering) (P : Letters → Type 0) (ν : Numbered ρ P) (z : Siz
       let b : List Fault = judgePred p (binding Γ x (domainCarrier (Γ .givens) (givenSet g))) (i + 5) .faults in
       let h = inside-nil (newName (Γ .taken) x (suc i) ++ known (givenOf (Γ .givens) g) (i + 3)) b e in
       let w = bound-shows ρ P ν Γ T z sh x px (givenSet g) pg (suc i) (i + 3) (h .0) in
-      ap₂ (λ (x y : List ℕ). x ++ (y ++ node 6 0 s 0)) (f w (i + 5) (h .1) q) (domain-resolved ρ P Γ T z sh (givenSet g) pg)
+      ap₂ (λ (x y : List ℕ). x ++ (y ++ node 6 0 s 0)) (f w (i + 5) (h .1) q)
+      (domain-resolved ρ P Γ T z sh (givenSet g) pg (i + 3) (append-nil-both (newName (Γ .taken) x (suc i)) (known (givenOf (Γ .givens) g) (i + 3)) (h .0) .1))
 
   pub also-resolved : (t : Term) (ts : Items) → TermResolved ρ z Γ T W′ W s t → ItemsResolved ρ z Γ T W′ W s ts → ItemsResolved ρ z Γ T W′ W s (also t ts)
   unfolding judgeTerm table.termTable resolved.termTable
@@ -219,7 +220,8 @@ module _ (ρ : Numbering) (P : Letters → Type 0) (ν : Numbered ρ P) (z : Siz
   within-resolved o t r k a i e q =
       let h = two-nil (has (judgeTerm t Γ i .type) ty.isNumber) (fault (judgeTerm t Γ i .next) typesMisfit)
       (judgeTerm t Γ i .faults) (rangeFaults r (suc (judgeTerm t Γ i .next))) e in
-      ap₂ (λ (x y : List ℕ). x ++ (y ++ node 21 0 (codeOf (membershipKind o)) 0)) (a i (h .0) q) (domain-resolved ρ P Γ T z sh (range r) k)
+      ap₂ (λ (x y : List ℕ). x ++ (y ++ node 21 0 (codeOf (membershipKind o)) 0)) (a i (h .0) q)
+      (domain-resolved ρ P Γ T z sh (range r) k (suc (judgeTerm t Γ i .next)) (h .1))
 
   pub related-resolved : (o : Membership) (t u v : Term) → TermIn P u → TermResolved ρ z Γ T W′ W s t → TermResolved ρ z Γ T W′ W s u → TermResolved ρ z Γ T W′ W s v
       → PredResolved ρ z Γ T W′ W s (related o t u v)
@@ -248,4 +250,5 @@ module _ (ρ : Numbering) (P : Letters → Type 0) (ν : Numbered ρ P) (z : Siz
       let j : ℕ = suc (i + 4 + domainLength t) in
       let h = inside-nil (newName (Γ .taken) x (i + 2) ++ domainFaults (Γ .givens) t (i + 4)) (judgePred p (binding Γ x (domainCarrier (Γ .givens) t)) j .faults) e in
       let w = bound-shows ρ P ν Γ T z sh x px t pt (i + 2) (i + 4) (h .0) in
-      ap₂ (λ (a b : List ℕ). a ++ (b ++ node 24 0 s (codeOf (quantifierKind y)))) (f w j (h .1) q) (domain-resolved ρ P Γ T z sh t pt)
+      ap₂ (λ (a b : List ℕ). a ++ (b ++ node 24 0 s (codeOf (quantifierKind y)))) (f w j (h .1) q)
+      (domain-resolved ρ P Γ T z sh t pt (i + 4) (append-nil-both (newName (Γ .taken) x (i + 2)) (domainFaults (Γ .givens) t (i + 4)) (h .0) .1))

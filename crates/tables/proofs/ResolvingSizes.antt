@@ -1,26 +1,29 @@
 -- The sizes that nodes carry: by the number of a term's type, and by the given sets that its type is over.
 use mathlib.Core.Path.{_≡_, refl, ap, ap₂, _∙_, sym}
-use mathlib.Core.Bool.{Bool, true, _&&_, cond}
+use mathlib.Core.Bool.{Bool, true, false, _&&_, cond}
 use mathlib.Core.List.{List, [], map}
 use mathlib.Core.Option.{Option, none, some}
 use Prim.Native.Nat.{ℕ, _+_, _-_, _*_, _/_, _%_, _<_}
 use native.Mathlib.Omega.{arith}
 use lib.ListN.{getD}
 use borrow.Author.Tests.{le-leb, lt-ltb}
-use Rattle.form.specs.Tree.{Letters, Domain, givenSet, range, Given, Term}
-use Rattle.form.specs.Codes.{Numbering, node}
+use Rattle.symbols.specs.Refusals.{least}
+use Rattle.form.specs.Tree.{Letters, Range, Domain, givenSet, range, Given, Term}
+use Rattle.form.specs.Codes.{Numbering, node, endNumber, endWidth}
 use Rattle.reader.specs.Carriers.{sizeOf, plain}
 use Rattle.reader.specs.Types as ty
 use Rattle.reader.specs.Types.{Ty, has}
 use Rattle.reader.specs.Scope.{Scope}
-use Rattle.reader.specs.Names.{judgeTerm}
-use Rattle.names.specs.Inner.{Names, Sizes, isGiven, sizeIn, termKind}
-use Rattle.names.proofs.Showing.{indexOf, titled, typeCode, Known, knownNumber, knownElement, knownSet, knownPairs, Numbered, Shows, DomainIn, TermIn}
+use Rattle.reader.specs.Names.{rangeFaults, domainFaults, judgeTerm}
+use Rattle.names.specs.Inner.{Names, Sizes, isGiven, key, unlessKey, leastKey, rangeFits, sizeIn, termKind}
+use Rattle.names.proofs.Showing.{indexOf, titled, typeCode, Known, knownNumber, knownElement, knownSet, knownPairs, Numbered, Shows, RangeIn, DomainIn, TermIn}
 use Rattle.names.proofs.Judged.{judged-term}
 use Rattle.names.proofs.JudgedTypes.{ElementType, elementType, element-type, index-in, index-few, is-pairs, is-element}
+use Rattle.names.proofs.JudgedRanges.{range-least}
 use Rattle.names.proofs.JudgedScope.{found, titled-finds}
 use Rattle.names.proofs.JudgedBinders.{View, no-given, one-given, given-view}
 use Rattle.tables.specs.Table as table
+use Rattle.tables.specs.Passes.{givenIndex}
 use Rattle.tables.specs.Resolved as resolved
 use Rattle.tables.specs.Resolved.{overSizes}
 use Rattle.tables.proofs.ResolvingTypes.{type-placed}
@@ -58,6 +61,28 @@ view-size {z = z} {k = k} (no-given h) = ap (λ (b : Bool). cond b (sizeIn z (k 
 view-size {gs = gs} {z = z} {k = k} (one-given g c t h s e) =
     let n : k - 8 ≡ indexOf gs (g .title) = omega arith in
     ap (λ (b : Bool). cond b (sizeIn z (k - 8)) 0) (given-yes k (indexOf gs (g .title)) h e) ∙ ap (sizeIn z) n ∙ s
+
+abbrev pub indexFound : List Given → Option Given → ℕ
+indexFound gs none = 0
+indexFound gs (some g) = indexOf gs (g .title)
+
+pub view-index : {gs : List Given} {z : Sizes} {l : Letters} {o : Option Given} {k : ℕ} → View gs z l o k → givenIndex k ≡ indexFound gs o
+unfolding givenIndex
+view-index {k = k} (no-given h) = ap (λ (b : Bool). cond b (k - 8) 0) h
+view-index {gs = gs} {k = k} (one-given g c t h s e) =
+    let n : k - 8 ≡ indexOf gs (g .title) = omega arith in ap (λ (b : Bool). cond b (k - 8) 0) (given-yes k (indexOf gs (g .title)) h e) ∙ n
+
+-- a range that is not at fault has as many numbers as its ends say
+no-key : (b : Bool) (i : ℕ) → unlessKey b (key i 11) ≡ 0 → b ≡ true
+no-key true i e = refl
+no-key false i e = absurd (omega arith)
+
+pub range-counted : (r : Range) (i : ℕ) → RangeIn r → rangeFaults r i ≡ []
+    → table.rangeCount (endNumber (r .lower)) (endNumber (r .upper)) ≡ endNumber (r .upper) + 1 - endNumber (r .lower)
+unfolding table.rangeCount least
+range-counted r i h e =
+    ap (λ (b : Bool). cond b (endNumber (r .upper) + 1 - endNumber (r .lower)) 0)
+    (no-key (rangeFits (endNumber (r .lower)) (endNumber (r .upper))) (i + endWidth (r .lower)) (range-least r i h ∙ ap leastKey e))
 
 module _ (ρ : Numbering) (P : Letters → Type 0) (Γ : Scope) (T : Names) (z : Sizes) (s : Shows ρ P Γ T z) where
   title-size : (l : Letters) → titled (Γ .givens) l ≡ true → sizeIn z (indexOf (Γ .givens) l) ≡ resolved.givenSize (Γ .givens) (plain l)
@@ -99,11 +124,11 @@ module _ (ρ : Numbering) (P : Letters → Type 0) (Γ : Scope) (T : Names) (z :
       on : {u : Ty} → ElementType (Γ .givens) u → sizeIn z (typeCode (Γ .givens) u - 16) ≡ overOf Γ u
       on (elementType g h) = ap (sizeIn z) (element-index (indexOf (Γ .givens) g)) ∙ title-size g h
 
-  -- what a name is bound over, with faults or without
-  pub domain-resolved : (d : Domain) → DomainIn P d → table.domainTable d T z ρ ≡ resolved.domainTable d Γ
+  -- what a name is bound over, without faults
+  pub domain-resolved : (d : Domain) → DomainIn P d → (i : ℕ) → domainFaults (Γ .givens) d i ≡ [] → table.domainTable d T z ρ ≡ resolved.domainTable d Γ
   unfolding table.domainTable resolved.domainTable resolved.givenSize
-  domain-resolved (givenSet g) h = ap (λ (n : ℕ). node 13 0 1000 n) (view-size (given-view ρ P Γ T z s g h))
-  domain-resolved (range r) h = refl
+  domain-resolved (givenSet g) h i e = ap (λ (n : ℕ). node 13 0 1000 n) (view-size (given-view ρ P Γ T z s g h))
+  domain-resolved (range r) h i e = ap (λ (n : ℕ). node 13 0 (endNumber (r .lower)) n) (range-counted r i h e)
 
   -- the sizes of a term without faults
   module _ (ν : Numbered ρ P) (t : Term) (h : TermIn P t) (i : ℕ) (e : judgeTerm t Γ i .faults ≡ []) where

@@ -59,7 +59,7 @@ module _ (ρ : Numbering) (P : Letters → Type 0) (ν : Numbered ρ P) (z : Siz
   unfolding withTables withPredicates concat contextFaults
   predicates-written none-shown none-placed none-in e qs out = refl
   predicates-written (one-shown s ss) (one-placed w ws) (one-in p ps) e [] out = refl
-  predicates-written (one-shown {c = c} {cs = cs} {T = T} {Ts = Ts} s ss) (one-placed {S = S} {W = W} {Ws = Ws} w ws) (one-in p ps) e (q ∷ qs) out =
+  predicates-written (one-shown {c = c} {cs = cs} {T = T} {Ts = Ts} s ss) (one-placed {W = S} {T = W} {Ts = Ws} w ws) (one-in p ps) e (q ∷ qs) out =
       let f = append-nil-both (contextFaults c) (concat (map contextFaults cs)) e in
       ap (λ (piece : List ℕ). withTables cs Ts Ws qs z ρ (patch q piece out))
       (resolved-pred ρ P ν (c .predicate) (c .scope) S T W z s w p (c .at) (f .0) 38 q (omega arith))

@@ -3,7 +3,7 @@ use mathlib.Core.Path.{_≡_, refl, ap, ap₂, _∙_, sym}
 use mathlib.Core.Bool.{Bool, true, false, not}
 use mathlib.Core.List.{List, [], _∷_, _++_, map}
 use mathlib.Core.Option.{Option, none, some}
-use Prim.Native.Nat.{ℕ, suc, _+_, _-_, _*_}
+use Prim.Native.Nat.{ℕ, suc, _+_, _*_}
 use native.Mathlib.Omega.{arith}
 use lib.ListN.{length}
 use Rattle.symbols.specs.Lists.{any, find}
@@ -13,13 +13,13 @@ use Rattle.symbols.proofs.WordLaws.{same-refl}
 use Rattle.form.specs.Tree.{Letters, Given, TypeForm, givenType, powerType, rangeType, arrowType, Declaration, declarations, Parameter, Operation, Dossier}
 use Rattle.form.specs.Written.{writeType}
 use Rattle.form.specs.Headings.{abstractAt, concreteAt, operationsAt, operationLength}
-use Rattle.form.specs.Codes.{Numbering, node, nameNumber, arrowNumber}
+use Rattle.form.specs.Codes.{Numbering, node, nameNumber, endNumber, arrowNumber}
 use Rattle.reader.specs.Carriers.{sameName, plain, givenOf}
 use Rattle.reader.specs.Scope.{Scope, placeIn, givenNames, abstractTaken, concreteTaken}
 use Rattle.reader.specs.Names.{known, typeFaults, newName, declarationFaults, parameterName, parameterFaults, operationFaults}
 use Rattle.names.specs.Inner.{Names, Sizes, entry}
 use Rattle.names.specs.Passes.{variablesOf, parametersOf}
-use Rattle.names.proofs.Showing.{indexOf, GivenIs, Shows}
+use Rattle.names.proofs.Showing.{indexOf, Shows}
 use Rattle.names.proofs.JudgedLeast.{append-nil-both, not-nil}
 use Rattle.names.proofs.JudgedScope.{index-here, index-there}
 use Rattle.names.proofs.JudgedBinders.{given-view}
@@ -34,8 +34,8 @@ use Rattle.tables.specs.Table as table
 use Rattle.tables.specs.Resolved as resolved
 use Rattle.tables.specs.Walks.{patch}
 use Rattle.tables.specs.Dossiers.{givenPlace, typeTable, withCarriers, withParameters, declared}
-use Rattle.tables.specs.Passes.{typeNode, withNodes, withOperations, declaredNodes}
-use Rattle.tables.proofs.ResolvingSizes.{view-size}
+use Rattle.tables.specs.Passes.{givenIndex, typeNode, withNodes, withOperations, declaredNodes}
+use Rattle.tables.proofs.ResolvingSizes.{view-size, view-index, indexFound, range-counted}
 use Rattle.tables.proofs.TabledShown.{head-new}
 
 -- ---- the place of a given set ----
@@ -71,12 +71,12 @@ module _ (x : Name) (g : Given) where
 -- ---- a declared type ----
 
 module _ (ρ : Numbering) (P : Letters → Type 0) (Γ : Scope) (T : Names) (z : Sizes) (s : Shows ρ P Γ T z) where
-  given-placed : (g : Name) → P (g .letters) → (i : ℕ) → known (givenOf (Γ .givens) g) i ≡ [] → entry T (nameNumber ρ g) - 8 ≡ givenPlace (Γ .givens) g
-  given-placed g pg i e = on (givenOf (Γ .givens) g) refl (s .givens g pg) e
+  given-placed : (g : Name) → P (g .letters) → (i : ℕ) → known (givenOf (Γ .givens) g) i ≡ [] → givenIndex (entry T (nameNumber ρ g)) ≡ givenPlace (Γ .givens) g
+  given-placed g pg i e = view-index (given-view ρ P Γ T z s g pg) ∙ on (givenOf (Γ .givens) g) refl e
     where
-      on : (o : Option Given) → givenOf (Γ .givens) g ≡ o → GivenIs (Γ .givens) o (entry T (nameNumber ρ g)) → known o i ≡ [] → entry T (nameNumber ρ g) - 8 ≡ givenPlace (Γ .givens) g
-      on none q h k = not-nil (fault i nameUnknown) [] k
-      on (some x) q h k = omega (arith, h, place-found g x (Γ .givens) q)
+      on : (o : Option Given) → givenOf (Γ .givens) g ≡ o → known o i ≡ [] → indexFound (Γ .givens) o ≡ givenPlace (Γ .givens) g
+      on none q k = not-nil (fault i nameUnknown) [] k
+      on (some x) q k = sym (place-found g x (Γ .givens) q)
 
   given-sized : (g : Name) → P (g .letters) → table.givenSize z (entry T (nameNumber ρ g)) ≡ resolved.givenSize (Γ .givens) g
   unfolding resolved.givenSize
@@ -86,7 +86,7 @@ module _ (ρ : Numbering) (P : Letters → Type 0) (Γ : Scope) (T : Names) (z :
   unfolding typeNode typeTable typeFaults
   type-written (givenType g) h i e = ap₂ (λ (a b : ℕ). node 1 a b 0) (given-placed g h i e) (given-sized g h)
   type-written (powerType g) h i e = ap₂ (λ (a b : ℕ). node 3 a b 0) (given-placed g h (suc i) e) (given-sized g h)
-  type-written (rangeType r) h i e = refl
+  type-written (rangeType r) h i e = ap (λ (n : ℕ). node 2 0 (endNumber (r .lower)) n) (range-counted r i h e)
   type-written (arrowType a g k) h i e =
       let l = append-nil-both (known (givenOf (Γ .givens) g) i ++ known (givenOf (Γ .givens) k) (i + 2)) _ e in
       let m = append-nil-both (known (givenOf (Γ .givens) g) i) (known (givenOf (Γ .givens) k) (i + 2)) (l .0) in

@@ -69,6 +69,10 @@ parameter-on code at i o a v i' o' b W Y p q r h u w ρ x xs j rest e =
     (ap₂ (λ (l m : ℕ). typedPlaced xs l m Y ρ) (u ∙ ap (λ (t : Bool). cond t (i + 1) i) s) (w ∙ ap (λ (t : Bool). cond t o (o + 1)) s)
     ∙ ap (λ (t : Places). typedPlaced xs (cond B (i + 1) i) (cond B o (o + 1)) t ρ) y)
 
+pub chosen-below : (b : Bool) (r x y n : ℕ) → r ≡ cond b x y → x ≤ n → y ≤ n → r ≤ n
+chosen-below true r x y n e h k = omega arith
+chosen-below false r x y n e h k = omega arith
+
 abbrev isInward : Direction → Bool
 isInward inward = true
 isInward outward = false

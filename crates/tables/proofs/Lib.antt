@@ -5,3 +5,6 @@ pub mod ResolvingScope
 pub mod ResolvingParts
 pub mod Resolving
 pub mod ResolvingLength
+pub mod Patching
+pub mod ConjoinSlots
+pub mod ConjoinRows

@@ -3,4 +3,5 @@ pub mod Resolved
 pub mod Walks
 pub mod Dossiers
 pub mod Conjuncts
+pub mod Searching
 pub mod Passes

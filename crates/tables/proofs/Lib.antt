@@ -8,3 +8,5 @@ pub mod ResolvingLength
 pub mod Patching
 pub mod ConjoinSlots
 pub mod ConjoinRows
+pub mod ConjoinScan
+pub mod Conjoining

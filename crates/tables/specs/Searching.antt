@@ -44,8 +44,8 @@ pub record Wrote (n : ℕ) (rows out after : List ℕ) (r : ℕ) : Type 0 where
 
 pub record RowPut (table : List ℕ) (from end n : ℕ) (out after : List ℕ) (r : ℕ) : Type 0 where
   pub long : length after ≡ length out
-  pub right : from ≤ end → end ≤ length table → end ≤ 65535 → n + 8 ≤ length out → Wrote n (conjunctRow from end (slotsAt (piece table from end))) out after r
+  pub right : from ≤ end → end ≤ length table → end ≤ 65535 → length out ≤ 65535 → n + 8 ≤ length out → Wrote n (conjunctRow from end (slotsAt (piece table from end))) out after r
 
 pub record Conjoined (table : List ℕ) (from end n : ℕ) (out after : List ℕ) (r : ℕ) : Type 0 where
   pub long : length after ≡ length out
-  pub right : (codes rows : List ℕ) → Conjoin from codes rows → Stands table from end codes → end ≤ 65535 → n + length rows ≤ length out → Wrote n rows out after r
+  pub right : (codes rows : List ℕ) → Conjoin from codes rows → Stands table from end codes → end ≤ 65535 → length out ≤ 65535 → n + length rows ≤ length out → Wrote n rows out after r

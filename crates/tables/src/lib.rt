@@ -5,3 +5,5 @@ pub struct Made {
     pub kind: u16,
     pub start: usize,
 }
+
+pub mod conjuncts;

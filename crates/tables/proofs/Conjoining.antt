@@ -57,7 +57,7 @@ stands-right {t} {from} {end} x y m s e =
     }
 
 -- a number of the part
-stands-at : {t : List ℕ} {from end : ℕ} (x y : List ℕ) (j n : ℕ) → Stands t from end (x ++ y) → j < length y → n ≡ from + (length x + j) → getD t n 0 ≡ getD y j 0
+pub stands-at : {t : List ℕ} {from end : ℕ} (x y : List ℕ) (j n : ℕ) → Stands t from end (x ++ y) → j < length y → n ≡ from + (length x + j) → getD t n 0 ≡ getD y j 0
 stands-at {t} {from} {end} x y j n s h e =
     let l = stands-length s in
     let k = length-append x y in

@@ -10,3 +10,5 @@ pub mod ConjoinSlots
 pub mod ConjoinRows
 pub mod ConjoinScan
 pub mod Conjoining
+pub mod GroupPicks
+pub mod Grouping

@@ -12,3 +12,4 @@ pub mod ConjoinScan
 pub mod Conjoining
 pub mod GroupPicks
 pub mod Grouping
+pub mod GroupRows

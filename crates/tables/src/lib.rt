@@ -7,3 +7,4 @@ pub struct Made {
 }
 
 pub mod conjuncts;
+pub mod groups;

@@ -28,3 +28,10 @@ pub mod WritingTypes
 pub mod WritingContexts
 pub mod WritingAll
 pub mod WritingReady
+pub mod ConjoinSlots
+pub mod ConjoinRows
+pub mod ConjoinScan
+pub mod Conjoining
+pub mod GroupPicks
+pub mod Grouping
+pub mod GroupRows

@@ -1,5 +1,7 @@
 // The table that the evaluator runs, from the nodes of a dossier.
 
+pub mod conjuncts;
+pub mod groups;
 mod nodes;
 pub mod passes;
 mod walk;

@@ -104,10 +104,11 @@ ahead-done {table} {spans} {k} {n} {v} {count} {rows} {fs} {out} {after} {firsts
         let e : x .front ≡ rows = sym (w ∙ append-nil (x .front)) in
         let le = ap length e in
         let pl = x .place in
-        let nb = x .number in
-        (x .written ∙ ap (λ (i : List ℕ). patch 0 i out) e,
-        ap (set marks k) (m (omega arith)) ∙ ap (λ (i : List ℕ). set i k n) (x .marks) ∙ patch-more 0 k n (x .before) firsts (omega arith) q
-        ∙ ap (λ (i : List ℕ). patch 0 i firsts) (sym f))
+        let nb = x .number in (
+          x .written ∙ ap (λ (i : List ℕ). patch 0 i out) e,
+          ap (set marks k) (m (omega arith)) ∙ ap (λ (i : List ℕ). set i k n) (x .marks) ∙ patch-more 0 k n (x .before) firsts (omega arith) q
+              ∙ ap (λ (i : List ℕ). patch 0 i firsts) (sym f),
+        )
     go _ _ _ (more-rows a b c d t) w f s = absurd (omega arith)
 
 -- all contexts of a dossier

@@ -164,11 +164,17 @@ fn place(k: usize) -> usize
 }
 
 // One context: how many numbers stand before its rows, and then these.
-fn context(table: &[u16], spans: &[u16], j: usize, out: &mut [u16], n: usize, firsts: &mut [u16], k: usize) -> usize
+fn context(
+    table: &[u16],
+    spans: &[u16],
+    j: usize,
+    out: &mut [u16],
+    n: usize,
+    firsts: &mut [u16],
+    k: usize,
+) -> usize
     requires { ⌜ (j + 2 ≤ 80) × (length (now spans) ≡ 80) × (length (now out) ≡ 16384) × (k < 40) × (length (now firsts) ≡ 40) ⌝ }
-    ensures {
-        λ r. ⌜ ContextPut (now (table .entry)) (now (spans .entry)) j n k (now (out .entry)) (now (out .exit)) (now (firsts .entry)) (now (firsts .exit)) r ⌝
-    }
+    ensures { λ r. ⌜ ContextPut (now (table .entry)) (now (spans .entry)) j n k (now (out .entry)) (now (out .exit)) (now (firsts .entry)) (now (firsts .exit)) r ⌝ }
 {
     firsts[k] = short(n);
     let from = index(spans[j]);
@@ -178,9 +184,7 @@ fn context(table: &[u16], spans: &[u16], j: usize, out: &mut [u16], n: usize, fi
 
 fn contexts(table: &[u16], spans: &[u16], count: usize, out: &mut [u16], firsts: &mut [u16])
     requires { ⌜ (count ≤ 37) × (length (now spans) ≡ 80) × (length (now out) ≡ 16384) × (length (now firsts) ≡ 40) ⌝ }
-    ensures {
-        λ r. ⌜ ListPut (now (table .entry)) (now (spans .entry)) count (now (out .entry)) (now (out .exit)) (now (firsts .entry)) (now (firsts .exit)) ⌝
-    }
+    ensures { λ r. ⌜ ListPut (now (table .entry)) (now (spans .entry)) count (now (out .entry)) (now (out .exit)) (now (firsts .entry)) (now (firsts .exit)) ⌝ }
 {
     let mut n: usize = 0;
     let mut k: usize = 0;
@@ -193,9 +197,7 @@ fn contexts(table: &[u16], spans: &[u16], count: usize, out: &mut [u16], firsts:
 
 fn fill(table: &[u16], spans: &[u16], operations: usize, out: &mut [u16], firsts: &mut [u16])
     requires { ⌜ (length (now spans) ≡ 80) × (length (now out) ≡ 16384) × (length (now firsts) ≡ 40) ⌝ }
-    ensures {
-        λ r. ⌜ Listed (now (table .entry)) (now (spans .entry)) operations (now (out .entry)) (now (out .exit)) (now (firsts .entry)) (now (firsts .exit)) ⌝
-    }
+    ensures { λ r. ⌜ Listed (now (table .entry)) (now (spans .entry)) operations (now (out .entry)) (now (out .exit)) (now (firsts .entry)) (now (firsts .exit)) ⌝ }
 {
     if 16 < operations {
         return;
@@ -204,10 +206,14 @@ fn fill(table: &[u16], spans: &[u16], operations: usize, out: &mut [u16], firsts
 }
 
 // The rows of the conjuncts of a dossier's predicates, in front of the lent array, and how many numbers stand before each predicate's.
-pub fn conjuncts(table: &[u16], spans: &[u16; 80], operations: usize, out: &mut [u16; 16384], firsts: &mut [u16; 40])
-    ensures {
-        λ r. ⌜ Listed (now (table .entry)) (now (spans .entry)) operations (now (out .entry)) (now (out .exit)) (now (firsts .entry)) (now (firsts .exit)) ⌝
-    }
+pub fn conjuncts(
+    table: &[u16],
+    spans: &[u16; 80],
+    operations: usize,
+    out: &mut [u16; 16384],
+    firsts: &mut [u16; 40],
+)
+    ensures { λ r. ⌜ Listed (now (table .entry)) (now (spans .entry)) operations (now (out .entry)) (now (out .exit)) (now (firsts .entry)) (now (firsts .exit)) ⌝ }
 {
     fill(table, spans, operations, out, firsts);
 }

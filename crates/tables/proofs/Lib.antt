@@ -35,3 +35,5 @@ pub mod Conjoining
 pub mod GroupPicks
 pub mod Grouping
 pub mod GroupRows
+pub mod ConjoinContexts
+pub mod ConjoinLists

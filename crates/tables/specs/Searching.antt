@@ -2,17 +2,18 @@
 use mathlib.Core.Path.{_≡_}
 use mathlib.Core.Bool.{cond}
 use mathlib.Core.List.{List, [], _∷_, _++_}
-use Prim.Native.Nat.{ℕ, suc, _+_, _-_, _*_, _%_, _≤_, _<_}
-use lib.Dec.{eqb}
+use Prim.Native.Nat.{ℕ, suc, _+_, _-_, _*_, _/_, _%_, _≤_, _<_}
+use lib.Dec.{eqb, ltb}
 use lib.ListN.{length, take, drop, getD, set}
 use Rattle.symbols.specs.Lists.{filter}
 use Rattle.form.specs.Tree.{declarations, Parameter, Operation, Dossier}
 use Rattle.form.specs.Codes.{Numbering, node}
-use Rattle.reader.specs.Scope.{isInput, isOutput}
+use Rattle.reader.specs.Scope.{Context, contexts, isInput, isOutput}
 use Rattle.contexts.specs.Spans.{Stands, Structured, OperationsAt, span, spansOf}
 use Rattle.tables.specs.Walks.{patch}
-use Rattle.tables.specs.Dossiers.{row, operationRows, groupsOf}
-use Rattle.tables.specs.Conjuncts.{lastIn, conjunctRow}
+use Rattle.tables.specs.Resolved.{Slots, predTable}
+use Rattle.tables.specs.Dossiers.{row, operationRows, groupsOf, slotsOf, startsOf}
+use Rattle.tables.specs.Conjuncts.{lastIn, conjunctRow, contextRows, contextFirsts}
 
 -- the slots in the nodes of a table, in their order: a node of shape 2 has one
 unfoldable pub slotHere : (k a : ℕ) → List ℕ
@@ -123,3 +124,56 @@ pub record RowsPut (nodes spans : List ℕ) (operations : ℕ) (out after : List
 pub record Grouped (nodes spans : List ℕ) (operations : ℕ) (out after : List ℕ) : Type 0 where
   pub exact : (d : Dossier) (ρ : Numbering) (rest : List ℕ) → Structured nodes spans operations d ρ → spans ≡ spansOf d ρ ++ rest → Few d
       → after ≡ patch 0 (groupsOf d ρ) out
+
+-- The conjuncts of all contexts. The k-th one's predicate begins one node behind the place that stands at this one of the spans, and ends at the next
+unfoldable pub placeOf : ℕ → ℕ
+placeOf k = cond (eqb k 0) 1 (cond (ltb k 5) (k + 3) (10 + 4 * ((k - 5) / 2) + (k - 5) % 2))
+
+pub record Place (k r : ℕ) : Type 0 where
+  pub right : r ≡ placeOf k
+  pub within : k < 37 → r + 2 ≤ 80
+
+-- m contexts from the k-th one on: their rows, behind n numbers, and how many numbers stand before each one's
+pub data RowsAt (table spans : List ℕ) : (k m n : ℕ) → (rows firsts : List ℕ) → Type 0 where
+  no-rows : {k n : ℕ} → RowsAt table spans k 0 n [] (n ∷ [])
+  more-rows : {k m n from end : ℕ} {codes u v fs : List ℕ} → from ≡ span spans (placeOf k) + 4 → end ≡ span spans (placeOf k + 1) → Conjoin from codes u
+      → Stands table from end codes → RowsAt table spans (suc k) m (n + length u) v fs → RowsAt table spans k (suc m) n (u ++ v) (n ∷ fs)
+
+pub record ContextPut (table spans : List ℕ) (j n k : ℕ) (out after firsts marked : List ℕ) (r : ℕ) : Type 0 where
+  pub long : length after ≡ length out
+  pub firstsLong : length marked ≡ length firsts
+  pub marks : n ≤ 65535 → marked ≡ set firsts k n
+  pub right : (codes rows : List ℕ) → Conjoin (span spans j + 4) codes rows → Stands table (span spans j + 4) (span spans (j + 1)) codes → n + length rows ≤ length out
+      → Wrote n rows out after r
+
+-- what is written, and the contexts left, make the whole
+pub record ContextsAhead (table spans : List ℕ) (k n count : ℕ) (rows fs out after firsts marked : List ℕ) : Type 0 where
+  pub left : ℕ
+  pub front : List ℕ
+  pub more : List ℕ
+  pub before : List ℕ
+  pub others : List ℕ
+  pub rest : RowsAt table spans k left n more others
+  pub whole : rows ≡ front ++ more
+  pub firstsWhole : fs ≡ before ++ others
+  pub sum : count ≡ k + left
+  pub place : n ≡ length front
+  pub number : k ≡ length before
+  pub written : after ≡ patch 0 front out
+  pub marks : marked ≡ patch 0 before firsts
+
+pub record ListPut (table spans : List ℕ) (count : ℕ) (out after firsts marked : List ℕ) : Type 0 where
+  pub right : (rows fs : List ℕ) → RowsAt table spans 0 count 0 rows fs → length rows ≤ 16384 → (after ≡ patch 0 rows out) × (marked ≡ patch 0 fs firsts)
+
+-- the table of each context's predicate stands where it begins
+pub data Standing (table : List ℕ) : List Context → List Slots → List ℕ → Type 0 where
+  none-stands : Standing table [] [] []
+  one-stands : {c : Context} {cs : List Context} {W : Slots} {Ws : List Slots} {q : ℕ} {qs : List ℕ}
+      → Stands table q (q + length (predTable (c .predicate) (c .scope) W 38 q)) (predTable (c .predicate) (c .scope) W 38 q) → Standing table cs Ws qs
+      → Standing table (c ∷ cs) (W ∷ Ws) (q ∷ qs)
+
+-- the conjuncts of a dossier, in front of the arrays
+pub record Listed (table spans : List ℕ) (operations : ℕ) (out after firsts marked : List ℕ) : Type 0 where
+  pub exact : (d : Dossier) (ρ : Numbering) (nodes rest : List ℕ) → Structured nodes spans operations d ρ → spans ≡ spansOf d ρ ++ rest → length (d .operations) ≤ 16
+      → Standing table (contexts d) (slotsOf d) (startsOf d ρ) → length (contextRows (contexts d) (slotsOf d) (startsOf d ρ)) ≤ 16384
+      → (after ≡ patch 0 (contextRows (contexts d) (slotsOf d) (startsOf d ρ)) out) × (marked ≡ patch 0 (contextFirsts 0 (contexts d) (slotsOf d) (startsOf d ρ)) firsts)

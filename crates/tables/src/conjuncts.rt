@@ -6,6 +6,7 @@ ghost use Rattle.form.specs.Codes.{node};
 ghost use Rattle.tables.specs.Walks.{patch};
 ghost use Rattle.tables.specs.Conjuncts.{lastIn, conjunctRow};
 ghost use Rattle.tables.specs.Searching.{slotHere, slotsAt, piece, Middle, RowPut, Conjoined};
+ghost use Rattle.tables.specs.Searching.{Place, ContextPut, ListPut, Listed};
 use names::kinds::index;
 
 fn larger(a: u16, b: u16) -> u16
@@ -136,4 +137,83 @@ fn conjoin(table: &[u16], from: usize, end: usize, out: &mut [u16], n: usize) ->
         return conjoin(table, m, end - 4, out, k);
     }
     row(table, from, end, out, n)
+}
+
+// A place as a number of 16 bits; 0 where it is none.
+fn short(x: usize) -> u16
+    ensures { λ r. ⌜ (x ≤ 65535 → r ≡ x) ⌝ }
+{
+    if 65535 < x {
+        return 0;
+    }
+    x as u16
+}
+
+// Which one of the spans the k-th context's predicate begins at.
+fn place(k: usize) -> usize
+    requires { ⌜ k < 37 ⌝ }
+    ensures { λ r. ⌜ Place k r ⌝ }
+{
+    if k == 0 {
+        return 1;
+    }
+    if k < 5 {
+        return k + 3;
+    }
+    10 + 4 * ((k - 5) / 2) + (k - 5) % 2
+}
+
+// One context: how many numbers stand before its rows, and then these.
+fn context(
+    table: &[u16],
+    spans: &[u16],
+    j: usize,
+    out: &mut [u16],
+    n: usize,
+    firsts: &mut [u16],
+    k: usize,
+) -> usize
+    requires { ⌜ (j + 2 ≤ 80) × (length (now spans) ≡ 80) × (length (now out) ≡ 16384) × (k < 40) × (length (now firsts) ≡ 40) ⌝ }
+    ensures { λ r. ⌜ ContextPut (now (table .entry)) (now (spans .entry)) j n k (now (out .entry)) (now (out .exit)) (now (firsts .entry)) (now (firsts .exit)) r ⌝ }
+{
+    firsts[k] = short(n);
+    let from = index(spans[j]);
+    let end = index(spans[j + 1]);
+    conjoin(table, from + 4, end, out, n)
+}
+
+fn contexts(table: &[u16], spans: &[u16], count: usize, out: &mut [u16], firsts: &mut [u16])
+    requires { ⌜ (count ≤ 37) × (length (now spans) ≡ 80) × (length (now out) ≡ 16384) × (length (now firsts) ≡ 40) ⌝ }
+    ensures { λ r. ⌜ ListPut (now (table .entry)) (now (spans .entry)) count (now (out .entry)) (now (out .exit)) (now (firsts .entry)) (now (firsts .exit)) ⌝ }
+{
+    let mut n: usize = 0;
+    let mut k: usize = 0;
+    while k < count {
+        n = context(table, spans, place(k), out, n, firsts, k);
+        k += 1;
+    }
+    firsts[k] = short(n);
+}
+
+fn fill(table: &[u16], spans: &[u16], operations: usize, out: &mut [u16], firsts: &mut [u16])
+    requires { ⌜ (length (now spans) ≡ 80) × (length (now out) ≡ 16384) × (length (now firsts) ≡ 40) ⌝ }
+    ensures { λ r. ⌜ Listed (now (table .entry)) (now (spans .entry)) operations (now (out .entry)) (now (out .exit)) (now (firsts .entry)) (now (firsts .exit)) ⌝ }
+{
+    if 16 < operations {
+        return;
+    }
+    contexts(table, spans, 5 + 2 * operations, out, firsts);
+}
+
+// The rows of the conjuncts of a dossier's predicates, in front of the lent array, and how many numbers stand before each predicate's.
+pub fn conjuncts(
+    table: &[u16],
+    spans: &[u16; 80],
+    operations: usize,
+    out: &mut [u16; 16384],
+    firsts: &mut [u16; 40],
+)
+    ensures { λ r. ⌜ Listed (now (table .entry)) (now (spans .entry)) operations (now (out .entry)) (now (out .exit)) (now (firsts .entry)) (now (firsts .exit)) ⌝ }
+{
+    fill(table, spans, operations, out, firsts);
 }

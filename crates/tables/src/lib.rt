@@ -1,7 +1,9 @@
 // The table that the evaluator runs, from the nodes of a dossier.
 
+mod carriers;
 mod nodes;
 pub mod passes;
+mod places;
 mod walk;
 
 // The type of a tree, and where its nodes begin.

@@ -28,3 +28,4 @@ pub mod WritingTypes
 pub mod WritingContexts
 pub mod WritingAll
 pub mod WritingReady
+pub mod WritingWhole

@@ -3,10 +3,10 @@ use mathlib.Core.Path.{_≡_, refl, ap, ap₂, sym, _∙_, subst}
 use mathlib.Core.List.{List, [], _∷_, _++_, map}
 use Prim.Native.Nat.{ℕ, suc, _+_, _-_, _*_, _≤_, _<_}
 use native.Mathlib.Omega.{arith}
-use lib.ListN.{length, getD, List·getD-append}
+use lib.ListN.{length, List·getD-append}
 use Rattle.symbols.specs.Symbols.{noEnding}
 use Rattle.form.specs.Tree.{Letters, Declaration, declarations, Parameter, State, Operation, Dossier}
-use Rattle.form.specs.Headings.{givensAt, abstractAt, concreteAt, ainitAt, cinitAt, retrieveAt, operationsAt, operationLength}
+use Rattle.form.specs.Headings.{givensAt, abstractAt, concreteAt, operationsAt, operationLength}
 use Rattle.form.specs.Codes.{Numbering, abstractlyAt, predWidth, conditionCodes, givenCodes, declarationCodes, parameterCodes}
 use Rattle.reader.specs.Scope.{contexts, concreteTaken}
 use Rattle.names.specs.Inner.{Names, Sizes}
@@ -18,7 +18,7 @@ use Rattle.contexts.specs.Spans.{operationSpans, spansOf, span, Structured}
 use Rattle.tables.specs.Table.{Places}
 use Rattle.tables.specs.Dossiers.{operationStarts, startsOf}
 use Rattle.tables.specs.Passes.{givensPlaced, placing, statesPlaced, kindsOf, placesOf, withTables, withNodes, withOperations, declaredNodes, tableBy}
-use Rattle.tables.specs.Parts.{PartIs, ElementsSet, VariablesSet, withState, StateSet, StatesSet, withConditions, ConditionsSet, tablesFrom, OperationsSet, PlacesSet, declaredBy, DeclaredSet, startsBy, placesBy, ContextsSet, TitlesAt, Ready, TableSet}
+use Rattle.tables.specs.Parts.{PartIs, ElementsSet, VariablesSet, withState, StateSet, StatesSet, withConditions, ConditionsSet, tablesFrom, OperationsSet, PlacesSet, declaredBy, DeclaredSet, startsBy, placesBy, ContextsSet, TableSet}
 use Rattle.tables.proofs.WritingTypes.{part-stands}
 
 -- the places of elements and of both states' variables

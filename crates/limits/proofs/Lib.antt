@@ -15,6 +15,7 @@ pub mod Fitting
 pub mod BindFaults
 pub mod BindGivens
 pub mod MeasuredDossier
+-- The pass over a whole dossier.
 pub mod Marking
 pub mod Reaching
 pub mod Measuring

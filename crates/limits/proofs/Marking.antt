@@ -113,7 +113,7 @@ away (suc k) code s x S T = on (eqb x (getD code 1 0 + s)) refl (away k (drop 8 
           getD-set-other (marksOf true k (drop 8 code) s T) (getD code 1 0 + s) x (entrySize true code 4) 0 (eqb-false x _ e) ∙ w .1,
         )
 
-zeros-at : (n k : ℕ) → _≡_ {A = ℕ} (getD (replicate n 0) k 0) 0
+pub zeros-at : (n k : ℕ) → _≡_ {A = ℕ} (getD (replicate n 0) k 0) 0
 zeros-at zero k = refl
 zeros-at (suc n) zero = refl
 zeros-at (suc n) (suc k) = zeros-at n k

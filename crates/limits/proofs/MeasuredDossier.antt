@@ -3,27 +3,27 @@ use mathlib.Core.Path.{_≡_, refl, ap, _∙_, sym}
 use mathlib.Core.Bool.{Bool, true, false}
 use mathlib.Core.List.{List, [], _∷_, _++_, map}
 use mathlib.Core.Option.{Option, none, some}
-use Prim.Native.Nat.{ℕ, zero, suc, _+_, _≤_}
+use Prim.Native.Nat.{ℕ, _+_, _≤_}
 use native.Mathlib.Omega.{arith}
-use lib.ListN.{length, getD, set, replicate, length-set, length-replicate}
+use lib.ListN.{set, length-set, length-replicate}
 use Rattle.symbols.specs.Lists.{filter, find, concat}
 use Rattle.symbols.specs.Symbols.{Name, Ending, noEnding, prime}
 use Rattle.form.specs.Tree.{TypeForm, givenType, powerType, rangeType, arrowType}
-use Rattle.form.specs.Tree.{Letters, Given, Declaration, declarations, Parameter, Direction, inward, outward, State, Operation, Dossier}
+use Rattle.form.specs.Tree.{Letters, Given, Declaration, declarations, Parameter, State, Operation, Dossier}
 use Rattle.form.specs.Headings.{operationLength}
 use Rattle.form.specs.Codes.{Numbering, nameNumber}
 use Rattle.reader.specs.Carriers.{Carrier, Variable, largest, sameName, carrierOf}
 use Rattle.reader.specs.Scope as scope
-use Rattle.reader.specs.Scope.{Context, variables, contexts, operationContexts, unprimed, primed, operationReach}
+use Rattle.reader.specs.Scope.{Context, variables, contexts, operationContexts, operationReach}
 use Rattle.reader.specs.Limits.{Sizes, contextSizes, sizeFaults}
-use Rattle.names.specs.Inner.{entry, leastKey}
 use Rattle.names.specs.Passes.{Typed, variablesOf, parametersOf}
+use Rattle.names.specs.Inner.{leastKey}
 use Rattle.names.proofs.Showing.{Numbered, PredIn}
 use Rattle.names.proofs.JudgedLeast.{Small, no-fault, small-append, two-parts, least-nil}
 use Rattle.names.proofs.JudgedScope.{find-here, find-there}
 use Rattle.names.proofs.PassedTables.{name-refl, changed}
 use Rattle.names.proofs.PassedTypes.{TypeIn}
-use Rattle.names.proofs.PassedDeclared.{TypedIn, no-typed, one-typed}
+use Rattle.names.proofs.PassedDeclared.{TypedIn, one-typed}
 use Rattle.names.proofs.PassedOperations.{OperationsIn, no-operations, one-operation}
 use Rattle.names.proofs.Passed.{DossierIn}
 use Rattle.contexts.specs.Spans.{Structured}
@@ -34,6 +34,8 @@ use Rattle.limits.specs.Passes.{shownSizes, contextOver, leastOver, Ends
 use Rattle.limits.proofs.MeasuredScope.{SizesShown, sizeFound, sizeOfName}
 use Rattle.limits.proofs.MeasuredWidths.{pred-steady}
 use Rattle.limits.proofs.Measured.{measured-pred}
+use Rattle.limits.proofs.Marking.{zeros-at}
+use Rattle.limits.proofs.Reaching.{carried}
 
 -- ---- the sizes of the variables in reach ----
 
@@ -45,11 +47,6 @@ pub data NamesIn (P : Letters → Type 0) : List Variable → Type 0 where
 names-append : {P : Letters → Type 0} {vs ws : List Variable} → NamesIn P vs → NamesIn P ws → NamesIn P (vs ++ ws)
 names-append no-names k = k
 names-append (one-name p h) k = one-name p (names-append h k)
-
-zeros-at : (n k : ℕ) → _≡_ {A = ℕ} (getD (replicate n 0) k 0) 0
-zeros-at zero k = refl
-zeros-at (suc n) zero = refl
-zeros-at (suc n) (suc k) = zeros-at n k
 
 abbrev sizesOf : List Variable → Sizes
 sizesOf vs = map (λ (v : Variable). (v .called, largest (v .carrier))) vs
@@ -99,11 +96,7 @@ parameter-letters {P} f (x ∷ xs) h = on (f x) (parameter-letters f xs (tail-in
     on true k = one-letters (head-in h) k
     on false k = k
 
--- withCarrier of reader/specs/Scope, which is private there
-abbrev carried : Name → Option Carrier → List Variable → List Variable
-carried x none vs = vs
-carried x (some c) vs = record { called = x; carrier = c } ∷ vs
-
+-- a type at fault has no carrier, and its variable is dropped
 carried-in : {P : Letters → Type 0} (x : Name) (o : Option Carrier) {vs : List Variable} → P (x .letters) → NamesIn P vs → NamesIn P (carried x o vs)
 carried-in x none p h = h
 carried-in x (some c) p h = one-name p h

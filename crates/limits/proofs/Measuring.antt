@@ -1,27 +1,23 @@
 -- The pass for number 13 by its functions: one predicate with the variables in its reach, the parts of a dossier, and all of it.
-use mathlib.Core.Path.{_≡_, refl, ap, ap₂, sym, subst, _∙_}
+use mathlib.Core.Path.{_≡_, ap, ap₂, sym, subst, _∙_}
 use mathlib.Core.Bool.{true, false}
-use mathlib.Core.List.{List, [], _∷_, _++_, map}
-use Prim.Native.Nat.{ℕ, zero, suc, _+_, _-_, _*_, _≤_, _<_}
+use mathlib.Core.List.{List, [], _++_, map}
+use Prim.Native.Nat.{ℕ, _+_, _-_, _*_, _≤_, _<_}
 use native.Mathlib.Omega.{arith}
-use lib.ListN.{length, take, drop, getD, replicate, length-replicate, List·getD-eq-default}
+use lib.ListN.{length, take, drop, replicate}
 use Rattle.symbols.specs.Symbols.{noEnding, prime}
-use Rattle.form.specs.Tree.{Letters, Pred, Given, Declaration, declarations, Parameter, State, Operation, Dossier}
-use Rattle.form.specs.Headings.{abstractAt, concreteAt, operationsAt, operationLength}
-use Rattle.form.specs.Codes.{Numbering, declarationCodes, parameterCodes, predWidth, abstractlyAt}
+use Rattle.form.specs.Tree.{Pred, Given, Declaration, declarations, Parameter, State, Operation, Dossier}
+use Rattle.form.specs.Codes.{Numbering, declarationCodes, parameterCodes}
 use Rattle.reader.specs.Carriers.{Variable}
-use Rattle.reader.specs.Scope.{variables, contexts, operationContexts, unprimed, primed, inputs, outputs, operationReach, concreteTaken}
+use Rattle.reader.specs.Scope.{variables, unprimed, primed, inputs, outputs, operationReach}
 use Rattle.names.specs.Inner.{lesser}
 use Rattle.names.specs.Parts.{PartOf}
-use Rattle.names.proofs.JudgedLeast.{lesser-zero, lesser-assoc}
-use Rattle.contexts.specs.Spans.{Stands, PredAt, span, OperationAt, OperationsAt, no-more, one-more, Structured}
+use Rattle.contexts.specs.Spans.{Stands, PredAt, span}
 use Rattle.limits.specs.declared.Sized.{Sized}
 use Rattle.limits.specs.Inner.{Bounds, predOver}
 use Rattle.limits.specs.Walks.{PredSized}
-use Rattle.limits.specs.Fit as fits
-use Rattle.limits.specs.Fit.{TypesFit, OperationsFit, DeclaredFit}
-use Rattle.limits.specs.Passes as near
-use Rattle.limits.specs.Passes.{shownSizes, contextOver, leastOver, TypesNear, OperationsNear, DeclaredNear, marks, marksOf, marked, Clear, ContextSeen, Ready, overOf, statesOver, conditionsOver, operationOver, operationsOver, PartSeen, OperationSeen, MeasuresSeen}
+use Rattle.limits.specs.Fit.{TypesFit}
+use Rattle.limits.specs.Passes.{shownSizes, TypesNear, marks, marksOf, marked, Clear, ContextSeen, overOf, statesOver, conditionsOver, operationOver, PartSeen, OperationSeen}
 use Rattle.limits.proofs.Marking.{restored}
 use Rattle.limits.proofs.Reaching.{shownOn, sizes-on, shown-append, group-marks, plain-ending, primed-ending, parameters-marks}
 

@@ -1,26 +1,26 @@
 -- The pass for number 13: a loop over the operations of a dossier, and all of its parts.
 use mathlib.Core.Path.{_≡_, refl, ap, ap₂, sym, subst, _∙_}
 use mathlib.Core.Bool.{Bool, true, false}
-use mathlib.Core.List.{List, [], _∷_, map}
+use mathlib.Core.List.{List, [], _∷_}
 use mathlib.Core.Logic.{_⊎_, inl, inr}
-use Prim.Native.Nat.{ℕ, zero, suc, _+_, _*_, _≤_, _<_}
+use Prim.Native.Nat.{ℕ, suc, _+_, _*_, _≤_, _<_}
 use native.Mathlib.Omega.{arith}
 use lib.Dec.{leb}
-use lib.ListN.{length, getD, replicate, length-replicate, List·getD-eq-default}
+use lib.ListN.{length, replicate, length-replicate, List·getD-eq-default}
 use borrow.Author.Tests.{leb-true, leb-false}
-use Rattle.form.specs.Tree.{Letters, Given, declarations, Operation, Dossier}
-use Rattle.form.specs.Headings.{abstractAt, concreteAt, operationsAt, operationLength}
-use Rattle.form.specs.Codes.{Numbering, declarationCodes, predWidth}
+use Rattle.form.specs.Tree.{Letters, Operation, Dossier}
+use Rattle.form.specs.Headings.{operationsAt, operationLength}
+use Rattle.form.specs.Codes.{Numbering, predWidth}
 use Rattle.reader.specs.Scope.{contexts, operationContexts, concreteTaken}
 use Rattle.names.specs.Inner.{lesser}
 use Rattle.names.specs.Parts.{PartOf}
 use Rattle.names.proofs.JudgedLeast.{lesser-zero, lesser-assoc}
-use Rattle.contexts.specs.Spans.{span, OperationAt, OperationsAt, no-more, one-more, Structured}
+use Rattle.contexts.specs.Spans.{span, OperationsAt, one-more}
 use Rattle.limits.specs.Inner.{Bounds}
 use Rattle.limits.specs.Fit as fits
-use Rattle.limits.specs.Fit.{OperationsFit, DeclaredFit}
+use Rattle.limits.specs.Fit.{OperationsFit}
 use Rattle.limits.specs.Passes as near
-use Rattle.limits.specs.Passes.{contextOver, leastOver, OperationsNear, DeclaredNear, Clear, Ready, statesOver, conditionsOver, operationOver, operationsOver, PartSeen, OperationSeen, MeasuresSeen}
+use Rattle.limits.specs.Passes.{contextOver, leastOver, OperationsNear, Clear, Ready, statesOver, conditionsOver, operationOver, operationsOver, PartSeen, OperationSeen, MeasuresSeen}
 use Rattle.limits.proofs.Measuring.{part-stands, clear-on}
 
 -- ---- operations ----

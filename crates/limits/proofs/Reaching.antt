@@ -3,16 +3,16 @@ use mathlib.Core.Path.{_≡_, refl, ap, ap₂, sym, subst, _∙_}
 use mathlib.Core.Bool.{Bool, true, false}
 use mathlib.Core.List.{List, [], _∷_, _++_, map}
 use mathlib.Core.Option.{Option, none, some}
-use Prim.Native.Nat.{ℕ, zero, suc, _+_, _*_, _/_}
+use Prim.Native.Nat.{ℕ, suc, _+_, _*_, _/_}
 use native.Mathlib.Omega.{arith}
-use lib.ListN.{length, drop, getD, set, replicate, length-append}
+use lib.ListN.{length, drop, set, replicate, length-append}
 use lib.Seq.{set-comm}
 use Rattle.symbols.specs.Lists.{filter}
 use Rattle.symbols.specs.Symbols.{Name, Ending, noEnding, prime, query, shriek}
-use Rattle.form.specs.Tree.{Letters, TypeForm, givenType, powerType, rangeType, arrowType, relation, partial, total, range, Given, Declaration, declarations, Parameter, Direction, inward, outward, Arrow}
+use Rattle.form.specs.Tree.{Letters, TypeForm, givenType, powerType, rangeType, arrowType, relation, partial, total, range, Given, Declaration, Parameter, Direction, inward, outward}
 use Rattle.form.specs.Written.{endingOf}
 use Rattle.form.specs.Codes.{Numbering, nameNumber, numberOfName, declarationCode, declarationCodes, parameterCodes, typeWidth}
-use Rattle.reader.specs.Carriers.{Carrier, elementsOf, numbers, subsetsOf, pairsOf, Variable, largest, carrierOf, givenOf}
+use Rattle.reader.specs.Carriers.{Carrier, elementsOf, subsetsOf, pairsOf, Variable, largest, carrierOf, givenOf}
 use Rattle.reader.specs.Scope.{variables, parametersOf, isInput, isOutput}
 use Rattle.names.proofs.PassedTypes.{Carries, type-carries}
 use Rattle.limits.specs.Inner.{Bounds, domainBound}
@@ -42,7 +42,7 @@ shown-append (v ∷ vs) ws ρ S = ap (λ (T : Bounds). set T (nameNumber ρ (v .
 -- ---- one declaration ----
 
 -- withCarrier of reader/specs/Scope, and forGiven and forGivens of reader/specs/Carriers, which are private there
-abbrev carried : Name → Option Carrier → List Variable → List Variable
+abbrev pub carried : Name → Option Carrier → List Variable → List Variable
 carried x none vs = vs
 carried x (some c) vs = record { called = x; carrier = c } ∷ vs
 

@@ -1,7 +1,7 @@
 -- The pass for number 13 over a whole dossier, by numbers. That the least of these faults is that of reader/specs/Limits.sizeFaults is proofs/MeasuredDossier.
 -- Nothing here need be believed.
 use mathlib.Core.Path.{_≡_}
-use mathlib.Core.Bool.{Bool, true, false, cond}
+use mathlib.Core.Bool.{Bool, true, cond}
 use mathlib.Core.List.{List, [], _∷_, _++_, map}
 use Prim.Native.Nat.{ℕ, zero, suc, _+_, _/_, _≤_, max}
 use lib.Dec.{eqb}

@@ -254,11 +254,11 @@ fn such(code: &[u16], end: usize, names: &mut [u16], sizes: &[u16]) -> Seen
     let n = node_at(code, end);
     let x = index(n.a);
     let d = domain(code, end - 4, names);
-    let old = look(names, x);
+    let was = look(names, x);
     put(names, x, d.kind);
     let p = pred(code, d.start, names, sizes);
-    put(names, x, old);
-    let f = bound_fault(n.place, old, d.fault, p.fault);
+    put(names, x, was);
+    let f = bound_fault(n.place, was, d.fault, p.fault);
     Seen {
         kind: set_of(d.kind),
         fault: f,

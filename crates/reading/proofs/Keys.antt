@@ -13,19 +13,12 @@ use Rattle.form.specs.Headings.{givensAt, abstractAt, concreteAt, operationsAt,
 use Rattle.reader.specs.Scope.{Context, givenNames, abstractTaken, concreteTaken, contexts}
 use Rattle.reader.specs.Names.{contextFaults, nameFaults}
 use Rattle.reader.specs.Limits.{operationBindings, bindingFaults}
-use Rattle.names.specs.Inner.{key}
-use Rattle.names.proofs.Showing as showing
+use Rattle.names.specs.Inner.{key, keyOf}
 use Rattle.names.proofs.JudgedLeast.{Small, no-fault, one-more, small-append, small-unless}
 use Rattle.names.proofs.JudgedWidths.{pred-steady}
 use Rattle.names.proofs.PassedPlaces.{within-small}
 use Rattle.names.proofs.PassedGivens.{givens-within}
 use Rattle.names.proofs.PassedDossier.{heads-small, declarations-within}
-use Rattle.reading.specs.Promises.{keyOf}
-
--- the number as the pass for names has it
-pub same-key : (o : Option Fault) → showing.keyOf o ≡ keyOf o
-same-key none = refl
-same-key (some f) = refl
 
 -- 0 is none
 pub key-none : (o : Option Fault) → keyOf o ≡ 0 → o ≡ none

@@ -8,4 +8,4 @@ pub mod Parted
 pub mod Joined
 pub mod Passes
 pub mod Later
-pub mod Faultless
+pub mod Limited

@@ -23,16 +23,16 @@ use Rattle.parser.proofs.Texts.{known}
 use Rattle.reader.specs.Names.{nameFaults}
 use Rattle.reader.specs.Read as definition
 use Rattle.reader.specs.Read.{reading, pass, located, read}
-use Rattle.names.specs.Inner.{Names, Sizes, insideKey}
+use Rattle.names.specs.Inner.{Names, Sizes, insideKey, keyOf}
 use Rattle.names.specs.Passes.{givensKey, dossierKey}
 use Rattle.names.specs.Parts.{CheckSeen}
 use Rattle.names.proofs.JudgedLeast.{Small}
-use Rattle.reading.specs.Promises.{ReadIs, Reads, Stands, keyOf, Named, Refuses, Checks}
+use Rattle.reading.specs.Promises.{ReadIs, Reads, Stands, Named, Refuses, Checks}
 use Rattle.reading.specs.declared.Reading.{Reading}
 use Rattle.reading.specs.declared.Reading.the-variants.{Read, Refused}
 use Rattle.reading.proofs.Few.{forms-fewer}
 use Rattle.reading.proofs.Least.{names-from-free}
-use Rattle.reading.proofs.Keys.{same-key, key-number, key-place, least-small, names-small}
+use Rattle.reading.proofs.Keys.{key-number, key-place, least-small}
 use Rattle.reading.proofs.Parted.{sectioned-placed}
 use Rattle.reading.proofs.Joined.{Structured, Told, read-is}
 
@@ -46,7 +46,7 @@ inside-zero a b e = on (eqb a 0) refl e
     on true p q = eqb-true a 0 p
     on false p q = q
 
-givens-none : (d : Dossier) (T : Names) (ρ : Numbering) (z : Sizes) → dossierKey d T ρ z ≡ 0 → givensKey (d .givens) 0 T ρ (givensAt d) ≡ 0
+pub givens-none : (d : Dossier) (T : Names) (ρ : Numbering) (z : Sizes) → dossierKey d T ρ z ≡ 0 → givensKey (d .givens) 0 T ρ (givensAt d) ≡ 0
 unfolding dossierKey
 givens-none d T ρ z e = inside-zero (givensKey (d .givens) 0 T ρ (givensAt d)) _ e
 
@@ -58,8 +58,7 @@ named-all nodes m b l z r s c long =
       least = λ text starts n d st.
           let at = sectioned-placed nodes m d (numbering text) (st .inside) (st .nodes-are) b s in
           c .right d (numbering text) at (forms-fewer (st .forms))
-          ∙ names-from-free text (st .scans) (st .forms) l long z (c .sized d (numbering text) at (forms-fewer (st .forms)))
-          ∙ same-key (least (nameFaults d));
+          ∙ names-from-free text (st .scans) (st .forms) l long z (c .sized d (numbering text) at (forms-fewer (st .forms)));
       sized = λ text starts n d st e.
           let at = sectioned-placed nodes m d (numbering text) (st .inside) (st .nodes-are) b s in
           c .sized d (numbering text) at (forms-fewer (st .forms))
@@ -104,16 +103,6 @@ pass-goes-on text fs k r is no-fault x h = on (least fs) refl
     on none e = h
     on (some f) e = let z : 0 ≡ keyOf (some f) = sym no-fault ∙ is ∙ ap keyOf e in absurd (omega arith)
 
--- ---- the passes over the structure ----
-
-module _ (starts : List ℕ) (n end : ℕ) (nodes : List ℕ) (m : ℕ) (z : Sizes) (k : ℕ) (named : Named nodes m z k) (r : Reading) where
-  pub names-refuse : (k ≡ 0 → ⊥) → Refuses k starts n end r → Checks starts n end nodes m r
-  names-refuse some-fault apart text d st e = pass-refuses st (names-small d) k end r (named .least text starts n d st) some-fault e apart (reading d)
-
-  pub names-pass : k ≡ 0 → r ≡ Read n m → Checks starts n end nodes m r
-  names-pass no-fault is text d st e =
-      pass-goes-on text (nameFaults d) k r (named .least text starts n d st) no-fault (reading d) (all-passed st r is)
-
 -- ---- the text ----
 
 module _ {text codes₀ starts₀ values₀ nodes₀ codes starts values nodes : List ℕ} {q : Parsed} (p : Parses text codes₀ starts₀ values₀ nodes₀ codes starts values nodes q) where
@@ -131,8 +120,7 @@ module _ {text codes₀ starts₀ values₀ nodes₀ codes starts values nodes :
       record {
         parsed = q;
         parses = p;
-        answers = λ later.
-            subst (λ (x : definition.Reading). ReadIs text x r) (sym (t .reads ∙ later (t .dossier) (st .forms))) (checks text (t .dossier) st refl);
+        answers = subst (λ (x : definition.Reading). ReadIs text x r) (sym (t .reads)) (checks text (t .dossier) st refl);
       }
 
   pub reads-refusal : {k i : ℕ} → q ≡ parsed.Refused k i → (r : Reading) → r ≡ Refused k i → Reads text codes₀ starts₀ values₀ nodes₀ codes starts values nodes r
@@ -141,6 +129,6 @@ module _ {text codes₀ starts₀ values₀ nodes₀ codes starts values nodes :
       record {
         parsed = q;
         parses = p;
-        answers = λ later.
+        answers =
             subst (λ (x : definition.Reading). ReadIs text x r) (sym (t .reads)) (is ∙ sym (ap₂ Refused (t .number) (t .place)));
       }

@@ -1,9 +1,9 @@
 -- What `read` promises of every text: the answer of document 01 (reader/specs/Read), and what it leaves in the lent arrays.
 use mathlib.Core.Path.{_≡_}
 use mathlib.Core.List.{List, map}
-use mathlib.Core.Option.{Option, none, some}
+use mathlib.Core.Option.{none}
 use Prim.Native.Nat.{ℕ, _≤_, _<_}
-use lib.ListN.{length, take, getD}
+use lib.ListN.{length, take, getD, replicate}
 use Rattle.symbols.specs.Symbols.{scan, symbols}
 use Rattle.symbols.specs.Refusals.{Fault, numberOf, least}
 use Rattle.symbols.specs.Promises.{Scans}
@@ -16,8 +16,9 @@ use Rattle.parser.specs.declared.Parsed.{Parsed}
 use Rattle.reader.specs.Carriers.{sizeOf}
 use Rattle.reader.specs.Names.{nameFaults}
 use Rattle.reader.specs.Read as definition
-use Rattle.reader.specs.Read.{refusal, reading, pass, located, readNames, read}
-use Rattle.names.specs.Inner.{Sizes, key}
+use Rattle.reader.specs.Read.{refusal, reading, readNames, read}
+use Rattle.names.specs.Inner.{Names, Sizes, key, keyOf}
+use Rattle.names.specs.Passes.{givensNamed}
 use Rattle.reading.specs.declared.Reading.{Reading}
 use Rattle.reading.specs.declared.Reading.the-variants.{Read, Refused}
 
@@ -26,14 +27,10 @@ abbrev pub ReadIs : List ℕ → definition.Reading → Reading → Type 0
 ReadIs text (refusal f) r = r ≡ Refused (numberOf (f .refusal)) (f .place)
 ReadIs text (reading d) r = r ≡ Read (length (symbols (scan text))) (length (dossierCodes d (numbering text)))
 
--- the passes behind number 7 so far: names. Numbers 12 and 13 join here.
-abbrev pub passes : List ℕ → Dossier → definition.Reading
-passes text d = pass (located text (least (nameFaults d))) (reading d)
-
 pub record Reads (text codes₀ starts₀ values₀ nodes₀ codes starts values nodes : List ℕ) (r : Reading) : Type 0 where
   pub parsed : Parsed
   pub parses : Parses text codes₀ starts₀ values₀ nodes₀ codes starts values nodes parsed
-  pub answers : ((d : Dossier) → Forms (textSymbols text) d → readNames text d ≡ passes text d) → ReadIs text (read text) r
+  pub answers : ReadIs text (read text) r
 
 -- What the functions promise each other. Nothing below need be believed.
 
@@ -50,16 +47,26 @@ pub record Stands (text starts nodes : List ℕ) (n m : ℕ) (d : Dossier) : Typ
   pub short : m ≤ 16384
   pub nodes-are : take m nodes ≡ dossierCodes d (numbering text)
 
--- a pass answers with its least fault as a number (place * 16 + number + 1), or 0
-abbrev pub keyOf : Option Fault → ℕ
-keyOf none = 0
-keyOf (some f) = key (f .place) (numberOf (f .refusal))
-
--- names, and how many elements each given set has where no fault was found
+-- a pass answers with its least fault as a number (place * 16 + number + 1), or 0: names, and how many elements each given set has where no fault was found
 pub record Named (nodes : List ℕ) (m : ℕ) (z : Sizes) (r : ℕ) : Type 0 where
   pub least : (text starts : List ℕ) (n : ℕ) (d : Dossier) → Stands text starts nodes n m d → r ≡ keyOf (least (nameFaults d))
   pub sized : (text starts : List ℕ) (n : ℕ) (d : Dossier) → Stands text starts nodes n m d → r ≡ 0
       → (k : ℕ) → k < length (d .givens) → getD z k 0 ≡ getD (map sizeOf (d .givens)) k 0
+
+-- the given sets by name, in a table of l names, and their sizes; for the passes behind that for names
+pub record Tabled (nodes : List ℕ) (m l : ℕ) (T : Names) (z : Sizes) : Type 0 where
+  pub named : 16384 ≤ l → (text starts : List ℕ) (n : ℕ) (d : Dossier) → Stands text starts nodes n m d → least (nameFaults d) ≡ none
+      → T ≡ givensNamed (d .givens) 0 (replicate l 0) (numbering text)
+  pub sized : 16384 ≤ l → (text starts : List ℕ) (n : ℕ) (d : Dossier) → Stands text starts nodes n m d → least (nameFaults d) ≡ none
+      → (k : ℕ) → k < length (d .givens) → getD z k 0 ≡ getD (map sizeOf (d .givens)) k 0
+
+-- a pass behind that for names finds the least of its faults, where that one found none
+abbrev pub Finds : (Dossier → List Fault) → (nodes : List ℕ) (m r : ℕ) → Type 0
+Finds faults nodes m r =
+    (text starts : List ℕ) (n : ℕ) (d : Dossier)
+    → Stands text starts nodes n m d
+    → least (nameFaults d) ≡ none
+    → r ≡ keyOf (least (faults d))
 
 -- a number taken apart; the place by its first byte
 abbrev pub Refuses : (key : ℕ) (starts : List ℕ) (n end : ℕ) → Reading → Type 0
@@ -67,4 +74,4 @@ Refuses k starts n end r = (i q : ℕ) → q < 16 → k ≡ key i q → r ≡ Re
 
 -- the passes over the structure of a text
 abbrev pub Checks : (starts : List ℕ) (n end : ℕ) (nodes : List ℕ) (m : ℕ) → Reading → Type 0
-Checks starts n end nodes m r = (text : List ℕ) (d : Dossier) → Stands text starts nodes n m d → end ≡ length text → ReadIs text (passes text d) r
+Checks starts n end nodes m r = (text : List ℕ) (d : Dossier) → Stands text starts nodes n m d → end ≡ length text → ReadIs text (readNames text d) r

@@ -2,8 +2,14 @@
 ghost use Prim.Native.Nat.{_≤_};
 ghost use mathlib.Core.Path.{_≡_};
 ghost use lib.ListN.{length, take, getD};
-ghost use Rattle.reading.specs.Promises.{Reads, Named, Refuses, Checks};
+ghost use Rattle.reader.specs.Limits.{bindingFaults, sizeFaults};
+ghost use Rattle.reading.specs.Promises.{Reads, Named, Tabled, Finds, Refuses, Checks};
+use contexts::spans;
+use limits::bindings::bindings;
+use limits::measures::measures;
+use names::given_sets;
 use names::least_fault;
+use names::passes::part;
 use parser::Parsed;
 use parser::parse;
 use parser::sections::sections;
@@ -41,6 +47,14 @@ fn checked(starts: &[u16], n: usize, end: usize, nodes: &[u16], m: usize) -> Rea
     if key != 0 {
         return refused(key, starts, n, end);
     }
+    let more = bindings_key(nodes, m);
+    if more != 0 {
+        return refused(more, starts, n, end);
+    }
+    let last = sizes_key(nodes, m);
+    if last != 0 {
+        return refused(last, starts, n, end);
+    }
     Reading::Read(n, m)
 }
 
@@ -61,6 +75,36 @@ fn names_key(nodes: &[u16], m: usize, sizes: &mut [u16; 8]) -> u32
         &mut names,
         sizes,
     )
+}
+
+// The given sets by name, and their sizes.
+fn given_table(nodes: &[u16], m: usize, names: &mut [u16], sizes: &mut [u16; 8])
+    ensures { λ _. ⌜ Tabled (now (nodes .entry)) m (length (now (names .entry))) (now (names .exit)) (now (sizes .exit)) ⌝ }
+{
+    let at = sections(nodes, m);
+    given_sets(part(nodes, at.givens, at.abstracts), names, sizes);
+}
+
+// Number 12, where names have no fault.
+fn bindings_key(nodes: &[u16], m: usize) -> u32
+    ensures { λ r. ⌜ Finds bindingFaults (now (nodes .entry)) m r ⌝ }
+{
+    let mut names = [0u16; 16384];
+    let mut sizes = [0u16; 8];
+    let mut places = [0u16; 80];
+    given_table(nodes, m, &mut names, &mut sizes);
+    let k = spans(nodes, m, &mut places);
+    bindings(nodes, &places, k, &names, &sizes)
+}
+
+// Number 13, where names have no fault.
+fn sizes_key(nodes: &[u16], m: usize) -> u32
+    ensures { λ r. ⌜ Finds sizeFaults (now (nodes .entry)) m r ⌝ }
+{
+    let mut bounds = [0u16; 16384];
+    let mut places = [0u16; 80];
+    let k = spans(nodes, m, &mut places);
+    measures(nodes, &places, k, &mut bounds)
 }
 
 // The refusal of a fault by its number.

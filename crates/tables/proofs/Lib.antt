@@ -29,3 +29,10 @@ pub mod WritingContexts
 pub mod WritingAll
 pub mod WritingReady
 pub mod WritingWhole
+pub mod ConjoinSlots
+pub mod ConjoinRows
+pub mod ConjoinScan
+pub mod Conjoining
+pub mod GroupPicks
+pub mod Grouping
+pub mod GroupRows

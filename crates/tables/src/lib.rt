@@ -1,6 +1,8 @@
 // The table that the evaluator runs, from the nodes of a dossier.
 
 mod carriers;
+pub mod conjuncts;
+pub mod groups;
 mod nodes;
 pub mod passes;
 mod places;

@@ -28,6 +28,7 @@ pub mod WritingTypes
 pub mod WritingContexts
 pub mod WritingAll
 pub mod WritingReady
+pub mod WritingWhole
 pub mod ConjoinSlots
 pub mod ConjoinRows
 pub mod ConjoinScan

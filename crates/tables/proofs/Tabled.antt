@@ -28,7 +28,6 @@ use Rattle.tables.specs.Resolved.{Slots}
 use Rattle.tables.specs.Walks.{patch}
 use Rattle.tables.specs.Dossiers.{slotsOf, startsOf, withPredicates, tableOf}
 use Rattle.tables.specs.Passes.{kindsOf, placesOf, withTables, tableBy}
-use Rattle.tables.proofs.ResolvingScope.{PlacesShown}
 use Rattle.tables.proofs.Resolving.{resolved-pred}
 use Rattle.tables.proofs.TabledShown.{AllShown, none-shown, one-shown, free-sees, contexts-shown}
 use Rattle.tables.proofs.PlacingContexts.{AllPlaced, none-placed, one-placed}

@@ -3,10 +3,10 @@ use mathlib.Core.Path.{_≡_, refl, ap, ap₂, sym, _∙_, subst}
 use mathlib.Core.List.{List, [], _∷_, _++_, map}
 use Prim.Native.Nat.{ℕ, suc, _+_, _-_, _*_, _≤_, _<_}
 use native.Mathlib.Omega.{arith}
-use lib.ListN.{length, getD, List·getD-append}
+use lib.ListN.{length, List·getD-append}
 use Rattle.symbols.specs.Symbols.{noEnding}
 use Rattle.form.specs.Tree.{Letters, Declaration, declarations, Parameter, State, Operation, Dossier}
-use Rattle.form.specs.Headings.{givensAt, abstractAt, concreteAt, ainitAt, cinitAt, retrieveAt, operationsAt, operationLength}
+use Rattle.form.specs.Headings.{givensAt, abstractAt, concreteAt, operationsAt, operationLength}
 use Rattle.form.specs.Codes.{Numbering, abstractlyAt, predWidth, conditionCodes, givenCodes, declarationCodes, parameterCodes}
 use Rattle.reader.specs.Scope.{contexts, concreteTaken}
 use Rattle.names.specs.Inner.{Names, Sizes}
@@ -18,7 +18,7 @@ use Rattle.contexts.specs.Spans.{operationSpans, spansOf, span, Structured}
 use Rattle.tables.specs.Table.{Places}
 use Rattle.tables.specs.Dossiers.{operationStarts, startsOf}
 use Rattle.tables.specs.Passes.{givensPlaced, placing, statesPlaced, kindsOf, placesOf, withTables, withNodes, withOperations, declaredNodes, tableBy}
-use Rattle.tables.specs.Parts.{PartIs, ElementsSet, VariablesSet, withState, StateSet, withConditions, ConditionsSet, tablesFrom, OperationsSet, PlacesSet, declaredBy, DeclaredSet, startsBy, placesBy, ContextsSet, TitlesAt, Ready, TableSet}
+use Rattle.tables.specs.Parts.{PartIs, ElementsSet, VariablesSet, withState, StateSet, StatesSet, withConditions, ConditionsSet, tablesFrom, OperationsSet, PlacesSet, declaredBy, DeclaredSet, startsBy, placesBy, ContextsSet, TableSet}
 use Rattle.tables.proofs.WritingTypes.{part-stands}
 
 -- the places of elements and of both states' variables
@@ -78,24 +78,35 @@ tables-as : (d : Dossier) (spans : List ℕ) (i : ℕ) (xs : List Letters) (os :
 tables-as d spans i xs os z ρ {T} {T'} {W} {W'} {out} {out'} t w o =
     ap₂ (λ (x : Names) (y : Places). tablesFrom d spans 0 i xs os x y z ρ out) t w ∙ ap (λ (l : List ℕ). tablesFrom d spans 0 i xs os T' W' z ρ l) o
 
-pub contexts-set : (nodes spans A C : List ℕ) (n : ℕ) (T T₁ T₂ T₃ : Names) (W W₁ W₂ W₃ : Places) (z : Sizes) (out out₁ out₂ out₃ after : List ℕ)
+pub states-set : (nodes spans : List ℕ) (T T₁ U : Names) (W W₁ Y : Places) (z : Sizes) (out out₁ after : List ℕ)
     → StateSet nodes (span spans 0) (span spans 1) (span spans 2) T T₁ W W₁ z out out₁
-    → StateSet nodes (span spans 3) (span spans 4) (span spans 5) T₁ T₂ W₁ W₂ z out₁ out₂
+    → StateSet nodes (span spans 3) (span spans 4) (span spans 5) T₁ U W₁ Y z out₁ after
+    → StatesSet nodes spans T U W Y z out after
+states-set nodes spans T T₁ U W W₁ Y z out out₁ after a c =
+    record {
+      placesKept = c .placesKept ∙ a .placesKept;
+      named = λ d n ρ s. c .named (d .concrete) (suc (concreteAt d)) ρ (s .concrete .variables) ∙ ap (λ (x : Names). stateNamed (d .concrete) x ρ) (first-named d n ρ s);
+      right =
+          λ d n ρ s.
+          c .right (d .concrete) (suc (concreteAt d)) _ ρ (s .concrete .variables) (s .concrete .predicate)
+          ∙ state-as (d .concrete) z ρ (span spans 4 + 4) (first-named d n ρ s) (a .placesKept)
+          (a .right (d .abstract) (suc (abstractAt d)) _ ρ (s .abstract .variables) (s .abstract .predicate));
+    }
+  where
+    first-named : (d : Dossier) (n : ℕ) (ρ : Numbering) → Structured nodes spans n d ρ → T₁ ≡ stateNamed (d .abstract) T ρ
+    first-named d n ρ s = a .named (d .abstract) (suc (abstractAt d)) ρ (s .abstract .variables)
+
+pub contexts-set : (nodes spans A C : List ℕ) (n : ℕ) (T T₂ T₃ : Names) (W W₂ W₃ : Places) (z : Sizes) (out out₂ out₃ after : List ℕ)
+    → StatesSet nodes spans T T₂ W W₂ z out out₂
     → ConditionsSet nodes A C (span spans 6) (span spans 7) (span spans 8) T₂ T₃ W₂ W₃ z out₂ out₃
     → OperationsSet nodes spans A C n T₃ W₃ z out₃ after
     → ContextsSet nodes spans A C n T W z out after
-contexts-set nodes spans A C n T T₁ T₂ T₃ W W₁ W₂ W₃ z out out₁ out₂ out₃ after a c k h d ρ s t v =
-    let sa = s .abstract in
-    let sc = s .concrete in
-    let t₁ : T₁ ≡ stateNamed (d .abstract) T ρ = a .named (d .abstract) (suc (abstractAt d)) ρ (sa .variables) in
-    let t₂ : T₂ ≡ afterStates d T ρ = c .named (d .concrete) (suc (concreteAt d)) ρ (sc .variables) ∙ ap (λ (x : Names). stateNamed (d .concrete) x ρ) t₁ in
+contexts-set nodes spans A C n T T₂ T₃ W W₂ W₃ z out out₂ out₃ after b k h d ρ s t v =
+    let t₂ : T₂ ≡ afterStates d T ρ = b .named d n ρ s in
     let t₃ : T₃ ≡ conditionsNamed d (afterStates d T ρ) ρ = k .named d ρ v ∙ ap (λ (x : Names). conditionsNamed d x ρ) t₂ in
-    let w₁ : W₁ ≡ W = a .placesKept in
-    let w₂ : W₂ ≡ W = c .placesKept ∙ w₁ in
-    let w₃ : W₃ ≡ W = k .placesKept ∙ w₂ in
-    let o₁ = a .right (d .abstract) (suc (abstractAt d)) _ ρ (sa .variables) (sa .predicate) in
-    let o₂ = c .right (d .concrete) (suc (concreteAt d)) _ ρ (sc .variables) (sc .predicate) ∙ state-as (d .concrete) z ρ (span spans 4 + 4) t₁ w₁ o₁ in
-    let o₃ = k .right d ρ v (span spans 5) (s .ainit) (s .cinit) (s .retrieve) ∙ conditions-as d z ρ (span spans 5 + 4) (span spans 6 + 4) (span spans 7 + 4) t₂ w₂ o₂ in
+    let w₃ : W₃ ≡ W = k .placesKept ∙ b .placesKept in
+    let o₃ = k .right d ρ v (span spans 5) (s .ainit) (s .cinit) (s .retrieve)
+    ∙ conditions-as d z ρ (span spans 5 + 4) (span spans 6 + 4) (span spans 7 + 4) t₂ (b .placesKept) (b .right d n ρ s) in
     h d (d .operations) (operationsAt d) (concreteTaken d) ρ (s .counted) (s .operations) t v
     ∙ (tables-as d spans (operationsAt d) (concreteTaken d) (d .operations) z ρ t₃ w₃ o₃ ∙ all-contexts d spans T W z ρ out)
 

@@ -1,14 +1,14 @@
 -- Each predicate with the names in its reach: a state, the conditions, an operation, all operations, the whole.
 use mathlib.Core.Path.{_≡_, refl, ap, ap₂, sym, _∙_, subst}
-use mathlib.Core.List.{List, [], _∷_, _++_}
+use mathlib.Core.List.{List, [], _∷_}
 use Prim.Native.Nat.{ℕ, suc, _+_, _-_, _*_, _≤_, _<_}
 use native.Mathlib.Nat.{zero-add}
 use native.Mathlib.Numerals.{add-one}
 use native.Mathlib.Omega.{arith}
-use lib.ListN.{length, take, drop, getD, set}
+use lib.ListN.{length, take, getD, set}
 use lib.Seq.{length-take-le}
 use Rattle.symbols.specs.Symbols.{noEnding}
-use Rattle.form.specs.Tree.{Letters, Pred, Declaration, declarations, Parameter, State, Operation, Dossier}
+use Rattle.form.specs.Tree.{Letters, Pred, Declaration, declarations, Operation, Dossier}
 use Rattle.form.specs.Headings.{ainitAt, cinitAt, retrieveAt, operationLength}
 use Rattle.form.specs.Codes.{Numbering, numberOfName, abstractlyAt, predWidth, declarationCodes, parameterCodes}
 use Rattle.reader.specs.Scope.{operationContexts}
@@ -16,13 +16,13 @@ use Rattle.names.specs.Inner.{Names, Sizes}
 use Rattle.names.specs.Passes.{Typed, typedCodes, variablesOf, parametersOf, shown, hidden, stateNamed, reaching, leaving, titleNamed, parametersShown, operationNamed, conditionsNamed}
 use Rattle.names.specs.Parts.{ShownSeen, HiddenSeen, Variables}
 use Rattle.names.proofs.Passing.{variables-codes, parameters-codes}
-use Rattle.contexts.specs.Spans.{span, Stands, PredAt, OperationAt, OperationsAt, no-more, one-more}
+use Rattle.contexts.specs.Spans.{span, OperationAt, OperationsAt, no-more, one-more}
 use Rattle.tables.specs.declared.Made.{Made}
 use Rattle.tables.specs.Table.{Places, predTable}
 use Rattle.tables.specs.Walks.{patch, PredMade}
 use Rattle.tables.specs.Dossiers.{operationStarts}
-use Rattle.tables.specs.Passes.{operationKinds, operationPlaces, withTables, parametersPlaced}
-use Rattle.tables.specs.Parts.{PartIs, ParametersSet, written, PredicateSet, withState, StateSet, withConditions, ConditionsSet, SideSet, abstractKinds, concreteKinds, placedIn, withOperation, OperationStands, OperationDone, OperationSet, TitlesAt, no-titles, one-title, tablesFrom, OperationsSet}
+use Rattle.tables.specs.Passes.{operationKinds, operationPlaces, withTables}
+use Rattle.tables.specs.Parts.{PartIs, ParametersSet, written, PredicateSet, StateSet, withConditions, ConditionsSet, SideSet, abstractKinds, concreteKinds, placedIn, withOperation, OperationStands, OperationSet, TitlesAt, no-titles, one-title, tablesFrom, OperationsSet}
 use Rattle.tables.proofs.WritingTypes.{part-stands}
 
 -- a predicate

@@ -13,11 +13,11 @@ use Rattle.symbols.specs.Symbols.{noEnding}
 use Rattle.form.specs.Tree.{Letters, Given, elements, Direction, inward, outward, Parameter}
 use Rattle.form.specs.Headings.{givenLength}
 use Rattle.form.specs.Written.{endingOf}
-use Rattle.form.specs.Codes.{Numbering, node, nameNumber, numberOfName, endingNumber, typeCodes, typeWidth, elementCodes, givenCodes, parameterCodes}
+use Rattle.form.specs.Codes.{Numbering, node, nameNumber, numberOfName, endingNumber, typeCodes, typeWidth, elementCodes, givenCodes}
 use Rattle.names.specs.Inner.{Names}
-use Rattle.names.specs.Passes.{Typed, typedCodes, parametersOf}
+use Rattle.names.specs.Passes.{Typed, parametersOf}
 use Rattle.names.specs.Parts.{typedCode}
-use Rattle.names.proofs.Declaring.{node-a, node-shape, Walked, start, on, finished}
+use Rattle.names.proofs.Declaring.{node-a, node-shape, Walked, finished}
 use Rattle.names.proofs.Passing.{parameters-codes}
 use Rattle.tables.specs.Table.{Places}
 use Rattle.tables.specs.Passes.{elementsPlaced, givensPlaced, placing, parameterSlot, nextInput, nextOutput, parametersPlaced}

@@ -8,10 +8,10 @@ use Rattle.symbols.specs.Symbols.{noEnding}
 use Rattle.form.specs.Tree.{Operation, Dossier}
 use Rattle.form.specs.Headings.{givensAt, operationsAt, operationLength}
 use Rattle.form.specs.Codes.{Numbering, node, numberOfName, abstractlyAt, predWidth, givenCodes, parameterCodes, conditionCodes, operationCodes, dossierCodes}
-use Rattle.parser.specs.Sections.{givensFrom, abstractFrom, operationsFrom, concreteFrom, ainitFrom, cinitFrom, retrieveFrom}
+use Rattle.parser.specs.Sections.{givensFrom, abstractFrom, operationsFrom}
 use Rattle.parser.proofs.Itemised.{Split, split-first, split-next, split-as, split-at}
 use Rattle.parser.proofs.Placed.{fromAbstract, at-givens, at-operations}
-use Rattle.contexts.specs.Spans.{operationSpans, spansOf, span, Structured}
+use Rattle.contexts.specs.Spans.{operationSpans, spansOf, span}
 use Rattle.contexts.proofs.Structure.{split-longer, split-move, stand, structured}
 use Rattle.tables.specs.Parts.{TitlesAt, no-titles, one-title, Ready}
 

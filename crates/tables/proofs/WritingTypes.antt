@@ -10,8 +10,7 @@ use lib.Dec.{eqb, ltb}
 use lib.ListN.{length, take, drop, getD, length-drop}
 use lib.Seq.{length-take-le}
 use borrow.Author.Tests.{ne-eqb, lt-ltb, le-ltb}
-use Rattle.symbols.specs.Symbols.{Ending}
-use Rattle.form.specs.Tree.{TypeForm, givenType, powerType, rangeType, arrowType, relation, partial, total, Declaration, declarations, Parameter, State, Operation, Dossier}
+use Rattle.form.specs.Tree.{TypeForm, givenType, powerType, rangeType, arrowType, relation, partial, total, Declaration, declarations, Parameter, Operation}
 use Rattle.form.specs.Headings.{abstractAt, concreteAt, operationsAt, operationLength}
 use Rattle.form.specs.Codes.{Numbering, node, nameNumber, endNumber, endWidth, arrowNumber, typeCodes, typeWidth, declarationCodes, parameterCodes}
 use Rattle.symbols.specs.Symbols.{noEnding}
@@ -21,7 +20,7 @@ use Rattle.names.specs.Parts.{typedCode}
 use Rattle.names.proofs.Declaring.{node-a, node-b, node-shape, typed-type, Walked, finished}
 use Rattle.names.proofs.Numbers.{cond-yes, cond-no, given-bounds}
 use Rattle.names.proofs.Passing.{variables-codes, parameters-codes}
-use Rattle.contexts.specs.Spans.{span, Stands, PredAt, OperationAt, OperationsAt, no-more, one-more, StateAt, Structured}
+use Rattle.contexts.specs.Spans.{span, Stands, OperationsAt, no-more, one-more}
 use Rattle.tables.specs.Table.{givenSize, rangeCount}
 use Rattle.tables.specs.Walks.{patch}
 use Rattle.tables.specs.Passes.{givenIndex, typeNode, withNodes, withOperations}

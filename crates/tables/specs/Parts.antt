@@ -73,6 +73,13 @@ pub record StateSet (nodes : List ℕ) (first last end : ℕ) (T U : Names) (W Y
   pub right : (s : State) (i j : ℕ) (ρ : Numbering) → Stands nodes first last (declarationCodes i (declarations s) ρ) → PredAt nodes last end j (s .predicate) ρ
       → after ≡ withState s T W z ρ (last + 4) out
 
+-- both states
+pub record StatesSet (nodes spans : List ℕ) (T U : Names) (W Y : Places) (z : Sizes) (out after : List ℕ) : Type 0 where
+  pub placesKept : Y ≡ W
+  pub named : (d : Dossier) (n : ℕ) (ρ : Numbering) → Structured nodes spans n d ρ → U ≡ stateNamed (d .concrete) (stateNamed (d .abstract) T ρ) ρ
+  pub right : (d : Dossier) (n : ℕ) (ρ : Numbering) → Structured nodes spans n d ρ
+      → after ≡ withState (d .concrete) (stateNamed (d .abstract) T ρ) W z ρ (span spans 4 + 4) (withState (d .abstract) T W z ρ (span spans 1 + 4) out)
+
 -- ainit, cinit and retrieve
 unfoldable pub withConditions : Dossier → Names → Places → Sizes → Numbering → (a b c : ℕ) → List ℕ → List ℕ
 withConditions d T W z ρ a b c out =

@@ -7,5 +7,7 @@ pub mod Keys
 pub mod Parted
 pub mod Joined
 pub mod Passes
-pub mod Later
 pub mod Limited
+pub mod Later
+pub mod FewVariables
+pub mod Leaving

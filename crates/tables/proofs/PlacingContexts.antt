@@ -21,10 +21,11 @@ use Rattle.tables.specs.Table.{Places}
 use Rattle.tables.specs.Resolved.{Slots, slotted}
 use Rattle.tables.specs.Dossiers.{abstractSlots, concreteSlots, parameterSlots, operationSlots, slotsOf}
 use Rattle.tables.specs.Passes.{parametersPlaced, operationPlaces, placesOf}
+use Rattle.tables.specs.Searching.{FewEach, few-none, few-more, Few}
 use Rattle.tables.proofs.ResolvingScope.{PlacesShown}
 use Rattle.tables.proofs.PlacingSlots.{into, joined, slotted-names, names-append, shown-by}
 use Rattle.tables.proofs.PlacingParameters.{numbered, inputs-slotted, outputs-slotted, inputs-few, outputs-few, parameters-hold}
-use Rattle.tables.proofs.PlacingStates.{Operated, none-operated, one-operated, Separate, no-faults, FewEach, none-each, one-each, Few, below}
+use Rattle.tables.proofs.PlacingStates.{Operated, none-operated, one-operated, Separate, no-faults, below}
 use Rattle.tables.proofs.PlacingStates.{abstractPrimed, concretePrimed, Told, stateEntries, states-told, parameters-told, states-hold}
 
 -- contexts, each with its slots and its table of places
@@ -70,16 +71,16 @@ module _ (ρ : Numbering) (P : Letters → Type 0) (ν : Numbered ρ P) (d : Dos
   operations-placed : {os : List Operation} → OperationsIn P os → Operated (d .givens) os → FewEach os → (i : ℕ) (xs : List Letters) {T : Places} (f : Name → ℕ) → Holds ρ P T f → Told d f
       → AllPlaced ρ P (operationContexts d i xs os) (operationSlots d os) (operationPlaces os T ρ)
   unfolding operationContexts operationSlots operationPlaces
-  operations-placed no-operations none-operated none-each i xs f w t = none-placed
-  operations-placed (one-operation {o = o} {os = os} po tp pa pc ps) (one-operated n ns) (one-each a b few) i xs {T} f w t =
+  operations-placed no-operations none-operated few-none i xs f w t = none-placed
+  operations-placed (one-operation {o = o} {os = os} po tp pa pc ps) (one-operated n ns) (few-more a few) i xs {T} f w t =
       let f′ = into (numbered (o .parameters) 16 19) f in
       let T′ = parametersPlaced (o .parameters) 16 19 T ρ in
       let w′ = parameters-hold ρ P ν (o .parameters) tp 16 19 w in
       let t′ = parameters-told d h f t (o .parameters) 16 19 in
       let I = slotted 16 (inputs d o) in
       let O = slotted 19 (outputs d o) in
-      let k = joined I O f′ (inputs-slotted (d .givens) n 16 19 f (below 16 (inputs d o) (omega (arith, inputs-few (d .givens) (o .parameters)))))
-      (outputs-slotted (d .givens) n 16 19 f (below 19 (outputs d o) (omega (arith, outputs-few (d .givens) (o .parameters))))) in
+      let k = joined I O f′ (inputs-slotted (d .givens) n 16 19 f (below 16 (inputs d o) (omega (arith, inputs-few (d .givens) (o .parameters), a .inputs))))
+      (outputs-slotted (d .givens) n 16 19 f (below 19 (outputs d o) (omega (arith, outputs-few (d .givens) (o .parameters), a .outputs)))) in
       one-placed
       (shown-by ρ P (d .givens) (o .title ∷ xs) (operationReach d (d .abstract) o) (abstractSlots d ++ abstractPrimed d ++ parameterSlots d o) f′ T′ w′
       (joined (abstractSlots d ++ abstractPrimed d) (I ++ O) f′ (joined (abstractSlots d) (abstractPrimed d) f′ (t′ .abstract-told) (t′ .abstract-primed)) k) (t′ .elements-told)
@@ -104,7 +105,7 @@ all-placed ρ P ν d e p few T long =
     (one-placed (abstract-placed ρ P d (stateEntries d g) w t (concreteTaken d))
     (one-placed (concrete-placed ρ P d (stateEntries d g) w t (concreteTaken d))
     (one-placed (both-placed ρ P d (stateEntries d g) w t (concreteTaken d))
-    (operations-placed ρ P ν d h (p .operations-in) (h .operations-are) (few .operations-few) (operationsAt d) (concreteTaken d) (stateEntries d g) w t)))))
+    (operations-placed ρ P ν d h (p .operations-in) (h .operations-are) (few .parameters) (operationsAt d) (concreteTaken d) (stateEntries d g) w t)))))
 
 pub places-shown : (ρ : Numbering) (P : Letters → Type 0) → Numbered ρ P → (d : Dossier) → nameFaults d ≡ [] → DossierIn P d → Few d → (n : ℕ) → 16384 ≤ n
     → AllPlaced ρ P (contexts d) (slotsOf d) (placesOf d (replicate n 0) ρ)

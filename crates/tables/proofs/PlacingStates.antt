@@ -5,13 +5,12 @@ use mathlib.Core.List.{List, [], _∷_, _++_, map}
 use Prim.Native.Nat.{ℕ, suc, _+_, _≤_}
 use native.Mathlib.Omega.{arith}
 use lib.ListN.{length}
-use Rattle.symbols.specs.Lists.{filter}
 use Rattle.symbols.specs.Symbols.{Name, Ending, noEnding, prime}
 use Rattle.form.specs.Tree.{Letters, Given, Declaration, declarations, Parameter, Operation, Dossier}
 use Rattle.form.specs.Headings.{givensAt, abstractAt, concreteAt, operationsAt, operationLength}
 use Rattle.form.specs.Codes.{Numbering}
 use Rattle.reader.specs.Carriers.{Variable, endingCode, plain}
-use Rattle.reader.specs.Scope.{givenNames, stateNames, abstractTaken, concreteTaken, unprimed, primed, variables, isInput, isOutput}
+use Rattle.reader.specs.Scope.{givenNames, stateNames, abstractTaken, concreteTaken, unprimed, primed, variables}
 use Rattle.reader.specs.Names.{newName, givenFaults, parameterFaults, operationFaults, nameFaults}
 use Rattle.names.proofs.Showing.{Numbered}
 use Rattle.names.proofs.JudgedLeast.{append-nil-both}
@@ -23,6 +22,7 @@ use Rattle.tables.specs.Table.{Places}
 use Rattle.tables.specs.Resolved.{Slots, slotted}
 use Rattle.tables.specs.Dossiers.{abstractSlots, concreteSlots}
 use Rattle.tables.specs.Passes.{statesPlaced}
+use Rattle.tables.specs.Searching.{Few}
 use Rattle.tables.proofs.ResolvingScope.{slotOf}
 use Rattle.tables.proofs.PlacingSlots.{no-slot, Named, named-slot, into, Slotted, Elements, Below, Off, Out, own, kept, elements-kept, slotted-below}
 use Rattle.tables.proofs.PlacingDeclared.{Declared, faultless, declared-off, declared-once, declared-ended, declared-used, variables-few, placing-holds}
@@ -60,17 +60,6 @@ no-faults d e =
       concrete-are = faultless (d .givens) (abstractTaken d) (suc (concreteAt d)) (declarations (d .concrete)) (p .concrete-new);
       operations-are = operated (d .givens) (concreteTaken d) (operationsAt d) (d .operations) (p .operations-new);
     }
-
--- what number 6 gives: at most eight variables in a state, three inputs and three outputs in an operation
-pub data FewEach : List Operation → Type 0 where
-  none-each : FewEach []
-  one-each : {o : Operation} {os : List Operation} → length (filter (λ (x : Parameter). isInput (x .direction)) (o .parameters)) ≤ 3
-      → length (filter (λ (x : Parameter). isOutput (x .direction)) (o .parameters)) ≤ 3 → FewEach os → FewEach (o ∷ os)
-
-pub record Few (d : Dossier) : Type 0 where
-  pub abstract-few : length (declarations (d .abstract)) ≤ 8
-  pub concrete-few : length (declarations (d .concrete)) ≤ 8
-  pub operations-few : FewEach (d .operations)
 
 -- ---- lists of slots apart ----
 
@@ -131,9 +120,9 @@ module _ (d : Dossier) (h : Separate d) where
   pub states-told : Few d → (f : Name → ℕ) → Told d (stateEntries d f)
   states-told few f =
       let m : (e : Ending) → length (variables (d .givens) e (declarations (d .abstract))) ≤ 8
-      = λ e. omega (arith, variables-few (d .givens) e (declarations (d .abstract)), few .abstract-few) in
+      = λ e. omega (arith, variables-few (d .givens) e (declarations (d .abstract)), few .abstract) in
       let n : (e : Ending) → length (variables (d .givens) e (declarations (d .concrete))) ≤ 8
-      = λ e. omega (arith, variables-few (d .givens) e (declarations (d .concrete)), few .concrete-few) in
+      = λ e. omega (arith, variables-few (d .givens) e (declarations (d .concrete)), few .concrete) in
       let a = abstractSlots d in let b = abstractPrimed d in let c = concreteSlots d in let q = concretePrimed d in
       let g = intoGivens (d .givens) f in
       record {

@@ -14,7 +14,7 @@ use Rattle.names.proofs.Showing.{Numbered}
 use Rattle.names.proofs.Passed.{DossierIn}
 use Rattle.tables.specs.Dossiers.{tableOf}
 use Rattle.tables.specs.Parts.{Ready, TableWritten}
-use Rattle.tables.proofs.PlacingStates.{Few}
+use Rattle.tables.specs.Searching.{Few}
 use Rattle.tables.proofs.PlacingContexts.{places-shown}
 use Rattle.tables.proofs.Tabled.{tabled}
 

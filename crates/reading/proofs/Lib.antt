@@ -1,6 +1,7 @@
 -- What the passes of a text hand on.
 pub mod Occurring
 pub mod Few
+pub mod FewVariables
 pub mod Named
 pub mod Least
 pub mod Keys

@@ -7,7 +7,15 @@ ghost use Rattle.tables.specs.Searching.{Picked, PickedAll, GroupPut, Op
 use names::kinds::index;
 
 // The place of a declaration behind c others, where its name's number leaves `ending` when divided by 4: how many there are then.
-fn pick(nodes: &[u16], at: usize, ending: u16, width: usize, c: usize, out: &mut [u16], n: usize) -> usize
+fn pick(
+    nodes: &[u16],
+    at: usize,
+    ending: u16,
+    width: usize,
+    c: usize,
+    out: &mut [u16],
+    n: usize,
+) -> usize
     requires { ⌜ (at + 8 ≤ length (now nodes)) × (at ≤ 65535) × (c ≤ width) × (n + width ≤ length (now out)) × (length (now out) ≤ 65535) ⌝ }
     ensures { λ r. ⌜ Picked (now (nodes .entry)) at ending width c n (now (out .entry)) (now (out .exit)) r ⌝ }
 {
@@ -22,7 +30,15 @@ fn pick(nodes: &[u16], at: usize, ending: u16, width: usize, c: usize, out: &mut
 }
 
 // Of the declarations between two places, two nodes each: those places, from n on, and how many they are.
-fn picked(nodes: &[u16], from: usize, to: usize, ending: u16, width: usize, out: &mut [u16], n: usize) -> usize
+fn picked(
+    nodes: &[u16],
+    from: usize,
+    to: usize,
+    ending: u16,
+    width: usize,
+    out: &mut [u16],
+    n: usize,
+) -> usize
     requires { ⌜ (from ≤ 65535) × (to ≤ 65535) × (n + width ≤ length (now out)) × (length (now out) ≤ 65535) ⌝ }
     ensures { λ r. ⌜ PickedAll (now (nodes .entry)) from to ending width n (now (out .entry)) (now (out .exit)) r ⌝ }
 {
@@ -50,7 +66,15 @@ fn zeros(out: &mut [u16], from: usize, to: usize)
 }
 
 // A row: how many, their places, and zeros behind them.
-fn group(nodes: &[u16], from: usize, to: usize, ending: u16, width: usize, out: &mut [u16], n: usize)
+fn group(
+    nodes: &[u16],
+    from: usize,
+    to: usize,
+    ending: u16,
+    width: usize,
+    out: &mut [u16],
+    n: usize,
+)
     requires { ⌜ (from ≤ 65535) × (to ≤ 65535) × (width ≤ 8) × (n + 1 + width ≤ length (now out)) × (length (now out) ≤ 65535) ⌝ }
     ensures { λ r. ⌜ GroupPut (now (nodes .entry)) from to ending width n (now (out .entry)) (now (out .exit)) ⌝ }
 {

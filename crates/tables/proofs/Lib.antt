@@ -15,3 +15,4 @@ pub mod Grouping
 pub mod GroupRows
 pub mod ConjoinContexts
 pub mod ConjoinLists
+pub mod ConjoinTabled

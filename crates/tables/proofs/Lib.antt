@@ -16,3 +16,4 @@ pub mod GroupRows
 pub mod ConjoinContexts
 pub mod ConjoinLists
 pub mod ConjoinTabled
+pub mod ConjoinApart

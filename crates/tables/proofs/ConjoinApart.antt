@@ -7,7 +7,7 @@ use lib.ListN.{length, take, getD, length-append}
 use lib.Seq.{getD-append-add}
 use Rattle.form.specs.Tree.{Letters, Operation, Dossier}
 use Rattle.form.specs.Headings.{operationsAt, operationLength}
-use Rattle.form.specs.Codes.{Numbering, parameterCodes, predCodes, conditionCodes, abstractlyAt, predWidth}
+use Rattle.form.specs.Codes.{Numbering, parameterCodes, conditionCodes, abstractlyAt, predWidth}
 use Rattle.reader.specs.Scope.{Context, contexts, operationContexts}
 use Rattle.parser.specs.Sections.{operationsFrom}
 use Rattle.contexts.specs.Spans.{PredAt, span, spansOf, operationSpans, OperationsAt, no-more, one-more, Structured}

@@ -1,26 +1,21 @@
 -- The predicates of a dossier stand apart in the table, so each one's nodes are still there when all are written, and the rows of their conjuncts
 -- are no more numbers than the nodes.
-use mathlib.Core.Path.{_≡_, refl, sym, ap, ap₂, _∙_, subst}
+use mathlib.Core.Path.{_≡_, refl, sym, ap, ap₂, _∙_}
 use mathlib.Core.List.{List, [], _∷_, _++_, append-assoc}
-use Prim.Native.Nat.{ℕ, suc, _+_, _-_, _*_, _≤_, _<_}
+use Prim.Native.Nat.{ℕ, _+_, _-_, _≤_}
 use native.Mathlib.Omega.{arith}
-use lib.ListN.{length, take, drop, getD, length-append, take-append-drop}
-use lib.Seq.{length-take-le, take-append-le, take-take, take-at, drop-at, take-append-seam, getD-append-add}
-use Rattle.form.specs.Tree.{Letters, Operation, Dossier}
-use Rattle.form.specs.Headings.{operationsAt, operationLength}
-use Rattle.form.specs.Codes.{Numbering, node, predCodes, parameterCodes, conditionCodes, abstractlyAt, predWidth}
-use Rattle.reader.specs.Scope.{Context, contexts, operationContexts}
-use Rattle.parser.specs.Sections.{operationsFrom}
-use Rattle.contexts.specs.Spans.{Stands, PredAt, span, spansOf, operationSpans, OperationsAt, no-more, one-more, Structured}
+use lib.ListN.{length, take, drop, length-append, take-append-drop}
+use lib.Seq.{length-take-le, take-append-le, take-take, take-at, drop-at, take-append-seam}
+use Rattle.form.specs.Codes.{node}
+use Rattle.reader.specs.Scope.{Context}
+use Rattle.contexts.specs.Spans.{Stands}
 use Rattle.tables.specs.Walks.{patch}
 use Rattle.tables.specs.Resolved.{Slots, predTable}
-use Rattle.tables.specs.Dossiers.{operationSlots, slotsOf, operationStarts, startsOf, withPredicates}
+use Rattle.tables.specs.Dossiers.{withPredicates}
 use Rattle.tables.specs.Conjuncts.{conjunctRow, conjunctRows, contextRows}
-use Rattle.tables.specs.Searching.{slotsAt, Conjoin, alone, both, Standing, none-stands, one-stands}
+use Rattle.tables.specs.Searching.{Conjoin, alone, both, Standing, none-stands, one-stands}
 use Rattle.tables.proofs.Patching.{patch-length}
-use Rattle.tables.proofs.ResolvingLength.{pred-length}
 use Rattle.tables.proofs.ConjoinRows.{conjoin-of}
-use Rattle.tables.proofs.ConjoinContexts.{pred-end, startsBy, starts-are}
 
 -- predicates one behind the other between b and top, each with a node in front of it
 pub data Apart (top : ℕ) : (b : ℕ) → List Context → List Slots → List ℕ → Type 0 where

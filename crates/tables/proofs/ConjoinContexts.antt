@@ -1,23 +1,21 @@
 -- The conjuncts of all contexts of a dossier, by the numbers of their tables.
-use mathlib.Core.Path.{_≡_, refl, sym, ap, ap₂, _∙_, subst}
-use mathlib.Core.Bool.{Bool, true, false, cond}
+use mathlib.Core.Path.{_≡_, refl, sym, ap, ap₂, _∙_}
+use mathlib.Core.Bool.{Bool, cond}
 use mathlib.Core.List.{List, [], _∷_, _++_}
 use Prim.Native.Nat.{ℕ, zero, suc, _+_, _-_, _*_, _/_, _%_, _≤_, _<_}
 use native.Mathlib.Omega.{arith}
-use lib.Dec.{eqb, ltb}
-use lib.ListN.{length, take, getD, length-append, List·getD-append}
+use lib.ListN.{length, take, length-append, List·getD-append}
 use lib.Seq.{length-take-le}
 use borrow.Author.Tests.{ne-eqb, le-ltb, lt-ltb}
-use Rattle.symbols.specs.Symbols.{noEnding}
 use Rattle.form.specs.Tree.{Letters, Pred, Operation, Dossier}
-use Rattle.form.specs.Headings.{operationsAt, operationLength}
+use Rattle.form.specs.Headings.{operationLength}
 use Rattle.form.specs.Codes.{Numbering, predCodes}
 use Rattle.reader.specs.Scope.{Context, contexts, operationContexts}
-use Rattle.contexts.specs.Spans.{Stands, PredAt, span, spansOf, OperationAt, OperationsAt, no-more, one-more, Structured}
+use Rattle.contexts.specs.Spans.{Stands, PredAt, span, spansOf, OperationsAt, no-more, one-more, Structured}
 use Rattle.tables.specs.Resolved.{Slots, predTable}
 use Rattle.tables.specs.Dossiers.{operationSlots, slotsOf, operationStarts, startsOf}
 use Rattle.tables.specs.Conjuncts.{conjunctRows, contextRows, contextFirsts}
-use Rattle.tables.specs.Searching.{Conjoin, placeOf, RowsAt, no-rows, more-rows, Standing, none-stands, one-stands}
+use Rattle.tables.specs.Searching.{placeOf, RowsAt, no-rows, more-rows, Standing, one-stands}
 use Rattle.tables.proofs.ResolvingLength.{pred-length}
 use Rattle.tables.proofs.ConjoinRows.{conjoin-of}
 use Rattle.tables.proofs.GroupPicks.{spans-length}
@@ -49,7 +47,7 @@ place-concrete : (k m : ℕ) → k ≡ 6 + 2 * m → placeOf k ≡ 9 + 4 * m + 2
 place-concrete k m e = place-later k (omega arith) ∙ omega arith
 
 -- where a predicate's table ends
-pred-end : {nodes : List ℕ} {from to i : ℕ} {p : Pred} {ρ : Numbering} → PredAt nodes from to i p ρ → to ≡ from + 4 + length (predCodes p i ρ)
+pub pred-end : {nodes : List ℕ} {from to i : ℕ} {p : Pred} {ρ : Numbering} → PredAt nodes from to i p ρ → to ≡ from + 4 + length (predCodes p i ρ)
 pred-end {nodes} {from} {to} {i} {p} {ρ} a =
     let o = a .ordered in
     let n = a .inside in

@@ -1,13 +1,11 @@
 -- The rows of the contexts, and the marks before each, one behind the other: what the functions that list all conjuncts count on.
-use mathlib.Core.Path.{_≡_, refl, sym, ap, ap₂, _∙_, subst}
+use mathlib.Core.Path.{_≡_, refl, sym, ap, _∙_, subst}
 use mathlib.Core.List.{List, [], _∷_, _++_, append-assoc, append-nil}
-use Prim.Native.Nat.{ℕ, zero, suc, _+_, _-_, _*_, _≤_, _<_}
+use Prim.Native.Nat.{ℕ, suc, _+_, _*_, _≤_, _<_}
 use native.Mathlib.Omega.{arith}
 use lib.ListN.{length, set, length-set, length-append}
-use Rattle.form.specs.Tree.{Operation, Dossier}
-use Rattle.form.specs.Codes.{Numbering}
-use Rattle.reader.specs.Scope.{Context, contexts}
-use Rattle.contexts.specs.Spans.{Stands, span, spansOf, Structured}
+use Rattle.reader.specs.Scope.{contexts}
+use Rattle.contexts.specs.Spans.{Stands, span}
 use Rattle.tables.specs.Walks.{patch}
 use Rattle.tables.specs.Dossiers.{slotsOf, startsOf}
 use Rattle.tables.specs.Conjuncts.{contextRows, contextFirsts}

@@ -1,13 +1,13 @@
 -- The conjuncts of a predicate, by the numbers of its table.
-use mathlib.Core.Path.{_≡_, refl, sym, ap, _∙_, subst}
+use mathlib.Core.Path.{_≡_, refl, ap, _∙_, subst}
 use mathlib.Core.List.{List, [], _∷_, _++_, append-assoc}
 use Prim.Native.Nat.{ℕ, _+_}
 use native.Mathlib.Omega.{arith}
 use lib.ListN.{length}
 use Rattle.symbols.specs.Kinds.{codeOf}
-use Rattle.form.specs.Tree.{range, Connective, and, or, implies, iff, Membership, isIn, notIn}
+use Rattle.form.specs.Tree.{range, and, or, implies, iff, isIn, notIn}
 use Rattle.form.specs.Tree.{Pred, truth, falsity, negation, paren, quantified, connected, compared, member, within, related}
-use Rattle.form.specs.Written.{connectiveKind, quantifierKind, comparisonKind, membershipKind}
+use Rattle.form.specs.Written.{quantifierKind, comparisonKind, membershipKind}
 use Rattle.form.specs.Codes.{node}
 use Rattle.reader.specs.Carriers.{plain}
 use Rattle.reader.specs.Scope.{Scope, binding}

@@ -1,7 +1,7 @@
 -- Where the parts of a table stand, and the rows written one behind the other: what the functions that list the conjuncts count on.
 use mathlib.Core.Path.{_≡_, refl, sym, ap, ap₂, _∙_, subst}
 use mathlib.Core.List.{List, [], _∷_, _++_, append-assoc}
-use Prim.Native.Nat.{ℕ, suc, _+_, _-_, _≤_, _<_}
+use Prim.Native.Nat.{ℕ, _+_, _-_, _≤_, _<_}
 use native.Mathlib.Omega.{arith}
 use lib.ListN.{length, take, drop, getD, set, length-set, length-append, length-drop}
 use lib.Seq.{length-take-le, take-take, take-append-seam, take-add, drop-at, drop-drop, getD-append-add, getD-take, getD-drop}

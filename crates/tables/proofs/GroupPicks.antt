@@ -1,13 +1,12 @@
 -- The places that are picked of the nodes of declarations are those of the variables, the inputs and the outputs; how many they are.
-use mathlib.Core.Path.{_≡_, refl, sym, ap, ap₂, _∙_}
+use mathlib.Core.Path.{_≡_, refl, ap, ap₂}
 use mathlib.Core.Bool.{Bool, true, false, cond}
 use mathlib.Core.List.{List, [], _∷_, _++_}
-use Prim.Native.Nat.{ℕ, suc, _+_, _-_, _*_, _%_, _≤_, _<_}
+use Prim.Native.Nat.{ℕ, suc, _+_, _-_, _*_, _%_, _≤_}
 use native.Mathlib.Omega.{arith}
-use lib.ListN.{length, getD, replicate, length-append, length-replicate, List·getD-append}
+use lib.ListN.{length, replicate, length-append, length-replicate, List·getD-append}
 use Rattle.symbols.specs.Lists.{filter}
-use Rattle.symbols.specs.Symbols.{noEnding}
-use Rattle.form.specs.Tree.{TypeForm, givenType, powerType, rangeType, arrowType, Declaration, declarations, Direction, inward, outward, Parameter, Operation, Dossier}
+use Rattle.form.specs.Tree.{TypeForm, givenType, powerType, rangeType, arrowType, Declaration, Direction, inward, outward, Parameter, Operation, Dossier}
 use Rattle.form.specs.Written.{endingOf}
 use Rattle.form.specs.Headings.{operationsAt, operationLength}
 use Rattle.form.specs.Codes.{Numbering, node, numberOfName, typeCodes, typeWidth, declarationCodes, parameterCodes, conditionCodes, abstractlyAt, predWidth}

@@ -1,18 +1,17 @@
 -- The groups of the operations, one behind the other, and of the whole dossier.
-use mathlib.Core.Path.{_≡_, refl, sym, ap, ap₂, _∙_, subst}
+use mathlib.Core.Path.{_≡_, refl, sym, ap, _∙_, subst}
 use mathlib.Core.List.{List, [], _∷_, _++_, append-assoc, append-nil}
-use Prim.Native.Nat.{ℕ, suc, _+_, _-_, _*_, _≤_, _<_}
+use Prim.Native.Nat.{ℕ, suc, _+_, _*_, _≤_, _<_}
 use native.Mathlib.Omega.{arith}
-use native.Mathlib.Numerals.{add-one}
-use lib.ListN.{length, getD, length-append, List·getD-append}
+use lib.ListN.{length, length-append, List·getD-append}
 use Rattle.form.specs.Tree.{declarations, Parameter, State, Operation, Dossier}
-use Rattle.form.specs.Headings.{abstractAt, concreteAt, operationsAt, operationLength}
+use Rattle.form.specs.Headings.{operationsAt, operationLength}
 use Rattle.form.specs.Codes.{Numbering, declarationCodes, parameterCodes}
 use Rattle.reader.specs.Scope.{isInput, isOutput}
-use Rattle.contexts.specs.Spans.{Stands, span, spansOf, StateAt, OperationAt, OperationsAt, no-more, one-more, Structured}
+use Rattle.contexts.specs.Spans.{Stands, span, spansOf, StateAt, OperationAt, OperationsAt, no-more, one-more}
 use Rattle.tables.specs.Walks.{patch}
 use Rattle.tables.specs.Dossiers.{row, stateRow, parameterRow, operationRows, groupsOf}
-use Rattle.tables.specs.Searching.{Picks, GroupPut, OperationPut, FewParameters, FewEach, few-none, few-more, Few, RowsAhead, RowsPut, Grouped}
+use Rattle.tables.specs.Searching.{Picks, GroupPut, OperationPut, FewParameters, FewEach, few-more, RowsAhead, RowsPut, Grouped}
 use Rattle.tables.proofs.Patching.{patch-behind}
 use Rattle.tables.proofs.GroupPicks.{state-picks, input-picks, output-picks, state-count, parameter-count, row-length, bothRows, rows-same, spans-length}
 use Rattle.tables.proofs.Grouping.{patch-none}

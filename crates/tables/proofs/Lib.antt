@@ -38,3 +38,5 @@ pub mod Grouping
 pub mod GroupRows
 pub mod ConjoinContexts
 pub mod ConjoinLists
+pub mod ConjoinTabled
+pub mod ConjoinApart

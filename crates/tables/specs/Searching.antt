@@ -13,7 +13,7 @@ use Rattle.contexts.specs.Spans.{Stands, Structured, OperationsAt, span, spansO
 use Rattle.tables.specs.Walks.{patch}
 use Rattle.tables.specs.Resolved.{Slots, predTable}
 use Rattle.tables.specs.Dossiers.{row, operationRows, groupsOf, slotsOf, startsOf}
-use Rattle.tables.specs.Conjuncts.{lastIn, conjunctRow, contextRows, contextFirsts}
+use Rattle.tables.specs.Conjuncts.{conjunctRow, contextRows, contextFirsts}
 
 -- the slots in the nodes of a table, in their order: a node of shape 2 has one
 unfoldable pub slotHere : (k a : ℕ) → List ℕ

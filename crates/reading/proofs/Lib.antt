@@ -10,5 +10,4 @@ pub mod Joined
 pub mod Passes
 pub mod Limited
 pub mod Later
-pub mod FewVariables
 pub mod Leaving

@@ -71,9 +71,9 @@ fn checked(
     requires { ⌜ n ≤ length (now starts) ⌝ }
     ensures { λ r. ⌜ Checks (Kept (now (spans .entry)) (now (table .entry)) (now (groups .entry)) (now (rows .entry)) (now (firsts .entry)) (now (spans .exit)) (now (table .exit)) (now (groups .exit)) (now (rows .exit)) (now (firsts .exit))) (λ text d. Written text d (now (spans .entry)) (now (table .entry)) (now (groups .entry)) (now (rows .entry)) (now (firsts .entry)) (now (spans .exit)) (now (table .exit)) (now (groups .exit)) (now (rows .exit)) (now (firsts .exit))) (now (starts .entry)) n end (now (nodes .entry)) m r ⌝ }
 {
-    let key = fault_key(nodes, m);
-    if key != 0 {
-        return refused(key, starts, n, end);
+    let fault = fault_key(nodes, m);
+    if fault != 0 {
+        return refused(fault, starts, n, end);
     }
     leave(nodes, m, spans, table, groups, rows, firsts);
     Reading::Read(n, m)

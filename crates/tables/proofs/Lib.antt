@@ -38,5 +38,6 @@ pub mod Grouping
 pub mod GroupRows
 pub mod ConjoinContexts
 pub mod ConjoinLists
-pub mod ConjoinTabled
-pub mod ConjoinApart
+-- Each predicate of a dossier at its place in the whole table, and the rows of all conjuncts.
+pub mod StandingPieces
+pub mod StandingWhole

@@ -35,10 +35,10 @@ placed d text nodes spans k b r p q s =
     (subst (λ (x : ℕ). Ready nodes spans (length (d .operations)) (givensFrom d (numbering text)) x d (numbering text)) (sym s) r))
 
 pub leaves : (nodes spans₀ table₀ groups₀ rows₀ firsts₀ spans table groups rows firsts : List ℕ) (m k l : ℕ) (b : Bounds) (T : Names) (z : Sizes)
-    → length table₀ ≡ 16384 → Tabled nodes m l T z → 16384 ≤ l → Sectioned nodes m b → Spanned nodes m spans₀ spans k
+    → Tabled nodes m l T z → 16384 ≤ l → Sectioned nodes m b → Spanned nodes m spans₀ spans k
     → TableWritten nodes spans k (b .givens) (b .abstracts) T z table₀ table → Grouped nodes spans k groups₀ groups → Listed table spans k rows₀ rows firsts₀ firsts
     → Leaves nodes m spans₀ table₀ groups₀ rows₀ firsts₀ spans table groups rows firsts
-leaves nodes spans₀ table₀ groups₀ rows₀ firsts₀ spans table groups rows firsts m k l b T z wide tabled long sectioned spanned written grouped listed text starts n d st e =
+leaves nodes spans₀ table₀ groups₀ rows₀ firsts₀ spans table groups rows firsts m k l b T z tabled long sectioned spanned written grouped listed text starts n d st e =
     let at = spanned .exact d (numbering text) (st .inside) (st .nodes-are) (forms-few-operations (st .forms)) (omega (arith, st .short)) in
     let parts = sectioned .exact d (numbering text) (st .inside) (st .nodes-are) in
     let r = placed d text nodes spans k b (ready d (numbering text) nodes spans m (st .inside) (st .nodes-are) (forms-few-operations (st .forms)) _ (at .1)) (at .0) (parts .givens) (parts .abstracts) in
@@ -49,7 +49,7 @@ leaves nodes spans₀ table₀ groups₀ rows₀ firsts₀ spans table groups ro
         (subst (λ (X : Names). TableWritten nodes spans k (b .givens) (b .abstracts) X z table₀ table) (tabled .named long text starts n d st e) written) in
     let rest =
         listed .exact d (numbering text) nodes _ (r .structured) (at .1) (forms-few-operations (st .forms))
-        (standing d (numbering text) nodes m (st .inside) (st .nodes-are) table₀ table (omega (arith, wide, st .short)) is)
+        (standing d (numbering text) nodes m (st .inside) (st .nodes-are) table₀ table (omega (arith, written .0, st .short)) is)
         (rows-few d (numbering text) nodes m (st .inside) (st .nodes-are) (st .short)) in
     record {
       spans-are = at .1;

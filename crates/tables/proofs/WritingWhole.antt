@@ -23,4 +23,4 @@ pub whole-table : (ρ : Numbering) (P : Letters → Type 0) → Numbered ρ P �
     → (nodes spans : List ℕ) (m g a : ℕ) (out after : List ℕ) → Ready nodes spans m g a d ρ
     → TableWritten nodes spans m g a (givensNamed (d .givens) 0 (replicate n 0) ρ) z out after → after ≡ tableOf d ρ out
 whole-table ρ P ν d p e few n long z sizes sets nodes spans m g a out after r w =
-    w d ρ r ∙ tabled ρ P ν d p e n long z sizes sets (replicate 16384 0) (places-shown ρ P ν d e p few 16384 (omega arith)) out
+    w .1 d ρ r ∙ tabled ρ P ν d p e n long z sizes sets (replicate 16384 0) (places-shown ρ P ν d e p few 16384 (omega arith)) out

@@ -193,4 +193,5 @@ TableSet nodes spans n givens abstracts T W z out after =
     (d : Dossier) (ρ : Numbering) → Ready nodes spans n givens abstracts d ρ → after ≡ tableBy d T W z ρ out
 
 abbrev pub TableWritten : (nodes spans : List ℕ) (n givens abstracts : ℕ) (T : Names) (z : Sizes) (out after : List ℕ) → Type 0
-TableWritten nodes spans n givens abstracts T z out after = TableSet nodes spans n givens abstracts T (replicate 16384 0) z out after
+TableWritten nodes spans n givens abstracts T z out after =
+    (length out ≡ 16384) × TableSet nodes spans n givens abstracts T (replicate 16384 0) z out after

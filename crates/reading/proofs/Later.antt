@@ -85,9 +85,11 @@ module _ (K : Type 0) (W : List ℕ → Dossier → Type 0) (starts : List ℕ) 
     where
       on : (o : Option Fault) → firstFault d ≡ o → ReadIs K (W text) text (pass (located text o) (reading d)) r
       on none e = absurd (some-fault (faults text starts n d st ∙ ap keyOf e))
-      on (some f) e =
-          (apart (f .place) (numberOf (f .refusal)) (first-small d f e) (faults text starts n d st ∙ ap keyOf e)
-          ∙ ap (Refused (numberOf (f .refusal))) (ap (getD (take n starts) (f .place)) at-end ∙ place-is st (f .place)), kept)
+      on (some f) e = (
+        apart (f .place) (numberOf (f .refusal)) (first-small d f e) (faults text starts n d st ∙ ap keyOf e)
+            ∙ ap (Refused (numberOf (f .refusal))) (ap (getD (take n starts) (f .place)) at-end ∙ place-is st (f .place)),
+        kept,
+      )
 
   pub all-pass : k ≡ 0 → r ≡ Read n m
       → ((text starts : List ℕ) (n : ℕ) (d : Dossier) → Stands text starts nodes n m d → least (nameFaults d) ≡ none → W text d)

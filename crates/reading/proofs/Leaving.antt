@@ -44,13 +44,13 @@ leaves nodes spans₀ table₀ groups₀ rows₀ firsts₀ spans table groups ro
     let r = placed d text nodes spans k b (ready d (numbering text) nodes spans m (st .inside) (st .nodes-are) (forms-few-operations (st .forms)) _ (at .1)) (at .0) (parts .givens) (parts .abstracts) in
     let few = forms-few (st .forms) in
     let is =
-        whole-table (numbering text) (Occurs text) (letters-numbered text (st .scans)) d (dossier-in text (st .scans) (st .forms)) (none-least (nameFaults d) e) few l long z
-        (tabled .sized long text starts n d st e) (forms-fewer (st .forms) .sets) nodes spans k (b .givens) (b .abstracts) table₀ table r
-        (subst (λ (X : Names). TableWritten nodes spans k (b .givens) (b .abstracts) X z table₀ table) (tabled .named long text starts n d st e) written) in
+    whole-table (numbering text) (Occurs text) (letters-numbered text (st .scans)) d (dossier-in text (st .scans) (st .forms)) (none-least (nameFaults d) e) few l long z
+    (tabled .sized long text starts n d st e) (forms-fewer (st .forms) .sets) nodes spans k (b .givens) (b .abstracts) table₀ table r
+    (subst (λ (X : Names). TableWritten nodes spans k (b .givens) (b .abstracts) X z table₀ table) (tabled .named long text starts n d st e) written) in
     let rest =
-        listed .exact d (numbering text) nodes _ (r .structured) (at .1) (forms-few-operations (st .forms))
-        (standing d (numbering text) nodes m (st .inside) (st .nodes-are) table₀ table (omega (arith, written .0, st .short)) is)
-        (rows-few d (numbering text) nodes m (st .inside) (st .nodes-are) (st .short)) in
+    listed .exact d (numbering text) nodes _ (r .structured) (at .1) (forms-few-operations (st .forms))
+    (standing d (numbering text) nodes m (st .inside) (st .nodes-are) table₀ table (omega (arith, written .0, st .short)) is)
+    (rows-few d (numbering text) nodes m (st .inside) (st .nodes-are) (st .short)) in
     record {
       spans-are = at .1;
       table-is = is;

@@ -39,24 +39,29 @@ pub fn read(
     ensures { λ r. ⌜ Reads (now (text .entry)) (now (codes .entry)) (now (starts .entry)) (now (values .entry)) (now (nodes .entry)) (now (codes .exit)) (now (starts .exit)) (now (values .exit)) (now (nodes .exit)) (now (spans .entry)) (now (table .entry)) (now (groups .entry)) (now (rows .entry)) (now (firsts .entry)) (now (spans .exit)) (now (table .exit)) (now (groups .exit)) (now (rows .exit)) (now (firsts .exit)) r ⌝ }
 {
     match parse(text, codes, starts, values, nodes) {
-        Parsed::Structure(n, m) => checked(
-            starts,
-            n,
-            text.len(),
-            nodes,
-            m,
-            spans,
-            table,
-            groups,
-            rows,
-            firsts,
-        ),
+        Parsed::Structure(n, m) => {
+            let fault = fault_key(nodes, m);
+            checked(
+                fault,
+                starts,
+                n,
+                text.len(),
+                nodes,
+                m,
+                spans,
+                table,
+                groups,
+                rows,
+                firsts,
+            )
+        }
         Parsed::Refused(k, p) => Reading::Refused(k, p),
     }
 }
 
-// The passes over the structure of a text, which has n symbols and m numbers of nodes: the first that finds a fault refuses.
+// The answer for the structure of a text, which has n symbols and m numbers of nodes, by the first fault of the passes over it.
 fn checked(
+    fault: u32,
     starts: &[u16],
     n: usize,
     end: usize,
@@ -69,9 +74,8 @@ fn checked(
     firsts: &mut [u16; 40],
 ) -> Reading
     requires { ⌜ n ≤ length (now starts) ⌝ }
-    ensures { λ r. ⌜ Checks (Kept (now (spans .entry)) (now (table .entry)) (now (groups .entry)) (now (rows .entry)) (now (firsts .entry)) (now (spans .exit)) (now (table .exit)) (now (groups .exit)) (now (rows .exit)) (now (firsts .exit))) (λ text d. Written text d (now (spans .entry)) (now (table .entry)) (now (groups .entry)) (now (rows .entry)) (now (firsts .entry)) (now (spans .exit)) (now (table .exit)) (now (groups .exit)) (now (rows .exit)) (now (firsts .exit))) (now (starts .entry)) n end (now (nodes .entry)) m r ⌝ }
+    ensures { λ r. ⌜ (Faults (now (nodes .entry)) m fault → Checks (Kept (now (spans .entry)) (now (table .entry)) (now (groups .entry)) (now (rows .entry)) (now (firsts .entry)) (now (spans .exit)) (now (table .exit)) (now (groups .exit)) (now (rows .exit)) (now (firsts .exit))) (λ text d. Written text d (now (spans .entry)) (now (table .entry)) (now (groups .entry)) (now (rows .entry)) (now (firsts .entry)) (now (spans .exit)) (now (table .exit)) (now (groups .exit)) (now (rows .exit)) (now (firsts .exit))) (now (starts .entry)) n end (now (nodes .entry)) m r) ⌝ }
 {
-    let fault = fault_key(nodes, m);
     if fault != 0 {
         return refused(fault, starts, n, end);
     }

@@ -7,21 +7,18 @@ use Rattle.reading.proofs.Passes.{unwritten}
 use Rattle.reading.proofs.checked.Statement.{statement}
 use Rattle.reading.proofs.checked.Tie as tie
 
-fault-key-requires : tie.Need-fault-key-requires
-fault-key-requires c κs = search needs
-
 refused-requires : tie.Need-refused-requires
 refused-requires c κs = search needs
 
 returns : tie.Need-returns
-returns c = refuses _ _ (c .before .before .before .before .before .args .starts .now) (c .before .before .before .before .before .args .n) (c .before .before .before .before .before .args .end) (c .before .before .before .before .before .args .nodes .now) (c .before .before .before .before .before .args .m) (c .before .before .fault-key .result) (c .before .before .fault-key .ensures) _ (λ e. omega arith) (c .refused .ensures) (unwritten _ _ _ _ _)
+returns c = λ f. refuses _ _ (c .before .before .before .args .starts .now) (c .before .before .before .args .n) (c .before .before .before .args .end) (c .before .before .before .args .nodes .now) (c .before .before .before .args .m) (c .before .before .before .args .fault) f _ (λ e. omega arith) (c .refused .ensures) (unwritten _ _ _ _ _)
 
 leave-requires : tie.Need-leave-requires
 leave-requires c κs = search needs
 
 returns-2 : tie.Need-returns-2
-returns-2 c = all-pass _ _ (c .before .before .before .before .before .before .before .before .before .before .args .starts .now) (c .before .before .before .before .before .before .before .before .before .before .args .n) (c .before .before .before .before .before .before .before .before .before .before .args .end) (c .before .before .before .before .before .before .before .before .before .before .args .nodes .now) (c .before .before .before .before .before .before .before .before .before .before .args .m) (c .before .before .before .before .before .before .before .fault-key .result) (c .before .before .before .before .before .before .before .fault-key .ensures) _ (omega arith) refl (c .leave .ensures)
+returns-2 c = λ f. all-pass _ _ (c .before .before .before .before .before .before .before .before .args .starts .now) (c .before .before .before .before .before .before .before .before .args .n) (c .before .before .before .before .before .before .before .before .args .end) (c .before .before .before .before .before .before .before .before .args .nodes .now) (c .before .before .before .before .before .before .before .before .args .m) (c .before .before .before .before .before .before .before .before .args .fault) f _ (omega arith) refl (c .leave .ensures)
 
 pub checked-spec : {M : Type 1} → statement M
 checked-spec =
-    tie.close (tie.spec fault-key-requires refused-requires returns leave-requires returns-2)
+    tie.close (tie.spec refused-requires returns leave-requires returns-2)

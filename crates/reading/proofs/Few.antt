@@ -19,12 +19,12 @@ use Rattle.reader.specs.Carriers.{sizeOf}
 use Rattle.names.specs.Parts.{Fewer}
 
 -- some symbol has the mark
-data Has (m : Mark) : List Written → Type 0 where
+pub data Has (m : Mark) : List Written → Type 0 where
   here : {x : Written} {u : List Written} → x .mark ≡ m → Has m (x ∷ u)
   there : {x : Written} {u : List Written} → Has m u → Has m (x ∷ u)
 
 -- it has it still with more symbols in front
-behind : (m : Mark) (x y : Written) (u v : List Written) → Has m u → Has m (x ∷ u)
+pub behind : (m : Mark) (x y : Written) (u v : List Written) → Has m u → Has m (x ∷ u)
 behind m x y u v h = there h
 
 record Marked (m : Mark) (u : List Written) : Type 0 where
@@ -37,7 +37,7 @@ marked (here e) = record { at = 0; inside = omega arith; is = e }
 marked (there h) = let k = marked h in let l = k .inside in record { at = suc (k .at); inside = omega arith; is = k .is }
 
 -- a mark over a limit stands at no symbol of a dossier without faults
-no-mark : {w : List Symbol} {d : Dossier} → Forms w d → (m : Mark) → ((k s : Kind) (rest : List Symbol) → settled k s rest m ≡ some manyDeclared) → ¬ Has m (written d)
+pub no-mark : {w : List Symbol} {d : Dossier} → Forms w d → (m : Mark) → ((k s : Kind) (rest : List Symbol) → settled k s rest m ≡ some manyDeclared) → ¬ Has m (written d)
 unfolding symbolsOf
 no-mark {w} {d} f m over h =
     let k = marked h in
@@ -57,44 +57,44 @@ no-mark {w} {d} f m over h =
       over = ap (settled (kindAt w (pred (k .at))) (kindAt w (k .at)) (drop (suc (k .at)) w)) (k .is) ∙ over _ _ _;
     }))
 
-refused : (n : ℕ) → 9 ≤ n → refuse (ltb 8 n) manyDeclared ≡ some manyDeclared
+pub refused : (limit n : ℕ) → limit < n → refuse (ltb limit n) manyDeclared ≡ some manyDeclared
 unfolding refuse
-refused n l = ap (λ (b : Bool). refuse b manyDeclared) (lt-ltb 8 n l)
+refused limit n l = ap (λ (b : Bool). refuse b manyDeclared) (lt-ltb limit n l)
 
 given-over : (n : ℕ) → 9 ≤ n → (k s : Kind) (rest : List Symbol) → settled k s rest (aGiven n) ≡ some manyDeclared
 unfolding settled excess
-given-over n l k s rest = refused n l
+given-over n l k s rest = refused 8 n l
 
 element-over : (n : ℕ) → 9 ≤ n → (k s : Kind) (rest : List Symbol) → settled k s rest (anElement n) ≡ some manyDeclared
 unfolding settled excess
-element-over n l k s rest = refused n l
+element-over n l k s rest = refused 8 n l
 
--- no mark of a family has a number over 8
-abbrev None : (ℕ → Mark) → List Written → Type 0
-None m u = (n : ℕ) → 9 ≤ n → ¬ Has (m n) u
+-- no mark of a family has a number over the limit
+abbrev pub None : ℕ → (ℕ → Mark) → List Written → Type 0
+None limit m u = (n : ℕ) → limit < n → ¬ Has (m n) u
 
 -- one more of a list, after n of them
-one-more : (n k : ℕ) → ¬ (9 ≤ suc n) → (suc n ≤ 8 → suc n + k ≤ 8) → n + suc k ≤ 8
-one-more n k h r = on (ltb 8 (suc n)) refl
+pub one-more : (limit n k : ℕ) → ¬ (limit < suc n) → (suc n ≤ limit → suc n + k ≤ limit) → n + suc k ≤ limit
+one-more limit n k h r = on (ltb limit (suc n)) refl
   where
-    on : (b : Bool) → ltb 8 (suc n) ≡ b → n + suc k ≤ 8
-    on true e = absurd (h (ltb-true 8 (suc n) e))
-    on false e = let m = r (ltb-false 8 (suc n) e) in omega arith
+    on : (b : Bool) → ltb limit (suc n) ≡ b → n + suc k ≤ limit
+    on true e = absurd (h (ltb-true limit (suc n) e))
+    on false e = let m = r (ltb-false limit (suc n) e) in omega arith
 
-few-elements : (n : ℕ) (xs : List Letters) (w : List Written) → None anElement (writeElements n xs w) → n ≤ 8 → n + length xs ≤ 8
+few-elements : (n : ℕ) (xs : List Letters) (w : List Written) → None 8 anElement (writeElements n xs w) → n ≤ 8 → n + length xs ≤ 8
 unfolding writeElements
 few-elements n [] w h l = omega arith
-few-elements n (x ∷ xs) w h l = one-more n (length xs) (λ q. h (suc n) q (here refl)) (few-elements (suc n) xs w (λ k q p. h k q (there p)))
+few-elements n (x ∷ xs) w h l = one-more 8 n (length xs) (λ q. h (suc n) q (here refl)) (few-elements (suc n) xs w (λ k q p. h k q (there p)))
 
-few-sets : (n : ℕ) (gs : List Given) (w : List Written) → None aGiven (writeGivens n gs w) → n ≤ 8 → n + length gs ≤ 8
+few-sets : (n : ℕ) (gs : List Given) (w : List Written) → None 8 aGiven (writeGivens n gs w) → n ≤ 8 → n + length gs ≤ 8
 unfolding writeGivens
 few-sets n [] w h l = omega arith
 few-sets n (g ∷ gs) w h l =
-    one-more n (length gs) (λ q. h (suc n) q (there (here refl)))
+    one-more 8 n (length gs) (λ q. h (suc n) q (there (here refl)))
     (few-sets (suc n) gs w
     (λ k q p. h k q (there (there (kept.elements (λ u v. Has (aGiven k) u) (behind (aGiven k)) 0 0 (g .firstElement ∷ g .otherElements) _ [] (there p))))))
 
-few-in-each : (n : ℕ) (gs : List Given) (w : List Written) → None anElement (writeGivens n gs w) → (k : ℕ) → getD (map sizeOf gs) k 0 ≤ 8
+few-in-each : (n : ℕ) (gs : List Given) (w : List Written) → None 8 anElement (writeGivens n gs w) → (k : ℕ) → getD (map sizeOf gs) k 0 ≤ 8
 unfolding writeGivens
 few-in-each n [] w h k = omega arith
 few-in-each n (g ∷ gs) w h zero =
@@ -116,25 +116,18 @@ forms-fewer {w} {d} f =
 -- ---- operations ----
 
 operation-over : (n : ℕ) → 17 ≤ n → (k s : Kind) (rest : List Symbol) → settled k s rest (anOperation n) ≡ some manyDeclared
-unfolding settled excess refuse
-operation-over n l k s rest = ap (λ (b : Bool). refuse b manyDeclared) (lt-ltb 16 n l)
+unfolding settled excess
+operation-over n l k s rest = refused 16 n l
 
-one-of-sixteen : (n k : ℕ) → ¬ (17 ≤ suc n) → (suc n ≤ 16 → suc n + k ≤ 16) → n + suc k ≤ 16
-one-of-sixteen n k h r = on (ltb 16 (suc n)) refl
-  where
-    on : (b : Bool) → ltb 16 (suc n) ≡ b → n + suc k ≤ 16
-    on true e = absurd (h (ltb-true 16 (suc n) e))
-    on false e = let m = r (ltb-false 16 (suc n) e) in omega arith
-
-few-operations : (n : ℕ) (os : List Operation) (w : List Written) → ((k : ℕ) → 17 ≤ k → ¬ Has (anOperation k) (writeOperations n os w)) → n ≤ 16 → n + length os ≤ 16
+few-operations : (n : ℕ) (os : List Operation) (w : List Written) → None 16 anOperation (writeOperations n os w) → n ≤ 16 → n + length os ≤ 16
 unfolding writeOperations
 few-operations n [] w h l = omega arith
 few-operations n (o ∷ os) w h l =
-    one-of-sixteen n (length os) (λ q. h (suc n) q (there (here refl)))
+    one-more 16 n (length os) (λ q. h (suc n) q (there (here refl)))
     (few-operations (suc n) os w (λ k q p. h k q (kept.operation (λ u v. Has (anOperation k) u) (behind (anOperation k)) n n o os os w w p)))
 
 -- what stands in the operations stands in the dossier
-in-operations : (d : Dossier) (m : Mark) → Has m (writeOperations 0 (d .operations) []) → Has m (written d)
+pub in-operations : (d : Dossier) (m : Mark) → Has m (writeOperations 0 (d .operations) []) → Has m (written d)
 unfolding written
 in-operations d m h =
     let b = behind m in

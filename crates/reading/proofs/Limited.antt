@@ -36,7 +36,7 @@ use Rattle.reading.proofs.Keys.{contexts-small}
 use Rattle.reading.proofs.Parted.{sectioned-placed}
 use Rattle.reading.proofs.Passes.{givens-none}
 
-none-least : (fs : List Fault) → least fs ≡ none → fs ≡ []
+pub none-least : (fs : List Fault) → least fs ≡ none → fs ≡ []
 unfolding least
 none-least [] e = refl
 none-least (f ∷ fs) e = let z : _≡_ {A = ℕ} 0 1 = cc in absurd (omega arith)

@@ -27,7 +27,7 @@ use Rattle.names.specs.Inner.{Names, Sizes, insideKey, keyOf}
 use Rattle.names.specs.Passes.{givensKey, dossierKey}
 use Rattle.names.specs.Parts.{CheckSeen}
 use Rattle.names.proofs.JudgedLeast.{Small}
-use Rattle.reading.specs.Promises.{ReadIs, Reads, Stands, Named, Refuses, Checks}
+use Rattle.reading.specs.Promises.{Written, Kept, ReadIs, Reads, Stands, Named, Refuses, Checks}
 use Rattle.reading.specs.declared.Reading.{Reading}
 use Rattle.reading.specs.declared.Reading.the-variants.{Read, Refused}
 use Rattle.reading.proofs.Few.{forms-fewer}
@@ -74,34 +74,14 @@ apart k starts n end r q p e f g i c l h =
     e ∙ ap₂ Refused (f ∙ key-number k i c l h) (g ∙ ap (λ (x : ℕ). getD (take n starts) x end) (key-place k i c l h))
 
 module _ {text starts nodes : List ℕ} {n m : ℕ} {d : Dossier} (st : Stands text starts nodes n m d) where
-  place-is : (i : ℕ) → getD (take n starts) i (length text) ≡ placeAt text i
+  pub place-is : (i : ℕ) → getD (take n starts) i (length text) ≡ placeAt text i
   unfolding placeAt
   place-is i = ap (λ (l : List ℕ). getD l i (length text)) (known (st .scans) .starts-are)
 
-  -- a pass that found a fault refuses
-  pub pass-refuses : {fs : List Fault} → Small fs → (k end : ℕ) (r : Reading) → k ≡ keyOf (least fs) → (k ≡ 0 → ⊥) → end ≡ length text → Refuses k starts n end r
-      → (x : definition.Reading) → ReadIs text (pass (located text (least fs)) x) r
-  pass-refuses {fs} small k end r is some-fault at-end apart x = on (least fs) refl
-    where
-      on : (o : Option Fault) → least fs ≡ o → ReadIs text (pass (located text o) x) r
-      on none e = absurd (some-fault (is ∙ ap keyOf e))
-      on (some f) e =
-          apart (f .place) (numberOf (f .refusal)) (least-small small f e) (is ∙ ap keyOf e)
-          ∙ ap (Refused (numberOf (f .refusal))) (ap (getD (take n starts) (f .place)) at-end ∙ place-is (f .place))
-
   -- the last pass is past
-  pub all-passed : (r : Reading) → r ≡ Read n m → ReadIs text (reading d) r
+  pub all-passed : (r : Reading) → r ≡ Read n m → r ≡ Read (length (symbols (scan text))) (length (dossierCodes d (numbering text)))
   all-passed r e =
       e ∙ ap₂ Read (st .scans .counted n refl) (sym (length-take-le m nodes (st .inside)) ∙ ap (length {A = ℕ}) (st .nodes-are))
-
--- a pass that found none goes on
-pub pass-goes-on : (text : List ℕ) (fs : List Fault) (k : ℕ) (r : Reading) → k ≡ keyOf (least fs) → k ≡ 0 → (x : definition.Reading) → ReadIs text x r
-    → ReadIs text (pass (located text (least fs)) x) r
-pass-goes-on text fs k r is no-fault x h = on (least fs) refl
-  where
-    on : (o : Option Fault) → least fs ≡ o → ReadIs text (pass (located text o) x) r
-    on none e = h
-    on (some f) e = let z : 0 ≡ keyOf (some f) = sym no-fault ∙ is ∙ ap keyOf e in absurd (omega arith)
 
 -- ---- the text ----
 
@@ -112,23 +92,35 @@ module _ {text codes₀ starts₀ values₀ nodes₀ codes starts values nodes :
   pub few-symbols : {n m : ℕ} → length nodes ≡ 16384 → q ≡ parsed.Structure n m → n ≤ 4096
   few-symbols {n} {m} room e = known (told (parsed.Structure n m) e .stands room .scans) .few
 
-  pub reads-structure : {n m : ℕ} → length nodes ≡ 16384 → q ≡ parsed.Structure n m → (r : Reading) → Checks starts n (length text) nodes m r
-      → Reads text codes₀ starts₀ values₀ nodes₀ codes starts values nodes r
-  reads-structure {n} {m} room e r checks =
-      let t = told (parsed.Structure n m) e in
-      let st = t .stands room in
-      record {
-        parsed = q;
-        parses = p;
-        answers = subst (λ (x : definition.Reading). ReadIs text x r) (sym (t .reads)) (checks text (t .dossier) st refl);
-      }
+  module _ {spans₀ table₀ groups₀ rows₀ firsts₀ spans table groups rows firsts : List ℕ} where
+    pub reads-structure : {n m : ℕ} → length nodes ≡ 16384 → q ≡ parsed.Structure n m → (r : Reading)
+        → Checks (Kept spans₀ table₀ groups₀ rows₀ firsts₀ spans table groups rows firsts)
+        (λ (w : List ℕ) (d : Dossier). Written w d spans₀ table₀ groups₀ rows₀ firsts₀ spans table groups rows firsts) starts n (length text) nodes m r
+        → Reads text codes₀ starts₀ values₀ nodes₀ codes starts values nodes spans₀ table₀ groups₀ rows₀ firsts₀ spans table groups rows firsts r
+    reads-structure {n} {m} room e r checks =
+        let t = told (parsed.Structure n m) e in
+        let st = t .stands room in
+        record {
+          parsed = q;
+          parses = p;
+          answers =
+              subst (λ (x : definition.Reading). ReadIs (Kept spans₀ table₀ groups₀ rows₀ firsts₀ spans table groups rows firsts)
+              (λ (d : Dossier). Written text d spans₀ table₀ groups₀ rows₀ firsts₀ spans table groups rows firsts) text x r) (sym (t .reads)) (checks text (t .dossier) st refl);
+        }
 
-  pub reads-refusal : {k i : ℕ} → q ≡ parsed.Refused k i → (r : Reading) → r ≡ Refused k i → Reads text codes₀ starts₀ values₀ nodes₀ codes starts values nodes r
-  reads-refusal {k} {i} e r is =
-      let t = told (parsed.Refused k i) e in
-      record {
-        parsed = q;
-        parses = p;
-        answers =
-            subst (λ (x : definition.Reading). ReadIs text x r) (sym (t .reads)) (is ∙ sym (ap₂ Refused (t .number) (t .place)));
-      }
+    pub reads-refusal : {k i : ℕ} → q ≡ parsed.Refused k i → (r : Reading) → r ≡ Refused k i → Kept spans₀ table₀ groups₀ rows₀ firsts₀ spans table groups rows firsts
+        → Reads text codes₀ starts₀ values₀ nodes₀ codes starts values nodes spans₀ table₀ groups₀ rows₀ firsts₀ spans table groups rows firsts r
+    reads-refusal {k} {i} e r is kept =
+        let t = told (parsed.Refused k i) e in
+        record {
+          parsed = q;
+          parses = p;
+          answers =
+              subst (λ (x : definition.Reading). ReadIs (Kept spans₀ table₀ groups₀ rows₀ firsts₀ spans table groups rows firsts)
+              (λ (d : Dossier). Written text d spans₀ table₀ groups₀ rows₀ firsts₀ spans table groups rows firsts) text x r) (sym (t .reads))
+              (is ∙ sym (ap₂ Refused (t .number) (t .place)), kept);
+        }
+
+-- nothing is written
+pub unwritten : (spans table groups rows firsts : List ℕ) → Kept spans table groups rows firsts spans table groups rows firsts
+unwritten spans table groups rows firsts = record { spans-kept = refl; table-kept = refl; groups-kept = refl; rows-kept = refl; firsts-kept = refl }

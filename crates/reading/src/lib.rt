@@ -3,8 +3,7 @@ ghost use Prim.Native.Nat.{_≤_};
 ghost use mathlib.Core.Path.{_≡_};
 ghost use lib.ListN.{length, take, getD};
 ghost use Rattle.reader.specs.Limits.{bindingFaults, sizeFaults};
-ghost use Rattle.reading.specs.Promises.{Reads, Named, Tabled, Finds, Refuses, Checks};
-use contexts::spans;
+ghost use Rattle.reading.specs.Promises.{Reads, Written, Kept, Named, Tabled, Finds, Faults, Refuses, Leaves, Checks};
 use limits::bindings::bindings;
 use limits::measures::measures;
 use names::given_sets;
@@ -14,6 +13,8 @@ use parser::Parsed;
 use parser::parse;
 use parser::sections::sections;
 use parser::sections::wide;
+use tables::conjuncts::conjuncts;
+use tables::passes::write;
 
 // How many symbols and how many numbers of nodes a text has that is a dossier; or the number of its refusal, and the place.
 pub enum Reading {
@@ -21,41 +22,81 @@ pub enum Reading {
     Refused(u8, usize),
 }
 
-// What a text is. Its symbols stand in the first three arrays, and its nodes in the last where numbers 1 to 7 found no fault.
+// What a text is. Its symbols stand in the first three arrays, and its nodes in the fourth where numbers 1 to 7 found no fault. The others are for the
+// evaluator, and written only where nothing is refused: where the parts of the dossier stand, the table, the groups of variables, the conjuncts.
 pub fn read(
     text: &[u8],
     codes: &mut [u8; 4096],
     starts: &mut [u16; 4096],
     values: &mut [u16; 4096],
     nodes: &mut [u16; 16384],
+    spans: &mut [u16; 80],
+    table: &mut [u16; 16384],
+    groups: &mut [u16; 160],
+    rows: &mut [u16; 16384],
+    firsts: &mut [u16; 40],
 ) -> Reading
-    ensures { λ r. ⌜ Reads (now (text .entry)) (now (codes .entry)) (now (starts .entry)) (now (values .entry)) (now (nodes .entry)) (now (codes .exit)) (now (starts .exit)) (now (values .exit)) (now (nodes .exit)) r ⌝ }
+    ensures { λ r. ⌜ Reads (now (text .entry)) (now (codes .entry)) (now (starts .entry)) (now (values .entry)) (now (nodes .entry)) (now (codes .exit)) (now (starts .exit)) (now (values .exit)) (now (nodes .exit)) (now (spans .entry)) (now (table .entry)) (now (groups .entry)) (now (rows .entry)) (now (firsts .entry)) (now (spans .exit)) (now (table .exit)) (now (groups .exit)) (now (rows .exit)) (now (firsts .exit)) r ⌝ }
 {
     match parse(text, codes, starts, values, nodes) {
-        Parsed::Structure(n, m) => checked(starts, n, text.len(), nodes, m),
+        Parsed::Structure(n, m) => {
+            let fault = fault_key(nodes, m);
+            checked(
+                fault,
+                starts,
+                n,
+                text.len(),
+                nodes,
+                m,
+                spans,
+                table,
+                groups,
+                rows,
+                firsts,
+            )
+        }
         Parsed::Refused(k, p) => Reading::Refused(k, p),
     }
 }
 
-// The passes over the structure of a text, which has n symbols and m numbers of nodes: the first that finds a fault refuses.
-fn checked(starts: &[u16], n: usize, end: usize, nodes: &[u16], m: usize) -> Reading
+// The answer for the structure of a text, which has n symbols and m numbers of nodes, by the first fault of the passes over it.
+fn checked(
+    fault: u32,
+    starts: &[u16],
+    n: usize,
+    end: usize,
+    nodes: &[u16; 16384],
+    m: usize,
+    spans: &mut [u16; 80],
+    table: &mut [u16; 16384],
+    groups: &mut [u16; 160],
+    rows: &mut [u16; 16384],
+    firsts: &mut [u16; 40],
+) -> Reading
     requires { ⌜ n ≤ length (now starts) ⌝ }
-    ensures { λ r. ⌜ Checks (now (starts .entry)) n end (now (nodes .entry)) m r ⌝ }
+    ensures { λ r. ⌜ (Faults (now (nodes .entry)) m fault → Checks (Kept (now (spans .entry)) (now (table .entry)) (now (groups .entry)) (now (rows .entry)) (now (firsts .entry)) (now (spans .exit)) (now (table .exit)) (now (groups .exit)) (now (rows .exit)) (now (firsts .exit))) (λ text d. Written text d (now (spans .entry)) (now (table .entry)) (now (groups .entry)) (now (rows .entry)) (now (firsts .entry)) (now (spans .exit)) (now (table .exit)) (now (groups .exit)) (now (rows .exit)) (now (firsts .exit))) (now (starts .entry)) n end (now (nodes .entry)) m r) ⌝ }
+{
+    if fault != 0 {
+        return refused(fault, starts, n, end);
+    }
+    leave(nodes, m, spans, table, groups, rows, firsts);
+    Reading::Read(n, m)
+}
+
+// The least fault of the first pass that has one, or 0.
+fn fault_key(nodes: &[u16], m: usize) -> u32
+    ensures { λ r. ⌜ Faults (now (nodes .entry)) m r ⌝ }
 {
     let mut sizes = [0u16; 8];
     let key = names_key(nodes, m, &mut sizes);
     if key != 0 {
-        return refused(key, starts, n, end);
+        return key;
     }
     let more = bindings_key(nodes, m);
     if more != 0 {
-        return refused(more, starts, n, end);
+        return more;
     }
-    let last = sizes_key(nodes, m);
-    if last != 0 {
-        return refused(last, starts, n, end);
-    }
-    Reading::Read(n, m)
+    sizes_key(nodes, m)
 }
 
 // Numbers 8 to 11 and 14: the least fault (place * 16 + number + 1, places by symbols), or 0; and how many elements each given set has.
@@ -93,7 +134,7 @@ fn bindings_key(nodes: &[u16], m: usize) -> u32
     let mut sizes = [0u16; 8];
     let mut places = [0u16; 80];
     given_table(nodes, m, &mut names, &mut sizes);
-    let k = spans(nodes, m, &mut places);
+    let k = contexts::spans(nodes, m, &mut places);
     bindings(nodes, &places, k, &names, &sizes)
 }
 
@@ -103,8 +144,39 @@ fn sizes_key(nodes: &[u16], m: usize) -> u32
 {
     let mut bounds = [0u16; 16384];
     let mut places = [0u16; 80];
-    let k = spans(nodes, m, &mut places);
+    let k = contexts::spans(nodes, m, &mut places);
     measures(nodes, &places, k, &mut bounds)
+}
+
+// What the evaluator needs of a dossier without faults.
+fn leave(
+    nodes: &[u16; 16384],
+    m: usize,
+    spans: &mut [u16; 80],
+    table: &mut [u16; 16384],
+    groups: &mut [u16; 160],
+    rows: &mut [u16; 16384],
+    firsts: &mut [u16; 40],
+)
+    ensures { λ _. ⌜ Leaves (now (nodes .entry)) m (now (spans .entry)) (now (table .entry)) (now (groups .entry)) (now (rows .entry)) (now (firsts .entry)) (now (spans .exit)) (now (table .exit)) (now (groups .exit)) (now (rows .exit)) (now (firsts .exit)) ⌝ }
+{
+    let mut names = [0u16; 16384];
+    let mut sizes = [0u16; 8];
+    given_table(nodes, m, &mut names, &mut sizes);
+    let at = sections(nodes, m);
+    let k = contexts::spans(nodes, m, spans);
+    write(
+        nodes,
+        spans,
+        k,
+        at.givens,
+        at.abstracts,
+        &mut names,
+        &sizes,
+        table,
+    );
+    tables::groups::groups(nodes, spans, k, groups);
+    conjuncts(table, spans, k, rows, firsts);
 }
 
 // The refusal of a fault by its number.

@@ -1,0 +1,297 @@
+// The whole table, in the order of the text: where values are found, the carriers, then each predicate with the names in its reach.
+ghost use mathlib.Core.Path.{_≡_};
+ghost use Prim.Native.Nat.{_+_, _-_, _≤_, _<_};
+ghost use lib.ListN.{length, getD};
+ghost use Rattle.tables.specs.Parts.{PredicateSet, StateSet, StatesSet, ConditionsSet, SideSet, OperationSet, OperationsSet, ContextsSet, TableSet, TableWritten};
+use crate::carriers::part;
+use crate::carriers::set_declared;
+use crate::carriers::span_at;
+use crate::places::place_all;
+use crate::places::place_parameters;
+use crate::walk::pred;
+use names::declared::hide;
+use names::declared::show;
+use names::kinds::index;
+use names::kinds::look;
+use names::kinds::put;
+
+// A predicate that ends at a place.
+fn set_predicate(
+    nodes: &[u16],
+    end: usize,
+    names: &mut [u16],
+    places: &mut [u16],
+    sizes: &[u16],
+    out: &mut [u16],
+)
+    requires { ⌜ (length (now nodes) ≤ length (now out)) × (length (now out) ≤ 16384) ⌝ }
+    ensures { λ r. ⌜ PredicateSet (now (nodes .entry)) end (now (names .entry)) (now (names .exit)) (now (places .entry)) (now (places .exit)) (now (sizes .entry)) (now (out .entry)) (now (out .exit)) ⌝ }
+{
+    if nodes.len() < end {
+        return;
+    }
+    let made = pred(nodes, end, 38, names, places, sizes, out);
+}
+
+// A state: its variables are in use behind it.
+fn set_state(
+    nodes: &[u16],
+    first: usize,
+    last: usize,
+    end: usize,
+    names: &mut [u16],
+    places: &mut [u16],
+    sizes: &[u16],
+    out: &mut [u16],
+)
+    requires { ⌜ (length (now nodes) ≤ length (now out)) × (length (now out) ≤ 16384) ⌝ }
+    ensures { λ r. ⌜ StateSet (now (nodes .entry)) first last end (now (names .entry)) (now (names .exit)) (now (places .entry)) (now (places .exit)) (now (sizes .entry)) (now (out .entry)) (now (out .exit)) ⌝ }
+{
+    let variables = part(nodes, first, last);
+    show(variables, 0, names);
+    set_predicate(nodes, end, names, places, sizes, out);
+    hide(variables, 0, 2, names);
+}
+
+// The two states.
+fn set_states(
+    nodes: &[u16],
+    spans: &[u16],
+    names: &mut [u16],
+    places: &mut [u16],
+    sizes: &[u16],
+    out: &mut [u16],
+)
+    requires { ⌜ (length (now nodes) ≤ length (now out)) × (length (now out) ≤ 16384) ⌝ }
+    ensures { λ r. ⌜ StatesSet (now (nodes .entry)) (now (spans .entry)) (now (names .entry)) (now (names .exit)) (now (places .entry)) (now (places .exit)) (now (sizes .entry)) (now (out .entry)) (now (out .exit)) ⌝ }
+{
+    let s0 = span_at(spans, 0);
+    let s1 = span_at(spans, 1);
+    let s2 = span_at(spans, 2);
+    set_state(nodes, s0, s1, s2, names, places, sizes, out);
+    let s3 = span_at(spans, 3);
+    let s4 = span_at(spans, 4);
+    let s5 = span_at(spans, 5);
+    set_state(nodes, s3, s4, s5, names, places, sizes, out);
+}
+
+// ainit, cinit, retrieve, by their ends.
+fn set_conditions(
+    nodes: &[u16],
+    e1: usize,
+    e2: usize,
+    e3: usize,
+    abstracts: &[u16],
+    concretes: &[u16],
+    names: &mut [u16],
+    places: &mut [u16],
+    sizes: &[u16],
+    out: &mut [u16],
+)
+    requires { ⌜ (length (now nodes) ≤ length (now out)) × (length (now out) ≤ 16384) ⌝ }
+    ensures { λ r. ⌜ ConditionsSet (now (nodes .entry)) (now (abstracts .entry)) (now (concretes .entry)) e1 e2 e3 (now (names .entry)) (now (names .exit)) (now (places .entry)) (now (places .exit)) (now (sizes .entry)) (now (out .entry)) (now (out .exit)) ⌝ }
+{
+    show(abstracts, 0, names);
+    set_predicate(nodes, e1, names, places, sizes, out);
+    hide(abstracts, 0, 2, names);
+    show(concretes, 0, names);
+    set_predicate(nodes, e2, names, places, sizes, out);
+    show(abstracts, 0, names);
+    set_predicate(nodes, e3, names, places, sizes, out);
+    hide(abstracts, 0, 2, names);
+    hide(concretes, 0, 2, names);
+}
+
+// A predicate of an operation, with the variables of its state, plain and primed.
+fn set_side(
+    nodes: &[u16],
+    end: usize,
+    variables: &[u16],
+    names: &mut [u16],
+    places: &mut [u16],
+    sizes: &[u16],
+    out: &mut [u16],
+)
+    requires { ⌜ (length (now nodes) ≤ length (now out)) × (length (now out) ≤ 16384) ⌝ }
+    ensures { λ r. ⌜ SideSet (now (nodes .entry)) (now (variables .entry)) end (now (names .entry)) (now (names .exit)) (now (places .entry)) (now (places .exit)) (now (sizes .entry)) (now (out .entry)) (now (out .exit)) ⌝ }
+{
+    show(variables, 0, names);
+    show(variables, 1, names);
+    set_predicate(nodes, end, names, places, sizes, out);
+    hide(variables, 0, 2, names);
+    hide(variables, 1, 0, names);
+}
+
+// The name in the heading in front of a place.
+fn title_at(nodes: &[u16], first: usize) -> usize
+    ensures { λ r. ⌜ (4 ≤ first → r ≡ getD (now (nodes .entry)) (first - 4 + 1) 0) × (r < 65536) ⌝ }
+{
+    if first < 4 {
+        return 0;
+    }
+    index(look(nodes, first - 4 + 1))
+}
+
+// An operation, with the variables of both states.
+fn set_operation(
+    nodes: &[u16],
+    first: usize,
+    last: usize,
+    middle: usize,
+    end: usize,
+    abstracts: &[u16],
+    concretes: &[u16],
+    names: &mut [u16],
+    places: &mut [u16],
+    sizes: &[u16],
+    out: &mut [u16],
+)
+    requires { ⌜ (length (now nodes) ≤ length (now out)) × (length (now out) ≤ 16384) ⌝ }
+    ensures { λ r. ⌜ OperationSet (now (nodes .entry)) (now (abstracts .entry)) (now (concretes .entry)) first last middle end (now (names .entry)) (now (names .exit)) (now (places .entry)) (now (places .exit)) (now (sizes .entry)) (now (out .entry)) (now (out .exit)) ⌝ }
+{
+    put(names, title_at(nodes, first), 2);
+    let parameters = part(nodes, first, last);
+    show(parameters, 0, names);
+    place_parameters(parameters, places);
+    set_side(nodes, middle, abstracts, names, places, sizes, out);
+    set_side(nodes, end, concretes, names, places, sizes, out);
+    hide(parameters, 0, 0, names);
+}
+
+fn set_operations(
+    nodes: &[u16],
+    spans: &[u16],
+    n: usize,
+    abstracts: &[u16],
+    concretes: &[u16],
+    names: &mut [u16],
+    places: &mut [u16],
+    sizes: &[u16],
+    out: &mut [u16],
+)
+    requires { ⌜ (n ≤ 16) × (length (now nodes) ≤ length (now out)) × (length (now out) ≤ 16384) ⌝ }
+    ensures { λ r. ⌜ OperationsSet (now (nodes .entry)) (now (spans .entry)) (now (abstracts .entry)) (now (concretes .entry)) n (now (names .entry)) (now (places .entry)) (now (sizes .entry)) (now (out .entry)) (now (out .exit)) ⌝ }
+{
+    let mut k: usize = 0;
+    while k < n {
+        let first = span_at(spans, 9 + 4 * k);
+        let last = span_at(spans, 9 + 4 * k + 1);
+        let middle = span_at(spans, 9 + 4 * k + 2);
+        let end = span_at(spans, 9 + 4 * k + 3);
+        set_operation(
+            nodes,
+            first,
+            last,
+            middle,
+            end,
+            abstracts,
+            concretes,
+            names,
+            places,
+            sizes,
+            out,
+        );
+        k += 1;
+    }
+}
+
+// All predicates, each with the names in its reach.
+fn set_contexts(
+    nodes: &[u16],
+    spans: &[u16],
+    n: usize,
+    abstracts: &[u16],
+    concretes: &[u16],
+    names: &mut [u16],
+    places: &mut [u16],
+    sizes: &[u16],
+    out: &mut [u16],
+)
+    requires { ⌜ (n ≤ 16) × (length (now nodes) ≤ length (now out)) × (length (now out) ≤ 16384) ⌝ }
+    ensures { λ r. ⌜ ContextsSet (now (nodes .entry)) (now (spans .entry)) (now (abstracts .entry)) (now (concretes .entry)) n (now (names .entry)) (now (places .entry)) (now (sizes .entry)) (now (out .entry)) (now (out .exit)) ⌝ }
+{
+    set_states(nodes, spans, names, places, sizes, out);
+    set_conditions(
+        nodes,
+        span_at(spans, 6),
+        span_at(spans, 7),
+        span_at(spans, 8),
+        abstracts,
+        concretes,
+        names,
+        places,
+        sizes,
+        out,
+    );
+    set_operations(
+        nodes,
+        spans,
+        n,
+        abstracts,
+        concretes,
+        names,
+        places,
+        sizes,
+        out,
+    );
+}
+
+// At most 16 operations.
+fn at_most(n: usize) -> usize
+    ensures { λ r. ⌜ (r ≤ 16) × (n ≤ 16 → r ≡ n) ⌝ }
+{
+    if n <= 16 {
+        return n;
+    }
+    16
+}
+
+fn set_table(
+    nodes: &[u16],
+    spans: &[u16],
+    operations: usize,
+    givens: usize,
+    abstracts: usize,
+    names: &mut [u16],
+    places: &mut [u16],
+    sizes: &[u16],
+    out: &mut [u16],
+)
+    requires { ⌜ (length (now nodes) ≤ length (now out)) × (length (now out) ≤ 16384) ⌝ }
+    ensures { λ r. ⌜ TableSet (now (nodes .entry)) (now (spans .entry)) operations givens abstracts (now (names .entry)) (now (places .entry)) (now (sizes .entry)) (now (out .entry)) (now (out .exit)) ⌝ }
+{
+    let n = at_most(operations);
+    let gs = part(nodes, givens, abstracts);
+    let av = part(nodes, span_at(spans, 0), span_at(spans, 1));
+    let cv = part(nodes, span_at(spans, 3), span_at(spans, 4));
+    place_all(gs, av, cv, places);
+    set_declared(nodes, spans, n, names, sizes, out);
+    set_contexts(nodes, spans, n, av, cv, names, places, sizes, out);
+}
+
+// The table of a dossier. Its parts stand among the nodes where `spans` say, its given sets from `givens` up to `abstracts`; the names are those of the given sets.
+pub fn write(
+    nodes: &[u16; 16384],
+    spans: &[u16; 80],
+    operations: usize,
+    givens: usize,
+    abstracts: usize,
+    names: &mut [u16],
+    sizes: &[u16; 8],
+    out: &mut [u16; 16384],
+)
+    ensures { λ r. ⌜ TableWritten (now (nodes .entry)) (now (spans .entry)) operations givens abstracts (now (names .entry)) (now (sizes .entry)) (now (out .entry)) (now (out .exit)) ⌝ }
+{
+    let mut places = [0u16; 16384];
+    set_table(
+        nodes,
+        spans,
+        operations,
+        givens,
+        abstracts,
+        names,
+        &mut places,
+        sizes,
+        out,
+    );
+}

@@ -11,3 +11,4 @@ pub mod Passes
 pub mod Limited
 pub mod Later
 pub mod Leaving
+pub mod Free

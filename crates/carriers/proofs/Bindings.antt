@@ -6,13 +6,13 @@ use native.Mathlib.Nat.{zero-lt-suc, mul-assoc, mul-add-div-right, mul-add-mod-s
 use native.Mathlib.Omega.{arith}
 use lib.Arith.{digits-div}
 use lib.ListN.{length, getD}
-use Rattle.symbols.specs.Lists.{upward}
-use Rattle.reader.specs.Carriers.{Variable, countOf}
-use Rattle.evaluator.specs.Values as val
-use Rattle.evaluator.specs.Values.{Value}
-use Rattle.evaluator.specs.Meaning.{Binding}
-use Rattle.evaluator.specs.Bindings.{bindings, flat}
-use Rattle.reader.specs.Limits.{bindingCount}
+use Rattle.lexical.specs.Lists.{upward}
+use Rattle.static_rules.specs.Carriers.{Variable, countOf}
+use Rattle.meaning.specs.Values as val
+use Rattle.meaning.specs.Values.{Value}
+use Rattle.meaning.specs.Meaning.{Binding}
+use Rattle.meaning.specs.Bindings.{bindings, flat}
+use Rattle.static_rules.specs.Limits.{bindingCount}
 use Rattle.carriers.specs.Order.{valueAt, digit, bindingAt}
 use Rattle.carriers.proofs.Upward.{map-length, map-get, flat-blocks}
 use Rattle.carriers.proofs.Values.{values-are, count-some, values-once}

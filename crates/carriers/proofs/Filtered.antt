@@ -5,7 +5,7 @@ use mathlib.Core.List.{List, [], _∷_, map}
 use Prim.Native.Nat.{ℕ, zero, suc, _+_, _<_, _≤_}
 use native.Mathlib.Decide.{decLt}
 use native.Mathlib.Omega.{arith}
-use Rattle.symbols.specs.Lists.{filter, upward}
+use Rattle.lexical.specs.Lists.{filter, upward}
 use Rattle.symbols.proofs.Tests.{clash}
 
 -- the n values of f from k on: rising, all of them among those of the `len` numbers from `lo` on that pass, and each of those among them

@@ -10,11 +10,11 @@ use lib.Count.{onesIn, ones, ones-cat}
 use lib.Dec.{eqb, leb}
 use lib.Pow.{pow-pos, pow-lt, pow-add, shr-shr, field, mod-mod-pow}
 use borrow.Author.Tests.{leb-true, eqb-true, le-leb, eq-eqb}
-use Rattle.symbols.specs.Lists.{upward}
+use Rattle.lexical.specs.Lists.{upward}
 use Rattle.form.specs.Tree.{partial, total}
 use Rattle.sets.specs.Sets.{has, pair, someFrom, countFrom, isPartial, isTotal}
 use Rattle.sets.proofs.Members.{count-ones, ones-among}
-use Rattle.evaluator.specs.Bindings.{pairSets}
+use Rattle.meaning.specs.Bindings.{pairSets}
 use Rattle.carriers.specs.Order.{rowOf, choices, maskAt, partialMask, totalMask}
 use Rattle.carriers.proofs.Filtered.{Lists, listed}
 use Rattle.carriers.proofs.Words.{rowsPass, RowList, word-lists}

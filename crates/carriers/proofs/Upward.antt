@@ -5,8 +5,8 @@ use Prim.Native.Nat.{ℕ, zero, suc, _+_, _*_, _<_, _≤_}
 use native.Mathlib.Nat.{zero-add, zero-mul, suc-mul, add-comm, add-zero}
 use native.Mathlib.Omega.{arith}
 use lib.ListN.{length, getD}
-use Rattle.symbols.specs.Lists.{upward}
-use Rattle.evaluator.specs.Bindings.{flat}
+use Rattle.lexical.specs.Lists.{upward}
+use Rattle.meaning.specs.Bindings.{flat}
 
 module _ {A : Type 0} where
   pub map-same : (f g : ℕ → A) (k n : ℕ) → ((i : ℕ) → k ≤ i → i < k + n → f i ≡ g i) → map f (upward k n) ≡ map g (upward k n)

@@ -12,13 +12,13 @@ use lib.ListN.{length, getD}
 use lib.Pow.{pow-pos}
 use lib.Signed.{ltZ}
 use borrow.Author.Tests.{ltb-true, ltb-false, lt-ltb, le-ltb}
-use Rattle.symbols.specs.Lists.{upward}
+use Rattle.lexical.specs.Lists.{upward}
 use Rattle.form.specs.Tree.{relation, partial, total}
-use Rattle.reader.specs.Carriers.{Carrier, elementsOf, numbers, subsetsOf, pairsOf, sizeOf, countOf, arrowCount}
-use Rattle.evaluator.specs.Values as val
-use Rattle.evaluator.specs.Values.{Value}
-use Rattle.evaluator.specs.Meaning.{elementValues, numberValues}
-use Rattle.evaluator.specs.Bindings.{pairSets, valuesOf}
+use Rattle.static_rules.specs.Carriers.{Carrier, elementsOf, numbers, subsetsOf, pairsOf, sizeOf, countOf, arrowCount}
+use Rattle.meaning.specs.Values as val
+use Rattle.meaning.specs.Values.{Value}
+use Rattle.meaning.specs.Meaning.{elementValues, numberValues}
+use Rattle.meaning.specs.Bindings.{pairSets, valuesOf}
 use Rattle.carriers.specs.Order.{partialMask, totalMask, pairSetAt, valueAt}
 use Rattle.carriers.proofs.Rows.{partial-lists, total-lists, partial-sets, total-sets}
 use Rattle.carriers.proofs.Upward.{map-length, map-get}

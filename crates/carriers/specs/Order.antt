@@ -3,11 +3,11 @@ use mathlib.Core.List.{List, [], _∷_}
 use Prim.Native.Nat.{ℕ, zero, suc, _+_, _*_, _/_, _%_, _^_, _≤_}
 use lib.IntN.{pos, _+ℤ_}
 use Rattle.form.specs.Tree.{Arrow, relation, partial, total}
-use Rattle.reader.specs.Carriers.{Carrier, elementsOf, numbers, subsetsOf, pairsOf, Variable, sizeOf, countOf}
-use Rattle.reader.specs.Limits.{bindingCount}
-use Rattle.evaluator.specs.Values as val
-use Rattle.evaluator.specs.Values.{Value}
-use Rattle.evaluator.specs.Meaning.{Binding}
+use Rattle.static_rules.specs.Carriers.{Carrier, elementsOf, numbers, subsetsOf, pairsOf, Variable, sizeOf, countOf}
+use Rattle.static_rules.specs.Limits.{bindingCount}
+use Rattle.meaning.specs.Values as val
+use Rattle.meaning.specs.Values.{Value}
+use Rattle.meaning.specs.Meaning.{Binding}
 
 -- n rows, each one of c values below b: the k-th word of rows, the first row lowest
 unfoldable pub word : (ℕ → ℕ) → (c b n k : ℕ) → ℕ

@@ -4,7 +4,7 @@ ghost use mathlib.Core.Bool.{true, false};
 ghost use Prim.Native.Nat.{_*_, _^_, _<_, _≤_};
 ghost use lib.IntN.{pos, _+ℤ_};
 ghost use Rattle.form.specs.Tree.{partial, total};
-ghost use Rattle.reader.specs.Carriers.{arrowCount};
+ghost use Rattle.static_rules.specs.Carriers.{arrowCount};
 ghost use Rattle.carriers.specs.Order.{Room, choices, maskAt, partialMask, totalMask, digit};
 
 // The k-th number of a range from a on.

@@ -2,9 +2,9 @@
 use mathlib.Core.Path.{_≡_, refl}
 use mathlib.Core.List.{List, [], _∷_}
 use Prim.Native.Nat.{ℕ, suc}
-use Rattle.symbols.specs.Kinds as kind
-use Rattle.symbols.specs.Kinds.{Kind}
-use Rattle.symbols.specs.Symbols.{noEnding}
+use Rattle.lexical.specs.Kinds as kind
+use Rattle.lexical.specs.Kinds.{Kind}
+use Rattle.lexical.specs.Symbols.{noEnding}
 use Rattle.form.specs.Tree.{Letters, Pred, Arrow, relation, partial, total, TypeForm, givenType, powerType, rangeType, arrowType, Declaration, Direction, inward, outward, Parameter, Given, State, Operation, Dossier}
 use Rattle.form.specs.Written.{Mark, unmarked, aGiven, aVariable, anOperation, Written, bare, used, declared, arrowKind}
 use Rattle.form.specs.Written.{writePred, writeType, writeEntries, writeElements, writeGivens, writeDeclarations, writeWhere, writeState, writeParameters, writeOperations, written}

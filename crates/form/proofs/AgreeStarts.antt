@@ -3,9 +3,9 @@ use mathlib.Core.Path.{_≡_, refl, ap, sym, subst}
 use mathlib.Core.Bool.{false, not}
 use mathlib.Core.List.{List, [], _∷_}
 use Prim.Native.Nat.{ℕ, suc}
-use Rattle.symbols.specs.Kinds as kind
-use Rattle.symbols.specs.Kinds.{Kind, is, lookup}
-use Rattle.symbols.specs.Symbols.{Name, Ending, noEnding, prime, query, shriek, Symbol, kindOf, kindOfName}
+use Rattle.lexical.specs.Kinds as kind
+use Rattle.lexical.specs.Kinds.{Kind, is, lookup}
+use Rattle.lexical.specs.Symbols.{Name, Ending, noEnding, prime, query, shriek, Symbol, kindOf, kindOfName}
 use Rattle.form.specs.Tree as tree
 use Rattle.form.specs.Tree.{Letters, Prefix, negate, size, dom, ran, Operator, Division, Comparison, Membership, Connective}
 use Rattle.form.specs.Tree.{Term, number, name, group, prefix, binary, divided, listed, pairs, such, emptySet, emptyPairs, Items, only, also, Pairs, onlyPair, alsoPair}

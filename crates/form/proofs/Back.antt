@@ -4,10 +4,10 @@ use mathlib.Core.Bool.{Bool, true, false}
 use mathlib.Core.List.{List, [], _∷_, _++_}
 use mathlib.Core.Option.{none, some}
 use Prim.Native.Nat.{ℕ, suc}
-use Rattle.symbols.specs.Kinds as kind
-use Rattle.symbols.specs.Kinds.{Kind, codeOf, is, lookup}
-use Rattle.symbols.specs.Symbols as symbol
-use Rattle.symbols.specs.Symbols.{Name, noEnding, Symbol, fixed}
+use Rattle.lexical.specs.Kinds as kind
+use Rattle.lexical.specs.Kinds.{Kind, codeOf, is, lookup}
+use Rattle.lexical.specs.Symbols as symbol
+use Rattle.lexical.specs.Symbols.{Name, noEnding, Symbol, fixed}
 use Rattle.form.specs.Tree as tree
 use Rattle.form.specs.Tree.{Letters, End, Connective, Quantifier, Given, Parameter, Operation, Declaration, State, Pred, Term, Dossier}
 use Rattle.form.specs.Written.{connectiveKind, quantifierKind, binds, aVariable, anOperation}

@@ -3,9 +3,9 @@ use mathlib.Core.Path.{_≡_, refl, ap, _∙_, sym, subst}
 use mathlib.Core.Bool.{Bool, true, false, true≢false}
 use mathlib.Core.List.{List, [], _∷_, _++_}
 use mathlib.Core.Option.{Option, none, some}
-use Rattle.symbols.specs.Kinds as kind
-use Rattle.symbols.specs.Kinds.{codeOf, is, lookup}
-use Rattle.symbols.specs.Symbols.{Name, noEnding, Symbol, fixed, kindOf}
+use Rattle.lexical.specs.Kinds as kind
+use Rattle.lexical.specs.Kinds.{codeOf, is, lookup}
+use Rattle.lexical.specs.Symbols.{Name, noEnding, Symbol, fixed, kindOf}
 use Rattle.form.specs.Tree as tree
 use Rattle.form.specs.Tree.{Letters, State, Dossier}
 use Rattle.form.specs.Written.{Mark, symbolsOf}

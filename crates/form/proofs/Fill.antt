@@ -4,9 +4,9 @@ use mathlib.Core.Bool.{true, false}
 use mathlib.Core.List.{List, [], _∷_}
 use mathlib.Core.Option.{Option, none, some}
 use Prim.Native.Nat.{ℕ}
-use Rattle.symbols.specs.Kinds as kind
-use Rattle.symbols.specs.Symbols as symbol
-use Rattle.symbols.specs.Symbols.{Name, noEnding, Symbol, fixed, numeral}
+use Rattle.lexical.specs.Kinds as kind
+use Rattle.lexical.specs.Symbols as symbol
+use Rattle.lexical.specs.Symbols.{Name, noEnding, Symbol, fixed, numeral}
 use Rattle.form.specs.Tree.{Letters, End, Range, Domain, Operator, Division, Connective, Quantifier, Comparison, Membership}
 use Rattle.form.specs.Tree.{Term, number, name, prefix, negate, binary, divided, listed, pairs, such, emptySet, emptyPairs, Items, only, also, Pairs, onlyPair, alsoPair}
 use Rattle.form.specs.Tree.{Pred, paren, quantified, connected, compared, member, within, related}

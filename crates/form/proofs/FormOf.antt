@@ -10,11 +10,11 @@ use lib.ListN.{length, take, drop, getD}
 use lib.Seq.{take-suc, take-length}
 use borrow.Author.Tests.{le-ltb, ltb-true, ltb-false, eqb-true, eq-eqb}
 use Rattle.symbols.proofs.Tests.{and-left, and-right, clash, or-false}
-use Rattle.symbols.specs.Kinds as kind
-use Rattle.symbols.specs.Kinds.{Kind, codeOf, is, lookup}
-use Rattle.symbols.specs.Symbols.{Symbol, fixed}
-use Rattle.symbols.specs.Refusals.{Refusal, fault, numberOf, before, longText, unlistedSymbol, manySymbols, noDossier, deep, manyDeclared, headingDiffers, nameInUse, nameUnknown}
-use Rattle.symbols.specs.Refusals.{typesMisfit, wideType, manyBindings, largeSize, zeroDivisor, advanceRange, shortBytes, nothingHeld, somethingHeld, checkFinished, noCounterexample}
+use Rattle.lexical.specs.Kinds as kind
+use Rattle.lexical.specs.Kinds.{Kind, codeOf, is, lookup}
+use Rattle.lexical.specs.Symbols.{Symbol, fixed}
+use Rattle.lexical.specs.Refusals.{Refusal, fault, numberOf, before, longText, unlistedSymbol, manySymbols, noDossier, deep, manyDeclared, headingDiffers, nameInUse, nameUnknown}
+use Rattle.lexical.specs.Refusals.{typesMisfit, wideType, manyBindings, largeSize, zeroDivisor, advanceRange, shortBytes, nothingHeld, somethingHeld, checkFinished, noCounterexample}
 use Rattle.form.specs.Tree.{Dossier}
 use Rattle.form.specs.Written.{Mark, unmarked, written, writeContents}
 use Rattle.form.specs.Form as shape

@@ -6,8 +6,8 @@ use Prim.Native.Nat.{ℕ, _≤_, _<_}
 use native.Mathlib.Omega.{arith}
 use lib.Dec.{leb}
 use borrow.Author.Tests.{leb-true, leb-false}
-use Rattle.symbols.specs.Kinds as kind
-use Rattle.symbols.specs.Symbols.{Symbol, fixed}
+use Rattle.lexical.specs.Kinds as kind
+use Rattle.lexical.specs.Symbols.{Symbol, fixed}
 use Rattle.form.specs.Tree.{End, Prefix, Operator, plus, minus, union, without, times, inter, Division, Connective, and, or, implies, iff}
 use Rattle.form.specs.Tree.{Term, number, name, group, prefix, binary, divided, listed, pairs, such, emptySet, emptyPairs}
 use Rattle.form.specs.Tree.{Pred, truth, falsity, negation, paren, quantified, connected, compared, member, within, related}

@@ -5,7 +5,7 @@ use mathlib.Core.List.{List, [], _∷_}
 use Prim.Native.Nat.{ℕ, suc, _+_}
 use native.Mathlib.Omega.{arith}
 use lib.ListN.{length}
-use Rattle.symbols.specs.Kinds as kind
+use Rattle.lexical.specs.Kinds as kind
 use Rattle.form.specs.Tree.{Letters, End, Range, TypeForm, givenType, powerType, rangeType, arrowType, Given, elements}
 use Rattle.form.specs.Written.{Written, bare, digits, minusOf, writeEnd, writeRange, writeType, writeElements, writeGivens}
 use Rattle.form.specs.Codes.{endWidth, typeWidth}

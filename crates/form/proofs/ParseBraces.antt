@@ -5,9 +5,9 @@ use mathlib.Core.List.{List, _∷_}
 use Prim.Native.Nat.{ℕ, zero, suc, _+_, _*_, _≤_}
 use native.Mathlib.Omega.{arith}
 use lib.ListN.{length}
-use Rattle.symbols.specs.Kinds as kind
-use Rattle.symbols.specs.Kinds.{is, codeOf}
-use Rattle.symbols.specs.Symbols.{Symbol, fixed}
+use Rattle.lexical.specs.Kinds as kind
+use Rattle.lexical.specs.Kinds.{is, codeOf}
+use Rattle.lexical.specs.Symbols.{Symbol, fixed}
 use Rattle.form.specs.Tree.{Term, listed, pairs, Items, only, also, Pairs, onlyPair, alsoPair}
 use Rattle.form.specs.Written.{Written, bare, writeTerm, writeItems, writePairs}
 use Rattle.form.specs.Parse.{got, parseTerm, parseItems, parsePairs}

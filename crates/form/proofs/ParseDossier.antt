@@ -4,9 +4,9 @@ use mathlib.Core.List.{List, [], _∷_}
 use Prim.Native.Nat.{ℕ, zero, suc, _+_, _*_, _≤_, _<_}
 use native.Mathlib.Omega.{arith}
 use lib.ListN.{length, drop}
-use Rattle.symbols.specs.Kinds as kind
-use Rattle.symbols.specs.Kinds.{is, codeOf}
-use Rattle.symbols.specs.Symbols.{noEnding, Symbol, fixed}
+use Rattle.lexical.specs.Kinds as kind
+use Rattle.lexical.specs.Kinds.{is, codeOf}
+use Rattle.lexical.specs.Symbols.{noEnding, Symbol, fixed}
 use Rattle.form.specs.Tree.{Pred, State, Operation, Dossier}
 use Rattle.form.specs.Written.{aGiven, aVariable, anOperation, Written, bare, writeType, writePred, writeEntries, writeGivens, writeDeclarations, writeWhere, writeState}
 use Rattle.form.specs.Written.{writeParameters, writeOperations, writeContents, written, symbolsOf}

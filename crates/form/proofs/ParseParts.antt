@@ -6,9 +6,9 @@ use mathlib.Core.Option.{none, some}
 use Prim.Native.Nat.{ℕ, zero, suc, _≤_, _<_}
 use native.Mathlib.Omega.{arith}
 use lib.ListN.{length}
-use Rattle.symbols.specs.Kinds as kind
-use Rattle.symbols.specs.Kinds.{Kind, is, lookup, codeOf}
-use Rattle.symbols.specs.Symbols.{Ending, noEnding, prime, query, shriek, fixed, kindOfName}
+use Rattle.lexical.specs.Kinds as kind
+use Rattle.lexical.specs.Kinds.{Kind, is, lookup, codeOf}
+use Rattle.lexical.specs.Symbols.{Ending, noEnding, prime, query, shriek, fixed, kindOfName}
 use Rattle.form.specs.Tree.{Letters, Arrow, relation, partial, total, TypeForm, givenType, powerType, rangeType, arrowType, Declaration, Direction, inward, outward, Parameter, Given}
 use Rattle.form.specs.Written.{Mark, aVariable, Written, bare, declared, arrowKind, writeType, writeEntries, writeElements, writeGivens, writeDeclarations}
 use Rattle.form.specs.Written.{endingOf, parameterMark, inputsAfter, outputsAfter, writeParameters}

@@ -4,10 +4,10 @@ use mathlib.Core.Bool.{Bool, true, false}
 use mathlib.Core.List.{List, _∷_}
 use mathlib.Core.Option.{Option, none, some}
 use Prim.Native.Nat.{ℕ, zero, suc, _≤_, _<_}
-use Rattle.symbols.specs.Kinds as kind
-use Rattle.symbols.specs.Kinds.{is, lookup, codeOf}
-use Rattle.symbols.specs.Symbols.{noEnding, Symbol, fixed}
-use Rattle.symbols.specs.Symbols as symbol
+use Rattle.lexical.specs.Kinds as kind
+use Rattle.lexical.specs.Kinds.{is, lookup, codeOf}
+use Rattle.lexical.specs.Symbols.{noEnding, Symbol, fixed}
+use Rattle.lexical.specs.Symbols as symbol
 use Rattle.form.specs.Tree.{Letters, Range, Domain, givenSet, range, Connective, and, or, implies, iff, Quantifier, forall, exists, exists1, Comparison, equals, differs, less, atMost, Membership, isIn, notIn}
 use Rattle.form.specs.Tree.{Term, Pred, truth, falsity, negation, paren, quantified, connected, compared, member, within, related}
 use Rattle.form.specs.Written.{Written, bare, connectiveKind, quantifierKind, comparisonKind, membershipKind, minusOf, digits, writeEnd, writeRange, writeDomain}

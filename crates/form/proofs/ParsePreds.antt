@@ -5,9 +5,9 @@ use mathlib.Core.Option.{none}
 use Prim.Native.Nat.{ℕ, zero, suc, _+_, _*_, _≤_, _<_}
 use native.Mathlib.Omega.{arith}
 use lib.ListN.{length}
-use Rattle.symbols.specs.Kinds as kind
-use Rattle.symbols.specs.Kinds.{is, lookup, codeOf}
-use Rattle.symbols.specs.Symbols.{Name, Symbol}
+use Rattle.lexical.specs.Kinds as kind
+use Rattle.lexical.specs.Kinds.{is, lookup, codeOf}
+use Rattle.lexical.specs.Symbols.{Name, Symbol}
 use Rattle.form.specs.Tree.{Letters, Domain, givenSet, range, Connective, and, or, implies, iff, Quantifier}
 use Rattle.form.specs.Tree.{such, Pred, truth, falsity, negation, paren, quantified, connected, compared, member, within, related}
 use Rattle.form.specs.Written.{Written, bare, writeDomain, writeTerm, writePred}

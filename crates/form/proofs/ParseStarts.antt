@@ -5,10 +5,10 @@ use mathlib.Core.List.{List, _∷_}
 use mathlib.Core.Option.{none}
 use Prim.Native.Nat.{ℕ, suc, _≤_, _<_}
 use native.Mathlib.Omega.{arith}
-use Rattle.symbols.specs.Kinds as kind
-use Rattle.symbols.specs.Kinds.{Kind, is, lookup, codeOf}
-use Rattle.symbols.specs.Symbols.{Ending, noEnding, prime, query, shriek, Symbol, fixed, numeral}
-use Rattle.symbols.specs.Symbols as symbol
+use Rattle.lexical.specs.Kinds as kind
+use Rattle.lexical.specs.Kinds.{Kind, is, lookup, codeOf}
+use Rattle.lexical.specs.Symbols.{Ending, noEnding, prime, query, shriek, Symbol, fixed, numeral}
+use Rattle.lexical.specs.Symbols as symbol
 use Rattle.form.specs.Tree.{Prefix, negate, size, dom, ran, Operator, plus, minus, union, without, times, inter, Division, quotient, remainder}
 use Rattle.form.specs.Tree.{Connective, and, or, implies, iff, Comparison, equals, differs, less, atMost, Membership, isIn, notIn}
 use Rattle.form.specs.Tree.{Term, number, name, group, prefix, binary, divided, listed, pairs, such, emptySet, emptyPairs}

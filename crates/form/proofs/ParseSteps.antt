@@ -6,10 +6,10 @@ use Prim.Native.Nat.{ℕ, zero, suc, _≤_, _<_}
 use native.Mathlib.Omega.{arith}
 use lib.Dec.{leb, T, le→leb, leb→le}
 use lib.ListN.{getD}
-use Rattle.symbols.specs.Kinds as kind
-use Rattle.symbols.specs.Kinds.{Kind, is, lookup, codeOf}
-use Rattle.symbols.specs.Symbols.{Name, Ending, noEnding, prime, query, shriek, Symbol, fixed, numeral, kindOf, kindOfName}
-use Rattle.symbols.specs.Symbols as symbol
+use Rattle.lexical.specs.Kinds as kind
+use Rattle.lexical.specs.Kinds.{Kind, is, lookup, codeOf}
+use Rattle.lexical.specs.Symbols.{Name, Ending, noEnding, prime, query, shriek, Symbol, fixed, numeral, kindOf, kindOfName}
+use Rattle.lexical.specs.Symbols as symbol
 use Rattle.form.specs.Tree.{Letters, End, Range, Prefix, negate, size, dom, ran, Operator, plus, minus, union, without, times, inter, Division, quotient, remainder}
 use Rattle.form.specs.Tree.{Term, number, name, group, prefix, binary, divided, listed, pairs, such, emptySet, emptyPairs, Items, only, also, Pairs, onlyPair, alsoPair, Pred}
 use Rattle.form.specs.Written.{Written, bare, operatorKind, divisionKind, prefixKind, minusOf, digits, writeEnd, writeRange}

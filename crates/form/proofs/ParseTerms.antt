@@ -5,8 +5,8 @@ use mathlib.Core.List.{List, _∷_}
 use Prim.Native.Nat.{ℕ, zero, suc, _+_, _*_, _≤_, _<_}
 use native.Mathlib.Omega.{arith}
 use lib.ListN.{length}
-use Rattle.symbols.specs.Kinds as kind
-use Rattle.symbols.specs.Symbols.{Name, Symbol, fixed}
+use Rattle.lexical.specs.Kinds as kind
+use Rattle.lexical.specs.Symbols.{Name, Symbol, fixed}
 use Rattle.form.specs.Tree.{End, Range, Prefix, Operator, plus, minus, union, without, times, inter, Division}
 use Rattle.form.specs.Tree.{Term, number, name, group, prefix, binary, divided, listed, pairs, such, emptySet, emptyPairs}
 use Rattle.form.specs.Written.{Written, bare, digits, operatorKind, divisionKind, minusOf, writeEnd, writeRange, writeTerm}

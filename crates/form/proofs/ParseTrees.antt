@@ -5,8 +5,8 @@ use mathlib.Core.Option.{some}
 use Prim.Native.Nat.{ℕ, zero, suc, _+_, _*_, _≤_}
 use native.Mathlib.Omega.{arith}
 use lib.ListN.{length}
-use Rattle.symbols.specs.Kinds as kind
-use Rattle.symbols.specs.Symbols.{Symbol, fixed, kindOf}
+use Rattle.lexical.specs.Kinds as kind
+use Rattle.lexical.specs.Symbols.{Symbol, fixed, kindOf}
 use Rattle.form.specs.Tree.{Range, Connective, and, or, implies, iff, Comparison, Membership}
 use Rattle.form.specs.Tree.{Term, number, name, group, prefix, binary, divided, listed, pairs, such, emptySet, emptyPairs, Items, only, also, Pairs, onlyPair, alsoPair}
 use Rattle.form.specs.Tree.{Pred, truth, falsity, negation, paren, quantified, connected, compared, member, within, related}

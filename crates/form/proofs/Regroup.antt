@@ -3,9 +3,9 @@ use mathlib.Core.Path.{_≡_, refl, ap, _∙_, sym}
 use mathlib.Core.List.{List, [], _∷_}
 use Prim.Native.Nat.{ℕ}
 use native.Mathlib.Omega.{arith}
-use Rattle.symbols.specs.Kinds as kind
-use Rattle.symbols.specs.Symbols as symbol
-use Rattle.symbols.specs.Symbols.{Symbol, noEnding, fixed}
+use Rattle.lexical.specs.Kinds as kind
+use Rattle.lexical.specs.Symbols as symbol
+use Rattle.lexical.specs.Symbols.{Symbol, noEnding, fixed}
 use Rattle.form.specs.Tree.{Term, number, name, group, prefix, binary, divided, listed, pairs, such, emptySet, emptyPairs, Items, only, also, Pairs, onlyPair, alsoPair}
 use Rattle.form.specs.Tree.{Pred, truth, falsity, negation, paren, quantified, connected, compared, member, within, related, State, Operation, Dossier}
 use Rattle.form.specs.Written.{prefixKind, operatorKind, connectiveKind, quantifierKind, comparisonKind, membershipKind, symbolsOf}

@@ -7,9 +7,9 @@ use Prim.Native.Nat.{ℕ, zero, suc, _+_, _≤_, _<_}
 use native.Mathlib.Omega.{arith}
 use native.Mathlib.Nat.{add-zero}
 use lib.ListN.{length, take, drop}
-use Rattle.symbols.specs.Kinds.{Kind}
-use Rattle.symbols.specs.Symbols.{Symbol, kindOf}
-use Rattle.symbols.specs.Refusals.{Refusal, noDossier}
+use Rattle.lexical.specs.Kinds.{Kind}
+use Rattle.lexical.specs.Symbols.{Symbol, kindOf}
+use Rattle.lexical.specs.Refusals.{Refusal, noDossier}
 use Rattle.form.specs.Written.{Mark}
 use Rattle.form.specs.Form.{kindAt, settled}
 use Rattle.form.specs.Machine.{Item, Next, go, halt, step, ends, Run, complete, failed, unlessOver, onward, runFrom}

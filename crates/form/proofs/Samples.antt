@@ -5,9 +5,9 @@ use mathlib.Core.List.{List, [], _∷_}
 use Prim.Native.Nat.{ℕ, _+_}
 use Prim.Native.String.{String}
 use lib.Dec.{eqb}
-use Rattle.symbols.specs.Lists.{all}
-use Rattle.symbols.specs.Base.{Parts, dossierOf}
-use Rattle.symbols.specs.Refusals.{Refusal, numberOf, noDossier, deep, Fault}
+use Rattle.lexical.specs.Lists.{all}
+use Rattle.lexical.specs.Base.{Parts, dossierOf}
+use Rattle.lexical.specs.Refusals.{Refusal, numberOf, noDossier, deep, Fault}
 use Rattle.form.specs.Tree.{Term, number, name, group, prefix, binary, divided, listed, pairs, such, emptySet, emptyPairs}
 use Rattle.form.specs.Tree.{Pred, truth, falsity, negation, paren, quantified, connected, compared, member, within, related}
 use Rattle.form.specs.Codes.{termWidth, predWidth}

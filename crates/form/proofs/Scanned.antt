@@ -7,11 +7,11 @@ use Prim.Native.Nat.{ℕ, zero, suc, _+_}
 use Prim.Native.String.{String}
 use lib.Dec.{leb, ltb}
 use lib.ListN.{length, drop, getD}
-use Rattle.symbols.specs.Lists.{bytes, same, begins, all}
-use Rattle.symbols.specs.Kinds.{Kind, codeOf, marks, words}
-use Rattle.symbols.specs.Symbols.{Class, letter, digit, mark, blank, other, Ending, noEnding, prime, query, shriek, Symbol, fixed, numeral, name, Found, gap, unlisted, found}
-use Rattle.symbols.specs.Symbols.{classOf, run, decimalFrom, isNumber, numberFound, reserved, endingOf, endingLength, wordOf, longer, longest, byClass, symbolAt}
-use Rattle.symbols.specs.Symbols.{Placed, scanned, scanFrom, scan, symbols}
+use Rattle.lexical.specs.Lists.{bytes, same, begins, all}
+use Rattle.lexical.specs.Kinds.{Kind, codeOf, marks, words}
+use Rattle.lexical.specs.Symbols.{Class, letter, digit, mark, blank, other, Ending, noEnding, prime, query, shriek, Symbol, fixed, numeral, name, Found, gap, unlisted, found}
+use Rattle.lexical.specs.Symbols.{classOf, run, decimalFrom, isNumber, numberFound, reserved, endingOf, endingLength, wordOf, longer, longest, byClass, symbolAt}
+use Rattle.lexical.specs.Symbols.{Placed, scanned, scanFrom, scan, symbols}
 use Rattle.form.proofs.Table.{isFixed, Spelled, AllSpelled}
 
 abbrev Entry : Type 0

@@ -6,9 +6,9 @@ use mathlib.Core.Option.{Option, none, some}
 use Prim.Native.Nat.{ℕ, zero, suc, _≤_, _<_}
 use native.Mathlib.Omega.{arith}
 use lib.ListN.{length, take, drop, getD, length-map}
-use Rattle.symbols.specs.Kinds as kind
-use Rattle.symbols.specs.Kinds.{Kind}
-use Rattle.symbols.specs.Symbols.{Symbol, kindOf}
+use Rattle.lexical.specs.Kinds as kind
+use Rattle.lexical.specs.Kinds.{Kind}
+use Rattle.lexical.specs.Symbols.{Symbol, kindOf}
 use Rattle.form.specs.Tree.{Dossier}
 use Rattle.form.specs.Written.{Mark, unmarked, Written, written, symbolsOf}
 use Rattle.form.specs.Form.{Whole, Begins, kindAt}

@@ -4,9 +4,9 @@ use mathlib.Core.Bool.{Bool, true, false, not, _&&_, true≢false}
 use mathlib.Core.List.{List, [], _∷_, _++_}
 use mathlib.Core.Option.{Option, none, some}
 use Prim.Native.Nat.{ℕ, suc}
-use Rattle.symbols.specs.Kinds as kind
-use Rattle.symbols.specs.Kinds.{Kind, codeOf, is, lookup}
-use Rattle.symbols.specs.Symbols.{Symbol, kindOf}
+use Rattle.lexical.specs.Kinds as kind
+use Rattle.lexical.specs.Kinds.{Kind, codeOf, is, lookup}
+use Rattle.lexical.specs.Symbols.{Symbol, kindOf}
 use Rattle.form.specs.Written.{Mark, unmarked, opens, binds, aGiven, anElement, aVariable, anInput, anOutput, anOperation}
 use Rattle.form.specs.Form.{kindAt}
 use Rattle.form.specs.Machine.{Item, exact, aDeclared, aName, anEmptyRest, anEnd, aType, aTypeRest, aDomain, aDossier, aTerm, anOperand, aTermRest, aRel, aMem, aRight, aNeg, aNumRest}

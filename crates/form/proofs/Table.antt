@@ -5,9 +5,9 @@ use mathlib.Core.List.{List, [], _∷_, _++_}
 use Prim.Native.Nat.{ℕ}
 use lib.Dec.{eqb, leb}
 use borrow.Author.Tests.{eqb-true}
-use Rattle.symbols.specs.Kinds as kind
-use Rattle.symbols.specs.Kinds.{Kind, codeOf, is, lookup}
-use Rattle.symbols.specs.Symbols.{Symbol, fixed, numeral, name, Ending, noEnding, prime, query, shriek, kindOf, kindOfName}
+use Rattle.lexical.specs.Kinds as kind
+use Rattle.lexical.specs.Kinds.{Kind, codeOf, is, lookup}
+use Rattle.lexical.specs.Symbols.{Symbol, fixed, numeral, name, Ending, noEnding, prime, query, shriek, kindOf, kindOfName}
 use Rattle.form.specs.Tree.{Letters}
 
 -- all kinds

@@ -4,9 +4,9 @@ use mathlib.Core.Bool.{true, false}
 use mathlib.Core.List.{List, [], _∷_, _++_, map}
 use mathlib.Core.Option.{Option, none, some}
 use Prim.Native.Nat.{ℕ}
-use Rattle.symbols.specs.Kinds as kind
-use Rattle.symbols.specs.Kinds.{Kind, is}
-use Rattle.symbols.specs.Symbols.{Symbol, kindOf}
+use Rattle.lexical.specs.Kinds as kind
+use Rattle.lexical.specs.Kinds.{Kind, is}
+use Rattle.lexical.specs.Symbols.{Symbol, kindOf}
 use Rattle.form.specs.Written.{Mark, unmarked, opens, binds, aGiven, anElement, aVariable, anInput, anOutput, anOperation, Written}
 use Rattle.form.specs.Form.{Begins, kindAt, isRangeEnd, isUsed}
 use Rattle.form.specs.Machine.{Item, aDossier, Next, go, halt, step, ends}

@@ -4,9 +4,9 @@ use mathlib.Core.Bool.{true, false}
 use mathlib.Core.List.{List, [], _∷_, _++_, append-nil}
 use mathlib.Core.Option.{Option, none, some}
 use borrow.Author.Tests.{not-true}
-use Rattle.symbols.specs.Kinds as kind
-use Rattle.symbols.specs.Kinds.{is}
-use Rattle.symbols.specs.Symbols.{Symbol, kindOf}
+use Rattle.lexical.specs.Kinds as kind
+use Rattle.lexical.specs.Kinds.{is}
+use Rattle.lexical.specs.Symbols.{Symbol, kindOf}
 use Rattle.form.specs.Tree.{Dossier}
 use Rattle.form.specs.Written.{Mark, unmarked, opens, binds, aGiven, anElement, aVariable, anInput, anOutput, anOperation, symbolsOf}
 use Rattle.form.specs.Form.{Whole, Begins}

@@ -4,9 +4,9 @@ use mathlib.Core.Bool.{Bool, true, false, cond}
 use mathlib.Core.List.{List, [], _∷_, _++_}
 use Prim.Native.Nat.{ℕ, suc, _+_, _-_, _*_}
 use lib.ListN.{length}
-use Rattle.symbols.specs.Kinds as kind
-use Rattle.symbols.specs.Kinds.{codeOf}
-use Rattle.symbols.specs.Symbols.{Name, Ending, noEnding, prime, query, shriek}
+use Rattle.lexical.specs.Kinds as kind
+use Rattle.lexical.specs.Kinds.{codeOf}
+use Rattle.lexical.specs.Symbols.{Name, Ending, noEnding, prime, query, shriek}
 use Rattle.form.specs.Tree.{Letters, End, Range, Domain, givenSet, range, Division, quotient, remainder}
 use Rattle.form.specs.Tree.{Term, number, name, group, prefix, binary, divided, listed, pairs, such, emptySet, emptyPairs, Items, only, also, Pairs, onlyPair, alsoPair}
 use Rattle.form.specs.Tree.{Pred, truth, falsity, negation, paren, quantified, connected, compared, member, within, related}

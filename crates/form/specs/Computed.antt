@@ -1,8 +1,8 @@
 -- `form` of a text's symbols, open to computation: to unfold it is to unfold all that its line names. Nothing here need be believed.
 use mathlib.Core.List.{List, map}
 use Prim.Native.Nat.{ℕ}
-use Rattle.symbols.specs.Symbols.{Placed, symbols}
-use Rattle.symbols.specs.Computed.{computeScan}
+use Rattle.lexical.specs.Symbols.{Placed, symbols}
+use Rattle.lexical.specs.Computed.{computeScan}
 use Rattle.form.specs.Form as shape
 use Rattle.form.specs.Headings as headings
 use Rattle.form.specs.Machine as machine

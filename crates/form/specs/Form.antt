@@ -6,10 +6,10 @@ use mathlib.Core.Option.{Option, none, some}
 use Prim.Native.Nat.{ℕ, suc, pred, _≤_, _<_}
 use lib.Dec.{ltb}
 use lib.ListN.{length, take, drop, getD}
-use Rattle.symbols.specs.Kinds as kind
-use Rattle.symbols.specs.Kinds.{Kind, is}
-use Rattle.symbols.specs.Symbols.{Symbol, fixed, kindOf}
-use Rattle.symbols.specs.Refusals.{Refusal, fault, before, noDossier, deep, manyDeclared}
+use Rattle.lexical.specs.Kinds as kind
+use Rattle.lexical.specs.Kinds.{Kind, is}
+use Rattle.lexical.specs.Symbols.{Symbol, fixed, kindOf}
+use Rattle.lexical.specs.Refusals.{Refusal, fault, before, noDossier, deep, manyDeclared}
 use Rattle.form.specs.Tree.{Operator, plus, minus, union, without, times, inter, Connective, and, or, implies, iff}
 use Rattle.form.specs.Tree.{Term, number, name, group, prefix, binary, divided, listed, pairs, such, emptySet, emptyPairs, Items, only, also, Pairs, onlyPair, alsoPair}
 use Rattle.form.specs.Tree.{Pred, truth, falsity, negation, paren, quantified, connected, compared, member, within, related, Operation, Dossier}

@@ -2,8 +2,8 @@
 use mathlib.Core.List.{List, [], _∷_, _++_}
 use Prim.Native.Nat.{ℕ, suc, _+_}
 use lib.ListN.{length}
-use Rattle.symbols.specs.Lists.{same}
-use Rattle.symbols.specs.Refusals.{Fault, fault, headingDiffers, unless}
+use Rattle.lexical.specs.Lists.{same}
+use Rattle.lexical.specs.Refusals.{Fault, fault, headingDiffers, unless}
 use Rattle.form.specs.Tree.{Letters, Given, Operation, Dossier}
 use Rattle.form.specs.Written.{writeContents, writeGivens, writeState, writeWhere, writeOperations}
 

@@ -3,10 +3,10 @@ use mathlib.Core.Bool.{Bool, true, false, cond}
 use mathlib.Core.List.{List, [], _∷_, _++_}
 use mathlib.Core.Option.{Option, none, some}
 use Prim.Native.Nat.{ℕ, zero, suc}
-use Rattle.symbols.specs.Kinds as kind
-use Rattle.symbols.specs.Kinds.{Kind, lookup}
-use Rattle.symbols.specs.Symbols.{Symbol, kindOf}
-use Rattle.symbols.specs.Refusals.{Refusal, noDossier}
+use Rattle.lexical.specs.Kinds as kind
+use Rattle.lexical.specs.Kinds.{Kind, lookup}
+use Rattle.lexical.specs.Symbols.{Symbol, kindOf}
+use Rattle.lexical.specs.Refusals.{Refusal, noDossier}
 use Rattle.form.specs.Written.{Mark, unmarked, opens, binds, aGiven, anElement, aVariable, anInput, anOutput, anOperation}
 use Rattle.form.specs.Form.{settled, kindAt}
 

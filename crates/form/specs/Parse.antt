@@ -5,10 +5,10 @@ use mathlib.Core.Option.{Option, none, some}
 use Prim.Native.Nat.{ℕ, zero, suc, _+_, _*_}
 use lib.Dec.{leb}
 use lib.ListN.{length, drop}
-use Rattle.symbols.specs.Kinds as kind
-use Rattle.symbols.specs.Kinds.{Kind, is, lookup}
-use Rattle.symbols.specs.Symbols.{Name, noEnding, Symbol, fixed, numeral}
-use Rattle.symbols.specs.Symbols as symbol
+use Rattle.lexical.specs.Kinds as kind
+use Rattle.lexical.specs.Kinds.{Kind, is, lookup}
+use Rattle.lexical.specs.Symbols.{Name, noEnding, Symbol, fixed, numeral}
+use Rattle.lexical.specs.Symbols as symbol
 use Rattle.form.specs.Tree.{Letters, End, Range, Domain, givenSet, range, Prefix, negate, size, dom, ran, Operator, plus, minus, union, without, times, inter, Division, quotient, remainder}
 use Rattle.form.specs.Tree.{Connective, and, or, implies, iff, Quantifier, forall, exists, exists1, Comparison, equals, differs, less, atMost, Membership, isIn, notIn}
 use Rattle.form.specs.Tree.{Term, number, name, group, prefix, binary, divided, listed, pairs, such, emptySet, emptyPairs, Items, only, also, Pairs, onlyPair, alsoPair}

@@ -2,7 +2,7 @@
 use mathlib.Core.Bool.{Bool}
 use mathlib.Core.List.{List, _∷_}
 use Prim.Native.Nat.{ℕ}
-use Rattle.symbols.specs.Symbols.{Name}
+use Rattle.lexical.specs.Symbols.{Name}
 
 -- what a declared name is written with; its ending is that of its place
 abbrev pub Letters : Type 0

@@ -2,10 +2,10 @@
 use mathlib.Core.Bool.{Bool, true, false}
 use mathlib.Core.List.{List, [], _∷_, map}
 use Prim.Native.Nat.{ℕ, suc}
-use Rattle.symbols.specs.Kinds as kind
-use Rattle.symbols.specs.Kinds.{Kind}
-use Rattle.symbols.specs.Symbols.{Name, Ending, noEnding, query, shriek, Symbol, fixed, numeral}
-use Rattle.symbols.specs.Symbols as symbol
+use Rattle.lexical.specs.Kinds as kind
+use Rattle.lexical.specs.Kinds.{Kind}
+use Rattle.lexical.specs.Symbols.{Name, Ending, noEnding, query, shriek, Symbol, fixed, numeral}
+use Rattle.lexical.specs.Symbols as symbol
 use Rattle.form.specs.Tree.{Letters, End, Range, Domain, givenSet, range, Prefix, negate, size, dom, ran, Operator, plus, minus, union, without, times, inter, Division, quotient, remainder}
 use Rattle.form.specs.Tree.{Connective, and, or, implies, iff, Quantifier, forall, exists, exists1, Comparison, equals, differs, less, atMost, Membership, isIn, notIn}
 use Rattle.form.specs.Tree.{Term, number, name, group, prefix, binary, divided, listed, pairs, such, emptySet, emptyPairs, Items, only, also, Pairs, onlyPair, alsoPair}

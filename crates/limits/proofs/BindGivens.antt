@@ -5,15 +5,15 @@ use mathlib.Core.Option.{Option}
 use Prim.Native.Nat.{ℕ, zero, suc, _+_, _-_, _≤_, _<_}
 use native.Mathlib.Omega.{arith}
 use lib.ListN.{length, getD, replicate, length-replicate}
-use Rattle.symbols.specs.Symbols.{Name}
+use Rattle.lexical.specs.Symbols.{Name}
 use Rattle.form.specs.Tree.{Letters, TypeForm, givenType, powerType, rangeType, arrowType, Given, Operation, Dossier}
 use Rattle.form.specs.Headings.{givensAt}
 use Rattle.form.specs.Codes.{Numbering, nameNumber}
-use Rattle.reader.specs.Carriers.{sizeOf}
-use Rattle.reader.specs.Scope.{givenNames}
-use Rattle.reader.specs.Names.{nameFaults}
-use Rattle.names.specs.Inner.{Names, Sizes, entry, sizeIn}
-use Rattle.names.specs.Passes.{Typed, givensNamed}
+use Rattle.static_rules.specs.Carriers.{sizeOf}
+use Rattle.static_rules.specs.Scope.{givenNames}
+use Rattle.static_rules.specs.Names.{nameFaults}
+use Rattle.type_rules.specs.Inner.{Names, Sizes, entry, sizeIn}
+use Rattle.declared_names.specs.Passes.{Typed, givensNamed}
 use Rattle.names.proofs.Showing.{indexOf, GivenIs, Numbered}
 use Rattle.names.proofs.JudgedTypes.{index-in}
 use Rattle.names.proofs.JudgedScope.{found}
@@ -24,7 +24,7 @@ use Rattle.names.proofs.PassedOperations.{OperationsIn}
 use Rattle.names.proofs.PassedGivens.{Holds}
 use Rattle.names.proofs.PassedNamed.{Base, givens-sees}
 use Rattle.names.proofs.Passed.{DossierIn}
-use Rattle.limits.specs.Bindings.{sizeAt, GivenShown, TypeShown, TypesShown, none-shown, one-shown, OperationsShown, no-operation-shown, operation-shown, GivensShown}
+use Rattle.binding_counts.specs.Bindings.{sizeAt, GivenShown, TypeShown, TypesShown, none-shown, one-shown, OperationsShown, no-operation-shown, operation-shown, GivensShown}
 use Rattle.limits.proofs.Fitting.{givens-fit}
 
 -- the sizes are those of the given sets, by their numbers

@@ -8,8 +8,8 @@ use native.Mathlib.Omega.{arith}
 use lib.Dec.{leb}
 use borrow.Author.Tests.{leb-true, leb-false, lt-leb}
 use Rattle.form.specs.Tree.{Arrow, relation, partial, total}
-use Rattle.reader.specs.Carriers.{Carrier, elementsOf, numbers, subsetsOf, pairsOf, Variable, sizeOf, arrowCount, countOf}
-use Rattle.reader.specs.Limits.{bindingCount}
+use Rattle.static_rules.specs.Carriers.{Carrier, elementsOf, numbers, subsetsOf, pairsOf, Variable, sizeOf, arrowCount, countOf}
+use Rattle.static_rules.specs.Limits.{bindingCount}
 
 -- a product, and c + 1 for all above c
 unfoldable pub capped : (c n m : ℕ) → ℕ

@@ -4,17 +4,17 @@ use mathlib.Core.Bool.{not}
 use mathlib.Core.List.{List, [], _∷_, _++_, map}
 use Prim.Native.Nat.{ℕ, suc, _+_}
 use lib.ListN.{length}
-use Rattle.symbols.specs.Lists.{any}
-use Rattle.symbols.specs.Refusals.{Fault, fault, nameInUse, unless}
+use Rattle.lexical.specs.Lists.{any}
+use Rattle.lexical.specs.Refusals.{Fault, fault, nameInUse, unless}
 use Rattle.form.specs.Tree.{Letters, Given, Declaration, declarations, Parameter, Operation, Dossier}
 use Rattle.form.specs.Written.{writeType}
 use Rattle.form.specs.Headings.{givensAt, abstractAt, concreteAt, operationsAt, operationLength}
-use Rattle.reader.specs.Carriers.{sameName}
-use Rattle.reader.specs.Scope.{givenNames, abstractTaken, concreteTaken}
-use Rattle.reader.specs.Names.{newName, typeFaults, declarationFaults, givenFaults, parameterName, parameterFaults, operationFaults, nameFaults}
+use Rattle.static_rules.specs.Carriers.{sameName}
+use Rattle.static_rules.specs.Scope.{givenNames, abstractTaken, concreteTaken}
+use Rattle.static_rules.specs.Names.{newName, typeFaults, declarationFaults, givenFaults, parameterName, parameterFaults, operationFaults, nameFaults}
 use Rattle.names.proofs.Faultless.{faultless}
 use Rattle.names.proofs.JudgedLeast.{append-nil-both}
-use Rattle.limits.specs.Fit.{TypesFit, no-types, one-type, OperationsFit, no-operations, one-operation, DeclaredFit}
+use Rattle.binding_counts.specs.Fit.{TypesFit, no-types, one-type, OperationsFit, no-operations, one-operation, DeclaredFit}
 
 declared-types : (gs : List Given) (xs : List Letters) (i : ℕ) (ds : List Declaration) → declarationFaults gs xs i ds ≡ [] → TypesFit gs ds
 unfolding declarationFaults

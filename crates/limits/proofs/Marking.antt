@@ -9,7 +9,7 @@ use lib.Dec.{eqb}
 use lib.ListN.{length, drop, getD, set, replicate, length-set}
 use lib.Seq.{getD-drop, drop-drop, getD-set-other, ext-getD}
 use borrow.Author.Tests.{eqb-true, eqb-false, ne-eqb}
-use Rattle.limits.specs.Inner.{Bounds, absolute}
+use Rattle.term_sizes.specs.Inner.{Bounds, absolute}
 use Rattle.limits.specs.Passes.{entrySize, typeSize, marksOf, marks, marked, Clear}
 
 -- ---- one declaration ----

@@ -4,19 +4,19 @@ use mathlib.Core.Path.{_≡_, refl, ap, ap₂, _∙_, sym}
 use mathlib.Core.List.{[], _∷_}
 use Prim.Native.Nat.{ℕ, suc, _+_}
 use lib.ListN.{set}
-use Rattle.symbols.specs.Symbols.{noEnding}
+use Rattle.lexical.specs.Symbols.{noEnding}
 use Rattle.form.specs.Tree.{Letters, Quantifier, Domain}
 use Rattle.form.specs.Tree.{Term, number, name, group, prefix, binary, divided, listed, pairs, such, emptySet, emptyPairs, Items, only, also, Pairs, onlyPair, alsoPair}
 use Rattle.form.specs.Tree.{Pred, truth, falsity, negation, paren, quantified, connected, compared, member, within, related}
 use Rattle.form.specs.Codes.{Numbering, numberOfName, termWidth, predWidth}
-use Rattle.reader.specs.Carriers.{largest, plain}
-use Rattle.reader.specs.Names.{domainCarrier, domainLength}
-use Rattle.reader.specs.Limits.{Sizes, sizeTerm, sizePred}
-use Rattle.names.specs.Inner.{leastKey}
+use Rattle.static_rules.specs.Carriers.{largest, plain}
+use Rattle.static_rules.specs.Names.{domainCarrier, domainLength}
+use Rattle.static_rules.specs.Limits.{Sizes, sizeTerm, sizePred}
+use Rattle.type_rules.specs.Inner.{leastKey}
 use Rattle.names.proofs.Showing.{Numbered, DomainIn, TermIn, ItemsIn, PairsIn, PredIn}
 use Rattle.names.proofs.JudgedLeast.{least-nil}
 use Rattle.names.proofs.JudgedWidths.{domain-width}
-use Rattle.limits.specs.Inner.{Bounds, prefixBound, divisionBound, termBound, termOver, predOver}
+use Rattle.term_sizes.specs.Inner.{Bounds, prefixBound, divisionBound, termBound, termOver, predOver}
 use Rattle.limits.proofs.MeasuredScope.{SizesShown, bound-shown, domain-bound}
 use Rattle.limits.proofs.MeasuredWidths.{term-next, pred-next}
 use Rattle.limits.proofs.MeasuredParts.{TermHolds, ItemsHold, PairsHold, PredHolds, prefix-size, division-size, two-least, three-least, items-least, pairs-least, preds-least, binary-holds}

@@ -6,18 +6,18 @@ use mathlib.Core.Option.{Option, none, some}
 use Prim.Native.Nat.{ℕ, _+_, _≤_}
 use native.Mathlib.Omega.{arith}
 use lib.ListN.{set, length-set, length-replicate}
-use Rattle.symbols.specs.Lists.{filter, find, concat}
-use Rattle.symbols.specs.Symbols.{Name, Ending, noEnding, prime}
+use Rattle.lexical.specs.Lists.{filter, find, concat}
+use Rattle.lexical.specs.Symbols.{Name, Ending, noEnding, prime}
 use Rattle.form.specs.Tree.{TypeForm, givenType, powerType, rangeType, arrowType}
 use Rattle.form.specs.Tree.{Letters, Given, Declaration, declarations, Parameter, State, Operation, Dossier}
 use Rattle.form.specs.Headings.{operationLength}
 use Rattle.form.specs.Codes.{Numbering, nameNumber}
-use Rattle.reader.specs.Carriers.{Carrier, Variable, largest, sameName, carrierOf}
-use Rattle.reader.specs.Scope as scope
-use Rattle.reader.specs.Scope.{Context, variables, contexts, operationContexts, operationReach}
-use Rattle.reader.specs.Limits.{Sizes, contextSizes, sizeFaults}
-use Rattle.names.specs.Passes.{Typed, variablesOf, parametersOf}
-use Rattle.names.specs.Inner.{leastKey}
+use Rattle.static_rules.specs.Carriers.{Carrier, Variable, largest, sameName, carrierOf}
+use Rattle.static_rules.specs.Scope as scope
+use Rattle.static_rules.specs.Scope.{Context, variables, contexts, operationContexts, operationReach}
+use Rattle.static_rules.specs.Limits.{Sizes, contextSizes, sizeFaults}
+use Rattle.declared_names.specs.Passes.{Typed, variablesOf, parametersOf}
+use Rattle.type_rules.specs.Inner.{leastKey}
 use Rattle.names.proofs.Showing.{Numbered, PredIn}
 use Rattle.names.proofs.JudgedLeast.{Small, no-fault, small-append, two-parts, least-nil}
 use Rattle.names.proofs.JudgedScope.{find-here, find-there}
@@ -26,9 +26,9 @@ use Rattle.names.proofs.PassedTypes.{TypeIn}
 use Rattle.names.proofs.PassedDeclared.{TypedIn, one-typed}
 use Rattle.names.proofs.PassedOperations.{OperationsIn, no-operations, one-operation}
 use Rattle.names.proofs.Passed.{DossierIn}
-use Rattle.contexts.specs.Spans.{Structured}
-use Rattle.limits.specs.Inner.{Bounds}
-use Rattle.limits.specs.Fit.{DeclaredFit}
+use Rattle.node_spans.specs.Spans.{Structured}
+use Rattle.term_sizes.specs.Inner.{Bounds}
+use Rattle.binding_counts.specs.Fit.{DeclaredFit}
 use Rattle.limits.specs.Passes as near
 use Rattle.limits.specs.Passes.{shownSizes, contextOver, leastOver, EndsNear, TypesNear, OperationsNear, DeclaredNear, MeasuresSeen}
 use Rattle.limits.proofs.MeasuredScope.{SizesShown, sizeFound, sizeOfName}

@@ -4,14 +4,14 @@ use mathlib.Core.List.{_++_}
 use Prim.Native.Nat.{ℕ, suc, _+_}
 use native.Mathlib.Omega.{arith}
 use lib.Dec.{leb}
-use Rattle.symbols.specs.Refusals.{numberOf, largeSize}
+use Rattle.lexical.specs.Refusals.{numberOf, largeSize}
 use Rattle.form.specs.Tree.{End, Prefix, negate, size, dom, ran, Operator, plus, minus, union, without, times, inter, Division, quotient, remainder}
 use Rattle.form.specs.Tree.{Term, Items, Pairs, Pred}
 use Rattle.form.specs.Codes.{Numbering, termWidth, predWidth}
-use Rattle.reader.specs.Limits.{Sized, Sizes, operatorSize, prefixSize, divisionSize, sizeTerm, sizeItems, sizePairs, sizePred}
-use Rattle.names.specs.Inner.{lesser, leastKey}
+use Rattle.static_rules.specs.Limits.{Sized, Sizes, operatorSize, prefixSize, divisionSize, sizeTerm, sizeItems, sizePairs, sizePred}
+use Rattle.type_rules.specs.Inner.{lesser, leastKey}
 use Rattle.names.proofs.JudgedLeast.{two-parts, whole-least, small-append}
-use Rattle.limits.specs.Inner.{Bounds, prefixBound, operatorBound, divisionBound, termBound, termOver, itemsOver, pairsOver, predOver}
+use Rattle.term_sizes.specs.Inner.{Bounds, prefixBound, operatorBound, divisionBound, termBound, termOver, itemsOver, pairsOver, predOver}
 use Rattle.limits.proofs.MeasuredWidths.{term-steady, items-steady, pairs-steady, pred-steady, term-next, pred-next}
 
 -- the size n and the least fault f of a term

@@ -9,18 +9,18 @@ use lib.IntN.{natAbs}
 use lib.ListN.{length, set, length-set}
 use lib.Seq.{getD-set-same, getD-set-other}
 use borrow.Author.Tests.{lt-ltb, le-ltb}
-use Rattle.symbols.specs.Lists.{same, find}
-use Rattle.symbols.specs.Symbols.{Name, Ending, noEnding, prime, query, shriek}
-use Rattle.symbols.proofs.WordLaws.{same-refl, same-true}
+use Rattle.lexical.specs.Lists.{same, find}
+use Rattle.lexical.specs.Symbols.{Name, Ending, noEnding, prime, query, shriek}
+use Rattle.lexical.proofs.WordLaws.{same-refl, same-true}
 use Rattle.form.specs.Tree.{Letters, Domain, givenSet, range}
 use Rattle.form.specs.Codes.{Numbering, numberOfName, nameNumber}
-use Rattle.reader.specs.Carriers.{largest, sameName, plain, signed, givenOf}
-use Rattle.reader.specs.Names.{domainCarrier}
-use Rattle.reader.specs.Limits.{Sizes}
-use Rattle.names.specs.Inner.{entry}
+use Rattle.static_rules.specs.Carriers.{largest, sameName, plain, signed, givenOf}
+use Rattle.static_rules.specs.Names.{domainCarrier}
+use Rattle.static_rules.specs.Limits.{Sizes}
+use Rattle.type_rules.specs.Inner.{entry}
 use Rattle.names.proofs.Showing.{Numbered, DomainIn}
 use Rattle.names.proofs.JudgedScope.{find-here, find-there, apart, turned}
-use Rattle.limits.specs.Inner.{Bounds, absolute, domainBound}
+use Rattle.term_sizes.specs.Inner.{Bounds, absolute, domainBound}
 
 -- the size of a name that was looked up; nameSize of reader/specs/Limits, which is private there
 abbrev pub sizeFound : Option (Name × ℕ) → ℕ

@@ -3,14 +3,14 @@ use mathlib.Core.Path.{_≡_}
 use mathlib.Core.List.{[], _∷_}
 use Prim.Native.Nat.{ℕ, suc, _+_, _<_}
 use native.Mathlib.Omega.{arith}
-use Rattle.symbols.specs.Refusals.{numberOf, largeSize}
+use Rattle.lexical.specs.Refusals.{numberOf, largeSize}
 use Rattle.form.specs.Tree.{Letters, Quantifier, Domain, givenSet, range}
 use Rattle.form.specs.Tree.{Term, number, name, group, prefix, binary, divided, listed, pairs, such, emptySet, emptyPairs, Items, only, also, Pairs, onlyPair, alsoPair}
 use Rattle.form.specs.Tree.{Pred, truth, falsity, negation, paren, quantified, connected, compared, member, within, related}
 use Rattle.form.specs.Codes.{termWidth, predWidth}
-use Rattle.reader.specs.Carriers.{largest, plain}
-use Rattle.reader.specs.Names.{domainCarrier, domainLength}
-use Rattle.reader.specs.Limits.{Sizes, sizeTerm, sizeItems, sizePairs, sizePred}
+use Rattle.static_rules.specs.Carriers.{largest, plain}
+use Rattle.static_rules.specs.Names.{domainCarrier, domainLength}
+use Rattle.static_rules.specs.Limits.{Sizes, sizeTerm, sizeItems, sizePairs, sizePred}
 use Rattle.names.proofs.JudgedLeast.{small-append, small-whole, no-fault}
 use Rattle.names.proofs.JudgedWidths.{Steady, wideTerm, wideItems, widePairs, widePred, term-width, pred-width}
 

@@ -5,18 +5,18 @@ use mathlib.Core.List.{List, [], _++_, map}
 use Prim.Native.Nat.{ℕ, _+_, _-_, _*_, _≤_, _<_}
 use native.Mathlib.Omega.{arith}
 use lib.ListN.{length, take, drop, replicate}
-use Rattle.symbols.specs.Symbols.{noEnding, prime}
+use Rattle.lexical.specs.Symbols.{noEnding, prime}
 use Rattle.form.specs.Tree.{Pred, Given, Declaration, declarations, Parameter, State, Operation, Dossier}
 use Rattle.form.specs.Codes.{Numbering, declarationCodes, parameterCodes}
-use Rattle.reader.specs.Carriers.{Variable}
-use Rattle.reader.specs.Scope.{variables, unprimed, primed, inputs, outputs, operationReach}
-use Rattle.names.specs.Inner.{lesser}
-use Rattle.names.specs.Parts.{PartOf}
-use Rattle.contexts.specs.Spans.{Stands, PredAt, span}
-use Rattle.limits.specs.declared.Sized.{Sized}
-use Rattle.limits.specs.Inner.{Bounds, predOver}
-use Rattle.limits.specs.Walks.{PredSized}
-use Rattle.limits.specs.Fit.{TypesFit}
+use Rattle.static_rules.specs.Carriers.{Variable}
+use Rattle.static_rules.specs.Scope.{variables, unprimed, primed, inputs, outputs, operationReach}
+use Rattle.type_rules.specs.Inner.{lesser}
+use Rattle.declared_names.specs.Parts.{PartOf}
+use Rattle.node_spans.specs.Spans.{Stands, PredAt, span}
+use Rattle.term_sizes.specs.declared.Sized.{Sized}
+use Rattle.term_sizes.specs.Inner.{Bounds, predOver}
+use Rattle.term_sizes.specs.Walks.{PredSized}
+use Rattle.binding_counts.specs.Fit.{TypesFit}
 use Rattle.limits.specs.Passes.{shownSizes, TypesNear, marks, marksOf, marked, Clear, ContextSeen, overOf, statesOver, conditionsOver, operationOver, PartSeen, OperationSeen}
 use Rattle.limits.proofs.Marking.{restored}
 use Rattle.limits.proofs.Reaching.{shownOn, sizes-on, shown-append, group-marks, plain-ending, primed-ending, parameters-marks}

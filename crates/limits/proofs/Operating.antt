@@ -11,14 +11,14 @@ use borrow.Author.Tests.{leb-true, leb-false}
 use Rattle.form.specs.Tree.{Letters, Operation, Dossier}
 use Rattle.form.specs.Headings.{operationsAt, operationLength}
 use Rattle.form.specs.Codes.{Numbering, predWidth}
-use Rattle.reader.specs.Scope.{contexts, operationContexts, concreteTaken}
-use Rattle.names.specs.Inner.{lesser}
-use Rattle.names.specs.Parts.{PartOf}
+use Rattle.static_rules.specs.Scope.{contexts, operationContexts, concreteTaken}
+use Rattle.type_rules.specs.Inner.{lesser}
+use Rattle.declared_names.specs.Parts.{PartOf}
 use Rattle.names.proofs.JudgedLeast.{lesser-zero, lesser-assoc}
-use Rattle.contexts.specs.Spans.{span, OperationsAt, one-more}
-use Rattle.limits.specs.Inner.{Bounds}
-use Rattle.limits.specs.Fit as fits
-use Rattle.limits.specs.Fit.{OperationsFit}
+use Rattle.node_spans.specs.Spans.{span, OperationsAt, one-more}
+use Rattle.term_sizes.specs.Inner.{Bounds}
+use Rattle.binding_counts.specs.Fit as fits
+use Rattle.binding_counts.specs.Fit.{OperationsFit}
 use Rattle.limits.specs.Passes as near
 use Rattle.limits.specs.Passes.{contextOver, leastOver, OperationsNear, Clear, Ready, statesOver, conditionsOver, operationOver, operationsOver, PartSeen, OperationSeen, MeasuresSeen}
 use Rattle.limits.proofs.Measuring.{part-stands, clear-on}

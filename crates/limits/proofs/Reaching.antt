@@ -7,17 +7,17 @@ use Prim.Native.Nat.{ℕ, suc, _+_, _*_, _/_}
 use native.Mathlib.Omega.{arith}
 use lib.ListN.{length, drop, set, replicate, length-append}
 use lib.Seq.{set-comm}
-use Rattle.symbols.specs.Lists.{filter}
-use Rattle.symbols.specs.Symbols.{Name, Ending, noEnding, prime, query, shriek}
+use Rattle.lexical.specs.Lists.{filter}
+use Rattle.lexical.specs.Symbols.{Name, Ending, noEnding, prime, query, shriek}
 use Rattle.form.specs.Tree.{Letters, TypeForm, givenType, powerType, rangeType, arrowType, relation, partial, total, range, Given, Declaration, Parameter, Direction, inward, outward}
 use Rattle.form.specs.Written.{endingOf}
 use Rattle.form.specs.Codes.{Numbering, nameNumber, numberOfName, declarationCode, declarationCodes, parameterCodes, typeWidth}
-use Rattle.reader.specs.Carriers.{Carrier, elementsOf, subsetsOf, pairsOf, Variable, largest, carrierOf, givenOf}
-use Rattle.reader.specs.Scope.{variables, parametersOf, isInput, isOutput}
+use Rattle.static_rules.specs.Carriers.{Carrier, elementsOf, subsetsOf, pairsOf, Variable, largest, carrierOf, givenOf}
+use Rattle.static_rules.specs.Scope.{variables, parametersOf, isInput, isOutput}
 use Rattle.names.proofs.PassedTypes.{Carries, type-carries}
-use Rattle.limits.specs.Inner.{Bounds, domainBound}
-use Rattle.limits.specs.Fit as fits
-use Rattle.limits.specs.Fit.{TypesFit}
+use Rattle.term_sizes.specs.Inner.{Bounds, domainBound}
+use Rattle.binding_counts.specs.Fit as fits
+use Rattle.binding_counts.specs.Fit.{TypesFit}
 use Rattle.limits.specs.Passes as near
 use Rattle.limits.specs.Passes.{shownSizes, EndsNear, TypesNear, typeSize, entrySize, marksOf, marks}
 use Rattle.limits.proofs.MeasuredScope.{domain-bound}

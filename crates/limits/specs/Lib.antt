@@ -1,5 +1,1 @@
-pub mod Inner
-pub mod Walks
-pub mod Fit
-pub mod Bindings
 pub mod Passes

@@ -9,12 +9,12 @@ use lib.ListN.{length, take, drop, getD, set, replicate}
 use Rattle.form.specs.Tree.{TypeForm, givenType, powerType, rangeType, arrowType, Declaration, declarations, Parameter, Pred, Operation, Dossier}
 use Rattle.form.specs.Headings.{abstractAt, concreteAt, ainitAt, cinitAt, retrieveAt, operationsAt}
 use Rattle.form.specs.Codes.{Numbering, nameNumber, abstractlyAt, predWidth, predCodes, declarationCodes}
-use Rattle.reader.specs.Carriers.{Variable, largest}
-use Rattle.reader.specs.Scope.{Context, contexts, operationContexts, unprimed, operationReach, concreteTaken}
-use Rattle.names.specs.Inner.{lesser}
-use Rattle.contexts.specs.Spans.{Structured, OperationAt, predicateAt}
-use Rattle.limits.specs.Inner.{Bounds, absolute, predOver}
-use Rattle.limits.specs.Fit.{TypesFit, DeclaredFit}
+use Rattle.static_rules.specs.Carriers.{Variable, largest}
+use Rattle.static_rules.specs.Scope.{Context, contexts, operationContexts, unprimed, operationReach, concreteTaken}
+use Rattle.type_rules.specs.Inner.{lesser}
+use Rattle.node_spans.specs.Spans.{Structured, OperationAt, predicateAt}
+use Rattle.term_sizes.specs.Inner.{Bounds, absolute, predOver}
+use Rattle.binding_counts.specs.Fit.{TypesFit, DeclaredFit}
 
 -- the sizes of the names in reach, by their numbers, among n names: of two with one name the first decides
 unfoldable pub shownSizes : List Variable → Numbering → (n : ℕ) → Bounds

@@ -1,12 +1,3 @@
 // Bindings and sizes: numbers 12 and 13 of document 01, over the nodes of a dossier.
 
-pub mod bindings;
 pub mod measures;
-mod sizes;
-
-// The size of a term, its least fault (place * 16 + number + 1) or 0, and where its nodes begin. A term at fault has the size 0.
-pub struct Sized {
-    pub bound: u64,
-    pub fault: u32,
-    pub start: usize,
-}

@@ -2,17 +2,17 @@
 ghost use mathlib.Core.Path.{_≡_};
 ghost use Prim.Native.Nat.{ℕ, _+_, _≤_};
 ghost use lib.ListN.{length, getD, set};
-ghost use Rattle.contexts.specs.Spans.{span};
+ghost use Rattle.node_spans.specs.Spans.{span};
 ghost use Rattle.limits.specs.Passes.{entrySize, marks, marked, ContextSeen, PartSeen, statesOver, conditionsOver, operationsOver, OperationSeen, MeasuresSeen};
-use crate::sizes::absolute_of;
-use crate::sizes::greater_of;
-use crate::sizes::pred;
-use names::kinds::index;
-use names::kinds::lesser_of;
-use names::kinds::look;
-use names::kinds::put;
 use names::passes::clear;
 use names::passes::part;
+use term_sizes::sizes::absolute_of;
+use term_sizes::sizes::greater_of;
+use term_sizes::sizes::pred;
+use type_rules::kinds::index;
+use type_rules::kinds::lesser_of;
+use type_rules::kinds::look;
+use type_rules::kinds::put;
 
 // The number k of the spans.
 fn place(spans: &[u16], k: usize) -> usize

@@ -11,11 +11,11 @@ use lib.Seq.{drop-drop, length-take-le, ext-getD, getD-set-same, getD-set-other}
 use Rattle.form.specs.Tree.{declarations, Dossier}
 use Rattle.form.specs.Headings.{givensAt, abstractAt, concreteAt, ainitAt, cinitAt, retrieveAt, operationsAt}
 use Rattle.form.specs.Codes.{Numbering, contentsCodes, conditionCodes, dossierCodes, givenCodes, stateCodes, operationCodes}
-use Rattle.reader.specs.Carriers.{sizeOf}
-use Rattle.names.specs.Inner.{Names, Sizes, insideKey}
-use Rattle.names.specs.Passes.{givensKey, givensNamed, stateKey, stateNamed, conditionsKey, conditionsNamed, operationsKey, dossierKey}
-use Rattle.names.specs.Parts.{DeclaredEnd, Fewer, GivenSeen, StateSeen, ConditionsSeen, OperationsSeen, Variables, threeCodes, PartOf, VariablesOf, LaterSeen, Placed, CheckSeen}
-use Rattle.names.proofs.Declaring.{inside-none, inside-some}
+use Rattle.static_rules.specs.Carriers.{sizeOf}
+use Rattle.type_rules.specs.Inner.{Names, Sizes, insideKey}
+use Rattle.declared_names.specs.Passes.{givensKey, givensNamed, stateKey, stateNamed, conditionsKey, conditionsNamed, operationsKey, dossierKey}
+use Rattle.declared_names.specs.Parts.{DeclaredEnd, Fewer, GivenSeen, StateSeen, ConditionsSeen, OperationsSeen, Variables, threeCodes, PartOf, VariablesOf, LaterSeen, Placed, CheckSeen}
+use Rattle.declared_names.proofs.Declaring.{inside-none, inside-some}
 use Rattle.names.proofs.Passing.{never-state, state-front, variables-codes, front, back}
 
 pub zeros-at : (n k : ℕ) → _≡_ {A = ℕ} (getD (replicate n 0) k 0) 0

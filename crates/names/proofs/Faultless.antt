@@ -2,12 +2,12 @@
 use mathlib.Core.Path.{_≡_}
 use mathlib.Core.List.{List, [], _++_, map}
 use Prim.Native.Nat.{suc}
-use Rattle.symbols.specs.Lists.{concat}
-use Rattle.symbols.specs.Refusals.{Fault}
+use Rattle.lexical.specs.Lists.{concat}
+use Rattle.lexical.specs.Refusals.{Fault}
 use Rattle.form.specs.Tree.{declarations, Dossier}
 use Rattle.form.specs.Headings.{givensAt, abstractAt, concreteAt, operationsAt}
-use Rattle.reader.specs.Scope.{givenNames, abstractTaken, concreteTaken, contexts}
-use Rattle.reader.specs.Names.{declarationFaults, givenFaults, operationFaults, contextFaults, nameFaults}
+use Rattle.static_rules.specs.Scope.{givenNames, abstractTaken, concreteTaken, contexts}
+use Rattle.static_rules.specs.Names.{declarationFaults, givenFaults, operationFaults, contextFaults, nameFaults}
 use Rattle.names.proofs.JudgedLeast.{append-nil-both}
 
 pub record Faultless (d : Dossier) : Type 0 where

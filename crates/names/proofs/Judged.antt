@@ -3,14 +3,14 @@
 use mathlib.Core.Path.{_≡_}
 use mathlib.Core.List.{[]}
 use Prim.Native.Nat.{ℕ, _+_}
-use Rattle.symbols.specs.Symbols.{noEnding}
+use Rattle.lexical.specs.Symbols.{noEnding}
 use Rattle.form.specs.Tree.{Letters, givenSet}
 use Rattle.form.specs.Tree.{Term, number, name, group, prefix, binary, divided, listed, pairs, such, emptySet, emptyPairs, Items, only, also, Pairs, onlyPair, alsoPair}
 use Rattle.form.specs.Tree.{Pred, truth, falsity, negation, paren, quantified, connected, compared, member, within, related}
 use Rattle.form.specs.Codes.{Numbering, numberOfName, termWidth, predWidth}
-use Rattle.reader.specs.Scope.{Scope, binding}
-use Rattle.reader.specs.Names.{domainCarrier, judgeTerm, judgePred}
-use Rattle.names.specs.Inner.{Names, Sizes, bound, domainKind, termKind, termKey, predKey, leastKey}
+use Rattle.static_rules.specs.Scope.{Scope, binding}
+use Rattle.static_rules.specs.Names.{domainCarrier, judgeTerm, judgePred}
+use Rattle.type_rules.specs.Inner.{Names, Sizes, bound, domainKind, termKind, termKey, predKey, leastKey}
 use Rattle.names.proofs.Showing.{Known, typeCode, Numbered, Shows, TermIn, ItemsIn, PairsIn, PredIn}
 use Rattle.names.proofs.JudgedParts.{TermHolds, ItemsHold, PairsHold, PredHolds, term-next, pred-next}
 use Rattle.names.proofs.JudgedTerms as term

@@ -8,15 +8,15 @@ use native.Mathlib.Omega.{arith}
 use lib.Dec.{leb}
 use lib.IntN.{pos}
 use borrow.Author.Tests.{le-leb, lt-ltb, not-true}
-use Rattle.symbols.specs.Symbols.{Name, noEnding}
-use Rattle.symbols.specs.Refusals.{Fault, fault, numberOf, nameInUse, nameUnknown, typesMisfit, wideType}
+use Rattle.lexical.specs.Symbols.{Name, noEnding}
+use Rattle.lexical.specs.Refusals.{Fault, fault, numberOf, nameInUse, nameUnknown, typesMisfit, wideType}
 use Rattle.form.specs.Tree.{Letters, Given, Domain, givenSet, range}
 use Rattle.form.specs.Codes.{Numbering, nameNumber, numberOfName}
-use Rattle.reader.specs.Carriers.{Carrier, elementsOf, sizeOf, plain, givenOf}
-use Rattle.reader.specs.Types.{Ty, typeOf, pairsFit, pairsType}
-use Rattle.reader.specs.Scope.{Scope, isTaken, binding}
-use Rattle.reader.specs.Names.{Listing, inside, known, pairsFault, newName, domainCarrier, domainFaults, overFault, wholePairs, judgedPairs}
-use Rattle.names.specs.Inner.{Names, Sizes, entry, key, unlessKey, insideKey, lesser, isFree, isGiven, isPairs, elementOf, sizeIn, productFits, overKey, braceKey, domainKind, domainKey, bound, leastKey}
+use Rattle.static_rules.specs.Carriers.{Carrier, elementsOf, sizeOf, plain, givenOf}
+use Rattle.static_rules.specs.Types.{Ty, typeOf, pairsFit, pairsType}
+use Rattle.static_rules.specs.Scope.{Scope, isTaken, binding}
+use Rattle.static_rules.specs.Names.{Listing, inside, known, pairsFault, newName, domainCarrier, domainFaults, overFault, wholePairs, judgedPairs}
+use Rattle.type_rules.specs.Inner.{Names, Sizes, entry, key, unlessKey, insideKey, lesser, isFree, isGiven, isPairs, elementOf, sizeIn, productFits, overKey, braceKey, domainKind, domainKey, bound, leastKey}
 use Rattle.names.proofs.Showing.{indexOf, titled, knownNumber, knownElement, GivenIs, TypeIs, Numbered, Shows, DomainIn}
 use Rattle.names.proofs.JudgedLeast.{least-nil, one-fault, unless-least, two-parts, inside-least, append-nil-both, unless-nil, not-nil}
 use Rattle.names.proofs.JudgedWidths.{small-new, small-domain}

@@ -8,11 +8,11 @@ use native.Mathlib.Omega.{arith}
 use lib.Dec.{eqb}
 use lib.ListN.{length}
 use borrow.Author.Tests.{ne-eqb}
-use Rattle.symbols.specs.Lists.{same, all}
+use Rattle.lexical.specs.Lists.{same, all}
 use Rattle.form.specs.Tree.{Letters, Given}
-use Rattle.reader.specs.Types as ty
-use Rattle.reader.specs.Types.{Ty, has, sameOver, sameType, braceType, braceFits, pairsType, pairsFit}
-use Rattle.names.specs.Inner.{isElement, setOf, pairOf, shared}
+use Rattle.static_rules.specs.Types as ty
+use Rattle.static_rules.specs.Types.{Ty, has, sameOver, sameType, braceType, braceFits, pairsType, pairsFit}
+use Rattle.type_rules.specs.Inner.{isElement, setOf, pairOf, shared}
 use Rattle.names.proofs.Showing.{indexOf, titled, typeCode, Known, TypeIs}
 use Rattle.names.proofs.JudgedTypes.{no-yes, and-both, and-true, type-same, ElementType, elementType, element-type, code-positive, is-element, same-types, two-givens, set-type}
 

@@ -7,10 +7,10 @@ use Prim.Native.Nat.{ℕ, zero, suc, _≤_, _<_}
 use native.Mathlib.Omega.{arith}
 use lib.Dec.{eqb, ltb}
 use borrow.Author.Tests.{eqb-true, eqb-false, ne-eqb, ltb-true, ltb-false, lt-ltb, le-ltb}
-use Rattle.symbols.specs.Refusals as faults
-use Rattle.symbols.specs.Refusals.{Refusal, Fault, fault, numberOf, before, least, unless}
-use Rattle.reader.specs.Names.{whole, inside}
-use Rattle.names.specs.Inner.{key, lesser, unlessKey, judgedKey, insideKey, keyOf, leastKey}
+use Rattle.lexical.specs.Refusals as faults
+use Rattle.lexical.specs.Refusals.{Refusal, Fault, fault, numberOf, before, least, unless}
+use Rattle.static_rules.specs.Names.{whole, inside}
+use Rattle.type_rules.specs.Inner.{key, lesser, unlessKey, judgedKey, insideKey, keyOf, leastKey}
 
 -- every fault has a number below 16: keys compare as places and numbers do
 pub data Small : List Fault → Type 0 where

@@ -7,15 +7,15 @@ use Prim.Native.Nat.{ℕ, suc, _+_, _≤_}
 use native.Mathlib.Omega.{arith}
 use lib.Dec.{ltb}
 use lib.ListN.{length}
-use Rattle.symbols.specs.Refusals.{fault, numberOf, nameUnknown, typesMisfit, zeroDivisor}
+use Rattle.lexical.specs.Refusals.{fault, numberOf, nameUnknown, typesMisfit, zeroDivisor}
 use Rattle.form.specs.Tree.{Letters, Given, End, Term, Items, Pairs, Pred}
 use Rattle.form.specs.Codes.{Numbering, signOf, termWidth, predWidth}
-use Rattle.reader.specs.Types as ty
-use Rattle.reader.specs.Types.{Ty, has, typeOf, pairsFit, pairsType}
-use Rattle.reader.specs.Scope.{Scope}
-use Rattle.reader.specs.Names.{Judged, Listing, ofName, known, divisorFaults, overFault, wholePairs, judgeTerm, judgeItems, judgePairs, judgePred}
-use Rattle.names.specs.Inner.{Names, Sizes, key, unlessKey, inReach, elementOf, setOf, pairOf, leastKey}
-use Rattle.names.specs.Inner.{termKind, itemsKind, pairsKind, termKey, itemsKey, pairsKey, predKey}
+use Rattle.static_rules.specs.Types as ty
+use Rattle.static_rules.specs.Types.{Ty, has, typeOf, pairsFit, pairsType}
+use Rattle.static_rules.specs.Scope.{Scope}
+use Rattle.static_rules.specs.Names.{Judged, Listing, ofName, known, divisorFaults, overFault, wholePairs, judgeTerm, judgeItems, judgePairs, judgePred}
+use Rattle.type_rules.specs.Inner.{Names, Sizes, key, unlessKey, inReach, elementOf, setOf, pairOf, leastKey}
+use Rattle.type_rules.specs.Inner.{termKind, itemsKind, pairsKind, termKey, itemsKey, pairsKey, predKey}
 use Rattle.names.proofs.Showing.{indexOf, knownElement, knownPairs, TypeIs}
 use Rattle.names.proofs.JudgedLeast.{least-nil, one-fault, unless-least, not-nil}
 use Rattle.names.proofs.JudgedWidths.{term-width, pred-width, term-steady, pred-steady}

@@ -3,15 +3,15 @@ use mathlib.Core.Path.{_≡_, ap, ap₂, _∙_, sym}
 use mathlib.Core.List.{List, _++_}
 use Prim.Native.Nat.{ℕ, suc, _+_}
 use native.Mathlib.Omega.{arith}
-use Rattle.symbols.specs.Symbols.{noEnding}
-use Rattle.symbols.specs.Refusals.{Fault, numberOf, typesMisfit}
+use Rattle.lexical.specs.Symbols.{noEnding}
+use Rattle.lexical.specs.Refusals.{Fault, numberOf, typesMisfit}
 use Rattle.form.specs.Tree.{Letters, Range, Domain, range, Connective, Quantifier, Comparison, Membership, Term, Pred, truth, falsity, negation, paren, quantified, connected, compared, member, within, related}
 use Rattle.form.specs.Codes.{Numbering, numberOfName, termWidth, domainWidth}
-use Rattle.reader.specs.Types as ty
-use Rattle.reader.specs.Scope.{Scope, binding}
-use Rattle.reader.specs.Names.{rangeFaults, domainCarrier, domainLength, judgeTerm, judgePred}
-use Rattle.names.specs.Inner as inner
-use Rattle.names.specs.Inner.{Names, Sizes, lesser, domainKind, domainKey, bound, termKind, termKey, predKey}
+use Rattle.static_rules.specs.Types as ty
+use Rattle.static_rules.specs.Scope.{Scope, binding}
+use Rattle.static_rules.specs.Names.{rangeFaults, domainCarrier, domainLength, judgeTerm, judgePred}
+use Rattle.type_rules.specs.Inner as inner
+use Rattle.type_rules.specs.Inner.{Names, Sizes, lesser, domainKind, domainKey, bound, termKind, termKey, predKey}
 use Rattle.names.proofs.Showing.{RangeIn, DomainIn, Numbered, Shows}
 use Rattle.names.proofs.JudgedLeast.{least-nil, two-parts, whole-least, append-nil-both, small-append}
 use Rattle.names.proofs.JudgedWidths.{domain-width, term-steady, pred-steady, small-range}

@@ -9,11 +9,11 @@ use lib.Signed.{ltZ}
 use borrow.Author.Tests.{leb-true, leb-false, le-leb, lt-leb, le-ltb}
 use Rattle.form.specs.Tree.{Range}
 use Rattle.form.specs.Codes.{endNumber, endWidth}
-use Rattle.reader.specs.Carriers.{signed, endValue}
-use Rattle.reader.specs.Names as names
-use Rattle.reader.specs.Names.{rangeFaults}
-use Rattle.symbols.specs.Refusals.{numberOf, wideType}
-use Rattle.names.specs.Inner.{rangeFits, key, unlessKey, leastKey}
+use Rattle.static_rules.specs.Carriers.{signed, endValue}
+use Rattle.static_rules.specs.Names as names
+use Rattle.static_rules.specs.Names.{rangeFaults}
+use Rattle.lexical.specs.Refusals.{numberOf, wideType}
+use Rattle.type_rules.specs.Inner.{rangeFits, key, unlessKey, leastKey}
 use Rattle.names.proofs.Showing.{RangeIn}
 use Rattle.names.proofs.JudgedLeast.{unless-least}
 

@@ -8,15 +8,15 @@ use native.Mathlib.Omega.{arith}
 use lib.ListN.{getD, set, length-set}
 use lib.Seq.{getD-set-same, getD-set-other}
 use borrow.Author.Tests.{ne-eqb}
-use Rattle.symbols.specs.Lists.{same, any, find}
-use Rattle.symbols.specs.Symbols.{Name, Ending, noEnding, prime, query, shriek}
-use Rattle.symbols.proofs.WordLaws.{same-refl, same-true}
+use Rattle.lexical.specs.Lists.{same, any, find}
+use Rattle.lexical.specs.Symbols.{Name, Ending, noEnding, prime, query, shriek}
+use Rattle.lexical.proofs.WordLaws.{same-refl, same-true}
 use Rattle.form.specs.Tree.{Letters, Given}
 use Rattle.form.specs.Codes.{Numbering, numberOfName, nameNumber}
-use Rattle.reader.specs.Carriers.{Carrier, Variable, sizeOf, sameName, plain, givenOf}
-use Rattle.reader.specs.Types.{typeOf}
-use Rattle.reader.specs.Scope.{Scope, isTaken, typeOfName, binding}
-use Rattle.names.specs.Inner.{Names, Sizes, entry, isFree, isGiven}
+use Rattle.static_rules.specs.Carriers.{Carrier, Variable, sizeOf, sameName, plain, givenOf}
+use Rattle.static_rules.specs.Types.{typeOf}
+use Rattle.static_rules.specs.Scope.{Scope, isTaken, typeOfName, binding}
+use Rattle.type_rules.specs.Inner.{Names, Sizes, entry, isFree, isGiven}
 use Rattle.names.proofs.Showing.{indexOf, titled, GivenIs, TypeIs, Numbered, Shows}
 use Rattle.names.proofs.JudgedTypes.{no-yes, code-positive, code-not-given}
 

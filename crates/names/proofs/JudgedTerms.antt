@@ -8,18 +8,18 @@ use native.Mathlib.Omega.{arith}
 use native.Mathlib.Numerals.{add-one}
 use lib.Dec.{ltb}
 use lib.ListN.{length}
-use Rattle.symbols.specs.Symbols.{Name, noEnding}
-use Rattle.symbols.specs.Refusals.{Fault, fault, numberOf, typesMisfit}
+use Rattle.lexical.specs.Symbols.{Name, noEnding}
+use Rattle.lexical.specs.Refusals.{Fault, fault, numberOf, typesMisfit}
 use Rattle.form.specs.Tree.{Letters, End, givenSet, Prefix, Operator, Division, Term, number, name, group, prefix, binary, divided, listed, pairs, such, emptySet, emptyPairs, Items, only, also, Pairs, onlyPair, alsoPair, Pred}
 use Rattle.form.specs.Codes.{Numbering, nameNumber, numberOfName, signOf, termWidth}
-use Rattle.reader.specs.Carriers.{givenOf}
-use Rattle.reader.specs.Types as ty
-use Rattle.reader.specs.Types.{Ty, has, braceFits, pairsType}
-use Rattle.reader.specs.Scope.{Scope, typeOfName, binding}
-use Rattle.reader.specs.Names.{Listing, Checked, whole, known, newName, divisorFaults, pairsFault, wholePairs, domainCarrier, judgeTerm, judgeItems, judgePairs, judgePred}
-use Rattle.names.specs.Inner as inner
-use Rattle.names.specs.Inner.{Names, Sizes, entry, key, unlessKey, judgedKey, insideKey, lesser, isFree, isGiven, isNumber, isElement, domainKind, domainKey, overKey, bound, leastKey}
-use Rattle.names.specs.Inner.{termKind, itemsKind, pairsKind, termKey, itemsKey, pairsKey, predKey}
+use Rattle.static_rules.specs.Carriers.{givenOf}
+use Rattle.static_rules.specs.Types as ty
+use Rattle.static_rules.specs.Types.{Ty, has, braceFits, pairsType}
+use Rattle.static_rules.specs.Scope.{Scope, typeOfName, binding}
+use Rattle.static_rules.specs.Names.{Listing, Checked, whole, known, newName, divisorFaults, pairsFault, wholePairs, domainCarrier, judgeTerm, judgeItems, judgePairs, judgePred}
+use Rattle.type_rules.specs.Inner as inner
+use Rattle.type_rules.specs.Inner.{Names, Sizes, entry, key, unlessKey, judgedKey, insideKey, lesser, isFree, isGiven, isNumber, isElement, domainKind, domainKey, overKey, bound, leastKey}
+use Rattle.type_rules.specs.Inner.{termKind, itemsKind, pairsKind, termKey, itemsKey, pairsKey, predKey}
 use Rattle.names.proofs.Showing.{typeCode, Known, knownNumber, knownPairs, TypeIs, Numbered, Shows}
 use Rattle.names.proofs.JudgedLeast.{least-nil, two-parts, lesser-assoc, whole-least, inside-least, whole-nil, inside-nil, append-nil-both, small-append}
 use Rattle.names.proofs.JudgedWidths.{term-steady, items-steady, pairs-steady, small-divisor, small-known, small-pairs}

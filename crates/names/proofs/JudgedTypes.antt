@@ -8,13 +8,13 @@ use native.Mathlib.Omega.{arith}
 use lib.Dec.{eqb}
 use lib.ListN.{length}
 use borrow.Author.Tests.{eqb-true, eqb-false, ne-eqb, eq-eqb, le-leb, lt-leb, lt-ltb, le-ltb}
-use Rattle.symbols.specs.Lists.{same, any}
-use Rattle.symbols.proofs.WordLaws.{same-refl, same-true}
+use Rattle.lexical.specs.Lists.{same, any}
+use Rattle.lexical.proofs.WordLaws.{same-refl, same-true}
 use Rattle.form.specs.Tree.{Letters, Given, Prefix, negate, size, dom, ran, Operator, plus, minus, union, without, times, inter, Comparison, equals, differs, less, atMost}
-use Rattle.reader.specs.Types as ty
-use Rattle.reader.specs.Types.{Ty, Sort, sortCode, has, sameOver, sameType, isAnySet, areNumbers}
-use Rattle.names.specs.Inner as inner
-use Rattle.names.specs.Inner.{isNumber, isGiven, isElement, isSet, isPairs, inReach, setOf, pairOf, domOf, ranOf}
+use Rattle.static_rules.specs.Types as ty
+use Rattle.static_rules.specs.Types.{Ty, Sort, sortCode, has, sameOver, sameType, isAnySet, areNumbers}
+use Rattle.type_rules.specs.Inner as inner
+use Rattle.type_rules.specs.Inner.{isNumber, isGiven, isElement, isSet, isPairs, inReach, setOf, pairOf, domOf, ranOf}
 use Rattle.names.proofs.Showing.{indexOf, titled, typeCode, Known, knownNumber, knownElement, knownSet, knownPairs, TypeIs}
 use Rattle.names.proofs.JudgedRanges.{both}
 

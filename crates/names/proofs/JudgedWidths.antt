@@ -6,8 +6,8 @@ use mathlib.Core.Option.{Option, none, some}
 use Prim.Native.Nat.{ℕ, suc, _+_, _<_}
 use native.Mathlib.Omega.{arith}
 use lib.ListN.{length}
-use Rattle.symbols.specs.Kinds as kind
-use Rattle.symbols.specs.Refusals.{Fault, fault, numberOf, nameInUse, nameUnknown, typesMisfit, wideType, zeroDivisor}
+use Rattle.lexical.specs.Kinds as kind
+use Rattle.lexical.specs.Refusals.{Fault, fault, numberOf, nameInUse, nameUnknown, typesMisfit, wideType, zeroDivisor}
 use Rattle.form.specs.Tree.{Letters, End, Range, Domain, givenSet, range, Given}
 use Rattle.form.specs.Tree.{Term, number, name, group, prefix, binary, divided, listed, pairs, such, emptySet, emptyPairs, Items, only, also, Pairs, onlyPair, alsoPair}
 use Rattle.form.specs.Tree.{Pred, truth, falsity, negation, paren, quantified, connected, compared, member, within, related}
@@ -15,11 +15,11 @@ use Rattle.form.specs.Written.{Written, bare, writeEnd, writeRange, writeDomain
 use Rattle.form.specs.Written.{operatorKind, divisionKind, comparisonKind, membershipKind}
 use Rattle.form.specs.Codes.{endWidth, termWidth, predWidth, domainWidth}
 use Rattle.form.proofs.Lengths.{end-length, range-length}
-use Rattle.reader.specs.Carriers.{givenOf}
-use Rattle.reader.specs.Types.{Ty, pairsFit, pairsType}
-use Rattle.reader.specs.Scope.{Scope, typeOfName, binding}
-use Rattle.reader.specs.Names.{Listing, ofName, known, rangeFaults, pairsFault, divisorFaults, newName, domainFaults, domainCarrier, domainLength}
-use Rattle.reader.specs.Names.{overFault, wholePairs, judgedPairs, judgeTerm, judgeItems, judgePairs, judgePred}
+use Rattle.static_rules.specs.Carriers.{givenOf}
+use Rattle.static_rules.specs.Types.{Ty, pairsFit, pairsType}
+use Rattle.static_rules.specs.Scope.{Scope, typeOfName, binding}
+use Rattle.static_rules.specs.Names.{Listing, ofName, known, rangeFaults, pairsFault, divisorFaults, newName, domainFaults, domainCarrier, domainLength}
+use Rattle.static_rules.specs.Names.{overFault, wholePairs, judgedPairs, judgeTerm, judgeItems, judgePairs, judgePred}
 use Rattle.names.proofs.JudgedLeast.{Small, small-append, small-unless, small-whole, small-inside, no-fault, one-more}
 
 abbrev wideRange : Range → ℕ

@@ -1,11 +1,5 @@
 -- Names and types: the walk over nodes, and what it finds.
-pub mod Numbers
-pub mod Backwards
-pub mod BackwardsTerms
-pub mod BackwardsPreds
 pub mod Checking
-pub mod Declaring
-pub mod Giving
 pub mod Passing
 pub mod PassingOperations
 pub mod Showing

@@ -5,18 +5,18 @@ use Prim.Native.Nat.{ℕ, suc, _+_, _≤_, _<_}
 use native.Mathlib.Omega.{arith}
 use lib.ListN.{length, getD}
 use mathlib.Core.Bool.{not}
-use Rattle.symbols.specs.Lists.{any, concat}
-use Rattle.symbols.specs.Symbols.{Name, noEnding}
-use Rattle.symbols.specs.Refusals.{Fault}
+use Rattle.lexical.specs.Lists.{any, concat}
+use Rattle.lexical.specs.Symbols.{Name, noEnding}
+use Rattle.lexical.specs.Refusals.{Fault}
 use Rattle.form.specs.Tree.{Letters, declarations, Dossier}
 use Rattle.form.specs.Headings.{givensAt, abstractAt, concreteAt, ainitAt, cinitAt, retrieveAt, operationsAt}
 use Rattle.form.specs.Codes.{Numbering}
 use Rattle.form.proofs.Lengths.{givens-length}
-use Rattle.reader.specs.Carriers.{Variable, sizeOf}
-use Rattle.reader.specs.Scope.{variables, givenNames, stateNames, abstractTaken, concreteTaken, contexts}
-use Rattle.reader.specs.Names.{givenFaults, declarationFaults, contextFaults, judgePred, nameFaults}
-use Rattle.names.specs.Inner.{Names, Sizes, entry, isFree, leastKey}
-use Rattle.names.specs.Passes.{variablesOf, predicateAt, dossierKey}
+use Rattle.static_rules.specs.Carriers.{Variable, sizeOf}
+use Rattle.static_rules.specs.Scope.{variables, givenNames, stateNames, abstractTaken, concreteTaken, contexts}
+use Rattle.static_rules.specs.Names.{givenFaults, declarationFaults, contextFaults, judgePred, nameFaults}
+use Rattle.type_rules.specs.Inner.{Names, Sizes, entry, isFree, leastKey}
+use Rattle.declared_names.specs.Passes.{variablesOf, predicateAt, dossierKey}
 use Rattle.names.proofs.Showing.{Numbered, PredIn}
 use Rattle.names.proofs.JudgedLeast.{append-nil-both}
 use Rattle.names.proofs.JudgedWidths.{pred-steady}

@@ -6,19 +6,19 @@ use mathlib.Core.Option.{Option, none}
 use Prim.Native.Nat.{_+_}
 use native.Mathlib.Omega.{arith}
 use lib.ListN.{length}
-use Rattle.symbols.specs.Kinds as kind
-use Rattle.symbols.specs.Lists.{find}
-use Rattle.symbols.specs.Symbols.{Name, noEnding}
+use Rattle.lexical.specs.Kinds as kind
+use Rattle.lexical.specs.Lists.{find}
+use Rattle.lexical.specs.Symbols.{Name, noEnding}
 use Rattle.form.specs.Tree.{Letters, Given, Declaration, declarations, Pred, Dossier}
 use Rattle.form.specs.Written.{Written, bare, writeWhere}
 use Rattle.form.specs.Headings.{ainitAt, cinitAt, retrieveAt}
 use Rattle.form.specs.Codes.{Numbering}
-use Rattle.reader.specs.Carriers.{Variable, sameName}
-use Rattle.reader.specs.Types.{Ty}
-use Rattle.reader.specs.Scope.{variables}
-use Rattle.reader.specs.Names.{judgePred}
-use Rattle.names.specs.Inner.{Names, Sizes, leastKey}
-use Rattle.names.specs.Passes.{variablesOf, shown, hidden, conditionsKey, conditionsNamed}
+use Rattle.static_rules.specs.Carriers.{Variable, sameName}
+use Rattle.static_rules.specs.Types.{Ty}
+use Rattle.static_rules.specs.Scope.{variables}
+use Rattle.static_rules.specs.Names.{judgePred}
+use Rattle.type_rules.specs.Inner.{Names, Sizes, leastKey}
+use Rattle.declared_names.specs.Passes.{variablesOf, shown, hidden, conditionsKey, conditionsNamed}
 use Rattle.names.proofs.Showing.{Numbered, PredIn}
 use Rattle.names.proofs.JudgedWidths.{widePred, pred-length}
 use Rattle.names.proofs.JudgedScope.{find-here, find-there}

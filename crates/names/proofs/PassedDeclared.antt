@@ -7,16 +7,16 @@ use Prim.Native.Nat.{ℕ, suc, _+_}
 use native.Mathlib.Omega.{arith}
 use lib.ListN.{set}
 use borrow.Author.Tests.{ne-eqb, not-true}
-use Rattle.symbols.specs.Lists.{any, find}
-use Rattle.symbols.specs.Symbols.{Name}
-use Rattle.symbols.specs.Refusals.{Fault, fault, numberOf, nameInUse, unless}
+use Rattle.lexical.specs.Lists.{any, find}
+use Rattle.lexical.specs.Symbols.{Name}
+use Rattle.lexical.specs.Refusals.{Fault, fault, numberOf, nameInUse, unless}
 use Rattle.form.specs.Tree.{Letters, Given}
 use Rattle.form.specs.Codes.{Numbering, nameNumber, typeWidth}
-use Rattle.reader.specs.Carriers.{Carrier, Variable, sameName, givenOf, carrierOf}
-use Rattle.reader.specs.Types.{Ty, typeOf}
-use Rattle.reader.specs.Names.{typeFaults}
-use Rattle.names.specs.Inner.{Names, Sizes, key, unlessKey, isFree, isGiven, leastKey}
-use Rattle.names.specs.Passes.{Typed, typeKind, shown, hidden, declaredKey}
+use Rattle.static_rules.specs.Carriers.{Carrier, Variable, sameName, givenOf, carrierOf}
+use Rattle.static_rules.specs.Types.{Ty, typeOf}
+use Rattle.static_rules.specs.Names.{typeFaults}
+use Rattle.type_rules.specs.Inner.{Names, Sizes, key, unlessKey, isFree, isGiven, leastKey}
+use Rattle.declared_names.specs.Passes.{Typed, typeKind, shown, hidden, declaredKey}
 use Rattle.names.proofs.Showing.{GivenIs, TypeIs, Numbered}
 use Rattle.names.proofs.JudgedLeast.{two-parts, least-nil, unless-least, unless-nil, append-nil-both}
 use Rattle.names.proofs.JudgedTypes.{no-yes, code-positive, code-not-given}

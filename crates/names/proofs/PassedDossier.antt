@@ -4,17 +4,17 @@ use mathlib.Core.List.{List, [], _∷_, _++_, map}
 use Prim.Native.Nat.{ℕ, suc, _+_}
 use native.Mathlib.Omega.{arith}
 use lib.ListN.{length}
-use Rattle.symbols.specs.Lists.{concat}
-use Rattle.symbols.specs.Symbols.{noEnding}
-use Rattle.symbols.specs.Refusals.{Fault}
+use Rattle.lexical.specs.Lists.{concat}
+use Rattle.lexical.specs.Symbols.{noEnding}
+use Rattle.lexical.specs.Refusals.{Fault}
 use Rattle.form.specs.Tree.{Letters, Given, Declaration, declarations, State, Operation, Dossier}
 use Rattle.form.specs.Written.{writeWhere, writeState}
 use Rattle.form.specs.Headings.{operationLength}
 use Rattle.form.specs.Codes.{Numbering, predWidth}
-use Rattle.reader.specs.Scope.{Scope, operationContexts}
-use Rattle.reader.specs.Names.{newName, declarationFaults, parameterFaults, operationFaults, contextFaults, judgePred}
-use Rattle.names.specs.Inner.{Names, Sizes, lesser, leastKey}
-use Rattle.names.specs.Passes.{variablesOf, predicateAt, operationsKey}
+use Rattle.static_rules.specs.Scope.{Scope, operationContexts}
+use Rattle.static_rules.specs.Names.{newName, declarationFaults, parameterFaults, operationFaults, contextFaults, judgePred}
+use Rattle.type_rules.specs.Inner.{Names, Sizes, lesser, leastKey}
+use Rattle.declared_names.specs.Passes.{variablesOf, predicateAt, operationsKey}
 use Rattle.names.proofs.Showing.{Numbered}
 use Rattle.names.proofs.JudgedLeast.{Small, no-fault, small-append, least-nil, two-parts, append-nil-both}
 use Rattle.names.proofs.JudgedWidths.{widePred, small-new, pred-steady}

@@ -6,18 +6,18 @@ use Prim.Native.Nat.{ℕ, suc, _+_, _≤_}
 use native.Mathlib.Omega.{arith}
 use lib.ListN.{length, set, length-set}
 use borrow.Author.Tests.{ne-eqb}
-use Rattle.symbols.specs.Lists.{any}
-use Rattle.symbols.specs.Symbols.{Name, noEnding}
-use Rattle.symbols.specs.Refusals.{numberOf, nameInUse}
+use Rattle.lexical.specs.Lists.{any}
+use Rattle.lexical.specs.Symbols.{Name, noEnding}
+use Rattle.lexical.specs.Refusals.{numberOf, nameInUse}
 use Rattle.form.specs.Tree.{Letters, Given, elements}
 use Rattle.form.specs.Headings.{givenLength}
 use Rattle.form.specs.Codes.{Numbering, numberOfName, nameNumber}
 use Rattle.form.proofs.Lengths.{givensWidth, given-length}
-use Rattle.reader.specs.Carriers.{sameName, plain}
-use Rattle.reader.specs.Scope.{isTaken, givenNames}
-use Rattle.reader.specs.Names.{newName, elementFaults, givenFaults}
-use Rattle.names.specs.Inner.{Names, entry, key, unlessKey, isFree, leastKey}
-use Rattle.names.specs.Passes.{elementsNamed, elementsKey, givenNamed, givensNamed, givensKey}
+use Rattle.static_rules.specs.Carriers.{sameName, plain}
+use Rattle.static_rules.specs.Scope.{isTaken, givenNames}
+use Rattle.static_rules.specs.Names.{newName, elementFaults, givenFaults}
+use Rattle.type_rules.specs.Inner.{Names, entry, key, unlessKey, isFree, leastKey}
+use Rattle.declared_names.specs.Passes.{elementsNamed, elementsKey, givenNamed, givensNamed, givensKey}
 use Rattle.names.proofs.Showing.{Numbered}
 use Rattle.names.proofs.JudgedLeast.{least-nil, unless-least}
 use Rattle.names.proofs.PassedPlaces.{Within, nowhere, within-append, within-new, wider}

@@ -8,18 +8,18 @@ use native.Mathlib.Omega.{arith}
 use lib.Dec.{eqb, ltb}
 use lib.ListN.{length}
 use borrow.Author.Tests.{ne-eqb, le-leb, lt-leb, le-ltb}
-use Rattle.symbols.specs.Lists.{same, any, find}
-use Rattle.symbols.specs.Symbols.{Name}
-use Rattle.symbols.proofs.WordLaws.{same-refl, same-true}
+use Rattle.lexical.specs.Lists.{same, any, find}
+use Rattle.lexical.specs.Symbols.{Name}
+use Rattle.lexical.proofs.WordLaws.{same-refl, same-true}
 use Rattle.form.specs.Tree.{Letters, Given, elements}
 use Rattle.form.specs.Headings.{givenLength}
 use Rattle.form.specs.Codes.{Numbering, nameNumber}
-use Rattle.reader.specs.Carriers.{elementsOf, sameName, plain, givenOf}
-use Rattle.reader.specs.Types.{Ty, typeOf}
-use Rattle.reader.specs.Scope.{elementOf, givenNames, typeOfName}
-use Rattle.reader.specs.Names.{givenFaults}
-use Rattle.names.specs.Inner.{Names, entry, isFree, isNumber, isGiven, inReach}
-use Rattle.names.specs.Passes.{givensNamed}
+use Rattle.static_rules.specs.Carriers.{elementsOf, sameName, plain, givenOf}
+use Rattle.static_rules.specs.Types.{Ty, typeOf}
+use Rattle.static_rules.specs.Scope.{elementOf, givenNames, typeOfName}
+use Rattle.static_rules.specs.Names.{givenFaults}
+use Rattle.type_rules.specs.Inner.{Names, entry, isFree, isNumber, isGiven, inReach}
+use Rattle.declared_names.specs.Passes.{givensNamed}
 use Rattle.names.proofs.Showing.{indexOf, titled, knownElement, GivenIs, TypeIs, Numbered}
 use Rattle.names.proofs.JudgedTypes.{no-yes, index-in}
 use Rattle.names.proofs.JudgedScope.{any-here, any-there, find-here, find-there, index-here, index-there, titled-finds}

@@ -4,20 +4,20 @@ use mathlib.Core.Bool.{Bool, not}
 use mathlib.Core.List.{List, [], _∷_, _++_}
 use Prim.Native.Nat.{ℕ, suc, _+_}
 use native.Mathlib.Omega.{arith}
-use Rattle.symbols.specs.Kinds as kind
-use Rattle.symbols.specs.Lists.{any}
-use Rattle.symbols.specs.Symbols.{noEnding, prime}
-use Rattle.symbols.specs.Refusals.{Fault, numberOf, nameInUse}
+use Rattle.lexical.specs.Kinds as kind
+use Rattle.lexical.specs.Lists.{any}
+use Rattle.lexical.specs.Symbols.{noEnding, prime}
+use Rattle.lexical.specs.Refusals.{Fault, numberOf, nameInUse}
 use Rattle.form.specs.Tree.{Letters, Given, Declaration, inward, outward, Parameter, Operation}
 use Rattle.form.specs.Written.{bare, writePred, writeOperations}
 use Rattle.form.specs.Headings.{operationLength}
 use Rattle.form.specs.Codes.{Numbering, numberOfName, predWidth, abstractlyAt}
-use Rattle.reader.specs.Carriers.{Variable, plain}
-use Rattle.reader.specs.Scope as scopes
-use Rattle.reader.specs.Scope.{isTaken, variables}
-use Rattle.reader.specs.Names.{newName, parameterFaults, judgePred}
-use Rattle.names.specs.Inner.{Names, Sizes, entry, key, unlessKey, isFree, leastKey}
-use Rattle.names.specs.Passes.{parametersOf, titleNamed, operationNamed, operationKey}
+use Rattle.static_rules.specs.Carriers.{Variable, plain}
+use Rattle.static_rules.specs.Scope as scopes
+use Rattle.static_rules.specs.Scope.{isTaken, variables}
+use Rattle.static_rules.specs.Names.{newName, parameterFaults, judgePred}
+use Rattle.type_rules.specs.Inner.{Names, Sizes, entry, key, unlessKey, isFree, leastKey}
+use Rattle.declared_names.specs.Passes.{parametersOf, titleNamed, operationNamed, operationKey}
 use Rattle.names.proofs.Showing.{Numbered, PredIn}
 use Rattle.names.proofs.JudgedLeast.{unless-least}
 use Rattle.names.proofs.JudgedWidths.{widePred, pred-length, pred-width}

@@ -6,8 +6,8 @@ use Prim.Native.Nat.{ℕ, zero, suc, _*_, _≤_, _<_}
 use native.Mathlib.Omega.{arith}
 use lib.Dec.{ltb}
 use borrow.Author.Tests.{ne-eqb, ltb-true, ltb-false, lt-ltb, le-ltb}
-use Rattle.symbols.specs.Refusals.{Fault, numberOf, least}
-use Rattle.names.specs.Inner.{lesser, insideKey, leastKey}
+use Rattle.lexical.specs.Refusals.{Fault, numberOf, least}
+use Rattle.type_rules.specs.Inner.{lesser, insideKey, leastKey}
 use Rattle.names.proofs.JudgedLeast.{no-fault, one-more, lesser-zero, lesser-assoc, least-append, least-nil, one-fault}
 use Rattle.names.proofs.PassedPlaces.{Within, nowhere, at-place, within-small}
 

@@ -6,20 +6,20 @@ use mathlib.Core.Option.{Option, none, some}
 use Prim.Native.Nat.{ℕ, _+_, _*_, _≤_}
 use native.Mathlib.Omega.{arith}
 use lib.ListN.{length, set}
-use Rattle.symbols.specs.Kinds as kind
-use Rattle.symbols.specs.Lists.{any, find, filter}
-use Rattle.symbols.specs.Symbols.{Name, Ending, noEnding, prime, query, shriek}
-use Rattle.symbols.specs.Refusals.{Fault, fault, unless, nameInUse}
+use Rattle.lexical.specs.Kinds as kind
+use Rattle.lexical.specs.Lists.{any, find, filter}
+use Rattle.lexical.specs.Symbols.{Name, Ending, noEnding, prime, query, shriek}
+use Rattle.lexical.specs.Refusals.{Fault, fault, unless, nameInUse}
 use Rattle.form.specs.Tree.{Letters, Given, Declaration, Direction, inward, outward, Parameter}
 use Rattle.form.specs.Written.{Written, bare, endingOf, inputsAfter, outputsAfter, writeParameters}
 use Rattle.form.specs.Codes.{Numbering, numberOfName, typeWidth}
 use Rattle.form.proofs.Lengths.{type-length}
-use Rattle.reader.specs.Carriers.{Carrier, Variable, endingCode, sameName, plain, carrierOf}
-use Rattle.reader.specs.Scope as scopes
-use Rattle.reader.specs.Scope.{variables}
-use Rattle.reader.specs.Names.{typeFaults, parameterName, parameterFaults}
-use Rattle.names.specs.Inner.{Names}
-use Rattle.names.specs.Passes.{variablesOf, parametersOf, typeKind, shown, hidden}
+use Rattle.static_rules.specs.Carriers.{Carrier, Variable, endingCode, sameName, plain, carrierOf}
+use Rattle.static_rules.specs.Scope as scopes
+use Rattle.static_rules.specs.Scope.{variables}
+use Rattle.static_rules.specs.Names.{typeFaults, parameterName, parameterFaults}
+use Rattle.type_rules.specs.Inner.{Names}
+use Rattle.declared_names.specs.Passes.{variablesOf, parametersOf, typeKind, shown, hidden}
 use Rattle.names.proofs.JudgedTypes.{no-yes}
 use Rattle.names.proofs.JudgedScope.{find-there, ended}
 use Rattle.names.proofs.PassedTables.{same-name}

@@ -4,15 +4,15 @@ use mathlib.Core.List.{List, [], _∷_, _++_}
 use mathlib.Core.Option.{Option, none, some}
 use Prim.Native.Nat.{ℕ, suc, _+_, _≤_, _<_}
 use native.Mathlib.Omega.{arith}
-use Rattle.symbols.specs.Refusals.{Fault, fault, numberOf, unless, nameInUse, nameUnknown, typesMisfit, wideType, zeroDivisor}
+use Rattle.lexical.specs.Refusals.{Fault, fault, numberOf, unless, nameInUse, nameUnknown, typesMisfit, wideType, zeroDivisor}
 use Rattle.form.specs.Tree.{Letters, End, Range, givenSet, range, Given}
 use Rattle.form.specs.Tree.{Term, number, name, group, prefix, binary, divided, listed, pairs, such, emptySet, emptyPairs, Items, only, also, Pairs, onlyPair, alsoPair}
 use Rattle.form.specs.Tree.{Pred, truth, falsity, negation, paren, quantified, connected, compared, member, within, related}
-use Rattle.reader.specs.Carriers.{givenOf}
-use Rattle.reader.specs.Types.{Ty, pairsFit, pairsType}
-use Rattle.reader.specs.Scope.{Scope, typeOfName, binding}
-use Rattle.reader.specs.Names.{Listing, whole, inside, ofName, known, endLength, rangeLength, rangeFaults, pairsFault, divisorFaults, newName, domainCarrier}
-use Rattle.reader.specs.Names.{overFault, wholePairs, judgedPairs, judgeTerm, judgeItems, judgePairs, judgePred}
+use Rattle.static_rules.specs.Carriers.{givenOf}
+use Rattle.static_rules.specs.Types.{Ty, pairsFit, pairsType}
+use Rattle.static_rules.specs.Scope.{Scope, typeOfName, binding}
+use Rattle.static_rules.specs.Names.{Listing, whole, inside, ofName, known, endLength, rangeLength, rangeFaults, pairsFault, divisorFaults, newName, domainCarrier}
+use Rattle.static_rules.specs.Names.{overFault, wholePairs, judgedPairs, judgeTerm, judgeItems, judgePairs, judgePred}
 use Rattle.names.proofs.JudgedLeast.{Small, no-fault, one-more}
 use Rattle.names.proofs.JudgedWidths.{wideTerm, wideItems, widePairs, widePred, term-steady, pred-steady}
 

@@ -6,16 +6,16 @@ use mathlib.Core.Option.{Option, none}
 use Prim.Native.Nat.{_≤_, _<_}
 use native.Mathlib.Omega.{arith}
 use lib.ListN.{set}
-use Rattle.symbols.specs.Lists.{any}
-use Rattle.symbols.specs.Symbols.{Name, Ending, noEnding, prime, query, shriek}
+use Rattle.lexical.specs.Lists.{any}
+use Rattle.lexical.specs.Symbols.{Name, Ending, noEnding, prime, query, shriek}
 use Rattle.form.specs.Tree.{Letters, Given, Declaration, inward, outward, Parameter}
 use Rattle.form.specs.Codes.{Numbering, numberOfName}
-use Rattle.reader.specs.Carriers.{Variable, endingCode, sameName, plain, givenOf}
-use Rattle.reader.specs.Types.{Ty}
-use Rattle.reader.specs.Scope as scopes
-use Rattle.reader.specs.Scope.{variables}
-use Rattle.names.specs.Inner.{Names, Sizes}
-use Rattle.names.specs.Passes.{Typed, variablesOf, parametersOf, shown, hidden, reaching, leaving}
+use Rattle.static_rules.specs.Carriers.{Variable, endingCode, sameName, plain, givenOf}
+use Rattle.static_rules.specs.Types.{Ty}
+use Rattle.static_rules.specs.Scope as scopes
+use Rattle.static_rules.specs.Scope.{variables}
+use Rattle.type_rules.specs.Inner.{Names, Sizes}
+use Rattle.declared_names.specs.Passes.{Typed, variablesOf, parametersOf, shown, hidden, reaching, leaving}
 use Rattle.names.proofs.Showing.{Numbered}
 use Rattle.names.proofs.JudgedTypes.{no-yes}
 use Rattle.names.proofs.JudgedScope.{any-there}

@@ -6,16 +6,16 @@ use mathlib.Core.Option.{Option, none}
 use Prim.Native.Nat.{ℕ, zero, suc, _+_, _<_}
 use native.Mathlib.Omega.{arith}
 use lib.ListN.{length, getD}
-use Rattle.symbols.specs.Lists.{same, any}
-use Rattle.symbols.specs.Symbols.{Name, noEnding}
+use Rattle.lexical.specs.Lists.{same, any}
+use Rattle.lexical.specs.Symbols.{Name, noEnding}
 use Rattle.form.specs.Tree.{Letters, Given, Declaration, declarations, State}
 use Rattle.form.specs.Codes.{Numbering, nameNumber}
-use Rattle.reader.specs.Carriers.{Variable, sameName, plain, givenOf}
-use Rattle.reader.specs.Types.{Ty}
-use Rattle.reader.specs.Scope.{isTaken, variables, givenNames, stateNames}
-use Rattle.reader.specs.Names.{declarationFaults, judgePred}
-use Rattle.names.specs.Inner.{Names, Sizes, entry, isFree, isNumber, isGiven, inReach, leastKey}
-use Rattle.names.specs.Passes.{Typed, variablesOf, shown, hidden, predicateAt, stateKey, stateNamed}
+use Rattle.static_rules.specs.Carriers.{Variable, sameName, plain, givenOf}
+use Rattle.static_rules.specs.Types.{Ty}
+use Rattle.static_rules.specs.Scope.{isTaken, variables, givenNames, stateNames}
+use Rattle.static_rules.specs.Names.{declarationFaults, judgePred}
+use Rattle.type_rules.specs.Inner.{Names, Sizes, entry, isFree, isNumber, isGiven, inReach, leastKey}
+use Rattle.declared_names.specs.Passes.{Typed, variablesOf, shown, hidden, predicateAt, stateKey, stateNamed}
 use Rattle.names.proofs.Showing.{titled, GivenIs, TypeIs, Numbered, Shows, PredIn}
 use Rattle.names.proofs.JudgedTypes.{no-yes}
 use Rattle.names.proofs.JudgedScope.{titled-finds}

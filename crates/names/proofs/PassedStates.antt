@@ -6,19 +6,19 @@ use mathlib.Core.Option.{Option, none, some}
 use Prim.Native.Nat.{ℕ, suc, _+_}
 use native.Mathlib.Omega.{arith}
 use lib.ListN.{length}
-use Rattle.symbols.specs.Kinds as kind
-use Rattle.symbols.specs.Lists.{same, any, find}
-use Rattle.symbols.specs.Symbols.{Name, Ending, noEnding}
-use Rattle.symbols.specs.Refusals.{Fault, fault, unless, nameInUse}
+use Rattle.lexical.specs.Kinds as kind
+use Rattle.lexical.specs.Lists.{same, any, find}
+use Rattle.lexical.specs.Symbols.{Name, Ending, noEnding}
+use Rattle.lexical.specs.Refusals.{Fault, fault, unless, nameInUse}
 use Rattle.form.specs.Tree.{Letters, Given, Declaration}
 use Rattle.form.specs.Written.{Written, bare, writeDeclarations}
 use Rattle.form.specs.Codes.{typeWidth}
 use Rattle.form.proofs.Lengths.{type-length}
-use Rattle.reader.specs.Carriers.{Carrier, Variable, sameName, plain, carrierOf}
-use Rattle.reader.specs.Types.{typeOf}
-use Rattle.reader.specs.Scope.{Scope, isTaken, typeOfName, variables}
-use Rattle.reader.specs.Names.{newName, typeFaults, declarationFaults}
-use Rattle.names.specs.Passes.{variablesOf}
+use Rattle.static_rules.specs.Carriers.{Carrier, Variable, sameName, plain, carrierOf}
+use Rattle.static_rules.specs.Types.{typeOf}
+use Rattle.static_rules.specs.Scope.{Scope, isTaken, typeOfName, variables}
+use Rattle.static_rules.specs.Names.{newName, typeFaults, declarationFaults}
+use Rattle.declared_names.specs.Passes.{variablesOf}
 use Rattle.names.proofs.PassedDeclared.{useOf, typedFaults, typedWidth, Carried, no-carried, one-carried}
 use Rattle.names.proofs.PassedDeclared.{found, orType, hasTyped}
 use Rattle.names.proofs.PassedUse.{inUse, same-sym}

@@ -9,14 +9,14 @@ use lib.Dec.{eqb}
 use lib.ListN.{length, set, length-set}
 use lib.Seq.{getD-set-same, getD-set-other}
 use borrow.Author.Tests.{eqb-true, eq-eqb}
-use Rattle.symbols.specs.Lists.{same}
-use Rattle.symbols.specs.Symbols.{Name, Ending, noEnding, prime, query, shriek}
-use Rattle.symbols.proofs.WordLaws.{same-refl, same-true}
+use Rattle.lexical.specs.Lists.{same}
+use Rattle.lexical.specs.Symbols.{Name, Ending, noEnding, prime, query, shriek}
+use Rattle.lexical.proofs.WordLaws.{same-refl, same-true}
 use Rattle.form.specs.Tree.{Letters, Given}
 use Rattle.form.specs.Codes.{Numbering, endingNumber, numberOfName, nameNumber}
-use Rattle.reader.specs.Carriers.{endingCode, sameName, givenOf}
-use Rattle.reader.specs.Types.{Ty}
-use Rattle.names.specs.Inner.{Names, entry, isFree}
+use Rattle.static_rules.specs.Carriers.{endingCode, sameName, givenOf}
+use Rattle.static_rules.specs.Types.{Ty}
+use Rattle.type_rules.specs.Inner.{Names, entry, isFree}
 use Rattle.names.proofs.Showing.{GivenIs, TypeIs, Numbered}
 use Rattle.names.proofs.JudgedTypes.{no-yes, code-positive}
 

@@ -6,17 +6,17 @@ use mathlib.Core.Option.{Option, none, some}
 use Prim.Native.Nat.{ℕ, suc, _+_, _≤_, _<_}
 use native.Mathlib.Omega.{arith}
 use lib.ListN.{length, getD}
-use Rattle.symbols.specs.Symbols.{Name}
-use Rattle.symbols.specs.Refusals.{fault, nameUnknown}
+use Rattle.lexical.specs.Symbols.{Name}
+use Rattle.lexical.specs.Refusals.{fault, nameUnknown}
 use Rattle.form.specs.Tree.{Letters, Given, Arrow, TypeForm, givenType, powerType, rangeType, arrowType}
 use Rattle.form.specs.Written.{writeType}
 use Rattle.form.specs.Codes.{Numbering, nameNumber, typeWidth}
 use Rattle.form.proofs.Lengths.{range-length}
-use Rattle.reader.specs.Carriers.{Carrier, elementsOf, subsetsOf, pairsOf, rangeCarrier, sizeOf, givenOf, carrierOf}
-use Rattle.reader.specs.Types.{Ty, typeOf}
-use Rattle.reader.specs.Names.{known, pairsFault, typeFaults}
-use Rattle.names.specs.Inner.{Names, Sizes, entry, key, unlessKey, isGiven, sizeIn, overKey, domainKey, leastKey}
-use Rattle.names.specs.Passes.{typeKind, typeKey}
+use Rattle.static_rules.specs.Carriers.{Carrier, elementsOf, subsetsOf, pairsOf, rangeCarrier, sizeOf, givenOf, carrierOf}
+use Rattle.static_rules.specs.Types.{Ty, typeOf}
+use Rattle.static_rules.specs.Names.{known, pairsFault, typeFaults}
+use Rattle.type_rules.specs.Inner.{Names, Sizes, entry, key, unlessKey, isGiven, sizeIn, overKey, domainKey, leastKey}
+use Rattle.declared_names.specs.Passes.{typeKind, typeKey}
 use Rattle.names.proofs.Showing.{indexOf, knownNumber, GivenIs, TypeIs, RangeIn}
 use Rattle.names.proofs.JudgedLeast.{small-append, lesser-assoc, two-parts, not-nil, append-nil-both}
 use Rattle.names.proofs.JudgedWidths.{small-known, small-pairs}

@@ -6,15 +6,15 @@ use mathlib.Core.Option.{Option, none, some}
 use Prim.Native.Nat.{ℕ, suc, _+_}
 use native.Mathlib.Omega.{arith}
 use borrow.Author.Tests.{not-true}
-use Rattle.symbols.specs.Lists.{same, any, find}
-use Rattle.symbols.specs.Symbols.{Name}
-use Rattle.symbols.specs.Refusals.{fault, nameInUse}
-use Rattle.symbols.proofs.WordLaws.{same-refl, same-true}
+use Rattle.lexical.specs.Lists.{same, any, find}
+use Rattle.lexical.specs.Symbols.{Name}
+use Rattle.lexical.specs.Refusals.{fault, nameInUse}
+use Rattle.lexical.proofs.WordLaws.{same-refl, same-true}
 use Rattle.form.specs.Tree.{Letters, Given, elements}
 use Rattle.form.specs.Headings.{givenLength}
-use Rattle.reader.specs.Carriers.{sameName, plain, givenOf}
-use Rattle.reader.specs.Scope.{isTaken, elementOf, givenNames}
-use Rattle.reader.specs.Names.{newName, elementFaults, givenFaults}
+use Rattle.static_rules.specs.Carriers.{sameName, plain, givenOf}
+use Rattle.static_rules.specs.Scope.{isTaken, elementOf, givenNames}
+use Rattle.static_rules.specs.Names.{newName, elementFaults, givenFaults}
 use Rattle.names.proofs.Showing.{titled}
 use Rattle.names.proofs.JudgedLeast.{unless-nil, append-nil-both}
 use Rattle.names.proofs.JudgedTypes.{no-yes}

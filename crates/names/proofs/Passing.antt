@@ -7,15 +7,15 @@ use native.Mathlib.Omega.{arith}
 use Rattle.form.specs.Headings.{ainitAt, cinitAt, retrieveAt}
 use lib.ListN.{length, take, drop, getD, length-drop, length-append}
 use lib.Seq.{getD-drop, drop-drop, drop-at, take-at, take-length, take-all}
-use Rattle.symbols.specs.Symbols.{noEnding}
+use Rattle.lexical.specs.Symbols.{noEnding}
 use Rattle.form.specs.Tree.{Declaration, declarations, Parameter, Pred, State, Dossier}
 use Rattle.form.specs.Written.{endingOf}
 use Rattle.form.specs.Codes.{Numbering, node, predCodes, typeWidth, declarationCodes, parameterCodes, conditionCodes, stateCodes}
-use Rattle.names.specs.Inner.{Names, Sizes, predKey, insideKey, PredSeen}
-use Rattle.names.specs.Passes.{Typed, typedCodes, variablesOf, parametersOf, shown, hidden, declaredKey, predicateAt, stateKey, stateNamed, conditionsKey, conditionsNamed}
-use Rattle.names.specs.Parts.{typedCode, DeclaredEnd, PredicateEnd, ConditionSeen, DeclaredSeen, ShownSeen, HiddenSeen, StateSeen, Variables, threeCodes, ConditionsSeen}
-use Rattle.names.specs.declared.Seen.{Seen}
-use Rattle.names.proofs.Declaring.{node-a, typed-eight, inside-none, inside-some}
+use Rattle.type_rules.specs.Inner.{Names, Sizes, predKey, insideKey, PredSeen}
+use Rattle.declared_names.specs.Passes.{Typed, typedCodes, variablesOf, parametersOf, shown, hidden, declaredKey, predicateAt, stateKey, stateNamed, conditionsKey, conditionsNamed}
+use Rattle.declared_names.specs.Parts.{typedCode, DeclaredEnd, PredicateEnd, ConditionSeen, DeclaredSeen, ShownSeen, HiddenSeen, StateSeen, Variables, threeCodes, ConditionsSeen}
+use Rattle.type_rules.specs.declared.Seen.{Seen}
+use Rattle.declared_names.proofs.Declaring.{node-a, typed-eight, inside-none, inside-some}
 
 -- the nodes of variables and of parameters are those of their names with their types
 pub variables-codes : (i : ℕ) (ds : List Declaration) (ρ : Numbering) → typedCodes i (variablesOf noEnding ds) ρ ≡ declarationCodes i ds ρ

@@ -8,13 +8,13 @@ use lib.Dec.{eqb}
 use Rattle.form.specs.Headings.{operationLength}
 use lib.ListN.{length, take, drop, getD, set, length-drop, length-append}
 use lib.Seq.{drop-drop}
-use Rattle.symbols.specs.Symbols.{noEnding}
+use Rattle.lexical.specs.Symbols.{noEnding}
 use Rattle.form.specs.Tree.{Declaration, Pred, Operation}
 use Rattle.form.specs.Codes.{Numbering, node, numberOfName, predWidth, abstractlyAt, parameterCodes, conditionCodes, operationCodes}
-use Rattle.names.specs.Inner.{Names, Sizes, entry, isFree, key, unlessKey, predKey, insideKey}
-use Rattle.names.specs.Passes.{Typed, typedCodes, variablesOf, parametersOf, shown, hidden, declaredKey, reaching, leaving, titleNamed, parametersShown, operationKey, operationNamed, operationsKey}
-use Rattle.names.specs.Parts.{DeclaredEnd, PredicateEnd, ConditionSeen, DeclaredSeen, ShownSeen, HiddenSeen, ReachingSeen, LeavingSeen, SideSeen, SidesSeen, Variables, operationCode, OperationEnd, OperationSeen, OperationsSeen}
-use Rattle.names.proofs.Declaring.{inside-none, inside-some}
+use Rattle.type_rules.specs.Inner.{Names, Sizes, entry, isFree, key, unlessKey, predKey, insideKey}
+use Rattle.declared_names.specs.Passes.{Typed, typedCodes, variablesOf, parametersOf, shown, hidden, declaredKey, reaching, leaving, titleNamed, parametersShown, operationKey, operationNamed, operationsKey}
+use Rattle.declared_names.specs.Parts.{DeclaredEnd, PredicateEnd, ConditionSeen, DeclaredSeen, ShownSeen, HiddenSeen, ReachingSeen, LeavingSeen, SideSeen, SidesSeen, Variables, operationCode, OperationEnd, OperationSeen, OperationsSeen}
+use Rattle.declared_names.proofs.Declaring.{inside-none, inside-some}
 use Rattle.names.proofs.Passing.{variables-codes, parameters-codes, front, back}
 
 -- the variables of a state, plain and primed

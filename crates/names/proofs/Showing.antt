@@ -5,17 +5,17 @@ use mathlib.Core.List.{List, [], _∷_, map}
 use mathlib.Core.Option.{Option, none, some}
 use Prim.Native.Nat.{ℕ, suc, _+_, _*_, _≤_, _<_}
 use lib.ListN.{length, getD}
-use Rattle.symbols.specs.Lists.{same, any}
-use Rattle.symbols.specs.Symbols.{Name, noEnding}
+use Rattle.lexical.specs.Lists.{same, any}
+use Rattle.lexical.specs.Symbols.{Name, noEnding}
 use Rattle.form.specs.Tree.{Letters, Given, Range, Domain, givenSet, range}
 use Rattle.form.specs.Tree.{Term, number, name, group, prefix, binary, divided, listed, pairs, such, emptySet, emptyPairs, Items, only, also, Pairs, onlyPair, alsoPair}
 use Rattle.form.specs.Tree.{Pred, truth, falsity, negation, paren, quantified, connected, compared, member, within, related}
 use Rattle.form.specs.Codes.{Numbering, numberOfName, nameNumber}
-use Rattle.reader.specs.Carriers.{sizeOf, givenOf}
-use Rattle.reader.specs.Types as ty
-use Rattle.reader.specs.Types.{Ty, Sort}
-use Rattle.reader.specs.Scope.{Scope, isTaken, typeOfName}
-use Rattle.names.specs.Inner.{Names, Sizes, entry, isFree, isGiven, inReach}
+use Rattle.static_rules.specs.Carriers.{sizeOf, givenOf}
+use Rattle.static_rules.specs.Types as ty
+use Rattle.static_rules.specs.Types.{Ty, Sort}
+use Rattle.static_rules.specs.Scope.{Scope, isTaken, typeOfName}
+use Rattle.type_rules.specs.Inner.{Names, Sizes, entry, isFree, isGiven, inReach}
 
 -- the number of the given set with this title
 unfoldable pub indexOf : List Given → Letters → ℕ

@@ -1,28 +1,11 @@
 // Names and types: numbers 8, 9, 10, 11 and 14 of document 01, over the nodes of a dossier.
 ghost use lib.ListN.{length, replicate};
-ghost use Rattle.names.specs.Parts.{GivenSeen, CheckSeen};
-use crate::declared::give;
+ghost use Rattle.declared_names.specs.Parts.{GivenSeen, CheckSeen};
 use crate::passes::check;
 use crate::passes::clear;
+use declared_names::declared::give;
 
-pub mod declared;
-pub mod kinds;
 pub mod passes;
-pub mod types;
-
-// The type of a tree, its least fault (place * 16 + number + 1) or 0, and where its nodes begin.
-pub struct Seen {
-    pub kind: u16,
-    pub fault: u32,
-    pub start: usize,
-}
-
-// A node's place in the text, and its two numbers.
-pub struct Node {
-    pub place: u16,
-    pub a: u16,
-    pub b: u16,
-}
 
 // The least fault of the pass (place * 16 + number + 1, places by symbols), or 0. The nodes are a dossier's, up to m; the places are where its parts begin.
 pub fn least_fault(

@@ -2,17 +2,17 @@
 ghost use mathlib.Core.Path.{_≡_};
 ghost use Prim.Native.Nat.{_+_, _≤_};
 ghost use lib.ListN.{length, replicate};
-ghost use Rattle.names.specs.Parts.{DeclaredEnd, PredicateEnd, OperationEnd, ConditionSeen, StateSeen, ReachingSeen, LeavingSeen, SideSeen, SidesSeen, OperationSeen, OperationsSeen, ConditionsSeen, PartOf, VariablesOf, LaterSeen, CheckSeen};
-use crate::declared::declare;
-use crate::declared::give;
-use crate::declared::hide;
-use crate::declared::show;
-use crate::kinds::index;
-use crate::kinds::look;
-use crate::kinds::put;
-use crate::kinds::unless;
-use crate::kinds::wide;
-use crate::types::pred;
+ghost use Rattle.declared_names.specs.Parts.{DeclaredEnd, PredicateEnd, OperationEnd, ConditionSeen, StateSeen, ReachingSeen, LeavingSeen, SideSeen, SidesSeen, OperationSeen, OperationsSeen, ConditionsSeen, PartOf, VariablesOf, LaterSeen, CheckSeen};
+use declared_names::declared::declare;
+use declared_names::declared::give;
+use declared_names::declared::hide;
+use declared_names::declared::show;
+use type_rules::kinds::index;
+use type_rules::kinds::look;
+use type_rules::kinds::put;
+use type_rules::kinds::unless;
+use type_rules::kinds::wide;
+use typing::types::pred;
 
 // How many numbers declarations have at the beginning of some nodes.
 fn declared_end(code: &[u16]) -> usize

@@ -4,7 +4,7 @@ use mathlib.Core.List.{List, [], _++_, append-nil}
 use Prim.Native.Nat.{ℕ, _+_, _≤_}
 use native.Mathlib.Omega.{arith}
 use lib.ListN.{length, take, getD}
-use Rattle.symbols.specs.Refusals.{Fault}
+use Rattle.lexical.specs.Refusals.{Fault}
 use Rattle.form.specs.Tree.{Dossier}
 use Rattle.form.specs.Written.{symbolsOf}
 use Rattle.form.specs.Headings.{givensAt, abstractAt, operationsAt, givenHeadings, operationHeadings, headingFaults}

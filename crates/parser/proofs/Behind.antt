@@ -2,9 +2,9 @@
 use mathlib.Core.Path.{_≡_, refl, ap, _∙_, sym}
 use mathlib.Core.Bool.{Bool, true, false}
 use mathlib.Core.List.{List, [], _∷_, _++_}
-use Rattle.symbols.specs.Kinds as kind
-use Rattle.symbols.specs.Symbols as symbol
-use Rattle.symbols.specs.Symbols.{noEnding, Symbol, fixed, numeral}
+use Rattle.lexical.specs.Kinds as kind
+use Rattle.lexical.specs.Symbols as symbol
+use Rattle.lexical.specs.Symbols.{noEnding, Symbol, fixed, numeral}
 use Rattle.form.specs.Tree.{End, Range, Domain, givenSet, range}
 use Rattle.form.specs.Tree.{Term, number, name, group, prefix, binary, divided, listed, pairs, such, emptySet, emptyPairs, Items, only, also, Pairs, onlyPair, alsoPair}
 use Rattle.form.specs.Tree.{Pred, truth, falsity, negation, paren, quantified, connected, compared, member, within, related}

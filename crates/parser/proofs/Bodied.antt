@@ -5,12 +5,12 @@ use mathlib.Core.List.{List, [], _∷_, _++_, append-assoc}
 use Prim.Native.Nat.{ℕ, _+_, _≤_, _<_}
 use native.Mathlib.Omega.{arith}
 use lib.ListN.{length, getD, length-append}
-use Rattle.symbols.specs.Kinds as kind
-use Rattle.symbols.specs.Lists.{same}
-use Rattle.symbols.specs.Symbols as symbol
-use Rattle.symbols.specs.Symbols.{noEnding, Symbol, fixed}
-use Rattle.symbols.specs.Refusals.{Fault, fault, headingDiffers, unless}
-use Rattle.symbols.proofs.WordLaws.{same-refl, same-true}
+use Rattle.lexical.specs.Kinds as kind
+use Rattle.lexical.specs.Lists.{same}
+use Rattle.lexical.specs.Symbols as symbol
+use Rattle.lexical.specs.Symbols.{noEnding, Symbol, fixed}
+use Rattle.lexical.specs.Refusals.{Fault, fault, headingDiffers, unless}
+use Rattle.lexical.proofs.WordLaws.{same-refl, same-true}
 use Rattle.form.specs.Tree.{Letters}
 use Rattle.form.specs.Codes.{node, Numbering, numberOfName, entryCodes}
 use Rattle.parser.specs.Sections.{Tells, sizeOf, sizeAt, Run, Compares, fits, extra, wants, differs, agrees}

@@ -4,20 +4,20 @@ use mathlib.Core.List.{List, [], _∷_, _++_, append-assoc, append-nil}
 use Prim.Native.Nat.{ℕ, zero, suc, _+_, _-_, _≤_, _<_}
 use native.Mathlib.Omega.{arith}
 use lib.ListN.{length, take, drop, getD, length-append, take-append-drop}
-use Rattle.symbols.specs.Kinds.{Kind, codeOf}
-use Rattle.symbols.specs.Symbols.{Symbol}
-use Rattle.symbols.specs.Refusals.{noDossier}
+use Rattle.lexical.specs.Kinds.{Kind, codeOf}
+use Rattle.lexical.specs.Symbols.{Symbol}
+use Rattle.lexical.specs.Refusals.{noDossier}
 use Rattle.form.specs.Codes.{node}
 use Rattle.form.specs.Machine.{Item, exact, aDossier, ends, step, complete, failed, run}
-use Rattle.parser.specs.Inner.{codes, runAt, after, Reads, Writes, Closes}
-use Rattle.parser.specs.Derived as part
-use Rattle.parser.specs.Derived.{Part, Derives, Made, MadeAt, nameCode, aPredFrom, aCondition, aState, aWhere, someGivens, someDeclarations, someParameters, someOperations, condition, state, whereOf, anOperation, dossier}
-use Rattle.parser.specs.Dossiers.{More, MoreAt, Sequence, nothing, behind, SequenceAt, Sequenced, ContentsAt, ContentsMade, When}
-use Rattle.parser.specs.declared.Read.{Read}
-use Rattle.parser.specs.declared.Read.the-variants.{At, Fault}
-use Rattle.parser.proofs.Reading.{as-long, run-at, run-end, next}
-use Rattle.parser.proofs.Making.{from}
-use Rattle.parser.proofs.ListNodes.{then-written}
+use Rattle.form_nodes.specs.Inner.{codes, runAt, after, Reads, Writes, Closes}
+use Rattle.form_nodes.specs.Derived as part
+use Rattle.form_nodes.specs.Derived.{Part, Derives, Made, MadeAt, nameCode, aPredFrom, aCondition, aState, aWhere, someGivens, someDeclarations, someParameters, someOperations, condition, state, whereOf, anOperation, dossier}
+use Rattle.declarations.specs.Dossiers.{More, MoreAt, Sequence, nothing, behind, SequenceAt, Sequenced, ContentsAt, ContentsMade, When}
+use Rattle.form_nodes.specs.declared.Read.{Read}
+use Rattle.form_nodes.specs.declared.Read.the-variants.{At, Fault}
+use Rattle.form_nodes.proofs.Reading.{as-long, run-at, run-end, next}
+use Rattle.form_nodes.proofs.Making.{from}
+use Rattle.declarations.proofs.ListNodes.{then-written}
 
 take-length : (m : ℕ) (b : List ℕ) → m ≤ length b → length (take m b) ≡ m
 take-length zero b l = refl

@@ -4,9 +4,9 @@ use mathlib.Core.List.{List, [], _∷_, _++_}
 use Prim.Native.Nat.{ℕ, suc, _+_, _≤_}
 use native.Mathlib.Omega.{arith}
 use lib.ListN.{length, drop, getD}
-use Rattle.symbols.specs.Kinds as kind
-use Rattle.symbols.specs.Kinds.{Kind, codeOf}
-use Rattle.symbols.specs.Symbols.{Ending, noEnding, Symbol, fixed}
+use Rattle.lexical.specs.Kinds as kind
+use Rattle.lexical.specs.Kinds.{Kind, codeOf}
+use Rattle.lexical.specs.Symbols.{Ending, noEnding, Symbol, fixed}
 use Rattle.form.specs.Tree.{Pred, Declaration, Direction, Parameter, State, Operation}
 use Rattle.form.specs.Written.{endingOf, writeDeclarations}
 use Rattle.form.specs.Form.{PredGrouped, OperationsGrouped}
@@ -14,9 +14,9 @@ use Rattle.form.specs.Headings.{operationLength}
 use Rattle.form.specs.Codes.{node, Numbering, predWidth, typeWidth, typeCodes, declarationCode, declarationCodes, parameterCodes, conditionCodes, stateCodes}
 use Rattle.form.specs.Codes.{abstractlyAt, operationCodes}
 use Rattle.form.proofs.Plain.{named, plainType, plainPred, plainDeclarations, plainWhere, plainState, plainParameters, plainOperations}
-use Rattle.parser.specs.Inner.{codes}
-use Rattle.parser.specs.Derived.{nameCode, aDeclaration, someDeclarations, someParameters, someOperations, aCondition, aState, aWhere}
-use Rattle.parser.specs.Derived.{declares, noDeclarations, declaresMore, noParameters, takesMore, condition, state, whereOf, noOperations, anOperation}
+use Rattle.form_nodes.specs.Inner.{codes}
+use Rattle.form_nodes.specs.Derived.{nameCode, aDeclaration, someDeclarations, someParameters, someOperations, aCondition, aState, aWhere}
+use Rattle.form_nodes.specs.Derived.{declares, noDeclarations, declaresMore, noParameters, takesMore, condition, state, whereOf, noOperations, anOperation}
 use Rattle.parser.proofs.Standing.{values, Text}
 use Rattle.parser.proofs.SymbolAt.{NamedAt, ending-as, no-ending, directed, fixed-at, name-at, plain-at}
 use Rattle.parser.proofs.Spans.{pred-width}

@@ -4,15 +4,15 @@ use mathlib.Core.List.{List, [], _∷_, _++_}
 use Prim.Native.Nat.{ℕ, suc, _+_, _*_, _≤_}
 use native.Mathlib.Omega.{arith}
 use lib.ListN.{length, drop, getD}
-use Rattle.symbols.specs.Kinds as kind
-use Rattle.symbols.specs.Kinds.{Kind, codeOf}
-use Rattle.symbols.specs.Symbols.{noEnding, Symbol, fixed}
+use Rattle.lexical.specs.Kinds as kind
+use Rattle.lexical.specs.Kinds.{Kind, codeOf}
+use Rattle.lexical.specs.Symbols.{noEnding, Symbol, fixed}
 use Rattle.form.specs.Tree.{Letters, Given}
 use Rattle.form.specs.Headings.{givenLength}
 use Rattle.form.specs.Codes.{node, Numbering, entryCodes, elementCodes, givenCodes}
 use Rattle.form.proofs.Plain.{named, plainEntries, plainElements, plainGivens}
-use Rattle.parser.specs.Inner.{codes}
-use Rattle.parser.specs.Derived.{nameCode, Part, Derives, someEntries, someElements, someGivens, noEntries, anEntry, noElements, anElement, noGivens, aGiven}
+use Rattle.form_nodes.specs.Inner.{codes}
+use Rattle.form_nodes.specs.Derived.{nameCode, Part, Derives, someEntries, someElements, someGivens, noEntries, anEntry, noElements, anElement, noGivens, aGiven}
 use Rattle.parser.proofs.Standing.{values, Text}
 use Rattle.parser.proofs.SymbolAt.{fixed-at, plain-at}
 use Rattle.form.proofs.Lengths.{givensWidth, given-length}

@@ -5,17 +5,17 @@ use Prim.Native.Nat.{ℕ, _+_, _*_, _≤_}
 use native.Mathlib.Omega.{arith}
 use lib.ListN.{length, drop, getD}
 use lib.Seq.{drop-length}
-use Rattle.symbols.specs.Kinds as kind
-use Rattle.symbols.specs.Kinds.{Kind, codeOf}
-use Rattle.symbols.specs.Symbols.{Symbol, fixed}
+use Rattle.lexical.specs.Kinds as kind
+use Rattle.lexical.specs.Kinds.{Kind, codeOf}
+use Rattle.lexical.specs.Symbols.{Symbol, fixed}
 use Rattle.form.specs.Tree.{Dossier}
 use Rattle.form.specs.Written.{aGiven, anOperation, bare, writeEntries, writeContents}
 use Rattle.form.specs.Form.{Grouped}
 use Rattle.form.specs.Headings.{givensAt, abstractAt, concreteAt, ainitAt, cinitAt, retrieveAt, operationsAt}
 use Rattle.form.specs.Codes.{Numbering, predWidth, entryCodes, givenCodes, stateCodes, conditionCodes, operationCodes, contentsCodes, dossierCodes}
 use Rattle.form.proofs.Plain.{plainEntries, plainGivens, plainState, plainWhere, plainBodies, bodiesOf, dossier-plain}
-use Rattle.parser.specs.Inner.{codes}
-use Rattle.parser.specs.Derived.{Derives, aDossier, dossier}
+use Rattle.form_nodes.specs.Inner.{codes}
+use Rattle.form_nodes.specs.Derived.{Derives, aDossier, dossier}
 use Rattle.parser.proofs.Standing.{values, Text, DossierAt}
 use Rattle.parser.proofs.SymbolAt.{fixed-at}
 use Rattle.form.proofs.Lengths.{givensWidth, givens-length}

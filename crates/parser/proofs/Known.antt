@@ -2,9 +2,9 @@
 use mathlib.Core.Path.{refl}
 use mathlib.Core.List.{List, [], _∷_, map}
 use Prim.Native.Nat.{ℕ, suc, _+_}
-use Rattle.symbols.specs.Kinds as kind
-use Rattle.symbols.specs.Kinds.{Kind}
-use Rattle.symbols.specs.Symbols.{Symbol}
+use Rattle.lexical.specs.Kinds as kind
+use Rattle.lexical.specs.Kinds.{Kind}
+use Rattle.lexical.specs.Symbols.{Symbol}
 use Rattle.form.specs.Tree.{Letters, Given, Operation, Dossier}
 use Rattle.form.specs.Written.{Mark, aGiven, anOperation, Written, bare, writeEntries, writeGivens, writeState, writeWhere}
 use Rattle.form.specs.Written.{writeOperations, writeContents, written, symbolsOf}

@@ -1,15 +1,5 @@
 -- What the code of the form pass counts on.
-pub mod Classes
-pub mod Reading
-pub mod Stepping
-pub mod RangeEnds
-pub mod Alike
-pub mod RightSides
-pub mod Writing
-pub mod Numbers
-pub mod Showing
 pub mod Standing
-pub mod Making
 pub mod SymbolAt
 pub mod OperatorAt
 pub mod Behind
@@ -34,6 +24,4 @@ pub mod Titled
 pub mod Known
 pub mod Answered
 pub mod Placing
-pub mod Listing
-pub mod ListNodes
 pub mod BodyNodes

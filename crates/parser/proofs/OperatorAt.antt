@@ -7,9 +7,9 @@ use native.Mathlib.Omega.{arith}
 use lib.Dec.{eqb}
 use lib.ListN.{getD}
 use borrow.Author.Tests.{eqb-true, eqb-false}
-use Rattle.symbols.specs.Kinds as kind
-use Rattle.symbols.specs.Kinds.{Kind, codeOf, lookup}
-use Rattle.symbols.specs.Symbols.{Symbol}
+use Rattle.lexical.specs.Kinds as kind
+use Rattle.lexical.specs.Kinds.{Kind, codeOf, lookup}
+use Rattle.lexical.specs.Symbols.{Symbol}
 use Rattle.form.specs.Tree.{negate, size, dom, ran, Operator, plus, minus, union, without, times, inter, quotient, remainder}
 use Rattle.form.specs.Tree.{Connective, and, or, implies, iff, forall, exists, exists1, equals, differs, less, atMost, isIn, notIn, relation, partial, total}
 use Rattle.form.specs.Written.{prefixKind, operatorKind, divisionKind, connectiveKind, quantifierKind, comparisonKind, membershipKind, arrowKind}
@@ -18,9 +18,9 @@ use Rattle.form.specs.Machine as machine
 use Rattle.form.specs.Machine.{starts}
 use Rattle.form.specs.Codes.{Numbering}
 use Rattle.form.proofs.Table.{by-table, isFixed, _&_}
-use Rattle.parser.specs.Inner.{codes, Classes, Starts, operators, connectives, predStarts, relations}
-use Rattle.parser.specs.Derived.{MemberAt}
-use Rattle.parser.specs.declared.kinds.Start.the-variants.{Leaf, Prefix as PrefixStart}
+use Rattle.form_nodes.specs.Inner.{codes, Classes, Starts, operators, connectives, predStarts, relations}
+use Rattle.form_nodes.specs.Derived.{MemberAt}
+use Rattle.form_nodes.specs.declared.kinds.Start.the-variants.{Leaf, Prefix as PrefixStart}
 use Rattle.parser.proofs.Standing.{Text}
 use Rattle.parser.proofs.SymbolAt.{SortAt, SortOf, sort-at, class-at, coded-at}
 

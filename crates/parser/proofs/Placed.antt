@@ -5,7 +5,7 @@ use Prim.Native.Nat.{ℕ, _+_, _≤_}
 use native.Mathlib.Omega.{arith}
 use lib.ListN.{length, take, length-append}
 use lib.Seq.{length-take-le}
-use Rattle.symbols.specs.Kinds as kind
+use Rattle.lexical.specs.Kinds as kind
 use Rattle.form.specs.Tree.{Dossier}
 use Rattle.form.specs.Written.{writeEntries, aGiven}
 use Rattle.form.specs.Headings.{givensAt, abstractAt, concreteAt, ainitAt, cinitAt, retrieveAt, operationsAt}

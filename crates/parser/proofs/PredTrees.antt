@@ -7,15 +7,15 @@ use native.Mathlib.Omega.{arith}
 use native.Mathlib.Numerals.{add-one}
 use lib.Dec.{eqb}
 use lib.ListN.{getD}
-use Rattle.symbols.specs.Kinds as kind
-use Rattle.symbols.specs.Kinds.{codeOf}
-use Rattle.symbols.specs.Symbols.{Symbol, fixed}
+use Rattle.lexical.specs.Kinds as kind
+use Rattle.lexical.specs.Kinds.{codeOf}
+use Rattle.lexical.specs.Symbols.{Symbol, fixed}
 use Rattle.form.specs.Tree.{Connective, and, or, implies, iff, truth, falsity, negation, paren, quantified, connected, compared, member, within, related}
 use Rattle.form.specs.Form.{connectiveLevel, leftLevel, rightLevel, predLevel, PredGrouped}
 use Rattle.form.specs.Codes.{Numbering, node, predCodes, domainWidth}
 use Rattle.form.proofs.Plain.{plainPred}
-use Rattle.parser.specs.Inner.{codes, Classes, connectives, predStarts, relations}
-use Rattle.parser.specs.Derived.{nameCode, rangeNode, domainNode, MemberAt, RangeAt, DomainAt}
+use Rattle.form_nodes.specs.Inner.{codes, Classes, connectives, predStarts, relations}
+use Rattle.form_nodes.specs.Derived.{nameCode, rangeNode, domainNode, MemberAt, RangeAt, DomainAt}
 use Rattle.parser.proofs.Standing.{values, Text}
 use Rattle.parser.proofs.SymbolAt.{Step, fixed-at, plain-at}
 use Rattle.parser.proofs.OperatorAt.{truthKind, truth-at, not-at, comparison-at, membership-at, quantifier-at, connective-at}

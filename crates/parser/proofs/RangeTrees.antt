@@ -7,17 +7,17 @@ use native.Mathlib.Omega.{arith}
 use lib.Dec.{eqb}
 use lib.ListN.{length, drop, getD}
 use borrow.Author.Tests.{le-ltb, le-leb, lt-leb, eq-eqb, ne-eqb}
-use Rattle.symbols.specs.Kinds as kind
-use Rattle.symbols.specs.Kinds.{codeOf}
-use Rattle.symbols.specs.Symbols.{Symbol}
+use Rattle.lexical.specs.Kinds as kind
+use Rattle.lexical.specs.Kinds.{codeOf}
+use Rattle.lexical.specs.Symbols.{Symbol}
 use Rattle.form.specs.Tree.{End, Range, Domain, givenSet, range, Arrow, relation, partial, total, TypeForm, givenType, powerType, rangeType, arrowType}
 use Rattle.form.specs.Written.{arrowKind}
 use Rattle.form.specs.Codes.{Numbering, node, endWidth, endNumber, rangeCodes, domainCodes, domainWidth, typeWidth, typeCodes, arrowNumber}
 use Rattle.form.proofs.Plain.{plainEnd, plainRange, plainDomain, plainType}
-use Rattle.parser.specs.Inner.{codes}
-use Rattle.parser.specs.Derived.{nameCode, lowered, raised, endCode, magnitudeCode, rangeNode, isNameCode, domainNode, EndAt, positive, negative, RangeAt, ranges}
-use Rattle.parser.specs.Derived.{DomainAt, Derives, aType}
-use Rattle.parser.specs.Derived as derived
+use Rattle.form_nodes.specs.Inner.{codes}
+use Rattle.form_nodes.specs.Derived.{nameCode, lowered, raised, endCode, magnitudeCode, rangeNode, isNameCode, domainNode, EndAt, positive, negative, RangeAt, ranges}
+use Rattle.form_nodes.specs.Derived.{DomainAt, Derives, aType}
+use Rattle.form_nodes.specs.Derived as derived
 use Rattle.parser.proofs.Standing.{values, Text}
 use Rattle.parser.proofs.SymbolAt.{fixed-at, number-at, name-at}
 use Rattle.parser.proofs.OperatorAt.{arrow-at}

@@ -7,7 +7,7 @@ use Prim.Native.Nat.{ℕ, _≤_}
 use native.Mathlib.Omega.{arith}
 use borrow.Author.Tests.{le-ltb}
 use lib.Dec.{eqb, ltb}
-use Rattle.symbols.specs.Refusals.{Refusal, Fault, fault, headingDiffers, numberOf, before, lesser, least}
+use Rattle.lexical.specs.Refusals.{Refusal, Fault, fault, headingDiffers, numberOf, before, lesser, least}
 use Rattle.symbols.proofs.Tests.{and-right-false}
 use Rattle.parser.specs.Sections.{Finds}
 use Rattle.parser.specs.declared.headings.Heads.{Heads}

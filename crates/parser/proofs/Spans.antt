@@ -4,7 +4,7 @@ use mathlib.Core.List.{List, [], _++_}
 use Prim.Native.Nat.{ℕ, _+_, _≤_}
 use native.Mathlib.Omega.{arith}
 use lib.ListN.{length, drop, length-append, length-drop, length-map}
-use Rattle.symbols.specs.Symbols.{Symbol}
+use Rattle.lexical.specs.Symbols.{Symbol}
 use Rattle.form.specs.Tree.{Domain, Term, Pred, TypeForm}
 use Rattle.form.specs.Written.{Written, writeDomain, writeTerm, writePred, writeType}
 use Rattle.form.specs.Form.{termLevel, predLevel, TermGrouped, PredGrouped}

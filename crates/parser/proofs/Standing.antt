@@ -3,8 +3,8 @@ use mathlib.Core.Path.{_≡_}
 use mathlib.Core.List.{List, map}
 use Prim.Native.Nat.{ℕ, _≤_}
 use lib.ListN.{getD}
-use Rattle.symbols.specs.Kinds as kind
-use Rattle.symbols.specs.Symbols.{Symbol, fixed, numeral, name}
+use Rattle.lexical.specs.Kinds as kind
+use Rattle.lexical.specs.Symbols.{Symbol, fixed, numeral, name}
 use Rattle.form.specs.Tree.{Dossier}
 use Rattle.form.specs.Form.{Whole}
 use Rattle.form.specs.Codes.{Numbering, dossierCodes}

@@ -9,19 +9,19 @@ use lib.Dec.{ltb}
 use lib.ListN.{length, drop, getD, List·getD-map}
 use lib.Seq.{drop-cons}
 use borrow.Author.Tests.{le-ltb, leb-true, le-leb}
-use Rattle.symbols.specs.Kinds as kind
-use Rattle.symbols.specs.Kinds.{Kind, codeOf}
-use Rattle.symbols.specs.Symbols.{Symbol, fixed, numeral, name, Name, Ending, noEnding, prime, query, shriek, kindOf, kindOfName}
+use Rattle.lexical.specs.Kinds as kind
+use Rattle.lexical.specs.Kinds.{Kind, codeOf}
+use Rattle.lexical.specs.Symbols.{Symbol, fixed, numeral, name, Name, Ending, noEnding, prime, query, shriek, kindOf, kindOfName}
 use Rattle.form.specs.Tree.{Letters, Direction, inward, outward}
 use Rattle.form.specs.Written.{endingOf}
 use Rattle.form.specs.Form.{kindAt}
 use Rattle.form.specs.Codes.{Numbering, endingNumber, numberOfName, nameNumber}
 use Rattle.form.proofs.Table.{kind-back, isFixed, Spelled, AllSpelled, Each, by-table}
 use Rattle.form.proofs.Plain.{named}
-use Rattle.parser.specs.Inner.{codes, Classes}
-use Rattle.parser.specs.Derived.{nameCode, NameAt}
-use Rattle.parser.proofs.Reading.{code-at}
-use Rattle.parser.proofs.Classes.{told}
+use Rattle.form_nodes.specs.Inner.{codes, Classes}
+use Rattle.form_nodes.specs.Derived.{nameCode, NameAt}
+use Rattle.form_nodes.proofs.Reading.{code-at}
+use Rattle.form_nodes.proofs.Classes.{told}
 use Rattle.parser.proofs.Standing.{valueBy, values, Small, Text}
 
 -- a kind is told by its code

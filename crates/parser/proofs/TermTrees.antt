@@ -8,19 +8,19 @@ use native.Mathlib.Numerals.{add-one}
 use lib.Dec.{eqb}
 use lib.ListN.{length, drop, getD}
 use borrow.Author.Tests.{eq-eqb, ne-eqb}
-use Rattle.symbols.specs.Kinds as kind
-use Rattle.symbols.specs.Kinds.{codeOf}
-use Rattle.symbols.specs.Symbols as symbol
-use Rattle.symbols.specs.Symbols.{Symbol, fixed, numeral}
+use Rattle.lexical.specs.Kinds as kind
+use Rattle.lexical.specs.Kinds.{codeOf}
+use Rattle.lexical.specs.Symbols as symbol
+use Rattle.lexical.specs.Symbols.{Symbol, fixed, numeral}
 use Rattle.form.specs.Tree.{Division, quotient, remainder}
 use Rattle.form.specs.Tree.{number, name, group, prefix, binary, divided, listed, pairs, such, emptySet, emptyPairs, Items, only, also, Pairs, onlyPair, alsoPair}
 use Rattle.form.specs.Written.{divisionKind}
 use Rattle.form.specs.Form.{termLevel, TermGrouped, ItemsGrouped, PairsGrouped}
 use Rattle.form.specs.Codes.{Numbering, node, termCodes, itemsCodes, pairsCodes, signOf, divisionNumber}
 use Rattle.form.proofs.Plain.{plainTerm, plainItems, plainPairs}
-use Rattle.parser.specs.Inner.{codes, Classes, Starts, operators}
-use Rattle.parser.specs.Derived.{nameCode, magnitudeCode, divisionCode, leafNode, NameAt, EndAt}
-use Rattle.parser.specs.declared.kinds.Start.the-variants.{Leaf, Prefix}
+use Rattle.form_nodes.specs.Inner.{codes, Classes, Starts, operators}
+use Rattle.form_nodes.specs.Derived.{nameCode, magnitudeCode, divisionCode, leafNode, NameAt, EndAt}
+use Rattle.form_nodes.specs.declared.kinds.Start.the-variants.{Leaf, Prefix}
 use Rattle.parser.proofs.Standing.{values, Text}
 use Rattle.parser.proofs.SymbolAt.{Place, place, fixed-at, ending-code, named-at, name-at, plain-at}
 use Rattle.parser.proofs.OperatorAt.{leaf-kind, prefix-at, operator-at, division-at}

@@ -10,21 +10,21 @@ use lib.Dec.{eqb, leb, ltb}
 use lib.ListN.{length, take, drop, getD, length-map}
 use lib.Seq.{take-all, take-at}
 use borrow.Author.Tests.{leb-true, ltb-false, le-ltb, eqb-false}
-use Rattle.symbols.specs.Lists.{bytes, begins, all, any}
-use Rattle.symbols.specs.Kinds as kind
-use Rattle.symbols.specs.Kinds.{Kind, codeOf, marks, words}
-use Rattle.symbols.specs.Refusals.{Fault, fault, least, longText, manySymbols}
-use Rattle.symbols.specs.Symbols.{Class, letter, digit, mark, blank, other, Ending, noEnding, prime, query, shriek, Name, Symbol, fixed, numeral, name, kindOf, Found, gap, unlisted, found}
-use Rattle.symbols.specs.Symbols.{classOf, isDigit, run, decimalFrom, isNumber, numberFound, reserved, endingOf, endingLength, wordOf, longer, longest, byClass, symbolAt}
-use Rattle.symbols.specs.Symbols.{Placed, Scan, done, stopped, next, scanned, scanFrom, scan, symbols, lengthFaults, scanFaults}
-use Rattle.symbols.specs.Promises.{codeIn, taken, filled, firstOf, faultOf, faultIn, written, hasLetters, firstNamed, valueAt, Scans}
-use Rattle.symbols.specs.declared.Scanned.{Scanned}
-use Rattle.symbols.specs.declared.Scanned.the-variants.{Symbols, LongText, UnlistedSymbol, ManySymbols}
+use Rattle.lexical.specs.Lists.{bytes, begins, all, any}
+use Rattle.lexical.specs.Kinds as kind
+use Rattle.lexical.specs.Kinds.{Kind, codeOf, marks, words}
+use Rattle.lexical.specs.Refusals.{Fault, fault, least, longText, manySymbols}
+use Rattle.lexical.specs.Symbols.{Class, letter, digit, mark, blank, other, Ending, noEnding, prime, query, shriek, Name, Symbol, fixed, numeral, name, kindOf, Found, gap, unlisted, found}
+use Rattle.lexical.specs.Symbols.{classOf, isDigit, run, decimalFrom, isNumber, numberFound, reserved, endingOf, endingLength, wordOf, longer, longest, byClass, symbolAt}
+use Rattle.lexical.specs.Symbols.{Placed, Scan, done, stopped, next, scanned, scanFrom, scan, symbols, lengthFaults, scanFaults}
+use Rattle.lexical.specs.Promises.{codeIn, taken, filled, firstOf, faultOf, faultIn, written, hasLetters, firstNamed, valueAt, Scans}
+use Rattle.lexical.specs.declared.Scanned.{Scanned}
+use Rattle.lexical.specs.declared.Scanned.the-variants.{Symbols, LongText, UnlistedSymbol, ManySymbols}
 use Rattle.symbols.proofs.Tests.{and-right}
-use Rattle.symbols.proofs.WordLaws.{same-refl}
+use Rattle.lexical.proofs.WordLaws.{same-refl}
 use Rattle.symbols.proofs.ValueLaws.{Named, same-value}
 use Rattle.form.proofs.Scanned.{scan-spelled}
-use Rattle.parser.specs.Inner.{codes}
+use Rattle.form_nodes.specs.Inner.{codes}
 use Rattle.parser.specs.Promises.{textSymbols, numbering}
 use Rattle.parser.proofs.Standing.{valueBy, values, Small, Text}
 use Rattle.parser.specs.Sections.{Tells}

@@ -4,10 +4,10 @@ use mathlib.Core.List.{List, [], _∷_, _++_, append-assoc}
 use Prim.Native.Nat.{ℕ, suc, _+_, _≤_}
 use native.Mathlib.Omega.{arith}
 use lib.ListN.{length, length-map}
-use Rattle.symbols.specs.Kinds as kind
-use Rattle.symbols.specs.Lists.{same}
-use Rattle.symbols.specs.Refusals.{Fault, fault, headingDiffers, unless}
-use Rattle.symbols.specs.Symbols.{noEnding}
+use Rattle.lexical.specs.Kinds as kind
+use Rattle.lexical.specs.Lists.{same}
+use Rattle.lexical.specs.Refusals.{Fault, fault, headingDiffers, unless}
+use Rattle.lexical.specs.Symbols.{noEnding}
 use Rattle.form.specs.Tree.{Letters, Given, elements, Operation, Dossier}
 use Rattle.form.specs.Written.{Written, bare, writeContents, writeGivens, writeState, writeWhere, writeOperations, written, symbolsOf}
 use Rattle.form.specs.Headings.{givensAt, abstractAt, concreteAt, ainitAt, cinitAt, retrieveAt, operationsAt, givenLength, operationLength, givenHeadings}

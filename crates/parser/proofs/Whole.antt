@@ -5,11 +5,11 @@ use mathlib.Core.Option.{Option, none, some}
 use Prim.Native.Nat.{ℕ, _≤_}
 use lib.ListN.{length, take, drop, getD, length-map}
 use lib.Seq.{length-take-le}
-use Rattle.symbols.specs.Symbols.{Symbol, scan, symbols, placeAt}
-use Rattle.symbols.specs.Refusals.{Refusal, Fault, fault, numberOf, least, headingDiffers}
-use Rattle.symbols.specs.Promises.{Scans, faultOf}
-use Rattle.symbols.specs.declared.Scanned.{Scanned}
-use Rattle.symbols.specs.declared.Scanned.the-variants.{Symbols}
+use Rattle.lexical.specs.Symbols.{Symbol, scan, symbols, placeAt}
+use Rattle.lexical.specs.Refusals.{Refusal, Fault, fault, numberOf, least, headingDiffers}
+use Rattle.lexical.specs.Promises.{Scans, faultOf}
+use Rattle.lexical.specs.declared.Scanned.{Scanned}
+use Rattle.lexical.specs.declared.Scanned.the-variants.{Symbols}
 use Rattle.form.specs.Tree.{Dossier}
 use Rattle.form.specs.Written.{symbolsOf}
 use Rattle.form.specs.Form.{refused, formed, FormOf, Forms}
@@ -19,13 +19,13 @@ use Rattle.form.specs.Headings.{headingFaults}
 use Rattle.form.specs.Codes.{dossierCodes}
 use Rattle.form.proofs.Table.{AllSpelled}
 use Rattle.form.proofs.FormOf.{form-of}
-use Rattle.parser.specs.Inner.{codes, Left, refusalNumbered}
-use Rattle.parser.specs.Derived.{Derives, aDossier}
+use Rattle.form_nodes.specs.Inner.{codes, Left, refusalNumbered}
+use Rattle.form_nodes.specs.Derived.{Derives, aDossier}
 use Rattle.parser.specs.Sections.{Tells, Headed, Finds}
 use Rattle.parser.specs.Promises.{textSymbols, numbering, Answers, AnswersHeadings, Parses}
-use Rattle.parser.specs.Dossiers.{Formed}
-use Rattle.parser.specs.declared.Read.{Read}
-use Rattle.parser.specs.declared.Read.the-variants as read
+use Rattle.declarations.specs.Dossiers.{Formed}
+use Rattle.form_nodes.specs.declared.Read.{Read}
+use Rattle.form_nodes.specs.declared.Read.the-variants as read
 use Rattle.parser.specs.declared.Parsed.{Parsed}
 use Rattle.parser.specs.declared.Parsed.the-variants.{Structure, Refused}
 use Rattle.parser.specs.declared.headings.Heads.{Heads}

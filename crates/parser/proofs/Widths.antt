@@ -4,9 +4,9 @@ use mathlib.Core.List.{List, [], _∷_, _++_}
 use Prim.Native.Nat.{ℕ, suc, _+_, _*_}
 use native.Mathlib.Omega.{arith}
 use lib.ListN.{length, length-append, length-map}
-use Rattle.symbols.specs.Kinds as kind
-use Rattle.symbols.specs.Kinds.{Kind}
-use Rattle.symbols.specs.Symbols.{Symbol}
+use Rattle.lexical.specs.Kinds as kind
+use Rattle.lexical.specs.Kinds.{Kind}
+use Rattle.lexical.specs.Symbols.{Symbol}
 use Rattle.form.specs.Tree.{Letters, Pred, Declaration, declarations, Parameter, State, Operation}
 use Rattle.form.specs.Written.{Mark, Written, bare, inputsAfter, outputsAfter, writePred, writeEntries}
 use Rattle.form.specs.Written.{writeDeclarations, writeWhere, writeState, writeParameters, writeOperations}

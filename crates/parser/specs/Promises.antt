@@ -4,10 +4,10 @@ use mathlib.Core.List.{List, map, _++_}
 use mathlib.Core.Option.{Option, none, some}
 use Prim.Native.Nat.{ℕ}
 use lib.ListN.{length, drop}
-use Rattle.symbols.specs.Symbols.{Symbol, Placed, scan, symbols, placeAt}
-use Rattle.symbols.specs.Refusals.{Refusal, Fault, fault, numberOf, least}
-use Rattle.symbols.specs.Promises.{Scans, faultOf, firstNamed}
-use Rattle.symbols.specs.declared.Scanned.{Scanned}
+use Rattle.lexical.specs.Symbols.{Symbol, Placed, scan, symbols, placeAt}
+use Rattle.lexical.specs.Refusals.{Refusal, Fault, fault, numberOf, least}
+use Rattle.lexical.specs.Promises.{Scans, faultOf, firstNamed}
+use Rattle.lexical.specs.declared.Scanned.{Scanned}
 use Rattle.form.specs.Tree.{Letters, Dossier}
 use Rattle.form.specs.Form.{Outcome, refused, formed, FormOf}
 use Rattle.form.specs.Headings.{headingFaults}

@@ -6,9 +6,9 @@ use mathlib.Core.Option.{none, some}
 use Prim.Native.Nat.{ℕ, _+_, _≤_, _<_}
 use lib.Dec.{eqb}
 use lib.ListN.{length, take, getD}
-use Rattle.symbols.specs.Kinds as kind
-use Rattle.symbols.specs.Symbols.{Name, Symbol, fixed, name}
-use Rattle.symbols.specs.Refusals.{Fault, fault, headingDiffers, least}
+use Rattle.lexical.specs.Kinds as kind
+use Rattle.lexical.specs.Symbols.{Name, Symbol, fixed, name}
+use Rattle.lexical.specs.Refusals.{Fault, fault, headingDiffers, least}
 use Rattle.form.specs.Tree.{Dossier}
 use Rattle.form.specs.Written.{symbolsOf}
 use Rattle.form.specs.Headings.{headingFaults, givensAt, abstractAt, concreteAt, ainitAt, cinitAt, retrieveAt}

@@ -3,32 +3,22 @@ ghost use mathlib.Core.Path.{_≡_};
 ghost use mathlib.Core.Option.{none};
 ghost use Prim.Native.Nat.{_≤_};
 ghost use lib.ListN.{length, take, getD};
-ghost use Rattle.symbols.specs.Refusals.{numberOf};
-ghost use Rattle.parser.specs.Inner.{Left, refusalNumbered};
+ghost use Rattle.lexical.specs.Refusals.{numberOf};
+ghost use Rattle.form_nodes.specs.Inner.{Left, refusalNumbered};
 ghost use Rattle.parser.specs.Promises.{Answers, Parses};
 use crate::bodies::dossier;
 use crate::copies::copy_nodes;
 use crate::headings::Heads;
 use crate::headings::headings;
 use crate::sections::wide;
-use symbols::Scanned;
+use form_nodes::Read;
+use lexical::Scanned;
 use symbols::scan;
 
 mod bodies;
-mod contents;
 mod copies;
 mod headings;
-mod kinds;
-mod nodes;
-mod ranges;
 pub mod sections;
-mod trees;
-
-// The place behind what was read, and how many numbers are written; or the place of a fault, and the refusal's number.
-pub enum Read {
-    At(usize, usize),
-    Fault(usize, u8),
-}
 
 // How many symbols and how many numbers of nodes a text has; or the number of its refusal, and the place.
 pub enum Parsed {

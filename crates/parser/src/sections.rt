@@ -2,7 +2,7 @@
 ghost use mathlib.Core.Path.{_≡_};
 ghost use Prim.Native.Nat.{_≤_};
 ghost use Rattle.parser.specs.Sections.{Part, Sized, Skips, Inside, RunsTo, Behind, Sectioned};
-use crate::kinds::value_at;
+use form_nodes::kinds::value_at;
 
 // The numbers at which begin the contents' entries of operations, the given sets, the two states, the three conditions and the operations.
 pub struct Bounds {

@@ -5,11 +5,11 @@ use mathlib.Core.List.{List, [], _∷_, map}
 use Prim.Native.Nat.{ℕ}
 use Prim.Native.String.{String}
 use lib.Dec.{eqb}
-use Rattle.symbols.specs.Lists.{bytes, same, begins, all, any}
-use Rattle.symbols.specs.Kinds.{Kind, number, plain, primed, input, output, colon, upTo, less, atMost, iff, minus, total, relation, maplet, implies, IN, EXISTS, EXISTS1, codeOf}
-use Rattle.symbols.specs.Refusals.{Fault, fault, unlistedSymbol, numberOf}
-use Rattle.symbols.specs.Symbols.{Placed, kindOf, scan, scanFrom, symbols, scanFaults, symbolAt, byClass, longest, wordOf, endingOf, reserved, numberFound, isNumber, decimalFrom, run, classOf, between}
-use Rattle.symbols.specs.Promises.{valueIn, firstNamed}
+use Rattle.lexical.specs.Lists.{bytes, same, begins, all, any}
+use Rattle.lexical.specs.Kinds.{Kind, number, plain, primed, input, output, colon, upTo, less, atMost, iff, minus, total, relation, maplet, implies, IN, EXISTS, EXISTS1, codeOf}
+use Rattle.lexical.specs.Refusals.{Fault, fault, unlistedSymbol, numberOf}
+use Rattle.lexical.specs.Symbols.{Placed, kindOf, scan, scanFrom, symbols, scanFaults, symbolAt, byClass, longest, wordOf, endingOf, reserved, numberFound, isNumber, decimalFrom, run, classOf, between}
+use Rattle.lexical.specs.Promises.{valueIn, firstNamed}
 
 -- the kinds of a text's symbols, or the place of what is not listed
 pub data Sample : Type 0 where

@@ -5,11 +5,11 @@ use mathlib.Core.List.{List, [], _∷_}
 use Prim.Native.Nat.{ℕ, zero, suc}
 use native.Mathlib.Omega.{arith}
 use lib.ListN.{getD}
-use Rattle.symbols.specs.Lists.{same, any}
-use Rattle.symbols.specs.Symbols.{Symbol, fixed, numeral, name, Placed}
-use Rattle.symbols.specs.Promises.{hasLetters, firstNamed}
-use Rattle.symbols.proofs.WordLaws.{same-true}
-use Rattle.symbols.proofs.SoundLaws.{nowhere}
+use Rattle.lexical.specs.Lists.{same, any}
+use Rattle.lexical.specs.Symbols.{Symbol, fixed, numeral, name, Placed}
+use Rattle.lexical.specs.Promises.{hasLetters, firstNamed}
+use Rattle.lexical.proofs.WordLaws.{same-true}
+use Rattle.name_numbers.proofs.SoundLaws.{nowhere}
 
 -- some symbol is a name with these letters
 abbrev pub Named : List ℕ → List Placed → Type 0

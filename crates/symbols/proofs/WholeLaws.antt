@@ -9,14 +9,14 @@ use lib.Dec.{ltb}
 use borrow.Author.Tests.{le-ltb, lt-ltb}
 use lib.ListN.{length, take, drop, getD, length-map}
 use lib.Seq.{take-all, take-at, drop-at}
-use Rattle.symbols.specs.Refusals.{Fault, fault, lesser, least, longText}
-use Rattle.symbols.specs.Symbols.{Symbol, Placed, scan, symbols, scanFaults, lengthFaults}
-use Rattle.symbols.specs.Promises.{codeIn, numberIn, valueIn, valueAt, faultOf, taken, filled, firstOf, faultIn, written, Scans}
-use Rattle.symbols.specs.Inner.{filledNumbers, filledValues, Takes, Rows}
-use Rattle.symbols.specs.declared.Scanned.{Scanned}
-use Rattle.symbols.specs.declared.Scanned.the-variants.{Symbols, LongText, UnlistedSymbol, ManySymbols}
-use Rattle.symbols.proofs.RowLaws.{filled-at}
-use Rattle.symbols.proofs.SoundLaws.{map-at}
+use Rattle.lexical.specs.Refusals.{Fault, fault, lesser, least, longText}
+use Rattle.lexical.specs.Symbols.{Symbol, Placed, scan, symbols, scanFaults, lengthFaults}
+use Rattle.lexical.specs.Promises.{codeIn, numberIn, valueIn, valueAt, faultOf, taken, filled, firstOf, faultIn, written, Scans}
+use Rattle.lexical.specs.Inner.{filledNumbers, filledValues, Takes, Rows}
+use Rattle.lexical.specs.declared.Scanned.{Scanned}
+use Rattle.lexical.specs.declared.Scanned.the-variants.{Symbols, LongText, UnlistedSymbol, ManySymbols}
+use Rattle.name_numbers.proofs.RowLaws.{filled-at}
+use Rattle.name_numbers.proofs.SoundLaws.{map-at}
 
 -- a text that is too long
 pub scans-long : (text codes starts values : List ℕ) → 32768 < length text → Scans text codes starts values codes starts values LongText

@@ -1,37 +1,10 @@
 // Bytes to symbols (document 01, "Symbols"): the lowest layer of the reader.
-ghost use Rattle.symbols.specs.Promises.{Scans};
+ghost use Rattle.lexical.specs.Promises.{Scans};
+use crate::texts::scan_symbols;
+use lexical::Scanned;
+use name_numbers::numbering::number_names;
 
-mod classes;
-pub mod codes;
-mod marks;
-mod names;
-mod numbers;
 mod texts;
-mod words;
-
-// The class of a byte.
-pub enum Class {
-    Letter,
-    Digit,
-    Mark,
-    Blank,
-    Other,
-}
-
-// What stands at a place: a blank; nothing that is listed; or a symbol, by its code, its length and the value of a number.
-pub enum Token {
-    Gap,
-    Unlisted,
-    Listed(u8, usize, u16),
-}
-
-// The count of the symbols, or number 1, 2 or 3 and its place.
-pub enum Scanned {
-    Symbols(usize),
-    LongText,
-    UnlistedSymbol(usize),
-    ManySymbols(usize),
-}
 
 // The symbols of a text: their codes, the places of their first bytes, and their values.
 pub fn scan(
@@ -45,10 +18,10 @@ pub fn scan(
     if 32768 < text.len() {
         return Scanned::LongText;
     }
-    let r = texts::scan_symbols(text, codes, starts, values);
+    let r = scan_symbols(text, codes, starts, values);
     match r {
         Scanned::Symbols(n) => {
-            names::number_names(text, codes, starts, values, n);
+            number_names(text, codes, starts, values, n);
             Scanned::Symbols(n)
         }
         Scanned::LongText => Scanned::LongText,

@@ -2,15 +2,15 @@
 ghost use mathlib.Core.Path.{_≡_};
 ghost use Prim.Native.Nat.{_≤_, _<_};
 ghost use lib.ListN.{length, drop};
-ghost use Rattle.symbols.specs.Symbols.{symbolAt};
-ghost use Rattle.symbols.specs.Inner.{tokenOf, Takes};
-use crate::Class;
-use crate::Scanned;
-use crate::Token;
-use crate::classes::class_of;
-use crate::marks::mark_at;
-use crate::numbers::number_at;
-use crate::words::word_at;
+ghost use Rattle.lexical.specs.Symbols.{symbolAt};
+ghost use Rattle.lexical.specs.Inner.{tokenOf, Takes};
+use lexical::Class;
+use lexical::Scanned;
+use lexical::Token;
+use lexical::classes::class_of;
+use lexical::marks::mark_at;
+use lexical::numbers::number_at;
+use lexical::words::word_at;
 
 // What stands at `at`.
 pub(crate) fn token_at(s: &[u8], at: usize) -> Token

@@ -4,25 +4,25 @@ use mathlib.Core.List.{List, [], _∷_, _++_, map, append-assoc}
 use Prim.Native.Nat.{ℕ, _+_, _≤_}
 use native.Mathlib.Omega.{arith}
 use lib.ListN.{length, replicate, length-replicate}
-use Rattle.symbols.specs.Symbols.{Name}
+use Rattle.lexical.specs.Symbols.{Name}
 use Rattle.form.specs.Tree.{Letters, Operation, Dossier}
 use Rattle.form.specs.Headings.{operationsAt, operationLength}
 use Rattle.form.specs.Codes.{Numbering, nameNumber}
-use Rattle.reader.specs.Carriers.{Variable}
-use Rattle.reader.specs.Scope.{Context, abstractTaken, concreteTaken, unprimed, primed, inputs, outputs, operationReach, operationContexts, contexts}
-use Rattle.reader.specs.Names.{nameFaults}
-use Rattle.names.specs.Inner.{entry}
+use Rattle.static_rules.specs.Carriers.{Variable}
+use Rattle.static_rules.specs.Scope.{Context, abstractTaken, concreteTaken, unprimed, primed, inputs, outputs, operationReach, operationContexts, contexts}
+use Rattle.static_rules.specs.Names.{nameFaults}
+use Rattle.type_rules.specs.Inner.{entry}
 use Rattle.names.proofs.Showing.{Numbered}
 use Rattle.names.proofs.PassedGivens.{Holds}
 use Rattle.names.proofs.PassedStates.{scope}
 use Rattle.names.proofs.PassedOperations.{OperationsIn, no-operations, one-operation}
 use Rattle.names.proofs.Passed.{DossierIn}
-use Rattle.tables.specs.Table.{Places}
-use Rattle.tables.specs.Resolved.{Slots, slotted}
-use Rattle.tables.specs.Dossiers.{abstractSlots, concreteSlots, parameterSlots, operationSlots, slotsOf}
-use Rattle.tables.specs.Passes.{parametersPlaced, operationPlaces, placesOf}
-use Rattle.tables.specs.Searching.{FewEach, few-none, few-more, Few}
-use Rattle.tables.proofs.ResolvingScope.{PlacesShown}
+use Rattle.table_nodes.specs.Table.{Places}
+use Rattle.table_places.specs.Resolved.{Slots, slotted}
+use Rattle.table_places.specs.Dossiers.{abstractSlots, concreteSlots, parameterSlots, operationSlots, slotsOf}
+use Rattle.table_places.specs.Passes.{parametersPlaced, operationPlaces, placesOf}
+use Rattle.search_groups.specs.Searching.{FewEach, few-none, few-more, Few}
+use Rattle.search_groups.proofs.ResolvingScope.{PlacesShown}
 use Rattle.tables.proofs.PlacingSlots.{into, joined, slotted-names, names-append, shown-by}
 use Rattle.tables.proofs.PlacingParameters.{numbered, inputs-slotted, outputs-slotted, inputs-few, outputs-few, parameters-hold}
 use Rattle.tables.proofs.PlacingStates.{Operated, none-operated, one-operated, Separate, no-faults, below}

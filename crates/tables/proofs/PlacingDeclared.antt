@@ -6,15 +6,15 @@ use mathlib.Core.Option.{Option, none, some}
 use Prim.Native.Nat.{ℕ, suc, _+_, _≤_}
 use native.Mathlib.Omega.{arith}
 use lib.ListN.{length, set}
-use Rattle.symbols.specs.Lists.{find}
-use Rattle.symbols.specs.Symbols.{Name, Ending, noEnding}
+use Rattle.lexical.specs.Lists.{find}
+use Rattle.lexical.specs.Symbols.{Name, Ending, noEnding}
 use Rattle.form.specs.Tree.{Letters, Given, Declaration}
 use Rattle.form.specs.Written.{writeType}
 use Rattle.form.specs.Codes.{Numbering, endingNumber, numberOfName, nameNumber}
-use Rattle.reader.specs.Carriers.{Carrier, Variable, endingCode, sameName, plain, carrierOf}
-use Rattle.reader.specs.Scope.{variables}
-use Rattle.reader.specs.Names.{newName, typeFaults, declarationFaults}
-use Rattle.names.specs.Passes.{variablesOf}
+use Rattle.static_rules.specs.Carriers.{Carrier, Variable, endingCode, sameName, plain, carrierOf}
+use Rattle.static_rules.specs.Scope.{variables}
+use Rattle.static_rules.specs.Names.{newName, typeFaults, declarationFaults}
+use Rattle.declared_names.specs.Passes.{variablesOf}
 use Rattle.names.proofs.Showing.{Numbered}
 use Rattle.names.proofs.JudgedLeast.{append-nil-both}
 use Rattle.names.proofs.JudgedTypes.{no-yes}
@@ -25,10 +25,10 @@ use Rattle.names.proofs.PassedUse.{inUse, use-here, use-there, new-unused}
 use Rattle.names.proofs.PassedGivens.{Holds, entered}
 use Rattle.names.proofs.PassedStates.{namesOf, variables-one}
 use Rattle.names.proofs.PassedParameters.{nameOf, no-so}
-use Rattle.tables.specs.Table.{Places}
-use Rattle.tables.specs.Resolved.{Slots, slotted}
-use Rattle.tables.specs.Passes.{placing}
-use Rattle.tables.proofs.ResolvingScope.{slotOf}
+use Rattle.table_nodes.specs.Table.{Places}
+use Rattle.table_places.specs.Resolved.{Slots, slotted}
+use Rattle.table_places.specs.Passes.{placing}
+use Rattle.search_groups.proofs.ResolvingScope.{slotOf}
 use Rattle.tables.proofs.PlacingSlots.{slot-there, Named, no-named, one-named, named-map, Once, no-once, one-once, into, write}
 
 -- declarations without faults, where the names xs are in use: each name is new, and each type has its carrier

@@ -5,24 +5,24 @@ use mathlib.Core.List.{List, [], _∷_, _++_}
 use mathlib.Core.Option.{Option, none, some}
 use Prim.Native.Nat.{ℕ, suc, _+_}
 use native.Mathlib.Omega.{arith}
-use Rattle.symbols.specs.Lists.{any, find}
-use Rattle.symbols.specs.Symbols.{Name, Ending, noEnding, prime, query, shriek}
+use Rattle.lexical.specs.Lists.{any, find}
+use Rattle.lexical.specs.Symbols.{Name, Ending, noEnding, prime, query, shriek}
 use Rattle.form.specs.Tree.{Letters, Given, elements}
 use Rattle.form.specs.Headings.{givenLength}
 use Rattle.form.specs.Codes.{Numbering}
-use Rattle.reader.specs.Carriers.{endingCode, sameName, plain}
-use Rattle.reader.specs.Scope.{elementOf, placeIn, givenNames}
-use Rattle.reader.specs.Names.{newName, elementFaults, givenFaults}
+use Rattle.static_rules.specs.Carriers.{endingCode, sameName, plain}
+use Rattle.static_rules.specs.Scope.{elementOf, placeIn, givenNames}
+use Rattle.static_rules.specs.Names.{newName, elementFaults, givenFaults}
 use Rattle.names.proofs.Showing.{Numbered}
 use Rattle.names.proofs.JudgedLeast.{append-nil-both}
 use Rattle.names.proofs.JudgedTypes.{no-yes}
 use Rattle.names.proofs.PassedUse.{inUse, use-left, use-right, use-here, use-there, elements-new, given-new, givens-new, element-use}
 use Rattle.names.proofs.PassedGivens.{AllIn, none-in, one-in, GivensIn, no-givens, one-given, Holds, entered}
 use Rattle.names.proofs.PassedParameters.{nameOf, use-ending}
-use Rattle.tables.specs.Table.{Places}
-use Rattle.tables.specs.Resolved.{Slots}
-use Rattle.tables.specs.Passes.{elementsPlaced, givensPlaced}
-use Rattle.tables.proofs.ResolvingScope.{slotOf}
+use Rattle.table_nodes.specs.Table.{Places}
+use Rattle.table_places.specs.Resolved.{Slots}
+use Rattle.table_places.specs.Passes.{elementsPlaced, givensPlaced}
+use Rattle.search_groups.proofs.ResolvingScope.{slotOf}
 use Rattle.tables.proofs.PlacingSlots.{none-some, slot-there, into, into-none, Elements, write}
 
 -- the places of elements, as slots from 64 on

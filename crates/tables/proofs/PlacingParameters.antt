@@ -7,17 +7,17 @@ use Prim.Native.Nat.{ℕ, suc, _+_, _≤_}
 use native.Mathlib.Omega.{arith}
 use lib.ListN.{length, length-map}
 use borrow.Author.Tests.{not-true}
-use Rattle.symbols.specs.Lists.{any, find, filter}
-use Rattle.symbols.specs.Symbols.{Name, query, shriek}
-use Rattle.symbols.specs.Refusals.{fault, unless, nameInUse}
+use Rattle.lexical.specs.Lists.{any, find, filter}
+use Rattle.lexical.specs.Symbols.{Name, query, shriek}
+use Rattle.lexical.specs.Refusals.{fault, unless, nameInUse}
 use Rattle.form.specs.Tree.{Letters, Given, Declaration, Direction, inward, outward, Parameter}
 use Rattle.form.specs.Written.{endingOf, writeType}
 use Rattle.form.specs.Codes.{Numbering}
-use Rattle.reader.specs.Carriers.{Carrier, endingCode, sameName, carrierOf}
-use Rattle.reader.specs.Scope as scopes
-use Rattle.reader.specs.Scope.{variables, isInput, isOutput}
-use Rattle.reader.specs.Names.{typeFaults, parameterName, parameterFaults}
-use Rattle.names.specs.Passes.{parametersOf}
+use Rattle.static_rules.specs.Carriers.{Carrier, endingCode, sameName, carrierOf}
+use Rattle.static_rules.specs.Scope as scopes
+use Rattle.static_rules.specs.Scope.{variables, isInput, isOutput}
+use Rattle.static_rules.specs.Names.{typeFaults, parameterName, parameterFaults}
+use Rattle.declared_names.specs.Passes.{parametersOf}
 use Rattle.names.proofs.Showing.{Numbered}
 use Rattle.names.proofs.JudgedLeast.{unless-nil, append-nil-both}
 use Rattle.names.proofs.JudgedTypes.{no-yes}
@@ -27,10 +27,10 @@ use Rattle.names.proofs.PassedTypes.{type-carries}
 use Rattle.names.proofs.PassedDeclared.{TypedIn, no-typed, one-typed}
 use Rattle.names.proofs.PassedGivens.{Holds}
 use Rattle.names.proofs.PassedParameters.{nameOf, no-so}
-use Rattle.tables.specs.Table.{Places}
-use Rattle.tables.specs.Resolved.{Slots, slotted}
-use Rattle.tables.specs.Passes.{parameterSlot, nextInput, nextOutput, parametersPlaced}
-use Rattle.tables.proofs.ResolvingScope.{slotOf}
+use Rattle.table_nodes.specs.Table.{Places}
+use Rattle.table_places.specs.Resolved.{Slots, slotted}
+use Rattle.table_places.specs.Passes.{parameterSlot, nextInput, nextOutput, parametersPlaced}
+use Rattle.search_groups.proofs.ResolvingScope.{slotOf}
 use Rattle.tables.proofs.PlacingSlots.{none-some, slot-here, slot-there, first-or-later, Named, no-named, one-named, Once, no-once, one-once, into, into-some, Slotted, Below, write}
 use Rattle.tables.proofs.PlacingDeclared.{group-one, variables-few}
 

@@ -7,20 +7,20 @@ use mathlib.Core.Option.{Option, none, some}
 use Prim.Native.Nat.{ℕ, suc, _+_, _<_}
 use native.Mathlib.Omega.{arith}
 use lib.ListN.{length, set, length-set}
-use Rattle.symbols.specs.Lists.{find}
-use Rattle.symbols.specs.Symbols.{Name}
+use Rattle.lexical.specs.Lists.{find}
+use Rattle.lexical.specs.Symbols.{Name}
 use Rattle.form.specs.Tree.{Letters, Given, elements}
 use Rattle.form.specs.Codes.{Numbering, nameNumber}
-use Rattle.reader.specs.Carriers.{Variable, sameName}
-use Rattle.reader.specs.Scope.{elementOf, placeIn}
+use Rattle.static_rules.specs.Carriers.{Variable, sameName}
+use Rattle.static_rules.specs.Scope.{elementOf, placeIn}
 use Rattle.names.proofs.Showing.{Numbered}
 use Rattle.names.proofs.JudgedScope.{find-here, find-there}
 use Rattle.names.proofs.PassedTables.{same-name, name-refl, changed}
 use Rattle.names.proofs.PassedGivens.{Holds, entered}
 use Rattle.names.proofs.PassedStates.{scope}
-use Rattle.tables.specs.Table.{Places}
-use Rattle.tables.specs.Resolved.{Slots, slotted}
-use Rattle.tables.proofs.ResolvingScope.{slotOf, PlaceIs, PlacesShown}
+use Rattle.table_nodes.specs.Table.{Places}
+use Rattle.table_places.specs.Resolved.{Slots, slotted}
+use Rattle.search_groups.proofs.ResolvingScope.{slotOf, PlaceIs, PlacesShown}
 
 abbrev Is : {A : Type 0} → Option A → Type 0
 Is none = ⊥

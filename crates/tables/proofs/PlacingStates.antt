@@ -5,25 +5,25 @@ use mathlib.Core.List.{List, [], _∷_, _++_, map}
 use Prim.Native.Nat.{ℕ, suc, _+_, _≤_}
 use native.Mathlib.Omega.{arith}
 use lib.ListN.{length}
-use Rattle.symbols.specs.Symbols.{Name, Ending, noEnding, prime}
+use Rattle.lexical.specs.Symbols.{Name, Ending, noEnding, prime}
 use Rattle.form.specs.Tree.{Letters, Given, Declaration, declarations, Parameter, Operation, Dossier}
 use Rattle.form.specs.Headings.{givensAt, abstractAt, concreteAt, operationsAt, operationLength}
 use Rattle.form.specs.Codes.{Numbering}
-use Rattle.reader.specs.Carriers.{Variable, endingCode, plain}
-use Rattle.reader.specs.Scope.{givenNames, stateNames, abstractTaken, concreteTaken, unprimed, primed, variables}
-use Rattle.reader.specs.Names.{newName, givenFaults, parameterFaults, operationFaults, nameFaults}
+use Rattle.static_rules.specs.Carriers.{Variable, endingCode, plain}
+use Rattle.static_rules.specs.Scope.{givenNames, stateNames, abstractTaken, concreteTaken, unprimed, primed, variables}
+use Rattle.static_rules.specs.Names.{newName, givenFaults, parameterFaults, operationFaults, nameFaults}
 use Rattle.names.proofs.Showing.{Numbered}
 use Rattle.names.proofs.JudgedLeast.{append-nil-both}
 use Rattle.names.proofs.PassedUse.{inUse, use-left, use-right}
 use Rattle.names.proofs.PassedGivens.{Holds}
 use Rattle.names.proofs.Faultless as parts
 use Rattle.names.proofs.Passed.{DossierIn}
-use Rattle.tables.specs.Table.{Places}
-use Rattle.tables.specs.Resolved.{Slots, slotted}
-use Rattle.tables.specs.Dossiers.{abstractSlots, concreteSlots}
-use Rattle.tables.specs.Passes.{statesPlaced}
-use Rattle.tables.specs.Searching.{Few}
-use Rattle.tables.proofs.ResolvingScope.{slotOf}
+use Rattle.table_nodes.specs.Table.{Places}
+use Rattle.table_places.specs.Resolved.{Slots, slotted}
+use Rattle.table_places.specs.Dossiers.{abstractSlots, concreteSlots}
+use Rattle.table_places.specs.Passes.{statesPlaced}
+use Rattle.search_groups.specs.Searching.{Few}
+use Rattle.search_groups.proofs.ResolvingScope.{slotOf}
 use Rattle.tables.proofs.PlacingSlots.{no-slot, Named, named-slot, into, Slotted, Elements, Below, Off, Out, own, kept, elements-kept, slotted-below}
 use Rattle.tables.proofs.PlacingDeclared.{Declared, faultless, declared-off, declared-once, declared-ended, declared-used, variables-few, placing-holds}
 use Rattle.tables.proofs.PlacingGivens.{intoGivens, givens-hold, givens-at, element-plain, element-letters}

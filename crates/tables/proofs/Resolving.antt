@@ -4,21 +4,21 @@ use mathlib.Core.Path.{_≡_, refl, ap}
 use mathlib.Core.List.{List, [], _∷_, _++_}
 use Prim.Native.Nat.{ℕ, suc, _≤_}
 use lib.ListN.{set}
-use Rattle.symbols.specs.Symbols.{noEnding}
+use Rattle.lexical.specs.Symbols.{noEnding}
 use Rattle.form.specs.Tree.{Letters, givenSet}
 use Rattle.form.specs.Tree.{Term, number, name, group, prefix, binary, divided, listed, pairs, such, emptySet, emptyPairs, Items, only, also, Pairs, onlyPair, alsoPair}
 use Rattle.form.specs.Tree.{Pred, truth, falsity, negation, paren, quantified, connected, compared, member, within, related}
 use Rattle.form.specs.Codes.{Numbering, node, numberOfName}
-use Rattle.reader.specs.Carriers.{plain}
-use Rattle.reader.specs.Scope.{Scope, binding}
-use Rattle.reader.specs.Names.{domainCarrier, judgeTerm, judgeItems, judgePairs, judgePred}
-use Rattle.names.specs.Inner.{Names, Sizes, bound, domainKind}
+use Rattle.static_rules.specs.Carriers.{plain}
+use Rattle.static_rules.specs.Scope.{Scope, binding}
+use Rattle.static_rules.specs.Names.{domainCarrier, judgeTerm, judgeItems, judgePairs, judgePred}
+use Rattle.type_rules.specs.Inner.{Names, Sizes, bound, domainKind}
 use Rattle.names.proofs.Showing.{Numbered, Shows, TermIn, ItemsIn, PairsIn, PredIn}
-use Rattle.tables.specs.Table as table
-use Rattle.tables.specs.Table.{Places, nextSlot}
-use Rattle.tables.specs.Resolved as resolved
-use Rattle.tables.specs.Resolved.{Slots}
-use Rattle.tables.proofs.ResolvingScope.{PlacesShown, name-resolved, next-small, bound-placed}
+use Rattle.table_nodes.specs.Table as table
+use Rattle.table_nodes.specs.Table.{Places, nextSlot}
+use Rattle.table_places.specs.Resolved as resolved
+use Rattle.table_places.specs.Resolved.{Slots}
+use Rattle.search_groups.proofs.ResolvingScope.{PlacesShown, name-resolved, next-small, bound-placed}
 use Rattle.tables.proofs.ResolvingParts as part
 use Rattle.tables.proofs.ResolvingParts.{Elements, TermResolved, ItemsResolved, PairsResolved, PredResolved}
 

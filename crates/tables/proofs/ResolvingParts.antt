@@ -4,29 +4,29 @@ use mathlib.Core.Bool.{Bool, true, false, _&&_}
 use mathlib.Core.List.{List, [], _∷_, _++_}
 use Prim.Native.Nat.{ℕ, suc, _+_}
 use lib.ListN.{length, set}
-use Rattle.symbols.specs.Kinds.{codeOf}
-use Rattle.symbols.specs.Lists.{all}
-use Rattle.symbols.specs.Refusals.{Fault, fault, typesMisfit}
-use Rattle.symbols.specs.Symbols.{Name, noEnding}
+use Rattle.lexical.specs.Kinds.{codeOf}
+use Rattle.lexical.specs.Lists.{all}
+use Rattle.lexical.specs.Refusals.{Fault, fault, typesMisfit}
+use Rattle.lexical.specs.Symbols.{Name, noEnding}
 use Rattle.form.specs.Tree.{Letters, End, Range, Domain, givenSet, range, Prefix, Operator, Division, Connective, Quantifier, Comparison, Membership}
 use Rattle.form.specs.Tree.{Term, prefix, binary, divided, listed, pairs, such, Items, also, Pairs, onlyPair, alsoPair, Pred, quantified, connected, compared, member, within, related}
 use Rattle.form.specs.Written.{prefixKind, operatorKind, connectiveKind, quantifierKind, comparisonKind, membershipKind}
 use Rattle.form.specs.Codes.{Numbering, node, numberOfName, signOf, divisionNumber}
-use Rattle.reader.specs.Carriers.{plain, givenOf}
-use Rattle.reader.specs.Types as ty
-use Rattle.reader.specs.Types.{Ty, has, sameType, pairsFit}
-use Rattle.reader.specs.Scope.{Scope, binding}
-use Rattle.reader.specs.Names.{Listing, whole, wholePairs, known, newName, divisorFaults, rangeFaults, domainFaults, domainCarrier, domainLength, judgeTerm, judgeItems, judgePairs, judgePred}
-use Rattle.names.specs.Inner.{Names, Sizes, bound, domainKind}
+use Rattle.static_rules.specs.Carriers.{plain, givenOf}
+use Rattle.static_rules.specs.Types as ty
+use Rattle.static_rules.specs.Types.{Ty, has, sameType, pairsFit}
+use Rattle.static_rules.specs.Scope.{Scope, binding}
+use Rattle.static_rules.specs.Names.{Listing, whole, wholePairs, known, newName, divisorFaults, rangeFaults, domainFaults, domainCarrier, domainLength, judgeTerm, judgeItems, judgePairs, judgePred}
+use Rattle.type_rules.specs.Inner.{Names, Sizes, bound, domainKind}
 use Rattle.names.proofs.Showing.{Numbered, Shows, RangeIn, DomainIn, TermIn}
 use Rattle.names.proofs.JudgedLeast.{whole-nil, inside-nil, append-nil-both}
 use Rattle.names.proofs.JudgedTypes.{no-yes, and-both, type-same}
 use Rattle.names.proofs.JudgedParts.{whole-pairs-fit}
 use Rattle.names.proofs.JudgedBinders.{judged-inside, bound-shows}
-use Rattle.tables.specs.Table as table
-use Rattle.tables.specs.Table.{Places, nextSlot, relatedShape}
-use Rattle.tables.specs.Resolved as resolved
-use Rattle.tables.specs.Resolved.{Slots}
+use Rattle.table_nodes.specs.Table as table
+use Rattle.table_nodes.specs.Table.{Places, nextSlot, relatedShape}
+use Rattle.table_places.specs.Resolved as resolved
+use Rattle.table_places.specs.Resolved.{Slots}
 use Rattle.tables.proofs.ResolvingSizes.{domain-resolved, first-side, second-side, element-side}
 
 -- ---- parts one behind the other: where each begins is told by the lengths of those before ----

@@ -7,25 +7,25 @@ use Prim.Native.Nat.{ℕ, _+_, _-_, _*_, _/_, _%_, _<_}
 use native.Mathlib.Omega.{arith}
 use lib.ListN.{getD}
 use borrow.Author.Tests.{le-leb, lt-ltb}
-use Rattle.symbols.specs.Refusals.{least}
+use Rattle.lexical.specs.Refusals.{least}
 use Rattle.form.specs.Tree.{Letters, Range, Domain, givenSet, range, Given, Term}
 use Rattle.form.specs.Codes.{Numbering, node, endNumber, endWidth}
-use Rattle.reader.specs.Carriers.{sizeOf, plain}
-use Rattle.reader.specs.Types as ty
-use Rattle.reader.specs.Types.{Ty, has}
-use Rattle.reader.specs.Scope.{Scope}
-use Rattle.reader.specs.Names.{rangeFaults, domainFaults, judgeTerm}
-use Rattle.names.specs.Inner.{Names, Sizes, isGiven, key, unlessKey, leastKey, rangeFits, sizeIn, termKind}
+use Rattle.static_rules.specs.Carriers.{sizeOf, plain}
+use Rattle.static_rules.specs.Types as ty
+use Rattle.static_rules.specs.Types.{Ty, has}
+use Rattle.static_rules.specs.Scope.{Scope}
+use Rattle.static_rules.specs.Names.{rangeFaults, domainFaults, judgeTerm}
+use Rattle.type_rules.specs.Inner.{Names, Sizes, isGiven, key, unlessKey, leastKey, rangeFits, sizeIn, termKind}
 use Rattle.names.proofs.Showing.{indexOf, titled, typeCode, Known, knownNumber, knownElement, knownSet, knownPairs, Numbered, Shows, RangeIn, DomainIn, TermIn}
 use Rattle.names.proofs.Judged.{judged-term}
 use Rattle.names.proofs.JudgedTypes.{ElementType, elementType, element-type, index-in, index-few, is-pairs, is-element}
 use Rattle.names.proofs.JudgedRanges.{range-least}
 use Rattle.names.proofs.JudgedScope.{found, titled-finds}
 use Rattle.names.proofs.JudgedBinders.{View, no-given, one-given, given-view}
-use Rattle.tables.specs.Table as table
-use Rattle.tables.specs.Passes.{givenIndex}
-use Rattle.tables.specs.Resolved as resolved
-use Rattle.tables.specs.Resolved.{overSizes}
+use Rattle.table_nodes.specs.Table as table
+use Rattle.table_places.specs.Passes.{givenIndex}
+use Rattle.table_places.specs.Resolved as resolved
+use Rattle.table_places.specs.Resolved.{overSizes}
 use Rattle.tables.proofs.ResolvingTypes.{type-placed}
 
 -- sizeOr of specs/Resolved, which is private there

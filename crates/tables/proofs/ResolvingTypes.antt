@@ -4,9 +4,9 @@ use mathlib.Core.List.{List, [], _∷_}
 use mathlib.Core.Option.{Option, none, some}
 use Prim.Native.Nat.{ℕ, suc}
 use Rattle.form.specs.Tree.{Term, number, name, group, prefix, binary, divided, listed, pairs, such, emptySet, emptyPairs, Items, only, also, Pairs, onlyPair, alsoPair}
-use Rattle.reader.specs.Types.{Ty, prefixType, braceType, pairsType}
-use Rattle.reader.specs.Scope.{Scope, typeOfName}
-use Rattle.reader.specs.Names.{ofName, judgeTerm, judgeItems, judgePairs}
+use Rattle.static_rules.specs.Types.{Ty, prefixType, braceType, pairsType}
+use Rattle.static_rules.specs.Scope.{Scope, typeOfName}
+use Rattle.static_rules.specs.Names.{ofName, judgeTerm, judgeItems, judgePairs}
 
 name-type : (o : Option Ty) (i j : ℕ) → ofName o i .type ≡ ofName o j .type
 name-type none i j = refl

@@ -7,15 +7,15 @@ use native.Mathlib.Nat.{le-refl}
 use lib.ListN.{length, take, drop, length-append, length-take, length-drop}
 use lib.Seq.{length-take-le, take-at, drop-at, take-take, take-append-le, take-add}
 use Rattle.form.specs.Codes.{Numbering, node, predCodes, conditionCodes}
-use Rattle.reader.specs.Scope.{Context}
-use Rattle.contexts.specs.Spans.{Stands}
-use Rattle.tables.specs.Walks.{patch}
-use Rattle.tables.specs.Resolved.{Slots, predTable}
-use Rattle.tables.specs.Dossiers.{withPredicates}
-use Rattle.tables.specs.Conjuncts.{conjunctRow, conjunctRows, contextRows}
-use Rattle.tables.specs.Searching.{Conjoin, alone, both, Standing, none-stands, one-stands}
-use Rattle.tables.proofs.ResolvingLength.{pred-length}
-use Rattle.tables.proofs.ConjoinRows.{conjoin-of}
+use Rattle.static_rules.specs.Scope.{Context}
+use Rattle.node_spans.specs.Spans.{Stands}
+use Rattle.table_nodes.specs.Walks.{patch}
+use Rattle.table_places.specs.Resolved.{Slots, predTable}
+use Rattle.table_places.specs.Dossiers.{withPredicates}
+use Rattle.search_groups.specs.Conjuncts.{conjunctRow, conjunctRows, contextRows}
+use Rattle.search_groups.specs.Searching.{Conjoin, alone, both, Standing, none-stands, one-stands}
+use Rattle.search_groups.proofs.ResolvingLength.{pred-length}
+use Rattle.search_groups.proofs.ConjoinRows.{conjoin-of}
 
 -- a piece makes no array shorter, whether or not it fits
 pub patch-grows : (b : ℕ) (t out : List ℕ) → length out ≤ length (patch b t out)

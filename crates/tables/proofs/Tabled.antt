@@ -4,15 +4,15 @@ use mathlib.Core.List.{List, [], _∷_, map}
 use Prim.Native.Nat.{ℕ, _+_, _≤_, _<_}
 use native.Mathlib.Omega.{arith}
 use lib.ListN.{length, getD, replicate}
-use Rattle.symbols.specs.Lists.{concat, find}
+use Rattle.lexical.specs.Lists.{concat, find}
 use Rattle.form.specs.Tree.{Letters, Given, Operation, Dossier}
 use Rattle.form.specs.Headings.{givensAt, operationsAt, operationLength}
 use Rattle.form.specs.Codes.{Numbering}
-use Rattle.reader.specs.Carriers.{sizeOf}
-use Rattle.reader.specs.Scope.{Context, givenNames, concreteTaken, operationContexts, contexts}
-use Rattle.reader.specs.Names.{contextFaults, nameFaults}
-use Rattle.names.specs.Inner.{Names, Sizes}
-use Rattle.names.specs.Passes.{givensNamed}
+use Rattle.static_rules.specs.Carriers.{sizeOf}
+use Rattle.static_rules.specs.Scope.{Context, givenNames, concreteTaken, operationContexts, contexts}
+use Rattle.static_rules.specs.Names.{contextFaults, nameFaults}
+use Rattle.type_rules.specs.Inner.{Names, Sizes}
+use Rattle.declared_names.specs.Passes.{givensNamed}
 use Rattle.names.proofs.Showing.{Numbered, Shows, PredIn}
 use Rattle.names.proofs.JudgedLeast.{append-nil-both}
 use Rattle.names.proofs.PassedTypes.{Sized}
@@ -23,11 +23,11 @@ use Rattle.names.proofs.PassedScopes.{titles-given, shows}
 use Rattle.names.proofs.PassedOperations.{OperationsIn, no-operations, one-operation}
 use Rattle.names.proofs.Faultless.{faultless}
 use Rattle.names.proofs.Passed.{DossierIn}
-use Rattle.tables.specs.Table.{Places}
-use Rattle.tables.specs.Resolved.{Slots}
-use Rattle.tables.specs.Walks.{patch}
-use Rattle.tables.specs.Dossiers.{slotsOf, startsOf, withPredicates, tableOf}
-use Rattle.tables.specs.Passes.{kindsOf, placesOf, withTables, tableBy}
+use Rattle.table_nodes.specs.Table.{Places}
+use Rattle.table_places.specs.Resolved.{Slots}
+use Rattle.table_nodes.specs.Walks.{patch}
+use Rattle.table_places.specs.Dossiers.{slotsOf, startsOf, withPredicates, tableOf}
+use Rattle.table_places.specs.Passes.{kindsOf, placesOf, withTables, tableBy}
 use Rattle.tables.proofs.Resolving.{resolved-pred}
 use Rattle.tables.proofs.TabledShown.{AllShown, none-shown, one-shown, free-sees, contexts-shown}
 use Rattle.tables.proofs.PlacingContexts.{AllPlaced, none-placed, one-placed}

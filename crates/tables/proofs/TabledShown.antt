@@ -4,17 +4,17 @@ use mathlib.Core.List.{List, [], _∷_, _++_, map}
 use Prim.Native.Nat.{ℕ, zero, suc, _+_, _≤_, _<_}
 use native.Mathlib.Omega.{arith}
 use lib.ListN.{length, getD, replicate, length-replicate}
-use Rattle.symbols.specs.Lists.{any, concat}
-use Rattle.symbols.specs.Symbols.{Name, noEnding}
-use Rattle.symbols.specs.Refusals.{Fault}
+use Rattle.lexical.specs.Lists.{any, concat}
+use Rattle.lexical.specs.Symbols.{Name, noEnding}
+use Rattle.lexical.specs.Refusals.{Fault}
 use Rattle.form.specs.Tree.{Letters, Given, Declaration, declarations, State, Operation, Dossier}
 use Rattle.form.specs.Headings.{givensAt, abstractAt, concreteAt, operationsAt, operationLength}
 use Rattle.form.specs.Codes.{Numbering}
-use Rattle.reader.specs.Carriers.{sizeOf}
-use Rattle.reader.specs.Scope.{Context, variables, givenNames, stateNames, abstractTaken, concreteTaken, operationContexts, contexts}
-use Rattle.reader.specs.Names.{newName, givenFaults, declarationFaults, parameterFaults, operationFaults, contextFaults, nameFaults}
-use Rattle.names.specs.Inner.{Names, Sizes, entry}
-use Rattle.names.specs.Passes.{variablesOf, parametersOf, shown, hidden, reaching, leaving, titleNamed, parametersShown, givensNamed}
+use Rattle.static_rules.specs.Carriers.{sizeOf}
+use Rattle.static_rules.specs.Scope.{Context, variables, givenNames, stateNames, abstractTaken, concreteTaken, operationContexts, contexts}
+use Rattle.static_rules.specs.Names.{newName, givenFaults, declarationFaults, parameterFaults, operationFaults, contextFaults, nameFaults}
+use Rattle.type_rules.specs.Inner.{Names, Sizes, entry}
+use Rattle.declared_names.specs.Passes.{variablesOf, parametersOf, shown, hidden, reaching, leaving, titleNamed, parametersShown, givensNamed}
 use Rattle.names.proofs.Showing.{Numbered, Shows}
 use Rattle.names.proofs.JudgedLeast.{append-nil-both}
 use Rattle.names.proofs.PassedTables.{Sees, unused}
@@ -31,7 +31,7 @@ use Rattle.names.proofs.PassedReach.{operation-reach, title-named, parameters-s
 use Rattle.names.proofs.PassedOperations.{reachIn, OperationsIn, no-operations, one-operation, operation-named}
 use Rattle.names.proofs.Faultless.{Faultless, faultless}
 use Rattle.names.proofs.Passed.{DossierIn}
-use Rattle.tables.specs.Passes.{operationKinds, kindsOf}
+use Rattle.table_places.specs.Passes.{operationKinds, kindsOf}
 
 -- each context with its table of names
 pub data AllShown (ρ : Numbering) (P : Letters → Type 0) (z : Sizes) : List Context → List Names → Type 0 where

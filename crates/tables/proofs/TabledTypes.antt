@@ -6,19 +6,19 @@ use mathlib.Core.Option.{Option, none, some}
 use Prim.Native.Nat.{ℕ, suc, _+_, _*_}
 use native.Mathlib.Omega.{arith}
 use lib.ListN.{length}
-use Rattle.symbols.specs.Lists.{any, find}
-use Rattle.symbols.specs.Symbols.{Name, noEnding}
-use Rattle.symbols.specs.Refusals.{Fault, fault, unless, nameInUse, nameUnknown}
-use Rattle.symbols.proofs.WordLaws.{same-refl}
+use Rattle.lexical.specs.Lists.{any, find}
+use Rattle.lexical.specs.Symbols.{Name, noEnding}
+use Rattle.lexical.specs.Refusals.{Fault, fault, unless, nameInUse, nameUnknown}
+use Rattle.lexical.proofs.WordLaws.{same-refl}
 use Rattle.form.specs.Tree.{Letters, Given, TypeForm, givenType, powerType, rangeType, arrowType, Declaration, declarations, Parameter, Operation, Dossier}
 use Rattle.form.specs.Written.{writeType}
 use Rattle.form.specs.Headings.{abstractAt, concreteAt, operationsAt, operationLength}
 use Rattle.form.specs.Codes.{Numbering, node, nameNumber, endNumber, arrowNumber}
-use Rattle.reader.specs.Carriers.{sameName, plain, givenOf}
-use Rattle.reader.specs.Scope.{Scope, placeIn, givenNames, abstractTaken, concreteTaken}
-use Rattle.reader.specs.Names.{known, typeFaults, newName, declarationFaults, parameterName, parameterFaults, operationFaults}
-use Rattle.names.specs.Inner.{Names, Sizes, entry}
-use Rattle.names.specs.Passes.{variablesOf, parametersOf}
+use Rattle.static_rules.specs.Carriers.{sameName, plain, givenOf}
+use Rattle.static_rules.specs.Scope.{Scope, placeIn, givenNames, abstractTaken, concreteTaken}
+use Rattle.static_rules.specs.Names.{known, typeFaults, newName, declarationFaults, parameterName, parameterFaults, operationFaults}
+use Rattle.type_rules.specs.Inner.{Names, Sizes, entry}
+use Rattle.declared_names.specs.Passes.{variablesOf, parametersOf}
 use Rattle.names.proofs.Showing.{indexOf, Shows}
 use Rattle.names.proofs.JudgedLeast.{append-nil-both, not-nil}
 use Rattle.names.proofs.JudgedScope.{index-here, index-there}
@@ -29,12 +29,12 @@ use Rattle.names.proofs.PassedDeclared.{TypedIn, no-typed, one-typed}
 use Rattle.names.proofs.PassedOperations.{OperationsIn, no-operations, one-operation}
 use Rattle.names.proofs.Faultless.{Faultless}
 use Rattle.names.proofs.Passed.{DossierIn}
-use Rattle.contexts.specs.Spans.{spansOf, span}
-use Rattle.tables.specs.Table as table
-use Rattle.tables.specs.Resolved as resolved
-use Rattle.tables.specs.Walks.{patch}
-use Rattle.tables.specs.Dossiers.{givenPlace, typeTable, withCarriers, withParameters, declared}
-use Rattle.tables.specs.Passes.{givenIndex, typeNode, withNodes, withOperations, declaredNodes}
+use Rattle.node_spans.specs.Spans.{spansOf, span}
+use Rattle.table_nodes.specs.Table as table
+use Rattle.table_places.specs.Resolved as resolved
+use Rattle.table_nodes.specs.Walks.{patch}
+use Rattle.table_places.specs.Dossiers.{givenPlace, typeTable, withCarriers, withParameters, declared}
+use Rattle.table_places.specs.Passes.{givenIndex, typeNode, withNodes, withOperations, declaredNodes}
 use Rattle.tables.proofs.ResolvingSizes.{view-size, view-index, indexFound, range-counted}
 use Rattle.tables.proofs.TabledShown.{head-new}
 

@@ -7,23 +7,23 @@ use native.Mathlib.Numerals.{add-one}
 use native.Mathlib.Omega.{arith}
 use lib.ListN.{length, take, getD, set}
 use lib.Seq.{length-take-le}
-use Rattle.symbols.specs.Symbols.{noEnding}
+use Rattle.lexical.specs.Symbols.{noEnding}
 use Rattle.form.specs.Tree.{Letters, Pred, Declaration, declarations, Operation, Dossier}
 use Rattle.form.specs.Headings.{ainitAt, cinitAt, retrieveAt, operationLength}
 use Rattle.form.specs.Codes.{Numbering, numberOfName, abstractlyAt, predWidth, declarationCodes, parameterCodes}
-use Rattle.reader.specs.Scope.{operationContexts}
-use Rattle.names.specs.Inner.{Names, Sizes}
-use Rattle.names.specs.Passes.{Typed, typedCodes, variablesOf, parametersOf, shown, hidden, stateNamed, reaching, leaving, titleNamed, parametersShown, operationNamed, conditionsNamed}
-use Rattle.names.specs.Parts.{ShownSeen, HiddenSeen, Variables}
+use Rattle.static_rules.specs.Scope.{operationContexts}
+use Rattle.type_rules.specs.Inner.{Names, Sizes}
+use Rattle.declared_names.specs.Passes.{Typed, typedCodes, variablesOf, parametersOf, shown, hidden, stateNamed, reaching, leaving, titleNamed, parametersShown, operationNamed, conditionsNamed}
+use Rattle.declared_names.specs.Parts.{ShownSeen, HiddenSeen, Variables}
 use Rattle.names.proofs.Passing.{variables-codes, parameters-codes}
-use Rattle.contexts.specs.Spans.{span, OperationAt, OperationsAt, no-more, one-more}
-use Rattle.tables.specs.declared.Made.{Made}
-use Rattle.tables.specs.Table.{Places, predTable}
-use Rattle.tables.specs.Walks.{patch, PredMade}
-use Rattle.tables.specs.Dossiers.{operationStarts}
-use Rattle.tables.specs.Passes.{operationKinds, operationPlaces, withTables}
-use Rattle.tables.specs.Parts.{PartIs, ParametersSet, written, PredicateSet, StateSet, withConditions, ConditionsSet, SideSet, abstractKinds, concreteKinds, placedIn, withOperation, OperationStands, OperationSet, TitlesAt, no-titles, one-title, tablesFrom, OperationsSet}
-use Rattle.tables.proofs.WritingTypes.{part-stands}
+use Rattle.node_spans.specs.Spans.{span, OperationAt, OperationsAt, no-more, one-more}
+use Rattle.table_nodes.specs.declared.Made.{Made}
+use Rattle.table_nodes.specs.Table.{Places, predTable}
+use Rattle.table_nodes.specs.Walks.{patch, PredMade}
+use Rattle.table_places.specs.Dossiers.{operationStarts}
+use Rattle.table_places.specs.Passes.{operationKinds, operationPlaces, withTables}
+use Rattle.table_places.specs.Parts.{PartIs, ParametersSet, written, PredicateSet, StateSet, withConditions, ConditionsSet, SideSet, abstractKinds, concreteKinds, placedIn, withOperation, OperationStands, OperationSet, TitlesAt, no-titles, one-title, tablesFrom, OperationsSet}
+use Rattle.table_places.proofs.WritingTypes.{part-stands}
 
 -- a predicate
 pub predicate-set : (nodes : List ℕ) (end : ℕ) (T U : Names) (W Y : Places) (z : Sizes) (out after : List ℕ) (r : Made) → PredMade nodes end 38 T U W Y z out after r

@@ -6,15 +6,15 @@ use native.Mathlib.Omega.{arith}
 use lib.ListN.{length, getD, replicate}
 use Rattle.form.specs.Tree.{Letters, Dossier}
 use Rattle.form.specs.Codes.{Numbering}
-use Rattle.reader.specs.Carriers.{sizeOf}
-use Rattle.reader.specs.Names.{nameFaults}
-use Rattle.names.specs.Inner.{Sizes}
-use Rattle.names.specs.Passes.{givensNamed}
+use Rattle.static_rules.specs.Carriers.{sizeOf}
+use Rattle.static_rules.specs.Names.{nameFaults}
+use Rattle.type_rules.specs.Inner.{Sizes}
+use Rattle.declared_names.specs.Passes.{givensNamed}
 use Rattle.names.proofs.Showing.{Numbered}
 use Rattle.names.proofs.Passed.{DossierIn}
-use Rattle.tables.specs.Dossiers.{tableOf}
-use Rattle.tables.specs.Parts.{Ready, TableWritten}
-use Rattle.tables.specs.Searching.{Few}
+use Rattle.table_places.specs.Dossiers.{tableOf}
+use Rattle.table_places.specs.Parts.{Ready, TableWritten}
+use Rattle.search_groups.specs.Searching.{Few}
 use Rattle.tables.proofs.PlacingContexts.{places-shown}
 use Rattle.tables.proofs.Tabled.{tabled}
 

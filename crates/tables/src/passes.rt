@@ -2,18 +2,18 @@
 ghost use mathlib.Core.Path.{_≡_};
 ghost use Prim.Native.Nat.{_+_, _-_, _≤_, _<_};
 ghost use lib.ListN.{length, getD};
-ghost use Rattle.tables.specs.Parts.{PredicateSet, StateSet, StatesSet, ConditionsSet, SideSet, OperationSet, OperationsSet, ContextsSet, TableSet, TableWritten};
-use crate::carriers::part;
-use crate::carriers::set_declared;
-use crate::carriers::span_at;
-use crate::places::place_all;
-use crate::places::place_parameters;
-use crate::walk::pred;
-use names::declared::hide;
-use names::declared::show;
-use names::kinds::index;
-use names::kinds::look;
-use names::kinds::put;
+ghost use Rattle.table_places.specs.Parts.{PredicateSet, StateSet, StatesSet, ConditionsSet, SideSet, OperationSet, OperationsSet, ContextsSet, TableSet, TableWritten};
+use declared_names::declared::hide;
+use declared_names::declared::show;
+use lowering::walk::pred;
+use table_places::declared_types::part;
+use table_places::declared_types::set_declared;
+use table_places::declared_types::span_at;
+use table_places::places::place_all;
+use table_places::places::place_parameters;
+use type_rules::kinds::index;
+use type_rules::kinds::look;
+use type_rules::kinds::put;
 
 // A predicate that ends at a place.
 fn set_predicate(

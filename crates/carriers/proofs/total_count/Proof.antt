@@ -1,7 +1,7 @@
 -- `carriers::total_count` meets its contract: rows with at least one pair. Assumes nothing.
 use borrow.Author.Needs.{needs}
 use native.Mathlib.Omega.{arith}
-use Rattle.reader.specs.Carriers.{arrowCount}
+use Rattle.static_rules.specs.Carriers.{arrowCount}
 use Rattle.carriers.specs.Order.{choices}
 use Rattle.carriers.proofs.total_count.Statement.{statement}
 use Rattle.carriers.proofs.total_count.Tie as tie

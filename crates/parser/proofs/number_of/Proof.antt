@@ -1,8 +1,8 @@
 -- `parser::number_of` meets its contract.
 use borrow.Author.Tests.{ne-eqb}
 use mathlib.Core.Path.{sym, ap}
-use Rattle.symbols.specs.Refusals.{numberOf}
-use Rattle.parser.specs.Inner.{refusalNumbered}
+use Rattle.lexical.specs.Refusals.{numberOf}
+use Rattle.form_nodes.specs.Inner.{refusalNumbered}
 use Rattle.parser.proofs.number_of.Statement.{statement}
 use Rattle.parser.proofs.number_of.Tie as tie
 

@@ -2,8 +2,8 @@
 use mathlib.Core.Option.{none, some}
 use borrow.Author.Needs.{needs}
 use mathlib.Core.Path.{refl, ap}
-use Rattle.symbols.specs.Refusals.{fault, longText, unlistedSymbol, manySymbols, numberOf}
-use Rattle.symbols.specs.Promises.{faultOf}
+use Rattle.lexical.specs.Refusals.{fault, longText, unlistedSymbol, manySymbols, numberOf}
+use Rattle.lexical.specs.Promises.{faultOf}
 use Rattle.parser.proofs.Whole.{left-of, parses}
 use Rattle.parser.proofs.parse.Statement.{statement}
 use Rattle.parser.proofs.parse.Tie as tie

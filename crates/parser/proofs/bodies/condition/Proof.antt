@@ -3,14 +3,14 @@ use mathlib.Core.List.{[], _∷_}
 use Prim.Native.Nat.{_+_}
 use borrow.Author.Needs.{needs}
 use native.Mathlib.Omega.{arith}
-use Rattle.symbols.specs.Kinds.{codeOf}
+use Rattle.lexical.specs.Kinds.{codeOf}
 use Rattle.form.specs.Machine.{exact}
-use Rattle.parser.specs.Derived.{MadeAt}
-use Rattle.parser.proofs.Reading.{fails, framed, known}
-use Rattle.parser.proofs.Making.{made}
+use Rattle.form_nodes.specs.Derived.{MadeAt}
+use Rattle.form_nodes.proofs.Reading.{fails, framed, known}
+use Rattle.form_nodes.proofs.Making.{made}
 use Rattle.parser.proofs.BodyNodes.{long-written, then-closes, condition-made}
 use Rattle.parser.proofs.bodies.condition.Statement.{statement}
-use Rattle.parser.specs.Derived as part
+use Rattle.form_nodes.specs.Derived as part
 use Rattle.parser.proofs.bodies.condition.Tie as tie
 
 add-pred : tie.Need-add-pred

@@ -2,14 +2,14 @@
 use mathlib.Core.Path.{refl}
 use mathlib.Core.List.{[], _∷_, _++_}
 use borrow.Author.Needs.{needs}
-use Rattle.symbols.specs.Kinds.{codeOf}
-use Rattle.parser.specs.Dossiers.{aWhereOf}
-use Rattle.parser.proofs.Reading.{next, fails, framed, known}
-use Rattle.parser.proofs.Making.{made}
+use Rattle.lexical.specs.Kinds.{codeOf}
+use Rattle.declarations.specs.Dossiers.{aWhereOf}
+use Rattle.form_nodes.proofs.Reading.{next, fails, framed, known}
+use Rattle.form_nodes.proofs.Making.{made}
 use Rattle.parser.proofs.BodyNodes.{sequence-last, sequence-then}
 use Rattle.parser.proofs.bodies.conditions.Statement.{statement}
-use Rattle.symbols.specs.Kinds as kind
-use Rattle.parser.specs.Derived as part
+use Rattle.lexical.specs.Kinds as kind
+use Rattle.form_nodes.specs.Derived as part
 use Rattle.parser.proofs.bodies.conditions.Tie as tie
 
 where-of-requires : tie.Need-where-of-requires

@@ -4,14 +4,14 @@ use mathlib.Core.List.{_++_}
 use Prim.Native.Nat.{_+_}
 use borrow.Author.Needs.{needs}
 use native.Mathlib.Omega.{arith}
-use Rattle.symbols.specs.Kinds.{codeOf}
-use Rattle.parser.specs.Dossiers.{aConditionTo}
-use Rattle.parser.proofs.Reading.{next, fails, framed, known, counted}
-use Rattle.parser.proofs.Making.{made}
-use Rattle.parser.proofs.ListNodes.{closed}
+use Rattle.lexical.specs.Kinds.{codeOf}
+use Rattle.declarations.specs.Dossiers.{aConditionTo}
+use Rattle.form_nodes.proofs.Reading.{next, fails, framed, known, counted}
+use Rattle.form_nodes.proofs.Making.{made}
+use Rattle.declarations.proofs.ListNodes.{closed}
 use Rattle.parser.proofs.BodyNodes.{operation-made}
 use Rattle.parser.proofs.bodies.operation.Statement.{statement}
-use Rattle.symbols.specs.Kinds as kind
+use Rattle.lexical.specs.Kinds as kind
 use Rattle.parser.proofs.bodies.operation.Tie as tie
 
 add-name-number : tie.Need-add-name-number

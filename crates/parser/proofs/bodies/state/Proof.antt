@@ -4,17 +4,17 @@ use mathlib.Core.List.{_∷_, _++_}
 use borrow.Author.Needs.{needs}
 use native.Mathlib.Omega.{arith}
 use lib.ListN.{getD}
-use Rattle.symbols.specs.Kinds.{codeOf}
+use Rattle.lexical.specs.Kinds.{codeOf}
 use Rattle.form.specs.Written.{aVariable}
 use Rattle.form.specs.Machine.{aDeclared, someDeclarations}
-use Rattle.parser.specs.Dossiers.{aTyped, aConditionTo}
-use Rattle.parser.proofs.Reading.{next, fails, framed, known, counted}
-use Rattle.parser.proofs.Making.{made}
-use Rattle.parser.proofs.RightSides.{inside}
-use Rattle.parser.proofs.ListNodes.{closed}
+use Rattle.declarations.specs.Dossiers.{aTyped, aConditionTo}
+use Rattle.form_nodes.proofs.Reading.{next, fails, framed, known, counted}
+use Rattle.form_nodes.proofs.Making.{made}
+use Rattle.form_nodes.proofs.RightSides.{inside}
+use Rattle.declarations.proofs.ListNodes.{closed}
 use Rattle.parser.proofs.BodyNodes.{when-known, state-made}
 use Rattle.parser.proofs.bodies.state.Statement.{statement}
-use Rattle.symbols.specs.Kinds as kind
+use Rattle.lexical.specs.Kinds as kind
 use Rattle.parser.proofs.bodies.state.Tie as tie
 
 close-requires : tie.Need-close-requires

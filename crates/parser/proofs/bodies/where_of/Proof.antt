@@ -3,15 +3,15 @@ use mathlib.Core.Path.{refl}
 use mathlib.Core.List.{_∷_}
 use borrow.Author.Needs.{needs}
 use native.Mathlib.Omega.{arith}
-use Rattle.symbols.specs.Kinds.{codeOf}
+use Rattle.lexical.specs.Kinds.{codeOf}
 use Rattle.form.specs.Machine.{exact}
-use Rattle.parser.specs.Dossiers.{aConditionTo}
-use Rattle.parser.proofs.Reading.{next, fails, framed, known, counted}
-use Rattle.parser.proofs.RightSides.{inside}
-use Rattle.parser.proofs.ListNodes.{closed}
+use Rattle.declarations.specs.Dossiers.{aConditionTo}
+use Rattle.form_nodes.proofs.Reading.{next, fails, framed, known, counted}
+use Rattle.form_nodes.proofs.RightSides.{inside}
+use Rattle.declarations.proofs.ListNodes.{closed}
 use Rattle.parser.proofs.BodyNodes.{where-made}
 use Rattle.parser.proofs.bodies.where_of.Statement.{statement}
-use Rattle.symbols.specs.Kinds as kind
+use Rattle.lexical.specs.Kinds as kind
 use Rattle.parser.proofs.bodies.where_of.Tie as tie
 
 close-requires : tie.Need-close-requires

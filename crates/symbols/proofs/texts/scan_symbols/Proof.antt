@@ -4,7 +4,7 @@ use Prim.Native.Nat.{_-_}
 use mathlib.Core.Path.{_≡_, refl, _∙_}
 use native.Mathlib.Omega.{arith}
 use borrow.Author.Needs.{needs}
-use Rattle.symbols.proofs.ScanLaws.{Scanning, scanning-start, scanning-gap, scanning-symbol, scanned-unlisted, scanned-many, scanned-all, token-small}
+use Rattle.name_numbers.proofs.ScanLaws.{Scanning, scanning-start, scanning-gap, scanning-symbol, scanned-unlisted, scanned-many, scanned-all, token-small}
 use Rattle.symbols.proofs.texts.scan_symbols.Statement.{statement}
 use Rattle.symbols.proofs.texts.scan_symbols.Tie as tie
 

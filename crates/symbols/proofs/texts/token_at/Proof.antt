@@ -2,10 +2,10 @@
 use borrow.Author.Needs.{needs}
 use mathlib.Core.Path.{sym, ap, _∙_}
 use native.Mathlib.Omega.{arith}
-use Rattle.symbols.specs.Promises.{classIs}
-use Rattle.symbols.specs.Inner.{tokenOf}
-use Rattle.symbols.proofs.ScanLaws.{class-here}
-use Rattle.symbols.specs.Symbols.{byClass}
+use Rattle.lexical.specs.Promises.{classIs}
+use Rattle.lexical.specs.Inner.{tokenOf}
+use Rattle.name_numbers.proofs.ScanLaws.{class-here}
+use Rattle.lexical.specs.Symbols.{byClass}
 use Rattle.symbols.proofs.texts.token_at.Statement.{statement}
 use Rattle.symbols.proofs.texts.token_at.Tie as tie
 

@@ -2,7 +2,7 @@
 use borrow.Author.Needs.{needs}
 use mathlib.Core.Path.{_∙_}
 use native.Mathlib.Omega.{arith}
-use Rattle.tables.proofs.WritingAll.{contexts-set, conditions-read}
+use Rattle.table_places.proofs.WritingAll.{contexts-set, conditions-read}
 use Rattle.tables.proofs.passes.set_contexts.Statement.{statement}
 use Rattle.tables.proofs.passes.set_contexts.Tie as tie
 

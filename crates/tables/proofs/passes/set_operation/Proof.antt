@@ -2,7 +2,7 @@
 use borrow.Author.Needs.{needs}
 use mathlib.Core.Path.{_∙_}
 use native.Mathlib.Omega.{arith}
-use Rattle.tables.proofs.WritingTypes.{part-short}
+use Rattle.table_places.proofs.WritingTypes.{part-short}
 use Rattle.tables.proofs.WritingContexts.{operation-set}
 use Rattle.tables.proofs.passes.set_operation.Statement.{statement}
 use Rattle.tables.proofs.passes.set_operation.Tie as tie

@@ -1,6 +1,6 @@
 -- `passes::set_states` meets its contract. Assumes nothing.
 use borrow.Author.Needs.{needs}
-use Rattle.tables.proofs.WritingAll.{states-set, state-read}
+use Rattle.table_places.proofs.WritingAll.{states-set, state-read}
 use Rattle.tables.proofs.passes.set_states.Statement.{statement}
 use Rattle.tables.proofs.passes.set_states.Tie as tie
 

@@ -1,8 +1,8 @@
 -- `passes::set_table` meets its contract. Assumes nothing.
 use borrow.Author.Needs.{needs}
 use native.Mathlib.Omega.{arith}
-use Rattle.tables.proofs.WritingTypes.{part-short}
-use Rattle.tables.proofs.WritingAll.{table-set, part-read}
+use Rattle.table_places.proofs.WritingTypes.{part-short}
+use Rattle.table_places.proofs.WritingAll.{table-set, part-read}
 use Rattle.tables.proofs.passes.set_table.Statement.{statement}
 use Rattle.tables.proofs.passes.set_table.Tie as tie
 

@@ -1,0 +1,3 @@
+-- What the code of the form pass counts on.
+pub mod Listing
+pub mod ListNodes

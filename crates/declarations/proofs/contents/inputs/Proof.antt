@@ -1,0 +1,21 @@
+-- `contents::inputs` meets its contract.
+use mathlib.Core.Path.{sym, ap}
+use borrow.Author.Needs.{needs}
+use Rattle.declarations.specs.Dossiers.{inputsBy}
+use Rattle.form_nodes.proofs.Reading.{taken}
+use Rattle.declarations.proofs.Listing.{inputs-other}
+use Rattle.declarations.proofs.contents.inputs.Statement.{statement}
+use Rattle.declarations.proofs.contents.inputs.Tie as tie
+
+add-result : tie.Need-add-result
+add-result c = search needs
+
+returns : tie.Need-returns
+returns c = sym (ap (λ z. inputsBy z (c .before .args .i)) (c .if1 .taken))
+
+returns-2 : tie.Need-returns-2
+returns-2 c = sym (inputs-other (c .before .args .c) (c .before .args .i) (c .if1 .left))
+
+pub inputs-spec : {M : Type 1} → statement M
+inputs-spec =
+    tie.close (tie.spec add-result returns returns-2)

@@ -1,0 +1,327 @@
+// The contents of a dossier, given sets and declarations: numbers 4 and 6 of document 01, and their nodes.
+ghost use mathlib.Core.Path.{_≡_};
+ghost use mathlib.Core.List.{[], _∷_, _++_};
+ghost use Prim.Native.Nat.{_+_, _*_, _≤_, _<_};
+ghost use lib.Dec.{leb};
+ghost use lib.ListN.{length, getD};
+ghost use Rattle.lexical.specs.Kinds as kind;
+ghost use Rattle.form.specs.Written.{anElement, aVariable};
+ghost use Rattle.form.specs.Machine.{exact, aDeclared, aType, aTypeRest, aDossier, someBodies, someElements, someDeclarations, someOperations, someParameters};
+ghost use Rattle.form_nodes.specs.Inner.{Reads, Room, Shown};
+ghost use Rattle.form_nodes.specs.Derived as part;
+ghost use Rattle.form_nodes.specs.Derived.{Made, NameAt, aDeclaration, someGivens};
+ghost use Rattle.declarations.specs.Dossiers.{EntriesRead, fiveWords, WordsAt, ContentsMade, When, More, twoStates, threeConditions, Arrows, Directs, aTyped, countBy, inputsBy, outputsBy};
+use form_nodes::Read;
+use form_nodes::kinds::kind_at;
+use form_nodes::kinds::name_of;
+use form_nodes::kinds::wide;
+use form_nodes::nodes::name_number;
+use form_nodes::nodes::put;
+use form_nodes::nodes::put_range;
+use form_nodes::ranges::close;
+use form_nodes::ranges::range;
+
+// `word NAME` again and again, at most as many as the limit; a node of the shape for each.
+fn entries(
+    s: &[u8],
+    v: &[u16],
+    start: usize,
+    word: u8,
+    shape: u16,
+    limit: u8,
+    code: &mut [u16],
+    from: usize,
+) -> Read
+    requires { ⌜ Room (now s) (now code) start from × (1 ≤ word) ⌝ }
+    ensures { λ r. ⌜ EntriesRead (now (s .entry)) start from word limit r × Made (now (s .entry)) (now (v .entry)) (part.someEntries word shape) start from (now (code .entry)) (now (code .exit)) r ⌝ }
+{
+    let mut at = start;
+    let mut n = from;
+    let mut k: u8 = 0;
+    while kind_at(s, at) == word {
+        if kind_at(s, at + 1) == 2 {
+            if limit <= k {
+                return Read::Fault(at + 1, 6);
+            }
+            let x = name_number(s, v, at + 1);
+            n = put(code, n, shape, at + 1, x, 0);
+            at = at + 1 + 1;
+            k += 1;
+        } else {
+            return Read::Fault(at + 1, 4);
+        }
+    }
+    Read::At(at, n)
+}
+
+// The five words between the entries.
+fn words(s: &[u8], at: usize, n: usize) -> Read
+    requires { ⌜ at ≤ length (now s) ⌝ }
+    ensures { λ r. ⌜ Reads (now (s .entry)) at n fiveWords [] r × Shown (WordsAt (now (s .entry)) at) n r ⌝ }
+{
+    match close(s, at, 38, n) {
+        Read::At(b, m) => match close(s, b, 39, m) {
+            Read::At(c, x) => match close(s, c, 40, x) {
+                Read::At(d, y) => match close(s, d, 41, y) {
+                    Read::At(e, z) => close(s, e, 42, z),
+                    Read::Fault(p, q) => Read::Fault(p, q),
+                },
+                Read::Fault(p, q) => Read::Fault(p, q),
+            },
+            Read::Fault(p, q) => Read::Fault(p, q),
+        },
+        Read::Fault(p, q) => Read::Fault(p, q),
+    }
+}
+
+pub fn contents(s: &[u8], v: &[u16], code: &mut [u16]) -> Read
+    requires { ⌜ (length (now s) ≤ 4096) × (4 * length (now s) ≤ length (now code)) ⌝ }
+    ensures { λ r. ⌜ Reads (now (s .entry)) 0 0 (aDossier ∷ []) (someBodies 0 ∷ []) r × ContentsMade (now (s .entry)) (now (v .entry)) (now (code .exit)) r ⌝ }
+{
+    match close(s, 0, 36, 0) {
+        Read::At(a, m) => match entries(s, v, a, 37, 1, 8, code, m) {
+            Read::At(b, x) => match words(s, b, x) {
+                Read::At(c, y) => match entries(s, v, c, 43, 2, 16, code, y) {
+                    Read::At(d, z) => close(s, d, 44, z),
+                    Read::Fault(p, q) => Read::Fault(p, q),
+                },
+                Read::Fault(p, q) => Read::Fault(p, q),
+            },
+            Read::Fault(p, q) => Read::Fault(p, q),
+        },
+        Read::Fault(p, q) => Read::Fault(p, q),
+    }
+}
+
+// The elements of a given set, one or more, up to its `end`.
+fn elements(s: &[u8], v: &[u16], start: usize, code: &mut [u16], from: usize) -> Read
+    requires { ⌜ Room (now s) (now code) start from ⌝ }
+    ensures { λ r. ⌜ Reads (now (s .entry)) start from (aDeclared (anElement 1) ∷ someElements 1 ∷ []) (exact kind.END ∷ []) r × Made (now (s .entry)) (now (v .entry)) part.someElements start from (now (code .entry)) (now (code .exit)) r × When (getD (now (s .entry)) start 0 ≡ 2) r ⌝ }
+{
+    if kind_at(s, start) == 2 {
+        let mut at = start;
+        let mut n = from;
+        let mut k: u8 = 0;
+        while kind_at(s, at) == 2 {
+            if 8 <= k {
+                return Read::Fault(at, 6);
+            }
+            let x = name_number(s, v, at);
+            n = put(code, n, 4, at, x, 0);
+            at += 1;
+            k += 1;
+        }
+        return Read::At(at, n);
+    }
+    Read::Fault(start, 4)
+}
+
+// The body of a given set behind its name, with the `end`.
+fn given(s: &[u8], v: &[u16], at: usize, code: &mut [u16], n: usize) -> Read
+    requires { ⌜ Room (now s) (now code) at n × (at + 1 < length (now s)) × (getD (now s) at 0 ≡ 37) × (getD (now s) (at + 1) 0 ≡ 2) ⌝ }
+    ensures { λ r. ⌜ Reads (now (s .entry)) (at + 1 + 1) (n + 4) (aDeclared (anElement 1) ∷ someElements 1 ∷ []) ([]) r × More (now (s .entry)) (now (v .entry)) someGivens at n (now (code .entry)) (now (code .exit)) r ⌝ }
+{
+    let x = name_number(s, v, at + 1);
+    let m = put(code, n, 3, at, x, 0);
+    match elements(s, v, at + 1 + 1, code, m) {
+        Read::At(e, c) => close(s, e, 44, c),
+        Read::Fault(p, q) => Read::Fault(p, q),
+    }
+}
+
+// The bodies of given sets.
+pub fn givens(s: &[u8], v: &[u16], start: usize, code: &mut [u16], from: usize) -> Read
+    requires { ⌜ Room (now s) (now code) start from ⌝ }
+    ensures { λ r. ⌜ Reads (now (s .entry)) start from (someBodies 0 ∷ []) (twoStates ++ (threeConditions ++ (someOperations 0 ∷ []))) r × Made (now (s .entry)) (now (v .entry)) someGivens start from (now (code .entry)) (now (code .exit)) r ⌝ }
+{
+    let mut at = start;
+    let mut n = from;
+    let mut k: u8 = 0;
+    while kind_at(s, at) == 37 {
+        if kind_at(s, at + 1) == 2 {
+            if 8 <= k {
+                return Read::Fault(at + 1, 6);
+            }
+            match given(s, v, at, code, n) {
+                Read::At(e, m) => {
+                    at = e;
+                    n = m;
+                    k += 1;
+                }
+                Read::Fault(p, q) => return Read::Fault(p, q),
+            }
+        } else {
+            return Read::Fault(at + 1, 4);
+        }
+    }
+    Read::At(at, n)
+}
+
+// 1 an arrow between two given sets, 0 none.
+fn arrow_of(k: u8) -> u8
+    ensures { λ r. ⌜ Arrows k r ⌝ }
+{
+    match k {
+        33..=35 => 1,
+        _ => 0,
+    }
+}
+
+// A type that begins with a name: a given set, or an arrow between two.
+fn named(s: &[u8], v: &[u16], at: usize, code: &mut [u16], n: usize) -> Read
+    requires { ⌜ Room (now s) (now code) at n × NameAt (now s) at × (at < length (now s)) ⌝ }
+    ensures { λ r. ⌜ Reads (now (s .entry)) (at + 1) (n + 4) (aTypeRest ∷ []) ([]) r × Made (now (s .entry)) (now (v .entry)) part.aType at n (now (code .entry)) (now (code .exit)) r ⌝ }
+{
+    let x = name_number(s, v, at);
+    let k = kind_at(s, at + 1);
+    if arrow_of(k) == 0 {
+        let m = put(code, n, 1, at, x, 0);
+        return Read::At(at + 1, m);
+    }
+    let j = kind_at(s, at + 1 + 1);
+    if name_of(j) == 0 {
+        return Read::Fault(at + 1 + 1, 4);
+    }
+    let y = name_number(s, v, at + 1 + 1);
+    let m = put(code, n, wide(k) - 29, at, x, y);
+    Read::At(at + 1 + 1 + 1, m)
+}
+
+fn type_form(s: &[u8], v: &[u16], at: usize, code: &mut [u16], n: usize) -> Read
+    requires { ⌜ Room (now s) (now code) at n ⌝ }
+    ensures { λ r. ⌜ Reads (now (s .entry)) at n (aType ∷ []) ([]) r × Made (now (s .entry)) (now (v .entry)) part.aType at n (now (code .entry)) (now (code .exit)) r ⌝ }
+{
+    let k = kind_at(s, at);
+    if k == 46 {
+        let j = kind_at(s, at + 1);
+        if name_of(j) == 0 {
+            return Read::Fault(at + 1, 4);
+        }
+        let x = name_number(s, v, at + 1);
+        let m = put(code, n, 3, at, x, 0);
+        return Read::At(at + 1 + 1, m);
+    }
+    if name_of(k) == 0 {
+        return match range(s, at, n) {
+            Read::At(e, z) => {
+                let m = put_range(s, v, at, code, n);
+                Read::At(e, m)
+            }
+            Read::Fault(p, q) => Read::Fault(p, q),
+        };
+    }
+    named(s, v, at, code, n)
+}
+
+// Behind a declared name: its node, and : type ;
+fn declaration(s: &[u8], v: &[u16], at: usize, code: &mut [u16], n: usize) -> Read
+    requires { ⌜ Room (now s) (now code) at n × NameAt (now s) at × (at < length (now s)) ⌝ }
+    ensures { λ r. ⌜ Reads (now (s .entry)) (at + 1) (n + 4) aTyped [] r × Made (now (s .entry)) (now (v .entry)) aDeclaration at n (now (code .entry)) (now (code .exit)) r ⌝ }
+{
+    let x = name_number(s, v, at);
+    let m = put(code, n, 6, at, x, 0);
+    match close(s, at + 1, 10, m) {
+        Read::At(a, c) => match type_form(s, v, a, code, c) {
+            Read::At(b, d) => close(s, b, 11, d),
+            Read::Fault(p, q) => Read::Fault(p, q),
+        },
+        Read::Fault(p, q) => Read::Fault(p, q),
+    }
+}
+
+// The declarations of a state, one or more, up to its `where`.
+pub fn declarations(s: &[u8], v: &[u16], start: usize, code: &mut [u16], from: usize) -> Read
+    requires { ⌜ Room (now s) (now code) start from ⌝ }
+    ensures { λ r. ⌜ Reads (now (s .entry)) start from (aDeclared (aVariable 1) ∷ aTyped ++ (someDeclarations 1 ∷ [])) (exact kind.WHERE ∷ []) r × Made (now (s .entry)) (now (v .entry)) part.someDeclarations start from (now (code .entry)) (now (code .exit)) r × When (getD (now (s .entry)) start 0 ≡ 2) r ⌝ }
+{
+    if kind_at(s, start) == 2 {
+        let mut at = start;
+        let mut n = from;
+        let mut k: u8 = 0;
+        while kind_at(s, at) == 2 {
+            if 8 <= k {
+                return Read::Fault(at, 6);
+            }
+            match declaration(s, v, at, code, n) {
+                Read::At(e, m) => {
+                    at = e;
+                    n = m;
+                    k += 1;
+                }
+                Read::Fault(p, q) => return Read::Fault(p, q),
+            }
+        }
+        return Read::At(at, n);
+    }
+    Read::Fault(start, 4)
+}
+
+// 1 a name that ends in ?, 2 one that ends in !, 0 any other symbol.
+fn direction_of(k: u8) -> u8
+    ensures { λ r. ⌜ Directs k r ⌝ }
+{
+    match k {
+        4 => 1,
+        5 => 2,
+        _ => 0,
+    }
+}
+
+// Are there three parameters of this direction, after i inputs and o outputs?
+fn full(c: u8, i: u8, o: u8) -> bool
+    ensures { λ r. ⌜ r ≡ leb 3 (countBy c i o) ⌝ }
+{
+    if c == 1 {
+        return 3 <= i;
+    }
+    3 <= o
+}
+
+// How many inputs there are with one more parameter; how many outputs.
+fn inputs(c: u8, i: u8) -> u8
+    requires { ⌜ i ≤ 3 ⌝ }
+    ensures { λ r. ⌜ r ≡ inputsBy c i ⌝ }
+{
+    if c == 1 {
+        return i + 1;
+    }
+    i
+}
+
+fn outputs(c: u8, o: u8) -> u8
+    requires { ⌜ o ≤ 3 ⌝ }
+    ensures { λ r. ⌜ r ≡ outputsBy c o ⌝ }
+{
+    if c == 1 {
+        return o;
+    }
+    o + 1
+}
+
+// The parameters of an operation, up to its `abstract`.
+pub fn parameters(s: &[u8], v: &[u16], start: usize, code: &mut [u16], from: usize) -> Read
+    requires { ⌜ Room (now s) (now code) start from ⌝ }
+    ensures { λ r. ⌜ Reads (now (s .entry)) start from (someParameters 0 0 ∷ []) (exact kind.ABSTRACT ∷ []) r × Made (now (s .entry)) (now (v .entry)) part.someParameters start from (now (code .entry)) (now (code .exit)) r ⌝ }
+{
+    let mut at = start;
+    let mut n = from;
+    let mut i: u8 = 0;
+    let mut o: u8 = 0;
+    let mut c = direction_of(kind_at(s, start));
+    while c != 0 {
+        if full(c, i, o) {
+            return Read::Fault(at, 6);
+        }
+        match declaration(s, v, at, code, n) {
+            Read::At(e, m) => {
+                at = e;
+                n = m;
+                i = inputs(c, i);
+                o = outputs(c, o);
+                c = direction_of(kind_at(s, e));
+            }
+            Read::Fault(p, q) => return Read::Fault(p, q),
+        }
+    }
+    Read::At(at, n)
+}

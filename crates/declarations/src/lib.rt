@@ -1,0 +1,2 @@
+// Contents, declarations, given sets.
+pub mod contents;

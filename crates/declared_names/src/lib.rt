@@ -1,0 +1,2 @@
+// Declared names: given sets, variables, parameters.
+pub mod declared;

@@ -1,0 +1,2 @@
+// Terms and predicates.
+pub mod trees;

@@ -1,0 +1,502 @@
+// Terms and predicates: numbers 4 and 5 of document 01, and the nodes of their trees.
+ghost use mathlib.Core.Path.{_≡_};
+ghost use mathlib.Core.List.{[], _∷_};
+ghost use Prim.Native.Nat.{_+_, _≤_, _<_};
+ghost use lib.ListN.{length, getD};
+ghost use Rattle.lexical.specs.Kinds as kind;
+ghost use Rattle.form.specs.Machine.{exact, aTerm, anOperand, aTermRest, aRel, aMem, aRight, aBrace, aList, aPairs, aUnary, aParen, aPredRest};
+ghost use Rattle.form_nodes.specs.Inner.{Reads, TermReads, PredReads, Room};
+ghost use Rattle.form_nodes.specs.Derived.{Made, anOperand, aTermFrom, aTermRest, someItems, somePairs, aPredFrom, aPredRest, aUnary, anAtom, someRelated};
+use form_nodes::Read;
+use form_nodes::kinds::Start;
+use form_nodes::kinds::connective_of;
+use form_nodes::kinds::kind_at;
+use form_nodes::kinds::level_of;
+use form_nodes::kinds::membership_of;
+use form_nodes::kinds::name_of;
+use form_nodes::kinds::operator_of;
+use form_nodes::kinds::pred_start_of;
+use form_nodes::kinds::quantifier_of;
+use form_nodes::kinds::relation_of;
+use form_nodes::kinds::start_of;
+use form_nodes::kinds::wide;
+use form_nodes::nodes::division;
+use form_nodes::nodes::empty;
+use form_nodes::nodes::leaf;
+use form_nodes::nodes::magnitude;
+use form_nodes::nodes::name_number;
+use form_nodes::nodes::put;
+use form_nodes::nodes::put_domain;
+use form_nodes::nodes::put_range;
+use form_nodes::ranges::close;
+use form_nodes::ranges::domain;
+use form_nodes::ranges::end;
+use form_nodes::ranges::is_range;
+use form_nodes::ranges::range;
+use form_nodes::ranges::range_end;
+
+// A term that no operator stands in, but in brackets.
+fn operand(s: &[u8], v: &[u16], at: usize, d: u8, b: u8, code: &mut [u16], n: usize) -> Read
+    requires { ⌜ Room (now s) (now code) at n × (d ≤ 24) × (b ≤ 3) ⌝ }
+    ensures { λ r. ⌜ Reads (now (s .entry)) at n (anOperand d b ∷ []) [] r × Made (now (s .entry)) (now (v .entry)) anOperand at n (now (code .entry)) (now (code .exit)) r ⌝ }
+{
+    let k = kind_at(s, at);
+    let start = start_of(k);
+    match start {
+        Start::Leaf => {
+            let m = leaf(s, v, at, code, n);
+            Read::At(at + 1, m)
+        }
+        Start::Prefix => {
+            if 24 <= d {
+                if range_end(s, at) {
+                    let m = leaf(s, v, at + 1, code, n);
+                    let c = put(code, m, 3, at, wide(k), 0);
+                    return Read::At(at + 1 + 1, c);
+                }
+                return Read::Fault(at, 5);
+            }
+            match operand(s, v, at + 1, d + 1, b, code, n) {
+                Read::At(e, m) => {
+                    let c = put(code, m, 3, at, wide(k), 0);
+                    Read::At(e, c)
+                }
+                Read::Fault(p, q) => Read::Fault(p, q),
+            }
+        }
+        Start::Bracket => {
+            if 24 <= d {
+                return Read::Fault(at, 5);
+            }
+            match term(s, v, at + 1, d + 1, b, code, n) {
+                Read::At(e, m) => close(s, e, 18, m),
+                Read::Fault(p, q) => Read::Fault(p, q),
+            }
+        }
+        Start::Brace => {
+            if 24 <= d {
+                return Read::Fault(at, 5);
+            }
+            brace(s, v, at, d + 1, b, code, n)
+        }
+        Start::Empty => empty(s, v, at, code, n),
+        Start::Nothing => Read::Fault(at, 4),
+    }
+}
+
+fn term(s: &[u8], v: &[u16], at: usize, d: u8, b: u8, code: &mut [u16], n: usize) -> Read
+    requires { ⌜ Room (now s) (now code) at n × (d ≤ 24) × (b ≤ 3) ⌝ }
+    ensures { λ r. ⌜ Reads (now (s .entry)) at n (aTerm d b ∷ []) [] r × Made (now (s .entry)) (now (v .entry)) (aTermFrom 1) at n (now (code .entry)) (now (code .exit)) r ⌝ }
+{
+    term_from(s, v, at, d, b, 1, code, n)
+}
+
+// A term with operators of the level min and higher ones.
+fn term_from(
+    s: &[u8],
+    v: &[u16],
+    at: usize,
+    d: u8,
+    b: u8,
+    min: u8,
+    code: &mut [u16],
+    n: usize,
+) -> Read
+    requires { ⌜ Room (now s) (now code) at n × (d ≤ 24) × (b ≤ 3) × (1 ≤ min) × (min ≤ 10) ⌝ }
+    ensures { λ r. ⌜ TermReads (now (s .entry)) at n d b min (aTerm d b ∷ []) r × Made (now (s .entry)) (now (v .entry)) (aTermFrom min) at n (now (code .entry)) (now (code .exit)) r ⌝ }
+{
+    match operand(s, v, at, d, b, code, n) {
+        Read::At(e, m) => term_rest(s, v, e, d, b, min, code, m),
+        Read::Fault(p, q) => Read::Fault(p, q),
+    }
+}
+
+// Operators behind a term, and their right sides.
+fn term_rest(
+    s: &[u8],
+    v: &[u16],
+    at: usize,
+    d: u8,
+    b: u8,
+    min: u8,
+    code: &mut [u16],
+    n: usize,
+) -> Read
+    requires { ⌜ Room (now s) (now code) at n × (d ≤ 24) × (b ≤ 3) × (1 ≤ min) × (min ≤ 10) ⌝ }
+    ensures { λ r. ⌜ TermReads (now (s .entry)) at n d b min (aTermRest d b ∷ []) r × Made (now (s .entry)) (now (v .entry)) (aTermRest min) at n (now (code .entry)) (now (code .exit)) r ⌝ }
+{
+    let k = kind_at(s, at);
+    let o = operator_of(k);
+    if level_of(o) < min {
+        return Read::At(at, n);
+    }
+    if 3 <= o {
+        return match end(s, at + 1, n) {
+            Read::At(e, m) => {
+                let x = magnitude(s, v, at + 1);
+                let y = division(s, at);
+                let c = put(code, n, 4, at, x, y);
+                term_rest(s, v, e, d, b, min, code, c)
+            }
+            Read::Fault(p, q) => Read::Fault(p, q),
+        };
+    }
+    match term_from(s, v, at + 1, d, b, o + 1, code, n) {
+        Read::At(e, m) => {
+            let c = put(code, m, 5, at, wide(k), 0);
+            term_rest(s, v, e, d, b, min, code, c)
+        }
+        Read::Fault(p, q) => Read::Fault(p, q),
+    }
+}
+
+// Behind the { at a place.
+fn brace(s: &[u8], v: &[u16], at: usize, d: u8, b: u8, code: &mut [u16], n: usize) -> Read
+    requires { ⌜ Room (now s) (now code) at n × (d ≤ 24) × (b ≤ 3) × (at < length (now s)) × (getD (now s) at 0 ≡ 19) ⌝ }
+    ensures { λ r. ⌜ Reads (now (s .entry)) (at + 1) (n + 4) (aBrace d b ∷ []) [] r × Made (now (s .entry)) (now (v .entry)) anOperand at n (now (code .entry)) (now (code .exit)) r ⌝ }
+{
+    if kind_at(s, at + 1) == 2 {
+        if kind_at(s, at + 1 + 1) == 10 {
+            return such(s, v, at, d, b, code, n);
+        }
+        return listed(s, v, at, d, b, code, n);
+    }
+    listed(s, v, at, d, b, code, n)
+}
+
+// {t, ..} or {t |-> t, ..}.
+fn listed(s: &[u8], v: &[u16], at: usize, d: u8, b: u8, code: &mut [u16], n: usize) -> Read
+    requires { ⌜ Room (now s) (now code) at n × (d ≤ 24) × (b ≤ 3) × (at < length (now s)) × (getD (now s) at 0 ≡ 19) × (getD (now s) (at + 1) 0 ≡ 2 → getD (now s) (at + 1 + 1) 0 ≡ 10 → ⊥) ⌝ }
+    ensures { λ r. ⌜ Reads (now (s .entry)) (at + 1) (n + 4) (aBrace d b ∷ []) [] r × Made (now (s .entry)) (now (v .entry)) anOperand at n (now (code .entry)) (now (code .exit)) r ⌝ }
+{
+    match term(s, v, at + 1, d, b, code, n) {
+        Read::At(e, m) => {
+            if kind_at(s, e) == 32 {
+                return match pairs(s, v, e, d, b, code, m) {
+                    Read::At(f, c) => {
+                        let h = put(code, c, 8, at, 0, 0);
+                        Read::At(f, h)
+                    }
+                    Read::Fault(p, q) => Read::Fault(p, q),
+                };
+            }
+            match items(s, v, e, d, b, code, m) {
+                Read::At(f, c) => {
+                    let h = put(code, c, 7, at, 0, 0);
+                    Read::At(f, h)
+                }
+                Read::Fault(p, q) => Read::Fault(p, q),
+            }
+        }
+        Read::Fault(p, q) => Read::Fault(p, q),
+    }
+}
+
+// {x : G | p}.
+fn such(s: &[u8], v: &[u16], at: usize, d: u8, b: u8, code: &mut [u16], n: usize) -> Read
+    requires { ⌜ Room (now s) (now code) at n × (d ≤ 24) × (b ≤ 3) × (at < length (now s)) × (getD (now s) at 0 ≡ 19) × (getD (now s) (at + 1) 0 ≡ 2) × (getD (now s) (at + 1 + 1) 0 ≡ 10) ⌝ }
+    ensures { λ r. ⌜ Reads (now (s .entry)) (at + 1) (n + 4) (aBrace d b ∷ []) [] r × Made (now (s .entry)) (now (v .entry)) anOperand at n (now (code .entry)) (now (code .exit)) r ⌝ }
+{
+    if 3 <= b {
+        return Read::Fault(at + 1, 5);
+    }
+    let g = at + 1 + 1 + 1;
+    let k = kind_at(s, g);
+    if name_of(k) == 0 {
+        return Read::Fault(g, 4);
+    }
+    match close(s, g + 1, 13, n) {
+        Read::At(e, m) => match pred(s, v, e, d, b + 1, code, n) {
+            Read::At(f, c) => {
+                let y = name_number(s, v, g);
+                let h = put(code, c, 1, g, y, 0);
+                let x = name_number(s, v, at + 1);
+                let i = put(code, h, 6, at, x, 0);
+                close(s, f, 20, i)
+            }
+            Read::Fault(p, q) => Read::Fault(p, q),
+        },
+        Read::Fault(p, q) => Read::Fault(p, q),
+    }
+}
+
+// Behind the first term of {t, ..}.
+fn items(s: &[u8], v: &[u16], at: usize, d: u8, b: u8, code: &mut [u16], n: usize) -> Read
+    requires { ⌜ Room (now s) (now code) at n × (d ≤ 24) × (b ≤ 3) ⌝ }
+    ensures { λ r. ⌜ Reads (now (s .entry)) at n (aList d b ∷ []) [] r × Made (now (s .entry)) (now (v .entry)) someItems at n (now (code .entry)) (now (code .exit)) r ⌝ }
+{
+    let k = kind_at(s, at);
+    if k == 20 {
+        let c = put(code, n, 1, 0, 0, 0);
+        return Read::At(at + 1, c);
+    }
+    if k == 12 {
+        return match term(s, v, at + 1, d, b, code, n) {
+            Read::At(e, m) => match items(s, v, e, d, b, code, m) {
+                Read::At(f, c) => {
+                    let h = put(code, c, 2, 0, 0, 0);
+                    Read::At(f, h)
+                }
+                Read::Fault(p, q) => Read::Fault(p, q),
+            },
+            Read::Fault(p, q) => Read::Fault(p, q),
+        };
+    }
+    Read::Fault(at, 4)
+}
+
+// Behind the first side of {t |-> t, ..}.
+fn pairs(s: &[u8], v: &[u16], at: usize, d: u8, b: u8, code: &mut [u16], n: usize) -> Read
+    requires { ⌜ Room (now s) (now code) at n × (d ≤ 24) × (b ≤ 3) ⌝ }
+    ensures { λ r. ⌜ Reads (now (s .entry)) at n (exact kind.maplet ∷ aTerm d b ∷ aPairs d b ∷ []) [] r × Made (now (s .entry)) (now (v .entry)) somePairs at n (now (code .entry)) (now (code .exit)) r ⌝ }
+{
+    match close(s, at, 32, n) {
+        Read::At(a, z) => match term(s, v, a, d, b, code, n) {
+            Read::At(e, m) => {
+                let k = kind_at(s, e);
+                if k == 20 {
+                    let c = put(code, m, 1, 0, 0, 0);
+                    return Read::At(e + 1, c);
+                }
+                if k == 12 {
+                    return match term(s, v, e + 1, d, b, code, m) {
+                        Read::At(f, c) => match pairs(s, v, f, d, b, code, c) {
+                            Read::At(g, h) => {
+                                let i = put(code, h, 2, 0, 0, 0);
+                                Read::At(g, i)
+                            }
+                            Read::Fault(p, q) => Read::Fault(p, q),
+                        },
+                        Read::Fault(p, q) => Read::Fault(p, q),
+                    };
+                }
+                Read::Fault(e, 4)
+            }
+            Read::Fault(p, q) => Read::Fault(p, q),
+        },
+        Read::Fault(p, q) => Read::Fault(p, q),
+    }
+}
+
+pub fn pred(s: &[u8], v: &[u16], at: usize, d: u8, b: u8, code: &mut [u16], n: usize) -> Read
+    requires { ⌜ Room (now s) (now code) at n × (d ≤ 24) × (b ≤ 3) ⌝ }
+    ensures { λ r. ⌜ Reads (now (s .entry)) at n (aUnary d b ∷ aPredRest d d b ∷ []) [] r × Made (now (s .entry)) (now (v .entry)) (aPredFrom 1) at n (now (code .entry)) (now (code .exit)) r ⌝ }
+{
+    pred_from(s, v, at, d, b, 1, code, n)
+}
+
+// A predicate with connectives of the level min and higher ones.
+fn pred_from(
+    s: &[u8],
+    v: &[u16],
+    at: usize,
+    d: u8,
+    b: u8,
+    min: u8,
+    code: &mut [u16],
+    n: usize,
+) -> Read
+    requires { ⌜ Room (now s) (now code) at n × (d ≤ 24) × (b ≤ 3) × (1 ≤ min) × (min ≤ 10) ⌝ }
+    ensures { λ r. ⌜ PredReads (now (s .entry)) at n d b min (aUnary d b ∷ []) r × Made (now (s .entry)) (now (v .entry)) (aPredFrom min) at n (now (code .entry)) (now (code .exit)) r ⌝ }
+{
+    match unary(s, v, at, d, b, code, n) {
+        Read::At(e, m) => pred_rest(s, v, e, d, b, min, code, m),
+        Read::Fault(p, q) => Read::Fault(p, q),
+    }
+}
+
+// Connectives behind a predicate, and their right sides.
+fn pred_rest(
+    s: &[u8],
+    v: &[u16],
+    at: usize,
+    d: u8,
+    b: u8,
+    min: u8,
+    code: &mut [u16],
+    n: usize,
+) -> Read
+    requires { ⌜ Room (now s) (now code) at n × (d ≤ 24) × (b ≤ 3) × (1 ≤ min) × (min ≤ 10) ⌝ }
+    ensures { λ r. ⌜ PredReads (now (s .entry)) at n d b min [] r × Made (now (s .entry)) (now (v .entry)) (aPredRest min) at n (now (code .entry)) (now (code .exit)) r ⌝ }
+{
+    let k = kind_at(s, at);
+    let l = connective_of(k);
+    if l < min {
+        return Read::At(at, n);
+    }
+    if l == 2 {
+        if 24 <= d {
+            return Read::Fault(at, 5);
+        }
+        return match pred_from(s, v, at + 1, d + 1, b, 2, code, n) {
+            Read::At(e, m) => {
+                let c = put(code, m, 3, at, wide(k), 0);
+                pred_rest(s, v, e, d, b, min, code, c)
+            }
+            Read::Fault(p, q) => Read::Fault(p, q),
+        };
+    }
+    match pred_from(s, v, at + 1, d, b, l + 1, code, n) {
+        Read::At(e, m) => {
+            let c = put(code, m, 3, at, wide(k), 0);
+            pred_rest(s, v, e, d, b, min, code, c)
+        }
+        Read::Fault(p, q) => Read::Fault(p, q),
+    }
+}
+
+// A predicate that no connective stands in, but in parentheses.
+fn unary(s: &[u8], v: &[u16], at: usize, d: u8, b: u8, code: &mut [u16], n: usize) -> Read
+    requires { ⌜ Room (now s) (now code) at n × (d ≤ 24) × (b ≤ 3) ⌝ }
+    ensures { λ r. ⌜ Reads (now (s .entry)) at n (aUnary d b ∷ []) [] r × Made (now (s .entry)) (now (v .entry)) aUnary at n (now (code .entry)) (now (code .exit)) r ⌝ }
+{
+    let k = kind_at(s, at);
+    let c = pred_start_of(k);
+    if c == 0 {
+        return match term(s, v, at, d, b, code, n) {
+            Read::At(e, m) => atom(s, v, e, d, b, code, m),
+            Read::Fault(p, q) => Read::Fault(p, q),
+        };
+    }
+    if c == 1 {
+        let m = put(code, n, 1, at, wide(k), 0);
+        return Read::At(at + 1, m);
+    }
+    if c == 2 {
+        if 24 <= d {
+            return Read::Fault(at, 5);
+        }
+        return match unary(s, v, at + 1, d + 1, b, code, n) {
+            Read::At(e, m) => {
+                let h = put(code, m, 2, at, 0, 0);
+                Read::At(e, h)
+            }
+            Read::Fault(p, q) => Read::Fault(p, q),
+        };
+    }
+    if 24 <= d {
+        return Read::Fault(at, 5);
+    }
+    paren(s, v, at, d + 1, b, code, n)
+}
+
+// Behind the ( at a place.
+fn paren(s: &[u8], v: &[u16], at: usize, d: u8, b: u8, code: &mut [u16], n: usize) -> Read
+    requires { ⌜ Room (now s) (now code) at n × (d ≤ 24) × (b ≤ 3) × (at < length (now s)) × (getD (now s) at 0 ≡ 15) ⌝ }
+    ensures { λ r. ⌜ Reads (now (s .entry)) (at + 1) (n + 4) (aParen d b ∷ []) [] r × Made (now (s .entry)) (now (v .entry)) aUnary at n (now (code .entry)) (now (code .exit)) r ⌝ }
+{
+    let k = kind_at(s, at + 1);
+    let c = quantifier_of(k);
+    if c == 0 {
+        return match pred(s, v, at + 1, d, b, code, n) {
+            Read::At(e, m) => close(s, e, 16, m),
+            Read::Fault(p, q) => Read::Fault(p, q),
+        };
+    }
+    quantified(s, v, at, d, b, code, n)
+}
+
+// Behind ( and a quantifier.
+fn quantified(s: &[u8], v: &[u16], at: usize, d: u8, b: u8, code: &mut [u16], n: usize) -> Read
+    requires { ⌜ Room (now s) (now code) at n × (d ≤ 24) × (b ≤ 3) × (at + 1 < length (now s)) × (53 ≤ getD (now s) (at + 1) 0) × (getD (now s) (at + 1) 0 ≤ 55) × (getD (now s) at 0 ≡ 15) ⌝ }
+    ensures { λ r. ⌜ Reads (now (s .entry)) (at + 1) (n + 4) (aParen d b ∷ []) [] r × Made (now (s .entry)) (now (v .entry)) aUnary at n (now (code .entry)) (now (code .exit)) r ⌝ }
+{
+    let x = at + 1 + 1;
+    if kind_at(s, x) == 2 {
+        if 3 <= b {
+            return Read::Fault(x, 5);
+        }
+        return match close(s, x + 1, 10, n) {
+            Read::At(t, y) => match domain(s, t, n) {
+                Read::At(e, z) => match close(s, e, 14, n) {
+                    Read::At(f, u) => match pred(s, v, f, d, b + 1, code, n) {
+                        Read::At(g, m) => {
+                            let h = put_domain(s, v, t, code, m);
+                            let i = name_number(s, v, x);
+                            let j = kind_at(s, at + 1);
+                            let c = put(code, h, 8, at + 1, i, wide(j));
+                            close(s, g, 16, c)
+                        }
+                        Read::Fault(p, q) => Read::Fault(p, q),
+                    },
+                    Read::Fault(p, q) => Read::Fault(p, q),
+                },
+                Read::Fault(p, q) => Read::Fault(p, q),
+            },
+            Read::Fault(p, q) => Read::Fault(p, q),
+        };
+    }
+    Read::Fault(x, 4)
+}
+
+// What stands behind the first term of a predicate.
+fn atom(s: &[u8], v: &[u16], at: usize, d: u8, b: u8, code: &mut [u16], n: usize) -> Read
+    requires { ⌜ Room (now s) (now code) at n × (d ≤ 24) × (b ≤ 3) ⌝ }
+    ensures { λ r. ⌜ Reads (now (s .entry)) at n (aRel d b ∷ []) [] r × Made (now (s .entry)) (now (v .entry)) anAtom at n (now (code .entry)) (now (code .exit)) r ⌝ }
+{
+    let k = kind_at(s, at);
+    let c = relation_of(k);
+    if c == 0 {
+        return Read::Fault(at, 4);
+    }
+    if c == 2 {
+        return member(s, v, at, d, b, code, n);
+    }
+    if c == 1 {
+        return match term(s, v, at + 1, d, b, code, n) {
+            Read::At(e, m) => {
+                let h = put(code, m, 4, at, wide(k), 0);
+                Read::At(e, h)
+            }
+            Read::Fault(p, q) => Read::Fault(p, q),
+        };
+    }
+    match term(s, v, at + 1, d, b, code, n) {
+        Read::At(e, m) => related(s, v, e, d, b, code, m),
+        Read::Fault(p, q) => Read::Fault(p, q),
+    }
+}
+
+// Behind `in` or `notin`.
+fn member(s: &[u8], v: &[u16], at: usize, d: u8, b: u8, code: &mut [u16], n: usize) -> Read
+    requires { ⌜ Room (now s) (now code) at n × (d ≤ 24) × (b ≤ 3) × (at < length (now s)) × (56 ≤ getD (now s) at 0) × (getD (now s) at 0 ≤ 57) ⌝ }
+    ensures { λ r. ⌜ Reads (now (s .entry)) (at + 1) (n + 4) (aRight d b ∷ []) [] r × Made (now (s .entry)) (now (v .entry)) anAtom at n (now (code .entry)) (now (code .exit)) r ⌝ }
+{
+    let k = kind_at(s, at);
+    if is_range(s, at + 1) {
+        return match range(s, at + 1, n) {
+            Read::At(e, z) => {
+                let m = put_range(s, v, at + 1, code, n);
+                let c = put(code, m, 6, at, wide(k), 0);
+                Read::At(e, c)
+            }
+            Read::Fault(p, q) => Read::Fault(p, q),
+        };
+    }
+    match term(s, v, at + 1, d, b, code, n) {
+        Read::At(e, m) => {
+            let c = put(code, m, 5, at, wide(k), 0);
+            Read::At(e, c)
+        }
+        Read::Fault(p, q) => Read::Fault(p, q),
+    }
+}
+
+// Behind t |-> t.
+fn related(s: &[u8], v: &[u16], at: usize, d: u8, b: u8, code: &mut [u16], n: usize) -> Read
+    requires { ⌜ Room (now s) (now code) at n × (d ≤ 24) × (b ≤ 3) ⌝ }
+    ensures { λ r. ⌜ Reads (now (s .entry)) at n (aMem d b ∷ []) [] r × Made (now (s .entry)) (now (v .entry)) someRelated at n (now (code .entry)) (now (code .exit)) r ⌝ }
+{
+    let k = kind_at(s, at);
+    let c = membership_of(k);
+    if c == 0 {
+        return Read::Fault(at, 4);
+    }
+    match term(s, v, at + 1, d, b, code, n) {
+        Read::At(e, m) => {
+            let h = put(code, m, 7, at, wide(k), 0);
+            Read::At(e, h)
+        }
+        Read::Fault(p, q) => Read::Fault(p, q),
+    }
+}

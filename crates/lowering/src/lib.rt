@@ -1,0 +1,2 @@
+// Terms and predicates to nodes of the table.
+pub mod walk;

@@ -1,0 +1,1 @@
+// The meaning of terms, predicates, states and operations: definitions and theorems, no code.

@@ -1,0 +1,151 @@
+// The names of a text, numbered by the first symbol that has their letters.
+//
+// The numbers of names that differ stand in a digital tree: slot 2m or 2m + 1 is below node m, by one bit of the letters, and slot 8192 is above all.
+// A slot holds a symbol's number and one, or 0. A walk takes a bit of the letters at each node, so it ends within the 128 bits of 16 letters.
+ghost use mathlib.Core.Path.{_≡_};
+ghost use mathlib.Core.Bool.{cond, _&&_};
+ghost use Prim.Native.Nat.{ℕ, _+_, _≤_, _<_};
+ghost use lib.Dec.{eqb};
+ghost use lib.ListN.{length, take, drop, getD};
+ghost use Rattle.lexical.specs.Symbols.{run, scan, symbols};
+ghost use Rattle.lexical.specs.Promises.{filled, valueIn, numberIn};
+ghost use Rattle.lexical.specs.Inner.{packed, isName, lowIn, highIn, Rows, walkFrom, IsFirst, Tree};
+ghost use Rattle.lexical.specs.Inner.{filledLow, filledHigh, filledNumbers, filledValues};
+use lexical::Stop;
+use lexical::classes::run_from;
+use lexical::words::eight;
+
+pub fn is_name(code: u8) -> bool
+    ensures { λ r. ⌜ r ≡ isName code ⌝ }
+{
+    match code {
+        2..=5 => true,
+        _ => false,
+    }
+}
+
+// Eight letters of a name, from letter `skip` on, packed; 0 for another symbol.
+pub fn letters_at(s: &[u8], code: u8, at: usize, skip: usize) -> u64
+    requires { ⌜ (at ≤ length (now s)) × (length (now s) ≤ 32768) × (skip ≤ 8) ⌝ }
+    ensures { λ r. ⌜ r ≡ cond (isName code) (packed 8 (drop skip (run (drop at (now (s .entry)))))) 0 ⌝ }
+{
+    if is_name(code) {
+        let n = run_from(s, at);
+        return eight(s, at + skip, at + n);
+    }
+    0
+}
+
+// The letters of each name, packed; 0 for another symbol.
+pub fn pack_names(
+    s: &[u8],
+    codes: &[u8],
+    starts: &[u16],
+    n: usize,
+    low: &mut [u64],
+    high: &mut [u64],
+)
+    requires { ⌜ Rows (now s) (now codes) (now starts) n × (length (now codes) ≡ 4096) × (length (now starts) ≡ 4096) × (length (now low) ≡ 4096) × (length (now high) ≡ 4096) ⌝ }
+    ensures { λ r. ⌜ (now (low .exit) ≡ filledLow (now (s .entry)) (now (low .entry))) × (now (high .exit) ≡ filledHigh (now (s .entry)) (now (high .entry))) ⌝ }
+{
+    let mut i = 0;
+    while i < n {
+        let code = codes[i];
+        let at = starts[i] as usize;
+        low[i] = letters_at(s, code, at, 0);
+        high[i] = letters_at(s, code, at, 8);
+        i += 1;
+    }
+}
+
+// The letters of symbol m are a and b.
+pub fn same_letters(low: &[u64], high: &[u64], m: usize, a: u64, b: u64) -> bool
+    requires { ⌜ (m < length (now low)) × (m < length (now high)) ⌝ }
+    ensures { λ r. ⌜ r ≡ (eqb (getD (now (low .entry)) m 0) a && eqb (getD (now (high .entry)) m 0) b) ⌝ }
+{
+    if low[m] == a {
+        return high[m] == b;
+    }
+    false
+}
+
+// The walk by the letters of symbol i.
+pub fn walk(low: &[u64], high: &[u64], tree: &[u16], i: usize) -> Stop
+    requires { ⌜ (i < 4096) × (length (now low) ≡ 4096) × (length (now high) ≡ 4096) × (length (now tree) ≡ 8193) × ((k : ℕ) → getD (now tree) k 0 ≤ 4096) ⌝ }
+    ensures { λ r. ⌜ r ≡ walkFrom 128 (now (low .entry)) (now (high .entry)) (now (tree .entry)) (getD (now (low .entry)) i 0) (getD (now (high .entry)) i 0) (getD (now (low .entry)) i 0) (getD (now (high .entry)) i 0) 8192 ⌝ }
+{
+    let a = low[i];
+    let b = high[i];
+    let mut p = a;
+    let mut q = b;
+    let mut slot: usize = 8192;
+    let mut d: usize = 0;
+    while d < 128 {
+        let t = tree[slot] as usize;
+        if t == 0 {
+            return Stop::Free(slot);
+        }
+        let m = t - 1;
+        if same_letters(low, high, m, a, b) {
+            return Stop::At(m);
+        }
+        slot = 2 * m + (p % 2) as usize;
+        p = p / 2 + (q % 2) * 0x8000000000000000;
+        q = q / 2;
+        d += 1;
+    }
+    Stop::Deep
+}
+
+// The first symbol that has the letters of symbol i, one by one: for a walk that is too deep, which no letters make.
+pub fn first_like(low: &[u64], high: &[u64], i: usize) -> usize
+    requires { ⌜ (i < 4096) × (length (now low) ≡ 4096) × (length (now high) ≡ 4096) ⌝ }
+    ensures { λ r. ⌜ IsFirst (now (low .entry)) (now (high .entry)) i r ⌝ }
+{
+    let a = low[i];
+    let b = high[i];
+    let mut m = 0;
+    while m < i {
+        if same_letters(low, high, m, a, b) {
+            return m;
+        }
+        m += 1;
+    }
+    m
+}
+
+// The value of symbol i: of a name the number of the first one with its letters, which is put into the tree if it is i; of another symbol `old`.
+pub fn number_of(low: &[u64], high: &[u64], tree: &mut [u16], i: usize, old: u16) -> u16
+    requires { ⌜ Tree (now low) (now high) (now tree) i × (i < 4096) × (length (now low) ≡ 4096) × (length (now high) ≡ 4096) × (length (now tree) ≡ 8193) ⌝ }
+    ensures { λ r. ⌜ Tree (now (low .entry)) (now (high .entry)) (now (tree .exit)) (i + 1) × (length (now (tree .exit)) ≡ 8193) × (getD (now (low .entry)) i 0 ≡ 0 → r ≡ old) × ((getD (now (low .entry)) i 0 ≡ 0 → ⊥) → IsFirst (now (low .entry)) (now (high .entry)) i r) ⌝ }
+{
+    if low[i] == 0 {
+        return old;
+    }
+    let w = walk(low, high, tree, i);
+    match w {
+        Stop::At(m) => m as u16,
+        Stop::Free(slot) => {
+            tree[slot] = (i + 1) as u16;
+            i as u16
+        }
+        Stop::Deep => first_like(low, high, i) as u16,
+    }
+}
+
+// The value of each name: the number of the first symbol that has its letters.
+pub fn number_names(s: &[u8], codes: &[u8], starts: &[u16], values: &mut [u16], n: usize)
+    requires { ⌜ Rows (now s) (now codes) (now starts) n × (length (now codes) ≡ 4096) × (length (now starts) ≡ 4096) × (length (now values) ≡ 4096) × ((i : ℕ) → i < n → getD (now values) i 0 ≡ getD (filledNumbers (now s)) i 0) ⌝ }
+    ensures { λ r. ⌜ now (values .exit) ≡ filledValues (now (s .entry)) (now (values .entry)) ⌝ }
+{
+    let mut low = [0u64; 4096];
+    let mut high = [0u64; 4096];
+    pack_names(s, codes, starts, n, &mut low, &mut high);
+    let mut tree = [0u16; 8193];
+    let mut i = 0;
+    while i < n {
+        let old = values[i];
+        values[i] = number_of(&low, &high, &mut tree, i, old);
+        i += 1;
+    }
+}

@@ -1,2 +1,0 @@
-pub mod Occurring
-pub mod Promises

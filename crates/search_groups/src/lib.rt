@@ -1,0 +1,3 @@
+// Groups of variables, and the conjuncts of predicates.
+pub mod conjuncts;
+pub mod groups;

@@ -1,0 +1,2 @@
+-- Reading computed on changed parts of BASE.
+pub mod Samples

@@ -1,0 +1,8 @@
+-- The table by numbers is the table by the definitions.
+-- The walk that writes the table: pieces of the table, and what each shape of node writes.
+-- The whole table: places, carriers, and each predicate with the names in its reach.
+pub mod WritingPlaces
+pub mod WritingTypes
+pub mod WritingAll
+
+-- Each predicate of a dossier at its place in the whole table, and the rows of all conjuncts.

@@ -1,0 +1,4 @@
+pub mod Resolved
+pub mod Dossiers
+pub mod Passes
+pub mod Parts

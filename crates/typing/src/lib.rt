@@ -1,0 +1,2 @@
+// Types of terms and predicates, from the end of their nodes.
+pub mod types;

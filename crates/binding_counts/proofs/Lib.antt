@@ -1,7 +1,7 @@
 -- Sizes and bindings by numbers are those of the definitions.
 -- The walk for sizes.
-pub mod BindCounts
-pub mod BindSpans
-pub mod BindFaults
+pub mod CappedCounts
+pub mod BindingSpans
+pub mod BindingsAgree
 
 -- The pass over a whole dossier.

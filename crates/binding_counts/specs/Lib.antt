@@ -1,2 +1,2 @@
-pub mod Fit
-pub mod Bindings
+pub mod DeclaredTypesFit
+pub mod BindingsByNumber

@@ -4,7 +4,7 @@ ghost use mathlib.Core.Bool.{_&&_};
 ghost use Prim.Native.Nat.{_+_, _-_, _*_, _^_, _≤_, _<_};
 ghost use lib.Dec.{leb};
 ghost use lib.ListN.{length};
-ghost use Rattle.binding_counts.specs.Bindings.{cap, sizeAt, TypeCounted, FactorCounted, GroupCounted, HeadingFaulted, StateBound, OperationBound, OperationsBound, BindingsSeen};
+ghost use Rattle.binding_counts.specs.BindingsByNumber.{cap, sizeAt, TypeCounted, FactorCounted, GroupCounted, HeadingFaulted, StateBound, OperationBound, OperationsBound, BindingsSeen};
 use names::passes::part;
 use type_rules::kinds::index;
 use type_rules::kinds::lesser_of;

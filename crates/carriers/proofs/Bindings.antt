@@ -13,7 +13,7 @@ use Rattle.meaning.specs.Values.{Value}
 use Rattle.meaning.specs.Meaning.{Binding}
 use Rattle.meaning.specs.Bindings.{bindings, flat}
 use Rattle.static_rules.specs.Limits.{bindingCount}
-use Rattle.carriers.specs.Order.{valueAt, digit, bindingAt}
+use Rattle.carriers.specs.ValuesByNumber.{valueAt, digit, bindingAt}
 use Rattle.carriers.proofs.Upward.{map-length, map-get, flat-blocks}
 use Rattle.carriers.proofs.Values.{values-are, count-some, values-once}
 

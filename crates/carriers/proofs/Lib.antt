@@ -1,5 +1,5 @@
 -- The laws of the fixed order.
-pub mod Filtered
+pub mod RisingFilters
 pub mod Words
 pub mod Rows
 pub mod Masks

@@ -13,7 +13,7 @@ use Rattle.sets.proofs.Members.{under-power}
 use lib.Count.{onesIn}
 use lib.Pow.{pow-pos, pow-add, pow-mono}
 use Rattle.sets.specs.Sets.{pair}
-use Rattle.carriers.specs.Order.{word, rowOf, choices, maskAt}
+use Rattle.carriers.specs.ValuesByNumber.{word, rowOf, choices, maskAt}
 use Rattle.carriers.proofs.Words.{word-below}
 use Rattle.carriers.proofs.Rows.{partial-rows, total-rows, pow-rows}
 

@@ -15,8 +15,8 @@ use Rattle.form.specs.Tree.{partial, total}
 use Rattle.sets.specs.Sets.{has, pair, someFrom, countFrom, isPartial, isTotal}
 use Rattle.sets.proofs.Members.{count-ones, ones-among}
 use Rattle.meaning.specs.Bindings.{pairSets}
-use Rattle.carriers.specs.Order.{rowOf, choices, maskAt, partialMask, totalMask}
-use Rattle.carriers.proofs.Filtered.{Lists, listed}
+use Rattle.carriers.specs.ValuesByNumber.{rowOf, choices, maskAt, partialMask, totalMask}
+use Rattle.carriers.proofs.RisingFilters.{Lists, listed}
 use Rattle.carriers.proofs.Words.{rowsPass, RowList, word-lists}
 
 -- ---- a set of pairs passes where each of its rows does

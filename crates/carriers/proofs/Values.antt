@@ -19,7 +19,7 @@ use Rattle.meaning.specs.Values as val
 use Rattle.meaning.specs.Values.{Value}
 use Rattle.meaning.specs.Meaning.{elementValues, numberValues}
 use Rattle.meaning.specs.Bindings.{pairSets, valuesOf}
-use Rattle.carriers.specs.Order.{partialMask, totalMask, pairSetAt, valueAt}
+use Rattle.carriers.specs.ValuesByNumber.{partialMask, totalMask, pairSetAt, valueAt}
 use Rattle.carriers.proofs.Rows.{partial-lists, total-lists, partial-sets, total-sets}
 use Rattle.carriers.proofs.Upward.{map-length, map-get}
 

@@ -6,9 +6,9 @@ use native.Mathlib.Nat.{mod-lt, div-add-mod', div-lt-iff-lt-mul, div-mul-le-self
 use native.Mathlib.Decide.{decLt}
 use native.Mathlib.Omega.{arith}
 use lib.Arith.{digits-div, digits-mod, digits-lt}
-use Rattle.symbols.proofs.Tests.{and-left, and-right}
-use Rattle.carriers.specs.Order.{word}
-use Rattle.carriers.proofs.Filtered.{Lists}
+use Rattle.symbols.proofs.BooleanTests.{and-left, and-right}
+use Rattle.carriers.specs.ValuesByNumber.{word}
+use Rattle.carriers.proofs.RisingFilters.{Lists}
 
 -- each of the n rows below b passes the test
 unfoldable pub rowsPass : (ℕ → Bool) → (b n s : ℕ) → Bool

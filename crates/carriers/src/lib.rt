@@ -5,7 +5,7 @@ ghost use Prim.Native.Nat.{_*_, _^_, _<_, _≤_};
 ghost use lib.IntN.{pos, _+ℤ_};
 ghost use Rattle.form.specs.Tree.{partial, total};
 ghost use Rattle.static_rules.specs.Carriers.{arrowCount};
-ghost use Rattle.carriers.specs.Order.{Room, choices, maskAt, partialMask, totalMask, digit};
+ghost use Rattle.carriers.specs.ValuesByNumber.{Room, choices, maskAt, partialMask, totalMask, digit};
 
 // The k-th number of a range from a on.
 pub fn number_at(a: i32, k: u32) -> i64

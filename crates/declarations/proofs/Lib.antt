@@ -1,3 +1,3 @@
 -- What the code of the form pass counts on.
-pub mod Listing
+pub mod ListItems
 pub mod ListNodes

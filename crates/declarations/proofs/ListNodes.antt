@@ -6,12 +6,12 @@ use lib.ListN.{take, getD}
 use Rattle.form.specs.Machine.{ends}
 use Rattle.form.specs.Machine as machine
 use Rattle.form.specs.Codes.{node}
-use Rattle.form_nodes.specs.Inner.{Writes, Closes, Shown}
-use Rattle.form_nodes.specs.Derived.{Part, Derives, Made, MadeAt, NameAt, nameCode, someEntries, aType, aDeclaration, someElements, someGivens, declares, aGiven}
-use Rattle.declarations.specs.Dossiers.{WordsAt, ContentsMade, More, MoreAt, behind}
+use Rattle.form_nodes.specs.FormPromises.{Writes, Closes, Shown}
+use Rattle.form_nodes.specs.Derivations.{Part, Derives, Made, MadeAt, NameAt, nameCode, someEntries, aType, aDeclaration, someElements, someGivens, declares, aGiven}
+use Rattle.declarations.specs.DossierPromises.{WordsAt, ContentsMade, More, MoreAt, behind}
 use Rattle.form_nodes.specs.declared.Read.{Read}
 use Rattle.form_nodes.specs.declared.Read.the-variants.{At, Fault}
-use Rattle.form_nodes.proofs.Making.{from}
+use Rattle.form_nodes.proofs.NodesOfParts.{from}
 
 -- what is written behind something written
 pub then-written : (p x y : List ℕ) {l k : List ℕ} → l ≡ p ++ x → k ≡ l ++ y → k ≡ p ++ (x ++ y)

@@ -1,1 +1,1 @@
-pub mod Dossiers
+pub mod DossierPromises

@@ -1,3 +1,3 @@
 -- Names and types: the walk over nodes, and what it finds.
-pub mod Declaring
-pub mod Giving
+pub mod DeclarationNodes
+pub mod GivenSetNodes

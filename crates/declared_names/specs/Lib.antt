@@ -1,2 +1,2 @@
-pub mod Parts
-pub mod Passes
+pub mod PassPromises
+pub mod NamesByNumber

@@ -2,8 +2,8 @@
 ghost use mathlib.Core.Path.{_≡_};
 ghost use Prim.Native.Nat.{_+_, _≤_, _<_};
 ghost use lib.ListN.{length};
-ghost use Rattle.type_rules.specs.Inner.{overKey};
-ghost use Rattle.declared_names.specs.Parts.{TypeKinded, TypeFaulted, pairsKeyAt, DeclarationFaulted, Reached, DeclaredSeen, ShownSeen, HiddenSeen, Counted, GivenFaulted, GivenKind, SizeCounted, GivenSeen};
+ghost use Rattle.type_rules.specs.TypesByNumber.{overKey};
+ghost use Rattle.declared_names.specs.PassPromises.{TypeKinded, TypeFaulted, pairsKeyAt, DeclarationFaulted, Reached, DeclaredSeen, ShownSeen, HiddenSeen, Counted, GivenFaulted, GivenKind, SizeCounted, GivenSeen};
 use type_rules::kinds::element_of;
 use type_rules::kinds::index;
 use type_rules::kinds::is_given;

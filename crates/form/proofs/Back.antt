@@ -15,7 +15,7 @@ use Rattle.form.specs.Machine.{Item, exact, aDeclared, aName, anEmptyRes
 use Rattle.form.specs.Machine.{aBrace, aNamed, aFirst, aList, aPairs, aUnary, aParen, aPredRest, someEntries, someOpEntries, someBodies, someElements, someDeclarations, someOperations, someParameters}
 use Rattle.form.specs.Machine.{Act, take, skip, stuck, then, starts, fromStart, startTerm, operate, startPred, onName, act, Start}
 use Rattle.form.proofs.Table.{by-table, Each, _&_, Carried, symbolOf, endingAt}
-use Rattle.form.proofs.Plain.{plainParameters, named, plainTerm, plainPred, plainDeclarations, plainDomain, plainState, plainWhere, Bodies}
+use Rattle.form.proofs.PlainSymbols.{plainParameters, named, plainTerm, plainPred, plainDeclarations, plainDomain, plainState, plainWhere, Bodies}
 use Rattle.form.proofs.Fill.{Fill, fill, Fills, print, Tail, operation, division, PredTail, connection, aSet, negatedTerm, goesOn, comparing, belonging, pairing}
 use Rattle.form.proofs.Fill.{moreItems, morePairs, first, used, bound, inside, quantifying, plainTail, plainPredTail, plainRelating, plainAfterFirst}
 use Rattle.form.proofs.Fill.{extended, extended-plain, joined, joined-plain, braced, braced-plain, parenthesised, parenthesised-plain, relate, relate-plain, emptied, emptied-plain}

@@ -14,7 +14,7 @@ use Rattle.form.specs.Machine.{aBrace, aNamed, aFirst, aList, aPairs, aU
 use Rattle.form.specs.Machine.{Act, take, skip, stuck, act, Next, go, halt, does, step, passed, ends}
 use Rattle.form.proofs.Takes.{initial, feedOn, feed}
 use Rattle.form.proofs.Table.{Spelled, AllSpelled, carried, isFixed, carries}
-use Rattle.form.proofs.Plain.{Bodies, dossier-plain}
+use Rattle.form.proofs.PlainSymbols.{Bodies, dossier-plain}
 use Rattle.form.proofs.Fill.{Fill, Fills, print, Tail, PredTail, aSet, negatedTerm, goesOn, comparing, moreItems, first, bound, inside}
 use Rattle.form.proofs.Back.{Back, back}
 

@@ -15,8 +15,8 @@ use Rattle.form.specs.Written.{operatorKind, divisionKind, connectiveKin
 use Rattle.form.specs.Machine.{Item, exact, aDeclared, aName, anEmptyRest, anEnd, aType, aTypeRest, aDomain, aDossier, aTerm, anOperand, aTermRest, aRel, aMem, aRight, aNeg, aNumRest}
 use Rattle.form.specs.Machine.{aBrace, aNamed, aFirst, aList, aPairs, aUnary, aParen, aPredRest, someEntries, someOpEntries, someBodies, someElements, someDeclarations, someOperations, someParameters}
 use Rattle.form.proofs.Table.{Carried, symbolOf}
-use Rattle.form.proofs.Plain.{named, plainEnd, plainRange, plainDomain, plainTerm, plainItems, plainPairs, plainPred, plainType, plainElements, plainDeclarations}
-use Rattle.form.proofs.Plain.{plainParameters, plainOperations, plainEntries, Bodies, plainBodies, plainFrom, plainDossier}
+use Rattle.form.proofs.PlainSymbols.{named, plainEnd, plainRange, plainDomain, plainTerm, plainItems, plainPairs, plainPred, plainType, plainElements, plainDeclarations}
+use Rattle.form.proofs.PlainSymbols.{plainParameters, plainOperations, plainEntries, Bodies, plainBodies, plainFrom, plainDossier}
 
 -- what follows a term
 pub data Tail : Type 0 where

@@ -9,7 +9,7 @@ use lib.Dec.{eqb, ltb}
 use lib.ListN.{length, take, drop, getD}
 use lib.Seq.{take-suc, take-length}
 use borrow.Author.Tests.{le-ltb, ltb-true, ltb-false, eqb-true, eq-eqb}
-use Rattle.symbols.proofs.Tests.{and-left, and-right, clash, or-false}
+use Rattle.symbols.proofs.BooleanTests.{and-left, and-right, clash, or-false}
 use Rattle.lexical.specs.Kinds as kind
 use Rattle.lexical.specs.Kinds.{Kind, codeOf, is, lookup}
 use Rattle.lexical.specs.Symbols.{Symbol, fixed}

@@ -13,7 +13,7 @@ use Rattle.form.specs.Tree.{Term, number, name, group, prefix, binary, d
 use Rattle.form.specs.Tree.{Pred, truth, falsity, negation, paren, quantified, connected, compared, member, within, related}
 use Rattle.form.specs.Written.{prefixKind, operatorKind, divisionKind, connectiveKind}
 use Rattle.form.specs.Form.{operatorLevel, termLevel, connectiveLevel, predLevel, leftLevel, rightLevel, TermGrouped, PredGrouped}
-use Rattle.form.proofs.Plain.{plainEnd, plainTerm, plainPred}
+use Rattle.form.proofs.PlainSymbols.{plainEnd, plainTerm, plainPred}
 
 -- a grouped term with given symbols, that binds at least as tightly as m
 pub record TermMade (m : ℕ) (w : List Symbol → List Symbol) : Type 0 where

@@ -10,8 +10,8 @@ use Rattle.form.specs.Tree.{Term, number, name, group, prefix, binary, d
 use Rattle.form.specs.Tree.{Pred, truth, falsity, negation, paren, quantified, connected, compared, member, within, related, State, Operation, Dossier}
 use Rattle.form.specs.Written.{prefixKind, operatorKind, connectiveKind, quantifierKind, comparisonKind, membershipKind, symbolsOf}
 use Rattle.form.specs.Form.{TermGrouped, ItemsGrouped, PairsGrouped, PredGrouped, OperationsGrouped, Grouped}
-use Rattle.form.proofs.Plain.{named, plainDomain, plainTerm, plainItems, plainPairs, plainPred, plainRange, plainEntries, plainGivens, plainDeclarations, plainWhere, plainState, plainParameters, plainOperations}
-use Rattle.form.proofs.Plain.{dossier-plain}
+use Rattle.form.proofs.PlainSymbols.{named, plainDomain, plainTerm, plainItems, plainPairs, plainPred, plainRange, plainEntries, plainGivens, plainDeclarations, plainWhere, plainState, plainParameters, plainOperations}
+use Rattle.form.proofs.PlainSymbols.{dossier-plain}
 use Rattle.form.proofs.Insert.{TermMade, PredMade, After, operating, dividing, follows, operand, prefixed, AfterPred, connecting, followsPred, unary, negated}
 
 -- the same tree for the same symbols written otherwise

@@ -16,7 +16,7 @@ use Rattle.form.specs.Machine.{Item, Next, go, halt, step, ends}
 use Rattle.form.proofs.Takes.{initial, feed, feedOn, Fits, symbolsIn, Agrees, AgreesOn}
 use Rattle.form.specs.Machine.{kindBefore}
 use Rattle.form.proofs.Runs.{behind}
-use Rattle.form.proofs.Agree.{agree}
+use Rattle.form.proofs.MachineAgrees.{agree}
 
 abbrev pub markAt : List Written → ℕ → Mark
 markAt x j = getD (map (λ (y : Written). y .mark) x) j unmarked

@@ -13,7 +13,7 @@ use Rattle.form.specs.Form.{Whole, Begins}
 use Rattle.form.specs.Machine.{Item, Next, go, halt, step, ends}
 use Rattle.form.proofs.Takes.{initial, feedOn, feed, IsOpens, IsBinds, Continues}
 use Rattle.form.proofs.Table.{Spelled, AllSpelled, spelled-append}
-use Rattle.form.proofs.Steady.{firstKind, follows, steady, both, Onward, step-steady, SteadyAfter, feed-steady}
+use Rattle.form.proofs.SteadyMarks.{firstKind, follows, steady, both, Onward, step-steady, SteadyAfter, feed-steady}
 use Rattle.form.proofs.Fill.{print}
 use Rattle.form.proofs.Complete.{finished, nothing-left, defaults}
 use Rattle.form.proofs.Regroup.{regroup}

@@ -9,7 +9,7 @@ use borrow.Author.Tests.{eqb-true, eqb-false, ne-eqb, leb-true}
 use Rattle.lexical.specs.Lists.{all}
 use Rattle.lexical.specs.Kinds as kind
 use Rattle.lexical.specs.Kinds.{Kind, codeOf, is, lookup}
-use Rattle.form_nodes.specs.Inner.{Classes, Starts, StartCode, startAs, levelOf}
+use Rattle.form_nodes.specs.FormPromises.{Classes, Starts, StartCode, startAs, levelOf}
 use Rattle.form.specs.Machine.{starts, nothing}
 use Rattle.form_nodes.specs.declared.kinds.Start.{Start}
 use Rattle.form_nodes.specs.declared.kinds.Start.the-variants.{Nothing}

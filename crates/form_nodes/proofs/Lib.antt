@@ -1,11 +1,11 @@
 -- What the code of the form pass counts on.
 pub mod Classes
-pub mod Reading
-pub mod Stepping
+pub mod ReadParts
+pub mod ItemSteps
 pub mod RangeEnds
-pub mod Alike
+pub mod SameSteps
 pub mod RightSides
-pub mod Writing
-pub mod Numbers
-pub mod Showing
-pub mod Making
+pub mod NodeWrites
+pub mod NodeNumbers
+pub mod SymbolSpans
+pub mod NodesOfParts

@@ -15,13 +15,13 @@ use Rattle.lexical.specs.Kinds as kind
 use Rattle.lexical.specs.Kinds.{Kind, codeOf, is}
 use Rattle.lexical.specs.Symbols.{Symbol, fixed, kindOf}
 use Rattle.lexical.specs.Refusals.{Refusal, deep}
-use Rattle.symbols.proofs.Tests.{and-right-false}
+use Rattle.symbols.proofs.BooleanTests.{and-right-false}
 use Rattle.form.specs.Written.{opens, binds}
 use Rattle.form.specs.Form.{kindAt, isRangeEnd, isUsed, settled, excess, refuse}
-use Rattle.form_nodes.specs.Inner.{codes, rangeEndAt, RangeEnd}
+use Rattle.form_nodes.specs.FormPromises.{codes, rangeEndAt, RangeEnd}
 use Rattle.form.specs.Machine.{kindBefore}
 use Rattle.form_nodes.proofs.Classes.{every-kind}
-use Rattle.form_nodes.proofs.Reading.{Within}
+use Rattle.form_nodes.proofs.ReadParts.{Within}
 
 -- a test that takes `end` for 0 does not tell the two defaults apart
 by-default : (t : ℕ → Bool) → t 44 ≡ t 0 → (s : List ℕ) (j : ℕ) → t (getD s j 44) ≡ t (getD s j 0)

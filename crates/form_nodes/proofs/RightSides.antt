@@ -14,14 +14,14 @@ use Rattle.form.specs.Written.{unmarked, opens, binds}
 use Rattle.form.specs.Form.{settled}
 use Rattle.form.specs.Machine.{Item, exact, anEnd, aTerm, anOperand, aTermRest, aRight, aNeg, aNumRest, aBrace, aNamed, aFirst}
 use Rattle.form.specs.Machine.{Act, take, skip, then, nothing, starts, startTerm, operate, act, Next, go, does, step}
-use Rattle.form_nodes.specs.Inner.{Reads, Ranged, positive, negative, unranged, rangeEndAt}
+use Rattle.form_nodes.specs.FormPromises.{Reads, Ranged, positive, negative, unranged, rangeEndAt}
 use Rattle.form.specs.Computed.{computeForm}
 use Rattle.form_nodes.specs.declared.Read.{Read}
 use Rattle.form_nodes.specs.declared.Read.the-variants.{At}
 use Rattle.form_nodes.proofs.Classes.{lookup-miss}
-use Rattle.form_nodes.proofs.Reading.{only, here, takes, taken, joined, Within, Alike, alike, alike-now, alike-then}
+use Rattle.form_nodes.proofs.ReadParts.{only, here, takes, taken, joined, Within, Alike, alike, alike-now, alike-then}
 use Rattle.form_nodes.proofs.RangeEnds.{is-end, range-well, used-well}
-use Rattle.form_nodes.proofs.Alike.{frame, named, unnamed}
+use Rattle.form_nodes.proofs.SameSteps.{frame, named, unnamed}
 
 -- only a place inside has a code
 pub inside : (s : List ℕ) (i : ℕ) → 1 ≤ getD s i 0 → i < length s

@@ -1,2 +1,2 @@
-pub mod Inner
-pub mod Derived
+pub mod FormPromises
+pub mod Derivations

@@ -1,7 +1,7 @@
 // The kinds of symbols, by their codes.
 ghost use mathlib.Core.Path.{_≡_};
 ghost use lib.ListN.{getD};
-ghost use Rattle.form_nodes.specs.Inner.{KindAt, Classes, Starts, Begins, Members, Named, Quantifies, Relates, operators, connectives, levelOf};
+ghost use Rattle.form_nodes.specs.FormPromises.{KindAt, Classes, Starts, Begins, Members, Named, Quantifies, Relates, operators, connectives, levelOf};
 
 // How a symbol begins a term.
 pub enum Start {

@@ -13,7 +13,7 @@ use lib.Seq.{getD-drop}
 use Rattle.lexical.specs.Lists.{bytes, begins}
 use Rattle.lexical.specs.Kinds.{Kind, marks, codeOf}
 use Rattle.lexical.specs.Symbols.{Found, longest, longer, unlisted}
-use Rattle.lexical.specs.Inner.{tokenOf}
+use Rattle.lexical.specs.SymbolPromises.{tokenOf}
 use Rattle.lexical.specs.declared.Token.the-variants.{Unlisted, Listed}
 
 abbrev Each : (String → Type 0) → List (String × Kind) → Type 0

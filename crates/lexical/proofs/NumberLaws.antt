@@ -12,7 +12,7 @@ use lib.Seq.{drop-cons}
 use Rattle.lexical.specs.Lists.{all, any, bytes}
 use Rattle.lexical.specs.Symbols.{Class, letter, digit, mark, blank, other, between, classOf, isDigit, inRun, run, decimalFrom, isNumber, numberFound, byClass, Found, found, numeral, unlisted}
 use Rattle.lexical.specs.Kinds.{codeOf}
-use Rattle.lexical.specs.Inner.{tokenOf, moreOf, decimalOr}
+use Rattle.lexical.specs.SymbolPromises.{tokenOf, moreOf, decimalOr}
 use Rattle.lexical.specs.declared.Token.{Token}
 use Rattle.lexical.specs.declared.Token.the-variants.{Unlisted, Listed}
 use Rattle.lexical.proofs.ByteLaws.{digits, outside}

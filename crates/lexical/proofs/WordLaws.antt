@@ -15,7 +15,7 @@ use mathlib.Core.Logic.{⊎-elim}
 use Rattle.lexical.specs.Lists.{bytes, same, any}
 use Rattle.lexical.specs.Kinds.{Kind, words, codeOf, number, plain, primed, input, output, colon, semicolon, comma, bar, spot, openParen, closeParen, openBracket, closeBracket, openBrace, closeBrace, upTo, equals, differs, less, atMost, implies, iff, plus, minus, times, size, maplet, relation, partial, total, CONTENTS, GIVEN, ABSTRACT, CONCRETE, AINIT, CINIT, RETRIEVE, OP, END, WHERE, POWER, EMPTY, TRUE, FALSE, NOT, AND, OR, FORALL, EXISTS, EXISTS1, IN, NOTIN, UNION, MINUS, INTER, DIV, MOD, DOM, RAN}
 use Rattle.lexical.specs.Symbols.{Class, letter, digit, mark, blank, other, classOf, inRun, run, reserved, wordOf, endingOf, endingLength, kindOfName, name, Name, found, unlisted, Ending, noEnding, prime, query, shriek, byClass, between}
-use Rattle.lexical.specs.Inner.{tokenOf, packed, keyed, wordCode, endingCode}
+use Rattle.lexical.specs.SymbolPromises.{tokenOf, packed, keyed, wordCode, endingCode}
 use Rattle.lexical.specs.declared.Token.{Token}
 use Rattle.lexical.specs.declared.Token.the-variants.{Unlisted, Listed}
 use Rattle.lexical.proofs.ByteLaws.{others}

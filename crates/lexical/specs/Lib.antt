@@ -5,4 +5,4 @@ pub mod Symbols
 pub mod Base
 pub mod Computed
 pub mod Promises
-pub mod Inner
+pub mod SymbolPromises

@@ -5,7 +5,7 @@ ghost use Prim.Native.Nat.{_<_};
 ghost use lib.ListN.{length, drop};
 ghost use Rattle.lexical.specs.Kinds.{marks};
 ghost use Rattle.lexical.specs.Symbols.{longest};
-ghost use Rattle.lexical.specs.Inner.{tokenOf};
+ghost use Rattle.lexical.specs.SymbolPromises.{tokenOf};
 use crate::Token;
 use crate::classes::byte_at;
 use crate::codes;

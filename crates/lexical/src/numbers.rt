@@ -3,7 +3,7 @@ ghost use mathlib.Core.Path.{_≡_};
 ghost use Prim.Native.Nat.{_-_, _≤_, _<_};
 ghost use lib.ListN.{length, take, drop, getD};
 ghost use Rattle.lexical.specs.Symbols.{classOf, byClass, digit};
-ghost use Rattle.lexical.specs.Inner.{tokenOf, moreOf, decimalOr};
+ghost use Rattle.lexical.specs.SymbolPromises.{tokenOf, moreOf, decimalOr};
 use crate::Token;
 use crate::classes::run_from;
 use crate::codes;

@@ -6,7 +6,7 @@ ghost use Prim.Native.Nat.{ℕ, _+_, _-_, _≤_, _<_};
 ghost use lib.ListN.{length, take, drop, getD};
 ghost use Rattle.lexical.specs.Kinds.{Kind, words};
 ghost use Rattle.lexical.specs.Symbols.{Ending, endingOf, run, reserved, wordOf, byClass, letter};
-ghost use Rattle.lexical.specs.Inner.{tokenOf, packed, keyed, wordCode, endingCode};
+ghost use Rattle.lexical.specs.SymbolPromises.{tokenOf, packed, keyed, wordCode, endingCode};
 use crate::Token;
 use crate::classes::byte_at;
 use crate::classes::run_from;

@@ -1,15 +1,15 @@
 -- Sizes and bindings by numbers are those of the definitions.
-pub mod MeasuredScope
-pub mod MeasuredWidths
-pub mod MeasuredParts
-pub mod Measured
+pub mod SizesAgreeScope
+pub mod SizeWidths
+pub mod SizesAgreeParts
+pub mod SizesAgree
 pub mod Counted
 -- The walk for sizes.
-pub mod Fitting
-pub mod BindGivens
-pub mod MeasuredDossier
+pub mod TypesFit
+pub mod GivenSizes
+pub mod SizesAgreeDossier
 -- The pass over a whole dossier.
-pub mod Marking
-pub mod Reaching
-pub mod Measuring
-pub mod Operating
+pub mod SizeMarks
+pub mod ReachMarks
+pub mod SizePass
+pub mod SizePassOperations

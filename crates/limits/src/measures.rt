@@ -3,7 +3,7 @@ ghost use mathlib.Core.Path.{_≡_};
 ghost use Prim.Native.Nat.{ℕ, _+_, _≤_};
 ghost use lib.ListN.{length, getD, set};
 ghost use Rattle.node_spans.specs.Spans.{span};
-ghost use Rattle.limits.specs.Passes.{entrySize, marks, marked, ContextSeen, PartSeen, statesOver, conditionsOver, operationsOver, OperationSeen, MeasuresSeen};
+ghost use Rattle.limits.specs.DossierSizesByNumber.{entrySize, marks, marked, ContextSeen, PartSeen, statesOver, conditionsOver, operationsOver, OperationSeen, MeasuresSeen};
 use names::passes::clear;
 use names::passes::part;
 use term_sizes::sizes::absolute_of;

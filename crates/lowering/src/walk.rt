@@ -2,7 +2,7 @@
 ghost use mathlib.Core.Path.{_≡_};
 ghost use Prim.Native.Nat.{_+_, _-_, _≤_};
 ghost use lib.ListN.{length, getD};
-ghost use Rattle.table_nodes.specs.Walks.{DomainMade, TermMade, ItemsMade, PairsMade, PredMade};
+ghost use Rattle.table_nodes.specs.TableWalkPromises.{DomainMade, TermMade, ItemsMade, PairsMade, PredMade};
 use table_nodes::Made;
 use table_nodes::nodes::element_size;
 use table_nodes::nodes::first_size;

@@ -9,7 +9,7 @@ use lib.Dec.{eqb, ltb}
 use borrow.Author.Tests.{eqb-true, eqb-false}
 use lib.ListN.{length, getD, set, replicate}
 use lib.Seq.{getD-set-same, getD-set-other}
-use Rattle.lexical.specs.Inner.{walkFrom, IsFirst, Reached, reached, deep, Tree}
+use Rattle.lexical.specs.SymbolPromises.{walkFrom, IsFirst, Reached, reached, deep, Tree}
 use Rattle.lexical.specs.declared.Stop.{Stop}
 use Rattle.lexical.specs.declared.Stop.the-variants.{At, Free, Deep}
 use Rattle.name_numbers.proofs.TreeLaws.{both, same-both, one-more, NotFree, at-node, free-zero, keep, insert}

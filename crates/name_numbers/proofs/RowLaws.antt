@@ -12,7 +12,7 @@ use Rattle.lexical.specs.Lists.{same}
 use Rattle.lexical.specs.Kinds.{Kind, codeOf}
 use Rattle.lexical.specs.Symbols.{run, Symbol, fixed, numeral, name, Name, Ending, noEnding, prime, query, shriek, kindOfName, Placed, scan, symbols}
 use Rattle.lexical.specs.Promises.{codeIn, numberIn, filled, hasLetters, firstNamed, valueIn}
-use Rattle.lexical.specs.Inner.{packed, isName, lowIn, highIn, filledLow, filledHigh, filledNumbers, filledValues, Rows, IsFirst, Tree}
+use Rattle.lexical.specs.SymbolPromises.{packed, isName, lowIn, highIn, filledLow, filledHigh, filledNumbers, filledValues, Rows, IsFirst, Tree}
 use Rattle.lexical.proofs.WordLaws.{Fits, packed-one, run-fits, same-refl, same-true}
 use Rattle.name_numbers.proofs.TreeLaws.{name-above}
 use Rattle.name_numbers.proofs.ScanLaws.{filled-more}

@@ -18,7 +18,7 @@ use Rattle.lexical.specs.Refusals.{Fault, fault, before, lesser, least, numberO
 use Rattle.lexical.specs.Symbols.{Class, letter, digit, mark, blank, other, classOf, inRun, run, Symbol, fixed, numeral, name, Found, gap, unlisted, found, Ending, noEnding, prime, query, shriek, endingOf, endingLength}
 use Rattle.lexical.specs.Symbols.{reserved, wordOf, isNumber, numberFound, decimalFrom, longer, longest, byClass, symbolAt, Placed, Scan, done, stopped, next, scanned, scanFrom, scan, symbols, scanFaults, lengthFaults}
 use Rattle.lexical.specs.Promises.{codeIn, numberIn, faultOf, taken, filled, firstOf, faultIn, written, Scans}
-use Rattle.lexical.specs.Inner.{tokenOf, Takes}
+use Rattle.lexical.specs.SymbolPromises.{tokenOf, Takes}
 use Rattle.lexical.specs.declared.Token.{Token}
 use Rattle.lexical.specs.declared.Token.the-variants.{Gap, Unlisted, Listed}
 use Rattle.lexical.specs.declared.Scanned.{Scanned}

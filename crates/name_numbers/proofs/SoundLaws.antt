@@ -16,7 +16,7 @@ use Rattle.lexical.specs.Kinds.{Kind, marks, words, codeOf}
 use Rattle.lexical.specs.Symbols.{Class, letter, digit, mark, blank, other, classOf, inRun, run, Symbol, fixed, numeral, name, Found, gap, unlisted, found, Ending, noEnding, prime, query, shriek, endingOf, endingLength}
 use Rattle.lexical.specs.Symbols.{reserved, wordOf, isNumber, numberFound, decimalFrom, longer, longest, byClass, symbolAt, Placed, Scan, scanned, scanFrom, scan, symbols}
 use Rattle.lexical.specs.Promises.{codeIn, numberIn, hasLetters, firstNamed, valueIn}
-use Rattle.lexical.specs.Inner.{packed, isName, lowIn, highIn}
+use Rattle.lexical.specs.SymbolPromises.{packed, isName, lowIn, highIn}
 use Rattle.lexical.proofs.WordLaws.{Fits, packed-one, run-fits, run-take, same-refl, same-true}
 use Rattle.name_numbers.proofs.TreeLaws.{both, same-both, not-both}
 

@@ -9,7 +9,7 @@ use lib.Dec.{eqb, leb, ltb}
 use borrow.Author.Tests.{eqb-true, eqb-false, eq-eqb, ne-eqb, ltb-true, ltb-false, le-leb, lt-leb}
 use lib.ListN.{length, take, drop, getD, set, length-set}
 use lib.Seq.{getD-set-same, getD-set-other}
-use Rattle.lexical.specs.Inner.{isName, visited, walkFrom, IsFirst, Reached, reached, deep, Tree}
+use Rattle.lexical.specs.SymbolPromises.{isName, visited, walkFrom, IsFirst, Reached, reached, deep, Tree}
 use Rattle.lexical.specs.declared.Stop.{Stop}
 use Rattle.lexical.specs.declared.Stop.the-variants.{At, Free, Deep}
 

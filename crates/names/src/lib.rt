@@ -1,6 +1,6 @@
 // Names and types: numbers 8, 9, 10, 11 and 14 of document 01, over the nodes of a dossier.
 ghost use lib.ListN.{length, replicate};
-ghost use Rattle.declared_names.specs.Parts.{GivenSeen, CheckSeen};
+ghost use Rattle.declared_names.specs.PassPromises.{GivenSeen, CheckSeen};
 use crate::passes::check;
 use crate::passes::clear;
 use declared_names::declared::give;

@@ -2,7 +2,7 @@
 ghost use mathlib.Core.Path.{_≡_};
 ghost use Prim.Native.Nat.{_+_, _≤_};
 ghost use lib.ListN.{length, replicate};
-ghost use Rattle.declared_names.specs.Parts.{DeclaredEnd, PredicateEnd, OperationEnd, ConditionSeen, StateSeen, ReachingSeen, LeavingSeen, SideSeen, SidesSeen, OperationSeen, OperationsSeen, ConditionsSeen, PartOf, VariablesOf, LaterSeen, CheckSeen};
+ghost use Rattle.declared_names.specs.PassPromises.{DeclaredEnd, PredicateEnd, OperationEnd, ConditionSeen, StateSeen, ReachingSeen, LeavingSeen, SideSeen, SidesSeen, OperationSeen, OperationsSeen, ConditionsSeen, PartOf, VariablesOf, LaterSeen, CheckSeen};
 use declared_names::declared::declare;
 use declared_names::declared::give;
 use declared_names::declared::hide;

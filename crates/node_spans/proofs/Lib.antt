@@ -1,3 +1,3 @@
 pub mod Structure
-pub mod Filling
-pub mod Located
+pub mod SpanWrites
+pub mod PartNodes

@@ -10,8 +10,8 @@ use Rattle.form.specs.Headings.{abstractAt, concreteAt, ainitAt, cinitAt, retri
 use Rattle.form.specs.Codes.{node, Numbering, numberOfName, predCodes, declarationCodes, parameterCodes, conditionCodes, stateCodes, operationCodes, abstractlyAt, predWidth, dossierCodes}
 use Rattle.lexical.specs.Symbols.{noEnding}
 use Rattle.parser.specs.Sections.{abstractFrom, concreteFrom, ainitFrom, cinitFrom, retrieveFrom, operationsFrom}
-use Rattle.parser.proofs.Itemised.{Split, split-first, split-next, split-as, split-at, split-length}
-use Rattle.parser.proofs.Placed.{fromOperations, fromRetrieve, fromCinit, fromAinit, fromConcrete, at-abstract, at-operations}
+use Rattle.parser.proofs.ItemNodes.{Split, split-first, split-next, split-as, split-at, split-length}
+use Rattle.parser.proofs.PartPlaces.{fromOperations, fromRetrieve, fromCinit, fromAinit, fromConcrete, at-abstract, at-operations}
 use Rattle.node_spans.specs.Spans.{operationSpans, spansOf, Stands, PredAt, span, HeadingAt, OperationsAt, no-more, one-more, predicateAt, StateAt, Structured}
 
 -- more numbers behind all

@@ -1,2 +1,2 @@
 pub mod Spans
-pub mod Inner
+pub mod SpanPromises

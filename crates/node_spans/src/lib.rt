@@ -3,7 +3,7 @@ ghost use mathlib.Core.Path.{_≡_};
 ghost use Prim.Native.Nat.{_+_, _≤_, _<_};
 ghost use lib.ListN.{length, take};
 ghost use Rattle.node_spans.specs.Spans.{Spanned};
-ghost use Rattle.node_spans.specs.Inner.{Puts, Three, StatePut, OperationPut, OperationsPut};
+ghost use Rattle.node_spans.specs.SpanPromises.{Puts, Three, StatePut, OperationPut, OperationsPut};
 use parser::sections::run_from;
 use parser::sections::sections;
 use parser::sections::skip_from;

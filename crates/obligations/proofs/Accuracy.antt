@@ -12,7 +12,7 @@ use Rattle.obligations.specs.Order.{Check, initialises, applies, correct
 use Rattle.obligations.specs.Report.{checkAt}
 use Rattle.obligations.specs.Demands.{IsCheck, Accurate}
 use Rattle.obligations.proofs.Looks.{look-whole, look-first, whole-look}
-use Rattle.obligations.proofs.Listed.{check-listed, listed-check}
+use Rattle.obligations.proofs.ListedChecks.{check-listed, listed-check}
 
 -- every check at a place below n passes
 abbrev pub PassBelow : Dossier → ℕ → Type 0

@@ -4,7 +4,7 @@ use mathlib.Core.Bool.{false}
 use Prim.Native.Nat.{ℕ, zero, suc, _+_, _*_, _≤_, _<_}
 use native.Mathlib.Omega.{arith}
 use native.Mathlib.Decide.{decLt}
-use Rattle.symbols.proofs.Tests.{and-left-false, and-right-false}
+use Rattle.symbols.proofs.BooleanTests.{and-left-false, and-right-false}
 use Rattle.form.specs.Tree.{Dossier}
 use Rattle.meaning.specs.Meaning.{Binding}
 use Rattle.meaning.specs.Operations.{isState, related}

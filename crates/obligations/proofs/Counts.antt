@@ -10,7 +10,7 @@ use Rattle.static_rules.specs.Read.{Reading, refusal, reading, read}
 use Rattle.obligations.specs.Order.{Obligation, checks, look}
 use Rattle.obligations.specs.Calls.{unfinished, accepted, refuted, Held, nothing, holding, Call, load, advance, verdict, witness, release, Reply, Outcome, loading, advanced, advancing, writing, respond, Exchange, Trace, heldAfter}
 use Rattle.obligations.specs.Demands.{counted, sumOfAdvances, AtPlace}
-use Rattle.symbols.proofs.Tests.{on-cond}
+use Rattle.symbols.proofs.BooleanTests.{on-cond}
 
 -- the sum n before the call becomes the place that the call leaves
 abbrev Counted : Outcome → ℕ → Type 0

@@ -15,7 +15,7 @@ use Rattle.obligations.specs.Report.{checkAt}
 use Rattle.obligations.specs.Calls.{Verdict, unfinished, accepted, refuted, Held, nothing, holding, Call, load, advance, verdict, witness, release, Reply, verdictIs, Outcome, loading, verdictAt, advanced, advancing, writing, respond, Exchange, Trace, heldAfter}
 use Rattle.obligations.specs.Runs.{RunsMatch}
 use Rattle.obligations.specs.Demands.{IsRefusal, Loaded, none, text, afterReply, afterCall, lastLoaded, acceptance, Demand3}
-use Rattle.symbols.proofs.Tests.{on-cond}
+use Rattle.symbols.proofs.BooleanTests.{on-cond}
 use Rattle.obligations.proofs.Looks.{PassUpTo, Whole, First, look-whole, look-first}
 use Rattle.obligations.proofs.Accuracy.{PassBelow, obligations}
 use Rattle.obligations.proofs.Advances.{nextChecks, next-length, next-at}

@@ -1,13 +1,13 @@
 -- The demands over the definitions, and the definitions computed on the trial dossiers.
-pub mod Tests
-pub mod Refused
+pub mod GivesLaws
+pub mod RefusedCalls
 pub mod Counts
 pub mod Matching
 pub mod Looks
 pub mod Groups
-pub mod Listed
+pub mod ListedChecks
 pub mod Accuracy
-pub mod Once
+pub mod PlacesOnce
 pub mod Digits
 pub mod Skips
 pub mod Advances

@@ -11,8 +11,8 @@ use Rattle.meaning.specs.Operations.{abstractBindings, concreteBindings, output
 use Rattle.meaning.proofs.Bindings.{binding-found, binding-put}
 use Rattle.obligations.specs.Obligations.{Obligations, initialisationAt, applicabilityAt, correctnessAt}
 use Rattle.obligations.specs.Runs.{Entry, IsEntry, Entries, Outcome, Machine, abstractSide, concreteSide, Initial, Step, Pre, Path, last, Run, Meets, Related, Alike, Beside, RunsMatch}
-use Rattle.symbols.proofs.Tests.{and-both, and-left, and-right}
-use Rattle.obligations.proofs.Tests.{gives-use}
+use Rattle.symbols.proofs.BooleanTests.{and-both, and-left, and-right}
+use Rattle.obligations.proofs.GivesLaws.{gives-use}
 
 -- the last state of a run is over the carriers, and the last states of runs beside each other are related
 carried-on : (m : Machine) (s : Binding) (es : List Entry) (rs : List Outcome) → Over (m .variables) s → Path m s es rs → Over (m .variables) (last s rs)

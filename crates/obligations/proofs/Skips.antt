@@ -16,8 +16,8 @@ use Rattle.meaning.proofs.Places.{member-at}
 use Rattle.obligations.specs.Obligations.{applicabilityAt, correctnessAt}
 use Rattle.obligations.specs.Order.{Check, initialises, applies, corrects, passes}
 use Rattle.obligations.specs.Report.{checkAt}
-use Rattle.symbols.proofs.Tests.{and-left-false, and-right-false}
-use Rattle.obligations.proofs.Tests.{gives-vacuous}
+use Rattle.symbols.proofs.BooleanTests.{and-left-false, and-right-false}
+use Rattle.obligations.proofs.GivesLaws.{gives-vacuous}
 use Rattle.obligations.proofs.Groups.{appliesAt, correctsBy, correctsAt, every-applies-at, every-corrects-by, every-corrects-at}
 use Rattle.obligations.proofs.Accuracy.{PassBetween}
 use Rattle.obligations.proofs.Digits.{nth, abstracts, concretes, givens, results, applicabilitySize, startOf, length-applies-at, length-corrects-by, length-corrects-at, applies-block, corrects-block, corrects-by-block, applicability-digits, applicability-place, correctness-place}

@@ -9,14 +9,14 @@ use Rattle.lexical.specs.Symbols.{Symbol}
 use Rattle.lexical.specs.Refusals.{noDossier}
 use Rattle.form.specs.Codes.{node}
 use Rattle.form.specs.Machine.{Item, exact, aDossier, ends, step, complete, failed, run}
-use Rattle.form_nodes.specs.Inner.{codes, runAt, after, Reads, Writes, Closes}
-use Rattle.form_nodes.specs.Derived as part
-use Rattle.form_nodes.specs.Derived.{Part, Derives, Made, MadeAt, nameCode, aPredFrom, aCondition, aState, aWhere, someGivens, someDeclarations, someParameters, someOperations, condition, state, whereOf, anOperation, dossier}
-use Rattle.declarations.specs.Dossiers.{More, MoreAt, Sequence, nothing, behind, SequenceAt, Sequenced, ContentsAt, ContentsMade, When}
+use Rattle.form_nodes.specs.FormPromises.{codes, runAt, after, Reads, Writes, Closes}
+use Rattle.form_nodes.specs.Derivations as part
+use Rattle.form_nodes.specs.Derivations.{Part, Derives, Made, MadeAt, nameCode, aPredFrom, aCondition, aState, aWhere, someGivens, someDeclarations, someParameters, someOperations, condition, state, whereOf, anOperation, dossier}
+use Rattle.declarations.specs.DossierPromises.{More, MoreAt, Sequence, nothing, behind, SequenceAt, Sequenced, ContentsAt, ContentsMade, When}
 use Rattle.form_nodes.specs.declared.Read.{Read}
 use Rattle.form_nodes.specs.declared.Read.the-variants.{At, Fault}
-use Rattle.form_nodes.proofs.Reading.{as-long, run-at, run-end, next}
-use Rattle.form_nodes.proofs.Making.{from}
+use Rattle.form_nodes.proofs.ReadParts.{as-long, run-at, run-end, next}
+use Rattle.form_nodes.proofs.NodesOfParts.{from}
 use Rattle.declarations.proofs.ListNodes.{then-written}
 
 take-length : (m : ℕ) (b : List ℕ) → m ≤ length b → length (take m b) ≡ m

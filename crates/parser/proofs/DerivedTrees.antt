@@ -10,17 +10,17 @@ use Rattle.lexical.specs.Symbols.{Symbol}
 use Rattle.form.specs.Form.{termLevel, predLevel}
 use Rattle.form.specs.Codes.{Numbering, node}
 use Rattle.form.proofs.Table.{by-table, _&_}
-use Rattle.form_nodes.specs.Inner.{codes, Classes, operators, connectives, levelOf}
-use Rattle.form_nodes.specs.Derived.{magnitudeCode, divisionCode, EndAt, NoOperator, NoConnective, Derives}
-use Rattle.form_nodes.specs.Derived.{anOperand, someItems, somePairs, aUnary, anAtom, someRelated, aTermFrom, aTermRest, aPredFrom, aPredRest, aType}
-use Rattle.form_nodes.specs.Derived.Derives.{leaf, prefixed, bracketed, listed, paired, such, emptyOne, emptyTwo, itemsEnd, itemsMore, pairsEnd, pairsMore, termFrom, termStops, divided, operated}
-use Rattle.form_nodes.specs.Derived.Derives.{predFrom, predStops, implied, connected, truthValue, denied, atomic, parenthesised, quantified, compared, belongs, within, mapped, related}
-use Rattle.form_nodes.specs.Derived.Derives.{overGiven, overRange, overSets, overPairs, declares, noEntries, anEntry, noElements, anElement, noGivens, aGiven, noDeclarations, declaresMore, noParameters, takesMore}
-use Rattle.form_nodes.specs.Derived.Derives.{condition, state, whereOf, noOperations, anOperation, dossier}
-use Rattle.form_nodes.specs.Derived.{Part, aDeclaration, someElements, someGivens, someDeclarations, someParameters, someOperations, aDossier, someEntries, aCondition, aState, aWhere}
-use Rattle.parser.proofs.Standing.{values, Text}
+use Rattle.form_nodes.specs.FormPromises.{codes, Classes, operators, connectives, levelOf}
+use Rattle.form_nodes.specs.Derivations.{magnitudeCode, divisionCode, EndAt, NoOperator, NoConnective, Derives}
+use Rattle.form_nodes.specs.Derivations.{anOperand, someItems, somePairs, aUnary, anAtom, someRelated, aTermFrom, aTermRest, aPredFrom, aPredRest, aType}
+use Rattle.form_nodes.specs.Derivations.Derives.{leaf, prefixed, bracketed, listed, paired, such, emptyOne, emptyTwo, itemsEnd, itemsMore, pairsEnd, pairsMore, termFrom, termStops, divided, operated}
+use Rattle.form_nodes.specs.Derivations.Derives.{predFrom, predStops, implied, connected, truthValue, denied, atomic, parenthesised, quantified, compared, belongs, within, mapped, related}
+use Rattle.form_nodes.specs.Derivations.Derives.{overGiven, overRange, overSets, overPairs, declares, noEntries, anEntry, noElements, anElement, noGivens, aGiven, noDeclarations, declaresMore, noParameters, takesMore}
+use Rattle.form_nodes.specs.Derivations.Derives.{condition, state, whereOf, noOperations, anOperation, dossier}
+use Rattle.form_nodes.specs.Derivations.{Part, aDeclaration, someElements, someGivens, someDeclarations, someParameters, someOperations, aDossier, someEntries, aCondition, aState, aWhere}
+use Rattle.parser.proofs.TextDossier.{values, Text}
 use Rattle.form_nodes.proofs.Classes.{level-high}
-use Rattle.form_nodes.proofs.Making.{level-two}
+use Rattle.form_nodes.proofs.NodesOfParts.{level-two}
 use Rattle.parser.proofs.OperatorAt.{operator-at, division-at, joinedKind, connective-at}
 use Rattle.parser.proofs.Spans.{TermIn, PredIn}
 use Rattle.parser.proofs.TermTrees.{ItemsIn, PairsIn, leaf-in, prefixed-in, bracketed-in, listed-in, paired-in, such-in, empty-one, empty-two, items-end, items-more, pairs-end, pairs-more, divided-in, operated-in}

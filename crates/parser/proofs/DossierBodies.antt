@@ -13,11 +13,11 @@ use Rattle.form.specs.Form.{PredGrouped, OperationsGrouped}
 use Rattle.form.specs.Headings.{operationLength}
 use Rattle.form.specs.Codes.{node, Numbering, predWidth, typeWidth, typeCodes, declarationCode, declarationCodes, parameterCodes, conditionCodes, stateCodes}
 use Rattle.form.specs.Codes.{abstractlyAt, operationCodes}
-use Rattle.form.proofs.Plain.{named, plainType, plainPred, plainDeclarations, plainWhere, plainState, plainParameters, plainOperations}
-use Rattle.form_nodes.specs.Inner.{codes}
-use Rattle.form_nodes.specs.Derived.{nameCode, aDeclaration, someDeclarations, someParameters, someOperations, aCondition, aState, aWhere}
-use Rattle.form_nodes.specs.Derived.{declares, noDeclarations, declaresMore, noParameters, takesMore, condition, state, whereOf, noOperations, anOperation}
-use Rattle.parser.proofs.Standing.{values, Text}
+use Rattle.form.proofs.PlainSymbols.{named, plainType, plainPred, plainDeclarations, plainWhere, plainState, plainParameters, plainOperations}
+use Rattle.form_nodes.specs.FormPromises.{codes}
+use Rattle.form_nodes.specs.Derivations.{nameCode, aDeclaration, someDeclarations, someParameters, someOperations, aCondition, aState, aWhere}
+use Rattle.form_nodes.specs.Derivations.{declares, noDeclarations, declaresMore, noParameters, takesMore, condition, state, whereOf, noOperations, anOperation}
+use Rattle.parser.proofs.TextDossier.{values, Text}
 use Rattle.parser.proofs.SymbolAt.{NamedAt, ending-as, no-ending, directed, fixed-at, name-at, plain-at}
 use Rattle.parser.proofs.Spans.{pred-width}
 use Rattle.parser.proofs.RangeTrees.{type-in}

@@ -10,10 +10,10 @@ use Rattle.lexical.specs.Symbols.{noEnding, Symbol, fixed}
 use Rattle.form.specs.Tree.{Letters, Given}
 use Rattle.form.specs.Headings.{givenLength}
 use Rattle.form.specs.Codes.{node, Numbering, entryCodes, elementCodes, givenCodes}
-use Rattle.form.proofs.Plain.{named, plainEntries, plainElements, plainGivens}
-use Rattle.form_nodes.specs.Inner.{codes}
-use Rattle.form_nodes.specs.Derived.{nameCode, Part, Derives, someEntries, someElements, someGivens, noEntries, anEntry, noElements, anElement, noGivens, aGiven}
-use Rattle.parser.proofs.Standing.{values, Text}
+use Rattle.form.proofs.PlainSymbols.{named, plainEntries, plainElements, plainGivens}
+use Rattle.form_nodes.specs.FormPromises.{codes}
+use Rattle.form_nodes.specs.Derivations.{nameCode, Part, Derives, someEntries, someElements, someGivens, noEntries, anEntry, noElements, anElement, noGivens, aGiven}
+use Rattle.parser.proofs.TextDossier.{values, Text}
 use Rattle.parser.proofs.SymbolAt.{fixed-at, plain-at}
 use Rattle.form.proofs.Lengths.{givensWidth, given-length}
 

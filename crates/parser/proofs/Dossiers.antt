@@ -13,10 +13,10 @@ use Rattle.form.specs.Written.{aGiven, anOperation, bare, writeEntries, writeCo
 use Rattle.form.specs.Form.{Grouped}
 use Rattle.form.specs.Headings.{givensAt, abstractAt, concreteAt, ainitAt, cinitAt, retrieveAt, operationsAt}
 use Rattle.form.specs.Codes.{Numbering, predWidth, entryCodes, givenCodes, stateCodes, conditionCodes, operationCodes, contentsCodes, dossierCodes}
-use Rattle.form.proofs.Plain.{plainEntries, plainGivens, plainState, plainWhere, plainBodies, bodiesOf, dossier-plain}
-use Rattle.form_nodes.specs.Inner.{codes}
-use Rattle.form_nodes.specs.Derived.{Derives, aDossier, dossier}
-use Rattle.parser.proofs.Standing.{values, Text, DossierAt}
+use Rattle.form.proofs.PlainSymbols.{plainEntries, plainGivens, plainState, plainWhere, plainBodies, bodiesOf, dossier-plain}
+use Rattle.form_nodes.specs.FormPromises.{codes}
+use Rattle.form_nodes.specs.Derivations.{Derives, aDossier, dossier}
+use Rattle.parser.proofs.TextDossier.{values, Text, DossierAt}
 use Rattle.parser.proofs.SymbolAt.{fixed-at}
 use Rattle.form.proofs.Lengths.{givensWidth, givens-length}
 use Rattle.parser.proofs.Widths.{entries-length, stateWidth, state-length, where-length}

@@ -1,8 +1,8 @@
 -- What the code of the form pass counts on.
-pub mod Standing
+pub mod TextDossier
 pub mod SymbolAt
 pub mod OperatorAt
-pub mod Behind
+pub mod SymbolsBehind
 pub mod Spans
 pub mod RangeTrees
 pub mod TermTrees
@@ -13,15 +13,15 @@ pub mod DossierEntries
 pub mod DossierBodies
 pub mod Dossiers
 pub mod Texts
-pub mod Passing
-pub mod Itemised
-pub mod Placed
-pub mod Whole
-pub mod Kept
-pub mod Rising
-pub mod Bodied
-pub mod Titled
-pub mod Known
-pub mod Answered
-pub mod Placing
+pub mod ItemsPassed
+pub mod ItemNodes
+pub mod PartPlaces
+pub mod ParseAnswers
+pub mod RelationsBehind
+pub mod HeadingOrder
+pub mod BodyFaults
+pub mod TitledBodies
+pub mod HeadingLetters
+pub mod HeadingAnswers
+pub mod NumbersInLists
 pub mod BodyNodes

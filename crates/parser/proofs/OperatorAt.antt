@@ -18,10 +18,10 @@ use Rattle.form.specs.Machine as machine
 use Rattle.form.specs.Machine.{starts}
 use Rattle.form.specs.Codes.{Numbering}
 use Rattle.form.proofs.Table.{by-table, isFixed, _&_}
-use Rattle.form_nodes.specs.Inner.{codes, Classes, Starts, operators, connectives, predStarts, relations}
-use Rattle.form_nodes.specs.Derived.{MemberAt}
+use Rattle.form_nodes.specs.FormPromises.{codes, Classes, Starts, operators, connectives, predStarts, relations}
+use Rattle.form_nodes.specs.Derivations.{MemberAt}
 use Rattle.form_nodes.specs.declared.kinds.Start.the-variants.{Leaf, Prefix as PrefixStart}
-use Rattle.parser.proofs.Standing.{Text}
+use Rattle.parser.proofs.TextDossier.{Text}
 use Rattle.parser.proofs.SymbolAt.{SortAt, SortOf, sort-at, class-at, coded-at}
 
 -- an operator, or a connective, of the level l

@@ -13,10 +13,10 @@ use Rattle.lexical.specs.Symbols.{Symbol, fixed}
 use Rattle.form.specs.Tree.{Connective, and, or, implies, iff, truth, falsity, negation, paren, quantified, connected, compared, member, within, related}
 use Rattle.form.specs.Form.{connectiveLevel, leftLevel, rightLevel, predLevel, PredGrouped}
 use Rattle.form.specs.Codes.{Numbering, node, predCodes, domainWidth}
-use Rattle.form.proofs.Plain.{plainPred}
-use Rattle.form_nodes.specs.Inner.{codes, Classes, connectives, predStarts, relations}
-use Rattle.form_nodes.specs.Derived.{nameCode, rangeNode, domainNode, MemberAt, RangeAt, DomainAt}
-use Rattle.parser.proofs.Standing.{values, Text}
+use Rattle.form.proofs.PlainSymbols.{plainPred}
+use Rattle.form_nodes.specs.FormPromises.{codes, Classes, connectives, predStarts, relations}
+use Rattle.form_nodes.specs.Derivations.{nameCode, rangeNode, domainNode, MemberAt, RangeAt, DomainAt}
+use Rattle.parser.proofs.TextDossier.{values, Text}
 use Rattle.parser.proofs.SymbolAt.{Step, fixed-at, plain-at}
 use Rattle.parser.proofs.OperatorAt.{truthKind, truth-at, not-at, comparison-at, membership-at, quantifier-at, connective-at}
 use Rattle.parser.proofs.Spans.{TermIn, PredIn, term-width, pred-width}

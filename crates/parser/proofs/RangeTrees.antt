@@ -13,12 +13,12 @@ use Rattle.lexical.specs.Symbols.{Symbol}
 use Rattle.form.specs.Tree.{End, Range, Domain, givenSet, range, Arrow, relation, partial, total, TypeForm, givenType, powerType, rangeType, arrowType}
 use Rattle.form.specs.Written.{arrowKind}
 use Rattle.form.specs.Codes.{Numbering, node, endWidth, endNumber, rangeCodes, domainCodes, domainWidth, typeWidth, typeCodes, arrowNumber}
-use Rattle.form.proofs.Plain.{plainEnd, plainRange, plainDomain, plainType}
-use Rattle.form_nodes.specs.Inner.{codes}
-use Rattle.form_nodes.specs.Derived.{nameCode, lowered, raised, endCode, magnitudeCode, rangeNode, isNameCode, domainNode, EndAt, positive, negative, RangeAt, ranges}
-use Rattle.form_nodes.specs.Derived.{DomainAt, Derives, aType}
-use Rattle.form_nodes.specs.Derived as derived
-use Rattle.parser.proofs.Standing.{values, Text}
+use Rattle.form.proofs.PlainSymbols.{plainEnd, plainRange, plainDomain, plainType}
+use Rattle.form_nodes.specs.FormPromises.{codes}
+use Rattle.form_nodes.specs.Derivations.{nameCode, lowered, raised, endCode, magnitudeCode, rangeNode, isNameCode, domainNode, EndAt, positive, negative, RangeAt, ranges}
+use Rattle.form_nodes.specs.Derivations.{DomainAt, Derives, aType}
+use Rattle.form_nodes.specs.Derivations as derived
+use Rattle.parser.proofs.TextDossier.{values, Text}
 use Rattle.parser.proofs.SymbolAt.{fixed-at, number-at, name-at}
 use Rattle.parser.proofs.OperatorAt.{arrow-at}
 use Rattle.parser.proofs.Spans.{domain-apart, type-apart}

@@ -10,8 +10,8 @@ use Rattle.form.specs.Written.{Written, writeDomain, writeTerm, writePred, writ
 use Rattle.form.specs.Form.{termLevel, predLevel, TermGrouped, PredGrouped}
 use Rattle.form.specs.Codes.{Numbering, termWidth, predWidth, domainWidth, typeWidth, termCodes, predCodes}
 use Rattle.form.proofs.Takes.{symbolsIn}
-use Rattle.form.proofs.Plain.{plainDomain, plainTerm, plainPred, plainType}
-use Rattle.parser.proofs.Behind.{domain-on, term-on, pred-on, type-on}
+use Rattle.form.proofs.PlainSymbols.{plainDomain, plainTerm, plainPred, plainType}
+use Rattle.parser.proofs.SymbolsBehind.{domain-on, term-on, pred-on, type-on}
 
 module _ (w : List Symbol) {i j : ℕ} (a : i ≤ j) (b : j ≤ length w) where
   -- what is written between two places

@@ -17,12 +17,12 @@ use Rattle.form.specs.Written.{endingOf}
 use Rattle.form.specs.Form.{kindAt}
 use Rattle.form.specs.Codes.{Numbering, endingNumber, numberOfName, nameNumber}
 use Rattle.form.proofs.Table.{kind-back, isFixed, Spelled, AllSpelled, Each, by-table}
-use Rattle.form.proofs.Plain.{named}
-use Rattle.form_nodes.specs.Inner.{codes, Classes}
-use Rattle.form_nodes.specs.Derived.{nameCode, NameAt}
-use Rattle.form_nodes.proofs.Reading.{code-at}
+use Rattle.form.proofs.PlainSymbols.{named}
+use Rattle.form_nodes.specs.FormPromises.{codes, Classes}
+use Rattle.form_nodes.specs.Derivations.{nameCode, NameAt}
+use Rattle.form_nodes.proofs.ReadParts.{code-at}
 use Rattle.form_nodes.proofs.Classes.{told}
-use Rattle.parser.proofs.Standing.{valueBy, values, Small, Text}
+use Rattle.parser.proofs.TextDossier.{valueBy, values, Small, Text}
 
 -- a kind is told by its code
 told-kind : (κ : Kind) (j : Kind) → codeOf κ ≡ codeOf j → κ ≡ j

@@ -17,11 +17,11 @@ use Rattle.form.specs.Tree.{number, name, group, prefix, binary, divided, liste
 use Rattle.form.specs.Written.{divisionKind}
 use Rattle.form.specs.Form.{termLevel, TermGrouped, ItemsGrouped, PairsGrouped}
 use Rattle.form.specs.Codes.{Numbering, node, termCodes, itemsCodes, pairsCodes, signOf, divisionNumber}
-use Rattle.form.proofs.Plain.{plainTerm, plainItems, plainPairs}
-use Rattle.form_nodes.specs.Inner.{codes, Classes, Starts, operators}
-use Rattle.form_nodes.specs.Derived.{nameCode, magnitudeCode, divisionCode, leafNode, NameAt, EndAt}
+use Rattle.form.proofs.PlainSymbols.{plainTerm, plainItems, plainPairs}
+use Rattle.form_nodes.specs.FormPromises.{codes, Classes, Starts, operators}
+use Rattle.form_nodes.specs.Derivations.{nameCode, magnitudeCode, divisionCode, leafNode, NameAt, EndAt}
 use Rattle.form_nodes.specs.declared.kinds.Start.the-variants.{Leaf, Prefix}
-use Rattle.parser.proofs.Standing.{values, Text}
+use Rattle.parser.proofs.TextDossier.{values, Text}
 use Rattle.parser.proofs.SymbolAt.{Place, place, fixed-at, ending-code, named-at, name-at, plain-at}
 use Rattle.parser.proofs.OperatorAt.{leaf-kind, prefix-at, operator-at, division-at}
 use Rattle.parser.proofs.Spans.{TermIn, PredIn, term-width}

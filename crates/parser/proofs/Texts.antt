@@ -20,13 +20,13 @@ use Rattle.lexical.specs.Symbols.{Placed, Scan, done, stopped, next, scanned, s
 use Rattle.lexical.specs.Promises.{codeIn, taken, filled, firstOf, faultOf, faultIn, written, hasLetters, firstNamed, valueAt, Scans}
 use Rattle.lexical.specs.declared.Scanned.{Scanned}
 use Rattle.lexical.specs.declared.Scanned.the-variants.{Symbols, LongText, UnlistedSymbol, ManySymbols}
-use Rattle.symbols.proofs.Tests.{and-right}
+use Rattle.symbols.proofs.BooleanTests.{and-right}
 use Rattle.lexical.proofs.WordLaws.{same-refl}
 use Rattle.symbols.proofs.ValueLaws.{Named, same-value}
-use Rattle.form.proofs.Scanned.{scan-spelled}
-use Rattle.form_nodes.specs.Inner.{codes}
+use Rattle.form.proofs.ScannedSymbols.{scan-spelled}
+use Rattle.form_nodes.specs.FormPromises.{codes}
 use Rattle.parser.specs.Promises.{textSymbols, numbering}
-use Rattle.parser.proofs.Standing.{valueBy, values, Small, Text}
+use Rattle.parser.proofs.TextDossier.{valueBy, values, Small, Text}
 use Rattle.parser.specs.Sections.{Tells}
 
 -- numbers are at most 1,000

@@ -13,9 +13,9 @@ use Rattle.form.specs.Written.{writeDeclarations, writeWhere, writeState, write
 use Rattle.form.specs.Headings.{operationLength}
 use Rattle.form.specs.Codes.{predWidth, typeWidth}
 use Rattle.form.proofs.Takes.{symbolsIn}
-use Rattle.form.proofs.Plain.{pred-plain}
+use Rattle.form.proofs.PlainSymbols.{pred-plain}
 use Rattle.form.proofs.Lengths.{type-length}
-use Rattle.parser.proofs.Behind.{pred-on}
+use Rattle.parser.proofs.SymbolsBehind.{pred-on}
 
 -- what is written before w, by the symbols
 before : (u v w : List Written) → symbolsIn u ≡ symbolsIn v ++ symbolsIn w → length u ≡ length v + length w

@@ -4,7 +4,7 @@ ghost use mathlib.Core.Option.{none};
 ghost use Prim.Native.Nat.{_≤_};
 ghost use lib.ListN.{length, take, getD};
 ghost use Rattle.lexical.specs.Refusals.{numberOf};
-ghost use Rattle.form_nodes.specs.Inner.{Left, refusalNumbered};
+ghost use Rattle.form_nodes.specs.FormPromises.{Left, refusalNumbered};
 ghost use Rattle.parser.specs.Promises.{Answers, Parses};
 use crate::bodies::dossier;
 use crate::copies::copy_nodes;

@@ -14,10 +14,10 @@ use Rattle.form.specs.Tree.{End, TypeForm, givenType, powerType, rangeType, arr
 use Rattle.form.specs.Written.{Mark, aVariable, anInput, anOutput, Written, minusOf, writeEnd, writeType, writeDeclarations, writeState, parameterMark, inputsAfter, outputsAfter}
 use Rattle.form.specs.Written.{writeParameters, writeOperations, written}
 use Rattle.form.specs.Form.{Forms, excess, settled}
-use Rattle.parser.proofs.Kept as kept
+use Rattle.parser.proofs.RelationsBehind as kept
 use Rattle.static_rules.specs.Scope.{isInput, isOutput}
-use Rattle.search_groups.specs.Searching.{FewParameters, FewEach, few-none, few-more, Few}
-use Rattle.reader.proofs.Few.{Has, here, there, behind, no-mark, refused, None, one-more, in-operations, forms-few-operations}
+use Rattle.search_groups.specs.GroupPromises.{FewParameters, FewEach, few-none, few-more, Few}
+use Rattle.reader.proofs.FewGivens.{Has, here, there, behind, no-mark, refused, None, one-more, in-operations, forms-few-operations}
 
 variable-over : (n : ℕ) → 8 < n → (k s : Kind) (rest : List Symbol) → settled k s rest (aVariable n) ≡ some manyDeclared
 unfolding settled excess

@@ -1,14 +1,14 @@
 -- What the passes of a text hand on.
-pub mod Occurring
-pub mod Few
+pub mod TextLetters
+pub mod FewGivens
 pub mod FewVariables
-pub mod Named
-pub mod Least
-pub mod Keys
-pub mod Parted
-pub mod Joined
-pub mod Passes
-pub mod Limited
-pub mod Later
-pub mod Leaving
-pub mod Free
+pub mod DossierLetters
+pub mod LeastNameFault
+pub mod FaultKeys
+pub mod PartSections
+pub mod ParsedReading
+pub mod PassAnswers
+pub mod LimitPasses
+pub mod LaterPasses
+pub mod ArraysLeft
+pub mod ReadFaultless

@@ -1,2 +1,2 @@
-pub mod Occurring
+pub mod Occurrences
 pub mod Promises

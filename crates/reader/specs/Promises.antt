@@ -1,4 +1,4 @@
--- What `read` promises of every text: the answer of document 01 (reader/specs/Read), and what it leaves in the lent arrays.
+-- What `read` promises of every text: the answer of document 01 (static_rules/specs/Read), and what it leaves in the lent arrays.
 use mathlib.Core.Path.{_≡_}
 use mathlib.Core.List.{List, _++_, map}
 use mathlib.Core.Option.{Option, none}
@@ -19,11 +19,11 @@ use Rattle.static_rules.specs.Names.{nameFaults}
 use Rattle.static_rules.specs.Limits.{bindingFaults, sizeFaults}
 use Rattle.static_rules.specs.Read as definition
 use Rattle.static_rules.specs.Read.{refusal, reading, readNames, read}
-use Rattle.type_rules.specs.Inner.{Names, Sizes, key, keyOf}
-use Rattle.declared_names.specs.Passes.{givensNamed}
+use Rattle.type_rules.specs.TypesByNumber.{Names, Sizes, key, keyOf}
+use Rattle.declared_names.specs.NamesByNumber.{givensNamed}
 use Rattle.node_spans.specs.Spans.{spansOf}
-use Rattle.table_nodes.specs.Walks.{patch}
-use Rattle.table_places.specs.Dossiers.{slotsOf, startsOf, tableOf, groupsOf}
+use Rattle.table_nodes.specs.TableWalkPromises.{patch}
+use Rattle.table_places.specs.DossierTable.{slotsOf, startsOf, tableOf, groupsOf}
 use Rattle.search_groups.specs.Conjuncts.{contextRows, contextFirsts}
 use Rattle.reader.specs.declared.Reading.{Reading}
 use Rattle.reader.specs.declared.Reading.the-variants.{Read, Refused}

@@ -13,8 +13,8 @@ use Rattle.form.specs.Codes.{Numbering, node, numberOfName, typeCodes, typeWidt
 use Rattle.static_rules.specs.Scope.{isInput, isOutput}
 use Rattle.parser.specs.Sections.{operationsFrom}
 use Rattle.node_spans.specs.Spans.{span, spansOf, operationSpans}
-use Rattle.table_places.specs.Dossiers.{row, stateRow, parameterRow, operationRows}
-use Rattle.search_groups.specs.Searching.{Picks, no-pick, pick, pass}
+use Rattle.table_places.specs.DossierTable.{row, stateRow, parameterRow, operationRows}
+use Rattle.search_groups.specs.GroupPromises.{Picks, no-pick, pick, pass}
 
 -- a type is one node
 data Four : List ℕ → Type 0 where

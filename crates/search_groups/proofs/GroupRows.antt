@@ -9,12 +9,12 @@ use Rattle.form.specs.Headings.{operationsAt, operationLength}
 use Rattle.form.specs.Codes.{Numbering, declarationCodes, parameterCodes}
 use Rattle.static_rules.specs.Scope.{isInput, isOutput}
 use Rattle.node_spans.specs.Spans.{Stands, span, spansOf, StateAt, OperationAt, OperationsAt, no-more, one-more}
-use Rattle.table_nodes.specs.Walks.{patch}
-use Rattle.table_places.specs.Dossiers.{row, stateRow, parameterRow, operationRows, groupsOf}
-use Rattle.search_groups.specs.Searching.{Picks, GroupPut, OperationPut, FewParameters, FewEach, few-more, RowsAhead, RowsPut, Grouped}
-use Rattle.table_nodes.proofs.Patching.{patch-behind}
+use Rattle.table_nodes.specs.TableWalkPromises.{patch}
+use Rattle.table_places.specs.DossierTable.{row, stateRow, parameterRow, operationRows, groupsOf}
+use Rattle.search_groups.specs.GroupPromises.{Picks, GroupPut, OperationPut, FewParameters, FewEach, few-more, RowsAhead, RowsPut, Grouped}
+use Rattle.table_nodes.proofs.Pieces.{patch-behind}
 use Rattle.search_groups.proofs.GroupPicks.{state-picks, input-picks, output-picks, state-count, parameter-count, row-length, bothRows, rows-same, spans-length}
-use Rattle.search_groups.proofs.Grouping.{patch-none}
+use Rattle.search_groups.proofs.GroupPlaces.{patch-none}
 
 abbrev insOf : ℕ → Operation → List ℕ
 insOf q o = parameterRow (λ (x : Parameter). isInput (x .direction)) q (o .parameters)

@@ -1,16 +1,16 @@
 -- The table by numbers is the table by the definitions.
-pub mod ResolvingScope
-pub mod ResolvingLength
+pub mod ScopePlaces
+pub mod TableLength
 -- The walk that writes the table: pieces of the table, and what each shape of node writes.
 -- The whole table: places, carriers, and each predicate with the names in its reach.
-pub mod ConjoinSlots
-pub mod ConjoinRows
-pub mod ConjoinScan
-pub mod Conjoining
+pub mod ConjunctSlots
+pub mod ConjunctRows
+pub mod ConjunctScan
+pub mod ConjunctTables
 pub mod GroupPicks
-pub mod Grouping
+pub mod GroupPlaces
 pub mod GroupRows
-pub mod ConjoinContexts
-pub mod ConjoinLists
+pub mod ConjunctContexts
+pub mod ConjunctLists
 
 -- Each predicate of a dossier at its place in the whole table, and the rows of all conjuncts.

@@ -13,8 +13,8 @@ use Rattle.form.specs.Tree.{Pred, truth, falsity, negation, paren, quantified, 
 use Rattle.static_rules.specs.Carriers.{sameName, plain}
 use Rattle.static_rules.specs.Scope.{Scope, Context, binding}
 use Rattle.static_rules.specs.Names.{domainCarrier}
-use Rattle.table_nodes.specs.Table.{nextSlot}
-use Rattle.table_places.specs.Resolved.{Slots, predTable}
+use Rattle.table_nodes.specs.TableByNumber.{nextSlot}
+use Rattle.table_places.specs.ResolvedTable.{Slots, predTable}
 
 -- the slots of the names that a tree mentions, in the order of the text; s is the slot of the next bound name
 abbrev slotList : Option (Name × ℕ) → List ℕ

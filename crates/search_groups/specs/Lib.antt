@@ -1,2 +1,2 @@
 pub mod Conjuncts
-pub mod Searching
+pub mod GroupPromises

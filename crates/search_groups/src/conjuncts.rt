@@ -3,10 +3,10 @@ ghost use mathlib.Core.Path.{_≡_};
 ghost use Prim.Native.Nat.{_+_, _≤_, _<_, max};
 ghost use lib.ListN.{length};
 ghost use Rattle.form.specs.Codes.{node};
-ghost use Rattle.table_nodes.specs.Walks.{patch};
+ghost use Rattle.table_nodes.specs.TableWalkPromises.{patch};
 ghost use Rattle.search_groups.specs.Conjuncts.{lastIn, conjunctRow};
-ghost use Rattle.search_groups.specs.Searching.{slotHere, slotsAt, piece, Middle, RowPut, Conjoined};
-ghost use Rattle.search_groups.specs.Searching.{Place, ContextPut, ListPut, Listed};
+ghost use Rattle.search_groups.specs.GroupPromises.{slotHere, slotsAt, piece, Middle, RowPut, Conjoined};
+ghost use Rattle.search_groups.specs.GroupPromises.{Place, ContextPut, ListPut, Listed};
 use type_rules::kinds::index;
 
 fn larger(a: u16, b: u16) -> u16

@@ -2,8 +2,8 @@
 ghost use mathlib.Core.Path.{_≡_};
 ghost use Prim.Native.Nat.{_+_, _-_, _≤_, _<_};
 ghost use lib.ListN.{length, replicate};
-ghost use Rattle.table_nodes.specs.Walks.{patch};
-ghost use Rattle.search_groups.specs.Searching.{Picked, PickedAll, GroupPut, OperationPut, RowsPut, Grouped};
+ghost use Rattle.table_nodes.specs.TableWalkPromises.{patch};
+ghost use Rattle.search_groups.specs.GroupPromises.{Picked, PickedAll, GroupPut, OperationPut, RowsPut, Grouped};
 use type_rules::kinds::index;
 
 // The place of a declaration behind c others, where its name's number leaves `ending` when divided by 4: how many there are then.

@@ -12,7 +12,7 @@ use lib.Seq.{take-all, take-at, drop-at}
 use Rattle.lexical.specs.Refusals.{Fault, fault, lesser, least, longText}
 use Rattle.lexical.specs.Symbols.{Symbol, Placed, scan, symbols, scanFaults, lengthFaults}
 use Rattle.lexical.specs.Promises.{codeIn, numberIn, valueIn, valueAt, faultOf, taken, filled, firstOf, faultIn, written, Scans}
-use Rattle.lexical.specs.Inner.{filledNumbers, filledValues, Takes, Rows}
+use Rattle.lexical.specs.SymbolPromises.{filledNumbers, filledValues, Takes, Rows}
 use Rattle.lexical.specs.declared.Scanned.{Scanned}
 use Rattle.lexical.specs.declared.Scanned.the-variants.{Symbols, LongText, UnlistedSymbol, ManySymbols}
 use Rattle.name_numbers.proofs.RowLaws.{filled-at}

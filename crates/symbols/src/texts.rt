@@ -3,7 +3,7 @@ ghost use mathlib.Core.Path.{_≡_};
 ghost use Prim.Native.Nat.{_≤_, _<_};
 ghost use lib.ListN.{length, drop};
 ghost use Rattle.lexical.specs.Symbols.{symbolAt};
-ghost use Rattle.lexical.specs.Inner.{tokenOf, Takes};
+ghost use Rattle.lexical.specs.SymbolPromises.{tokenOf, Takes};
 use lexical::Class;
 use lexical::Scanned;
 use lexical::Token;

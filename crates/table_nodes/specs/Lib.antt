@@ -1,2 +1,2 @@
-pub mod Table
-pub mod Walks
+pub mod TableByNumber
+pub mod TableWalkPromises

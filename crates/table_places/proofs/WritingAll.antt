@@ -9,16 +9,16 @@ use Rattle.form.specs.Tree.{Letters, Declaration, declarations, Parameter, Stat
 use Rattle.form.specs.Headings.{givensAt, abstractAt, concreteAt, operationsAt, operationLength}
 use Rattle.form.specs.Codes.{Numbering, abstractlyAt, predWidth, conditionCodes, givenCodes, declarationCodes, parameterCodes}
 use Rattle.static_rules.specs.Scope.{contexts, concreteTaken}
-use Rattle.type_rules.specs.Inner.{Names, Sizes}
-use Rattle.declared_names.specs.Passes.{Typed, typedCodes, variablesOf, stateNamed, conditionsNamed}
-use Rattle.declared_names.specs.Parts.{Variables}
-use Rattle.names.proofs.Passing.{variables-codes}
+use Rattle.type_rules.specs.TypesByNumber.{Names, Sizes}
+use Rattle.declared_names.specs.NamesByNumber.{Typed, typedCodes, variablesOf, stateNamed, conditionsNamed}
+use Rattle.declared_names.specs.PassPromises.{Variables}
+use Rattle.names.proofs.PassSteps.{variables-codes}
 use Rattle.parser.specs.Sections.{operationsFrom}
 use Rattle.node_spans.specs.Spans.{operationSpans, spansOf, span, Structured}
-use Rattle.table_nodes.specs.Table.{Places}
-use Rattle.table_places.specs.Dossiers.{operationStarts, startsOf}
-use Rattle.table_places.specs.Passes.{givensPlaced, placing, statesPlaced, kindsOf, placesOf, withTables, withNodes, withOperations, declaredNodes, tableBy}
-use Rattle.table_places.specs.Parts.{PartIs, ElementsSet, VariablesSet, withState, StateSet, StatesSet, withConditions, ConditionsSet, tablesFrom, OperationsSet, PlacesSet, declaredBy, DeclaredSet, startsBy, placesBy, ContextsSet, TableSet}
+use Rattle.table_nodes.specs.TableByNumber.{Places}
+use Rattle.table_places.specs.DossierTable.{operationStarts, startsOf}
+use Rattle.table_places.specs.DossierTableByNumber.{givensPlaced, placing, statesPlaced, kindsOf, placesOf, withTables, withNodes, withOperations, declaredNodes, tableBy}
+use Rattle.table_places.specs.TablePromises.{PartIs, ElementsSet, VariablesSet, withState, StateSet, StatesSet, withConditions, ConditionsSet, tablesFrom, OperationsSet, PlacesSet, declaredBy, DeclaredSet, startsBy, placesBy, ContextsSet, TableSet}
 use Rattle.table_places.proofs.WritingTypes.{part-stands}
 
 -- the places of elements and of both states' variables

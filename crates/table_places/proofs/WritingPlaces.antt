@@ -14,14 +14,14 @@ use Rattle.form.specs.Tree.{Letters, Given, elements, Direction, inward, outwar
 use Rattle.form.specs.Headings.{givenLength}
 use Rattle.form.specs.Written.{endingOf}
 use Rattle.form.specs.Codes.{Numbering, node, nameNumber, numberOfName, endingNumber, typeCodes, typeWidth, elementCodes, givenCodes}
-use Rattle.type_rules.specs.Inner.{Names}
-use Rattle.declared_names.specs.Passes.{Typed, parametersOf}
-use Rattle.declared_names.specs.Parts.{typedCode}
-use Rattle.declared_names.proofs.Declaring.{node-a, node-shape, Walked, finished}
-use Rattle.names.proofs.Passing.{parameters-codes}
-use Rattle.table_nodes.specs.Table.{Places}
-use Rattle.table_places.specs.Passes.{elementsPlaced, givensPlaced, placing, parameterSlot, nextInput, nextOutput, parametersPlaced}
-use Rattle.table_places.specs.Parts.{ElementSet, ElementsSet, VariablesSet, ParametersSet}
+use Rattle.type_rules.specs.TypesByNumber.{Names}
+use Rattle.declared_names.specs.NamesByNumber.{Typed, parametersOf}
+use Rattle.declared_names.specs.PassPromises.{typedCode}
+use Rattle.declared_names.proofs.DeclarationNodes.{node-a, node-shape, Walked, finished}
+use Rattle.names.proofs.PassSteps.{parameters-codes}
+use Rattle.table_nodes.specs.TableByNumber.{Places}
+use Rattle.table_places.specs.DossierTableByNumber.{elementsPlaced, givensPlaced, placing, parameterSlot, nextInput, nextOutput, parametersPlaced}
+use Rattle.table_places.specs.TablePromises.{ElementSet, ElementsSet, VariablesSet, ParametersSet}
 
 -- the number of a declared name is the second one of its node
 named-at : (code : List ℕ) (at : ℕ) (x : Typed) (j : ℕ) (ρ : Numbering) (rest : List ℕ) → drop at code ≡ typedCode j x ρ ++ rest → getD code (at + 1) 0 ≡ nameNumber ρ (x .called)

@@ -14,17 +14,17 @@ use Rattle.form.specs.Tree.{TypeForm, givenType, powerType, rangeType, arrowTyp
 use Rattle.form.specs.Headings.{abstractAt, concreteAt, operationsAt, operationLength}
 use Rattle.form.specs.Codes.{Numbering, node, nameNumber, endNumber, endWidth, arrowNumber, typeCodes, typeWidth, declarationCodes, parameterCodes}
 use Rattle.lexical.specs.Symbols.{noEnding}
-use Rattle.type_rules.specs.Inner.{Names, Sizes, entry, isGiven}
-use Rattle.declared_names.specs.Passes.{Typed, typedCodes, variablesOf, parametersOf}
-use Rattle.declared_names.specs.Parts.{typedCode}
-use Rattle.declared_names.proofs.Declaring.{node-a, node-b, node-shape, typed-type, Walked, finished}
-use Rattle.type_rules.proofs.Numbers.{cond-yes, cond-no, given-bounds}
-use Rattle.names.proofs.Passing.{variables-codes, parameters-codes}
+use Rattle.type_rules.specs.TypesByNumber.{Names, Sizes, entry, isGiven}
+use Rattle.declared_names.specs.NamesByNumber.{Typed, typedCodes, variablesOf, parametersOf}
+use Rattle.declared_names.specs.PassPromises.{typedCode}
+use Rattle.declared_names.proofs.DeclarationNodes.{node-a, node-b, node-shape, typed-type, Walked, finished}
+use Rattle.type_rules.proofs.TypeNumbers.{cond-yes, cond-no, given-bounds}
+use Rattle.names.proofs.PassSteps.{variables-codes, parameters-codes}
 use Rattle.node_spans.specs.Spans.{span, Stands, OperationsAt, no-more, one-more}
-use Rattle.table_nodes.specs.Table.{givenSize, rangeCount}
-use Rattle.table_nodes.specs.Walks.{patch}
-use Rattle.table_places.specs.Passes.{givenIndex, typeNode, withNodes, withOperations}
-use Rattle.table_places.specs.Parts.{PartIs, TypeSet, withTypes, TypesSet, OperationTypesSet, declaredBy, DeclaredSet}
+use Rattle.table_nodes.specs.TableByNumber.{givenSize, rangeCount}
+use Rattle.table_nodes.specs.TableWalkPromises.{patch}
+use Rattle.table_places.specs.DossierTableByNumber.{givenIndex, typeNode, withNodes, withOperations}
+use Rattle.table_places.specs.TablePromises.{PartIs, TypeSet, withTypes, TypesSet, OperationTypesSet, declaredBy, DeclaredSet}
 
 -- the number of a given set
 pub index-some : (k : ℕ) (f : Bool) → f ≡ isGiven k → f ≡ true → (k - 8 ≡ givenIndex k) × (k - 8 < 8)

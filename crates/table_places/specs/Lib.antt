@@ -1,4 +1,4 @@
-pub mod Resolved
-pub mod Dossiers
-pub mod Passes
-pub mod Parts
+pub mod ResolvedTable
+pub mod DossierTable
+pub mod DossierTableByNumber
+pub mod TablePromises

@@ -2,8 +2,8 @@
 ghost use mathlib.Core.Path.{_≡_};
 ghost use Prim.Native.Nat.{_+_, _≤_, _<_};
 ghost use lib.ListN.{length, getD};
-ghost use Rattle.table_places.specs.Passes.{givenIndex};
-ghost use Rattle.table_places.specs.Parts.{PartIs, TypeSet, TypesSet, OperationTypesSet, DeclaredSet};
+ghost use Rattle.table_places.specs.DossierTableByNumber.{givenIndex};
+ghost use Rattle.table_places.specs.TablePromises.{PartIs, TypeSet, TypesSet, OperationTypesSet, DeclaredSet};
 use table_nodes::nodes::given_size;
 use table_nodes::nodes::range_count;
 use table_nodes::nodes::set_node;

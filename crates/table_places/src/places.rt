@@ -4,7 +4,7 @@ ghost use mathlib.Core.Bool.{cond};
 ghost use Prim.Native.Nat.{_+_, _%_, _≤_, _<_};
 ghost use lib.Dec.{eqb};
 ghost use lib.ListN.{length};
-ghost use Rattle.table_places.specs.Parts.{ElementsSet, ElementSet, VariablesSet, ParametersSet, PlacesSet};
+ghost use Rattle.table_places.specs.TablePromises.{ElementsSet, ElementSet, VariablesSet, ParametersSet, PlacesSet};
 use type_rules::kinds::index;
 use type_rules::kinds::put;
 

@@ -1,17 +1,17 @@
 -- The table by numbers is the table by the definitions.
-pub mod ResolvingTypes
-pub mod ResolvingSizes
-pub mod ResolvingParts
-pub mod Resolving
-pub mod TabledShown
-pub mod TabledTypes
-pub mod Tabled
-pub mod PlacingSlots
-pub mod PlacingDeclared
-pub mod PlacingGivens
-pub mod PlacingParameters
-pub mod PlacingStates
-pub mod PlacingContexts
+pub mod TableAgreesTypes
+pub mod TableAgreesSizes
+pub mod TableAgreesParts
+pub mod TableAgrees
+pub mod DossierTableShown
+pub mod DossierTableTypes
+pub mod DossierTableAgrees
+pub mod SlotPlaces
+pub mod DeclaredPlaces
+pub mod ElementPlaces
+pub mod ParameterPlaces
+pub mod StatePlaces
+pub mod ContextPlaces
 -- The walk that writes the table: pieces of the table, and what each shape of node writes.
 -- The whole table: places, carriers, and each predicate with the names in its reach.
 pub mod WritingContexts

@@ -9,13 +9,13 @@ use lib.Seq.{length-take-le, take-at, drop-at, take-take, take-append-le, take-a
 use Rattle.form.specs.Codes.{Numbering, node, predCodes, conditionCodes}
 use Rattle.static_rules.specs.Scope.{Context}
 use Rattle.node_spans.specs.Spans.{Stands}
-use Rattle.table_nodes.specs.Walks.{patch}
-use Rattle.table_places.specs.Resolved.{Slots, predTable}
-use Rattle.table_places.specs.Dossiers.{withPredicates}
+use Rattle.table_nodes.specs.TableWalkPromises.{patch}
+use Rattle.table_places.specs.ResolvedTable.{Slots, predTable}
+use Rattle.table_places.specs.DossierTable.{withPredicates}
 use Rattle.search_groups.specs.Conjuncts.{conjunctRow, conjunctRows, contextRows}
-use Rattle.search_groups.specs.Searching.{Conjoin, alone, both, Standing, none-stands, one-stands}
-use Rattle.search_groups.proofs.ResolvingLength.{pred-length}
-use Rattle.search_groups.proofs.ConjoinRows.{conjoin-of}
+use Rattle.search_groups.specs.GroupPromises.{Conjoin, alone, both, Standing, none-stands, one-stands}
+use Rattle.search_groups.proofs.TableLength.{pred-length}
+use Rattle.search_groups.proofs.ConjunctRows.{conjoin-of}
 
 -- a piece makes no array shorter, whether or not it fits
 pub patch-grows : (b : ℕ) (t out : List ℕ) → length out ≤ length (patch b t out)

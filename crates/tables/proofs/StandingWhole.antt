@@ -11,14 +11,14 @@ use Rattle.form.specs.Headings.{abstractAt, concreteAt, ainitAt, cinitAt, retri
 use Rattle.form.specs.Codes.{Numbering, declarationCodes, parameterCodes, conditionCodes, stateCodes, operationCodes, abstractlyAt, predWidth, dossierCodes}
 use Rattle.static_rules.specs.Scope.{contexts, operationContexts}
 use Rattle.parser.specs.Sections.{abstractFrom, concreteFrom, ainitFrom, cinitFrom, retrieveFrom, operationsFrom}
-use Rattle.parser.proofs.Itemised.{Split, split-first, split-next, split-at, split-length}
-use Rattle.parser.proofs.Placed.{at-operations}
+use Rattle.parser.proofs.ItemNodes.{Split, split-first, split-next, split-at, split-length}
+use Rattle.parser.proofs.PartPlaces.{at-operations}
 use Rattle.node_spans.specs.Spans.{operationSpans, spansOf, span, predicateAt}
 use Rattle.node_spans.proofs.Structure.{split-move}
-use Rattle.table_nodes.specs.Walks.{patch}
-use Rattle.table_places.specs.Dossiers.{operationSlots, slotsOf, operationStarts, startsOf, typeTable, withCarriers, withParameters, declared, tableOf}
+use Rattle.table_nodes.specs.TableWalkPromises.{patch}
+use Rattle.table_places.specs.DossierTable.{operationSlots, slotsOf, operationStarts, startsOf, typeTable, withCarriers, withParameters, declared, tableOf}
 use Rattle.search_groups.specs.Conjuncts.{contextRows}
-use Rattle.search_groups.specs.Searching.{Standing}
+use Rattle.search_groups.specs.GroupPromises.{Standing}
 use Rattle.tables.proofs.StandingPieces.{patch-grows, Rising, risen, rise, all-stand, rows-fit}
 
 -- the carriers of the declared names make no array shorter

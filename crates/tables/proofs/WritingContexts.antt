@@ -12,17 +12,17 @@ use Rattle.form.specs.Tree.{Letters, Pred, Declaration, declarations, Operation
 use Rattle.form.specs.Headings.{ainitAt, cinitAt, retrieveAt, operationLength}
 use Rattle.form.specs.Codes.{Numbering, numberOfName, abstractlyAt, predWidth, declarationCodes, parameterCodes}
 use Rattle.static_rules.specs.Scope.{operationContexts}
-use Rattle.type_rules.specs.Inner.{Names, Sizes}
-use Rattle.declared_names.specs.Passes.{Typed, typedCodes, variablesOf, parametersOf, shown, hidden, stateNamed, reaching, leaving, titleNamed, parametersShown, operationNamed, conditionsNamed}
-use Rattle.declared_names.specs.Parts.{ShownSeen, HiddenSeen, Variables}
-use Rattle.names.proofs.Passing.{variables-codes, parameters-codes}
+use Rattle.type_rules.specs.TypesByNumber.{Names, Sizes}
+use Rattle.declared_names.specs.NamesByNumber.{Typed, typedCodes, variablesOf, parametersOf, shown, hidden, stateNamed, reaching, leaving, titleNamed, parametersShown, operationNamed, conditionsNamed}
+use Rattle.declared_names.specs.PassPromises.{ShownSeen, HiddenSeen, Variables}
+use Rattle.names.proofs.PassSteps.{variables-codes, parameters-codes}
 use Rattle.node_spans.specs.Spans.{span, OperationAt, OperationsAt, no-more, one-more}
 use Rattle.table_nodes.specs.declared.Made.{Made}
-use Rattle.table_nodes.specs.Table.{Places, predTable}
-use Rattle.table_nodes.specs.Walks.{patch, PredMade}
-use Rattle.table_places.specs.Dossiers.{operationStarts}
-use Rattle.table_places.specs.Passes.{operationKinds, operationPlaces, withTables}
-use Rattle.table_places.specs.Parts.{PartIs, ParametersSet, written, PredicateSet, StateSet, withConditions, ConditionsSet, SideSet, abstractKinds, concreteKinds, placedIn, withOperation, OperationStands, OperationSet, TitlesAt, no-titles, one-title, tablesFrom, OperationsSet}
+use Rattle.table_nodes.specs.TableByNumber.{Places, predTable}
+use Rattle.table_nodes.specs.TableWalkPromises.{patch, PredMade}
+use Rattle.table_places.specs.DossierTable.{operationStarts}
+use Rattle.table_places.specs.DossierTableByNumber.{operationKinds, operationPlaces, withTables}
+use Rattle.table_places.specs.TablePromises.{PartIs, ParametersSet, written, PredicateSet, StateSet, withConditions, ConditionsSet, SideSet, abstractKinds, concreteKinds, placedIn, withOperation, OperationStands, OperationSet, TitlesAt, no-titles, one-title, tablesFrom, OperationsSet}
 use Rattle.table_places.proofs.WritingTypes.{part-stands}
 
 -- a predicate

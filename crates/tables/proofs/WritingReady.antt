@@ -9,11 +9,11 @@ use Rattle.form.specs.Tree.{Operation, Dossier}
 use Rattle.form.specs.Headings.{givensAt, operationsAt, operationLength}
 use Rattle.form.specs.Codes.{Numbering, node, numberOfName, abstractlyAt, predWidth, givenCodes, parameterCodes, conditionCodes, operationCodes, dossierCodes}
 use Rattle.parser.specs.Sections.{givensFrom, abstractFrom, operationsFrom}
-use Rattle.parser.proofs.Itemised.{Split, split-first, split-next, split-as, split-at}
-use Rattle.parser.proofs.Placed.{fromAbstract, at-givens, at-operations}
+use Rattle.parser.proofs.ItemNodes.{Split, split-first, split-next, split-as, split-at}
+use Rattle.parser.proofs.PartPlaces.{fromAbstract, at-givens, at-operations}
 use Rattle.node_spans.specs.Spans.{operationSpans, spansOf, span}
 use Rattle.node_spans.proofs.Structure.{split-longer, split-move, stand, structured}
-use Rattle.table_places.specs.Parts.{TitlesAt, no-titles, one-title, Ready}
+use Rattle.table_places.specs.TablePromises.{TitlesAt, no-titles, one-title, Ready}
 
 titles-stand : {c spans : List ℕ} (n k i : ℕ) (os : List Operation) (ρ : Numbering) (z y : List ℕ) → Split c n (operationCodes i os ρ ++ z)
     → Split spans (9 + 4 * k) (operationSpans n i os ρ ++ y) → TitlesAt c spans ρ k os

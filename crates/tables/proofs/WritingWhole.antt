@@ -8,15 +8,15 @@ use Rattle.form.specs.Tree.{Letters, Dossier}
 use Rattle.form.specs.Codes.{Numbering}
 use Rattle.static_rules.specs.Carriers.{sizeOf}
 use Rattle.static_rules.specs.Names.{nameFaults}
-use Rattle.type_rules.specs.Inner.{Sizes}
-use Rattle.declared_names.specs.Passes.{givensNamed}
-use Rattle.names.proofs.Showing.{Numbered}
-use Rattle.names.proofs.Passed.{DossierIn}
-use Rattle.table_places.specs.Dossiers.{tableOf}
-use Rattle.table_places.specs.Parts.{Ready, TableWritten}
-use Rattle.search_groups.specs.Searching.{Few}
-use Rattle.tables.proofs.PlacingContexts.{places-shown}
-use Rattle.tables.proofs.Tabled.{tabled}
+use Rattle.type_rules.specs.TypesByNumber.{Sizes}
+use Rattle.declared_names.specs.NamesByNumber.{givensNamed}
+use Rattle.names.proofs.ReachTables.{Numbered}
+use Rattle.names.proofs.PassAgrees.{DossierIn}
+use Rattle.table_places.specs.DossierTable.{tableOf}
+use Rattle.table_places.specs.TablePromises.{Ready, TableWritten}
+use Rattle.search_groups.specs.GroupPromises.{Few}
+use Rattle.tables.proofs.ContextPlaces.{places-shown}
+use Rattle.tables.proofs.DossierTableAgrees.{tabled}
 
 pub whole-table : (ρ : Numbering) (P : Letters → Type 0) → Numbered ρ P → (d : Dossier) → DossierIn P d → nameFaults d ≡ [] → Few d → (n : ℕ) → 16384 ≤ n → (z : Sizes)
     → ((k : ℕ) → k < length (d .givens) → getD z k 0 ≡ getD (map sizeOf (d .givens)) k 0) → length (d .givens) ≤ 8

@@ -2,7 +2,7 @@
 ghost use mathlib.Core.Path.{_≡_};
 ghost use Prim.Native.Nat.{_+_, _-_, _≤_, _<_};
 ghost use lib.ListN.{length, getD};
-ghost use Rattle.table_places.specs.Parts.{PredicateSet, StateSet, StatesSet, ConditionsSet, SideSet, OperationSet, OperationsSet, ContextsSet, TableSet, TableWritten};
+ghost use Rattle.table_places.specs.TablePromises.{PredicateSet, StateSet, StatesSet, ConditionsSet, SideSet, OperationSet, OperationsSet, ContextsSet, TableSet, TableWritten};
 use declared_names::declared::hide;
 use declared_names::declared::show;
 use lowering::walk::pred;

@@ -1,2 +1,2 @@
-pub mod Inner
-pub mod Walks
+pub mod SizesByNumber
+pub mod SizeWalkPromises

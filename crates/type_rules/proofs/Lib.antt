@@ -1,2 +1,2 @@
 -- Names and types: the walk over nodes, and what it finds.
-pub mod Numbers
+pub mod TypeNumbers

@@ -1,9 +1,9 @@
-// What names and terms are, by numbers (specs/Inner.antt).
+// What names and terms are, by numbers (specs/TypesByNumber.antt).
 ghost use mathlib.Core.Path.{_≡_};
 ghost use mathlib.Core.Bool.{_&&_};
 ghost use Prim.Native.Nat.{_+_, _<_};
 ghost use lib.ListN.{set};
-ghost use Rattle.type_rules.specs.Inner.{entry, isGiven, isElement, inReach, elementOf, setOf, pairOf, domOf, ranOf, memberFits, relatedFits, shared, key, unlessKey, lesser, judgedKey, insideKey, isFree, rangeFits, sizeIn, productFits, overKey, braceKey};
+ghost use Rattle.type_rules.specs.TypesByNumber.{entry, isGiven, isElement, inReach, elementOf, setOf, pairOf, domOf, ranOf, memberFits, relatedFits, shared, key, unlessKey, lesser, judgedKey, insideKey, isFree, rangeFits, sizeIn, productFits, overKey, braceKey};
 
 pub fn wide(x: u16) -> u32
     ensures { λ r. ⌜ (r ≡ x) × (r < 65536) ⌝ }

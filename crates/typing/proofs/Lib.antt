@@ -1,4 +1,4 @@
 -- Names and types: the walk over nodes, and what it finds.
-pub mod Backwards
-pub mod BackwardsTerms
-pub mod BackwardsPreds
+pub mod LastNodes
+pub mod TypeWalkTerms
+pub mod TypeWalkPreds

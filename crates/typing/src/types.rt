@@ -2,7 +2,7 @@
 ghost use mathlib.Core.Path.{_≡_};
 ghost use Prim.Native.Nat.{_+_, _-_, _≤_};
 ghost use lib.ListN.{length, getD};
-ghost use Rattle.type_rules.specs.Inner.{NodeAt, DomainSeen, TermSeen, ItemsSeen, PairSeen, PairsSeen, PredSeen, PrefixFits, PrefixType, OperatorFits, ComparisonFits};
+ghost use Rattle.type_rules.specs.TypesByNumber.{NodeAt, DomainSeen, TermSeen, ItemsSeen, PairSeen, PairsSeen, PredSeen, PrefixFits, PrefixType, OperatorFits, ComparisonFits};
 use type_rules::Node;
 use type_rules::Seen;
 use type_rules::kinds::bound_fault;

@@ -6,7 +6,7 @@ use mathlib.Core.Path.{_≡_, refl, sym, ap, _∙_}
 use native.Mathlib.Omega.{arith}
 use borrow.Author.Needs.{needs}
 use borrow.Author.Tests.{not-true, not-false}
-use Rattle.carriers.specs.Order.{choices}
+use Rattle.carriers.specs.ValuesByNumber.{choices}
 use Rattle.carriers.proofs.Masks.{count-small, counted}
 use Rattle.carriers.proofs.count_at.Statement.{statement}
 use Rattle.carriers.proofs.count_at.Tie as tie

@@ -3,7 +3,7 @@ use Prim.Native.Nat.{_/_, _%_, ℕ}
 use native.Mathlib.Nat.{div-zero, mod-zero, zero-mod}
 use borrow.Author.Needs.{needs}
 use mathlib.Core.Path.{refl, sym, ap, _∙_}
-use Rattle.carriers.specs.Order.{digit}
+use Rattle.carriers.specs.ValuesByNumber.{digit}
 use Rattle.carriers.proofs.digit.Statement.{statement}
 use Rattle.carriers.proofs.digit.Tie as tie
 

@@ -8,7 +8,7 @@ use native.Mathlib.Omega.{arith}
 use borrow.Author.Needs.{needs}
 use borrow.Author.Tests.{not-true, not-false}
 use Rattle.sets.specs.Sets.{single}
-use Rattle.carriers.specs.Order.{word, rowOf}
+use Rattle.carriers.specs.ValuesByNumber.{word, rowOf}
 use Rattle.carriers.proofs.Masks.{mask-none, begun, ended, made-more, made-small, row-room, digit-low, row-some, row-none}
 use Rattle.carriers.proofs.mask_at.Statement.{statement}
 use Rattle.carriers.proofs.mask_at.Tie as tie

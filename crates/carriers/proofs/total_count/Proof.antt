@@ -2,7 +2,7 @@
 use borrow.Author.Needs.{needs}
 use native.Mathlib.Omega.{arith}
 use Rattle.static_rules.specs.Carriers.{arrowCount}
-use Rattle.carriers.specs.Order.{choices}
+use Rattle.carriers.specs.ValuesByNumber.{choices}
 use Rattle.carriers.proofs.total_count.Statement.{statement}
 use Rattle.carriers.proofs.total_count.Tie as tie
 

@@ -1,6 +1,6 @@
 -- `given_sets` meets its contract: the tables are free at first. Assumes nothing.
 use borrow.Author.Needs.{needs}
-use Rattle.declared_names.proofs.Giving.{given-from}
+use Rattle.declared_names.proofs.GivenSetNodes.{given-from}
 use Rattle.names.proofs.given_sets.Statement.{statement}
 use Rattle.names.proofs.given_sets.Tie as tie
 

@@ -1,6 +1,6 @@
 -- `fill` meets its contract.
 use borrow.Author.Needs.{needs}
-use Rattle.node_spans.proofs.Located.{spanned}
+use Rattle.node_spans.proofs.PartNodes.{spanned}
 use Rattle.node_spans.proofs.fill.Statement.{statement}
 use Rattle.node_spans.proofs.fill.Tie as tie
 

@@ -1,6 +1,6 @@
 -- `operation` meets its contract.
 use borrow.Author.Needs.{needs}
-use Rattle.node_spans.proofs.Filling.{operation-put}
+use Rattle.node_spans.proofs.SpanWrites.{operation-put}
 use Rattle.node_spans.proofs.operation.Statement.{statement}
 use Rattle.node_spans.proofs.operation.Tie as tie
 

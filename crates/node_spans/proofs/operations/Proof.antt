@@ -5,8 +5,8 @@ use Prim.Native.Nat.{ℕ, _-_, _≤_}
 use mathlib.Core.Path.{_≡_, _∙_}
 use native.Mathlib.Omega.{arith}
 use borrow.Author.Needs.{needs}
-use Rattle.node_spans.specs.Inner.{Ahead}
-use Rattle.node_spans.proofs.Filling.{ahead-next, ahead-done}
+use Rattle.node_spans.specs.SpanPromises.{Ahead}
+use Rattle.node_spans.proofs.SpanWrites.{ahead-next, ahead-done}
 use Rattle.node_spans.proofs.operations.Statement.{statement}
 use Rattle.node_spans.proofs.operations.Tie as tie
 

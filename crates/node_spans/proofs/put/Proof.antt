@@ -1,7 +1,7 @@
 -- `put` meets its contract.
 use borrow.Author.Needs.{needs}
 use native.Mathlib.Omega.{arith}
-use Rattle.node_spans.proofs.Filling.{puts}
+use Rattle.node_spans.proofs.SpanWrites.{puts}
 use Rattle.node_spans.proofs.put.Statement.{statement}
 use Rattle.node_spans.proofs.put.Tie as tie
 

@@ -1,6 +1,6 @@
 -- `state` meets its contract.
 use borrow.Author.Needs.{needs}
-use Rattle.node_spans.proofs.Filling.{state-put}
+use Rattle.node_spans.proofs.SpanWrites.{state-put}
 use Rattle.node_spans.proofs.state.Statement.{statement}
 use Rattle.node_spans.proofs.state.Tie as tie
 

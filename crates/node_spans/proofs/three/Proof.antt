@@ -1,7 +1,7 @@
 -- `three` meets its contract.
 use borrow.Author.Needs.{needs}
 use Rattle.node_spans.proofs.three.Statement.{statement}
-use Rattle.node_spans.proofs.Filling as laws
+use Rattle.node_spans.proofs.SpanWrites as laws
 use Rattle.node_spans.proofs.three.Tie as tie
 
 put-requires : tie.Need-put-requires

@@ -2,7 +2,7 @@
 use borrow.Author.Tests.{ne-eqb}
 use mathlib.Core.Path.{sym, ap}
 use Rattle.lexical.specs.Refusals.{numberOf}
-use Rattle.form_nodes.specs.Inner.{refusalNumbered}
+use Rattle.form_nodes.specs.FormPromises.{refusalNumbered}
 use Rattle.parser.proofs.number_of.Statement.{statement}
 use Rattle.parser.proofs.number_of.Tie as tie
 

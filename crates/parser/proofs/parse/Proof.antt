@@ -4,7 +4,7 @@ use borrow.Author.Needs.{needs}
 use mathlib.Core.Path.{refl, ap}
 use Rattle.lexical.specs.Refusals.{fault, longText, unlistedSymbol, manySymbols, numberOf}
 use Rattle.lexical.specs.Promises.{faultOf}
-use Rattle.parser.proofs.Whole.{left-of, parses}
+use Rattle.parser.proofs.ParseAnswers.{left-of, parses}
 use Rattle.parser.proofs.parse.Statement.{statement}
 use Rattle.parser.proofs.parse.Tie as tie
 

@@ -4,7 +4,7 @@ use lib.Seq.{getD-take, length-take-le}
 use borrow.Author.Needs.{needs}
 use mathlib.Core.Path.{sym, _∙_}
 use native.Mathlib.Omega.{arith}
-use Rattle.parser.proofs.Placing.{any-default}
+use Rattle.parser.proofs.NumbersInLists.{any-default}
 use Rattle.parser.proofs.place_at.Statement.{statement}
 use Rattle.parser.proofs.place_at.Tie as tie
 

@@ -4,7 +4,7 @@ use lib.Seq.{length-take-le}
 use borrow.Author.Needs.{needs}
 use native.Mathlib.Omega.{arith}
 use Rattle.parser.specs.declared.Parsed.the-variants.{Refused}
-use Rattle.parser.proofs.Whole.{few-symbols, formed-as, form-fault, heading-fault, whole-structure}
+use Rattle.parser.proofs.ParseAnswers.{few-symbols, formed-as, form-fault, heading-fault, whole-structure}
 use Rattle.parser.proofs.structure.Statement.{statement}
 use Rattle.parser.proofs.structure.Tie as tie
 

@@ -1,6 +1,6 @@
 -- `reading::bindings_key` meets its contract.
 use borrow.Author.Needs.{needs}
-use Rattle.reader.proofs.Limited.{bindings-found}
+use Rattle.reader.proofs.LimitPasses.{bindings-found}
 use Rattle.reader.proofs.bindings_key.Statement.{statement}
 use Rattle.reader.proofs.bindings_key.Tie as tie
 

@@ -2,8 +2,8 @@
 use borrow.Author.Needs.{needs}
 use mathlib.Core.Path.{refl}
 use native.Mathlib.Omega.{arith}
-use Rattle.reader.proofs.Later.{refuses, all-pass}
-use Rattle.reader.proofs.Passes.{unwritten}
+use Rattle.reader.proofs.LaterPasses.{refuses, all-pass}
+use Rattle.reader.proofs.PassAnswers.{unwritten}
 use Rattle.reader.proofs.checked.Statement.{statement}
 use Rattle.reader.proofs.checked.Tie as tie
 

@@ -1,7 +1,7 @@
 -- `reading::fault_key` meets its contract: the passes one behind the other.
 use borrow.Author.Needs.{needs}
 use native.Mathlib.Omega.{arith}
-use Rattle.reader.proofs.Later.{names-decide, bindings-decide, sizes-decide}
+use Rattle.reader.proofs.LaterPasses.{names-decide, bindings-decide, sizes-decide}
 use Rattle.reader.proofs.fault_key.Statement.{statement}
 use Rattle.reader.proofs.fault_key.Tie as tie
 

@@ -1,6 +1,6 @@
 -- `reading::given_table` meets its contract.
 use borrow.Author.Needs.{needs}
-use Rattle.reader.proofs.Limited.{tabled}
+use Rattle.reader.proofs.LimitPasses.{tabled}
 use Rattle.reader.proofs.given_table.Statement.{statement}
 use Rattle.reader.proofs.given_table.Tie as tie
 

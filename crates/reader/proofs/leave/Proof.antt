@@ -1,6 +1,6 @@
 -- `reading::leave` meets its contract.
 use borrow.Author.Needs.{needs}
-use Rattle.reader.proofs.Leaving.{leaves}
+use Rattle.reader.proofs.ArraysLeft.{leaves}
 use Rattle.reader.proofs.leave.Statement.{statement}
 use Rattle.reader.proofs.leave.Tie as tie
 

@@ -1,6 +1,6 @@
 -- `reading::names_key` meets its contract.
 use borrow.Author.Needs.{needs}
-use Rattle.reader.proofs.Passes.{named-all}
+use Rattle.reader.proofs.PassAnswers.{named-all}
 use Rattle.reader.proofs.names_key.Statement.{statement}
 use Rattle.reader.proofs.names_key.Tie as tie
 

@@ -2,7 +2,7 @@
 use borrow.Author.Needs.{needs}
 use mathlib.Core.Path.{refl}
 use native.Mathlib.Omega.{arith}
-use Rattle.reader.proofs.Passes.{few-symbols, reads-structure, reads-refusal, unwritten}
+use Rattle.reader.proofs.PassAnswers.{few-symbols, reads-structure, reads-refusal, unwritten}
 use Rattle.reader.proofs.read.Statement.{statement}
 use Rattle.reader.proofs.read.Tie as tie
 

@@ -1,7 +1,7 @@
 -- `reading::refused` meets its contract.
 use borrow.Author.Needs.{needs}
 use mathlib.Core.Path.{refl}
-use Rattle.reader.proofs.Passes.{apart}
+use Rattle.reader.proofs.PassAnswers.{apart}
 use Rattle.reader.proofs.refused.Statement.{statement}
 use Rattle.reader.proofs.refused.Tie as tie
 

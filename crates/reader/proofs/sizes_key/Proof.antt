@@ -1,6 +1,6 @@
 -- `reading::sizes_key` meets its contract.
 use borrow.Author.Needs.{needs}
-use Rattle.reader.proofs.Limited.{sizes-found}
+use Rattle.reader.proofs.LimitPasses.{sizes-found}
 use Rattle.reader.proofs.sizes_key.Statement.{statement}
 use Rattle.reader.proofs.sizes_key.Tie as tie
 

@@ -2,7 +2,7 @@
 use Prim.Native.Nat.{_-_, _≤_}
 use native.Mathlib.Omega.{arith}
 use borrow.Author.Needs.{needs}
-use Rattle.binding_counts.proofs.BindSpans.{Remains, remains-start, remains-on, remains-full, remains-end}
+use Rattle.binding_counts.proofs.BindingSpans.{Remains, remains-start, remains-on, remains-full, remains-end}
 use Rattle.binding_counts.proofs.bindings.all_operations.Statement.{statement}
 use Rattle.binding_counts.proofs.bindings.all_operations.Tie as tie
 

@@ -1,6 +1,6 @@
 -- `bindings::bindings` meets its contract. Assumes nothing.
 use borrow.Author.Needs.{needs}
-use Rattle.binding_counts.proofs.BindFaults.{bindings-seen}
+use Rattle.binding_counts.proofs.BindingsAgree.{bindings-seen}
 use Rattle.binding_counts.proofs.bindings.bindings.Statement.{statement}
 use Rattle.binding_counts.proofs.bindings.bindings.Tie as tie
 

@@ -1,7 +1,7 @@
 -- `bindings::factor` meets its contract. Assumes nothing.
 use borrow.Author.Needs.{needs}
 use native.Mathlib.Omega.{arith}
-use Rattle.binding_counts.proofs.BindCounts.{factor-same, factor-other}
+use Rattle.binding_counts.proofs.CappedCounts.{factor-same, factor-other}
 use Rattle.binding_counts.proofs.bindings.factor.Statement.{statement}
 use Rattle.binding_counts.proofs.bindings.factor.Tie as tie
 

@@ -3,7 +3,7 @@ use Prim.Native.Nat.{_+_, _-_, _≤_}
 use native.Mathlib.Omega.{arith}
 use borrow.Author.Needs.{needs}
 use lib.ListN.{length}
-use Rattle.binding_counts.proofs.BindCounts.{Counting, counting-start, counting-on, counting-end}
+use Rattle.binding_counts.proofs.CappedCounts.{Counting, counting-start, counting-on, counting-end}
 use Rattle.binding_counts.proofs.bindings.group.Statement.{statement}
 use Rattle.binding_counts.proofs.bindings.group.Tie as tie
 

@@ -1,7 +1,7 @@
 -- `bindings::heading_fault` meets its contract. Assumes nothing.
 use borrow.Author.Needs.{needs}
 use mathlib.Core.Path.{refl}
-use Rattle.binding_counts.proofs.BindSpans.{heading-fine, heading-short, heading-over}
+use Rattle.binding_counts.proofs.BindingSpans.{heading-fine, heading-short, heading-over}
 use Rattle.binding_counts.proofs.bindings.heading_fault.Statement.{statement}
 use Rattle.binding_counts.proofs.bindings.heading_fault.Tie as tie
 

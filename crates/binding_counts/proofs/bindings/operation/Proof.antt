@@ -1,7 +1,7 @@
 -- `bindings::operation` meets its contract. Assumes nothing.
 use borrow.Author.Needs.{needs}
 use mathlib.Core.Path.{_∙_}
-use Rattle.binding_counts.proofs.BindSpans.{operation-bound}
+use Rattle.binding_counts.proofs.BindingSpans.{operation-bound}
 use Rattle.binding_counts.proofs.bindings.operation.Statement.{statement}
 use Rattle.binding_counts.proofs.bindings.operation.Tie as tie
 

@@ -3,8 +3,8 @@ use Prim.Native.Nat.{_^_, ℕ, _+_, _-_, _≤_}
 use mathlib.Core.Path.{_≡_, ap, _∙_}
 use native.Mathlib.Omega.{arith}
 use borrow.Author.Needs.{needs}
-use Rattle.binding_counts.specs.Bindings.{cap}
-use Rattle.binding_counts.proofs.BindCounts.{power-step, power-none}
+use Rattle.binding_counts.specs.BindingsByNumber.{cap}
+use Rattle.binding_counts.proofs.CappedCounts.{power-step, power-none}
 use Rattle.binding_counts.proofs.bindings.power.Statement.{statement}
 use Rattle.binding_counts.proofs.bindings.power.Tie as tie
 

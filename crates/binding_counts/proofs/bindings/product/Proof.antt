@@ -3,7 +3,7 @@ use Prim.Native.Nat.{_*_}
 use borrow.Author.Needs.{needs}
 use mathlib.Core.Path.{sym}
 use native.Mathlib.Omega.{arith}
-use Rattle.binding_counts.proofs.BindCounts.{cap-low, cap-high, product-fits}
+use Rattle.binding_counts.proofs.CappedCounts.{cap-low, cap-high, product-fits}
 use Rattle.binding_counts.proofs.bindings.product.Statement.{statement}
 use Rattle.binding_counts.proofs.bindings.product.Tie as tie
 

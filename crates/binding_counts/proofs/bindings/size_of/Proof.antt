@@ -3,8 +3,8 @@ use borrow.Author.Needs.{needs}
 use Prim.Native.Nat.{ℕ, _-_}
 use mathlib.Core.Path.{_≡_, ap, _∙_}
 use native.Mathlib.Omega.{arith}
-use Rattle.type_rules.specs.Inner.{entry, sizeIn}
-use Rattle.binding_counts.specs.Bindings.{sizeAt}
+use Rattle.type_rules.specs.TypesByNumber.{entry, sizeIn}
+use Rattle.binding_counts.specs.BindingsByNumber.{sizeAt}
 use Rattle.binding_counts.proofs.bindings.size_of.Statement.{statement}
 use Rattle.binding_counts.proofs.bindings.size_of.Tie as tie
 

@@ -1,7 +1,7 @@
 -- `bindings::state` meets its contract. Assumes nothing.
 use borrow.Author.Needs.{needs}
 use mathlib.Core.Path.{_∙_}
-use Rattle.binding_counts.proofs.BindSpans.{state-bound}
+use Rattle.binding_counts.proofs.BindingSpans.{state-bound}
 use Rattle.binding_counts.proofs.bindings.state.Statement.{statement}
 use Rattle.binding_counts.proofs.bindings.state.Tie as tie
 

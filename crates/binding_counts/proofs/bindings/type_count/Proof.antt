@@ -4,8 +4,8 @@ use mathlib.Core.Path.{ap₂, refl, ap, _∙_}
 use borrow.Author.Needs.{needs}
 use native.Mathlib.Omega.{arith}
 use lib.ListN.{getD}
-use Rattle.binding_counts.specs.Bindings.{cap, sizeAt}
-use Rattle.binding_counts.proofs.BindCounts.{squares-fit, type-counted, power-counted, count-one, count-two, count-three, count-four, count-five, count-else}
+use Rattle.binding_counts.specs.BindingsByNumber.{cap, sizeAt}
+use Rattle.binding_counts.proofs.CappedCounts.{squares-fit, type-counted, power-counted, count-one, count-two, count-three, count-four, count-five, count-else}
 use Rattle.binding_counts.proofs.bindings.type_count.Statement.{statement}
 use Rattle.binding_counts.proofs.bindings.type_count.Tie as tie
 

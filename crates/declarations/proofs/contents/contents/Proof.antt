@@ -6,17 +6,17 @@ use native.Mathlib.Omega.{arith}
 use Rattle.form.specs.Written.{aGiven, anOperation}
 use Rattle.form.specs.Machine.{exact, someEntries, someOpEntries, someBodies}
 use Rattle.form.specs.Computed.{computeForm}
-use Rattle.form_nodes.specs.Inner.{Reads, Shown}
+use Rattle.form_nodes.specs.FormPromises.{Reads, Shown}
 use Rattle.form_nodes.specs.declared.Read.{Read}
 use Rattle.form_nodes.specs.declared.Read.the-variants.{Fault}
-use Rattle.form_nodes.specs.Derived.{Made}
-use Rattle.declarations.specs.Dossiers.{ofGivens, ofOperations, WordsAt, fiveWords}
-use Rattle.form_nodes.proofs.Reading.{only, next, takes, likewise, fails, framed, known}
-use Rattle.declarations.proofs.Listing.{dossier-first}
+use Rattle.form_nodes.specs.Derivations.{Made}
+use Rattle.declarations.specs.DossierPromises.{ofGivens, ofOperations, WordsAt, fiveWords}
+use Rattle.form_nodes.proofs.ReadParts.{only, next, takes, likewise, fails, framed, known}
+use Rattle.declarations.proofs.ListItems.{dossier-first}
 use Rattle.declarations.proofs.ListNodes.{closed, contents-made}
 use Rattle.declarations.proofs.contents.contents.Statement.{statement}
 use Rattle.lexical.specs.Kinds as kind
-use Rattle.form_nodes.specs.Derived as part
+use Rattle.form_nodes.specs.Derivations as part
 use Rattle.declarations.proofs.contents.contents.Tie as tie
 
 close-requires : tie.Need-close-requires

@@ -7,12 +7,12 @@ use Rattle.form.specs.Machine.{exact, aType}
 use Rattle.form.specs.Computed.{computeForm}
 use Rattle.form.specs.Codes.{node}
 use Rattle.form_nodes.specs.declared.Read.{Read}
-use Rattle.form_nodes.specs.Derived.{Made}
-use Rattle.form_nodes.proofs.Reading.{next, fails, framed, known, wider}
+use Rattle.form_nodes.specs.Derivations.{Made}
+use Rattle.form_nodes.proofs.ReadParts.{next, fails, framed, known, wider}
 use Rattle.declarations.proofs.ListNodes.{closed, declaration-made, renumber}
 use Rattle.declarations.proofs.contents.declaration.Statement.{statement}
 use Rattle.lexical.specs.Kinds as kind
-use Rattle.form_nodes.specs.Derived as part
+use Rattle.form_nodes.specs.Derivations as part
 use Rattle.declarations.proofs.contents.declaration.Tie as tie
 
 name-number-requires : tie.Need-name-number-requires

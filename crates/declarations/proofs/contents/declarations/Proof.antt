@@ -8,17 +8,17 @@ use lib.ListN.{length}
 use Rattle.form.specs.Written.{aVariable}
 use Rattle.form.specs.Machine.{aDeclared, someDeclarations}
 use Rattle.form.specs.Computed.{computeForm}
-use Rattle.form_nodes.specs.Inner.{Reads}
+use Rattle.form_nodes.specs.FormPromises.{Reads}
 use Rattle.form_nodes.specs.declared.Read.{Read}
 use Rattle.form_nodes.specs.declared.Read.the-variants.{At}
-use Rattle.form_nodes.specs.Derived.{NameAt, Made, aDeclaration, noDeclarations, declaresMore}
-use Rattle.declarations.specs.Dossiers.{MoreAt, aTyped}
-use Rattle.form_nodes.proofs.Reading.{only, here, next, taken, stops, likewise, fails, framed, known}
-use Rattle.declarations.proofs.Listing.{count-well, count-over, variables, crowded, declared-stops, declaration-first, declaration-takes, declarations-behind}
+use Rattle.form_nodes.specs.Derivations.{NameAt, Made, aDeclaration, noDeclarations, declaresMore}
+use Rattle.declarations.specs.DossierPromises.{MoreAt, aTyped}
+use Rattle.form_nodes.proofs.ReadParts.{only, here, next, taken, stops, likewise, fails, framed, known}
+use Rattle.declarations.proofs.ListItems.{count-well, count-over, variables, crowded, declared-stops, declaration-first, declaration-takes, declarations-behind}
 use Rattle.declarations.proofs.ListNodes.{more-none, more-then, more-made, more-part}
 use Rattle.declarations.proofs.contents.declarations.Statement.{statement}
 use Rattle.lexical.specs.Kinds as kind
-use Rattle.form_nodes.specs.Derived as part
+use Rattle.form_nodes.specs.Derivations as part
 use Rattle.declarations.proofs.contents.declarations.Tie as tie
 
 abbrev Inv-loop : tie.InvT-loop

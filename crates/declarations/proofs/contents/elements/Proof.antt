@@ -9,16 +9,16 @@ use Rattle.form.specs.Written.{anElement}
 use Rattle.form.specs.Machine.{aDeclared, someElements}
 use Rattle.form.specs.Computed.{computeForm}
 use Rattle.form.specs.Codes.{node}
-use Rattle.form_nodes.specs.Inner.{Reads}
+use Rattle.form_nodes.specs.FormPromises.{Reads}
 use Rattle.form_nodes.specs.declared.Read.the-variants.{At}
-use Rattle.form_nodes.specs.Derived.{noElements}
-use Rattle.declarations.specs.Dossiers.{MoreAt}
-use Rattle.form_nodes.proofs.Reading.{only, here, next, taken, stops, likewise}
-use Rattle.declarations.proofs.Listing.{count-well, count-over, elements, crowded, declared-stops, element-first, element-takes, elements-behind}
+use Rattle.form_nodes.specs.Derivations.{noElements}
+use Rattle.declarations.specs.DossierPromises.{MoreAt}
+use Rattle.form_nodes.proofs.ReadParts.{only, here, next, taken, stops, likewise}
+use Rattle.declarations.proofs.ListItems.{count-well, count-over, elements, crowded, declared-stops, element-first, element-takes, elements-behind}
 use Rattle.declarations.proofs.ListNodes.{more-none, more-then, more-made, more-node}
 use Rattle.declarations.proofs.contents.elements.Statement.{statement}
 use Rattle.lexical.specs.Kinds as kind
-use Rattle.form_nodes.specs.Derived as part
+use Rattle.form_nodes.specs.Derivations as part
 use Rattle.declarations.proofs.contents.elements.Tie as tie
 
 abbrev Inv-loop : tie.InvT-loop

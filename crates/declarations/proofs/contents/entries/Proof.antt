@@ -9,16 +9,16 @@ use Rattle.form.specs.Written.{Mark}
 use Rattle.form.specs.Machine.{Item, aDeclared, someEntries}
 use Rattle.form.specs.Computed.{computeForm}
 use Rattle.form.specs.Codes.{node}
-use Rattle.form_nodes.specs.Inner.{Reads}
+use Rattle.form_nodes.specs.FormPromises.{Reads}
 use Rattle.form_nodes.specs.declared.Read.the-variants.{At}
-use Rattle.form_nodes.specs.Derived.{noEntries, anEntry}
-use Rattle.declarations.specs.Dossiers.{EntriesOf, MoreAt}
-use Rattle.form_nodes.proofs.Reading.{only, here, next, takes, taken, stops, likewise}
-use Rattle.declarations.proofs.Listing.{count-well, count-over, entry-counts, crowded, declared-takes, declared-stops, entry-word, entry-behind, entry-ends}
+use Rattle.form_nodes.specs.Derivations.{noEntries, anEntry}
+use Rattle.declarations.specs.DossierPromises.{EntriesOf, MoreAt}
+use Rattle.form_nodes.proofs.ReadParts.{only, here, next, takes, taken, stops, likewise}
+use Rattle.declarations.proofs.ListItems.{count-well, count-over, entry-counts, crowded, declared-takes, declared-stops, entry-word, entry-behind, entry-ends}
 use Rattle.declarations.proofs.ListNodes.{more-none, more-then, more-made, more-node}
 use Rattle.declarations.proofs.contents.entries.Statement.{statement}
 use Rattle.lexical.specs.Kinds as kind
-use Rattle.form_nodes.specs.Derived as part
+use Rattle.form_nodes.specs.Derivations as part
 use Rattle.declarations.proofs.contents.entries.Tie as tie
 
 abbrev Inv-loop : tie.InvT-loop

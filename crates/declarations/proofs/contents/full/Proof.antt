@@ -1,9 +1,9 @@
 -- `contents::full` meets its contract.
 use mathlib.Core.Path.{sym, ap}
 use lib.Dec.{leb}
-use Rattle.declarations.specs.Dossiers.{countBy}
-use Rattle.form_nodes.proofs.Reading.{taken}
-use Rattle.declarations.proofs.Listing.{count-other}
+use Rattle.declarations.specs.DossierPromises.{countBy}
+use Rattle.form_nodes.proofs.ReadParts.{taken}
+use Rattle.declarations.proofs.ListItems.{count-other}
 use Rattle.declarations.proofs.contents.full.Statement.{statement}
 use Rattle.declarations.proofs.contents.full.Tie as tie
 

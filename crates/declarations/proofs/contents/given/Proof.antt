@@ -8,14 +8,14 @@ use Rattle.form.specs.Machine.{someElements}
 use Rattle.form.specs.Computed.{computeForm}
 use Rattle.form.specs.Codes.{node}
 use Rattle.form_nodes.specs.declared.Read.{Read}
-use Rattle.form_nodes.specs.Derived.{Made}
-use Rattle.declarations.specs.Dossiers.{When}
-use Rattle.form_nodes.proofs.Reading.{next, fails, known, wider}
-use Rattle.declarations.proofs.Listing.{elements}
+use Rattle.form_nodes.specs.Derivations.{Made}
+use Rattle.declarations.specs.DossierPromises.{When}
+use Rattle.form_nodes.proofs.ReadParts.{next, fails, known, wider}
+use Rattle.declarations.proofs.ListItems.{elements}
 use Rattle.declarations.proofs.ListNodes.{given-more}
 use Rattle.declarations.proofs.contents.given.Statement.{statement}
 use Rattle.lexical.specs.Kinds as kind
-use Rattle.form_nodes.specs.Derived as part
+use Rattle.form_nodes.specs.Derivations as part
 use Rattle.declarations.proofs.contents.given.Tie as tie
 
 add-name-number : tie.Need-add-name-number

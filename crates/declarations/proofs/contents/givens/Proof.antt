@@ -8,13 +8,13 @@ use lib.ListN.{length}
 use Rattle.form.specs.Written.{aGiven, anElement}
 use Rattle.form.specs.Machine.{aDeclared, someBodies, someElements}
 use Rattle.form.specs.Computed.{computeForm}
-use Rattle.form_nodes.specs.Inner.{Reads}
+use Rattle.form_nodes.specs.FormPromises.{Reads}
 use Rattle.form_nodes.specs.declared.Read.{Read}
 use Rattle.form_nodes.specs.declared.Read.the-variants.{At}
-use Rattle.form_nodes.specs.Derived.{someGivens, noGivens}
-use Rattle.declarations.specs.Dossiers.{MoreAt, More}
-use Rattle.form_nodes.proofs.Reading.{only, here, next, takes, taken, stops, likewise, fails, framed, known}
-use Rattle.declarations.proofs.Listing.{count-well, count-over, givens, crowded, declared-takes, declared-stops, given-word, givens-behind}
+use Rattle.form_nodes.specs.Derivations.{someGivens, noGivens}
+use Rattle.declarations.specs.DossierPromises.{MoreAt, More}
+use Rattle.form_nodes.proofs.ReadParts.{only, here, next, takes, taken, stops, likewise, fails, framed, known}
+use Rattle.declarations.proofs.ListItems.{count-well, count-over, givens, crowded, declared-takes, declared-stops, given-word, givens-behind}
 use Rattle.declarations.proofs.ListNodes.{more-none, more-then, more-made}
 use Rattle.declarations.proofs.contents.givens.Statement.{statement}
 use Rattle.lexical.specs.Kinds as kind

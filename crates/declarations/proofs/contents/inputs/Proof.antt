@@ -1,9 +1,9 @@
 -- `contents::inputs` meets its contract.
 use mathlib.Core.Path.{sym, ap}
 use borrow.Author.Needs.{needs}
-use Rattle.declarations.specs.Dossiers.{inputsBy}
-use Rattle.form_nodes.proofs.Reading.{taken}
-use Rattle.declarations.proofs.Listing.{inputs-other}
+use Rattle.declarations.specs.DossierPromises.{inputsBy}
+use Rattle.form_nodes.proofs.ReadParts.{taken}
+use Rattle.declarations.proofs.ListItems.{inputs-other}
 use Rattle.declarations.proofs.contents.inputs.Statement.{statement}
 use Rattle.declarations.proofs.contents.inputs.Tie as tie
 

@@ -7,10 +7,10 @@ use native.Mathlib.Omega.{arith}
 use Rattle.form.specs.Machine.{aName}
 use Rattle.form.specs.Computed.{computeForm}
 use Rattle.form.specs.Codes.{node}
-use Rattle.form_nodes.specs.Derived.{overGiven, overPairs}
-use Rattle.form_nodes.proofs.Reading.{here, takes, taken, stops, likewise, counted}
-use Rattle.form_nodes.proofs.Stepping.{name-step, name-taken}
-use Rattle.declarations.proofs.Listing.{type-rest-step, type-rest-taken}
+use Rattle.form_nodes.specs.Derivations.{overGiven, overPairs}
+use Rattle.form_nodes.proofs.ReadParts.{here, takes, taken, stops, likewise, counted}
+use Rattle.form_nodes.proofs.ItemSteps.{name-step, name-taken}
+use Rattle.declarations.proofs.ListItems.{type-rest-step, type-rest-taken}
 use Rattle.declarations.proofs.ListNodes.{made-node}
 use Rattle.declarations.proofs.contents.named.Statement.{statement}
 use Rattle.declarations.proofs.contents.named.Tie as tie

@@ -1,9 +1,9 @@
 -- `contents::outputs` meets its contract.
 use mathlib.Core.Path.{sym, ap}
 use borrow.Author.Needs.{needs}
-use Rattle.declarations.specs.Dossiers.{outputsBy}
-use Rattle.form_nodes.proofs.Reading.{taken}
-use Rattle.declarations.proofs.Listing.{outputs-other}
+use Rattle.declarations.specs.DossierPromises.{outputsBy}
+use Rattle.form_nodes.proofs.ReadParts.{taken}
+use Rattle.declarations.proofs.ListItems.{outputs-other}
 use Rattle.declarations.proofs.contents.outputs.Statement.{statement}
 use Rattle.declarations.proofs.contents.outputs.Tie as tie
 

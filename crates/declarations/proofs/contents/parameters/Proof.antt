@@ -8,17 +8,17 @@ use borrow.Author.Needs.{needs}
 use lib.ListN.{length, getD}
 use Rattle.form.specs.Machine.{someParameters}
 use Rattle.form.specs.Computed.{computeForm}
-use Rattle.form_nodes.specs.Inner.{Reads}
+use Rattle.form_nodes.specs.FormPromises.{Reads}
 use Rattle.form_nodes.specs.declared.Read.{Read}
 use Rattle.form_nodes.specs.declared.Read.the-variants.{At}
-use Rattle.form_nodes.specs.Derived.{NameAt, Made, aDeclaration, noParameters, takesMore}
-use Rattle.declarations.specs.Dossiers.{MoreAt, Directs, aTyped, countBy, inputsBy, outputsBy, markBy}
-use Rattle.form_nodes.proofs.Reading.{here, next, taken, likewise, fails, framed, known}
-use Rattle.declarations.proofs.Listing.{crowded, parameter-takes, parameters-behind, parameter-well, parameter-over, inputs-few, outputs-few}
+use Rattle.form_nodes.specs.Derivations.{NameAt, Made, aDeclaration, noParameters, takesMore}
+use Rattle.declarations.specs.DossierPromises.{MoreAt, Directs, aTyped, countBy, inputsBy, outputsBy, markBy}
+use Rattle.form_nodes.proofs.ReadParts.{here, next, taken, likewise, fails, framed, known}
+use Rattle.declarations.proofs.ListItems.{crowded, parameter-takes, parameters-behind, parameter-well, parameter-over, inputs-few, outputs-few}
 use Rattle.form_nodes.proofs.RightSides.{inside}
 use Rattle.declarations.proofs.ListNodes.{more-none, more-then, more-made, more-part}
 use Rattle.declarations.proofs.contents.parameters.Statement.{statement}
-use Rattle.form_nodes.specs.Derived as part
+use Rattle.form_nodes.specs.Derivations as part
 use Rattle.declarations.proofs.contents.parameters.Tie as tie
 
 abbrev Inv-loop : tie.InvT-loop

@@ -7,12 +7,12 @@ use native.Mathlib.Omega.{arith}
 use Rattle.form.specs.Machine.{aName, aTypeRest}
 use Rattle.form.specs.Computed.{computeForm}
 use Rattle.form.specs.Codes.{node}
-use Rattle.form_nodes.specs.Inner.{Shown}
+use Rattle.form_nodes.specs.FormPromises.{Shown}
 use Rattle.form_nodes.specs.declared.Read.{Read}
-use Rattle.form_nodes.specs.Derived.{NameAt, RangeAt, overRange, overSets}
-use Rattle.form_nodes.proofs.Reading.{only, here, takes, taken, stops, likewise, fails, known, counted, known-ahead}
-use Rattle.form_nodes.proofs.Stepping.{name-step, name-taken}
-use Rattle.declarations.proofs.Listing.{type-name, type-range}
+use Rattle.form_nodes.specs.Derivations.{NameAt, RangeAt, overRange, overSets}
+use Rattle.form_nodes.proofs.ReadParts.{only, here, takes, taken, stops, likewise, fails, known, counted, known-ahead}
+use Rattle.form_nodes.proofs.ItemSteps.{name-step, name-taken}
+use Rattle.declarations.proofs.ListItems.{type-name, type-range}
 use Rattle.declarations.proofs.ListNodes.{made-node}
 use Rattle.declarations.proofs.contents.type_form.Statement.{statement}
 use Rattle.lexical.specs.Kinds as kind

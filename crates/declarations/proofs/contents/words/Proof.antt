@@ -4,7 +4,7 @@ use mathlib.Core.List.{[], _∷_}
 use borrow.Author.Needs.{needs}
 use Rattle.form.specs.Machine.{exact}
 use Rattle.form.specs.Computed.{computeForm}
-use Rattle.form_nodes.proofs.Reading.{next, fails, framed, known}
+use Rattle.form_nodes.proofs.ReadParts.{next, fails, framed, known}
 use Rattle.declarations.proofs.ListNodes.{closed, words-shown}
 use Rattle.declarations.proofs.contents.words.Statement.{statement}
 use Rattle.lexical.specs.Kinds as kind

@@ -4,7 +4,7 @@ use mathlib.Core.Path.{ap₂, ap, _∙_}
 use borrow.Author.Needs.{needs}
 use Prim.Native.Nat.{ℕ, _+_, _-_, _≤_}
 use native.Mathlib.Omega.{arith}
-use Rattle.declared_names.proofs.Giving.{never-none, not-both}
+use Rattle.declared_names.proofs.GivenSetNodes.{never-none, not-both}
 use Rattle.declared_names.proofs.declared.count_given.Statement.{statement}
 use Rattle.declared_names.proofs.declared.count_given.Tie as tie
 

@@ -1,6 +1,6 @@
 -- `declared::declaration_fault` meets its contract. Assumes nothing.
 use borrow.Author.Needs.{needs}
-use Rattle.declared_names.proofs.Declaring.{declaration-fault}
+use Rattle.declared_names.proofs.DeclarationNodes.{declaration-fault}
 use Rattle.declared_names.proofs.declared.declaration_fault.Statement.{statement}
 use Rattle.declared_names.proofs.declared.declaration_fault.Tie as tie
 

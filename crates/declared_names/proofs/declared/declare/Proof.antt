@@ -5,8 +5,8 @@ use mathlib.Core.Path.{_≡_, refl, _∙_}
 use native.Mathlib.Omega.{arith}
 use borrow.Author.Needs.{needs}
 use lib.ListN.{length}
-use Rattle.declared_names.specs.Passes.{shown, declaredKey}
-use Rattle.declared_names.proofs.Declaring.{Walked, keyed, showing, start, on, stopped, finished, shown-on, keyed-on, keyed-stop}
+use Rattle.declared_names.specs.NamesByNumber.{shown, declaredKey}
+use Rattle.declared_names.proofs.DeclarationNodes.{Walked, keyed, showing, start, on, stopped, finished, shown-on, keyed-on, keyed-stop}
 use Rattle.declared_names.proofs.declared.declare.Statement.{statement}
 use Rattle.declared_names.proofs.declared.declare.Tie as tie
 

@@ -5,7 +5,7 @@ use Prim.Native.Nat.{ℕ, _-_, _≤_}
 use mathlib.Core.Path.{_≡_, refl, ap, _∙_}
 use native.Mathlib.Omega.{arith}
 use borrow.Author.Needs.{needs}
-use Rattle.declared_names.proofs.Giving.{Given-on, given-start, given-on, halt, ended}
+use Rattle.declared_names.proofs.GivenSetNodes.{Given-on, given-start, given-on, halt, ended}
 use Rattle.declared_names.proofs.declared.give.Statement.{statement}
 use Rattle.declared_names.proofs.declared.give.Tie as tie
 

@@ -3,7 +3,7 @@ use mathlib.Core.Path.{ap₂, ap, _∙_}
 use lib.Dec.{eqb}
 use borrow.Author.Needs.{needs}
 use Prim.Native.Nat.{ℕ, _+_}
-use Rattle.type_rules.specs.Inner.{entry, isFree, unlessKey, key}
+use Rattle.type_rules.specs.TypesByNumber.{entry, isFree, unlessKey, key}
 use Rattle.declared_names.proofs.declared.given_fault.Statement.{statement}
 use Rattle.declared_names.proofs.declared.given_fault.Tie as tie
 

@@ -5,8 +5,8 @@ use mathlib.Core.Path.{_≡_, refl, _∙_}
 use native.Mathlib.Omega.{arith}
 use borrow.Author.Needs.{needs}
 use lib.ListN.{length}
-use Rattle.declared_names.specs.Passes.{hidden}
-use Rattle.declared_names.proofs.Declaring.{Walked, hiding, start, on, finished, hidden-on}
+use Rattle.declared_names.specs.NamesByNumber.{hidden}
+use Rattle.declared_names.proofs.DeclarationNodes.{Walked, hiding, start, on, finished, hidden-on}
 use Rattle.declared_names.proofs.declared.hide.Statement.{statement}
 use Rattle.declared_names.proofs.declared.hide.Tie as tie
 

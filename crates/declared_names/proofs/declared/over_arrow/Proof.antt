@@ -1,7 +1,7 @@
 -- `declared::over_arrow` meets its contract. Assumes nothing.
 use borrow.Author.Needs.{needs}
 use native.Mathlib.Omega.{arith}
-use Rattle.declared_names.proofs.Declaring.{over-both, over-first, over-second, given-above}
+use Rattle.declared_names.proofs.DeclarationNodes.{over-both, over-first, over-second, given-above}
 use Rattle.declared_names.proofs.declared.over_arrow.Statement.{statement}
 use Rattle.declared_names.proofs.declared.over_arrow.Tie as tie
 

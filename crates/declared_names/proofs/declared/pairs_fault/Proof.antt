@@ -3,8 +3,8 @@ use mathlib.Core.Bool.{Bool}
 use mathlib.Core.Path.{ap₂, ap, _∙_}
 use borrow.Author.Needs.{needs}
 use Prim.Native.Nat.{_+_}
-use Rattle.type_rules.specs.Inner.{lesser, unlessKey, key}
-use Rattle.declared_names.specs.Parts.{pairsKeyAt}
+use Rattle.type_rules.specs.TypesByNumber.{lesser, unlessKey, key}
+use Rattle.declared_names.specs.PassPromises.{pairsKeyAt}
 use Rattle.declared_names.proofs.declared.pairs_fault.Statement.{statement}
 use Rattle.declared_names.proofs.declared.pairs_fault.Tie as tie
 

@@ -1,6 +1,6 @@
 -- `declared::reach` meets its contract. Assumes nothing.
 use borrow.Author.Needs.{needs}
-use Rattle.declared_names.proofs.Declaring.{reached}
+use Rattle.declared_names.proofs.DeclarationNodes.{reached}
 use Rattle.declared_names.proofs.declared.reach.Statement.{statement}
 use Rattle.declared_names.proofs.declared.reach.Tie as tie
 

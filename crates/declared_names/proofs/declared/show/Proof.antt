@@ -5,8 +5,8 @@ use mathlib.Core.Path.{_≡_, refl, _∙_}
 use native.Mathlib.Omega.{arith}
 use borrow.Author.Needs.{needs}
 use lib.ListN.{length}
-use Rattle.declared_names.specs.Passes.{shown}
-use Rattle.declared_names.proofs.Declaring.{Walked, showing, start, on, finished, shown-on}
+use Rattle.declared_names.specs.NamesByNumber.{shown}
+use Rattle.declared_names.proofs.DeclarationNodes.{Walked, showing, start, on, finished, shown-on}
 use Rattle.declared_names.proofs.declared.show.Statement.{statement}
 use Rattle.declared_names.proofs.declared.show.Tie as tie
 

@@ -3,8 +3,8 @@ use borrow.Author.Needs.{needs}
 use Prim.Native.Nat.{_+_}
 use mathlib.Core.Path.{sym, _∙_}
 use lib.ListN.{getD}
-use Rattle.type_rules.specs.Inner.{entry}
-use Rattle.declared_names.proofs.Declaring.{faulted, key-one, key-two, key-three, key-else}
+use Rattle.type_rules.specs.TypesByNumber.{entry}
+use Rattle.declared_names.proofs.DeclarationNodes.{faulted, key-one, key-two, key-three, key-else}
 use Rattle.declared_names.proofs.declared.type_fault.Statement.{statement}
 use Rattle.declared_names.proofs.declared.type_fault.Tie as tie
 

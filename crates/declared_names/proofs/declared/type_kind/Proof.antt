@@ -3,8 +3,8 @@ use mathlib.Core.Path.{ap₂, sym, ap, _∙_}
 use borrow.Author.Needs.{needs}
 use Prim.Native.Nat.{ℕ, _+_}
 use lib.ListN.{getD}
-use Rattle.type_rules.specs.Inner.{entry, elementOf, setOf, pairOf}
-use Rattle.declared_names.proofs.Declaring.{kinded, kind-one, kind-two, kind-three, kind-else}
+use Rattle.type_rules.specs.TypesByNumber.{entry, elementOf, setOf, pairOf}
+use Rattle.declared_names.proofs.DeclarationNodes.{kinded, kind-one, kind-two, kind-three, kind-else}
 use Rattle.declared_names.proofs.declared.type_kind.Statement.{statement}
 use Rattle.declared_names.proofs.declared.type_kind.Tie as tie
 

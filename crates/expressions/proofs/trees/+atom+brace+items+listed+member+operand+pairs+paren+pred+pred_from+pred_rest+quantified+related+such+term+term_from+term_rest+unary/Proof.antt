@@ -10,19 +10,19 @@ use lib.ListN.{length}
 use Rattle.lexical.specs.Kinds.{codeOf}
 use Rattle.form.specs.Written.{opens, binds}
 use Rattle.form.specs.Machine.{exact, aName, anEmptyRest, anEnd, aDomain, aTerm, anOperand, aTermRest, aRel, aMem, aRight, aBrace, aNamed, aFirst, aList, aPairs, aUnary, aParen, aPredRest, aDeclared}
-use Rattle.form_nodes.specs.Inner.{Ranged, startAs}
+use Rattle.form_nodes.specs.FormPromises.{Ranged, startAs}
 use Rattle.form.specs.Computed.{computeForm}
-use Rattle.form_nodes.proofs.Reading.{only, here, next, takes, taken, deeper, stops, likewise, fails, framed, known, counted, alike, wider, raised, known-ahead}
+use Rattle.form_nodes.proofs.ReadParts.{only, here, next, takes, taken, deeper, stops, likewise, fails, framed, known, counted, alike, wider, raised, known-ahead}
 use Rattle.form_nodes.proofs.RangeEnds.{open-well, open-deep, range-well, other-kind, bind-well, bound-deep, bound-elsewhere}
-use Rattle.form_nodes.proofs.Stepping.{name-step, name-taken, rel-step, mem-step, unary-step, pred-rest-step}
-use Rattle.form_nodes.proofs.Alike.{operand-step, as-operand, as-term, as-pred, quantifier-step, as-list, list-stops, pairs-stop, whole-term, whole-pred, known-level, below-level, level-positive, rest-division, rest-binary, rest-connective, rest-depth, paren-opens, rel-pair, mem-some, quantifier-code, declared-stops, known-code}
+use Rattle.form_nodes.proofs.ItemSteps.{name-step, name-taken, rel-step, mem-step, unary-step, pred-rest-step}
+use Rattle.form_nodes.proofs.SameSteps.{operand-step, as-operand, as-term, as-pred, quantifier-step, as-list, list-stops, pairs-stop, whole-term, whole-pred, known-level, below-level, level-positive, rest-division, rest-binary, rest-connective, rest-depth, paren-opens, rel-pair, mem-some, quantifier-code, declared-stops, known-code}
 use Rattle.form_nodes.proofs.RightSides.{inside, as-listed, right-term, right-range}
-use Rattle.form_nodes.specs.Derived.{EndAt, RangeAt, DomainAt}
-use Rattle.form_nodes.proofs.Making.{both, wrote, node-of, made, built, makes, nothing, onward, closing, from, ranging, closed, showing, start-at, class-at, number-start, named-at, membership-at, level-class, level-two}
+use Rattle.form_nodes.specs.Derivations.{EndAt, RangeAt, DomainAt}
+use Rattle.form_nodes.proofs.NodesOfParts.{both, wrote, node-of, made, built, makes, nothing, onward, closing, from, ranging, closed, showing, start-at, class-at, number-start, named-at, membership-at, level-class, level-two}
 use Rattle.expressions.proofs.trees.+atom+brace+items+listed+member+operand+pairs+paren+pred+pred_from+pred_rest+quantified+related+such+term+term_from+term_rest+unary.{statement}
 use Rattle.expressions.proofs.trees.+atom+brace+items+listed+member+operand+pairs+paren+pred+pred_from+pred_rest+quantified+related+such+term+term_from+term_rest+unary.Tie.{close}
 use Rattle.lexical.specs.Kinds as kind
-use Rattle.form_nodes.specs.Derived as derived
+use Rattle.form_nodes.specs.Derivations as derived
 use Rattle.expressions.proofs.trees.atom.Reads as atom
 use Rattle.expressions.proofs.trees.atom.Kinds as atom-kinds
 use Rattle.expressions.proofs.trees.+atom+brace+items+listed+member+operand+pairs+paren+pred+pred_from+pred_rest+quantified+related+such+term+term_from+term_rest+unary.Lts-atom as atom-lts

@@ -1,7 +1,7 @@
 -- `nodes::division` meets its contract.
 use borrow.Author.Needs.{needs}
 use mathlib.Core.Path.{sym, _∙_}
-use Rattle.form_nodes.proofs.Numbers.{signed-remainder, plain-remainder, signed-quotient, plain-quotient}
+use Rattle.form_nodes.proofs.NodeNumbers.{signed-remainder, plain-remainder, signed-quotient, plain-quotient}
 use Rattle.form_nodes.proofs.nodes.division.Statement.{statement}
 use Rattle.form_nodes.proofs.nodes.division.Tie as tie
 

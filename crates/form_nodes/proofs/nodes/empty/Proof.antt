@@ -7,9 +7,9 @@ use native.Mathlib.Omega.{arith}
 use Rattle.form.specs.Machine.{anEmptyRest}
 use Rattle.form.specs.Computed.{computeForm}
 use Rattle.form_nodes.specs.declared.Read.the-variants.{At}
-use Rattle.form_nodes.proofs.Reading.{here, takes, stops, likewise, known}
-use Rattle.form_nodes.proofs.Stepping.{name-step, second-step, name-taken, second-taken}
-use Rattle.form_nodes.proofs.Showing.{name-at, empty-one, empty-two}
+use Rattle.form_nodes.proofs.ReadParts.{here, takes, stops, likewise, known}
+use Rattle.form_nodes.proofs.ItemSteps.{name-step, second-step, name-taken, second-taken}
+use Rattle.form_nodes.proofs.SymbolSpans.{name-at, empty-one, empty-two}
 use Rattle.form_nodes.proofs.nodes.empty.Statement.{statement}
 use Rattle.form_nodes.proofs.nodes.empty.Tie as tie
 

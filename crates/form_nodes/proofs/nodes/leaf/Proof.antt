@@ -1,7 +1,7 @@
 -- `nodes::leaf` meets its contract.
 use borrow.Author.Needs.{needs}
 use mathlib.Core.Path.{sym, _∙_}
-use Rattle.form_nodes.proofs.Numbers.{rewritten, number-leaf, name-leaf}
+use Rattle.form_nodes.proofs.NodeNumbers.{rewritten, number-leaf, name-leaf}
 use Rattle.form_nodes.proofs.nodes.leaf.Statement.{statement}
 use Rattle.form_nodes.proofs.nodes.leaf.Tie as tie
 

@@ -1,7 +1,7 @@
 -- `nodes::magnitude` meets its contract.
 use borrow.Author.Needs.{needs}
 use mathlib.Core.Path.{sym, _∙_}
-use Rattle.form_nodes.proofs.Numbers.{signed-divisor, plain-divisor}
+use Rattle.form_nodes.proofs.NodeNumbers.{signed-divisor, plain-divisor}
 use Rattle.form_nodes.proofs.nodes.magnitude.Statement.{statement}
 use Rattle.form_nodes.proofs.nodes.magnitude.Tie as tie
 

@@ -2,7 +2,7 @@
 use borrow.Author.Needs.{needs}
 use mathlib.Core.Path.{_∙_}
 use native.Mathlib.Omega.{arith}
-use Rattle.form_nodes.proofs.Numbers.{large-name, no-name, some-name}
+use Rattle.form_nodes.proofs.NodeNumbers.{large-name, no-name, some-name}
 use Rattle.form_nodes.proofs.nodes.name_number.Statement.{statement}
 use Rattle.form_nodes.proofs.nodes.name_number.Tie as tie
 

@@ -2,7 +2,7 @@
 use lib.ListN.{length-set}
 use borrow.Author.Needs.{needs}
 use native.Mathlib.Omega.{arith}
-use Rattle.form_nodes.proofs.Writing.{four}
+use Rattle.form_nodes.proofs.NodeWrites.{four}
 use Rattle.form_nodes.proofs.nodes.put.Statement.{statement}
 use Rattle.form_nodes.proofs.nodes.put.Tie as tie
 

@@ -1,7 +1,7 @@
 -- `nodes::put_domain` meets its contract.
 use borrow.Author.Needs.{needs}
 use native.Mathlib.Omega.{arith}
-use Rattle.form_nodes.proofs.Numbers.{rewritten, name-domain, range-domain}
+use Rattle.form_nodes.proofs.NodeNumbers.{rewritten, name-domain, range-domain}
 use Rattle.form_nodes.proofs.nodes.put_domain.Statement.{statement}
 use Rattle.form_nodes.proofs.nodes.put_domain.Tie as tie
 

@@ -1,7 +1,7 @@
 -- `nodes::put_range` meets its contract.
 use borrow.Author.Needs.{needs}
 use mathlib.Core.Path.{sym, _∙_}
-use Rattle.form_nodes.proofs.Numbers.{rewritten, signed-range, plain-range}
+use Rattle.form_nodes.proofs.NodeNumbers.{rewritten, signed-range, plain-range}
 use Rattle.form_nodes.proofs.nodes.put_range.Statement.{statement}
 use Rattle.form_nodes.proofs.nodes.put_range.Tie as tie
 

@@ -2,7 +2,7 @@
 use borrow.Author.Needs.{needs}
 use mathlib.Core.Path.{sym, _∙_}
 use native.Mathlib.Omega.{arith}
-use Rattle.form_nodes.proofs.Numbers.{large-lower, lower, large-upper, upper}
+use Rattle.form_nodes.proofs.NodeNumbers.{large-lower, lower, large-upper, upper}
 use Rattle.form_nodes.proofs.nodes.signed.Statement.{statement}
 use Rattle.form_nodes.proofs.nodes.signed.Tie as tie
 

@@ -4,8 +4,8 @@ use borrow.Author.Needs.{needs}
 use mathlib.Core.Path.{refl, sym, _∙_}
 use native.Mathlib.Omega.{arith}
 use Rattle.form_nodes.proofs.Classes.{positive}
-use Rattle.form_nodes.proofs.Reading.{here, takes, stops}
-use Rattle.form_nodes.proofs.Stepping.{exact-takes, exact-stops, exact-ends}
+use Rattle.form_nodes.proofs.ReadParts.{here, takes, stops}
+use Rattle.form_nodes.proofs.ItemSteps.{exact-takes, exact-stops, exact-ends}
 use Rattle.form_nodes.proofs.ranges.close.Statement.{statement}
 use Rattle.form_nodes.proofs.ranges.close.Tie as tie
 

@@ -3,10 +3,10 @@ use borrow.Author.Needs.{needs}
 use mathlib.Core.Path.{refl, sym, _∙_}
 use native.Mathlib.Omega.{arith}
 use Rattle.form.specs.Computed.{computeForm}
-use Rattle.form_nodes.specs.Derived.{RangeAt, DomainAt, overName, overRange}
-use Rattle.form_nodes.proofs.Reading.{here, takes, likewise}
-use Rattle.form_nodes.proofs.Stepping.{domain-range, domain-name}
-use Rattle.form_nodes.proofs.Showing.{shown-as, name-at}
+use Rattle.form_nodes.specs.Derivations.{RangeAt, DomainAt, overName, overRange}
+use Rattle.form_nodes.proofs.ReadParts.{here, takes, likewise}
+use Rattle.form_nodes.proofs.ItemSteps.{domain-range, domain-name}
+use Rattle.form_nodes.proofs.SymbolSpans.{shown-as, name-at}
 use Rattle.form_nodes.proofs.ranges.domain.Statement.{statement}
 use Rattle.form_nodes.proofs.ranges.domain.Tie as tie
 

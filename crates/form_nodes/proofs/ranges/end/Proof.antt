@@ -4,9 +4,9 @@ use Prim.Native.Nat.{_+_}
 use mathlib.Core.Path.{refl, sym, _∙_}
 use native.Mathlib.Omega.{arith}
 use Rattle.form.specs.Computed.{computeForm}
-use Rattle.form_nodes.proofs.Reading.{only, takes, likewise, ahead-from}
-use Rattle.form_nodes.proofs.Stepping.{end-unsigned}
-use Rattle.form_nodes.proofs.Showing.{positive-end, negative-end}
+use Rattle.form_nodes.proofs.ReadParts.{only, takes, likewise, ahead-from}
+use Rattle.form_nodes.proofs.ItemSteps.{end-unsigned}
+use Rattle.form_nodes.proofs.SymbolSpans.{positive-end, negative-end}
 use Rattle.form_nodes.proofs.ranges.end.Statement.{statement}
 use Rattle.lexical.specs.Kinds as kind
 use Rattle.form_nodes.proofs.ranges.end.Tie as tie

@@ -2,7 +2,7 @@
 use borrow.Author.Needs.{needs}
 use mathlib.Core.Path.{sym, _∙_}
 use native.Mathlib.Omega.{arith}
-use Rattle.form_nodes.specs.Inner.{positive, negative, unranged}
+use Rattle.form_nodes.specs.FormPromises.{positive, negative, unranged}
 use Rattle.form_nodes.proofs.ranges.is_range.Statement.{statement}
 use Rattle.form_nodes.proofs.ranges.is_range.Tie as tie
 

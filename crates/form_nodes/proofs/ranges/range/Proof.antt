@@ -5,9 +5,9 @@ use mathlib.Core.Path.{refl}
 use native.Mathlib.Omega.{arith}
 use Rattle.lexical.specs.Kinds.{codeOf}
 use Rattle.form.specs.Machine.{exact, anEnd}
-use Rattle.form_nodes.specs.Derived.{EndAt}
-use Rattle.form_nodes.proofs.Reading.{next, framed, fails, known, ahead-from}
-use Rattle.form_nodes.proofs.Showing.{OneOf, known-shown, whole-range}
+use Rattle.form_nodes.specs.Derivations.{EndAt}
+use Rattle.form_nodes.proofs.ReadParts.{next, framed, fails, known, ahead-from}
+use Rattle.form_nodes.proofs.SymbolSpans.{OneOf, known-shown, whole-range}
 use Rattle.form_nodes.proofs.ranges.range.Statement.{statement}
 use Rattle.lexical.specs.Kinds as kind
 use Rattle.form_nodes.proofs.ranges.range.Tie as tie

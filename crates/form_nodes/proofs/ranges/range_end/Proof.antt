@@ -3,7 +3,7 @@ use borrow.Author.Needs.{needs}
 use Prim.Native.Nat.{_-_}
 use mathlib.Core.Path.{sym, ap, _∙_}
 use native.Mathlib.Omega.{arith}
-use Rattle.form_nodes.specs.Inner.{rangeEndAt}
+use Rattle.form_nodes.specs.FormPromises.{rangeEndAt}
 use Rattle.form_nodes.proofs.RangeEnds.{below, above, no-minus, no-number, no-dots, is-end, no-end, behind-first}
 use Rattle.form_nodes.proofs.ranges.range_end.Statement.{statement}
 use Rattle.form_nodes.proofs.ranges.range_end.Tie as tie

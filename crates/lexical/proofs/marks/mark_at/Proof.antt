@@ -1,7 +1,7 @@
 -- `symbols::marks::mark_at` meets its contract: no mark is longer than three bytes. Assumes nothing.
 use borrow.Author.Needs.{needs}
 use mathlib.Core.Path.{ap, _∙_}
-use Rattle.lexical.specs.Inner.{tokenOf}
+use Rattle.lexical.specs.SymbolPromises.{tokenOf}
 use Rattle.lexical.proofs.MarkLaws.{bytes-at}
 use Rattle.lexical.proofs.marks.mark_at.Statement.{statement}
 use Rattle.lexical.proofs.marks.mark_at.Tie as tie

@@ -6,7 +6,7 @@ use mathlib.Core.Path.{sym, ap, _∙_}
 use Rattle.lexical.specs.Kinds.{codeOf, marks}
 use Rattle.lexical.specs.Lists.{bytes, begins}
 use Rattle.lexical.specs.Symbols.{longest}
-use Rattle.lexical.specs.Inner.{tokenOf}
+use Rattle.lexical.specs.SymbolPromises.{tokenOf}
 use Rattle.lexical.proofs.MarkLaws.{no-mark}
 use Rattle.lexical.proofs.marks.mark_of.Statement.{statement}
 use Rattle.lexical.proofs.marks.mark_of.Tie as tie

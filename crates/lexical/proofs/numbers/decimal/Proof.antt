@@ -4,7 +4,7 @@ use Prim.Native.Nat.{ℕ, _+_, _-_, _<_, _≤_}
 use mathlib.Core.Path.{_≡_, refl, sym, ap, _∙_}
 use native.Mathlib.Omega.{arith}
 use borrow.Author.Needs.{needs}
-use Rattle.lexical.specs.Inner.{decimalOr, moreOf}
+use Rattle.lexical.specs.SymbolPromises.{decimalOr, moreOf}
 use Rattle.lexical.proofs.NumberLaws.{part-more, part-end, decimal-more, decimal-over, decimal-none}
 use Rattle.lexical.proofs.numbers.decimal.Statement.{statement}
 use Rattle.lexical.proofs.numbers.decimal.Tie as tie

@@ -4,7 +4,7 @@ use Prim.Native.Nat.{ℕ}
 use mathlib.Core.Path.{sym, ap}
 use native.Mathlib.Omega.{arith}
 use Rattle.lexical.specs.Symbols.{endingOf}
-use Rattle.lexical.specs.Inner.{endingCode}
+use Rattle.lexical.specs.SymbolPromises.{endingCode}
 use Rattle.lexical.proofs.WordLaws.{ending-none}
 use Rattle.lexical.proofs.words.ending_of.Statement.{statement}
 use Rattle.lexical.proofs.words.ending_of.Tie as tie

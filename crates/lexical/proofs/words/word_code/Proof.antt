@@ -3,7 +3,7 @@ use Prim.Native.Nat.{ℕ}
 use mathlib.Core.Path.{sym, ap}
 use Rattle.lexical.specs.Kinds.{codeOf, words}
 use Rattle.lexical.specs.Lists.{bytes}
-use Rattle.lexical.specs.Inner.{keyed, packed}
+use Rattle.lexical.specs.SymbolPromises.{keyed, packed}
 use Rattle.lexical.proofs.WordLaws.{no-word}
 use Rattle.lexical.proofs.words.word_code.Statement.{statement}
 use Rattle.lexical.proofs.words.word_code.Tie as tie

@@ -2,8 +2,8 @@
 use borrow.Author.Needs.{needs}
 use mathlib.Core.Path.{ap, _∙_}
 use native.Mathlib.Omega.{arith}
-use Rattle.type_rules.specs.Inner.{lesser}
-use Rattle.limits.proofs.Measuring.{conditions-seen}
+use Rattle.type_rules.specs.TypesByNumber.{lesser}
+use Rattle.limits.proofs.SizePass.{conditions-seen}
 use Rattle.limits.proofs.measures.conditions.Statement.{statement}
 use Rattle.limits.proofs.measures.conditions.Tie as tie
 

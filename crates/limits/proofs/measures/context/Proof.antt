@@ -1,7 +1,7 @@
 -- `measures::context` meets its contract: the marks are taken away behind the walk. Assumes nothing.
 use borrow.Author.Needs.{needs}
 use mathlib.Core.Path.{refl, _∙_}
-use Rattle.limits.proofs.Measuring.{context-none, context-seen}
+use Rattle.limits.proofs.SizePass.{context-none, context-seen}
 use Rattle.limits.proofs.measures.context.Statement.{statement}
 use Rattle.limits.proofs.measures.context.Tie as tie
 

@@ -4,7 +4,7 @@ use mathlib.Core.Path.{_≡_, refl, _∙_}
 use native.Mathlib.Omega.{arith}
 use borrow.Author.Needs.{needs}
 use lib.ListN.{length}
-use Rattle.limits.proofs.Marking.{MarkedFrom, mark-start, mark-step, mark-end}
+use Rattle.limits.proofs.SizeMarks.{MarkedFrom, mark-start, mark-step, mark-end}
 use Rattle.limits.proofs.measures.mark.Statement.{statement}
 use Rattle.limits.proofs.measures.mark.Tie as tie
 

@@ -3,7 +3,7 @@ use mathlib.Core.List.{List}
 use borrow.Author.Needs.{needs}
 use Prim.Native.Nat.{ℕ}
 use mathlib.Core.Path.{ap, _∙_}
-use Rattle.limits.specs.Passes.{marks}
+use Rattle.limits.specs.DossierSizesByNumber.{marks}
 use Rattle.limits.proofs.measures.mark_all.Statement.{statement}
 use Rattle.limits.proofs.measures.mark_all.Tie as tie
 

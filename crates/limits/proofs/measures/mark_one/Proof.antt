@@ -1,6 +1,6 @@
 -- `measures::mark_one` meets its contract. Assumes nothing.
 use borrow.Author.Needs.{needs}
-use Rattle.limits.proofs.Marking.{set-one}
+use Rattle.limits.proofs.SizeMarks.{set-one}
 use Rattle.limits.proofs.measures.mark_one.Statement.{statement}
 use Rattle.limits.proofs.measures.mark_one.Tie as tie
 

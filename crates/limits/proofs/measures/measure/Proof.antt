@@ -1,8 +1,8 @@
 -- `measures::measure` meets its contract. Assumes nothing.
 use borrow.Author.Needs.{needs}
 use mathlib.Core.Path.{ap, _∙_}
-use Rattle.type_rules.specs.Inner.{lesser}
-use Rattle.limits.proofs.Operating.{too-many, measures-seen}
+use Rattle.type_rules.specs.TypesByNumber.{lesser}
+use Rattle.limits.proofs.SizePassOperations.{too-many, measures-seen}
 use Rattle.limits.proofs.measures.measure.Statement.{statement}
 use Rattle.limits.proofs.measures.measure.Tie as tie
 

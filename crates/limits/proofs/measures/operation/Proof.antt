@@ -1,7 +1,7 @@
 -- `measures::operation` meets its contract. Assumes nothing.
 use borrow.Author.Needs.{needs}
 use mathlib.Core.Path.{_∙_}
-use Rattle.limits.proofs.Measuring.{operation-seen}
+use Rattle.limits.proofs.SizePass.{operation-seen}
 use Rattle.limits.proofs.measures.operation.Statement.{statement}
 use Rattle.limits.proofs.measures.operation.Tie as tie
 

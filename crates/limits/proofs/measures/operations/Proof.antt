@@ -4,8 +4,8 @@ use mathlib.Core.Path.{_≡_, refl, _∙_}
 use native.Mathlib.Omega.{arith}
 use borrow.Author.Needs.{needs}
 use lib.ListN.{length}
-use Rattle.limits.specs.Passes.{Clear}
-use Rattle.limits.proofs.Operating.{OperationsOn, operations-start, operations-more, operations-seen}
+use Rattle.limits.specs.DossierSizesByNumber.{Clear}
+use Rattle.limits.proofs.SizePassOperations.{OperationsOn, operations-start, operations-more, operations-seen}
 use Rattle.limits.proofs.measures.operations.Statement.{statement}
 use Rattle.limits.proofs.measures.operations.Tie as tie
 

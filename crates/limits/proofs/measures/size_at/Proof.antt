@@ -1,7 +1,7 @@
 -- `measures::size_at` meets its contract. Assumes nothing.
 use borrow.Author.Needs.{needs}
 use borrow.Author.Tests.{not-true, not-false}
-use Rattle.limits.proofs.Marking.{size-off, size-other, size-range}
+use Rattle.limits.proofs.SizeMarks.{size-off, size-other, size-range}
 use Rattle.limits.proofs.measures.size_at.Statement.{statement}
 use Rattle.limits.proofs.measures.size_at.Tie as tie
 

@@ -2,7 +2,7 @@
 use borrow.Author.Needs.{needs}
 use mathlib.Core.Path.{_∙_}
 use native.Mathlib.Omega.{arith}
-use Rattle.limits.proofs.Measuring.{states-seen}
+use Rattle.limits.proofs.SizePass.{states-seen}
 use Rattle.limits.proofs.measures.states.Statement.{statement}
 use Rattle.limits.proofs.measures.states.Tie as tie
 

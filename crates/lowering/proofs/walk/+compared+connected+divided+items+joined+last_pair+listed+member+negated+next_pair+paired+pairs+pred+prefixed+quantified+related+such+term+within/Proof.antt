@@ -5,12 +5,12 @@ use borrow.Fn.PlainCycle.{Measures, is, falls, and}
 use mathlib.Core.Path.{refl, _∙_}
 use borrow.Author.Needs.{needs}
 use lib.ListN.{getD}
-use Rattle.typing.proofs.Backwards.{eight, ten}
-use Rattle.table_nodes.proofs.Leaves.{start-small, node-room, call-room, before-before}
-use Rattle.lowering.proofs.Walking.{term-short, items-short, pairs-short, pred-short, term-other, pred-other}
-use Rattle.lowering.proofs.WalkingTerms.{term-prefix, term-divided, term-binary, term-such, term-listed, term-pairs}
-use Rattle.lowering.proofs.WalkingBraces.{items-only, items-also, pairs-only, pairs-also}
-use Rattle.lowering.proofs.WalkingPreds.{pred-negation, pred-connected, pred-compared, pred-member, pred-within, pred-related, pred-quantified}
+use Rattle.typing.proofs.LastNodes.{eight, ten}
+use Rattle.table_nodes.proofs.TableNumbers.{start-small, node-room, call-room, before-before}
+use Rattle.lowering.proofs.TableWalk.{term-short, items-short, pairs-short, pred-short, term-other, pred-other}
+use Rattle.lowering.proofs.TableWalkTerms.{term-prefix, term-divided, term-binary, term-such, term-listed, term-pairs}
+use Rattle.lowering.proofs.TableWalkBraces.{items-only, items-also, pairs-only, pairs-also}
+use Rattle.lowering.proofs.TableWalkPreds.{pred-negation, pred-connected, pred-compared, pred-member, pred-within, pred-related, pred-quantified}
 use Rattle.lowering.proofs.walk.+compared+connected+divided+items+joined+last_pair+listed+member+negated+next_pair+paired+pairs+pred+prefixed+quantified+related+such+term+within.{statement}
 use Rattle.lowering.proofs.walk.+compared+connected+divided+items+joined+last_pair+listed+member+negated+next_pair+paired+pairs+pred+prefixed+quantified+related+such+term+within.Tie.{close}
 use Rattle.lowering.proofs.walk.compared.Reads as compared

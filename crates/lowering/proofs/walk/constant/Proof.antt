@@ -1,7 +1,7 @@
 -- `walk::constant` meets its contract. Assumes nothing.
 use borrow.Author.Needs.{needs}
 use mathlib.Core.Path.{refl}
-use Rattle.lowering.proofs.WalkingPreds.{pred-constant}
+use Rattle.lowering.proofs.TableWalkPreds.{pred-constant}
 use Rattle.lowering.proofs.walk.constant.Statement.{statement}
 use Rattle.lowering.proofs.walk.constant.Tie as tie
 

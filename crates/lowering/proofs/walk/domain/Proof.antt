@@ -2,8 +2,8 @@
 use mathlib.Core.List.{[]}
 use borrow.Author.Needs.{needs}
 use mathlib.Core.Path.{refl, sym, _∙_}
-use Rattle.lowering.proofs.Walking.{domain-short}
-use Rattle.lowering.proofs.WalkingPreds.{domain-given, domain-range}
+use Rattle.lowering.proofs.TableWalk.{domain-short}
+use Rattle.lowering.proofs.TableWalkPreds.{domain-given, domain-range}
 use Rattle.lowering.proofs.walk.domain.Statement.{statement}
 use Rattle.lowering.proofs.walk.domain.Tie as tie
 

@@ -1,7 +1,7 @@
 -- `walk::empty_pairs` meets its contract. Assumes nothing.
 use borrow.Author.Needs.{needs}
 use mathlib.Core.Path.{refl, _∙_}
-use Rattle.lowering.proofs.WalkingTerms.{term-empty-pairs}
+use Rattle.lowering.proofs.TableWalkTerms.{term-empty-pairs}
 use Rattle.lowering.proofs.walk.empty_pairs.Statement.{statement}
 use Rattle.lowering.proofs.walk.empty_pairs.Tie as tie
 

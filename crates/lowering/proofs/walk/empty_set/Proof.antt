@@ -1,7 +1,7 @@
 -- `walk::empty_set` meets its contract. Assumes nothing.
 use borrow.Author.Needs.{needs}
 use mathlib.Core.Path.{refl, _∙_}
-use Rattle.lowering.proofs.WalkingTerms.{term-empty}
+use Rattle.lowering.proofs.TableWalkTerms.{term-empty}
 use Rattle.lowering.proofs.walk.empty_set.Statement.{statement}
 use Rattle.lowering.proofs.walk.empty_set.Tie as tie
 

@@ -1,8 +1,8 @@
 -- `walk::named` meets its contract. Assumes nothing.
 use borrow.Author.Needs.{needs}
 use mathlib.Core.Path.{refl, _∙_}
-use Rattle.table_nodes.proofs.Leaves.{placed-slot, placed-element}
-use Rattle.lowering.proofs.WalkingTerms.{term-name}
+use Rattle.table_nodes.proofs.TableNumbers.{placed-slot, placed-element}
+use Rattle.lowering.proofs.TableWalkTerms.{term-name}
 use Rattle.lowering.proofs.walk.named.Statement.{statement}
 use Rattle.lowering.proofs.walk.named.Tie as tie
 

@@ -1,7 +1,7 @@
 -- `walk::number` meets its contract. Assumes nothing.
 use borrow.Author.Needs.{needs}
 use mathlib.Core.Path.{refl}
-use Rattle.lowering.proofs.WalkingTerms.{term-number}
+use Rattle.lowering.proofs.TableWalkTerms.{term-number}
 use Rattle.lowering.proofs.walk.number.Statement.{statement}
 use Rattle.lowering.proofs.walk.number.Tie as tie
 

@@ -5,7 +5,7 @@ use borrow.Author.Needs.{needs}
 use mathlib.Core.Path.{sym, ap, _∙_}
 use native.Mathlib.Omega.{arith}
 use Rattle.lexical.specs.Symbols.{run}
-use Rattle.lexical.specs.Inner.{packed}
+use Rattle.lexical.specs.SymbolPromises.{packed}
 use Rattle.lexical.proofs.WordLaws.{run-length}
 use Rattle.name_numbers.proofs.SoundLaws.{run-part}
 use Rattle.name_numbers.proofs.numbering.letters_at.Statement.{statement}

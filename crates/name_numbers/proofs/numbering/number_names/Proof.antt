@@ -7,7 +7,7 @@ use native.Mathlib.Omega.{arith}
 use borrow.Author.Needs.{needs}
 use Rattle.lexical.specs.Symbols.{Placed, scan, symbols}
 use Rattle.lexical.specs.Promises.{filled, valueIn, numberIn}
-use Rattle.lexical.specs.Inner.{Tree}
+use Rattle.lexical.specs.SymbolPromises.{Tree}
 use Rattle.name_numbers.proofs.NumberingLaws.{tree-start}
 use Rattle.name_numbers.proofs.RowLaws.{filled-step, filled-all, filled-after, value-at}
 use Rattle.name_numbers.proofs.SoundLaws.{map-at, nowhere}

@@ -7,7 +7,7 @@ use native.Mathlib.Omega.{arith}
 use borrow.Author.Needs.{needs}
 use Rattle.lexical.specs.Symbols.{Placed, scan, symbols}
 use Rattle.lexical.specs.Promises.{filled}
-use Rattle.lexical.specs.Inner.{lowIn, highIn}
+use Rattle.lexical.specs.SymbolPromises.{lowIn, highIn}
 use Rattle.name_numbers.proofs.RowLaws.{filled-all, packed-step, place-inside}
 use Rattle.name_numbers.proofs.numbering.pack_names.Statement.{statement}
 use Rattle.name_numbers.proofs.numbering.pack_names.Tie as tie

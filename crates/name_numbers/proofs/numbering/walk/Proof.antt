@@ -4,7 +4,7 @@ use mathlib.Core.Path.{_≡_, refl, sym, ap, _∙_}
 use native.Mathlib.Omega.{arith}
 use borrow.Author.Needs.{needs}
 use lib.ListN.{getD}
-use Rattle.lexical.specs.Inner.{walkFrom}
+use Rattle.lexical.specs.SymbolPromises.{walkFrom}
 use Rattle.name_numbers.proofs.TreeLaws.{walk-free, walk-at, walk-on, walk-none, shift-fits}
 use Rattle.name_numbers.proofs.numbering.walk.Statement.{statement}
 use Rattle.name_numbers.proofs.numbering.walk.Tie as tie

@@ -2,7 +2,7 @@
 use borrow.Author.Needs.{needs}
 use mathlib.Core.Path.{_∙_}
 use lib.ListN.{length}
-use Rattle.names.proofs.Checking.{check-given, check-one, check-two, check-later}
+use Rattle.names.proofs.WholePass.{check-given, check-one, check-two, check-later}
 use Rattle.names.proofs.passes.check.Statement.{statement}
 use Rattle.names.proofs.passes.check.Tie as tie
 

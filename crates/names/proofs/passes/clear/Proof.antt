@@ -4,7 +4,7 @@ use Prim.Native.Nat.{ℕ, _-_, _<_, _≤_}
 use mathlib.Core.Path.{_≡_, refl, _∙_}
 use native.Mathlib.Omega.{arith}
 use borrow.Author.Needs.{needs}
-use Rattle.names.proofs.Checking.{all-zeros, one-more}
+use Rattle.names.proofs.WholePass.{all-zeros, one-more}
 use Rattle.names.proofs.passes.clear.Statement.{statement}
 use Rattle.names.proofs.passes.clear.Tie as tie
 

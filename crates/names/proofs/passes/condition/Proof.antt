@@ -1,6 +1,6 @@
 -- `passes::condition` meets its contract. Assumes nothing.
 use borrow.Author.Needs.{needs}
-use Rattle.names.proofs.Passing.{condition-seen}
+use Rattle.names.proofs.PassSteps.{condition-seen}
 use Rattle.names.proofs.passes.condition.Statement.{statement}
 use Rattle.names.proofs.passes.condition.Tie as tie
 

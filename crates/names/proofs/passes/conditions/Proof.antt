@@ -3,7 +3,7 @@ use lib.Seq.{length-take-le}
 use borrow.Author.Needs.{needs}
 use mathlib.Core.Path.{refl, sym, _∙_}
 use native.Mathlib.Omega.{arith}
-use Rattle.names.proofs.Passing.{conditions-first, conditions-second, conditions-third, part-tail}
+use Rattle.names.proofs.PassSteps.{conditions-first, conditions-second, conditions-third, part-tail}
 use Rattle.names.proofs.passes.conditions.Statement.{statement}
 use Rattle.names.proofs.passes.conditions.Tie as tie
 

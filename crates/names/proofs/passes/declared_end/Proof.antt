@@ -3,7 +3,7 @@ use Prim.Native.Nat.{_-_, _≤_}
 use native.Mathlib.Omega.{arith}
 use borrow.Author.Needs.{needs}
 use lib.ListN.{length}
-use Rattle.names.proofs.Passing.{Declared-on, ahead-start, ahead-on, ahead-stopped, ahead-ended}
+use Rattle.names.proofs.PassSteps.{Declared-on, ahead-start, ahead-on, ahead-stopped, ahead-ended}
 use Rattle.names.proofs.passes.declared_end.Statement.{statement}
 use Rattle.names.proofs.passes.declared_end.Tie as tie
 

@@ -1,6 +1,6 @@
 -- `passes::later` meets its contract. Assumes nothing.
 use borrow.Author.Needs.{needs}
-use Rattle.names.proofs.Checking.{later-faulty, later-seen}
+use Rattle.names.proofs.WholePass.{later-faulty, later-seen}
 use Rattle.names.proofs.passes.later.Statement.{statement}
 use Rattle.names.proofs.passes.later.Tie as tie
 

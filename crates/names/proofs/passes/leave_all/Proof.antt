@@ -1,6 +1,6 @@
 -- `passes::leave_all` meets its contract. Assumes nothing.
 use borrow.Author.Needs.{needs}
-use Rattle.names.proofs.PassingOperations.{leaving-seen}
+use Rattle.names.proofs.PassStepsOperations.{leaving-seen}
 use Rattle.names.proofs.passes.leave_all.Statement.{statement}
 use Rattle.names.proofs.passes.leave_all.Tie as tie
 

@@ -2,8 +2,8 @@
 use lib.Seq.{length-take-le}
 use borrow.Author.Needs.{needs}
 use mathlib.Core.Path.{refl, sym}
-use Rattle.names.proofs.PassingOperations.{operation-short, operation-titled, operation-declared, operation-seen}
-use Rattle.names.proofs.Passing.{part-tail}
+use Rattle.names.proofs.PassStepsOperations.{operation-short, operation-titled, operation-declared, operation-seen}
+use Rattle.names.proofs.PassSteps.{part-tail}
 use Rattle.names.proofs.passes.operation.Statement.{statement}
 use Rattle.names.proofs.passes.operation.Tie as tie
 

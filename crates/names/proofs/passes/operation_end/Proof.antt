@@ -2,8 +2,8 @@
 use borrow.Author.Needs.{needs}
 use Prim.Native.Nat.{_+_}
 use native.Mathlib.Omega.{arith}
-use Rattle.names.proofs.PassingOperations.{operation-end}
-use Rattle.names.proofs.Passing.{part-tail}
+use Rattle.names.proofs.PassStepsOperations.{operation-end}
+use Rattle.names.proofs.PassSteps.{part-tail}
 use Rattle.names.proofs.passes.operation_end.Statement.{statement}
 use Rattle.names.proofs.passes.operation_end.Tie as tie
 

@@ -4,7 +4,7 @@ use mathlib.Core.Path.{_≡_, refl, _∙_}
 use native.Mathlib.Omega.{arith}
 use borrow.Author.Needs.{needs}
 use lib.ListN.{length}
-use Rattle.names.proofs.PassingOperations.{Operations-on, onward-start, operations-on, operations-stopped, operations-ended}
+use Rattle.names.proofs.PassStepsOperations.{Operations-on, onward-start, operations-on, operations-stopped, operations-ended}
 use Rattle.names.proofs.passes.operations.Statement.{statement}
 use Rattle.names.proofs.passes.operations.Tie as tie
 

@@ -1,7 +1,7 @@
 -- `passes::part` meets its contract. Assumes nothing.
 use borrow.Author.Needs.{needs}
 use mathlib.Core.Logic.{⊎-elim}
-use Rattle.declared_names.proofs.Giving.{not-both}
+use Rattle.declared_names.proofs.GivenSetNodes.{not-both}
 use Rattle.names.proofs.passes.part.Statement.{statement}
 use Rattle.names.proofs.passes.part.Tie as tie
 

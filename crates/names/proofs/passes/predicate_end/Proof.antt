@@ -1,7 +1,7 @@
 -- `passes::predicate_end` meets its contract. Assumes nothing.
 use borrow.Author.Needs.{needs}
 use native.Mathlib.Omega.{arith}
-use Rattle.names.proofs.Passing.{condition-end, condition-short, condition-over}
+use Rattle.names.proofs.PassSteps.{condition-end, condition-short, condition-over}
 use Rattle.names.proofs.passes.predicate_end.Statement.{statement}
 use Rattle.names.proofs.passes.predicate_end.Tie as tie
 

@@ -1,6 +1,6 @@
 -- `passes::reach_all` meets its contract. Assumes nothing.
 use borrow.Author.Needs.{needs}
-use Rattle.names.proofs.PassingOperations.{reaching-seen}
+use Rattle.names.proofs.PassStepsOperations.{reaching-seen}
 use Rattle.names.proofs.passes.reach_all.Statement.{statement}
 use Rattle.names.proofs.passes.reach_all.Tie as tie
 

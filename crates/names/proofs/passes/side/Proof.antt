@@ -1,6 +1,6 @@
 -- `passes::side` meets its contract. Assumes nothing.
 use borrow.Author.Needs.{needs}
-use Rattle.names.proofs.PassingOperations.{side-seen}
+use Rattle.names.proofs.PassStepsOperations.{side-seen}
 use Rattle.names.proofs.passes.side.Statement.{statement}
 use Rattle.names.proofs.passes.side.Tie as tie
 

@@ -2,7 +2,7 @@
 use lib.Seq.{length-take-le}
 use borrow.Author.Needs.{needs}
 use mathlib.Core.Path.{refl, sym}
-use Rattle.names.proofs.Passing.{state-short, state-faulty, state-seen, part-tail}
+use Rattle.names.proofs.PassSteps.{state-short, state-faulty, state-seen, part-tail}
 use Rattle.names.proofs.passes.state.Statement.{statement}
 use Rattle.names.proofs.passes.state.Tie as tie
 

@@ -2,8 +2,8 @@
 use lib.Seq.{length-take-le}
 use borrow.Author.Needs.{needs}
 use mathlib.Core.Path.{refl, sym}
-use Rattle.names.proofs.Passing.{part-tail}
-use Rattle.names.proofs.Checking.{variables-short, variables-seen}
+use Rattle.names.proofs.PassSteps.{part-tail}
+use Rattle.names.proofs.WholePass.{variables-short, variables-seen}
 use Rattle.names.proofs.passes.variables_of.Statement.{statement}
 use Rattle.names.proofs.passes.variables_of.Tie as tie
 

@@ -2,13 +2,13 @@
 use mathlib.Core.List.{[], _∷_, _++_}
 use borrow.Author.Needs.{needs}
 use Rattle.form.specs.Machine.{someOperations}
-use Rattle.declarations.specs.Dossiers.{threeConditions}
-use Rattle.form_nodes.proofs.Reading.{next, fails, framed, known}
-use Rattle.declarations.proofs.Listing.{operations}
-use Rattle.form_nodes.proofs.Making.{made}
+use Rattle.declarations.specs.DossierPromises.{threeConditions}
+use Rattle.form_nodes.proofs.ReadParts.{next, fails, framed, known}
+use Rattle.declarations.proofs.ListItems.{operations}
+use Rattle.form_nodes.proofs.NodesOfParts.{made}
 use Rattle.parser.proofs.BodyNodes.{sequence-known, sequence-last, sequence-then, sequence-onto}
 use Rattle.parser.proofs.bodies.bodies.Statement.{statement}
-use Rattle.form_nodes.specs.Derived as part
+use Rattle.form_nodes.specs.Derivations as part
 use Rattle.parser.proofs.bodies.bodies.Tie as tie
 
 givens-requires : tie.Need-givens-requires

@@ -5,12 +5,12 @@ use borrow.Author.Needs.{needs}
 use native.Mathlib.Omega.{arith}
 use Rattle.lexical.specs.Kinds.{codeOf}
 use Rattle.form.specs.Machine.{exact}
-use Rattle.form_nodes.specs.Derived.{MadeAt}
-use Rattle.form_nodes.proofs.Reading.{fails, framed, known}
-use Rattle.form_nodes.proofs.Making.{made}
+use Rattle.form_nodes.specs.Derivations.{MadeAt}
+use Rattle.form_nodes.proofs.ReadParts.{fails, framed, known}
+use Rattle.form_nodes.proofs.NodesOfParts.{made}
 use Rattle.parser.proofs.BodyNodes.{long-written, then-closes, condition-made}
 use Rattle.parser.proofs.bodies.condition.Statement.{statement}
-use Rattle.form_nodes.specs.Derived as part
+use Rattle.form_nodes.specs.Derivations as part
 use Rattle.parser.proofs.bodies.condition.Tie as tie
 
 add-pred : tie.Need-add-pred

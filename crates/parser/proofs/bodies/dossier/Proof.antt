@@ -2,7 +2,7 @@
 use borrow.Author.Needs.{needs}
 use native.Mathlib.Omega.{arith}
 use Rattle.form.specs.Machine.{exact}
-use Rattle.form_nodes.proofs.Reading.{next, known}
+use Rattle.form_nodes.proofs.ReadParts.{next, known}
 use Rattle.parser.proofs.BodyNodes.{sequence-known, contents-known, dossier-made, whole-run, text-ends, text-goes-on}
 use Rattle.parser.proofs.bodies.dossier.Statement.{statement}
 use Rattle.parser.proofs.bodies.dossier.Tie as tie

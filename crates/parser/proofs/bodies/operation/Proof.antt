@@ -5,9 +5,9 @@ use Prim.Native.Nat.{_+_}
 use borrow.Author.Needs.{needs}
 use native.Mathlib.Omega.{arith}
 use Rattle.lexical.specs.Kinds.{codeOf}
-use Rattle.declarations.specs.Dossiers.{aConditionTo}
-use Rattle.form_nodes.proofs.Reading.{next, fails, framed, known, counted}
-use Rattle.form_nodes.proofs.Making.{made}
+use Rattle.declarations.specs.DossierPromises.{aConditionTo}
+use Rattle.form_nodes.proofs.ReadParts.{next, fails, framed, known, counted}
+use Rattle.form_nodes.proofs.NodesOfParts.{made}
 use Rattle.declarations.proofs.ListNodes.{closed}
 use Rattle.parser.proofs.BodyNodes.{operation-made}
 use Rattle.parser.proofs.bodies.operation.Statement.{statement}

@@ -8,17 +8,17 @@ use lib.ListN.{length}
 use Rattle.form.specs.Written.{anOperation}
 use Rattle.form.specs.Machine.{aDeclared, someOperations, someParameters}
 use Rattle.form.specs.Computed.{computeForm}
-use Rattle.form_nodes.specs.Inner.{Reads}
+use Rattle.form_nodes.specs.FormPromises.{Reads}
 use Rattle.form_nodes.specs.declared.Read.the-variants.{At}
-use Rattle.form_nodes.specs.Derived.{noOperations}
-use Rattle.declarations.specs.Dossiers.{MoreAt, aConditionTo}
-use Rattle.form_nodes.proofs.Reading.{only, here, next, takes, taken, stops, likewise, fails, framed, known}
-use Rattle.declarations.proofs.Listing.{count-well, count-over, operations, crowded, declared-takes, declared-stops, operation-word, operations-behind}
+use Rattle.form_nodes.specs.Derivations.{noOperations}
+use Rattle.declarations.specs.DossierPromises.{MoreAt, aConditionTo}
+use Rattle.form_nodes.proofs.ReadParts.{only, here, next, takes, taken, stops, likewise, fails, framed, known}
+use Rattle.declarations.proofs.ListItems.{count-well, count-over, operations, crowded, declared-takes, declared-stops, operation-word, operations-behind}
 use Rattle.declarations.proofs.ListNodes.{more-none, more-then, more-made}
 use Rattle.parser.proofs.BodyNodes.{more-known}
 use Rattle.parser.proofs.bodies.operations.Statement.{statement}
 use Rattle.lexical.specs.Kinds as kind
-use Rattle.form_nodes.specs.Derived as part
+use Rattle.form_nodes.specs.Derivations as part
 use Rattle.parser.proofs.bodies.operations.Tie as tie
 
 abbrev Inv-loop : tie.InvT-loop

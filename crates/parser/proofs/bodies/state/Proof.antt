@@ -7,9 +7,9 @@ use lib.ListN.{getD}
 use Rattle.lexical.specs.Kinds.{codeOf}
 use Rattle.form.specs.Written.{aVariable}
 use Rattle.form.specs.Machine.{aDeclared, someDeclarations}
-use Rattle.declarations.specs.Dossiers.{aTyped, aConditionTo}
-use Rattle.form_nodes.proofs.Reading.{next, fails, framed, known, counted}
-use Rattle.form_nodes.proofs.Making.{made}
+use Rattle.declarations.specs.DossierPromises.{aTyped, aConditionTo}
+use Rattle.form_nodes.proofs.ReadParts.{next, fails, framed, known, counted}
+use Rattle.form_nodes.proofs.NodesOfParts.{made}
 use Rattle.form_nodes.proofs.RightSides.{inside}
 use Rattle.declarations.proofs.ListNodes.{closed}
 use Rattle.parser.proofs.BodyNodes.{when-known, state-made}

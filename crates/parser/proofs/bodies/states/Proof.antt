@@ -3,13 +3,13 @@ use mathlib.Core.Path.{refl}
 use mathlib.Core.List.{[], _∷_}
 use borrow.Author.Needs.{needs}
 use Rattle.lexical.specs.Kinds.{codeOf}
-use Rattle.declarations.specs.Dossiers.{aStateOf}
-use Rattle.form_nodes.proofs.Reading.{next, fails, framed, known}
-use Rattle.form_nodes.proofs.Making.{made}
+use Rattle.declarations.specs.DossierPromises.{aStateOf}
+use Rattle.form_nodes.proofs.ReadParts.{next, fails, framed, known}
+use Rattle.form_nodes.proofs.NodesOfParts.{made}
 use Rattle.parser.proofs.BodyNodes.{sequence-last, sequence-then}
 use Rattle.parser.proofs.bodies.states.Statement.{statement}
 use Rattle.lexical.specs.Kinds as kind
-use Rattle.form_nodes.specs.Derived as part
+use Rattle.form_nodes.specs.Derivations as part
 use Rattle.parser.proofs.bodies.states.Tie as tie
 
 state-requires : tie.Need-state-requires

@@ -5,8 +5,8 @@ use borrow.Author.Needs.{needs}
 use native.Mathlib.Omega.{arith}
 use Rattle.lexical.specs.Kinds.{codeOf}
 use Rattle.form.specs.Machine.{exact}
-use Rattle.declarations.specs.Dossiers.{aConditionTo}
-use Rattle.form_nodes.proofs.Reading.{next, fails, framed, known, counted}
+use Rattle.declarations.specs.DossierPromises.{aConditionTo}
+use Rattle.form_nodes.proofs.ReadParts.{next, fails, framed, known, counted}
 use Rattle.form_nodes.proofs.RightSides.{inside}
 use Rattle.declarations.proofs.ListNodes.{closed}
 use Rattle.parser.proofs.BodyNodes.{where-made}

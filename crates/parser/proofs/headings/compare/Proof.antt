@@ -6,7 +6,7 @@ use native.Mathlib.Omega.{arith}
 use borrow.Author.Needs.{needs}
 use Rattle.parser.specs.Sections.{Compares}
 use Rattle.parser.specs.declared.headings.Heads.{Heads}
-use Rattle.parser.proofs.Passing.{found-wanting, found-extra, found-all, found-other, found-same}
+use Rattle.parser.proofs.ItemsPassed.{found-wanting, found-extra, found-all, found-other, found-same}
 use Rattle.parser.proofs.headings.compare.Statement.{statement}
 use Rattle.parser.proofs.headings.compare.Tie as tie
 

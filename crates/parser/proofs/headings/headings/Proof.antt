@@ -1,7 +1,7 @@
 -- `headings::headings` meets its contract: the faults come in the order of their places, and the first is found.
 use borrow.Author.Needs.{needs}
 use mathlib.Core.Path.{_∙_}
-use Rattle.parser.proofs.Answered.{wanting-at, first-answer, second-answer, fit-first, differ-first}
+use Rattle.parser.proofs.HeadingAnswers.{wanting-at, first-answer, second-answer, fit-first, differ-first}
 use Rattle.parser.proofs.headings.headings.Statement.{statement}
 use Rattle.parser.proofs.headings.headings.Tie as tie
 

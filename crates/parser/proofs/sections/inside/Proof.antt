@@ -3,7 +3,7 @@ use borrow.Author.Needs.{needs}
 use Prim.Native.Nat.{ℕ, _+_, _≤_}
 use mathlib.Core.Path.{_≡_}
 use native.Mathlib.Omega.{arith}
-use Rattle.parser.proofs.Passing.{inside-is}
+use Rattle.parser.proofs.ItemsPassed.{inside-is}
 use Rattle.parser.proofs.sections.inside.Statement.{statement}
 use Rattle.parser.proofs.sections.inside.Tie as tie
 

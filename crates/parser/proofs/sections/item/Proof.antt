@@ -3,7 +3,7 @@ use borrow.Author.Needs.{needs}
 use Prim.Native.Nat.{ℕ, _+_}
 use mathlib.Core.Path.{ap, _∙_}
 use native.Mathlib.Omega.{arith}
-use Rattle.parser.proofs.Passing.{size-six, size-seven, size-other}
+use Rattle.parser.proofs.ItemsPassed.{size-six, size-seven, size-other}
 use Rattle.parser.proofs.sections.item.Statement.{statement}
 use Rattle.parser.proofs.sections.item.Tie as tie
 

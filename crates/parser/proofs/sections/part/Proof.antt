@@ -1,7 +1,7 @@
 -- `sections::part` meets its contract.
 use borrow.Author.Needs.{needs}
 use native.Mathlib.Omega.{arith}
-use Rattle.parser.proofs.Passing.{part-is}
+use Rattle.parser.proofs.ItemsPassed.{part-is}
 use Rattle.parser.proofs.sections.part.Statement.{statement}
 use Rattle.parser.proofs.sections.part.Tie as tie
 

@@ -4,7 +4,7 @@ use Prim.Native.Nat.{ℕ, _-_, _≤_}
 use native.Mathlib.Omega.{arith}
 use borrow.Author.Needs.{needs}
 use Rattle.parser.specs.Sections.{Run}
-use Rattle.parser.proofs.Passing.{run-next, run-stops}
+use Rattle.parser.proofs.ItemsPassed.{run-next, run-stops}
 use Rattle.parser.proofs.sections.run.Statement.{statement}
 use Rattle.parser.proofs.sections.run.Tie as tie
 

@@ -2,7 +2,7 @@
 use borrow.Author.Needs.{needs}
 use mathlib.Core.Path.{refl}
 use native.Mathlib.Omega.{arith}
-use Rattle.parser.proofs.Placed.{laid, run-is, state-from, item-is}
+use Rattle.parser.proofs.PartPlaces.{laid, run-is, state-from, item-is}
 use Rattle.parser.proofs.sections.sections.Statement.{statement}
 use Rattle.parser.proofs.sections.sections.Tie as tie
 

@@ -1,7 +1,7 @@
 -- `sections::skip` meets its contract.
 use borrow.Author.Needs.{needs}
 use native.Mathlib.Omega.{arith}
-use Rattle.parser.proofs.Passing.{skipped}
+use Rattle.parser.proofs.ItemsPassed.{skipped}
 use Rattle.parser.proofs.sections.skip.Statement.{statement}
 use Rattle.parser.proofs.sections.skip.Tie as tie
 

@@ -1,7 +1,7 @@
 -- `sections::state` meets its contract.
 use borrow.Author.Needs.{needs}
 use native.Mathlib.Omega.{arith}
-use Rattle.parser.proofs.Passing.{state-is}
+use Rattle.parser.proofs.ItemsPassed.{state-is}
 use Rattle.parser.proofs.sections.state.Statement.{statement}
 use Rattle.parser.proofs.sections.state.Tie as tie
 

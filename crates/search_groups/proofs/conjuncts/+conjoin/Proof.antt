@@ -4,7 +4,7 @@ use borrow.Fn.Kinds.{In}
 use borrow.Fn.PlainCycle.{Measures, is, falls, and}
 use native.Mathlib.Omega.{arith}
 use borrow.Author.Needs.{needs}
-use Rattle.search_groups.proofs.Conjoining.{conjoined-one, conjoined-both}
+use Rattle.search_groups.proofs.ConjunctTables.{conjoined-one, conjoined-both}
 use Rattle.search_groups.proofs.conjuncts.+conjoin.{statement}
 use Rattle.search_groups.proofs.conjuncts.+conjoin.Tie.{close}
 use Rattle.search_groups.proofs.conjuncts.conjoin.Reads as conjoin

@@ -1,7 +1,7 @@
 -- `conjuncts::context` meets its contract. Assumes nothing.
 use borrow.Author.Needs.{needs}
 use native.Mathlib.Omega.{arith}
-use Rattle.search_groups.proofs.ConjoinLists.{context-put}
+use Rattle.search_groups.proofs.ConjunctLists.{context-put}
 use Rattle.search_groups.proofs.conjuncts.context.Statement.{statement}
 use Rattle.search_groups.proofs.conjuncts.context.Tie as tie
 

@@ -5,8 +5,8 @@ use Prim.Native.Nat.{ℕ, _-_, _≤_}
 use mathlib.Core.Path.{_≡_, sym, _∙_}
 use native.Mathlib.Omega.{arith}
 use borrow.Author.Needs.{needs}
-use Rattle.search_groups.specs.Searching.{RowsAt, ContextsAhead}
-use Rattle.search_groups.proofs.ConjoinLists.{ahead-first, ahead-next, ahead-done}
+use Rattle.search_groups.specs.GroupPromises.{RowsAt, ContextsAhead}
+use Rattle.search_groups.proofs.ConjunctLists.{ahead-first, ahead-next, ahead-done}
 use Rattle.search_groups.proofs.conjuncts.contexts.Statement.{statement}
 use Rattle.search_groups.proofs.conjuncts.contexts.Tie as tie
 

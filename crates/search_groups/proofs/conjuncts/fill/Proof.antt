@@ -1,7 +1,7 @@
 -- `conjuncts::fill` meets its contract. Assumes nothing.
 use borrow.Author.Needs.{needs}
 use native.Mathlib.Omega.{arith}
-use Rattle.search_groups.proofs.ConjoinLists.{listed, listed-none}
+use Rattle.search_groups.proofs.ConjunctLists.{listed, listed-none}
 use Rattle.search_groups.proofs.conjuncts.fill.Statement.{statement}
 use Rattle.search_groups.proofs.conjuncts.fill.Tie as tie
 

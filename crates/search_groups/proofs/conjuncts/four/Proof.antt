@@ -1,7 +1,7 @@
 -- `conjuncts::four` meets its contract. Assumes nothing.
 use borrow.Author.Needs.{needs}
-use Rattle.search_groups.proofs.Conjoining.{in-second, in-third, in-fourth}
-use Rattle.table_nodes.proofs.Patching.{four-stores}
+use Rattle.search_groups.proofs.ConjunctTables.{in-second, in-third, in-fourth}
+use Rattle.table_nodes.proofs.Pieces.{four-stores}
 use Rattle.search_groups.proofs.conjuncts.four.Statement.{statement}
 use Rattle.search_groups.proofs.conjuncts.four.Tie as tie
 

@@ -5,8 +5,8 @@ use mathlib.Core.Path.{_≡_}
 use native.Mathlib.Omega.{arith}
 use borrow.Author.Needs.{needs}
 use Rattle.search_groups.specs.Conjuncts.{lastIn}
-use Rattle.search_groups.specs.Searching.{slotsAt, piece}
-use Rattle.search_groups.proofs.ConjoinScan.{scan-step, scan-done}
+use Rattle.search_groups.specs.GroupPromises.{slotsAt, piece}
+use Rattle.search_groups.proofs.ConjunctScan.{scan-step, scan-done}
 use Rattle.search_groups.proofs.conjuncts.last_in.Statement.{statement}
 use Rattle.search_groups.proofs.conjuncts.last_in.Tie as tie
 

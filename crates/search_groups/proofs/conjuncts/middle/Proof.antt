@@ -1,7 +1,7 @@
 -- `conjuncts::middle` meets its contract. Assumes nothing.
 use borrow.Author.Needs.{needs}
 use native.Mathlib.Omega.{arith}
-use Rattle.search_groups.proofs.Conjoining.{middle-none, middle-found}
+use Rattle.search_groups.proofs.ConjunctTables.{middle-none, middle-found}
 use Rattle.search_groups.proofs.conjuncts.middle.Statement.{statement}
 use Rattle.search_groups.proofs.conjuncts.middle.Tie as tie
 

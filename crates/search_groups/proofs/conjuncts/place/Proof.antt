@@ -2,7 +2,7 @@
 use borrow.Author.Needs.{needs}
 use mathlib.Core.Path.{refl}
 use native.Mathlib.Omega.{arith}
-use Rattle.search_groups.proofs.ConjoinContexts.{place-first, place-state, place-of}
+use Rattle.search_groups.proofs.ConjunctContexts.{place-first, place-state, place-of}
 use Rattle.search_groups.proofs.conjuncts.place.Statement.{statement}
 use Rattle.search_groups.proofs.conjuncts.place.Tie as tie
 

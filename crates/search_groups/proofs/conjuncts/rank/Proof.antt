@@ -1,7 +1,7 @@
 -- `conjuncts::rank` meets its contract. Assumes nothing.
 use borrow.Author.Needs.{needs}
 use native.Mathlib.Omega.{arith}
-use Rattle.search_groups.proofs.ConjoinScan.{rank-none, rank-before, rank-behind, rank-here}
+use Rattle.search_groups.proofs.ConjunctScan.{rank-none, rank-before, rank-behind, rank-here}
 use Rattle.search_groups.proofs.conjuncts.rank.Statement.{statement}
 use Rattle.search_groups.proofs.conjuncts.rank.Tie as tie
 

@@ -1,7 +1,7 @@
 -- `conjuncts::row` meets its contract. Assumes nothing.
 use borrow.Author.Needs.{needs}
 use native.Mathlib.Omega.{arith}
-use Rattle.search_groups.proofs.Conjoining.{row-put, row-none}
+use Rattle.search_groups.proofs.ConjunctTables.{row-put, row-none}
 use Rattle.search_groups.proofs.conjuncts.row.Statement.{statement}
 use Rattle.search_groups.proofs.conjuncts.row.Tie as tie
 

@@ -2,7 +2,7 @@
 use borrow.Author.Needs.{needs}
 use mathlib.Core.Path.{refl}
 use native.Mathlib.Omega.{arith}
-use Rattle.search_groups.proofs.Conjoining.{row-halves}
+use Rattle.search_groups.proofs.ConjunctTables.{row-halves}
 use Rattle.search_groups.proofs.conjuncts.write.Statement.{statement}
 use Rattle.search_groups.proofs.conjuncts.write.Tie as tie
 

@@ -1,7 +1,7 @@
 -- `groups::group` meets its contract. Assumes nothing.
 use borrow.Author.Needs.{needs}
 use native.Mathlib.Omega.{arith}
-use Rattle.search_groups.proofs.Grouping.{group-put}
+use Rattle.search_groups.proofs.GroupPlaces.{group-put}
 use Rattle.search_groups.proofs.groups.group.Statement.{statement}
 use Rattle.search_groups.proofs.groups.group.Tie as tie
 

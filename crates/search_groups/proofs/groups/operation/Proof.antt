@@ -1,7 +1,7 @@
 -- `groups::operation` meets its contract. Assumes nothing.
 use borrow.Author.Needs.{needs}
 use native.Mathlib.Omega.{arith}
-use Rattle.search_groups.proofs.Grouping.{operation-put}
+use Rattle.search_groups.proofs.GroupPlaces.{operation-put}
 use Rattle.search_groups.proofs.groups.operation.Statement.{statement}
 use Rattle.search_groups.proofs.groups.operation.Tie as tie
 

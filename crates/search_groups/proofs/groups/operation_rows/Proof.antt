@@ -8,7 +8,7 @@ use lib.ListN.{length}
 use Rattle.form.specs.Tree.{Operation}
 use Rattle.form.specs.Codes.{Numbering}
 use Rattle.node_spans.specs.Spans.{OperationsAt}
-use Rattle.search_groups.specs.Searching.{FewEach, RowsAhead}
+use Rattle.search_groups.specs.GroupPromises.{FewEach, RowsAhead}
 use Rattle.search_groups.proofs.GroupRows.{rows-first, rows-next, rows-done}
 use Rattle.search_groups.proofs.groups.operation_rows.Statement.{statement}
 use Rattle.search_groups.proofs.groups.operation_rows.Tie as tie

@@ -6,8 +6,8 @@ use native.Mathlib.Omega.{arith}
 use borrow.Author.Needs.{needs}
 use lib.ListN.{length}
 use Rattle.node_spans.specs.Spans.{Stands}
-use Rattle.search_groups.specs.Searching.{Picks}
-use Rattle.search_groups.proofs.Grouping.{Left, left-first, left-next, left-done}
+use Rattle.search_groups.specs.GroupPromises.{Picks}
+use Rattle.search_groups.proofs.GroupPlaces.{Left, left-first, left-next, left-done}
 use Rattle.search_groups.proofs.groups.picked.Statement.{statement}
 use Rattle.search_groups.proofs.groups.picked.Tie as tie
 

@@ -4,8 +4,8 @@ use Prim.Native.Nat.{_-_, _≤_}
 use mathlib.Core.Path.{_≡_, refl, _∙_}
 use native.Mathlib.Omega.{arith}
 use borrow.Author.Needs.{needs}
-use Rattle.table_nodes.specs.Walks.{patch}
-use Rattle.search_groups.proofs.Grouping.{zeros-first, zeros-next, zeros-done}
+use Rattle.table_nodes.specs.TableWalkPromises.{patch}
+use Rattle.search_groups.proofs.GroupPlaces.{zeros-first, zeros-next, zeros-done}
 use Rattle.search_groups.proofs.groups.zeros.Statement.{statement}
 use Rattle.search_groups.proofs.groups.zeros.Tie as tie
 

@@ -3,7 +3,7 @@ use borrow.Author.Needs.{needs}
 use mathlib.Core.Path.{sym, ap, _∙_}
 use native.Mathlib.Omega.{arith}
 use Rattle.lexical.specs.Promises.{classIs}
-use Rattle.lexical.specs.Inner.{tokenOf}
+use Rattle.lexical.specs.SymbolPromises.{tokenOf}
 use Rattle.name_numbers.proofs.ScanLaws.{class-here}
 use Rattle.lexical.specs.Symbols.{byClass}
 use Rattle.symbols.proofs.texts.token_at.Statement.{statement}

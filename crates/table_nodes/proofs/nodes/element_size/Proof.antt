@@ -2,8 +2,8 @@
 use borrow.Author.Needs.{needs}
 use mathlib.Core.Path.{sym, _∙_}
 use native.Mathlib.Omega.{arith}
-use Rattle.type_rules.proofs.Numbers.{element-bounds}
-use Rattle.table_nodes.proofs.Leaves.{element-some, element-none}
+use Rattle.type_rules.proofs.TypeNumbers.{element-bounds}
+use Rattle.table_nodes.proofs.TableNumbers.{element-some, element-none}
 use Rattle.table_nodes.proofs.nodes.element_size.Statement.{statement}
 use Rattle.table_nodes.proofs.nodes.element_size.Tie as tie
 

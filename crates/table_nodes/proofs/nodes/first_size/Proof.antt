@@ -1,6 +1,6 @@
 -- `nodes::first_size` meets its contract. Assumes nothing.
 use borrow.Author.Needs.{needs}
-use Rattle.table_nodes.proofs.Leaves.{first-some, first-none}
+use Rattle.table_nodes.proofs.TableNumbers.{first-some, first-none}
 use Rattle.table_nodes.proofs.nodes.first_size.Statement.{statement}
 use Rattle.table_nodes.proofs.nodes.first_size.Tie as tie
 

@@ -2,8 +2,8 @@
 use borrow.Author.Needs.{needs}
 use mathlib.Core.Path.{sym, _∙_}
 use native.Mathlib.Omega.{arith}
-use Rattle.type_rules.proofs.Numbers.{given-bounds}
-use Rattle.table_nodes.proofs.Leaves.{given-some, given-none}
+use Rattle.type_rules.proofs.TypeNumbers.{given-bounds}
+use Rattle.table_nodes.proofs.TableNumbers.{given-some, given-none}
 use Rattle.table_nodes.proofs.nodes.given_size.Statement.{statement}
 use Rattle.table_nodes.proofs.nodes.given_size.Tie as tie
 

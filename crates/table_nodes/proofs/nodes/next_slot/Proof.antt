@@ -1,6 +1,6 @@
 -- `nodes::next_slot` meets its contract. Assumes nothing.
 use borrow.Author.Needs.{needs}
-use Rattle.table_nodes.proofs.Leaves.{slot-next, slot-last}
+use Rattle.table_nodes.proofs.TableNumbers.{slot-next, slot-last}
 use Rattle.table_nodes.proofs.nodes.next_slot.Statement.{statement}
 use Rattle.table_nodes.proofs.nodes.next_slot.Tie as tie
 

@@ -1,7 +1,7 @@
 -- `nodes::range_count` meets its contract. Assumes nothing.
 use borrow.Author.Needs.{needs}
 use native.Mathlib.Omega.{arith}
-use Rattle.table_nodes.proofs.Leaves.{range-bounds, count-some, count-none}
+use Rattle.table_nodes.proofs.TableNumbers.{range-bounds, count-some, count-none}
 use Rattle.table_nodes.proofs.nodes.range_count.Statement.{statement}
 use Rattle.table_nodes.proofs.nodes.range_count.Tie as tie
 

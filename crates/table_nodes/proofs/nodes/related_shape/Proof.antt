@@ -1,5 +1,5 @@
 -- `nodes::related_shape` meets its contract. Assumes nothing.
-use Rattle.table_nodes.proofs.Leaves.{shape-in, shape-notin}
+use Rattle.table_nodes.proofs.TableNumbers.{shape-in, shape-notin}
 use Rattle.table_nodes.proofs.nodes.related_shape.Statement.{statement}
 use Rattle.table_nodes.proofs.nodes.related_shape.Tie as tie
 

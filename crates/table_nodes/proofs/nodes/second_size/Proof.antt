@@ -1,6 +1,6 @@
 -- `nodes::second_size` meets its contract. Assumes nothing.
 use borrow.Author.Needs.{needs}
-use Rattle.table_nodes.proofs.Leaves.{second-some, second-none}
+use Rattle.table_nodes.proofs.TableNumbers.{second-some, second-none}
 use Rattle.table_nodes.proofs.nodes.second_size.Statement.{statement}
 use Rattle.table_nodes.proofs.nodes.second_size.Tie as tie
 

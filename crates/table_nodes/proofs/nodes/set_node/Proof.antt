@@ -1,7 +1,7 @@
 -- `nodes::set_node` meets its contract. Assumes nothing.
 use borrow.Author.Needs.{needs}
-use Rattle.table_nodes.proofs.Leaves.{in-second, in-third, in-fourth}
-use Rattle.table_nodes.proofs.Patching.{four-stores}
+use Rattle.table_nodes.proofs.TableNumbers.{in-second, in-third, in-fourth}
+use Rattle.table_nodes.proofs.Pieces.{four-stores}
 use Rattle.table_nodes.proofs.nodes.set_node.Statement.{statement}
 use Rattle.table_nodes.proofs.nodes.set_node.Tie as tie
 

@@ -1,5 +1,5 @@
 -- `nodes::truth_of` meets its contract. Assumes nothing.
-use Rattle.table_nodes.proofs.Leaves.{truth-yes, truth-no}
+use Rattle.table_nodes.proofs.TableNumbers.{truth-yes, truth-no}
 use Rattle.table_nodes.proofs.nodes.truth_of.Statement.{statement}
 use Rattle.table_nodes.proofs.nodes.truth_of.Tie as tie
 

@@ -4,9 +4,9 @@ use Prim.Native.Nat.{ℕ, _+_}
 use mathlib.Core.Path.{ap, _∙_}
 use native.Mathlib.Omega.{arith}
 use lib.ListN.{getD}
-use Rattle.type_rules.specs.Inner.{entry}
-use Rattle.table_places.specs.Passes.{givenIndex}
-use Rattle.table_nodes.specs.Table.{givenSize}
+use Rattle.type_rules.specs.TypesByNumber.{entry}
+use Rattle.table_places.specs.DossierTableByNumber.{givenIndex}
+use Rattle.table_nodes.specs.TableByNumber.{givenSize}
 use Rattle.table_places.proofs.WritingTypes.{type-set, by-range, by-one, by-two}
 use Rattle.table_places.proofs.declared_types.set_type.Statement.{statement}
 use Rattle.table_places.proofs.declared_types.set_type.Tie as tie

@@ -5,7 +5,7 @@ use mathlib.Core.Path.{_≡_, refl, _∙_}
 use native.Mathlib.Omega.{arith}
 use borrow.Author.Needs.{needs}
 use lib.ListN.{length}
-use Rattle.declared_names.proofs.Declaring.{Walked, on}
+use Rattle.declared_names.proofs.DeclarationNodes.{Walked, on}
 use Rattle.table_places.proofs.WritingTypes.{typing, typing-start, typing-on, types-set}
 use Rattle.table_places.proofs.declared_types.set_types.Statement.{statement}
 use Rattle.table_places.proofs.declared_types.set_types.Tie as tie

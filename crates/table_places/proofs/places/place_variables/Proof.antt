@@ -6,7 +6,7 @@ use mathlib.Core.Path.{_≡_, refl, _∙_}
 use native.Mathlib.Omega.{arith}
 use borrow.Author.Needs.{needs}
 use lib.ListN.{length}
-use Rattle.declared_names.proofs.Declaring.{Walked, start, on}
+use Rattle.declared_names.proofs.DeclarationNodes.{Walked, start, on}
 use Rattle.table_places.proofs.WritingPlaces.{slotting, slot-on, variables-set}
 use Rattle.table_places.proofs.places.place_variables.Statement.{statement}
 use Rattle.table_places.proofs.places.place_variables.Tie as tie

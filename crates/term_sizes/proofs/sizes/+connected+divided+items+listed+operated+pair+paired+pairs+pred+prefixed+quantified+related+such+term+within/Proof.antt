@@ -5,10 +5,10 @@ use borrow.Fn.PlainCycle.{Measures, is, falls, and}
 use mathlib.Core.Path.{refl}
 use borrow.Author.Needs.{needs}
 use lib.ListN.{getD}
-use Rattle.typing.proofs.Backwards.{eight, ten}
-use Rattle.term_sizes.proofs.Walking.{term-short, items-short, pairs-short, pred-short, term-rest, pred-rest}
-use Rattle.term_sizes.proofs.WalkingTerms.{term-empty, term-empty-pairs, term-prefix, term-divided, term-binary, term-such, term-listed, term-pairs, items-only, items-also, pair-sized, pairs-only, pairs-also}
-use Rattle.term_sizes.proofs.WalkingPreds.{pred-constant, pred-negation, pred-connected, pred-compared, pred-member, pred-within, pred-related, pred-quantified}
+use Rattle.typing.proofs.LastNodes.{eight, ten}
+use Rattle.term_sizes.proofs.SizeWalk.{term-short, items-short, pairs-short, pred-short, term-rest, pred-rest}
+use Rattle.term_sizes.proofs.SizeWalkTerms.{term-empty, term-empty-pairs, term-prefix, term-divided, term-binary, term-such, term-listed, term-pairs, items-only, items-also, pair-sized, pairs-only, pairs-also}
+use Rattle.term_sizes.proofs.SizeWalkPreds.{pred-constant, pred-negation, pred-connected, pred-compared, pred-member, pred-within, pred-related, pred-quantified}
 use Rattle.term_sizes.proofs.sizes.+connected+divided+items+listed+operated+pair+paired+pairs+pred+prefixed+quantified+related+such+term+within.{statement}
 use Rattle.term_sizes.proofs.sizes.+connected+divided+items+listed+operated+pair+paired+pairs+pred+prefixed+quantified+related+such+term+within.Tie.{close}
 use Rattle.term_sizes.proofs.sizes.connected.Reads as connected

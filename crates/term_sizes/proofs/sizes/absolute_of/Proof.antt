@@ -2,7 +2,7 @@
 use borrow.Author.Tests.{lt-ltb, le-ltb}
 use borrow.Author.Needs.{needs}
 use native.Mathlib.Omega.{arith}
-use Rattle.term_sizes.specs.Inner.{absolute}
+use Rattle.term_sizes.specs.SizesByNumber.{absolute}
 use Rattle.term_sizes.proofs.sizes.absolute_of.Statement.{statement}
 use Rattle.term_sizes.proofs.sizes.absolute_of.Tie as tie
 

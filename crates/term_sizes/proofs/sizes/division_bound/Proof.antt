@@ -1,6 +1,6 @@
 -- `sizes::division_bound` meets its contract. Assumes nothing.
 use native.Mathlib.Omega.{arith}
-use Rattle.term_sizes.proofs.WalkingNumbers.{quotient-bound, remainder-bound}
+use Rattle.term_sizes.proofs.SizeWalkNumbers.{quotient-bound, remainder-bound}
 use Rattle.term_sizes.proofs.sizes.division_bound.Statement.{statement}
 use Rattle.term_sizes.proofs.sizes.division_bound.Tie as tie
 

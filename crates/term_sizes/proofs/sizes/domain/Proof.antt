@@ -3,8 +3,8 @@ use mathlib.Core.List.{[]}
 use borrow.Author.Needs.{needs}
 use mathlib.Core.Path.{refl}
 use native.Mathlib.Omega.{arith}
-use Rattle.term_sizes.proofs.Walking.{domain-short}
-use Rattle.term_sizes.proofs.WalkingTerms.{domain-given, domain-range}
+use Rattle.term_sizes.proofs.SizeWalk.{domain-short}
+use Rattle.term_sizes.proofs.SizeWalkTerms.{domain-given, domain-range}
 use Rattle.term_sizes.proofs.sizes.domain.Statement.{statement}
 use Rattle.term_sizes.proofs.sizes.domain.Tie as tie
 

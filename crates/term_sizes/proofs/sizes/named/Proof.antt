@@ -2,7 +2,7 @@
 use borrow.Author.Needs.{needs}
 use mathlib.Core.Path.{refl}
 use native.Mathlib.Omega.{arith}
-use Rattle.term_sizes.proofs.WalkingTerms.{term-name}
+use Rattle.term_sizes.proofs.SizeWalkTerms.{term-name}
 use Rattle.term_sizes.proofs.sizes.named.Statement.{statement}
 use Rattle.term_sizes.proofs.sizes.named.Tie as tie
 

@@ -1,7 +1,7 @@
 -- `sizes::operator_bound` meets its contract. Assumes nothing.
 use borrow.Author.Needs.{needs}
 use native.Mathlib.Omega.{arith}
-use Rattle.term_sizes.proofs.WalkingNumbers.{plus-bound, minus-bound, times-bound, sets-bound, product-fits}
+use Rattle.term_sizes.proofs.SizeWalkNumbers.{plus-bound, minus-bound, times-bound, sets-bound, product-fits}
 use Rattle.term_sizes.proofs.sizes.operator_bound.Statement.{statement}
 use Rattle.term_sizes.proofs.sizes.operator_bound.Tie as tie
 

@@ -1,6 +1,6 @@
 -- `sizes::prefix_bound` meets its contract. Assumes nothing.
 use native.Mathlib.Omega.{arith}
-use Rattle.term_sizes.proofs.WalkingNumbers.{negate-bound, count-bound, side-bound}
+use Rattle.term_sizes.proofs.SizeWalkNumbers.{negate-bound, count-bound, side-bound}
 use Rattle.term_sizes.proofs.sizes.prefix_bound.Statement.{statement}
 use Rattle.term_sizes.proofs.sizes.prefix_bound.Tie as tie
 

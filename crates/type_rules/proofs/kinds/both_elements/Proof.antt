@@ -1,6 +1,6 @@
 -- `kinds::both_elements` meets its contract. Assumes nothing.
 use borrow.Author.Needs.{needs}
-use Rattle.type_rules.proofs.Numbers.{and-yes, and-no}
+use Rattle.type_rules.proofs.TypeNumbers.{and-yes, and-no}
 use Rattle.type_rules.proofs.kinds.both_elements.Statement.{statement}
 use Rattle.type_rules.proofs.kinds.both_elements.Tie as tie
 

@@ -1,6 +1,6 @@
 -- `kinds::both_given` meets its contract. Assumes nothing.
 use borrow.Author.Needs.{needs}
-use Rattle.type_rules.proofs.Numbers.{and-yes, and-no}
+use Rattle.type_rules.proofs.TypeNumbers.{and-yes, and-no}
 use Rattle.type_rules.proofs.kinds.both_given.Statement.{statement}
 use Rattle.type_rules.proofs.kinds.both_given.Tie as tie
 

@@ -1,6 +1,6 @@
 -- `kinds::bound_fault` meets its contract. Assumes nothing.
 use borrow.Author.Needs.{needs}
-use Rattle.type_rules.proofs.Numbers.{binder, inside-none, inside-some}
+use Rattle.type_rules.proofs.TypeNumbers.{binder, inside-none, inside-some}
 use Rattle.type_rules.proofs.kinds.bound_fault.Statement.{statement}
 use Rattle.type_rules.proofs.kinds.bound_fault.Tie as tie
 

@@ -1,6 +1,6 @@
 -- `kinds::brace_fault` meets its contract. Assumes nothing.
 use borrow.Author.Needs.{needs}
-use Rattle.type_rules.proofs.Numbers.{brace-pairs, brace-other}
+use Rattle.type_rules.proofs.TypeNumbers.{brace-pairs, brace-other}
 use Rattle.type_rules.proofs.kinds.brace_fault.Statement.{statement}
 use Rattle.type_rules.proofs.kinds.brace_fault.Tie as tie
 

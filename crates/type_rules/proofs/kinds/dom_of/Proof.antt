@@ -1,7 +1,7 @@
 -- `kinds::dom_of` meets its contract. Assumes nothing.
 use borrow.Author.Tests.{le-leb, lt-leb}
 use borrow.Author.Needs.{needs}
-use Rattle.type_rules.specs.Inner.{isPairs, domOf}
+use Rattle.type_rules.specs.TypesByNumber.{isPairs, domOf}
 use Rattle.type_rules.proofs.kinds.dom_of.Statement.{statement}
 use Rattle.type_rules.proofs.kinds.dom_of.Tie as tie
 

@@ -3,8 +3,8 @@ use borrow.Author.Needs.{needs}
 use Prim.Native.Nat.{_+_}
 use mathlib.Core.Path.{sym, _∙_}
 use native.Mathlib.Omega.{arith}
-use Rattle.type_rules.specs.Inner.{isGiven, elementOf}
-use Rattle.type_rules.proofs.Numbers.{cond-yes, cond-no, given-bounds}
+use Rattle.type_rules.specs.TypesByNumber.{isGiven, elementOf}
+use Rattle.type_rules.proofs.TypeNumbers.{cond-yes, cond-no, given-bounds}
 use Rattle.type_rules.proofs.kinds.element_of.Statement.{statement}
 use Rattle.type_rules.proofs.kinds.element_of.Tie as tie
 

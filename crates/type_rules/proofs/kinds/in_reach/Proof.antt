@@ -1,6 +1,6 @@
 -- `kinds::in_reach` meets its contract. Assumes nothing.
 use borrow.Author.Tests.{eq-eqb, ne-eqb}
-use Rattle.type_rules.specs.Inner.{isNumber, inReach}
+use Rattle.type_rules.specs.TypesByNumber.{isNumber, inReach}
 use Rattle.type_rules.proofs.kinds.in_reach.Statement.{statement}
 use Rattle.type_rules.proofs.kinds.in_reach.Tie as tie
 

@@ -1,6 +1,6 @@
 -- `kinds::is_element` meets its contract. Assumes nothing.
 use borrow.Author.Tests.{le-leb, lt-leb}
-use Rattle.type_rules.specs.Inner.{isElement}
+use Rattle.type_rules.specs.TypesByNumber.{isElement}
 use Rattle.type_rules.proofs.kinds.is_element.Statement.{statement}
 use Rattle.type_rules.proofs.kinds.is_element.Tie as tie
 

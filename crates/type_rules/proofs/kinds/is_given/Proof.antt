@@ -1,6 +1,6 @@
 -- `kinds::is_given` meets its contract. Assumes nothing.
 use borrow.Author.Tests.{le-leb, lt-leb}
-use Rattle.type_rules.specs.Inner.{isGiven}
+use Rattle.type_rules.specs.TypesByNumber.{isGiven}
 use Rattle.type_rules.proofs.kinds.is_given.Statement.{statement}
 use Rattle.type_rules.proofs.kinds.is_given.Tie as tie
 

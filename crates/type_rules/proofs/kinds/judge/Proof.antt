@@ -3,7 +3,7 @@ use borrow.Author.Tests.{eq-eqb, ne-eqb}
 use borrow.Author.Needs.{needs}
 use Prim.Native.Nat.{ℕ}
 use mathlib.Core.Path.{ap, _∙_}
-use Rattle.type_rules.specs.Inner.{key, unlessKey}
+use Rattle.type_rules.specs.TypesByNumber.{key, unlessKey}
 use Rattle.type_rules.proofs.kinds.judge.Statement.{statement}
 use Rattle.type_rules.proofs.kinds.judge.Tie as tie
 

@@ -1,6 +1,6 @@
 -- `kinds::lesser_of` meets its contract. Assumes nothing.
 use borrow.Author.Tests.{lt-ltb, le-ltb, eq-eqb, ne-eqb}
-use Rattle.type_rules.specs.Inner.{lesser}
+use Rattle.type_rules.specs.TypesByNumber.{lesser}
 use Rattle.type_rules.proofs.kinds.lesser_of.Statement.{statement}
 use Rattle.type_rules.proofs.kinds.lesser_of.Tie as tie
 

@@ -3,8 +3,8 @@ use lib.Dec.{eqb}
 use mathlib.Core.Path.{ap₂}
 use borrow.Author.Needs.{needs}
 use Prim.Native.Nat.{ℕ, _+_}
-use Rattle.type_rules.specs.Inner.{isElement, memberFits}
-use Rattle.type_rules.proofs.Numbers.{and-yes, and-no}
+use Rattle.type_rules.specs.TypesByNumber.{isElement, memberFits}
+use Rattle.type_rules.proofs.TypeNumbers.{and-yes, and-no}
 use Rattle.type_rules.proofs.kinds.member_fits.Statement.{statement}
 use Rattle.type_rules.proofs.kinds.member_fits.Tie as tie
 

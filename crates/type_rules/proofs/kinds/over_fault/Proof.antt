@@ -1,7 +1,7 @@
 -- `kinds::over_fault` meets its contract. Assumes nothing.
 use borrow.Author.Needs.{needs}
 use native.Mathlib.Omega.{arith}
-use Rattle.type_rules.proofs.Numbers.{givens-bounds, over-fault, over-none}
+use Rattle.type_rules.proofs.TypeNumbers.{givens-bounds, over-fault, over-none}
 use Rattle.type_rules.proofs.kinds.over_fault.Statement.{statement}
 use Rattle.type_rules.proofs.kinds.over_fault.Tie as tie
 

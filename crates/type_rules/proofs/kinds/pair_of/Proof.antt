@@ -4,8 +4,8 @@ use borrow.Author.Needs.{needs}
 use Prim.Native.Nat.{_+_, _-_, _*_}
 use mathlib.Core.Path.{sym}
 use native.Mathlib.Omega.{arith}
-use Rattle.type_rules.specs.Inner.{isElement, pairOf}
-use Rattle.type_rules.proofs.Numbers.{cond-yes, cond-no, elements-bounds}
+use Rattle.type_rules.specs.TypesByNumber.{isElement, pairOf}
+use Rattle.type_rules.proofs.TypeNumbers.{cond-yes, cond-no, elements-bounds}
 use Rattle.type_rules.proofs.kinds.pair_of.Statement.{statement}
 use Rattle.type_rules.proofs.kinds.pair_of.Tie as tie
 

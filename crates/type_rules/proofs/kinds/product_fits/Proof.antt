@@ -4,8 +4,8 @@ use mathlib.Core.Path.{ap₂}
 use Prim.Native.Nat.{_*_, ℕ}
 use borrow.Author.Needs.{needs}
 use native.Mathlib.Omega.{arith}
-use Rattle.type_rules.specs.Inner.{productFits}
-use Rattle.type_rules.proofs.Numbers.{product-small}
+use Rattle.type_rules.specs.TypesByNumber.{productFits}
+use Rattle.type_rules.proofs.TypeNumbers.{product-small}
 use Rattle.type_rules.proofs.kinds.product_fits.Statement.{statement}
 use Rattle.type_rules.proofs.kinds.product_fits.Tie as tie
 

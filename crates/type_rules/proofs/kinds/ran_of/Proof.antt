@@ -1,7 +1,7 @@
 -- `kinds::ran_of` meets its contract. Assumes nothing.
 use borrow.Author.Tests.{le-leb, lt-leb}
 use borrow.Author.Needs.{needs}
-use Rattle.type_rules.specs.Inner.{isPairs, ranOf}
+use Rattle.type_rules.specs.TypesByNumber.{isPairs, ranOf}
 use Rattle.type_rules.proofs.kinds.ran_of.Statement.{statement}
 use Rattle.type_rules.proofs.kinds.ran_of.Tie as tie
 

@@ -4,7 +4,7 @@ use lib.Dec.{ltb}
 use mathlib.Core.Path.{ap₂}
 use borrow.Author.Needs.{needs}
 use Prim.Native.Nat.{ℕ, _+_}
-use Rattle.type_rules.specs.Inner.{rangeFits}
+use Rattle.type_rules.specs.TypesByNumber.{rangeFits}
 use Rattle.type_rules.proofs.kinds.range_fits.Statement.{statement}
 use Rattle.type_rules.proofs.kinds.range_fits.Tie as tie
 

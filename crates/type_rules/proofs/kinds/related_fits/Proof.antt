@@ -4,8 +4,8 @@ use lib.Dec.{eqb}
 use borrow.Author.Needs.{needs}
 use Prim.Native.Nat.{ℕ}
 use mathlib.Core.Path.{ap}
-use Rattle.type_rules.specs.Inner.{isElement, pairOf, relatedFits}
-use Rattle.type_rules.proofs.Numbers.{and-yes, and-no}
+use Rattle.type_rules.specs.TypesByNumber.{isElement, pairOf, relatedFits}
+use Rattle.type_rules.proofs.TypeNumbers.{and-yes, and-no}
 use Rattle.type_rules.proofs.kinds.related_fits.Statement.{statement}
 use Rattle.type_rules.proofs.kinds.related_fits.Tie as tie
 

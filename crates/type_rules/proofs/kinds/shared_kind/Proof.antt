@@ -1,6 +1,6 @@
 -- `kinds::shared_kind` meets its contract. Assumes nothing.
 use borrow.Author.Tests.{eq-eqb, ne-eqb}
-use Rattle.type_rules.specs.Inner.{shared}
+use Rattle.type_rules.specs.TypesByNumber.{shared}
 use Rattle.type_rules.proofs.kinds.shared_kind.Statement.{statement}
 use Rattle.type_rules.proofs.kinds.shared_kind.Tie as tie
 

@@ -3,7 +3,7 @@ use lib.ListN.{List·getD-eq-default}
 use borrow.Author.Needs.{needs}
 use mathlib.Core.Path.{refl, sym}
 use native.Mathlib.Omega.{arith}
-use Rattle.type_rules.specs.Inner.{sizeIn}
+use Rattle.type_rules.specs.TypesByNumber.{sizeIn}
 use Rattle.type_rules.proofs.kinds.size_in.Statement.{statement}
 use Rattle.type_rules.proofs.kinds.size_in.Tie as tie
 

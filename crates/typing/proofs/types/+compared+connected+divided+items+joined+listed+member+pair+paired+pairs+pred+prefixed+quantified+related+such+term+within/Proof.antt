@@ -5,9 +5,9 @@ use borrow.Fn.PlainCycle.{Measures, is, falls, and}
 use mathlib.Core.Path.{refl}
 use borrow.Author.Needs.{needs}
 use lib.ListN.{getD}
-use Rattle.typing.proofs.Backwards.{term-short, items-short, pairs-short, pred-short, term-rest, pred-rest, eight, ten}
-use Rattle.typing.proofs.BackwardsTerms.{term-number, term-prefix, term-divided, term-binary, term-such, term-listed, term-pairs, items-only, items-also, pair-seen, pairs-only, pairs-also}
-use Rattle.typing.proofs.BackwardsPreds.{pred-constant, pred-negation, pred-connected, pred-compared, pred-member, pred-within, pred-related, pred-quantified}
+use Rattle.typing.proofs.LastNodes.{term-short, items-short, pairs-short, pred-short, term-rest, pred-rest, eight, ten}
+use Rattle.typing.proofs.TypeWalkTerms.{term-number, term-prefix, term-divided, term-binary, term-such, term-listed, term-pairs, items-only, items-also, pair-seen, pairs-only, pairs-also}
+use Rattle.typing.proofs.TypeWalkPreds.{pred-constant, pred-negation, pred-connected, pred-compared, pred-member, pred-within, pred-related, pred-quantified}
 use Rattle.typing.proofs.types.+compared+connected+divided+items+joined+listed+member+pair+paired+pairs+pred+prefixed+quantified+related+such+term+within.{statement}
 use Rattle.typing.proofs.types.+compared+connected+divided+items+joined+listed+member+pair+paired+pairs+pred+prefixed+quantified+related+such+term+within.Tie.{close}
 use Rattle.typing.proofs.types.compared.Reads as compared

@@ -1,6 +1,6 @@
 -- `types::comparison_fits` meets its contract. Assumes nothing.
 use borrow.Author.Tests.{eq-eqb, ne-eqb}
-use Rattle.type_rules.proofs.Numbers.{equal-fits, order-fits}
+use Rattle.type_rules.proofs.TypeNumbers.{equal-fits, order-fits}
 use Rattle.typing.proofs.types.comparison_fits.Statement.{statement}
 use Rattle.typing.proofs.types.comparison_fits.Tie as tie
 

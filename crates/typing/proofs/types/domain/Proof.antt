@@ -3,8 +3,8 @@ use mathlib.Core.List.{[]}
 use borrow.Author.Needs.{needs}
 use mathlib.Core.Path.{refl}
 use native.Mathlib.Omega.{arith}
-use Rattle.typing.proofs.Backwards.{domain-short}
-use Rattle.typing.proofs.BackwardsTerms.{domain-given, domain-range}
+use Rattle.typing.proofs.LastNodes.{domain-short}
+use Rattle.typing.proofs.TypeWalkTerms.{domain-given, domain-range}
 use Rattle.typing.proofs.types.domain.Statement.{statement}
 use Rattle.typing.proofs.types.domain.Tie as tie
 

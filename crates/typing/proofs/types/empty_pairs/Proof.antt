@@ -1,7 +1,7 @@
 -- `types::empty_pairs` meets its contract. Assumes nothing.
 use borrow.Author.Needs.{needs}
 use mathlib.Core.Path.{refl}
-use Rattle.typing.proofs.BackwardsTerms.{term-empty-pairs}
+use Rattle.typing.proofs.TypeWalkTerms.{term-empty-pairs}
 use Rattle.typing.proofs.types.empty_pairs.Statement.{statement}
 use Rattle.typing.proofs.types.empty_pairs.Tie as tie
 

@@ -1,7 +1,7 @@
 -- `types::empty_set` meets its contract. Assumes nothing.
 use borrow.Author.Needs.{needs}
 use mathlib.Core.Path.{refl}
-use Rattle.typing.proofs.BackwardsTerms.{term-empty}
+use Rattle.typing.proofs.TypeWalkTerms.{term-empty}
 use Rattle.typing.proofs.types.empty_set.Statement.{statement}
 use Rattle.typing.proofs.types.empty_set.Tie as tie
 

@@ -1,7 +1,7 @@
 -- `types::named` meets its contract. Assumes nothing.
 use borrow.Author.Needs.{needs}
 use mathlib.Core.Path.{refl}
-use Rattle.typing.proofs.BackwardsTerms.{term-name}
+use Rattle.typing.proofs.TypeWalkTerms.{term-name}
 use Rattle.typing.proofs.types.named.Statement.{statement}
 use Rattle.typing.proofs.types.named.Tie as tie
 

@@ -1,6 +1,6 @@
 -- `types::operator_fits` meets its contract. Assumes nothing.
 use borrow.Author.Tests.{le-leb, lt-leb, eq-eqb, ne-eqb}
-use Rattle.type_rules.proofs.Numbers.{numbers-fit, sets-fit}
+use Rattle.type_rules.proofs.TypeNumbers.{numbers-fit, sets-fit}
 use Rattle.typing.proofs.types.operator_fits.Statement.{statement}
 use Rattle.typing.proofs.types.operator_fits.Tie as tie
 

@@ -1,5 +1,5 @@
 -- `types::prefix_fits` meets its contract. Assumes nothing.
-use Rattle.type_rules.proofs.Numbers.{negate-fits, size-fits, side-fits}
+use Rattle.type_rules.proofs.TypeNumbers.{negate-fits, size-fits, side-fits}
 use Rattle.typing.proofs.types.prefix_fits.Statement.{statement}
 use Rattle.typing.proofs.types.prefix_fits.Tie as tie
 

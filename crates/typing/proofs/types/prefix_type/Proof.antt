@@ -1,6 +1,6 @@
 -- `types::prefix_type` meets its contract. Assumes nothing.
 use borrow.Author.Needs.{needs}
-use Rattle.type_rules.proofs.Numbers.{dom-type, ran-type, number-type}
+use Rattle.type_rules.proofs.TypeNumbers.{dom-type, ran-type, number-type}
 use Rattle.typing.proofs.types.prefix_type.Statement.{statement}
 use Rattle.typing.proofs.types.prefix_type.Tie as tie
 

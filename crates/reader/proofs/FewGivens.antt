@@ -14,7 +14,7 @@ use Rattle.lexical.specs.Refusals.{manyDeclared}
 use Rattle.form.specs.Tree.{Letters, Given, Operation, Dossier}
 use Rattle.form.specs.Written.{Mark, unmarked, aGiven, anElement, anOperation, Written, writeElements, writeGivens, writeOperations, written, symbolsOf}
 use Rattle.form.specs.Form.{Whole, Begins, atMark, Forms, kindAt, refuse, excess, settled}
-use Rattle.parser.proofs.RelationsBehind as kept
+use Rattle.form.proofs.RelationsBehind as kept
 use Rattle.static_rules.specs.Carriers.{sizeOf}
 use Rattle.declared_names.specs.PassPromises.{Fewer}
 

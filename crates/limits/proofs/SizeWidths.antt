@@ -1,4 +1,4 @@
--- How far the sizes of a tree go: as many symbols as it has. Its faults have numbers below 16.
+-- How far the sizes of a tree go: as many symbols as it has. Its faults have numbers below keyRoom.
 use mathlib.Core.Path.{_≡_}
 use mathlib.Core.List.{[], _∷_}
 use Prim.Native.Nat.{ℕ, suc, _+_, _<_}
@@ -11,10 +11,11 @@ use Rattle.form.specs.Codes.{termWidth, predWidth}
 use Rattle.static_rules.specs.Carriers.{largest, plain}
 use Rattle.static_rules.specs.Names.{domainCarrier, domainLength}
 use Rattle.static_rules.specs.Limits.{Sizes, sizeTerm, sizeItems, sizePairs, sizePred}
+use Rattle.type_rules.specs.TypesByNumber.{keyRoom}
 use Rattle.names.proofs.TypesAgreeLeast.{small-append, small-whole, no-fault}
 use Rattle.names.proofs.TypesAgreeWidths.{Steady, wideTerm, wideItems, widePairs, widePred, term-width, pred-width}
 
-large : numberOf largeSize < 16
+large : numberOf largeSize < keyRoom
 unfolding numberOf
 large = omega arith
 

@@ -1,4 +1,4 @@
--- How many symbols a tree has: the length of what it is written with, and how far the judgement of it goes. Its faults have numbers below 16.
+-- How many symbols a tree has: the length of what it is written with, and how far the judgement of it goes. Its faults have numbers below keyRoom.
 use mathlib.Core.Path.{_≡_, refl}
 use mathlib.Core.Bool.{Bool, true, false, cond}
 use mathlib.Core.List.{List, [], _∷_, _++_}
@@ -20,6 +20,7 @@ use Rattle.static_rules.specs.Types.{Ty, pairsFit, pairsType}
 use Rattle.static_rules.specs.Scope.{Scope, typeOfName, binding}
 use Rattle.static_rules.specs.Names.{Listing, ofName, known, rangeFaults, pairsFault, divisorFaults, newName, domainFaults, domainCarrier, domainLength}
 use Rattle.static_rules.specs.Names.{overFault, wholePairs, judgedPairs, judgeTerm, judgeItems, judgePairs, judgePred}
+use Rattle.type_rules.specs.TypesByNumber.{keyRoom}
 use Rattle.names.proofs.TypesAgreeLeast.{Small, small-append, small-unless, small-whole, small-inside, no-fault, one-more}
 
 abbrev wideRange : Range → ℕ
@@ -131,23 +132,23 @@ pub record Steady (fs : List Fault) (n m : ℕ) : Type 0 where
   pub next : n ≡ m
   pub small : Small fs
 
-in-use : numberOf nameInUse < 16
+in-use : numberOf nameInUse < keyRoom
 unfolding numberOf
 in-use = omega arith
 
-unknown : numberOf nameUnknown < 16
+unknown : numberOf nameUnknown < keyRoom
 unfolding numberOf
 unknown = omega arith
 
-misfit : numberOf typesMisfit < 16
+misfit : numberOf typesMisfit < keyRoom
 unfolding numberOf
 misfit = omega arith
 
-wide : numberOf wideType < 16
+wide : numberOf wideType < keyRoom
 unfolding numberOf
 wide = omega arith
 
-divisor : numberOf zeroDivisor < 16
+divisor : numberOf zeroDivisor < keyRoom
 unfolding numberOf
 divisor = omega arith
 

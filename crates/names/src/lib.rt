@@ -7,7 +7,7 @@ use declared_names::declared::give;
 
 pub mod passes;
 
-// The least fault of the pass (place * 16 + number + 1, places by symbols), or 0. The nodes are a dossier's, up to m; the places are where its parts begin.
+// The least fault of the pass (place * KEY_ROOM + number + 1, places by symbols), or 0. The nodes are a dossier's, up to m; the places are where its parts begin.
 pub fn least_fault(
     nodes: &[u16],
     m: usize,

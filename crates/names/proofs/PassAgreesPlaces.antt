@@ -153,7 +153,7 @@ mutual
   term-within (such x g p) Γ i =
       within-inside
       (within-append (within-new (Γ .taken) x (suc i) (omega arith) (omega arith)) (within-known (givenOf (Γ .givens) g) (i + 3) (omega arith) (omega arith)))
-      (wider _ _ (pred-within p (binding Γ x (domainCarrier (Γ .givens) (givenSet g))) (i + 5)) (omega arith) (omega arith))
+      (wider _ _ (pred-within p (binding Γ x (domainCarrier Γ (givenSet g))) (i + 5)) (omega arith) (omega arith))
   term-within (emptySet g) Γ i = within-known (givenOf (Γ .givens) g) (suc i) (omega arith) (omega arith)
   term-within (emptyPairs g h) Γ i = within-empty (givenOf (Γ .givens) g) (givenOf (Γ .givens) h) i (omega arith) (omega arith)
 
@@ -181,10 +181,10 @@ mutual
   pred-within (quantified q x (givenSet g) p) Γ i =
       within-inside
       (within-append (within-new (Γ .taken) x (i + 2) (omega arith) (omega arith)) (within-known (givenOf (Γ .givens) g) (i + 4) (omega arith) (omega arith)))
-      (wider _ _ (pred-within p (binding Γ x (domainCarrier (Γ .givens) (givenSet g))) (suc (i + 4 + 1))) (omega arith) (omega arith))
+      (wider _ _ (pred-within p (binding Γ x (domainCarrier Γ (givenSet g))) (suc (i + 4 + 1))) (omega arith) (omega arith))
   pred-within (quantified q x (range r) p) Γ i =
       within-inside (within-append (within-new (Γ .taken) x (i + 2) (omega arith) (omega arith)) (within-range r (i + 4) (omega arith) (omega arith)))
-      (wider _ _ (pred-within p (binding Γ x (domainCarrier (Γ .givens) (range r))) (suc (i + 4 + rangeLength r))) (omega arith) (omega arith))
+      (wider _ _ (pred-within p (binding Γ x (domainCarrier Γ (range r))) (suc (i + 4 + rangeLength r))) (omega arith) (omega arith))
   pred-within (connected o p q) Γ i =
       let a = pred-steady p Γ i .next in
       within-append (wider _ _ (pred-within p Γ i) (omega arith) (omega arith)) (wider _ _ (pred-within q Γ (suc (judgePred p Γ i .next))) (omega arith) (omega arith))

@@ -39,9 +39,9 @@ module _ (ρ : Numbering) (P : Letters → Type 0) (ν : Numbered ρ P) (z : Siz
     term-resolved (pairs ts) Γ T W′ W s v w l h = part.pairs-resolved ρ P ν z Γ T v W′ W s ts (pairs-resolved ts Γ T W′ W s v w l h)
     term-resolved (such x g p) Γ T W′ W s v w l h =
         part.such-resolved ρ P ν z Γ T v W′ W s x g p (h .0) (h .1)
-        (λ y. pred-resolved p (binding Γ x (domainCarrier (Γ .givens) (givenSet g))) (bound T (numberOfName ρ x noEnding) (domainKind (givenSet g) T ρ))
+        (λ y. pred-resolved p (binding Γ x (domainCarrier Γ (givenSet g))) (bound T (numberOfName ρ x noEnding) (domainKind (givenSet g) T ρ))
         ((plain x, s) ∷ W′) (set W (numberOfName ρ x noEnding) s) (nextSlot s) y
-        (bound-placed ρ P ν Γ W′ W w x (h .0) (domainCarrier (Γ .givens) (givenSet g)) s l) (next-small s) (h .2))
+        (bound-placed ρ P ν Γ W′ W w x (h .0) (domainCarrier Γ (givenSet g)) s l) (next-small s) (h .2))
     term-resolved (emptySet g) Γ T W′ W s v w l h = λ i e q. refl
     term-resolved (emptyPairs g k) Γ T W′ W s v w l h = λ i e q. refl
 
@@ -67,9 +67,9 @@ module _ (ρ : Numbering) (P : Letters → Type 0) (ν : Numbered ρ P) (z : Siz
     pred-resolved (paren p) Γ T W′ W s v w l h = λ i e q. pred-resolved p Γ T W′ W s v w l h (suc i) e q
     pred-resolved (quantified q x t p) Γ T W′ W s v w l h =
         part.quantified-resolved ρ P ν z Γ T v W′ W s q x t p (h .0) (h .1)
-        (λ y. pred-resolved p (binding Γ x (domainCarrier (Γ .givens) t)) (bound T (numberOfName ρ x noEnding) (domainKind t T ρ))
+        (λ y. pred-resolved p (binding Γ x (domainCarrier Γ t)) (bound T (numberOfName ρ x noEnding) (domainKind t T ρ))
         ((plain x, s) ∷ W′) (set W (numberOfName ρ x noEnding) s) (nextSlot s) y
-        (bound-placed ρ P ν Γ W′ W w x (h .0) (domainCarrier (Γ .givens) t) s l) (next-small s) (h .2))
+        (bound-placed ρ P ν Γ W′ W w x (h .0) (domainCarrier Γ t) s l) (next-small s) (h .2))
     pred-resolved (connected o p r) Γ T W′ W s v w l h =
         part.connected-resolved ρ P ν z Γ T v W′ W s o p r (pred-resolved p Γ T W′ W s v w l (h .0)) (pred-resolved r Γ T W′ W s v w l (h .1))
     pred-resolved (compared o t u) Γ T W′ W s v w l h =

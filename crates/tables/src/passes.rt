@@ -270,6 +270,7 @@ fn set_table(
 }
 
 // The table of a dossier. Its parts stand among the nodes where `spans` say, its given sets from `givens` up to `abstracts`; the names are those of the given sets.
+// What `names` holds afterwards is left open: `reader::leave`, the one caller, makes it for this call.
 pub fn write(
     nodes: &[u16; 16384],
     spans: &[u16; 80],

@@ -54,7 +54,7 @@ unfolding Trace heldAfter sumOfAdvances
 sum-from [] h n s t = s
 sum-from (x ∷ xs) h n s t =
     sum-from xs (respond h (x .call) .held) (counted (x .reply) n)
-    (subst (λ (r : Reply). AtPlace (respond h (x .call) .held) (counted r n)) (t .0) (call-counted h (x .call) n s)) (t .1)
+    (subst (λ (r : Reply). AtPlace (respond h (x .call) .held) (counted r n)) (t .0) (call-counted h (x .call) n s)) (t .2)
 
 -- over every list of calls from nothing held on: the counts that advance returned since the last load add up to the place
 pub sum-of-advances : (xs : List Exchange) → Trace nothing xs → AtPlace (heldAfter nothing xs) (sumOfAdvances 0 xs)

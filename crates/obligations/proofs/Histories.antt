@@ -113,7 +113,7 @@ sound-next h x l s e = subst (λ (r : Reply). Sound (respond h (x .call) .held) 
 pub verdicts-stand : (xs : List Exchange) (h : Held) (l : Loaded) → Sound h l → Trace h xs → Sound (heldAfter h xs) (lastLoaded l xs)
 unfolding Trace heldAfter lastLoaded
 verdicts-stand [] h l s t = s
-verdicts-stand (x ∷ xs) h l s t = verdicts-stand xs (respond h (x .call) .held) (afterCall (x .call) (x .reply) l) (sound-next h x l s (t .0)) (t .1)
+verdicts-stand (x ∷ xs) h l s t = verdicts-stand xs (respond h (x .call) .held) (afterCall (x .call) (x .reply) l) (sound-next h x l s (t .0)) (t .2)
 
 -- what demand 3 says where l was loaded last
 abbrev Claimed : Loaded → Type 0
@@ -131,7 +131,7 @@ at-acceptance : (h : Held) (l : Loaded) → Sound h l → (earlier later : List 
 unfolding Trace lastLoaded
 at-acceptance h l s [] later t = at-verdict h l s (t .0)
 at-acceptance h l s (x ∷ earlier) later t =
-    at-acceptance (respond h (x .call) .held) (afterCall (x .call) (x .reply) l) (sound-next h x l s (t .0)) earlier later (t .1)
+    at-acceptance (respond h (x .call) .held) (afterCall (x .call) (x .reply) l) (sound-next h x l s (t .0)) earlier later (t .2)
 
 -- "Take any list of the calls ..., with any arguments, refused ones included, from nothing held on. Of every dossier that a verdict in it calls accepted, this holds"
 pub demand-3 : Demand3

@@ -87,14 +87,16 @@ respond (holding d p accepted) (witness b) = outcome (refused noCounterexample) 
 respond (holding d p (refuted o)) (witness b) = writing d p o (witnessLines d (checkAt d (pred p))) b
 respond (holding d p v) release = outcome dropped nothing []
 
--- lists of calls: "Each call gets the held check as the last one left it"
+-- a call, its reply, and the lent bytes after it
 pub record Exchange : Type 0 where
   pub call : Call
   pub reply : Reply
+  pub lent : List ℕ
 
+-- lists of calls: "Each call gets the held check as the last one left it, and nobody else writes it."
 unfoldable pub Trace : Held → List Exchange → Type 0
 Trace h [] = Unit {0}
-Trace h (x ∷ xs) = (respond h (x .call) .reply ≡ x .reply) × Trace (respond h (x .call) .held) xs
+Trace h (x ∷ xs) = (respond h (x .call) .reply ≡ x .reply) × (respond h (x .call) .lent ≡ x .lent) × Trace (respond h (x .call) .held) xs
 
 unfoldable pub heldAfter : Held → List Exchange → Held
 heldAfter h [] = h

@@ -88,7 +88,7 @@ lastLoaded l [] = l
 lastLoaded l (x ∷ xs) = lastLoaded (afterCall (x .call) (x .reply) l) xs
 
 abbrev pub acceptance : Exchange
-acceptance = record { call = verdict; reply = verdictIs accepted }
+acceptance = record { call = verdict; reply = verdictIs accepted; lent = [] }
 
 -- Demand 3: "Take any list of the calls ..., with any arguments, refused ones included, from nothing held on. Of every dossier that a verdict in it calls accepted, this holds"
 abbrev pub Demand3 : Type 0

@@ -1,17 +1,19 @@
 -- Demand 2: what one look over all checks says of the obligations. Assumes nothing.
-use mathlib.Core.Path.{_≡_, ap, subst}
-use mathlib.Core.Bool.{true}
+use mathlib.Core.Path.{_≡_, refl, ap, subst}
+use mathlib.Core.Logic.{_⊎_, inl, inr}
+use mathlib.Core.Bool.{Bool, true, false}
 use mathlib.Core.Option.{some}
 use mathlib.Core.List.{[]}
-use Prim.Native.Nat.{ℕ, _<_, _≤_}
+use Prim.Native.Nat.{ℕ, suc, _<_, _≤_}
 use lib.ListN.{getD, getElem?}
 use Rattle.form.specs.Tree.{Dossier}
 use Rattle.meaning.proofs.Places.{member-at, place-of, entry-member, member-entry}
 use Rattle.obligations.specs.Obligations.{Obligations}
-use Rattle.obligations.specs.Order.{Check, initialises, applies, corrects, passes, checks, total, Look}
+use Rattle.obligations.specs.Order.{Check, initialises, applies, corrects, passes, checks, total, Look, look}
 use Rattle.obligations.specs.Report.{checkAt}
+use Rattle.obligations.specs.CallDemands.{FirstFailing, wholeFails}
 use Rattle.obligations.specs.Demands.{IsCheck, Accurate}
-use Rattle.obligations.proofs.Looks.{look-whole, look-first, whole-look}
+use Rattle.obligations.proofs.Looks.{First, look-whole, look-first, whole-look, first-look}
 use Rattle.obligations.proofs.ListedChecks.{check-listed, listed-check}
 
 -- every check at a place below n passes
@@ -49,8 +51,7 @@ meets-obligations d ob (applies k op a c i) h = ob .applicability op (entry-memb
 meets-obligations d ob (corrects k op a c i o c′) h =
     ob .correctness op (entry-member op (d .operations) k (h .0)) a c i o c′ (h .1) (h .2) (h .3) (h .4) (h .5)
 
--- "A dossier is accepted exactly if no binding over its carriers breaks initialisation, applicability or correctness, and refuted exactly if one does.
--- The binding shown is the first in the fixed order, and the count printed is how many were looked at up to it."
+-- "A dossier is accepted exactly if no binding over its carriers breaks initialisation, applicability or correctness, and refuted exactly if one does."
 pub accurate : (d : Dossier) → Accurate d
 unfolding total checkAt
 accurate d =
@@ -59,5 +60,19 @@ accurate d =
       complete = λ ob. ap (λ (l : Look). l .failed) (whole-look d (initialises []) (checks d)
           (λ q h. meets-obligations d ob (checkAt d q) (listed-check d (checkAt d q) (member-at (checks d) q (initialises []) h))));
       whole = λ e. look-whole d (initialises []) (checks d) e .0;
-      first = look-first d (initialises []) (checks d);
+      first = λ e.
+          let s : First d (initialises []) (checks d) (look d (checks d)) = look-first d (initialises []) (checks d) e in
+          (s .0, (s .1, record { inside = s .2; fails = s .3; before = s .4 }));
     }
+
+-- where the first check fails that does, one look over all checks ends; one of the two verdicts comes
+pub failing-look : (d : Dossier) (q : ℕ) → FirstFailing d q → look d (checks d) ≡ record { count = suc q; failed = true }
+unfolding total checkAt
+failing-look d q f = first-look d (initialises []) (checks d) q (f .inside) (f .fails) (f .before)
+
+pub decided : (d : Dossier) → Obligations d ⊎ ((q : ℕ) × FirstFailing d q)
+decided d = go (wholeFails d) refl
+  where
+    go : (t : Bool) → wholeFails d ≡ t → Obligations d ⊎ ((q : ℕ) × FirstFailing d q)
+    go false e = inl (accurate d .sound e)
+    go true e = inr (accurate d .first e .0, accurate d .first e .1 .1)

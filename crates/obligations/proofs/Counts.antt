@@ -1,31 +1,35 @@
 -- "Counted bindings are returned by advance; their sum equals the position in the defined search order." Assumes nothing.
-use mathlib.Core.Path.{_≡_, refl, ap, subst}
+use mathlib.Core.Path.{_≡_, refl, sym, ap, subst}
 use mathlib.Core.Bool.{_||_}
 use mathlib.Core.List.{List, [], _∷_}
 use Prim.Native.Nat.{ℕ, _+_}
 use lib.Dec.{eqb, ltb}
-use lib.ListN.{length, take, drop}
+use lib.ListN.{length}
 use Rattle.form.specs.Tree.{Dossier}
 use Rattle.static_rules.specs.Read.{Reading, refusal, reading, read}
-use Rattle.obligations.specs.Order.{Obligation, checks, look}
+use Rattle.obligations.specs.Order.{Obligation, Look}
 use Rattle.obligations.specs.Calls.{unfinished, accepted, refuted, Held, nothing, holding, Call, load, advance, verdict, witness, release, Reply, Outcome, loading, advanced, advancing, writing, respond, Exchange, Trace, heldAfter}
-use Rattle.obligations.specs.Demands.{counted, sumOfAdvances, AtPlace}
+use Rattle.obligations.specs.CallDemands.{counted, sumOfAdvances, AtPlace}
 use Rattle.symbols.proofs.BooleanTests.{on-cond}
+use Rattle.obligations.proofs.PlainCalls.{loads}
 
 -- the sum n before the call becomes the place that the call leaves
 abbrev Counted : Outcome → ℕ → Type 0
 Counted o n = AtPlace (o .held) (counted (o .reply) n)
 
-load-counted : (r : Reading) (n : ℕ) → Counted (loading r) n
-unfolding loading
-load-counted (refusal f) n = tt
-load-counted (reading d) n = refl
+load-counted : (t : List ℕ) (r : Reading) → read t ≡ r → (n : ℕ) → Counted (respond nothing (load t)) n
+unfolding respond loading
+load-counted t (refusal f) e n = subst (λ (r : Reading). Counted (loading r) n) (sym e) tt
+load-counted t (reading d) e n = subst (λ (o : Outcome). Counted o n) (sym (loads t d e)) refl
+
+look-counted : (d : Dossier) (p : ℕ) (l : Look) (n : ℕ) → n ≡ p → Counted (advanced d p l) n
+unfolding advanced
+look-counted d p l n e = ap (λ (x : ℕ). x + l .count) e
 
 advance-counted : (d : Dossier) (p k n : ℕ) → n ≡ p → Counted (advancing d p k) n
-unfolding advancing advanced
+unfolding advancing
 advance-counted d p k n e =
-    on-cond (λ (o : Outcome). Counted o n) (eqb k 0 || ltb 1000000000 k) _ (advanced d p (look d (take k (drop p (checks d)))))
-    e (ap (λ (x : ℕ). x + look d (take k (drop p (checks d))) .count) e)
+    on-cond (λ (o : Outcome). Counted o n) (eqb k 0 || ltb 1000000000 k) _ _ e (look-counted d p _ n e)
 
 witness-counted : (d : Dossier) (p : ℕ) (o : Obligation) (lines lent : List ℕ) (n : ℕ) → n ≡ p → Counted (writing d p o lines lent) n
 unfolding writing
@@ -33,7 +37,7 @@ witness-counted d p o lines lent n e = on-cond (λ (r : Outcome). Counted r n) (
 
 call-counted : (h : Held) (c : Call) (n : ℕ) → AtPlace h n → Counted (respond h c) n
 unfolding respond
-call-counted nothing (load t) n s = load-counted (read t) n
+call-counted nothing (load t) n s = load-counted t (read t) refl n
 call-counted nothing (advance k) n s = tt
 call-counted nothing verdict n s = tt
 call-counted nothing (witness b) n s = tt

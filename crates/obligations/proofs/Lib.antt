@@ -1,5 +1,6 @@
 -- The demands over the definitions, and the definitions computed on the trial dossiers.
 pub mod GivesLaws
+pub mod PlainCalls
 pub mod RefusedCalls
 pub mod Counts
 pub mod Matching
@@ -14,5 +15,6 @@ pub mod Advances
 pub mod Histories
 pub mod Strides
 pub mod Witnesses
+pub mod Reports
 pub mod Trials
 pub mod Carries

@@ -15,10 +15,9 @@ use Rattle.meaning.proofs.Distinct.{Distinct, distinct-append, distinct-map, di
 use Rattle.meaning.proofs.Values.{distinct-bindings}
 use Rattle.obligations.specs.Order.{Check, initialises, applies, corrects, applicabilityChecks, correctnessChecks, operationChecks, checks, total}
 use Rattle.obligations.specs.Report.{checkAt}
-use Rattle.obligations.specs.Demands.{OneToOne, Demand2}
+use Rattle.obligations.specs.Demands.{OneToOne}
 use Rattle.obligations.proofs.Groups.{appliesAt, appliesFrom, correctsGiving, correctsBy, correctsAt, correctsFrom, blockOf, every-applies-at, every-applies-from, every-applicability, every-corrects-giving, every-corrects-by, every-corrects-at, every-corrects-from, every-correctness}
 use Rattle.obligations.proofs.ListedChecks.{check-listed, listed-check}
-use Rattle.obligations.proofs.Accuracy.{accurate}
 
 -- the groups of a check, its obligation as a number, and its operation's number; where there is none, anything
 abbrev before : Check → Binding
@@ -145,8 +144,3 @@ module _ (d : Dossier) where
         reached = λ x i. place-of x (checks d) (initialises []) (check-listed d x i);
         once = distinct-places (checks d) (initialises []) distinct-checks;
       }
-
--- "A dossier is accepted exactly if no binding over its carriers breaks initialisation, applicability or correctness, and refuted exactly if one does.
--- The binding shown is the first in the fixed order, and the count printed is how many were looked at up to it."
-pub demand-2 : Demand2
-demand-2 d = (accurate d, one-to-one d)

@@ -43,7 +43,7 @@ pub record Outcome : Type 0 where
   pub held : Held
   pub lent : List ℕ
 
-abbrev outcome : Reply → Held → List ℕ → Outcome
+abbrev pub outcome : Reply → Held → List ℕ → Outcome
 outcome r h b = record { reply = r; held = h; lent = b }
 
 -- "Load a text": "nothing held changes" where it is refused

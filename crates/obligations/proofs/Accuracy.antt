@@ -1,18 +1,22 @@
 -- Demand 2: what one look over all checks says of the obligations. Assumes nothing.
-use mathlib.Core.Path.{_≡_, refl, ap, subst}
+use mathlib.Core.Path.{_≡_, refl, sym, ap, subst}
 use mathlib.Core.Logic.{_⊎_, inl, inr}
 use mathlib.Core.Bool.{Bool, true, false}
 use mathlib.Core.Option.{some}
-use mathlib.Core.List.{[]}
+use mathlib.Core.List.{List, []}
 use Prim.Native.Nat.{ℕ, suc, _<_, _≤_}
 use lib.ListN.{getD, getElem?}
-use Rattle.form.specs.Tree.{Dossier}
-use Rattle.meaning.proofs.Places.{member-at, place-of, entry-member, member-entry}
+use Rattle.form.specs.Tree.{Operation, Dossier}
+use Rattle.static_rules.specs.Carriers.{Variable}
+use Rattle.meaning.specs.Meaning.{Binding}
+use Rattle.meaning.specs.Bindings.{Over}
+use Rattle.meaning.proofs.Places.{member-at, place-of, entry-below, below-entry}
 use Rattle.obligations.specs.Obligations.{Obligations}
 use Rattle.obligations.specs.Order.{Check, initialises, applies, corrects, passes, checks, total, Look, look}
 use Rattle.obligations.specs.Report.{checkAt}
 use Rattle.obligations.specs.CallDemands.{FirstFailing, wholeFails}
 use Rattle.obligations.specs.Demands.{IsCheck, Accurate}
+use Rattle.obligations.proofs.Sides.{inputs-at, outputs-at}
 use Rattle.obligations.proofs.Looks.{First, look-whole, look-first, whole-look, first-look}
 use Rattle.obligations.proofs.ListedChecks.{check-listed, listed-check}
 
@@ -23,6 +27,9 @@ PassBelow d n = (q : ℕ) → q < n → passes d (checkAt d q) ≡ true
 -- and every one from the place p on, before n
 abbrev pub PassBetween : Dossier → (p n : ℕ) → Type 0
 PassBetween d p n = (q : ℕ) → p ≤ q → q < n → passes d (checkAt d q) ≡ true
+
+over-at : {vs ws : List Variable} → vs ≡ ws → (b : Binding) → Over vs b → Over ws b
+over-at e b h = subst (λ (us : List Variable). Over us b) e h
 
 -- the checks of a dossier pass exactly if its obligations hold
 pub check-passes : (d : Dossier) → PassBelow d (total d) → (x : Check) → IsCheck d x → passes d x ≡ true
@@ -36,20 +43,22 @@ unfolding passes IsCheck
 obligations d h =
     record {
       initialisation = λ c l. check-passes d h (initialises c) l;
-      applicability = λ op m a c i la lc li.
-          let k : (k : ℕ) × (getElem? (d .operations) k ≡ some op) = member-entry op (d .operations) m in
-          check-passes d h (applies (k .0) op a c i) (k .1, la, lc, li);
-      correctness = λ op m a c i o c′ la lc li lo lc′.
-          let k : (k : ℕ) × (getElem? (d .operations) k ≡ some op) = member-entry op (d .operations) m in
-          check-passes d h (corrects (k .0) op a c i o c′) (k .1, la, lc, li, lo, lc′);
+      applicability = λ k l a c i la lc li.
+          let x : (op : Operation) × (getElem? (d .operations) k ≡ some op) = below-entry (d .operations) k l in
+          check-passes d h (applies k (x .0) a c i) (x .1, la, lc, over-at (inputs-at d k (x .0) (x .1)) i li);
+      correctness = λ k l a c i o c′ la lc li lo lc′.
+          let x : (op : Operation) × (getElem? (d .operations) k ≡ some op) = below-entry (d .operations) k l in
+          check-passes d h (corrects k (x .0) a c i o c′) (x .1, la, lc, over-at (inputs-at d k (x .0) (x .1)) i li, over-at (outputs-at d k (x .0) (x .1)) o lo, lc′);
     }
 
 meets-obligations : (d : Dossier) → Obligations d → (x : Check) → IsCheck d x → passes d x ≡ true
 unfolding passes IsCheck
 meets-obligations d ob (initialises c) h = ob .initialisation c h
-meets-obligations d ob (applies k op a c i) h = ob .applicability op (entry-member op (d .operations) k (h .0)) a c i (h .1) (h .2) (h .3)
+meets-obligations d ob (applies k op a c i) h =
+    ob .applicability k (entry-below op (d .operations) k (h .0)) a c i (h .1) (h .2) (over-at (sym (inputs-at d k op (h .0))) i (h .3))
 meets-obligations d ob (corrects k op a c i o c′) h =
-    ob .correctness op (entry-member op (d .operations) k (h .0)) a c i o c′ (h .1) (h .2) (h .3) (h .4) (h .5)
+    ob .correctness k (entry-below op (d .operations) k (h .0)) a c i o c′ (h .1) (h .2) (over-at (sym (inputs-at d k op (h .0))) i (h .3))
+    (over-at (sym (outputs-at d k op (h .0))) o (h .4)) (h .5)
 
 -- "A dossier is accepted exactly if no binding over its carriers breaks initialisation, applicability or correctness, and refuted exactly if one does."
 pub accurate : (d : Dossier) → Accurate d

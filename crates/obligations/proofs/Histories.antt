@@ -1,5 +1,5 @@
 -- Over any list of calls: what is held agrees with one look over all checks of the last loaded text. Assumes nothing.
-use mathlib.Core.Path.{_≡_, refl, sym, ap, _∙_, subst}
+use mathlib.Core.Path.{_≡_, refl, sym, ap, subst}
 use mathlib.Core.Bool.{Bool, true, false, cond, _||_}
 use mathlib.Core.List.{List, [], _∷_, _++_}
 use Prim.Native.Nat.{ℕ, pred, _+_, _-_, _<_, _≤_, min}
@@ -9,9 +9,11 @@ use lib.Dec.{eqb, ltb}
 use lib.ListN.{length}
 use Rattle.form.specs.Tree.{Dossier}
 use Rattle.static_rules.specs.Read.{Reading, refusal, reading, read}
+use Rattle.meaning.specs.Operations.{related}
 use Rattle.obligations.specs.Order.{Obligation, obligationOf}
 use Rattle.obligations.specs.Report.{checkAt}
 use Rattle.obligations.specs.Calls.{Verdict, unfinished, accepted, refuted, Held, nothing, holding, Call, load, advance, verdict, witness, release, Reply, verdictIs, Outcome, loading, advancing, writing, respond, Exchange, Trace, heldAfter}
+use Rattle.obligations.specs.Machines.{abstractSide, concreteSide}
 use Rattle.obligations.specs.Runs.{RunsMatch}
 use Rattle.obligations.specs.CallDemands.{IsRefusal, wholeCount, wholeFails, verdictBy, verdictAfter, Proper, Loaded, none, text, afterReply, afterCall, lastLoaded, Meant, Reached}
 use Rattle.obligations.specs.Demands.{acceptance, Demand3}
@@ -21,6 +23,7 @@ use Rattle.obligations.proofs.Strides.{advances, count-positive}
 use Rattle.obligations.proofs.PlainCalls.{loads}
 use Rattle.obligations.proofs.RefusedCalls.{demand-1}
 use Rattle.obligations.proofs.Counts.{sum-of-advances}
+use Rattle.obligations.proofs.Sides.{same-operations}
 use Rattle.obligations.proofs.Matching.{match}
 
 -- at a place that the look reaches, the verdict after as many bindings is proper
@@ -107,7 +110,7 @@ at-verdict nothing l s e = absurd (subst IsRefusal e tt)
 at-verdict (holding d p v) l s e =
     let q : v ≡ accepted = cc in
     let w : Proper (holding d p accepted) = subst (λ (x : Verdict). Proper (holding d p x)) q (s .1) in
-    (s .0 .0, (d, (s .0 .1, s .0 .2, match d (accurate d .sound (w .1)))))
+    (s .0 .0, (d, (s .0 .1, s .0 .2, match (abstractSide d) (concreteSide d) (related d) (same-operations d) (accurate d .sound (w .1)))))
 
 at-acceptance : (h : Held) (l : Loaded) → Sound h l → (earlier later : List Exchange) → Trace h (earlier ++ (acceptance ∷ later)) → Claimed (lastLoaded l earlier)
 unfolding Trace lastLoaded

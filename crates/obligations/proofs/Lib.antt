@@ -3,6 +3,7 @@ pub mod GivesLaws
 pub mod PlainCalls
 pub mod RefusedCalls
 pub mod Counts
+pub mod Sides
 pub mod Matching
 pub mod Looks
 pub mod Groups

@@ -1,5 +1,5 @@
 -- Demand 2 through the calls: load of a text that is read, verdict and drop. Assumes nothing.
-use mathlib.Core.Path.{_≡_, refl, ap}
+use mathlib.Core.Path.{refl, ap}
 use Rattle.obligations.specs.Calls.{nothing, holding, loading, respond}
 use Rattle.obligations.specs.CallDemands.{Loads, AnswersVerdict, Drops}
 

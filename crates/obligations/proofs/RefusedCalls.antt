@@ -9,9 +9,9 @@ use lib.ListN.{length}
 use Rattle.lexical.specs.Refusals.{advanceRange, shortBytes}
 use Rattle.form.specs.Tree.{Dossier}
 use Rattle.static_rules.specs.Read.{Reading, refusal, reading, read}
-use Rattle.obligations.specs.Order.{Obligation, Look}
+use Rattle.obligations.specs.Order.{Obligation}
 use Rattle.obligations.specs.Calls.{unfinished, accepted, refuted, Held, nothing, holding, Call, load, advance, verdict, witness, release, Reply, refused, Outcome, loading, advanced, advancing, writing, respond}
-use Rattle.obligations.specs.RefusalTable.{when, faultIn, row15, row16, firstOf, expected, refusalIn, lentTo}
+use Rattle.obligations.specs.RefusalTable.{when, faultIn, row15, firstOf, expected, refusalIn, lentTo}
 use Rattle.obligations.specs.CallDemands.{IsRefusal}
 use Rattle.obligations.specs.Demands.{Demand1}
 use Rattle.symbols.proofs.BooleanTests.{on-cond}

@@ -1,12 +1,12 @@
 -- Demand 2: what the program prints, and all that the calls show. Assumes nothing.
-use mathlib.Core.Path.{_≡_, refl, ap, _∙_}
-use mathlib.Core.Bool.{true, false}
+use mathlib.Core.Path.{_≡_, ap, _∙_}
+use mathlib.Core.Bool.{false}
 use mathlib.Core.List.{_++_}
 use Prim.Native.Nat.{ℕ, suc}
 use Rattle.lexical.specs.Lists.{bytes}
 use Rattle.form.specs.Tree.{Dossier}
 use Rattle.obligations.specs.Obligations.{Obligations}
-use Rattle.obligations.specs.Order.{obligationOf, checks, total, Look, look}
+use Rattle.obligations.specs.Order.{obligationOf, checks, total, look}
 use Rattle.obligations.specs.Report.{checkAt, witnessLines, refutedLine, countLine, verdictLines, reported, report}
 use Rattle.obligations.specs.CallDemands.{FirstFailing, Reports}
 use Rattle.obligations.specs.Demands.{Demand2}

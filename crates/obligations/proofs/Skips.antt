@@ -11,12 +11,14 @@ use Rattle.form.specs.Tree.{Operation, Dossier}
 use Rattle.static_rules.specs.Scope.{inputs}
 use Rattle.meaning.specs.Meaning.{Binding}
 use Rattle.meaning.specs.Bindings.{bindings, Among}
-use Rattle.meaning.specs.Operations.{abstractBindings, concreteBindings, related, concreteStep, abstractPre}
+use Rattle.meaning.specs.Operations.{abstractBindings, concreteBindings, related, abstractPre}
 use Rattle.meaning.proofs.Places.{member-at}
+use Rattle.obligations.specs.Machines.{pre, abstractSide}
 use Rattle.obligations.specs.Obligations.{applicabilityAt, correctnessAt}
 use Rattle.obligations.specs.Order.{Check, initialises, applies, corrects, passes}
 use Rattle.obligations.specs.Report.{checkAt}
 use Rattle.symbols.proofs.BooleanTests.{and-left-false, and-right-false}
+use Rattle.obligations.proofs.Sides.{abstract-pre-at}
 use Rattle.obligations.proofs.GivesLaws.{gives-vacuous}
 use Rattle.obligations.proofs.Groups.{appliesAt, correctsBy, correctsAt, every-applies-at, every-corrects-by, every-corrects-at}
 use Rattle.obligations.proofs.Accuracy.{PassBetween}
@@ -26,21 +28,23 @@ module _ (d : Dossier) where
   -- "abstract precondition and retrieve give ...": where either fails, the check passes
   pub unrelated-applies : (k : ℕ) (op : Operation) (a c i : Binding) → related d a c ≡ false → passes d (applies k op a c i) ≡ true
   unfolding passes applicabilityAt
-  unrelated-applies k op a c i e = gives-vacuous _ _ (and-right-false (abstractPre d op a i) (related d a c) e)
+  unrelated-applies k op a c i e = gives-vacuous _ _ (and-right-false (pre (abstractSide d) k a i) (related d a c) e)
 
   pub unrelated-corrects : (k : ℕ) (op : Operation) (a c i o c′ : Binding) → related d a c ≡ false → passes d (corrects k op a c i o c′) ≡ true
   unfolding passes correctnessAt
   unrelated-corrects k op a c i o c′ e =
-      gives-vacuous _ _ (and-left-false (abstractPre d op a i && related d a c) (concreteStep d op c i o c′) (and-right-false (abstractPre d op a i) (related d a c) e))
+      gives-vacuous _ _ (and-left-false (pre (abstractSide d) k a i && related d a c) _ (and-right-false (pre (abstractSide d) k a i) (related d a c) e))
 
-  pub inapplicable-applies : (k : ℕ) (op : Operation) (a c i : Binding) → abstractPre d op a i ≡ false → passes d (applies k op a c i) ≡ true
+  pub inapplicable-applies : (k : ℕ) (op : Operation) → getElem? (d .operations) k ≡ some op → (a c i : Binding) → abstractPre d op a i ≡ false → passes d (applies k op a c i) ≡ true
   unfolding passes applicabilityAt
-  inapplicable-applies k op a c i e = gives-vacuous _ _ (and-left-false (abstractPre d op a i) (related d a c) e)
+  inapplicable-applies k op listed a c i e = gives-vacuous _ _ (and-left-false (pre (abstractSide d) k a i) (related d a c) (abstract-pre-at d k op listed a i ∙ e))
 
-  pub inapplicable-corrects : (k : ℕ) (op : Operation) (a c i o c′ : Binding) → abstractPre d op a i ≡ false → passes d (corrects k op a c i o c′) ≡ true
+  pub inapplicable-corrects : (k : ℕ) (op : Operation) → getElem? (d .operations) k ≡ some op → (a c i o c′ : Binding) → abstractPre d op a i ≡ false
+      → passes d (corrects k op a c i o c′) ≡ true
   unfolding passes correctnessAt
-  inapplicable-corrects k op a c i o c′ e =
-      gives-vacuous _ _ (and-left-false (abstractPre d op a i && related d a c) (concreteStep d op c i o c′) (and-left-false (abstractPre d op a i) (related d a c) e))
+  inapplicable-corrects k op listed a c i o c′ e =
+      gives-vacuous _ _
+      (and-left-false (pre (abstractSide d) k a i && related d a c) _ (and-left-false (pre (abstractSide d) k a i) (related d a c) (abstract-pre-at d k op listed a i ∙ e)))
 
   abbrev Passing : Check → Type 0
   Passing x = passes d x ≡ true
@@ -95,7 +99,7 @@ module _ (d : Dossier) where
           ap (passes d)
           (applicability-place d k op listed ((a * concretes d + c) * givens d op + i) (digits-lt (digits-lt la lc) li)
           ∙ applicability-digits d k op (initialises []) a c i la lc li)
-          ∙ inapplicable-applies k op abstractOne concreteOne inputOne e
+          ∙ inapplicable-applies k op listed abstractOne concreteOne inputOne e
 
       pub inapplicable-correctness : abstractPre d op (nth (abstractBindings d) a) (nth (bindings (inputs d op)) i) ≡ false
           → PassBetween d (startOf d k + applicabilitySize d op + ((a * concretes d + c) * givens d op + i) * results d op * concretes d)
@@ -107,7 +111,7 @@ module _ (d : Dossier) where
           let b : ((a * concretes d + c) * givens d op + i) * (results d op * concretes d) + q < abstracts d * concretes d * givens d op * (results d op * concretes d)
           = digits-lt (digits-lt (digits-lt la lc) li) lq in
           passes-at (correctsBy d k op abstractOne concreteOne inputOne)
-          (every-corrects-by d Passing k op abstractOne concreteOne inputOne (λ o c′. inapplicable-corrects k op abstractOne concreteOne inputOne o c′ e))
+          (every-corrects-by d Passing k op abstractOne concreteOne inputOne (λ o c′. inapplicable-corrects k op listed abstractOne concreteOne inputOne o c′ e))
           j q (omega (arith, length-corrects-by d k op abstractOne concreteOne inputOne))
           (ap (checkAt d) s
           ∙ correctness-place d k op listed (((a * concretes d + c) * givens d op + i) * (results d op * concretes d) + q) (omega arith)

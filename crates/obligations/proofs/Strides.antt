@@ -6,8 +6,8 @@ use Prim.Native.Nat.{ℕ, suc, pred, _+_, _-_, _<_, _≤_, min}
 use native.Mathlib.Decide.{decLt}
 use native.Mathlib.Omega.{arith}
 use borrow.Author.Tests.{le-leb, lt-leb, le-ltb, lt-ltb, ne-eqb}
-use lib.Dec.{eqb, leb, ltb}
-use lib.ListN.{length, length-append, length-map}
+use lib.Dec.{eqb, ltb}
+use lib.ListN.{length-append, length-map}
 use Rattle.form.specs.Tree.{Dossier}
 use Rattle.static_rules.specs.Limits.{bindingCount}
 use Rattle.static_rules.specs.Scope.{unprimed}
@@ -15,10 +15,10 @@ use Rattle.meaning.specs.Operations.{concreteBindings}
 use Rattle.carriers.proofs.Bindings.{bindings-some, bindings-count}
 use Rattle.obligations.specs.Order.{obligationOf, initialises, passes, operationChecks, checks, total, Look, look}
 use Rattle.obligations.specs.Report.{checkAt}
-use Rattle.obligations.specs.Calls.{Verdict, unfinished, accepted, refuted, holding, advance, looked, Outcome, outcome, verdictAt, advanced, advancing, respond}
+use Rattle.obligations.specs.Calls.{Verdict, unfinished, accepted, refuted, holding, advance, looked, outcome, verdictAt, advanced, advancing, respond}
 use Rattle.obligations.specs.CallDemands.{FirstFailing, wholeCount, wholeFails, wholeVerdict, verdictBy, verdictAfter, Advances}
 use Rattle.obligations.proofs.Looks.{look-whole}
-use Rattle.obligations.proofs.Accuracy.{PassBetween, accurate}
+use Rattle.obligations.proofs.Accuracy.{accurate}
 use Rattle.obligations.proofs.Advances.{nextChecks, advance-passes, advance-fails}
 
 module _ (d : Dossier) where

@@ -1,7 +1,6 @@
 -- What the calls show of a dossier's checks: advance, verdict, witness, drop and the report.
 use mathlib.Core.Path.{_≡_}
 use mathlib.Core.Bool.{Bool, true, false, cond}
-use mathlib.Core.Logic.{_⊎_}
 use mathlib.Core.List.{List, [], _∷_, _++_}
 use Prim.Native.Nat.{ℕ, suc, pred, _<_, _≤_, _+_, _-_, min}
 use lib.Dec.{ltb}

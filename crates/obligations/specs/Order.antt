@@ -8,7 +8,8 @@ use Rattle.static_rules.specs.Carriers.{Variable}
 use Rattle.static_rules.specs.Scope.{unprimed, primed, inputs, outputs}
 use Rattle.meaning.specs.Meaning.{Binding}
 use Rattle.meaning.specs.Bindings.{bindings, flat}
-use Rattle.meaning.specs.Operations.{abstractBindings, concreteBindings, outputBindings, after}
+use Rattle.meaning.specs.Operations.{abstractBindings, concreteBindings, outputBindings, after, related}
+use Rattle.obligations.specs.Machines.{abstractSide, concreteSide}
 use Rattle.obligations.specs.Obligations.{initialisationAt, applicabilityAt, correctnessAt}
 
 -- an obligation, the last two with the operation's number
@@ -29,9 +30,9 @@ obligationOf (corrects k op a c i o c′) = correctness k
 
 -- the check does not break its obligation
 unfoldable pub passes : Dossier → Check → Bool
-passes d (initialises c) = initialisationAt d c
-passes d (applies k op a c i) = applicabilityAt d op a c i
-passes d (corrects k op a c i o c′) = correctnessAt d op a c i o c′
+passes d (initialises c) = initialisationAt (abstractSide d) (concreteSide d) (related d) c
+passes d (applies k op a c i) = applicabilityAt (abstractSide d) (concreteSide d) (related d) k a c i
+passes d (corrects k op a c i o c′) = correctnessAt (abstractSide d) (concreteSide d) (related d) k a c i o c′
 
 -- "applicability over abstract, concrete, inputs; correctness over abstract, concrete, inputs, outputs, concrete primed; each group as declared, the last variable fastest."
 unfoldable pub applicabilityChecks : Dossier → ℕ → Operation → List Check

@@ -5,8 +5,8 @@ use mathlib.Core.List.{List, [], _∷_}
 use Prim.Native.Nat.{ℕ, _+_}
 use lib.Dec.{eqb, ltb}
 use lib.ListN.{length}
-use Rattle.form.specs.Tree.{Dossier}
 use Rattle.static_rules.specs.Read.{Reading, refusal, reading, read}
+use Rattle.obligations.specs.Subjects.{Subject}
 use Rattle.obligations.specs.Order.{Obligation, Look}
 use Rattle.obligations.specs.Calls.{unfinished, accepted, refuted, Held, nothing, holding, Call, load, advance, verdict, witness, release, Reply, Outcome, loading, advanced, advancing, writing, respond, Exchange, Trace, heldAfter}
 use Rattle.obligations.specs.CallDemands.{counted, sumOfAdvances, AtPlace}
@@ -22,18 +22,18 @@ unfolding respond loading
 load-counted t (refusal f) e n = subst (λ (r : Reading). Counted (loading r) n) (sym e) tt
 load-counted t (reading d) e n = subst (λ (o : Outcome). Counted o n) (sym (loads t d e)) refl
 
-look-counted : (d : Dossier) (p : ℕ) (l : Look) (n : ℕ) → n ≡ p → Counted (advanced d p l) n
+look-counted : (σ : Subject) (p : ℕ) (l : Look) (n : ℕ) → n ≡ p → Counted (advanced σ p l) n
 unfolding advanced
-look-counted d p l n e = ap (λ (x : ℕ). x + l .count) e
+look-counted σ p l n e = ap (λ (x : ℕ). x + l .count) e
 
-advance-counted : (d : Dossier) (p k n : ℕ) → n ≡ p → Counted (advancing d p k) n
+advance-counted : (σ : Subject) (p k n : ℕ) → n ≡ p → Counted (advancing σ p k) n
 unfolding advancing
-advance-counted d p k n e =
-    on-cond (λ (o : Outcome). Counted o n) (eqb k 0 || ltb 1000000000 k) _ _ e (look-counted d p _ n e)
+advance-counted σ p k n e =
+    on-cond (λ (o : Outcome). Counted o n) (eqb k 0 || ltb 1000000000 k) _ _ e (look-counted σ p _ n e)
 
-witness-counted : (d : Dossier) (p : ℕ) (o : Obligation) (lines lent : List ℕ) (n : ℕ) → n ≡ p → Counted (writing d p o lines lent) n
+witness-counted : (σ : Subject) (p : ℕ) (o : Obligation) (lines lent : List ℕ) (n : ℕ) → n ≡ p → Counted (writing σ p o lines lent) n
 unfolding writing
-witness-counted d p o lines lent n e = on-cond (λ (r : Outcome). Counted r n) (ltb (length lent) (length lines)) _ _ e e
+witness-counted σ p o lines lent n e = on-cond (λ (r : Outcome). Counted r n) (ltb (length lent) (length lines)) _ _ e e
 
 call-counted : (h : Held) (c : Call) (n : ℕ) → AtPlace h n → Counted (respond h c) n
 unfolding respond
@@ -42,15 +42,15 @@ call-counted nothing (advance k) n s = tt
 call-counted nothing verdict n s = tt
 call-counted nothing (witness b) n s = tt
 call-counted nothing release n s = tt
-call-counted (holding d p v) (load t) n s = s
-call-counted (holding d p unfinished) (advance k) n s = advance-counted d p k n s
-call-counted (holding d p accepted) (advance k) n s = s
-call-counted (holding d p (refuted o)) (advance k) n s = s
-call-counted (holding d p v) verdict n s = s
-call-counted (holding d p unfinished) (witness b) n s = s
-call-counted (holding d p accepted) (witness b) n s = s
-call-counted (holding d p (refuted o)) (witness b) n s = witness-counted d p o _ b n s
-call-counted (holding d p v) release n s = tt
+call-counted (holding σ p v) (load t) n s = s
+call-counted (holding σ p unfinished) (advance k) n s = advance-counted σ p k n s
+call-counted (holding σ p accepted) (advance k) n s = s
+call-counted (holding σ p (refuted o)) (advance k) n s = s
+call-counted (holding σ p v) verdict n s = s
+call-counted (holding σ p unfinished) (witness b) n s = s
+call-counted (holding σ p accepted) (witness b) n s = s
+call-counted (holding σ p (refuted o)) (witness b) n s = witness-counted σ p o _ b n s
+call-counted (holding σ p v) release n s = tt
 
 -- from any held check on whose place the sum n stands at
 sum-from : (xs : List Exchange) (h : Held) (n : ℕ) → AtPlace h n → Trace h xs → AtPlace (heldAfter h xs) (sumOfAdvances n xs)

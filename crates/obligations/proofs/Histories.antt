@@ -10,6 +10,7 @@ use lib.ListN.{length}
 use Rattle.form.specs.Tree.{Dossier}
 use Rattle.static_rules.specs.Read.{Reading, refusal, reading, read}
 use Rattle.meaning.specs.Operations.{related}
+use Rattle.obligations.specs.Subjects.{Subject, subjectOf}
 use Rattle.obligations.specs.Order.{Obligation, obligationOf}
 use Rattle.obligations.specs.Report.{checkAt}
 use Rattle.obligations.specs.Calls.{Verdict, unfinished, accepted, refuted, Held, nothing, holding, Call, load, advance, verdict, witness, release, Reply, verdictIs, Outcome, loading, advancing, writing, respond, Exchange, Trace, heldAfter}
@@ -27,47 +28,47 @@ use Rattle.obligations.proofs.Sides.{same-operations}
 use Rattle.obligations.proofs.Matching.{match}
 
 -- at a place that the look reaches, the verdict after as many bindings is proper
-proper-after : (d : Dossier) (p n : ℕ) → p < wholeCount d → Proper (holding d (p + min n (wholeCount d - p)) (verdictAfter d (p + min n (wholeCount d - p))))
-proper-after d p n h = go (ltb q (wholeCount d)) refl
+proper-after : (σ : Subject) (p n : ℕ) → p < wholeCount σ → Proper (holding σ (p + min n (wholeCount σ - p)) (verdictAfter σ (p + min n (wholeCount σ - p))))
+proper-after σ p n h = go (ltb q (wholeCount σ)) refl
   where
     q : ℕ
-    q = p + min n (wholeCount d - p)
+    q = p + min n (wholeCount σ - p)
 
-    ended : (t : Bool) → wholeFails d ≡ t → q ≡ wholeCount d → Proper (holding d q (verdictBy t (obligationOf (checkAt d (pred (wholeCount d))))))
-    ended true e f = (f, e, ap (λ (k : ℕ). obligationOf (checkAt d (pred k))) (sym f))
+    ended : (t : Bool) → wholeFails σ ≡ t → q ≡ wholeCount σ → Proper (holding σ q (verdictBy t (obligationOf (checkAt σ (pred (wholeCount σ))))))
+    ended true e f = (f, e, ap (λ (k : ℕ). obligationOf (checkAt σ (pred k))) (sym f))
     ended false e f = (f, e)
 
-    go : (t : Bool) → ltb q (wholeCount d) ≡ t → Proper (holding d q (cond t unfinished (verdictBy (wholeFails d) (obligationOf (checkAt d (pred (wholeCount d)))))))
-    go true e = ltb-true q (wholeCount d) e
-    go false e = let l : wholeCount d ≤ q = ltb-false q (wholeCount d) e in ended (wholeFails d) refl (omega arith)
+    go : (t : Bool) → ltb q (wholeCount σ) ≡ t → Proper (holding σ q (cond t unfinished (verdictBy (wholeFails σ) (obligationOf (checkAt σ (pred (wholeCount σ)))))))
+    go true e = ltb-true q (wholeCount σ) e
+    go false e = let l : wholeCount σ ≤ q = ltb-false q (wholeCount σ) e in ended (wholeFails σ) refl (omega arith)
 
--- the held dossier is the reading of the last loaded text, and the rest is proper
+-- what is held is the reading of the last loaded text, and the rest is proper
 abbrev pub Sound : Held → Loaded → Type 0
 Sound h l = Meant h l × Proper h
 
 load-sound : (t : List ℕ) (l : Loaded) (r : Reading) → read t ≡ r → Sound (respond nothing (load t) .held) (afterReply t (respond nothing (load t) .reply) l)
 unfolding respond loading
 load-sound t l (refusal f) e = subst (λ (r : Reading). Sound (loading r .held) (afterReply t (loading r .reply) l)) (sym e) (tt, tt)
-load-sound t l (reading d) e = subst (λ (o : Outcome). Sound (o .held) (afterReply t (o .reply) l)) (sym (loads t d e)) ((t, refl, e), count-positive d)
+load-sound t l (reading d) e = subst (λ (o : Outcome). Sound (o .held) (afterReply t (o .reply) l)) (sym (loads t d e)) ((t, refl, e), count-positive (subjectOf d))
 
-out-of-range : (d : Dossier) (p n : ℕ) → (eqb n 0 || ltb 1000000000 n) ≡ true → IsRefusal (respond (holding d p unfinished) (advance n) .reply)
+out-of-range : (σ : Subject) (p n : ℕ) → (eqb n 0 || ltb 1000000000 n) ≡ true → IsRefusal (respond (holding σ p unfinished) (advance n) .reply)
 unfolding respond advancing
-out-of-range d p n e = rw e tt
+out-of-range σ p n e = rw e tt
 
 -- an advance out of range is refused, any other is what `advances` says
-advance-sound : (d : Dossier) (p n : ℕ) (l : Loaded) → Sound (holding d p unfinished) l → Sound (respond (holding d p unfinished) (advance n) .held) l
-advance-sound d p n l s = go (eqb n 0 || ltb 1000000000 n) refl
+advance-sound : (σ : Subject) (p n : ℕ) (l : Loaded) → Sound (holding σ p unfinished) l → Sound (respond (holding σ p unfinished) (advance n) .held) l
+advance-sound σ p n l s = go (eqb n 0 || ltb 1000000000 n) refl
   where
-    go : (t : Bool) → (eqb n 0 || ltb 1000000000 n) ≡ t → Sound (respond (holding d p unfinished) (advance n) .held) l
-    go true e = subst (λ (h : Held). Sound h l) (sym (demand-1 .unchanged (holding d p unfinished) (advance n) (out-of-range d p n e) .0)) s
+    go : (t : Bool) → (eqb n 0 || ltb 1000000000 n) ≡ t → Sound (respond (holding σ p unfinished) (advance n) .held) l
+    go true e = subst (λ (h : Held). Sound h l) (sym (demand-1 .unchanged (holding σ p unfinished) (advance n) (out-of-range σ p n e) .0)) s
     go false e =
         let f : (eqb n 0 ≡ false) × (ltb 1000000000 n ≡ false) = or-false (eqb n 0) (ltb 1000000000 n) e in
         let k : n ≡ 0 → ⊥ = eqb-false n 0 (f .0) in
-        subst (λ (o : Outcome). Sound (o .held) l) (sym (advances d p n (s .1) (omega arith) (ltb-false 1000000000 n (f .1)))) (s .0, proper-after d p n (s .1))
+        subst (λ (o : Outcome). Sound (o .held) l) (sym (advances σ p n (s .1) (omega arith) (ltb-false 1000000000 n (f .1)))) (s .0, proper-after σ p n (s .1))
 
-witness-sound : (d : Dossier) (p : ℕ) (o : Obligation) (lines lent : List ℕ) (l : Loaded) → Sound (holding d p (refuted o)) l → Sound (writing d p o lines lent .held) l
+witness-sound : (σ : Subject) (p : ℕ) (o : Obligation) (lines lent : List ℕ) (l : Loaded) → Sound (holding σ p (refuted o)) l → Sound (writing σ p o lines lent .held) l
 unfolding writing
-witness-sound d p o lines lent l s = on-cond (λ (r : Outcome). Sound (r .held) l) (ltb (length lent) (length lines)) _ _ s s
+witness-sound σ p o lines lent l s = on-cond (λ (r : Outcome). Sound (r .held) l) (ltb (length lent) (length lines)) _ _ s s
 
 call-sound : (h : Held) (c : Call) (l : Loaded) → Sound h l → Sound (respond h c .held) (afterCall c (respond h c .reply) l)
 unfolding respond
@@ -76,15 +77,15 @@ call-sound nothing (advance n) l s = s
 call-sound nothing verdict l s = s
 call-sound nothing (witness b) l s = s
 call-sound nothing release l s = s
-call-sound (holding d p v) (load t) l s = s
-call-sound (holding d p unfinished) (advance n) l s = advance-sound d p n l s
-call-sound (holding d p accepted) (advance n) l s = s
-call-sound (holding d p (refuted o)) (advance n) l s = s
-call-sound (holding d p v) verdict l s = s
-call-sound (holding d p unfinished) (witness b) l s = s
-call-sound (holding d p accepted) (witness b) l s = s
-call-sound (holding d p (refuted o)) (witness b) l s = witness-sound d p o _ b l s
-call-sound (holding d p v) release l s = (tt, tt)
+call-sound (holding σ p v) (load t) l s = s
+call-sound (holding σ p unfinished) (advance n) l s = advance-sound σ p n l s
+call-sound (holding σ p accepted) (advance n) l s = s
+call-sound (holding σ p (refuted o)) (advance n) l s = s
+call-sound (holding σ p v) verdict l s = s
+call-sound (holding σ p unfinished) (witness b) l s = s
+call-sound (holding σ p accepted) (witness b) l s = s
+call-sound (holding σ p (refuted o)) (witness b) l s = witness-sound σ p o _ b l s
+call-sound (holding σ p v) release l s = (tt, tt)
 
 sound-next : (h : Held) (x : Exchange) (l : Loaded) → Sound h l → respond h (x .call) .reply ≡ x .reply → Sound (respond h (x .call) .held) (afterCall (x .call) (x .reply) l)
 sound-next h x l s e = subst (λ (r : Reply). Sound (respond h (x .call) .held) (afterCall (x .call) r l)) e (call-sound h (x .call) l s)
@@ -107,10 +108,10 @@ Claimed l = (t : List ℕ) × ((d : Dossier) × ((l ≡ text t) × (read t ≡ r
 at-verdict : (h : Held) (l : Loaded) → Sound h l → respond h verdict .reply ≡ verdictIs accepted → Claimed l
 unfolding respond
 at-verdict nothing l s e = absurd (subst IsRefusal e tt)
-at-verdict (holding d p v) l s e =
+at-verdict (holding σ p v) l s e =
     let q : v ≡ accepted = cc in
-    let w : Proper (holding d p accepted) = subst (λ (x : Verdict). Proper (holding d p x)) q (s .1) in
-    (s .0 .0, (d, (s .0 .1, s .0 .2, match (abstractSide d) (concreteSide d) (related d) (same-operations d) (accurate d .sound (w .1)))))
+    let w : Proper (holding σ p accepted) = subst (λ (x : Verdict). Proper (holding σ p x)) q (s .1) in
+    (s .0 .0, (σ .dossier, (s .0 .1, s .0 .2, match (abstractSide (σ .dossier)) (concreteSide (σ .dossier)) (related (σ .dossier)) (same-operations (σ .dossier)) (accurate σ .sound (w .1)))))
 
 at-acceptance : (h : Held) (l : Loaded) → Sound h l → (earlier later : List Exchange) → Trace h (earlier ++ (acceptance ∷ later)) → Claimed (lastLoaded l earlier)
 unfolding Trace lastLoaded

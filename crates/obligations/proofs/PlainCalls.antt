@@ -9,9 +9,9 @@ loads t d e = ap loading e
 
 pub answers : AnswersVerdict
 unfolding respond
-answers d p v = refl
+answers σ p v = refl
 
 pub drops : Drops
 unfolding respond
 drops nothing = refl
-drops (holding d p v) = refl
+drops (holding σ p v) = refl

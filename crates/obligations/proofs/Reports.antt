@@ -4,7 +4,7 @@ use mathlib.Core.Bool.{false}
 use mathlib.Core.List.{_++_}
 use Prim.Native.Nat.{ℕ, suc}
 use Rattle.lexical.specs.Lists.{bytes}
-use Rattle.form.specs.Tree.{Dossier}
+use Rattle.obligations.specs.Subjects.{Subject, subjectOf}
 use Rattle.obligations.specs.Obligations.{Obligations}
 use Rattle.obligations.specs.Order.{obligationOf, checks, total, look}
 use Rattle.obligations.specs.Report.{checkAt, witnessLines, refutedLine, countLine, verdictLines, reported, report}
@@ -17,25 +17,25 @@ use Rattle.obligations.proofs.Strides.{advances}
 use Rattle.obligations.proofs.Histories.{reached}
 use Rattle.obligations.proofs.Witnesses.{shows-first}
 
-accepted-lines : (d : Dossier) → Obligations d → verdictLines d (look d (checks d)) ≡ bytes "accepted\n" ++ countLine (total d)
+accepted-lines : (σ : Subject) → Obligations σ → verdictLines σ (look σ (checks σ)) ≡ bytes "accepted\n" ++ countLine (total σ)
 unfolding verdictLines
-accepted-lines d ob =
-    let l : look d (checks d) ≡ record { count = total d; failed = false }
-    = λ i. record { count = accurate d .whole (accurate d .complete ob) i; failed = accurate d .complete ob i } in
-    ap (verdictLines d) l
+accepted-lines σ ob =
+    let l : look σ (checks σ) ≡ record { count = total σ; failed = false }
+    = λ i. record { count = accurate σ .whole (accurate σ .complete ob) i; failed = accurate σ .complete ob i } in
+    ap (verdictLines σ) l
 
-refuted-lines : (d : Dossier) (q : ℕ) → FirstFailing d q
-    → verdictLines d (look d (checks d)) ≡ refutedLine d (obligationOf (checkAt d q)) ++ witnessLines d (checkAt d q) ++ countLine (suc q)
+refuted-lines : (σ : Subject) (q : ℕ) → FirstFailing σ q
+    → verdictLines σ (look σ (checks σ)) ≡ refutedLine (σ .dossier) (obligationOf (checkAt σ q)) ++ witnessLines σ (checkAt σ q) ++ countLine (suc q)
 unfolding verdictLines
-refuted-lines d q f = ap (verdictLines d) (failing-look d q f)
+refuted-lines σ q f = ap (verdictLines σ) (failing-look σ q f)
 
 reports : Reports
 unfolding report
 reports =
     record {
       refused = λ t f e. ap reported e;
-      accepted = λ t d e ob. ap reported e ∙ accepted-lines d ob;
-      refuted = λ t d e q f. ap reported e ∙ refuted-lines d q f;
+      accepted = λ t d e ob. ap reported e ∙ accepted-lines (subjectOf d) ob;
+      refuted = λ t d e q f. ap reported e ∙ refuted-lines (subjectOf d) q f;
     }
 
 -- "A dossier is accepted exactly if no binding over its carriers breaks initialisation, applicability or correctness, and refuted exactly if one does.

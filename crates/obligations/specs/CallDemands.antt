@@ -9,6 +9,7 @@ use Rattle.lexical.specs.Lists.{bytes}
 use Rattle.lexical.specs.Refusals.{Fault}
 use Rattle.form.specs.Tree.{Dossier}
 use Rattle.static_rules.specs.Read.{refusal, reading, read}
+use Rattle.obligations.specs.Subjects.{Subject, subjectOf}
 use Rattle.obligations.specs.Obligations.{Obligations}
 use Rattle.obligations.specs.Order.{Obligation, obligationOf, passes, checks, total, look}
 use Rattle.obligations.specs.Report.{checkAt, witnessLines, refutedLine, countLine, refusedLine, report}
@@ -24,42 +25,42 @@ IsRefusal (written n) = ⊥
 IsRefusal dropped = ⊥
 
 -- "The binding shown is the first in the fixed order": the check at the place q does not pass, and every one before it does
-pub record FirstFailing (d : Dossier) (q : ℕ) : Type 0 where
-  pub inside : q < total d
-  pub fails : passes d (checkAt d q) ≡ false
-  pub before : (r : ℕ) → r < q → passes d (checkAt d r) ≡ true
+pub record FirstFailing (σ : Subject) (q : ℕ) : Type 0 where
+  pub inside : q < total σ
+  pub fails : passes σ (checkAt σ q) ≡ false
+  pub before : (r : ℕ) → r < q → passes σ (checkAt σ r) ≡ true
 
 -- one look over all checks: "how many were looked at up to it", whether the last one failed, and the verdict after it
-abbrev pub wholeCount : Dossier → ℕ
-wholeCount d = look d (checks d) .count
+abbrev pub wholeCount : Subject → ℕ
+wholeCount σ = look σ (checks σ) .count
 
-abbrev pub wholeFails : Dossier → Bool
-wholeFails d = look d (checks d) .failed
+abbrev pub wholeFails : Subject → Bool
+wholeFails σ = look σ (checks σ) .failed
 
 abbrev pub verdictBy : Bool → Obligation → Verdict
 verdictBy true o = refuted o
 verdictBy false o = accepted
 
-abbrev pub wholeVerdict : Dossier → Verdict
-wholeVerdict d = verdictBy (wholeFails d) (obligationOf (checkAt d (pred (wholeCount d))))
+abbrev pub wholeVerdict : Subject → Verdict
+wholeVerdict σ = verdictBy (wholeFails σ) (obligationOf (checkAt σ (pred (wholeCount σ))))
 
 -- "The verdict is unfinished until the last binding, or the first failing one, has been looked at.": once q bindings have been
-abbrev pub verdictAfter : Dossier → (q : ℕ) → Verdict
-verdictAfter d q = cond (ltb q (wholeCount d)) unfinished (wholeVerdict d)
+abbrev pub verdictAfter : Subject → (q : ℕ) → Verdict
+verdictAfter σ q = cond (ltb q (wholeCount σ)) unfinished (wholeVerdict σ)
 
 -- "Load a text"
 abbrev pub Loads : Type 0
-Loads = (t : List ℕ) (d : Dossier) → read t ≡ reading d → respond nothing (load t) ≡ outcome loaded (holding d 0 unfinished) []
+Loads = (t : List ℕ) (d : Dossier) → read t ≡ reading d → respond nothing (load t) ≡ outcome loaded (holding (subjectOf d) 0 unfinished) []
 
 -- "Advance by n looks at the next n bindings, fewer if the verdict comes, and returns how many."
 abbrev pub Advances : Type 0
-Advances = (d : Dossier) (p n : ℕ) → p < wholeCount d → 1 ≤ n → n ≤ 1000000000
-    → respond (holding d p unfinished) (advance n)
-    ≡ outcome (looked (min n (wholeCount d - p))) (holding d (p + min n (wholeCount d - p)) (verdictAfter d (p + min n (wholeCount d - p)))) []
+Advances = (σ : Subject) (p n : ℕ) → p < wholeCount σ → 1 ≤ n → n ≤ 1000000000
+    → respond (holding σ p unfinished) (advance n)
+    ≡ outcome (looked (min n (wholeCount σ - p))) (holding σ (p + min n (wholeCount σ - p)) (verdictAfter σ (p + min n (wholeCount σ - p)))) []
 
 -- the held verdict, whatever is held
 abbrev pub AnswersVerdict : Type 0
-AnswersVerdict = (d : Dossier) (p : ℕ) (v : Verdict) → respond (holding d p v) verdict ≡ outcome (verdictIs v) (holding d p v) []
+AnswersVerdict = (σ : Subject) (p : ℕ) (v : Verdict) → respond (holding σ p v) verdict ≡ outcome (verdictIs v) (holding σ p v) []
 
 -- "Drop returns to nothing held and is never refused."
 abbrev pub Drops : Type 0
@@ -68,9 +69,9 @@ Drops = (h : Held) → respond h release ≡ outcome dropped nothing []
 -- what is held agrees with one look over all checks, in whatever strides it was advanced
 abbrev pub Proper : Held → Type 0
 Proper nothing = Unit {0}
-Proper (holding d p unfinished) = p < wholeCount d
-Proper (holding d p accepted) = (p ≡ wholeCount d) × (wholeFails d ≡ false)
-Proper (holding d p (refuted o)) = (p ≡ wholeCount d) × (wholeFails d ≡ true) × (o ≡ obligationOf (checkAt d (pred p)))
+Proper (holding σ p unfinished) = p < wholeCount σ
+Proper (holding σ p accepted) = (p ≡ wholeCount σ) × (wholeFails σ ≡ false)
+Proper (holding σ p (refuted o)) = (p ≡ wholeCount σ) × (wholeFails σ ≡ true) × (o ≡ obligationOf (checkAt σ (pred p)))
 
 -- "The dossier meant is that of the last unrefused load before the verdict."
 pub data Loaded : Type 0 where
@@ -97,10 +98,10 @@ unfoldable pub lastLoaded : Loaded → List Exchange → Loaded
 lastLoaded l [] = l
 lastLoaded l (x ∷ xs) = lastLoaded (afterCall (x .call) (x .reply) l) xs
 
--- the held dossier is the reading of the text t that was loaded last
+-- what is held is the reading of the text t that was loaded last
 abbrev pub Meant : Held → Loaded → Type 0
 Meant nothing l = Unit {0}
-Meant (holding d p v) l = (t : List ℕ) × (l ≡ text t) × (read t ≡ reading d)
+Meant (holding σ p v) l = (t : List ℕ) × (l ≡ text t) × (read t ≡ reading (σ .dossier))
 
 -- "Counted bindings are returned by advance; their sum equals the position in the defined search order.": the sum since the last load
 abbrev pub counted : Reply → ℕ → ℕ
@@ -118,7 +119,7 @@ sumOfAdvances n (x ∷ xs) = sumOfAdvances (counted (x .reply) n) xs
 
 abbrev pub AtPlace : Held → ℕ → Type 0
 AtPlace nothing n = Unit {0}
-AtPlace (holding d p v) n = n ≡ p
+AtPlace (holding σ p v) n = n ≡ p
 
 -- after any list of calls from nothing held on
 pub record Reached (xs : List Exchange) : Type 0 where
@@ -128,13 +129,13 @@ pub record Reached (xs : List Exchange) : Type 0 where
 
 -- "Witness writes one line per variable .. into lent bytes from their start, returns the length, touches no byte after it.": of the first failing check
 pub record Shown (h : Held) (b : List ℕ) : Type 0 where
-  pub dossier : Dossier
+  pub subject : Subject
   pub place : ℕ
-  pub held : h ≡ holding dossier (suc place) (refuted (obligationOf (checkAt dossier place)))
-  pub first : FirstFailing dossier place
+  pub held : h ≡ holding subject (suc place) (refuted (obligationOf (checkAt subject place)))
+  pub first : FirstFailing subject place
   pub answer : respond h (witness b)
-      ≡ outcome (written (length (witnessLines dossier (checkAt dossier place)))) h
-      (witnessLines dossier (checkAt dossier place) ++ drop (length (witnessLines dossier (checkAt dossier place))) b)
+      ≡ outcome (written (length (witnessLines subject (checkAt subject place)))) h
+      (witnessLines subject (checkAt subject place) ++ drop (length (witnessLines subject (checkAt subject place))) b)
 
 abbrev pub ShowsFirst : Type 0
 ShowsFirst = (xs : List Exchange) → Trace nothing xs → (b : List ℕ) → (IsRefusal (respond (heldAfter nothing xs) (witness b) .reply) → ⊥) → Shown (heldAfter nothing xs) b
@@ -142,6 +143,6 @@ ShowsFirst = (xs : List Exchange) → Trace nothing xs → (b : List ℕ) → (I
 -- "The first line names obligation and operation; the next give the binding in search order; the last is the count over the whole check."
 pub record Reports : Type 0 where
   pub refused : (t : List ℕ) (f : Fault) → read t ≡ refusal f → report t ≡ refusedLine f
-  pub accepted : (t : List ℕ) (d : Dossier) → read t ≡ reading d → Obligations d → report t ≡ bytes "accepted\n" ++ countLine (total d)
-  pub refuted : (t : List ℕ) (d : Dossier) → read t ≡ reading d → (q : ℕ) → FirstFailing d q
-      → report t ≡ refutedLine d (obligationOf (checkAt d q)) ++ witnessLines d (checkAt d q) ++ countLine (suc q)
+  pub accepted : (t : List ℕ) (d : Dossier) → read t ≡ reading d → Obligations (subjectOf d) → report t ≡ bytes "accepted\n" ++ countLine (total (subjectOf d))
+  pub refuted : (t : List ℕ) (d : Dossier) → read t ≡ reading d → (q : ℕ) → FirstFailing (subjectOf d) q
+      → report t ≡ refutedLine d (obligationOf (checkAt (subjectOf d) q)) ++ witnessLines (subjectOf d) (checkAt (subjectOf d) q) ++ countLine (suc q)

@@ -10,7 +10,7 @@ use Rattle.obligations.specs.Report as report
 unfoldable pub computeReport : List ℕ → List ℕ
 unfolding
     computeHolds machines.pre obligations.initialisationAt obligations.applicabilityAt obligations.correctnessAt order.passes order.applicabilityChecks
-    order.correctnessChecks order.operationChecks order.checks order.total order.variablesOf order.bindingOf order.look report.decimalBefore
+    order.correctnessChecks order.operationChecks order.opening order.checks order.total order.variablesOf order.bindingOf order.look report.decimalBefore
     report.decimal report.signedDecimal report.nameBytes report.elementBytes report.pairBytes report.separated report.braced report.valueBytes
     report.bindingLines report.witnessLines report.checkAt report.titles report.refutedLine report.countLine report.verdictLines report.refusedLine
     report.report

@@ -10,6 +10,7 @@ use Rattle.form.specs.Tree.{Dossier}
 use Rattle.static_rules.specs.Read.{reading, read}
 use Rattle.static_rules.specs.Scope.{unprimed, inputs, outputs}
 use Rattle.meaning.specs.Bindings.{Over}
+use Rattle.obligations.specs.Subjects.{Subject}
 use Rattle.obligations.specs.Obligations.{Obligations}
 use Rattle.obligations.specs.Order.{Check, initialises, applies, corrects, total}
 use Rattle.obligations.specs.Report.{checkAt}
@@ -24,33 +25,35 @@ pub record Demand1 : Type 0 where
   pub exactly : (h : Held) (c : Call) → refusalIn (respond h c .reply) ≡ expected h c
   pub unchanged : (h : Held) (c : Call) → IsRefusal (respond h c .reply) → (respond h c .held ≡ h) × (respond h c .lent ≡ lentTo c)
 
--- a check of the dossier: each group over its carriers, an operation at its number
-unfoldable pub IsCheck : Dossier → Check → Type 0
-IsCheck d (initialises c) = Over (unprimed d (d .concrete)) c
-IsCheck d (applies k op a c i) =
-    (getElem? (d .operations) k ≡ some op) × Over (unprimed d (d .abstract)) a × Over (unprimed d (d .concrete)) c × Over (inputs d op) i
-IsCheck d (corrects k op a c i o c′) =
-    (getElem? (d .operations) k ≡ some op) × Over (unprimed d (d .abstract)) a × Over (unprimed d (d .concrete)) c × Over (inputs d op) i
-    × Over (outputs d op) o × Over (unprimed d (d .concrete)) c′
+-- a check of the subject: each group over its carriers, an operation at its number
+unfoldable pub IsCheck : Subject → Check → Type 0
+IsCheck σ (initialises c) = Over (unprimed (σ .dossier) (σ .dossier .concrete)) c
+IsCheck σ (applies k op a c i) =
+    (getElem? (σ .dossier .operations) k ≡ some op) × Over (unprimed (σ .dossier) (σ .dossier .abstract)) a
+    × Over (unprimed (σ .dossier) (σ .dossier .concrete)) c × Over (inputs (σ .dossier) op) i
+IsCheck σ (corrects k op a c i o c′) =
+    (getElem? (σ .dossier .operations) k ≡ some op) × Over (unprimed (σ .dossier) (σ .dossier .abstract)) a
+    × Over (unprimed (σ .dossier) (σ .dossier .concrete)) c × Over (inputs (σ .dossier) op) i
+    × Over (outputs (σ .dossier) op) o × Over (unprimed (σ .dossier) (σ .dossier .concrete)) c′
 
 -- places and checks are one to one
-pub record OneToOne (d : Dossier) : Type 0 where
-  pub inside : (p : ℕ) → p < total d → IsCheck d (checkAt d p)
-  pub reached : (x : Check) → IsCheck d x → (p : ℕ) × (p < total d) × (checkAt d p ≡ x)
-  pub once : (p q : ℕ) → p < total d → q < total d → checkAt d p ≡ checkAt d q → p ≡ q
+pub record OneToOne (σ : Subject) : Type 0 where
+  pub inside : (p : ℕ) → p < total σ → IsCheck σ (checkAt σ p)
+  pub reached : (x : Check) → IsCheck σ x → (p : ℕ) × (p < total σ) × (checkAt σ p ≡ x)
+  pub once : (p q : ℕ) → p < total σ → q < total σ → checkAt σ p ≡ checkAt σ q → p ≡ q
 
 -- "A dossier is accepted exactly if no binding over its carriers breaks initialisation, applicability or correctness ..., and refuted exactly if one does."
-pub record Accurate (d : Dossier) : Type 0 where
-  pub sound : wholeFails d ≡ false → Obligations d
-  pub complete : Obligations d → wholeFails d ≡ false
-  pub whole : wholeFails d ≡ false → wholeCount d ≡ total d
-  pub first : wholeFails d ≡ true → (q : ℕ) × ((wholeCount d ≡ suc q) × FirstFailing d q)
+pub record Accurate (σ : Subject) : Type 0 where
+  pub sound : wholeFails σ ≡ false → Obligations σ
+  pub complete : Obligations σ → wholeFails σ ≡ false
+  pub whole : wholeFails σ ≡ false → wholeCount σ ≡ total σ
+  pub first : wholeFails σ ≡ true → (q : ℕ) × ((wholeCount σ ≡ suc q) × FirstFailing σ q)
 
 -- Demand 2: "The binding shown is the first in the fixed order, and the count printed is how many were looked at up to it.", and what each call shows of it
 pub record Demand2 : Type 0 where
-  pub accurate : (d : Dossier) → Accurate d
-  pub ordered : (d : Dossier) → OneToOne d
-  pub decided : (d : Dossier) → Obligations d ⊎ ((q : ℕ) × FirstFailing d q)
+  pub accurate : (σ : Subject) → Accurate σ
+  pub ordered : (σ : Subject) → OneToOne σ
+  pub decided : (σ : Subject) → Obligations σ ⊎ ((q : ℕ) × FirstFailing σ q)
   pub loads : Loads
   pub advances : Advances
   pub answers : AnswersVerdict

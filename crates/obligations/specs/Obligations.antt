@@ -3,10 +3,10 @@ use mathlib.Core.Path.{_≡_}
 use mathlib.Core.Bool.{Bool, true, not, _&&_, _||_}
 use Prim.Native.Nat.{ℕ, _<_}
 use Rattle.lexical.specs.Lists.{any}
-use Rattle.form.specs.Tree.{Dossier}
 use Rattle.meaning.specs.Meaning.{Binding}
 use Rattle.meaning.specs.Bindings.{bindings, Over}
 use Rattle.meaning.specs.Operations.{related}
+use Rattle.obligations.specs.Subjects.{Subject}
 use Rattle.obligations.specs.Machines.{Machine, Relation, pre, abstractSide, concreteSide}
 
 abbrev pub gives : Bool → Bool → Bool
@@ -36,5 +36,5 @@ pub record Refines (A C : Machine) (R : Relation) : Type 0 where
       → Over (A .variables) a → Over (C .variables) c → Over (A .taken k) i → Over (C .produced k) o → Over (C .variables) c′ → correctnessAt A C R k a c i o c′ ≡ true
 
 -- "A dossier is accepted exactly if no binding over its carriers breaks initialisation, applicability or correctness" (demand 2)
-abbrev pub Obligations : Dossier → Type 0
-Obligations d = Refines (abstractSide d) (concreteSide d) (related d)
+abbrev pub Obligations : Subject → Type 0
+Obligations σ = Refines (abstractSide (σ .dossier)) (concreteSide (σ .dossier)) (related (σ .dossier))

@@ -13,19 +13,19 @@ use Rattle.obligations.specs.Calls.{unfinished, accepted, refuted, Held,
 -- tests of the held check
 abbrev pub isNothing : Held → Bool
 isNothing nothing = true
-isNothing (holding d p v) = false
+isNothing (holding σ p v) = false
 
 abbrev pub isFinished : Held → Bool
 isFinished nothing = false
-isFinished (holding d p unfinished) = false
-isFinished (holding d p accepted) = true
-isFinished (holding d p (refuted o)) = true
+isFinished (holding σ p unfinished) = false
+isFinished (holding σ p accepted) = true
+isFinished (holding σ p (refuted o)) = true
 
 abbrev pub isRefuted : Held → Bool
 isRefuted nothing = false
-isRefuted (holding d p unfinished) = false
-isRefuted (holding d p accepted) = false
-isRefuted (holding d p (refuted o)) = true
+isRefuted (holding σ p unfinished) = false
+isRefuted (holding σ p accepted) = false
+isRefuted (holding σ p (refuted o)) = true
 
 -- tests of the call
 abbrev pub isLoad : Call → Bool
@@ -110,7 +110,7 @@ lentTo release = []
 
 abbrev pub witnessOf : Held → List ℕ
 witnessOf nothing = []
-witnessOf (holding d p v) = witnessLines d (checkAt d (pred p))
+witnessOf (holding σ p v) = witnessLines σ (checkAt σ (pred p))
 
 abbrev pub row16 : Held → Call → Option Reply
 row16 h c = when (isWitness c && ltb (length (lentTo c)) (length (witnessOf h))) (refused shortBytes)

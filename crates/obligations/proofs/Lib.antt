@@ -3,8 +3,9 @@ pub mod GivesLaws
 pub mod PlainCalls
 pub mod RefusedCalls
 pub mod Counts
-pub mod Sides
 pub mod Matching
+pub mod Sides
+pub mod OperationTests
 pub mod Looks
 pub mod Groups
 pub mod ListedChecks

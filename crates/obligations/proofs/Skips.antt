@@ -19,7 +19,7 @@ use Rattle.obligations.specs.Obligations.{applicabilityAt, correctnessAt
 use Rattle.obligations.specs.Order.{Check, initialises, applies, corrects, passes}
 use Rattle.obligations.specs.Report.{checkAt}
 use Rattle.symbols.proofs.BooleanTests.{and-left-false, and-right-false}
-use Rattle.obligations.proofs.Sides.{abstract-pre-at}
+use Rattle.obligations.proofs.OperationTests.{abstract-pre-at}
 use Rattle.obligations.proofs.GivesLaws.{gives-vacuous}
 use Rattle.obligations.proofs.Groups.{appliesAt, correctsBy, correctsAt, every-applies-at, every-corrects-by, every-corrects-at}
 use Rattle.obligations.proofs.Accuracy.{PassBetween}

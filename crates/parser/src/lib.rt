@@ -77,7 +77,7 @@ fn structure(
 }
 
 // The first byte of a symbol, or the text's end.
-fn place_at(starts: &[u16], n: usize, i: usize, end: usize) -> usize
+pub fn place_at(starts: &[u16], n: usize, i: usize, end: usize) -> usize
     requires { ⌜ n ≤ length (now starts) ⌝ }
     ensures { λ r. ⌜ r ≡ getD (take n (now (starts .entry))) i end ⌝ }
 {

@@ -1,6 +1,6 @@
 // Where the parts of a dossier begin among its nodes (form/specs/Codes.antt).
 ghost use mathlib.Core.Path.{_≡_};
-ghost use Prim.Native.Nat.{_≤_};
+ghost use Prim.Native.Nat.{_≤_, _<_};
 ghost use Rattle.parser.specs.Sections.{Part, Sized, Skips, Inside, RunsTo, Behind, Sectioned};
 use form::node;
 use form::shapes::DECLARED;
@@ -106,7 +106,7 @@ pub fn skip_from(nodes: &[u16], at: usize, m: usize) -> usize
 }
 
 pub fn run_from(nodes: &[u16], at: usize, m: usize, low: u16, high: u16) -> usize
-    ensures { λ r. ⌜ (at ≤ m → RunsTo (now (nodes .entry)) m low high at r) ⌝ }
+    ensures { λ r. ⌜ (at ≤ m → RunsTo (now (nodes .entry)) m low high at r) × (m < at → r ≡ m) ⌝ }
 {
     if m < at {
         return m;

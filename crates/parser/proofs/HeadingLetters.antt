@@ -67,9 +67,6 @@ module _ (d : Dossier) where
   abbrev fromGivens : List Written
   fromGivens = writeGivens 0 (d .givens) fromStates
 
-  abbrev fromEntries : List Written
-  fromEntries = writeEntries kind.OP anOperation 0 (d .operationEntries) (bare kind.END ∷ fromGivens)
-
   pub given-entries-known : Knows (symbolsOf d) (d .givenEntries)
   unfolding symbolsOf written writeContents
   given-entries-known = entries-known (symbolsOf d) kind.GIVEN aGiven 0 (d .givenEntries) _ (λ y h. later h)

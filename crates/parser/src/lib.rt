@@ -61,10 +61,26 @@ fn structure(
     ensures { λ r. ⌜ Answers (now (text .entry)) none (now (nodes .entry)) (now (nodes .exit)) r ⌝ }
 {
     let mut made = [0u16; NUMBERS];
-    match dossier(&codes[..n], &values[..n], &mut made) {
-        Read::At(e, m) => match headings(&made, m, n) {
+    structure_by(text, codes, starts, values, n, &mut made, nodes)
+}
+
+// The same, by way of the array `made`.
+fn structure_by(
+    text: &[u8],
+    codes: &[u8],
+    starts: &[u16],
+    values: &[u16],
+    n: usize,
+    made: &mut [u16],
+    nodes: &mut [u16],
+) -> Parsed
+    requires { ⌜ Left (now text) (now codes) (now starts) (now values) n × (length (now codes) ≡ 4096) × (length (now starts) ≡ 4096) × (length (now values) ≡ 4096) × (length (now made) ≡ 16384) × (length (now nodes) ≡ 16384) ⌝ }
+    ensures { λ r. ⌜ Answers (now (text .entry)) none (now (nodes .entry)) (now (nodes .exit)) r ⌝ }
+{
+    match dossier(&codes[..n], &values[..n], made) {
+        Read::At(e, m) => match headings(made, m, n) {
             Heads::Fit => {
-                copy_nodes(&made, nodes, m);
+                copy_nodes(made, nodes, m);
                 Parsed::Structure(n, m)
             }
             Heads::Differ(i) => Parsed::Refused(

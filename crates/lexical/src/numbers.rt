@@ -9,10 +9,10 @@ use crate::bounds::LARGEST_NUMBER;
 use crate::classes::run_from;
 use crate::codes;
 
-// What stands for no number of document 01: a digit more than the largest one lets in.
+// One more than the largest number: the answer where there is no number.
 const NO_NUMBER: u16 = LARGEST_NUMBER + 1;
 
-// The number that one more digit makes of v, or 1001 where b is no digit or the number is over 1,000.
+// The number that one more digit makes of v; none where b is no digit or the number is over 1,000.
 pub fn more(v: u16, b: u8) -> u16
     requires { ⌜ v ≤ 1000 ⌝ }
     ensures { λ r. ⌜ r ≡ moreOf v b ⌝ }
@@ -30,7 +30,7 @@ pub fn more(v: u16, b: u8) -> u16
     m
 }
 
-// The number that the bytes from `at` to `e` write, or 1001 where they are not digits or it is over 1,000.
+// The number that the bytes from `at` to `e` write; none where they are not digits or it is over 1,000.
 pub fn decimal(s: &[u8], at: usize, e: usize) -> u16
     requires { ⌜ (at ≤ e) × (e ≤ length (now s)) ⌝ }
     ensures { λ r. ⌜ r ≡ decimalOr 0 (take (e - at) (drop at (now (s .entry)))) ⌝ }

@@ -9,7 +9,7 @@ use Rattle.static_rules.specs.Carriers.{Variable}
 use Rattle.meaning.specs.Values.{Value}
 use Rattle.meaning.specs.Meaning.{Binding}
 use Rattle.meaning.specs.Bindings.{valuesOf, bindings, Among, Over}
-use Rattle.meaning.proofs.Members.{any-found, any-put, any-none, none-any, among-map, map-among, among-flat, flat-among}
+use Rattle.meaning.proofs.Members.{any-found, any-put, any-none, among-map, map-among, among-flat, flat-among}
 
 -- a variable's value before a binding of the others
 abbrev pub extended : Variable → Value → Binding → Binding
@@ -44,6 +44,3 @@ binding-put f vs b o e = any-put f b (bindings vs) (over-listed vs b o) e
 
 pub no-binding : (f : Binding → Bool) (vs : List Variable) → any f (bindings vs) ≡ false → (b : Binding) → Over vs b → f b ≡ false
 no-binding f vs e b o = any-none f (bindings vs) e b (over-listed vs b o)
-
-pub none-binding : (f : Binding → Bool) (vs : List Variable) → ((b : Binding) → Over vs b → f b ≡ false) → any f (bindings vs) ≡ false
-none-binding f vs n = none-any f (bindings vs) (λ b m. n b (listed-over vs b m))

@@ -12,14 +12,28 @@ ghost use Rattle.lexical.specs.Promises.{filled, valueIn, numberIn};
 ghost use Rattle.lexical.specs.SymbolPromises.{packed, isName, lowIn, highIn, Rows, walkFrom, IsFirst, Tree};
 ghost use Rattle.lexical.specs.SymbolPromises.{filledLow, filledHigh, filledNumbers, filledValues};
 use lexical::Stop;
+use lexical::bounds::SYMBOLS;
 use lexical::classes::run_from;
+use lexical::codes;
 use lexical::words::eight;
+
+// How many letters a number of 64 bits holds, its highest bit, and how many bits the letters of a name have.
+const PACKED: usize = 8;
+
+const HIGHEST_BIT: u64 = 0x8000000000000000;
+
+const DEEPEST: usize = 128;
+
+// The slot above all, and how many slots the tree has.
+const ROOT: usize = 2 * SYMBOLS;
+
+const SLOTS: usize = ROOT + 1;
 
 pub fn is_name(code: u8) -> bool
     ensures { λ r. ⌜ r ≡ isName code ⌝ }
 {
     match code {
-        2..=5 => true,
+        codes::PLAIN..=codes::OUTPUT => true,
         _ => false,
     }
 }
@@ -53,7 +67,7 @@ pub fn pack_names(
         let code = codes[i];
         let at = starts[i] as usize;
         low[i] = letters_at(s, code, at, 0);
-        high[i] = letters_at(s, code, at, 8);
+        high[i] = letters_at(s, code, at, PACKED);
         i += 1;
     }
 }
@@ -78,9 +92,9 @@ pub fn walk(low: &[u64], high: &[u64], tree: &[u16], i: usize) -> Stop
     let b = high[i];
     let mut p = a;
     let mut q = b;
-    let mut slot: usize = 8192;
+    let mut slot: usize = ROOT;
     let mut d: usize = 0;
-    while d < 128 {
+    while d < DEEPEST {
         let t = tree[slot] as usize;
         if t == 0 {
             return Stop::Free(slot);
@@ -90,7 +104,7 @@ pub fn walk(low: &[u64], high: &[u64], tree: &[u16], i: usize) -> Stop
             return Stop::At(m);
         }
         slot = 2 * m + (p % 2) as usize;
-        p = p / 2 + (q % 2) * 0x8000000000000000;
+        p = p / 2 + (q % 2) * HIGHEST_BIT;
         q = q / 2;
         d += 1;
     }
@@ -138,10 +152,10 @@ pub fn number_names(s: &[u8], codes: &[u8], starts: &[u16], values: &mut [u16], 
     requires { ⌜ Rows (now s) (now codes) (now starts) n × (length (now codes) ≡ 4096) × (length (now starts) ≡ 4096) × (length (now values) ≡ 4096) × ((i : ℕ) → i < n → getD (now values) i 0 ≡ getD (filledNumbers (now s)) i 0) ⌝ }
     ensures { λ r. ⌜ now (values .exit) ≡ filledValues (now (s .entry)) (now (values .entry)) ⌝ }
 {
-    let mut low = [0u64; 4096];
-    let mut high = [0u64; 4096];
+    let mut low = [0u64; SYMBOLS];
+    let mut high = [0u64; SYMBOLS];
     pack_names(s, codes, starts, n, &mut low, &mut high);
-    let mut tree = [0u16; 8193];
+    let mut tree = [0u16; SLOTS];
     let mut i = 0;
     while i < n {
         let old = values[i];

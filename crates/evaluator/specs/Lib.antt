@@ -1,0 +1,2 @@
+pub mod EvaluationByNumber
+pub mod EvaluationPromises

@@ -6,8 +6,8 @@ use Prim.Native.Nat.{ℕ, _-_, _≤_}
 use lib.Dec.{eqb}
 use lib.IntN.{ℤ, pos}
 use Rattle.sets.specs.Sets as sets
-use Rattle.operators.specs.OperatorsByNumber.{asked}
-use Rattle.evaluator.specs.EvaluationByNumber.{Values, firstAt, lowAt, countAt, Bound, TermIs, ItemsIs, TruthIs, SuchNode, QuantifierNode, AskedNode}
+use Rattle.evaluation.specs.OperatorsByNumber.{asked}
+use Rattle.evaluation.specs.EvaluationByNumber.{Values, firstAt, lowAt, countAt, Bound, TermIs, ItemsIs, TruthIs, SuchNode, QuantifierNode, AskedNode}
 
 -- asked: the nodes up to e give some value; promised: the answer is the value that they give
 pub record TermRuns (t : List ℕ) (e : ℕ) (ρ : Values) : Type 0 where

@@ -1,2 +1,1 @@
-pub mod EvaluationByNumber
 pub mod EvaluationPromises

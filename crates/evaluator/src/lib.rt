@@ -3,7 +3,7 @@
 // A slot has the value of a variable or of a bound name; every function leaves the slots as they were.
 ghost use mathlib.Core.Path.{_≡_};
 ghost use Prim.Native.Nat.{ℕ, _<_, _≤_};
-ghost use Rattle.evaluator.specs.EvaluationByNumber.{Inside};
+ghost use Rattle.evaluation.specs.EvaluationByNumber.{Inside};
 ghost use Rattle.evaluator.specs.EvaluationPromises.{TermRuns, TermAnswers, ItemsRun, ItemsAnswer, TruthRuns, TruthAnswers};
 ghost use Rattle.evaluator.specs.EvaluationPromises.{SuchRuns, SuchAnswers, AskedRuns, AskedAnswers, QuantifierRuns, QuantifierAnswers, BoundRuns, SomeAnswers, OnceAnswers};
 use lexical::codes;

@@ -5,8 +5,8 @@ ghost use Prim.Native.Nat.{ℕ, _<_, _≤_};
 ghost use lib.IntN.{ℤ, pos, natAbs, _+ℤ_, _-ℤ_};
 ghost use Rattle.sets.specs.Sets as sets;
 ghost use Rattle.meaning.specs.Values.{natural, sameInteger};
-ghost use Rattle.operators.specs.OperatorsByNumber.{Small, IsPlace, IsBits, PrefixTakes, OperatorTakes};
-ghost use Rattle.operators.specs.OperatorsByNumber as numbered;
+ghost use Rattle.evaluation.specs.OperatorsByNumber.{Small, IsPlace, IsBits, PrefixTakes, OperatorTakes};
+ghost use Rattle.evaluation.specs.OperatorsByNumber as numbered;
 use lexical::codes;
 
 const PLUS: u16 = codes::PLUS as u16;

@@ -10,7 +10,7 @@ use lib.ListN.{getD, set}
 use lib.IntN.{ℤ, pos, _+ℤ_, _-ℤ_}
 use Rattle.sets.specs.Sets as sets
 use Rattle.meaning.specs.Values.{natural}
-use Rattle.operators.specs.OperatorsByNumber.{pick, Small, IsPlace, IsBits, prefixed, PrefixTakes, divided, operated, OperatorTakes, compared, connected, asked, inRange}
+use Rattle.evaluation.specs.OperatorsByNumber.{pick, Small, IsPlace, IsBits, prefixed, PrefixTakes, divided, operated, OperatorTakes, compared, connected, asked, inRange}
 
 -- the values of the slots
 abbrev pub Values : Type 0

@@ -1,0 +1,2 @@
+pub mod OperatorsByNumber
+pub mod EvaluationByNumber

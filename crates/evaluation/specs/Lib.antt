@@ -1,2 +1,3 @@
 pub mod OperatorsByNumber
 pub mod EvaluationByNumber
+pub mod SlotValues

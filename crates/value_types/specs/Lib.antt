@@ -1,1 +1,2 @@
 pub mod TypedValues
+pub mod BoundNames

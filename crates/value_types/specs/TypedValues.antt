@@ -10,10 +10,11 @@ use lib.ListN.{length}
 use Rattle.form.specs.Tree.{Letters, Range, Domain, givenSet, range, Given}
 use Rattle.form.specs.Tree.{Term, number, name, group, prefix, binary, divided, listed, pairs, such, emptySet, emptyPairs, Items, only, also, Pairs, onlyPair, alsoPair}
 use Rattle.form.specs.Tree.{Pred, truth, falsity, negation, paren, quantified, connected, compared, member, within, related}
-use Rattle.static_rules.specs.Carriers.{Carrier, elementsOf, numbers, subsetsOf, pairsOf, Variable, sizeOf, plain, givenOf}
+use Rattle.static_rules.specs.Carriers.{Carrier, elementsOf, numbers, subsetsOf, pairsOf, Variable, sizeOf, largest, plain, givenOf}
 use Rattle.static_rules.specs.Types.{Sort, isNumber, isElement, isSet, isPairs, Ty}
 use Rattle.static_rules.specs.Scope.{Scope}
 use Rattle.static_rules.specs.Names.{rangeFits}
+use Rattle.static_rules.specs.Limits.{Sizes}
 use Rattle.meaning.specs.Values.{Value}
 use Rattle.meaning.specs.Meaning.{Environment, sizeOfGiven}
 use Rattle.meaning.specs.Bindings.{Among, Over}
@@ -127,3 +128,7 @@ unfoldable mutual
   PredWithin (member o t u) = TermWithin t × TermWithin u
   PredWithin (within o t r) = TermWithin t × RangeWithin r
   PredWithin (related o t u v) = TermWithin t × TermWithin u × TermWithin v
+
+-- number 13's sizes of the names in reach
+abbrev pub sizesIn : Scope → Sizes
+sizesIn Γ = map (λ (v : Variable). (v .called, largest (v .carrier))) (Γ .reach)

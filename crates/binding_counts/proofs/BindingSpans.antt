@@ -10,7 +10,7 @@ use Rattle.lexical.specs.Symbols.{noEnding}
 use Rattle.form.specs.Tree.{declarations, Operation}
 use Rattle.form.specs.Headings.{operationLength}
 use Rattle.form.specs.Codes.{Numbering}
-use Rattle.type_rules.specs.TypesByNumber.{Names, Sizes, key, unlessKey, lesser}
+use Rattle.type_rules.specs.TypesByNumber.{Names, Sizes, keyRoom, key, unlessKey, lesser}
 use Rattle.declared_names.specs.NamesByNumber.{Typed, variablesOf, parametersOf, typedCodes}
 use Rattle.declared_names.specs.PassPromises.{PartOf}
 use Rattle.names.proofs.TypesAgreeLeast.{lesser-zero, lesser-assoc}
@@ -31,7 +31,7 @@ module _ (nodes : List ℕ) (from : ℕ) (ok : Bool) where
   pub heading-short : from < 4 → HeadingFaulted nodes from ok 0
   heading-short l i h = absurd (never 4 from (h .behind) l)
 
-  pub heading-over : (w l r : ℕ) → ok ≡ false → w ≡ l → l ≡ getD nodes (from - 4 + 2) 0 → r ≡ w * 16 + 13 → HeadingFaulted nodes from ok r
+  pub heading-over : (w l r : ℕ) → ok ≡ false → w ≡ l → l ≡ getD nodes (from - 4 + 2) 0 → r ≡ w * keyRoom + 13 → HeadingFaulted nodes from ok r
   heading-over w l r e p q s i h = let place : w ≡ i = p ∙ (q ∙ h .place) in let sum : r ≡ key i 12 = omega (arith, s, place) in sum ∙ sym (ap (λ (b : Bool). unlessKey b (key i 12)) e)
 
 -- ---- a group ----

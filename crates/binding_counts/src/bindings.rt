@@ -6,6 +6,7 @@ ghost use lib.Dec.{leb};
 ghost use lib.ListN.{length};
 ghost use Rattle.binding_counts.specs.BindingsByNumber.{cap, sizeAt, TypeCounted, FactorCounted, GroupCounted, HeadingFaulted, StateBound, OperationBound, OperationsBound, BindingsSeen};
 use names::passes::part;
+use type_rules::kinds::KEY_ROOM;
 use type_rules::kinds::index;
 use type_rules::kinds::lesser_of;
 use type_rules::kinds::look;
@@ -114,7 +115,7 @@ fn heading_fault(nodes: &[u16], from: usize, ok: bool) -> u32
     if from < 4 {
         return 0;
     }
-    wide(look(nodes, from - 4 + 2)) * 16 + 13
+    wide(look(nodes, from - 4 + 2)) * KEY_ROOM + 13
 }
 
 // The state whose variables stand from the span k on.
@@ -165,7 +166,7 @@ fn all_operations(nodes: &[u16], spans: &[u16], n: usize, names: &[u16], sizes: 
     f
 }
 
-// The least fault (place * 16 + number + 1, places by symbols), or 0. The spans say where the parts of a dossier stand among its nodes,
+// The least fault (place * KEY_ROOM + number + 1, places by symbols), or 0. The spans say where the parts of a dossier stand among its nodes,
 // the names what each name is, by its number, the sizes how many elements each given set has.
 pub fn bindings(
     nodes: &[u16],

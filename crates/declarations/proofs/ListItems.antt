@@ -173,11 +173,6 @@ unfolding act codeOf
 operations-behind k κ γ f = by-act (someOperations k) γ κ skip (lookup-miss _ skip κ (f, tt))
 
 -- parameters, by their direction
-atDirection : (i o c : ℕ) → Act
-atDirection i o zero = stuck
-atDirection i o (suc zero) = take (anInput (suc i)) (aTyped ++ (someParameters (suc i) o ∷ []))
-atDirection i o (suc (suc c)) = take (anOutput (suc o)) (aTyped ++ (someParameters i (suc o) ∷ []))
-
 pub parameter-takes : (i o c : ℕ) (κ : Kind) (γ : List Item) → lookup directions 0 κ ≡ c → (c ≡ 0 → ⊥)
     → step (someParameters i o ∷ γ) κ ≡ go (markBy c i o) (aTyped ++ (someParameters (inputsBy c i) (outputsBy c o) ∷ γ))
 unfolding act step lookup is codeOf

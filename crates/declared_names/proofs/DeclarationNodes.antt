@@ -30,31 +30,31 @@ module _ (code : List ℕ) (at k i a b : ℕ) (rest : List ℕ) (e : drop at cod
   node-shape = sym (getD-drop at code 3 0) ∙ ap (λ (l : List ℕ). getD l 3 0) e
 
 -- the node of a type
-abbrev shapeOf : TypeForm → ℕ
+abbrev pub shapeOf : TypeForm → ℕ
 shapeOf (givenType g) = 1
 shapeOf (rangeType r) = 2
 shapeOf (powerType g) = 3
 shapeOf (arrowType a g h) = arrowNumber a
 
-abbrev placeOf : TypeForm → ℕ → ℕ
+abbrev pub placeOf : TypeForm → ℕ → ℕ
 placeOf (givenType g) i = i
 placeOf (rangeType r) i = i + endWidth (r .lower)
 placeOf (powerType g) i = i
 placeOf (arrowType a g h) i = i
 
-abbrev leftOf : TypeForm → Numbering → ℕ
+abbrev pub leftOf : TypeForm → Numbering → ℕ
 leftOf (givenType g) ρ = nameNumber ρ g
 leftOf (rangeType r) ρ = endNumber (r .lower)
 leftOf (powerType g) ρ = nameNumber ρ g
 leftOf (arrowType a g h) ρ = nameNumber ρ g
 
-abbrev rightOf : TypeForm → Numbering → ℕ
+abbrev pub rightOf : TypeForm → Numbering → ℕ
 rightOf (givenType g) ρ = 0
 rightOf (rangeType r) ρ = endNumber (r .upper)
 rightOf (powerType g) ρ = 0
 rightOf (arrowType a g h) ρ = nameNumber ρ h
 
-as-node : (t : TypeForm) (i : ℕ) (ρ : Numbering) → typeCodes t i ρ ≡ node (shapeOf t) (placeOf t i) (leftOf t ρ) (rightOf t ρ)
+pub as-node : (t : TypeForm) (i : ℕ) (ρ : Numbering) → typeCodes t i ρ ≡ node (shapeOf t) (placeOf t i) (leftOf t ρ) (rightOf t ρ)
 as-node (givenType g) i ρ = refl
 as-node (rangeType r) i ρ = refl
 as-node (powerType g) i ρ = refl

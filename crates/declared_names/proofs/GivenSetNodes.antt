@@ -70,14 +70,14 @@ pub not-both : (n m : ℕ) → n ≤ m → m < n → ⊥
 not-both n m h k = omega arith
 
 -- the node of an element is none of a title
-element-shape : (code : List ℕ) (at i a b : ℕ) (rest : List ℕ) → drop at code ≡ node 4 i a b ++ rest → getD code (at + 3) 0 ≡ 3 → ⊥
+pub element-shape : (code : List ℕ) (at i a b : ℕ) (rest : List ℕ) → drop at code ≡ node 4 i a b ++ rest → getD code (at + 3) 0 ≡ 3 → ⊥
 element-shape code at i a b rest e q = let s = node-shape code at 4 i a b rest e in omega arith
 
 -- behind the node at `at`
-behind : (code : List ℕ) (at k i a b : ℕ) (rest : List ℕ) → drop at code ≡ node k i a b ++ rest → drop (at + 4) code ≡ rest
+pub behind : (code : List ℕ) (at k i a b : ℕ) (rest : List ℕ) → drop at code ≡ node k i a b ++ rest → drop (at + 4) code ≡ rest
 behind code at k i a b rest e = sym (drop-drop 4 at code) ∙ ap (λ (l : List ℕ). drop 4 l) e
 
-nothing-left : (code : List ℕ) (at : ℕ) → at + 4 ≤ length code → drop at code ≡ [] → ⊥
+pub nothing-left : (code : List ℕ) (at : ℕ) → at + 4 ≤ length code → drop at code ≡ [] → ⊥
 nothing-left code at room e = let short : length code - at ≡ 0 = (sym (length-drop at code) ∙ ap (λ (l : List ℕ). length l) e) in omega arith
 
 -- the sizes of sets that have ended

@@ -7,7 +7,9 @@ ghost use Rattle.lexical.specs.Kinds as kind;
 ghost use Rattle.form.specs.Machine.{exact, aTerm, anOperand, aTermRest, aRel, aMem, aRight, aBrace, aList, aPairs, aUnary, aParen, aPredRest};
 ghost use Rattle.form_nodes.specs.FormPromises.{Reads, TermReads, PredReads, Room};
 ghost use Rattle.form_nodes.specs.Derivations.{Made, anOperand, aTermFrom, aTermRest, someItems, somePairs, aPredFrom, aPredRest, aUnary, anAtom, someRelated};
+use form::shapes;
 use form_nodes::Read;
+use form_nodes::kinds;
 use form_nodes::kinds::Start;
 use form_nodes::kinds::connective_of;
 use form_nodes::kinds::kind_at;
@@ -34,6 +36,11 @@ use form_nodes::ranges::end;
 use form_nodes::ranges::is_range;
 use form_nodes::ranges::range;
 use form_nodes::ranges::range_end;
+use lexical::bounds::BOUND_NAMES;
+use lexical::bounds::DEPTH;
+use lexical::codes;
+use lexical::refusals::DEEP;
+use lexical::refusals::NO_DOSSIER;
 
 // A term that no operator stands in, but in brackets.
 fn operand(s: &[u8], v: &[u16], at: usize, d: u8, b: u8, code: &mut [u16], n: usize) -> Read
@@ -48,39 +55,39 @@ fn operand(s: &[u8], v: &[u16], at: usize, d: u8, b: u8, code: &mut [u16], n: us
             Read::At(at + 1, m)
         }
         Start::Prefix => {
-            if 24 <= d {
+            if DEPTH <= d {
                 if range_end(s, at) {
                     let m = leaf(s, v, at + 1, code, n);
-                    let c = put(code, m, 3, at, wide(k), 0);
+                    let c = put(code, m, shapes::PREFIX, at, wide(k), 0);
                     return Read::At(at + 1 + 1, c);
                 }
-                return Read::Fault(at, 5);
+                return Read::Fault(at, DEEP);
             }
             match operand(s, v, at + 1, d + 1, b, code, n) {
                 Read::At(e, m) => {
-                    let c = put(code, m, 3, at, wide(k), 0);
+                    let c = put(code, m, shapes::PREFIX, at, wide(k), 0);
                     Read::At(e, c)
                 }
                 Read::Fault(p, q) => Read::Fault(p, q),
             }
         }
         Start::Bracket => {
-            if 24 <= d {
-                return Read::Fault(at, 5);
+            if DEPTH <= d {
+                return Read::Fault(at, DEEP);
             }
             match term(s, v, at + 1, d + 1, b, code, n) {
-                Read::At(e, m) => close(s, e, 18, m),
+                Read::At(e, m) => close(s, e, codes::CLOSE_BRACKET, m),
                 Read::Fault(p, q) => Read::Fault(p, q),
             }
         }
         Start::Brace => {
-            if 24 <= d {
-                return Read::Fault(at, 5);
+            if DEPTH <= d {
+                return Read::Fault(at, DEEP);
             }
             brace(s, v, at, d + 1, b, code, n)
         }
         Start::Empty => empty(s, v, at, code, n),
-        Start::Nothing => Read::Fault(at, 4),
+        Start::Nothing => Read::Fault(at, NO_DOSSIER),
     }
 }
 
@@ -88,7 +95,7 @@ fn term(s: &[u8], v: &[u16], at: usize, d: u8, b: u8, code: &mut [u16], n: usize
     requires { ⌜ Room (now s) (now code) at n × (d ≤ 24) × (b ≤ 3) ⌝ }
     ensures { λ r. ⌜ Reads (now (s .entry)) at n (aTerm d b ∷ []) [] r × Made (now (s .entry)) (now (v .entry)) (aTermFrom 1) at n (now (code .entry)) (now (code .exit)) r ⌝ }
 {
-    term_from(s, v, at, d, b, 1, code, n)
+    term_from(s, v, at, d, b, kinds::LOOSE, code, n)
 }
 
 // A term with operators of the level min and higher ones.
@@ -130,12 +137,12 @@ fn term_rest(
     if level_of(o) < min {
         return Read::At(at, n);
     }
-    if 3 <= o {
+    if kinds::DIVIDES <= o {
         return match end(s, at + 1, n) {
             Read::At(e, m) => {
                 let x = magnitude(s, v, at + 1);
                 let y = division(s, at);
-                let c = put(code, n, 4, at, x, y);
+                let c = put(code, n, shapes::DIVIDED, at, x, y);
                 term_rest(s, v, e, d, b, min, code, c)
             }
             Read::Fault(p, q) => Read::Fault(p, q),
@@ -143,7 +150,7 @@ fn term_rest(
     }
     match term_from(s, v, at + 1, d, b, o + 1, code, n) {
         Read::At(e, m) => {
-            let c = put(code, m, 5, at, wide(k), 0);
+            let c = put(code, m, shapes::BINARY, at, wide(k), 0);
             term_rest(s, v, e, d, b, min, code, c)
         }
         Read::Fault(p, q) => Read::Fault(p, q),
@@ -155,8 +162,8 @@ fn brace(s: &[u8], v: &[u16], at: usize, d: u8, b: u8, code: &mut [u16], n: usiz
     requires { ⌜ Room (now s) (now code) at n × (d ≤ 24) × (b ≤ 3) × (at < length (now s)) × (getD (now s) at 0 ≡ 19) ⌝ }
     ensures { λ r. ⌜ Reads (now (s .entry)) (at + 1) (n + 4) (aBrace d b ∷ []) [] r × Made (now (s .entry)) (now (v .entry)) anOperand at n (now (code .entry)) (now (code .exit)) r ⌝ }
 {
-    if kind_at(s, at + 1) == 2 {
-        if kind_at(s, at + 1 + 1) == 10 {
+    if kind_at(s, at + 1) == codes::PLAIN {
+        if kind_at(s, at + 1 + 1) == codes::COLON {
             return such(s, v, at, d, b, code, n);
         }
         return listed(s, v, at, d, b, code, n);
@@ -171,10 +178,10 @@ fn listed(s: &[u8], v: &[u16], at: usize, d: u8, b: u8, code: &mut [u16], n: usi
 {
     match term(s, v, at + 1, d, b, code, n) {
         Read::At(e, m) => {
-            if kind_at(s, e) == 32 {
+            if kind_at(s, e) == codes::MAPLET {
                 return match pairs(s, v, e, d, b, code, m) {
                     Read::At(f, c) => {
-                        let h = put(code, c, 8, at, 0, 0);
+                        let h = put(code, c, shapes::PAIRS, at, 0, 0);
                         Read::At(f, h)
                     }
                     Read::Fault(p, q) => Read::Fault(p, q),
@@ -182,7 +189,7 @@ fn listed(s: &[u8], v: &[u16], at: usize, d: u8, b: u8, code: &mut [u16], n: usi
             }
             match items(s, v, e, d, b, code, m) {
                 Read::At(f, c) => {
-                    let h = put(code, c, 7, at, 0, 0);
+                    let h = put(code, c, shapes::LISTED, at, 0, 0);
                     Read::At(f, h)
                 }
                 Read::Fault(p, q) => Read::Fault(p, q),
@@ -197,22 +204,22 @@ fn such(s: &[u8], v: &[u16], at: usize, d: u8, b: u8, code: &mut [u16], n: usize
     requires { ⌜ Room (now s) (now code) at n × (d ≤ 24) × (b ≤ 3) × (at < length (now s)) × (getD (now s) at 0 ≡ 19) × (getD (now s) (at + 1) 0 ≡ 2) × (getD (now s) (at + 1 + 1) 0 ≡ 10) ⌝ }
     ensures { λ r. ⌜ Reads (now (s .entry)) (at + 1) (n + 4) (aBrace d b ∷ []) [] r × Made (now (s .entry)) (now (v .entry)) anOperand at n (now (code .entry)) (now (code .exit)) r ⌝ }
 {
-    if 3 <= b {
-        return Read::Fault(at + 1, 5);
+    if BOUND_NAMES <= b {
+        return Read::Fault(at + 1, DEEP);
     }
     let g = at + 1 + 1 + 1;
     let k = kind_at(s, g);
-    if name_of(k) == 0 {
-        return Read::Fault(g, 4);
+    if name_of(k) == kinds::NONE {
+        return Read::Fault(g, NO_DOSSIER);
     }
-    match close(s, g + 1, 13, n) {
+    match close(s, g + 1, codes::BAR, n) {
         Read::At(e, m) => match pred(s, v, e, d, b + 1, code, n) {
             Read::At(f, c) => {
                 let y = name_number(s, v, g);
-                let h = put(code, c, 1, g, y, 0);
+                let h = put(code, c, shapes::SET, g, y, 0);
                 let x = name_number(s, v, at + 1);
-                let i = put(code, h, 6, at, x, 0);
-                close(s, f, 20, i)
+                let i = put(code, h, shapes::SUCH, at, x, 0);
+                close(s, f, codes::CLOSE_BRACE, i)
             }
             Read::Fault(p, q) => Read::Fault(p, q),
         },
@@ -226,15 +233,15 @@ fn items(s: &[u8], v: &[u16], at: usize, d: u8, b: u8, code: &mut [u16], n: usiz
     ensures { λ r. ⌜ Reads (now (s .entry)) at n (aList d b ∷ []) [] r × Made (now (s .entry)) (now (v .entry)) someItems at n (now (code .entry)) (now (code .exit)) r ⌝ }
 {
     let k = kind_at(s, at);
-    if k == 20 {
-        let c = put(code, n, 1, 0, 0, 0);
+    if k == codes::CLOSE_BRACE {
+        let c = put(code, n, shapes::LAST, 0, 0, 0);
         return Read::At(at + 1, c);
     }
-    if k == 12 {
+    if k == codes::COMMA {
         return match term(s, v, at + 1, d, b, code, n) {
             Read::At(e, m) => match items(s, v, e, d, b, code, m) {
                 Read::At(f, c) => {
-                    let h = put(code, c, 2, 0, 0, 0);
+                    let h = put(code, c, shapes::ALSO, 0, 0, 0);
                     Read::At(f, h)
                 }
                 Read::Fault(p, q) => Read::Fault(p, q),
@@ -242,7 +249,7 @@ fn items(s: &[u8], v: &[u16], at: usize, d: u8, b: u8, code: &mut [u16], n: usiz
             Read::Fault(p, q) => Read::Fault(p, q),
         };
     }
-    Read::Fault(at, 4)
+    Read::Fault(at, NO_DOSSIER)
 }
 
 // Behind the first side of {t |-> t, ..}.
@@ -250,19 +257,19 @@ fn pairs(s: &[u8], v: &[u16], at: usize, d: u8, b: u8, code: &mut [u16], n: usiz
     requires { ⌜ Room (now s) (now code) at n × (d ≤ 24) × (b ≤ 3) ⌝ }
     ensures { λ r. ⌜ Reads (now (s .entry)) at n (exact kind.maplet ∷ aTerm d b ∷ aPairs d b ∷ []) [] r × Made (now (s .entry)) (now (v .entry)) somePairs at n (now (code .entry)) (now (code .exit)) r ⌝ }
 {
-    match close(s, at, 32, n) {
+    match close(s, at, codes::MAPLET, n) {
         Read::At(a, z) => match term(s, v, a, d, b, code, n) {
             Read::At(e, m) => {
                 let k = kind_at(s, e);
-                if k == 20 {
-                    let c = put(code, m, 1, 0, 0, 0);
+                if k == codes::CLOSE_BRACE {
+                    let c = put(code, m, shapes::LAST, 0, 0, 0);
                     return Read::At(e + 1, c);
                 }
-                if k == 12 {
+                if k == codes::COMMA {
                     return match term(s, v, e + 1, d, b, code, m) {
                         Read::At(f, c) => match pairs(s, v, f, d, b, code, c) {
                             Read::At(g, h) => {
-                                let i = put(code, h, 2, 0, 0, 0);
+                                let i = put(code, h, shapes::ALSO, 0, 0, 0);
                                 Read::At(g, i)
                             }
                             Read::Fault(p, q) => Read::Fault(p, q),
@@ -270,7 +277,7 @@ fn pairs(s: &[u8], v: &[u16], at: usize, d: u8, b: u8, code: &mut [u16], n: usiz
                         Read::Fault(p, q) => Read::Fault(p, q),
                     };
                 }
-                Read::Fault(e, 4)
+                Read::Fault(e, NO_DOSSIER)
             }
             Read::Fault(p, q) => Read::Fault(p, q),
         },
@@ -282,7 +289,7 @@ pub fn pred(s: &[u8], v: &[u16], at: usize, d: u8, b: u8, code: &mut [u16], n: u
     requires { ⌜ Room (now s) (now code) at n × (d ≤ 24) × (b ≤ 3) ⌝ }
     ensures { λ r. ⌜ Reads (now (s .entry)) at n (aUnary d b ∷ aPredRest d d b ∷ []) [] r × Made (now (s .entry)) (now (v .entry)) (aPredFrom 1) at n (now (code .entry)) (now (code .exit)) r ⌝ }
 {
-    pred_from(s, v, at, d, b, 1, code, n)
+    pred_from(s, v, at, d, b, kinds::IFF_LEVEL, code, n)
 }
 
 // A predicate with connectives of the level min and higher ones.
@@ -324,13 +331,13 @@ fn pred_rest(
     if l < min {
         return Read::At(at, n);
     }
-    if l == 2 {
-        if 24 <= d {
-            return Read::Fault(at, 5);
+    if l == kinds::IMPLIES_LEVEL {
+        if DEPTH <= d {
+            return Read::Fault(at, DEEP);
         }
-        return match pred_from(s, v, at + 1, d + 1, b, 2, code, n) {
+        return match pred_from(s, v, at + 1, d + 1, b, kinds::IMPLIES_LEVEL, code, n) {
             Read::At(e, m) => {
-                let c = put(code, m, 3, at, wide(k), 0);
+                let c = put(code, m, shapes::CONNECTED, at, wide(k), 0);
                 pred_rest(s, v, e, d, b, min, code, c)
             }
             Read::Fault(p, q) => Read::Fault(p, q),
@@ -338,7 +345,7 @@ fn pred_rest(
     }
     match pred_from(s, v, at + 1, d, b, l + 1, code, n) {
         Read::At(e, m) => {
-            let c = put(code, m, 3, at, wide(k), 0);
+            let c = put(code, m, shapes::CONNECTED, at, wide(k), 0);
             pred_rest(s, v, e, d, b, min, code, c)
         }
         Read::Fault(p, q) => Read::Fault(p, q),
@@ -352,30 +359,30 @@ fn unary(s: &[u8], v: &[u16], at: usize, d: u8, b: u8, code: &mut [u16], n: usiz
 {
     let k = kind_at(s, at);
     let c = pred_start_of(k);
-    if c == 0 {
+    if c == kinds::NONE {
         return match term(s, v, at, d, b, code, n) {
             Read::At(e, m) => atom(s, v, e, d, b, code, m),
             Read::Fault(p, q) => Read::Fault(p, q),
         };
     }
-    if c == 1 {
-        let m = put(code, n, 1, at, wide(k), 0);
+    if c == kinds::TRUTH {
+        let m = put(code, n, shapes::TRUTH, at, wide(k), 0);
         return Read::At(at + 1, m);
     }
-    if c == 2 {
-        if 24 <= d {
-            return Read::Fault(at, 5);
+    if c == kinds::NEGATION {
+        if DEPTH <= d {
+            return Read::Fault(at, DEEP);
         }
         return match unary(s, v, at + 1, d + 1, b, code, n) {
             Read::At(e, m) => {
-                let h = put(code, m, 2, at, 0, 0);
+                let h = put(code, m, shapes::NEGATION, at, 0, 0);
                 Read::At(e, h)
             }
             Read::Fault(p, q) => Read::Fault(p, q),
         };
     }
-    if 24 <= d {
-        return Read::Fault(at, 5);
+    if DEPTH <= d {
+        return Read::Fault(at, DEEP);
     }
     paren(s, v, at, d + 1, b, code, n)
 }
@@ -387,9 +394,9 @@ fn paren(s: &[u8], v: &[u16], at: usize, d: u8, b: u8, code: &mut [u16], n: usiz
 {
     let k = kind_at(s, at + 1);
     let c = quantifier_of(k);
-    if c == 0 {
+    if c == kinds::NONE {
         return match pred(s, v, at + 1, d, b, code, n) {
-            Read::At(e, m) => close(s, e, 16, m),
+            Read::At(e, m) => close(s, e, codes::CLOSE_PAREN, m),
             Read::Fault(p, q) => Read::Fault(p, q),
         };
     }
@@ -402,20 +409,20 @@ fn quantified(s: &[u8], v: &[u16], at: usize, d: u8, b: u8, code: &mut [u16], n:
     ensures { λ r. ⌜ Reads (now (s .entry)) (at + 1) (n + 4) (aParen d b ∷ []) [] r × Made (now (s .entry)) (now (v .entry)) aUnary at n (now (code .entry)) (now (code .exit)) r ⌝ }
 {
     let x = at + 1 + 1;
-    if kind_at(s, x) == 2 {
-        if 3 <= b {
-            return Read::Fault(x, 5);
+    if kind_at(s, x) == codes::PLAIN {
+        if BOUND_NAMES <= b {
+            return Read::Fault(x, DEEP);
         }
-        return match close(s, x + 1, 10, n) {
+        return match close(s, x + 1, codes::COLON, n) {
             Read::At(t, y) => match domain(s, t, n) {
-                Read::At(e, z) => match close(s, e, 14, n) {
+                Read::At(e, z) => match close(s, e, codes::SPOT, n) {
                     Read::At(f, u) => match pred(s, v, f, d, b + 1, code, n) {
                         Read::At(g, m) => {
                             let h = put_domain(s, v, t, code, m);
                             let i = name_number(s, v, x);
                             let j = kind_at(s, at + 1);
-                            let c = put(code, h, 8, at + 1, i, wide(j));
-                            close(s, g, 16, c)
+                            let c = put(code, h, shapes::QUANTIFIED, at + 1, i, wide(j));
+                            close(s, g, codes::CLOSE_PAREN, c)
                         }
                         Read::Fault(p, q) => Read::Fault(p, q),
                     },
@@ -426,7 +433,7 @@ fn quantified(s: &[u8], v: &[u16], at: usize, d: u8, b: u8, code: &mut [u16], n:
             Read::Fault(p, q) => Read::Fault(p, q),
         };
     }
-    Read::Fault(x, 4)
+    Read::Fault(x, NO_DOSSIER)
 }
 
 // What stands behind the first term of a predicate.
@@ -436,16 +443,16 @@ fn atom(s: &[u8], v: &[u16], at: usize, d: u8, b: u8, code: &mut [u16], n: usize
 {
     let k = kind_at(s, at);
     let c = relation_of(k);
-    if c == 0 {
-        return Read::Fault(at, 4);
+    if c == kinds::NONE {
+        return Read::Fault(at, NO_DOSSIER);
     }
-    if c == 2 {
+    if c == kinds::MEMBERSHIP {
         return member(s, v, at, d, b, code, n);
     }
-    if c == 1 {
+    if c == kinds::COMPARISON {
         return match term(s, v, at + 1, d, b, code, n) {
             Read::At(e, m) => {
-                let h = put(code, m, 4, at, wide(k), 0);
+                let h = put(code, m, shapes::COMPARED, at, wide(k), 0);
                 Read::At(e, h)
             }
             Read::Fault(p, q) => Read::Fault(p, q),
@@ -467,7 +474,7 @@ fn member(s: &[u8], v: &[u16], at: usize, d: u8, b: u8, code: &mut [u16], n: usi
         return match range(s, at + 1, n) {
             Read::At(e, z) => {
                 let m = put_range(s, v, at + 1, code, n);
-                let c = put(code, m, 6, at, wide(k), 0);
+                let c = put(code, m, shapes::WITHIN, at, wide(k), 0);
                 Read::At(e, c)
             }
             Read::Fault(p, q) => Read::Fault(p, q),
@@ -475,7 +482,7 @@ fn member(s: &[u8], v: &[u16], at: usize, d: u8, b: u8, code: &mut [u16], n: usi
     }
     match term(s, v, at + 1, d, b, code, n) {
         Read::At(e, m) => {
-            let c = put(code, m, 5, at, wide(k), 0);
+            let c = put(code, m, shapes::MEMBER, at, wide(k), 0);
             Read::At(e, c)
         }
         Read::Fault(p, q) => Read::Fault(p, q),
@@ -489,12 +496,12 @@ fn related(s: &[u8], v: &[u16], at: usize, d: u8, b: u8, code: &mut [u16], n: us
 {
     let k = kind_at(s, at);
     let c = membership_of(k);
-    if c == 0 {
-        return Read::Fault(at, 4);
+    if c == kinds::NONE {
+        return Read::Fault(at, NO_DOSSIER);
     }
     match term(s, v, at + 1, d, b, code, n) {
         Read::At(e, m) => {
-            let h = put(code, m, 7, at, wide(k), 0);
+            let h = put(code, m, shapes::RELATED, at, wide(k), 0);
             Read::At(e, h)
         }
         Read::Fault(p, q) => Read::Fault(p, q),

@@ -27,3 +27,5 @@ pub mod ParseParts
 pub mod ParseDossier
 pub mod FormOf
 pub mod Lengths
+pub mod RelationsBehind
+pub mod FewBoundNames

@@ -117,10 +117,6 @@ mutual
       ∙ ap (λ (l : List Symbol). plainTerm t (fixed kind.maplet ∷ l))
       (h .same (fixed (membershipKind o) ∷ plainTerm (k .tree) (followsPred r v)) ∙ ap (λ (l : List Symbol). plainTerm u (fixed (membershipKind o) ∷ l)) (k .same (followsPred r v))))
 
--- a grouped term with the symbols of any term
-pub regroupTerm : (t : Term) → (u : Term) × TermGrouped u × ((v : List Symbol) → plainTerm u v ≡ plainTerm t v)
-regroupTerm t = let g = onto t After.nothing in (g .tree, g .grouped, g .same)
-
 -- a grouped predicate with the symbols of any predicate
 pub regroupPred : (p : Pred) → (q : Pred) × PredGrouped q × ((v : List Symbol) → plainPred q v ≡ plainPred p v)
 regroupPred p = let g = ontoPred p AfterPred.nothing in (g .tree, g .grouped, g .same)

@@ -1,13 +1,14 @@
--- BASE with another predicate in retrieve, which begins at symbol 50: the symbol at fault and the number. 4 by viability, 5 by depth and bound names, 6 by counts.
+-- Texts, by the symbol at fault and the number: 4 by viability, 5 by depth and bound names, 6 by counts, 7 by headings. Most are BASE with another predicate in
+-- retrieve, which begins at symbol 50.
 use mathlib.Core.Path.{_≡_, refl}
 use mathlib.Core.Bool.{Bool, true, false, _&&_}
-use mathlib.Core.List.{List, [], _∷_}
+use mathlib.Core.List.{List, [], _∷_, _++_}
 use Prim.Native.Nat.{ℕ, _+_}
 use Prim.Native.String.{String}
 use lib.Dec.{eqb}
-use Rattle.lexical.specs.Lists.{all}
+use Rattle.lexical.specs.Lists.{all, bytes}
 use Rattle.lexical.specs.Base.{Parts, dossierOf}
-use Rattle.lexical.specs.Refusals.{Refusal, numberOf, noDossier, deep, Fault}
+use Rattle.lexical.specs.Refusals.{Refusal, numberOf, noDossier, deep, manyDeclared, Fault}
 use Rattle.form.specs.Tree.{Term, number, name, group, prefix, binary, divided, listed, pairs, such, emptySet, emptyPairs}
 use Rattle.form.specs.Tree.{Pred, truth, falsity, negation, paren, quantified, connected, compared, member, within, related}
 use Rattle.form.specs.Codes.{termWidth, predWidth}
@@ -21,11 +22,17 @@ pub data Sample : Type 0 where
   fine : String → Sample
   -- the loosest connective, or operator of a comparison's left side, is the symbol i
   root : String → (i : ℕ) → Sample
-  -- BASE with these contents entries and bodies of operations: refused at symbol i for its headings
-  heading : (listed bodies : String) → (i : ℕ) → Sample
+  -- BASE with these contents entries and bodies of operations, or a dossier with these of given sets: refused at symbol i for its headings
+  heading givens : (listed bodies : String) → (i : ℕ) → Sample
+  -- BASE with this body of an operation, which begins at symbol 52, and a whole text: refused at symbol i
+  operation text : String → (i : ℕ) → Refusal → Sample
 
 abbrev base : (retrieve : String) → Parts
 base p = record { listed = "op add "; cinit = "k = 0"; retrieve = p; operations = "op add abstract true concrete true end" }
+
+-- a dossier behind its given sets
+abbrev rest : String
+rest = "abstract m : 0..1 ; where true end concrete k : 0..1 ; where true end ainit where true end cinit where true end retrieve where true end"
 
 pub samples : List Sample
 samples =
@@ -55,6 +62,20 @@ samples =
     ∷ root "not true and true" 2
     ∷ heading "op add op sub " "op add abstract true concrete true end" 61
     ∷ heading "op sub " "op add abstract true concrete true end" 52
+    ∷ heading "" "op add abstract true concrete true end" 50
+    ∷ givens "given G given H " "given G a end given I b end " 15
+    ∷ givens "given G " "given G a end given H b end " 13
+    ∷ givens "given G given H " "given G a end " 15
+    ∷ text "" 0 noDossier
+    ∷ text "contents given a given b given c given d given e given f given g given h" 17 noDossier
+    ∷ text "contents given a given b given c given d given e given f given g given h given i" 18 manyDeclared
+    ∷ text "contents abstract concrete ainit cinit retrieve end given G a b c d e f g h" 17 noDossier
+    ∷ text "contents abstract concrete ainit cinit retrieve end given G a b c d e f g h i" 17 manyDeclared
+    ∷ text "contents abstract concrete ainit cinit retrieve end abstract a : G ; b : G ; c : G ; d : G ; e : G ; f : G ; g : G ; h : G ;" 40 noDossier
+    ∷ text "contents abstract concrete ainit cinit retrieve end abstract a : G ; b : G ; c : G ; d : G ; e : G ; f : G ; g : G ; h : G ; i : G ;" 40 manyDeclared
+    ∷ operation "op add a? : SEG ; b? : SEG ; c? : SEG ; a! : SEG ; b! : SEG ; c! : SEG ; " 78 noDossier
+    ∷ operation "op add a? : SEG ; b? : SEG ; c? : SEG ; d? : SEG ; abstract true concrete true end" 66 manyDeclared
+    ∷ operation "op add a! : SEG ; b! : SEG ; c! : SEG ; d! : SEG ; abstract true concrete true end" 66 manyDeclared
     ∷ []
 
 abbrev refusedAt : ℕ → Refusal → Outcome → Bool
@@ -108,6 +129,9 @@ passes (faulty p i r) = refusedAt (50 + i) r (computeForm (dossierOf (base p)))
 passes (fine p) = isFormed (computeForm (dossierOf (base p)))
 passes (root p i) = rootAt i (computeForm (dossierOf (base p)))
 passes (heading l o i) = headingAt i (computeForm (dossierOf (record { listed = l; cinit = "k = 0"; retrieve = "true"; operations = o })))
+passes (givens l b i) = headingAt i (computeForm (bytes "contents " ++ bytes l ++ bytes "abstract concrete ainit cinit retrieve end " ++ bytes b ++ bytes rest))
+passes (operation o i r) = refusedAt i r (computeForm (dossierOf (record { listed = "op add "; cinit = "k = 0"; retrieve = "true"; operations = o })))
+passes (text w i r) = refusedAt i r (computeForm (bytes w))
 
 pub all-pass : all passes samples ≡ true
 unfolding samples passes computeForm termWidth predWidth

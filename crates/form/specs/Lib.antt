@@ -6,3 +6,4 @@ pub mod Parse
 pub mod Headings
 pub mod Computed
 pub mod Codes
+pub mod BoundNames

@@ -1,1 +1,3 @@
-// What a dossier is by form alone (numbers 4 to 7 of document 01): definitions and theorems, no code.
+// What a dossier is by form alone (numbers 4 to 7 of document 01): definitions and theorems, and the numbers of its nodes by name.
+pub mod node;
+pub mod shapes;

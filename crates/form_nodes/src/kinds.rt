@@ -2,6 +2,7 @@
 ghost use mathlib.Core.Path.{_≡_};
 ghost use lib.ListN.{getD};
 ghost use Rattle.form_nodes.specs.FormPromises.{KindAt, Classes, Starts, Begins, Members, Named, Quantifies, Relates, operators, connectives, levelOf};
+use lexical::codes;
 
 // How a symbol begins a term.
 pub enum Start {
@@ -27,28 +28,64 @@ pub fn start_of(k: u8) -> Start
     ensures { λ r. ⌜ Starts k r ⌝ }
 {
     match k {
-        1..=5 => Start::Leaf,
-        29 => Start::Prefix,
-        31 => Start::Prefix,
-        63..=64 => Start::Prefix,
-        17 => Start::Bracket,
-        19 => Start::Brace,
-        47 => Start::Empty,
+        codes::NUMBER..=codes::OUTPUT => Start::Leaf,
+        codes::DASH => Start::Prefix,
+        codes::SIZE => Start::Prefix,
+        codes::DOM..=codes::RAN => Start::Prefix,
+        codes::OPEN_BRACKET => Start::Bracket,
+        codes::OPEN_BRACE => Start::Brace,
+        codes::EMPTY => Start::Empty,
         _ => Start::Nothing,
     }
 }
 
-// 1 an operator of the lower level, 2 of the higher, 3 one with a number on its right, 0 none.
+// No symbol of the class that is asked for.
+pub const NONE: u8 = 0;
+
+// Operators of the lower level, of the higher, and those with a number on their right, which are of the higher.
+pub const LOOSE: u8 = 1;
+
+pub const TIGHT: u8 = 2;
+
+pub const DIVIDES: u8 = 3;
+
+// The levels of connectives.
+pub const IFF_LEVEL: u8 = 1;
+
+pub const IMPLIES_LEVEL: u8 = 2;
+
+pub const OR_LEVEL: u8 = 3;
+
+pub const AND_LEVEL: u8 = 4;
+
+// What a predicate begins with, other than a term: a truth value, `not`, (.
+pub const TRUTH: u8 = 1;
+
+pub const NEGATION: u8 = 2;
+
+pub const PAREN: u8 = 3;
+
+// What stands behind a predicate's first term: a comparison, a membership, |->.
+pub const COMPARISON: u8 = 1;
+
+pub const MEMBERSHIP: u8 = 2;
+
+pub const PAIRING: u8 = 3;
+
+// The one class of quantifiers, and of names.
+pub const SOME: u8 = 1;
+
+// Which kind of operator it is.
 pub fn operator_of(k: u8) -> u8
     ensures { λ r. ⌜ Classes operators k r ⌝ }
 {
     match k {
-        28..=29 => 1,
-        30 => 2,
-        58..=59 => 1,
-        60 => 2,
-        61..=62 => 3,
-        _ => 0,
+        codes::PLUS..=codes::DASH => LOOSE,
+        codes::TIMES => TIGHT,
+        codes::UNION..=codes::MINUS => LOOSE,
+        codes::INTER => TIGHT,
+        codes::DIV..=codes::MOD => DIVIDES,
+        _ => NONE,
     }
 }
 
@@ -56,46 +93,46 @@ pub fn level_of(o: u8) -> u8
     ensures { λ r. ⌜ r ≡ levelOf o ⌝ }
 {
     match o {
-        0 => 0,
-        1 => 1,
-        _ => 2,
+        NONE => NONE,
+        LOOSE => LOOSE,
+        _ => TIGHT,
     }
 }
 
-// A connective's level, or 0.
+// A connective's level.
 pub fn connective_of(k: u8) -> u8
     ensures { λ r. ⌜ Classes connectives k r ⌝ }
 {
     match k {
-        27 => 1,
-        26 => 2,
-        52 => 3,
-        51 => 4,
-        _ => 0,
+        codes::IFF => IFF_LEVEL,
+        codes::IMPLIES => IMPLIES_LEVEL,
+        codes::OR => OR_LEVEL,
+        codes::AND => AND_LEVEL,
+        _ => NONE,
     }
 }
 
-// What a predicate begins with: 1 a truth value, 2 `not`, 3 (, 0 a term.
+// What a predicate begins with; none of these is a term.
 pub fn pred_start_of(k: u8) -> u8
     ensures { λ r. ⌜ Begins k r ⌝ }
 {
     match k {
-        48..=49 => 1,
-        50 => 2,
-        15 => 3,
-        _ => 0,
+        codes::TRUE..=codes::FALSE => TRUTH,
+        codes::NOT => NEGATION,
+        codes::OPEN_PAREN => PAREN,
+        _ => NONE,
     }
 }
 
-// What stands behind a predicate's first term: 1 a comparison, 2 a membership, 3 |->, 0 none of them.
+// What stands behind a predicate's first term.
 pub fn relation_of(k: u8) -> u8
     ensures { λ r. ⌜ Relates k r ⌝ }
 {
     match k {
-        22..=25 => 1,
-        56..=57 => 2,
-        32 => 3,
-        _ => 0,
+        codes::EQUALS..=codes::AT_MOST => COMPARISON,
+        codes::IN..=codes::NOTIN => MEMBERSHIP,
+        codes::MAPLET => PAIRING,
+        _ => NONE,
     }
 }
 
@@ -103,8 +140,8 @@ pub fn membership_of(k: u8) -> u8
     ensures { λ r. ⌜ Members k r ⌝ }
 {
     match k {
-        56..=57 => 1,
-        _ => 0,
+        codes::IN..=codes::NOTIN => SOME,
+        _ => NONE,
     }
 }
 
@@ -112,8 +149,8 @@ pub fn quantifier_of(k: u8) -> u8
     ensures { λ r. ⌜ Quantifies k r ⌝ }
 {
     match k {
-        53..=55 => 1,
-        _ => 0,
+        codes::FORALL..=codes::EXISTS1 => SOME,
+        _ => NONE,
     }
 }
 
@@ -121,8 +158,8 @@ pub fn name_of(k: u8) -> u8
     ensures { λ r. ⌜ Named k r ⌝ }
 {
     match k {
-        2..=5 => 1,
-        _ => 0,
+        codes::PLAIN..=codes::OUTPUT => SOME,
+        _ => NONE,
     }
 }
 

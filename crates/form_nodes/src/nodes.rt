@@ -8,10 +8,23 @@ ghost use Rattle.form_nodes.specs.FormPromises.{Room, Writes, Reads};
 ghost use Rattle.form.specs.Codes.{node};
 ghost use Rattle.form_nodes.specs.Derivations.{Made, anOperand, nameCode, endCode, magnitudeCode, divisionCode, leafNode, rangeNode, domainNode};
 use crate::Read;
+use crate::kinds::NONE;
 use crate::kinds::kind_at;
 use crate::kinds::name_of;
 use crate::kinds::value_at;
 use crate::kinds::wide;
+use form::node;
+use form::shapes;
+use lexical::bounds::LARGEST_NUMBER;
+use lexical::bounds::SYMBOLS;
+use lexical::codes;
+use lexical::endings;
+use lexical::refusals::NO_DOSSIER;
+
+// The last number of a symbol; and of a plain name the code, which its ending is added to.
+const LAST_SYMBOL: u16 = SYMBOLS as u16 - 1;
+
+const PLAIN: u16 = codes::PLAIN as u16;
 
 // A node behind the first n numbers.
 pub fn put(code: &mut [u16], n: usize, shape: u16, place: usize, x: u16, y: u16) -> usize
@@ -19,10 +32,10 @@ pub fn put(code: &mut [u16], n: usize, shape: u16, place: usize, x: u16, y: u16)
     ensures { λ r. ⌜ Writes (now (code .entry)) n (node shape place x y) (now (code .exit)) r ⌝ }
 {
     code[n] = y;
-    code[n + 1] = x;
-    code[n + 2] = place as u16;
-    code[n + 3] = shape;
-    n + 4
+    code[n + node::A] = x;
+    code[n + node::PLACE] = place as u16;
+    code[n + node::SHAPE] = shape;
+    n + node::SIZE
 }
 
 // The number of a name: of its letters, and its ending.
@@ -31,13 +44,13 @@ pub fn name_number(s: &[u8], v: &[u16], at: usize) -> u16
 {
     let k = kind_at(s, at);
     let x = value_at(v, at);
-    if 4095 < x {
+    if LAST_SYMBOL < x {
         return 0;
     }
-    if k < 2 {
+    if k < codes::PLAIN {
         return 0;
     }
-    4 * x + (wide(k) - 2)
+    endings::COUNT * x + (wide(k) - PLAIN)
 }
 
 // An end of a range, plus 1,000.
@@ -45,18 +58,18 @@ pub fn signed(s: &[u8], v: &[u16], at: usize) -> u16
     requires { ⌜ at ≤ 4100 ⌝ }
     ensures { λ r. ⌜ r ≡ endCode (now (s .entry)) (now (v .entry)) at ⌝ }
 {
-    if kind_at(s, at) == 29 {
+    if kind_at(s, at) == codes::DASH {
         let x = value_at(v, at + 1);
-        if 1000 < x {
+        if LARGEST_NUMBER < x {
             return 0;
         }
-        return 1000 - x;
+        return LARGEST_NUMBER - x;
     }
     let x = value_at(v, at);
-    if 1000 < x {
+    if LARGEST_NUMBER < x {
         return 0;
     }
-    1000 + x
+    LARGEST_NUMBER + x
 }
 
 // A divisor's magnitude; the sign, and which of the two divisions it is.
@@ -64,7 +77,7 @@ pub fn magnitude(s: &[u8], v: &[u16], at: usize) -> u16
     requires { ⌜ at ≤ 4100 ⌝ }
     ensures { λ r. ⌜ r ≡ magnitudeCode (now (s .entry)) (now (v .entry)) at ⌝ }
 {
-    if kind_at(s, at) == 29 {
+    if kind_at(s, at) == codes::DASH {
         return value_at(v, at + 1);
     }
     value_at(v, at)
@@ -74,14 +87,14 @@ pub fn division(s: &[u8], at: usize) -> u16
     requires { ⌜ at ≤ 4100 ⌝ }
     ensures { λ r. ⌜ r ≡ divisionCode (now (s .entry)) at ⌝ }
 {
-    if kind_at(s, at) == 62 {
-        if kind_at(s, at + 1) == 29 {
-            return 3;
+    if kind_at(s, at) == codes::MOD {
+        if kind_at(s, at + 1) == codes::DASH {
+            return shapes::NEGATIVE_REMAINDER;
         }
-        return 2;
+        return shapes::REMAINDER;
     }
-    if kind_at(s, at + 1) == 29 {
-        return 1;
+    if kind_at(s, at + 1) == codes::DASH {
+        return shapes::NEGATIVE;
     }
     0
 }
@@ -91,12 +104,12 @@ pub fn leaf(s: &[u8], v: &[u16], at: usize, code: &mut [u16], n: usize) -> usize
     requires { ⌜ (n + 4 ≤ length (now code)) × (at < 65536) ⌝ }
     ensures { λ r. ⌜ Writes (now (code .entry)) n (leafNode (now (s .entry)) (now (v .entry)) at) (now (code .exit)) r ⌝ }
 {
-    if kind_at(s, at) == 1 {
+    if kind_at(s, at) == codes::NUMBER {
         let x = value_at(v, at);
-        return put(code, n, 1, at, x, 0);
+        return put(code, n, shapes::NUMBER, at, x, 0);
     }
     let x = name_number(s, v, at);
-    put(code, n, 2, at, x, 0)
+    put(code, n, shapes::NAME, at, x, 0)
 }
 
 // The node of a..b.
@@ -105,12 +118,12 @@ pub fn put_range(s: &[u8], v: &[u16], at: usize, code: &mut [u16], n: usize) -> 
     ensures { λ r. ⌜ Writes (now (code .entry)) n (rangeNode (now (s .entry)) (now (v .entry)) at) (now (code .exit)) r ⌝ }
 {
     let x = signed(s, v, at);
-    if kind_at(s, at) == 29 {
+    if kind_at(s, at) == codes::DASH {
         let y = signed(s, v, at + 3);
-        return put(code, n, 2, at + 2, x, y);
+        return put(code, n, shapes::RANGE, at + 2, x, y);
     }
     let y = signed(s, v, at + 2);
-    put(code, n, 2, at + 1, x, y)
+    put(code, n, shapes::RANGE, at + 1, x, y)
 }
 
 pub fn put_domain(s: &[u8], v: &[u16], at: usize, code: &mut [u16], n: usize) -> usize
@@ -118,11 +131,11 @@ pub fn put_domain(s: &[u8], v: &[u16], at: usize, code: &mut [u16], n: usize) ->
     ensures { λ r. ⌜ Writes (now (code .entry)) n (domainNode (now (s .entry)) (now (v .entry)) at) (now (code .exit)) r ⌝ }
 {
     let k = kind_at(s, at);
-    if name_of(k) == 0 {
+    if name_of(k) == NONE {
         return put_range(s, v, at, code, n);
     }
     let x = name_number(s, v, at);
-    put(code, n, 1, at, x, 0)
+    put(code, n, shapes::SET, at, x, 0)
 }
 
 // One name or two behind an `empty`.
@@ -131,16 +144,16 @@ pub fn empty(s: &[u8], v: &[u16], at: usize, code: &mut [u16], n: usize) -> Read
     ensures { λ r. ⌜ Reads (now (s .entry)) (at + 1) (n + 4) (aName ∷ anEmptyRest ∷ []) [] r × Made (now (s .entry)) (now (v .entry)) anOperand at n (now (code .entry)) (now (code .exit)) r ⌝ }
 {
     let k = kind_at(s, at + 1);
-    if name_of(k) == 0 {
-        return Read::Fault(at + 1, 4);
+    if name_of(k) == NONE {
+        return Read::Fault(at + 1, NO_DOSSIER);
     }
     let x = name_number(s, v, at + 1);
     let j = kind_at(s, at + 1 + 1);
-    if name_of(j) == 0 {
-        let m = put(code, n, 9, at, x, 0);
+    if name_of(j) == NONE {
+        let m = put(code, n, shapes::EMPTY_SET, at, x, 0);
         return Read::At(at + 1 + 1, m);
     }
     let y = name_number(s, v, at + 1 + 1);
-    let m = put(code, n, 10, at, x, y);
+    let m = put(code, n, shapes::EMPTY_PAIRS, at, x, y);
     Read::At(at + 1 + 1 + 1, m)
 }

@@ -7,8 +7,11 @@ ghost use Rattle.form.specs.Machine.{exact, anEnd, aDomain};
 ghost use Rattle.form_nodes.specs.FormPromises.{Closes, Reads, Advances, Ranged, RangeEnd, Shown};
 ghost use Rattle.form_nodes.specs.Derivations.{EndAt, RangeAt, DomainAt};
 use crate::Read;
+use crate::kinds::NONE;
 use crate::kinds::kind_at;
 use crate::kinds::name_of;
+use lexical::codes;
+use lexical::refusals::NO_DOSSIER;
 
 // A symbol of the kind with the code k.
 pub fn close(s: &[u8], at: usize, k: u8, n: usize) -> Read
@@ -16,12 +19,12 @@ pub fn close(s: &[u8], at: usize, k: u8, n: usize) -> Read
     ensures { λ r. ⌜ Closes (now (s .entry)) at k n r ⌝ }
 {
     if s.len() <= at {
-        return Read::Fault(at, 4);
+        return Read::Fault(at, NO_DOSSIER);
     }
     if s[at] == k {
         return Read::At(at + 1, n);
     }
-    Read::Fault(at, 4)
+    Read::Fault(at, NO_DOSSIER)
 }
 
 // A number, which may carry -.
@@ -29,10 +32,10 @@ pub fn end(s: &[u8], at: usize, n: usize) -> Read
     requires { ⌜ (at ≤ length (now s)) × (length (now s) ≤ 4096) ⌝ }
     ensures { λ r. ⌜ Advances (now (s .entry)) at n (anEnd ∷ []) [] r × Shown (EndAt (now (s .entry)) at) n r ⌝ }
 {
-    if kind_at(s, at) == 29 {
-        return close(s, at + 1, 1, n);
+    if kind_at(s, at) == codes::DASH {
+        return close(s, at + 1, codes::NUMBER, n);
     }
-    close(s, at, 1, n)
+    close(s, at, codes::NUMBER, n)
 }
 
 // Is the symbol the - of a range after `in` or `notin`?
@@ -44,15 +47,15 @@ pub fn range_end(s: &[u8], at: usize) -> bool
         return false;
     }
     let k = kind_at(s, at - 1);
-    if k < 56 {
+    if k < codes::IN {
         return false;
     }
-    if 57 < k {
+    if codes::NOTIN < k {
         return false;
     }
-    if kind_at(s, at) == 29 {
-        if kind_at(s, at + 1) == 1 {
-            if kind_at(s, at + 2) == 21 {
+    if kind_at(s, at) == codes::DASH {
+        if kind_at(s, at + 1) == codes::NUMBER {
+            if kind_at(s, at + 2) == codes::UP_TO {
                 return true;
             }
             return false;
@@ -68,17 +71,17 @@ pub fn is_range(s: &[u8], at: usize) -> bool
     ensures { λ r. ⌜ Ranged (now (s .entry)) at r ⌝ }
 {
     let k = kind_at(s, at);
-    if k == 29 {
-        if kind_at(s, at + 1) == 1 {
-            if kind_at(s, at + 1 + 1) == 21 {
+    if k == codes::DASH {
+        if kind_at(s, at + 1) == codes::NUMBER {
+            if kind_at(s, at + 1 + 1) == codes::UP_TO {
                 return true;
             }
             return false;
         }
         return false;
     }
-    if k == 1 {
-        if kind_at(s, at + 1) == 21 {
+    if k == codes::NUMBER {
+        if kind_at(s, at + 1) == codes::UP_TO {
             return true;
         }
         return false;
@@ -92,7 +95,7 @@ pub fn range(s: &[u8], at: usize, n: usize) -> Read
     ensures { λ r. ⌜ Advances (now (s .entry)) at n (anEnd ∷ exact kind.upTo ∷ anEnd ∷ []) [] r × Shown (RangeAt (now (s .entry)) at) n r ⌝ }
 {
     match end(s, at, n) {
-        Read::At(e, m) => match close(s, e, 21, m) {
+        Read::At(e, m) => match close(s, e, codes::UP_TO, m) {
             Read::At(f, c) => end(s, f, c),
             Read::Fault(p, q) => Read::Fault(p, q),
         },
@@ -106,7 +109,7 @@ pub fn domain(s: &[u8], at: usize, n: usize) -> Read
     ensures { λ r. ⌜ Reads (now (s .entry)) at n (aDomain ∷ []) [] r × Shown (DomainAt (now (s .entry)) at) n r ⌝ }
 {
     let k = kind_at(s, at);
-    if name_of(k) == 0 {
+    if name_of(k) == NONE {
         return range(s, at, n);
     }
     Read::At(at + 1, n)

@@ -3,3 +3,4 @@ pub mod ByteLaws
 pub mod MarkLaws
 pub mod WordLaws
 pub mod NumberLaws
+pub mod Samples

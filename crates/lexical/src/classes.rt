@@ -1,6 +1,5 @@
 // The classes of bytes, and the runs of letters and digits.
 ghost use mathlib.Core.Path.{_≡_};
-ghost use Prim.Native.Nat.{_≤_};
 ghost use lib.ListN.{length, drop, getD};
 ghost use Rattle.lexical.specs.Symbols.{classOf, inRun, run};
 ghost use Rattle.lexical.specs.Promises.{classIs};
@@ -35,7 +34,6 @@ pub fn in_run(b: u8) -> bool
 
 // How many letters and digits stand from `at` on.
 pub fn run_from(s: &[u8], at: usize) -> usize
-    requires { ⌜ at ≤ length (now s) ⌝ }
     ensures { λ r. ⌜ r ≡ length (run (drop at (now (s .entry)))) ⌝ }
 {
     let mut i = at;

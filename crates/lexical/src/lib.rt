@@ -1,8 +1,11 @@
 // Document 01, "Symbols": classes of bytes, and the one symbol at a place.
+pub mod bounds;
 pub mod classes;
 pub mod codes;
+pub mod endings;
 pub mod marks;
 pub mod numbers;
+pub mod refusals;
 pub mod words;
 
 // The class of a byte.

@@ -5,8 +5,12 @@ ghost use lib.ListN.{length, take, drop, getD};
 ghost use Rattle.lexical.specs.Symbols.{classOf, byClass, digit};
 ghost use Rattle.lexical.specs.SymbolPromises.{tokenOf, moreOf, decimalOr};
 use crate::Token;
+use crate::bounds::LARGEST_NUMBER;
 use crate::classes::run_from;
 use crate::codes;
+
+// What stands for no number of document 01: a digit more than the largest one lets in.
+const NO_NUMBER: u16 = LARGEST_NUMBER + 1;
 
 // The number that one more digit makes of v, or 1001 where b is no digit or the number is over 1,000.
 pub fn more(v: u16, b: u8) -> u16
@@ -14,14 +18,14 @@ pub fn more(v: u16, b: u8) -> u16
     ensures { λ r. ⌜ r ≡ moreOf v b ⌝ }
 {
     if b < b'0' {
-        return 1001;
+        return NO_NUMBER;
     }
     if b'9' < b {
-        return 1001;
+        return NO_NUMBER;
     }
     let m = v * 10 + (b - b'0') as u16;
-    if 1000 < m {
-        return 1001;
+    if LARGEST_NUMBER < m {
+        return NO_NUMBER;
     }
     m
 }
@@ -35,8 +39,8 @@ pub fn decimal(s: &[u8], at: usize, e: usize) -> u16
     let mut i = at;
     while i < e {
         v = more(v, s[i]);
-        if 1000 < v {
-            return 1001;
+        if LARGEST_NUMBER < v {
+            return NO_NUMBER;
         }
         i += 1;
     }
@@ -55,7 +59,7 @@ pub fn number_at(s: &[u8], at: usize) -> Token
         }
     }
     let v = decimal(s, at, at + n);
-    if 1000 < v {
+    if LARGEST_NUMBER < v {
         return Token::Unlisted;
     }
     Token::Listed(codes::NUMBER, n, v)

@@ -8,9 +8,16 @@ ghost use Rattle.lexical.specs.Kinds.{Kind, words};
 ghost use Rattle.lexical.specs.Symbols.{Ending, endingOf, run, reserved, wordOf, byClass, letter};
 ghost use Rattle.lexical.specs.SymbolPromises.{tokenOf, packed, keyed, wordCode, endingCode};
 use crate::Token;
+use crate::bounds::NAME_LETTERS;
 use crate::classes::byte_at;
 use crate::classes::run_from;
 use crate::codes;
+use crate::endings;
+
+// The code of no reserved word, and how many bytes the longest one has.
+const NO_WORD: u8 = 0;
+
+const LONGEST_WORD: usize = 8;
 
 // The reserved word whose bytes are packed in `key`, the first one lowest; 0 for none.
 pub fn word_code(key: u64) -> u8
@@ -46,7 +53,7 @@ pub fn word_code(key: u64) -> u8
         0x646f6d => codes::MOD, // mod
         0x6d6f64 => codes::DOM, // dom
         0x6e6172 => codes::RAN, // ran
-        _ => 0,
+        _ => NO_WORD,
     }
 }
 
@@ -83,10 +90,10 @@ pub fn ending_of(b: u8) -> u8
     ensures { λ r. ⌜ (r ≡ endingCode (endingOf (b ∷ []))) × (r ≤ 3) ⌝ }
 {
     match b {
-        b'\'' => 1,
-        b'?' => 2,
-        b'!' => 3,
-        _ => 0,
+        b'\'' => endings::PRIME,
+        b'?' => endings::QUERY,
+        b'!' => endings::SHRIEK,
+        _ => endings::NONE,
     }
 }
 
@@ -95,8 +102,8 @@ pub fn reserved_at(s: &[u8], at: usize, n: usize) -> u8
     requires { ⌜ (at ≤ length (now s)) × (length (now s) ≤ 32768) × (n ≡ length (run (drop at (now s)))) ⌝ }
     ensures { λ r. ⌜ r ≡ wordCode (reserved words (run (drop at (now (s .entry))))) ⌝ }
 {
-    if 8 < n {
-        return 0;
+    if LONGEST_WORD < n {
+        return NO_WORD;
     }
     let key = eight(s, at, at + n);
     word_code(key)
@@ -107,16 +114,16 @@ pub fn word_of(n: usize, ending: u8, word: u8) -> Token
     requires { ⌜ (n ≤ 32768) × (ending ≤ 3) ⌝ }
     ensures { λ t. ⌜ ((r : List ℕ) (e : Ending) (o : Option Kind) → n ≡ length r → ending ≡ endingCode e → word ≡ wordCode o → t ≡ tokenOf (wordOf r e o)) ⌝ }
 {
-    if word != 0 {
-        if ending == 0 {
+    if word != NO_WORD {
+        if ending == endings::NONE {
             return Token::Listed(word, n, 0);
         }
         return Token::Unlisted;
     }
-    if 16 < n {
+    if NAME_LETTERS < n {
         return Token::Unlisted;
     }
-    if ending == 0 {
+    if ending == endings::NONE {
         return Token::Listed(codes::PLAIN, n, 0);
     }
     Token::Listed(codes::PLAIN + ending, n + 1, 0)

@@ -3,7 +3,6 @@ pub mod SizesAgreeScope
 pub mod SizeWidths
 pub mod SizesAgreeParts
 pub mod SizesAgree
-pub mod Counted
 -- The walk for sizes.
 pub mod TypesFit
 pub mod GivenSizes

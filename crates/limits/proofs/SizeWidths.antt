@@ -1,4 +1,4 @@
--- How far the sizes of a tree go: as many symbols as it has. Its faults have numbers below 16.
+-- How far the sizes of a tree go: as many symbols as it has. Its faults have numbers below keyRoom.
 use mathlib.Core.Path.{_≡_}
 use mathlib.Core.List.{[], _∷_}
 use Prim.Native.Nat.{ℕ, suc, _+_, _<_}
@@ -8,13 +8,14 @@ use Rattle.form.specs.Tree.{Letters, Quantifier, Domain, givenSet, range}
 use Rattle.form.specs.Tree.{Term, number, name, group, prefix, binary, divided, listed, pairs, such, emptySet, emptyPairs, Items, only, also, Pairs, onlyPair, alsoPair}
 use Rattle.form.specs.Tree.{Pred, truth, falsity, negation, paren, quantified, connected, compared, member, within, related}
 use Rattle.form.specs.Codes.{termWidth, predWidth}
-use Rattle.static_rules.specs.Carriers.{largest, plain}
-use Rattle.static_rules.specs.Names.{domainCarrier, domainLength}
-use Rattle.static_rules.specs.Limits.{Sizes, sizeTerm, sizeItems, sizePairs, sizePred}
+use Rattle.static_rules.specs.Carriers.{plain}
+use Rattle.static_rules.specs.Names.{domainLength}
+use Rattle.static_rules.specs.Limits.{Sizes, domainSize, sizeTerm, sizeItems, sizePairs, sizePred}
+use Rattle.type_rules.specs.TypesByNumber.{keyRoom}
 use Rattle.names.proofs.TypesAgreeLeast.{small-append, small-whole, no-fault}
 use Rattle.names.proofs.TypesAgreeWidths.{Steady, wideTerm, wideItems, widePairs, widePred, term-width, pred-width}
 
-large : numberOf largeSize < 16
+large : numberOf largeSize < keyRoom
 unfolding numberOf
 large = omega arith
 
@@ -63,7 +64,7 @@ mutual
   pred-steady (negation p) Γ i = let a = pred-steady p Γ (suc i) in record { next = omega (arith, a .next); small = a .small }
   pred-steady (paren p) Γ i = let a = pred-steady p Γ (suc i) in record { next = omega (arith, a .next); small = a .small }
   pred-steady (quantified q x t p) Γ i =
-      let a = pred-steady p ((plain x, largest (domainCarrier [] t)) ∷ Γ) (i + 5 + domainLength t) in
+      let a = pred-steady p ((plain x, domainSize t) ∷ Γ) (i + 5 + domainLength t) in
       record { next = quantified-next q x t p i _ (a .next); small = a .small }
   pred-steady (connected o p q) Γ i =
       let a = pred-steady p Γ i in let b = pred-steady q Γ (suc (sizePred p Γ i .next)) in

@@ -9,9 +9,9 @@ use Rattle.form.specs.Tree.{Letters, Quantifier, Domain}
 use Rattle.form.specs.Tree.{Term, number, name, group, prefix, binary, divided, listed, pairs, such, emptySet, emptyPairs, Items, only, also, Pairs, onlyPair, alsoPair}
 use Rattle.form.specs.Tree.{Pred, truth, falsity, negation, paren, quantified, connected, compared, member, within, related}
 use Rattle.form.specs.Codes.{Numbering, numberOfName, termWidth, predWidth}
-use Rattle.static_rules.specs.Carriers.{largest, plain}
-use Rattle.static_rules.specs.Names.{domainCarrier, domainLength}
-use Rattle.static_rules.specs.Limits.{Sizes, sizeTerm, sizePred}
+use Rattle.static_rules.specs.Carriers.{plain}
+use Rattle.static_rules.specs.Names.{domainLength}
+use Rattle.static_rules.specs.Limits.{Sizes, domainSize, sizeTerm, sizePred}
 use Rattle.type_rules.specs.TypesByNumber.{leastKey}
 use Rattle.names.proofs.ReachTables.{Numbered, DomainIn, TermIn, ItemsIn, PairsIn, PredIn}
 use Rattle.names.proofs.TypesAgreeLeast.{least-nil}
@@ -23,7 +23,7 @@ use Rattle.limits.proofs.SizesAgreeParts.{TermHolds, ItemsHold, PairsHo
 
 -- what stands inside a quantifier: the bound name's size and the place of the predicate, by numbers and by the definitions
 quantified-holds : (ρ : Numbering) (P : Letters → Type 0) (Γ : Sizes) (S : Bounds) (q : Quantifier) (x : Letters) (t : Domain) (p : Pred) → DomainIn P t
-    → PredHolds ρ ((plain x, largest (domainCarrier [] t)) ∷ Γ) (set S (numberOfName ρ x noEnding) (largest (domainCarrier [] t))) p
+    → PredHolds ρ ((plain x, domainSize t) ∷ Γ) (set S (numberOfName ρ x noEnding) (domainSize t)) p
     → PredHolds ρ Γ S (quantified q x t p)
 unfolding sizeTerm termOver
 quantified-holds ρ P Γ S q x t p h a i =
@@ -70,8 +70,8 @@ module _ (ρ : Numbering) (P : Letters → Type 0) (ν : Numbered ρ P) where
     pred-holds (paren p) Γ S s h = λ i. pred-holds p Γ S s h (suc i)
     pred-holds (quantified q x t p) Γ S s h =
         quantified-holds ρ P Γ S q x t p (h .1)
-        (pred-holds p ((plain x, largest (domainCarrier [] t)) ∷ Γ) (set S (numberOfName ρ x noEnding) (largest (domainCarrier [] t)))
-        (bound-shown ρ P ν Γ S s x (h .0) (largest (domainCarrier [] t))) (h .2))
+        (pred-holds p ((plain x, domainSize t) ∷ Γ) (set S (numberOfName ρ x noEnding) (domainSize t))
+        (bound-shown ρ P ν Γ S s x (h .0) (domainSize t)) (h .2))
     pred-holds (connected o p q) Γ S s h = preds-least ρ Γ S p q (pred-holds p Γ S s (h .0)) (pred-holds q Γ S s (h .1))
     pred-holds (compared o t u) Γ S s h = two-least ρ Γ S t u (term-holds t Γ S s (h .0)) (term-holds u Γ S s (h .1))
     pred-holds (member o t u) Γ S s h = two-least ρ Γ S t u (term-holds t Γ S s (h .0)) (term-holds u Γ S s (h .1))

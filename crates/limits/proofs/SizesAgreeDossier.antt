@@ -17,7 +17,7 @@ use Rattle.static_rules.specs.Scope as scope
 use Rattle.static_rules.specs.Scope.{Context, variables, contexts, operationContexts, operationReach}
 use Rattle.static_rules.specs.Limits.{Sizes, contextSizes, sizeFaults}
 use Rattle.declared_names.specs.NamesByNumber.{Typed, variablesOf, parametersOf}
-use Rattle.type_rules.specs.TypesByNumber.{leastKey}
+use Rattle.type_rules.specs.TypesByNumber.{keyRoom, leastKey}
 use Rattle.names.proofs.ReachTables.{Numbered, PredIn}
 use Rattle.names.proofs.TypesAgreeLeast.{Small, no-fault, small-append, two-parts, least-nil}
 use Rattle.names.proofs.TypesAgreeScope.{find-here, find-there}
@@ -144,7 +144,7 @@ module _ {P : Letters → Type 0} (d : Dossier) (h : DossierIn P d) where
       (one-context (h .concrete-holds) c
       (one-context (h .ainit-in) a (one-context (h .cinit-in) c (one-context (h .retrieve-in) (names-append a c) (operations-in (h .operations-in) _ _)))))
 
--- every fault of a list of contexts has a number below 16
+-- every fault of a list of contexts has a number below keyRoom
 contexts-small : (cs : List Context) → Small (concat (map contextSizes cs))
 unfolding concat contextSizes
 contexts-small [] = no-fault

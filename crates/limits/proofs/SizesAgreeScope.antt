@@ -14,9 +14,8 @@ use Rattle.lexical.specs.Symbols.{Name, Ending, noEnding, prime, query, shriek}
 use Rattle.lexical.proofs.WordLaws.{same-refl, same-true}
 use Rattle.form.specs.Tree.{Letters, Domain, givenSet, range}
 use Rattle.form.specs.Codes.{Numbering, numberOfName, nameNumber}
-use Rattle.static_rules.specs.Carriers.{largest, sameName, plain, signed, givenOf}
-use Rattle.static_rules.specs.Names.{domainCarrier}
-use Rattle.static_rules.specs.Limits.{Sizes}
+use Rattle.static_rules.specs.Carriers.{largest, sameName, plain, signed}
+use Rattle.static_rules.specs.Limits.{Sizes, domainSize}
 use Rattle.type_rules.specs.TypesByNumber.{entry}
 use Rattle.names.proofs.ReachTables.{Numbered, DomainIn}
 use Rattle.names.proofs.TypesAgreeScope.{find-here, find-there, apart, turned}
@@ -85,8 +84,8 @@ absolute-end true zero h = refl
 absolute-end true (suc m) h = rw (lt-ltb (1000 - suc m) 1000 (omega arith)) (omega arith)
 absolute-end false m h = rw (le-ltb (1000 + m) 1000 (omega arith)) (omega arith)
 
-pub domain-bound : (P : Letters → Type 0) (d : Domain) → DomainIn P d → domainBound d ≡ largest (domainCarrier [] d)
-unfolding domainBound largest givenOf find
+pub domain-bound : (P : Letters → Type 0) (d : Domain) → DomainIn P d → domainBound d ≡ domainSize d
+unfolding domainBound largest
 domain-bound P (givenSet g) h = refl
 domain-bound P (range r) h =
     ap₂ max (absolute-end (r .lower .negative) (r .lower .magnitude) (h .0)) (absolute-end (r .upper .negative) (r .upper .magnitude) (h .1))

@@ -174,7 +174,8 @@ fn measure(nodes: &[u16], spans: &[u16], n: usize, bounds: &mut [u16]) -> u32
     lesser_of(f, lesser_of(g, h))
 }
 
-// The least fault of number 13 (place * 16 + number + 1, places by symbols), or 0. The spans say where the parts of the dossier stand among the nodes.
+// The least fault of number 13 (place * KEY_ROOM + number + 1, places by symbols), or 0. The spans say where the parts of the dossier stand among the nodes.
+// `bounds` may hold anything. What it holds afterwards is left open: `reader::sizes_key`, the one caller, makes it for this call.
 pub fn measures(nodes: &[u16], spans: &[u16; 80], operations: usize, bounds: &mut [u16]) -> u32
     ensures { λ r. ⌜ MeasuresSeen (now (nodes .entry)) (now (spans .entry)) operations (length (now (bounds .entry))) r ⌝ }
 {

@@ -3,6 +3,9 @@ ghost use mathlib.Core.Path.{_≡_};
 ghost use Prim.Native.Nat.{_+_, _-_, _≤_};
 ghost use lib.ListN.{length, getD};
 ghost use Rattle.table_nodes.specs.TableWalkPromises.{DomainMade, TermMade, ItemsMade, PairsMade, PredMade};
+use form::node;
+use form::shapes;
+use lexical::bounds::LARGEST_NUMBER;
 use table_nodes::Made;
 use table_nodes::nodes::element_size;
 use table_nodes::nodes::first_size;
@@ -15,6 +18,8 @@ use table_nodes::nodes::second_size;
 use table_nodes::nodes::set_node;
 use table_nodes::nodes::small;
 use table_nodes::nodes::truth_of;
+use table_nodes::slots;
+use table_nodes::table_shapes;
 use type_rules::kinds::element_of;
 use type_rules::kinds::index;
 use type_rules::kinds::look;
@@ -29,15 +34,15 @@ fn domain(code: &[u16], end: usize, names: &[u16], sizes: &[u16], out: &mut [u16
     requires { ⌜ (end ≤ length (now code)) × (length (now code) ≤ length (now out)) × (length (now out) ≤ 16384) ⌝ }
     ensures { λ r. ⌜ DomainMade (now (code .entry)) end (now (names .entry)) (now (sizes .entry)) (now (out .entry)) (now (out .exit)) r ⌝ }
 {
-    if end < 4 {
+    if end < node::SIZE {
         return nothing();
     }
-    let at = end - 4;
-    let a = look(code, at + 1);
-    if look(code, at + 3) == 1 {
+    let at = end - node::SIZE;
+    let a = look(code, at + node::A);
+    if look(code, at + node::SHAPE) == shapes::SET {
         let e = look(names, index(a));
         let n = given_size(sizes, e);
-        set_node(out, at, 13, 0, 1000, n);
+        set_node(out, at, table_shapes::OVER, 0, LARGEST_NUMBER, n);
         return Made {
             kind: element_of(e),
             start: at,
@@ -45,7 +50,7 @@ fn domain(code: &[u16], end: usize, names: &[u16], sizes: &[u16], out: &mut [u16
     }
     let b = look(code, at);
     let n = range_count(a, b);
-    set_node(out, at, 13, 0, a, n);
+    set_node(out, at, table_shapes::OVER, 0, a, n);
     Made { kind: 1, start: at }
 }
 
@@ -62,9 +67,9 @@ fn number(
     requires { ⌜ (end ≤ length (now code)) × (length (now code) ≤ length (now out)) × (length (now out) ≤ 16384) × (4 ≤ end) × (getD (now code) (end - 4 + 3) 0 ≡ 1) ⌝ }
     ensures { λ r. ⌜ TermMade (now (code .entry)) end slot (now (names .entry)) (now (names .entry)) (now (places .entry)) (now (places .entry)) (now (sizes .entry)) (now (out .entry)) (now (out .exit)) r ⌝ }
 {
-    let at = end - 4;
-    let a = look(code, at + 1);
-    set_node(out, at, 1, 0, a, 0);
+    let at = end - node::SIZE;
+    let a = look(code, at + node::A);
+    set_node(out, at, table_shapes::VALUE, 0, a, 0);
     Made { kind: 1, start: at }
 }
 
@@ -81,15 +86,15 @@ fn named(
     requires { ⌜ (end ≤ length (now code)) × (length (now code) ≤ length (now out)) × (length (now out) ≤ 16384) × (4 ≤ end) × (getD (now code) (end - 4 + 3) 0 ≡ 2) ⌝ }
     ensures { λ r. ⌜ TermMade (now (code .entry)) end slot (now (names .entry)) (now (names .entry)) (now (places .entry)) (now (places .entry)) (now (sizes .entry)) (now (out .entry)) (now (out .exit)) r ⌝ }
 {
-    let at = end - 4;
-    let x = index(look(code, at + 1));
+    let at = end - node::SIZE;
+    let x = index(look(code, at + node::A));
     let e = look(names, x);
     let w = look(places, x);
-    if w < 64 {
-        set_node(out, at, 2, 0, w, 0);
+    if w < slots::ELEMENTS {
+        set_node(out, at, table_shapes::SLOT, 0, w, 0);
         return Made { kind: e, start: at };
     }
-    set_node(out, at, 1, 0, w - 64, 0);
+    set_node(out, at, table_shapes::VALUE, 0, w - slots::ELEMENTS, 0);
     Made { kind: e, start: at }
 }
 
@@ -106,9 +111,9 @@ fn empty_set(
     requires { ⌜ (end ≤ length (now code)) × (length (now code) ≤ length (now out)) × (length (now out) ≤ 16384) × (4 ≤ end) × (getD (now code) (end - 4 + 3) 0 ≡ 9) ⌝ }
     ensures { λ r. ⌜ TermMade (now (code .entry)) end slot (now (names .entry)) (now (names .entry)) (now (places .entry)) (now (places .entry)) (now (sizes .entry)) (now (out .entry)) (now (out .exit)) r ⌝ }
 {
-    let at = end - 4;
-    let e = look(names, index(look(code, at + 1)));
-    set_node(out, at, 1, 0, 0, 0);
+    let at = end - node::SIZE;
+    let e = look(names, index(look(code, at + node::A)));
+    set_node(out, at, table_shapes::VALUE, 0, 0, 0);
     Made {
         kind: set_of(element_of(e)),
         start: at,
@@ -128,10 +133,10 @@ fn empty_pairs(
     requires { ⌜ (end ≤ length (now code)) × (length (now code) ≤ length (now out)) × (length (now out) ≤ 16384) × (4 ≤ end) × (getD (now code) (end - 4 + 3) 0 ≡ 10) ⌝ }
     ensures { λ r. ⌜ TermMade (now (code .entry)) end slot (now (names .entry)) (now (names .entry)) (now (places .entry)) (now (places .entry)) (now (sizes .entry)) (now (out .entry)) (now (out .exit)) r ⌝ }
 {
-    let at = end - 4;
-    let g = look(names, index(look(code, at + 1)));
+    let at = end - node::SIZE;
+    let g = look(names, index(look(code, at + node::A)));
     let h = look(names, index(look(code, at)));
-    set_node(out, at, 1, 0, 0, 0);
+    set_node(out, at, table_shapes::VALUE, 0, 0, 0);
     Made {
         kind: pair_of(element_of(g), element_of(h)),
         start: at,
@@ -151,20 +156,20 @@ fn term(
     requires { ⌜ (end ≤ length (now code)) × (length (now code) ≤ length (now out)) × (length (now out) ≤ 16384) ⌝ }
     ensures { λ r. ⌜ TermMade (now (code .entry)) end slot (now (names .entry)) (now (names .exit)) (now (places .entry)) (now (places .exit)) (now (sizes .entry)) (now (out .entry)) (now (out .exit)) r ⌝ }
 {
-    if end < 4 {
+    if end < node::SIZE {
         return nothing();
     }
-    match code[end - 4 + 3] {
-        1 => number(code, end, slot, names, places, sizes, out),
-        2 => named(code, end, slot, names, places, sizes, out),
-        3 => prefixed(code, end, slot, names, places, sizes, out),
-        4 => divided(code, end, slot, names, places, sizes, out),
-        5 => joined(code, end, slot, names, places, sizes, out),
-        6 => such(code, end, slot, names, places, sizes, out),
-        7 => listed(code, end, slot, names, places, sizes, out),
-        8 => paired(code, end, slot, names, places, sizes, out),
-        9 => empty_set(code, end, slot, names, places, sizes, out),
-        10 => empty_pairs(code, end, slot, names, places, sizes, out),
+    match code[end - node::SIZE + node::SHAPE] {
+        shapes::NUMBER => number(code, end, slot, names, places, sizes, out),
+        shapes::NAME => named(code, end, slot, names, places, sizes, out),
+        shapes::PREFIX => prefixed(code, end, slot, names, places, sizes, out),
+        shapes::DIVIDED => divided(code, end, slot, names, places, sizes, out),
+        shapes::BINARY => joined(code, end, slot, names, places, sizes, out),
+        shapes::SUCH => such(code, end, slot, names, places, sizes, out),
+        shapes::LISTED => listed(code, end, slot, names, places, sizes, out),
+        shapes::PAIRS => paired(code, end, slot, names, places, sizes, out),
+        shapes::EMPTY_SET => empty_set(code, end, slot, names, places, sizes, out),
+        shapes::EMPTY_PAIRS => empty_pairs(code, end, slot, names, places, sizes, out),
         _ => nothing(),
     }
 }
@@ -182,12 +187,12 @@ fn prefixed(
     requires { ⌜ (end ≤ length (now code)) × (length (now code) ≤ length (now out)) × (length (now out) ≤ 16384) × (4 ≤ end) × (getD (now code) (end - 4 + 3) 0 ≡ 3) ⌝ }
     ensures { λ r. ⌜ TermMade (now (code .entry)) end slot (now (names .entry)) (now (names .exit)) (now (places .entry)) (now (places .exit)) (now (sizes .entry)) (now (out .entry)) (now (out .exit)) r ⌝ }
 {
-    let at = end - 4;
-    let a = look(code, at + 1);
+    let at = end - node::SIZE;
+    let a = look(code, at + node::A);
     let t = term(code, at, slot, names, places, sizes, out);
     let f = first_size(sizes, t.kind);
     let g = second_size(sizes, t.kind);
-    set_node(out, at, 3, f, a, g);
+    set_node(out, at, table_shapes::PREFIX, f, a, g);
     Made {
         kind: prefix_type(a, t.kind),
         start: t.start,
@@ -207,11 +212,11 @@ fn divided(
     requires { ⌜ (end ≤ length (now code)) × (length (now code) ≤ length (now out)) × (length (now out) ≤ 16384) × (4 ≤ end) × (getD (now code) (end - 4 + 3) 0 ≡ 4) ⌝ }
     ensures { λ r. ⌜ TermMade (now (code .entry)) end slot (now (names .entry)) (now (names .exit)) (now (places .entry)) (now (places .exit)) (now (sizes .entry)) (now (out .entry)) (now (out .exit)) r ⌝ }
 {
-    let at = end - 4;
-    let a = look(code, at + 1);
+    let at = end - node::SIZE;
+    let a = look(code, at + node::A);
     let b = look(code, at);
     let t = term(code, at, slot, names, places, sizes, out);
-    set_node(out, at, 4, 0, a, b);
+    set_node(out, at, table_shapes::DIVIDED, 0, a, b);
     Made {
         kind: 1,
         start: t.start,
@@ -231,11 +236,11 @@ fn joined(
     requires { ⌜ (end ≤ length (now code)) × (length (now code) ≤ length (now out)) × (length (now out) ≤ 16384) × (4 ≤ end) × (getD (now code) (end - 4 + 3) 0 ≡ 5) ⌝ }
     ensures { λ r. ⌜ TermMade (now (code .entry)) end slot (now (names .entry)) (now (names .exit)) (now (places .entry)) (now (places .exit)) (now (sizes .entry)) (now (out .entry)) (now (out .exit)) r ⌝ }
 {
-    let at = end - 4;
-    let a = look(code, at + 1);
+    let at = end - node::SIZE;
+    let a = look(code, at + node::A);
     let u = term(code, at, slot, names, places, sizes, out);
     let t = term(code, u.start, slot, names, places, sizes, out);
-    set_node(out, at, 5, small(u.start), a, 0);
+    set_node(out, at, table_shapes::BINARY, small(u.start), a, 0);
     Made {
         kind: t.kind,
         start: t.start,
@@ -255,8 +260,8 @@ fn such(
     requires { ⌜ (end ≤ length (now code)) × (length (now code) ≤ length (now out)) × (length (now out) ≤ 16384) × (4 ≤ end) × (getD (now code) (end - 4 + 3) 0 ≡ 6) ⌝ }
     ensures { λ r. ⌜ TermMade (now (code .entry)) end slot (now (names .entry)) (now (names .exit)) (now (places .entry)) (now (places .exit)) (now (sizes .entry)) (now (out .entry)) (now (out .exit)) r ⌝ }
 {
-    let at = end - 4;
-    let x = index(look(code, at + 1));
+    let at = end - node::SIZE;
+    let x = index(look(code, at + node::A));
     let d = domain(code, at, names, sizes, out);
     let old = look(names, x);
     let was = look(places, x);
@@ -265,7 +270,7 @@ fn such(
     let p = pred(code, d.start, next_slot(slot), names, places, sizes, out);
     put(names, x, old);
     put(places, x, was);
-    set_node(out, at, 6, 0, slot, 0);
+    set_node(out, at, table_shapes::SUCH, 0, slot, 0);
     Made {
         kind: set_of(d.kind),
         start: p.start,
@@ -285,9 +290,9 @@ fn listed(
     requires { ⌜ (end ≤ length (now code)) × (length (now code) ≤ length (now out)) × (length (now out) ≤ 16384) × (4 ≤ end) × (getD (now code) (end - 4 + 3) 0 ≡ 7) ⌝ }
     ensures { λ r. ⌜ TermMade (now (code .entry)) end slot (now (names .entry)) (now (names .exit)) (now (places .entry)) (now (places .exit)) (now (sizes .entry)) (now (out .entry)) (now (out .exit)) r ⌝ }
 {
-    let at = end - 4;
+    let at = end - node::SIZE;
     let t = items(code, at, slot, names, places, sizes, out);
-    set_node(out, at, 7, 0, 0, 0);
+    set_node(out, at, table_shapes::LISTED, 0, 0, 0);
     Made {
         kind: set_of(t.kind),
         start: t.start,
@@ -307,9 +312,9 @@ fn paired(
     requires { ⌜ (end ≤ length (now code)) × (length (now code) ≤ length (now out)) × (length (now out) ≤ 16384) × (4 ≤ end) × (getD (now code) (end - 4 + 3) 0 ≡ 8) ⌝ }
     ensures { λ r. ⌜ TermMade (now (code .entry)) end slot (now (names .entry)) (now (names .exit)) (now (places .entry)) (now (places .exit)) (now (sizes .entry)) (now (out .entry)) (now (out .exit)) r ⌝ }
 {
-    let at = end - 4;
+    let at = end - node::SIZE;
     let t = pairs(code, at, slot, names, places, sizes, out);
-    set_node(out, at, 8, 0, 0, 0);
+    set_node(out, at, table_shapes::PAIRS, 0, 0, 0);
     Made {
         kind: t.kind,
         start: t.start,
@@ -329,13 +334,13 @@ fn items(
     requires { ⌜ (end ≤ length (now code)) × (length (now code) ≤ length (now out)) × (length (now out) ≤ 16384) ⌝ }
     ensures { λ r. ⌜ ItemsMade (now (code .entry)) end slot (now (names .entry)) (now (names .exit)) (now (places .entry)) (now (places .exit)) (now (sizes .entry)) (now (out .entry)) (now (out .exit)) r ⌝ }
 {
-    if end < 4 {
+    if end < node::SIZE {
         return nothing();
     }
-    let at = end - 4;
-    if code[at + 3] == 1 {
+    let at = end - node::SIZE;
+    if code[at + node::SHAPE] == shapes::LAST {
         let t = term(code, at, slot, names, places, sizes, out);
-        set_node(out, at, 9, 0, 0, 0);
+        set_node(out, at, table_shapes::LAST_ITEM, 0, 0, 0);
         return Made {
             kind: t.kind,
             start: t.start,
@@ -343,14 +348,14 @@ fn items(
     }
     let l = items(code, at, slot, names, places, sizes, out);
     let t = term(code, l.start, slot, names, places, sizes, out);
-    set_node(out, at, 10, small(l.start), 0, 0);
+    set_node(out, at, table_shapes::ALSO_ITEM, small(l.start), 0, 0);
     Made {
         kind: shared_kind(t.kind, l.kind),
         start: t.start,
     }
 }
 
-// The pairs of a brace; the last two terms before a node of the shape 1.
+// The pairs of a brace.
 fn pairs(
     code: &[u16],
     end: usize,
@@ -363,10 +368,10 @@ fn pairs(
     requires { ⌜ (end ≤ length (now code)) × (length (now code) ≤ length (now out)) × (length (now out) ≤ 16384) ⌝ }
     ensures { λ r. ⌜ PairsMade (now (code .entry)) end slot (now (names .entry)) (now (names .exit)) (now (places .entry)) (now (places .exit)) (now (sizes .entry)) (now (out .entry)) (now (out .exit)) r ⌝ }
 {
-    if end < 4 {
+    if end < node::SIZE {
         return nothing();
     }
-    if code[end - 4 + 3] == 1 {
+    if code[end - node::SIZE + node::SHAPE] == shapes::LAST {
         return last_pair(code, end, slot, names, places, sizes, out);
     }
     next_pair(code, end, slot, names, places, sizes, out)
@@ -385,10 +390,17 @@ fn last_pair(
     requires { ⌜ (end ≤ length (now code)) × (length (now code) ≤ length (now out)) × (length (now out) ≤ 16384) × (4 ≤ end) × (getD (now code) (end - 4 + 3) 0 ≡ 1) ⌝ }
     ensures { λ r. ⌜ PairsMade (now (code .entry)) end slot (now (names .entry)) (now (names .exit)) (now (places .entry)) (now (places .exit)) (now (sizes .entry)) (now (out .entry)) (now (out .exit)) r ⌝ }
 {
-    let at = end - 4;
+    let at = end - node::SIZE;
     let u = term(code, at, slot, names, places, sizes, out);
     let t = term(code, u.start, slot, names, places, sizes, out);
-    set_node(out, at, 11, small(u.start), element_size(sizes, u.kind), 0);
+    set_node(
+        out,
+        at,
+        table_shapes::LAST_PAIR,
+        small(u.start),
+        element_size(sizes, u.kind),
+        0,
+    );
     Made {
         kind: pair_of(t.kind, u.kind),
         start: t.start,
@@ -408,12 +420,19 @@ fn next_pair(
     requires { ⌜ (end ≤ length (now code)) × (length (now code) ≤ length (now out)) × (length (now out) ≤ 16384) × (4 ≤ end) × (getD (now code) (end - 4 + 3) 0 ≡ 1 → ⊥) ⌝ }
     ensures { λ r. ⌜ PairsMade (now (code .entry)) end slot (now (names .entry)) (now (names .exit)) (now (places .entry)) (now (places .exit)) (now (sizes .entry)) (now (out .entry)) (now (out .exit)) r ⌝ }
 {
-    let at = end - 4;
+    let at = end - node::SIZE;
     let l = pairs(code, at, slot, names, places, sizes, out);
     let u = term(code, l.start, slot, names, places, sizes, out);
     let t = term(code, u.start, slot, names, places, sizes, out);
     let n = element_size(sizes, u.kind);
-    set_node(out, at, 12, small(u.start), n, small(l.start));
+    set_node(
+        out,
+        at,
+        table_shapes::ALSO_PAIR,
+        small(u.start),
+        n,
+        small(l.start),
+    );
     let k = pair_of(t.kind, u.kind);
     Made {
         kind: shared_kind(k, l.kind),
@@ -434,18 +453,18 @@ pub fn pred(
     requires { ⌜ (end ≤ length (now code)) × (length (now code) ≤ length (now out)) × (length (now out) ≤ 16384) ⌝ }
     ensures { λ r. ⌜ PredMade (now (code .entry)) end slot (now (names .entry)) (now (names .exit)) (now (places .entry)) (now (places .exit)) (now (sizes .entry)) (now (out .entry)) (now (out .exit)) r ⌝ }
 {
-    if end < 4 {
+    if end < node::SIZE {
         return nothing();
     }
-    match code[end - 4 + 3] {
-        1 => constant(code, end, slot, names, places, sizes, out),
-        2 => negated(code, end, slot, names, places, sizes, out),
-        3 => connected(code, end, slot, names, places, sizes, out),
-        4 => compared(code, end, slot, names, places, sizes, out),
-        5 => member(code, end, slot, names, places, sizes, out),
-        6 => within(code, end, slot, names, places, sizes, out),
-        7 => related(code, end, slot, names, places, sizes, out),
-        8 => quantified(code, end, slot, names, places, sizes, out),
+    match code[end - node::SIZE + node::SHAPE] {
+        shapes::TRUTH => constant(code, end, slot, names, places, sizes, out),
+        shapes::NEGATION => negated(code, end, slot, names, places, sizes, out),
+        shapes::CONNECTED => connected(code, end, slot, names, places, sizes, out),
+        shapes::COMPARED => compared(code, end, slot, names, places, sizes, out),
+        shapes::MEMBER => member(code, end, slot, names, places, sizes, out),
+        shapes::WITHIN => within(code, end, slot, names, places, sizes, out),
+        shapes::RELATED => related(code, end, slot, names, places, sizes, out),
+        shapes::QUANTIFIED => quantified(code, end, slot, names, places, sizes, out),
         _ => nothing(),
     }
 }
@@ -463,9 +482,9 @@ fn constant(
     requires { ⌜ (end ≤ length (now code)) × (length (now code) ≤ length (now out)) × (length (now out) ≤ 16384) × (4 ≤ end) × (getD (now code) (end - 4 + 3) 0 ≡ 1) ⌝ }
     ensures { λ r. ⌜ PredMade (now (code .entry)) end slot (now (names .entry)) (now (names .entry)) (now (places .entry)) (now (places .entry)) (now (sizes .entry)) (now (out .entry)) (now (out .exit)) r ⌝ }
 {
-    let at = end - 4;
-    let a = look(code, at + 1);
-    set_node(out, at, 16, 0, truth_of(a), 0);
+    let at = end - node::SIZE;
+    let a = look(code, at + node::A);
+    set_node(out, at, table_shapes::TRUTH, 0, truth_of(a), 0);
     Made { kind: 0, start: at }
 }
 
@@ -482,9 +501,9 @@ fn negated(
     requires { ⌜ (end ≤ length (now code)) × (length (now code) ≤ length (now out)) × (length (now out) ≤ 16384) × (4 ≤ end) × (getD (now code) (end - 4 + 3) 0 ≡ 2) ⌝ }
     ensures { λ r. ⌜ PredMade (now (code .entry)) end slot (now (names .entry)) (now (names .exit)) (now (places .entry)) (now (places .exit)) (now (sizes .entry)) (now (out .entry)) (now (out .exit)) r ⌝ }
 {
-    let at = end - 4;
+    let at = end - node::SIZE;
     let p = pred(code, at, slot, names, places, sizes, out);
-    set_node(out, at, 17, 0, 0, 0);
+    set_node(out, at, table_shapes::NEGATION, 0, 0, 0);
     Made {
         kind: 0,
         start: p.start,
@@ -504,11 +523,11 @@ fn connected(
     requires { ⌜ (end ≤ length (now code)) × (length (now code) ≤ length (now out)) × (length (now out) ≤ 16384) × (4 ≤ end) × (getD (now code) (end - 4 + 3) 0 ≡ 3) ⌝ }
     ensures { λ r. ⌜ PredMade (now (code .entry)) end slot (now (names .entry)) (now (names .exit)) (now (places .entry)) (now (places .exit)) (now (sizes .entry)) (now (out .entry)) (now (out .exit)) r ⌝ }
 {
-    let at = end - 4;
-    let a = look(code, at + 1);
+    let at = end - node::SIZE;
+    let a = look(code, at + node::A);
     let q = pred(code, at, slot, names, places, sizes, out);
     let p = pred(code, q.start, slot, names, places, sizes, out);
-    set_node(out, at, 18, small(q.start), a, 0);
+    set_node(out, at, table_shapes::CONNECTED, small(q.start), a, 0);
     Made {
         kind: 0,
         start: p.start,
@@ -528,11 +547,11 @@ fn compared(
     requires { ⌜ (end ≤ length (now code)) × (length (now code) ≤ length (now out)) × (length (now out) ≤ 16384) × (4 ≤ end) × (getD (now code) (end - 4 + 3) 0 ≡ 4) ⌝ }
     ensures { λ r. ⌜ PredMade (now (code .entry)) end slot (now (names .entry)) (now (names .exit)) (now (places .entry)) (now (places .exit)) (now (sizes .entry)) (now (out .entry)) (now (out .exit)) r ⌝ }
 {
-    let at = end - 4;
-    let a = look(code, at + 1);
+    let at = end - node::SIZE;
+    let a = look(code, at + node::A);
     let u = term(code, at, slot, names, places, sizes, out);
     let t = term(code, u.start, slot, names, places, sizes, out);
-    set_node(out, at, 19, small(u.start), a, 0);
+    set_node(out, at, table_shapes::COMPARED, small(u.start), a, 0);
     Made {
         kind: 0,
         start: t.start,
@@ -552,11 +571,11 @@ fn member(
     requires { ⌜ (end ≤ length (now code)) × (length (now code) ≤ length (now out)) × (length (now out) ≤ 16384) × (4 ≤ end) × (getD (now code) (end - 4 + 3) 0 ≡ 5) ⌝ }
     ensures { λ r. ⌜ PredMade (now (code .entry)) end slot (now (names .entry)) (now (names .exit)) (now (places .entry)) (now (places .exit)) (now (sizes .entry)) (now (out .entry)) (now (out .exit)) r ⌝ }
 {
-    let at = end - 4;
-    let a = look(code, at + 1);
+    let at = end - node::SIZE;
+    let a = look(code, at + node::A);
     let u = term(code, at, slot, names, places, sizes, out);
     let t = term(code, u.start, slot, names, places, sizes, out);
-    set_node(out, at, 20, small(u.start), a, 0);
+    set_node(out, at, table_shapes::MEMBER, small(u.start), a, 0);
     Made {
         kind: 0,
         start: t.start,
@@ -576,11 +595,11 @@ fn within(
     requires { ⌜ (end ≤ length (now code)) × (length (now code) ≤ length (now out)) × (length (now out) ≤ 16384) × (4 ≤ end) × (getD (now code) (end - 4 + 3) 0 ≡ 6) ⌝ }
     ensures { λ r. ⌜ PredMade (now (code .entry)) end slot (now (names .entry)) (now (names .exit)) (now (places .entry)) (now (places .exit)) (now (sizes .entry)) (now (out .entry)) (now (out .exit)) r ⌝ }
 {
-    let at = end - 4;
-    let a = look(code, at + 1);
+    let at = end - node::SIZE;
+    let a = look(code, at + node::A);
     let d = domain(code, at, names, sizes, out);
     let t = term(code, d.start, slot, names, places, sizes, out);
-    set_node(out, at, 21, 0, a, 0);
+    set_node(out, at, table_shapes::WITHIN, 0, a, 0);
     Made {
         kind: 0,
         start: t.start,
@@ -600,8 +619,8 @@ fn related(
     requires { ⌜ (end ≤ length (now code)) × (length (now code) ≤ length (now out)) × (length (now out) ≤ 16384) × (4 ≤ end) × (getD (now code) (end - 4 + 3) 0 ≡ 7) ⌝ }
     ensures { λ r. ⌜ PredMade (now (code .entry)) end slot (now (names .entry)) (now (names .exit)) (now (places .entry)) (now (places .exit)) (now (sizes .entry)) (now (out .entry)) (now (out .exit)) r ⌝ }
 {
-    let at = end - 4;
-    let a = look(code, at + 1);
+    let at = end - node::SIZE;
+    let a = look(code, at + node::A);
     let v = term(code, at, slot, names, places, sizes, out);
     let u = term(code, v.start, slot, names, places, sizes, out);
     let t = term(code, u.start, slot, names, places, sizes, out);
@@ -626,8 +645,8 @@ fn quantified(
     requires { ⌜ (end ≤ length (now code)) × (length (now code) ≤ length (now out)) × (length (now out) ≤ 16384) × (4 ≤ end) × (getD (now code) (end - 4 + 3) 0 ≡ 8) ⌝ }
     ensures { λ r. ⌜ PredMade (now (code .entry)) end slot (now (names .entry)) (now (names .exit)) (now (places .entry)) (now (places .exit)) (now (sizes .entry)) (now (out .entry)) (now (out .exit)) r ⌝ }
 {
-    let at = end - 4;
-    let x = index(look(code, at + 1));
+    let at = end - node::SIZE;
+    let x = index(look(code, at + node::A));
     let b = look(code, at);
     let d = domain(code, at, names, sizes, out);
     let old = look(names, x);
@@ -637,7 +656,7 @@ fn quantified(
     let p = pred(code, d.start, next_slot(slot), names, places, sizes, out);
     put(names, x, old);
     put(places, x, was);
-    set_node(out, at, 24, 0, slot, b);
+    set_node(out, at, table_shapes::QUANTIFIED, 0, slot, b);
     Made {
         kind: 0,
         start: p.start,

@@ -1,7 +1,7 @@
 -- The member of a list at a place: in a part of a list, in two lists joined, and as a member. Assumes nothing.
 use mathlib.Core.Path.{_≡_, refl, sym, ap, ap₂, _∙_}
 use mathlib.Core.Logic.{inl, inr}
-use mathlib.Core.Option.{Option, some, Option·none-ne-some, Option·some-injective}
+use mathlib.Core.Option.{some, Option·none-ne-some}
 use mathlib.Core.List.{List, [], _∷_, _++_, map}
 use Prim.Native.Nat.{ℕ, zero, suc, _+_, _*_, _<_}
 use native.Mathlib.Nat.{zero-add, suc-add, zero-mul, not-suc-le-zero, le-of-suc-le-suc}
@@ -23,17 +23,16 @@ module _ {A : Type 0} where
   place-of x (y ∷ xs) z (inl e) = (zero, omega arith, sym e)
   place-of x (y ∷ xs) z (inr m) = let s : (p : ℕ) × (p < length xs) × (getD xs p z ≡ x) = place-of x xs z m in (suc (s .0), omega (arith, s .1), s .2)
 
-  pub entry-member : (x : A) (xs : List A) (k : ℕ) → getElem? xs k ≡ some x → Among x xs
-  unfolding Among
-  entry-member x [] k e = absurd (Option·none-ne-some x e)
-  entry-member x (y ∷ xs) zero e = inl (sym (Option·some-injective y x e))
-  entry-member x (y ∷ xs) (suc k) e = inr (entry-member x xs k e)
+  -- a number below the length has an entry, and no other has
+  pub entry-below : (x : A) (xs : List A) (k : ℕ) → getElem? xs k ≡ some x → k < length xs
+  entry-below x [] k e = absurd (Option·none-ne-some x e)
+  entry-below x (y ∷ xs) zero e = omega arith
+  entry-below x (y ∷ xs) (suc k) e = let l : k < length xs = entry-below x xs k e in omega arith
 
-  pub member-entry : (x : A) (xs : List A) → Among x xs → (k : ℕ) × (getElem? xs k ≡ some x)
-  unfolding Among
-  member-entry x [] m = absurd m
-  member-entry x (y ∷ xs) (inl e) = (zero, ap {B = Option A} some (sym e))
-  member-entry x (y ∷ xs) (inr m) = let s : (k : ℕ) × (getElem? xs k ≡ some x) = member-entry x xs m in (suc (s .0), s .1)
+  pub below-entry : (xs : List A) (k : ℕ) → k < length xs → (x : A) × (getElem? xs k ≡ some x)
+  below-entry [] k h = absurd (not-suc-le-zero h)
+  below-entry (x ∷ xs) zero h = (x, refl)
+  below-entry (x ∷ xs) (suc k) h = below-entry xs k (le-of-suc-le-suc h)
 
   -- parts of a list
   pub at-taken : (n : ℕ) (xs : List A) (q : ℕ) (z : A) → q < n → getD (take n xs) q z ≡ getD xs q z

@@ -14,11 +14,11 @@ use Rattle.static_rules.specs.Computed.{computeRead}
 use Rattle.meaning.specs.Values.{Value, number}
 use Rattle.meaning.specs.Meaning.{Binding}
 use Rattle.meaning.specs.Bindings.{pairSets}
-use Rattle.meaning.specs.Operations.{concreteBindings, concreteStep, concretePre}
+use Rattle.meaning.specs.Operations.{concreteBindings, concreteStep, abstractPre, concretePre}
 use Rattle.meaning.specs.Computed.{computeHolds}
 
 abbrev text : String
-text = "contents abstract concrete ainit cinit retrieve op add end\nabstract m : 0..1 ; where true end\nconcrete k : 0..2 ; j : 0..4 ; where j <= 3 end\nainit where true end\ncinit where true end\nretrieve where true end\nop add x? : 1..2 ; y! : 5..6 ; abstract true concrete k' = k + x? and y! = 7 - x? end"
+text = "contents abstract concrete ainit cinit retrieve op add end\nabstract m : 0..1 ; where true end\nconcrete k : 0..2 ; j : 0..4 ; where j <= 3 end\nainit where true end\ncinit where true end\nretrieve where true end\nop add x? : 1..2 ; y! : 5..6 ; abstract y! = 7 - x? concrete k' = k + x? and y! = 7 - x? end"
 
 abbrev called : String → Ending → ℤ → Name × Value
 called x e z = (record { letters = bytes x; ending = e }, number z)
@@ -52,13 +52,15 @@ answers =
     -- k + 1 does not wrap within 0..2
     ∷ at (λ d o. yes (concretePre d o (state (pos 2) (pos 0)) (input (pos 1)))) (computeRead (bytes text))
     ∷ at (λ d o. yes (concretePre d o (state (pos 1) (pos 0)) (input (pos 1)))) (computeRead (bytes text))
+    -- some outputs exist, on the abstract side too
+    ∷ at (λ d o. yes (abstractPre d o (called "m" noEnding (pos 0) ∷ []) (input (pos 1)))) (computeRead (bytes text))
     -- the state before is one
     ∷ at (λ d o. yes (concretePre d o (state (pos 0) (pos 4)) (input (pos 1)))) (computeRead (bytes text))
     -- the variables are joined by name, in whatever sequence a binding lists them
     ∷ at (λ d o. yes (concretePre d o (called "j" noEnding (pos 0) ∷ called "k" noEnding (pos 2) ∷ []) (input (pos 1)))) (computeRead (bytes text))
     ∷ []
 
-pub answers-are : answers ≡ 4 ∷ 0 ∷ 1 ∷ 0 ∷ 0 ∷ []
+pub answers-are : answers ≡ 4 ∷ 0 ∷ 1 ∷ 1 ∷ 0 ∷ 0 ∷ []
 unfolding answers computeHolds
 answers-are = refl
 

@@ -7,7 +7,7 @@ use native.Mathlib.Omega.{arith}
 use lib.Dec.{ltb}
 use borrow.Author.Tests.{ne-eqb, ltb-true, ltb-false, lt-ltb, le-ltb}
 use Rattle.lexical.specs.Refusals.{Fault, numberOf, least}
-use Rattle.type_rules.specs.TypesByNumber.{lesser, insideKey, leastKey}
+use Rattle.type_rules.specs.TypesByNumber.{keyRoom, lesser, insideKey, leastKey}
 use Rattle.names.proofs.TypesAgreeLeast.{no-fault, one-more, lesser-zero, lesser-assoc, least-append, least-nil, one-fault}
 use Rattle.names.proofs.PassAgreesPlaces.{Within, nowhere, at-place, within-small}
 
@@ -70,8 +70,8 @@ dossier-order g da pa dc pc ai ci re f k =
 
 -- the key of a fault between two places, or none
 record Between (a b k : ℕ) : Type 0 where
-  high : k ≤ 16 * b
-  low : 1 ≤ k → 16 * a < k
+  high : k ≤ keyRoom * b
+  low : 1 ≤ k → keyRoom * a < k
 
 lesser-between : (a b k l : ℕ) → Between a b k → Between a b l → Between a b (lesser k l)
 lesser-between a b zero l h m = subst (Between a b) (sym (zero-lesser l)) m
@@ -82,7 +82,7 @@ lesser-between a b (suc k) (suc l) h m = on (ltb l k) refl
     on true e = subst (Between a b) (sym (sucs-right k l (ltb-true l k e))) m
     on false e = subst (Between a b) (sym (sucs-left k l (ltb-false l k e))) h
 
-fault-between : (a b : ℕ) (f : Fault) → a ≤ f .place → f .place < b → numberOf (f .refusal) < 16 → Between a b (leastKey (f ∷ []))
+fault-between : (a b : ℕ) (f : Fault) → a ≤ f .place → f .place < b → numberOf (f .refusal) < keyRoom → Between a b (leastKey (f ∷ []))
 fault-between a b f l r n = subst (Between a b) (one-fault (f .place) (f .refusal)) (record { high = omega arith; low = λ h. omega arith })
 
 none-between : (a b : ℕ) → Between a b 0

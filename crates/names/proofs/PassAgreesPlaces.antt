@@ -13,13 +13,14 @@ use Rattle.static_rules.specs.Types.{Ty, pairsFit, pairsType}
 use Rattle.static_rules.specs.Scope.{Scope, typeOfName, binding}
 use Rattle.static_rules.specs.Names.{Listing, whole, inside, ofName, known, endLength, rangeLength, rangeFaults, pairsFault, divisorFaults, newName, domainCarrier}
 use Rattle.static_rules.specs.Names.{overFault, wholePairs, judgedPairs, judgeTerm, judgeItems, judgePairs, judgePred}
+use Rattle.type_rules.specs.TypesByNumber.{keyRoom}
 use Rattle.names.proofs.TypesAgreeLeast.{Small, no-fault, one-more}
 use Rattle.names.proofs.TypesAgreeWidths.{wideTerm, wideItems, widePairs, widePred, term-steady, pred-steady}
 
--- every fault lies at a place from a on and below b, and its number is below 16
+-- every fault lies at a place from a on and below b, and its number is below keyRoom
 pub data Within (a b : ℕ) : List Fault → Type 0 where
   nowhere : Within a b []
-  at-place : {f : Fault} {fs : List Fault} → a ≤ f .place → f .place < b → numberOf (f .refusal) < 16 → Within a b fs → Within a b (f ∷ fs)
+  at-place : {f : Fault} {fs : List Fault} → a ≤ f .place → f .place < b → numberOf (f .refusal) < keyRoom → Within a b fs → Within a b (f ∷ fs)
 
 pub within-small : {a b : ℕ} {fs : List Fault} → Within a b fs → Small fs
 within-small nowhere = no-fault
@@ -33,12 +34,12 @@ pub wider : {a b : ℕ} (c d : ℕ) {fs : List Fault} → Within a b fs → c �
 wider c d nowhere l r = nowhere
 wider c d (at-place {f = f} p q n h) l r = at-place {f = f} (omega arith) (omega arith) n (wider c d h l r)
 
-pub within-unless : {a b : ℕ} (ok : Bool) (f : Fault) → numberOf (f .refusal) < 16 → a ≤ f .place → f .place < b → Within a b (unless ok f)
+pub within-unless : {a b : ℕ} (ok : Bool) (f : Fault) → numberOf (f .refusal) < keyRoom → a ≤ f .place → f .place < b → Within a b (unless ok f)
 unfolding unless
 within-unless true f n l r = nowhere
 within-unless false f n l r = at-place l r n nowhere
 
-within-whole : {a b : ℕ} (ok : Bool) (f : Fault) {parts : List Fault} → numberOf (f .refusal) < 16 → a ≤ f .place → f .place < b → Within a b parts → Within a b (whole ok f parts)
+within-whole : {a b : ℕ} (ok : Bool) (f : Fault) {parts : List Fault} → numberOf (f .refusal) < keyRoom → a ≤ f .place → f .place < b → Within a b parts → Within a b (whole ok f parts)
 unfolding whole
 within-whole ok f n l r nowhere = within-unless ok f n l r
 within-whole ok f n l r (at-place p q m h) = at-place p q m h
@@ -48,23 +49,23 @@ unfolding inside
 within-inside nowhere k = k
 within-inside (at-place l r n h) k = at-place l r n h
 
-in-use : numberOf nameInUse < 16
+in-use : numberOf nameInUse < keyRoom
 unfolding numberOf
 in-use = omega arith
 
-unknown : numberOf nameUnknown < 16
+unknown : numberOf nameUnknown < keyRoom
 unfolding numberOf
 unknown = omega arith
 
-misfit : numberOf typesMisfit < 16
+misfit : numberOf typesMisfit < keyRoom
 unfolding numberOf
 misfit = omega arith
 
-wide : numberOf wideType < 16
+wide : numberOf wideType < keyRoom
 unfolding numberOf
 wide = omega arith
 
-divisor : numberOf zeroDivisor < 16
+divisor : numberOf zeroDivisor < keyRoom
 unfolding numberOf
 divisor = omega arith
 
@@ -152,7 +153,7 @@ mutual
   term-within (such x g p) Γ i =
       within-inside
       (within-append (within-new (Γ .taken) x (suc i) (omega arith) (omega arith)) (within-known (givenOf (Γ .givens) g) (i + 3) (omega arith) (omega arith)))
-      (wider _ _ (pred-within p (binding Γ x (domainCarrier (Γ .givens) (givenSet g))) (i + 5)) (omega arith) (omega arith))
+      (wider _ _ (pred-within p (binding Γ x (domainCarrier Γ (givenSet g))) (i + 5)) (omega arith) (omega arith))
   term-within (emptySet g) Γ i = within-known (givenOf (Γ .givens) g) (suc i) (omega arith) (omega arith)
   term-within (emptyPairs g h) Γ i = within-empty (givenOf (Γ .givens) g) (givenOf (Γ .givens) h) i (omega arith) (omega arith)
 
@@ -180,10 +181,10 @@ mutual
   pred-within (quantified q x (givenSet g) p) Γ i =
       within-inside
       (within-append (within-new (Γ .taken) x (i + 2) (omega arith) (omega arith)) (within-known (givenOf (Γ .givens) g) (i + 4) (omega arith) (omega arith)))
-      (wider _ _ (pred-within p (binding Γ x (domainCarrier (Γ .givens) (givenSet g))) (suc (i + 4 + 1))) (omega arith) (omega arith))
+      (wider _ _ (pred-within p (binding Γ x (domainCarrier Γ (givenSet g))) (suc (i + 4 + 1))) (omega arith) (omega arith))
   pred-within (quantified q x (range r) p) Γ i =
       within-inside (within-append (within-new (Γ .taken) x (i + 2) (omega arith) (omega arith)) (within-range r (i + 4) (omega arith) (omega arith)))
-      (wider _ _ (pred-within p (binding Γ x (domainCarrier (Γ .givens) (range r))) (suc (i + 4 + rangeLength r))) (omega arith) (omega arith))
+      (wider _ _ (pred-within p (binding Γ x (domainCarrier Γ (range r))) (suc (i + 4 + rangeLength r))) (omega arith) (omega arith))
   pred-within (connected o p q) Γ i =
       let a = pred-steady p Γ i .next in
       within-append (wider _ _ (pred-within p Γ i) (omega arith) (omega arith)) (wider _ _ (pred-within q Γ (suc (judgePred p Γ i .next))) (omega arith) (omega arith))

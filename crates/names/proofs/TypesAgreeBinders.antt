@@ -89,12 +89,12 @@ module _ (ρ : Numbering) (P : Letters → Type 0) (Γ : Scope) (T : Names) (z :
           let f = found (Γ .givens) x g e in
           one-given g (f .called) (f .listed) (omega (arith, index-in (Γ .givens) (g .title) (f .listed), s .few)) (size-is x g e) h
 
-  pub domain-least : (d : Domain) → DomainIn P d → (i : ℕ) → domainKey d T ρ i ≡ leastKey (domainFaults (Γ .givens) d i)
+  pub domain-least : (d : Domain) → DomainIn P d → (i : ℕ) → domainKey d T ρ i ≡ leastKey (domainFaults Γ d i)
   unfolding domainKey
   domain-least (givenSet g) h i = known-least (Γ .givens) z i (given-view g h)
   domain-least (range r) h i = range-least r i h
 
-  pub domain-type : (d : Domain) → DomainIn P d → (i : ℕ) → domainFaults (Γ .givens) d i ≡ [] → TypeIs (Γ .givens) (some (typeOf (domainCarrier (Γ .givens) d))) (domainKind d T ρ)
+  pub domain-type : (d : Domain) → DomainIn P d → (i : ℕ) → domainFaults Γ d i ≡ [] → TypeIs (Γ .givens) (some (typeOf (domainCarrier Γ d))) (domainKind d T ρ)
   unfolding domainKind
   domain-type (givenSet g) h i e = element-type-is (Γ .givens) z i (given-view g h) e
   domain-type (range r) h i e = (refl, knownNumber)
@@ -109,20 +109,20 @@ module _ (ρ : Numbering) (P : Letters → Type 0) (ν : Numbered ρ P) (Γ : Sc
   new-free i e = not-true (isTaken (Γ .taken) x) (unless-nil (not (isTaken (Γ .taken) x)) (fault i nameInUse) e)
 
   -- the scope that a binder without faults makes
-  pub bound-shows : (i j : ℕ) → (newName (Γ .taken) x i ++ domainFaults (Γ .givens) d j) ≡ []
-      → Shows ρ P (binding Γ x (domainCarrier (Γ .givens) d)) (bound T (numberOfName ρ x noEnding) (domainKind d T ρ)) z
+  pub bound-shows : (i j : ℕ) → (newName (Γ .taken) x i ++ domainFaults Γ d j) ≡ []
+      → Shows ρ P (binding Γ x (domainCarrier Γ d)) (bound T (numberOfName ρ x noEnding) (domainKind d T ρ)) z
   bound-shows i j e =
-      let h = append-nil-both (newName (Γ .taken) x i) (domainFaults (Γ .givens) d j) e in
-      binding-shows ρ P ν Γ T z s x px (new-free i (h .0)) (domainCarrier (Γ .givens) d) (domainKind d T ρ) (domain-type ρ P Γ T z s d pd j (h .1))
+      let h = append-nil-both (newName (Γ .taken) x i) (domainFaults Γ d j) e in
+      binding-shows ρ P ν Γ T z s x px (new-free i (h .0)) (domainCarrier Γ d) (domainKind d T ρ) (domain-type ρ P Γ T z s d pd j (h .1))
 
   -- a binder, and what stands in its reach
   pub binder-least : (i j : ℕ) (body : List Fault) (n : ℕ)
-      → (Shows ρ P (binding Γ x (domainCarrier (Γ .givens) d)) (bound T (numberOfName ρ x noEnding) (domainKind d T ρ)) z → n ≡ leastKey body)
+      → (Shows ρ P (binding Γ x (domainCarrier Γ d)) (bound T (numberOfName ρ x noEnding) (domainKind d T ρ)) z → n ≡ leastKey body)
       → insideKey (lesser (unlessKey (isFree (entry T (numberOfName ρ x noEnding))) (key i 8)) (domainKey d T ρ j)) n
-      ≡ leastKey (inside (newName (Γ .taken) x i ++ domainFaults (Γ .givens) d j) body)
+      ≡ leastKey (inside (newName (Γ .taken) x i ++ domainFaults Γ d j) body)
   binder-least i j body n f =
-      inside-least _ n (newName (Γ .taken) x i ++ domainFaults (Γ .givens) d j) body
-      (two-parts (small-new (Γ .taken) x i) (small-domain (Γ .givens) d j) (new-least i) (domain-least ρ P Γ T z s d pd j))
+      inside-least _ n (newName (Γ .taken) x i ++ domainFaults Γ d j) body
+      (two-parts (small-new (Γ .taken) x i) (small-domain Γ d j) (new-least i) (domain-least ρ P Γ T z s d pd j))
       (λ e. f (bound-shows i j e))
 
 -- ---- braces of pairs ----

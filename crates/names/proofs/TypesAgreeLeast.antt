@@ -10,23 +10,23 @@ use borrow.Author.Tests.{eqb-true, eqb-false, ne-eqb, ltb-true, ltb-false, lt-lt
 use Rattle.lexical.specs.Refusals as faults
 use Rattle.lexical.specs.Refusals.{Refusal, Fault, fault, numberOf, before, least, unless}
 use Rattle.static_rules.specs.Names.{whole, inside}
-use Rattle.type_rules.specs.TypesByNumber.{key, lesser, unlessKey, judgedKey, insideKey, keyOf, leastKey}
+use Rattle.type_rules.specs.TypesByNumber.{keyRoom, key, lesser, unlessKey, judgedKey, insideKey, keyOf, leastKey}
 
--- every fault has a number below 16: keys compare as places and numbers do
+-- every fault has a number below keyRoom: keys compare as places and numbers do
 pub data Small : List Fault → Type 0 where
   no-fault : Small []
-  one-more : {f : Fault} {fs : List Fault} → numberOf (f .refusal) < 16 → Small fs → Small (f ∷ fs)
+  one-more : {f : Fault} {fs : List Fault} → numberOf (f .refusal) < keyRoom → Small fs → Small (f ∷ fs)
 
 pub small-append : {xs ys : List Fault} → Small xs → Small ys → Small (xs ++ ys)
 small-append no-fault k = k
 small-append (one-more n h) k = one-more n (small-append h k)
 
-pub small-unless : (ok : Bool) (f : Fault) → numberOf (f .refusal) < 16 → Small (unless ok f)
+pub small-unless : (ok : Bool) (f : Fault) → numberOf (f .refusal) < keyRoom → Small (unless ok f)
 unfolding unless
 small-unless true f h = no-fault
 small-unless false f h = one-more h no-fault
 
-pub small-whole : (ok : Bool) (f : Fault) {parts : List Fault} → numberOf (f .refusal) < 16 → Small parts → Small (whole ok f parts)
+pub small-whole : (ok : Bool) (f : Fault) {parts : List Fault} → numberOf (f .refusal) < keyRoom → Small parts → Small (whole ok f parts)
 unfolding whole
 small-whole ok f h no-fault = small-unless ok f h
 small-whole ok f h (one-more n k) = one-more n k
@@ -97,10 +97,10 @@ faultKey f = key (f .place) (numberOf (f .refusal))
 
 abbrev SmallOption : Option Fault → Type 0
 SmallOption none = Unit {0}
-SmallOption (some f) = numberOf (f .refusal) < 16
+SmallOption (some f) = numberOf (f .refusal) < keyRoom
 
 -- a fault comes before another exactly if its key is the lesser
-before-key : (g f : Fault) → numberOf (g .refusal) < 16 → numberOf (f .refusal) < 16 → before g f ≡ ltb (faultKey g) (faultKey f)
+before-key : (g f : Fault) → numberOf (g .refusal) < keyRoom → numberOf (f .refusal) < keyRoom → before g f ≡ ltb (faultKey g) (faultKey f)
 unfolding before
 before-key g f hg hf = on (ltb (g .place) (f .place)) refl (eqb (g .place) (f .place)) refl (ltb (numberOf (g .refusal)) (numberOf (f .refusal))) refl
   where
@@ -113,7 +113,7 @@ before-key g f hg hf = on (ltb (g .place) (f .place)) refl (eqb (g .place) (f .p
         let ne : g .place ≡ f .place → ⊥ = eqb-false (g .place) (f .place) q in
         sym (le-ltb (faultKey g) (faultKey f) (omega (arith, ltb-false (g .place) (f .place) p)))
 
-lesser-key : (f : Fault) (o : Option Fault) → numberOf (f .refusal) < 16 → SmallOption o → faultKey (faults.lesser f o) ≡ lesser (faultKey f) (keyOf o)
+lesser-key : (f : Fault) (o : Option Fault) → numberOf (f .refusal) < keyRoom → SmallOption o → faultKey (faults.lesser f o) ≡ lesser (faultKey f) (keyOf o)
 unfolding faults.lesser
 lesser-key f none h k = sym (lesser-zero (faultKey f))
 lesser-key f (some g) h k = on (before g f) refl
@@ -122,12 +122,12 @@ lesser-key f (some g) h k = on (before g f) refl
     on true q = sym (lesser-right (faultKey f) (faultKey g) (omega arith) (ltb-true (faultKey g) (faultKey f) (sym (before-key g f k h) ∙ q)))
     on false q = sym (lesser-left (faultKey f) (faultKey g) (omega arith) (ltb-false (faultKey g) (faultKey f) (sym (before-key g f k h) ∙ q)))
 
-small-lesser : (f : Fault) (o : Option Fault) → numberOf (f .refusal) < 16 → SmallOption o → numberOf (faults.lesser f o .refusal) < 16
+small-lesser : (f : Fault) (o : Option Fault) → numberOf (f .refusal) < keyRoom → SmallOption o → numberOf (faults.lesser f o .refusal) < keyRoom
 unfolding faults.lesser
 small-lesser f none h k = h
 small-lesser f (some g) h k = on (before g f)
   where
-    on : (b : Bool) → numberOf ((elim b as (λ (c : Bool). Fault) [ true ↦ g | false ↦ f ]) .refusal) < 16
+    on : (b : Bool) → numberOf ((elim b as (λ (c : Bool). Fault) [ true ↦ g | false ↦ f ]) .refusal) < keyRoom
     on true = k
     on false = h
 
@@ -136,7 +136,7 @@ unfolding least
 small-least no-fault = tt
 small-least (one-more {f = f} {fs = fs} n h) = small-lesser f (least fs) n (small-least h)
 
-least-cons : (f : Fault) (fs : List Fault) → numberOf (f .refusal) < 16 → Small fs → leastKey (f ∷ fs) ≡ lesser (faultKey f) (leastKey fs)
+least-cons : (f : Fault) (fs : List Fault) → numberOf (f .refusal) < keyRoom → Small fs → leastKey (f ∷ fs) ≡ lesser (faultKey f) (leastKey fs)
 unfolding least
 least-cons f fs n h = lesser-key f (least fs) n (small-least h)
 

@@ -76,13 +76,13 @@ module _ (ρ : Numbering) (P : Letters → Type 0) (ν : Numbered ρ P) (z : Siz
       ap₂ (λ (k l : ℕ). inner.relatedFits k l (termKind v T ρ)) (d .0) (f .0) ∙ ap (inner.relatedFits _ _) (g .0) ∙ related-fits (Γ .givens) (s .few) (d .1) (f .1) (g .1))
 
   pub quantified-holds : (q : Quantifier) (x : Letters) (t : Domain) (p : Pred) → P x → DomainIn P t
-      → (Shows ρ P (binding Γ x (domainCarrier (Γ .givens) t)) (bound T (numberOfName ρ x noEnding) (domainKind t T ρ)) z
-      → PredHolds ρ z (binding Γ x (domainCarrier (Γ .givens) t)) (bound T (numberOfName ρ x noEnding) (domainKind t T ρ)) p)
+      → (Shows ρ P (binding Γ x (domainCarrier Γ t)) (bound T (numberOfName ρ x noEnding) (domainKind t T ρ)) z
+      → PredHolds ρ z (binding Γ x (domainCarrier Γ t)) (bound T (numberOfName ρ x noEnding) (domainKind t T ρ)) p)
       → PredHolds ρ z Γ T (quantified q x t p)
   unfolding judgePred predKey
   quantified-holds q x t p px pt f i =
       let j : ℕ = suc (i + 4 + domainLength t) in
-      binder-least ρ P ν Γ T z s x px t pt (i + 2) (i + 4) (judgePred p (binding Γ x (domainCarrier (Γ .givens) t)) j .faults)
+      binder-least ρ P ν Γ T z s x px t pt (i + 2) (i + 4) (judgePred p (binding Γ x (domainCarrier Γ t)) j .faults)
       (predKey p (bound T (numberOfName ρ x noEnding) (domainKind t T ρ)) ρ z (i + 5 + domainWidth t))
       (λ w. let e : i + 5 + domainWidth t ≡ j = omega (arith, domain-width t) in
       ap (predKey p (bound T (numberOfName ρ x noEnding) (domainKind t T ρ)) ρ z) e ∙ f w j)

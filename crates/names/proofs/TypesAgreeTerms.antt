@@ -186,12 +186,12 @@ module _ (ρ : Numbering) (P : Letters → Type 0) (ν : Numbered ρ P) (z : Siz
       }
 
   pub such-holds : (x : Letters) (g : Name) (p : Pred) → P x → P (g .letters)
-      → (Shows ρ P (binding Γ x (domainCarrier (Γ .givens) (givenSet g))) (bound T (numberOfName ρ x noEnding) (domainKind (givenSet g) T ρ)) z
-      → PredHolds ρ z (binding Γ x (domainCarrier (Γ .givens) (givenSet g))) (bound T (numberOfName ρ x noEnding) (domainKind (givenSet g) T ρ)) p)
+      → (Shows ρ P (binding Γ x (domainCarrier Γ (givenSet g))) (bound T (numberOfName ρ x noEnding) (domainKind (givenSet g) T ρ)) z
+      → PredHolds ρ z (binding Γ x (domainCarrier Γ (givenSet g))) (bound T (numberOfName ρ x noEnding) (domainKind (givenSet g) T ρ)) p)
       → TermHolds ρ z Γ T (such x g p)
   unfolding judgeTerm termKind termKey domainKind domainKey
   such-holds x g p px pg f i =
-      let b : Checked = judgePred p (binding Γ x (domainCarrier (Γ .givens) (givenSet g))) (i + 5) in
+      let b : Checked = judgePred p (binding Γ x (domainCarrier Γ (givenSet g))) (i + 5) in
       record {
         least =
             ap (λ (n : ℕ). insideKey (lesser (unlessKey (isFree (entry T (numberOfName ρ x noEnding))) (key n 8)) (domainKey (givenSet g) T ρ (i + 3)))

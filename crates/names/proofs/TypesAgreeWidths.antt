@@ -1,4 +1,4 @@
--- How many symbols a tree has: the length of what it is written with, and how far the judgement of it goes. Its faults have numbers below 16.
+-- How many symbols a tree has: the length of what it is written with, and how far the judgement of it goes. Its faults have numbers below keyRoom.
 use mathlib.Core.Path.{_≡_, refl}
 use mathlib.Core.Bool.{Bool, true, false, cond}
 use mathlib.Core.List.{List, [], _∷_, _++_}
@@ -17,9 +17,10 @@ use Rattle.form.specs.Codes.{endWidth, termWidth, predWidth, domainWidth}
 use Rattle.form.proofs.Lengths.{end-length, range-length}
 use Rattle.static_rules.specs.Carriers.{givenOf}
 use Rattle.static_rules.specs.Types.{Ty, pairsFit, pairsType}
-use Rattle.static_rules.specs.Scope.{Scope, typeOfName, binding}
+use Rattle.static_rules.specs.Scope.{Scope, typeOfName, givenInReach, binding}
 use Rattle.static_rules.specs.Names.{Listing, ofName, known, rangeFaults, pairsFault, divisorFaults, newName, domainFaults, domainCarrier, domainLength}
 use Rattle.static_rules.specs.Names.{overFault, wholePairs, judgedPairs, judgeTerm, judgeItems, judgePairs, judgePred}
+use Rattle.type_rules.specs.TypesByNumber.{keyRoom}
 use Rattle.names.proofs.TypesAgreeLeast.{Small, small-append, small-unless, small-whole, small-inside, no-fault, one-more}
 
 abbrev wideRange : Range → ℕ
@@ -131,23 +132,23 @@ pub record Steady (fs : List Fault) (n m : ℕ) : Type 0 where
   pub next : n ≡ m
   pub small : Small fs
 
-in-use : numberOf nameInUse < 16
+in-use : numberOf nameInUse < keyRoom
 unfolding numberOf
 in-use = omega arith
 
-unknown : numberOf nameUnknown < 16
+unknown : numberOf nameUnknown < keyRoom
 unfolding numberOf
 unknown = omega arith
 
-misfit : numberOf typesMisfit < 16
+misfit : numberOf typesMisfit < keyRoom
 unfolding numberOf
 misfit = omega arith
 
-wide : numberOf wideType < 16
+wide : numberOf wideType < keyRoom
 unfolding numberOf
 wide = omega arith
 
-divisor : numberOf zeroDivisor < 16
+divisor : numberOf zeroDivisor < keyRoom
 unfolding numberOf
 divisor = omega arith
 
@@ -159,9 +160,9 @@ pub small-range : (r : Range) (i : ℕ) → Small (rangeFaults r i)
 unfolding rangeFaults
 small-range r i = small-unless _ _ wide
 
-pub small-domain : (gs : List Given) (t : Domain) (i : ℕ) → Small (domainFaults gs t i)
-small-domain gs (givenSet g) i = small-known (givenOf gs g) i
-small-domain gs (range r) i = small-range r i
+pub small-domain : (Γ : Scope) (t : Domain) (i : ℕ) → Small (domainFaults Γ t i)
+small-domain Γ (givenSet g) i = small-known (givenInReach Γ g) i
+small-domain Γ (range r) i = small-range r i
 
 pub small-new : (xs : List Letters) (x : Letters) (i : ℕ) → Small (newName xs x i)
 unfolding newName
@@ -223,7 +224,7 @@ mutual
   term-steady (pairs ts) Γ i =
       let l = pairs-steady ts Γ (suc i) in record { next = omega (arith, l .next); small = small-judged-pairs (Γ .givens) (judgePairs ts Γ (suc i)) i (l .small) }
   term-steady (such x g p) Γ i =
-      let b = pred-steady p (binding Γ x (domainCarrier (Γ .givens) (givenSet g))) (i + 5) in
+      let b = pred-steady p (binding Γ x (domainCarrier Γ (givenSet g))) (i + 5) in
       record { next = omega (arith, b .next); small = small-inside (small-append (small-new (Γ .taken) x (suc i)) (small-known (givenOf (Γ .givens) g) (i + 3))) (b .small) }
   term-steady (emptySet g) Γ i = record { next = refl; small = small-known (givenOf (Γ .givens) g) (suc i) }
   term-steady (emptyPairs g h) Γ i = record { next = refl; small = small-empty (givenOf (Γ .givens) g) (givenOf (Γ .givens) h) i }
@@ -249,8 +250,8 @@ mutual
   pred-steady (negation p) Γ i = let a = pred-steady p Γ (suc i) in record { next = omega (arith, a .next); small = a .small }
   pred-steady (paren p) Γ i = let a = pred-steady p Γ (suc i) in record { next = omega (arith, a .next); small = a .small }
   pred-steady (quantified q x t p) Γ i =
-      let b = pred-steady p (binding Γ x (domainCarrier (Γ .givens) t)) (suc (i + 4 + domainLength t)) in
-      record { next = omega (arith, b .next, wide-domain t); small = small-inside (small-append (small-new (Γ .taken) x (i + 2)) (small-domain (Γ .givens) t (i + 4))) (b .small) }
+      let b = pred-steady p (binding Γ x (domainCarrier Γ t)) (suc (i + 4 + domainLength t)) in
+      record { next = omega (arith, b .next, wide-domain t); small = small-inside (small-append (small-new (Γ .taken) x (i + 2)) (small-domain Γ t (i + 4))) (b .small) }
   pred-steady (connected o p q) Γ i =
       let a = pred-steady p Γ i in let b = pred-steady q Γ (suc (judgePred p Γ i .next)) in
       record { next = omega (arith, a .next, b .next); small = small-append (a .small) (b .small) }

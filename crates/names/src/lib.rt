@@ -7,7 +7,9 @@ use declared_names::declared::give;
 
 pub mod passes;
 
-// The least fault of the pass (place * 16 + number + 1, places by symbols), or 0. The nodes are a dossier's, up to m; the places are where its parts begin.
+// The least fault of the pass (place * KEY_ROOM + number + 1, places by symbols), or 0. The nodes are a dossier's, up to m; the places are where its parts begin.
+// `names` and `sizes` may hold anything. Left open: what `names` holds afterwards, the sizes where the given sets have a fault, and those behind the last
+// given set's. `reader::names_key`, the one caller, makes `names` for this call, and nothing is looked up by the number of a given set that there is not.
 pub fn least_fault(
     nodes: &[u16],
     m: usize,
@@ -35,6 +37,8 @@ pub fn least_fault(
 }
 
 // The given sets by name, and how many elements each has, from the nodes of their bodies: the first fault of number 8 among them, or 0.
+// `names` and `sizes` may hold anything. Left open: both where there is a fault, since the passes that take them come behind that for names; and the sizes
+// behind the last given set's, since nothing is looked up by the number of a given set that there is not.
 pub fn given_sets(code: &[u16], names: &mut [u16], sizes: &mut [u16; 8]) -> u32
     ensures { λ r. ⌜ GivenSeen (now (code .entry)) (replicate (length (now (names .entry))) 0) (now (names .exit)) (now (sizes .exit)) r ⌝ }
 {

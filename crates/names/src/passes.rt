@@ -264,7 +264,7 @@ fn later(
     operations(last, av, cv, names, sizes)
 }
 
-// The least fault of the pass (place * 16 + number + 1, places by symbols), or 0. The nodes are a dossier's, up to m; the places are where its parts begin.
+// The least fault of the pass (place * KEY_ROOM + number + 1, places by symbols), or 0. The nodes are a dossier's, up to m; the places are where its parts begin.
 pub(crate) fn check(
     nodes: &[u16],
     m: usize,

@@ -73,11 +73,28 @@ state-stands {c} {spans} {n} k i s ρ q w e₀ e₁ e₂ =
       predicate = pred-at (predicateAt i s) (s .predicate) ρ q v (span spans (k + 1)) (span spans (k + 2)) e₁ (omega arith);
     }
 
-pub operations-stand : {c spans : List ℕ} (n k i : ℕ) (os : List Operation) (ρ : Numbering) (z y : List ℕ) → Split c n (operationCodes i os ρ ++ z)
-    → Split spans (9 + 4 * k) (operationSpans n i os ρ ++ y) → OperationsAt c spans ρ k i os
+-- the operation o, the k-th, from n on: what stands behind its heading, its parameters and its two predicates, and its numbers of the spans
+pub record OneOperation (c spans : List ℕ) (ρ : Numbering) (n k i : ℕ) (o : Operation) : Type 0 where
+  pub q₀ : List ℕ
+  pub q₁ : List ℕ
+  pub q₂ : List ℕ
+  pub q₃ : List ℕ
+  pub titled : Split c n (node 8 i (numberOfName ρ (o .title) noEnding) 0 ++ q₀)
+  pub declared : Split c (n + 4) (parameterCodes (i + 2) (o .parameters) ρ ++ q₁)
+  pub abstractly : Split c (n + 4 + length (parameterCodes (i + 2) (o .parameters) ρ)) (conditionCodes (abstractlyAt i o) (o .abstractly) ρ ++ q₂)
+  pub concretely : Split c (n + 4 + length (parameterCodes (i + 2) (o .parameters) ρ) + length (conditionCodes (abstractlyAt i o) (o .abstractly) ρ)) (conditionCodes (suc (abstractlyAt i o) + predWidth (o .abstractly)) (o .concretely) ρ ++ q₃)
+  pub s₀ : span spans (9 + 4 * k) ≡ n + 4
+  pub s₁ : span spans (9 + 4 * k + 1) ≡ n + 4 + length (parameterCodes (i + 2) (o .parameters) ρ)
+  pub s₂ : span spans (9 + 4 * k + 2) ≡ n + 4 + length (parameterCodes (i + 2) (o .parameters) ρ) + length (conditionCodes (abstractlyAt i o) (o .abstractly) ρ)
+  pub s₃ : span spans (9 + 4 * k + 3) ≡ n + 4 + length (parameterCodes (i + 2) (o .parameters) ρ) + length (conditionCodes (abstractlyAt i o) (o .abstractly) ρ) + length (conditionCodes (suc (abstractlyAt i o) + predWidth (o .abstractly)) (o .concretely) ρ)
+
+-- what holds of no operations, and of one in front of those that it holds of, holds of all
+pub each-operation : {c spans : List ℕ} (ρ : Numbering) (z y : List ℕ) (Q : (k : ℕ) → (i : ℕ) → List Operation → Type 0) → ((k i : ℕ) → Q k i [])
+    → ((n k i : ℕ) (o : Operation) (os : List Operation) → OneOperation c spans ρ n k i o → Q (suc k) (i + operationLength o) os → Q k i (o ∷ os))
+    → (n k i : ℕ) (os : List Operation) → Split c n (operationCodes i os ρ ++ z) → Split spans (9 + 4 * k) (operationSpans n i os ρ ++ y) → Q k i os
 unfolding operationCodes operationSpans
-operations-stand n k i [] ρ z y w s = no-more
-operations-stand {c} {spans} n k i (o ∷ os) ρ z y w s =
+each-operation ρ z y Q start more n k i [] w s = start k i
+each-operation {c} {spans} ρ z y Q start more n k i (o ∷ os) w s =
     let j : ℕ = abstractlyAt i o in
     let P : List ℕ = parameterCodes (i + 2) (o .parameters) ρ in
     let A : List ℕ = conditionCodes j (o .abstractly) ρ in
@@ -95,19 +112,37 @@ operations-stand {c} {spans} n k i (o ∷ os) ρ z y w s =
     let w₄ : Split c f (R ++ z) = split-next C (R ++ z) w₃ in
     let S : List ℕ = operationSpans f (i + operationLength o) os ρ in
     let h : 9 + 4 * k + 0 ≡ 9 + 4 * k = omega arith in
-    let s₀ : span spans (9 + 4 * k) ≡ n + 4 = ap (λ (x : ℕ). getD spans x 0) (sym h) ∙ split-at s 0 in
-    let s₁ : span spans (9 + 4 * k + 1) ≡ b = split-at s 1 in
-    let s₂ : span spans (9 + 4 * k + 2) ≡ e = split-at s 2 in
-    let s₃ : span spans (9 + 4 * k + 3) ≡ f = split-at s 3 in
     let s₄ : Split spans (9 + 4 * k + 4) (S ++ y) = split-next ((n + 4) ∷ b ∷ e ∷ f ∷ []) (S ++ y) s in
-    one-more
+    more n k i o os
     (record {
-      heading = heading-at w (span spans (9 + 4 * k)) s₀;
-      parameters = stand P (A ++ (C ++ (R ++ z))) w₁ (span spans (9 + 4 * k)) (span spans (9 + 4 * k + 1)) s₀ s₁;
-      abstractly = pred-at j (o .abstractly) ρ (C ++ (R ++ z)) w₂ (span spans (9 + 4 * k + 1)) (span spans (9 + 4 * k + 2)) s₁ s₂;
-      concretely = pred-at (suc j + predWidth (o .abstractly)) (o .concretely) ρ (R ++ z) w₃ (span spans (9 + 4 * k + 2)) (span spans (9 + 4 * k + 3)) s₂ s₃;
+      q₀ = (P ++ (A ++ (C ++ R))) ++ z;
+      q₁ = A ++ (C ++ (R ++ z));
+      q₂ = C ++ (R ++ z);
+      q₃ = R ++ z;
+      titled = w;
+      declared = w₁;
+      abstractly = w₂;
+      concretely = w₃;
+      s₀ = ap (λ (x : ℕ). getD spans x 0) (sym h) ∙ split-at s 0;
+      s₁ = split-at s 1;
+      s₂ = split-at s 2;
+      s₃ = split-at s 3;
     })
-    (operations-stand f (suc k) (i + operationLength o) os ρ z y w₄ (split-move (omega arith) s₄))
+    (each-operation ρ z y Q start more f (suc k) (i + operationLength o) os w₄ (split-move (omega arith) s₄))
+
+pub operations-stand : {c spans : List ℕ} (n k i : ℕ) (os : List Operation) (ρ : Numbering) (z y : List ℕ) → Split c n (operationCodes i os ρ ++ z)
+    → Split spans (9 + 4 * k) (operationSpans n i os ρ ++ y) → OperationsAt c spans ρ k i os
+operations-stand {c} {spans} n k i os ρ z y =
+    each-operation ρ z y (OperationsAt c spans ρ) (λ k i. no-more)
+    (λ n k i o os w t. one-more
+    (record {
+      heading = heading-at (w .titled) (span spans (9 + 4 * k)) (w .s₀);
+      parameters = stand (parameterCodes (i + 2) (o .parameters) ρ) (w .q₁) (w .declared) (span spans (9 + 4 * k)) (span spans (9 + 4 * k + 1)) (w .s₀) (w .s₁);
+      abstractly = pred-at (abstractlyAt i o) (o .abstractly) ρ (w .q₂) (w .abstractly) (span spans (9 + 4 * k + 1)) (span spans (9 + 4 * k + 2)) (w .s₁) (w .s₂);
+      concretely = pred-at (suc (abstractlyAt i o) + predWidth (o .abstractly)) (o .concretely) ρ (w .q₃) (w .concretely) (span spans (9 + 4 * k + 2)) (span spans (9 + 4 * k + 3)) (w .s₂) (w .s₃);
+    })
+    t)
+    n k i os
 
 -- the conditions and the operations of a dossier among its nodes
 module _ (d : Dossier) (ρ : Numbering) where

@@ -4,15 +4,21 @@ ghost use Prim.Native.Nat.{_+_, _≤_, _<_};
 ghost use lib.ListN.{length, take};
 ghost use Rattle.node_spans.specs.Spans.{Spanned};
 ghost use Rattle.node_spans.specs.SpanPromises.{Puts, Three, StatePut, OperationPut, OperationsPut};
+use form::shapes::DECLARED;
 use parser::sections::run_from;
 use parser::sections::sections;
 use parser::sections::skip_from;
 
+pub mod span;
+
+// The largest number of 16 bits.
+pub const LARGEST: usize = 65535;
+
 // A place as a number of 16 bits; 0 where it is none.
-fn short(x: usize) -> u16
-    ensures { λ r. ⌜ (x ≤ 65535 → r ≡ x) ⌝ }
+pub fn short(x: usize) -> u16
+    ensures { λ r. ⌜ (x ≤ 65535 → r ≡ x) × (65535 < x → r ≡ 0) ⌝ }
 {
-    if 65535 < x {
+    if LARGEST < x {
         return 0;
     }
     x as u16
@@ -41,7 +47,7 @@ fn state(nodes: &[u16], m: usize, from: usize, to: usize, spans: &mut [u16], n: 
     ensures { λ _. ⌜ StatePut (take m (now (nodes .entry))) m from to n (now (spans .entry)) (now (spans .exit)) ⌝ }
 {
     let first = skip_from(nodes, from, m);
-    let last = run_from(nodes, first, m, 6, 6);
+    let last = run_from(nodes, first, m, DECLARED, DECLARED);
     three(spans, n, first, last, to);
 }
 
@@ -51,11 +57,11 @@ fn operation(nodes: &[u16], m: usize, from: usize, spans: &mut [u16], n: usize) 
     ensures { λ r. ⌜ OperationPut (take m (now (nodes .entry))) m from n (now (spans .entry)) (now (spans .exit)) r ⌝ }
 {
     let first = skip_from(nodes, from, m);
-    let last = run_from(nodes, first, m, 6, 6);
+    let last = run_from(nodes, first, m, DECLARED, DECLARED);
     let middle = skip_from(nodes, last, m);
     let end = skip_from(nodes, middle, m);
     three(spans, n, first, last, middle);
-    put(spans, n + 3, end);
+    put(spans, n + span::END, end);
     end
 }
 
@@ -66,11 +72,11 @@ fn operations(nodes: &[u16], m: usize, from: usize, spans: &mut [u16]) -> usize
 {
     let mut at = from;
     let mut k: usize = 0;
-    while k < 16 {
+    while k < span::MOST {
         if m <= at {
             return k;
         }
-        at = operation(nodes, m, at, spans, 9 + 4 * k);
+        at = operation(nodes, m, at, spans, span::OPERATIONS + span::OPERATION * k);
         k += 1;
     }
     k
@@ -81,14 +87,21 @@ fn fill(nodes: &[u16], m: usize, spans: &mut [u16]) -> usize
     ensures { λ r. ⌜ Spanned (now (nodes .entry)) m (now (spans .entry)) (now (spans .exit)) r ⌝ }
 {
     let s = sections(nodes, m);
-    state(nodes, m, s.abstracts, s.concretes, spans, 0);
-    state(nodes, m, s.concretes, s.ainit, spans, 3);
-    three(spans, 6, s.cinit, s.retrieve, s.operations);
+    state(
+        nodes,
+        m,
+        s.abstracts,
+        s.concretes,
+        spans,
+        span::ABSTRACT_FIRST,
+    );
+    state(nodes, m, s.concretes, s.ainit, spans, span::CONCRETE_FIRST);
+    three(spans, span::AINIT_END, s.cinit, s.retrieve, s.operations);
     operations(nodes, m, s.operations, spans)
 }
 
 // The numbers of a dossier's spans, in front of the lent array; how many operations it has.
-pub fn spans(nodes: &[u16], m: usize, spans: &mut [u16; 80]) -> usize
+pub fn spans(nodes: &[u16], m: usize, spans: &mut [u16; span::COUNT]) -> usize
     ensures { λ r. ⌜ Spanned (now (nodes .entry)) m (now (spans .entry)) (now (spans .exit)) r ⌝ }
 {
     fill(nodes, m, spans)

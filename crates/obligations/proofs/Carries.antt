@@ -8,6 +8,7 @@ use Rattle.symbols.proofs.BooleanTests.{and-left-false, and-right-false}
 use Rattle.form.specs.Tree.{Dossier}
 use Rattle.meaning.specs.Meaning.{Binding}
 use Rattle.meaning.specs.Operations.{isState, related}
+use Rattle.obligations.specs.Subjects.{Subject}
 use Rattle.obligations.proofs.Accuracy.{PassBetween}
 
 -- abstract, concrete, inputs, outputs, concrete primed: the last group fastest. Applicability has one output and one after state, initialisation one of all but the second
@@ -44,20 +45,21 @@ module _ (nc ni nq nk : ℕ) where
   unfolding place
   abstract-block a = omega arith
 
-module _ (d : Dossier) where
-  pub pass-none : (p : ℕ) → PassBetween d p p
+module _ (σ : Subject) where
+  pub pass-none : (p : ℕ) → PassBetween σ p p
   pass-none p j low high = absurd (omega arith)
 
-  pub pass-join : (p q r : ℕ) → PassBetween d p q → PassBetween d q r → PassBetween d p r
+  pub pass-join : (p q r : ℕ) → PassBetween σ p q → PassBetween σ q r → PassBetween σ p r
   pass-join p q r f g j low high = elim (decLt j q) [ yes l ↦ f j low l | no l ↦ g j (omega arith) high ]
 
   -- all blocks from the m-th up to the n-th candidate, where every block between passes
-  pub pass-blocks : (begin : ℕ → ℕ) (m n : ℕ) → ((j : ℕ) → m ≤ j → j < m + n → PassBetween d (begin j) (begin (suc j))) → PassBetween d (begin m) (begin (m + n))
-  pass-blocks begin m zero h = subst (λ (x : ℕ). PassBetween d (begin m) (begin x)) (omega arith) (pass-none (begin m))
+  pub pass-blocks : (begin : ℕ → ℕ) (m n : ℕ) → ((j : ℕ) → m ≤ j → j < m + n → PassBetween σ (begin j) (begin (suc j))) → PassBetween σ (begin m) (begin (m + n))
+  pass-blocks begin m zero h = subst (λ (x : ℕ). PassBetween σ (begin m) (begin x)) (omega arith) (pass-none (begin m))
   pass-blocks begin m (suc n) h =
-      subst (λ (x : ℕ). PassBetween d (begin m) (begin x)) (omega arith)
+      subst (λ (x : ℕ). PassBetween σ (begin m) (begin x)) (omega arith)
       (pass-join (begin m) (begin (m + n)) (begin (suc (m + n))) (pass-blocks begin m n (λ j low high. h j low (omega arith))) (h (m + n) (omega arith) (omega arith)))
 
+module _ (d : Dossier) where
   -- what is no state is related to nothing
   pub abstract-no-state : (a c : Binding) → isState d (d .abstract) a ≡ false → related d a c ≡ false
   unfolding related

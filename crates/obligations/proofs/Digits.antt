@@ -1,7 +1,7 @@
 -- The check at a place of the search order, by the numbers of its groups' bindings, and where each operation begins. Assumes nothing.
 use mathlib.Core.Path.{_≡_, refl, sym, ap, ap₂, _∙_}
 use mathlib.Core.Option.{some, Option·none-ne-some, Option·some-injective}
-use mathlib.Core.List.{List, [], _∷_, map}
+use mathlib.Core.List.{List, [], _∷_}
 use Prim.Native.Nat.{ℕ, zero, suc, _+_, _*_, _<_}
 use native.Mathlib.Nat.{zero-add, add-zero}
 use native.Mathlib.Omega.{arith}
@@ -13,7 +13,8 @@ use Rattle.meaning.specs.Meaning.{Binding}
 use Rattle.meaning.specs.Bindings.{bindings}
 use Rattle.meaning.specs.Operations.{abstractBindings, concreteBindings, outputBindings}
 use Rattle.meaning.proofs.Places.{at-right, at-map, at-flat, length-flat}
-use Rattle.obligations.specs.Order.{Check, initialises, applies, corrects, applicabilityChecks, correctnessChecks, operationChecks, checks, total}
+use Rattle.obligations.specs.Subjects.{Subject}
+use Rattle.obligations.specs.Order.{Check, initialises, applies, corrects, applicabilityChecks, correctnessChecks, operationChecks, opening, checks, total}
 use Rattle.obligations.specs.Report.{checkAt}
 use Rattle.obligations.proofs.Groups.{appliesAt, appliesFrom, correctsGiving, correctsBy, correctsAt, correctsFrom, blockOf}
 
@@ -137,10 +138,6 @@ module _ (d : Dossier) where
   sizeOfFirst (suc j) [] = 0
   sizeOfFirst (suc j) (op ∷ ops) = applicabilitySize op + correctnessSize op + sizeOfFirst j ops
 
-  -- the place at which the checks of the operation j begin
-  abbrev pub startOf : ℕ → ℕ
-  startOf j = concretes + sizeOfFirst j (d .operations)
-
   operation-at : (k j : ℕ) (op : Operation) (ops : List Operation) → getElem? ops j ≡ some op → (q : ℕ) (z : Check) → q < applicabilitySize op + correctnessSize op
       → getD (operationChecks d k ops) (sizeOfFirst j ops + q) z ≡ getD (blockOf d (k + j) op) q z
   unfolding operationChecks sizeOfFirst
@@ -159,40 +156,6 @@ module _ (d : Dossier) where
       ∙ operation-at (suc k) j op ops e q z h
       ∙ ap (λ (i : ℕ). getD (blockOf d i op) q z) t
 
-  -- "Initialisation is first, then for each operation applicability and correctness."
-  pub initialisation-place : (c : ℕ) → c < concretes → checkAt d c ≡ initialises (nth (concreteBindings d) c)
-  unfolding checkAt checks
-  initialisation-place c h =
-      let l : c < length (map initialises (concreteBindings d)) = omega (arith, length-map (concreteBindings d) initialises) in
-      List·getD-append (map initialises (concreteBindings d)) (operationChecks d 0 (d .operations)) (initialises []) c l
-      ∙ at-map initialises (concreteBindings d) c [] (initialises []) h
-
-  pub block-place : (j : ℕ) (op : Operation) → getElem? (d .operations) j ≡ some op → (q : ℕ) → q < applicabilitySize op + correctnessSize op
-      → checkAt d (startOf j + q) ≡ getD (blockOf d j op) q (initialises [])
-  unfolding checkAt checks
-  block-place j op e q h =
-      let s : startOf j + q ≡ length (map initialises (concreteBindings d)) + (sizeOfFirst j (d .operations) + q) = omega (arith, length-map (concreteBindings d) initialises) in
-      ap (checkAt d) s
-      ∙ at-right (map initialises (concreteBindings d)) (operationChecks d 0 (d .operations)) (sizeOfFirst j (d .operations) + q) (initialises [])
-      ∙ operation-at 0 j op (d .operations) e q (initialises []) h
-      ∙ ap (λ (i : ℕ). getD (blockOf d i op) q (initialises [])) (zero-add j)
-
-  pub applicability-place : (j : ℕ) (op : Operation) → getElem? (d .operations) j ≡ some op → (q : ℕ) → q < applicabilitySize op
-      → checkAt d (startOf j + q) ≡ getD (applicabilityChecks d j op) q (initialises [])
-  applicability-place j op e q h =
-      let l : q < length (applicabilityChecks d j op) = omega (arith, length-applicability j op) in
-      block-place j op e q (omega arith) ∙ List·getD-append (applicabilityChecks d j op) (correctnessChecks d j op) (initialises []) q l
-
-  pub correctness-place : (j : ℕ) (op : Operation) → getElem? (d .operations) j ≡ some op → (q : ℕ) → q < correctnessSize op
-      → checkAt d (startOf j + applicabilitySize op + q) ≡ getD (correctnessChecks d j op) q (initialises [])
-  correctness-place j op e q h =
-      let s : startOf j + applicabilitySize op + q ≡ startOf j + (applicabilitySize op + q) = omega arith in
-      let t : applicabilitySize op + q ≡ length (applicabilityChecks d j op) + q = omega (arith, length-applicability j op) in
-      ap (checkAt d) s ∙ block-place j op e (applicabilitySize op + q) (omega arith)
-      ∙ ap (λ (i : ℕ). getD (blockOf d j op) i (initialises [])) t
-      ∙ at-right (applicabilityChecks d j op) (correctnessChecks d j op) q (initialises [])
-
-  -- each operation begins where the one before it ends, and the last ends where the check does
   size-next : (j : ℕ) (op : Operation) (ops : List Operation) → getElem? ops j ≡ some op → sizeOfFirst (suc j) ops ≡ sizeOfFirst j ops + (applicabilitySize op + correctnessSize op)
   unfolding sizeOfFirst
   size-next j op [] e = absurd (Option·none-ne-some op e)
@@ -201,20 +164,63 @@ module _ (d : Dossier) where
       s x ∙ ap (λ (y : Operation). 0 + (applicabilitySize y + correctnessSize y)) (Option·some-injective x op e)
   size-next (suc j) op (x ∷ ops) e = let s : sizeOfFirst (suc j) ops ≡ sizeOfFirst j ops + (applicabilitySize op + correctnessSize op) = size-next j op ops e in omega arith
 
-  pub start-next : (j : ℕ) (op : Operation) → getElem? (d .operations) j ≡ some op → startOf (suc j) ≡ startOf j + (applicabilitySize op + correctnessSize op)
-  start-next j op e = let s : sizeOfFirst (suc j) (d .operations) ≡ sizeOfFirst j (d .operations) + (applicabilitySize op + correctnessSize op) = size-next j op (d .operations) e in omega arith
-
-  pub start-first : startOf 0 ≡ concretes
-  unfolding sizeOfFirst
-  start-first = omega arith
-
   length-operations : (k : ℕ) (ops : List Operation) → length (operationChecks d k ops) ≡ sizeOfFirst (length ops) ops
   unfolding operationChecks sizeOfFirst
   length-operations k [] = refl
   length-operations k (op ∷ ops) = length-append (blockOf d k op) (operationChecks d (suc k) ops) ∙ ap₂ _+_ (length-block k op) (length-operations (suc k) ops)
 
-  pub total-ends : total d ≡ startOf (length (d .operations))
+module _ (σ : Subject) where
+  -- the place at which the checks of the operation j begin
+  abbrev pub startOf : ℕ → ℕ
+  startOf j = length (opening σ) + sizeOfFirst (σ .dossier) j (σ .dossier .operations)
+
+  pub length-opening : length (opening σ) ≡ concretes (σ .dossier)
+  unfolding opening
+  length-opening = length-map (concreteBindings (σ .dossier)) initialises
+
+  -- "Initialisation is first, then for each operation applicability and correctness."
+  pub initialisation-place : (c : ℕ) → c < concretes (σ .dossier) → checkAt σ c ≡ initialises (nth (concreteBindings (σ .dossier)) c)
+  unfolding checkAt checks opening
+  initialisation-place c h =
+      let l : c < length (opening σ) = omega (arith, length-opening) in
+      List·getD-append (opening σ) (operationChecks (σ .dossier) 0 (σ .dossier .operations)) (initialises []) c l
+      ∙ at-map initialises (concreteBindings (σ .dossier)) c [] (initialises []) h
+
+  pub block-place : (j : ℕ) (op : Operation) → getElem? (σ .dossier .operations) j ≡ some op → (q : ℕ) → q < applicabilitySize (σ .dossier) op + correctnessSize (σ .dossier) op
+      → checkAt σ (startOf j + q) ≡ getD (blockOf (σ .dossier) j op) q (initialises [])
+  unfolding checkAt checks
+  block-place j op e q h =
+      let s : startOf j + q ≡ length (opening σ) + (sizeOfFirst (σ .dossier) j (σ .dossier .operations) + q) = omega arith in
+      ap (checkAt σ) s
+      ∙ at-right (opening σ) (operationChecks (σ .dossier) 0 (σ .dossier .operations)) (sizeOfFirst (σ .dossier) j (σ .dossier .operations) + q) (initialises [])
+      ∙ operation-at (σ .dossier) 0 j op (σ .dossier .operations) e q (initialises []) h
+      ∙ ap (λ (i : ℕ). getD (blockOf (σ .dossier) i op) q (initialises [])) (zero-add j)
+
+  pub applicability-place : (j : ℕ) (op : Operation) → getElem? (σ .dossier .operations) j ≡ some op → (q : ℕ) → q < applicabilitySize (σ .dossier) op
+      → checkAt σ (startOf j + q) ≡ getD (applicabilityChecks (σ .dossier) j op) q (initialises [])
+  applicability-place j op e q h =
+      let l : q < length (applicabilityChecks (σ .dossier) j op) = omega (arith, length-applicability (σ .dossier) j op) in
+      block-place j op e q (omega arith) ∙ List·getD-append (applicabilityChecks (σ .dossier) j op) (correctnessChecks (σ .dossier) j op) (initialises []) q l
+
+  pub correctness-place : (j : ℕ) (op : Operation) → getElem? (σ .dossier .operations) j ≡ some op → (q : ℕ) → q < correctnessSize (σ .dossier) op
+      → checkAt σ (startOf j + applicabilitySize (σ .dossier) op + q) ≡ getD (correctnessChecks (σ .dossier) j op) q (initialises [])
+  correctness-place j op e q h =
+      let s : startOf j + applicabilitySize (σ .dossier) op + q ≡ startOf j + (applicabilitySize (σ .dossier) op + q) = omega arith in
+      let t : applicabilitySize (σ .dossier) op + q ≡ length (applicabilityChecks (σ .dossier) j op) + q = omega (arith, length-applicability (σ .dossier) j op) in
+      ap (checkAt σ) s ∙ block-place j op e (applicabilitySize (σ .dossier) op + q) (omega arith)
+      ∙ ap (λ (i : ℕ). getD (blockOf (σ .dossier) j op) i (initialises [])) t
+      ∙ at-right (applicabilityChecks (σ .dossier) j op) (correctnessChecks (σ .dossier) j op) q (initialises [])
+
+  -- each operation begins where the one before it ends, and the last ends where the check does
+  pub start-next : (j : ℕ) (op : Operation) → getElem? (σ .dossier .operations) j ≡ some op → startOf (suc j) ≡ startOf j + (applicabilitySize (σ .dossier) op + correctnessSize (σ .dossier) op)
+  start-next j op e = let s : sizeOfFirst (σ .dossier) (suc j) (σ .dossier .operations) ≡ sizeOfFirst (σ .dossier) j (σ .dossier .operations) + (applicabilitySize (σ .dossier) op + correctnessSize (σ .dossier) op) = size-next (σ .dossier) j op (σ .dossier .operations) e in omega arith
+
+  pub start-first : startOf 0 ≡ length (opening σ)
+  unfolding sizeOfFirst
+  start-first = omega arith
+
+  pub total-ends : total σ ≡ startOf (length (σ .dossier .operations))
   unfolding total checks
   total-ends =
-      length-append (map initialises (concreteBindings d)) (operationChecks d 0 (d .operations))
-      ∙ ap₂ _+_ (length-map (concreteBindings d) initialises) (length-operations 0 (d .operations))
+      length-append (opening σ) (operationChecks (σ .dossier) 0 (σ .dossier .operations))
+      ∙ ap (λ (n : ℕ). length (opening σ) + n) (length-operations (σ .dossier) 0 (σ .dossier .operations))

@@ -1,8 +1,11 @@
 -- The demands over the definitions, and the definitions computed on the trial dossiers.
 pub mod GivesLaws
+pub mod PlainCalls
 pub mod RefusedCalls
 pub mod Counts
 pub mod Matching
+pub mod Sides
+pub mod OperationTests
 pub mod Looks
 pub mod Groups
 pub mod ListedChecks
@@ -14,5 +17,6 @@ pub mod Advances
 pub mod Histories
 pub mod Strides
 pub mod Witnesses
+pub mod Reports
 pub mod Trials
 pub mod Carries

@@ -1,53 +1,137 @@
--- Demand 2 through the calls: in whatever strides a check is advanced, its verdict is that of one look over all its checks. Assumes nothing.
-use mathlib.Core.Path.{_≡_, refl, sym, ap, _∙_}
-use mathlib.Core.Bool.{Bool, true, false, true≢false}
-use mathlib.Core.List.{List, []}
-use Prim.Native.Nat.{ℕ, pred, _<_, _≤_}
+-- Demand 2 through the calls: what one advance does, by one look over all checks. Assumes nothing.
+use mathlib.Core.Path.{_≡_, refl, sym, ap, ap₂, _∙_}
+use mathlib.Core.Bool.{Bool, true, false, cond, _||_, true≢false}
+use mathlib.Core.List.{[]}
+use Prim.Native.Nat.{ℕ, suc, pred, _+_, _-_, _<_, _≤_, min}
+use native.Mathlib.Decide.{decLt}
 use native.Mathlib.Omega.{arith}
-use Rattle.form.specs.Tree.{Dossier}
-use Rattle.obligations.specs.Order.{obligationOf, initialises, checks, total, Look, look}
+use borrow.Author.Tests.{le-leb, lt-leb, le-ltb, lt-ltb, ne-eqb}
+use lib.Dec.{eqb, ltb}
+use lib.ListN.{length-append, length-map}
+use Rattle.static_rules.specs.Limits.{bindingCount}
+use Rattle.static_rules.specs.Scope.{unprimed}
+use Rattle.meaning.specs.Operations.{concreteBindings}
+use Rattle.carriers.proofs.Bindings.{bindings-some, bindings-count}
+use Rattle.obligations.specs.Subjects.{Subject}
+use Rattle.obligations.specs.Order.{obligationOf, initialises, passes, operationChecks, opening, checks, total, Look, look}
 use Rattle.obligations.specs.Report.{checkAt}
-use Rattle.obligations.specs.Calls.{Verdict, unfinished, accepted, refuted, Held, nothing, holding, Exchange, Trace, heldAfter}
-use Rattle.obligations.specs.Demands.{none, lastLoaded}
-use Rattle.obligations.proofs.Looks.{First, look-whole, look-first, whole-look, first-look}
-use Rattle.obligations.proofs.Accuracy.{PassBelow}
-use Rattle.obligations.proofs.Histories.{Standing, Sound, verdicts-stand}
+use Rattle.obligations.specs.Calls.{Verdict, unfinished, accepted, refuted, holding, advance, looked, outcome, verdictAt, advanced, advancing, respond}
+use Rattle.obligations.specs.CallDemands.{FirstFailing, wholeCount, wholeFails, wholeVerdict, verdictBy, verdictAfter, Advances}
+use Rattle.obligations.proofs.Looks.{look-whole}
+use Rattle.obligations.proofs.Accuracy.{accurate}
+use Rattle.obligations.proofs.Advances.{nextChecks, advance-passes, advance-fails}
 
--- the place is the count of that look, up to which nothing failed while the verdict is unfinished
-abbrev pub Agrees : Dossier → (p : ℕ) → Verdict → Type 0
-Agrees d p unfinished = p ≤ look d (checks d) .count
-Agrees d p accepted = look d (checks d) ≡ record { count = p; failed = false }
-Agrees d p (refuted o) = (look d (checks d) ≡ record { count = p; failed = true }) × (o ≡ obligationOf (checkAt d (pred p)))
+module _ (σ : Subject) where
+  -- one look over all checks ends within them, and what it looked at before the last one passes
+  pub count-within : wholeCount σ ≤ total σ
+  count-within = go (wholeFails σ) refl
+    where
+      go : (t : Bool) → wholeFails σ ≡ t → wholeCount σ ≤ total σ
+      go false e = omega (arith, accurate σ .whole e)
+      go true e =
+          let s : (q : ℕ) × ((wholeCount σ ≡ suc q) × FirstFailing σ q) = accurate σ .first e in
+          let l : s .0 < total σ = s .1 .1 .inside in
+          omega (arith, s .1 .0)
 
-abbrev pub HeldAgrees : Held → Type 0
-HeldAgrees nothing = Unit {0}
-HeldAgrees (holding d p v) = Agrees d p v
+  pub pass-before : (q : ℕ) → suc q < wholeCount σ → passes σ (checkAt σ q) ≡ true
+  unfolding total checkAt
+  pass-before q h = go (wholeFails σ) refl
+    where
+      go : (t : Bool) → wholeFails σ ≡ t → passes σ (checkAt σ q) ≡ true
+      go false e = look-whole σ (initialises []) (checks σ) e .1 q (omega (arith, accurate σ .whole e))
+      go true e =
+          let s : (q : ℕ) × ((wholeCount σ ≡ suc q) × FirstFailing σ q) = accurate σ .first e in
+          s .1 .1 .before q (omega (arith, s .1 .0))
 
-not-past : (d : Dossier) (p : ℕ) → p ≤ total d → PassBelow d p → p ≤ look d (checks d) .count
-unfolding total checkAt
-not-past d p l f = go (look d (checks d) .failed) refl
+  pub pass-whole : (q : ℕ) → wholeFails σ ≡ false → q < total σ → passes σ (checkAt σ q) ≡ true
+  unfolding total checkAt
+  pass-whole q e h = look-whole σ (initialises []) (checks σ) e .1 q h
+
+  -- the verdict of an advance: at the end of the look where no check fails, before it, and at its end where one fails
+  verdict-passed : (q : ℕ) → q ≡ wholeCount σ → wholeFails σ ≡ false → verdictAt σ q false ≡ verdictAfter σ q
+  unfolding verdictAt
+  verdict-passed q h e =
+      ap (λ (t : Bool). cond t accepted unfinished) (le-leb (total σ) _ (omega (arith, accurate σ .whole e)))
+      ∙ ap (λ (t : Bool). verdictBy t (obligationOf (checkAt σ (pred (wholeCount σ))))) (sym e)
+      ∙ ap (λ (t : Bool). cond t unfinished (wholeVerdict σ)) (sym (le-ltb q (wholeCount σ) (omega arith)))
+
+  verdict-before : (q : ℕ) → q < wholeCount σ → verdictAt σ q false ≡ verdictAfter σ q
+  unfolding verdictAt
+  verdict-before q h =
+      ap (λ (t : Bool). cond t accepted unfinished) (lt-leb (total σ) _ (omega (arith, count-within)))
+      ∙ ap (λ (t : Bool). cond t unfinished (wholeVerdict σ)) (sym (lt-ltb q (wholeCount σ) h))
+
+  verdict-failed : (q : ℕ) → q ≡ wholeCount σ → wholeFails σ ≡ true → verdictAt σ q true ≡ verdictAfter σ q
+  unfolding verdictAt
+  verdict-failed q h e =
+      ap (λ (k : ℕ). refuted (obligationOf (checkAt σ (pred k)))) h
+      ∙ ap (λ (t : Bool). verdictBy t (obligationOf (checkAt σ (pred (wholeCount σ))))) (sym e)
+      ∙ ap (λ (t : Bool). cond t unfinished (wholeVerdict σ)) (sym (le-ltb q (wholeCount σ) (omega arith)))
+
+cond-false : {A : Type 0} (t : Bool) (x y : A) → t ≡ false → cond t x y ≡ y
+cond-false true x y e = absurd (true≢false e)
+cond-false false x y e = refl
+
+module _ (σ : Subject) (p n : ℕ) (below : p < wholeCount σ) (one : 1 ≤ n) (most : n ≤ 1000000000) where
+  abbrev far : ℕ
+  far = min n (wholeCount σ - p)
+
+  in-range : (eqb n 0 || ltb 1000000000 n) ≡ false
+  in-range = ap₂ _||_ (ne-eqb n 0 (λ e. absurd (omega arith))) (le-ltb 1000000000 n most)
+
+  by-look : (t : Bool) → look σ (nextChecks σ p n) ≡ record { count = far; failed = t } → verdictAt σ (p + far) t ≡ verdictAfter σ (p + far)
+      → respond (holding σ p unfinished) (advance n) ≡ outcome (looked far) (holding σ (p + far) (verdictAfter σ (p + far))) []
+  unfolding respond advancing advanced
+  by-look t e v =
+      cond-false _ _ (advanced σ p (look σ (nextChecks σ p n))) in-range
+      ∙ ap (advanced σ p) e
+      ∙ ap (λ (w : Verdict). outcome (looked far) (holding σ (p + far) w) []) v
+
+  advanced-by : respond (holding σ p unfinished) (advance n) ≡ outcome (looked far) (holding σ (p + far) (verdictAfter σ (p + far))) []
+  advanced-by = elim (decLt (p + n) (wholeCount σ)) [
+    | yes l ↦ short l
+    | no l ↦ long (wholeFails σ) refl (omega arith)
+  ]
+    where
+      short : p + n < wholeCount σ → respond (holding σ p unfinished) (advance n) ≡ outcome (looked far) (holding σ (p + far) (verdictAfter σ (p + far))) []
+      short l =
+          let k : min (p + n) (total σ) - p ≡ far = omega (arith, count-within σ) in
+          by-look false
+          (advance-passes σ p n (omega (arith, count-within σ)) (λ q a b. pass-before σ q (omega arith))
+          ∙ ap {B = Look} (λ (j : ℕ). record { count = j; failed = false }) k)
+          (verdict-before σ (p + far) (omega arith))
+
+      long : (t : Bool) → wholeFails σ ≡ t → wholeCount σ ≤ p + n
+          → respond (holding σ p unfinished) (advance n) ≡ outcome (looked far) (holding σ (p + far) (verdictAfter σ (p + far))) []
+      long false e l =
+          let k : min (p + n) (total σ) - p ≡ far = omega (arith, accurate σ .whole e) in
+          by-look false
+          (advance-passes σ p n (omega (arith, count-within σ)) (λ q a b. pass-whole σ q e (omega arith))
+          ∙ ap {B = Look} (λ (j : ℕ). record { count = j; failed = false }) k)
+          (verdict-passed σ (p + far) (omega arith) e)
+      long true e l =
+          let s : (q : ℕ) × ((wholeCount σ ≡ suc q) × FirstFailing σ q) = accurate σ .first e in
+          let i : s .0 < total σ = s .1 .1 .inside in
+          let k : suc (s .0 - p) ≡ far = omega (arith, s .1 .0) in
+          by-look true
+          (advance-fails σ p n (s .0) (omega (arith, s .1 .0)) (omega (arith, s .1 .0)) (λ q a b. s .1 .1 .before q b) (s .1 .1 .fails)
+          ∙ ap {B = Look} (λ (j : ℕ). record { count = j; failed = true }) k)
+          (verdict-failed σ (p + far) (omega arith) e)
+
+-- "Advance by n looks at the next n bindings, fewer if the verdict comes, and returns how many."
+pub advances : Advances
+advances = advanced-by
+
+-- no carrier is empty, so there is a first binding to look at
+total-positive : (σ : Subject) → 0 < total σ
+unfolding total checks opening concreteBindings
+total-positive σ =
+    let s : 0 < bindingCount (unprimed (σ .dossier) (σ .dossier .concrete)) = bindings-some (unprimed (σ .dossier) (σ .dossier .concrete)) in
+    omega (arith, length-append (opening σ) (operationChecks (σ .dossier) 0 (σ .dossier .operations)), length-map (concreteBindings (σ .dossier)) initialises, bindings-count (unprimed (σ .dossier) (σ .dossier .concrete)))
+
+pub count-positive : (σ : Subject) → 0 < wholeCount σ
+count-positive σ = go (wholeFails σ) refl
   where
-    go : (t : Bool) → look d (checks d) .failed ≡ t → p ≤ look d (checks d) .count
-    go false e = omega (arith, look-whole d (initialises []) (checks d) e .0)
-    go true e =
-        let s : First d (initialises []) (checks d) (look d (checks d)) = look-first d (initialises []) (checks d) e in
-        let n : ¬ (s .0 < p) = λ h. true≢false (sym (f (s .0) h) ∙ s .3) in
-        omega (arith, s .1)
-
-standing-agrees : (d : Dossier) (p : ℕ) (v : Verdict) → Standing d p v → Agrees d p v
-unfolding total checkAt
-standing-agrees d p unfinished s = not-past d p (s .0) (s .1)
-standing-agrees d p accepted s =
-    whole-look d (initialises []) (checks d) (s .1) ∙ ap {B = Look} (λ (k : ℕ). record { count = k; failed = false }) (sym (s .0))
-standing-agrees d p (refuted o) s = (
-  first-look d (initialises []) (checks d) (s .0) (s .2) (s .3) (s .4) ∙ ap {B = Look} (λ (k : ℕ). record { count = k; failed = true }) (sym (s .1)),
-  s .5 ∙ ap (λ (k : ℕ). obligationOf (checkAt d (pred k))) (sym (s .1)),
-)
-
-held-agrees : (h : Held) (xs : List Exchange) → Sound h (lastLoaded none xs) → HeldAgrees h
-held-agrees nothing xs s = tt
-held-agrees (holding d p v) xs s = standing-agrees d p v (s .1)
-
--- over every list of calls from nothing held on: accepted, refuted and how many were looked at are what the program prints
-pub strides-agree : (xs : List Exchange) → Trace nothing xs → HeldAgrees (heldAfter nothing xs)
-strides-agree xs t = held-agrees (heldAfter nothing xs) xs (verdicts-stand xs nothing none tt t)
+    go : (t : Bool) → wholeFails σ ≡ t → 0 < wholeCount σ
+    go false e = omega (arith, accurate σ .whole e, total-positive σ)
+    go true e = omega (arith, accurate σ .first e .1 .0)

@@ -8,7 +8,9 @@ use Rattle.static_rules.specs.Carriers.{Variable}
 use Rattle.static_rules.specs.Scope.{unprimed, primed, inputs, outputs}
 use Rattle.meaning.specs.Meaning.{Binding}
 use Rattle.meaning.specs.Bindings.{bindings, flat}
-use Rattle.meaning.specs.Operations.{abstractBindings, concreteBindings, outputBindings, after}
+use Rattle.meaning.specs.Operations.{abstractBindings, concreteBindings, outputBindings, after, related}
+use Rattle.obligations.specs.Subjects.{Subject}
+use Rattle.obligations.specs.Machines.{abstractSide, concreteSide}
 use Rattle.obligations.specs.Obligations.{initialisationAt, applicabilityAt, correctnessAt}
 
 -- an obligation, the last two with the operation's number
@@ -28,10 +30,10 @@ obligationOf (applies k op a c i) = applicability k
 obligationOf (corrects k op a c i o c′) = correctness k
 
 -- the check does not break its obligation
-unfoldable pub passes : Dossier → Check → Bool
-passes d (initialises c) = initialisationAt d c
-passes d (applies k op a c i) = applicabilityAt d op a c i
-passes d (corrects k op a c i o c′) = correctnessAt d op a c i o c′
+unfoldable pub passes : Subject → Check → Bool
+passes σ (initialises c) = initialisationAt (abstractSide (σ .dossier)) (concreteSide (σ .dossier)) (related (σ .dossier)) c
+passes σ (applies k op a c i) = applicabilityAt (abstractSide (σ .dossier)) (concreteSide (σ .dossier)) (related (σ .dossier)) k a c i
+passes σ (corrects k op a c i o c′) = correctnessAt (abstractSide (σ .dossier)) (concreteSide (σ .dossier)) (related (σ .dossier)) k a c i o c′
 
 -- "applicability over abstract, concrete, inputs; correctness over abstract, concrete, inputs, outputs, concrete primed; each group as declared, the last variable fastest."
 unfoldable pub applicabilityChecks : Dossier → ℕ → Operation → List Check
@@ -48,18 +50,29 @@ unfoldable pub operationChecks : Dossier → ℕ → List Operation → List Che
 operationChecks d k [] = []
 operationChecks d k (op ∷ ops) = applicabilityChecks d k op ++ correctnessChecks d k op ++ operationChecks d (suc k) ops
 
--- "All values in the carriers are visited, states or not. Initialisation is first, then for each operation applicability and correctness."
-unfoldable pub checks : Dossier → List Check
-checks d = map initialises (concreteBindings d) ++ operationChecks d 0 (d .operations)
+-- "Initialisation runs over the concrete variables"
+unfoldable pub opening : Subject → List Check
+opening σ = map initialises (concreteBindings (σ .dossier))
 
-unfoldable pub total : Dossier → ℕ
-total d = length (checks d)
+-- "All values in the carriers are visited, states or not. Initialisation is first, then for each operation applicability and correctness."
+unfoldable pub checks : Subject → List Check
+checks σ = opening σ ++ operationChecks (σ .dossier) 0 (σ .dossier .operations)
+
+unfoldable pub total : Subject → ℕ
+total σ = length (checks σ)
 
 -- the variables of a check and their values, "the binding in search order"
-unfoldable pub variablesOf : Dossier → Check → List Variable
-variablesOf d (initialises c) = unprimed d (d .concrete)
-variablesOf d (applies k op a c i) = unprimed d (d .abstract) ++ unprimed d (d .concrete) ++ inputs d op
-variablesOf d (corrects k op a c i o c′) = unprimed d (d .abstract) ++ unprimed d (d .concrete) ++ inputs d op ++ outputs d op ++ primed d (d .concrete)
+abbrev abstractVariables : Subject → List Variable
+abstractVariables σ = unprimed (σ .dossier) (σ .dossier .abstract)
+
+abbrev concreteVariables : Subject → List Variable
+concreteVariables σ = unprimed (σ .dossier) (σ .dossier .concrete)
+
+unfoldable pub variablesOf : Subject → Check → List Variable
+variablesOf σ (initialises c) = concreteVariables σ
+variablesOf σ (applies k op a c i) = abstractVariables σ ++ concreteVariables σ ++ inputs (σ .dossier) op
+variablesOf σ (corrects k op a c i o c′) =
+    abstractVariables σ ++ concreteVariables σ ++ inputs (σ .dossier) op ++ outputs (σ .dossier) op ++ primed (σ .dossier) (σ .dossier .concrete)
 
 unfoldable pub bindingOf : Check → Binding
 bindingOf (initialises c) = c
@@ -74,6 +87,6 @@ pub record Look : Type 0 where
 abbrev oneMore : Look → Look
 oneMore l = record { count = suc (l .count); failed = l .failed }
 
-unfoldable pub look : Dossier → List Check → Look
-look d [] = record { count = 0; failed = false }
-look d (x ∷ xs) = elim (passes d x) [ true ↦ oneMore (look d xs) | false ↦ record { count = 1; failed = true } ]
+unfoldable pub look : Subject → List Check → Look
+look σ [] = record { count = 0; failed = false }
+look σ (x ∷ xs) = elim (passes σ x) [ true ↦ oneMore (look σ xs) | false ↦ record { count = 1; failed = true } ]

@@ -14,6 +14,7 @@ use Rattle.static_rules.specs.Read.{Reading, refusal, reading, read}
 use Rattle.sets.specs.Sets.{members}
 use Rattle.meaning.specs.Values.{Value, bits}
 use Rattle.meaning.specs.Meaning.{Binding}
+use Rattle.obligations.specs.Subjects.{Subject, subjectOf}
 use Rattle.obligations.specs.Order.{Check, Obligation, initialisation, applicability, correctness, obligationOf, checks, variablesOf, bindingOf, Look, look, initialises}
 
 -- a number in decimal, before the bytes w; the first number bounds how many digits are left
@@ -64,12 +65,12 @@ bindingLines [] b = []
 bindingLines (x ∷ xs) [] = []
 bindingLines (x ∷ xs) (b ∷ bs) = nameBytes (x .called) ++ bytes " = " ++ valueBytes (x .carrier) (b .1) ++ bytes "\n" ++ bindingLines xs bs
 
-unfoldable pub witnessLines : Dossier → Check → List ℕ
-witnessLines d x = bindingLines (variablesOf d x) (bindingOf x)
+unfoldable pub witnessLines : Subject → Check → List ℕ
+witnessLines σ x = bindingLines (variablesOf σ x) (bindingOf x)
 
 -- the check at a place
-unfoldable pub checkAt : Dossier → ℕ → Check
-checkAt d p = getD (checks d) p (initialises [])
+unfoldable pub checkAt : Subject → ℕ → Check
+checkAt σ p = getD (checks σ) p (initialises [])
 
 unfoldable pub titles : Dossier → List Letters
 titles d = map (λ (o : Operation). o .title) (d .operations)
@@ -84,10 +85,10 @@ refutedLine d (correctness k) = bytes "refuted correctness " ++ getD (titles d) 
 unfoldable pub countLine : ℕ → List ℕ
 countLine n = bytes "bindings " ++ decimal n ++ bytes "\n"
 
-unfoldable pub verdictLines : Dossier → Look → List ℕ
-verdictLines d l =
+unfoldable pub verdictLines : Subject → Look → List ℕ
+verdictLines σ l =
     elim (l .failed) [
-      | true ↦ let x : Check = checkAt d (pred (l .count)) in refutedLine d (obligationOf x) ++ witnessLines d x ++ countLine (l .count)
+      | true ↦ let x : Check = checkAt σ (pred (l .count)) in refutedLine (σ .dossier) (obligationOf x) ++ witnessLines σ x ++ countLine (l .count)
       | false ↦ bytes "accepted\n" ++ countLine (l .count)
     ]
 
@@ -97,7 +98,7 @@ refusedLine f = bytes "refused " ++ decimal (numberOf (f .refusal)) ++ bytes " a
 
 abbrev pub reported : Reading → List ℕ
 reported (refusal f) = refusedLine f
-reported (reading d) = verdictLines d (look d (checks d))
+reported (reading d) = verdictLines (subjectOf d) (look (subjectOf d) (checks (subjectOf d)))
 
 -- "The program reads a dossier on standard input. Prints ..."
 unfoldable pub report : List ℕ → List ℕ

@@ -1,44 +1,31 @@
--- Document 01, "Runs": both machines of a dossier, their runs, and what stands beside what.
+-- Document 01, "Runs": the runs of two machines, and what stands beside what.
 use mathlib.Core.Path.{_≡_}
-use mathlib.Core.Bool.{Bool, true}
+use mathlib.Core.Bool.{true}
 use mathlib.Core.List.{List, [], _∷_, _++_}
-use Rattle.form.specs.Tree.{Operation, Dossier}
-use Rattle.static_rules.specs.Carriers.{Variable}
-use Rattle.static_rules.specs.Scope.{unprimed, inputs, outputs}
+use Prim.Native.Nat.{ℕ, _<_}
+use Rattle.form.specs.Tree.{Dossier}
 use Rattle.meaning.specs.Meaning.{Binding}
-use Rattle.meaning.specs.Bindings.{Among, Over}
-use Rattle.meaning.specs.Operations.{abstractInitial, concreteInitial, related, abstractStep, concreteStep}
+use Rattle.meaning.specs.Bindings.{Over}
+use Rattle.meaning.specs.Operations.{related}
+use Rattle.obligations.specs.Machines.{Machine, Relation, abstractSide, concreteSide}
 
 -- "an operation and a carrier value for each of its inputs"
 pub record Entry : Type 0 where
-  pub operation : Operation
+  pub operation : ℕ
   pub input : Binding
 
-pub record IsEntry (d : Dossier) (e : Entry) : Type 0 where
-  pub listed : Among (e .operation) (d .operations)
-  pub carried : Over (inputs d (e .operation)) (e .input)
+pub record IsEntry (m : Machine) (e : Entry) : Type 0 where
+  pub listed : e .operation < m .operations
+  pub carried : Over (m .taken (e .operation)) (e .input)
 
-unfoldable pub Entries : Dossier → List Entry → Type 0
-Entries d [] = Unit {0}
-Entries d (e ∷ es) = IsEntry d e × Entries d es
+unfoldable pub Entries : Machine → List Entry → Type 0
+Entries m [] = Unit {0}
+Entries m (e ∷ es) = IsEntry m e × Entries m es
 
 -- what one step gives: outputs, and the state after
 pub record Outcome : Type 0 where
   pub output : Binding
   pub state : Binding
-
--- "Both machines, the abstract and the concrete side of a dossier"
-pub record Machine : Type 0 where
-  pub variables : List Variable
-  pub produced : Operation → List Variable
-  pub initial : Binding → Bool
-  pub allows : Operation → (s i o s′ : Binding) → Bool
-
-abbrev pub abstractSide : Dossier → Machine
-abstractSide d = record { variables = unprimed d (d .abstract); produced = outputs d; initial = abstractInitial d; allows = abstractStep d }
-
-abbrev pub concreteSide : Dossier → Machine
-concreteSide d = record { variables = unprimed d (d .concrete); produced = outputs d; initial = concreteInitial d; allows = concreteStep d }
 
 -- "Each begins in any initial state of its side."
 pub record Initial (m : Machine) (s : Binding) : Type 0 where
@@ -77,35 +64,39 @@ Meets m es = (done : List Entry) (e : Entry) (rest : List Entry) → es ≡ done
     → (s : Binding) (rs : List Outcome) → Run m done s rs → Pre m e (last s rs)
 
 -- "Related: the two states meet retrieve."
-abbrev pub Related : Dossier → (a c : Binding) → Type 0
-Related d a c = related d a c ≡ true
+abbrev pub Related : Relation → (a c : Binding) → Type 0
+Related R a c = R a c ≡ true
 
 -- "at every step their outputs are equal, and their states are related ... after each step"
-unfoldable pub Alike : Dossier → (gs hs : List Outcome) → Type 0
-Alike d [] [] = Unit {0}
-Alike d [] (h ∷ hs) = ⊥
-Alike d (g ∷ gs) [] = ⊥
-Alike d (g ∷ gs) (h ∷ hs) = (g .output ≡ h .output) × Related d (g .state) (h .state) × Alike d gs hs
+unfoldable pub Alike : Relation → (gs hs : List Outcome) → Type 0
+Alike R [] [] = Unit {0}
+Alike R [] (h ∷ hs) = ⊥
+Alike R (g ∷ gs) [] = ⊥
+Alike R (g ∷ gs) (h ∷ hs) = (g .output ≡ h .output) × Related R (g .state) (h .state) × Alike R gs hs
 
 -- "Two runs on one list stand beside each other"
-pub record Beside (d : Dossier) (a : Binding) (gs : List Outcome) (c : Binding) (hs : List Outcome) : Type 0 where
-  pub first : Related d a c
-  pub after : Alike d gs hs
+pub record Beside (R : Relation) (a : Binding) (gs : List Outcome) (c : Binding) (hs : List Outcome) : Type 0 where
+  pub first : Related R a c
+  pub after : Alike R gs hs
 
--- what demand 3 says of one dossier and one list of entries
-pub record Matched (d : Dossier) (es : List Entry) : Type 0 where
+-- what demand 3 says of two machines, related so, and one list of entries
+pub record Matched (A C : Machine) (R : Relation) (es : List Entry) : Type 0 where
   -- "the concrete side can step at every point of the list, from each of its initial states and whichever way it went before"
-  pub steps : Meets (concreteSide d) es
+  pub steps : Meets C es
   -- "each step open to it, whichever abstract run stands beside it so far, is met by an abstract step from there with equal outputs to a related state"
   pub met : (done : List Entry) (e : Entry) (rest : List Entry) → es ≡ done ++ (e ∷ rest)
-      → (a : Binding) (gs : List Outcome) → Run (abstractSide d) done a gs
-      → (c : Binding) (hs : List Outcome) → Run (concreteSide d) done c hs → Beside d a gs c hs
-      → (h : Outcome) → Step (concreteSide d) e (last c hs) h
-      → (g : Outcome) × Step (abstractSide d) e (last a gs) g × (g .output ≡ h .output) × Related d (g .state) (h .state)
+      → (a : Binding) (gs : List Outcome) → Run A done a gs
+      → (c : Binding) (hs : List Outcome) → Run C done c hs → Beside R a gs c hs
+      → (h : Outcome) → Step C e (last c hs) h
+      → (g : Outcome) × Step A e (last a gs) g × (g .output ≡ h .output) × Related R (g .state) (h .state)
   -- "a whole abstract run, begun in an abstract initial state, stands beside every concrete one"
-  pub stands : (c : Binding) (hs : List Outcome) → Run (concreteSide d) es c hs
-      → (a : Binding) × ((gs : List Outcome) × (Run (abstractSide d) es a gs × Beside d a gs c hs))
+  pub stands : (c : Binding) (hs : List Outcome) → Run C es c hs
+      → (a : Binding) × ((gs : List Outcome) × (Run A es a gs × Beside R a gs c hs))
 
 -- "for every list of operations with inputs, of any length, the empty one too. Suppose that the abstract machine ... meets every precondition of the list; then ..."
+abbrev pub MachinesMatch : (A C : Machine) → Relation → Type 0
+MachinesMatch A C R = (es : List Entry) → Entries A es → Meets A es → Matched A C R es
+
+-- both sides of a dossier
 abbrev pub RunsMatch : Dossier → Type 0
-RunsMatch d = (es : List Entry) → Entries d es → Meets (abstractSide d) es → Matched d es
+RunsMatch d = MachinesMatch (abstractSide d) (concreteSide d) (related d)

@@ -40,10 +40,6 @@ abbrev pub Risen : ℕ → List Body → ℕ → Type 0
 Risen i [] z = i ≤ z
 Risen i (b ∷ bs) z = (i ≤ b .at) × Risen (b .at) bs z
 
-risen-from : (j i : ℕ) (bs : List Body) (z : ℕ) → j ≤ i → Risen i bs z → Risen j bs z
-risen-from j i [] z l h = omega arith
-risen-from j i (b ∷ bs) z l h = (let k = h .0 in omega arith, h .1)
-
 one-more : (i : ℕ) (b : Body) (fs ys : List Fault) (v : Bool) → i ≤ b .at → Rising (b .at) (fs ++ ys) → Rising i ((unless v (fault (b .at) headingDiffers) ++ fs) ++ ys)
 unfolding unless
 one-more i b fs ys true l h = rising-from i (b .at) (fs ++ ys) l h

@@ -12,7 +12,7 @@ use Rattle.form.specs.Headings.{givensAt, operationsAt, givenLength, operationL
 use Rattle.form.specs.Codes.{Numbering}
 use Rattle.parser.proofs.BodyFaults.{Has, Knows, KnowsTitles}
 use Rattle.parser.proofs.TitledBodies.{givenBodies, operationBodies}
-use Rattle.parser.proofs.RelationsBehind as kept
+use Rattle.form.proofs.RelationsBehind as kept
 
 abbrev plain : List Written → List Symbol
 plain u = map (λ (x : Written). x .symbol) u
@@ -66,9 +66,6 @@ module _ (d : Dossier) where
 
   abbrev fromGivens : List Written
   fromGivens = writeGivens 0 (d .givens) fromStates
-
-  abbrev fromEntries : List Written
-  fromEntries = writeEntries kind.OP anOperation 0 (d .operationEntries) (bare kind.END ∷ fromGivens)
 
   pub given-entries-known : Knows (symbolsOf d) (d .givenEntries)
   unfolding symbolsOf written writeContents

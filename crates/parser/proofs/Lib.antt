@@ -17,7 +17,6 @@ pub mod ItemsPassed
 pub mod ItemNodes
 pub mod PartPlaces
 pub mod ParseAnswers
-pub mod RelationsBehind
 pub mod HeadingOrder
 pub mod BodyFaults
 pub mod TitledBodies

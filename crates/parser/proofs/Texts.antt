@@ -1,33 +1,33 @@
 -- What is known of the symbols of every text in which the scan finds no fault, and of the arrays that it leaves.
-use mathlib.Core.Path.{_≡_, refl, ap, ap₂, _∙_, sym}
-use mathlib.Core.Bool.{Bool, true, false, cond, true≢false, not, _&&_, _||_}
-use mathlib.Core.List.{List, [], _∷_, map}
-use mathlib.Core.Option.{Option, none, some}
 use Prim.Native.Nat.{ℕ, zero, suc, _+_, _≤_, _<_}
 use Prim.Native.String.{String}
-use native.Mathlib.Omega.{arith}
+use Rattle.form.proofs.ScannedSymbols.{scan-spelled}
+use Rattle.form_nodes.specs.FormPromises.{codes}
+use Rattle.lexical.proofs.WordLaws.{same-refl}
+use Rattle.lexical.specs.Kinds as kind
+use Rattle.lexical.specs.Kinds.{Kind, codeOf, marks, words}
+use Rattle.lexical.specs.Lists.{bytes, begins, all, any}
+use Rattle.lexical.specs.Promises.{codeIn, taken, filled, firstOf, faultOf, faultIn, written, hasLetters, firstNamed, valueAt, Scans}
+use Rattle.lexical.specs.Refusals.{Fault, fault, least, longText, manySymbols}
+use Rattle.lexical.specs.Symbols.{Class, letter, digit, mark, blank, other, Ending, noEnding, prime, query, shriek, Name, Symbol, fixed, numeral, name, kindOf, Found, gap, unlisted, found}
+use Rattle.lexical.specs.Symbols.{Placed, Scan, done, stopped, next, scanned, scanFrom, scan, symbols, lengthFaults, scanFaults}
+use Rattle.lexical.specs.Symbols.{classOf, isDigit, run, decimalFrom, isNumber, numberFound, reserved, endingOf, endingLength, wordOf, longer, longest, byClass, symbolAt}
+use Rattle.lexical.specs.declared.Scanned.the-variants.{Symbols, LongText, UnlistedSymbol, ManySymbols}
+use Rattle.lexical.specs.declared.Scanned.{Scanned}
+use Rattle.parser.proofs.TextDossier.{valueBy, values, Small, Text}
+use Rattle.parser.specs.Promises.{textSymbols, numbering}
+use Rattle.parser.specs.Sections.{Tells}
+use Rattle.symbols.proofs.BooleanTests.{and-right}
+use Rattle.symbols.proofs.ValueLaws.{Named, same-value}
+use borrow.Author.Tests.{leb-true, ltb-false, le-ltb, eqb-false}
 use lib.Dec.{eqb, leb, ltb}
 use lib.ListN.{length, take, drop, getD, length-map}
 use lib.Seq.{take-all, take-at}
-use borrow.Author.Tests.{leb-true, ltb-false, le-ltb, eqb-false}
-use Rattle.lexical.specs.Lists.{bytes, begins, all, any}
-use Rattle.lexical.specs.Kinds as kind
-use Rattle.lexical.specs.Kinds.{Kind, codeOf, marks, words}
-use Rattle.lexical.specs.Refusals.{Fault, fault, least, longText, manySymbols}
-use Rattle.lexical.specs.Symbols.{Class, letter, digit, mark, blank, other, Ending, noEnding, prime, query, shriek, Name, Symbol, fixed, numeral, name, kindOf, Found, gap, unlisted, found}
-use Rattle.lexical.specs.Symbols.{classOf, isDigit, run, decimalFrom, isNumber, numberFound, reserved, endingOf, endingLength, wordOf, longer, longest, byClass, symbolAt}
-use Rattle.lexical.specs.Symbols.{Placed, Scan, done, stopped, next, scanned, scanFrom, scan, symbols, lengthFaults, scanFaults}
-use Rattle.lexical.specs.Promises.{codeIn, taken, filled, firstOf, faultOf, faultIn, written, hasLetters, firstNamed, valueAt, Scans}
-use Rattle.lexical.specs.declared.Scanned.{Scanned}
-use Rattle.lexical.specs.declared.Scanned.the-variants.{Symbols, LongText, UnlistedSymbol, ManySymbols}
-use Rattle.symbols.proofs.BooleanTests.{and-right}
-use Rattle.lexical.proofs.WordLaws.{same-refl}
-use Rattle.symbols.proofs.ValueLaws.{Named, same-value}
-use Rattle.form.proofs.ScannedSymbols.{scan-spelled}
-use Rattle.form_nodes.specs.FormPromises.{codes}
-use Rattle.parser.specs.Promises.{textSymbols, numbering}
-use Rattle.parser.proofs.TextDossier.{valueBy, values, Small, Text}
-use Rattle.parser.specs.Sections.{Tells}
+use mathlib.Core.Bool.{Bool, true, false, cond, true≢false, not, _&&_, _||_}
+use mathlib.Core.List.{List, [], _∷_, map}
+use mathlib.Core.Option.{Option, none, some}
+use mathlib.Core.Path.{_≡_, refl, ap, ap₂, _∙_, sym}
+use native.Mathlib.Omega.{arith}
 
 -- numbers are at most 1,000
 abbrev Below : Symbol → Type 0
@@ -113,7 +113,7 @@ unfolding scan
 all-below text = scanned-below text 0 0
 
 -- no fault: neither is the text too long, nor are there too many symbols
-none-least : (fs : List Fault) → least fs ≡ none → fs ≡ []
+pub none-least : (fs : List Fault) → least fs ≡ none → fs ≡ []
 unfolding least
 none-least [] e = refl
 none-least (f ∷ fs) e = let z : _≡_ {A = ℕ} 0 1 = cc in absurd (omega arith)

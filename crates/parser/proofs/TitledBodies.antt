@@ -15,7 +15,7 @@ use Rattle.form.specs.Headings.{operationHeadings}
 use Rattle.form.specs.Codes.{node, Numbering, numberOfName, predWidth, elementCodes, givenCodes, parameterCodes, conditionCodes, abstractlyAt, operationCodes}
 use Rattle.parser.proofs.ItemNodes.{items-wide, items-append, elements-items, parameters-items, condition-items}
 use Rattle.parser.proofs.BodyFaults.{Body, bodyCodes, faults, Risen, Inners}
-use Rattle.parser.proofs.RelationsBehind as kept
+use Rattle.form.proofs.RelationsBehind as kept
 
 -- given sets from the symbol i on, and the symbol behind them
 abbrev pub givenBodies : ℕ → List Given → Numbering → List Body

@@ -15,20 +15,33 @@ use declarations::contents::declarations;
 use declarations::contents::givens;
 use declarations::contents::parameters;
 use expressions::trees::pred;
+use form::node;
+use form::shapes;
 use form_nodes::Read;
 use form_nodes::kinds::kind_at;
 use form_nodes::nodes::name_number;
 use form_nodes::nodes::put;
 use form_nodes::ranges::close;
+use lexical::bounds::OPERATIONS;
+use lexical::codes;
+use lexical::refusals::MANY_DECLARED;
+use lexical::refusals::NO_DOSSIER;
 
 // A predicate and the word behind it. The node that counts its numbers is written last, in front of them.
 fn condition(s: &[u8], v: &[u16], at: usize, word: u8, code: &mut [u16], n: usize) -> Read
     requires { ⌜ Room (now s) (now code) at (n + 4) ⌝ }
     ensures { λ r. ⌜ ((κ : Kind) → (codeOf κ ≡ word) → Reads (now (s .entry)) at n (aConditionTo κ) [] r) × Made (now (s .entry)) (now (v .entry)) (aCondition word) at n (now (code .entry)) (now (code .exit)) r ⌝ }
 {
-    match pred(s, v, at, 0, 0, code, n + 4) {
+    match pred(s, v, at, 0, 0, code, n + node::SIZE) {
         Read::At(e, m) => {
-            let c = put(code, n, 7, at, (m - (n + 4)) as u16, 0);
+            let c = put(
+                code,
+                n,
+                shapes::PREDICATE,
+                at,
+                (m - (n + node::SIZE)) as u16,
+                0,
+            );
             close(s, e, word, m)
         }
         Read::Fault(p, q) => Read::Fault(p, q),
@@ -42,10 +55,10 @@ fn state(s: &[u8], v: &[u16], at: usize, word: u8, code: &mut [u16], n: usize) -
 {
     match close(s, at, word, n) {
         Read::At(a, x) => {
-            let m = put(code, n, 5, at, 0, 0);
+            let m = put(code, n, shapes::STATE, at, 0, 0);
             match declarations(s, v, a, code, m) {
-                Read::At(b, c) => match close(s, b, 45, c) {
-                    Read::At(d, y) => condition(s, v, d, 44, code, c),
+                Read::At(b, c) => match close(s, b, codes::WHERE, c) {
+                    Read::At(d, y) => condition(s, v, d, codes::END, code, c),
                     Read::Fault(p, q) => Read::Fault(p, q),
                 },
                 Read::Fault(p, q) => Read::Fault(p, q),
@@ -61,8 +74,8 @@ fn where_of(s: &[u8], v: &[u16], at: usize, word: u8, code: &mut [u16], n: usize
     ensures { λ r. ⌜ ((κ : Kind) → (codeOf κ ≡ word) → Reads (now (s .entry)) at n (aWhereOf κ) [] r) × Made (now (s .entry)) (now (v .entry)) (aWhere word) at n (now (code .entry)) (now (code .exit)) r ⌝ }
 {
     match close(s, at, word, n) {
-        Read::At(a, x) => match close(s, a, 45, n) {
-            Read::At(b, y) => condition(s, v, b, 44, code, n),
+        Read::At(a, x) => match close(s, a, codes::WHERE, n) {
+            Read::At(b, y) => condition(s, v, b, codes::END, code, n),
             Read::Fault(p, q) => Read::Fault(p, q),
         },
         Read::Fault(p, q) => Read::Fault(p, q),
@@ -75,11 +88,11 @@ fn operation(s: &[u8], v: &[u16], at: usize, code: &mut [u16], n: usize) -> Read
     ensures { λ r. ⌜ Reads (now (s .entry)) (at + 1 + 1) (n + 4) (someParameters 0 0 ∷ aConditionTo kind.CONCRETE ++ aConditionTo kind.END) ([]) r × More (now (s .entry)) (now (v .entry)) part.someOperations at n (now (code .entry)) (now (code .exit)) r ⌝ }
 {
     let x = name_number(s, v, at + 1);
-    let m = put(code, n, 8, at, x, 0);
+    let m = put(code, n, shapes::OPERATION, at, x, 0);
     match parameters(s, v, at + 1 + 1, code, m) {
-        Read::At(a, c) => match close(s, a, 38, c) {
-            Read::At(b, y) => match condition(s, v, b, 39, code, c) {
-                Read::At(e, d) => condition(s, v, e, 44, code, d),
+        Read::At(a, c) => match close(s, a, codes::ABSTRACT, c) {
+            Read::At(b, y) => match condition(s, v, b, codes::CONCRETE, code, c) {
+                Read::At(e, d) => condition(s, v, e, codes::END, code, d),
                 Read::Fault(p, q) => Read::Fault(p, q),
             },
             Read::Fault(p, q) => Read::Fault(p, q),
@@ -96,10 +109,10 @@ fn operations(s: &[u8], v: &[u16], start: usize, code: &mut [u16], from: usize) 
     let mut at = start;
     let mut n = from;
     let mut k: u8 = 0;
-    while kind_at(s, at) == 43 {
-        if kind_at(s, at + 1) == 2 {
-            if 16 <= k {
-                return Read::Fault(at + 1, 6);
+    while kind_at(s, at) == codes::OP {
+        if kind_at(s, at + 1) == codes::PLAIN {
+            if OPERATIONS <= k {
+                return Read::Fault(at + 1, MANY_DECLARED);
             }
             match operation(s, v, at, code, n) {
                 Read::At(e, m) => {
@@ -110,7 +123,7 @@ fn operations(s: &[u8], v: &[u16], start: usize, code: &mut [u16], from: usize) 
                 Read::Fault(p, q) => return Read::Fault(p, q),
             }
         } else {
-            return Read::Fault(at + 1, 4);
+            return Read::Fault(at + 1, NO_DOSSIER);
         }
     }
     Read::At(at, n)
@@ -121,8 +134,8 @@ fn states(s: &[u8], v: &[u16], at: usize, code: &mut [u16], n: usize) -> Read
     requires { ⌜ Room (now s) (now code) at n ⌝ }
     ensures { λ r. ⌜ Reads (now (s .entry)) at n twoStates [] r × Sequenced (now (s .entry)) (now (v .entry)) (aState 38 ∷ aState 39 ∷ []) at n (now (code .entry)) (now (code .exit)) r ⌝ }
 {
-    match state(s, v, at, 38, code, n) {
-        Read::At(a, m) => state(s, v, a, 39, code, m),
+    match state(s, v, at, codes::ABSTRACT, code, n) {
+        Read::At(a, m) => state(s, v, a, codes::CONCRETE, code, m),
         Read::Fault(p, q) => Read::Fault(p, q),
     }
 }
@@ -132,9 +145,9 @@ fn conditions(s: &[u8], v: &[u16], at: usize, code: &mut [u16], n: usize) -> Rea
     requires { ⌜ Room (now s) (now code) at n ⌝ }
     ensures { λ r. ⌜ Reads (now (s .entry)) at n threeConditions [] r × Sequenced (now (s .entry)) (now (v .entry)) (aWhere 40 ∷ aWhere 41 ∷ aWhere 42 ∷ []) at n (now (code .entry)) (now (code .exit)) r ⌝ }
 {
-    match where_of(s, v, at, 40, code, n) {
-        Read::At(a, x) => match where_of(s, v, a, 41, code, x) {
-            Read::At(b, y) => where_of(s, v, b, 42, code, y),
+    match where_of(s, v, at, codes::AINIT, code, n) {
+        Read::At(a, x) => match where_of(s, v, a, codes::CINIT, code, x) {
+            Read::At(b, y) => where_of(s, v, b, codes::RETRIEVE, code, y),
             Read::Fault(p, q) => Read::Fault(p, q),
         },
         Read::Fault(p, q) => Read::Fault(p, q),
@@ -166,7 +179,7 @@ pub(crate) fn dossier(s: &[u8], v: &[u16], code: &mut [u16]) -> Read
         Read::At(a, n) => match bodies(s, v, a, code, n) {
             Read::At(e, m) => {
                 if e < s.len() {
-                    return Read::Fault(e, 4);
+                    return Read::Fault(e, NO_DOSSIER);
                 }
                 Read::At(e, m)
             }

@@ -7,6 +7,10 @@ use crate::sections::run;
 use crate::sections::sections;
 use crate::sections::skip;
 use crate::sections::wide;
+use form::node;
+use form::shapes::DECLARED;
+use form::shapes::ELEMENT;
+use form::shapes::PREDICATE;
 
 // No heading differs from the contents; or the number of the symbol of the first one that differs, is extra or is wanting.
 pub enum Heads {
@@ -36,17 +40,17 @@ fn compare(
         if last <= h {
             return Heads::Differ(wanting);
         }
-        let x = part(nodes, e, m, 1);
-        let y = part(nodes, h, m, 1);
+        let x = part(nodes, e, m, node::A);
+        let y = part(nodes, h, m, node::A);
         if x != y {
-            return Heads::Differ(wide(part(nodes, h, m, 2)));
+            return Heads::Differ(wide(part(nodes, h, m, node::PLACE)));
         }
         e = skip(nodes, e, m);
         let body = skip(nodes, h, m);
         h = run(nodes, body, m, low, high);
     }
     if h < last {
-        return Heads::Differ(wide(part(nodes, h, m, 2)));
+        return Heads::Differ(wide(part(nodes, h, m, node::PLACE)));
     }
     Heads::Fit
 }
@@ -59,10 +63,30 @@ pub fn headings(nodes: &[u16], m: usize, symbols: usize) -> Heads
     let givens = s.givens;
     let abstracts = s.abstracts;
     let operations = s.operations;
-    let wanting = wide(part(nodes, abstracts, m, 2));
-    let first = compare(nodes, m, 0, entries, givens, abstracts, 4, 4, wanting);
+    let wanting = wide(part(nodes, abstracts, m, node::PLACE));
+    let first = compare(
+        nodes,
+        m,
+        0,
+        entries,
+        givens,
+        abstracts,
+        ELEMENT,
+        ELEMENT,
+        wanting,
+    );
     match first {
-        Heads::Fit => compare(nodes, m, entries, givens, operations, m, 6, 7, symbols),
+        Heads::Fit => compare(
+            nodes,
+            m,
+            entries,
+            givens,
+            operations,
+            m,
+            DECLARED,
+            PREDICATE,
+            symbols,
+        ),
         Heads::Differ(p) => Heads::Differ(p),
     }
 }

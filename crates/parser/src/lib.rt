@@ -11,8 +11,12 @@ use crate::copies::copy_nodes;
 use crate::headings::Heads;
 use crate::headings::headings;
 use crate::sections::wide;
+use form::node::NUMBERS;
 use form_nodes::Read;
 use lexical::Scanned;
+use lexical::bounds::SYMBOLS;
+use lexical::bounds::TEXT_BYTES;
+use lexical::refusals;
 use symbols::scan;
 
 mod bodies;
@@ -29,18 +33,18 @@ pub enum Parsed {
 // The structure of a text: its symbols, and the nodes of the dossier that it is.
 pub fn parse(
     text: &[u8],
-    codes: &mut [u8; 4096],
-    starts: &mut [u16; 4096],
-    values: &mut [u16; 4096],
-    nodes: &mut [u16; 16384],
+    codes: &mut [u8; SYMBOLS],
+    starts: &mut [u16; SYMBOLS],
+    values: &mut [u16; SYMBOLS],
+    nodes: &mut [u16; NUMBERS],
 ) -> Parsed
     ensures { λ r. ⌜ Parses (now (text .entry)) (now (codes .entry)) (now (starts .entry)) (now (values .entry)) (now (nodes .entry)) (now (codes .exit)) (now (starts .exit)) (now (values .exit)) (now (nodes .exit)) r ⌝ }
 {
     match scan(text, codes, starts, values) {
         Scanned::Symbols(n) => structure(text, codes, starts, values, n, nodes),
-        Scanned::LongText => Parsed::Refused(1, 32768),
-        Scanned::UnlistedSymbol(p) => Parsed::Refused(2, p),
-        Scanned::ManySymbols(p) => Parsed::Refused(3, p),
+        Scanned::LongText => Parsed::Refused(refusals::LONG_TEXT, TEXT_BYTES),
+        Scanned::UnlistedSymbol(p) => Parsed::Refused(refusals::UNLISTED_SYMBOL, p),
+        Scanned::ManySymbols(p) => Parsed::Refused(refusals::MANY_SYMBOLS, p),
     }
 }
 
@@ -56,21 +60,40 @@ fn structure(
     requires { ⌜ Left (now text) (now codes) (now starts) (now values) n × (length (now codes) ≡ 4096) × (length (now starts) ≡ 4096) × (length (now values) ≡ 4096) × (length (now nodes) ≡ 16384) ⌝ }
     ensures { λ r. ⌜ Answers (now (text .entry)) none (now (nodes .entry)) (now (nodes .exit)) r ⌝ }
 {
-    let mut made = [0u16; 16384];
-    match dossier(&codes[..n], &values[..n], &mut made) {
-        Read::At(e, m) => match headings(&made, m, n) {
+    let mut made = [0u16; NUMBERS];
+    structure_by(text, codes, starts, values, n, &mut made, nodes)
+}
+
+// The same, by way of the array `made`.
+fn structure_by(
+    text: &[u8],
+    codes: &[u8],
+    starts: &[u16],
+    values: &[u16],
+    n: usize,
+    made: &mut [u16],
+    nodes: &mut [u16],
+) -> Parsed
+    requires { ⌜ Left (now text) (now codes) (now starts) (now values) n × (length (now codes) ≡ 4096) × (length (now starts) ≡ 4096) × (length (now values) ≡ 4096) × (length (now made) ≡ 16384) × (length (now nodes) ≡ 16384) ⌝ }
+    ensures { λ r. ⌜ Answers (now (text .entry)) none (now (nodes .entry)) (now (nodes .exit)) r ⌝ }
+{
+    match dossier(&codes[..n], &values[..n], made) {
+        Read::At(e, m) => match headings(made, m, n) {
             Heads::Fit => {
-                copy_nodes(&made, nodes, m);
+                copy_nodes(made, nodes, m);
                 Parsed::Structure(n, m)
             }
-            Heads::Differ(i) => Parsed::Refused(7, place_at(starts, n, i, text.len())),
+            Heads::Differ(i) => Parsed::Refused(
+                refusals::HEADING_DIFFERS,
+                place_at(starts, n, i, text.len()),
+            ),
         },
         Read::Fault(i, f) => Parsed::Refused(number_of(f), place_at(starts, n, i, text.len())),
     }
 }
 
 // The first byte of a symbol, or the text's end.
-fn place_at(starts: &[u16], n: usize, i: usize, end: usize) -> usize
+pub fn place_at(starts: &[u16], n: usize, i: usize, end: usize) -> usize
     requires { ⌜ n ≤ length (now starts) ⌝ }
     ensures { λ r. ⌜ r ≡ getD (take n (now (starts .entry))) i end ⌝ }
 {
@@ -84,8 +107,8 @@ fn number_of(f: u8) -> u8
     ensures { λ r. ⌜ r ≡ numberOf (refusalNumbered f) ⌝ }
 {
     match f {
-        4 => 4,
-        5 => 5,
-        _ => 6,
+        refusals::NO_DOSSIER => refusals::NO_DOSSIER,
+        refusals::DEEP => refusals::DEEP,
+        _ => refusals::MANY_DECLARED,
     }
 }

@@ -1,7 +1,14 @@
 // Where the parts of a dossier begin among its nodes (form/specs/Codes.antt).
 ghost use mathlib.Core.Path.{_≡_};
-ghost use Prim.Native.Nat.{_≤_};
+ghost use Prim.Native.Nat.{_≤_, _<_};
 ghost use Rattle.parser.specs.Sections.{Part, Sized, Skips, Inside, RunsTo, Behind, Sectioned};
+use form::node;
+use form::shapes::DECLARED;
+use form::shapes::ELEMENT;
+use form::shapes::GIVEN;
+use form::shapes::GIVEN_ENTRY;
+use form::shapes::OPERATION_ENTRY;
+use form::shapes::PREDICATE;
 use form_nodes::kinds::value_at;
 
 // The numbers at which begin the contents' entries of operations, the given sets, the two states, the three conditions and the operations.
@@ -21,7 +28,7 @@ pub(crate) fn part(nodes: &[u16], at: usize, m: usize, k: usize) -> u16
     requires { ⌜ (at ≤ m) × (k ≤ 3) ⌝ }
     ensures { λ r. ⌜ Part (now (nodes .entry)) at m k r ⌝ }
 {
-    if m - at < 4 {
+    if m - at < node::SIZE {
         return 0;
     }
     value_at(nodes, at + k)
@@ -37,13 +44,13 @@ pub fn wide(x: u16) -> usize
 fn item(shape: u16, count: u16) -> usize
     ensures { λ r. ⌜ Sized shape count r ⌝ }
 {
-    if shape == 6 {
-        return 8;
+    if shape == DECLARED {
+        return node::DECLARATION;
     }
-    if shape == 7 {
-        return 4 + wide(count);
+    if shape == PREDICATE {
+        return node::SIZE + wide(count);
     }
-    4
+    node::SIZE
 }
 
 // The place behind the item that stands at a place; the end where it would leave the nodes.
@@ -52,8 +59,8 @@ pub(crate) fn skip(nodes: &[u16], at: usize, m: usize) -> usize
     ensures { λ r. ⌜ Skips (now (nodes .entry)) m at r ⌝ }
 {
     let left = m - at;
-    let shape = part(nodes, at, m, 3);
-    let count = part(nodes, at, m, 1);
+    let shape = part(nodes, at, m, node::SHAPE);
+    let count = part(nodes, at, m, node::A);
     let size = item(shape, count);
     if left < size {
         return m;
@@ -66,10 +73,10 @@ fn inside(nodes: &[u16], at: usize, m: usize, low: u16, high: u16) -> bool
     requires { ⌜ at ≤ m ⌝ }
     ensures { λ r. ⌜ Inside (now (nodes .entry)) m low high at r ⌝ }
 {
-    if m - at < 4 {
+    if m - at < node::SIZE {
         return false;
     }
-    let shape = part(nodes, at, m, 3);
+    let shape = part(nodes, at, m, node::SHAPE);
     if shape < low {
         return false;
     }
@@ -99,7 +106,7 @@ pub fn skip_from(nodes: &[u16], at: usize, m: usize) -> usize
 }
 
 pub fn run_from(nodes: &[u16], at: usize, m: usize, low: u16, high: u16) -> usize
-    ensures { λ r. ⌜ (at ≤ m → RunsTo (now (nodes .entry)) m low high at r) ⌝ }
+    ensures { λ r. ⌜ (at ≤ m → RunsTo (now (nodes .entry)) m low high at r) × (m < at → r ≡ m) ⌝ }
 {
     if m < at {
         return m;
@@ -113,16 +120,16 @@ fn state(nodes: &[u16], at: usize, m: usize) -> usize
     ensures { λ r. ⌜ Behind (now (nodes .entry)) m at r ⌝ }
 {
     let first = skip(nodes, at, m);
-    let last = run(nodes, first, m, 6, 6);
+    let last = run(nodes, first, m, DECLARED, DECLARED);
     skip(nodes, last, m)
 }
 
 pub fn sections(nodes: &[u16], m: usize) -> Bounds
     ensures { λ r. ⌜ Sectioned (now (nodes .entry)) m r ⌝ }
 {
-    let entries = run(nodes, 0, m, 1, 1);
-    let givens = run(nodes, entries, m, 2, 2);
-    let abstracts = run(nodes, givens, m, 3, 4);
+    let entries = run(nodes, 0, m, GIVEN_ENTRY, GIVEN_ENTRY);
+    let givens = run(nodes, entries, m, OPERATION_ENTRY, OPERATION_ENTRY);
+    let abstracts = run(nodes, givens, m, GIVEN, ELEMENT);
     let concretes = state(nodes, abstracts, m);
     let ainit = state(nodes, concretes, m);
     let cinit = skip(nodes, ainit, m);

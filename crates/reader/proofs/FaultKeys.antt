@@ -1,4 +1,4 @@
--- The least fault of a pass as a number: it tells the refusal's number and the place, for every list whose refusals have numbers below 16.
+-- The least fault of a pass as a number: it tells the refusal's number and the place, for every list whose refusals have numbers below keyRoom.
 use mathlib.Core.Path.{_≡_, refl, _∙_, subst}
 use mathlib.Core.Bool.{Bool, true, false}
 use mathlib.Core.List.{List, [], _∷_, map}
@@ -13,7 +13,7 @@ use Rattle.form.specs.Headings.{givensAt, abstractAt, concreteAt, operationsAt,
 use Rattle.static_rules.specs.Scope.{Context, givenNames, abstractTaken, concreteTaken, contexts}
 use Rattle.static_rules.specs.Names.{contextFaults, nameFaults}
 use Rattle.static_rules.specs.Limits.{operationBindings, bindingFaults}
-use Rattle.type_rules.specs.TypesByNumber.{key, keyOf}
+use Rattle.type_rules.specs.TypesByNumber.{keyRoom, key, keyOf}
 use Rattle.names.proofs.TypesAgreeLeast.{Small, no-fault, one-more, small-append, small-unless}
 use Rattle.names.proofs.TypesAgreeWidths.{pred-steady}
 use Rattle.names.proofs.PassAgreesPlaces.{within-small}
@@ -26,24 +26,24 @@ key-none none e = refl
 key-none (some f) e = absurd (omega arith)
 
 -- the parts of a number
-pub key-number : (k i q : ℕ) → q < 16 → k ≡ key i q → (k - 1) % 16 ≡ q
+pub key-number : (k i q : ℕ) → q < keyRoom → k ≡ key i q → (k - 1) % keyRoom ≡ q
 key-number k i q l e = omega arith
 
-pub key-place : (k i q : ℕ) → q < 16 → k ≡ key i q → (k - 1) / 16 ≡ i
+pub key-place : (k i q : ℕ) → q < keyRoom → k ≡ key i q → (k - 1) / keyRoom ≡ i
 key-place k i q l e = omega arith
 
 -- ---- the least of faults with small numbers ----
 
 abbrev SmallOption : Option Fault → Type 0
 SmallOption none = Unit {0}
-SmallOption (some f) = numberOf (f .refusal) < 16
+SmallOption (some f) = numberOf (f .refusal) < keyRoom
 
-small-lesser : (f : Fault) (o : Option Fault) → numberOf (f .refusal) < 16 → SmallOption o → numberOf (faults.lesser f o .refusal) < 16
+small-lesser : (f : Fault) (o : Option Fault) → numberOf (f .refusal) < keyRoom → SmallOption o → numberOf (faults.lesser f o .refusal) < keyRoom
 unfolding faults.lesser
 small-lesser f none h k = h
 small-lesser f (some g) h k = on (before g f)
   where
-    on : (b : Bool) → numberOf ((elim b as (λ (c : Bool). Fault) [ true ↦ g | false ↦ f ]) .refusal) < 16
+    on : (b : Bool) → numberOf ((elim b as (λ (c : Bool). Fault) [ true ↦ g | false ↦ f ]) .refusal) < keyRoom
     on true = k
     on false = h
 
@@ -52,7 +52,7 @@ unfolding least
 small-least no-fault = tt
 small-least (one-more {f = f} {fs = fs} n h) = small-lesser f (least fs) n (small-least h)
 
-pub least-small : {fs : List Fault} → Small fs → (f : Fault) → least fs ≡ some f → numberOf (f .refusal) < 16
+pub least-small : {fs : List Fault} → Small fs → (f : Fault) → least fs ≡ some f → numberOf (f .refusal) < keyRoom
 least-small h f e = subst SmallOption e (small-least h)
 
 -- ---- the lists of the passes ----
@@ -80,7 +80,7 @@ names-small d =
     (heads-small d (concreteTaken d) (operationsAt d) (d .operations))) (contexts-small contextFaults predicate-small (contexts d))
 
 -- 12
-twelve : numberOf manyBindings < 16
+twelve : numberOf manyBindings < keyRoom
 unfolding numberOf
 twelve = omega arith
 

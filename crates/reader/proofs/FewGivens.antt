@@ -1,20 +1,21 @@
 -- A dossier without faults of form has at most eight given sets, at most eight elements in each, and at most sixteen operations.
-use mathlib.Core.Path.{_≡_, refl, ap, _∙_, sym, subst}
+use mathlib.Core.Path.{_≡_, refl, ap, _∙_}
 use mathlib.Core.Bool.{Bool, true, false}
 use mathlib.Core.List.{List, [], _∷_, map}
 use mathlib.Core.Option.{some}
 use Prim.Native.Nat.{ℕ, zero, suc, pred, _+_, _≤_, _<_}
 use native.Mathlib.Omega.{arith}
 use lib.Dec.{ltb}
-use lib.ListN.{length, take, drop, getD, take-append-drop, length-map}
+use lib.ListN.{length, drop, getD}
 use borrow.Author.Tests.{ltb-true, ltb-false, lt-ltb}
 use Rattle.lexical.specs.Kinds.{Kind}
 use Rattle.lexical.specs.Symbols.{Symbol}
 use Rattle.lexical.specs.Refusals.{manyDeclared}
 use Rattle.form.specs.Tree.{Letters, Given, Operation, Dossier}
-use Rattle.form.specs.Written.{Mark, unmarked, aGiven, anElement, anOperation, Written, writeElements, writeGivens, writeOperations, written, symbolsOf}
-use Rattle.form.specs.Form.{Whole, Begins, atMark, Forms, kindAt, refuse, excess, settled}
-use Rattle.parser.proofs.RelationsBehind as kept
+use Rattle.form.specs.Written.{Mark, unmarked, aGiven, anElement, anOperation, Written, writeElements, writeGivens, writeOperations, written}
+use Rattle.form.specs.Form.{Forms, kindAt, refuse, excess, settled}
+use Rattle.form.proofs.FewBoundNames.{no-excess}
+use Rattle.form.proofs.RelationsBehind as kept
 use Rattle.static_rules.specs.Carriers.{sizeOf}
 use Rattle.declared_names.specs.PassPromises.{Fewer}
 
@@ -38,24 +39,9 @@ marked (there h) = let k = marked h in let l = k .inside in record { at = suc (k
 
 -- a mark over a limit stands at no symbol of a dossier without faults
 pub no-mark : {w : List Symbol} {d : Dossier} → Forms w d → (m : Mark) → ((k s : Kind) (rest : List Symbol) → settled k s rest m ≡ some manyDeclared) → ¬ Has m (written d)
-unfolding symbolsOf
 no-mark {w} {d} f m over h =
     let k = marked h in
-    let l = k .inside in
-    let n : length w ≡ length (written d) = ap (length {A = Symbol}) (sym (f .whole .symbols)) ∙ length-map (written d) (λ (x : Written). x .symbol) in
-    let b : Begins (take (suc (k .at)) w) =
-    record {
-      dossier = d;
-      rest = drop (suc (k .at)) w;
-      whole = subst (λ (u : List Symbol). Whole u d) (sym (take-append-drop (suc (k .at)) w)) (f .whole);
-    } in
-    f .faultless (k .at) manyDeclared
-    (atMark
-    (record {
-      inside = omega arith;
-      begins = b;
-      over = ap (settled (kindAt w (pred (k .at))) (kindAt w (k .at)) (drop (suc (k .at)) w)) (k .is) ∙ over _ _ _;
-    }))
+    no-excess f (k .at) (k .inside) manyDeclared (ap (settled (kindAt w (pred (k .at))) (kindAt w (k .at)) (drop (suc (k .at)) w)) (k .is) ∙ over _ _ _)
 
 pub refused : (limit n : ℕ) → limit < n → refuse (ltb limit n) manyDeclared ≡ some manyDeclared
 unfolding refuse

@@ -14,7 +14,7 @@ use Rattle.form.specs.Tree.{End, TypeForm, givenType, powerType, rangeType, arr
 use Rattle.form.specs.Written.{Mark, aVariable, anInput, anOutput, Written, minusOf, writeEnd, writeType, writeDeclarations, writeState, parameterMark, inputsAfter, outputsAfter}
 use Rattle.form.specs.Written.{writeParameters, writeOperations, written}
 use Rattle.form.specs.Form.{Forms, excess, settled}
-use Rattle.parser.proofs.RelationsBehind as kept
+use Rattle.form.proofs.RelationsBehind as kept
 use Rattle.static_rules.specs.Scope.{isInput, isOutput}
 use Rattle.search_groups.specs.GroupPromises.{FewParameters, FewEach, few-none, few-more, Few}
 use Rattle.reader.proofs.FewGivens.{Has, here, there, behind, no-mark, refused, None, one-more, in-operations, forms-few-operations}

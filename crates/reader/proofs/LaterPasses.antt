@@ -12,7 +12,7 @@ use Rattle.static_rules.specs.Names.{nameFaults}
 use Rattle.static_rules.specs.Limits.{bindingFaults, sizeFaults}
 use Rattle.static_rules.specs.Read as definition
 use Rattle.static_rules.specs.Read.{reading, pass, located, readSizes, readBindings, readNames}
-use Rattle.type_rules.specs.TypesByNumber.{Sizes, keyOf}
+use Rattle.type_rules.specs.TypesByNumber.{keyRoom, Sizes, keyOf}
 use Rattle.reader.specs.Promises.{ReadIs, Stands, Named, Finds, firstFault, Faults, Refuses, Checks}
 use Rattle.reader.specs.declared.Reading.{Reading}
 use Rattle.reader.specs.declared.Reading.the-variants.{Read, Refused}
@@ -38,9 +38,9 @@ one-of P (some g) b c p q r f e = p f e
 one-of P none (some g) c p q r f e = q f e
 one-of P none none c p q r f e = r f e
 
-first-small : (d : Dossier) (f : Fault) → firstFault d ≡ some f → numberOf (f .refusal) < 16
+first-small : (d : Dossier) (f : Fault) → firstFault d ≡ some f → numberOf (f .refusal) < keyRoom
 first-small d f e =
-    one-of (λ (g : Fault). numberOf (g .refusal) < 16) (least (nameFaults d)) (least (bindingFaults d)) (least (sizeFaults d)) (least-small (names-small d))
+    one-of (λ (g : Fault). numberOf (g .refusal) < keyRoom) (least (nameFaults d)) (least (bindingFaults d)) (least (sizeFaults d)) (least-small (names-small d))
     (least-small (bindings-small d)) (least-small (sizes-small d)) f e
 
 first-none : (a b : Option Fault) → firstOf a b ≡ none → a ≡ none

@@ -11,4 +11,4 @@ pub mod PassAnswers
 pub mod LimitPasses
 pub mod LaterPasses
 pub mod ArraysLeft
-pub mod ReadFaultless
+pub mod ReadGives

@@ -23,7 +23,7 @@ use Rattle.parser.proofs.Texts.{known}
 use Rattle.static_rules.specs.Names.{nameFaults}
 use Rattle.static_rules.specs.Read as definition
 use Rattle.static_rules.specs.Read.{reading, pass, located, read}
-use Rattle.type_rules.specs.TypesByNumber.{Names, Sizes, insideKey, keyOf}
+use Rattle.type_rules.specs.TypesByNumber.{keyRoom, Names, Sizes, insideKey, keyOf}
 use Rattle.declared_names.specs.NamesByNumber.{givensKey, dossierKey}
 use Rattle.declared_names.specs.PassPromises.{CheckSeen}
 use Rattle.names.proofs.TypesAgreeLeast.{Small}
@@ -68,7 +68,7 @@ named-all nodes m b l z r s c long =
 -- ---- one pass ----
 
 -- a number taken apart
-pub apart : (k : ℕ) (starts : List ℕ) (n end : ℕ) (r : Reading) (q p : ℕ) → r ≡ Refused q p → q ≡ (k - 1) % 16 → p ≡ getD (take n starts) ((k - 1) / 16) end
+pub apart : (k : ℕ) (starts : List ℕ) (n end : ℕ) (r : Reading) (q p : ℕ) → r ≡ Refused q p → q ≡ (k - 1) % keyRoom → p ≡ getD (take n starts) ((k - 1) / keyRoom) end
     → Refuses k starts n end r
 apart k starts n end r q p e f g i c l h =
     e ∙ ap₂ Refused (f ∙ key-number k i c l h) (g ∙ ap (λ (x : ℕ). getD (take n starts) x end) (key-place k i c l h))

@@ -19,7 +19,7 @@ use Rattle.static_rules.specs.Names.{nameFaults}
 use Rattle.static_rules.specs.Limits.{bindingFaults, sizeFaults}
 use Rattle.static_rules.specs.Read as definition
 use Rattle.static_rules.specs.Read.{refusal, reading, readNames, read}
-use Rattle.type_rules.specs.TypesByNumber.{Names, Sizes, key, keyOf}
+use Rattle.type_rules.specs.TypesByNumber.{Names, Sizes, keyRoom, key, keyOf}
 use Rattle.declared_names.specs.NamesByNumber.{givensNamed}
 use Rattle.node_spans.specs.Spans.{spansOf}
 use Rattle.table_nodes.specs.TableWalkPromises.{patch}
@@ -71,7 +71,7 @@ pub record Stands (text starts nodes : List ℕ) (n m : ℕ) (d : Dossier) : Typ
   pub short : m ≤ 16384
   pub nodes-are : take m nodes ≡ dossierCodes d (numbering text)
 
--- a pass answers with its least fault as a number (place * 16 + number + 1), or 0: names, and how many elements each given set has where no fault was found
+-- a pass answers with its least fault as a number (place * keyRoom + number + 1), or 0: names, and how many elements each given set has where no fault was found
 pub record Named (nodes : List ℕ) (m : ℕ) (z : Sizes) (r : ℕ) : Type 0 where
   pub least : (text starts : List ℕ) (n : ℕ) (d : Dossier) → Stands text starts nodes n m d → r ≡ keyOf (least (nameFaults d))
   pub sized : (text starts : List ℕ) (n : ℕ) (d : Dossier) → Stands text starts nodes n m d → r ≡ 0
@@ -101,7 +101,7 @@ Faults nodes m r = (text starts : List ℕ) (n : ℕ) (d : Dossier) → Stands t
 
 -- a number taken apart; the place by its first byte
 abbrev pub Refuses : (key : ℕ) (starts : List ℕ) (n end : ℕ) → Reading → Type 0
-Refuses k starts n end r = (i q : ℕ) → q < 16 → k ≡ key i q → r ≡ Refused q (getD (take n starts) i end)
+Refuses k starts n end r = (i q : ℕ) → q < keyRoom → k ≡ key i q → r ≡ Refused q (getD (take n starts) i end)
 
 -- what is left where no pass found a fault
 abbrev pub Leaves : (nodes : List ℕ) (m : ℕ) (spans₀ table₀ groups₀ rows₀ firsts₀ spans table groups rows firsts : List ℕ) → Type 0

@@ -15,6 +15,7 @@ use parser::sections::sections;
 use parser::sections::wide;
 use search_groups::conjuncts::conjuncts;
 use tables::passes::write;
+use type_rules::kinds::KEY_ROOM;
 
 // How many symbols and how many numbers of nodes a text has that is a dossier; or the number of its refusal, and the place.
 pub enum Reading {
@@ -99,7 +100,7 @@ fn fault_key(nodes: &[u16], m: usize) -> u32
     sizes_key(nodes, m)
 }
 
-// Numbers 8 to 11 and 14: the least fault (place * 16 + number + 1, places by symbols), or 0; and how many elements each given set has.
+// Numbers 8 to 11 and 14: the least fault (place * KEY_ROOM + number + 1, places by symbols), or 0; and how many elements each given set has.
 fn names_key(nodes: &[u16], m: usize, sizes: &mut [u16; 8]) -> u32
     ensures { λ r. ⌜ Named (now (nodes .entry)) m (now (sizes .exit)) r ⌝ }
 {
@@ -186,8 +187,8 @@ fn refused(key: u32, starts: &[u16], n: usize, end: usize) -> Reading
 {
     let code = key - 1;
     Reading::Refused(
-        (code % 16) as u8,
-        place_at(starts, n, (code / 16) as usize, end),
+        (code % KEY_ROOM) as u8,
+        place_at(starts, n, (code / KEY_ROOM) as usize, end),
     )
 }
 

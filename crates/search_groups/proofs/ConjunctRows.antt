@@ -44,7 +44,7 @@ conjoin-of (negation p) Γ W q = whole (negation p) Γ W q _ refl (predTable p �
 conjoin-of (paren p) Γ W q = conjoin-of p Γ W q
 conjoin-of (quantified k x t p) Γ W q =
     whole (quantified k x t p) Γ W q _ refl
-    (predTable p (binding Γ x (domainCarrier (Γ .givens) t)) ((plain x, 38) ∷ W) (nextSlot 38) q & domainTable t Γ & other 24 0 38 (codeOf (quantifierKind k)) (λ e. omega arith))
+    (predTable p (binding Γ x (domainCarrier Γ t)) ((plain x, 38) ∷ W) (nextSlot 38) q & domainTable t Γ & other 24 0 38 (codeOf (quantifierKind k)) (λ e. omega arith))
 conjoin-of (connected and p r) Γ W q = both (conjoin-of p Γ W q) (conjoin-of r Γ W (q + length (predTable p Γ W 38 q)))
 conjoin-of (connected or p r) Γ W q =
     let a : List ℕ = predTable p Γ W 38 q in

@@ -83,7 +83,7 @@ mutual
   term-holds (divided o t e) Γ W s q = term-holds t Γ W s q &| none-in refl
   term-holds (binary o t u) Γ W s q = term-holds t Γ W s q & term-holds u Γ W s (q + length (termTable t Γ W s q)) &| none-in refl
   term-holds (such x g p) Γ W s q =
-      pred-holds p (binding Γ x (domainCarrier (Γ .givens) (givenSet g))) ((plain x, s) ∷ W) (nextSlot s) q &| domain-holds (givenSet g) Γ &| none-in refl
+      pred-holds p (binding Γ x (domainCarrier Γ (givenSet g))) ((plain x, s) ∷ W) (nextSlot s) q &| domain-holds (givenSet g) Γ &| none-in refl
   term-holds (listed ts) Γ W s q = items-holds ts Γ W s q &| none-in refl
   term-holds (pairs ts) Γ W s q = pairs-holds ts Γ W s q &| none-in refl
   term-holds (emptySet g) Γ W s q = none-in refl
@@ -112,7 +112,7 @@ mutual
       let n : ℕ = q + length (termTable t Γ W s q) in
       term-holds t Γ W s q & term-holds u Γ W s n & term-holds v Γ W s (n + length (termTable u Γ W s n)) &| shape-holds o
   pred-holds (quantified y x t p) Γ W s q =
-      pred-holds p (binding Γ x (domainCarrier (Γ .givens) t)) ((plain x, s) ∷ W) (nextSlot s) q &| domain-holds t Γ &| none-in refl
+      pred-holds p (binding Γ x (domainCarrier Γ t)) ((plain x, s) ∷ W) (nextSlot s) q &| domain-holds t Γ &| none-in refl
 
 -- the slots of a predicate
 pub pred-slots : (p : Pred) (Γ : Scope) (W : Slots) (s q : ℕ) → slotsAt (predTable p Γ W s q) ≡ usedPred p W s

@@ -3,7 +3,7 @@ use mathlib.Core.Path.{_≡_, refl, sym, ap, ap₂, _∙_, subst}
 use mathlib.Core.List.{List, [], _∷_, _++_, append-assoc}
 use Prim.Native.Nat.{ℕ, _+_, _-_, _≤_, _<_}
 use native.Mathlib.Omega.{arith}
-use lib.ListN.{length, take, drop, getD, set, length-set, length-append, length-drop}
+use lib.ListN.{length, take, drop, getD, length-append, length-drop}
 use lib.Seq.{length-take-le, take-take, take-append-seam, take-add, drop-at, drop-drop, getD-append-add, getD-take, getD-drop}
 use Rattle.form.specs.Codes.{node}
 use Rattle.node_spans.specs.Spans.{Stands}
@@ -176,17 +176,3 @@ conjoined-one {t} {from} {end} {m} {n} {r} {out} {after} w l p =
         let z : List ℕ = front ++ node x i a b in
         subst (λ (rows : List ℕ). Wrote n rows out after r) (ap₂ (λ (e : ℕ) (y : List ℕ). conjunctRow from e (slotsAt y)) (stands-length s) (s .stands))
         (p .right (s .ordered) (s .inside) g g₂ h)
-
--- the places of the second, third and fourth of four numbers, after the stores before
-pub in-second : (out : List ℕ) (at b : ℕ) → at + 4 ≤ length out → at + 1 < length (set out at b)
-in-second out at b h = let n = length-set out at b in omega arith
-
-pub in-third : (out : List ℕ) (at b a : ℕ) → at + 4 ≤ length out → at + 2 < length (set (set out at b) (at + 1) a)
-in-third out at b a h = let n = length-set (set out at b) (at + 1) a in let m = length-set out at b in omega arith
-
-pub in-fourth : (out : List ℕ) (at b a i : ℕ) → at + 4 ≤ length out → at + 3 < length (set (set (set out at b) (at + 1) a) (at + 2) i)
-in-fourth out at b a i h =
-    let k = length-set (set (set out at b) (at + 1) a) (at + 2) i in
-    let n = length-set (set out at b) (at + 1) a in
-    let m = length-set out at b in
-    omega arith

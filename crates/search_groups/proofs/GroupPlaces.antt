@@ -150,8 +150,3 @@ operation-put {nodes} {spans} {j} {n} {from} {to} {out} {mid} {after} e f p q h 
 
 pub zeros-done : (from i to : ℕ) (out now : List ℕ) → now ≡ patch from (replicate (i - from) 0) out → i ≤ to → to ≤ i → now ≡ patch from (replicate (to - from) 0) out
 zeros-done from i to out now e h l = let k : i ≡ to = omega arith in e ∙ ap (λ (j : ℕ). patch from (replicate (j - from) 0) out) k
-
-pub zeros-long : (n m : ℕ) (out now : List ℕ) → now ≡ patch n (replicate m 0) out → n + m ≤ length out → length now ≡ length out
-zeros-long n m out now e h =
-    let k = length-replicate {A = ℕ} m 0 in
-    ap length e ∙ patch-length n (replicate m 0) out (omega arith)

@@ -62,7 +62,7 @@ mutual
   term-even (binary o t u) Γ W s q i ρ =
       term-even t Γ W s q i ρ & term-even u Γ W s (q + length (termTable t Γ W s q)) (suc (i + termWidth t)) ρ & nodes
   term-even (such x g p) Γ W s q i ρ =
-      pred-even p (binding Γ x (domainCarrier (Γ .givens) (givenSet g))) ((plain x, s) ∷ W) (nextSlot s) q (i + 5) ρ & domain-even (givenSet g) Γ (i + 3) ρ & nodes
+      pred-even p (binding Γ x (domainCarrier Γ (givenSet g))) ((plain x, s) ∷ W) (nextSlot s) q (i + 5) ρ & domain-even (givenSet g) Γ (i + 3) ρ & nodes
   term-even (listed ts) Γ W s q i ρ = items-even ts Γ W s q (suc i) ρ & nodes
   term-even (pairs ts) Γ W s q i ρ = pairs-even ts Γ W s q (suc i) ρ & nodes
   term-even (emptySet g) Γ W s q i ρ = nodes
@@ -98,7 +98,7 @@ mutual
       term-even t Γ W s q i ρ & term-even u Γ W s n (suc (i + termWidth t)) ρ
       & term-even v Γ W s (n + length (termTable u Γ W s n)) (suc (suc (i + termWidth t) + termWidth u)) ρ & nodes
   pred-even (quantified y x t p) Γ W s q i ρ =
-      pred-even p (binding Γ x (domainCarrier (Γ .givens) t)) ((plain x, s) ∷ W) (nextSlot s) q (i + 5 + domainWidth t) ρ & domain-even t Γ (i + 4) ρ & nodes
+      pred-even p (binding Γ x (domainCarrier Γ t)) ((plain x, s) ∷ W) (nextSlot s) q (i + 5 + domainWidth t) ρ & domain-even t Γ (i + 4) ρ & nodes
 
 -- a predicate's table has as many numbers as its nodes
 pub pred-length : (p : Pred) (Γ : Scope) (W : Slots) (s q i : ℕ) (ρ : Numbering) → length (predTable p Γ W s q) ≡ length (predCodes p i ρ)

@@ -12,7 +12,6 @@ use Rattle.form.specs.Tree.{Term, number, name, group, prefix, binary, divided,
 use Rattle.form.specs.Tree.{Pred, truth, falsity, negation, paren, quantified, connected, compared, member, within, related, Connective, and, or, implies, iff}
 use Rattle.static_rules.specs.Carriers.{sameName, plain}
 use Rattle.static_rules.specs.Scope.{Scope, Context, binding}
-use Rattle.static_rules.specs.Names.{domainCarrier}
 use Rattle.table_nodes.specs.TableByNumber.{nextSlot}
 use Rattle.table_places.specs.ResolvedTable.{Slots, predTable}
 

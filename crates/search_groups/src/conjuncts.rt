@@ -7,7 +7,46 @@ ghost use Rattle.table_nodes.specs.TableWalkPromises.{patch};
 ghost use Rattle.search_groups.specs.Conjuncts.{lastIn, conjunctRow};
 ghost use Rattle.search_groups.specs.GroupPromises.{slotHere, slotsAt, piece, Middle, RowPut, Conjoined};
 ghost use Rattle.search_groups.specs.GroupPromises.{Place, ContextPut, ListPut, Listed};
+use form::node;
+use lexical::bounds;
+use lexical::codes;
+use node_spans::LARGEST;
+use node_spans::short;
+use node_spans::span;
+use table_nodes::slots;
+use table_nodes::table_shapes;
 use type_rules::kinds::index;
+
+// How many variables a state has at most; inputs and outputs an operation.
+const VARIABLES: u16 = bounds::VARIABLES as u16;
+
+const INPUTS: u16 = bounds::INPUTS as u16;
+
+const OUTPUTS: u16 = bounds::OUTPUTS as u16;
+
+// The row of a conjunct, and its first half: where its nodes begin and end, and the last variables of the first two groups.
+pub const ROW: usize = 8;
+
+const HALF_ROW: usize = 4;
+
+// How far before its end a node's numbers stand; the code of `and`.
+const SHAPE_BACK: usize = 1;
+
+const PLACE_BACK: usize = 2;
+
+const A_BACK: usize = 3;
+
+const AND: u16 = codes::AND as u16;
+
+// How many predicates stand before those of the operations, and how many an operation has; which span the first of these begins at.
+const CONDITIONS: usize = 5;
+
+const SIDES: usize = 2;
+
+const PARAMETERS_LAST: usize = span::OPERATIONS + span::LAST;
+
+// A number for each predicate and one behind them, with room to spare.
+pub const FIRSTS: usize = 40;
 
 fn larger(a: u16, b: u16) -> u16
     ensures { λ r. ⌜ r ≡ max a b ⌝ }
@@ -23,7 +62,7 @@ fn rank(k: u16, a: u16, base: u16, n: u16) -> u16
     requires { ⌜ base + n ≤ 64 ⌝ }
     ensures { λ r. ⌜ r ≡ lastIn base n (slotHere k a) ⌝ }
 {
-    if k != 2 {
+    if k != table_shapes::SLOT {
         return 0;
     }
     if a < base {
@@ -42,9 +81,12 @@ fn last_in(table: &[u16], from: usize, end: usize, base: u16, n: u16) -> u16
 {
     let mut best: u16 = 0;
     let mut i = from;
-    while i + 4 <= end {
-        best = larger(best, rank(table[i + 3], table[i + 1], base, n));
-        i += 4;
+    while i + node::SIZE <= end {
+        best = larger(
+            best,
+            rank(table[i + node::SHAPE], table[i + node::A], base, n),
+        );
+        i += node::SIZE;
     }
     best
 }
@@ -65,14 +107,14 @@ fn write(table: &[u16], from: usize, end: usize, out: &mut [u16], n: usize)
     requires { ⌜ (from ≤ end) × (end ≤ length (now table)) × (end ≤ 65535) × (n + 8 ≤ length (now out)) × (length (now out) ≤ 65535) ⌝ }
     ensures { λ r. ⌜ now (out .exit) ≡ patch n (conjunctRow from end (slotsAt (piece (now (table .entry)) from end))) (now (out .entry)) ⌝ }
 {
-    let a = last_in(table, from, end, 0, 8);
-    let b = last_in(table, from, end, 8, 8);
-    let c = last_in(table, from, end, 16, 3);
-    let d = last_in(table, from, end, 19, 3);
-    let e = last_in(table, from, end, 22, 8);
-    let f = last_in(table, from, end, 30, 8);
+    let a = last_in(table, from, end, slots::ABSTRACT, VARIABLES);
+    let b = last_in(table, from, end, slots::CONCRETE, VARIABLES);
+    let c = last_in(table, from, end, slots::INPUTS, INPUTS);
+    let d = last_in(table, from, end, slots::OUTPUTS, OUTPUTS);
+    let e = last_in(table, from, end, slots::CONCRETE_PRIMED, VARIABLES);
+    let f = last_in(table, from, end, slots::ABSTRACT_PRIMED, VARIABLES);
     four(out, n, from as u16, end as u16, a, b);
-    four(out, n + 4, c, d, e, f);
+    four(out, n + HALF_ROW, c, d, e, f);
 }
 
 // The same where there is room for it: the place behind it.
@@ -85,20 +127,20 @@ fn row(table: &[u16], from: usize, end: usize, out: &mut [u16], n: usize) -> usi
     if table.len() < end {
         return n;
     }
-    if 65535 < end {
+    if LARGEST < end {
         return n;
     }
-    if 65535 < out.len() {
+    if LARGEST < out.len() {
         return n;
     }
-    if out.len() < 8 {
+    if out.len() < ROW {
         return n;
     }
-    if out.len() - 8 < n {
+    if out.len() - ROW < n {
         return n;
     }
     write(table, from, end, out, n);
-    n + 8
+    n + ROW
 }
 
 // Where the left part of an `and` ends; `end` where the last node is none.
@@ -108,20 +150,20 @@ fn middle(table: &[u16], from: usize, end: usize) -> usize
     if table.len() < end {
         return end;
     }
-    if end < 4 {
+    if end < node::SIZE {
         return end;
     }
-    if table[end - 1] != 18 {
+    if table[end - SHAPE_BACK] != table_shapes::CONNECTED {
         return end;
     }
-    if table[end - 3] != 51 {
+    if table[end - A_BACK] != AND {
         return end;
     }
-    let m = index(table[end - 2]);
+    let m = index(table[end - PLACE_BACK]);
     if m < from {
         return end;
     }
-    if end - 4 < m {
+    if end - node::SIZE < m {
         return end;
     }
     m
@@ -134,19 +176,9 @@ fn conjoin(table: &[u16], from: usize, end: usize, out: &mut [u16], n: usize) ->
     let m = middle(table, from, end);
     if m < end {
         let k = conjoin(table, from, m, out, n);
-        return conjoin(table, m, end - 4, out, k);
+        return conjoin(table, m, end - node::SIZE, out, k);
     }
     row(table, from, end, out, n)
-}
-
-// A place as a number of 16 bits; 0 where it is none.
-fn short(x: usize) -> u16
-    ensures { λ r. ⌜ (x ≤ 65535 → r ≡ x) ⌝ }
-{
-    if 65535 < x {
-        return 0;
-    }
-    x as u16
 }
 
 // Which one of the spans the k-th context's predicate begins at.
@@ -155,12 +187,12 @@ fn place(k: usize) -> usize
     ensures { λ r. ⌜ Place k r ⌝ }
 {
     if k == 0 {
-        return 1;
+        return span::ABSTRACT_LAST;
     }
-    if k < 5 {
-        return k + 3;
+    if k < CONDITIONS {
+        return k + span::CONCRETE_FIRST;
     }
-    10 + 4 * ((k - 5) / 2) + (k - 5) % 2
+    PARAMETERS_LAST + span::OPERATION * ((k - CONDITIONS) / SIDES) + (k - CONDITIONS) % SIDES
 }
 
 // One context: how many numbers stand before its rows, and then these.
@@ -179,7 +211,7 @@ fn context(
     firsts[k] = short(n);
     let from = index(spans[j]);
     let end = index(spans[j + 1]);
-    conjoin(table, from + 4, end, out, n)
+    conjoin(table, from + node::SIZE, end, out, n)
 }
 
 fn contexts(table: &[u16], spans: &[u16], count: usize, out: &mut [u16], firsts: &mut [u16])
@@ -199,19 +231,19 @@ fn fill(table: &[u16], spans: &[u16], operations: usize, out: &mut [u16], firsts
     requires { ⌜ (length (now spans) ≡ 80) × (length (now out) ≡ 16384) × (length (now firsts) ≡ 40) ⌝ }
     ensures { λ r. ⌜ Listed (now (table .entry)) (now (spans .entry)) operations (now (out .entry)) (now (out .exit)) (now (firsts .entry)) (now (firsts .exit)) ⌝ }
 {
-    if 16 < operations {
+    if span::MOST < operations {
         return;
     }
-    contexts(table, spans, 5 + 2 * operations, out, firsts);
+    contexts(table, spans, CONDITIONS + SIDES * operations, out, firsts);
 }
 
 // The rows of the conjuncts of a dossier's predicates, in front of the lent array, and how many numbers stand before each predicate's.
 pub fn conjuncts(
     table: &[u16],
-    spans: &[u16; 80],
+    spans: &[u16; span::COUNT],
     operations: usize,
-    out: &mut [u16; 16384],
-    firsts: &mut [u16; 40],
+    out: &mut [u16; node::NUMBERS],
+    firsts: &mut [u16; FIRSTS],
 )
     ensures { λ r. ⌜ Listed (now (table .entry)) (now (spans .entry)) operations (now (out .entry)) (now (out .exit)) (now (firsts .entry)) (now (firsts .exit)) ⌝ }
 {

@@ -4,7 +4,35 @@ ghost use Prim.Native.Nat.{_+_, _-_, _≤_, _<_};
 ghost use lib.ListN.{length, replicate};
 ghost use Rattle.table_nodes.specs.TableWalkPromises.{patch};
 ghost use Rattle.search_groups.specs.GroupPromises.{Picked, PickedAll, GroupPut, OperationPut, RowsPut, Grouped};
+use form::node;
+use lexical::bounds;
+use lexical::endings;
+use node_spans::span;
 use type_rules::kinds::index;
+
+// The endings of names, which their numbers leave when divided by 4.
+const PLAIN: u16 = endings::NONE as u16;
+
+const INPUT: u16 = endings::QUERY as u16;
+
+const OUTPUT: u16 = endings::SHRIEK as u16;
+
+// How many variables a group has at most. A row has one number more; an operation has two rows, behind those of the two states.
+const VARIABLES: usize = bounds::VARIABLES as usize;
+
+const INPUTS: usize = bounds::INPUTS as usize;
+
+const OUTPUTS: usize = bounds::OUTPUTS as usize;
+
+const STATE_ROW: usize = VARIABLES + 1;
+
+const STATES_ROWS: usize = STATE_ROW + STATE_ROW;
+
+const INPUTS_ROW: usize = INPUTS + 1;
+
+const OPERATION_ROWS: usize = INPUTS_ROW + OUTPUTS + 1;
+
+pub const GROUPS: usize = 160;
 
 // The place of a declaration behind c others, where its name's number leaves `ending` when divided by 4: how many there are then.
 fn pick(
@@ -19,7 +47,7 @@ fn pick(
     requires { ⌜ (at + 8 ≤ length (now nodes)) × (at ≤ 65535) × (c ≤ width) × (n + width ≤ length (now out)) × (length (now out) ≤ 65535) ⌝ }
     ensures { λ r. ⌜ Picked (now (nodes .entry)) at ending width c n (now (out .entry)) (now (out .exit)) r ⌝ }
 {
-    if nodes[at + 1] % 4 != ending {
+    if nodes[at + node::A] % endings::COUNT != ending {
         return c;
     }
     if width <= c {
@@ -47,9 +75,9 @@ fn picked(
     }
     let mut c: usize = 0;
     let mut at = from;
-    while at + 8 <= to {
+    while at + node::DECLARATION <= to {
         c = pick(nodes, at, ending, width, c, out, n);
-        at += 8;
+        at += node::DECLARATION;
     }
     c
 }
@@ -83,15 +111,15 @@ fn group(
     out[n] = c as u16;
 }
 
-// The inputs of an operation, whose names' numbers leave 2, and its outputs, whose leave 3.
+// The inputs of an operation, and its outputs.
 fn operation(nodes: &[u16], spans: &[u16], j: usize, out: &mut [u16], n: usize)
     requires { ⌜ (j + 2 ≤ length (now spans)) × (length (now spans) ≡ 80) × (n + 8 ≤ length (now out)) × (length (now out) ≤ 65535) ⌝ }
     ensures { λ r. ⌜ OperationPut (now (nodes .entry)) (now (spans .entry)) j n (now (out .entry)) (now (out .exit)) ⌝ }
 {
     let from = index(spans[j]);
     let to = index(spans[j + 1]);
-    group(nodes, from, to, 2, 3, out, n);
-    group(nodes, from, to, 3, 3, out, n + 4);
+    group(nodes, from, to, INPUT, INPUTS, out, n);
+    group(nodes, from, to, OUTPUT, OUTPUTS, out, n + INPUTS_ROW);
 }
 
 fn operation_rows(nodes: &[u16], spans: &[u16], operations: usize, out: &mut [u16])
@@ -99,11 +127,17 @@ fn operation_rows(nodes: &[u16], spans: &[u16], operations: usize, out: &mut [u1
     ensures { λ r. ⌜ RowsPut (now (nodes .entry)) (now (spans .entry)) operations (now (out .entry)) (now (out .exit)) ⌝ }
 {
     let mut k: usize = 0;
-    while k < 16 {
+    while k < span::MOST {
         if operations <= k {
             return;
         }
-        operation(nodes, spans, 9 + 4 * k, out, 18 + 8 * k);
+        operation(
+            nodes,
+            spans,
+            span::OPERATIONS + span::OPERATION * k,
+            out,
+            STATES_ROWS + OPERATION_ROWS * k,
+        );
         k += 1;
     }
 }
@@ -112,17 +146,17 @@ fn fill(nodes: &[u16], spans: &[u16], operations: usize, out: &mut [u16])
     requires { ⌜ (length (now spans) ≡ 80) × (length (now out) ≡ 160) ⌝ }
     ensures { λ r. ⌜ Grouped (now (nodes .entry)) (now (spans .entry)) operations (now (out .entry)) (now (out .exit)) ⌝ }
 {
-    let a = index(spans[0]);
-    let b = index(spans[1]);
-    let c = index(spans[3]);
-    let d = index(spans[4]);
-    group(nodes, a, b, 0, 8, out, 0);
-    group(nodes, c, d, 0, 8, out, 9);
+    let a = index(spans[span::ABSTRACT_FIRST]);
+    let b = index(spans[span::ABSTRACT_LAST]);
+    let c = index(spans[span::CONCRETE_FIRST]);
+    let d = index(spans[span::CONCRETE_LAST]);
+    group(nodes, a, b, PLAIN, VARIABLES, out, 0);
+    group(nodes, c, d, PLAIN, VARIABLES, out, STATE_ROW);
     operation_rows(nodes, spans, operations, out);
 }
 
 // The groups of a dossier, in front of the lent array.
-pub fn groups(nodes: &[u16], spans: &[u16; 80], operations: usize, out: &mut [u16; 160])
+pub fn groups(nodes: &[u16], spans: &[u16; span::COUNT], operations: usize, out: &mut [u16; GROUPS])
     ensures { λ r. ⌜ Grouped (now (nodes .entry)) (now (spans .entry)) operations (now (out .entry)) (now (out .exit)) ⌝ }
 {
     fill(nodes, spans, operations, out);

@@ -1,19 +1,23 @@
--- BASE with another predicate in retrieve, which begins at byte 227, or with other operations, which begin at byte 236 after `true`: the byte at fault and the number.
+-- BASE with another predicate in retrieve, which begins at byte 227, or with other operations, which begin at byte 236 after `true`; and whole texts:
+-- the byte at fault and the number.
 use mathlib.Core.Path.{_≡_, refl}
 use mathlib.Core.Bool.{Bool, true, false, _&&_}
 use mathlib.Core.List.{List, [], _∷_}
 use Prim.Native.Nat.{ℕ, _+_}
 use Prim.Native.String.{String}
 use lib.Dec.{eqb}
-use Rattle.lexical.specs.Lists.{all}
+use Rattle.lexical.specs.Lists.{all, bytes}
 use Rattle.lexical.specs.Base.{Parts, dossierOf}
-use Rattle.lexical.specs.Refusals.{Refusal, numberOf, nameInUse, nameUnknown, typesMisfit, wideType, manyBindings, largeSize, zeroDivisor}
+use Rattle.lexical.specs.Refusals.{Refusal, numberOf, noDossier, nameInUse, nameUnknown, typesMisfit, wideType, manyBindings, largeSize, zeroDivisor}
 use Rattle.static_rules.specs.Read.{Reading, refusal, reading}
 use Rattle.static_rules.specs.Computed.{computeRead}
 
 pub data Sample : Type 0 where
   -- a predicate for retrieve, or a body for the operation add, refused at its byte i
   predicate operation : String → (i : ℕ) → Refusal → Sample
+  -- a predicate for retrieve and a body for the operation add, or a whole text, refused at byte i
+  both : (retrieve operation : String) → (i : ℕ) → Refusal → Sample
+  text : String → (i : ℕ) → Refusal → Sample
   fine : String → Sample
 
 abbrev base : (retrieve operation : String) → Parts
@@ -39,7 +43,10 @@ samples =
     ∷ predicate "k in 0..64" 6 wideType
     ∷ predicate "1000 * 1000 * 1000 * 3 = k" 19 largeSize
     ∷ predicate "1000 * 1000 * 1000 * # {x : SEG | 1000 * 1000 * 1000 * 3 = 1} = k" 53 largeSize
-    ∷ operation "op add x? : 0..63 ; y? : 0..1 ; abstract true concrete true end" 0 manyBindings
+    ∷ operation "op add x? : 0..4 ; y? : 0..12 ; abstract true concrete true end" 0 manyBindings
+    ∷ both "1000 * 1000 * 1000 * 3 = k" "op add x? : 0..4 ; y? : 0..12 ; abstract true concrete true end" 258 manyBindings
+    ∷ text "contents abstract concrete ainit  " 34 noDossier
+    ∷ text "contents abstract concrete ainit cinit retrieve end abstract m : 0..1 ; m : 0..2 ; where true end concrete k : 0..1 ; where true end ainit where true end cinit where true end retrieve where true end" 72 nameInUse
     ∷ operation "op add x? : SEG ; x? : SEG ; abstract true concrete true end" 18 nameInUse
     ∷ operation "op add x? : SEG ; x! : SEG ; abstract x? = x! concrete k = x? end" 57 typesMisfit
     ∷ operation "op add abstract k = 0 concrete true end" 16 nameUnknown
@@ -56,6 +63,8 @@ isRead (reading d) = true
 pub passes : Sample → Bool
 passes (predicate p i r) = refusedAt (227 + i) r (computeRead (dossierOf (base p add)))
 passes (operation o i r) = refusedAt (236 + i) r (computeRead (dossierOf (base "true" o)))
+passes (both p o i r) = refusedAt i r (computeRead (dossierOf (base p o)))
+passes (text w i r) = refusedAt i r (computeRead (bytes w))
 passes (fine p) = isRead (computeRead (dossierOf (base p add)))
 
 pub all-pass : all passes samples ≡ true

@@ -7,13 +7,13 @@ use lib.Dec.{leb}
 use Rattle.lexical.specs.Lists.{find, concat}
 use Rattle.lexical.specs.Symbols.{Name}
 use Rattle.lexical.specs.Refusals.{Fault, fault, unless, manyBindings, largeSize}
-use Rattle.form.specs.Tree.{End, Prefix, negate, size, dom, ran, Operator, plus, minus, union, without, times, inter, Division, quotient, remainder}
+use Rattle.form.specs.Tree.{End, Domain, givenSet, range, Prefix, negate, size, dom, ran, Operator, plus, minus, union, without, times, inter, Division, quotient, remainder}
 use Rattle.form.specs.Tree.{Term, number, name, group, prefix, binary, divided, listed, pairs, such, emptySet, emptyPairs, Items, only, also, Pairs, onlyPair, alsoPair}
 use Rattle.form.specs.Tree.{Pred, truth, falsity, negation, paren, quantified, connected, compared, member, within, related, Operation, Dossier}
 use Rattle.form.specs.Headings.{abstractAt, concreteAt, operationsAt, operationLength}
-use Rattle.static_rules.specs.Carriers.{Variable, countOf, largest, plain, sameName}
+use Rattle.static_rules.specs.Carriers.{Variable, countOf, largest, plain, sameName, rangeCarrier}
 use Rattle.static_rules.specs.Scope.{Context, unprimed, inputs, outputs, contexts}
-use Rattle.static_rules.specs.Names.{whole, endLength, rangeLength, domainLength, domainCarrier}
+use Rattle.static_rules.specs.Names.{whole, endLength, rangeLength, domainLength}
 
 -- how many bindings a group of variables has
 unfoldable pub bindingCount : List Variable → ℕ
@@ -65,6 +65,11 @@ abbrev pub divisionSize : Division → ℕ → End → ℕ
 divisionSize quotient a e = a
 divisionSize remainder a e = e .magnitude
 
+-- a name that is bound over a range: "a variable its largest absolute value"; over a given set it is no number
+abbrev pub domainSize : Domain → ℕ
+domainSize (givenSet g) = 0
+domainSize (range r) = largest (rangeCarrier r)
+
 -- the names in reach with their sizes
 abbrev pub Sizes : Type 0
 Sizes = List (Name × ℕ)
@@ -111,7 +116,7 @@ unfoldable mutual
   sizePred (negation p) Γ i = sizePred p Γ (suc i)
   sizePred (paren p) Γ i = let a : Sized = sizePred p Γ (suc i) in sized 0 (a .faults) (suc (a .next))
   sizePred (quantified q x t p) Γ i =
-      let a : Sized = sizePred p ((plain x, largest (domainCarrier [] t)) ∷ Γ) (i + 5 + domainLength t) in
+      let a : Sized = sizePred p ((plain x, domainSize t) ∷ Γ) (i + 5 + domainLength t) in
       sized 0 (a .faults) (suc (a .next))
   sizePred (connected o p q) Γ i =
       let a : Sized = sizePred p Γ i in

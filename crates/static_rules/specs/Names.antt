@@ -19,7 +19,7 @@ use Rattle.form.specs.Headings.{givensAt, givenLength, abstractAt, concreteAt, 
 use Rattle.static_rules.specs.Carriers.{Carrier, elementsOf, sizeOf, sameName, plain, givenOf, endValue, rangeCarrier}
 use Rattle.static_rules.specs.Types as ty
 use Rattle.static_rules.specs.Types.{Ty, has, isNumber, isPairs, prefixFits, prefixType, operatorFits, comparisonFits, memberFits, relatedFits, braceType, braceFits, pairsType, pairsFit, setOf}
-use Rattle.static_rules.specs.Scope.{Scope, Context, isTaken, typeOfName, binding, givenNames, abstractTaken, concreteTaken, contexts}
+use Rattle.static_rules.specs.Scope.{Scope, Context, isTaken, typeOfName, givenInReach, binding, givenNames, abstractTaken, concreteTaken, contexts}
 
 -- a term: its type, where it has no fault; all its faults; the number of the symbol behind it
 pub record Judged : Type 0 where
@@ -81,13 +81,13 @@ abbrev orNumbers : Option Given → Carrier
 orNumbers none = Carrier.numbers (pos 0) (pos 0)
 orNumbers (some g) = elementsOf g
 
-abbrev pub domainCarrier : List Given → Domain → Carrier
-domainCarrier gs (givenSet g) = orNumbers (givenOf gs g)
-domainCarrier gs (range r) = rangeCarrier r
+abbrev pub domainCarrier : Scope → Domain → Carrier
+domainCarrier Γ (givenSet g) = orNumbers (givenInReach Γ g)
+domainCarrier Γ (range r) = rangeCarrier r
 
-abbrev pub domainFaults : List Given → Domain → ℕ → List Fault
-domainFaults gs (givenSet g) i = known (givenOf gs g) i
-domainFaults gs (range r) i = rangeFaults r i
+abbrev pub domainFaults : Scope → Domain → ℕ → List Fault
+domainFaults Γ (givenSet g) i = known (givenInReach Γ g) i
+domainFaults Γ (range r) i = rangeFaults r i
 
 abbrev pub domainLength : Domain → ℕ
 domainLength (givenSet g) = 1
@@ -104,7 +104,7 @@ pub record Checked : Type 0 where
   pub faults : List Fault
   pub next : ℕ
 
--- 11. "also that of a brace of pairs": once the pairs fit
+-- 11. "also that of a brace of pairs": once the pairs fit. The given sets are those that the pairs' type is over, whatever names are in reach
 abbrev pub overFault : List Given → List Letters → ℕ → List Fault
 overFault gs [] i = []
 overFault gs (g ∷ []) i = []
@@ -139,13 +139,13 @@ unfoldable mutual
       let l : Listing (Ty × Ty) = judgePairs ts Γ (suc i) in
       judged (pairsType (l .types)) (judgedPairs (Γ .givens) l i) (suc (l .next))
   judgeTerm (such x g p) Γ i =
-      let c : Carrier = orNumbers (givenOf (Γ .givens) g) in
+      let c : Carrier = orNumbers (givenInReach Γ g) in
       let b : Checked = judgePred p (binding Γ x c) (i + 5) in
-      judged (setOf (ty.typeOf c)) (inside (newName (Γ .taken) x (suc i) ++ known (givenOf (Γ .givens) g) (i + 3)) (b .faults)) (suc (b .next))
-  judgeTerm (emptySet g) Γ i = judged (setOf (ty.typeOf (orNumbers (givenOf (Γ .givens) g)))) (known (givenOf (Γ .givens) g) (suc i)) (i + 2)
+      judged (setOf (ty.typeOf c)) (inside (newName (Γ .taken) x (suc i) ++ known (givenInReach Γ g) (i + 3)) (b .faults)) (suc (b .next))
+  judgeTerm (emptySet g) Γ i = judged (setOf (ty.typeOf (orNumbers (givenInReach Γ g)))) (known (givenInReach Γ g) (suc i)) (i + 2)
   judgeTerm (emptyPairs g h) Γ i =
       judged (record { sort = isPairs; over = g .letters ∷ h .letters ∷ [] })
-      (known (givenOf (Γ .givens) g) (suc i) ++ known (givenOf (Γ .givens) h) (i + 2) ++ pairsFault (givenOf (Γ .givens) g) (givenOf (Γ .givens) h) i) (i + 3)
+      (known (givenInReach Γ g) (suc i) ++ known (givenInReach Γ h) (i + 2) ++ pairsFault (givenInReach Γ g) (givenInReach Γ h) i) (i + 3)
 
   pub judgeItems : Items → Scope → (i : ℕ) → Listing Ty
   judgeItems (only t) Γ i = let a : Judged = judgeTerm t Γ i in record { types = a .type ∷ []; faults = a .faults; next = a .next }
@@ -172,8 +172,8 @@ unfoldable mutual
   judgePred (paren p) Γ i = let a : Checked = judgePred p Γ (suc i) in record { faults = a .faults; next = suc (a .next) }
   judgePred (quantified q x t p) Γ i =
       let j : ℕ = i + 4 + domainLength t in
-      let b : Checked = judgePred p (binding Γ x (domainCarrier (Γ .givens) t)) (suc j) in
-      record { faults = inside (newName (Γ .taken) x (i + 2) ++ domainFaults (Γ .givens) t (i + 4)) (b .faults); next = suc (b .next) }
+      let b : Checked = judgePred p (binding Γ x (domainCarrier Γ t)) (suc j) in
+      record { faults = inside (newName (Γ .taken) x (i + 2) ++ domainFaults Γ t (i + 4)) (b .faults); next = suc (b .next) }
   judgePred (connected o p q) Γ i =
       let a : Checked = judgePred p Γ i in
       let b : Checked = judgePred q Γ (suc (a .next)) in

@@ -9,7 +9,7 @@ use Rattle.lexical.specs.Symbols.{Name, Ending, noEnding, prime}
 use Rattle.form.specs.Tree.{Letters, Pred, Given, elements, Declaration, declarations, Direction, inward, outward, Parameter, State, Operation, Dossier}
 use Rattle.form.specs.Written.{writeDeclarations, writeParameters, writePred, endingOf}
 use Rattle.form.specs.Headings.{abstractAt, concreteAt, ainitAt, cinitAt, retrieveAt, operationsAt, operationLength}
-use Rattle.static_rules.specs.Carriers.{Carrier, elementsOf, Variable, sameName, plain, carrierOf}
+use Rattle.static_rules.specs.Carriers.{Carrier, elementsOf, Variable, sameName, plain, givenOf, carrierOf}
 use Rattle.static_rules.specs.Types.{Ty, typeOf}
 
 -- the given sets; the plain names declared before and bound around; the variables and bound names in reach, the innermost first
@@ -43,6 +43,10 @@ orElement none (some g) = some (typeOf (elementsOf g))
 -- "Elements and enclosing bound names everywhere.": the type of a name that is in reach
 unfoldable pub typeOfName : Scope → Name → Option Ty
 typeOfName Γ x = orElement (find (λ (v : Variable). sameName (v .called) x) (Γ .reach)) (elementOf (Γ .givens) x)
+
+-- "A given set: only in a type or after `empty`.": the given set that a name inside a predicate stands for
+abbrev pub givenInReach : Scope → Name → Option Given
+givenInReach Γ g = givenOf (Γ .givens) g
 
 -- the scope in which x is bound over a carrier
 abbrev pub binding : Scope → Letters → Carrier → Scope

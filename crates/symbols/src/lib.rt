@@ -2,6 +2,8 @@
 ghost use Rattle.lexical.specs.Promises.{Scans};
 use crate::texts::scan_symbols;
 use lexical::Scanned;
+use lexical::bounds::SYMBOLS;
+use lexical::bounds::TEXT_BYTES;
 use name_numbers::numbering::number_names;
 
 mod texts;
@@ -9,13 +11,13 @@ mod texts;
 // The symbols of a text: their codes, the places of their first bytes, and their values.
 pub fn scan(
     text: &[u8],
-    codes: &mut [u8; 4096],
-    starts: &mut [u16; 4096],
-    values: &mut [u16; 4096],
+    codes: &mut [u8; SYMBOLS],
+    starts: &mut [u16; SYMBOLS],
+    values: &mut [u16; SYMBOLS],
 ) -> Scanned
     ensures { λ r. ⌜ Scans (now (text .entry)) (now (codes .entry)) (now (starts .entry)) (now (values .entry)) (now (codes .exit)) (now (starts .exit)) (now (values .exit)) r ⌝ }
 {
-    if 32768 < text.len() {
+    if TEXT_BYTES < text.len() {
         return Scanned::LongText;
     }
     let r = scan_symbols(text, codes, starts, values);

@@ -7,6 +7,7 @@ ghost use Rattle.lexical.specs.SymbolPromises.{tokenOf, Takes};
 use lexical::Class;
 use lexical::Scanned;
 use lexical::Token;
+use lexical::bounds::SYMBOLS;
 use lexical::classes::class_of;
 use lexical::marks::mark_at;
 use lexical::numbers::number_at;
@@ -47,7 +48,7 @@ pub(crate) fn scan_symbols(
             }
             Token::Unlisted => return Scanned::UnlistedSymbol(at),
             Token::Listed(code, len, value) => {
-                if 4096 <= n {
+                if SYMBOLS <= n {
                     return Scanned::ManySymbols(at);
                 }
                 codes[n] = code;

@@ -6,6 +6,10 @@ ghost use Rattle.form.specs.Codes.{node};
 ghost use Rattle.table_nodes.specs.TableByNumber.{nextSlot, givenSize, elementSize, firstSize, secondSize, rangeCount};
 ghost use Rattle.table_nodes.specs.TableWalkPromises.{RelatedShape, TruthOf, patch};
 use crate::Made;
+use crate::slots;
+use crate::table_shapes;
+use form::node;
+use lexical::codes;
 use type_rules::kinds::index;
 use type_rules::kinds::is_element;
 use type_rules::kinds::is_given;
@@ -18,9 +22,9 @@ pub fn set_node(out: &mut [u16], at: usize, shape: u16, i: u16, a: u16, b: u16)
     ensures { λ r. ⌜ now (out .exit) ≡ patch at (node shape i a b) (now (out .entry)) ⌝ }
 {
     out[at] = b;
-    out[at + 1] = a;
-    out[at + 2] = i;
-    out[at + 3] = shape;
+    out[at + node::A] = a;
+    out[at + node::PLACE] = i;
+    out[at + node::SHAPE] = shape;
 }
 
 // No nodes of a tree end here.
@@ -42,10 +46,10 @@ pub fn small(x: usize) -> u16
 pub fn next_slot(s: u16) -> u16
     ensures { λ r. ⌜ r ≡ nextSlot s ⌝ }
 {
-    if s < 63 {
+    if s < slots::LAST {
         return s + 1;
     }
-    63
+    slots::LAST
 }
 
 // How many elements the given set has that a name is; that elements are of; that the first and the second sides of pairs are of.
@@ -95,20 +99,24 @@ pub fn range_count(a: u16, b: u16) -> u16
     0
 }
 
-// Memberships by the code of their symbol: 56 in, 57 notin; 48 is true.
+// Memberships and truth values, by the codes of their symbols.
+const IN: u16 = codes::IN as u16;
+
+const TRUE: u16 = codes::TRUE as u16;
+
 pub fn related_shape(o: u16) -> u16
     ensures { λ r. ⌜ RelatedShape o r ⌝ }
 {
-    if o == 56 {
-        return 22;
+    if o == IN {
+        return table_shapes::RELATED;
     }
-    23
+    table_shapes::UNRELATED
 }
 
 pub fn truth_of(o: u16) -> u16
     ensures { λ r. ⌜ TruthOf o r ⌝ }
 {
-    if o == 48 {
+    if o == TRUE {
         return 1;
     }
     0

@@ -8,7 +8,6 @@ use native.Mathlib.Numerals.{add-one}
 use native.Mathlib.Omega.{arith}
 use lib.Dec.{eqb}
 use lib.ListN.{length, drop, getD, set, length-drop, length-append}
-use lib.Seq.{drop-drop}
 use Rattle.lexical.specs.Symbols.{noEnding}
 use Rattle.form.specs.Tree.{Letters, Given, elements, Direction, inward, outward, Parameter}
 use Rattle.form.specs.Headings.{givenLength}
@@ -18,6 +17,7 @@ use Rattle.type_rules.specs.TypesByNumber.{Names}
 use Rattle.declared_names.specs.NamesByNumber.{Typed, parametersOf}
 use Rattle.declared_names.specs.PassPromises.{typedCode}
 use Rattle.declared_names.proofs.DeclarationNodes.{node-a, node-shape, Walked, finished}
+use Rattle.declared_names.proofs.GivenSetNodes.{element-shape, behind, nothing-left}
 use Rattle.names.proofs.PassSteps.{parameters-codes}
 use Rattle.table_nodes.specs.TableByNumber.{Places}
 use Rattle.table_places.specs.DossierTableByNumber.{elementsPlaced, givensPlaced, placing, parameterSlot, nextInput, nextOutput, parametersPlaced}
@@ -127,15 +127,6 @@ Elements-on code at j W₀ W = (gs : List Given) (i : ℕ) (ρ : Numbering) → 
 pub elements-start : (code : List ℕ) (W : Places) → Elements-on code 0 64 W W
 unfolding elementCodes elementsPlaced
 elements-start code W gs i ρ e = record { es = []; gs = gs; p = 0; l = i; m = 0; here = e; counted = refl; same = refl }
-
-element-shape : (code : List ℕ) (at i a b : ℕ) (rest : List ℕ) → drop at code ≡ node 4 i a b ++ rest → getD code (at + 3) 0 ≡ 3 → ⊥
-element-shape code at i a b rest e q = let s = node-shape code at 4 i a b rest e in omega arith
-
-behind : (code : List ℕ) (at k i a b : ℕ) (rest : List ℕ) → drop at code ≡ node k i a b ++ rest → drop (at + 4) code ≡ rest
-behind code at k i a b rest e = sym (drop-drop 4 at code) ∙ ap (λ (l : List ℕ). drop 4 l) e
-
-nothing-left : (code : List ℕ) (at : ℕ) → at + 4 ≤ length code → drop at code ≡ [] → ⊥
-nothing-left code at room e = let short : length code - at ≡ 0 = (sym (length-drop at code) ∙ ap (λ (l : List ℕ). length l) e) in omega arith
 
 something-left : (code : List ℕ) (at k i a b : ℕ) (rest : List ℕ) → length code < at + 4 → drop at code ≡ node k i a b ++ rest → ⊥
 something-left code at k i a b rest room e =

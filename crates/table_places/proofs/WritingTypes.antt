@@ -12,12 +12,12 @@ use lib.Seq.{length-take-le}
 use borrow.Author.Tests.{ne-eqb, lt-ltb, le-ltb}
 use Rattle.form.specs.Tree.{TypeForm, givenType, powerType, rangeType, arrowType, relation, partial, total, Declaration, declarations, Parameter, Operation}
 use Rattle.form.specs.Headings.{abstractAt, concreteAt, operationsAt, operationLength}
-use Rattle.form.specs.Codes.{Numbering, node, nameNumber, endNumber, endWidth, arrowNumber, typeCodes, typeWidth, declarationCodes, parameterCodes}
+use Rattle.form.specs.Codes.{Numbering, node, typeWidth, declarationCodes, parameterCodes}
 use Rattle.lexical.specs.Symbols.{noEnding}
 use Rattle.type_rules.specs.TypesByNumber.{Names, Sizes, entry, isGiven}
 use Rattle.declared_names.specs.NamesByNumber.{Typed, typedCodes, variablesOf, parametersOf}
 use Rattle.declared_names.specs.PassPromises.{typedCode}
-use Rattle.declared_names.proofs.DeclarationNodes.{node-a, node-b, node-shape, typed-type, Walked, finished}
+use Rattle.declared_names.proofs.DeclarationNodes.{node-a, node-b, node-shape, shapeOf, placeOf, leftOf, rightOf, as-node, typed-type, Walked, finished}
 use Rattle.type_rules.proofs.TypeNumbers.{cond-yes, cond-no, given-bounds}
 use Rattle.names.proofs.PassSteps.{variables-codes, parameters-codes}
 use Rattle.node_spans.specs.Spans.{span, Stands, OperationsAt, no-more, one-more}
@@ -43,12 +43,12 @@ pub part-some : (nodes : List ℕ) (from to : ℕ) → from ≤ to → to ≤ le
 part-some nodes from to h k =
     let d = length-drop from nodes in
     let l = length-take-le (to - from) (drop from nodes) (omega arith) in
-    record { fits = λ q. omega arith; part = λ p q. refl }
+    record { fits = λ q. omega arith; part = λ p q. refl; none = λ u. absurd (u h k) }
 
 pub part-none : (nodes : List ℕ) (from to : ℕ) → (from ≤ to → to ≤ length nodes → ⊥) → PartIs nodes from to (take 0 nodes)
 part-none nodes from to h =
     let l = length-take-le 0 nodes (omega arith) in
-    record { fits = λ q. absurd (omega arith); part = λ p q. absurd (h p q) }
+    record { fits = λ q. absurd (omega arith); part = λ p q. absurd (h p q); none = λ u. refl }
 
 pub part-short : (nodes : List ℕ) (from to n : ℕ) (r : List ℕ) → PartIs nodes from to r → length nodes ≤ n → length r ≤ n
 part-short nodes from to n r p h = go (length r) refl
@@ -57,37 +57,7 @@ part-short nodes from to n r p h = go (length r) refl
     go zero e = omega arith
     go (suc k) e = let f = p .fits (omega arith) in omega arith
 
--- the node of a type, and the carrier by its numbers
-abbrev shapeOf : TypeForm → ℕ
-shapeOf (givenType g) = 1
-shapeOf (rangeType r) = 2
-shapeOf (powerType g) = 3
-shapeOf (arrowType a g h) = arrowNumber a
-
-abbrev placeOf : TypeForm → ℕ → ℕ
-placeOf (givenType g) i = i
-placeOf (rangeType r) i = i + endWidth (r .lower)
-placeOf (powerType g) i = i
-placeOf (arrowType a g h) i = i
-
-abbrev leftOf : TypeForm → Numbering → ℕ
-leftOf (givenType g) ρ = nameNumber ρ g
-leftOf (rangeType r) ρ = endNumber (r .lower)
-leftOf (powerType g) ρ = nameNumber ρ g
-leftOf (arrowType a g h) ρ = nameNumber ρ g
-
-abbrev rightOf : TypeForm → Numbering → ℕ
-rightOf (givenType g) ρ = 0
-rightOf (rangeType r) ρ = endNumber (r .upper)
-rightOf (powerType g) ρ = 0
-rightOf (arrowType a g h) ρ = nameNumber ρ h
-
-as-node : (t : TypeForm) (i : ℕ) (ρ : Numbering) → typeCodes t i ρ ≡ node (shapeOf t) (placeOf t i) (leftOf t ρ) (rightOf t ρ)
-as-node (givenType g) i ρ = refl
-as-node (rangeType r) i ρ = refl
-as-node (powerType g) i ρ = refl
-as-node (arrowType a g h) i ρ = refl
-
+-- the carrier of a type, by the numbers of its node
 unfoldable pub nodeBy : (shape a b x y : ℕ) → Sizes → List ℕ
 nodeBy s a b x y z =
     cond (eqb s 2) (node 2 0 a (rangeCount a b))

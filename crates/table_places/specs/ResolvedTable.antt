@@ -16,7 +16,7 @@ use Rattle.form.specs.Written.{prefixKind, operatorKind, connectiveKind, quanti
 use Rattle.form.specs.Codes.{node, endNumber, signOf, divisionNumber}
 use Rattle.static_rules.specs.Carriers.{Variable, sizeOf, sameName, plain, givenOf}
 use Rattle.static_rules.specs.Types.{Ty, has, isPairs}
-use Rattle.static_rules.specs.Scope.{Scope, binding, elementOf, placeIn}
+use Rattle.static_rules.specs.Scope.{Scope, givenInReach, binding, elementOf, placeIn}
 use Rattle.static_rules.specs.Names.{judgeTerm, domainCarrier}
 use Rattle.table_nodes.specs.TableByNumber.{nextSlot, relatedShape}
 
@@ -62,7 +62,7 @@ nameTable Γ W x = placed (find (λ (w : Name × ℕ). sameName (w .0) x) W) (el
 
 -- 13 the values that a name is bound over, or a range: the first, with 1,000 added, and how many
 unfoldable pub domainTable : Domain → Scope → List ℕ
-domainTable (givenSet g) Γ = node 13 0 1000 (givenSize (Γ .givens) g)
+domainTable (givenSet g) Γ = node 13 0 1000 (sizeOr (givenInReach Γ g))
 domainTable (range r) Γ = node 13 0 (endNumber (r .lower)) (endNumber (r .upper) + 1 - endNumber (r .lower))
 
 -- A node with two parts has the end of the first one, of three those of the first and the second. Braces: 7, with its items 9 the last and 10 another one;
@@ -79,7 +79,7 @@ unfoldable mutual
       let a : List ℕ = termTable t Γ W s p in
       a ++ (termTable u Γ W s (p + length a) ++ node 5 (p + length a) (codeOf (operatorKind o)) 0)
   termTable (such x g q) Γ W s p =
-      predTable q (binding Γ x (domainCarrier (Γ .givens) (givenSet g))) ((plain x, s) ∷ W) (nextSlot s) p
+      predTable q (binding Γ x (domainCarrier Γ (givenSet g))) ((plain x, s) ∷ W) (nextSlot s) p
       ++ (domainTable (givenSet g) Γ ++ node 6 0 s 0)
   termTable (listed ts) Γ W s p = itemsTable ts Γ W s p ++ node 7 0 0 0
   termTable (pairs ts) Γ W s p = pairsTable ts Γ W s p ++ node 8 0 0 0
@@ -121,5 +121,5 @@ unfoldable mutual
       let b : List ℕ = termTable u Γ W s (p + length a) in
       a ++ (b ++ (termTable v Γ W s (p + length a + length b) ++ node (relatedShape o) (p + length a) (elementSize Γ u) (p + length a + length b)))
   predTable (quantified q x t r) Γ W s p =
-      predTable r (binding Γ x (domainCarrier (Γ .givens) t)) ((plain x, s) ∷ W) (nextSlot s) p
+      predTable r (binding Γ x (domainCarrier Γ t)) ((plain x, s) ∷ W) (nextSlot s) p
       ++ (domainTable t Γ ++ node 24 0 s (codeOf (quantifierKind q)))

@@ -22,6 +22,7 @@ use Rattle.table_places.specs.DossierTableByNumber.{givensPlaced, placin
 pub record PartIs (nodes : List ℕ) (from to : ℕ) (r : List ℕ) : Type 0 where
   pub fits : 1 ≤ length r → from + length r ≤ length nodes
   pub part : from ≤ to → to ≤ length nodes → r ≡ take (to - from) (drop from nodes)
+  pub none : (from ≤ to → to ≤ length nodes → ⊥) → r ≡ []
 
 -- the places of elements, of variables, of parameters
 abbrev pub ElementsSet : (code : List ℕ) (W Y : Places) → Type 0

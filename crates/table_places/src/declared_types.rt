@@ -4,6 +4,10 @@ ghost use Prim.Native.Nat.{_+_, _≤_, _<_};
 ghost use lib.ListN.{length, getD};
 ghost use Rattle.table_places.specs.DossierTableByNumber.{givenIndex};
 ghost use Rattle.table_places.specs.TablePromises.{PartIs, TypeSet, TypesSet, OperationTypesSet, DeclaredSet};
+use form::node;
+use form::shapes;
+use lexical::bounds;
+use node_spans::span;
 use table_nodes::nodes::given_size;
 use table_nodes::nodes::range_count;
 use table_nodes::nodes::set_node;
@@ -30,6 +34,9 @@ pub fn span_at(spans: &[u16], k: usize) -> usize
     index(look(spans, k))
 }
 
+// How many given sets there are: an arrow's two have one number, the first one's times this and the second one's.
+const GIVEN_SETS: u16 = bounds::GIVEN_SETS as u16;
+
 // The number of the given set that a name is.
 fn given_index(k: u16) -> u16
     ensures { λ r. ⌜ (r ≡ givenIndex k) × (r < 8) ⌝ }
@@ -45,20 +52,20 @@ fn set_type(code: &[u16], at: usize, names: &[u16], sizes: &[u16], out: &mut [u1
     requires { ⌜ (at + 4 ≤ length (now code)) × (q + 4 ≤ length (now out)) × (length (now out) ≤ 16384) ⌝ }
     ensures { λ r. ⌜ TypeSet (now (code .entry)) at q (now (names .entry)) (now (sizes .entry)) (now (out .entry)) (now (out .exit)) ⌝ }
 {
-    let a = code[at + 1];
+    let a = code[at + node::A];
     let b = code[at];
-    let shape = code[at + 3];
-    if shape == 2 {
-        set_node(out, q, 2, 0, a, range_count(a, b));
+    let shape = code[at + node::SHAPE];
+    if shape == shapes::RANGE {
+        set_node(out, q, shapes::RANGE, 0, a, range_count(a, b));
         return;
     }
     let k = look(names, index(a));
-    if shape < 4 {
+    if shape < shapes::RELATION {
         set_node(out, q, shape, given_index(k), given_size(sizes, k), 0);
         return;
     }
     let l = look(names, index(b));
-    let i = 8 * given_index(k) + given_index(l);
+    let i = GIVEN_SETS * given_index(k) + given_index(l);
     set_node(out, q, shape, i, given_size(sizes, k), given_size(sizes, l));
 }
 
@@ -69,9 +76,16 @@ fn set_types(nodes: &[u16], from: usize, to: usize, names: &[u16], sizes: &[u16]
 {
     let code = part(nodes, from, to);
     let mut at: usize = 0;
-    while 8 <= code.len() - at {
-        set_type(code, at + 4, names, sizes, out, from + at + 4);
-        at += 8;
+    while node::DECLARATION <= code.len() - at {
+        set_type(
+            code,
+            at + node::SIZE,
+            names,
+            sizes,
+            out,
+            from + at + node::SIZE,
+        );
+        at += node::DECLARATION;
     }
 }
 
@@ -89,8 +103,8 @@ fn set_parameter_types(
 {
     let mut k: usize = 0;
     while k < n {
-        let first = span_at(spans, 9 + 4 * k);
-        let last = span_at(spans, 9 + 4 * k + 1);
+        let first = span_at(spans, span::OPERATIONS + span::OPERATION * k);
+        let last = span_at(spans, span::OPERATIONS + span::OPERATION * k + span::LAST);
         set_types(nodes, first, last, names, sizes, out);
         k += 1;
     }
@@ -110,16 +124,16 @@ pub fn set_declared(
 {
     set_types(
         nodes,
-        span_at(spans, 0),
-        span_at(spans, 1),
+        span_at(spans, span::ABSTRACT_FIRST),
+        span_at(spans, span::ABSTRACT_LAST),
         names,
         sizes,
         out,
     );
     set_types(
         nodes,
-        span_at(spans, 3),
-        span_at(spans, 4),
+        span_at(spans, span::CONCRETE_FIRST),
+        span_at(spans, span::CONCRETE_LAST),
         names,
         sizes,
         out,

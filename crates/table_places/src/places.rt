@@ -5,19 +5,23 @@ ghost use Prim.Native.Nat.{_+_, _%_, _≤_, _<_};
 ghost use lib.Dec.{eqb};
 ghost use lib.ListN.{length};
 ghost use Rattle.table_places.specs.TablePromises.{ElementsSet, ElementSet, VariablesSet, ParametersSet, PlacesSet};
+use form::node;
+use form::shapes;
+use lexical::endings;
+use table_nodes::slots;
 use type_rules::kinds::index;
 use type_rules::kinds::put;
 
-// Elements have their places in their given sets, from 64 on.
+// Elements have their places in their given sets, above all slots.
 fn place_elements(code: &[u16], places: &mut [u16])
     requires { ⌜ length (now code) ≤ 16384 ⌝ }
     ensures { λ r. ⌜ ElementsSet (now (code .entry)) (now (places .entry)) (now (places .exit)) ⌝ }
 {
     let mut at: usize = 0;
-    let mut j: u16 = 64;
-    while 4 <= code.len() - at {
+    let mut j: u16 = slots::ELEMENTS;
+    while node::SIZE <= code.len() - at {
         j = place_element(code, at, j, places);
-        at += 4;
+        at += node::SIZE;
     }
 }
 
@@ -26,12 +30,17 @@ fn place_element(code: &[u16], at: usize, j: u16, places: &mut [u16]) -> u16
     requires { ⌜ (at + 4 ≤ length (now code)) × (64 ≤ j) × (j < 65535) ⌝ }
     ensures { λ r. ⌜ ElementSet (now (code .entry)) at j (now (places .entry)) (now (places .exit)) r ⌝ }
 {
-    if code[at + 3] == 3 {
-        return 64;
+    if code[at + node::SHAPE] == shapes::GIVEN {
+        return slots::ELEMENTS;
     }
-    put(places, index(code[at + 1]), j);
+    put(places, index(code[at + node::A]), j);
     j + 1
 }
+
+// What is added to the number of a plain name, for itself and for the primed one.
+pub const PLAIN: u16 = endings::NONE as u16;
+
+pub const PRIMED: u16 = endings::PRIME as u16;
 
 // Variables have slots from `slot` on.
 fn place_variables(code: &[u16], shift: u16, slot: u16, places: &mut [u16])
@@ -40,18 +49,20 @@ fn place_variables(code: &[u16], shift: u16, slot: u16, places: &mut [u16])
 {
     let mut at: usize = 0;
     let mut s: u16 = slot;
-    while 8 <= code.len() - at {
-        put(places, index(code[at + 1]) + shift as usize, s);
+    while node::DECLARATION <= code.len() - at {
+        put(places, index(code[at + node::A]) + shift as usize, s);
         s += 1;
-        at += 8;
+        at += node::DECLARATION;
     }
 }
 
-// Inputs end in ?, the number 2 of the endings.
+// Inputs end in ?, and are told by the ending in their number.
+const INPUT: u16 = endings::QUERY as u16;
+
 fn is_input(x: u16) -> bool
     ensures { λ r. ⌜ r ≡ eqb (x % 4) 2 ⌝ }
 {
-    x % 4 == 2
+    x % endings::COUNT == INPUT
 }
 
 fn choose(yes: bool, i: u16, o: u16) -> u16
@@ -63,21 +74,21 @@ fn choose(yes: bool, i: u16, o: u16) -> u16
     o
 }
 
-// Inputs have slots from 16 on, outputs from 19 on.
+// Inputs and outputs have slots of their own.
 pub fn place_parameters(code: &[u16], places: &mut [u16])
     requires { ⌜ length (now code) ≤ 16384 ⌝ }
     ensures { λ r. ⌜ ParametersSet (now (code .entry)) (now (places .entry)) (now (places .exit)) ⌝ }
 {
     let mut at: usize = 0;
-    let mut i: u16 = 16;
-    let mut o: u16 = 19;
-    while 8 <= code.len() - at {
-        let x = code[at + 1];
+    let mut i: u16 = slots::INPUTS;
+    let mut o: u16 = slots::OUTPUTS;
+    while node::DECLARATION <= code.len() - at {
+        let x = code[at + node::A];
         let yes = is_input(x);
         put(places, index(x), choose(yes, i, o));
         i = choose(yes, i + 1, i);
         o = choose(yes, o, o + 1);
-        at += 8;
+        at += node::DECLARATION;
     }
 }
 
@@ -87,8 +98,8 @@ pub fn place_all(givens: &[u16], abstracts: &[u16], concretes: &[u16], places: &
     ensures { λ r. ⌜ PlacesSet (now (givens .entry)) (now (abstracts .entry)) (now (concretes .entry)) (now (places .entry)) (now (places .exit)) ⌝ }
 {
     place_elements(givens, places);
-    place_variables(abstracts, 0, 0, places);
-    place_variables(abstracts, 1, 30, places);
-    place_variables(concretes, 0, 8, places);
-    place_variables(concretes, 1, 22, places);
+    place_variables(abstracts, PLAIN, slots::ABSTRACT, places);
+    place_variables(abstracts, PRIMED, slots::ABSTRACT_PRIMED, places);
+    place_variables(concretes, PLAIN, slots::CONCRETE, places);
+    place_variables(concretes, PRIMED, slots::CONCRETE_PRIMED, places);
 }

@@ -11,7 +11,7 @@ use Rattle.form.specs.Tree.{Pred, truth, falsity, negation, paren, quantified, 
 use Rattle.form.specs.Codes.{Numbering, node, numberOfName}
 use Rattle.static_rules.specs.Carriers.{plain}
 use Rattle.static_rules.specs.Scope.{Scope, binding}
-use Rattle.static_rules.specs.Names.{domainCarrier, judgeTerm, judgeItems, judgePairs, judgePred}
+use Rattle.static_rules.specs.Names.{domainCarrier, judgeTerm, judgePred}
 use Rattle.type_rules.specs.TypesByNumber.{Names, Sizes, bound, domainKind}
 use Rattle.names.proofs.ReachTables.{Numbered, Shows, TermIn, ItemsIn, PairsIn, PredIn}
 use Rattle.table_nodes.specs.TableByNumber as table
@@ -20,7 +20,7 @@ use Rattle.table_places.specs.ResolvedTable as resolved
 use Rattle.table_places.specs.ResolvedTable.{Slots}
 use Rattle.search_groups.proofs.ScopePlaces.{PlacesShown, name-resolved, next-small, bound-placed}
 use Rattle.tables.proofs.TableAgreesParts as part
-use Rattle.tables.proofs.TableAgreesParts.{Elements, TermResolved, ItemsResolved, PairsResolved, PredResolved}
+use Rattle.tables.proofs.TableAgreesParts.{TermResolved, ItemsResolved, PairsResolved, PredResolved}
 
 module _ (ρ : Numbering) (P : Letters → Type 0) (ν : Numbered ρ P) (z : Sizes) where
   mutual
@@ -39,9 +39,9 @@ module _ (ρ : Numbering) (P : Letters → Type 0) (ν : Numbered ρ P) (z : Siz
     term-resolved (pairs ts) Γ T W′ W s v w l h = part.pairs-resolved ρ P ν z Γ T v W′ W s ts (pairs-resolved ts Γ T W′ W s v w l h)
     term-resolved (such x g p) Γ T W′ W s v w l h =
         part.such-resolved ρ P ν z Γ T v W′ W s x g p (h .0) (h .1)
-        (λ y. pred-resolved p (binding Γ x (domainCarrier (Γ .givens) (givenSet g))) (bound T (numberOfName ρ x noEnding) (domainKind (givenSet g) T ρ))
+        (λ y. pred-resolved p (binding Γ x (domainCarrier Γ (givenSet g))) (bound T (numberOfName ρ x noEnding) (domainKind (givenSet g) T ρ))
         ((plain x, s) ∷ W′) (set W (numberOfName ρ x noEnding) s) (nextSlot s) y
-        (bound-placed ρ P ν Γ W′ W w x (h .0) (domainCarrier (Γ .givens) (givenSet g)) s l) (next-small s) (h .2))
+        (bound-placed ρ P ν Γ W′ W w x (h .0) (domainCarrier Γ (givenSet g)) s l) (next-small s) (h .2))
     term-resolved (emptySet g) Γ T W′ W s v w l h = λ i e q. refl
     term-resolved (emptyPairs g k) Γ T W′ W s v w l h = λ i e q. refl
 
@@ -67,9 +67,9 @@ module _ (ρ : Numbering) (P : Letters → Type 0) (ν : Numbered ρ P) (z : Siz
     pred-resolved (paren p) Γ T W′ W s v w l h = λ i e q. pred-resolved p Γ T W′ W s v w l h (suc i) e q
     pred-resolved (quantified q x t p) Γ T W′ W s v w l h =
         part.quantified-resolved ρ P ν z Γ T v W′ W s q x t p (h .0) (h .1)
-        (λ y. pred-resolved p (binding Γ x (domainCarrier (Γ .givens) t)) (bound T (numberOfName ρ x noEnding) (domainKind t T ρ))
+        (λ y. pred-resolved p (binding Γ x (domainCarrier Γ t)) (bound T (numberOfName ρ x noEnding) (domainKind t T ρ))
         ((plain x, s) ∷ W′) (set W (numberOfName ρ x noEnding) s) (nextSlot s) y
-        (bound-placed ρ P ν Γ W′ W w x (h .0) (domainCarrier (Γ .givens) t) s l) (next-small s) (h .2))
+        (bound-placed ρ P ν Γ W′ W w x (h .0) (domainCarrier Γ t) s l) (next-small s) (h .2))
     pred-resolved (connected o p r) Γ T W′ W s v w l h =
         part.connected-resolved ρ P ν z Γ T v W′ W s o p r (pred-resolved p Γ T W′ W s v w l (h .0)) (pred-resolved r Γ T W′ W s v w l (h .1))
     pred-resolved (compared o t u) Γ T W′ W s v w l h =
@@ -86,21 +86,3 @@ pub resolved-pred : (ρ : Numbering) (P : Letters → Type 0) → Numbered ρ P 
     → Shows ρ P Γ T z → PlacesShown ρ P Γ W′ W → PredIn P p → (i : ℕ) → judgePred p Γ i .faults ≡ [] → (s q : ℕ) → s ≤ 63
     → table.predTable p T W z ρ s q ≡ resolved.predTable p Γ W′ s q
 resolved-pred ρ P ν p Γ W′ T W z v w h i e s q l = pred-resolved ρ P ν z p Γ T W′ W s v w l h i e q
-
--- a term: the same
-pub resolved-term : (ρ : Numbering) (P : Letters → Type 0) → Numbered ρ P → (t : Term) (Γ : Scope) (W′ : Slots) (T : Names) (W : Places) (z : Sizes)
-    → Shows ρ P Γ T z → PlacesShown ρ P Γ W′ W → TermIn P t → (i : ℕ) → judgeTerm t Γ i .faults ≡ [] → (s q : ℕ) → s ≤ 63
-    → table.termTable t T W z ρ s q ≡ resolved.termTable t Γ W′ s q
-resolved-term ρ P ν t Γ W′ T W z v w h i e s q l = term-resolved ρ P ν z t Γ T W′ W s v w l h i e q
-
--- the items of a brace: the same
-pub resolved-items : (ρ : Numbering) (P : Letters → Type 0) → Numbered ρ P → (ts : Items) (Γ : Scope) (W′ : Slots) (T : Names) (W : Places) (z : Sizes)
-    → Shows ρ P Γ T z → PlacesShown ρ P Γ W′ W → ItemsIn P ts → (i : ℕ) → judgeItems ts Γ i .faults ≡ [] → (s q : ℕ) → s ≤ 63
-    → table.itemsTable ts T W z ρ s q ≡ resolved.itemsTable ts Γ W′ s q
-resolved-items ρ P ν ts Γ W′ T W z v w h i e s q l = items-resolved ρ P ν z ts Γ T W′ W s v w l h i e q
-
--- its pairs: the same, if their second sides are elements, as they are where the brace is judged
-pub resolved-pairs : (ρ : Numbering) (P : Letters → Type 0) → Numbered ρ P → (ts : Pairs) (Γ : Scope) (W′ : Slots) (T : Names) (W : Places) (z : Sizes)
-    → Shows ρ P Γ T z → PlacesShown ρ P Γ W′ W → PairsIn P ts → (i : ℕ) → judgePairs ts Γ i .faults ≡ [] → Elements (judgePairs ts Γ i .types) → (s q : ℕ) → s ≤ 63
-    → table.pairsTable ts T W z ρ s q ≡ resolved.pairsTable ts Γ W′ s q
-resolved-pairs ρ P ν ts Γ W′ T W z v w h i e f s q l = pairs-resolved ρ P ν z ts Γ T W′ W s v w l h i e f q

@@ -148,13 +148,13 @@ module _ (ρ : Numbering) (P : Letters → Type 0) (ν : Numbered ρ P) (z : Siz
       ap (λ (x : List ℕ). x ++ node 8 0 0 0) (a (suc i) (h .0) (fit-elements (l .types) (whole-pairs-fit (Γ .givens) (l .types) i (h .1))) q)
 
   pub such-resolved : (x : Letters) (g : Name) (p : Pred) → P x → P (g .letters)
-      → (Shows ρ P (binding Γ x (domainCarrier (Γ .givens) (givenSet g))) (bound T (numberOfName ρ x noEnding) (domainKind (givenSet g) T ρ)) z
-      → PredResolved ρ z (binding Γ x (domainCarrier (Γ .givens) (givenSet g))) (bound T (numberOfName ρ x noEnding) (domainKind (givenSet g) T ρ))
+      → (Shows ρ P (binding Γ x (domainCarrier Γ (givenSet g))) (bound T (numberOfName ρ x noEnding) (domainKind (givenSet g) T ρ)) z
+      → PredResolved ρ z (binding Γ x (domainCarrier Γ (givenSet g))) (bound T (numberOfName ρ x noEnding) (domainKind (givenSet g) T ρ))
       ((plain x, s) ∷ W′) (set W (numberOfName ρ x noEnding) s) (nextSlot s) p)
       → TermResolved ρ z Γ T W′ W s (such x g p)
   unfolding judgeTerm table.termTable resolved.termTable domainKind
   such-resolved x g p px pg f i e q =
-      let b : List Fault = judgePred p (binding Γ x (domainCarrier (Γ .givens) (givenSet g))) (i + 5) .faults in
+      let b : List Fault = judgePred p (binding Γ x (domainCarrier Γ (givenSet g))) (i + 5) .faults in
       let h = inside-nil (newName (Γ .taken) x (suc i) ++ known (givenOf (Γ .givens) g) (i + 3)) b e in
       let w = bound-shows ρ P ν Γ T z sh x px (givenSet g) pg (suc i) (i + 3) (h .0) in
       ap₂ (λ (x y : List ℕ). x ++ (y ++ node 6 0 s 0)) (f w (i + 5) (h .1) q)
@@ -241,14 +241,14 @@ module _ (ρ : Numbering) (P : Letters → Type 0) (ν : Numbered ρ P) (z : Siz
       (a i (n .0) q) (b j (n .1)) (c l (h .1)) (element-side ρ P Γ T z sh ν u k j (n .1) (d .1))
 
   pub quantified-resolved : (y : Quantifier) (x : Letters) (t : Domain) (p : Pred) → P x → DomainIn P t
-      → (Shows ρ P (binding Γ x (domainCarrier (Γ .givens) t)) (bound T (numberOfName ρ x noEnding) (domainKind t T ρ)) z
-      → PredResolved ρ z (binding Γ x (domainCarrier (Γ .givens) t)) (bound T (numberOfName ρ x noEnding) (domainKind t T ρ))
+      → (Shows ρ P (binding Γ x (domainCarrier Γ t)) (bound T (numberOfName ρ x noEnding) (domainKind t T ρ)) z
+      → PredResolved ρ z (binding Γ x (domainCarrier Γ t)) (bound T (numberOfName ρ x noEnding) (domainKind t T ρ))
       ((plain x, s) ∷ W′) (set W (numberOfName ρ x noEnding) s) (nextSlot s) p)
       → PredResolved ρ z Γ T W′ W s (quantified y x t p)
   unfolding judgePred table.predTable resolved.predTable
   quantified-resolved y x t p px pt f i e q =
       let j : ℕ = suc (i + 4 + domainLength t) in
-      let h = inside-nil (newName (Γ .taken) x (i + 2) ++ domainFaults (Γ .givens) t (i + 4)) (judgePred p (binding Γ x (domainCarrier (Γ .givens) t)) j .faults) e in
+      let h = inside-nil (newName (Γ .taken) x (i + 2) ++ domainFaults Γ t (i + 4)) (judgePred p (binding Γ x (domainCarrier Γ t)) j .faults) e in
       let w = bound-shows ρ P ν Γ T z sh x px t pt (i + 2) (i + 4) (h .0) in
       ap₂ (λ (a b : List ℕ). a ++ (b ++ node 24 0 s (codeOf (quantifierKind y)))) (f w j (h .1) q)
-      (domain-resolved ρ P Γ T z sh t pt (i + 4) (append-nil-both (newName (Γ .taken) x (i + 2)) (domainFaults (Γ .givens) t (i + 4)) (h .0) .1))
+      (domain-resolved ρ P Γ T z sh t pt (i + 4) (append-nil-both (newName (Γ .taken) x (i + 2)) (domainFaults Γ t (i + 4)) (h .0) .1))

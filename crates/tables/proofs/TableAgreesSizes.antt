@@ -125,7 +125,7 @@ module _ (ρ : Numbering) (P : Letters → Type 0) (Γ : Scope) (T : Names) (z :
       on (elementType g h) = ap (sizeIn z) (element-index (indexOf (Γ .givens) g)) ∙ title-size g h
 
   -- what a name is bound over, without faults
-  pub domain-resolved : (d : Domain) → DomainIn P d → (i : ℕ) → domainFaults (Γ .givens) d i ≡ [] → table.domainTable d T z ρ ≡ resolved.domainTable d Γ
+  pub domain-resolved : (d : Domain) → DomainIn P d → (i : ℕ) → domainFaults Γ d i ≡ [] → table.domainTable d T z ρ ≡ resolved.domainTable d Γ
   unfolding table.domainTable resolved.domainTable resolved.givenSize
   domain-resolved (givenSet g) h i e = ap (λ (n : ℕ). node 13 0 1000 n) (view-size (given-view ρ P Γ T z s g h))
   domain-resolved (range r) h i e = ap (λ (n : ℕ). node 13 0 (endNumber (r .lower)) n) (range-counted r i h e)

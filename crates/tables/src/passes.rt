@@ -5,15 +5,28 @@ ghost use lib.ListN.{length, getD};
 ghost use Rattle.table_places.specs.TablePromises.{PredicateSet, StateSet, StatesSet, ConditionsSet, SideSet, OperationSet, OperationsSet, ContextsSet, TableSet, TableWritten};
 use declared_names::declared::hide;
 use declared_names::declared::show;
+use form::node;
+use lexical::bounds;
 use lowering::walk::pred;
+use node_spans::span;
+use table_nodes::slots;
 use table_places::declared_types::part;
 use table_places::declared_types::set_declared;
 use table_places::declared_types::span_at;
+use table_places::places::PLAIN;
+use table_places::places::PRIMED;
 use table_places::places::place_all;
 use table_places::places::place_parameters;
 use type_rules::kinds::index;
 use type_rules::kinds::look;
 use type_rules::kinds::put;
+
+// What a name is that is out of reach: free to be declared, or in use.
+const FREE: u16 = 0;
+
+const USED: u16 = 2;
+
+const GIVEN_SETS: usize = bounds::GIVEN_SETS as usize;
 
 // A predicate that ends at a place.
 fn set_predicate(
@@ -30,7 +43,7 @@ fn set_predicate(
     if nodes.len() < end {
         return;
     }
-    let made = pred(nodes, end, 38, names, places, sizes, out);
+    let made = pred(nodes, end, slots::BOUND, names, places, sizes, out);
 }
 
 // A state: its variables are in use behind it.
@@ -48,9 +61,9 @@ fn set_state(
     ensures { λ r. ⌜ StateSet (now (nodes .entry)) first last end (now (names .entry)) (now (names .exit)) (now (places .entry)) (now (places .exit)) (now (sizes .entry)) (now (out .entry)) (now (out .exit)) ⌝ }
 {
     let variables = part(nodes, first, last);
-    show(variables, 0, names);
+    show(variables, PLAIN, names);
     set_predicate(nodes, end, names, places, sizes, out);
-    hide(variables, 0, 2, names);
+    hide(variables, PLAIN, USED, names);
 }
 
 // The two states.
@@ -65,13 +78,13 @@ fn set_states(
     requires { ⌜ (length (now nodes) ≤ length (now out)) × (length (now out) ≤ 16384) ⌝ }
     ensures { λ r. ⌜ StatesSet (now (nodes .entry)) (now (spans .entry)) (now (names .entry)) (now (names .exit)) (now (places .entry)) (now (places .exit)) (now (sizes .entry)) (now (out .entry)) (now (out .exit)) ⌝ }
 {
-    let s0 = span_at(spans, 0);
-    let s1 = span_at(spans, 1);
-    let s2 = span_at(spans, 2);
+    let s0 = span_at(spans, span::ABSTRACT_FIRST);
+    let s1 = span_at(spans, span::ABSTRACT_LAST);
+    let s2 = span_at(spans, span::ABSTRACT_END);
     set_state(nodes, s0, s1, s2, names, places, sizes, out);
-    let s3 = span_at(spans, 3);
-    let s4 = span_at(spans, 4);
-    let s5 = span_at(spans, 5);
+    let s3 = span_at(spans, span::CONCRETE_FIRST);
+    let s4 = span_at(spans, span::CONCRETE_LAST);
+    let s5 = span_at(spans, span::CONCRETE_END);
     set_state(nodes, s3, s4, s5, names, places, sizes, out);
 }
 
@@ -91,15 +104,15 @@ fn set_conditions(
     requires { ⌜ (length (now nodes) ≤ length (now out)) × (length (now out) ≤ 16384) ⌝ }
     ensures { λ r. ⌜ ConditionsSet (now (nodes .entry)) (now (abstracts .entry)) (now (concretes .entry)) e1 e2 e3 (now (names .entry)) (now (names .exit)) (now (places .entry)) (now (places .exit)) (now (sizes .entry)) (now (out .entry)) (now (out .exit)) ⌝ }
 {
-    show(abstracts, 0, names);
+    show(abstracts, PLAIN, names);
     set_predicate(nodes, e1, names, places, sizes, out);
-    hide(abstracts, 0, 2, names);
-    show(concretes, 0, names);
+    hide(abstracts, PLAIN, USED, names);
+    show(concretes, PLAIN, names);
     set_predicate(nodes, e2, names, places, sizes, out);
-    show(abstracts, 0, names);
+    show(abstracts, PLAIN, names);
     set_predicate(nodes, e3, names, places, sizes, out);
-    hide(abstracts, 0, 2, names);
-    hide(concretes, 0, 2, names);
+    hide(abstracts, PLAIN, USED, names);
+    hide(concretes, PLAIN, USED, names);
 }
 
 // A predicate of an operation, with the variables of its state, plain and primed.
@@ -115,21 +128,21 @@ fn set_side(
     requires { ⌜ (length (now nodes) ≤ length (now out)) × (length (now out) ≤ 16384) ⌝ }
     ensures { λ r. ⌜ SideSet (now (nodes .entry)) (now (variables .entry)) end (now (names .entry)) (now (names .exit)) (now (places .entry)) (now (places .exit)) (now (sizes .entry)) (now (out .entry)) (now (out .exit)) ⌝ }
 {
-    show(variables, 0, names);
-    show(variables, 1, names);
+    show(variables, PLAIN, names);
+    show(variables, PRIMED, names);
     set_predicate(nodes, end, names, places, sizes, out);
-    hide(variables, 0, 2, names);
-    hide(variables, 1, 0, names);
+    hide(variables, PLAIN, USED, names);
+    hide(variables, PRIMED, FREE, names);
 }
 
 // The name in the heading in front of a place.
 fn title_at(nodes: &[u16], first: usize) -> usize
     ensures { λ r. ⌜ (4 ≤ first → r ≡ getD (now (nodes .entry)) (first - 4 + 1) 0) × (r < 65536) ⌝ }
 {
-    if first < 4 {
+    if first < node::SIZE {
         return 0;
     }
-    index(look(nodes, first - 4 + 1))
+    index(look(nodes, first - node::SIZE + node::A))
 }
 
 // An operation, with the variables of both states.
@@ -149,13 +162,13 @@ fn set_operation(
     requires { ⌜ (length (now nodes) ≤ length (now out)) × (length (now out) ≤ 16384) ⌝ }
     ensures { λ r. ⌜ OperationSet (now (nodes .entry)) (now (abstracts .entry)) (now (concretes .entry)) first last middle end (now (names .entry)) (now (names .exit)) (now (places .entry)) (now (places .exit)) (now (sizes .entry)) (now (out .entry)) (now (out .exit)) ⌝ }
 {
-    put(names, title_at(nodes, first), 2);
+    put(names, title_at(nodes, first), USED);
     let parameters = part(nodes, first, last);
-    show(parameters, 0, names);
+    show(parameters, PLAIN, names);
     place_parameters(parameters, places);
     set_side(nodes, middle, abstracts, names, places, sizes, out);
     set_side(nodes, end, concretes, names, places, sizes, out);
-    hide(parameters, 0, 0, names);
+    hide(parameters, PLAIN, FREE, names);
 }
 
 fn set_operations(
@@ -174,10 +187,10 @@ fn set_operations(
 {
     let mut k: usize = 0;
     while k < n {
-        let first = span_at(spans, 9 + 4 * k);
-        let last = span_at(spans, 9 + 4 * k + 1);
-        let middle = span_at(spans, 9 + 4 * k + 2);
-        let end = span_at(spans, 9 + 4 * k + 3);
+        let first = span_at(spans, span::OPERATIONS + span::OPERATION * k);
+        let last = span_at(spans, span::OPERATIONS + span::OPERATION * k + span::LAST);
+        let middle = span_at(spans, span::OPERATIONS + span::OPERATION * k + span::MIDDLE);
+        let end = span_at(spans, span::OPERATIONS + span::OPERATION * k + span::END);
         set_operation(
             nodes,
             first,
@@ -213,9 +226,9 @@ fn set_contexts(
     set_states(nodes, spans, names, places, sizes, out);
     set_conditions(
         nodes,
-        span_at(spans, 6),
-        span_at(spans, 7),
-        span_at(spans, 8),
+        span_at(spans, span::AINIT_END),
+        span_at(spans, span::CINIT_END),
+        span_at(spans, span::RETRIEVE_END),
         abstracts,
         concretes,
         names,
@@ -236,14 +249,14 @@ fn set_contexts(
     );
 }
 
-// At most 16 operations.
+// As many operations as there are spans for.
 fn at_most(n: usize) -> usize
     ensures { λ r. ⌜ (r ≤ 16) × (n ≤ 16 → r ≡ n) ⌝ }
 {
-    if n <= 16 {
+    if n <= span::MOST {
         return n;
     }
-    16
+    span::MOST
 }
 
 fn set_table(
@@ -262,27 +275,36 @@ fn set_table(
 {
     let n = at_most(operations);
     let gs = part(nodes, givens, abstracts);
-    let av = part(nodes, span_at(spans, 0), span_at(spans, 1));
-    let cv = part(nodes, span_at(spans, 3), span_at(spans, 4));
+    let av = part(
+        nodes,
+        span_at(spans, span::ABSTRACT_FIRST),
+        span_at(spans, span::ABSTRACT_LAST),
+    );
+    let cv = part(
+        nodes,
+        span_at(spans, span::CONCRETE_FIRST),
+        span_at(spans, span::CONCRETE_LAST),
+    );
     place_all(gs, av, cv, places);
     set_declared(nodes, spans, n, names, sizes, out);
     set_contexts(nodes, spans, n, av, cv, names, places, sizes, out);
 }
 
 // The table of a dossier. Its parts stand among the nodes where `spans` say, its given sets from `givens` up to `abstracts`; the names are those of the given sets.
+// What `names` holds afterwards is left open: `reader::leave`, the one caller, makes it for this call.
 pub fn write(
-    nodes: &[u16; 16384],
-    spans: &[u16; 80],
+    nodes: &[u16; node::NUMBERS],
+    spans: &[u16; span::COUNT],
     operations: usize,
     givens: usize,
     abstracts: usize,
     names: &mut [u16],
-    sizes: &[u16; 8],
-    out: &mut [u16; 16384],
+    sizes: &[u16; GIVEN_SETS],
+    out: &mut [u16; node::NUMBERS],
 )
     ensures { λ r. ⌜ TableWritten (now (nodes .entry)) (now (spans .entry)) operations givens abstracts (now (names .entry)) (now (sizes .entry)) (now (out .entry)) (now (out .exit)) ⌝ }
 {
-    let mut places = [0u16; 16384];
+    let mut places = [0u16; node::NUMBERS];
     set_table(
         nodes,
         spans,

@@ -9,6 +9,7 @@ ghost use Rattle.term_sizes.specs.SizesByNumber.{absolute};
 ghost use Rattle.term_sizes.specs.SizeWalkPromises.{PrefixBound, OperatorBound, DivisionBound, DomainSized, TermSized, ItemsSized, PairSized, PairsSized, PredSized};
 use crate::Sized;
 use type_rules::Node;
+use type_rules::kinds::KEY_ROOM;
 use type_rules::kinds::index;
 use type_rules::kinds::lesser_of;
 use type_rules::kinds::look;
@@ -79,7 +80,7 @@ fn over(n: u64, i: u16, parts: u32) -> u32
         if n <= 2147483647 {
             return 0;
         }
-        return wide(i) * 16 + 14;
+        return wide(i) * KEY_ROOM + 14;
     }
     parts
 }

@@ -104,9 +104,13 @@ relatedFits k l m = (isElement k && isElement l) && eqb (pairOf k l) m
 unfoldable pub shared : ℕ → ℕ → ℕ
 shared k l = cond (eqb k l) k 0
 
+-- how many numbers of refusals there is room for at one place: those with a place are below 32
+abbrev pub keyRoom : ℕ
+keyRoom = 32
+
 -- a fault by its place and number, and one added; 0 for none
 abbrev pub key : ℕ → ℕ → ℕ
-key i n = i * 16 + n + 1
+key i n = i * keyRoom + n + 1
 
 -- the least of some faults, as a number
 abbrev pub keyOf : Option Fault → ℕ

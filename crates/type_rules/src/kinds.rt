@@ -3,7 +3,7 @@ ghost use mathlib.Core.Path.{_≡_};
 ghost use mathlib.Core.Bool.{_&&_};
 ghost use Prim.Native.Nat.{_+_, _<_};
 ghost use lib.ListN.{set};
-ghost use Rattle.type_rules.specs.TypesByNumber.{entry, isGiven, isElement, inReach, elementOf, setOf, pairOf, domOf, ranOf, memberFits, relatedFits, shared, key, unlessKey, lesser, judgedKey, insideKey, isFree, rangeFits, sizeIn, productFits, overKey, braceKey};
+ghost use Rattle.type_rules.specs.TypesByNumber.{entry, isGiven, isElement, inReach, elementOf, setOf, pairOf, domOf, ranOf, memberFits, relatedFits, shared, keyRoom, key, unlessKey, lesser, judgedKey, insideKey, isFree, rangeFits, sizeIn, productFits, overKey, braceKey};
 
 pub fn wide(x: u16) -> u32
     ensures { λ r. ⌜ (r ≡ x) × (r < 65536) ⌝ }
@@ -133,15 +133,18 @@ pub fn shared_kind(k: u16, l: u16) -> u16
     0
 }
 
+// How many numbers of refusals a key has room for at one place.
+pub const KEY_ROOM: u32 = 32;
+
 // The fault with the number n at the place i, unless all is well.
 pub fn unless(ok: bool, i: u32, n: u32) -> u32
-    requires { ⌜ (i < 262144) × (n < 16) ⌝ }
+    requires { ⌜ (i < 262144) × (n < keyRoom) ⌝ }
     ensures { λ r. ⌜ r ≡ unlessKey ok (key i n) ⌝ }
 {
     if ok {
         return 0;
     }
-    i * 16 + n + 1
+    i * KEY_ROOM + n + 1
 }
 
 // The lesser of two faults, 0 for none.

@@ -1,7 +1,7 @@
 // Types and faults by numbers: which types fit, and which fault stands where they do not.
 pub mod kinds;
 
-// The type of a tree, its least fault (place * 16 + number + 1) or 0, and where its nodes begin.
+// The type of a tree, its least fault (place * KEY_ROOM + number + 1) or 0, and where its nodes begin.
 pub struct Seen {
     pub kind: u16,
     pub fault: u32,

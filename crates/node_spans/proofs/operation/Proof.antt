@@ -29,7 +29,7 @@ same-length : tie.Need-same-length
 same-length c = search needs
 
 returns : tie.Need-returns
-returns c = operation-put (c .before .before .before .before .before .before .before .before .before .before .before .skip-from .ensures) (c .before .before .before .before .before .before .before .before .before .before .run-from .ensures) (c .before .before .before .before .before .before .before .before .before .skip-from2 .ensures) (c .before .before .before .before .before .before .before .before .skip-from3 .ensures) (c .before .before .before .before .before .before .three .ensures) (c .before .before .put .ensures)
+returns c = operation-put (c .before .before .before .before .before .before .before .before .before .before .before .skip-from .ensures) (c .before .before .before .before .before .before .before .before .before .before .run-from .ensures .0) (c .before .before .before .before .before .before .before .before .before .skip-from2 .ensures) (c .before .before .before .before .before .before .before .before .skip-from3 .ensures) (c .before .before .before .before .before .before .three .ensures) (c .before .before .put .ensures)
 
 pub operation-spec : {M : Type 1} → statement M
 operation-spec =

@@ -18,7 +18,7 @@ same-length : tie.Need-same-length
 same-length c = search needs
 
 returns : tie.Need-returns
-returns c = puts (c .before .before .args .spans .now) (c .before .before .args .n) (c .short .result) (c .before .before .args .x) (c .short .ensures) (omega arith)
+returns c = puts (c .before .before .args .spans .now) (c .before .before .args .n) (c .short .result) (c .before .before .args .x) (c .short .ensures .0) (omega arith)
 
 pub put-spec : {M : Type 1} → statement M
 put-spec =

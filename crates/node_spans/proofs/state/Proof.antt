@@ -17,7 +17,7 @@ same-length : tie.Need-same-length
 same-length c = search needs
 
 returns : tie.Need-returns
-returns c = state-put (c .before .before .before .before .before .skip-from .ensures) (c .before .before .before .before .run-from .ensures) (c .before .before .three .ensures)
+returns c = state-put (c .before .before .before .before .before .skip-from .ensures) (c .before .before .before .before .run-from .ensures .0) (c .before .before .three .ensures)
 
 pub state-spec : {M : Type 1} → statement M
 state-spec =

@@ -1,4 +1,4 @@
--- `symbols::classes::run_from` meets its contract: the run from the start is what was passed and the run from here. Assumes nothing.
+-- `lexical::classes::run_from` meets its contract: the run from the start is what was passed and the run from here. Assumes nothing.
 use lib.ListN.{drop, length}
 use Prim.Native.Nat.{_+_, _-_, _≤_}
 use mathlib.Core.Path.{_≡_, sym, ap, _∙_}
@@ -11,13 +11,13 @@ use Rattle.lexical.proofs.classes.run_from.Statement.{statement}
 use Rattle.lexical.proofs.classes.run_from.Tie as tie
 
 abbrev Inv-loop : tie.InvT-loop
-Inv-loop s at i₀ i = (at ≤ i) × (i ≤ length s) × (length (run (drop at s)) ≡ (i - at) + length (run (drop i s)))
+Inv-loop s at i₀ i = (at ≤ i) × (length (run (drop at s)) ≡ (i - at) + length (run (drop i s)))
 
 abbrev μ-loop : tie.MeasureT-loop
 μ-loop s at i₀ i = length s - i
 
 loop-holds : tie.Need-loop-holds Inv-loop μ-loop
-loop-holds c = (omega arith, omega arith, omega arith)
+loop-holds c = (omega arith, omega arith)
 
 shared-slice-read-in-run : tie.Need-shared-slice-read-in-run Inv-loop μ-loop
 shared-slice-read-in-run c = search needs
@@ -38,7 +38,7 @@ loop-less : tie.Need-loop-less Inv-loop μ-loop
 loop-less c = search needs
 
 loop-again : tie.Need-loop-again Inv-loop μ-loop
-loop-again c = (omega arith, omega arith, omega (arith, ap length (run-more (c .before .before .before .before .before .before .args .s .now) (c .before .before .before .before .loop .i) (c .before .before .before .loop-test .taken) (sym (c .before .in-run .ensures) ∙ not-false _ (c .if1 .left)))))
+loop-again c = (omega arith, omega (arith, ap length (run-more (c .before .before .before .before .before .before .args .s .now) (c .before .before .before .before .loop .i) (c .before .before .before .loop-test .taken) (sym (c .before .in-run .ensures) ∙ not-false _ (c .if1 .left)))))
 
 sub-result-2 : tie.Need-sub-result-2 Inv-loop μ-loop
 sub-result-2 c = search needs

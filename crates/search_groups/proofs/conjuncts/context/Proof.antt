@@ -48,7 +48,7 @@ same-length-2 : tie.Need-same-length-2
 same-length-2 c = search needs
 
 returns : tie.Need-returns
-returns c = context-put (c .before .before .before .before .before .before .before .before .short .ensures) (c .before .before .before .before .before .before .index .ensures .0) (c .before .before .before .before .index2 .ensures .0) (c .before .before .before .before .index2 .ensures .1) (c .before .before .conjoin .ensures) (omega arith)
+returns c = context-put (c .before .before .before .before .before .before .before .before .short .ensures .0) (c .before .before .before .before .before .before .index .ensures .0) (c .before .before .before .before .index2 .ensures .0) (c .before .before .before .before .index2 .ensures .1) (c .before .before .conjoin .ensures) (omega arith)
 
 pub context-spec : {M : Type 1} → statement M
 context-spec =

@@ -50,7 +50,7 @@ same-length-2 : tie.Need-same-length-2 Inv-loop μ-loop
 same-length-2 c = length-set (c .before .before .loop .firsts) (c .before .before .loop .k) (c .short .result) ∙ c .before .before .loop .inv .2 ∙ sym (c .before .before .before .before .before .before .before .pre .3)
 
 returns : tie.Need-returns Inv-loop μ-loop
-returns c = record { right = λ rows fs a l. ahead-done (c .before .before .loop .inv .3 rows fs a l) (c .short .ensures) (omega arith) (omega arith) (omega arith) }
+returns c = record { right = λ rows fs a l. ahead-done (c .before .before .loop .inv .3 rows fs a l) (c .short .ensures .0) (omega arith) (omega arith) (omega arith) }
 
 pub contexts-spec : {M : Type 1} → statement M
 contexts-spec =

@@ -90,7 +90,7 @@ module _ (R : List Written → List Written → Type 0) (step : (x y : Written) 
   givens n n' [] u v h = h
   givens n n' (g ∷ gs) u v h = one (one (elements 0 0 (g .firstElement ∷ g .otherElements) _ _ (one (givens _ _ gs u v h))))
 
-  declarations : (n n' : ℕ) (ds : List Declaration) (u v : List Written) → R u v → R (writeDeclarations n ds u) (writeDeclarations n' ds v)
+  pub declarations : (n n' : ℕ) (ds : List Declaration) (u v : List Written) → R u v → R (writeDeclarations n ds u) (writeDeclarations n' ds v)
   unfolding writeDeclarations
   declarations n n' [] u v h = h
   declarations n n' (d ∷ ds) u v h = one (one (type (d .type) _ _ (one (declarations _ _ ds u v h))))
@@ -103,7 +103,7 @@ module _ (R : List Written → List Written → Type 0) (step : (x y : Written) 
   unfolding writeState
   state s u v h = declarations 0 0 (s .firstDeclaration ∷ s .otherDeclarations) _ _ (condition (s .predicate) u v h)
 
-  parameters : (i o i' o' : ℕ) (xs : List Parameter) (u v : List Written) → R u v → R (writeParameters i o xs u) (writeParameters i' o' xs v)
+  pub parameters : (i o i' o' : ℕ) (xs : List Parameter) (u v : List Written) → R u v → R (writeParameters i o xs u) (writeParameters i' o' xs v)
   unfolding writeParameters
   parameters i o i' o' [] u v h = h
   parameters i o i' o' (x ∷ xs) u v h = one (one (type (x .declaration .type) _ _ (one (parameters _ _ _ _ xs u v h))))

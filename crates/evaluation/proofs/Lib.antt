@@ -1,0 +1,3 @@
+-- The evaluation of the table by numbers gives the values of the definitions.
+pub mod OperatorsAgree
+pub mod RangesAgree

@@ -1,3 +1,5 @@
 -- The evaluation of the table by numbers gives the values of the definitions.
 pub mod OperatorsAgree
 pub mod RangesAgree
+pub mod StandingNodes
+pub mod SlotNames

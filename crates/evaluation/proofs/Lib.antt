@@ -3,3 +3,4 @@ pub mod OperatorsAgree
 pub mod RangesAgree
 pub mod StandingNodes
 pub mod SlotNames
+pub mod NodeValues

@@ -1,0 +1,3 @@
+pub mod FaultlessParts
+pub mod TypeTests
+pub mod SetBounds

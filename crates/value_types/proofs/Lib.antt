@@ -1,3 +1,5 @@
 pub mod FaultlessParts
 pub mod TypeTests
 pub mod SetBounds
+pub mod Reach
+pub mod Binders

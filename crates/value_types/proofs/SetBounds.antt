@@ -98,7 +98,7 @@ pub single-pairs : {n m : ℕ} {u v : Value} → IsElementOf n u → IsElementOf
 unfolding singlePair pairBit
 single-pairs {n = n} {m = m} {u = u} {v = v} h k few =
     let e : pair (v .first) (bits u) (bits v) ≡ pair m (h .place) (k .place) =
-        ap (λ (a : ℕ). pair a (bits u) (bits v)) (k .over) ∙ ap₂ (pair m) (ap natural (h .is)) (ap natural (k .is)) in
+    ap (λ (a : ℕ). pair a (bits u) (bits v)) (k .over) ∙ ap₂ (pair m) (ap natural (h .is)) (ap natural (k .is)) in
     record {
       first-over = h .over;
       second-over = k .over;

@@ -119,8 +119,7 @@ pairs-of (p ∷ ps) e =
     let t : Ty = p .0 in
     let u : Ty = p .1 in
     let f = and-left (has t isElement && has u isElement) (all (samePair t u) ps) e in
-    let r = and-right (has t isElement && has u isElement) (all (samePair t u) ps) e in
-    (
+    let r = and-right (has t isElement && has u isElement) (all (samePair t u) ps) e in (
       t,
       u,
       record {
@@ -133,8 +132,7 @@ pairs-of (p ∷ ps) e =
 
 pub pairs-split : (t u : Ty) (p : Ty × Ty) (ps : List (Ty × Ty)) → PairsOf t u (p ∷ ps) → (t ≡ p .0) × (u ≡ p .1) × PairsOf t u ps
 pairs-split t u p ps h =
-    let k = all-parts (samePair t u) p ps (h .alike) in
-    (
+    let k = all-parts (samePair t u) p ps (h .alike) in (
       same-type t (p .0) (and-left (sameType t (p .0)) (sameType u (p .1)) (k .0)),
       same-type u (p .1) (and-right (sameType t (p .0)) (sameType u (p .1)) (k .0)),
       record { first = h .first; second = h .second; alike = k .1 },

@@ -4,3 +4,5 @@ pub mod RangesAgree
 pub mod StandingNodes
 pub mod SlotNames
 pub mod NodeValues
+pub mod TypePlaces
+pub mod TypedCodes

@@ -3,3 +3,4 @@ pub mod TypeTests
 pub mod SetBounds
 pub mod Reach
 pub mod Binders
+pub mod TypedOperations

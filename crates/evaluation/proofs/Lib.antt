@@ -6,3 +6,4 @@ pub mod SlotNames
 pub mod NodeValues
 pub mod TypePlaces
 pub mod TypedCodes
+pub mod SoundTrees

@@ -7,3 +7,6 @@ pub mod NodeValues
 pub mod TypePlaces
 pub mod TypedCodes
 pub mod SoundTrees
+pub mod DomainNodes
+pub mod Settings
+pub mod EvaluatedTerms

@@ -3,3 +3,7 @@ pub mod TypeTests
 pub mod SetBounds
 pub mod Reach
 pub mod Binders
+pub mod TypedOperations
+pub mod TypedTerms
+pub mod Magnitudes
+pub mod SizedTerms

@@ -7,3 +7,4 @@ pub mod TypedOperations
 pub mod TypedTerms
 pub mod Magnitudes
 pub mod SizedTerms
+pub mod Shapes

@@ -4,3 +4,7 @@ pub mod SetBounds
 pub mod Reach
 pub mod Binders
 pub mod TypedOperations
+pub mod TypedTerms
+pub mod Magnitudes
+pub mod SizedTerms
+pub mod Shapes

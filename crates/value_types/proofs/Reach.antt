@@ -37,7 +37,7 @@ find-among {A = A} f x (y ∷ ys) e = on (f y) refl (find-among f x ys) e
     on true p r h = let q : y ≡ x = Option·some-injective y x h in (inl (sym q), ap f (sym q) ∙ p)
     on false p r h = let k = r h in (inr (k .0), k .1)
 
-among-upward : (x k n : ℕ) → Among x (upward k n) → x < k + n
+pub among-upward : (x k n : ℕ) → Among x (upward k n) → x < k + n
 unfolding Among upward
 among-upward x k zero m = absurd m
 among-upward x k (suc n) (inl e) = omega arith

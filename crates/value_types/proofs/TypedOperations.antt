@@ -30,7 +30,7 @@ pairs-few (some g) none i e = omega arith
 pairs-few (some g) (some h) i e = leb-true (sizeOf g * sizeOf h) 16 (unless-nil _ _ e)
 
 module _ (ρ : Environment) where
-  abbrev sizes : List Letters → List ℕ
+  abbrev pub sizes : List Letters → List ℕ
   sizes gs = map (λ (g : Letters). sizeOfGiven ρ (plain g)) gs
 
   -- a type that is of the sort s
@@ -104,7 +104,7 @@ module _ (ρ : Environment) where
   single-typed t v e h = single-over (t .over) v (as-sort t isElement v e h)
 
   module _ (Γ : Scope) (c : Carried Γ ρ) where
-    over-few : (g h : Letters) (i : ℕ) → overFault (Γ .givens) (g ∷ h ∷ []) i ≡ [] → sizeOfGiven ρ (plain g) * sizeOfGiven ρ (plain h) ≤ 16
+    pub over-few : (g h : Letters) (i : ℕ) → overFault (Γ .givens) (g ∷ h ∷ []) i ≡ [] → sizeOfGiven ρ (plain g) * sizeOfGiven ρ (plain h) ≤ 16
     over-few g h i e =
         subst (λ (n : ℕ). n ≤ 16) (sym (ap₂ _*_ (named-size Γ ρ c (plain g)) (named-size Γ ρ c (plain h))))
         (pairs-few (givenOf (Γ .givens) (plain g)) (givenOf (Γ .givens) (plain h)) i e)

@@ -2,15 +2,16 @@
 use mathlib.Core.Path.{_≡_, refl, sym, ap, _∙_, subst}
 use mathlib.Core.Logic.{inl, inr}
 use mathlib.Core.List.{List, [], map}
-use Prim.Native.Nat.{ℕ, zero, suc, _+_, _-_, _<_}
+use mathlib.Core.Option.{Option, none, some}
+use Prim.Native.Nat.{ℕ, zero, suc, _+_, _-_, _<_, _≤_}
 use native.Mathlib.Nat.{zero-add}
 use native.Mathlib.Omega.{arith}
 use lib.IntN.{ℤ, pos, _+ℤ_, _-ℤ_}
 use Rattle.lexical.specs.Lists.{upward}
 use Rattle.lexical.specs.Symbols.{Name}
-use Rattle.form.specs.Tree.{Domain, givenSet, range, Range}
+use Rattle.form.specs.Tree.{Domain, givenSet, range, Given}
 use Rattle.form.specs.Codes.{node, endNumber}
-use Rattle.static_rules.specs.Carriers.{endValue}
+use Rattle.static_rules.specs.Carriers.{endValue, givenOf}
 use Rattle.static_rules.specs.Scope.{Scope}
 use Rattle.static_rules.specs.Names.{domainFaults}
 use Rattle.meaning.specs.Values as val
@@ -18,8 +19,9 @@ use Rattle.meaning.specs.Values.{Value}
 use Rattle.meaning.specs.Bindings.{Among}
 use Rattle.meaning.specs.Meaning.{Environment, sizeOfGiven, elementValues, numberValues, domainValues}
 use Rattle.meaning.proofs.Members.{among-map}
-use Rattle.value_types.specs.TypedValues.{Carried, DomainWithin}
+use Rattle.value_types.specs.TypedValues.{InReach, Carried, DomainWithin}
 use Rattle.value_types.proofs.FaultlessParts.{range-known}
+use Rattle.value_types.proofs.Reach.{sizeIn, given-is}
 use Rattle.table_places.specs.ResolvedTable.{givenSize, domainTable}
 use Rattle.evaluation.proofs.RangesAgree.{low-end, range-count}
 use Rattle.evaluation.proofs.TypedCodes.{given-agrees}
@@ -32,9 +34,9 @@ pub record DomainNode (Γ : Scope) (ρ : Environment) (d : Domain) : Type 0 wher
   pub values : domainValues ρ d ≡ map at (upward 0 count)
   pub coded : (k : ℕ) → at k .code ≡ (pos low -ℤ pos 1000) +ℤ pos k
 
-pub domain-node : (Γ : Scope) (ρ : Environment) (d : Domain) (i : ℕ) → Carried Γ ρ → domainFaults (Γ .givens) d i ≡ [] → DomainWithin d → DomainNode Γ ρ d
-unfolding domainTable domainValues elementValues numberValues
-domain-node Γ ρ (givenSet g) i c e h =
+unfoldable pub given-node : (Γ : Scope) (ρ : Environment) (g : Name) → Carried Γ ρ → DomainNode Γ ρ (givenSet g)
+unfolding domainTable domainValues elementValues
+given-node Γ ρ g c =
     record {
       low = 1000;
       count = givenSize (Γ .givens) g;
@@ -43,6 +45,19 @@ domain-node Γ ρ (givenSet g) i c e h =
       values = ap (λ (n : ℕ). map (val.element (sizeOfGiven ρ g)) (upward 0 n)) (sym (given-agrees Γ ρ c g));
       coded = λ k. ap pos (sym (zero-add k));
     }
+
+-- no given set has more than 16 elements
+pub given-few : (Γ : Scope) (g : Name) → InReach Γ → givenSize (Γ .givens) g ≤ 16
+unfolding givenSize
+given-few Γ g s = go (givenOf (Γ .givens) g) refl
+  where
+    go : (o : Option Given) → givenOf (Γ .givens) g ≡ o → sizeIn o ≤ 16
+    go none e = omega arith
+    go (some h) e = let f = s .few h (given-is (Γ .givens) g h e .0) in omega arith
+
+pub domain-node : (Γ : Scope) (ρ : Environment) (d : Domain) (i : ℕ) → Carried Γ ρ → domainFaults (Γ .givens) d i ≡ [] → DomainWithin d → DomainNode Γ ρ d
+unfolding domainTable domainValues numberValues
+domain-node Γ ρ (givenSet g) i c e h = given-node Γ ρ g c
 domain-node Γ ρ (range r) i c e h =
     record {
       low = endNumber (r .lower);

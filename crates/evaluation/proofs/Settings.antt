@@ -1,20 +1,21 @@
 -- What is claimed of each tree, in a setting: a scope with its slots, and an environment whose values the slots have; and the setting inside a binder.
 use mathlib.Core.Path.{_≡_, subst}
-use mathlib.Core.List.{List, [], _∷_}
-use Prim.Native.Nat.{ℕ, suc, _<_, _≤_}
+use mathlib.Core.List.{List, _∷_}
+use Prim.Native.Nat.{ℕ, suc, _≤_}
 use native.Mathlib.Omega.{arith}
 use lib.ListN.{set}
-use lib.IntN.{ℤ, pos, natAbs, _-ℤ_}
+use lib.IntN.{ℤ, pos, _-ℤ_}
 use Rattle.form.specs.Tree.{Letters, Domain, Term, Items, Pairs, Pred}
 use Rattle.static_rules.specs.Carriers.{plain}
 use Rattle.static_rules.specs.Types.{Ty}
 use Rattle.static_rules.specs.Scope.{Scope, binding}
-use Rattle.static_rules.specs.Names.{judgeTerm, domainCarrier}
-use Rattle.static_rules.specs.Limits.{sizeTerm}
+use Rattle.static_rules.specs.Names.{domainCarrier}
 use Rattle.meaning.specs.Values.{Value}
 use Rattle.meaning.specs.Bindings.{Among}
 use Rattle.meaning.specs.Meaning.{Environment, with, domainValues, value, itemsValue, pairsValue, holds}
-use Rattle.value_types.specs.TypedValues.{InReach, Carried, HasType, TermWithin, sizesIn}
+use Rattle.value_types.specs.TypedValues.{HasType}
+use Rattle.value_types.proofs.TypedTerms.{typed-term}
+use Rattle.value_types.proofs.SizedTerms.{small-term}
 use Rattle.value_types.proofs.Binders.{binding-in-reach, binding-carried}
 use Rattle.node_spans.specs.Spans.{Stands}
 use Rattle.table_nodes.specs.TableByNumber.{nextSlot}
@@ -58,21 +59,15 @@ PredHere table S p =
     (b e f : ℕ) → SoundPred p (S .Γ) (S .k) → Stands table b e (predTable p (S .Γ) (S .W) (boundSlot (S .k)) b) → e ≤ 16384 → heightPred p ≤ f
     → TruthIs f table e (S .σ) (holds p (S .ρ))
 
--- the laws of types and sizes
-pub record Laws : Type 0 where
-  pub typed : (t : Term) (Γ : Scope) (ρ : Environment) (i : ℕ) → InReach Γ → Carried Γ ρ → TermWithin t → judgeTerm t Γ i .faults ≡ []
-      → HasType ρ (judgeTerm t Γ i .type) (value t ρ)
-  pub small : (t : Term) (Γ : Scope) (ρ : Environment) (i j : ℕ) → InReach Γ → Carried Γ ρ → TermWithin t → judgeTerm t Γ i .faults ≡ []
-      → sizeTerm t (sizesIn Γ) j .faults ≡ [] → natAbs (value t ρ .code) < 2147483648
-
-module _ (L : Laws) (S : Setting) where
+-- the values of such terms have their types, and are small
+module _ (S : Setting) where
   pub term-typed : (t : Term) → SoundTerm t (S .Γ) (S .k) → HasType (S .ρ) (typeIn (S .Γ) t) (value t (S .ρ))
   term-typed t s =
       subst (λ (τ : Ty). HasType (S .ρ) τ (value t (S .ρ))) (type-placed t (S .Γ) (s .at) 0)
-      (L .typed t (S .Γ) (S .ρ) (s .at) (S .held .reach) (S .held .carried) (s .within) (s .judged))
+      (typed-term t (S .Γ) (S .ρ) (s .at) (S .held .reach) (S .held .carried) (s .within) (s .judged))
 
   pub term-small : (t : Term) → SoundTerm t (S .Γ) (S .k) → Small (value t (S .ρ) .code)
-  term-small t s = L .small t (S .Γ) (S .ρ) (s .at) (s .sized-at) (S .held .reach) (S .held .carried) (s .within) (s .judged) (s .sized)
+  term-small t s = small-term t (S .Γ) (S .ρ) (s .at) (s .sized-at) (S .held .reach) (S .held .carried) (s .within) (s .judged) (s .sized)
 
 -- ---- one name more: the setting with the value v for x
 

@@ -10,3 +10,6 @@ pub mod SoundTrees
 pub mod DomainNodes
 pub mod Settings
 pub mod EvaluatedTerms
+pub mod EvaluatedBraces
+pub mod EvaluatedPreds
+pub mod TablesEvaluate

@@ -82,8 +82,7 @@ module _ (Γ : Scope) (k : ℕ) where
   pub sound-prefix : (o : Prefix) (t : Term) → SoundTerm (prefix o t) Γ k → SoundTerm t Γ k × (prefixFits o (typeIn Γ t) ≡ true)
   unfolding TermWithin TermBindsFew
   sound-prefix o t s =
-      let p = prefix-parts o t Γ (s .at) (s .judged) in
-      (
+      let p = prefix-parts o t Γ (s .at) (s .judged) in (
         record { at = _; sized-at = _; judged = p .0; sized = prefix-sizes o t (sizesIn Γ) (s .sized-at) (s .sized); within = s .within; few = s .few },
         here-one (prefixFits o) t (suc (s .at)) (p .1),
       )
@@ -92,8 +91,7 @@ module _ (Γ : Scope) (k : ℕ) where
   unfolding TermWithin TermBindsFew
   sound-binary o t u s =
       let p = binary-parts o t u Γ (s .at) (s .judged) in
-      let q = binary-sizes o t u (sizesIn Γ) (s .sized-at) (s .sized) in
-      (
+      let q = binary-sizes o t u (sizesIn Γ) (s .sized-at) (s .sized) in (
         record { at = _; sized-at = _; judged = p .0; sized = q .0; within = s .within .0; few = s .few .0 },
         record { at = _; sized-at = _; judged = p .1; sized = q .1; within = s .within .1; few = s .few .1 },
         here-two (operatorFits o) t u (s .at) (suc (judgeTerm t Γ (s .at) .next)) (p .2),
@@ -155,8 +153,7 @@ module _ (Γ : Scope) (k : ℕ) where
   pub sound-only : (t : Term) → SoundItems (only t) Γ k → SoundTerm t Γ k × (has (typeIn Γ t) isElement ≡ true)
   unfolding TermWithin TermBindsFew judgeTerm
   sound-only t s =
-      let q = items-split (s .type) (judgeTerm t Γ (s .at) .type) [] (s .fit) in
-      (
+      let q = items-split (s .type) (judgeTerm t Γ (s .at) .type) [] (s .fit) in (
         record { at = _; sized-at = _; judged = only-parts t Γ (s .at) (s .judged); sized = only-sizes t (sizesIn Γ) (s .sized-at) (s .sized); within = s .within; few = s .few },
         here-one (λ (r : Ty). has r isElement) t (s .at) (ap (λ (r : Ty). has r isElement) (sym (q .0)) ∙ s .fit .element),
       )
@@ -166,8 +163,7 @@ module _ (Γ : Scope) (k : ℕ) where
   sound-also t ts s =
       let p = also-parts t ts Γ (s .at) (s .judged) in
       let z = also-sizes t ts (sizesIn Γ) (s .sized-at) (s .sized) in
-      let q = items-split (s .type) (judgeTerm t Γ (s .at) .type) (judgeItems ts Γ (suc (judgeTerm t Γ (s .at) .next)) .types) (s .fit) in
-      (
+      let q = items-split (s .type) (judgeTerm t Γ (s .at) .type) (judgeItems ts Γ (suc (judgeTerm t Γ (s .at) .next)) .types) (s .fit) in (
         record { at = _; sized-at = _; judged = p .0; sized = z .0; within = s .within .0; few = s .few .0 },
         here-one (λ (r : Ty). has r isElement) t (s .at) (ap (λ (r : Ty). has r isElement) (sym (q .0)) ∙ s .fit .element),
         record { at = _; sized-at = _; judged = p .1; sized = z .1; within = s .within .1; few = s .few .1; type = s .type; fit = q .1 },
@@ -213,10 +209,9 @@ module _ (Γ : Scope) (k : ℕ) where
       let z = also-pair-sizes t u ts (sizesIn Γ) (s .sized-at) (s .sized) in
       let j : ℕ = suc (judgeTerm t Γ (s .at) .next) in
       let l : ℕ = suc (judgeTerm u Γ j .next) in
-      let q = pairs-split (s .first) (s .second) (judgeTerm t Γ (s .at) .type, judgeTerm u Γ j .type) (judgePairs ts Γ l .types) (s .fit) in
-      (
+      let q = pairs-split (s .first) (s .second) (judgeTerm t Γ (s .at) .type, judgeTerm u Γ j .type) (judgePairs ts Γ l .types) (s .fit) in (
         two-elements t u (s .first) (s .second) (s .at) j (s .brace) (record { at = _; sized-at = _; judged = p .0; sized = z .0; within = s .within .0; few = s .few .0 })
-        (record { at = _; sized-at = _; judged = p .1; sized = z .1; within = s .within .1; few = s .few .1 }) (q .0) (q .1) (s .fit .first) (s .fit .second) (s .over),
+            (record { at = _; sized-at = _; judged = p .1; sized = z .1; within = s .within .1; few = s .few .1 }) (q .0) (q .1) (s .fit .first) (s .fit .second) (s .over),
         record {
           at = _;
           sized-at = _;
@@ -260,8 +255,7 @@ module _ (Γ : Scope) (k : ℕ) where
   unfolding TermWithin TermBindsFew
   sound-connected o p q s =
       let r = connected-parts o p q Γ (s .at) (s .judged) in
-      let z = connected-sizes o p q (sizesIn Γ) (s .sized-at) (s .sized) in
-      (
+      let z = connected-sizes o p q (sizesIn Γ) (s .sized-at) (s .sized) in (
         record { at = _; sized-at = _; judged = r .0; sized = z .0; within = s .within .0; few = s .few .0 },
         record { at = _; sized-at = _; judged = r .1; sized = z .1; within = s .within .1; few = s .few .1 },
       )
@@ -270,8 +264,7 @@ module _ (Γ : Scope) (k : ℕ) where
   unfolding TermWithin TermBindsFew
   sound-compared o t u s =
       let r = compared-parts o t u Γ (s .at) (s .judged) in
-      let z = compared-sizes o t u (sizesIn Γ) (s .sized-at) (s .sized) in
-      (
+      let z = compared-sizes o t u (sizesIn Γ) (s .sized-at) (s .sized) in (
         record { at = _; sized-at = _; judged = r .0; sized = z .0; within = s .within .0; few = s .few .0 },
         record { at = _; sized-at = _; judged = r .1; sized = z .1; within = s .within .1; few = s .few .1 },
       )
@@ -280,8 +273,7 @@ module _ (Γ : Scope) (k : ℕ) where
   unfolding TermWithin TermBindsFew
   sound-member o t u s =
       let r = member-parts o t u Γ (s .at) (s .judged) in
-      let z = member-sizes o t u (sizesIn Γ) (s .sized-at) (s .sized) in
-      (
+      let z = member-sizes o t u (sizesIn Γ) (s .sized-at) (s .sized) in (
         record { at = _; sized-at = _; judged = r .0; sized = z .0; within = s .within .0; few = s .few .0 },
         record { at = _; sized-at = _; judged = r .1; sized = z .1; within = s .within .1; few = s .few .1 },
         here-two memberFits t u (s .at) (suc (judgeTerm t Γ (s .at) .next)) (r .2),
@@ -291,8 +283,7 @@ module _ (Γ : Scope) (k : ℕ) where
       → SoundTerm t Γ k × RangeWithin r × (rangeFits (endValue (r .lower)) (endValue (r .upper)) ≡ true)
   unfolding TermWithin TermBindsFew
   sound-within o t r s =
-      let q = within-parts o t r Γ (s .at) (s .judged) in
-      (
+      let q = within-parts o t r Γ (s .at) (s .judged) in (
         record { at = _; sized-at = _; judged = q .0; sized = within-sizes o t r (sizesIn Γ) (s .sized-at) (s .sized); within = s .within .0; few = s .few },
         s .within .1,
         q .2,
@@ -306,8 +297,7 @@ module _ (Γ : Scope) (k : ℕ) where
       let j : ℕ = suc (judgeTerm t Γ i .next) in
       let l : ℕ = suc (judgeTerm u Γ j .next) in
       let r = related-parts o t u v Γ i (s .judged) in
-      let z = related-sizes o t u v (sizesIn Γ) (s .sized-at) (s .sized) in
-      (
+      let z = related-sizes o t u v (sizesIn Γ) (s .sized-at) (s .sized) in (
         record { at = _; sized-at = _; judged = r .0; sized = z .0; within = s .within .0; few = s .few .0 },
         record { at = _; sized-at = _; judged = r .1; sized = z .1; within = s .within .1; few = s .few .1 },
         record { at = _; sized-at = _; judged = r .2; sized = z .2; within = s .within .2; few = s .few .2 },

@@ -156,8 +156,7 @@ module _ (ρ : Environment) where
       let b = and-left (has τ isElement) (has υ isElement) a in
       let c = and-right (has τ isElement) (has υ isElement) a in
       let d = same-type (pairsOfTypes τ υ) ω (and-right (has τ isElement && has υ isElement) (sameType (pairsOfTypes τ υ) ω) e) in
-      let m : HasType ρ (pairsOfTypes τ υ) w = subst (λ (r : Ty). HasType ρ r w) (sym d) l in
-      (
+      let m : HasType ρ (pairsOfTypes τ υ) w = subst (λ (r : Ty). HasType ρ r w) (sym d) l in (
         c,
         record {
           pair = pair-of τ υ u v b c h k (few-of τ υ u v w b c h k m);

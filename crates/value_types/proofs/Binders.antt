@@ -1,5 +1,5 @@
 -- The scope inside a binder, and its environments. Cited by proofs over predicates too.
-use mathlib.Core.Path.{_≡_, refl, sym, ap, _∙_, subst}
+use mathlib.Core.Path.{_≡_, refl, sym, subst}
 use mathlib.Core.Bool.{Bool, true, false}
 use mathlib.Core.Logic.{inl, inr}
 use mathlib.Core.List.{List, []}
@@ -7,11 +7,11 @@ use mathlib.Core.Option.{Option, none, some}
 use Prim.Native.Nat.{ℕ, zero, suc, _+_, _<_, _≤_}
 use native.Mathlib.Nat.{zero-add}
 use native.Mathlib.Omega.{arith}
-use lib.IntN.{pos, negℤ, natAbs}
+use lib.IntN.{natAbs}
 use Rattle.lexical.specs.Lists.{upward}
 use Rattle.lexical.specs.Symbols.{Name}
 use Rattle.form.specs.Tree.{Letters, End, Domain, givenSet, range, Given}
-use Rattle.static_rules.specs.Carriers.{elementsOf, sizeOf, signed, endValue, givenOf}
+use Rattle.static_rules.specs.Carriers.{signed, endValue, givenOf}
 use Rattle.static_rules.specs.Scope.{Scope, binding}
 use Rattle.static_rules.specs.Names.{known, domainCarrier, domainFaults}
 use Rattle.meaning.specs.Values as val
@@ -46,7 +46,8 @@ domain-fits gs (range r) i e h = (
   range-known r i e,
 )
 
-pub binding-in-reach : (Γ : Scope) (x : Letters) (t : Domain) (i : ℕ) → InReach Γ → domainFaults (Γ .givens) t i ≡ [] → DomainWithin t → InReach (binding Γ x (domainCarrier (Γ .givens) t))
+pub binding-in-reach : (Γ : Scope) (x : Letters) (t : Domain) (i : ℕ) → InReach Γ → domainFaults (Γ .givens) t i ≡ [] → DomainWithin t
+    → InReach (binding Γ x (domainCarrier (Γ .givens) t))
 unfolding CarriersFit
 binding-in-reach Γ x t i s e h = record { titled = s .titled; few = s .few; fit = (domain-fits (Γ .givens) t i e h, s .fit) }
 

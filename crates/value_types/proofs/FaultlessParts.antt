@@ -9,8 +9,8 @@ use borrow.Author.Tests.{ltb-true, leb-true}
 use Rattle.lexical.specs.Symbols.{Name}
 use Rattle.lexical.specs.Refusals.{Fault, fault, unless, typesMisfit}
 use Rattle.form.specs.Tree.{Letters, End, Range, Domain, givenSet, range, Given, Prefix, Operator, Division, Quantifier, Connective, Comparison, Membership}
-use Rattle.form.specs.Tree.{Term, number, name, group, prefix, binary, divided, listed, pairs, such, emptySet, emptyPairs, Items, only, also, Pairs, onlyPair, alsoPair}
-use Rattle.form.specs.Tree.{Pred, truth, falsity, negation, paren, quantified, connected, compared, member, within, related}
+use Rattle.form.specs.Tree.{Term, name, group, prefix, binary, divided, listed, pairs, such, emptySet, emptyPairs, Items, only, also, Pairs, onlyPair, alsoPair}
+use Rattle.form.specs.Tree.{Pred, negation, paren, quantified, connected, compared, member, within, related}
 use Rattle.static_rules.specs.Carriers.{Carrier, elementsOf, largest, plain, endValue, givenOf}
 use Rattle.static_rules.specs.Types.{Ty, has, isNumber, prefixFits, operatorFits, comparisonFits, memberFits, relatedFits, braceFits, pairsType, pairsFit}
 use Rattle.static_rules.specs.Scope.{Scope, typeOfName, binding}
@@ -146,7 +146,8 @@ unfolding judgeTerm
 empty-set-parts g Γ i e = e
 
 pub empty-pairs-parts : (g h : Name) (Γ : Scope) (i : ℕ) → judgeTerm (emptyPairs g h) Γ i .faults ≡ []
-    → (known (givenOf (Γ .givens) g) (suc i) ≡ []) × (known (givenOf (Γ .givens) h) (i + 2) ≡ []) × (pairsFault (givenOf (Γ .givens) g) (givenOf (Γ .givens) h) i ≡ [])
+    → (known (givenOf (Γ .givens) g) (suc i) ≡ []) × (known (givenOf (Γ .givens) h) (i + 2) ≡ [])
+    × (pairsFault (givenOf (Γ .givens) g) (givenOf (Γ .givens) h) i ≡ [])
 unfolding judgeTerm
 empty-pairs-parts g h Γ i e = append-nil-three _ _ _ e
 
@@ -264,7 +265,8 @@ pub pairs-sizes : (ts : Pairs) (Z : Sizes) (i : ℕ) → sizeTerm (pairs ts) Z i
 unfolding sizeTerm
 pairs-sizes ts Z i e = e
 
-pub such-sizes : (x : Letters) (g : Name) (p : Pred) (Z : Sizes) (i : ℕ) → sizeTerm (such x g p) Z i .faults ≡ [] → sizePred p ((plain x, 0) ∷ Z) (i + 5) .faults ≡ []
+pub such-sizes : (x : Letters) (g : Name) (p : Pred) (Z : Sizes) (i : ℕ) → sizeTerm (such x g p) Z i .faults ≡ []
+    → sizePred p ((plain x, 0) ∷ Z) (i + 5) .faults ≡ []
 unfolding sizeTerm
 such-sizes x g p Z i e = e
 
@@ -355,4 +357,5 @@ such-bound x g p Γ i e =
 pub quantified-bound : (q : Quantifier) (x : Letters) (t : Domain) (p : Pred) (Γ : Scope) (i : ℕ) → sizePred (quantified q x t p) (sizesIn Γ) i .faults ≡ []
     → sizePred p (sizesIn (binding Γ x (domainCarrier (Γ .givens) t))) (i + 5 + domainLength t) .faults ≡ []
 quantified-bound q x t p Γ i e =
-    subst (λ (n : ℕ). sizePred p ((plain x, n) ∷ sizesIn Γ) (i + 5 + domainLength t) .faults ≡ []) (bound-size (Γ .givens) t) (quantified-sizes q x t p (sizesIn Γ) i e)
+    subst (λ (n : ℕ). sizePred p ((plain x, n) ∷ sizesIn Γ) (i + 5 + domainLength t) .faults ≡ []) (bound-size (Γ .givens) t)
+    (quantified-sizes q x t p (sizesIn Γ) i e)

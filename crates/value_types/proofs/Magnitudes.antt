@@ -1,8 +1,8 @@
 -- Magnitudes of sums, differences, products, quotients and remainders, and of the numbers of a range. Assumes nothing.
-use mathlib.Core.Path.{_≡_, refl, sym, ap, _∙_, subst}
-use mathlib.Core.Bool.{Bool, true, false, _&&_, cond, false≢true}
+use mathlib.Core.Path.{_≡_, refl, sym, subst}
+use mathlib.Core.Bool.{Bool, true, false, cond, false≢true}
 use Prim.Native.Nat.{ℕ, zero, suc, _+_, _-_, _*_, _/_, _<_, _≤_, max}
-use native.Mathlib.Nat.{suc-mul, div-le-self, div-lt-iff-lt-mul, le-mul-of-pos-right, le-of-suc-le-suc, zero-lt-suc, mul-le-mul}
+use native.Mathlib.Nat.{suc-mul, div-le-self, div-lt-iff-lt-mul, le-mul-of-pos-right, le-of-suc-le-suc, zero-lt-suc}
 use native.Mathlib.Omega.{arith}
 use lib.Dec.{ltb}
 use lib.IntN.{ℤ, pos, negsuc, negℤ, natAbs, subℕ, _+ℤ_, _-ℤ_, _*ℤ_}

@@ -1,15 +1,13 @@
 -- Names in reach: which given set a name stands for, what a carrier's values are, and that the value found for a name is of the carrier found for it.
-use mathlib.Core.Path.{_≡_, refl, sym, ap, ap₂, _∙_, subst}
+use mathlib.Core.Path.{_≡_, refl, sym, ap, _∙_, subst}
 use mathlib.Core.Bool.{Bool, true, false, false≢true}
 use mathlib.Core.Logic.{inl, inr}
 use mathlib.Core.List.{List, [], _∷_, map}
 use mathlib.Core.Option.{Option, none, some, Option·none-ne-some, Option·some-injective}
 use Prim.Native.Nat.{ℕ, zero, suc, _+_, _*_, _^_, _<_, _≤_}
-use native.Mathlib.Nat.{zero-add}
 use native.Mathlib.Omega.{arith}
-use lib.IntN.{pos}
 use lib.ListN.{length}
-use Rattle.lexical.specs.Lists.{same, any, find, filter, upward}
+use Rattle.lexical.specs.Lists.{any, find, upward}
 use Rattle.lexical.specs.Symbols.{Name, Ending, noEnding, prime, query, shriek}
 use Rattle.lexical.proofs.WordLaws.{same-true}
 use Rattle.form.specs.Tree.{Letters, Arrow, relation, partial, total, Given, elements}
@@ -101,11 +99,15 @@ module _ (Γ : Scope) (ρ : Environment) (s : InReach Γ) (c : Carried Γ ρ) wh
 
   pub element-value : (g : Given) (i : ℕ) → Among g (Γ .givens) → i < sizeOf g → HasType ρ (typeOf (elementsOf g)) (val.element (sizeOf g) i)
   unfolding OfSort
-  element-value g i m h = subst (λ (n : ℕ). IsElementOf n (val.element (sizeOf g) i)) (sym (title-size g m)) (record { over = refl; few = s .few g m; place = i; is = refl; below = h })
+  element-value g i m h =
+      subst (λ (n : ℕ). IsElementOf n (val.element (sizeOf g) i)) (sym (title-size g m))
+      (record { over = refl; few = s .few g m; place = i; is = refl; below = h })
 
   pub set-value : (g : Given) (b : ℕ) → Among g (Γ .givens) → b < 2 ^ sizeOf g → HasType ρ (typeOf (subsetsOf g)) (val.set (sizeOf g) b)
   unfolding OfSort
-  set-value g b m h = subst (λ (n : ℕ). IsSetOver n (val.set (sizeOf g) b)) (sym (title-size g m)) (record { over = refl; few = s .few g m; bits = b; is = refl; below = h })
+  set-value g b m h =
+      subst (λ (n : ℕ). IsSetOver n (val.set (sizeOf g) b)) (sym (title-size g m))
+      (record { over = refl; few = s .few g m; bits = b; is = refl; below = h })
 
   pub pairs-value : (a : Arrow) (g h : Given) (b : ℕ) → Among g (Γ .givens) → Among h (Γ .givens) → sizeOf g * sizeOf h ≤ 16 → b < 2 ^ (sizeOf g * sizeOf h)
       → HasType ρ (typeOf (pairsOf a g h)) (val.pairs (sizeOf g) (sizeOf h) b)
@@ -126,14 +128,16 @@ module _ (Γ : Scope) (ρ : Environment) (s : InReach Γ) (c : Carried Γ ρ) wh
       subst (HasType ρ (typeOf (subsetsOf g))) (sym (r .2)) (set-value g (r .0) f (omega (arith, among-upward (r .0) 0 (2 ^ sizeOf g) (r .1))))
   carrier-value (pairsOf a g h) v f m =
       let r = map-among (val.pairs (sizeOf g) (sizeOf h)) v (pairSets a (sizeOf g) (sizeOf h)) m in
-      subst (HasType ρ (typeOf (pairsOf a g h))) (sym (r .2)) (pairs-value a g h (r .0) (f .0) (f .1) (f .2) (pair-sets-below a (sizeOf g) (sizeOf h) (r .0) (r .1)))
+      subst (HasType ρ (typeOf (pairsOf a g h))) (sym (r .2))
+      (pairs-value a g h (r .0) (f .0) (f .1) (f .2) (pair-sets-below a (sizeOf g) (sizeOf h) (r .0) (r .1)))
 
 -- ---- names in reach
 
 -- what is found for a name among the variables, among their values and among number 13's sizes
 pub data Looked (gs : List Given) : Option Variable → Option (Name × Value) → Option (Name × ℕ) → Type 0 where
   nowhere : Looked gs none none none
-  reached : (v : Variable) (b : Name × Value) → CarrierFits gs (v .carrier) → Among (b .1) (valuesOf (v .carrier)) → Looked gs (some v) (some b) (some (v .called, largest (v .carrier)))
+  reached : (v : Variable) (b : Name × Value) → CarrierFits gs (v .carrier) → Among (b .1) (valuesOf (v .carrier))
+      → Looked gs (some v) (some b) (some (v .called, largest (v .carrier)))
 
 pub looked : (gs : List Given) (vs : List Variable) (bs : Binding) (x : Name) → CarriersFit gs vs → Over vs bs
     → Looked gs (find (λ (v : Variable). sameName (v .called) x) vs) (find (λ (b : Name × Value). sameName (b .0) x) bs)

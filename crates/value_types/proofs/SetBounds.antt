@@ -1,19 +1,19 @@
 -- Operations on values of types: sets stay within the bits of their type, a set's size is at most 16. Assumes nothing.
 use mathlib.Core.Path.{_≡_, refl, sym, ap, ap₂, _∙_, subst}
-use mathlib.Core.Bool.{Bool, true, false, not, _&&_, _||_}
-use Prim.Native.Nat.{ℕ, zero, suc, _+_, _*_, _/_, _^_, _<_, _≤_}
+use mathlib.Core.Bool.{Bool, false, not, _&&_, _||_}
+use Prim.Native.Nat.{ℕ, zero, suc, _*_, _/_, _^_, _<_, _≤_}
 use native.Mathlib.Nat.{lt-of-lt-of-le, mul-le-mul}
 use native.Mathlib.Decide.{decLt}
 use native.Mathlib.Omega.{arith}
 use lib.Count.{onesIn}
 use lib.IntN.{pos}
 use lib.Pow.{pow-mono, pow-lt}
-use Rattle.form.specs.Tree.{dom, ran, Operator, plus, minus, union, without, times, inter}
+use Rattle.form.specs.Tree.{dom, ran}
 use Rattle.sets.specs.Sets as sets
 use Rattle.sets.specs.Sets.{has, setOf, pair, single}
 use Rattle.sets.proofs.Members.{has-past, has-set, has-set-past, set-below, same-members}
 use Rattle.sets.proofs.Pairs.{dom-below, ran-below}
-use Rattle.meaning.specs.Values.{Value, natural, bits, withBits, prefixValue, operatorValue, singleton, pairBit, singlePair}
+use Rattle.meaning.specs.Values.{Value, natural, bits, withBits, prefixValue, singleton, pairBit, singlePair}
 use Rattle.value_types.specs.TypedValues.{IsElementOf, IsSetOver, IsPairsOver}
 
 -- ---- bits
@@ -22,7 +22,8 @@ use Rattle.value_types.specs.TypedValues.{IsElementOf, IsSetOver, IsPair
 past-below : (g : ℕ → Bool) (n : ℕ) → n ≤ 16 → ((k : ℕ) → n ≤ k → g k ≡ false) → setOf 16 g < 2 ^ n
 past-below g n h e =
     subst (λ (s : ℕ). s < 2 ^ n)
-    (same-members 16 (setOf n g) (setOf 16 g) (lt-of-lt-of-le (set-below n g) (pow-mono {i = n} {j = 16} h)) (set-below 16 g) (λ k l. on k l (decLt k n))) (set-below n g)
+    (same-members 16 (setOf n g) (setOf 16 g) (lt-of-lt-of-le (set-below n g) (pow-mono {i = n} {j = 16} h)) (set-below 16 g)
+    (λ k l. on k l (decLt k n))) (set-below n g)
   where
     on : (k : ℕ) → k < 16 → Dec (k < n) → has (setOf n g) k ≡ has (setOf 16 g) k
     on k l (yes p) = has-set n g k p ∙ sym (has-set 16 g k l)
@@ -99,6 +100,8 @@ unfolding singlePair pairBit
 single-pairs {n = n} {m = m} {u = u} {v = v} h k few =
     let e : pair (v .first) (bits u) (bits v) ≡ pair m (h .place) (k .place) =
     ap (λ (a : ℕ). pair a (bits u) (bits v)) (k .over) ∙ ap₂ (pair m) (ap natural (h .is)) (ap natural (k .is)) in
+    let l : single (pair m (h .place) (k .place)) < 2 ^ (n * m) =
+    single-below (n * m) (pair m (h .place) (k .place)) (pair-below n m (h .place) (k .place) (h .below) (k .below)) in
     record {
       first-over = h .over;
       second-over = k .over;
@@ -107,7 +110,7 @@ single-pairs {n = n} {m = m} {u = u} {v = v} h k few =
       few = few;
       bits = single (pair (v .first) (bits u) (bits v));
       is = refl;
-      below = subst (λ (a : ℕ). single a < 2 ^ (n * m)) (sym e) (single-below (n * m) (pair m (h .place) (k .place)) (pair-below n m (h .place) (k .place) (h .below) (k .below)));
+      below = subst (λ (a : ℕ). single a < 2 ^ (n * m)) (sym e) l;
     }
 
 -- an operation on bits that keeps within them

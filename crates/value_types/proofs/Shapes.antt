@@ -37,7 +37,7 @@ pub pair-place : {n m : ℕ} {u v : Value} → IsElementOf n u → IsElementOf m
 unfolding pairBit
 pair-place {n = n} {m = m} {u = u} {v = v} h k few =
     let e : pair (v .first) (bits u) (bits v) ≡ pair m (h .place) (k .place) =
-        ap (λ (a : ℕ). pair a (bits u) (bits v)) (k .over) ∙ ap₂ (pair m) (ap natural (h .is)) (ap natural (k .is)) in
+    ap (λ (a : ℕ). pair a (bits u) (bits v)) (k .over) ∙ ap₂ (pair m) (ap natural (h .is)) (ap natural (k .is)) in
     subst (λ (a : ℕ). a < 16) (sym e) (lt-of-lt-of-le (pair-below n m (h .place) (k .place) (h .below) (k .below)) few)
 
 module _ (ρ : Environment) where
@@ -70,7 +70,8 @@ module _ (ρ : Environment) where
   pairs-shape t v e h = pairs-over (t .over) v (as-sort ρ t isPairs v e h)
 
   -- a set of some kind: its bits
-  word-over : (s : Sort) (gs : List Letters) (v : Value) → isAnySet (record { sort = s; over = gs }) ≡ true → OfSort s (sizes ρ gs) v → (b : ℕ) × (v .code ≡ pos b) × (b < 65536)
+  word-over : (s : Sort) (gs : List Letters) (v : Value) → isAnySet (record { sort = s; over = gs }) ≡ true → OfSort s (sizes ρ gs) v
+      → (b : ℕ) × (v .code ≡ pos b) × (b < 65536)
   unfolding isAnySet has
   word-over isNumber gs v e h = absurd (false≢true e)
   word-over isElement gs v e h = absurd (false≢true e)
@@ -117,7 +118,8 @@ module _ (ρ : Environment) where
       (r .0, r .2)
 
   module _ (Γ : Scope) (c : Carried Γ ρ) where
-    few-two : (gs hs : List Letters) (x y : Value) (i : ℕ) → OfSort isElement (sizes ρ gs) x → OfSort isElement (sizes ρ hs) y → overFault (Γ .givens) (gs ++ hs) i ≡ []
+    few-two : (gs hs : List Letters) (x y : Value) (i : ℕ) → OfSort isElement (sizes ρ gs) x → OfSort isElement (sizes ρ hs) y
+        → overFault (Γ .givens) (gs ++ hs) i ≡ []
         → (n : ℕ) × (m : ℕ) × IsElementOf n x × IsElementOf m y × (n * m ≤ 16)
     unfolding OfSort
     few-two [] hs x y i p q e = absurd p

@@ -1,7 +1,7 @@
 -- A number that is a term's value is no larger than number 13's size of the term, and that size is at most 2,147,483,647. So the value of every term
 -- without faults, whatever its type, is below 2,147,483,648.
-use mathlib.Core.Path.{_≡_, refl, sym, ap, _∙_, subst}
-use mathlib.Core.Bool.{Bool, true, false, _&&_, false≢true}
+use mathlib.Core.Path.{_≡_, refl, sym, subst}
+use mathlib.Core.Bool.{Bool, true, false, false≢true}
 use mathlib.Core.List.{List, [], _∷_, map}
 use mathlib.Core.Option.{Option, none, some, Option·none-ne-some, Option·some-injective}
 use Prim.Native.Nat.{ℕ, suc, _+_, _*_, _^_, _<_, _≤_}
@@ -24,7 +24,7 @@ use Rattle.meaning.specs.Values.{Value, bits, prefixValue, operatorValue, divis
 use Rattle.meaning.specs.Meaning.{Environment, elementValue, valueOf, sizeOfGiven, numberValues, value}
 use Rattle.meaning.specs.Bindings.{valuesOf, Among}
 use Rattle.meaning.proofs.Members.{map-among}
-use Rattle.value_types.specs.TypedValues.{OfSort, HasType, CarrierFits, CarriersFit, InReach, Carried, TermWithin, sizesIn}
+use Rattle.value_types.specs.TypedValues.{OfSort, CarrierFits, CarriersFit, InReach, Carried, TermWithin, sizesIn}
 use Rattle.value_types.proofs.FaultlessParts as parts
 use Rattle.value_types.proofs.TypeTests.{sort-has, set-no-number, items-of, pairs-of}
 use Rattle.value_types.proofs.SetBounds.{size-few}
@@ -54,7 +54,8 @@ operator-sized times t u v w a b e h k l =
     subst (λ (n : ℕ). n ≤ a * b) (sym (times-abs (v .code) (w .code))) (mul-le-mul (k h) (l (and-right (has t isNumber) (has u isNumber) e)))
 operator-sized inter t u v w a b e h k l = absurd (set-no-number t (and-left (isAnySet t) (sameType t u) e) h)
 
-pub division-sized : (o : Division) (v : Value) (e : End) (a : ℕ) → 0 < e .magnitude → natAbs (v .code) ≤ a → natAbs (divisionValue o v (endValue e) .code) ≤ divisionSize o a e
+pub division-sized : (o : Division) (v : Value) (e : End) (a : ℕ) → 0 < e .magnitude → natAbs (v .code) ≤ a
+    → natAbs (divisionValue o v (endValue e) .code) ≤ divisionSize o a e
 unfolding divisionValue
 division-sized quotient v e a h k = omega (arith, quotient-abs (v .code) (endValue e))
 division-sized remainder v e a h k = omega (arith, end-abs e, remainder-abs (v .code) (endValue e) (omega (arith, end-abs e)))
@@ -65,7 +66,8 @@ abbrev sizeFound : Option (Name × ℕ) → ℕ
 sizeFound none = 0
 sizeFound (some x) = x .1
 
-carrier-sized : (gs : List Given) (k : Carrier) (v : Value) → CarrierFits gs k → Among v (valuesOf k) → has (typeOf k) isNumber ≡ true → natAbs (v .code) ≤ largest k
+carrier-sized : (gs : List Given) (k : Carrier) (v : Value) → CarrierFits gs k → Among v (valuesOf k) → has (typeOf k) isNumber ≡ true
+    → natAbs (v .code) ≤ largest k
 unfolding CarrierFits valuesOf numberValues largest has
 carrier-sized gs (elementsOf g) v f m e = absurd (false≢true e)
 carrier-sized gs (numbers a b) v f m e =
@@ -139,7 +141,8 @@ module _ (Γ : Scope) (s : InReach Γ) where
     unfolding has
     pairs-no-number ts e h = false≢true (subst (λ (u : Ty). has u isNumber ≡ true) (pairs-of ts e .3) h)
 
-    pub term-sized : (t : Term) (i j : ℕ) → judgeTerm t Γ i .faults ≡ [] → has (judgeTerm t Γ i .type) isNumber ≡ true → natAbs (value t ρ .code) ≤ sizeTerm t (sizesIn Γ) j .bound
+    pub term-sized : (t : Term) (i j : ℕ) → judgeTerm t Γ i .faults ≡ [] → has (judgeTerm t Γ i .type) isNumber ≡ true
+        → natAbs (value t ρ .code) ≤ sizeTerm t (sizesIn Γ) j .bound
     unfolding judgeTerm value sizeTerm has
     term-sized (number n) i j e h = omega arith
     term-sized (name x) i j e h =
@@ -153,8 +156,8 @@ module _ (Γ : Scope) (s : InReach Γ) where
         let k = parts.binary-parts o t u Γ i e in
         let m = suc (judgeTerm t Γ i .next) in
         let n = suc (sizeTerm t (sizesIn Γ) j .next) in
-        operator-sized o (judgeTerm t Γ i .type) (judgeTerm u Γ m .type) (value t ρ) (value u ρ) (sizeTerm t (sizesIn Γ) j .bound) (sizeTerm u (sizesIn Γ) n .bound) (k .2) h
-        (λ l. term-sized t i j (k .0) l) (λ l. term-sized u m n (k .1) l)
+        operator-sized o (judgeTerm t Γ i .type) (judgeTerm u Γ m .type) (value t ρ) (value u ρ) (sizeTerm t (sizesIn Γ) j .bound)
+        (sizeTerm u (sizesIn Γ) n .bound) (k .2) h (λ l. term-sized t i j (k .0) l) (λ l. term-sized u m n (k .1) l)
     term-sized (divided o t d) i j e h =
         let k = parts.divided-parts o t d Γ i e in
         division-sized o (value t ρ) d (sizeTerm t (sizesIn Γ) j .bound) (k .2) (term-sized t i j (k .0) (k .1))
@@ -187,14 +190,16 @@ small-sort isPairs (n ∷ []) v h k = absurd h
 small-sort isPairs (n ∷ m ∷ []) v h k = small-code v (h .bits) (h .is) (below-power (h .bits) (n * m) 16 (h .few) (h .below))
 small-sort isPairs (n ∷ m ∷ l ∷ ns) v h k = absurd h
 
-pub sized-term : (t : Term) (Γ : Scope) (ρ : Environment) (i j : ℕ) → InReach Γ → Carried Γ ρ → TermWithin t → judgeTerm t Γ i .faults ≡ [] → sizeTerm t (sizesIn Γ) j .faults ≡ []
+pub sized-term : (t : Term) (Γ : Scope) (ρ : Environment) (i j : ℕ) → InReach Γ → Carried Γ ρ → TermWithin t → judgeTerm t Γ i .faults ≡ []
+    → sizeTerm t (sizesIn Γ) j .faults ≡ []
     → has (judgeTerm t Γ i .type) isNumber ≡ true → natAbs (value t ρ .code) ≤ sizeTerm t (sizesIn Γ) j .bound
 sized-term t Γ ρ i j s c w e f h = term-sized Γ s ρ c t i j e h
 
 pub bounded-term : (t : Term) (Γ : Scope) (j : ℕ) → InReach Γ → TermWithin t → sizeTerm t (sizesIn Γ) j .faults ≡ [] → sizeTerm t (sizesIn Γ) j .bound ≤ 2147483647
 bounded-term t Γ j s w f = term-bounded Γ s t j w f
 
-pub small-term : (t : Term) (Γ : Scope) (ρ : Environment) (i j : ℕ) → InReach Γ → Carried Γ ρ → TermWithin t → judgeTerm t Γ i .faults ≡ [] → sizeTerm t (sizesIn Γ) j .faults ≡ []
+pub small-term : (t : Term) (Γ : Scope) (ρ : Environment) (i j : ℕ) → InReach Γ → Carried Γ ρ → TermWithin t → judgeTerm t Γ i .faults ≡ []
+    → sizeTerm t (sizesIn Γ) j .faults ≡ []
     → natAbs (value t ρ .code) < 2147483648
 small-term t Γ ρ i j s c w e f =
     let u : Ty = judgeTerm t Γ i .type in

@@ -1,6 +1,6 @@
 -- Operations on values of types that fit: the result has its type.
-use mathlib.Core.Path.{_≡_, refl, sym, ap₂, subst}
-use mathlib.Core.Bool.{true, false, _&&_, false≢true}
+use mathlib.Core.Path.{_≡_, sym, ap₂, subst}
+use mathlib.Core.Bool.{true, _&&_, false≢true}
 use mathlib.Core.List.{List, [], _∷_, _++_, map}
 use mathlib.Core.Option.{Option, none, some}
 use Prim.Native.Nat.{ℕ, _*_, _^_, _<_, _≤_}
@@ -9,7 +9,7 @@ use lib.ListN.{take, drop}
 use borrow.Author.Tests.{leb-true}
 use Rattle.form.specs.Tree.{Letters, Given, Prefix, negate, size, dom, ran, Operator, plus, minus, union, without, times, inter}
 use Rattle.static_rules.specs.Carriers.{sizeOf, plain, givenOf}
-use Rattle.static_rules.specs.Types.{Sort, isNumber, isElement, isSet, isPairs, Ty, has, sameType, setOf, pairsOfTypes, domOf, ranOf, isAnySet, areNumbers, prefixFits, prefixType, operatorFits}
+use Rattle.static_rules.specs.Types.{Sort, isNumber, isElement, isSet, isPairs, Ty, has, sameType, setOf, pairsOfTypes, isAnySet, areNumbers, prefixFits, prefixType, operatorFits}
 use Rattle.static_rules.specs.Scope.{Scope}
 use Rattle.static_rules.specs.Names.{pairsFault, overFault}
 use Rattle.sets.specs.Sets as sets
@@ -78,7 +78,8 @@ module _ (ρ : Environment) where
     both-over isPairs (g ∷ l ∷ []) v w e h k = both-pairs op keeps h k
     both-over isPairs (g ∷ l ∷ m ∷ ms) v w e h k = absurd h
 
-    pub both-typed : (t u : Ty) (v w : Value) → (isAnySet t && sameType t u) ≡ true → HasType ρ t v → HasType ρ u w → HasType ρ t (withBits v (op (bits v) (bits w)))
+    pub both-typed : (t u : Ty) (v w : Value) → (isAnySet t && sameType t u) ≡ true → HasType ρ t v → HasType ρ u w
+        → HasType ρ t (withBits v (op (bits v) (bits w)))
     both-typed t u v w e h k =
         both-over (t .sort) (t .over) v w (and-left (isAnySet t) (sameType t u) e) h
         (subst (λ (r : Ty). HasType ρ r w) (sym (same-type t u (and-right (isAnySet t) (sameType t u) e))) k)
@@ -109,7 +110,8 @@ module _ (ρ : Environment) where
         subst (λ (n : ℕ). n ≤ 16) (sym (ap₂ _*_ (named-size Γ ρ c (plain g)) (named-size Γ ρ c (plain h))))
         (pairs-few (givenOf (Γ .givens) (plain g)) (givenOf (Γ .givens) (plain h)) i e)
 
-    pair-over : (gs hs : List Letters) (v w : Value) (i : ℕ) → OfSort isElement (sizes gs) v → OfSort isElement (sizes hs) w → overFault (Γ .givens) (gs ++ hs) i ≡ []
+    pair-over : (gs hs : List Letters) (v w : Value) (i : ℕ) → OfSort isElement (sizes gs) v → OfSort isElement (sizes hs) w
+        → overFault (Γ .givens) (gs ++ hs) i ≡ []
         → OfSort isPairs (sizes (gs ++ hs)) (singlePair v w)
     unfolding OfSort
     pair-over [] hs v w i p q e = absurd p

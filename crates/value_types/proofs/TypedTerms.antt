@@ -1,5 +1,5 @@
 -- A term without faults has a value of its type, in every environment of its scope.
-use mathlib.Core.Path.{_≡_, refl, sym, ap, ap₂, _∙_, subst}
+use mathlib.Core.Path.{_≡_, refl, sym, ap, ap₂, subst}
 use mathlib.Core.Bool.{true}
 use mathlib.Core.List.{List, [], _∷_}
 use mathlib.Core.Option.{Option, none, some, Option·none-ne-some, Option·some-injective}
@@ -7,12 +7,12 @@ use Prim.Native.Nat.{ℕ, suc, _+_, _*_, _^_, _<_, _≤_}
 use lib.Pow.{pow-pos}
 use Rattle.lexical.specs.Lists.{find}
 use Rattle.lexical.specs.Symbols.{Name}
-use Rattle.form.specs.Tree.{Letters, End, Given, elements, Prefix, Operator, union, Division, relation}
-use Rattle.form.specs.Tree.{Term, number, name, group, prefix, binary, divided, listed, pairs, such, emptySet, emptyPairs, Items, only, also, Pairs, onlyPair, alsoPair, Pred}
-use Rattle.static_rules.specs.Carriers.{Variable, elementsOf, sizeOf, sameName, plain, givenOf}
-use Rattle.static_rules.specs.Types.{Ty, isSet, isPairs, typeOf, setOf, pairsOfTypes, isAnySet, has, braceType, braceFits, pairsType, pairsFit}
+use Rattle.form.specs.Tree.{Letters, Given, elements, union, relation}
+use Rattle.form.specs.Tree.{Term, number, name, group, prefix, binary, divided, listed, pairs, such, emptySet, emptyPairs, Items, only, also, Pairs, onlyPair, alsoPair}
+use Rattle.static_rules.specs.Carriers.{Variable, elementsOf, sizeOf, sameName, givenOf}
+use Rattle.static_rules.specs.Types.{Ty, isPairs, typeOf, setOf, pairsOfTypes, isAnySet, has, braceType, braceFits, pairsType, pairsFit}
 use Rattle.static_rules.specs.Scope.{Scope, elementOf, placeIn, typeOfName}
-use Rattle.static_rules.specs.Names.{ofName, known, pairsFault, overFault, judgeTerm, judgeItems, judgePairs}
+use Rattle.static_rules.specs.Names.{known, overFault, judgeTerm, judgeItems, judgePairs}
 use Rattle.symbols.proofs.BooleanTests.{and-both}
 use Rattle.sets.proofs.Members.{set-below}
 use Rattle.sets.specs.Sets as sets
@@ -50,7 +50,8 @@ module _ (Γ : Scope) (ρ : Environment) (s : InReach Γ) (c : Carried Γ ρ) wh
   pub name-typed : (x : Name) (t : Ty) → typeOfName Γ x ≡ some t → HasType ρ t (valueOf ρ x)
   unfolding typeOfName valueOf
   name-typed x t e =
-      subst (λ (gs : List Given). HasType ρ t (valueFound (find (λ (b : Name × Value). sameName (b .0) x) (ρ .values)) (elementValue (elementOf gs x) x))) (sym (c .givens))
+      subst (λ (gs : List Given). HasType ρ t (valueFound (find (λ (b : Name × Value). sameName (b .0) x) (ρ .values)) (elementValue (elementOf gs x) x)))
+      (sym (c .givens))
       (found-typed (looked (Γ .givens) (Γ .reach) (ρ .values) x (s .fit) (c .over)) x (elementOf (Γ .givens) x) refl t e)
 
   -- a set over a given set that is named
@@ -74,7 +75,8 @@ module _ (Γ : Scope) (ρ : Environment) (s : InReach Γ) (c : Carried Γ ρ) wh
       subst (λ (n : ℕ). n ≤ 16) (ap₂ (λ (o p : Option Given). sizeIn o * sizeIn p) (k .1) (l .1))
       (pairs-few (givenOf (Γ .givens) g) (givenOf (Γ .givens) h) i (f .2)) in
       moved (k .0 .title) (g .letters) (l .0 .title) (h .letters) (sizeOf (k .0)) (sizeOfGiven ρ g) (sizeOf (l .0)) (sizeOfGiven ρ h)
-      (ap (λ (x : Name). x .letters) (gk .1)) (ap (λ (x : Name). x .letters) (hl .1)) (sym (given-size Γ ρ s c g (k .0) (k .1))) (sym (given-size Γ ρ s c h (l .0) (l .1)))
+      (ap (λ (x : Name). x .letters) (gk .1)) (ap (λ (x : Name). x .letters) (hl .1))
+      (sym (given-size Γ ρ s c g (k .0) (k .1))) (sym (given-size Γ ρ s c h (l .0) (l .1)))
       (pairs-value Γ ρ s c relation (k .0) (l .0) 0 (gk .0) (hl .0) few (pow-pos (sizeOf (k .0) * sizeOf (l .0))))
     where
       moved : (a b d e : Letters) (n m k l : ℕ) → a ≡ b → d ≡ e → n ≡ m → k ≡ l → HasType ρ (record { sort = isPairs; over = a ∷ d ∷ [] }) (val.pairs n k 0)
@@ -91,7 +93,8 @@ module _ (Γ : Scope) (ρ : Environment) (s : InReach Γ) (c : Carried Γ ρ) wh
   item-typed : (u a : Ty) (bs : List Ty) (v : Value) → ItemsOf u (a ∷ bs) → HasType ρ a v → HasType ρ (setOf u) (singleton v)
   item-typed u a bs v h k = single-typed ρ u v (h .element) (subst (λ (t : Ty). HasType ρ t v) (sym (items-split u a bs h .0)) k)
 
-  also-typed : (u a : Ty) (bs : List Ty) (v w : Value) → ItemsOf u (a ∷ bs) → HasType ρ a v → HasType ρ (setOf u) w → HasType ρ (setOf u) (operatorValue union (singleton v) w)
+  also-typed : (u a : Ty) (bs : List Ty) (v w : Value) → ItemsOf u (a ∷ bs) → HasType ρ a v → HasType ρ (setOf u) w
+      → HasType ρ (setOf u) (operatorValue union (singleton v) w)
   unfolding isAnySet has
   also-typed u a bs v w h k l = joined (setOf u) (singleton v) w refl (item-typed u a bs v h k) l
 
@@ -124,7 +127,9 @@ module _ (Γ : Scope) (ρ : Environment) (s : InReach Γ) (c : Carried Γ ρ) wh
     term-typed (number n) i e = tt
     term-typed (name x) i e = let k = parts.name-parts x Γ i e in subst (λ (u : Ty). HasType ρ u (valueOf ρ x)) (sym (k .2)) (name-typed x (k .0) (k .1))
     term-typed (group t) i e = term-typed t (suc i) e
-    term-typed (prefix o t) i e = let k = parts.prefix-parts o t Γ i e in prefix-value ρ o (judgeTerm t Γ (suc i) .type) (value t ρ) (k .1) (term-typed t (suc i) (k .0))
+    term-typed (prefix o t) i e =
+        let k = parts.prefix-parts o t Γ i e in
+        prefix-value ρ o (judgeTerm t Γ (suc i) .type) (value t ρ) (k .1) (term-typed t (suc i) (k .0))
     term-typed (binary o t u) i e =
         let k = parts.binary-parts o t u Γ i e in
         let j = suc (judgeTerm t Γ i .next) in
@@ -136,11 +141,14 @@ module _ (Γ : Scope) (ρ : Environment) (s : InReach Γ) (c : Carried Γ ρ) wh
     term-typed (pairs ts) i e =
         let k = parts.pairs-parts ts Γ i e in
         pairs-brace-typed (judgePairs ts Γ (suc i) .types) (pairsValue ts ρ) i (k .1) (k .2) (λ u w h f. pairs-typed ts (suc i) (k .0) u w h i f)
-    term-typed (such x g p) i e = over-typed g (λ n. sets.setOf n (λ k. holds p (with ρ x (val.element n k)))) (λ n. set-below n _) (i + 3) (parts.such-parts x g p Γ i e .1)
+    term-typed (such x g p) i e =
+        over-typed g (λ n. sets.setOf n (λ k. holds p (with ρ x (val.element n k)))) (λ n. set-below n _) (i + 3)
+        (parts.such-parts x g p Γ i e .1)
     term-typed (emptySet g) i e = over-typed g (λ n. 0) (λ n. pow-pos n) (suc i) e
     term-typed (emptyPairs g h) i e = empty-pairs-typed g h i e
 
-    pub items-typed : (ts : Items) (i : ℕ) → judgeItems ts Γ i .faults ≡ [] → (u : Ty) → ItemsOf u (judgeItems ts Γ i .types) → HasType ρ (setOf u) (itemsValue ts ρ)
+    pub items-typed : (ts : Items) (i : ℕ) → judgeItems ts Γ i .faults ≡ [] → (u : Ty) → ItemsOf u (judgeItems ts Γ i .types)
+        → HasType ρ (setOf u) (itemsValue ts ρ)
     items-typed (only t) i e u h = item-typed u (judgeTerm t Γ i .type) [] (value t ρ) h (term-typed t i e)
     items-typed (also t ts) i e u h =
         let k = parts.also-parts t ts Γ i e in
@@ -160,12 +168,14 @@ module _ (Γ : Scope) (ρ : Environment) (s : InReach Γ) (c : Carried Γ ρ) wh
         let m = suc (judgeTerm t Γ i .next) in
         let n = suc (judgeTerm r Γ m .next) in
         let l = judgePairs ts Γ n .types in
-        also-pair-typed u w (judgeTerm t Γ i .type) (judgeTerm r Γ m .type) l (value t ρ) (value r ρ) (pairsValue ts ρ) j h f (term-typed t i (k .0)) (term-typed r m (k .1))
+        also-pair-typed u w (judgeTerm t Γ i .type) (judgeTerm r Γ m .type) l (value t ρ) (value r ρ) (pairsValue ts ρ) j h f
+        (term-typed t i (k .0)) (term-typed r m (k .1))
         (pairs-typed ts n (k .2) u w (pairs-split u w (judgeTerm t Γ i .type, judgeTerm r Γ m .type) l h .2) j f)
 
 -- ---- the theorems
 
-pub typed-term : (t : Term) (Γ : Scope) (ρ : Environment) (i : ℕ) → InReach Γ → Carried Γ ρ → TermWithin t → judgeTerm t Γ i .faults ≡ [] → HasType ρ (judgeTerm t Γ i .type) (value t ρ)
+pub typed-term : (t : Term) (Γ : Scope) (ρ : Environment) (i : ℕ) → InReach Γ → Carried Γ ρ → TermWithin t → judgeTerm t Γ i .faults ≡ []
+    → HasType ρ (judgeTerm t Γ i .type) (value t ρ)
 typed-term t Γ ρ i s c w e = term-typed Γ ρ s c t i e
 
 -- the items of a brace that fits

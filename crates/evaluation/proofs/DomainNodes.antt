@@ -1,5 +1,5 @@
 -- What a name is bound over: its node has the code of the first value, and how many there are. Assumes nothing.
-use mathlib.Core.Path.{_≡_, refl, sym, ap, _∙_, subst}
+use mathlib.Core.Path.{_≡_, refl, sym, ap, subst}
 use mathlib.Core.Logic.{inl, inr}
 use mathlib.Core.List.{List, [], map}
 use mathlib.Core.Option.{Option, none, some}

@@ -1,26 +1,26 @@
 -- The items and pairs of a brace: the nodes that stand for them give the set of them, if those of the parts give their values.
-use mathlib.Core.Path.{_≡_, refl, sym, ap, _∙_, subst}
-use mathlib.Core.List.{List, _++_}
-use Prim.Native.Nat.{ℕ, suc, _+_, _-_, _<_, _≤_, max}
+use mathlib.Core.Path.{_≡_, refl, sym, ap, subst}
+use mathlib.Core.List.{List}
+use Prim.Native.Nat.{ℕ, _+_, _-_, _<_, max}
 use native.Mathlib.Omega.{arith}
 use lib.ListN.{length}
 use lib.IntN.{ℤ, pos}
 use Rattle.form.specs.Tree.{Term, Items, only, also, Pairs, onlyPair, alsoPair}
 use Rattle.sets.specs.Sets as sets
 use Rattle.sets.proofs.Members.{set-below}
-use Rattle.meaning.specs.Values.{natural, bits, operatorValue, singleton, singlePair, pairBit}
+use Rattle.meaning.specs.Values.{natural, operatorValue, singleton, singlePair, pairBit}
 use Rattle.meaning.specs.Meaning.{value, itemsValue, pairsValue}
 use Rattle.value_types.proofs.SetBounds.{single-below}
 use Rattle.value_types.proofs.TypedOperations.{pair-typed}
 use Rattle.table_places.specs.ResolvedTable.{typeIn, elementSize, termTable, itemsTable, pairsTable}
-use Rattle.evaluation.specs.OperatorsByNumber.{IsPlace, IsBits}
-use Rattle.evaluation.specs.EvaluationByNumber.{Inside, Pair, pairCode, TermIs, ItemsIs, TruthIs}
+use Rattle.evaluation.specs.OperatorsByNumber.{IsBits}
+use Rattle.evaluation.specs.EvaluationByNumber.{Pair, pairCode, TermIs, ItemsIs, TruthIs}
 use Rattle.evaluation.specs.SlotValues.{boundSlot}
 use Rattle.evaluation.specs.Heights.{heightTerm, heightItems, heightPairs}
 use Rattle.evaluation.proofs.StandingNodes.{one-part, two-parts, three-parts}
 use Rattle.evaluation.proofs.NodeValues.{items-node, last-item, more-items, last-pair, more-pairs}
-use Rattle.evaluation.proofs.TypedCodes.{element-code, pair-of, few-of, element-agrees}
-use Rattle.evaluation.proofs.SoundTrees.{SoundItems, SoundPairs, TwoElements, sound-only, sound-also, sound-only-pair, sound-also-pair}
+use Rattle.evaluation.proofs.TypedCodes.{element-code, pair-of, element-agrees}
+use Rattle.evaluation.proofs.SoundTrees.{TwoElements, sound-only, sound-also, sound-only-pair, sound-also-pair}
 use Rattle.evaluation.proofs.Settings.{Setting, TermHere, ItemsHere, PairsHere, term-typed}
 
 single-bits : (k : ℕ) → k < 16 → IsBits (pos (sets.single k))
@@ -74,8 +74,7 @@ module _ (table : List ℕ) (S : Setting) where
       record {
         takes =
             subst (λ (m : ℕ). Pair m (value t (S .ρ) .code) (value u (S .ρ) .code)) (sym n)
-            (pair-of (S .ρ) (typeIn (S .Γ) t) (typeIn (S .Γ) u) v w (s .first) (s .second) τ υ
-            (few-of (S .ρ) (typeIn (S .Γ) t) (typeIn (S .Γ) u) v w (singlePair v w) (s .first) (s .second) τ υ o));
+            (pair-of (S .ρ) (typeIn (S .Γ) t) (typeIn (S .Γ) u) v w (singlePair v w) (s .first) (s .second) τ υ o);
         bit-is = ap (λ (m : ℕ). sets.pair m (natural (value t (S .ρ) .code)) (natural (value u (S .ρ) .code))) (sym n);
       }
 

@@ -1,14 +1,12 @@
 -- Predicates: the nodes that stand for one give its truth, if those of its parts give their values. One law for each kind of predicate.
 use mathlib.Core.Path.{_≡_, refl, sym, ap, _∙_, subst}
-use mathlib.Core.Bool.{Bool, not}
-use mathlib.Core.List.{List, _∷_, _++_, map}
-use Prim.Native.Nat.{ℕ, suc, _+_, _-_, _≤_, max}
+use mathlib.Core.List.{List, _∷_, _++_}
+use Prim.Native.Nat.{ℕ, _+_, _-_, _≤_, max}
 use native.Mathlib.Omega.{arith}
 use lib.Dec.{eqb}
 use lib.ListN.{length}
 use Rattle.lexical.specs.Kinds.{codeOf}
-use Rattle.lexical.specs.Lists.{upward}
-use Rattle.form.specs.Tree.{Letters, Range, Domain, range, Connective, Quantifier, Comparison, Membership, Term}
+use Rattle.form.specs.Tree.{Letters, Range, Domain, Connective, Quantifier, Comparison, Membership, Term}
 use Rattle.form.specs.Tree.{Pred, truth, falsity, negation, paren, quantified, connected, compared, member, within, related}
 use Rattle.form.specs.Written.{connectiveKind, quantifierKind, comparisonKind, membershipKind}
 use Rattle.form.specs.Codes.{node, endNumber}
@@ -16,23 +14,22 @@ use Rattle.static_rules.specs.Carriers.{plain}
 use Rattle.static_rules.specs.Scope.{binding}
 use Rattle.static_rules.specs.Names.{domainCarrier}
 use Rattle.sets.specs.Sets as sets
-use Rattle.meaning.specs.Values as val
-use Rattle.meaning.specs.Values.{Value, natural, bits, pairBit}
-use Rattle.meaning.specs.Meaning.{with, quantify, domainValues, isMember, isPairOf, value, holds}
+use Rattle.meaning.specs.Values.{Value, natural, pairBit}
+use Rattle.meaning.specs.Meaning.{with, quantify, isMember, isPairOf, value, holds}
 use Rattle.node_spans.specs.Spans.{Stands}
 use Rattle.table_nodes.specs.TableByNumber.{nextSlot, relatedShape}
 use Rattle.table_places.specs.ResolvedTable.{typeIn, elementSize, domainTable, termTable, predTable}
 use Rattle.evaluation.specs.OperatorsByNumber as by
-use Rattle.evaluation.specs.EvaluationByNumber.{Inside, Pair, pairCode, TermIs, ItemsIs, TruthIs}
+use Rattle.evaluation.specs.EvaluationByNumber.{Pair, pairCode, TermIs, ItemsIs, TruthIs}
 use Rattle.evaluation.specs.SlotValues.{boundSlot}
 use Rattle.evaluation.specs.Heights.{heightTerm, heightPred}
 use Rattle.evaluation.proofs.OperatorsAgree.{comparisons-agree, connectives-agree, memberships-agree, relations-agree, quantifiers-agree}
 use Rattle.evaluation.proofs.RangesAgree.{ranges-agree}
 use Rattle.evaluation.proofs.StandingNodes.{node-at, one-part, two-parts, three-parts, bounded-part}
 use Rattle.evaluation.proofs.NodeValues.{truth-node, truth-value, negation-node, connective-node, comparison-node, member-node, range-node, quantifier-node, related-node}
-use Rattle.evaluation.proofs.TypedCodes.{member-codes, RelatedCodes, related-codes, element-agrees}
-use Rattle.evaluation.proofs.SoundTrees.{SoundPred, sound-negation, sound-paren, sound-quantified, sound-connected, sound-compared, sound-member, sound-within, sound-related}
-use Rattle.evaluation.proofs.DomainNodes.{DomainNode, domain-node}
+use Rattle.evaluation.proofs.TypedCodes.{member-codes, related-codes, second-element, element-agrees}
+use Rattle.evaluation.proofs.SoundTrees.{sound-negation, sound-paren, sound-quantified, sound-connected, sound-compared, sound-member, sound-within, sound-related}
+use Rattle.evaluation.proofs.DomainNodes.{domain-node}
 use Rattle.evaluation.proofs.Settings.{Setting, TermHere, PredHere, term-typed, bound-each}
 
 module _ (table : List ℕ) (S : Setting) where
@@ -122,7 +119,7 @@ module _ (table : List ℕ) (S : Setting) where
       let υ = term-typed S u (d .1) in
       let k = related-codes (S .ρ) (typeIn (S .Γ) t) (typeIn (S .Γ) u) (typeIn (S .Γ) v) (value t (S .ρ)) (value u (S .ρ)) (value v (S .ρ)) (d .3)
       (term-typed S t (d .0)) υ (term-typed S v (d .2)) in
-      let z : elementSize (S .Γ) u ≡ value u (S .ρ) .first = element-agrees (S .Γ) (S .ρ) (S .held .carried) u (value u (S .ρ)) (k .0) υ in
+      let z : elementSize (S .Γ) u ≡ value u (S .ρ) .first = element-agrees (S .Γ) (S .ρ) (S .held .carried) u (value u (S .ρ)) (second-element (typeIn (S .Γ) t) (typeIn (S .Γ) u) (typeIn (S .Γ) v) (d .3)) υ in
       let m = c .before in
       let n = c .between in
       truth-node table (max (max (heightTerm t) (heightTerm u)) (heightTerm v)) e (S .σ) f (holds (related o t u v) (S .ρ)) h (record { some = c .last .some; within = l })
@@ -131,7 +128,7 @@ module _ (table : List ℕ) (S : Setting) where
       (T b (b + length a) g (d .0) (c .first) (omega arith) (omega arith))
       (U (b + length a) (b + length a + length a₁) g (d .1) (c .second) (omega arith) (omega arith))
       (V₁ (b + length a + length a₁) (e - 4) g (d .2) (c .third) (omega arith) (omega arith))
-      (subst (λ (w : ℕ). Pair w (value t (S .ρ) .code) (value u (S .ρ) .code)) (sym z) (k .1 .pair)) (k .1 .set)
+      (subst (λ (w : ℕ). Pair w (value t (S .ρ) .code) (value u (S .ρ) .code)) (sym z) (k .pair)) (k .set)
       (relations-agree o _
       ∙ ap (λ (w : ℕ). by.asked (eqb (relatedShape o) 22) (sets.has (natural (value v (S .ρ) .code)) (natural (pairCode w (value t (S .ρ) .code) (value u (S .ρ) .code))))) (sym z)))
 

@@ -1,7 +1,7 @@
 -- Terms: the nodes that stand for one give its value, if those of its parts give theirs. One law for each kind of term.
-use mathlib.Core.Path.{_≡_, refl, sym, ap, _∙_, subst}
-use mathlib.Core.List.{List, _∷_, _++_}
-use Prim.Native.Nat.{ℕ, suc, _+_, _-_, _≤_, max}
+use mathlib.Core.Path.{_≡_, refl, sym, ap, subst}
+use mathlib.Core.List.{List, _∷_}
+use Prim.Native.Nat.{ℕ, _+_, _-_, _≤_, max}
 use native.Mathlib.Omega.{arith}
 use lib.ListN.{length}
 use lib.IntN.{pos}
@@ -17,19 +17,18 @@ use Rattle.static_rules.specs.Names.{domainCarrier}
 use Rattle.sets.specs.Sets as sets
 use Rattle.meaning.specs.Values as val
 use Rattle.meaning.specs.Meaning.{with, sizeOfGiven, value, holds}
-use Rattle.value_types.specs.TypedValues.{HasType}
 use Rattle.node_spans.specs.Spans.{Stands}
 use Rattle.table_nodes.specs.TableByNumber.{nextSlot}
-use Rattle.table_places.specs.ResolvedTable.{sideSize, nameTable, domainTable, termTable, itemsTable, pairsTable, predTable, givenSize}
-use Rattle.evaluation.specs.EvaluationByNumber.{Inside, TermIs, ItemsIs, TruthIs}
+use Rattle.table_places.specs.ResolvedTable.{sideSize, domainTable, termTable, itemsTable, pairsTable, predTable, givenSize}
+use Rattle.evaluation.specs.EvaluationByNumber.{TermIs, ItemsIs, TruthIs}
 use Rattle.evaluation.specs.SlotValues.{boundSlot}
 use Rattle.evaluation.specs.Heights.{heightTerm, heightItems, heightPairs, heightPred}
 use Rattle.evaluation.proofs.OperatorsAgree.{operators-agree, divisions-agree}
-use Rattle.evaluation.proofs.StandingNodes.{Node, node-at, one-part, two-parts, bounded-part}
+use Rattle.evaluation.proofs.StandingNodes.{node-at, one-part, two-parts, bounded-part}
 use Rattle.evaluation.proofs.SlotNames.{Named, slot, place, name-found}
 use Rattle.evaluation.proofs.NodeValues.{term-node, number-node, slot-node, prefix-node, division-node, operator-node, such-node, items-brace, pairs-brace}
 use Rattle.evaluation.proofs.TypedCodes.{prefix-takes, operator-takes, prefixes-agree, given-agrees}
-use Rattle.evaluation.proofs.SoundTrees.{SoundTerm, SoundItems, SoundPairs, Binder, sound-group, sound-prefix, sound-binary, sound-divided, sound-listed, sound-pairs, sound-such}
+use Rattle.evaluation.proofs.SoundTrees.{SoundTerm, sound-group, sound-prefix, sound-binary, sound-divided, sound-listed, sound-pairs, sound-such}
 use Rattle.evaluation.proofs.DomainNodes.{given-node, given-few}
 use Rattle.evaluation.proofs.Settings.{Setting, TermHere, ItemsHere, PairsHere, PredHere, term-typed, term-small, bound-each}
 

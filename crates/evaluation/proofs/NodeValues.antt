@@ -2,7 +2,7 @@
 use mathlib.Core.Path.{_≡_, sym, ap, _∙_, subst}
 use mathlib.Core.Bool.{Bool, not}
 use mathlib.Core.List.{List}
-use Prim.Native.Nat.{ℕ, zero, suc, _+_, _-_, _<_, _≤_}
+use Prim.Native.Nat.{ℕ, zero, suc, _-_, _<_, _≤_}
 use native.Mathlib.Omega.{arith}
 use lib.Dec.{eqb}
 use lib.ListN.{getD}
@@ -12,8 +12,8 @@ use Rattle.meaning.specs.Values.{natural}
 use Rattle.form.specs.Tree.{Membership, isIn, notIn}
 use Rattle.table_nodes.specs.TableByNumber.{relatedShape}
 use Rattle.evaluation.specs.OperatorsByNumber.{Small, IsPlace, IsBits, prefixed, PrefixTakes, divided, operated, OperatorTakes, compared, connected, asked, inRange}
-use Rattle.evaluation.specs.EvaluationByNumber.{Values, firstAt, secondAt, endAt, lowAt, countAt, Inside, Terms, Truths, Part, Bound, Pair, pairCode, TermNode, ItemsNode, TruthNode, AskedNode, quantified}
-use Rattle.evaluation.specs.EvaluationByNumber.{PrefixNode, DivisionNode, OperatorNode, SuchNode, LastItem, MoreItems, LastPair, MorePairs, ConnectiveNode, ComparisonNode, MemberNode, RangeNode, RelatedNode, QuantifierNode}
+use Rattle.evaluation.specs.EvaluationByNumber.{Values, secondAt, endAt, lowAt, countAt, Inside, Terms, Truths, Part, Bound, Pair, pairCode, TermNode, ItemsNode, TruthNode, AskedNode, quantified}
+use Rattle.evaluation.specs.EvaluationByNumber.{RelatedNode}
 use Rattle.evaluation.specs.EvaluationByNumber.{TermIs, ItemsIs, TruthIs}
 use Rattle.evaluation.proofs.StandingNodes.{Node}
 

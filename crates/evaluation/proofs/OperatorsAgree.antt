@@ -1,24 +1,24 @@
 -- The operators by number are those of the definitions, one equation for each kind of operator. Assumes nothing.
 use mathlib.Core.Path.{_≡_, refl, ap}
 use mathlib.Core.Bool.{Bool, true, false, not}
-use mathlib.Core.List.{List, [], _∷_, map}
+use mathlib.Core.List.{map}
 use Prim.Native.Nat.{ℕ, zero, suc, _+_}
 use native.Mathlib.Omega.{arith}
 use lib.Dec.{eqb}
 use lib.IntN.{ℤ}
 use Rattle.lexical.specs.Kinds.{codeOf}
 use Rattle.lexical.specs.Lists.{all, any, count, upward}
-use Rattle.form.specs.Tree.{End, Prefix, negate, size, dom, ran, Operator, plus, minus, union, without, times, inter, Division, quotient, remainder, Comparison, equals, differs, less, atMost}
+use Rattle.form.specs.Tree.{End, Operator, plus, minus, union, without, times, inter, Division, quotient, remainder, Comparison, equals, differs, less, atMost}
 use Rattle.form.specs.Tree.{Membership, isIn, notIn, Connective, and, or, implies, iff, Quantifier, forall, exists, exists1}
-use Rattle.form.specs.Written.{prefixKind, operatorKind, connectiveKind, quantifierKind, comparisonKind, membershipKind}
+use Rattle.form.specs.Written.{operatorKind, connectiveKind, quantifierKind, comparisonKind, membershipKind}
 use Rattle.form.specs.Codes.{signOf, divisionNumber}
 use Rattle.static_rules.specs.Carriers.{endValue}
 use Rattle.sets.specs.Sets as sets
 use Rattle.meaning.specs.Values as val
-use Rattle.meaning.specs.Values.{Value, prefixValue, operatorValue, divisionValue, compare, connect}
+use Rattle.meaning.specs.Values.{Value, operatorValue, divisionValue, compare, connect}
 use Rattle.meaning.specs.Meaning.{quantify}
 use Rattle.table_nodes.specs.TableByNumber.{relatedShape}
-use Rattle.evaluation.specs.OperatorsByNumber.{prefixed, divided, divisor, operated, compared, connected, asked}
+use Rattle.evaluation.specs.OperatorsByNumber.{divided, divisor, operated, compared, connected, asked}
 use Rattle.evaluation.specs.EvaluationByNumber.{quantified}
 
 pub operators-agree : (o : Operator) (u v : Value) → operatorValue o u v .code ≡ operated (codeOf (operatorKind o)) (u .code) (v .code)

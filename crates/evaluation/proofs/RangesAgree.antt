@@ -3,7 +3,7 @@ use mathlib.Core.Path.{_≡_, refl, sym, ap, ap₂, _∙_}
 use mathlib.Core.Bool.{Bool, true, false, false≢true, cond, _&&_}
 use Prim.Native.Nat.{ℕ, zero, suc, _+_, _-_, _<_, _≤_}
 use native.Mathlib.Omega.{arith}
-use lib.Dec.{leb, ltb, leb·suc-suc, leb·suc-zero, leb·zero}
+use lib.Dec.{leb·suc-suc, leb·suc-zero, leb·zero}
 use lib.IntN.{ℤ, pos, negsuc, natAbs, sucℤ, subℕ, _+ℤ_, _-ℤ_}
 use lib.Signed.{leZ, ltZ}
 use borrow.Author.Tests.{leb-true, le-ltb, lt-ltb}

@@ -5,7 +5,7 @@ use mathlib.Core.List.{List, [], _∷_}
 use mathlib.Core.Option.{Option, none, some}
 use Prim.Native.Nat.{ℕ, suc, _+_, _<_, _≤_}
 use native.Mathlib.Omega.{arith}
-use lib.ListN.{getD, length, set, length-set}
+use lib.ListN.{getD, set, length-set}
 use lib.Seq.{getD-set-same, getD-set-other}
 use lib.IntN.{ℤ, pos}
 use borrow.Author.Tests.{lt-ltb}
@@ -16,7 +16,7 @@ use Rattle.form.specs.Codes.{node}
 use Rattle.static_rules.specs.Carriers.{Carrier, sameName, plain}
 use Rattle.static_rules.specs.Scope.{Scope, binding, elementOf, placeIn}
 use Rattle.meaning.specs.Values.{Value}
-use Rattle.meaning.specs.Meaning.{Binding, Environment, elementValue, valueOf, with}
+use Rattle.meaning.specs.Meaning.{Binding, Environment, valueOf, with}
 use Rattle.value_types.specs.TypedValues.{InReach, Carried}
 use Rattle.table_nodes.specs.TableByNumber.{nextSlot}
 use Rattle.table_places.specs.ResolvedTable.{Slots, nameTable}

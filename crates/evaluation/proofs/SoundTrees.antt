@@ -1,15 +1,15 @@
 -- Trees of which all that the evaluator needs is known: no faults of names, types and sizes, numbers of at most 1,000, at most three bound names in reach.
 -- Their parts are such trees, and fit. Assumes nothing.
-use mathlib.Core.Path.{_≡_, refl, sym, ap, ap₂, _∙_, subst}
+use mathlib.Core.Path.{_≡_, sym, ap, ap₂, _∙_, subst}
 use mathlib.Core.Bool.{Bool, true}
-use mathlib.Core.List.{List, []}
-use Prim.Native.Nat.{ℕ, suc, _≤_, _<_}
+use mathlib.Core.List.{[]}
+use Prim.Native.Nat.{ℕ, suc, _≤_}
 use Rattle.form.specs.Tree.{Letters, End, Range, Domain, givenSet, Prefix, Operator, Division, Connective, Quantifier, Comparison, Membership}
 use Rattle.form.specs.Tree.{Term, number, name, group, prefix, binary, divided, listed, pairs, such, Items, only, also, Pairs, onlyPair, alsoPair}
 use Rattle.form.specs.Tree.{Pred, negation, paren, quantified, connected, compared, member, within, related}
 use Rattle.lexical.specs.Symbols.{Name}
 use Rattle.static_rules.specs.Carriers.{endValue}
-use Rattle.static_rules.specs.Types.{Ty, has, isElement, prefixFits, operatorFits, comparisonFits, memberFits, relatedFits, pairsOfTypes}
+use Rattle.static_rules.specs.Types.{Ty, has, isElement, prefixFits, operatorFits, memberFits, relatedFits, pairsOfTypes}
 use Rattle.static_rules.specs.Scope.{Scope, binding}
 use Rattle.static_rules.specs.Names.{judgeTerm, judgeItems, judgePairs, judgePred, domainCarrier, domainFaults, overFault, rangeFits}
 use Rattle.static_rules.specs.Limits.{sizeTerm, sizeItems, sizePairs, sizePred}

@@ -30,19 +30,19 @@ module _ (table : List ℕ) where
     term-here (prefix o t) S = prefix-here table S o t (term-here t S)
     term-here (binary o t u) S = binary-here table S o t u (term-here t S) (term-here u S)
     term-here (divided o t e) S = divided-here table S o t e (term-here t S)
-    term-here (listed ts) S = listed-here table S ts (items-here ts S)
-    term-here (pairs ts) S = pairs-here table S ts (all-pairs-here ts S)
+    term-here (listed ts) S = listed-here table S ts (items-evaluate ts S)
+    term-here (pairs ts) S = pairs-here table S ts (pairs-evaluate ts S)
     term-here (such x g p) S = such-here table S x g p (λ s. pred-here p s)
     term-here (emptySet g) S = empty-set-here table S g
     term-here (emptyPairs g h) S = empty-pairs-here table S g h
 
-    items-here : (ts : Items) (S : Setting) → ItemsHere table S ts
-    items-here (only t) S = only-here table S t (term-here t S)
-    items-here (also t ts) S = also-here table S t ts (term-here t S) (items-here ts S)
+    pub items-evaluate : (ts : Items) (S : Setting) → ItemsHere table S ts
+    items-evaluate (only t) S = only-here table S t (term-here t S)
+    items-evaluate (also t ts) S = also-here table S t ts (term-here t S) (items-evaluate ts S)
 
-    all-pairs-here : (ts : Pairs) (S : Setting) → PairsHere table S ts
-    all-pairs-here (onlyPair t u) S = only-pair-here table S t u (term-here t S) (term-here u S)
-    all-pairs-here (alsoPair t u ts) S = also-pair-here table S t u ts (term-here t S) (term-here u S) (all-pairs-here ts S)
+    pub pairs-evaluate : (ts : Pairs) (S : Setting) → PairsHere table S ts
+    pairs-evaluate (onlyPair t u) S = only-pair-here table S t u (term-here t S) (term-here u S)
+    pairs-evaluate (alsoPair t u ts) S = also-pair-here table S t u ts (term-here t S) (term-here u S) (pairs-evaluate ts S)
 
     pred-here : (p : Pred) (S : Setting) → PredHere table S p
     pred-here truth S = truth-here table S

@@ -3,7 +3,7 @@ use mathlib.Core.Path.{_≡_, refl, sym, ap₂, _∙_}
 use mathlib.Core.Bool.{Bool, true, false, _&&_}
 use mathlib.Core.List.{List, [], _∷_, _++_}
 use Rattle.lexical.specs.Lists.{all}
-use Rattle.form.specs.Tree.{Connective, and, or, implies, iff}
+use Rattle.form.specs.Tree.{and, or, implies, iff}
 use Rattle.form.specs.Tree.{Pred, truth, falsity, negation, paren, quantified, connected, compared, member, within, related}
 use Rattle.meaning.specs.Values.{connect}
 use Rattle.meaning.specs.Meaning.{Environment, holds}

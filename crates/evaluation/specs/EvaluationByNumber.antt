@@ -1,6 +1,6 @@
 -- The evaluation of a table of nodes (table_places/specs/ResolvedTable) by numbers: what the nodes up to a place are worth with values in slots. Each is a
 -- type: that the nodes up to e give the value v, with all that is met on the way being what the operators take. f bounds how deep the nodes are.
--- That the tables of the definitions give the values of the definitions is proofs/Evaluation. Nothing here need be believed.
+-- That the tables of the definitions give the values of the definitions is proofs/TablesEvaluate. Nothing here need be believed.
 use mathlib.Core.Path.{_≡_}
 use mathlib.Core.Bool.{Bool, true, false, not}
 use mathlib.Core.List.{List}

@@ -1,3 +1,4 @@
 pub mod OperatorsByNumber
 pub mod EvaluationByNumber
 pub mod SlotValues
+pub mod Heights

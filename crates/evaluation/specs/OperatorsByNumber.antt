@@ -1,5 +1,5 @@
 -- What operators do to the codes of values, by the codes of their symbols (lexical/specs/Kinds): a number is itself, an element its place, a set its bits.
--- That these are the operators of meaning/specs/Values is proofs/OperatorsAgree. Nothing here need be believed.
+-- That these are the operators of meaning/specs/Values is proofs/OperatorsAgree, of ranges proofs/RangesAgree, of prefixes proofs/TypedCodes. Nothing here need be believed.
 use mathlib.Core.Path.{_≡_}
 use mathlib.Core.Bool.{Bool, true, false, not, _&&_}
 use Prim.Native.Nat.{ℕ, _%_, _<_}

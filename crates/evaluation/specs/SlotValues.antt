@@ -1,9 +1,9 @@
 -- Slots stand for names: the slots of the names in reach, and the values of an environment, side by side in order, the innermost first. Nothing here need be believed.
 use mathlib.Core.Path.{_≡_}
-use mathlib.Core.List.{List, [], _∷_}
-use Prim.Native.Nat.{ℕ, _+_, _<_}
+use mathlib.Core.List.{[], _∷_}
+use Prim.Native.Nat.{ℕ, _+_, _<_, _≤_}
 use lib.ListN.{getD, length}
-use lib.IntN.{ℤ, pos}
+use lib.IntN.{pos}
 use Rattle.static_rules.specs.Scope.{Scope}
 use Rattle.meaning.specs.Meaning.{Binding, Environment}
 use Rattle.value_types.specs.TypedValues.{InReach, Carried}
@@ -33,3 +33,4 @@ pub record Held (Γ : Scope) (W : Slots) (k : ℕ) (ρ : Environment) (σ : Valu
   pub slotted : Slotted W (ρ .values) σ
   pub below : Below (boundSlot k) W
   pub long : length σ ≡ 64
+  pub few : k ≤ 3

@@ -3,14 +3,15 @@ use mathlib.Core.Path.{_≡_, refl, sym, ap, _∙_, subst}
 use mathlib.Core.Bool.{Bool, true, false, not}
 use mathlib.Core.Logic.{inl, inr}
 use mathlib.Core.List.{List, [], _∷_, _++_, map}
-use mathlib.Core.Option.{Option, none, some, Option·none-ne-some, Option·some-injective}
+use mathlib.Core.Option.{Option, some, Option·none-ne-some, Option·some-injective}
 use Prim.Native.Nat.{ℕ, zero, suc, _+_, _*_, _≤_}
 use lib.ListN.{length, getElem?}
 use borrow.Author.Tests.{leb-true}
 use Rattle.lexical.specs.Lists.{any, filter}
 use Rattle.lexical.specs.Symbols.{Name, Ending}
 use Rattle.lexical.specs.Refusals.{fault, unless, nameInUse}
-use Rattle.form.specs.Tree.{Letters, range, Arrow, Given, TypeForm, givenType, powerType, rangeType, arrowType, Declaration, Direction, inward, outward, Parameter, Operation}
+use Rattle.form.specs.Tree.{Letters, range, Arrow, Given, TypeForm, givenType, powerType, rangeType, arrowType}
+use Rattle.form.specs.Tree.{Declaration, Direction, inward, outward, Parameter, Operation}
 use Rattle.form.specs.Written.{endingOf, writeType}
 use Rattle.form.specs.Headings.{operationLength}
 use Rattle.static_rules.specs.Carriers.{Carrier, elementsOf, subsetsOf, pairsOf, Variable, rangeCarrier, sizeOf, sameName, givenOf, carrierOf}
@@ -43,7 +44,8 @@ power-carrier : (gs : List Given) (x : Name) (g : Given) → givenOf gs x ≡ so
 unfolding carrierOf
 power-carrier gs x g e = rw (carrierOf, e)
 
-arrow-carrier : (gs : List Given) (a : Arrow) (x y : Name) (g h : Given) → givenOf gs x ≡ some g → givenOf gs y ≡ some h → carrierOf gs (arrowType a x y) ≡ some (pairsOf a g h)
+arrow-carrier : (gs : List Given) (a : Arrow) (x y : Name) (g h : Given) → givenOf gs x ≡ some g → givenOf gs y ≡ some h
+    → carrierOf gs (arrowType a x y) ≡ some (pairsOf a g h)
 unfolding carrierOf
 arrow-carrier gs a x y g h e f = rw (carrierOf, e, f)
 
@@ -83,7 +85,8 @@ type-carries gs (arrowType a x y) i e =
 -- ---- declarations and parameters
 
 declaration-parts : (gs : List Given) (xs : List Letters) (i : ℕ) (d : Declaration) (ds : List Declaration) → declarationFaults gs xs i (d ∷ ds) ≡ []
-    → (newName xs (d .declared) i ≡ []) × (typeFaults gs (d .type) (i + 2) ≡ []) × (declarationFaults gs (d .declared ∷ xs) (i + 3 + length (writeType (d .type) [])) ds ≡ [])
+    → (newName xs (d .declared) i ≡ []) × (typeFaults gs (d .type) (i + 2) ≡ [])
+    × (declarationFaults gs (d .declared ∷ xs) (i + 3 + length (writeType (d .type) [])) ds ≡ [])
 unfolding declarationFaults
 declaration-parts gs xs i d ds e = append-nil-three _ _ _ e
 
@@ -103,7 +106,8 @@ parameter-parts : (gs : List Given) (xs : List Parameter) (i : ℕ) (y : Paramet
 unfolding parameterFaults
 parameter-parts gs xs i y ys e = append-nil-three _ _ _ e
 
-pub parameters-carry : (gs : List Given) (xs : List Parameter) (i : ℕ) (ys : List Parameter) → parameterFaults gs xs i ys ≡ [] → HaveCarriers gs (declarationsOf ys)
+pub parameters-carry : (gs : List Given) (xs : List Parameter) (i : ℕ) (ys : List Parameter) → parameterFaults gs xs i ys ≡ []
+    → HaveCarriers gs (declarationsOf ys)
 unfolding HaveCarriers
 parameters-carry gs xs i [] e = tt
 parameters-carry gs xs i (y ∷ ys) e =
@@ -113,7 +117,8 @@ parameters-carry gs xs i (y ∷ ys) e =
     )
 
 operation-parts : (gs : List Given) (xs : List Letters) (i : ℕ) (o : Operation) (os : List Operation) → operationFaults gs xs i (o ∷ os) ≡ []
-    → (newName xs (o .title) (suc i) ≡ []) × (parameterFaults gs [] (i + 2) (o .parameters) ≡ []) × (operationFaults gs (o .title ∷ xs) (i + operationLength o) os ≡ [])
+    → (newName xs (o .title) (suc i) ≡ []) × (parameterFaults gs [] (i + 2) (o .parameters) ≡ [])
+    × (operationFaults gs (o .title ∷ xs) (i + operationLength o) os ≡ [])
 unfolding operationFaults
 operation-parts gs xs i o os e = append-nil-three _ _ _ e
 
@@ -122,7 +127,8 @@ pub operations-carry : (gs : List Given) (xs : List Letters) (i : ℕ) (os : Lis
 unfolding Among
 operations-carry gs xs i [] e o m = absurd m
 operations-carry gs xs i (p ∷ os) e o (inl k) =
-    subst (λ (x : Operation). HaveCarriers gs (declarationsOf (x .parameters))) (sym k) (parameters-carry gs [] (i + 2) (p .parameters) (operation-parts gs xs i p os e .1))
+    subst (λ (x : Operation). HaveCarriers gs (declarationsOf (x .parameters))) (sym k)
+    (parameters-carry gs [] (i + 2) (p .parameters) (operation-parts gs xs i p os e .1))
 operations-carry gs xs i (p ∷ os) e o (inr m) = operations-carry gs (p .title ∷ xs) (i + operationLength p) os (operation-parts gs xs i p os e .2) o m
 
 -- ---- the inputs, or the outputs, as declared
@@ -186,7 +192,8 @@ pub record VariableAt (gs : List Given) (e : Ending) (ds : List Declaration) (n 
   pub is : carrierOf gs (d .type) ≡ some carrier
   pub at : getElem? (variables gs e ds) n ≡ some (variableOf e d carrier)
 
-pub declared-carriers : (gs : List Given) (e : Ending) (ds : List Declaration) → HaveCarriers gs ds → (n : ℕ) (d : Declaration) → getElem? ds n ≡ some d → VariableAt gs e ds n d
+pub declared-carriers : (gs : List Given) (e : Ending) (ds : List Declaration) → HaveCarriers gs ds → (n : ℕ) (d : Declaration) → getElem? ds n ≡ some d
+    → VariableAt gs e ds n d
 unfolding HaveCarriers
 declared-carriers gs e [] h n d k = absurd (Option·none-ne-some d k)
 declared-carriers gs e (x ∷ ds) h zero d k =
@@ -210,8 +217,8 @@ pub record DeclarationAt (gs : List Given) (e : Ending) (ds : List Declaration) 
   pub is : carrierOf gs (declaration .type) ≡ some (v .carrier)
   pub called : v .called ≡ record { letters = declaration .declared; ending = e }
 
-pub carriers-declared : (gs : List Given) (e : Ending) (ds : List Declaration) → HaveCarriers gs ds → (n : ℕ) (v : Variable) → getElem? (variables gs e ds) n ≡ some v
-    → DeclarationAt gs e ds n v
+pub carriers-declared : (gs : List Given) (e : Ending) (ds : List Declaration) → HaveCarriers gs ds → (n : ℕ) (v : Variable)
+    → getElem? (variables gs e ds) n ≡ some v → DeclarationAt gs e ds n v
 unfolding variables HaveCarriers
 carriers-declared gs e [] h n v k = absurd (Option·none-ne-some v k)
 carriers-declared gs e (d ∷ ds) h zero v k =
@@ -224,10 +231,12 @@ carriers-declared gs e (d ∷ ds) h (suc n) v k =
     record { declaration = r .declaration; at = r .at; is = r .is; called = r .called }
 
 -- the same for an operation's inputs, or its outputs
-pub parameters-length : (gs : List Given) (δ : Direction) (ys : List Parameter) → HaveCarriers gs (declarationsOf ys) → length (parametersOf gs δ ys) ≡ length (declaredIn δ ys)
+pub parameters-length : (gs : List Given) (δ : Direction) (ys : List Parameter) → HaveCarriers gs (declarationsOf ys)
+    → length (parametersOf gs δ ys) ≡ length (declaredIn δ ys)
 parameters-length gs δ ys h = ap (length {A = Variable}) (parameters-are gs δ ys) ∙ declared-length gs (endingOf δ) (declaredIn δ ys) (declared-in gs δ ys h)
 
-pub parameter-carriers : (gs : List Given) (δ : Direction) (ys : List Parameter) → HaveCarriers gs (declarationsOf ys) → (n : ℕ) (d : Declaration) → getElem? (declaredIn δ ys) n ≡ some d
+pub parameter-carriers : (gs : List Given) (δ : Direction) (ys : List Parameter) → HaveCarriers gs (declarationsOf ys) → (n : ℕ) (d : Declaration)
+    → getElem? (declaredIn δ ys) n ≡ some d
     → (c : Carrier) × (carrierOf gs (d .type) ≡ some c) × (getElem? (parametersOf gs δ ys) n ≡ some (variableOf (endingOf δ) d c))
 parameter-carriers gs δ ys h n d k =
     let r = declared-carriers gs (endingOf δ) (declaredIn δ ys) (declared-in gs δ ys h) n d k in
@@ -246,7 +255,8 @@ variables-fit gs e [] h w = tt
 variables-fit gs e (d ∷ ds) h w =
     subst (CarriersFit gs) (sym (variables-one gs e d ds (h .0 .carrier) (h .0 .is))) (h .0 .fits (w .0), variables-fit gs e ds (h .1) (w .1))
 
-pub parameters-fit : (gs : List Given) (δ : Direction) (ys : List Parameter) → HaveCarriers gs (declarationsOf ys) → ParametersWithin ys → CarriersFit gs (parametersOf gs δ ys)
+pub parameters-fit : (gs : List Given) (δ : Direction) (ys : List Parameter) → HaveCarriers gs (declarationsOf ys) → ParametersWithin ys
+    → CarriersFit gs (parametersOf gs δ ys)
 parameters-fit gs δ ys h w =
     subst (CarriersFit gs) (sym (parameters-are gs δ ys))
     (variables-fit gs (endingOf δ) (declaredIn δ ys) (declared-in gs δ ys h) (filter-within (λ (x : Parameter). goes δ (x .direction)) ys w))

@@ -4,15 +4,16 @@ use mathlib.Core.Logic.{inl, inr}
 use mathlib.Core.List.{List, [], _∷_, _++_, map}
 use mathlib.Core.Option.{some}
 use Prim.Native.Nat.{ℕ, suc, _+_}
-use lib.ListN.{length, getElem?}
+use lib.ListN.{getElem?}
 use Rattle.lexical.specs.Lists.{concat}
 use Rattle.lexical.specs.Symbols.{noEnding, prime}
 use Rattle.lexical.specs.Refusals.{Fault}
-use Rattle.form.specs.Tree.{Letters, Pred, Declaration, declarations, inward, outward, State, Operation, Dossier}
+use Rattle.form.specs.Tree.{Letters, Pred, declarations, inward, outward, State, Operation, Dossier}
 use Rattle.form.specs.Headings.{givensAt, abstractAt, concreteAt, operationsAt, operationLength}
 use Rattle.form.proofs.Table.{_&_}
 use Rattle.static_rules.specs.Carriers.{Variable}
-use Rattle.static_rules.specs.Scope.{Scope, Context, unprimed, primed, inputs, outputs, givenNames, abstractTaken, concreteTaken, operationReach, operationContexts, contexts}
+use Rattle.static_rules.specs.Scope.{Context, unprimed, primed, inputs, outputs, givenNames, abstractTaken, concreteTaken}
+use Rattle.static_rules.specs.Scope.{operationReach, operationContexts, contexts}
 use Rattle.static_rules.specs.Names.{declarationFaults, givenFaults, operationFaults, contextFaults, nameFaults}
 use Rattle.static_rules.specs.Limits.{contextSizes, sizeFaults}
 use Rattle.meaning.specs.Bindings.{Among}
@@ -89,13 +90,16 @@ module _ (d : Dossier) (f : DossierFaultless d) (g : FewElements (d .givens)) (w
   reach-fit : (s : State) (o : Operation) → HaveCarriers (d .givens) (declarations s) → DeclarationsWithin (declarations s)
       → HaveCarriers (d .givens) (declarationsOf (o .parameters)) → ParametersWithin (o .parameters) → CarriersFit (d .givens) (operationReach d s o)
   reach-fit s o h k p q =
+      let u = variables-fit (d .givens) noEnding (declarations s) h k in
+      let v = variables-fit (d .givens) prime (declarations s) h k in
       fit-append (d .givens) (unprimed d s ++ primed d s ++ inputs d o) (outputs d o)
       (fit-append (d .givens) (unprimed d s ++ primed d s) (inputs d o)
-      (fit-append (d .givens) (unprimed d s) (primed d s) (variables-fit (d .givens) noEnding (declarations s) h k) (variables-fit (d .givens) prime (declarations s) h k))
+      (fit-append (d .givens) (unprimed d s) (primed d s) u v)
       (parameters-fit (d .givens) inward (o .parameters) p q))
       (parameters-fit (d .givens) outward (o .parameters) p q)
 
-  operations-ready : (i : ℕ) (xs : List Letters) (os : List Operation) → ((o : Operation) → Among o os → HaveCarriers (d .givens) (declarationsOf (o .parameters)))
+  operations-ready : (i : ℕ) (xs : List Letters) (os : List Operation)
+      → ((o : Operation) → Among o os → HaveCarriers (d .givens) (declarationsOf (o .parameters)))
       → OperationsWithin os → OperationsBindFew os → AllReady (operationContexts d i xs os)
   unfolding operationContexts AllReady OperationsWithin OperationsBindFew Among
   operations-ready i xs [] h k n = tt

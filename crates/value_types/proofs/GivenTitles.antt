@@ -3,7 +3,7 @@ use mathlib.Core.Path.{_≡_, refl, sym, ap, _∙_, subst}
 use mathlib.Core.Bool.{Bool, true, false, not, true≢false}
 use mathlib.Core.Logic.{inl, inr}
 use mathlib.Core.List.{List, [], _∷_, _++_}
-use mathlib.Core.Option.{Option, none, some}
+use mathlib.Core.Option.{Option, some}
 use Prim.Native.Nat.{ℕ, suc, _+_, _≤_}
 use borrow.Author.Tests.{not-true}
 use Rattle.lexical.specs.Lists.{same, find}
@@ -30,11 +30,13 @@ unfolding newName isTaken
 new-other xs x i e y m = any-none (same x) xs (not-true (isTaken xs x) (unless-nil (not (isTaken xs x)) _ e)) y m
 
 given-parts : (xs : List Letters) (i : ℕ) (g : Given) (gs : List Given) → givenFaults xs i (g ∷ gs) ≡ []
-    → (newName xs (g .title) (suc i) ≡ []) × (elementFaults (g .title ∷ xs) (i + 2) (elements g) ≡ []) × (givenFaults (givenNames (g ∷ []) ++ xs) (i + givenLength g) gs ≡ [])
+    → (newName xs (g .title) (suc i) ≡ []) × (elementFaults (g .title ∷ xs) (i + 2) (elements g) ≡ [])
+    × (givenFaults (givenNames (g ∷ []) ++ xs) (i + givenLength g) gs ≡ [])
 unfolding givenFaults
 given-parts xs i g gs e = append-nil-three _ _ _ e
 
-titles-new : (xs : List Letters) (i : ℕ) (gs : List Given) → givenFaults xs i gs ≡ [] → (x : Letters) → Among x xs → (g : Given) → Among g gs → same (g .title) x ≡ false
+titles-new : (xs : List Letters) (i : ℕ) (gs : List Given) → givenFaults xs i gs ≡ [] → (x : Letters) → Among x xs
+    → (g : Given) → Among g gs → same (g .title) x ≡ false
 unfolding Among
 titles-new xs i [] e x m g k = absurd k
 titles-new xs i (h ∷ gs) e x m g (inl k) = ap (λ (y : Given). same (y .title) x) k ∙ new-other xs (h .title) (suc i) (given-parts xs i h gs e .0) x m

@@ -1,8 +1,8 @@
 -- What the theorem on evaluation asks of every predicate of a dossier, and what a dossier must have besides having no faults. Nothing here need be believed:
--- the theorems of proofs/ take the one from the other, and the pass for form gives the rest.
+-- the theorems of proofs/ prove the one of every dossier without faults that has the other, which is what the passes for symbols and form leave.
 use mathlib.Core.Path.{_≡_}
 use mathlib.Core.List.{List, [], _∷_, map}
-use Prim.Native.Nat.{ℕ, _≤_}
+use Prim.Native.Nat.{_≤_}
 use Rattle.form.specs.Tree.{Given, TypeForm, givenType, powerType, rangeType, arrowType, Declaration, declarations, Parameter, Operation, Dossier}
 use Rattle.static_rules.specs.Carriers.{sizeOf}
 use Rattle.static_rules.specs.Scope.{Context}
@@ -11,7 +11,7 @@ use Rattle.static_rules.specs.Limits.{sizePred}
 use Rattle.value_types.specs.TypedValues.{InReach, RangeWithin, PredWithin, sizesIn}
 use Rattle.value_types.specs.BoundNames.{PredBindsFew}
 
--- a predicate with its names in reach: none of names and types at fault, no size over 2,147,483,647, numbers of at most 1,000, at most three bound names
+-- a predicate with the names in its reach: no fault of names and types, no size over 2,147,483,647, numbers of at most 1,000, at most three bound names
 pub record ContextFine (c : Context) : Type 0 where
   pub reach : InReach (c .scope)
   pub names : judgePred (c .predicate) (c .scope) (c .at) .faults ≡ []
@@ -19,7 +19,7 @@ pub record ContextFine (c : Context) : Type 0 where
   pub within : PredWithin (c .predicate)
   pub few : PredBindsFew (c .predicate) 0
 
--- "at most 8 elements" of each given set
+-- Document 01, number 6, "Over 8 given sets, 8 elements in one": given sets that the pass for form does not refuse
 unfoldable pub FewElements : List Given → Type 0
 FewElements [] = Unit {0}
 FewElements (g ∷ gs) = (sizeOf g ≤ 8) × FewElements gs

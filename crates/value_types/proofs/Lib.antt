@@ -8,3 +8,6 @@ pub mod TypedTerms
 pub mod Magnitudes
 pub mod SizedTerms
 pub mod Shapes
+pub mod GivenTitles
+pub mod DeclaredCarriers
+pub mod FineContexts

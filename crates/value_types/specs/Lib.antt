@@ -1,2 +1,3 @@
 pub mod TypedValues
 pub mod BoundNames
+pub mod FaultlessContexts

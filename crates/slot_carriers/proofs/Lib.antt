@@ -1,0 +1,3 @@
+-- A search in values that rise, and that a cell's values are those of its carrier.
+pub mod Halving
+pub mod CarrierCells

@@ -1,5 +1,5 @@
 -- A search that halves what is left, in values that rise. Assumes nothing.
-use mathlib.Core.Path.{_≡_, refl, sym, ap, subst, _∙_}
+use mathlib.Core.Path.{_≡_, refl, sym, ap, ap₂, subst, _∙_}
 use mathlib.Core.Bool.{Bool, true, false}
 use mathlib.Core.Logic.{_⊎_, inl, inr}
 use Prim.Native.Nat.{ℕ, suc, _+_, _<_, _≤_}
@@ -125,3 +125,27 @@ module _ (f : ℕ → ℤ) (n : ℕ) (x : ℤ) (rising : (d e : ℕ) → d < e �
       go : (d : ℕ) → d < n → f d ≡ x → (d < r) ⊎ (r ≤ d) → ⊥
       go d u q (inl g) = not-below d (s .before d (omega arith) g) q
       go d u q (inr g) = past d u q (either r d) g
+
+  -- ---- the same, of the count and of the number as the machine has them
+
+  moved : (m r : ℕ) (z : ℤ) → m ≡ n → z ≡ x → Split f z 0 m r → Split f x 0 n r
+  moved m r z e g s = subst (λ (k : ℕ). Split f x 0 k r) e (subst (λ (w : ℤ). Split f w 0 m r) g s)
+
+  pub place-none : (m r : ℕ) (z : ℤ) → m ≡ n → z ≡ x → m ≤ r → Split f z 0 m r → Found f n x m
+  place-none m r z e g h s = subst (λ (k : ℕ). Found f n x k) (sym e) (found-none r (subst (λ (k : ℕ). k ≤ r) e h) (moved m r z e g s))
+
+  pub place-here : (m r : ℕ) (v z : ℤ) → m ≡ n → z ≡ x → v ≡ f r → r < m → leZ v z ≡ true → Split f z 0 m r → Found f n x r
+  place-here m r v z e g i h t s = found-here r (subst (λ (k : ℕ). r < k) e h) (sym (ap₂ leZ i g) ∙ t) (moved m r z e g s)
+
+  pub place-beside : (m r : ℕ) (v z : ℤ) → m ≡ n → z ≡ x → v ≡ f r → r < m → leZ v z ≡ false → Split f z 0 m r → Found f n x m
+  place-beside m r v z e g i h t s =
+      subst (λ (k : ℕ). Found f n x k) (sym e) (found-beside r (subst (λ (k : ℕ). r < k) e h) (sym (ap₂ leZ i g) ∙ t) (moved m r z e g s))
+
+  -- a step of the search, of the value in the middle as the machine has it
+  pub step-right : (low high mid r : ℕ) (v z : ℤ) → v ≡ f mid → z ≡ x → ltZ v z ≡ true → low ≤ mid → mid < high → high ≤ n → Split f z (mid + 1) high r
+      → Split f x low high r
+  step-right low high mid r v z i g t h k l s =
+      split-right low high mid r h k l (sym (ap₂ ltZ i g) ∙ t) (subst (λ (w : ℤ). Split f w (mid + 1) high r) g s)
+
+  pub step-left : (low high mid r : ℕ) (v z : ℤ) → v ≡ f mid → z ≡ x → ltZ v z ≡ false → mid < high → high ≤ n → Split f z low mid r → Split f x low high r
+  step-left low high mid r v z i g t k l s = split-left low high mid r k l (sym (ap₂ ltZ i g) ∙ t) (subst (λ (w : ℤ). Split f w low mid r) g s)

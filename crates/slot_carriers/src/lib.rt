@@ -2,14 +2,23 @@
 // partial and total functions.
 ghost use mathlib.Core.Path.{_≡_};
 ghost use Prim.Native.Nat.{_<_, _≤_};
+ghost use lib.ListN.{getD, length};
 ghost use Rattle.slot_carriers.specs.Cells.{countIn, valueIn, Reached, Readable, Split, Found};
+
+// A number of the cells.
+fn cell(cells: &[u32], k: usize) -> u32
+    requires { ⌜ k < length (now cells) ⌝ }
+    ensures { λ r. ⌜ (r ≡ getD (now (cells .entry)) k 0) × (r < 4294967296) ⌝ }
+{
+    cells[k]
+}
 
 // How many values the variable of a slot has.
 pub fn count_of(cells: &[u32; 9216], slot: usize) -> usize
     requires { ⌜ slot < 64 ⌝ }
     ensures { λ r. ⌜ r ≡ countIn (now (cells .entry)) slot ⌝ }
 {
-    cells[4 * slot] as usize
+    cell(cells, 4 * slot) as usize
 }
 
 // Its d-th value.
@@ -17,15 +26,15 @@ pub fn value_at(cells: &[u32; 9216], slot: usize, d: usize) -> i64
     requires { ⌜ Reached (now cells) slot d ⌝ }
     ensures { λ r. ⌜ r ≡ valueIn (now (cells .entry)) slot d ⌝ }
 {
-    let shape = cells[4 * slot + 1];
-    let a = cells[4 * slot + 2];
+    let shape = cell(cells, 4 * slot + 1);
+    let a = cell(cells, 4 * slot + 2);
     if shape == 2 {
         return a as i64 - 1000 + d as i64;
     }
     if shape < 5 {
         return d as i64;
     }
-    cells[a as usize + d] as i64
+    cell(cells, a as usize + d) as i64
 }
 
 // The first place between two whose value is not below x: values rise, so what is left is halved.

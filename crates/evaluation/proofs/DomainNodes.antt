@@ -55,7 +55,7 @@ given-few Γ g s = go (givenOf (Γ .givens) g) refl
     go none e = omega arith
     go (some h) e = let f = s .few h (given-is (Γ .givens) g h e .0) in omega arith
 
-pub domain-node : (Γ : Scope) (ρ : Environment) (d : Domain) (i : ℕ) → Carried Γ ρ → domainFaults (Γ .givens) d i ≡ [] → DomainWithin d → DomainNode Γ ρ d
+pub domain-node : (Γ : Scope) (ρ : Environment) (d : Domain) (i : ℕ) → Carried Γ ρ → domainFaults Γ d i ≡ [] → DomainWithin d → DomainNode Γ ρ d
 unfolding domainTable domainValues numberValues
 domain-node Γ ρ (givenSet g) i c e h = given-node Γ ρ g c
 domain-node Γ ρ (range r) i c e h =

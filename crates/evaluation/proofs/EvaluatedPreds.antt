@@ -137,7 +137,7 @@ module _ (table : List ℕ) (S : Setting) where
   quantified-here q x d r R b e f s st l h =
       let y = sound-quantified (S .Γ) (S .k) q x d r s in
       let n = domain-node (S .Γ) (S .ρ) d (y .place) (S .held .carried) (y .known) (y .ends) in
-      let a : List ℕ = predTable r (binding (S .Γ) x (domainCarrier (S .Γ .givens) d)) ((plain x, boundSlot (S .k)) ∷ S .W) (nextSlot (boundSlot (S .k))) b in
+      let a : List ℕ = predTable r (binding (S .Γ) x (domainCarrier (S .Γ) d)) ((plain x, boundSlot (S .k)) ∷ S .W) (nextSlot (boundSlot (S .k))) b in
       let c = bounded-part table b e a 13 0 (n .low) (n .count) 24 0 (boundSlot (S .k)) (codeOf (quantifierKind q))
       (subst (λ (w : List ℕ). Stands table b e (a ++ (w ++ node 24 0 (boundSlot (S .k)) (codeOf (quantifierKind q))))) (n .table) st) in
       truth-node table (heightPred r) e (S .σ) f (holds (quantified q x d r) (S .ρ)) h (record { some = c .last .some; within = l })

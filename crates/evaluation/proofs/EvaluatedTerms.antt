@@ -127,7 +127,7 @@ module _ (table : List ℕ) (S : Setting) where
       let n = given-node (S .Γ) (S .ρ) g (S .held .carried) in
       let w : ℕ = givenSize (S .Γ .givens) g in
       let c = bounded-part table p e
-      (predTable q (binding (S .Γ) x (domainCarrier (S .Γ .givens) (givenSet g))) ((plain x, boundSlot (S .k)) ∷ S .W) (nextSlot (boundSlot (S .k))) p)
+      (predTable q (binding (S .Γ) x (domainCarrier (S .Γ) (givenSet g))) ((plain x, boundSlot (S .k)) ∷ S .W) (nextSlot (boundSlot (S .k))) p)
       13 0 1000 w 6 0 (boundSlot (S .k)) 0 st in
       let a : w ≡ sizeOfGiven (S .ρ) g = given-agrees (S .Γ) (S .ρ) (S .held .carried) g in
       term-node table (heightPred q) e (S .σ) f (value (such x g q) (S .ρ) .code) h (record { some = c .last .some; within = l }) (term-small S (such x g q) s)

@@ -74,20 +74,20 @@ module _ (S : Setting) where
 pub inner : (S : Setting) (x : Letters) (d : Domain) (p : Pred) (v : Value) → Binder (S .Γ) (S .k) x d p → Among v (domainValues (S .ρ) d) → Setting
 inner S x d p v b m =
     record {
-      Γ = binding (S .Γ) x (domainCarrier (S .Γ .givens) d);
+      Γ = binding (S .Γ) x (domainCarrier (S .Γ) d);
       W = (plain x, boundSlot (S .k)) ∷ S .W;
       k = suc (S .k);
       ρ = with (S .ρ) x v;
       σ = set (S .σ) (boundSlot (S .k)) (v .code);
       held =
-          held-with (S .Γ) (S .W) (S .k) (S .ρ) (S .σ) x (domainCarrier (S .Γ .givens) d) v (S .held) (b .few)
+          held-with (S .Γ) (S .W) (S .k) (S .ρ) (S .σ) x (domainCarrier (S .Γ) d) v (S .held) (b .few)
           (binding-in-reach (S .Γ) x d (b .place) (S .held .reach) (b .known) (b .ends)) (binding-carried (S .Γ) (S .ρ) x d v (S .held .carried) m);
     }
 
 -- a binder's predicate, for each value of what is bound over
 pub bound-each : (table : List ℕ) (S : Setting) (x : Letters) (d : Domain) (q : Pred) → ((s : Setting) → PredHere table s q) → (b : Binder (S .Γ) (S .k) x d q)
     → (n : DomainNode (S .Γ) (S .ρ) d) (p e f : ℕ)
-    → Stands table p e (predTable q (binding (S .Γ) x (domainCarrier (S .Γ .givens) d)) ((plain x, boundSlot (S .k)) ∷ S .W) (nextSlot (boundSlot (S .k))) p)
+    → Stands table p e (predTable q (binding (S .Γ) x (domainCarrier (S .Γ) d)) ((plain x, boundSlot (S .k)) ∷ S .W) (nextSlot (boundSlot (S .k))) p)
     → e ≤ 16384 → heightPred q ≤ f
     → Bound (λ j τ c. TruthIs f table j τ c) e (boundSlot (S .k)) (pos (n .low) -ℤ pos 1000) (n .count) (S .σ) (λ i. holds q (with (S .ρ) x (n .at i)))
 unfolding inner

@@ -14,7 +14,7 @@ use Rattle.static_rules.specs.Scope.{Scope, binding}
 use Rattle.static_rules.specs.Names.{judgeTerm, judgeItems, judgePairs, judgePred, domainCarrier, domainFaults, overFault, rangeFits}
 use Rattle.static_rules.specs.Limits.{sizeTerm, sizeItems, sizePairs, sizePred}
 use Rattle.value_types.specs.TypedValues.{TermWithin, ItemsWithin, PairsWithin, PredWithin, DomainWithin, RangeWithin, sizesIn}
-use Rattle.value_types.specs.BoundNames.{TermBindsFew, ItemsBindFew, PairsBindFew, PredBindsFew}
+use Rattle.form.specs.BoundNames.{TermBindsFew, ItemsBindFew, PairsBindFew, PredBindsFew}
 use Rattle.value_types.proofs.FaultlessParts.{group-parts, prefix-parts, binary-parts, divided-parts, listed-parts, pairs-parts, such-parts, only-parts, also-parts, only-pair-parts, also-pair-parts}
 use Rattle.value_types.proofs.FaultlessParts.{negation-parts, paren-parts, quantified-parts, connected-parts, compared-parts, member-parts, within-parts, related-parts}
 use Rattle.value_types.proofs.FaultlessParts.{group-sizes, prefix-sizes, binary-sizes, divided-sizes, listed-sizes, pairs-sizes, such-bound, only-sizes, also-sizes, only-pair-sizes, also-pair-sizes}
@@ -131,10 +131,10 @@ module _ (Γ : Scope) (k : ℕ) where
   -- a binder: what it binds over has no fault, and its predicate is such a tree in the reach of one name more
   pub record Binder (x : Letters) (d : Domain) (p : Pred) : Type 0 where
     pub place : ℕ
-    pub known : domainFaults (Γ .givens) d place ≡ []
+    pub known : domainFaults Γ d place ≡ []
     pub ends : DomainWithin d
     pub few : suc k ≤ 3
-    pub body : SoundPred p (binding Γ x (domainCarrier (Γ .givens) d)) (suc k)
+    pub body : SoundPred p (binding Γ x (domainCarrier Γ d)) (suc k)
 
   pub sound-such : (x : Letters) (g : Name) (p : Pred) → SoundTerm (such x g p) Γ k → Binder x (givenSet g) p
   unfolding TermWithin TermBindsFew

@@ -10,7 +10,7 @@ use Rattle.static_rules.specs.Names.{judgeTerm, judgePred}
 use Rattle.static_rules.specs.Limits.{sizeTerm, sizePred}
 use Rattle.meaning.specs.Meaning.{Environment, value, holds}
 use Rattle.value_types.specs.TypedValues.{TermWithin, PredWithin, sizesIn}
-use Rattle.value_types.specs.BoundNames.{TermBindsFew, PredBindsFew}
+use Rattle.form.specs.BoundNames.{TermBindsFew, PredBindsFew}
 use Rattle.node_spans.specs.Spans.{Stands}
 use Rattle.table_places.specs.ResolvedTable.{Slots, termTable, predTable}
 use Rattle.evaluation.specs.EvaluationByNumber.{Values, TermIs, TruthIs}

@@ -37,32 +37,32 @@ given-fits gs g none e i h = not-nil _ _ h
 given-fits gs g (some k) e i h = given-is gs g k e .0
 
 -- what a name is bound over fits, if its domain has no fault
-pub domain-fits : (gs : List Given) (t : Domain) (i : ℕ) → domainFaults gs t i ≡ [] → DomainWithin t → CarrierFits gs (domainCarrier gs t)
+pub domain-fits : (Γ : Scope) (t : Domain) (i : ℕ) → domainFaults Γ t i ≡ [] → DomainWithin t → CarrierFits (Γ .givens) (domainCarrier Γ t)
 unfolding CarrierFits
-domain-fits gs (givenSet g) i e h = given-fits gs g (givenOf gs g) refl i e
-domain-fits gs (range r) i e h = (
+domain-fits Γ (givenSet g) i e h = given-fits (Γ .givens) g (givenOf (Γ .givens) g) refl i e
+domain-fits Γ (range r) i e h = (
   subst (λ (n : ℕ). n ≤ 1000) (sym (end-abs (r .lower))) (h .0),
   subst (λ (n : ℕ). n ≤ 1000) (sym (end-abs (r .upper))) (h .1),
   range-known r i e,
 )
 
-pub binding-in-reach : (Γ : Scope) (x : Letters) (t : Domain) (i : ℕ) → InReach Γ → domainFaults (Γ .givens) t i ≡ [] → DomainWithin t
-    → InReach (binding Γ x (domainCarrier (Γ .givens) t))
+pub binding-in-reach : (Γ : Scope) (x : Letters) (t : Domain) (i : ℕ) → InReach Γ → domainFaults Γ t i ≡ [] → DomainWithin t
+    → InReach (binding Γ x (domainCarrier Γ t))
 unfolding CarriersFit
-binding-in-reach Γ x t i s e h = record { titled = s .titled; few = s .few; fit = (domain-fits (Γ .givens) t i e h, s .fit) }
+binding-in-reach Γ x t i s e h = record { titled = s .titled; few = s .few; fit = (domain-fits Γ t i e h, s .fit) }
 
 given-among : (o : Option Given) (v : Value) → Among v (elementValues (sizeIn o)) → Among v (valuesOf (boundOver o))
 unfolding elementValues upward Among valuesOf
 given-among none v m = absurd m
 given-among (some g) v m = m
 
-domain-among : (Γ : Scope) (ρ : Environment) (t : Domain) (v : Value) → Carried Γ ρ → Among v (domainValues ρ t) → Among v (valuesOf (domainCarrier (Γ .givens) t))
+domain-among : (Γ : Scope) (ρ : Environment) (t : Domain) (v : Value) → Carried Γ ρ → Among v (domainValues ρ t) → Among v (valuesOf (domainCarrier Γ t))
 unfolding domainValues valuesOf
 domain-among Γ ρ (givenSet g) v c m = given-among (givenOf (Γ .givens) g) v (subst (λ (n : ℕ). Among v (elementValues n)) (named-size Γ ρ c g) m)
 domain-among Γ ρ (range r) v c m = m
 
 pub binding-carried : (Γ : Scope) (ρ : Environment) (x : Letters) (t : Domain) (v : Value) → Carried Γ ρ → Among v (domainValues ρ t)
-    → Carried (binding Γ x (domainCarrier (Γ .givens) t)) (with ρ x v)
+    → Carried (binding Γ x (domainCarrier Γ t)) (with ρ x v)
 unfolding Over
 binding-carried Γ ρ x t v c m = record { givens = c .givens; over = (refl, domain-among Γ ρ t v c m, c .over) }
 
@@ -80,6 +80,6 @@ unfolding elementValues
 element-among n k h = among-map (val.element n) k (upward 0 n) (subst (λ (j : ℕ). Among j (upward 0 n)) (zero-add k) (upward-among k 0 n h))
 
 pub such-carried : (Γ : Scope) (ρ : Environment) (x : Letters) (g : Name) (k : ℕ) → Carried Γ ρ → k < sizeOfGiven ρ g
-    → Carried (binding Γ x (domainCarrier (Γ .givens) (givenSet g))) (with ρ x (val.element (sizeOfGiven ρ g) k))
+    → Carried (binding Γ x (domainCarrier Γ (givenSet g))) (with ρ x (val.element (sizeOfGiven ρ g) k))
 unfolding domainValues
 such-carried Γ ρ x g k c h = binding-carried Γ ρ x (givenSet g) (val.element (sizeOfGiven ρ g) k) c (element-among (sizeOfGiven ρ g) k h)

@@ -16,7 +16,7 @@ use Rattle.static_rules.specs.Types.{Ty, has, isNumber, prefixFits, operatorFit
 use Rattle.static_rules.specs.Scope.{Scope, typeOfName, binding}
 use Rattle.static_rules.specs.Names.{Listing, whole, inside, ofName, known, rangeFits, rangeFaults, pairsFault, divisorFaults, newName, domainCarrier, domainFaults, domainLength, overFault, wholePairs, judgedPairs}
 use Rattle.static_rules.specs.Names.{judgeTerm, judgeItems, judgePairs, judgePred}
-use Rattle.static_rules.specs.Limits.{Sizes, operatorSize, sizeTerm, sizeItems, sizePairs, sizePred}
+use Rattle.static_rules.specs.Limits.{Sizes, operatorSize, sizeTerm, sizeItems, sizePairs, sizePred, domainSize}
 use Rattle.value_types.specs.TypedValues.{sizesIn}
 
 -- ---- lists of faults
@@ -134,7 +134,7 @@ pairs-parts ts Γ i e = judged-pairs (Γ .givens) (judgePairs ts Γ (suc i)) i e
 
 pub such-parts : (x : Letters) (g : Name) (p : Pred) (Γ : Scope) (i : ℕ) → judgeTerm (such x g p) Γ i .faults ≡ []
     → (newName (Γ .taken) x (suc i) ≡ []) × (known (givenOf (Γ .givens) g) (i + 3) ≡ [])
-    × (judgePred p (binding Γ x (domainCarrier (Γ .givens) (givenSet g))) (i + 5) .faults ≡ [])
+    × (judgePred p (binding Γ x (domainCarrier Γ (givenSet g))) (i + 5) .faults ≡ [])
 unfolding judgeTerm
 such-parts x g p Γ i e =
     let h = inside-nil _ _ e in
@@ -184,8 +184,8 @@ unfolding judgeTerm
 paren-parts p Γ i e = e
 
 pub quantified-parts : (q : Quantifier) (x : Letters) (t : Domain) (p : Pred) (Γ : Scope) (i : ℕ) → judgePred (quantified q x t p) Γ i .faults ≡ []
-    → (newName (Γ .taken) x (i + 2) ≡ []) × (domainFaults (Γ .givens) t (i + 4) ≡ [])
-    × (judgePred p (binding Γ x (domainCarrier (Γ .givens) t)) (suc (i + 4 + domainLength t)) .faults ≡ [])
+    → (newName (Γ .taken) x (i + 2) ≡ []) × (domainFaults Γ t (i + 4) ≡ [])
+    × (judgePred p (binding Γ x (domainCarrier Γ t)) (suc (i + 4 + domainLength t)) .faults ≡ [])
 unfolding judgeTerm
 quantified-parts q x t p Γ i e =
     let h = inside-nil _ _ e in
@@ -303,7 +303,7 @@ unfolding sizeTerm
 paren-sizes p Z i e = e
 
 pub quantified-sizes : (q : Quantifier) (x : Letters) (t : Domain) (p : Pred) (Z : Sizes) (i : ℕ) → sizePred (quantified q x t p) Z i .faults ≡ []
-    → sizePred p ((plain x, largest (domainCarrier [] t)) ∷ Z) (i + 5 + domainLength t) .faults ≡ []
+    → sizePred p ((plain x, domainSize t) ∷ Z) (i + 5 + domainLength t) .faults ≡ []
 unfolding sizeTerm
 quantified-sizes q x t p Z i e = e
 
@@ -344,18 +344,18 @@ unfolding largest
 given-size none = refl
 given-size (some h) = refl
 
-pub bound-size : (gs : List Given) (t : Domain) → largest (domainCarrier [] t) ≡ largest (domainCarrier gs t)
-bound-size gs (givenSet g) = given-size (givenOf [] g) ∙ sym (given-size (givenOf gs g))
-bound-size gs (range r) = refl
+pub bound-size : (Γ : Scope) (t : Domain) → domainSize t ≡ largest (domainCarrier Γ t)
+bound-size Γ (givenSet g) = sym (given-size (givenOf (Γ .givens) g))
+bound-size Γ (range r) = refl
 
 -- number 13's sizes of the names in its reach
 pub such-bound : (x : Letters) (g : Name) (p : Pred) (Γ : Scope) (i : ℕ) → sizeTerm (such x g p) (sizesIn Γ) i .faults ≡ []
-    → sizePred p (sizesIn (binding Γ x (domainCarrier (Γ .givens) (givenSet g)))) (i + 5) .faults ≡ []
+    → sizePred p (sizesIn (binding Γ x (domainCarrier Γ (givenSet g)))) (i + 5) .faults ≡ []
 such-bound x g p Γ i e =
     subst (λ (n : ℕ). sizePred p ((plain x, n) ∷ sizesIn Γ) (i + 5) .faults ≡ []) (sym (given-size (givenOf (Γ .givens) g))) (such-sizes x g p (sizesIn Γ) i e)
 
 pub quantified-bound : (q : Quantifier) (x : Letters) (t : Domain) (p : Pred) (Γ : Scope) (i : ℕ) → sizePred (quantified q x t p) (sizesIn Γ) i .faults ≡ []
-    → sizePred p (sizesIn (binding Γ x (domainCarrier (Γ .givens) t))) (i + 5 + domainLength t) .faults ≡ []
+    → sizePred p (sizesIn (binding Γ x (domainCarrier Γ t))) (i + 5 + domainLength t) .faults ≡ []
 quantified-bound q x t p Γ i e =
-    subst (λ (n : ℕ). sizePred p ((plain x, n) ∷ sizesIn Γ) (i + 5 + domainLength t) .faults ≡ []) (bound-size (Γ .givens) t)
+    subst (λ (n : ℕ). sizePred p ((plain x, n) ∷ sizesIn Γ) (i + 5 + domainLength t) .faults ≡ []) (bound-size Γ t)
     (quantified-sizes q x t p (sizesIn Γ) i e)

@@ -19,7 +19,7 @@ use Rattle.static_rules.specs.Limits.{contextSizes, sizeFaults}
 use Rattle.meaning.specs.Bindings.{Among}
 use Rattle.meaning.proofs.Places.{entry-member}
 use Rattle.value_types.specs.TypedValues.{CarriersFit, InReach, PredWithin}
-use Rattle.value_types.specs.BoundNames.{PredBindsFew, OperationsBindFew, BindsFew}
+use Rattle.form.specs.BoundNames.{PredBindsFew, OperationsBindFew, BindsFew}
 use Rattle.value_types.specs.FaultlessContexts.{ContextFine, FewElements, DeclarationsWithin, ParametersWithin, OperationsWithin, NumbersWithin}
 use Rattle.value_types.proofs.FaultlessParts.{append-nil}
 use Rattle.value_types.proofs.GivenTitles.{few-elements, title-finds}

@@ -9,7 +9,7 @@ use Rattle.static_rules.specs.Scope.{Context}
 use Rattle.static_rules.specs.Names.{judgePred}
 use Rattle.static_rules.specs.Limits.{sizePred}
 use Rattle.value_types.specs.TypedValues.{InReach, RangeWithin, PredWithin, sizesIn}
-use Rattle.value_types.specs.BoundNames.{PredBindsFew}
+use Rattle.form.specs.BoundNames.{PredBindsFew}
 
 -- a predicate with the names in its reach: no fault of names and types, no size over 2,147,483,647, numbers of at most 1,000, at most three bound names
 pub record ContextFine (c : Context) : Type 0 where

@@ -1,3 +1,2 @@
 pub mod TypedValues
-pub mod BoundNames
 pub mod FaultlessContexts

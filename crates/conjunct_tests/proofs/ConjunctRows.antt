@@ -1,5 +1,5 @@
 -- The nodes of a conjunct give its truth, and the rows of a predicate are those of its conjuncts: ( ) and `and` split it, all else is whole. Assumes nothing.
-use mathlib.Core.Path.{_≡_, sym, subst}
+use mathlib.Core.Path.{sym, subst}
 use mathlib.Core.List.{List, [], _∷_, _++_, append-assoc, append-nil}
 use Prim.Native.Nat.{ℕ, _+_, _-_, _≤_}
 use native.Mathlib.Omega.{arith}

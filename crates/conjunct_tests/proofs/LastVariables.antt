@@ -1,6 +1,6 @@
 -- The last variable of a group that a conjunct mentions: a variable behind it is not used. Assumes nothing.
-use mathlib.Core.Path.{_≡_, sym, ap, ap₂, _∙_, subst}
-use mathlib.Core.Bool.{Bool, true, _&&_, cond}
+use mathlib.Core.Path.{_≡_, sym, ap₂, subst}
+use mathlib.Core.Bool.{Bool, _&&_, cond}
 use mathlib.Core.Logic.{inl, inr}
 use mathlib.Core.List.{List, [], _∷_}
 use Prim.Native.Nat.{ℕ, _+_, _-_, _≤_, _<_, max}
@@ -24,7 +24,7 @@ pub last-in : (base n s : ℕ) (ss : List ℕ) → Among s ss → base ≤ s →
 unfolding Among lastIn
 last-in base n s [] m h l = absurd m
 last-in base n s (t ∷ ss) (inl e) h l =
-    subst (λ (r : ℕ). r - base + 1 ≤ lastIn base n (r ∷ ss) ) e
+    subst (λ (r : ℕ). s - base + 1 ≤ lastIn base n (r ∷ ss)) e
     (subst (λ (k : ℕ). s - base + 1 ≤ max k (lastIn base n ss)) (sym (counted base n s h l)) (max-left (s - base + 1) (lastIn base n ss)))
 last-in base n s (t ∷ ss) (inr m) h l =
     max-right (cond (leb base t && ltb t (base + n)) (t - base + 1) 0) (lastIn base n ss) (s - base + 1) (last-in base n s ss m h l)

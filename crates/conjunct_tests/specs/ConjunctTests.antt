@@ -15,7 +15,8 @@ use Rattle.node_spans.specs.Spans.{Stands}
 use Rattle.table_places.specs.ResolvedTable.{Slots, predTable}
 use Rattle.search_groups.specs.Conjuncts.{usedPred, conjunctRow}
 
--- the nodes of q stand in the table; q, from the symbol `at` on, has no faults of names and types, nor, from `sized-at` on, of number 13's sizes
+-- the nodes of q stand in the table; q has no faults of names and types where it begins at the symbol `at`, nor of number 13's sizes at `sized-at`;
+-- its numbers are at most 1,000, and at most three bound names are in reach
 pub record Conjunct (table : List ℕ) (Γ : Scope) (W : Slots) (q : Pred) (from to : ℕ) : Type 0 where
   pub stands : Stands table from to (predTable q Γ W 38 from)
   pub low : to ≤ 16384

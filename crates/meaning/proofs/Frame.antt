@@ -16,45 +16,8 @@ use Rattle.meaning.specs.Values as val
 use Rattle.meaning.specs.Values.{Value, prefixValue, operatorValue, divisionValue, singleton, singlePair, compare, asked, connect}
 use Rattle.meaning.specs.Meaning.{Binding, Environment, valueOf, with, sizeOfGiven, domainValues, quantify, inRange, isMember, isPairOf, value, itemsValue, pairsValue, holds}
 use Rattle.meaning.specs.Bindings.{Among}
+use Rattle.meaning.specs.MentionedNames.{others, termNames, itemsNames, pairsNames, predNames}
 use Rattle.meaning.proofs.Members.{among-left, among-right, any-none}
-
--- the names that stand free in a tree, in the order of the text: a binder takes its own from those of its predicate
-abbrev pub others : Letters → List Name → List Name
-others x ys = filter (λ (y : Name). not (sameName (plain x) y)) ys
-
-unfoldable mutual
-  pub termNames : Term → List Name
-  termNames (number n) = []
-  termNames (name x) = x ∷ []
-  termNames (group t) = termNames t
-  termNames (prefix o t) = termNames t
-  termNames (binary o t u) = termNames t ++ termNames u
-  termNames (divided o t e) = termNames t
-  termNames (listed ts) = itemsNames ts
-  termNames (pairs ts) = pairsNames ts
-  termNames (such x g p) = others x (predNames p)
-  termNames (emptySet g) = []
-  termNames (emptyPairs g h) = []
-
-  pub itemsNames : Items → List Name
-  itemsNames (only t) = termNames t
-  itemsNames (also t ts) = termNames t ++ itemsNames ts
-
-  pub pairsNames : Pairs → List Name
-  pairsNames (onlyPair t u) = termNames t ++ termNames u
-  pairsNames (alsoPair t u ts) = termNames t ++ (termNames u ++ pairsNames ts)
-
-  pub predNames : Pred → List Name
-  predNames truth = []
-  predNames falsity = []
-  predNames (negation p) = predNames p
-  predNames (paren p) = predNames p
-  predNames (quantified q x t p) = others x (predNames p)
-  predNames (connected o p q) = predNames p ++ predNames q
-  predNames (compared o t u) = termNames t ++ termNames u
-  predNames (member o t u) = termNames t ++ termNames u
-  predNames (within o t r) = termNames t
-  predNames (related o t u v) = termNames t ++ (termNames u ++ termNames v)
 
 -- two environments over the same given sets that give these names the same values
 pub record Alike (xs : List Name) (ρ π : Environment) : Type 0 where

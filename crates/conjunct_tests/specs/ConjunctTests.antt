@@ -10,7 +10,7 @@ use Rattle.static_rules.specs.Limits.{sizePred}
 use Rattle.meaning.specs.Values.{Value}
 use Rattle.meaning.specs.Meaning.{Binding}
 use Rattle.value_types.specs.TypedValues.{PredWithin, sizesIn}
-use Rattle.value_types.specs.BoundNames.{PredBindsFew}
+use Rattle.form.specs.BoundNames.{PredBindsFew}
 use Rattle.node_spans.specs.Spans.{Stands}
 use Rattle.table_places.specs.ResolvedTable.{Slots, predTable}
 use Rattle.search_groups.specs.Conjuncts.{usedPred, conjunctRow}

@@ -11,5 +11,5 @@ pub mod Shapes
 pub mod GivenTitles
 pub mod DeclaredCarriers
 pub mod FineContexts
-pub mod SymbolNumbers
 pub mod ScannedNumbers
+pub mod SymbolNumbers

@@ -1,19 +1,21 @@
 -- Where all numbers among a dossier's symbols are at most 1,000, so are those of the dossier's trees.
-use mathlib.Core.Path.{subst}
+use mathlib.Core.Path.{sym, subst}
 use mathlib.Core.Bool.{Bool, true, false}
-use mathlib.Core.List.{List, [], _∷_}
-use Prim.Native.Nat.{_≤_}
+use mathlib.Core.List.{List, [], _∷_, map}
+use Prim.Native.Nat.{ℕ, _≤_}
 use Rattle.lexical.specs.Kinds.{Kind}
-use Rattle.lexical.specs.Symbols.{Symbol, numeral}
+use Rattle.lexical.specs.Symbols.{Symbol, numeral, Placed, scan, symbols}
 use Rattle.form.specs.Tree.{Letters, End, Range, Domain, givenSet, range}
 use Rattle.form.specs.Tree.{Term, number, name, group, prefix, binary, divided, listed, pairs, such, emptySet, emptyPairs, Items, only, also, Pairs, onlyPair, alsoPair}
 use Rattle.form.specs.Tree.{Pred, truth, falsity, negation, paren, quantified, connected, compared, member, within, related}
 use Rattle.form.specs.Tree.{TypeForm, givenType, powerType, rangeType, arrowType, Declaration, declarations, Parameter, Given, Operation, Dossier}
 use Rattle.form.specs.Written.{symbolsOf}
+use Rattle.form.specs.Form.{Whole}
 use Rattle.form.proofs.PlainSymbols.{plainMinus, plainEnd, plainRange, plainDomain, plainTerm, plainItems, plainPairs, plainPred, plainType, plainEntries, plainElements, plainGivens}
 use Rattle.form.proofs.PlainSymbols.{plainDeclarations, plainWhere, plainParameters, plainOperations, plainDossier, dossier-plain}
 use Rattle.value_types.specs.TypedValues.{RangeWithin, DomainWithin, TermWithin, ItemsWithin, PairsWithin, PredWithin}
 use Rattle.value_types.specs.FaultlessContexts.{TypeWithin, DeclarationsWithin, ParametersWithin, OperationsWithin, NumbersWithin, NumberWithin, AllNumbers, one-symbol}
+use Rattle.value_types.proofs.ScannedNumbers.{scanned-numbers}
 
 first : {s : Symbol} {w : List Symbol} → AllNumbers (s ∷ w) → NumberWithin s
 first (one-symbol h r) = h
@@ -143,3 +145,7 @@ plain-within d h =
 
 pub numbers-within : (d : Dossier) → AllNumbers (symbolsOf d) → NumbersWithin d
 numbers-within d h = plain-within d (subst AllNumbers (dossier-plain d) h)
+
+-- the dossier of a text
+pub text-numbers : (text : List ℕ) (d : Dossier) → Whole (map (λ (x : Placed). x .symbol) (symbols (scan text))) d → NumbersWithin d
+text-numbers text d h = numbers-within d (subst AllNumbers (sym (h .symbols)) (scanned-numbers text))

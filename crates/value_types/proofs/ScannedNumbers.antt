@@ -62,7 +62,8 @@ unfolding longest
 longest-within [] w = tt
 longest-within (e ∷ t) w = on (begins (bytes (e .0)) w) (longest-within t w)
   where
-    on : (b : Bool) → FoundWithin (longest t w) → FoundWithin (elim b as (λ (x : Bool). Found) [ true ↦ longer (longest t w) (e .1) (length (bytes (e .0))) | false ↦ longest t w ])
+    on : (b : Bool) → FoundWithin (longest t w)
+        → FoundWithin (elim b as (λ (x : Bool). Found) [ true ↦ longer (longest t w) (e .1) (length (bytes (e .0))) | false ↦ longest t w ])
     on true g = longer-within (longest t w) (e .1) (length (bytes (e .0))) g
     on false g = g
 
@@ -79,7 +80,8 @@ unfolding symbols scanFrom symbolAt
 from-within [] skip p = no-symbols
 from-within (b ∷ w) skip p = on skip (symbolAt (b ∷ w)) (class-within (classOf (getD (b ∷ w) 0 0)) (b ∷ w)) (from-within w)
   where
-    on : (skip : ℕ) (f : Found) → FoundWithin f → ((k q : ℕ) → AllNumbers (textSymbols (symbols (scanFrom w k q)))) → AllNumbers (textSymbols (symbols (scanned skip f (scanFrom w) p)))
+    on : (skip : ℕ) (f : Found) → FoundWithin f → ((k q : ℕ) → AllNumbers (textSymbols (symbols (scanFrom w k q))))
+        → AllNumbers (textSymbols (symbols (scanned skip f (scanFrom w) p)))
     on (suc k) f h r = r k (p + 1)
     on zero gap h r = r 0 (p + 1)
     on zero unlisted h r = no-symbols

@@ -2,9 +2,10 @@
 use mathlib.Core.Path.{_≡_, refl, sym, ap, _∙_, subst}
 use mathlib.Core.Bool.{Bool, true, false, not, true≢false}
 use mathlib.Core.Logic.{inl, inr}
-use mathlib.Core.List.{List, [], _∷_, _++_}
+use mathlib.Core.List.{List, [], _∷_, _++_, map}
 use mathlib.Core.Option.{Option, some}
 use Prim.Native.Nat.{ℕ, suc, _+_, _≤_}
+use lib.ListN.{getD}
 use borrow.Author.Tests.{not-true}
 use Rattle.lexical.specs.Lists.{same, find}
 use Rattle.lexical.proofs.WordLaws.{same-refl, same-true}
@@ -23,6 +24,12 @@ unfolding FewElements Among
 few-elements [] h g m = absurd m
 few-elements (k ∷ gs) h g (inl e) = subst (λ (x : Given). sizeOf x ≤ 8) (sym e) (h .0)
 few-elements (k ∷ gs) h g (inr m) = few-elements gs (h .1) g m
+
+-- the form's counts bound the size at each place of the list
+pub few-elements-of : (gs : List Given) → ((k : ℕ) → getD (map sizeOf gs) k 0 ≤ 8) → FewElements gs
+unfolding FewElements
+few-elements-of [] h = tt
+few-elements-of (g ∷ gs) h = (h 0, few-elements-of gs (λ k. h (suc k)))
 
 -- a new name differs from those in use
 new-other : (xs : List Letters) (x : Letters) (i : ℕ) → newName xs x i ≡ [] → (y : Letters) → Among y xs → same x y ≡ false

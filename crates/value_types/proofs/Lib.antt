@@ -11,3 +11,5 @@ pub mod Shapes
 pub mod GivenTitles
 pub mod DeclaredCarriers
 pub mod FineContexts
+pub mod ScannedNumbers
+pub mod SymbolNumbers

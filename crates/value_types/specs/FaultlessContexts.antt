@@ -3,6 +3,7 @@
 use mathlib.Core.Path.{_≡_}
 use mathlib.Core.List.{List, [], _∷_, map}
 use Prim.Native.Nat.{_≤_}
+use Rattle.lexical.specs.Symbols.{Symbol, fixed, numeral, name}
 use Rattle.form.specs.Tree.{Given, TypeForm, givenType, powerType, rangeType, arrowType, Declaration, declarations, Parameter, Operation, Dossier}
 use Rattle.static_rules.specs.Carriers.{sizeOf}
 use Rattle.static_rules.specs.Scope.{Context}
@@ -51,3 +52,13 @@ pub record NumbersWithin (d : Dossier) : Type 0 where
   pub cinit : PredWithin (d .cinit)
   pub retrieve : PredWithin (d .retrieve)
   pub operations : OperationsWithin (d .operations)
+
+-- "a number's is 0 to 1,000": all numbers among symbols
+abbrev pub NumberWithin : Symbol → Type 0
+NumberWithin (fixed k) = Unit {0}
+NumberWithin (numeral n) = n ≤ 1000
+NumberWithin (name x) = Unit {0}
+
+pub data AllNumbers : List Symbol → Type 0 where
+  no-symbols : AllNumbers []
+  one-symbol : {s : Symbol} {w : List Symbol} → NumberWithin s → AllNumbers w → AllNumbers (s ∷ w)

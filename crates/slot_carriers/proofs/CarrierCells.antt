@@ -14,7 +14,8 @@ use Rattle.meaning.specs.Values.{Value}
 use Rattle.meaning.specs.Bindings.{valuesOf}
 use Rattle.carriers.specs.ValuesByNumber.{pairSetAt, valueAt}
 use Rattle.carriers.proofs.Values.{values-at, values-rise}
-use Rattle.slot_carriers.specs.Cells.{countIn, shapeIn, firstIn, valueIn, Reached, Readable, Listed, PairsCell, Shaped, CellOf}
+use Rattle.slot_carriers.specs.Cells.{countIn, shapeIn, firstIn, valueIn, Reached, Readable, Found, Listed, PairsCell, Shaped, CellOf}
+use Rattle.slot_carriers.proofs.Halving.{place-only}
 
 -- a cell's d-th value by its shape, its first number and what its list has
 abbrev byShape : (s a d l : ℕ) → ℤ
@@ -77,3 +78,14 @@ module _ (cells : List ℕ) (slot : ℕ) where
 
         less : (d e : ℕ) → d < e → e < countOf c → d < countOf c
         less d e l h = omega arith
+
+    -- the place of a value of the carrier is its number in the fixed order
+    pub place-of-value : (r d : ℕ) (x : ℤ) → Found (λ (k : ℕ). valueIn cells slot k) (countIn cells slot) x r → d < countOf c → valueAt c d .code ≡ x → r ≡ d
+    place-of-value r d x w h q = place-only (λ (k : ℕ). valueIn cells slot k) (countIn cells slot) x (readable .rising) r d w (counted h) (value-of d h ∙ q)
+
+    -- a place below the count has the value; the count itself says that no value is x
+    pub value-at-place : (r : ℕ) (x : ℤ) → Found (λ (k : ℕ). valueIn cells slot k) (countIn cells slot) x r → r < countOf c → valueAt c r .code ≡ x
+    value-at-place r x w h = sym (value-of r h) ∙ w .here (counted h)
+
+    pub no-place : (r d : ℕ) (x : ℤ) → Found (λ (k : ℕ). valueIn cells slot k) (countIn cells slot) x r → r ≡ countOf c → d < countOf c → valueAt c d .code ≡ x → ⊥
+    no-place r d x w e h q = w .nowhere (e ∙ sym (cell .count)) d (counted h) (value-of d h ∙ q)

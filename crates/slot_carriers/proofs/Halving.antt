@@ -149,3 +149,17 @@ module _ (f : ℕ → ℤ) (n : ℕ) (x : ℤ) (rising : (d e : ℕ) → d < e �
 
   pub step-left : (low high mid r : ℕ) (v z : ℤ) → v ≡ f mid → z ≡ x → ltZ v z ≡ false → mid < high → high ≤ n → Split f z low mid r → Split f x low high r
   step-left low high mid r v z i g t k l s = split-left low high mid r k l (sym (ap₂ ltZ i g) ∙ t) (subst (λ (w : ℤ). Split f w low mid r) g s)
+
+  -- ---- the place of a value is the only one
+
+  pub place-only : (r d : ℕ) → Found f n x r → d < n → f d ≡ x → r ≡ d
+  place-only r d w u q = go (either r n) (either r d) (either d r)
+    where
+      away : {A : Type 0} (i j : ℕ) → i < j → j < n → f i ≡ x → f j ≡ x → A
+      away i j l h a b = clash (sym (rising i j l h) ∙ ap₂ ltZ a b ∙ less-self x)
+
+      go : (r < n) ⊎ (n ≤ r) → (r < d) ⊎ (d ≤ r) → (d < r) ⊎ (r ≤ d) → r ≡ d
+      go (inr h) i j = let e : r ≡ n = omega (arith, w .within) in absurd (w .nowhere e d u q)
+      go (inl h) (inl i) j = away r d i u (w .here h) q
+      go (inl h) (inr i) (inl j) = away d r j h q (w .here h)
+      go (inl h) (inr i) (inr j) = omega arith

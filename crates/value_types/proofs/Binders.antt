@@ -10,16 +10,16 @@ use native.Mathlib.Omega.{arith}
 use lib.IntN.{natAbs}
 use Rattle.lexical.specs.Lists.{upward}
 use Rattle.lexical.specs.Symbols.{Name}
-use Rattle.form.specs.Tree.{Letters, End, Domain, givenSet, range, Given}
-use Rattle.static_rules.specs.Carriers.{signed, endValue, givenOf}
+use Rattle.form.specs.Tree.{Letters, End, Range, Domain, givenSet, range, Given}
+use Rattle.static_rules.specs.Carriers.{signed, endValue, rangeCarrier, givenOf}
 use Rattle.static_rules.specs.Scope.{Scope, binding}
-use Rattle.static_rules.specs.Names.{known, domainCarrier, domainFaults}
+use Rattle.static_rules.specs.Names.{known, rangeFaults, domainCarrier, domainFaults}
 use Rattle.meaning.specs.Values as val
 use Rattle.meaning.specs.Values.{Value}
 use Rattle.meaning.specs.Meaning.{Environment, with, sizeOfGiven, elementValues, domainValues}
 use Rattle.meaning.specs.Bindings.{valuesOf, Among, Over}
 use Rattle.meaning.proofs.Members.{among-map}
-use Rattle.value_types.specs.TypedValues.{CarrierFits, CarriersFit, InReach, Carried, DomainWithin}
+use Rattle.value_types.specs.TypedValues.{CarrierFits, CarriersFit, InReach, Carried, RangeWithin, DomainWithin}
 use Rattle.value_types.proofs.FaultlessParts.{not-nil, boundOver, range-known}
 use Rattle.value_types.proofs.Reach.{sizeIn, named-size, given-is}
 
@@ -36,15 +36,19 @@ unfolding CarrierFits
 given-fits gs g none e i h = not-nil _ _ h
 given-fits gs g (some k) e i h = given-is gs g k e .0
 
--- what a name is bound over fits, if its domain has no fault
-pub domain-fits : (Γ : Scope) (t : Domain) (i : ℕ) → domainFaults Γ t i ≡ [] → DomainWithin t → CarrierFits (Γ .givens) (domainCarrier Γ t)
+pub range-fits : (gs : List Given) (r : Range) (i : ℕ) → rangeFaults r i ≡ [] → RangeWithin r → CarrierFits gs (rangeCarrier r)
 unfolding CarrierFits
-domain-fits Γ (givenSet g) i e h = given-fits (Γ .givens) g (givenOf (Γ .givens) g) refl i e
-domain-fits Γ (range r) i e h = (
+range-fits gs r i e h = (
   subst (λ (n : ℕ). n ≤ 1000) (sym (end-abs (r .lower))) (h .0),
   subst (λ (n : ℕ). n ≤ 1000) (sym (end-abs (r .upper))) (h .1),
   range-known r i e,
 )
+
+-- what a name is bound over fits, if its domain has no fault
+pub domain-fits : (Γ : Scope) (t : Domain) (i : ℕ) → domainFaults Γ t i ≡ [] → DomainWithin t → CarrierFits (Γ .givens) (domainCarrier Γ t)
+unfolding CarrierFits
+domain-fits Γ (givenSet g) i e h = given-fits (Γ .givens) g (givenOf (Γ .givens) g) refl i e
+domain-fits Γ (range r) i e h = range-fits (Γ .givens) r i e h
 
 pub binding-in-reach : (Γ : Scope) (x : Letters) (t : Domain) (i : ℕ) → InReach Γ → domainFaults Γ t i ≡ [] → DomainWithin t
     → InReach (binding Γ x (domainCarrier Γ t))

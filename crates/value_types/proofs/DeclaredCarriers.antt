@@ -10,7 +10,7 @@ use borrow.Author.Tests.{leb-true}
 use Rattle.lexical.specs.Lists.{any, filter}
 use Rattle.lexical.specs.Symbols.{Name, Ending}
 use Rattle.lexical.specs.Refusals.{fault, unless, nameInUse}
-use Rattle.form.specs.Tree.{Letters, range, Arrow, Given, TypeForm, givenType, powerType, rangeType, arrowType}
+use Rattle.form.specs.Tree.{Letters, Arrow, Given, TypeForm, givenType, powerType, rangeType, arrowType}
 use Rattle.form.specs.Tree.{Declaration, Direction, inward, outward, Parameter, Operation}
 use Rattle.form.specs.Written.{endingOf, writeType}
 use Rattle.form.specs.Headings.{operationLength}
@@ -22,7 +22,7 @@ use Rattle.value_types.specs.TypedValues.{CarrierFits, CarriersFit}
 use Rattle.value_types.specs.FaultlessContexts.{TypeWithin, DeclarationsWithin, ParametersWithin}
 use Rattle.value_types.proofs.FaultlessParts.{unless-nil, append-nil-three, given-known}
 use Rattle.value_types.proofs.Reach.{given-is}
-use Rattle.value_types.proofs.Binders.{domain-fits}
+use Rattle.value_types.proofs.Binders.{range-fits}
 
 -- a declared type whose given sets are known, and which fits if its numbers are at most 1,000
 pub record HasCarrier (gs : List Given) (t : TypeForm) : Type 0 where
@@ -70,7 +70,7 @@ type-carries gs (givenType x) i e =
 type-carries gs (powerType x) i e =
     let g = given-known (givenOf gs x) (suc i) e in
     record { carrier = subsetsOf (g .0); is = power-carrier gs x (g .0) (g .1); fits = λ w. given-is gs x (g .0) (g .1) .0 }
-type-carries gs (rangeType r) i e = record { carrier = rangeCarrier r; is = refl; fits = λ w. domain-fits gs (range r) i e w }
+type-carries gs (rangeType r) i e = record { carrier = rangeCarrier r; is = refl; fits = λ w. range-fits gs r i e w }
 type-carries gs (arrowType a x y) i e =
     let k = arrow-parts gs a x y i e in
     let g = given-known (givenOf gs x) i (k .0) in

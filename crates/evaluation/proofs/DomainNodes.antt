@@ -35,7 +35,7 @@ pub record DomainNode (Γ : Scope) (ρ : Environment) (d : Domain) : Type 0 wher
   pub coded : (k : ℕ) → at k .code ≡ (pos low -ℤ pos 1000) +ℤ pos k
 
 unfoldable pub given-node : (Γ : Scope) (ρ : Environment) (g : Name) → Carried Γ ρ → DomainNode Γ ρ (givenSet g)
-unfolding domainTable domainValues elementValues
+unfolding domainTable domainValues elementValues givenSize
 given-node Γ ρ g c =
     record {
       low = 1000;

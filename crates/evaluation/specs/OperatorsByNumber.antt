@@ -1,9 +1,9 @@
 -- What operators do to the codes of values, by the codes of their symbols (lexical/specs/Kinds): a number is itself, an element its place, a set its bits.
 -- That these are the operators of meaning/specs/Values is proofs/OperatorsAgree. Nothing here need be believed.
 use mathlib.Core.Path.{_≡_}
-use mathlib.Core.Bool.{Bool, true, false, not, _&&_}
+use mathlib.Core.Bool.{Bool, true, false, not, _&&_, _||_}
 use Prim.Native.Nat.{ℕ, _%_, _<_}
-use lib.Dec.{eqb, ltb, leb}
+use lib.Dec.{eqb, ltb}
 use lib.IntN.{ℤ, pos, negℤ, natAbs, _+ℤ_, _-ℤ_, _*ℤ_}
 use lib.Signed.{leZ, ltZ}
 use Rattle.static_rules.specs.Carriers.{signed}
@@ -70,7 +70,7 @@ operated code x y =
     ]
 
 unfoldable pub OperatorTakes : (code : ℕ) → (x y : ℤ) → Type 0
-OperatorTakes code x y = pick (leb code 30) (Small x × Small y) (IsBits x × IsBits y)
+OperatorTakes code x y = pick (eqb code 28 || eqb code 29 || eqb code 30) (Small x × Small y) (IsBits x × IsBits y)
 
 -- 22 =, 23 /=, 24 <, and <=
 unfoldable pub compared : (code : ℕ) → (x y : ℤ) → Bool

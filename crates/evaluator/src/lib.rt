@@ -2,7 +2,8 @@
 // end, shape, and stands behind its parts; `end` is the place behind a node, its last part ends at `end - 4`, an earlier one where the node says.
 // A slot has the value of a variable or of a bound name; every function leaves the slots as they were.
 ghost use mathlib.Core.Path.{_≡_};
-ghost use Prim.Native.Nat.{ℕ, _<_, _≤_};
+ghost use Prim.Native.Nat.{ℕ, _+_, _<_, _≤_};
+ghost use lib.IntN.{ℤ, pos, natAbs, _+ℤ_, _-ℤ_};
 ghost use Rattle.evaluation.specs.EvaluationByNumber.{Inside};
 ghost use Rattle.evaluator.specs.EvaluationPromises.{TermRuns, TermAnswers, ItemsRun, ItemsAnswer, TruthRuns, TruthAnswers};
 ghost use Rattle.evaluator.specs.EvaluationPromises.{SuchRuns, SuchAnswers, AskedRuns, AskedAnswers, QuantifierRuns, QuantifierAnswers, BoundRuns, SomeAnswers, OnceAnswers};
@@ -60,6 +61,41 @@ const RELATED: u16 = 22;
 
 const QUANTIFIER: u16 = 24;
 
+// A number of a node, and a set's bits, as a value.
+fn whole(w: u16) -> i64
+    ensures { λ r. ⌜ r ≡ pos w ⌝ }
+{
+    w as i64
+}
+
+fn of_bits(s: u32) -> i64
+    ensures { λ r. ⌜ r ≡ pos s ⌝ }
+{
+    s as i64
+}
+
+// The first number of a domain, of which its node has 1000 more, and the k-th one from there on.
+fn lowest(w: u16) -> i64
+    ensures is { λ r. ⌜ r ≡ pos w -ℤ pos 1000 ⌝ }
+    ensures small { λ r. ⌜ natAbs r < 131072 ⌝ }
+{
+    w as i64 - 1000
+}
+
+fn counted(w: u16, k: u16) -> i64
+    ensures { λ r. ⌜ r ≡ (pos w -ℤ pos 1000) +ℤ pos k ⌝ }
+{
+    w as i64 - 1000 + k as i64
+}
+
+// The place behind k, which is one of n.
+fn next(k: u16, n: u16) -> u16
+    requires { ⌜ k < n ⌝ }
+    ensures { λ r. ⌜ r ≡ k + 1 ⌝ }
+{
+    k + 1
+}
+
 // The same as `value`: variables and numbers, which most parts are, without a call.
 fn part(t: &[u16; 16384], end: usize, slots: &mut [i64; 64]) -> i64
     requires { ⌜ Inside end ⌝ }
@@ -72,7 +108,7 @@ fn part(t: &[u16; 16384], end: usize, slots: &mut [i64; 64]) -> i64
         return slots[t[end - 3] as usize];
     }
     if shape == NUMBER {
-        return t[end - 3] as i64;
+        return whole(t[end - 3]);
     }
     value(t, end, slots)
 }
@@ -87,7 +123,7 @@ pub fn value(t: &[u16; 16384], end: usize, slots: &mut [i64; 64]) -> i64
     let first = t[end - 3];
     let shape = t[end - 1];
     match shape {
-        NUMBER => first as i64,
+        NUMBER => whole(first),
         SLOT => slots[first as usize],
         PREFIX => {
             let x = part(t, end - 4, slots);
@@ -150,14 +186,14 @@ fn such(t: &[u16; 16384], end: usize, slots: &mut [i64; 64]) -> i64
     let slot = t[end - 3] as usize;
     let old = slots[slot];
     let mut s: u32 = 0;
-    let mut k = t[end - 8];
+    let mut k = t[end - 4 - 4];
     while 0 < k {
         k -= 1;
-        slots[slot] = k as i64;
+        slots[slot] = whole(k);
         s = 2 * s + (holds(t, end - 8, slots) as u32);
     }
     slots[slot] = old;
-    s as i64
+    of_bits(s)
 }
 
 // Whether the predicate whose nodes end at `end` holds.
@@ -209,7 +245,7 @@ fn member(t: &[u16; 16384], end: usize, slots: &mut [i64; 64]) -> bool
             let x = part(t, end - 8, slots);
             asked(
                 first == IN,
-                in_range(t[end - 7] as i64 - 1000, t[end - 8], x),
+                in_range(lowest(t[end - 4 - 3]), t[end - 4 - 4], x),
             )
         }
         _ => {
@@ -244,18 +280,18 @@ fn some(t: &[u16; 16384], end: usize, wanted: bool, slots: &mut [i64; 64]) -> bo
     ensures kept { λ r. ⌜ now (slots .exit) ≡ now (slots .entry) ⌝ }
 {
     let slot = t[end - 3] as usize;
-    let low = t[end - 7] as i64 - 1000;
-    let n = t[end - 8];
+    let low = t[end - 4 - 3];
+    let n = t[end - 4 - 4];
     let old = slots[slot];
     let mut k: u16 = 0;
     while k < n {
-        slots[slot] = low + k as i64;
+        slots[slot] = counted(low, k);
         let p = holds(t, end - 8, slots);
         if asked(wanted, p) {
             slots[slot] = old;
             return true;
         }
-        k += 1;
+        k = next(k, n);
     }
     slots[slot] = old;
     false
@@ -269,15 +305,15 @@ fn once(t: &[u16; 16384], end: usize, slots: &mut [i64; 64]) -> bool
     ensures kept { λ r. ⌜ now (slots .exit) ≡ now (slots .entry) ⌝ }
 {
     let slot = t[end - 3] as usize;
-    let low = t[end - 7] as i64 - 1000;
-    let n = t[end - 8];
+    let low = t[end - 4 - 3];
+    let n = t[end - 4 - 4];
     let old = slots[slot];
     let mut found: u32 = 0;
     let mut k: u16 = 0;
     while k < n {
-        slots[slot] = low + k as i64;
+        slots[slot] = counted(low, k);
+        k = next(k, n);
         found += holds(t, end - 8, slots) as u32;
-        k += 1;
     }
     slots[slot] = old;
     found == 1

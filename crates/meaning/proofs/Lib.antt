@@ -4,4 +4,6 @@ pub mod Bindings
 pub mod Places
 pub mod Distinct
 pub mod Values
+pub mod Frame
+pub mod ConjunctsHold
 pub mod Samples

@@ -1,7 +1,7 @@
 -- The member of a list at a place: in a part of a list, in two lists joined, and as a member. Assumes nothing.
 use mathlib.Core.Path.{_≡_, refl, sym, ap, ap₂, _∙_}
 use mathlib.Core.Logic.{inl, inr}
-use mathlib.Core.Option.{some, Option·none-ne-some}
+use mathlib.Core.Option.{some, Option·none-ne-some, Option·some-injective}
 use mathlib.Core.List.{List, [], _∷_, _++_, map}
 use Prim.Native.Nat.{ℕ, zero, suc, _+_, _*_, _<_}
 use native.Mathlib.Nat.{zero-add, suc-add, zero-mul, not-suc-le-zero, le-of-suc-le-suc}
@@ -33,6 +33,13 @@ module _ {A : Type 0} where
   below-entry [] k h = absurd (not-suc-le-zero h)
   below-entry (x ∷ xs) zero h = (x, refl)
   below-entry (x ∷ xs) (suc k) h = below-entry xs k (le-of-suc-le-suc h)
+
+  -- an entry is a member
+  pub entry-member : (x : A) (xs : List A) (k : ℕ) → getElem? xs k ≡ some x → Among x xs
+  unfolding Among
+  entry-member x [] k e = absurd (Option·none-ne-some x e)
+  entry-member x (y ∷ xs) zero e = inl (sym (Option·some-injective y x e))
+  entry-member x (y ∷ xs) (suc k) e = inr (entry-member x xs k e)
 
   -- parts of a list
   pub at-taken : (n : ℕ) (xs : List A) (q : ℕ) (z : A) → q < n → getD (take n xs) q z ≡ getD xs q z

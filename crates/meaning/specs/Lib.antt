@@ -2,4 +2,5 @@ pub mod Values
 pub mod Meaning
 pub mod Bindings
 pub mod Operations
+pub mod MentionedNames
 pub mod Computed

@@ -1,0 +1,4 @@
+pub mod OperatorsByNumber
+pub mod EvaluationByNumber
+pub mod SlotValues
+pub mod Heights

@@ -1,0 +1,320 @@
+// The evaluator: values of terms and predicates over the table that the reader leaves (table_places/specs/ResolvedTable). A node is four numbers, second, first,
+// end, shape, and stands behind its parts; `end` is the place behind a node, its last part ends at `end - 4`, an earlier one where the node says.
+// A slot has the value of a variable or of a bound name; every function leaves the slots as they were.
+ghost use mathlib.Core.Path.{_≡_};
+ghost use Prim.Native.Nat.{ℕ, _+_, _<_, _≤_};
+ghost use lib.IntN.{ℤ, pos, natAbs, _+ℤ_, _-ℤ_};
+ghost use Rattle.evaluation.specs.EvaluationByNumber.{Inside};
+ghost use Rattle.evaluator.specs.EvaluationPromises.{TermRuns, TermAnswers, ItemsRun, ItemsAnswer, TruthRuns, TruthAnswers};
+ghost use Rattle.evaluator.specs.EvaluationPromises.{SuchRuns, SuchAnswers, AskedRuns, AskedAnswers, QuantifierRuns, QuantifierAnswers, BoundRuns, SomeAnswers, OnceAnswers};
+use lexical::codes;
+use operators::asked;
+use operators::compared;
+use operators::connected;
+use operators::divided;
+use operators::has;
+use operators::in_range;
+use operators::joined;
+use operators::operated;
+use operators::pair;
+use operators::prefixed;
+use operators::settles;
+use operators::single;
+
+const FORALL: u16 = codes::FORALL as u16;
+
+const EXISTS: u16 = codes::EXISTS as u16;
+
+const IN: u16 = codes::IN as u16;
+
+const NUMBER: u16 = 1;
+
+const SLOT: u16 = 2;
+
+const PREFIX: u16 = 3;
+
+const DIVISION: u16 = 4;
+
+const OPERATOR: u16 = 5;
+
+const SUCH: u16 = 6;
+
+const LAST_ITEM: u16 = 9;
+
+const MORE_ITEMS: u16 = 10;
+
+const LAST_PAIR: u16 = 11;
+
+const TRUTH: u16 = 16;
+
+const NOT: u16 = 17;
+
+const CONNECTIVE: u16 = 18;
+
+const COMPARISON: u16 = 19;
+
+const MEMBER: u16 = 20;
+
+const WITHIN: u16 = 21;
+
+const RELATED: u16 = 22;
+
+const QUANTIFIER: u16 = 24;
+
+// A number of a node, and a set's bits, as a value.
+fn whole(w: u16) -> i64
+    ensures { λ r. ⌜ r ≡ pos w ⌝ }
+{
+    w as i64
+}
+
+fn of_bits(s: u32) -> i64
+    ensures { λ r. ⌜ r ≡ pos s ⌝ }
+{
+    s as i64
+}
+
+// The first number of a domain, of which its node has 1000 more, and the k-th one from there on.
+fn lowest(w: u16) -> i64
+    ensures is { λ r. ⌜ r ≡ pos w -ℤ pos 1000 ⌝ }
+    ensures small { λ r. ⌜ natAbs r < 131072 ⌝ }
+{
+    w as i64 - 1000
+}
+
+fn counted(w: u16, k: u16) -> i64
+    ensures { λ r. ⌜ r ≡ (pos w -ℤ pos 1000) +ℤ pos k ⌝ }
+{
+    w as i64 - 1000 + k as i64
+}
+
+// The place behind k, which is one of n.
+fn next(k: u16, n: u16) -> u16
+    requires { ⌜ k < n ⌝ }
+    ensures { λ r. ⌜ r ≡ k + 1 ⌝ }
+{
+    k + 1
+}
+
+// The same as `value`: variables and numbers, which most parts are, without a call.
+fn part(t: &[u16; 16384], end: usize, slots: &mut [i64; 64]) -> i64
+    requires { ⌜ Inside end ⌝ }
+    requires { ⌜ TermRuns (now t) end (now slots) ⌝ }
+    ensures answers { λ r. ⌜ TermAnswers (now (t .entry)) end (now (slots .entry)) r ⌝ }
+    ensures kept { λ r. ⌜ now (slots .exit) ≡ now (slots .entry) ⌝ }
+{
+    let shape = t[end - 1];
+    if shape == SLOT {
+        return slots[t[end - 3] as usize];
+    }
+    if shape == NUMBER {
+        return whole(t[end - 3]);
+    }
+    value(t, end, slots)
+}
+
+// The value of the term whose nodes end at `end`.
+pub fn value(t: &[u16; 16384], end: usize, slots: &mut [i64; 64]) -> i64
+    requires { ⌜ Inside end ⌝ }
+    requires { ⌜ TermRuns (now t) end (now slots) ⌝ }
+    ensures answers { λ r. ⌜ TermAnswers (now (t .entry)) end (now (slots .entry)) r ⌝ }
+    ensures kept { λ r. ⌜ now (slots .exit) ≡ now (slots .entry) ⌝ }
+{
+    let first = t[end - 3];
+    let shape = t[end - 1];
+    match shape {
+        NUMBER => whole(first),
+        SLOT => slots[first as usize],
+        PREFIX => {
+            let x = part(t, end - 4, slots);
+            prefixed(first, t[end - 2], t[end - 4], x)
+        }
+        DIVISION => {
+            let x = part(t, end - 4, slots);
+            divided(first, t[end - 4], x)
+        }
+        OPERATOR => {
+            let x = part(t, t[end - 2] as usize, slots);
+            let y = part(t, end - 4, slots);
+            operated(first, x, y)
+        }
+        SUCH => such(t, end, slots),
+        _ => items(t, end - 4, slots),
+    }
+}
+
+// The set of the items or pairs whose nodes end at `end`.
+fn items(t: &[u16; 16384], end: usize, slots: &mut [i64; 64]) -> i64
+    requires { ⌜ Inside end ⌝ }
+    requires { ⌜ ItemsRun (now t) end (now slots) ⌝ }
+    ensures answers { λ r. ⌜ ItemsAnswer (now (t .entry)) end (now (slots .entry)) r ⌝ }
+    ensures kept { λ r. ⌜ now (slots .exit) ≡ now (slots .entry) ⌝ }
+{
+    let first = t[end - 3];
+    let shape = t[end - 1];
+    match shape {
+        LAST_ITEM => {
+            let x = part(t, end - 4, slots);
+            single(x)
+        }
+        MORE_ITEMS => {
+            let x = part(t, t[end - 2] as usize, slots);
+            let s = items(t, end - 4, slots);
+            joined(single(x), s)
+        }
+        LAST_PAIR => {
+            let x = part(t, t[end - 2] as usize, slots);
+            let y = part(t, end - 4, slots);
+            single(pair(first, x, y))
+        }
+        _ => {
+            let x = part(t, t[end - 2] as usize, slots);
+            let y = part(t, t[end - 4] as usize, slots);
+            let s = items(t, end - 4, slots);
+            joined(single(pair(first, x, y)), s)
+        }
+    }
+}
+
+// {x : G | p}: the elements at which the predicate holds, from the last bit down.
+fn such(t: &[u16; 16384], end: usize, slots: &mut [i64; 64]) -> i64
+    requires { ⌜ Inside end ⌝ }
+    requires { ⌜ SuchRuns (now t) end (now slots) ⌝ }
+    ensures answers { λ r. ⌜ SuchAnswers (now (t .entry)) end (now (slots .entry)) r ⌝ }
+    ensures kept { λ r. ⌜ now (slots .exit) ≡ now (slots .entry) ⌝ }
+{
+    let slot = t[end - 3] as usize;
+    let old = slots[slot];
+    let mut s: u32 = 0;
+    let mut k = t[end - 4 - 4];
+    while 0 < k {
+        k -= 1;
+        slots[slot] = whole(k);
+        s = 2 * s + (holds(t, end - 8, slots) as u32);
+    }
+    slots[slot] = old;
+    of_bits(s)
+}
+
+// Whether the predicate whose nodes end at `end` holds.
+pub fn holds(t: &[u16; 16384], end: usize, slots: &mut [i64; 64]) -> bool
+    requires { ⌜ Inside end ⌝ }
+    requires { ⌜ TruthRuns (now t) end (now slots) ⌝ }
+    ensures answers { λ r. ⌜ TruthAnswers (now (t .entry)) end (now (slots .entry)) r ⌝ }
+    ensures kept { λ r. ⌜ now (slots .exit) ≡ now (slots .entry) ⌝ }
+{
+    let first = t[end - 3];
+    let shape = t[end - 1];
+    match shape {
+        TRUTH => first == 1,
+        NOT => !holds(t, end - 4, slots),
+        CONNECTIVE => {
+            let p = holds(t, t[end - 2] as usize, slots);
+            if settles(first, p) {
+                return connected(first, p, false);
+            }
+            let q = holds(t, end - 4, slots);
+            connected(first, p, q)
+        }
+        COMPARISON => {
+            let x = part(t, t[end - 2] as usize, slots);
+            let y = part(t, end - 4, slots);
+            compared(first, x, y)
+        }
+        QUANTIFIER => quantified(t, end, slots),
+        _ => member(t, end, slots),
+    }
+}
+
+// in and notin: an element and its set, a number and a range, a pair and its relation.
+fn member(t: &[u16; 16384], end: usize, slots: &mut [i64; 64]) -> bool
+    requires { ⌜ Inside end ⌝ }
+    requires { ⌜ AskedRuns (now t) end (now slots) ⌝ }
+    ensures answers { λ r. ⌜ AskedAnswers (now (t .entry)) end (now (slots .entry)) r ⌝ }
+    ensures kept { λ r. ⌜ now (slots .exit) ≡ now (slots .entry) ⌝ }
+{
+    let first = t[end - 3];
+    let shape = t[end - 1];
+    match shape {
+        MEMBER => {
+            let x = part(t, t[end - 2] as usize, slots);
+            let s = part(t, end - 4, slots);
+            asked(first == IN, has(s, x))
+        }
+        WITHIN => {
+            let x = part(t, end - 8, slots);
+            asked(
+                first == IN,
+                in_range(lowest(t[end - 4 - 3]), t[end - 4 - 4], x),
+            )
+        }
+        _ => {
+            let x = part(t, t[end - 2] as usize, slots);
+            let y = part(t, t[end - 4] as usize, slots);
+            let s = part(t, end - 4, slots);
+            asked(shape == RELATED, has(s, pair(first, x, y)))
+        }
+    }
+}
+
+// forall is no value at which the predicate is false, exists some value at which it is true, exists1 exactly one such value.
+fn quantified(t: &[u16; 16384], end: usize, slots: &mut [i64; 64]) -> bool
+    requires { ⌜ Inside end ⌝ }
+    requires { ⌜ QuantifierRuns (now t) end (now slots) ⌝ }
+    ensures answers { λ r. ⌜ QuantifierAnswers (now (t .entry)) end (now (slots .entry)) r ⌝ }
+    ensures kept { λ r. ⌜ now (slots .exit) ≡ now (slots .entry) ⌝ }
+{
+    let code = t[end - 4];
+    match code {
+        FORALL => !some(t, end, false, slots),
+        EXISTS => some(t, end, true, slots),
+        _ => once(t, end, slots),
+    }
+}
+
+// Is the predicate of the quantifier as wanted at one of the values?
+fn some(t: &[u16; 16384], end: usize, wanted: bool, slots: &mut [i64; 64]) -> bool
+    requires { ⌜ Inside end ⌝ }
+    requires { ⌜ BoundRuns (now t) end (now slots) ⌝ }
+    ensures answers { λ r. ⌜ SomeAnswers (now (t .entry)) end (now (slots .entry)) wanted r ⌝ }
+    ensures kept { λ r. ⌜ now (slots .exit) ≡ now (slots .entry) ⌝ }
+{
+    let slot = t[end - 3] as usize;
+    let low = t[end - 4 - 3];
+    let n = t[end - 4 - 4];
+    let old = slots[slot];
+    let mut k: u16 = 0;
+    while k < n {
+        slots[slot] = counted(low, k);
+        let p = holds(t, end - 8, slots);
+        if asked(wanted, p) {
+            slots[slot] = old;
+            return true;
+        }
+        k = next(k, n);
+    }
+    slots[slot] = old;
+    false
+}
+
+// Does it hold at exactly one of them?
+fn once(t: &[u16; 16384], end: usize, slots: &mut [i64; 64]) -> bool
+    requires { ⌜ Inside end ⌝ }
+    requires { ⌜ BoundRuns (now t) end (now slots) ⌝ }
+    ensures answers { λ r. ⌜ OnceAnswers (now (t .entry)) end (now (slots .entry)) r ⌝ }
+    ensures kept { λ r. ⌜ now (slots .exit) ≡ now (slots .entry) ⌝ }
+{
+    let slot = t[end - 3] as usize;
+    let low = t[end - 4 - 3];
+    let n = t[end - 4 - 4];
+    let old = slots[slot];
+    let mut found: u32 = 0;
+    let mut k: u16 = 0;
+    while k < n {
+        slots[slot] = counted(low, k);
+        k = next(k, n);
+        found += holds(t, end - 8, slots) as u32;
+    }
+    slots[slot] = old;
+    found == 1
+}

@@ -1,0 +1,70 @@
+// Carriers by slot: `cells` has four numbers for each slot, how many values its variable has, the shape of its type and two numbers of it; then the lists of
+// partial and total functions.
+ghost use mathlib.Core.Path.{_≡_};
+ghost use Prim.Native.Nat.{_<_, _≤_};
+ghost use lib.ListN.{getD, length};
+ghost use Rattle.slot_carriers.specs.Cells.{countIn, valueIn, Reached, Readable, Split, Found};
+
+// A number of the cells.
+fn cell(cells: &[u32], k: usize) -> u32
+    requires { ⌜ k < length (now cells) ⌝ }
+    ensures { λ r. ⌜ (r ≡ getD (now (cells .entry)) k 0) × (r < 4294967296) ⌝ }
+{
+    cells[k]
+}
+
+// How many values the variable of a slot has.
+pub fn count_of(cells: &[u32; 9216], slot: usize) -> usize
+    requires { ⌜ slot < 64 ⌝ }
+    ensures { λ r. ⌜ r ≡ countIn (now (cells .entry)) slot ⌝ }
+{
+    cell(cells, 4 * slot) as usize
+}
+
+// Its d-th value.
+pub fn value_at(cells: &[u32; 9216], slot: usize, d: usize) -> i64
+    requires { ⌜ Reached (now cells) slot d ⌝ }
+    ensures { λ r. ⌜ r ≡ valueIn (now (cells .entry)) slot d ⌝ }
+{
+    let shape = cell(cells, 4 * slot + 1);
+    let a = cell(cells, 4 * slot + 2);
+    if shape == 2 {
+        return a as i64 - 1000 + d as i64;
+    }
+    if shape < 5 {
+        return d as i64;
+    }
+    cell(cells, a as usize + d) as i64
+}
+
+// The first place between two whose value is not below x: values rise, so what is left is halved.
+fn first_from(cells: &[u32; 9216], slot: usize, low: usize, high: usize, x: i64) -> usize
+    requires { ⌜ Readable (now cells) slot ⌝ }
+    requires { ⌜ (low ≤ high) × (high ≤ countIn (now cells) slot) ⌝ }
+    ensures { λ r. ⌜ Split (λ d. valueIn (now (cells .entry)) slot d) x low high r ⌝ }
+{
+    if low >= high {
+        return low;
+    }
+    let mid = (low + high) / 2;
+    if value_at(cells, slot, mid) < x {
+        return first_from(cells, slot, mid + 1, high, x);
+    }
+    first_from(cells, slot, low, mid, x)
+}
+
+// The place of x among the values of a slot, or their count where it is none of them.
+pub fn place_of(cells: &[u32; 9216], slot: usize, x: i64) -> usize
+    requires { ⌜ Readable (now cells) slot ⌝ }
+    ensures { λ r. ⌜ Found (λ d. valueIn (now (cells .entry)) slot d) (countIn (now (cells .entry)) slot) x r ⌝ }
+{
+    let n = count_of(cells, slot);
+    let r = first_from(cells, slot, 0, n, x);
+    if r >= n {
+        return n;
+    }
+    if value_at(cells, slot, r) <= x {
+        return r;
+    }
+    n
+}

@@ -1,0 +1,13 @@
+// Does a predicate of the reader's table hold at the values in the slots? The evaluator's answer, over the definitions.
+ghost use mathlib.Core.Path.{_≡_};
+ghost use Rattle.truths.specs.Promises.{Asked, Answers};
+use evaluator::holds;
+
+// The predicate whose nodes end at `end`; the slots are as they were.
+pub fn truth(t: &[u16; 16384], end: usize, slots: &mut [i64; 64]) -> bool
+    requires { ⌜ Asked (now t) end (now slots) ⌝ }
+    ensures answers { λ r. ⌜ Answers (now (t .entry)) end (now (slots .entry)) r ⌝ }
+    ensures kept { λ r. ⌜ now (slots .exit) ≡ now (slots .entry) ⌝ }
+{
+    holds(t, end, slots)
+}

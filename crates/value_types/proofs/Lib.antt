@@ -1,0 +1,15 @@
+pub mod FaultlessParts
+pub mod TypeTests
+pub mod SetBounds
+pub mod Reach
+pub mod Binders
+pub mod TypedOperations
+pub mod TypedTerms
+pub mod Magnitudes
+pub mod SizedTerms
+pub mod Shapes
+pub mod GivenTitles
+pub mod DeclaredCarriers
+pub mod FineContexts
+pub mod ScannedNumbers
+pub mod SymbolNumbers

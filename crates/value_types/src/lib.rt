@@ -1,0 +1,1 @@
+// Values have their types and sizes: definitions and theorems, no code.

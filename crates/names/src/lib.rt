@@ -5,10 +5,13 @@ use crate::passes::check;
 use crate::passes::clear;
 use declared_names::declared::give;
 use lexical::bounds;
+use lexical::endings;
 
 pub mod passes;
 
-// A number for each given set: how many elements it has.
+// A number for each name, which is a symbol with one of the endings; a number for each given set.
+pub const NAMES: usize = bounds::SYMBOLS * endings::COUNT as usize;
+
 pub const SIZES: usize = bounds::GIVEN_SETS as usize;
 
 // The least fault of the pass (place * KEY_ROOM + number + 1, places by symbols), or 0. The nodes are a dossier's, up to m; the places are where its parts begin.

@@ -38,7 +38,7 @@ module _ (nodes : List ℕ) (from : ℕ) (ok : Bool) where
 
 part-stands : (nodes : List ℕ) (f t from to : ℕ) (code codes : List ℕ) → from ≡ f → to ≡ t → PartOf nodes from to code → Stands nodes f t codes → code ≡ codes
 part-stands nodes f t from to code codes p q h s =
-    subst (λ (y : ℕ). PartOf nodes f y code) q (subst (λ (x : ℕ). PartOf nodes x to code) p h) (s .ordered) (s .inside) ∙ s .stands
+    (subst (λ (y : ℕ). PartOf nodes f y code) q (subst (λ (x : ℕ). PartOf nodes x to code) p h)) .part (s .ordered) (s .inside) ∙ s .stands
 
 group-fits : (code : List ℕ) (e c : ℕ) (T : Names) (z : Sizes) (n i : ℕ) (xs : List Typed) (ρ : Numbering) → GroupCounted code e c T z n → code ≡ typedCodes i xs ρ
     → leb n c ≡ leb (typedCount e xs T ρ z) c

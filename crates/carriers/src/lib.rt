@@ -14,20 +14,28 @@ pub fn number_at(a: i32, k: u32) -> i64
     a as i64 + k as i64
 }
 
+// How many bits a row of a partial function has at least, and one of a total function.
+const PARTIAL_LEAST: u32 = 0;
+
+const TOTAL_LEAST: u32 = 1;
+
+// How many bits a set has, as a place of a pair.
+const BITS: u64 = sets::BITS as u64;
+
 // Do n rows of m bits fit a set, and can a row have `least` bits, which is 0 or 1? Rows of more bits than a set has fit only where there are none.
 fn room(least: u32, n: u32, m: u32) -> bool
     ensures { λ r. ⌜ (r ≡ true → Room least n m) × (r ≡ false → least ≤ 1 → least ≤ m → n * m ≤ 16 → n ≡ 0) ⌝ }
 {
-    if least > 1 {
+    if least > TOTAL_LEAST {
         return false;
     }
     if least > m {
         return false;
     }
-    if m > 16 {
+    if m > sets::BITS {
         return false;
     }
-    sets::pair(m, n, 0) <= 16
+    sets::pair(m, n, 0) <= BITS
 }
 
 // The k-th set of n rows of m bits, each with one bit at most and `least` at least: the digits of k say which bit, the first row's the lowest.
@@ -58,14 +66,14 @@ fn mask_at(least: u32, n: u32, m: u32, k: u32) -> u16
 pub fn partial_mask(n: u32, m: u32, k: u32) -> u16
     ensures { λ r. ⌜ (n * m ≤ 16 → r ≡ partialMask n m k) × (16 < n * m → r ≡ 0) ⌝ }
 {
-    mask_at(0, n, m, k)
+    mask_at(PARTIAL_LEAST, n, m, k)
 }
 
 // The k-th total function from n elements to m; where a set cannot hold the pairs, or there is nothing to go to, none.
 pub fn total_mask(n: u32, m: u32, k: u32) -> u16
     ensures { λ r. ⌜ (0 < m → n * m ≤ 16 → r ≡ totalMask n m k) × (16 < n * m → r ≡ 0) × (m ≡ 0 → r ≡ 0) ⌝ }
 {
-    mask_at(1, n, m, k)
+    mask_at(TOTAL_LEAST, n, m, k)
 }
 
 // How many sets of n rows of m bits there are, each row with one bit at most and `least` at least.
@@ -89,14 +97,14 @@ fn count_at(least: u32, n: u32, m: u32) -> u32
 pub fn partial_count(n: u32, m: u32) -> u32
     ensures { λ r. ⌜ (n * m ≤ 16 → r ≡ arrowCount partial n m) × (16 < n * m → r ≡ 1) ⌝ }
 {
-    count_at(0, n, m)
+    count_at(PARTIAL_LEAST, n, m)
 }
 
 // How many total functions, with the same for what a set cannot hold.
 pub fn total_count(n: u32, m: u32) -> u32
     ensures { λ r. ⌜ (0 < m → n * m ≤ 16 → r ≡ arrowCount total n m) × (16 < n * m → r ≡ 1) × (m ≡ 0 → r ≡ 1) ⌝ }
 {
-    count_at(1, n, m)
+    count_at(TOTAL_LEAST, n, m)
 }
 
 // The digit of a variable with `count` values in the number k of a binding, where those after it have `stride` bindings.

@@ -1,7 +1,7 @@
 -- What the functions of the pass promise of whatever declarations, predicates and operations the nodes are those of; T has the names at entry, U at exit.
 -- Nothing here need be believed.
 use mathlib.Core.Path.{_≡_}
-use mathlib.Core.List.{List, _++_, map}
+use mathlib.Core.List.{List, [], _++_, map}
 use Prim.Native.Nat.{ℕ, suc, _+_, _-_, _≤_, _<_}
 use lib.ListN.{length, take, drop, getD, set, replicate}
 use Rattle.form.specs.Tree.{TypeForm, Declaration, declarations, Given, State, Operation, Pred, Dossier}
@@ -159,10 +159,13 @@ pub record ConditionsSeen (code abstracts concretes : List ℕ) (T U : Names) (z
   pub named : (d : Dossier) (ρ : Numbering) → code ≡ threeCodes d ρ → Variables (declarations (d .abstract)) (declarations (d .concrete)) ρ abstracts concretes
       → r ≡ 0 → U ≡ conditionsNamed d T ρ
 
--- some of the nodes; the variables of a state
-abbrev pub PartOf : (nodes : List ℕ) (from to : ℕ) (r : List ℕ) → Type 0
-PartOf nodes from to r = from ≤ to → to ≤ length nodes → r ≡ take (to - from) (drop from nodes)
+-- some of the nodes, none where the places are not in order
+pub record PartOf (nodes : List ℕ) (from to : ℕ) (r : List ℕ) : Type 0 where
+  pub fits : 1 ≤ length r → from + length r ≤ length nodes
+  pub part : from ≤ to → to ≤ length nodes → r ≡ take (to - from) (drop from nodes)
+  pub none : (from ≤ to → to ≤ length nodes → ⊥) → r ≡ []
 
+-- the variables of a state
 abbrev pub VariablesOf : (code r : List ℕ) → Type 0
 VariablesOf code r = (s : State) (i : ℕ) (ρ : Numbering) → code ≡ stateCodes i s ρ → r ≡ declarationCodes (suc i) (declarations s) ρ
 

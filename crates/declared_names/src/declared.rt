@@ -4,6 +4,12 @@ ghost use Prim.Native.Nat.{_+_, _≤_, _<_};
 ghost use lib.ListN.{length};
 ghost use Rattle.type_rules.specs.TypesByNumber.{overKey};
 ghost use Rattle.declared_names.specs.PassPromises.{TypeKinded, TypeFaulted, pairsKeyAt, DeclarationFaulted, Reached, DeclaredSeen, ShownSeen, HiddenSeen, Counted, GivenFaulted, GivenKind, SizeCounted, GivenSeen};
+use form::name_endings::PLAIN;
+use form::node;
+use form::shapes;
+use lexical::bounds;
+use type_rules::entries;
+use type_rules::faults;
 use type_rules::kinds::element_of;
 use type_rules::kinds::index;
 use type_rules::kinds::is_given;
@@ -22,11 +28,11 @@ pub fn type_kind(code: &[u16], at: usize, names: &[u16]) -> u16
     requires { ⌜ at + 4 ≤ length (now code) ⌝ }
     ensures { λ r. ⌜ TypeKinded (now (code .entry)) at (now (names .entry)) r ⌝ }
 {
-    let g = element_of(look(names, index(code[at + 1])));
-    match code[at + 3] {
-        1 => g,
-        2 => 1,
-        3 => set_of(g),
+    let g = element_of(look(names, index(code[at + node::A])));
+    match code[at + node::SHAPE] {
+        shapes::SET => g,
+        shapes::RANGE => entries::NUMBER,
+        shapes::POWER => set_of(g),
         _ => pair_of(g, element_of(look(names, index(code[at])))),
     }
 }
@@ -36,13 +42,13 @@ pub fn type_fault(code: &[u16], at: usize, names: &[u16], sizes: &[u16]) -> u32
     requires { ⌜ at + 4 ≤ length (now code) ⌝ }
     ensures { λ r. ⌜ TypeFaulted (now (code .entry)) at (now (names .entry)) (now (sizes .entry)) r ⌝ }
 {
-    let a = code[at + 1];
+    let a = code[at + node::A];
     let b = code[at];
-    let i = wide(code[at + 2]);
-    match code[at + 3] {
-        1 => unless(is_given(look(names, index(a))), i, 9),
-        2 => unless(range_fits(a, b), i, 11),
-        3 => unless(is_given(look(names, index(a))), i + 1, 9),
+    let i = wide(code[at + node::PLACE]);
+    match code[at + node::SHAPE] {
+        shapes::SET => unless(is_given(look(names, index(a))), i, faults::NAME_UNKNOWN),
+        shapes::RANGE => unless(range_fits(a, b), i, faults::WIDE_TYPE),
+        shapes::POWER => unless(is_given(look(names, index(a))), i + 1, faults::NAME_UNKNOWN),
         _ => pairs_fault(i, look(names, index(a)), look(names, index(b)), sizes),
     }
 }
@@ -52,8 +58,8 @@ fn pairs_fault(i: u32, g: u16, h: u16, sizes: &[u16]) -> u32
     requires { ⌜ i < 65536 ⌝ }
     ensures { λ r. ⌜ r ≡ pairsKeyAt i g h (now (sizes .entry)) ⌝ }
 {
-    let first = unless(is_given(g), i, 9);
-    let second = unless(is_given(h), i + 2, 9);
+    let first = unless(is_given(g), i, faults::NAME_UNKNOWN);
+    let second = unless(is_given(h), i + 2, faults::NAME_UNKNOWN);
     let over = over_arrow(sizes, g, h, i + 1);
     lesser_of(first, lesser_of(second, over))
 }
@@ -65,8 +71,12 @@ fn over_arrow(sizes: &[u16], k: u16, l: u16, i: u32) -> u32
 {
     if is_given(k) {
         if is_given(l) {
-            let fits = product_fits(sizes, index(k) - 8, index(l) - 8);
-            return unless(fits, i, 11);
+            let fits = product_fits(
+                sizes,
+                index(k) - entries::FIRST_GIVEN,
+                index(l) - entries::FIRST_GIVEN,
+            );
+            return unless(fits, i, faults::WIDE_TYPE);
         }
         return 0;
     }
@@ -78,13 +88,13 @@ pub fn declare(code: &[u16], names: &mut [u16], sizes: &[u16]) -> u32
     ensures { λ r. ⌜ DeclaredSeen (now (code .entry)) (now (names .entry)) (now (names .exit)) (now (sizes .entry)) r ⌝ }
 {
     let mut at: usize = 0;
-    while 8 <= code.len() - at {
+    while node::DECLARATION <= code.len() - at {
         let f = declaration_fault(code, at, names, sizes);
         if f != 0 {
             return f;
         }
-        reach(code, at, 0, names);
-        at += 8;
+        reach(code, at, PLAIN, names);
+        at += node::DECLARATION;
     }
     0
 }
@@ -94,9 +104,13 @@ fn declaration_fault(code: &[u16], at: usize, names: &[u16], sizes: &[u16]) -> u
     requires { ⌜ at + 8 ≤ length (now code) ⌝ }
     ensures { λ r. ⌜ DeclarationFaulted (now (code .entry)) at (now (names .entry)) (now (sizes .entry)) r ⌝ }
 {
-    let old = look(names, index(code[at + 1]));
-    let here = unless(old == 0, wide(code[at + 2]), 8);
-    let of_type = type_fault(code, at + 4, names, sizes);
+    let old = look(names, index(code[at + node::A]));
+    let here = unless(
+        old == entries::FREE,
+        wide(code[at + node::PLACE]),
+        faults::NAME_IN_USE,
+    );
+    let of_type = type_fault(code, at + node::SIZE, names, sizes);
     lesser_of(here, of_type)
 }
 
@@ -105,8 +119,8 @@ fn reach(code: &[u16], at: usize, shift: u16, names: &mut [u16])
     requires { ⌜ at + 8 ≤ length (now code) ⌝ }
     ensures { λ r. ⌜ Reached (now (code .entry)) at shift (now (names .entry)) (now (names .exit)) ⌝ }
 {
-    let k = type_kind(code, at + 4, names);
-    put(names, index(code[at + 1]) + shift as usize, k);
+    let k = type_kind(code, at + node::SIZE, names);
+    put(names, index(code[at + node::A]) + shift as usize, k);
 }
 
 // Declared names come into reach.
@@ -114,9 +128,9 @@ pub fn show(code: &[u16], shift: u16, names: &mut [u16])
     ensures { λ r. ⌜ ShownSeen (now (code .entry)) shift (now (names .entry)) (now (names .exit)) ⌝ }
 {
     let mut at: usize = 0;
-    while 8 <= code.len() - at {
+    while node::DECLARATION <= code.len() - at {
         reach(code, at, shift, names);
-        at += 8;
+        at += node::DECLARATION;
     }
 }
 
@@ -125,9 +139,9 @@ pub fn hide(code: &[u16], shift: u16, k: u16, names: &mut [u16])
     ensures { λ r. ⌜ HiddenSeen (now (code .entry)) shift k (now (names .entry)) (now (names .exit)) ⌝ }
 {
     let mut at: usize = 0;
-    while 8 <= code.len() - at {
-        put(names, index(code[at + 1]) + shift as usize, k);
-        at += 8;
+    while node::DECLARATION <= code.len() - at {
+        put(names, index(code[at + node::A]) + shift as usize, k);
+        at += node::DECLARATION;
     }
 }
 
@@ -138,29 +152,34 @@ pub fn give(code: &[u16], names: &mut [u16], sizes: &mut [u16]) -> u32
 {
     let mut at: usize = 0;
     let mut g: u16 = 0;
-    while 4 <= code.len() - at {
+    while node::SIZE <= code.len() - at {
         let f = given_fault(code, at, names);
         if f != 0 {
             return f;
         }
         g = counted(code, at, g);
         let k = given_kind(code, at, g);
-        put(names, index(code[at + 1]), k);
+        put(names, index(code[at + node::A]), k);
         count_given(code, at, g, sizes);
-        at += 4;
+        at += node::SIZE;
     }
     0
 }
 
-// How many given sets have begun behind the node at `at`; 8 at most.
+// How many given sets there are at most, and how many elements each has.
+const GIVEN_SETS: u16 = bounds::GIVEN_SETS as u16;
+
+const ELEMENTS: u16 = bounds::ELEMENTS as u16;
+
+// How many given sets have begun behind the node at `at`.
 fn counted(code: &[u16], at: usize, g: u16) -> u16
     requires { ⌜ (at + 4 ≤ length (now code)) × (g ≤ 8) ⌝ }
     ensures { λ r. ⌜ Counted (now (code .entry)) at g r ⌝ }
 {
-    if code[at + 3] != 3 {
+    if code[at + node::SHAPE] != shapes::GIVEN {
         return g;
     }
-    if g < 8 {
+    if g < GIVEN_SETS {
         return g + 1;
     }
     g
@@ -171,26 +190,31 @@ fn given_fault(code: &[u16], at: usize, names: &[u16]) -> u32
     requires { ⌜ at + 4 ≤ length (now code) ⌝ }
     ensures { λ r. ⌜ GivenFaulted (now (code .entry)) at (now (names .entry)) r ⌝ }
 {
-    let old = look(names, index(code[at + 1]));
-    let i = wide(code[at + 2]);
-    if code[at + 3] == 3 {
-        return unless(old == 0, i + 1, 8);
+    let old = look(names, index(code[at + node::A]));
+    let i = wide(code[at + node::PLACE]);
+    if code[at + node::SHAPE] == shapes::GIVEN {
+        return unless(old == entries::FREE, i + 1, faults::NAME_IN_USE);
     }
-    unless(old == 0, i, 8)
+    unless(old == entries::FREE, i, faults::NAME_IN_USE)
 }
+
+// The given sets and their elements are counted from 1.
+const BEFORE_GIVEN: u16 = entries::GIVEN - 1;
+
+const BEFORE_ELEMENT: u16 = entries::ELEMENT - 1;
 
 // What the title of the given set g is, counted from 1, or one of its elements.
 fn given_kind(code: &[u16], at: usize, g: u16) -> u16
     requires { ⌜ (at + 4 ≤ length (now code)) × (g ≤ 8) ⌝ }
     ensures { λ r. ⌜ GivenKind (now (code .entry)) at g r ⌝ }
 {
-    if code[at + 3] == 3 {
-        return 7 + g;
+    if code[at + node::SHAPE] == shapes::GIVEN {
+        return BEFORE_GIVEN + g;
     }
-    15 + g
+    BEFORE_ELEMENT + g
 }
 
-// The given set g, counted from 1, has one more element, or begins; 8 elements at most.
+// The given set g, counted from 1, has one more element, or begins.
 fn count_given(code: &[u16], at: usize, g: u16, sizes: &mut [u16])
     requires { ⌜ at + 4 ≤ length (now code) ⌝ }
     ensures { λ r. ⌜ SizeCounted (now (code .entry)) at g (now (sizes .entry)) (now (sizes .exit)) ⌝ }
@@ -199,12 +223,12 @@ fn count_given(code: &[u16], at: usize, g: u16, sizes: &mut [u16])
         return;
     }
     let x = index(g) - 1;
-    if code[at + 3] == 3 {
+    if code[at + node::SHAPE] == shapes::GIVEN {
         put(sizes, x, 0);
         return;
     }
     let n = look(sizes, x);
-    if n < 8 {
+    if n < ELEMENTS {
         put(sizes, x, n + 1);
     }
 }

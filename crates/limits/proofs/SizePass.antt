@@ -151,7 +151,7 @@ conditions-seen nodes spans a c none e₁ e₂ e₃ S U₁ U₂ U₃ f g h r o q
 -- the codes that stand at the places of a part
 pub part-stands : (nodes : List ℕ) (x y from to : ℕ) (r codes : List ℕ) → x ≡ from → y ≡ to → PartOf nodes x y r → Stands nodes from to codes → r ≡ codes
 part-stands nodes x y from to r codes p q h s =
-    h (subst (λ (n : ℕ). n ≤ y) (sym p) (subst (λ (n : ℕ). from ≤ n) (sym q) (s .ordered))) (subst (λ (n : ℕ). n ≤ length nodes) (sym q) (s .inside))
+    h .part (subst (λ (n : ℕ). n ≤ y) (sym p) (subst (λ (n : ℕ). from ≤ n) (sym q) (s .ordered))) (subst (λ (n : ℕ). n ≤ length nodes) (sym q) (s .inside))
     ∙ ap₂ (λ (n m : ℕ). take (m - n) (drop n nodes)) p q ∙ s .stands
 
 pub operation-seen : (nodes spans a c p : List ℕ) (k x y e₁ e₂ : ℕ) (S U₁ U₂ : Bounds) (f g r : ℕ) → x ≡ span spans (9 + 4 * k) → y ≡ span spans (9 + 4 * k + 1) → PartOf nodes x y p

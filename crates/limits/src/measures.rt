@@ -4,8 +4,12 @@ ghost use Prim.Native.Nat.{ℕ, _+_, _≤_};
 ghost use lib.ListN.{length, getD, set};
 ghost use Rattle.node_spans.specs.Spans.{span};
 ghost use Rattle.limits.specs.DossierSizesByNumber.{entrySize, marks, marked, ContextSeen, PartSeen, statesOver, conditionsOver, operationsOver, OperationSeen, MeasuresSeen};
+use form::name_endings;
+use form::node;
+use form::shapes;
 use names::passes::clear;
 use names::passes::part;
+use node_spans::span;
 use term_sizes::sizes::absolute_of;
 use term_sizes::sizes::greater_of;
 use term_sizes::sizes::pred;
@@ -13,6 +17,11 @@ use type_rules::kinds::index;
 use type_rules::kinds::lesser_of;
 use type_rules::kinds::look;
 use type_rules::kinds::put;
+
+// What is added to the number of a plain name, for itself and for the primed one.
+const PLAIN: usize = name_endings::PLAIN as usize;
+
+const PRIMED: usize = name_endings::PRIMED as usize;
 
 // The number k of the spans.
 fn place(spans: &[u16], k: usize) -> usize
@@ -29,10 +38,10 @@ fn size_at(code: &[u16], at: usize, on: bool) -> u16
     if !on {
         return 0;
     }
-    if code[at + 3] != 2 {
+    if code[at + node::SHAPE] != shapes::RANGE {
         return 0;
     }
-    greater_of(absolute_of(code[at + 1]), absolute_of(code[at])) as u16
+    greater_of(absolute_of(code[at + node::A]), absolute_of(code[at])) as u16
 }
 
 // The declaration that begins at `at`.
@@ -40,8 +49,8 @@ fn mark_one(code: &[u16], at: usize, shift: usize, on: bool, bounds: &mut [u16])
     requires { ⌜ (at + 8 ≤ length (now code)) × (shift ≤ 1) ⌝ }
     ensures { λ r. ⌜ now (bounds .exit) ≡ set (now (bounds .entry)) (getD (now (code .entry)) (at + 1) 0 + shift) (entrySize on (now (code .entry)) (at + 4)) ⌝ }
 {
-    let n = size_at(code, at + 4, on);
-    put(bounds, index(code[at + 1]) + shift, n);
+    let n = size_at(code, at + node::SIZE, on);
+    put(bounds, index(code[at + node::A]) + shift, n);
 }
 
 // The sizes of declared variables, from the last to the first: of two with one name the first decides. `on` is false to take them away.
@@ -49,10 +58,10 @@ fn mark(code: &[u16], shift: usize, on: bool, bounds: &mut [u16])
     requires { ⌜ shift ≤ 1 ⌝ }
     ensures { λ r. ⌜ now (bounds .exit) ≡ marks on (now (code .entry)) shift (now (bounds .entry)) ⌝ }
 {
-    let mut n = code.len() / 8;
+    let mut n = code.len() / node::DECLARATION;
     while 0 < n {
         n -= 1;
-        mark_one(code, n * 8, shift, on, bounds);
+        mark_one(code, n * node::DECLARATION, shift, on, bounds);
     }
 }
 
@@ -68,9 +77,9 @@ fn mark_all(
     requires { ⌜ shift ≤ 1 ⌝ }
     ensures { λ r. ⌜ now (bounds .exit) ≡ marked on (now (first .entry)) (now (second .entry)) shift (now (third .entry)) (now (bounds .entry)) ⌝ }
 {
-    mark(third, 0, on, bounds);
+    mark(third, PLAIN, on, bounds);
     mark(second, shift, on, bounds);
-    mark(first, 0, on, bounds);
+    mark(first, PLAIN, on, bounds);
 }
 
 // The predicate whose nodes end at `end`, with three groups of variables in its reach.
@@ -100,8 +109,24 @@ fn states(nodes: &[u16], spans: &[u16], a: &[u16], c: &[u16], bounds: &mut [u16]
     ensures { λ r. ⌜ ((m : ℕ) → PartSeen (now (nodes .entry)) (now (spans .entry)) m (now (a .entry)) (now (c .entry)) statesOver (now (bounds .entry)) (now (bounds .exit)) r) ⌝ }
 {
     let none = part(nodes, 0, 0);
-    let f = context(nodes, a, none, 0, none, place(spans, 2), bounds);
-    let g = context(nodes, c, none, 0, none, place(spans, 5), bounds);
+    let f = context(
+        nodes,
+        a,
+        none,
+        PLAIN,
+        none,
+        place(spans, span::ABSTRACT_END),
+        bounds,
+    );
+    let g = context(
+        nodes,
+        c,
+        none,
+        PLAIN,
+        none,
+        place(spans, span::CONCRETE_END),
+        bounds,
+    );
     lesser_of(f, g)
 }
 
@@ -110,9 +135,33 @@ fn conditions(nodes: &[u16], spans: &[u16], a: &[u16], c: &[u16], bounds: &mut [
     ensures { λ r. ⌜ ((m : ℕ) → PartSeen (now (nodes .entry)) (now (spans .entry)) m (now (a .entry)) (now (c .entry)) conditionsOver (now (bounds .entry)) (now (bounds .exit)) r) ⌝ }
 {
     let none = part(nodes, 0, 0);
-    let f = context(nodes, a, none, 0, none, place(spans, 6), bounds);
-    let g = context(nodes, c, none, 0, none, place(spans, 7), bounds);
-    let h = context(nodes, a, c, 0, none, place(spans, 8), bounds);
+    let f = context(
+        nodes,
+        a,
+        none,
+        PLAIN,
+        none,
+        place(spans, span::AINIT_END),
+        bounds,
+    );
+    let g = context(
+        nodes,
+        c,
+        none,
+        PLAIN,
+        none,
+        place(spans, span::CINIT_END),
+        bounds,
+    );
+    let h = context(
+        nodes,
+        a,
+        c,
+        PLAIN,
+        none,
+        place(spans, span::RETRIEVE_END),
+        bounds,
+    );
     lesser_of(f, lesser_of(g, h))
 }
 
@@ -128,10 +177,18 @@ fn operation(
     requires { ⌜ k ≤ 18 ⌝ }
     ensures { λ r. ⌜ OperationSeen (now (nodes .entry)) (now (spans .entry)) k (now (a .entry)) (now (c .entry)) (now (bounds .entry)) (now (bounds .exit)) r ⌝ }
 {
-    let at = 9 + 4 * k;
-    let p = part(nodes, place(spans, at), place(spans, at + 1));
-    let f = context(nodes, a, a, 1, p, place(spans, at + 2), bounds);
-    let g = context(nodes, c, c, 1, p, place(spans, at + 3), bounds);
+    let at = span::OPERATIONS + span::OPERATION * k;
+    let p = part(nodes, place(spans, at), place(spans, at + span::LAST));
+    let f = context(
+        nodes,
+        a,
+        a,
+        PRIMED,
+        p,
+        place(spans, at + span::MIDDLE),
+        bounds,
+    );
+    let g = context(nodes, c, c, PRIMED, p, place(spans, at + span::END), bounds);
     lesser_of(f, g)
 }
 
@@ -162,12 +219,20 @@ fn measure(nodes: &[u16], spans: &[u16], n: usize, bounds: &mut [u16]) -> u32
     requires { ⌜ length (now spans) ≡ 80 ⌝ }
     ensures { λ r. ⌜ MeasuresSeen (now (nodes .entry)) (now (spans .entry)) n (length (now (bounds .entry))) r ⌝ }
 {
-    if 18 < n {
+    if span::ROOM < n {
         return 0;
     }
     clear(bounds);
-    let a = part(nodes, place(spans, 0), place(spans, 1));
-    let c = part(nodes, place(spans, 3), place(spans, 4));
+    let a = part(
+        nodes,
+        place(spans, span::ABSTRACT_FIRST),
+        place(spans, span::ABSTRACT_LAST),
+    );
+    let c = part(
+        nodes,
+        place(spans, span::CONCRETE_FIRST),
+        place(spans, span::CONCRETE_LAST),
+    );
     let f = states(nodes, spans, a, c, bounds);
     let g = conditions(nodes, spans, a, c, bounds);
     let h = operations(nodes, spans, n, a, c, bounds);
@@ -176,7 +241,12 @@ fn measure(nodes: &[u16], spans: &[u16], n: usize, bounds: &mut [u16]) -> u32
 
 // The least fault of number 13 (place * KEY_ROOM + number + 1, places by symbols), or 0. The spans say where the parts of the dossier stand among the nodes.
 // `bounds` may hold anything. What it holds afterwards is left open: `reader::sizes_key`, the one caller, makes it for this call.
-pub fn measures(nodes: &[u16], spans: &[u16; 80], operations: usize, bounds: &mut [u16]) -> u32
+pub fn measures(
+    nodes: &[u16],
+    spans: &[u16; span::COUNT],
+    operations: usize,
+    bounds: &mut [u16],
+) -> u32
     ensures { λ r. ⌜ MeasuresSeen (now (nodes .entry)) (now (spans .entry)) operations (length (now (bounds .entry))) r ⌝ }
 {
     measure(nodes, spans, operations, bounds)

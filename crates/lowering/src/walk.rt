@@ -20,6 +20,7 @@ use table_nodes::nodes::small;
 use table_nodes::nodes::truth_of;
 use table_nodes::slots;
 use table_nodes::table_shapes;
+use type_rules::entries;
 use type_rules::kinds::element_of;
 use type_rules::kinds::index;
 use type_rules::kinds::look;
@@ -51,7 +52,10 @@ fn domain(code: &[u16], end: usize, names: &[u16], sizes: &[u16], out: &mut [u16
     let b = look(code, at);
     let n = range_count(a, b);
     set_node(out, at, table_shapes::OVER, 0, a, n);
-    Made { kind: 1, start: at }
+    Made {
+        kind: entries::NUMBER,
+        start: at,
+    }
 }
 
 // A number.
@@ -70,7 +74,10 @@ fn number(
     let at = end - node::SIZE;
     let a = look(code, at + node::A);
     set_node(out, at, table_shapes::VALUE, 0, a, 0);
-    Made { kind: 1, start: at }
+    Made {
+        kind: entries::NUMBER,
+        start: at,
+    }
 }
 
 // A name: its slot, or an element by its place.
@@ -218,7 +225,7 @@ fn divided(
     let t = term(code, at, slot, names, places, sizes, out);
     set_node(out, at, table_shapes::DIVIDED, 0, a, b);
     Made {
-        kind: 1,
+        kind: entries::NUMBER,
         start: t.start,
     }
 }
@@ -485,7 +492,10 @@ fn constant(
     let at = end - node::SIZE;
     let a = look(code, at + node::A);
     set_node(out, at, table_shapes::TRUTH, 0, truth_of(a), 0);
-    Made { kind: 0, start: at }
+    Made {
+        kind: entries::NONE,
+        start: at,
+    }
 }
 
 // not p.
@@ -505,7 +515,7 @@ fn negated(
     let p = pred(code, at, slot, names, places, sizes, out);
     set_node(out, at, table_shapes::NEGATION, 0, 0, 0);
     Made {
-        kind: 0,
+        kind: entries::NONE,
         start: p.start,
     }
 }
@@ -529,7 +539,7 @@ fn connected(
     let p = pred(code, q.start, slot, names, places, sizes, out);
     set_node(out, at, table_shapes::CONNECTED, small(q.start), a, 0);
     Made {
-        kind: 0,
+        kind: entries::NONE,
         start: p.start,
     }
 }
@@ -553,7 +563,7 @@ fn compared(
     let t = term(code, u.start, slot, names, places, sizes, out);
     set_node(out, at, table_shapes::COMPARED, small(u.start), a, 0);
     Made {
-        kind: 0,
+        kind: entries::NONE,
         start: t.start,
     }
 }
@@ -577,7 +587,7 @@ fn member(
     let t = term(code, u.start, slot, names, places, sizes, out);
     set_node(out, at, table_shapes::MEMBER, small(u.start), a, 0);
     Made {
-        kind: 0,
+        kind: entries::NONE,
         start: t.start,
     }
 }
@@ -601,7 +611,7 @@ fn within(
     let t = term(code, d.start, slot, names, places, sizes, out);
     set_node(out, at, table_shapes::WITHIN, 0, a, 0);
     Made {
-        kind: 0,
+        kind: entries::NONE,
         start: t.start,
     }
 }
@@ -627,7 +637,7 @@ fn related(
     let n = element_size(sizes, u.kind);
     set_node(out, at, related_shape(a), small(u.start), n, small(v.start));
     Made {
-        kind: 0,
+        kind: entries::NONE,
         start: t.start,
     }
 }
@@ -658,7 +668,7 @@ fn quantified(
     put(places, x, was);
     set_node(out, at, table_shapes::QUANTIFIED, 0, slot, b);
     Made {
-        kind: 0,
+        kind: entries::NONE,
         start: p.start,
     }
 }

@@ -6,7 +6,7 @@ use Prim.Native.Nat.{ℕ, zero, suc, _+_, _-_, _≤_, _<_}
 use native.Mathlib.Omega.{arith}
 use lib.Dec.{eqb}
 use borrow.Author.Tests.{eqb-true, eqb-false}
-use lib.ListN.{length, take, drop, getD, set, replicate, length-replicate, length-append, take-append-drop}
+use lib.ListN.{length, take, drop, getD, set, replicate, length-replicate, length-append, length-drop, take-append-drop}
 use lib.Seq.{drop-drop, length-take-le, ext-getD, getD-set-same, getD-set-other}
 use Rattle.form.specs.Tree.{declarations, Dossier}
 use Rattle.form.specs.Headings.{givensAt, abstractAt, concreteAt, ainitAt, cinitAt, retrieveAt, operationsAt}
@@ -17,6 +17,18 @@ use Rattle.declared_names.specs.NamesByNumber.{givensKey, givensNamed, stateKey
 use Rattle.declared_names.specs.PassPromises.{DeclaredEnd, Fewer, GivenSeen, StateSeen, ConditionsSeen, OperationsSeen, Variables, threeCodes, PartOf, VariablesOf, LaterSeen, Placed, CheckSeen}
 use Rattle.declared_names.proofs.DeclarationNodes.{inside-none, inside-some}
 use Rattle.names.proofs.PassSteps.{never-state, state-front, variables-codes, front, back}
+
+-- some of the nodes
+pub part-some : (nodes : List ℕ) (from to : ℕ) → from ≤ to → to ≤ length nodes → PartOf nodes from to (take (to - from) (drop from nodes))
+part-some nodes from to h k =
+    let d = length-drop from nodes in
+    let l = length-take-le (to - from) (drop from nodes) (omega arith) in
+    record { fits = λ q. omega arith; part = λ p q. refl; none = λ u. absurd (u h k) }
+
+pub part-none : (nodes : List ℕ) (from to : ℕ) → (from ≤ to → to ≤ length nodes → ⊥) → PartOf nodes from to (take 0 nodes)
+part-none nodes from to h =
+    let l = length-take-le 0 nodes (omega arith) in
+    record { fits = λ q. absurd (omega arith); part = λ p q. absurd (h p q); none = λ u. refl }
 
 pub zeros-at : (n k : ℕ) → _≡_ {A = ℕ} (getD (replicate n 0) k 0) 0
 zeros-at zero k = refl
@@ -74,7 +86,7 @@ module _ (nodes : List ℕ) (m gi ab co ai af n : ℕ) (first : List ℕ) (first
     (cleared : T ≡ replicate n 0) (given : GivenSeen first T T₁ z f) where
   module _ (d : Dossier) (ρ : Numbering) (at : Placed nodes m gi ab co ai af d ρ) (few : Fewer (d .givens)) where
     givens-here : first ≡ givenCodes (givensAt d) (d .givens) ρ
-    givens-here = let b = at .inside in let o = at .ordered in first-part (omega arith) (omega arith) ∙ at .givenPart
+    givens-here = let b = at .inside in let o = at .ordered in first-part .part (omega arith) (omega arith) ∙ at .givenPart
 
     givens-fault : f ≡ givensKey (d .givens) 0 (replicate n 0) ρ (givensAt d)
     givens-fault = given .right (d .givens) (givensAt d) ρ givens-here few ∙ ap (λ (t : Names). givensKey (d .givens) 0 t ρ (givensAt d)) cleared
@@ -126,7 +138,7 @@ module _ (nodes : List ℕ) (m gi ab co ai af n : ℕ) (first : List ℕ) (first
   module _ (f-none : f ≡ 0) (one : List ℕ) (one-part : PartOf nodes ab co one) (T₂ : Names) (a : ℕ) (state-one : StateSeen one T₁ T₂ z a) where
     module _ (d : Dossier) (ρ : Numbering) (at : Placed nodes m gi ab co ai af d ρ) (few : Fewer (d .givens)) where
       one-here : one ≡ stateCodes (abstractAt d) (d .abstract) ρ
-      one-here = let b = at .inside in let o = at .ordered in one-part (omega arith) (omega arith) ∙ at .abstractPart
+      one-here = let b = at .inside in let o = at .ordered in one-part .part (omega arith) (omega arith) ∙ at .abstractPart
 
       one-fault : a ≡ abstractKey d ρ
       one-fault = state-one .right (d .abstract) (abstractAt d) ρ one-here ∙ ap (λ (t : Names). stateKey (d .abstract) t ρ z (abstractAt d)) (names-one d ρ at few f-none)
@@ -150,7 +162,7 @@ module _ (nodes : List ℕ) (m gi ab co ai af n : ℕ) (first : List ℕ) (first
     module _ (a-none : a ≡ 0) (two : List ℕ) (two-part : PartOf nodes co ai two) (T₃ : Names) (c : ℕ) (state-two : StateSeen two T₂ T₃ z c) where
       module _ (d : Dossier) (ρ : Numbering) (at : Placed nodes m gi ab co ai af d ρ) (few : Fewer (d .givens)) where
         two-here : two ≡ stateCodes (concreteAt d) (d .concrete) ρ
-        two-here = let b = at .inside in let o = at .ordered in two-part (omega arith) (omega arith) ∙ at .concretePart
+        two-here = let b = at .inside in let o = at .ordered in two-part .part (omega arith) (omega arith) ∙ at .concretePart
 
         two-fault : c ≡ concreteKey d ρ
         two-fault = state-two .right (d .concrete) (concreteAt d) ρ two-here ∙ ap (λ (t : Names). stateKey (d .concrete) t ρ z (concreteAt d)) (names-two d ρ at few a-none)
@@ -179,7 +191,7 @@ module _ (nodes : List ℕ) (m gi ab co ai af n : ℕ) (first : List ℕ) (first
                 λ d ρ at few.
                 let b = at .inside in
                 let o = at .ordered in
-                seen d ρ (three-part (omega arith) (omega arith) ∙ at .conditionPart) (last-part (omega arith) (omega arith) ∙ at .operationPart) (one-here d ρ at few) (two-here d ρ at few)
+                seen d ρ (three-part .part (omega arith) (omega arith) ∙ at .conditionPart) (last-part .part (omega arith) (omega arith) ∙ at .operationPart) (one-here d ρ at few) (two-here d ρ at few)
                 ∙ (ap (λ (t : Names). laterKey d ρ t) (names-three d ρ at few c-none)
                 ∙ (sym (inside-none (concreteKey d ρ) (laterKey d ρ (namesThree d ρ)) (sym (two-fault d ρ at few) ∙ c-none)) ∙ past-one d ρ at few));
             sized = sizes-right;

@@ -7,6 +7,12 @@ use declared_names::declared::declare;
 use declared_names::declared::give;
 use declared_names::declared::hide;
 use declared_names::declared::show;
+use form::name_endings::PLAIN;
+use form::name_endings::PRIMED;
+use form::node;
+use form::shapes;
+use type_rules::entries;
+use type_rules::faults;
 use type_rules::kinds::index;
 use type_rules::kinds::look;
 use type_rules::kinds::put;
@@ -19,11 +25,11 @@ fn declared_end(code: &[u16]) -> usize
     ensures { λ r. ⌜ DeclaredEnd (now (code .entry)) r ⌝ }
 {
     let mut at: usize = 0;
-    while 8 <= code.len() - at {
-        if code[at + 3] != 6 {
+    while node::DECLARATION <= code.len() - at {
+        if code[at + node::SHAPE] != shapes::DECLARED {
             return at;
         }
-        at += 8;
+        at += node::DECLARATION;
     }
     at
 }
@@ -33,12 +39,12 @@ fn predicate_end(code: &[u16], at: usize) -> usize
     requires { ⌜ at ≤ length (now code) ⌝ }
     ensures { λ r. ⌜ PredicateEnd (now (code .entry)) at r ⌝ }
 {
-    if code.len() - at < 4 {
+    if code.len() - at < node::SIZE {
         return code.len();
     }
-    let n = index(code[at + 1]);
-    if n <= code.len() - at - 4 {
-        return at + 4 + n;
+    let n = index(code[at + node::A]);
+    if n <= code.len() - at - node::SIZE {
+        return at + node::SIZE + n;
     }
     code.len()
 }
@@ -55,10 +61,10 @@ fn condition(code: &[u16], names: &mut [u16], sizes: &[u16]) -> u32
 fn state(code: &[u16], names: &mut [u16], sizes: &[u16]) -> u32
     ensures { λ r. ⌜ StateSeen (now (code .entry)) (now (names .entry)) (now (names .exit)) (now (sizes .entry)) r ⌝ }
 {
-    if code.len() < 4 {
+    if code.len() < node::SIZE {
         return 0;
     }
-    let rest = &code[4..];
+    let rest = &code[node::SIZE..];
     let e = declared_end(rest);
     let variables = &rest[..e];
     let f = declare(variables, names, sizes);
@@ -66,7 +72,7 @@ fn state(code: &[u16], names: &mut [u16], sizes: &[u16]) -> u32
         return f;
     }
     let g = condition(&rest[e..], names, sizes);
-    hide(variables, 0, 2, names);
+    hide(variables, PLAIN, entries::USED, names);
     g
 }
 
@@ -74,16 +80,16 @@ fn state(code: &[u16], names: &mut [u16], sizes: &[u16]) -> u32
 fn reach_all(variables: &[u16], names: &mut [u16])
     ensures { λ r. ⌜ ReachingSeen (now (variables .entry)) (now (names .entry)) (now (names .exit)) ⌝ }
 {
-    show(variables, 0, names);
-    show(variables, 1, names);
+    show(variables, PLAIN, names);
+    show(variables, PRIMED, names);
 }
 
 // They are out of reach again, and their plain names in use.
 fn leave_all(variables: &[u16], names: &mut [u16])
     ensures { λ r. ⌜ LeavingSeen (now (variables .entry)) (now (names .entry)) (now (names .exit)) ⌝ }
 {
-    hide(variables, 0, 2, names);
-    hide(variables, 1, 0, names);
+    hide(variables, PLAIN, entries::USED, names);
+    hide(variables, PRIMED, entries::FREE, names);
 }
 
 // A predicate of an operation, with the variables of its state.
@@ -124,17 +130,21 @@ fn operation(
 ) -> u32
     ensures { λ r. ⌜ OperationSeen (now (code .entry)) (now (abstracts .entry)) (now (concretes .entry)) (now (names .entry)) (now (names .exit)) (now (sizes .entry)) r ⌝ }
 {
-    if code.len() < 4 {
+    if code.len() < node::SIZE {
         return 0;
     }
-    let x = index(code[1]);
+    let x = index(code[node::A]);
     let old = look(names, x);
-    let f = unless(old == 0, wide(code[2]) + 1, 8);
+    let f = unless(
+        old == entries::FREE,
+        wide(code[node::PLACE]) + 1,
+        faults::NAME_IN_USE,
+    );
     if f != 0 {
         return f;
     }
-    put(names, x, 2);
-    let rest = &code[4..];
+    put(names, x, entries::USED);
+    let rest = &code[node::SIZE..];
     let e = declared_end(rest);
     let parameters = &rest[..e];
     let g = declare(parameters, names, sizes);
@@ -142,7 +152,7 @@ fn operation(
         return g;
     }
     let h = sides(&rest[e..], abstracts, concretes, names, sizes);
-    hide(parameters, 0, 0, names);
+    hide(parameters, PLAIN, entries::FREE, names);
     h
 }
 
@@ -151,7 +161,7 @@ fn operation_end(code: &[u16], at: usize) -> usize
     requires { ⌜ at + 4 ≤ length (now code) ⌝ }
     ensures { λ r. ⌜ OperationEnd (now (code .entry)) at r ⌝ }
 {
-    let b = at + 4;
+    let b = at + node::SIZE;
     let rest = &code[b..];
     let e = b + declared_end(rest);
     let p = predicate_end(code, e);
@@ -168,7 +178,7 @@ fn operations(
     ensures { λ r. ⌜ OperationsSeen (now (code .entry)) (now (abstracts .entry)) (now (concretes .entry)) (now (names .entry)) (now (sizes .entry)) r ⌝ }
 {
     let mut at: usize = 0;
-    while 4 <= code.len() - at {
+    while node::SIZE <= code.len() - at {
         let e = operation_end(code, at);
         let f = operation(&code[at..e], abstracts, concretes, names, sizes);
         if f != 0 {
@@ -191,21 +201,21 @@ fn conditions(
 {
     let p = predicate_end(code, 0);
     let q = predicate_end(code, p);
-    show(abstracts, 0, names);
+    show(abstracts, PLAIN, names);
     let f = condition(&code[..p], names, sizes);
     if f != 0 {
         return f;
     }
-    hide(abstracts, 0, 2, names);
-    show(concretes, 0, names);
+    hide(abstracts, PLAIN, entries::USED, names);
+    show(concretes, PLAIN, names);
     let g = condition(&code[p..q], names, sizes);
     if g != 0 {
         return g;
     }
-    show(abstracts, 0, names);
+    show(abstracts, PLAIN, names);
     let h = condition(&code[q..], names, sizes);
-    hide(abstracts, 0, 2, names);
-    hide(concretes, 0, 2, names);
+    hide(abstracts, PLAIN, entries::USED, names);
+    hide(concretes, PLAIN, entries::USED, names);
     h
 }
 
@@ -236,10 +246,10 @@ pub fn part(nodes: &[u16], from: usize, to: usize) -> &[u16]
 fn variables_of(code: &[u16]) -> &[u16]
     ensures { λ r. ⌜ VariablesOf (now (code .entry)) (now r) ⌝ }
 {
-    if code.len() < 4 {
+    if code.len() < node::SIZE {
         return code;
     }
-    let rest = &code[4..];
+    let rest = &code[node::SIZE..];
     let e = declared_end(rest);
     &rest[..e]
 }

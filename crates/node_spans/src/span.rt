@@ -35,3 +35,6 @@ pub const END: usize = 3;
 pub const COUNT: usize = 80;
 
 pub const MOST: usize = bounds::OPERATIONS as usize;
+
+// How many operations the numbers would have room for, the last one's not all.
+pub const ROOM: usize = (COUNT - OPERATIONS) / OPERATION + 1;

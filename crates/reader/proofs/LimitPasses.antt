@@ -72,7 +72,7 @@ module _ (nodes : List ℕ) (m : ℕ) (b : Bounds) (l : ℕ) (T : Names) (z : Si
       let at = sectioned-placed nodes m d (numbering text) (st .inside) (st .nodes-are) b s in
       let o = at .ordered in
       let i = at .inside in
-      part (omega arith) (omega arith) ∙ at .givenPart
+      part .part (omega arith) (omega arith) ∙ at .givenPart
 
   none-seen : r ≡ 0
   none-seen = seen .right (d .givens) (givensAt d) (numbering text) given-part (forms-fewer (st .forms)) ∙ givens-right st l long no-fault

@@ -1,19 +1,25 @@
 // The reading of a text: the passes of document 01 in their order.
 ghost use Prim.Native.Nat.{_≤_};
-ghost use mathlib.Core.Path.{_≡_};
-ghost use lib.ListN.{length, take, getD};
+ghost use lib.ListN.{length};
 ghost use Rattle.static_rules.specs.Limits.{bindingFaults, sizeFaults};
 ghost use Rattle.reader.specs.Promises.{Reads, Written, Kept, Named, Tabled, Finds, Faults, Refuses, Leaves, Checks};
 use binding_counts::bindings::bindings;
+use form::node::NUMBERS;
+use lexical::bounds::SYMBOLS;
 use limits::measures::measures;
+use names::NAMES;
+use names::SIZES;
 use names::given_sets;
 use names::least_fault;
 use names::passes::part;
+use node_spans::span;
 use parser::Parsed;
 use parser::parse;
+use parser::place_at;
 use parser::sections::sections;
-use parser::sections::wide;
+use search_groups::conjuncts::FIRSTS;
 use search_groups::conjuncts::conjuncts;
+use search_groups::groups::GROUPS;
 use tables::passes::write;
 use type_rules::kinds::KEY_ROOM;
 
@@ -27,15 +33,15 @@ pub enum Reading {
 // evaluator, and written only where nothing is refused: where the parts of the dossier stand, the table, the groups of variables, the conjuncts.
 pub fn read(
     text: &[u8],
-    codes: &mut [u8; 4096],
-    starts: &mut [u16; 4096],
-    values: &mut [u16; 4096],
-    nodes: &mut [u16; 16384],
-    spans: &mut [u16; 80],
-    table: &mut [u16; 16384],
-    groups: &mut [u16; 160],
-    rows: &mut [u16; 16384],
-    firsts: &mut [u16; 40],
+    codes: &mut [u8; SYMBOLS],
+    starts: &mut [u16; SYMBOLS],
+    values: &mut [u16; SYMBOLS],
+    nodes: &mut [u16; NUMBERS],
+    spans: &mut [u16; span::COUNT],
+    table: &mut [u16; NUMBERS],
+    groups: &mut [u16; GROUPS],
+    rows: &mut [u16; NUMBERS],
+    firsts: &mut [u16; FIRSTS],
 ) -> Reading
     ensures { λ r. ⌜ Reads (now (text .entry)) (now (codes .entry)) (now (starts .entry)) (now (values .entry)) (now (nodes .entry)) (now (codes .exit)) (now (starts .exit)) (now (values .exit)) (now (nodes .exit)) (now (spans .entry)) (now (table .entry)) (now (groups .entry)) (now (rows .entry)) (now (firsts .entry)) (now (spans .exit)) (now (table .exit)) (now (groups .exit)) (now (rows .exit)) (now (firsts .exit)) r ⌝ }
 {
@@ -66,13 +72,13 @@ fn checked(
     starts: &[u16],
     n: usize,
     end: usize,
-    nodes: &[u16; 16384],
+    nodes: &[u16; NUMBERS],
     m: usize,
-    spans: &mut [u16; 80],
-    table: &mut [u16; 16384],
-    groups: &mut [u16; 160],
-    rows: &mut [u16; 16384],
-    firsts: &mut [u16; 40],
+    spans: &mut [u16; span::COUNT],
+    table: &mut [u16; NUMBERS],
+    groups: &mut [u16; GROUPS],
+    rows: &mut [u16; NUMBERS],
+    firsts: &mut [u16; FIRSTS],
 ) -> Reading
     requires { ⌜ n ≤ length (now starts) ⌝ }
     ensures { λ r. ⌜ (Faults (now (nodes .entry)) m fault → Checks (Kept (now (spans .entry)) (now (table .entry)) (now (groups .entry)) (now (rows .entry)) (now (firsts .entry)) (now (spans .exit)) (now (table .exit)) (now (groups .exit)) (now (rows .exit)) (now (firsts .exit))) (λ text d. Written text d (now (spans .entry)) (now (table .entry)) (now (groups .entry)) (now (rows .entry)) (now (firsts .entry)) (now (spans .exit)) (now (table .exit)) (now (groups .exit)) (now (rows .exit)) (now (firsts .exit))) (now (starts .entry)) n end (now (nodes .entry)) m r) ⌝ }
@@ -88,7 +94,7 @@ fn checked(
 fn fault_key(nodes: &[u16], m: usize) -> u32
     ensures { λ r. ⌜ Faults (now (nodes .entry)) m r ⌝ }
 {
-    let mut sizes = [0u16; 8];
+    let mut sizes = [0u16; SIZES];
     let key = names_key(nodes, m, &mut sizes);
     if key != 0 {
         return key;
@@ -101,10 +107,10 @@ fn fault_key(nodes: &[u16], m: usize) -> u32
 }
 
 // Numbers 8 to 11 and 14: the least fault (place * KEY_ROOM + number + 1, places by symbols), or 0; and how many elements each given set has.
-fn names_key(nodes: &[u16], m: usize, sizes: &mut [u16; 8]) -> u32
+fn names_key(nodes: &[u16], m: usize, sizes: &mut [u16; SIZES]) -> u32
     ensures { λ r. ⌜ Named (now (nodes .entry)) m (now (sizes .exit)) r ⌝ }
 {
-    let mut names = [0u16; 16384];
+    let mut names = [0u16; NAMES];
     let at = sections(nodes, m);
     least_fault(
         nodes,
@@ -120,7 +126,7 @@ fn names_key(nodes: &[u16], m: usize, sizes: &mut [u16; 8]) -> u32
 }
 
 // The given sets by name, and their sizes.
-fn given_table(nodes: &[u16], m: usize, names: &mut [u16], sizes: &mut [u16; 8])
+fn given_table(nodes: &[u16], m: usize, names: &mut [u16], sizes: &mut [u16; SIZES])
     ensures { λ _. ⌜ Tabled (now (nodes .entry)) m (length (now (names .entry))) (now (names .exit)) (now (sizes .exit)) ⌝ }
 {
     let at = sections(nodes, m);
@@ -131,9 +137,9 @@ fn given_table(nodes: &[u16], m: usize, names: &mut [u16], sizes: &mut [u16; 8])
 fn bindings_key(nodes: &[u16], m: usize) -> u32
     ensures { λ r. ⌜ Finds bindingFaults (now (nodes .entry)) m r ⌝ }
 {
-    let mut names = [0u16; 16384];
-    let mut sizes = [0u16; 8];
-    let mut places = [0u16; 80];
+    let mut names = [0u16; NAMES];
+    let mut sizes = [0u16; SIZES];
+    let mut places = [0u16; span::COUNT];
     given_table(nodes, m, &mut names, &mut sizes);
     let k = node_spans::spans(nodes, m, &mut places);
     bindings(nodes, &places, k, &names, &sizes)
@@ -143,26 +149,26 @@ fn bindings_key(nodes: &[u16], m: usize) -> u32
 fn sizes_key(nodes: &[u16], m: usize) -> u32
     ensures { λ r. ⌜ Finds sizeFaults (now (nodes .entry)) m r ⌝ }
 {
-    let mut bounds = [0u16; 16384];
-    let mut places = [0u16; 80];
+    let mut bounds = [0u16; NAMES];
+    let mut places = [0u16; span::COUNT];
     let k = node_spans::spans(nodes, m, &mut places);
     measures(nodes, &places, k, &mut bounds)
 }
 
 // What the evaluator needs of a dossier without faults.
 fn leave(
-    nodes: &[u16; 16384],
+    nodes: &[u16; NUMBERS],
     m: usize,
-    spans: &mut [u16; 80],
-    table: &mut [u16; 16384],
-    groups: &mut [u16; 160],
-    rows: &mut [u16; 16384],
-    firsts: &mut [u16; 40],
+    spans: &mut [u16; span::COUNT],
+    table: &mut [u16; NUMBERS],
+    groups: &mut [u16; GROUPS],
+    rows: &mut [u16; NUMBERS],
+    firsts: &mut [u16; FIRSTS],
 )
     ensures { λ _. ⌜ Leaves (now (nodes .entry)) m (now (spans .entry)) (now (table .entry)) (now (groups .entry)) (now (rows .entry)) (now (firsts .entry)) (now (spans .exit)) (now (table .exit)) (now (groups .exit)) (now (rows .exit)) (now (firsts .exit)) ⌝ }
 {
-    let mut names = [0u16; 16384];
-    let mut sizes = [0u16; 8];
+    let mut names = [0u16; NAMES];
+    let mut sizes = [0u16; SIZES];
     given_table(nodes, m, &mut names, &mut sizes);
     let at = sections(nodes, m);
     let k = node_spans::spans(nodes, m, spans);
@@ -190,15 +196,4 @@ fn refused(key: u32, starts: &[u16], n: usize, end: usize) -> Reading
         (code % KEY_ROOM) as u8,
         place_at(starts, n, (code / KEY_ROOM) as usize, end),
     )
-}
-
-// The first byte of a symbol, or the text's end.
-fn place_at(starts: &[u16], n: usize, i: usize, end: usize) -> usize
-    requires { ⌜ n ≤ length (now starts) ⌝ }
-    ensures { λ r. ⌜ r ≡ getD (take n (now (starts .entry))) i end ⌝ }
-{
-    if i < n {
-        return wide(starts[i]);
-    }
-    end
 }

@@ -4,18 +4,14 @@ ghost use Prim.Native.Nat.{_+_, _-_, _≤_, _<_};
 ghost use lib.ListN.{length, replicate};
 ghost use Rattle.table_nodes.specs.TableWalkPromises.{patch};
 ghost use Rattle.search_groups.specs.GroupPromises.{Picked, PickedAll, GroupPut, OperationPut, RowsPut, Grouped};
+use form::name_endings::INPUT;
+use form::name_endings::OUTPUT;
+use form::name_endings::PLAIN;
 use form::node;
 use lexical::bounds;
 use lexical::endings;
 use node_spans::span;
 use type_rules::kinds::index;
-
-// The endings of names, which their numbers leave when divided by 4.
-const PLAIN: u16 = endings::NONE as u16;
-
-const INPUT: u16 = endings::QUERY as u16;
-
-const OUTPUT: u16 = endings::SHRIEK as u16;
 
 // How many variables a group has at most. A row has one number more; an operation has two rows, behind those of the two states.
 const VARIABLES: usize = bounds::VARIABLES as usize;

@@ -4,11 +4,16 @@ ghost use Rattle.sets.specs.Sets.{has, union, without, inter, single, si
 ghost use Rattle.sets.specs.Division.{floorDiv, floorMod};
 ghost use Prim.Native.Nat.{_<_, _≤_, _/_, _%_, _^_};
 
+// The bits of a set.
+pub const BITS: u32 = 16;
+
+const BITS_WIDE: u64 = BITS as u64;
+
 // Is k a member of s?
 pub fn has(s: u16, k: u64) -> bool
     ensures { λ r. ⌜ r ≡ has s k ⌝ }
 {
-    if k < 16 {
+    if k < BITS_WIDE {
         return (s >> k) % 2 == 1;
     }
     false
@@ -36,7 +41,7 @@ pub fn inter(s: u16, t: u16) -> u16
 pub fn single(k: u32) -> u16
     ensures { λ r. ⌜ (k < 16 → r ≡ single k) × (16 ≤ k → r ≡ 0) ⌝ }
 {
-    if k < 16 {
+    if k < BITS {
         return 1 << k;
     }
     0
@@ -60,11 +65,11 @@ pub fn pair(m: u32, i: u32, j: u32) -> u64
 pub fn row(s: u16, from: u64, m: u32) -> u16
     ensures { λ r. ⌜ r ≡ s / 2 ^ from % 2 ^ m ⌝ }
 {
-    if from >= 16 {
+    if from >= BITS_WIDE {
         return 0;
     }
     let t = s >> from;
-    if m >= 16 {
+    if m >= BITS {
         return t;
     }
     t % (1 << m)
@@ -74,10 +79,10 @@ pub fn row(s: u16, from: u64, m: u32) -> u16
 fn rows(n: u32) -> u32
     ensures { λ r. ⌜ (r ≤ 16) × (n ≤ 16 → r ≡ n) × (16 < n → r ≡ 16) ⌝ }
 {
-    if n < 16 {
+    if n < BITS {
         return n;
     }
-    16
+    BITS
 }
 
 // The first sides of a set of pairs between sets of n and of m elements.

@@ -10,6 +10,7 @@ use crate::slots;
 use crate::table_shapes;
 use form::node;
 use lexical::codes;
+use type_rules::entries;
 use type_rules::kinds::index;
 use type_rules::kinds::is_element;
 use type_rules::kinds::is_given;
@@ -31,7 +32,10 @@ pub fn set_node(out: &mut [u16], at: usize, shape: u16, i: u16, a: u16, b: u16)
 pub fn nothing() -> Made
     ensures { λ r. ⌜ r .start ≡ 0 ⌝ }
 {
-    Made { kind: 0, start: 0 }
+    Made {
+        kind: entries::NONE,
+        start: 0,
+    }
 }
 
 // A place in the table, as a number of it.
@@ -57,7 +61,7 @@ pub fn given_size(sizes: &[u16], k: u16) -> u16
     ensures { λ r. ⌜ r ≡ givenSize (now (sizes .entry)) k ⌝ }
 {
     if is_given(k) {
-        return look(sizes, index(k) - 8);
+        return look(sizes, index(k) - entries::FIRST_GIVEN);
     }
     0
 }
@@ -66,7 +70,7 @@ pub fn element_size(sizes: &[u16], k: u16) -> u16
     ensures { λ r. ⌜ r ≡ elementSize (now (sizes .entry)) k ⌝ }
 {
     if is_element(k) {
-        return look(sizes, index(k) - 16);
+        return look(sizes, index(k) - entries::FIRST_ELEMENT);
     }
     0
 }
@@ -74,8 +78,8 @@ pub fn element_size(sizes: &[u16], k: u16) -> u16
 pub fn first_size(sizes: &[u16], k: u16) -> u16
     ensures { λ r. ⌜ r ≡ firstSize (now (sizes .entry)) k ⌝ }
 {
-    if 64 <= k {
-        return look(sizes, (index(k) - 64) / 8);
+    if entries::PAIRS <= k {
+        return look(sizes, (index(k) - entries::FIRST_PAIRS) / entries::ROW_SETS);
     }
     0
 }
@@ -83,8 +87,8 @@ pub fn first_size(sizes: &[u16], k: u16) -> u16
 pub fn second_size(sizes: &[u16], k: u16) -> u16
     ensures { λ r. ⌜ r ≡ secondSize (now (sizes .entry)) k ⌝ }
 {
-    if 64 <= k {
-        return look(sizes, (index(k) - 64) % 8);
+    if entries::PAIRS <= k {
+        return look(sizes, (index(k) - entries::FIRST_PAIRS) % entries::ROW_SETS);
     }
     0
 }

@@ -11,14 +11,14 @@ use Rattle.form.specs.Codes.{Numbering, abstractlyAt, predWidth, conditionCodes
 use Rattle.static_rules.specs.Scope.{contexts, concreteTaken}
 use Rattle.type_rules.specs.TypesByNumber.{Names, Sizes}
 use Rattle.declared_names.specs.NamesByNumber.{Typed, typedCodes, variablesOf, stateNamed, conditionsNamed}
-use Rattle.declared_names.specs.PassPromises.{Variables}
+use Rattle.declared_names.specs.PassPromises.{PartOf, Variables}
 use Rattle.names.proofs.PassSteps.{variables-codes}
 use Rattle.parser.specs.Sections.{operationsFrom}
 use Rattle.node_spans.specs.Spans.{operationSpans, spansOf, span, Structured}
 use Rattle.table_nodes.specs.TableByNumber.{Places}
 use Rattle.table_places.specs.DossierTable.{operationStarts, startsOf}
 use Rattle.table_places.specs.DossierTableByNumber.{givensPlaced, placing, statesPlaced, kindsOf, placesOf, withTables, withNodes, withOperations, declaredNodes, tableBy}
-use Rattle.table_places.specs.TablePromises.{PartIs, ElementsSet, VariablesSet, withState, StateSet, StatesSet, withConditions, ConditionsSet, tablesFrom, OperationsSet, PlacesSet, declaredBy, DeclaredSet, startsBy, placesBy, ContextsSet, TableSet}
+use Rattle.table_places.specs.TablePromises.{ElementsSet, VariablesSet, withState, StateSet, StatesSet, withConditions, ConditionsSet, tablesFrom, OperationsSet, PlacesSet, declaredBy, DeclaredSet, startsBy, placesBy, ContextsSet, TableSet}
 use Rattle.table_places.proofs.WritingTypes.{part-stands}
 
 -- the places of elements and of both states' variables
@@ -48,8 +48,8 @@ conditions-read nodes A C a a' b b' c c' T U W Y z out after p q r s =
     subst (λ (m : ℕ). ConditionsSet nodes A C a' b' m T U W Y z out after) r
     (subst (λ (m : ℕ). ConditionsSet nodes A C a' m c T U W Y z out after) q (subst (λ (m : ℕ). ConditionsSet nodes A C m b c T U W Y z out after) p s))
 
-pub part-read : (nodes : List ℕ) (a a' b b' : ℕ) (r : List ℕ) → a ≡ a' → b ≡ b' → PartIs nodes a b r → PartIs nodes a' b' r
-part-read nodes a a' b b' r p q s = subst (λ (m : ℕ). PartIs nodes a' m r) q (subst (λ (m : ℕ). PartIs nodes m b r) p s)
+pub part-read : (nodes : List ℕ) (a a' b b' : ℕ) (r : List ℕ) → a ≡ a' → b ≡ b' → PartOf nodes a b r → PartOf nodes a' b' r
+part-read nodes a a' b b' r p q s = subst (λ (m : ℕ). PartOf nodes a' m r) q (subst (λ (m : ℕ). PartOf nodes m b r) p s)
 
 -- the table of all contexts is that of the states, of the conditions, and of the operations
 abbrev afterStates : Dossier → Names → Numbering → Names
@@ -169,7 +169,7 @@ module _ (d : Dossier) (ρ : Numbering) (r : List ℕ) where
       ∙ ap₂ (λ (x y : ℕ). withOperations T z ρ s 0 (d .operations) (withNodes T z ρ x c (withNodes T z ρ y a out))) (span-same s r 3 (omega arith)) (span-same s r 0 (omega arith))
 
 pub table-set : (nodes spans gs A C : List ℕ) (n m givens abstracts : ℕ) (T : Names) (W W₁ : Places) (z : Sizes) (out out₁ after : List ℕ) → (n ≤ 16 → m ≡ n)
-    → PartIs nodes givens abstracts gs → PartIs nodes (span spans 0) (span spans 1) A → PartIs nodes (span spans 3) (span spans 4) C
+    → PartOf nodes givens abstracts gs → PartOf nodes (span spans 0) (span spans 1) A → PartOf nodes (span spans 3) (span spans 4) C
     → PlacesSet gs A C W W₁ → DeclaredSet nodes spans m T z out out₁ → ContextsSet nodes spans A C m T W₁ z out₁ after
     → TableSet nodes spans n givens abstracts T W z out after
 unfolding tableBy placesOf

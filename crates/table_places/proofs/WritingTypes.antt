@@ -7,8 +7,7 @@ use native.Mathlib.Nat.{add-zero, zero-add}
 use native.Mathlib.Numerals.{add-one}
 use native.Mathlib.Omega.{arith}
 use lib.Dec.{eqb, ltb}
-use lib.ListN.{length, take, drop, getD, length-drop}
-use lib.Seq.{length-take-le}
+use lib.ListN.{length, drop, getD}
 use borrow.Author.Tests.{ne-eqb, lt-ltb, le-ltb}
 use Rattle.form.specs.Tree.{TypeForm, givenType, powerType, rangeType, arrowType, relation, partial, total, Declaration, declarations, Parameter, Operation}
 use Rattle.form.specs.Headings.{abstractAt, concreteAt, operationsAt, operationLength}
@@ -16,7 +15,7 @@ use Rattle.form.specs.Codes.{Numbering, node, typeWidth, declarationCodes, para
 use Rattle.lexical.specs.Symbols.{noEnding}
 use Rattle.type_rules.specs.TypesByNumber.{Names, Sizes, entry, isGiven}
 use Rattle.declared_names.specs.NamesByNumber.{Typed, typedCodes, variablesOf, parametersOf}
-use Rattle.declared_names.specs.PassPromises.{typedCode}
+use Rattle.declared_names.specs.PassPromises.{PartOf, typedCode}
 use Rattle.declared_names.proofs.DeclarationNodes.{node-a, node-b, node-shape, shapeOf, placeOf, leftOf, rightOf, as-node, typed-type, Walked, finished}
 use Rattle.type_rules.proofs.TypeNumbers.{cond-yes, cond-no, given-bounds}
 use Rattle.names.proofs.PassSteps.{variables-codes, parameters-codes}
@@ -24,7 +23,7 @@ use Rattle.node_spans.specs.Spans.{span, Stands, OperationsAt, no-more, one-mor
 use Rattle.table_nodes.specs.TableByNumber.{givenSize, rangeCount}
 use Rattle.table_nodes.specs.TableWalkPromises.{patch}
 use Rattle.table_places.specs.DossierTableByNumber.{givenIndex, typeNode, withNodes, withOperations}
-use Rattle.table_places.specs.TablePromises.{PartIs, TypeSet, withTypes, TypesSet, OperationTypesSet, declaredBy, DeclaredSet}
+use Rattle.table_places.specs.TablePromises.{TypeSet, withTypes, TypesSet, OperationTypesSet, declaredBy, DeclaredSet}
 
 -- the number of a given set
 pub index-some : (k : ℕ) (f : Bool) → f ≡ isGiven k → f ≡ true → (k - 8 ≡ givenIndex k) × (k - 8 < 8)
@@ -39,18 +38,7 @@ pub index-above : (k : ℕ) (f : Bool) → f ≡ isGiven k → f ≡ true → 8 
 index-above k f e h = given-bounds k (sym e ∙ h) .0
 
 -- some of the nodes
-pub part-some : (nodes : List ℕ) (from to : ℕ) → from ≤ to → to ≤ length nodes → PartIs nodes from to (take (to - from) (drop from nodes))
-part-some nodes from to h k =
-    let d = length-drop from nodes in
-    let l = length-take-le (to - from) (drop from nodes) (omega arith) in
-    record { fits = λ q. omega arith; part = λ p q. refl; none = λ u. absurd (u h k) }
-
-pub part-none : (nodes : List ℕ) (from to : ℕ) → (from ≤ to → to ≤ length nodes → ⊥) → PartIs nodes from to (take 0 nodes)
-part-none nodes from to h =
-    let l = length-take-le 0 nodes (omega arith) in
-    record { fits = λ q. absurd (omega arith); part = λ p q. absurd (h p q); none = λ u. refl }
-
-pub part-short : (nodes : List ℕ) (from to n : ℕ) (r : List ℕ) → PartIs nodes from to r → length nodes ≤ n → length r ≤ n
+pub part-short : (nodes : List ℕ) (from to n : ℕ) (r : List ℕ) → PartOf nodes from to r → length nodes ≤ n → length r ≤ n
 part-short nodes from to n r p h = go (length r) refl
   where
     go : (k : ℕ) → length r ≡ k → length r ≤ n
@@ -114,10 +102,10 @@ unfolding withTypes
 typing-on T z code at q q' out after n h ρ x xs j rest e =
     sym (ap₂ (λ (m : ℕ) (o : List ℕ). withTypes T z ρ m xs o) n (h (x .type) (j + 2) ρ rest (typed-type code at x j ρ rest e)))
 
-pub part-stands : (nodes : List ℕ) (from to : ℕ) (code l : List ℕ) → PartIs nodes from to code → Stands nodes from to l → code ≡ l
+pub part-stands : (nodes : List ℕ) (from to : ℕ) (code l : List ℕ) → PartOf nodes from to code → Stands nodes from to l → code ≡ l
 part-stands nodes from to code l p s = p .part (s .ordered) (s .inside) ∙ s .stands
 
-pub types-set : (nodes : List ℕ) (from to : ℕ) (T : Names) (z : Sizes) (code : List ℕ) (at q : ℕ) (out after : List ℕ) → PartIs nodes from to code
+pub types-set : (nodes : List ℕ) (from to : ℕ) (T : Names) (z : Sizes) (code : List ℕ) (at q : ℕ) (out after : List ℕ) → PartOf nodes from to code
     → Walked (typing T z) code at (from ∷ out) (q ∷ after) → length code < at + 8 → TypesSet nodes from to T z out after
 unfolding withTypes
 types-set nodes from to T z code at q out after p w h xs i ρ s =

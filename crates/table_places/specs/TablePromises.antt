@@ -3,7 +3,7 @@
 use mathlib.Core.Path.{_≡_}
 use mathlib.Core.List.{List, [], _∷_, _++_}
 use Prim.Native.Nat.{ℕ, suc, _+_, _-_, _*_, _≤_}
-use lib.ListN.{length, take, drop, getD, set, replicate}
+use lib.ListN.{length, drop, getD, set, replicate}
 use Rattle.lexical.specs.Symbols.{noEnding}
 use Rattle.form.specs.Tree.{Letters, TypeForm, Given, Pred, Declaration, declarations, Parameter, State, Operation, Dossier}
 use Rattle.form.specs.Headings.{givensAt, ainitAt, cinitAt, retrieveAt}
@@ -17,12 +17,6 @@ use Rattle.table_nodes.specs.TableByNumber.{Places, predTable}
 use Rattle.table_nodes.specs.TableWalkPromises.{patch}
 use Rattle.table_places.specs.DossierTable.{operationStarts}
 use Rattle.table_places.specs.DossierTableByNumber.{givensPlaced, placing, parametersPlaced, statesPlaced, operationKinds, operationPlaces, kindsOf, withTables, typeNode, withNodes, withOperations, tableBy}
-
--- some of the nodes
-pub record PartIs (nodes : List ℕ) (from to : ℕ) (r : List ℕ) : Type 0 where
-  pub fits : 1 ≤ length r → from + length r ≤ length nodes
-  pub part : from ≤ to → to ≤ length nodes → r ≡ take (to - from) (drop from nodes)
-  pub none : (from ≤ to → to ≤ length nodes → ⊥) → r ≡ []
 
 -- the places of elements, of variables, of parameters
 abbrev pub ElementsSet : (code : List ℕ) (W Y : Places) → Type 0

@@ -3,29 +3,18 @@ ghost use mathlib.Core.Path.{_≡_};
 ghost use Prim.Native.Nat.{_+_, _≤_, _<_};
 ghost use lib.ListN.{length, getD};
 ghost use Rattle.table_places.specs.DossierTableByNumber.{givenIndex};
-ghost use Rattle.table_places.specs.TablePromises.{PartIs, TypeSet, TypesSet, OperationTypesSet, DeclaredSet};
+ghost use Rattle.table_places.specs.TablePromises.{TypeSet, TypesSet, OperationTypesSet, DeclaredSet};
 use form::node;
 use form::shapes;
-use lexical::bounds;
+use names::passes::part;
 use node_spans::span;
 use table_nodes::nodes::given_size;
 use table_nodes::nodes::range_count;
 use table_nodes::nodes::set_node;
+use type_rules::entries;
 use type_rules::kinds::index;
 use type_rules::kinds::is_given;
 use type_rules::kinds::look;
-
-// The nodes from one place to another; none where the places are not in order.
-pub fn part(nodes: &[u16], from: usize, to: usize) -> &[u16]
-    ensures { λ r. ⌜ PartIs (now (nodes .entry)) from to (now r) ⌝ }
-{
-    if from <= to {
-        if to <= nodes.len() {
-            return &nodes[from..to];
-        }
-    }
-    &nodes[..0]
-}
 
 // A number of the spans.
 pub fn span_at(spans: &[u16], k: usize) -> usize
@@ -34,15 +23,12 @@ pub fn span_at(spans: &[u16], k: usize) -> usize
     index(look(spans, k))
 }
 
-// How many given sets there are: an arrow's two have one number, the first one's times this and the second one's.
-const GIVEN_SETS: u16 = bounds::GIVEN_SETS as u16;
-
 // The number of the given set that a name is.
 fn given_index(k: u16) -> u16
     ensures { λ r. ⌜ (r ≡ givenIndex k) × (r < 8) ⌝ }
 {
     if is_given(k) {
-        return k - 8;
+        return k - entries::GIVEN;
     }
     0
 }
@@ -65,7 +51,8 @@ fn set_type(code: &[u16], at: usize, names: &[u16], sizes: &[u16], out: &mut [u1
         return;
     }
     let l = look(names, index(b));
-    let i = GIVEN_SETS * given_index(k) + given_index(l);
+    // the two given sets of an arrow in one number, as in the kind of its pairs
+    let i = entries::ROW * given_index(k) + given_index(l);
     set_node(out, q, shape, i, given_size(sizes, k), given_size(sizes, l));
 }
 

@@ -5,6 +5,9 @@ ghost use Prim.Native.Nat.{_+_, _%_, _≤_, _<_};
 ghost use lib.Dec.{eqb};
 ghost use lib.ListN.{length};
 ghost use Rattle.table_places.specs.TablePromises.{ElementsSet, ElementSet, VariablesSet, ParametersSet, PlacesSet};
+use form::name_endings::INPUT;
+use form::name_endings::PLAIN;
+use form::name_endings::PRIMED;
 use form::node;
 use form::shapes;
 use lexical::endings;
@@ -37,11 +40,6 @@ fn place_element(code: &[u16], at: usize, j: u16, places: &mut [u16]) -> u16
     j + 1
 }
 
-// What is added to the number of a plain name, for itself and for the primed one.
-pub const PLAIN: u16 = endings::NONE as u16;
-
-pub const PRIMED: u16 = endings::PRIME as u16;
-
 // Variables have slots from `slot` on.
 fn place_variables(code: &[u16], shift: u16, slot: u16, places: &mut [u16])
     requires { ⌜ (length (now code) ≤ 16384) × (slot < 64) ⌝ }
@@ -56,9 +54,7 @@ fn place_variables(code: &[u16], shift: u16, slot: u16, places: &mut [u16])
     }
 }
 
-// Inputs end in ?, and are told by the ending in their number.
-const INPUT: u16 = endings::QUERY as u16;
-
+// Inputs are told by the ending in their number.
 fn is_input(x: u16) -> bool
     ensures { λ r. ⌜ r ≡ eqb (x % 4) 2 ⌝ }
 {

@@ -14,7 +14,7 @@ use Rattle.form.specs.Codes.{Numbering, numberOfName, abstractlyAt, predWidth, 
 use Rattle.static_rules.specs.Scope.{operationContexts}
 use Rattle.type_rules.specs.TypesByNumber.{Names, Sizes}
 use Rattle.declared_names.specs.NamesByNumber.{Typed, typedCodes, variablesOf, parametersOf, shown, hidden, stateNamed, reaching, leaving, titleNamed, parametersShown, operationNamed, conditionsNamed}
-use Rattle.declared_names.specs.PassPromises.{ShownSeen, HiddenSeen, Variables}
+use Rattle.declared_names.specs.PassPromises.{ShownSeen, HiddenSeen, PartOf, Variables}
 use Rattle.names.proofs.PassSteps.{variables-codes, parameters-codes}
 use Rattle.node_spans.specs.Spans.{span, OperationAt, OperationsAt, no-more, one-more}
 use Rattle.table_nodes.specs.declared.Made.{Made}
@@ -22,7 +22,7 @@ use Rattle.table_nodes.specs.TableByNumber.{Places, predTable}
 use Rattle.table_nodes.specs.TableWalkPromises.{patch, PredMade}
 use Rattle.table_places.specs.DossierTable.{operationStarts}
 use Rattle.table_places.specs.DossierTableByNumber.{operationKinds, operationPlaces, withTables}
-use Rattle.table_places.specs.TablePromises.{PartIs, ParametersSet, written, PredicateSet, StateSet, withConditions, ConditionsSet, SideSet, abstractKinds, concreteKinds, placedIn, withOperation, OperationStands, OperationSet, TitlesAt, no-titles, one-title, tablesFrom, OperationsSet}
+use Rattle.table_places.specs.TablePromises.{ParametersSet, written, PredicateSet, StateSet, withConditions, ConditionsSet, SideSet, abstractKinds, concreteKinds, placedIn, withOperation, OperationStands, OperationSet, TitlesAt, no-titles, one-title, tablesFrom, OperationsSet}
 use Rattle.table_places.proofs.WritingTypes.{part-stands}
 
 -- a predicate
@@ -65,7 +65,7 @@ module _ (vs : List ℕ) (ds : List Declaration) (j : ℕ) (ρ : Numbering) (e :
   hides s k t h = h (plain ds) j ρ typed ∙ ap (λ (l : Names). hidden (plain ds) s k l ρ) t
 
 -- a state
-pub state-set : (nodes vs : List ℕ) (first last end : ℕ) (T T₁ T₂ U : Names) (W Y : Places) (z : Sizes) (out after : List ℕ) → PartIs nodes first last vs → ShownSeen vs 0 T T₁
+pub state-set : (nodes vs : List ℕ) (first last end : ℕ) (T T₁ T₂ U : Names) (W Y : Places) (z : Sizes) (out after : List ℕ) → PartOf nodes first last vs → ShownSeen vs 0 T T₁
     → PredicateSet nodes end T₁ T₂ W Y z out after → HiddenSeen vs 0 2 T₂ U → StateSet nodes first last end T U W Y z out after
 unfolding stateNamed
 state-set nodes vs first last end T T₁ T₂ U W Y z out after p one h two =
@@ -136,7 +136,7 @@ module _ (nodes A C : List ℕ) (e₁ e₂ e₃ : ℕ) (T T₁ T₂ T₃ T₄ T�
 
 -- an operation
 pub operation-set : (nodes A C ps : List ℕ) (first last middle end x : ℕ) (T T₁ T₂ T₃ T₄ U : Names) (W W₁ W₂ Y : Places) (z : Sizes) (out out₁ after : List ℕ)
-    → (4 ≤ first → x ≡ getD nodes (first - 4 + 1) 0) → T₁ ≡ set T x 2 → PartIs nodes first last ps → ShownSeen ps 0 T₁ T₂ → ParametersSet ps W W₁
+    → (4 ≤ first → x ≡ getD nodes (first - 4 + 1) 0) → T₁ ≡ set T x 2 → PartOf nodes first last ps → ShownSeen ps 0 T₁ T₂ → ParametersSet ps W W₁
     → SideSet nodes A middle T₂ T₃ W₁ W₂ z out out₁ → SideSet nodes C end T₃ T₄ W₂ Y z out₁ after → HiddenSeen ps 0 0 T₄ U
     → OperationSet nodes A C first last middle end T U W Y z out after
 unfolding operationNamed

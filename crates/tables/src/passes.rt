@@ -5,28 +5,24 @@ ghost use lib.ListN.{length, getD};
 ghost use Rattle.table_places.specs.TablePromises.{PredicateSet, StateSet, StatesSet, ConditionsSet, SideSet, OperationSet, OperationsSet, ContextsSet, TableSet, TableWritten};
 use declared_names::declared::hide;
 use declared_names::declared::show;
+use form::name_endings::PLAIN;
+use form::name_endings::PRIMED;
 use form::node;
-use lexical::bounds;
 use lowering::walk::pred;
+use names::NAMES;
+use names::SIZES;
+use names::passes::part;
 use node_spans::span;
 use table_nodes::slots;
-use table_places::declared_types::part;
 use table_places::declared_types::set_declared;
 use table_places::declared_types::span_at;
-use table_places::places::PLAIN;
-use table_places::places::PRIMED;
 use table_places::places::place_all;
 use table_places::places::place_parameters;
+use type_rules::entries::FREE;
+use type_rules::entries::USED;
 use type_rules::kinds::index;
 use type_rules::kinds::look;
 use type_rules::kinds::put;
-
-// What a name is that is out of reach: free to be declared, or in use.
-const FREE: u16 = 0;
-
-const USED: u16 = 2;
-
-const GIVEN_SETS: usize = bounds::GIVEN_SETS as usize;
 
 // A predicate that ends at a place.
 fn set_predicate(
@@ -299,12 +295,12 @@ pub fn write(
     givens: usize,
     abstracts: usize,
     names: &mut [u16],
-    sizes: &[u16; GIVEN_SETS],
+    sizes: &[u16; SIZES],
     out: &mut [u16; node::NUMBERS],
 )
     ensures { λ r. ⌜ TableWritten (now (nodes .entry)) (now (spans .entry)) operations givens abstracts (now (names .entry)) (now (sizes .entry)) (now (out .entry)) (now (out .exit)) ⌝ }
 {
-    let mut places = [0u16; node::NUMBERS];
+    let mut places = [0u16; NAMES];
     set_table(
         nodes,
         spans,

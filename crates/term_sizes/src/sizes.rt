@@ -4,62 +4,76 @@ ghost use mathlib.Core.Bool.{cond};
 ghost use Prim.Native.Nat.{_+_, _-_, _≤_, max};
 ghost use lib.Dec.{eqb, leb};
 ghost use lib.ListN.{length, getD};
-ghost use Rattle.type_rules.specs.TypesByNumber.{judgedKey, key, NodeAt};
+ghost use Rattle.type_rules.specs.TypesByNumber.{judgedKey, key};
 ghost use Rattle.term_sizes.specs.SizesByNumber.{absolute};
 ghost use Rattle.term_sizes.specs.SizeWalkPromises.{PrefixBound, OperatorBound, DivisionBound, DomainSized, TermSized, ItemsSized, PairSized, PairsSized, PredSized};
 use crate::Sized;
-use type_rules::Node;
+use form::node;
+use form::shapes;
+use lexical::bounds::COUNT_SIZE;
+use lexical::bounds::LARGEST_NUMBER;
+use lexical::bounds::LARGEST_SIZE;
+use lexical::codes;
+use type_rules::faults;
 use type_rules::kinds::KEY_ROOM;
 use type_rules::kinds::index;
 use type_rules::kinds::lesser_of;
 use type_rules::kinds::look;
+use type_rules::kinds::node_at;
 use type_rules::kinds::put;
 use type_rules::kinds::wide;
 
-// Prefixes by the code of their symbol: 29 -, 31 #, 63 dom, 64 ran.
+// Prefixes and operators by the code of their symbol. What is not a number has the size 0.
+const PLUS: u16 = codes::PLUS as u16;
+
+const MINUS: u16 = codes::DASH as u16;
+
+const TIMES: u16 = codes::TIMES as u16;
+
+const COUNT: u16 = codes::SIZE as u16;
+
 fn prefix_bound(o: u16, a: u64) -> u64
     requires { ⌜ a ≤ 2147483647 ⌝ }
     ensures { λ r. ⌜ PrefixBound o a r × (r ≤ 2147483647) ⌝ }
 {
     match o {
-        29 => a,
-        31 => 16,
+        MINUS => a,
+        COUNT => COUNT_SIZE,
         _ => 0,
     }
 }
 
-// Operators by the code of their symbol: 28 +, 29 -, 30 *, 58 union, 59 minus, 60 inter.
 fn operator_bound(o: u16, a: u64, b: u64) -> u64
     requires { ⌜ (a ≤ 2147483647) × (b ≤ 2147483647) ⌝ }
     ensures { λ r. ⌜ OperatorBound o a b r ⌝ }
 {
     match o {
-        28 => a + b,
-        29 => a + b,
-        30 => a * b,
+        PLUS => a + b,
+        MINUS => a + b,
+        TIMES => a * b,
         _ => 0,
     }
 }
 
-// The size of t div n, of t mod n: 0 and 1 stand for div.
+// The size of t div n, of t mod n.
 fn division_bound(b: u16, a: u16, t: u64) -> u64
     requires { ⌜ t ≤ 2147483647 ⌝ }
     ensures { λ r. ⌜ DivisionBound b a t r × (r ≤ 2147483647) ⌝ }
 {
-    if b < 2 {
+    if b < shapes::REMAINDER {
         return t;
     }
     a as u64
 }
 
-// The absolute value of an end of a range, which stands with 1,000 added.
+// The absolute value of an end of a range, which stands with the largest number added.
 pub fn absolute_of(a: u16) -> u64
     ensures { λ r. ⌜ (r ≡ absolute a) × (r ≤ 65535) ⌝ }
 {
-    if a < 1000 {
-        return (1000 - a) as u64;
+    if a < LARGEST_NUMBER {
+        return (LARGEST_NUMBER - a) as u64;
     }
-    (a - 1000) as u64
+    (a - LARGEST_NUMBER) as u64
 }
 
 pub fn greater_of(a: u64, b: u64) -> u64
@@ -72,15 +86,18 @@ pub fn greater_of(a: u64, b: u64) -> u64
     a
 }
 
+// The key of a size that is too large, at the text's first symbol.
+const LARGE: u32 = faults::LARGE_SIZE + 1;
+
 // An operation of the size n at the place i, with the fault `parts` in its parts.
 fn over(n: u64, i: u16, parts: u32) -> u32
     ensures { λ r. ⌜ r ≡ judgedKey (leb n 2147483647) (key i 13) parts ⌝ }
 {
     if parts == 0 {
-        if n <= 2147483647 {
+        if n <= LARGEST_SIZE {
             return 0;
         }
-        return wide(i) * KEY_ROOM + 14;
+        return wide(i) * KEY_ROOM + LARGE;
     }
     parts
 }
@@ -93,19 +110,6 @@ fn unless_over(fault: u32, n: u64) -> u64
         return n;
     }
     0
-}
-
-// The place of the node that ends at `end`, and its two numbers.
-fn node_at(code: &[u16], end: usize) -> Node
-    requires { ⌜ (end ≤ length (now code)) × (4 ≤ end) ⌝ }
-    ensures { λ r. ⌜ NodeAt (now (code .entry)) end r ⌝ }
-{
-    let at = end - 4;
-    Node {
-        place: code[at + 2],
-        a: code[at + 1],
-        b: code[at],
-    }
 }
 
 // No size and no fault, at `at`.
@@ -124,12 +128,12 @@ fn domain(code: &[u16], end: usize) -> Sized
     requires { ⌜ end ≤ length (now code) ⌝ }
     ensures { λ r. ⌜ DomainSized (now (code .entry)) end r ⌝ }
 {
-    if end < 4 {
+    if end < node::SIZE {
         return bare(0);
     }
-    let at = end - 4;
+    let at = end - node::SIZE;
     let n = node_at(code, end);
-    if code[at + 3] == 1 {
+    if code[at + node::SHAPE] == shapes::SET {
         return bare(at);
     }
     let a = absolute_of(n.a);
@@ -146,21 +150,21 @@ fn term(code: &[u16], end: usize, bounds: &mut [u16]) -> Sized
     requires { ⌜ end ≤ length (now code) ⌝ }
     ensures { λ r. ⌜ TermSized (now (code .entry)) end (now (bounds .entry)) (now (bounds .exit)) r ⌝ }
 {
-    if end < 4 {
+    if end < node::SIZE {
         return bare(0);
     }
-    let at = end - 4;
-    match code[at + 3] {
-        1 => number(code, end, bounds),
-        2 => named(code, end, bounds),
-        3 => prefixed(code, end, bounds),
-        4 => divided(code, end, bounds),
-        5 => operated(code, end, bounds),
-        6 => such(code, end, bounds),
-        7 => listed(code, end, bounds),
-        8 => paired(code, end, bounds),
-        9 => bare(at),
-        10 => bare(at),
+    let at = end - node::SIZE;
+    match code[at + node::SHAPE] {
+        shapes::NUMBER => number(code, end, bounds),
+        shapes::NAME => named(code, end, bounds),
+        shapes::PREFIX => prefixed(code, end, bounds),
+        shapes::DIVIDED => divided(code, end, bounds),
+        shapes::BINARY => operated(code, end, bounds),
+        shapes::SUCH => such(code, end, bounds),
+        shapes::LISTED => listed(code, end, bounds),
+        shapes::PAIRS => paired(code, end, bounds),
+        shapes::EMPTY_SET => bare(at),
+        shapes::EMPTY_PAIRS => bare(at),
         _ => bare(0),
     }
 }
@@ -174,7 +178,7 @@ fn number(code: &[u16], end: usize, bounds: &[u16]) -> Sized
     Sized {
         bound: n.a as u64,
         fault: 0,
-        start: end - 4,
+        start: end - node::SIZE,
     }
 }
 
@@ -188,7 +192,7 @@ fn named(code: &[u16], end: usize, bounds: &[u16]) -> Sized
     Sized {
         bound: e as u64,
         fault: 0,
-        start: end - 4,
+        start: end - node::SIZE,
     }
 }
 
@@ -198,7 +202,7 @@ fn prefixed(code: &[u16], end: usize, bounds: &mut [u16]) -> Sized
     ensures { λ r. ⌜ TermSized (now (code .entry)) end (now (bounds .entry)) (now (bounds .exit)) r ⌝ }
 {
     let n = node_at(code, end);
-    let t = term(code, end - 4, bounds);
+    let t = term(code, end - node::SIZE, bounds);
     let m = prefix_bound(n.a, t.bound);
     Sized {
         bound: unless_over(t.fault, m),
@@ -213,7 +217,7 @@ fn divided(code: &[u16], end: usize, bounds: &mut [u16]) -> Sized
     ensures { λ r. ⌜ TermSized (now (code .entry)) end (now (bounds .entry)) (now (bounds .exit)) r ⌝ }
 {
     let n = node_at(code, end);
-    let t = term(code, end - 4, bounds);
+    let t = term(code, end - node::SIZE, bounds);
     let m = division_bound(n.b, n.a, t.bound);
     Sized {
         bound: unless_over(t.fault, m),
@@ -228,7 +232,7 @@ fn operated(code: &[u16], end: usize, bounds: &mut [u16]) -> Sized
     ensures { λ r. ⌜ TermSized (now (code .entry)) end (now (bounds .entry)) (now (bounds .exit)) r ⌝ }
 {
     let n = node_at(code, end);
-    let u = term(code, end - 4, bounds);
+    let u = term(code, end - node::SIZE, bounds);
     let t = term(code, u.start, bounds);
     let m = operator_bound(n.a, t.bound, u.bound);
     let parts = lesser_of(t.fault, u.fault);
@@ -247,7 +251,7 @@ fn such(code: &[u16], end: usize, bounds: &mut [u16]) -> Sized
 {
     let n = node_at(code, end);
     let x = index(n.a);
-    let d = domain(code, end - 4);
+    let d = domain(code, end - node::SIZE);
     let was = look(bounds, x);
     put(bounds, x, 0);
     let p = pred(code, d.start, bounds);
@@ -264,7 +268,7 @@ fn listed(code: &[u16], end: usize, bounds: &mut [u16]) -> Sized
     requires { ⌜ (end ≤ length (now code)) × (4 ≤ end) × (getD (now code) (end - 4 + 3) 0 ≡ 7) ⌝ }
     ensures { λ r. ⌜ TermSized (now (code .entry)) end (now (bounds .entry)) (now (bounds .exit)) r ⌝ }
 {
-    let t = items(code, end - 4, bounds);
+    let t = items(code, end - node::SIZE, bounds);
     Sized {
         bound: 0,
         fault: t.fault,
@@ -277,7 +281,7 @@ fn paired(code: &[u16], end: usize, bounds: &mut [u16]) -> Sized
     requires { ⌜ (end ≤ length (now code)) × (4 ≤ end) × (getD (now code) (end - 4 + 3) 0 ≡ 8) ⌝ }
     ensures { λ r. ⌜ TermSized (now (code .entry)) end (now (bounds .entry)) (now (bounds .exit)) r ⌝ }
 {
-    let t = pairs(code, end - 4, bounds);
+    let t = pairs(code, end - node::SIZE, bounds);
     Sized {
         bound: 0,
         fault: t.fault,
@@ -290,11 +294,11 @@ fn items(code: &[u16], end: usize, bounds: &mut [u16]) -> Sized
     requires { ⌜ end ≤ length (now code) ⌝ }
     ensures { λ r. ⌜ ItemsSized (now (code .entry)) end (now (bounds .entry)) (now (bounds .exit)) r ⌝ }
 {
-    if end < 4 {
+    if end < node::SIZE {
         return bare(0);
     }
-    let at = end - 4;
-    if code[at + 3] == 1 {
+    let at = end - node::SIZE;
+    if code[at + node::SHAPE] == shapes::LAST {
         let only = term(code, at, bounds);
         return Sized {
             bound: 0,
@@ -312,16 +316,16 @@ fn items(code: &[u16], end: usize, bounds: &mut [u16]) -> Sized
     }
 }
 
-// The pairs of a brace; the last two terms before a node of the shape 1.
+// The pairs of a brace; the last two terms before the node of the last pair.
 fn pairs(code: &[u16], end: usize, bounds: &mut [u16]) -> Sized
     requires { ⌜ end ≤ length (now code) ⌝ }
     ensures { λ r. ⌜ PairsSized (now (code .entry)) end (now (bounds .entry)) (now (bounds .exit)) r ⌝ }
 {
-    if end < 4 {
+    if end < node::SIZE {
         return bare(0);
     }
-    let at = end - 4;
-    if code[at + 3] == 1 {
+    let at = end - node::SIZE;
+    if code[at + node::SHAPE] == shapes::LAST {
         return pair(code, at, bounds);
     }
     let l = pairs(code, at, bounds);
@@ -354,19 +358,19 @@ pub fn pred(code: &[u16], end: usize, bounds: &mut [u16]) -> Sized
     requires { ⌜ end ≤ length (now code) ⌝ }
     ensures { λ r. ⌜ PredSized (now (code .entry)) end (now (bounds .entry)) (now (bounds .exit)) r ⌝ }
 {
-    if end < 4 {
+    if end < node::SIZE {
         return bare(0);
     }
-    let at = end - 4;
-    match code[at + 3] {
-        1 => bare(at),
-        2 => pred(code, at, bounds),
-        3 => connected(code, end, bounds),
-        4 => pair(code, at, bounds),
-        5 => pair(code, at, bounds),
-        6 => within(code, end, bounds),
-        7 => related(code, end, bounds),
-        8 => quantified(code, end, bounds),
+    let at = end - node::SIZE;
+    match code[at + node::SHAPE] {
+        shapes::TRUTH => bare(at),
+        shapes::NEGATION => pred(code, at, bounds),
+        shapes::CONNECTED => connected(code, end, bounds),
+        shapes::COMPARED => pair(code, at, bounds),
+        shapes::MEMBER => pair(code, at, bounds),
+        shapes::WITHIN => within(code, end, bounds),
+        shapes::RELATED => related(code, end, bounds),
+        shapes::QUANTIFIED => quantified(code, end, bounds),
         _ => bare(0),
     }
 }
@@ -376,7 +380,7 @@ fn connected(code: &[u16], end: usize, bounds: &mut [u16]) -> Sized
     requires { ⌜ (end ≤ length (now code)) × (4 ≤ end) × (getD (now code) (end - 4 + 3) 0 ≡ 3) ⌝ }
     ensures { λ r. ⌜ PredSized (now (code .entry)) end (now (bounds .entry)) (now (bounds .exit)) r ⌝ }
 {
-    let q = pred(code, end - 4, bounds);
+    let q = pred(code, end - node::SIZE, bounds);
     let p = pred(code, q.start, bounds);
     let f = lesser_of(p.fault, q.fault);
     Sized {
@@ -391,7 +395,7 @@ fn within(code: &[u16], end: usize, bounds: &mut [u16]) -> Sized
     requires { ⌜ (end ≤ length (now code)) × (4 ≤ end) × (getD (now code) (end - 4 + 3) 0 ≡ 6) ⌝ }
     ensures { λ r. ⌜ PredSized (now (code .entry)) end (now (bounds .entry)) (now (bounds .exit)) r ⌝ }
 {
-    let d = domain(code, end - 4);
+    let d = domain(code, end - node::SIZE);
     let t = term(code, d.start, bounds);
     Sized {
         bound: 0,
@@ -405,7 +409,7 @@ fn related(code: &[u16], end: usize, bounds: &mut [u16]) -> Sized
     requires { ⌜ (end ≤ length (now code)) × (4 ≤ end) × (getD (now code) (end - 4 + 3) 0 ≡ 7) ⌝ }
     ensures { λ r. ⌜ PredSized (now (code .entry)) end (now (bounds .entry)) (now (bounds .exit)) r ⌝ }
 {
-    let v = term(code, end - 4, bounds);
+    let v = term(code, end - node::SIZE, bounds);
     let t = pair(code, v.start, bounds);
     let f = lesser_of(t.fault, v.fault);
     Sized {
@@ -422,7 +426,7 @@ fn quantified(code: &[u16], end: usize, bounds: &mut [u16]) -> Sized
 {
     let n = node_at(code, end);
     let x = index(n.a);
-    let d = domain(code, end - 4);
+    let d = domain(code, end - node::SIZE);
     let old = look(bounds, x);
     put(bounds, x, d.bound as u16);
     let p = pred(code, d.start, bounds);

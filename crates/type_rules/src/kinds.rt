@@ -1,9 +1,14 @@
 // What names and terms are, by numbers (specs/TypesByNumber.antt).
 ghost use mathlib.Core.Path.{_≡_};
 ghost use mathlib.Core.Bool.{_&&_};
-ghost use Prim.Native.Nat.{_+_, _<_};
-ghost use lib.ListN.{set};
-ghost use Rattle.type_rules.specs.TypesByNumber.{entry, isGiven, isElement, inReach, elementOf, setOf, pairOf, domOf, ranOf, memberFits, relatedFits, shared, keyRoom, key, unlessKey, lesser, judgedKey, insideKey, isFree, rangeFits, sizeIn, productFits, overKey, braceKey};
+ghost use Prim.Native.Nat.{_+_, _≤_, _<_};
+ghost use lib.ListN.{length, set};
+ghost use Rattle.type_rules.specs.TypesByNumber.{entry, isGiven, isElement, inReach, elementOf, setOf, pairOf, domOf, ranOf, memberFits, relatedFits, shared, keyRoom, key, unlessKey, lesser, judgedKey, insideKey, isFree, rangeFits, sizeIn, productFits, overKey, braceKey, NodeAt};
+use crate::Node;
+use crate::entries;
+use crate::faults;
+use form::node;
+use lexical::bounds;
 
 pub fn wide(x: u16) -> u32
     ensures { λ r. ⌜ (r ≡ x) × (r < 65536) ⌝ }
@@ -38,37 +43,44 @@ pub fn put(names: &mut [u16], x: usize, k: u16)
 pub fn is_given(k: u16) -> bool
     ensures { λ r. ⌜ r ≡ isGiven k ⌝ }
 {
-    8 <= k && k < 16
+    entries::GIVEN <= k && k < entries::ELEMENT
 }
 
 pub fn is_element(k: u16) -> bool
     ensures { λ r. ⌜ r ≡ isElement k ⌝ }
 {
-    16 <= k && k < 32
+    entries::ELEMENT <= k && k < entries::SET
 }
 
 pub fn in_reach(k: u16) -> bool
     ensures { λ r. ⌜ r ≡ inReach k ⌝ }
 {
-    k == 1 || 16 <= k
+    k == entries::NUMBER || entries::ELEMENT <= k
 }
+
+// From a given set to its elements, and from an element to the sets over its given set.
+const TO_ELEMENT: u16 = entries::ELEMENT - entries::GIVEN;
+
+const TO_SET: u16 = entries::SET - entries::ELEMENT;
+
+const TO_SET_WIDE: u32 = TO_SET as u32;
 
 pub fn element_of(k: u16) -> u16
     ensures { λ r. ⌜ r ≡ elementOf k ⌝ }
 {
     if is_given(k) {
-        return k + 8;
+        return k + TO_ELEMENT;
     }
-    0
+    entries::NONE
 }
 
 pub fn set_of(k: u16) -> u16
     ensures { λ r. ⌜ r ≡ setOf k ⌝ }
 {
     if is_element(k) {
-        return k + 16;
+        return k + TO_SET;
     }
-    0
+    entries::NONE
 }
 
 // Two elements; two given sets.
@@ -88,33 +100,33 @@ pub fn pair_of(k: u16, l: u16) -> u16
     ensures { λ r. ⌜ r ≡ pairOf k l ⌝ }
 {
     if both_elements(k, l) {
-        return 64 + 8 * (k - 16) + (l - 16);
+        return entries::PAIRS + entries::ROW * (k - entries::ELEMENT) + (l - entries::ELEMENT);
     }
-    0
+    entries::NONE
 }
 
 pub fn dom_of(k: u16) -> u16
     ensures { λ r. ⌜ r ≡ domOf k ⌝ }
 {
-    if 64 <= k {
-        return 32 + (k - 64) / 8;
+    if entries::PAIRS <= k {
+        return entries::SET + (k - entries::PAIRS) / entries::ROW;
     }
-    0
+    entries::NONE
 }
 
 pub fn ran_of(k: u16) -> u16
     ensures { λ r. ⌜ r ≡ ranOf k ⌝ }
 {
-    if 64 <= k {
-        return 32 + (k - 64) % 8;
+    if entries::PAIRS <= k {
+        return entries::SET + (k - entries::PAIRS) % entries::ROW;
     }
-    0
+    entries::NONE
 }
 
 pub fn member_fits(k: u16, l: u16) -> bool
     ensures { λ r. ⌜ r ≡ memberFits k l ⌝ }
 {
-    is_element(k) && wide(k) + 16 == wide(l)
+    is_element(k) && wide(k) + TO_SET_WIDE == wide(l)
 }
 
 pub fn related_fits(k: u16, l: u16, m: u16) -> bool
@@ -130,7 +142,7 @@ pub fn shared_kind(k: u16, l: u16) -> u16
     if k == l {
         return k;
     }
-    0
+    entries::NONE
 }
 
 // How many numbers of refusals a key has room for at one place.
@@ -168,7 +180,7 @@ pub fn judge(fits: bool, i: u16, parts: u32) -> u32
     ensures { λ r. ⌜ r ≡ judgedKey fits (key i 10) parts ⌝ }
 {
     if parts == 0 {
-        return unless(fits, wide(i), 10);
+        return unless(fits, wide(i), faults::TYPES_MISFIT);
     }
     parts
 }
@@ -177,7 +189,7 @@ pub fn judge(fits: bool, i: u16, parts: u32) -> u32
 pub fn bound_fault(i: u16, old: u16, over: u32, body: u32) -> u32
     ensures { λ r. ⌜ r ≡ insideKey (lesser (unlessKey (isFree old) (key (i + 1) 8)) over) body ⌝ }
 {
-    let here = unless(old == 0, wide(i) + 1, 8);
+    let here = unless(old == entries::FREE, wide(i) + 1, faults::NAME_IN_USE);
     let binder = lesser_of(here, over);
     if binder == 0 {
         return body;
@@ -188,7 +200,7 @@ pub fn bound_fault(i: u16, old: u16, over: u32, body: u32) -> u32
 pub fn range_fits(a: u16, b: u16) -> bool
     ensures { λ r. ⌜ r ≡ rangeFits a b ⌝ }
 {
-    a <= b && wide(b) < wide(a) + 64
+    a <= b && wide(b) < wide(a) + bounds::RANGE_NUMBERS
 }
 
 // How many elements the given set g has.
@@ -206,7 +218,7 @@ pub fn product_fits(sizes: &[u16], g: usize, h: usize) -> bool
 {
     let a = size_in(sizes, g);
     let b = size_in(sizes, h);
-    a * b <= 16
+    a * b <= bounds::PAIRS
 }
 
 // The fault of pairs over two names, by what these are.
@@ -214,8 +226,12 @@ pub fn over_fault(sizes: &[u16], k: u16, l: u16, i: u16) -> u32
     ensures { λ r. ⌜ r ≡ overKey (now (sizes .entry)) k l i ⌝ }
 {
     if both_given(k, l) {
-        let fits = product_fits(sizes, index(k) - 8, index(l) - 8);
-        return unless(fits, wide(i), 11);
+        let fits = product_fits(
+            sizes,
+            index(k) - entries::FIRST_GIVEN,
+            index(l) - entries::FIRST_GIVEN,
+        );
+        return unless(fits, wide(i), faults::WIDE_TYPE);
     }
     0
 }
@@ -224,12 +240,12 @@ pub fn over_fault(sizes: &[u16], k: u16, l: u16, i: u16) -> u32
 pub fn brace_fault(sizes: &[u16], k: u16, i: u16) -> u32
     ensures { λ r. ⌜ r ≡ braceKey (now (sizes .entry)) k i ⌝ }
 {
-    if 64 <= k {
-        let x = index(k) - 64;
-        let fits = product_fits(sizes, x / 8, x % 8);
-        return unless(fits, wide(i), 11);
+    if entries::PAIRS <= k {
+        let x = index(k) - entries::FIRST_PAIRS;
+        let fits = product_fits(sizes, x / entries::ROW_SETS, x % entries::ROW_SETS);
+        return unless(fits, wide(i), faults::WIDE_TYPE);
     }
-    unless(false, wide(i), 10)
+    unless(false, wide(i), faults::TYPES_MISFIT)
 }
 
 // One of two faults, the first where there is one.
@@ -240,4 +256,17 @@ pub fn inside_of(a: u32, b: u32) -> u32
         return b;
     }
     a
+}
+
+// The place of the node that ends at `end`, and its two numbers.
+pub fn node_at(code: &[u16], end: usize) -> Node
+    requires { ⌜ (end ≤ length (now code)) × (4 ≤ end) ⌝ }
+    ensures { λ r. ⌜ NodeAt (now (code .entry)) end r ⌝ }
+{
+    let at = end - node::SIZE;
+    Node {
+        place: code[at + node::PLACE],
+        a: code[at + node::A],
+        b: code[at],
+    }
 }

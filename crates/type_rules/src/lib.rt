@@ -1,4 +1,6 @@
 // Types and faults by numbers: which types fit, and which fault stands where they do not.
+pub mod entries;
+pub mod faults;
 pub mod kinds;
 
 // The type of a tree, its least fault (place * KEY_ROOM + number + 1) or 0, and where its nodes begin.

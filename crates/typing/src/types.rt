@@ -2,9 +2,13 @@
 ghost use mathlib.Core.Path.{_≡_};
 ghost use Prim.Native.Nat.{_+_, _-_, _≤_};
 ghost use lib.ListN.{length, getD};
-ghost use Rattle.type_rules.specs.TypesByNumber.{NodeAt, DomainSeen, TermSeen, ItemsSeen, PairSeen, PairsSeen, PredSeen, PrefixFits, PrefixType, OperatorFits, ComparisonFits};
-use type_rules::Node;
+ghost use Rattle.type_rules.specs.TypesByNumber.{DomainSeen, TermSeen, ItemsSeen, PairSeen, PairsSeen, PredSeen, PrefixFits, PrefixType, OperatorFits, ComparisonFits};
+use form::node;
+use form::shapes;
+use lexical::codes;
 use type_rules::Seen;
+use type_rules::entries;
+use type_rules::faults;
 use type_rules::kinds::bound_fault;
 use type_rules::kinds::brace_fault;
 use type_rules::kinds::dom_of;
@@ -18,6 +22,7 @@ use type_rules::kinds::judge;
 use type_rules::kinds::lesser_of;
 use type_rules::kinds::look;
 use type_rules::kinds::member_fits;
+use type_rules::kinds::node_at;
 use type_rules::kinds::over_fault;
 use type_rules::kinds::pair_of;
 use type_rules::kinds::put;
@@ -29,14 +34,22 @@ use type_rules::kinds::shared_kind;
 use type_rules::kinds::unless;
 use type_rules::kinds::wide;
 
-// Prefixes by the code of their symbol: 29 -, 31 #, 63 dom, 64 ran.
+// Prefixes by the code of their symbol.
+const MINUS: u16 = codes::DASH as u16;
+
+const COUNT: u16 = codes::SIZE as u16;
+
+const DOM: u16 = codes::DOM as u16;
+
+const RAN: u16 = codes::RAN as u16;
+
 fn prefix_fits(o: u16, k: u16) -> bool
     ensures { λ r. ⌜ PrefixFits o k r ⌝ }
 {
     match o {
-        29 => k == 1,
-        31 => 32 <= k,
-        _ => 64 <= k,
+        MINUS => k == entries::NUMBER,
+        COUNT => entries::SET <= k,
+        _ => entries::PAIRS <= k,
     }
 }
 
@@ -44,43 +57,32 @@ pub fn prefix_type(o: u16, k: u16) -> u16
     ensures { λ r. ⌜ PrefixType o k r ⌝ }
 {
     match o {
-        63 => dom_of(k),
-        64 => ran_of(k),
-        _ => 1,
+        DOM => dom_of(k),
+        RAN => ran_of(k),
+        _ => entries::NUMBER,
     }
 }
 
-// Operators by the code of their symbol: 28 +, 29 -, 30 *, 58 union, 59 minus, 60 inter.
+// Operators by the code of their symbol: those of numbers, + - *, have codes below that of #, and those of sets, union minus inter, codes above it.
 fn operator_fits(o: u16, k: u16, l: u16) -> bool
     ensures { λ r. ⌜ OperatorFits o k l r ⌝ }
 {
-    if o < 31 {
-        return k == 1 && l == 1;
+    if o < COUNT {
+        return k == entries::NUMBER && l == entries::NUMBER;
     }
-    32 <= k && k == l
+    entries::SET <= k && k == l
 }
 
-// Comparisons by the code of their symbol: 22 =, 23 /=, 24 <, 25 <=.
+// Comparisons by the code of their symbol: = and /= have codes below that of <, and <= the one above it.
+const LESS: u16 = codes::LESS as u16;
+
 fn comparison_fits(o: u16, k: u16, l: u16) -> bool
     ensures { λ r. ⌜ ComparisonFits o k l r ⌝ }
 {
-    if o < 24 {
+    if o < LESS {
         return k == l;
     }
-    k == 1 && l == 1
-}
-
-// The place of the node that ends at `end`, and its two numbers.
-fn node_at(code: &[u16], end: usize) -> Node
-    requires { ⌜ (end ≤ length (now code)) × (4 ≤ end) ⌝ }
-    ensures { λ r. ⌜ NodeAt (now (code .entry)) end r ⌝ }
-{
-    let at = end - 4;
-    Node {
-        place: code[at + 2],
-        a: code[at + 1],
-        b: code[at],
-    }
+    k == entries::NUMBER && l == entries::NUMBER
 }
 
 // No nodes of a tree end here.
@@ -88,7 +90,7 @@ fn nothing() -> Seen
     ensures { λ r. ⌜ r .start ≡ 0 ⌝ }
 {
     Seen {
-        kind: 0,
+        kind: entries::NONE,
         fault: 0,
         start: 0,
     }
@@ -99,23 +101,23 @@ fn domain(code: &[u16], end: usize, names: &[u16]) -> Seen
     requires { ⌜ end ≤ length (now code) ⌝ }
     ensures { λ r. ⌜ DomainSeen (now (code .entry)) end (now (names .entry)) r ⌝ }
 {
-    if end < 4 {
+    if end < node::SIZE {
         return nothing();
     }
-    let at = end - 4;
+    let at = end - node::SIZE;
     let n = node_at(code, end);
-    if code[at + 3] == 1 {
+    if code[at + node::SHAPE] == shapes::SET {
         let e = look(names, index(n.a));
-        let f = unless(is_given(e), wide(n.place), 9);
+        let f = unless(is_given(e), wide(n.place), faults::NAME_UNKNOWN);
         return Seen {
             kind: element_of(e),
             fault: f,
             start: at,
         };
     }
-    let f = unless(range_fits(n.a, n.b), wide(n.place), 11);
+    let f = unless(range_fits(n.a, n.b), wide(n.place), faults::WIDE_TYPE);
     Seen {
-        kind: 1,
+        kind: entries::NUMBER,
         fault: f,
         start: at,
     }
@@ -126,25 +128,25 @@ fn term(code: &[u16], end: usize, names: &mut [u16], sizes: &[u16]) -> Seen
     requires { ⌜ end ≤ length (now code) ⌝ }
     ensures { λ r. ⌜ TermSeen (now (code .entry)) end (now (names .entry)) (now (names .exit)) (now (sizes .entry)) r ⌝ }
 {
-    if end < 4 {
+    if end < node::SIZE {
         return nothing();
     }
-    let at = end - 4;
-    match code[at + 3] {
-        1 => Seen {
-            kind: 1,
+    let at = end - node::SIZE;
+    match code[at + node::SHAPE] {
+        shapes::NUMBER => Seen {
+            kind: entries::NUMBER,
             fault: 0,
             start: at,
         },
-        2 => named(code, end, names, sizes),
-        3 => prefixed(code, end, names, sizes),
-        4 => divided(code, end, names, sizes),
-        5 => joined(code, end, names, sizes),
-        6 => such(code, end, names, sizes),
-        7 => listed(code, end, names, sizes),
-        8 => paired(code, end, names, sizes),
-        9 => empty_set(code, end, names, sizes),
-        10 => empty_pairs(code, end, names, sizes),
+        shapes::NAME => named(code, end, names, sizes),
+        shapes::PREFIX => prefixed(code, end, names, sizes),
+        shapes::DIVIDED => divided(code, end, names, sizes),
+        shapes::BINARY => joined(code, end, names, sizes),
+        shapes::SUCH => such(code, end, names, sizes),
+        shapes::LISTED => listed(code, end, names, sizes),
+        shapes::PAIRS => paired(code, end, names, sizes),
+        shapes::EMPTY_SET => empty_set(code, end, names, sizes),
+        shapes::EMPTY_PAIRS => empty_pairs(code, end, names, sizes),
         _ => nothing(),
     }
 }
@@ -156,11 +158,11 @@ fn named(code: &[u16], end: usize, names: &[u16], sizes: &[u16]) -> Seen
 {
     let n = node_at(code, end);
     let e = look(names, index(n.a));
-    let f = unless(in_reach(e), wide(n.place), 9);
+    let f = unless(in_reach(e), wide(n.place), faults::NAME_UNKNOWN);
     Seen {
         kind: e,
         fault: f,
-        start: end - 4,
+        start: end - node::SIZE,
     }
 }
 
@@ -171,11 +173,11 @@ fn empty_set(code: &[u16], end: usize, names: &[u16], sizes: &[u16]) -> Seen
 {
     let n = node_at(code, end);
     let e = look(names, index(n.a));
-    let f = unless(is_given(e), wide(n.place) + 1, 9);
+    let f = unless(is_given(e), wide(n.place) + 1, faults::NAME_UNKNOWN);
     Seen {
         kind: set_of(element_of(e)),
         fault: f,
-        start: end - 4,
+        start: end - node::SIZE,
     }
 }
 
@@ -187,14 +189,14 @@ fn empty_pairs(code: &[u16], end: usize, names: &[u16], sizes: &[u16]) -> Seen
     let n = node_at(code, end);
     let g = look(names, index(n.a));
     let h = look(names, index(n.b));
-    let first = unless(is_given(g), wide(n.place) + 1, 9);
-    let second = unless(is_given(h), wide(n.place) + 2, 9);
+    let first = unless(is_given(g), wide(n.place) + 1, faults::NAME_UNKNOWN);
+    let second = unless(is_given(h), wide(n.place) + 2, faults::NAME_UNKNOWN);
     let over = over_fault(sizes, g, h, n.place);
     let f = lesser_of(first, lesser_of(second, over));
     Seen {
         kind: pair_of(element_of(g), element_of(h)),
         fault: f,
-        start: end - 4,
+        start: end - node::SIZE,
     }
 }
 
@@ -204,7 +206,7 @@ fn prefixed(code: &[u16], end: usize, names: &mut [u16], sizes: &[u16]) -> Seen
     ensures { λ r. ⌜ TermSeen (now (code .entry)) end (now (names .entry)) (now (names .exit)) (now (sizes .entry)) r ⌝ }
 {
     let n = node_at(code, end);
-    let t = term(code, end - 4, names, sizes);
+    let t = term(code, end - node::SIZE, names, sizes);
     let f = judge(prefix_fits(n.a, t.kind), n.place, t.fault);
     Seen {
         kind: prefix_type(n.a, t.kind),
@@ -213,17 +215,24 @@ fn prefixed(code: &[u16], end: usize, names: &mut [u16], sizes: &[u16]) -> Seen
     }
 }
 
+// A division's second number, less this for a remainder, is 1 where a - stands in front of the divisor.
+const REMAINDER: u32 = shapes::REMAINDER as u32;
+
 // t div n, t mod n.
 fn divided(code: &[u16], end: usize, names: &mut [u16], sizes: &[u16]) -> Seen
     requires { ⌜ (end ≤ length (now code)) × (4 ≤ end) × (getD (now code) (end - 4 + 3) 0 ≡ 4) ⌝ }
     ensures { λ r. ⌜ TermSeen (now (code .entry)) end (now (names .entry)) (now (names .exit)) (now (sizes .entry)) r ⌝ }
 {
     let n = node_at(code, end);
-    let t = term(code, end - 4, names, sizes);
-    let zero = unless(0 < n.a, wide(n.place) + 1 + wide(n.b) % 2, 14);
-    let f = judge(t.kind == 1, n.place, lesser_of(t.fault, zero));
+    let t = term(code, end - node::SIZE, names, sizes);
+    let zero = unless(
+        0 < n.a,
+        wide(n.place) + 1 + wide(n.b) % REMAINDER,
+        faults::ZERO_DIVISOR,
+    );
+    let f = judge(t.kind == entries::NUMBER, n.place, lesser_of(t.fault, zero));
     Seen {
-        kind: 1,
+        kind: entries::NUMBER,
         fault: f,
         start: t.start,
     }
@@ -235,7 +244,7 @@ fn joined(code: &[u16], end: usize, names: &mut [u16], sizes: &[u16]) -> Seen
     ensures { λ r. ⌜ TermSeen (now (code .entry)) end (now (names .entry)) (now (names .exit)) (now (sizes .entry)) r ⌝ }
 {
     let n = node_at(code, end);
-    let u = term(code, end - 4, names, sizes);
+    let u = term(code, end - node::SIZE, names, sizes);
     let t = term(code, u.start, names, sizes);
     let parts = lesser_of(t.fault, u.fault);
     let f = judge(operator_fits(n.a, t.kind, u.kind), n.place, parts);
@@ -253,7 +262,7 @@ fn such(code: &[u16], end: usize, names: &mut [u16], sizes: &[u16]) -> Seen
 {
     let n = node_at(code, end);
     let x = index(n.a);
-    let d = domain(code, end - 4, names);
+    let d = domain(code, end - node::SIZE, names);
     let was = look(names, x);
     put(names, x, d.kind);
     let p = pred(code, d.start, names, sizes);
@@ -272,7 +281,7 @@ fn listed(code: &[u16], end: usize, names: &mut [u16], sizes: &[u16]) -> Seen
     ensures { λ r. ⌜ TermSeen (now (code .entry)) end (now (names .entry)) (now (names .exit)) (now (sizes .entry)) r ⌝ }
 {
     let n = node_at(code, end);
-    let t = items(code, end - 4, names, sizes);
+    let t = items(code, end - node::SIZE, names, sizes);
     let f = judge(is_element(t.kind), n.place, t.fault);
     Seen {
         kind: set_of(t.kind),
@@ -287,7 +296,7 @@ fn paired(code: &[u16], end: usize, names: &mut [u16], sizes: &[u16]) -> Seen
     ensures { λ r. ⌜ TermSeen (now (code .entry)) end (now (names .entry)) (now (names .exit)) (now (sizes .entry)) r ⌝ }
 {
     let n = node_at(code, end);
-    let t = pairs(code, end - 4, names, sizes);
+    let t = pairs(code, end - node::SIZE, names, sizes);
     let f = inside_of(t.fault, brace_fault(sizes, t.kind, n.place));
     Seen {
         kind: t.kind,
@@ -301,11 +310,11 @@ fn items(code: &[u16], end: usize, names: &mut [u16], sizes: &[u16]) -> Seen
     requires { ⌜ end ≤ length (now code) ⌝ }
     ensures { λ r. ⌜ ItemsSeen (now (code .entry)) end (now (names .entry)) (now (names .exit)) (now (sizes .entry)) r ⌝ }
 {
-    if end < 4 {
+    if end < node::SIZE {
         return nothing();
     }
-    let at = end - 4;
-    if code[at + 3] == 1 {
+    let at = end - node::SIZE;
+    if code[at + node::SHAPE] == shapes::LAST {
         return term(code, at, names, sizes);
     }
     let l = items(code, at, names, sizes);
@@ -318,16 +327,16 @@ fn items(code: &[u16], end: usize, names: &mut [u16], sizes: &[u16]) -> Seen
     }
 }
 
-// The pairs of a brace; the last two terms before a node of the shape 1.
+// The pairs of a brace; the last two terms before the node of the last pair.
 fn pairs(code: &[u16], end: usize, names: &mut [u16], sizes: &[u16]) -> Seen
     requires { ⌜ end ≤ length (now code) ⌝ }
     ensures { λ r. ⌜ PairsSeen (now (code .entry)) end (now (names .entry)) (now (names .exit)) (now (sizes .entry)) r ⌝ }
 {
-    if end < 4 {
+    if end < node::SIZE {
         return nothing();
     }
-    let at = end - 4;
-    if code[at + 3] == 1 {
+    let at = end - node::SIZE;
+    if code[at + node::SHAPE] == shapes::LAST {
         return pair(code, at, names, sizes);
     }
     let l = pairs(code, at, names, sizes);
@@ -360,23 +369,23 @@ pub fn pred(code: &[u16], end: usize, names: &mut [u16], sizes: &[u16]) -> Seen
     requires { ⌜ end ≤ length (now code) ⌝ }
     ensures { λ r. ⌜ PredSeen (now (code .entry)) end (now (names .entry)) (now (names .exit)) (now (sizes .entry)) r ⌝ }
 {
-    if end < 4 {
+    if end < node::SIZE {
         return nothing();
     }
-    let at = end - 4;
-    match code[at + 3] {
-        1 => Seen {
-            kind: 0,
+    let at = end - node::SIZE;
+    match code[at + node::SHAPE] {
+        shapes::TRUTH => Seen {
+            kind: entries::NONE,
             fault: 0,
             start: at,
         },
-        2 => pred(code, at, names, sizes),
-        3 => connected(code, end, names, sizes),
-        4 => compared(code, end, names, sizes),
-        5 => member(code, end, names, sizes),
-        6 => within(code, end, names, sizes),
-        7 => related(code, end, names, sizes),
-        8 => quantified(code, end, names, sizes),
+        shapes::NEGATION => pred(code, at, names, sizes),
+        shapes::CONNECTED => connected(code, end, names, sizes),
+        shapes::COMPARED => compared(code, end, names, sizes),
+        shapes::MEMBER => member(code, end, names, sizes),
+        shapes::WITHIN => within(code, end, names, sizes),
+        shapes::RELATED => related(code, end, names, sizes),
+        shapes::QUANTIFIED => quantified(code, end, names, sizes),
         _ => nothing(),
     }
 }
@@ -386,11 +395,11 @@ fn connected(code: &[u16], end: usize, names: &mut [u16], sizes: &[u16]) -> Seen
     requires { ⌜ (end ≤ length (now code)) × (4 ≤ end) × (getD (now code) (end - 4 + 3) 0 ≡ 3) ⌝ }
     ensures { λ r. ⌜ PredSeen (now (code .entry)) end (now (names .entry)) (now (names .exit)) (now (sizes .entry)) r ⌝ }
 {
-    let q = pred(code, end - 4, names, sizes);
+    let q = pred(code, end - node::SIZE, names, sizes);
     let p = pred(code, q.start, names, sizes);
     let f = lesser_of(p.fault, q.fault);
     Seen {
-        kind: 0,
+        kind: entries::NONE,
         fault: f,
         start: p.start,
     }
@@ -402,12 +411,12 @@ fn compared(code: &[u16], end: usize, names: &mut [u16], sizes: &[u16]) -> Seen
     ensures { λ r. ⌜ PredSeen (now (code .entry)) end (now (names .entry)) (now (names .exit)) (now (sizes .entry)) r ⌝ }
 {
     let n = node_at(code, end);
-    let u = term(code, end - 4, names, sizes);
+    let u = term(code, end - node::SIZE, names, sizes);
     let t = term(code, u.start, names, sizes);
     let parts = lesser_of(t.fault, u.fault);
     let f = judge(comparison_fits(n.a, t.kind, u.kind), n.place, parts);
     Seen {
-        kind: 0,
+        kind: entries::NONE,
         fault: f,
         start: t.start,
     }
@@ -419,12 +428,12 @@ fn member(code: &[u16], end: usize, names: &mut [u16], sizes: &[u16]) -> Seen
     ensures { λ r. ⌜ PredSeen (now (code .entry)) end (now (names .entry)) (now (names .exit)) (now (sizes .entry)) r ⌝ }
 {
     let n = node_at(code, end);
-    let u = term(code, end - 4, names, sizes);
+    let u = term(code, end - node::SIZE, names, sizes);
     let t = term(code, u.start, names, sizes);
     let parts = lesser_of(t.fault, u.fault);
     let f = judge(member_fits(t.kind, u.kind), n.place, parts);
     Seen {
-        kind: 0,
+        kind: entries::NONE,
         fault: f,
         start: t.start,
     }
@@ -436,12 +445,12 @@ fn within(code: &[u16], end: usize, names: &mut [u16], sizes: &[u16]) -> Seen
     ensures { λ r. ⌜ PredSeen (now (code .entry)) end (now (names .entry)) (now (names .exit)) (now (sizes .entry)) r ⌝ }
 {
     let n = node_at(code, end);
-    let d = domain(code, end - 4, names);
+    let d = domain(code, end - node::SIZE, names);
     let t = term(code, d.start, names, sizes);
     let parts = lesser_of(t.fault, d.fault);
-    let f = judge(t.kind == 1, n.place, parts);
+    let f = judge(t.kind == entries::NUMBER, n.place, parts);
     Seen {
-        kind: 0,
+        kind: entries::NONE,
         fault: f,
         start: t.start,
     }
@@ -453,13 +462,13 @@ fn related(code: &[u16], end: usize, names: &mut [u16], sizes: &[u16]) -> Seen
     ensures { λ r. ⌜ PredSeen (now (code .entry)) end (now (names .entry)) (now (names .exit)) (now (sizes .entry)) r ⌝ }
 {
     let n = node_at(code, end);
-    let v = term(code, end - 4, names, sizes);
+    let v = term(code, end - node::SIZE, names, sizes);
     let u = term(code, v.start, names, sizes);
     let t = term(code, u.start, names, sizes);
     let parts = lesser_of(lesser_of(t.fault, u.fault), v.fault);
     let f = judge(related_fits(t.kind, u.kind, v.kind), n.place, parts);
     Seen {
-        kind: 0,
+        kind: entries::NONE,
         fault: f,
         start: t.start,
     }
@@ -472,14 +481,14 @@ fn quantified(code: &[u16], end: usize, names: &mut [u16], sizes: &[u16]) -> See
 {
     let n = node_at(code, end);
     let x = index(n.a);
-    let d = domain(code, end - 4, names);
+    let d = domain(code, end - node::SIZE, names);
     let old = look(names, x);
     put(names, x, d.kind);
     let p = pred(code, d.start, names, sizes);
     put(names, x, old);
     let f = bound_fault(n.place, old, d.fault, p.fault);
     Seen {
-        kind: 0,
+        kind: entries::NONE,
         fault: f,
         start: p.start,
     }

@@ -28,7 +28,7 @@ same-length : tie.Need-same-length
 same-length c = c .before .before .before .context2 .kept .1 .1 .1 .1 .1 .1 .0 ∙ c .before .before .before .before .before .before .before .before .context .kept .1 .1 .1 .1 .1 .1 .0
 
 returns : tie.Need-returns
-returns c = states-seen (c .before .before .before .before .before .before .before .before .before .before .before .before .before .before .before .before .before .args .nodes .now) (c .before .before .before .before .before .before .before .before .before .before .before .before .before .before .before .before .before .args .spans .now) (c .before .before .before .before .before .before .before .before .before .before .before .before .before .before .before .before .before .args .a .now) (c .before .before .before .before .before .before .before .before .before .before .before .before .before .before .before .before .before .args .c .now) _ _ _ (c .before .before .before .before .before .before .before .before .before .before .before .before .before .before .before .before .before .args .bounds .now) _ _ (c .before .before .before .before .before .before .before .before .context .result) (c .before .before .before .context2 .result) _ (c .before .before .before .before .before .before .before .before .before .before .before .part .ensures (omega arith) (omega arith)) (c .before .before .before .before .before .before .before .before .before .before .place .ensures) (c .before .before .before .before .before .place2 .ensures) (c .before .before .before .before .before .before .before .before .context .ensures) (c .before .before .before .context2 .ensures) (c .lesser-of .ensures)
+returns c = states-seen (c .before .before .before .before .before .before .before .before .before .before .before .before .before .before .before .before .before .args .nodes .now) (c .before .before .before .before .before .before .before .before .before .before .before .before .before .before .before .before .before .args .spans .now) (c .before .before .before .before .before .before .before .before .before .before .before .before .before .before .before .before .before .args .a .now) (c .before .before .before .before .before .before .before .before .before .before .before .before .before .before .before .before .before .args .c .now) _ _ _ (c .before .before .before .before .before .before .before .before .before .before .before .before .before .before .before .before .before .args .bounds .now) _ _ (c .before .before .before .before .before .before .before .before .context .result) (c .before .before .before .context2 .result) _ (c .before .before .before .before .before .before .before .before .before .before .before .part .ensures .part (omega arith) (omega arith)) (c .before .before .before .before .before .before .before .before .before .before .place .ensures) (c .before .before .before .before .before .place2 .ensures) (c .before .before .before .before .before .before .before .before .context .ensures) (c .before .before .before .context2 .ensures) (c .lesser-of .ensures)
 
 pub states-spec : {M : Type 1} → statement M
 states-spec =

@@ -1,7 +1,8 @@
 -- `passes::part` meets its contract. Assumes nothing.
 use borrow.Author.Needs.{needs}
 use mathlib.Core.Logic.{⊎-elim}
-use Rattle.declared_names.proofs.GivenSetNodes.{not-both}
+use native.Mathlib.Omega.{arith}
+use Rattle.names.proofs.WholePass.{part-some, part-none}
 use Rattle.names.proofs.passes.part.Statement.{statement}
 use Rattle.names.proofs.passes.part.Tie as tie
 
@@ -15,13 +16,13 @@ part-result-end : tie.Need-part-result-end
 part-result-end c = search needs
 
 returns : tie.Need-returns
-returns c = search needs
+returns c = part-some (c .before .before .before .args .nodes .now) (c .before .before .before .args .from) (c .before .before .before .args .to) (c .before .before .if1 .taken) (c .before .if2 .taken)
 
 slice-aggregate-result : tie.Need-slice-aggregate-result
 slice-aggregate-result c = search needs
 
 returns-2 : tie.Need-returns-2
-returns-2 c = λ p q. elim (⊎-elim (λ w. not-both _ _ q (w .1 .left)) (λ w. not-both _ _ p (w .left)) (c .before .if1 .came)) [ ]
+returns-2 c = part-none (c .before .before .args .nodes .now) (c .before .before .args .from) (c .before .before .args .to) (λ p q. ⊎-elim (λ w. omega (arith, q, w .1 .left)) (λ w. omega (arith, p, w .left)) (c .before .if1 .came))
 
 pub part-spec : {M : Type 1} → statement M
 part-spec =

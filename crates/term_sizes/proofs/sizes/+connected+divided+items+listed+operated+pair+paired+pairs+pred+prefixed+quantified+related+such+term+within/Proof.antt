@@ -60,7 +60,6 @@ use Rattle.term_sizes.proofs.sizes.bare.Reads as bare-reads
 use Rattle.term_sizes.proofs.sizes.division_bound.Reads as division-bound-reads
 use Rattle.term_sizes.proofs.sizes.domain.Reads as domain-reads
 use Rattle.term_sizes.proofs.sizes.named.Reads as named-reads
-use Rattle.term_sizes.proofs.sizes.node_at.Reads as node-at-reads
 use Rattle.term_sizes.proofs.sizes.number.Reads as number-reads
 use Rattle.term_sizes.proofs.sizes.operator_bound.Reads as operator-bound-reads
 use Rattle.term_sizes.proofs.sizes.over.Reads as over-reads
@@ -69,6 +68,7 @@ use Rattle.term_sizes.proofs.sizes.unless_over.Reads as unless-over-rea
 use Rattle.type_rules.proofs.kinds.index.Reads as index-reads
 use Rattle.type_rules.proofs.kinds.lesser_of.Reads as lesser-of-reads
 use Rattle.type_rules.proofs.kinds.look.Reads as look-reads
+use Rattle.type_rules.proofs.kinds.node_at.Reads as node-at-reads
 use Rattle.type_rules.proofs.kinds.put.Reads as put-reads
 
 abbrev μ-connected : Measures 2 connected-kinds.ps ℕ

@@ -70,6 +70,7 @@ use Rattle.type_rules.proofs.kinds.judge.Reads as judge-reads
 use Rattle.type_rules.proofs.kinds.lesser_of.Reads as lesser-of-reads
 use Rattle.type_rules.proofs.kinds.look.Reads as look-reads
 use Rattle.type_rules.proofs.kinds.member_fits.Reads as member-fits-reads
+use Rattle.type_rules.proofs.kinds.node_at.Reads as node-at-reads
 use Rattle.type_rules.proofs.kinds.pair_of.Reads as pair-of-reads
 use Rattle.type_rules.proofs.kinds.put.Reads as put-reads
 use Rattle.type_rules.proofs.kinds.related_fits.Reads as related-fits-reads
@@ -82,7 +83,6 @@ use Rattle.typing.proofs.types.domain.Reads as domain-reads
 use Rattle.typing.proofs.types.empty_pairs.Reads as empty-pairs-reads
 use Rattle.typing.proofs.types.empty_set.Reads as empty-set-reads
 use Rattle.typing.proofs.types.named.Reads as named-reads
-use Rattle.typing.proofs.types.node_at.Reads as node-at-reads
 use Rattle.typing.proofs.types.nothing.Reads as nothing-reads
 use Rattle.typing.proofs.types.operator_fits.Reads as operator-fits-reads
 use Rattle.typing.proofs.types.prefix_fits.Reads as prefix-fits-reads

@@ -876,7 +876,7 @@ such-sub-holds : (t : ℕ) → such-lts.Need-sub-holds (such-claims t) (such-at 
 such-sub-holds t c = search needs
 
 such-holds-requires : (t : ℕ) → such-lts.Need-holds-requires (such-claims t) (such-at t) such.Post such-Inv-loop such-μ-loop
-such-holds-requires t c κs = (let room : 8 ≤ c .before .before .before .before .before .before .before .args .end = (c .before .before .before .before .before .before .before .pre .1 .1) .is .room in omega arith, loops.such-part (c .before .before .before .before .before .before .before .pre .1 .1) (c .before .before .loop-test .taken) (c .before .before .before .loop .inv .0) (c .before .before .before .loop .inv .1 _ ∙ ap (set (c .before .before .before .before .before .before .before .args .slots .now) (getD (c .before .before .before .before .before .before .before .args .t .now) (c .before .before .before .before .before .before .before .args .end - 3) 0)) (nodes.read (c .before .whole .ok) ∙ c .before .whole .ensures)))
+such-holds-requires t c κs = (let room : 8 ≤ c .before .before .before .before .before .before .before .args .end = (c .before .before .before .before .before .before .before .pre .1 .1) .is .room in omega arith, loops.such-part {k = c .before .before .before .loop .k} (c .before .before .before .before .before .before .before .pre .1 .1) (omega arith) (c .before .before .before .loop .inv .0) (c .before .before .before .loop .inv .1 _ ∙ ap (set (c .before .before .before .before .before .before .before .args .slots .now) (getD (c .before .before .before .before .before .before .before .args .t .now) (c .before .before .before .before .before .before .before .args .end - 3) 0)) (nodes.read (c .before .whole .ok) ∙ c .before .whole .ensures)))
 
 such-cast-s : (t : ℕ) → such-lts.Need-cast-s (such-claims t) (such-at t) such.Post such-Inv-loop such-μ-loop
 such-cast-s t c = search needs
@@ -888,7 +888,7 @@ such-loop-less : (t : ℕ) → such-lts.Need-loop-less (such-claims t) (such-at 
 such-loop-less t c = search needs
 
 such-loop-again : (t : ℕ) → such-lts.Need-loop-again (such-claims t) (such-at t) such.Post such-Inv-loop such-μ-loop
-such-loop-again t c = (omega arith, loops.still (c .before .before .before .before .loop .slots) (c .before .before .before .before .before .before .before .before .args .slots .now) (getD (c .before .before .before .before .before .before .before .before .args .t .now) (c .before .before .before .before .before .before .before .before .args .end - 3) 0) _ (c .holds .ensures .1) (c .before .before .before .before .loop .inv .1), loops.such-step (c .before .before .before .before .loop .inv .2) (c .before .before .before .loop-test .taken) (c .before .before .before .before .loop .inv .0) (c .before .before .before .before .loop .inv .1 _ ∙ ap (set (c .before .before .before .before .before .before .before .before .args .slots .now) (getD (c .before .before .before .before .before .before .before .before .args .t .now) (c .before .before .before .before .before .before .before .before .args .end - 3) 0)) (nodes.read (c .before .before .whole .ok) ∙ c .before .before .whole .ensures)) (c .holds .ensures .0))
+such-loop-again t c = (omega arith, loops.still (c .before .before .before .before .loop .slots) (c .before .before .before .before .before .before .before .before .args .slots .now) (getD (c .before .before .before .before .before .before .before .before .args .t .now) (c .before .before .before .before .before .before .before .before .args .end - 3) 0) _ (c .holds .ensures .1) (c .before .before .before .before .loop .inv .1), loops.such-step {k = c .before .before .before .before .loop .k} (c .before .before .before .before .loop .inv .2) (omega arith) (c .before .before .before .before .loop .inv .0) (c .before .before .before .before .loop .inv .1 _ ∙ ap (set (c .before .before .before .before .before .before .before .before .args .slots .now) (getD (c .before .before .before .before .before .before .before .before .args .t .now) (c .before .before .before .before .before .before .before .before .args .end - 3) 0)) (nodes.read (c .before .before .whole .ok) ∙ c .before .before .whole .ensures)) (c .holds .ensures .0))
 
 such-mul-old-2 : (t : ℕ) → such-lts.Need-mul-old-2 (such-claims t) (such-at t) such.Post such-Inv-loop such-μ-loop
 such-mul-old-2 t c = search needs

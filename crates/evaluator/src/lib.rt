@@ -20,46 +20,13 @@ use operators::pair;
 use operators::prefixed;
 use operators::settles;
 use operators::single;
+use table_nodes::table_shapes;
 
 const FORALL: u16 = codes::FORALL as u16;
 
 const EXISTS: u16 = codes::EXISTS as u16;
 
 const IN: u16 = codes::IN as u16;
-
-const NUMBER: u16 = 1;
-
-const SLOT: u16 = 2;
-
-const PREFIX: u16 = 3;
-
-const DIVISION: u16 = 4;
-
-const OPERATOR: u16 = 5;
-
-const SUCH: u16 = 6;
-
-const LAST_ITEM: u16 = 9;
-
-const MORE_ITEMS: u16 = 10;
-
-const LAST_PAIR: u16 = 11;
-
-const TRUTH: u16 = 16;
-
-const NOT: u16 = 17;
-
-const CONNECTIVE: u16 = 18;
-
-const COMPARISON: u16 = 19;
-
-const MEMBER: u16 = 20;
-
-const WITHIN: u16 = 21;
-
-const RELATED: u16 = 22;
-
-const QUANTIFIER: u16 = 24;
 
 // A number of a node, and a set's bits, as a value.
 fn whole(w: u16) -> i64
@@ -104,10 +71,10 @@ fn part(t: &[u16; 16384], end: usize, slots: &mut [i64; 64]) -> i64
     ensures kept { λ r. ⌜ now (slots .exit) ≡ now (slots .entry) ⌝ }
 {
     let shape = t[end - 1];
-    if shape == SLOT {
+    if shape == table_shapes::SLOT {
         return slots[t[end - 3] as usize];
     }
-    if shape == NUMBER {
+    if shape == table_shapes::VALUE {
         return whole(t[end - 3]);
     }
     value(t, end, slots)
@@ -123,22 +90,22 @@ pub fn value(t: &[u16; 16384], end: usize, slots: &mut [i64; 64]) -> i64
     let first = t[end - 3];
     let shape = t[end - 1];
     match shape {
-        NUMBER => whole(first),
-        SLOT => slots[first as usize],
-        PREFIX => {
+        table_shapes::VALUE => whole(first),
+        table_shapes::SLOT => slots[first as usize],
+        table_shapes::PREFIX => {
             let x = part(t, end - 4, slots);
             prefixed(first, t[end - 2], t[end - 4], x)
         }
-        DIVISION => {
+        table_shapes::DIVIDED => {
             let x = part(t, end - 4, slots);
             divided(first, t[end - 4], x)
         }
-        OPERATOR => {
+        table_shapes::BINARY => {
             let x = part(t, t[end - 2] as usize, slots);
             let y = part(t, end - 4, slots);
             operated(first, x, y)
         }
-        SUCH => such(t, end, slots),
+        table_shapes::SUCH => such(t, end, slots),
         _ => items(t, end - 4, slots),
     }
 }
@@ -153,16 +120,16 @@ fn items(t: &[u16; 16384], end: usize, slots: &mut [i64; 64]) -> i64
     let first = t[end - 3];
     let shape = t[end - 1];
     match shape {
-        LAST_ITEM => {
+        table_shapes::LAST_ITEM => {
             let x = part(t, end - 4, slots);
             single(x)
         }
-        MORE_ITEMS => {
+        table_shapes::ALSO_ITEM => {
             let x = part(t, t[end - 2] as usize, slots);
             let s = items(t, end - 4, slots);
             joined(single(x), s)
         }
-        LAST_PAIR => {
+        table_shapes::LAST_PAIR => {
             let x = part(t, t[end - 2] as usize, slots);
             let y = part(t, end - 4, slots);
             single(pair(first, x, y))
@@ -206,9 +173,9 @@ pub fn holds(t: &[u16; 16384], end: usize, slots: &mut [i64; 64]) -> bool
     let first = t[end - 3];
     let shape = t[end - 1];
     match shape {
-        TRUTH => first == 1,
-        NOT => !holds(t, end - 4, slots),
-        CONNECTIVE => {
+        table_shapes::TRUTH => first == 1,
+        table_shapes::NEGATION => !holds(t, end - 4, slots),
+        table_shapes::CONNECTED => {
             let p = holds(t, t[end - 2] as usize, slots);
             if settles(first, p) {
                 return connected(first, p, false);
@@ -216,12 +183,12 @@ pub fn holds(t: &[u16; 16384], end: usize, slots: &mut [i64; 64]) -> bool
             let q = holds(t, end - 4, slots);
             connected(first, p, q)
         }
-        COMPARISON => {
+        table_shapes::COMPARED => {
             let x = part(t, t[end - 2] as usize, slots);
             let y = part(t, end - 4, slots);
             compared(first, x, y)
         }
-        QUANTIFIER => quantified(t, end, slots),
+        table_shapes::QUANTIFIED => quantified(t, end, slots),
         _ => member(t, end, slots),
     }
 }
@@ -236,12 +203,12 @@ fn member(t: &[u16; 16384], end: usize, slots: &mut [i64; 64]) -> bool
     let first = t[end - 3];
     let shape = t[end - 1];
     match shape {
-        MEMBER => {
+        table_shapes::MEMBER => {
             let x = part(t, t[end - 2] as usize, slots);
             let s = part(t, end - 4, slots);
             asked(first == IN, has(s, x))
         }
-        WITHIN => {
+        table_shapes::WITHIN => {
             let x = part(t, end - 8, slots);
             asked(
                 first == IN,
@@ -252,7 +219,7 @@ fn member(t: &[u16; 16384], end: usize, slots: &mut [i64; 64]) -> bool
             let x = part(t, t[end - 2] as usize, slots);
             let y = part(t, t[end - 4] as usize, slots);
             let s = part(t, end - 4, slots);
-            asked(shape == RELATED, has(s, pair(first, x, y)))
+            asked(shape == table_shapes::RELATED, has(s, pair(first, x, y)))
         }
     }
 }

@@ -1,3 +1,4 @@
+-- answers sha256 3a0f0a7b0a14146b
 -- `carriers::count_at` meets its contract: after i rows r is the number for those. Assumes nothing.
 use Prim.Native.Nat.{_^_, ℕ, _+_, _-_, _*_, _≤_}
 use native.Mathlib.Nat.{pow-suc, pow-zero}

@@ -1,3 +1,4 @@
+-- answers sha256 0613433baa94723a
 -- `carriers::digit` meets its contract. Assumes nothing.
 use Prim.Native.Nat.{_/_, _%_, ℕ}
 use native.Mathlib.Nat.{div-zero, mod-zero, zero-mod}

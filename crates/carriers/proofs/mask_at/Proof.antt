@@ -1,3 +1,4 @@
+-- answers sha256 2aea0bf47790e4b7
 -- `carriers::mask_at` meets its contract: after i rows the mask is what is made so far and what the rest of k gives above. Assumes nothing.
 use Prim.Native.Nat.{_/_, _%_, _^_, ℕ, _+_, _-_, _*_, _<_, _≤_}
 use mathlib.Core.Path.{_≡_, refl, sym, ap, _∙_}

@@ -1,3 +1,4 @@
+-- answers sha256 cf1e7054b734e615
 -- `carriers::number_at` meets its contract: a number of 32 bits and one more fit in 64. Assumes nothing.
 use borrow.Author.Needs.{needs}
 use Rattle.sets.proofs.Floor.{wide-fits}

@@ -1,3 +1,4 @@
+-- answers sha256 b3e6f57d698ef562
 -- `carriers::partial_count` meets its contract: rows with at least no pair. Assumes nothing.
 use borrow.Author.Needs.{needs}
 use native.Mathlib.Omega.{arith}

@@ -1,3 +1,4 @@
+-- answers sha256 f59c00b136d9579c
 -- `carriers::partial_mask` meets its contract: rows with at least no pair. Assumes nothing.
 use borrow.Author.Needs.{needs}
 use native.Mathlib.Omega.{arith}

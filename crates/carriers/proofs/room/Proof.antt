@@ -1,3 +1,4 @@
+-- answers sha256 45f6d1c4483b4695
 -- `carriers::room` meets its contract. Assumes nothing.
 use mathlib.Core.Bool.{false≢true}
 use borrow.Author.Tests.{leb-true, leb-false}

@@ -1,3 +1,4 @@
+-- answers sha256 612a5db657edfffd
 -- `carriers::total_count` meets its contract: rows with at least one pair. Assumes nothing.
 use borrow.Author.Needs.{needs}
 use native.Mathlib.Omega.{arith}

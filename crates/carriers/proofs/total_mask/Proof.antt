@@ -1,3 +1,4 @@
+-- answers sha256 b8714a49d58a1dc5
 -- `carriers::total_mask` meets its contract: rows with at least one pair. Assumes nothing.
 use borrow.Author.Needs.{needs}
 use native.Mathlib.Omega.{arith}

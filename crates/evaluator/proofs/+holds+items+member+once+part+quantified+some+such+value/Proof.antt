@@ -1,3 +1,4 @@
+-- answers sha256 8949181deb0bc7f5
 -- The functions of the evaluator, which call each other, meet their contracts. Assumes nothing.
 use lib.IntN.{ℤ}
 use lib.ListN.{set, getD}

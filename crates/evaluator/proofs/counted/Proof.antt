@@ -1,3 +1,4 @@
+-- answers sha256 6046b7ce21c38af0
 -- `evaluator::counted` meets its contract. Assumes nothing.
 use borrow.Author.Needs.{needs}
 use Rattle.evaluator.proofs.counted.Statement.{statement}

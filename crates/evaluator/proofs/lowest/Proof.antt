@@ -1,3 +1,4 @@
+-- answers sha256 cf0e079e8b92551b
 -- `evaluator::lowest` meets its contract. Assumes nothing.
 use borrow.Author.Needs.{needs}
 use Rattle.evaluator.proofs.lowest.Statement.{statement}

@@ -1,3 +1,4 @@
+-- answers sha256 d95b3aeda8a031b7
 -- `evaluator::of_bits` meets its contract. Assumes nothing.
 use borrow.Author.Needs.{needs}
 use Rattle.evaluator.proofs.of_bits.Statement.{statement}

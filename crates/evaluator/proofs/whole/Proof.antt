@@ -1,3 +1,4 @@
+-- answers sha256 8674bafb1994f64b
 -- `evaluator::whole` meets its contract. Assumes nothing.
 use borrow.Author.Needs.{needs}
 use Rattle.evaluator.proofs.whole.Statement.{statement}

@@ -1,3 +1,4 @@
+-- answers sha256 cc2be5eedb787616
 -- `given_sets` meets its contract: the tables are free at first. Assumes nothing.
 use borrow.Author.Needs.{needs}
 use Rattle.declared_names.proofs.GivenSetNodes.{given-from}

@@ -1,3 +1,4 @@
+-- answers sha256 166a57dedfb0b4be
 -- `fill` meets its contract.
 use borrow.Author.Needs.{needs}
 use Rattle.node_spans.proofs.PartNodes.{spanned}

@@ -1,3 +1,4 @@
+-- answers sha256 5a26e12d481875cf
 -- `operation` meets its contract.
 use borrow.Author.Needs.{needs}
 use Rattle.node_spans.proofs.SpanWrites.{operation-put}

@@ -1,3 +1,4 @@
+-- answers sha256 0e1f5a719ed84b4a
 -- `operations` meets its contract: what is still to be read, and what is written, make the whole.
 use mathlib.Core.List.{List}
 use lib.ListN.{take, length}

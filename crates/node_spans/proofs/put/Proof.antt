@@ -1,3 +1,4 @@
+-- answers sha256 f182fa0d439ba4b7
 -- `put` meets its contract.
 use borrow.Author.Needs.{needs}
 use native.Mathlib.Omega.{arith}

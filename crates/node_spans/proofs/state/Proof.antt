@@ -1,3 +1,4 @@
+-- answers sha256 6fb37291e68d70b8
 -- `state` meets its contract.
 use borrow.Author.Needs.{needs}
 use Rattle.node_spans.proofs.SpanWrites.{state-put}

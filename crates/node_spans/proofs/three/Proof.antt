@@ -1,3 +1,4 @@
+-- answers sha256 a6066e1bff663a94
 -- `three` meets its contract.
 use borrow.Author.Needs.{needs}
 use Rattle.node_spans.proofs.three.Statement.{statement}

@@ -1,3 +1,4 @@
+-- answers sha256 ec2ac581957a85c3
 -- `operators::bits` meets its contract: a set's bits are a natural number below 2 ^ 16. Assumes nothing.
 use mir.Syntax.{w16}
 use Rattle.operators.proofs.SignedLaws.{natural-cast, natural-back}

@@ -1,3 +1,4 @@
+-- answers sha256 8c6183185ae5b642
 -- `operators::compared` meets its contract, an arm for each code. Assumes nothing.
 use mathlib.Core.Bool.{not}
 use lib.Signed.{leZ, ltZ}

@@ -1,3 +1,4 @@
+-- answers sha256 a9c52114798cd863
 -- `operators::connected` meets its contract, an arm for each code. Assumes nothing.
 use mathlib.Core.Bool.{Bool}
 use mathlib.Core.Path.{ap₂, sym, ap, _∙_}

@@ -1,3 +1,4 @@
+-- answers sha256 3070628b112cdac1
 -- `operators::divided` meets its contract: a number below 2 ^ 31 fits in 32 bits. Assumes nothing.
 use mathlib.Core.Path.{ap₂, _∙_}
 use mir.Facts.{toZ-ofZ}

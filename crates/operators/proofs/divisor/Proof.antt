@@ -1,3 +1,4 @@
+-- answers sha256 09c24d530ac10ca8
 -- `operators::divisor` meets its contract: a magnitude below 2 ^ 16, and its opposite, fit in 32 bits. Assumes nothing.
 use borrow.Author.Needs.{needs}
 use mathlib.Core.Path.{_∙_}

@@ -1,3 +1,4 @@
+-- answers sha256 e12dc575e3da0a18
 -- `operators::has` meets its contract. Assumes nothing.
 use mathlib.Core.Path.{ap₂, _∙_}
 use mir.Syntax.{w64}

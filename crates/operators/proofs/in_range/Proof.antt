@@ -1,3 +1,4 @@
+-- answers sha256 5f0feb5d8123f4f3
 -- `operators::in_range` meets its contract: the end of a range fits in 64 bits. Assumes nothing.
 use borrow.Author.Needs.{needs}
 use Rattle.operators.proofs.SignedLaws.{end-fits, from-low, before-low}

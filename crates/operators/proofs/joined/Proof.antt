@@ -1,3 +1,4 @@
+-- answers sha256 bee00b8178c7186f
 -- `operators::joined` meets its contract. Assumes nothing.
 use mathlib.Core.Path.{ap₂, ap, _∙_}
 use lib.IntN.{pos}

@@ -1,3 +1,4 @@
+-- answers sha256 f011303a760c625f
 -- `operators::of_bits` meets its contract. Assumes nothing.
 use borrow.Author.Needs.{needs}
 use Rattle.operators.proofs.SignedLaws.{of-16}

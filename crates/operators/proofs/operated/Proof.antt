@@ -1,3 +1,4 @@
+-- answers sha256 d901c6f5cfa3c6c1
 -- `operators::operated` meets its contract, an arm for each code. Assumes nothing.
 use mathlib.Core.Path.{subst, ap₂, sym, ap, _∙_}
 use lib.IntN.{pos}

@@ -1,3 +1,4 @@
+-- answers sha256 ad574f1e83c9c30d
 -- `operators::pair` meets its contract: a place below 16 times a number below 2 ^ 16, and a place, fit in 64 bits. Assumes nothing.
 use borrow.Author.Needs.{needs}
 use Rattle.operators.proofs.SignedLaws.{row-fits, pair-fits, pair-back}

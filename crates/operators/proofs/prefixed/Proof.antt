@@ -1,3 +1,4 @@
+-- answers sha256 b0178fec0a647555
 -- `operators::prefixed` meets its contract, an arm for each code. Assumes nothing.
 use mathlib.Core.Path.{subst, sym, ap, _∙_}
 use lib.IntN.{pos}

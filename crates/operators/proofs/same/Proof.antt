@@ -1,3 +1,4 @@
+-- answers sha256 291bb52e8fde5a76
 -- `operators::same` meets its contract: two numbers are the same where their bits are. Assumes nothing.
 use Rattle.operators.proofs.SignedLaws.{eq-bits}
 use Rattle.operators.proofs.same.Statement.{statement}

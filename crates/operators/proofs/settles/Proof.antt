@@ -1,3 +1,4 @@
+-- answers sha256 86479cb6a48a6aac
 -- `operators::settles` meets its contract: the arms of the connectives that a left part may settle, and the last one, where it does not. Assumes nothing.
 use mathlib.Core.Path.{subst, sym}
 use Prim.Native.Nat.{ℕ}

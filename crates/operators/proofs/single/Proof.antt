@@ -1,3 +1,4 @@
+-- answers sha256 c33990246617f51b
 -- `operators::single` meets its contract: a place is below 16. Assumes nothing.
 use mathlib.Core.Path.{subst, sym, ap, _∙_}
 use Prim.Native.Nat.{_<_, ℕ}

@@ -1,3 +1,4 @@
+-- answers sha256 8691380cc6ecd026
 -- `parser::number_of` meets its contract.
 use borrow.Author.Tests.{ne-eqb}
 use mathlib.Core.Path.{sym, ap}

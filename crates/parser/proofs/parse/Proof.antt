@@ -1,3 +1,4 @@
+-- answers sha256 98eb84865f85f862
 -- `parser::parse` meets its contract.
 use mathlib.Core.Option.{none, some}
 use borrow.Author.Needs.{needs}

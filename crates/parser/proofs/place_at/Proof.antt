@@ -1,3 +1,4 @@
+-- answers sha256 a6a798b27d493410
 -- `parser::place_at` meets its contract.
 use lib.ListN.{List·getD-eq-default, take}
 use lib.Seq.{getD-take, length-take-le}

@@ -1,3 +1,4 @@
+-- answers sha256 27c3746484e0fc66
 -- `reading::bindings_key` meets its contract.
 use borrow.Author.Needs.{needs}
 use Rattle.reader.proofs.LimitPasses.{bindings-found}

@@ -1,3 +1,4 @@
+-- answers sha256 982db10d9a542407
 -- `reading::checked` meets its contract: the first fault refuses, and where there is none the arrays are written.
 use borrow.Author.Needs.{needs}
 use mathlib.Core.Path.{refl}

@@ -1,3 +1,4 @@
+-- answers sha256 4399c1284e8d386b
 -- `reading::fault_key` meets its contract: the passes one behind the other.
 use borrow.Author.Needs.{needs}
 use native.Mathlib.Omega.{arith}

@@ -1,3 +1,4 @@
+-- answers sha256 f0d47ba676ec90bb
 -- `reading::given_table` meets its contract.
 use borrow.Author.Needs.{needs}
 use Rattle.reader.proofs.LimitPasses.{tabled}

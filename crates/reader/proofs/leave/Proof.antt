@@ -1,3 +1,4 @@
+-- answers sha256 639630273c25ac2f
 -- `reading::leave` meets its contract.
 use borrow.Author.Needs.{needs}
 use Rattle.reader.proofs.ArraysLeft.{leaves}

@@ -1,3 +1,4 @@
+-- answers sha256 6fc4b436230f2d4e
 -- `reading::names_key` meets its contract.
 use borrow.Author.Needs.{needs}
 use Rattle.reader.proofs.PassAnswers.{named-all}

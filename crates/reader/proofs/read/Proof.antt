@@ -1,3 +1,4 @@
+-- answers sha256 f10319a2f771c6c2
 -- `reading::read` meets its contract.
 use borrow.Author.Needs.{needs}
 use mathlib.Core.Path.{refl}

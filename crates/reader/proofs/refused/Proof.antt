@@ -1,3 +1,4 @@
+-- answers sha256 0a1efe43ea2bb6fb
 -- `reading::refused` meets its contract.
 use borrow.Author.Needs.{needs}
 use mathlib.Core.Path.{refl}

@@ -1,3 +1,4 @@
+-- answers sha256 83b70ea9d7d23ab5
 -- `reading::sizes_key` meets its contract.
 use borrow.Author.Needs.{needs}
 use Rattle.reader.proofs.LimitPasses.{sizes-found}

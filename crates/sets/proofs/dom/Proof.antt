@@ -1,3 +1,4 @@
+-- answers sha256 0734224622293acc
 -- `sets::dom` meets its contract: after i rows r is the domain of those. Assumes nothing.
 use Prim.Native.Nat.{_^_, _%_, suc, ℕ, _+_, _-_, _*_, _<_, _≤_}
 use mathlib.Core.Path.{ap₂, _≡_, sym, ap, _∙_}

@@ -1,3 +1,4 @@
+-- answers sha256 33f82bbc6a9f0901
 -- `sets::floor_div` meets its contract: the machine's quotient is one too large exactly where the remainder is not 0 and not of the divisor's sign.
 -- Assumes nothing.
 use native.Mathlib.Nat.{pos-of-ne-zero}

@@ -1,3 +1,4 @@
+-- answers sha256 ced88fb989c470d8
 -- `sets::floor_mod` meets its contract: the product of quotient and divisor and the difference fit in 64 bits. Assumes nothing.
 use mathlib.Core.Path.{ap₂, _∙_}
 use mir.Facts.{toZ-ofZ}

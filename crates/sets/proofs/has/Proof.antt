@@ -1,3 +1,4 @@
+-- answers sha256 ba73547c43d4a0e3
 -- `sets::has` meets its contract: past the last bit there is no member. Assumes nothing.
 use borrow.Author.Needs.{needs}
 use mathlib.Core.Path.{refl, sym}

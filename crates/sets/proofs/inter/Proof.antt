@@ -1,3 +1,4 @@
+-- answers sha256 aa4af3530345df75
 -- `sets::inter` meets its contract: the intersection's bits are those of both. Assumes nothing.
 use Rattle.sets.proofs.Operations.{and-inter}
 use Rattle.sets.proofs.inter.Statement.{statement}

@@ -1,3 +1,4 @@
+-- answers sha256 3770e7214b0edf56
 -- `sets::pair` meets its contract: in 64 bits it never wraps. Assumes nothing.
 use mathlib.Core.Path.{refl}
 use native.Mathlib.Omega.{arith}

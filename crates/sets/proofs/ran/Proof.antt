@@ -1,3 +1,4 @@
+-- answers sha256 78f8478e10053371
 -- `sets::ran` meets its contract: after i rows r is the range of those. Assumes nothing.
 use mathlib.Core.Path.{ap₂, _≡_, sym, ap, _∙_}
 use native.Mathlib.Numerals.{add-one}

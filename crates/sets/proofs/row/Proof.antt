@@ -1,3 +1,4 @@
+-- answers sha256 d103366a32a95288
 -- `sets::row` meets its contract: bits past the word are no members, and more bits than the word has are all of them. Assumes nothing.
 use Prim.Native.Nat.{_^_, _/_, _%_, ℕ, _<_}
 use mathlib.Core.Path.{subst, sym, ap, _∙_}

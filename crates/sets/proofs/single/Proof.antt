@@ -1,3 +1,4 @@
+-- answers sha256 3d17e7845efe702a
 -- `sets::single` meets its contract: one bit at the place, if the word has it. Assumes nothing.
 use borrow.Author.Needs.{needs}
 use native.Mathlib.Omega.{arith}

@@ -1,3 +1,4 @@
+-- answers sha256 a8e9a023ce2e3f9f
 -- `sets::size` meets its contract: the language's count of ones is the definition's. Assumes nothing.
 use mathlib.Core.Path.{sym}
 use Rattle.sets.proofs.Members.{size-ones}

@@ -1,3 +1,4 @@
+-- answers sha256 77c62a6ab1f818de
 -- `sets::union` meets its contract: the union's bits are those of either. Assumes nothing.
 use Rattle.sets.proofs.Operations.{or-union}
 use Rattle.sets.proofs.union.Statement.{statement}

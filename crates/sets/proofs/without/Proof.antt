@@ -1,3 +1,4 @@
+-- answers sha256 c834b7859e07ce0d
 -- `sets::without` meets its contract: the difference's bits are those of s that t has not. Assumes nothing.
 use Rattle.sets.proofs.Operations.{and-not-without}
 use Rattle.sets.proofs.without.Statement.{statement}

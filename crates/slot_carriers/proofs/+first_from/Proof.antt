@@ -1,3 +1,4 @@
+-- answers sha256 f8a9043863b900d5
 -- `slot_carriers::first_from` meets its contract: what is left is halved. Assumes nothing.
 use Prim.Native.Nat.{_/_, ℕ, _<_, _+_, _-_}
 use mir.Facts.{toZ-ofZ}

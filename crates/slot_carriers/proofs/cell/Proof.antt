@@ -1,3 +1,4 @@
+-- answers sha256 f6e930cce77da6bb
 -- `slot_carriers::cell` meets its contract. Assumes nothing.
 use borrow.Author.Needs.{needs}
 use mathlib.Core.Path.{refl}

@@ -1,3 +1,4 @@
+-- answers sha256 c66b8f9bc3e87fec
 -- `slot_carriers::place_of` meets its contract: values rise, so x is where the search ends, or nowhere. Assumes nothing.
 use mathlib.Core.Path.{subst, _∙_}
 use Prim.Native.Nat.{_<_, ℕ}

@@ -1,3 +1,4 @@
+-- answers sha256 497c828e4b687217
 -- `slot_carriers::value_at` meets its contract: a range's number fits in 64 bits, and a list is inside the cells. Assumes nothing.
 use mathlib.Core.Path.{subst, ap, _∙_}
 use Prim.Native.Nat.{_≤_, ℕ, _+_}

@@ -1,3 +1,4 @@
+-- answers sha256 052775dd4dc385f9
 -- `symbols::scan` meets its contract. Assumes nothing.
 use borrow.Author.Needs.{needs}
 use Rattle.symbols.proofs.WholeLaws.{scans-long, scans-long-text, scans-unlisted, scans-many, scans-all, rows, numbers-at}

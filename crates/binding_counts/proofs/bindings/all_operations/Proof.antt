@@ -1,3 +1,4 @@
+-- answers sha256 d494955354c6a9fd
 -- `bindings::all_operations` meets its contract: the fault so far and that of the operations that are left make that of all of them. Assumes nothing.
 use Prim.Native.Nat.{_-_, _≤_}
 use native.Mathlib.Omega.{arith}

@@ -1,3 +1,4 @@
+-- answers sha256 5b917140f929c14e
 -- `bindings::bindings` meets its contract. Assumes nothing.
 use borrow.Author.Needs.{needs}
 use Rattle.binding_counts.proofs.BindingsAgree.{bindings-seen}

@@ -1,3 +1,4 @@
+-- answers sha256 8d43084eb2e81fcf
 -- `bindings::both_few` meets its contract. Assumes nothing.
 use borrow.Author.Tests.{le-leb, lt-leb}
 use Rattle.binding_counts.proofs.bindings.both_few.Statement.{statement}

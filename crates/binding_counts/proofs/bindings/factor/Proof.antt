@@ -1,3 +1,4 @@
+-- answers sha256 7547a43334ae25a1
 -- `bindings::factor` meets its contract. Assumes nothing.
 use borrow.Author.Needs.{needs}
 use native.Mathlib.Omega.{arith}

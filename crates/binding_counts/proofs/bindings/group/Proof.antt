@@ -1,3 +1,4 @@
+-- answers sha256 ca95bb9010901812
 -- `bindings::group` meets its contract: what is left of the declarations multiplies the product so far to that of all of them. Assumes nothing.
 use Prim.Native.Nat.{_+_, _-_, _≤_}
 use native.Mathlib.Omega.{arith}

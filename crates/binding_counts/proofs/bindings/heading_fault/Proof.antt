@@ -1,3 +1,4 @@
+-- answers sha256 15907b1403841189
 -- `bindings::heading_fault` meets its contract. Assumes nothing.
 use borrow.Author.Needs.{needs}
 use mathlib.Core.Path.{refl}

@@ -1,3 +1,4 @@
+-- answers sha256 e908cf2ff2de068b
 -- `bindings::operation` meets its contract. Assumes nothing.
 use borrow.Author.Needs.{needs}
 use mathlib.Core.Path.{_∙_}

@@ -1,3 +1,4 @@
+-- answers sha256 b2cc0498a87fc45e
 -- `bindings::power` meets its contract: the product is the power to the number of the steps. Assumes nothing.
 use Prim.Native.Nat.{_^_, ℕ, _+_, _-_, _≤_}
 use mathlib.Core.Path.{_≡_, ap, _∙_}

@@ -1,3 +1,4 @@
+-- answers sha256 3d26881435acae29
 -- `bindings::product` meets its contract. Assumes nothing.
 use Prim.Native.Nat.{_*_}
 use borrow.Author.Needs.{needs}

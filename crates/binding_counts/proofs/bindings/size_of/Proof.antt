@@ -1,3 +1,4 @@
+-- answers sha256 812b43cda6b17bb5
 -- `bindings::size_of` meets its contract. Assumes nothing.
 use borrow.Author.Needs.{needs}
 use Prim.Native.Nat.{ℕ, _-_}

@@ -1,3 +1,4 @@
+-- answers sha256 d999bf7b662ea6d4
 -- `bindings::state` meets its contract. Assumes nothing.
 use borrow.Author.Needs.{needs}
 use mathlib.Core.Path.{_∙_}

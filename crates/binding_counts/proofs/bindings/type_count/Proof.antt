@@ -1,3 +1,4 @@
+-- answers sha256 5fdcdd07574bb6be
 -- `bindings::type_count` meets its contract: by the shape of the node. Assumes nothing.
 use Prim.Native.Nat.{_*_, ℕ, _+_}
 use mathlib.Core.Path.{ap₂, refl, ap, _∙_}

@@ -1,3 +1,4 @@
+-- answers sha256 ead602c069019f81
 -- `contents::arrow_of` meets its contract.
 use native.Mathlib.Omega.{arith}
 use Rattle.lexical.specs.Kinds.{codeOf}

@@ -1,3 +1,4 @@
+-- answers sha256 dd719356e8f1cceb
 -- `contents::contents` meets its contract.
 use mathlib.Core.Path.{subst, refl}
 use mathlib.Core.List.{[], _∷_, _++_}

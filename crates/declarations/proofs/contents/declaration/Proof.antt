@@ -1,3 +1,4 @@
+-- answers sha256 0474decf4cbc5bd1
 -- `contents::declaration` meets its contract.
 use mathlib.Core.Path.{subst, refl, ap}
 use mathlib.Core.List.{[], _∷_}

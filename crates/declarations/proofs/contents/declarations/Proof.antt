@@ -1,3 +1,4 @@
+-- answers sha256 bfda82348193d6cf
 -- `contents::declarations` meets its contract.
 use mathlib.Core.Path.{subst, _≡_, refl, sym, _∙_}
 use mathlib.Core.List.{[], _∷_, _++_}

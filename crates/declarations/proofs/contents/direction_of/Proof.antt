@@ -1,3 +1,4 @@
+-- answers sha256 a524fda8e670276a
 -- `contents::direction_of` meets its contract.
 use native.Mathlib.Omega.{arith}
 use Rattle.lexical.specs.Kinds.{codeOf}

@@ -1,3 +1,4 @@
+-- answers sha256 1cf12f7abf598705
 -- `contents::elements` meets its contract.
 use mathlib.Core.Path.{_≡_, refl, sym, ap, _∙_}
 use mathlib.Core.List.{[], _∷_}

@@ -1,3 +1,4 @@
+-- answers sha256 6c8458d12699cf8c
 -- `contents::entries` meets its contract.
 use mathlib.Core.Path.{_≡_, refl, sym, ap, _∙_}
 use mathlib.Core.List.{List, [], _∷_}

@@ -1,3 +1,4 @@
+-- answers sha256 08942cc2873a03f9
 -- `contents::full` meets its contract.
 use mathlib.Core.Path.{sym, ap}
 use lib.Dec.{leb}

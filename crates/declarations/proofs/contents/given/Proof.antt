@@ -1,3 +1,4 @@
+-- answers sha256 34b50945f7f72160
 -- `contents::given` meets its contract.
 use mathlib.Core.Path.{subst, _≡_, refl, ap}
 use Prim.Native.Nat.{_+_}

@@ -1,3 +1,4 @@
+-- answers sha256 9411107a0ba20fc3
 -- `contents::givens` meets its contract.
 use mathlib.Core.Path.{subst, _≡_, refl, sym, _∙_}
 use mathlib.Core.List.{[], _∷_}

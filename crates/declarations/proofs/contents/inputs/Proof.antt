@@ -1,3 +1,4 @@
+-- answers sha256 3f7847a81bd9dacd
 -- `contents::inputs` meets its contract.
 use mathlib.Core.Path.{sym, ap}
 use borrow.Author.Needs.{needs}

@@ -1,3 +1,4 @@
+-- answers sha256 52f4511c50cf1dae
 -- `contents::named` meets its contract.
 use mathlib.Core.Path.{refl, sym, ap, _∙_}
 use mathlib.Core.List.{[], _∷_}

@@ -1,3 +1,4 @@
+-- answers sha256 b4cf64cc84577ae7
 -- `contents::outputs` meets its contract.
 use mathlib.Core.Path.{sym, ap}
 use borrow.Author.Needs.{needs}

@@ -1,3 +1,4 @@
+-- answers sha256 c02953bff6a55036
 -- `contents::parameters` meets its contract.
 use mathlib.Core.Path.{subst, _≡_, refl, sym, _∙_}
 use mathlib.Core.List.{[], _∷_, _++_}

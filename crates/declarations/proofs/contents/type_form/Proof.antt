@@ -1,3 +1,4 @@
+-- answers sha256 c5b61ea37118316f
 -- `contents::type_form` meets its contract.
 use mathlib.Core.Path.{subst, refl, sym, ap, _∙_}
 use mathlib.Core.List.{[], _∷_}

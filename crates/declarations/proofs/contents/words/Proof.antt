@@ -1,3 +1,4 @@
+-- answers sha256 6dba33a1bffbd2c7
 -- `contents::words` meets its contract.
 use mathlib.Core.Path.{refl}
 use mathlib.Core.List.{[], _∷_}

@@ -1,3 +1,4 @@
+-- answers sha256 a1813cb4476bd2c9
 -- `declared::count_given` meets its contract. Assumes nothing.
 use lib.ListN.{set, getD}
 use mathlib.Core.Path.{ap₂, ap, _∙_}

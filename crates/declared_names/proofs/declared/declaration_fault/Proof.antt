@@ -1,3 +1,4 @@
+-- answers sha256 76c1c35935adad0a
 -- `declared::declaration_fault` meets its contract. Assumes nothing.
 use borrow.Author.Needs.{needs}
 use Rattle.declared_names.proofs.DeclarationNodes.{declaration-fault}

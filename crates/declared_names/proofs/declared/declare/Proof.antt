@@ -1,3 +1,4 @@
+-- answers sha256 815d4fe843fdab0a
 -- `declared::declare` meets its contract: what is left of the declarations has the first fault of all of them, and makes of the names as they are
 -- what all of them make of the names at entry. Assumes nothing.
 use Prim.Native.Nat.{_-_, _≤_}

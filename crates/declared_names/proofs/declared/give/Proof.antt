@@ -1,3 +1,4 @@
+-- answers sha256 c5f5961173b9e0f0
 -- `declared::give` meets its contract: what is left has the first fault of all given sets, and makes of the names as they are what all of them make of
 -- the names at entry; the sets that have ended have their sizes. Assumes nothing.
 use lib.ListN.{set, length-map, length}

@@ -1,3 +1,4 @@
+-- answers sha256 639b6723b95cd78b
 -- `declared::given_fault` meets its contract. Assumes nothing.
 use mathlib.Core.Path.{ap₂, ap, _∙_}
 use lib.Dec.{eqb}

@@ -1,3 +1,4 @@
+-- answers sha256 21d82b1a39005a09
 -- `declared::over_arrow` meets its contract. Assumes nothing.
 use borrow.Author.Needs.{needs}
 use native.Mathlib.Omega.{arith}

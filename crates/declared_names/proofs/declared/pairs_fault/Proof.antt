@@ -1,3 +1,4 @@
+-- answers sha256 d32e50599392f02f
 -- `declared::pairs_fault` meets its contract. Assumes nothing.
 use mathlib.Core.Bool.{Bool}
 use mathlib.Core.Path.{ap₂, ap, _∙_}

@@ -1,3 +1,4 @@
+-- answers sha256 05147a75966679ac
 -- `declared::reach` meets its contract. Assumes nothing.
 use borrow.Author.Needs.{needs}
 use Rattle.declared_names.proofs.DeclarationNodes.{reached}

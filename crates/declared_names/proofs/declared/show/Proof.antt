@@ -1,3 +1,4 @@
+-- answers sha256 ce01b4ceab4ba3c5
 -- `declared::show` meets its contract: what is left of the declarations makes of the names as they are what all of them make of the names at entry.
 -- Assumes nothing.
 use Prim.Native.Nat.{_-_, _≤_}

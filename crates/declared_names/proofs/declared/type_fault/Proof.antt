@@ -1,3 +1,4 @@
+-- answers sha256 268e9c3ec67cf46b
 -- `declared::type_fault` meets its contract. Assumes nothing.
 use borrow.Author.Needs.{needs}
 use Prim.Native.Nat.{_+_}

@@ -1,3 +1,4 @@
+-- answers sha256 e9db62f43b40d91d
 -- `declared::type_kind` meets its contract. Assumes nothing.
 use mathlib.Core.Path.{ap₂, sym, ap, _∙_}
 use borrow.Author.Needs.{needs}

@@ -1,3 +1,4 @@
+-- answers sha256 9bb00714b6c705ca
 -- The functions that read terms and predicates meet their contracts: each result is put together from those of its parts.
 use mathlib.Core.List.{[], _∷_}
 use Prim.Native.Nat.{suc, ℕ, _<_, _+_, _-_, _*_}

@@ -1,3 +1,4 @@
+-- answers sha256 2f1d9b3065d22ed7
 -- `kinds::connective_of` meets its contract: each arm agrees with the table.
 use native.Mathlib.Omega.{arith}
 use Rattle.lexical.specs.Kinds.{codeOf}

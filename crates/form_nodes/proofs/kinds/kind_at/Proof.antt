@@ -1,3 +1,4 @@
+-- answers sha256 8d4b73fcad3d269c
 -- `kinds::kind_at` meets its contract: behind the end the list has its default.
 use lib.ListN.{List·getD-eq-default}
 use borrow.Author.Needs.{needs}

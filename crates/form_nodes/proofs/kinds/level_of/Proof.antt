@@ -1,3 +1,4 @@
+-- answers sha256 07444dd0f82c43b2
 -- `kinds::level_of` meets its contract.
 use borrow.Author.Needs.{needs}
 use mathlib.Core.Path.{sym}

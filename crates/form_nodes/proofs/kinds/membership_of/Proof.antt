@@ -1,3 +1,4 @@
+-- answers sha256 6f1b17dc29a0a854
 -- `kinds::membership_of` meets its contract: each arm agrees with the table.
 use native.Mathlib.Omega.{arith}
 use Rattle.lexical.specs.Kinds.{codeOf}

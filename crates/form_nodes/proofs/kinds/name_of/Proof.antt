@@ -1,3 +1,4 @@
+-- answers sha256 b40334f1c992885e
 -- `kinds::name_of` meets its contract: each arm agrees with the table.
 use native.Mathlib.Omega.{arith}
 use Rattle.lexical.specs.Kinds.{codeOf}

@@ -1,3 +1,4 @@
+-- answers sha256 90acf5f3c7358f10
 -- `kinds::operator_of` meets its contract: each arm agrees with the table.
 use mathlib.Core.Path.{refl}
 use native.Mathlib.Omega.{arith}

@@ -1,3 +1,4 @@
+-- answers sha256 8c0ea7c00a9f811d
 -- `kinds::pred_start_of` meets its contract: each arm agrees with the table.
 use mathlib.Core.Path.{refl}
 use native.Mathlib.Omega.{arith}

@@ -1,3 +1,4 @@
+-- answers sha256 df5a1febb3e73757
 -- `kinds::quantifier_of` meets its contract: each arm agrees with the table.
 use native.Mathlib.Omega.{arith}
 use Rattle.lexical.specs.Kinds.{codeOf}

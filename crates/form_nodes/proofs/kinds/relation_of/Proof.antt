@@ -1,3 +1,4 @@
+-- answers sha256 891a6cfd75830717
 -- `kinds::relation_of` meets its contract: each arm agrees with the table.
 use mathlib.Core.Path.{refl}
 use native.Mathlib.Omega.{arith}

@@ -1,3 +1,4 @@
+-- answers sha256 c00125eea9f43605
 -- `kinds::start_of` meets its contract: each arm agrees with the table.
 use mathlib.Core.Path.{refl}
 use native.Mathlib.Omega.{arith}

@@ -1,3 +1,4 @@
+-- answers sha256 c44cc282f627d844
 -- `kinds::value_at` meets its contract: behind the end the list has its default.
 use lib.ListN.{List·getD-eq-default}
 use borrow.Author.Needs.{needs}

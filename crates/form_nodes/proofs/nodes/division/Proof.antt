@@ -1,3 +1,4 @@
+-- answers sha256 dbce4db9f65af404
 -- `nodes::division` meets its contract.
 use borrow.Author.Needs.{needs}
 use mathlib.Core.Path.{sym, _∙_}

@@ -1,3 +1,4 @@
+-- answers sha256 2b2cad1c2ec08679
 -- `nodes::empty` meets its contract.
 use mathlib.Core.List.{[], _∷_}
 use borrow.Author.Needs.{needs}

@@ -1,3 +1,4 @@
+-- answers sha256 e17736ead85dca53
 -- `nodes::leaf` meets its contract.
 use borrow.Author.Needs.{needs}
 use mathlib.Core.Path.{sym, _∙_}

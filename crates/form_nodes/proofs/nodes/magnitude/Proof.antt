@@ -1,3 +1,4 @@
+-- answers sha256 49c1f501ed56bcc5
 -- `nodes::magnitude` meets its contract.
 use borrow.Author.Needs.{needs}
 use mathlib.Core.Path.{sym, _∙_}

@@ -1,3 +1,4 @@
+-- answers sha256 c5b8ff49b140ebea
 -- `nodes::name_number` meets its contract.
 use borrow.Author.Needs.{needs}
 use mathlib.Core.Path.{_∙_}

@@ -1,3 +1,4 @@
+-- answers sha256 4a2f4858ea0d85fc
 -- `nodes::put` meets its contract.
 use lib.ListN.{length-set}
 use borrow.Author.Needs.{needs}

@@ -1,3 +1,4 @@
+-- answers sha256 28ada3db2a2a6224
 -- `nodes::put_domain` meets its contract.
 use borrow.Author.Needs.{needs}
 use native.Mathlib.Omega.{arith}

@@ -1,3 +1,4 @@
+-- answers sha256 b57c3be45164e6aa
 -- `nodes::put_range` meets its contract.
 use borrow.Author.Needs.{needs}
 use mathlib.Core.Path.{sym, _∙_}

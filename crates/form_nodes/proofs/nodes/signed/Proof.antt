@@ -1,3 +1,4 @@
+-- answers sha256 e8fad7e12e336903
 -- `nodes::signed` meets its contract.
 use borrow.Author.Needs.{needs}
 use mathlib.Core.Path.{sym, _∙_}

@@ -1,3 +1,4 @@
+-- answers sha256 c301f5fe544b1c55
 -- `ranges::close` meets its contract.
 use lib.ListN.{List·getD-eq-default}
 use borrow.Author.Needs.{needs}

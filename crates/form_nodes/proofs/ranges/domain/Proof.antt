@@ -1,3 +1,4 @@
+-- answers sha256 9383a34684622920
 -- `ranges::domain` meets its contract.
 use borrow.Author.Needs.{needs}
 use mathlib.Core.Path.{refl, sym, _∙_}

@@ -1,3 +1,4 @@
+-- answers sha256 01d9d0bd3bf60d7a
 -- `ranges::end` meets its contract.
 use borrow.Author.Needs.{needs}
 use Prim.Native.Nat.{_+_}

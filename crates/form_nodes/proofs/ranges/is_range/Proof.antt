@@ -1,3 +1,4 @@
+-- answers sha256 70609bd4990969e3
 -- `ranges::is_range` meets its contract.
 use borrow.Author.Needs.{needs}
 use mathlib.Core.Path.{sym, _∙_}

@@ -1,3 +1,4 @@
+-- answers sha256 f4204bd4f875b922
 -- `ranges::range` meets its contract.
 use mathlib.Core.List.{[], _∷_}
 use borrow.Author.Needs.{needs}

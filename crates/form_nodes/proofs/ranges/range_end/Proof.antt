@@ -1,3 +1,4 @@
+-- answers sha256 580c57fea38e8edf
 -- `ranges::range_end` meets its contract.
 use borrow.Author.Needs.{needs}
 use Prim.Native.Nat.{_-_}

@@ -1,3 +1,4 @@
+-- answers sha256 fa6e2685f7043c72
 -- `symbols::classes::byte_at` meets its contract. Assumes nothing.
 use lib.ListN.{List·getD-eq-default}
 use borrow.Author.Needs.{needs}

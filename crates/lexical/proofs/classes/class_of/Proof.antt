@@ -1,3 +1,4 @@
+-- answers sha256 06767215c4c606d1
 -- `symbols::classes::class_of` meets its contract: range by range. Assumes nothing.
 use mathlib.Core.Logic.{inl, inr, ⊎-elim}
 use mathlib.Core.Path.{_≡_, refl}

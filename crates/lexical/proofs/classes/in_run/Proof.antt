@@ -1,3 +1,4 @@
+-- answers sha256 e30328d97e9b93c4
 -- `symbols::classes::in_run` meets its contract, class by class. Assumes nothing.
 use borrow.Author.Needs.{needs}
 use mathlib.Core.Path.{sym, ap, _∙_}

@@ -1,3 +1,4 @@
+-- answers sha256 3122a2016a584bcb
 -- `lexical::classes::run_from` meets its contract: the run from the start is what was passed and the run from here. Assumes nothing.
 use lib.ListN.{drop, length}
 use Prim.Native.Nat.{_+_, _-_, _≤_}

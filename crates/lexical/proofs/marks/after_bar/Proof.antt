@@ -1,3 +1,4 @@
+-- answers sha256 4e8d814e64c32ba0
 -- `symbols::marks::after_bar` meets its contract: each mark that begins with |. Assumes nothing.
 use Rattle.lexical.proofs.MarkLaws.{bar-maplet, bar-dash, bar-alone}
 use Rattle.lexical.proofs.marks.after_bar.Statement.{statement}

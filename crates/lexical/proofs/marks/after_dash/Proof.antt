@@ -1,3 +1,4 @@
+-- answers sha256 ccc3d840310cdc2e
 -- `symbols::marks::after_dash` meets its contract: each mark that begins with -. Assumes nothing.
 use Rattle.lexical.proofs.MarkLaws.{dash-partial, dash-plus, dash-total, dash-dash, dash-alone}
 use Rattle.lexical.proofs.marks.after_dash.Statement.{statement}

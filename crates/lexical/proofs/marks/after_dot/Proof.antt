@@ -1,3 +1,4 @@
+-- answers sha256 bfc0e4caffa4d592
 -- `symbols::marks::after_dot` meets its contract: each mark that begins with .. Assumes nothing.
 use Rattle.lexical.proofs.MarkLaws.{dot-dot, dot-alone}
 use Rattle.lexical.proofs.marks.after_dot.Statement.{statement}

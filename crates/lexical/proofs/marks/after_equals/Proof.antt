@@ -1,3 +1,4 @@
+-- answers sha256 fc763a83a388a494
 -- `symbols::marks::after_equals` meets its contract: each mark that begins with =. Assumes nothing.
 use Rattle.lexical.proofs.MarkLaws.{equals-implies, equals-alone}
 use Rattle.lexical.proofs.marks.after_equals.Statement.{statement}

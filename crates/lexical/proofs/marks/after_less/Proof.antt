@@ -1,3 +1,4 @@
+-- answers sha256 fe59933679785944
 -- `symbols::marks::after_less` meets its contract: each mark that begins with <. Assumes nothing.
 use Rattle.lexical.proofs.MarkLaws.{less-iff, less-most, less-relation, less-dash, less-alone}
 use Rattle.lexical.proofs.marks.after_less.Statement.{statement}

@@ -1,3 +1,4 @@
+-- answers sha256 e30b6d3b01497ce1
 -- `symbols::marks::after_slash` meets its contract: each mark that begins with /. Assumes nothing.
 use Rattle.lexical.proofs.MarkLaws.{slash-equals, slash-alone}
 use Rattle.lexical.proofs.marks.after_slash.Statement.{statement}

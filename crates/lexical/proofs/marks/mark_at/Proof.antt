@@ -1,3 +1,4 @@
+-- answers sha256 f31249b54809d214
 -- `symbols::marks::mark_at` meets its contract: no mark is longer than three bytes. Assumes nothing.
 use borrow.Author.Needs.{needs}
 use mathlib.Core.Path.{ap, _∙_}

@@ -1,3 +1,4 @@
+-- answers sha256 56bf901e8efd8cbc
 -- `symbols::marks::mark_of` meets its contract, by the first byte. Assumes nothing.
 use mathlib.Core.List.{[], _∷_}
 use borrow.Author.Needs.{needs}

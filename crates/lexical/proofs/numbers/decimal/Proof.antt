@@ -1,3 +1,4 @@
+-- answers sha256 8950f52e73750456
 -- `symbols::numbers::decimal` meets its contract: what the digits write is what those from here on write after v. Assumes nothing.
 use lib.ListN.{take, drop, getD}
 use Prim.Native.Nat.{ℕ, _+_, _-_, _<_, _≤_}

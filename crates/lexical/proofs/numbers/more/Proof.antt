@@ -1,3 +1,4 @@
+-- answers sha256 263827013e1fb0b8
 -- `symbols::numbers::more` meets its contract. Assumes nothing.
 use borrow.Author.Needs.{needs}
 use native.Mathlib.Omega.{arith}

@@ -1,3 +1,4 @@
+-- answers sha256 ad75d0cce3f6fb06
 -- `symbols::numbers::number_at` meets its contract. Assumes nothing.
 use lib.ListN.{drop, length-drop}
 use borrow.Author.Needs.{needs}

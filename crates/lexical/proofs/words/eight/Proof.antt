@@ -1,3 +1,4 @@
+-- answers sha256 a1204a63eba14b95
 -- `symbols::words::eight` meets its contract. Assumes nothing.
 use lib.ListN.{take, drop}
 use borrow.Author.Needs.{needs}

@@ -1,3 +1,4 @@
+-- answers sha256 079ddbf8e346c441
 -- `symbols::words::ending_of` meets its contract. Assumes nothing.
 use mathlib.Core.List.{[], _∷_}
 use Prim.Native.Nat.{ℕ}

@@ -1,3 +1,4 @@
+-- answers sha256 057d55fdbf89657d
 -- `symbols::words::reserved_at` meets its contract: no reserved word is longer than eight bytes. Assumes nothing.
 use lib.ListN.{drop, length-drop}
 use borrow.Author.Needs.{needs}

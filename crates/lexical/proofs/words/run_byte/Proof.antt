@@ -1,3 +1,4 @@
+-- answers sha256 7fef62783481dfb4
 -- `symbols::words::run_byte` meets its contract. Assumes nothing.
 use lib.ListN.{take, drop, List·getD-eq-default, length-take}
 use lib.Seq.{getD-take, getD-drop}

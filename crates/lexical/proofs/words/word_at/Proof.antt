@@ -1,3 +1,4 @@
+-- answers sha256 29aa64896456e66e
 -- `symbols::words::word_at` meets its contract. Assumes nothing.
 use lib.ListN.{drop, length-drop}
 use borrow.Author.Needs.{needs}

@@ -1,3 +1,4 @@
+-- answers sha256 90b58dbf467a2f17
 -- `symbols::words::word_code` meets its contract, word by word. Assumes nothing.
 use Prim.Native.Nat.{ℕ}
 use mathlib.Core.Path.{sym, ap}

@@ -1,3 +1,4 @@
+-- answers sha256 f02759d06686ab60
 -- `symbols::words::word_of` meets its contract, case by case. Assumes nothing.
 use borrow.Author.Needs.{needs}
 use Rattle.lexical.proofs.WordLaws.{word-plain, word-ended, name-long, name-plain, name-ended}

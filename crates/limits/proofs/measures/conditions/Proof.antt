@@ -1,3 +1,4 @@
+-- answers sha256 3f4155e0ef38b8af
 -- `measures::conditions` meets its contract. Assumes nothing.
 use borrow.Author.Needs.{needs}
 use mathlib.Core.Path.{ap, _∙_}

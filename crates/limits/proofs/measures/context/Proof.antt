@@ -1,3 +1,4 @@
+-- answers sha256 587a062f2910c5a7
 -- `measures::context` meets its contract: the marks are taken away behind the walk. Assumes nothing.
 use borrow.Author.Needs.{needs}
 use mathlib.Core.Path.{refl, _∙_}

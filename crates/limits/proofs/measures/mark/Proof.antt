@@ -1,3 +1,4 @@
+-- answers sha256 0df87970b7bea3f3
 -- `measures::mark` meets its contract: the declarations behind are marked. Assumes nothing.
 use Prim.Native.Nat.{_/_, _≤_}
 use mathlib.Core.Path.{_≡_, refl, _∙_}

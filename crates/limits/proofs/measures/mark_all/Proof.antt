@@ -1,3 +1,4 @@
+-- answers sha256 fadbed62f180f8c1
 -- `measures::mark_all` meets its contract. Assumes nothing.
 use mathlib.Core.List.{List}
 use borrow.Author.Needs.{needs}

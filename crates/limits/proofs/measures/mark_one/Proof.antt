@@ -1,3 +1,4 @@
+-- answers sha256 64efd309658d126b
 -- `measures::mark_one` meets its contract. Assumes nothing.
 use borrow.Author.Needs.{needs}
 use Rattle.limits.proofs.SizeMarks.{set-one}

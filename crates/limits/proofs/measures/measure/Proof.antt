@@ -1,3 +1,4 @@
+-- answers sha256 d5dc6df7f4c750f5
 -- `measures::measure` meets its contract. Assumes nothing.
 use borrow.Author.Needs.{needs}
 use mathlib.Core.Path.{ap, _∙_}

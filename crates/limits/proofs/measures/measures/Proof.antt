@@ -1,3 +1,4 @@
+-- answers sha256 e990b67f6b76a5e6
 -- `measures::measures` meets its contract. Assumes nothing.
 use borrow.Author.Needs.{needs}
 use Rattle.limits.proofs.measures.measures.Statement.{statement}

@@ -1,3 +1,4 @@
+-- answers sha256 dee86457db2e6a66
 -- `measures::operation` meets its contract. Assumes nothing.
 use borrow.Author.Needs.{needs}
 use mathlib.Core.Path.{_∙_}

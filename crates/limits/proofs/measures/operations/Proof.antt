@@ -1,3 +1,4 @@
+-- answers sha256 84ef598bbfcd7e29
 -- `measures::operations` meets its contract: the operations that are left have, with the fault of those before, the least fault of all. Assumes nothing.
 use Prim.Native.Nat.{_-_, _≤_}
 use mathlib.Core.Path.{_≡_, refl, _∙_}

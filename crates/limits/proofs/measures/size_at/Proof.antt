@@ -1,3 +1,4 @@
+-- answers sha256 8f7d6494c64180b4
 -- `measures::size_at` meets its contract. Assumes nothing.
 use borrow.Author.Needs.{needs}
 use borrow.Author.Tests.{not-true, not-false}

@@ -1,3 +1,4 @@
+-- answers sha256 2fa36f22159aee99
 -- `measures::states` meets its contract. Assumes nothing.
 use borrow.Author.Needs.{needs}
 use mathlib.Core.Path.{_∙_}

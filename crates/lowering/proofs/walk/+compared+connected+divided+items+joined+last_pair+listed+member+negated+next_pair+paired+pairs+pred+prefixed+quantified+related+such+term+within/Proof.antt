@@ -1,3 +1,4 @@
+-- answers sha256 ab2520660402582d
 -- The walk that writes the table meets its contracts. Assumes nothing.
 use Prim.Native.Nat.{ℕ, _<_, _+_, _-_, _*_}
 use borrow.Fn.Kinds.{In}

@@ -1,3 +1,4 @@
+-- answers sha256 c55e24c5b5a7c0df
 -- `walk::constant` meets its contract. Assumes nothing.
 use borrow.Author.Needs.{needs}
 use mathlib.Core.Path.{refl}

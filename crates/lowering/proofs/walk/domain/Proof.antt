@@ -1,3 +1,4 @@
+-- answers sha256 5773585efe80e071
 -- `walk::domain` meets its contract. Assumes nothing.
 use mathlib.Core.List.{[]}
 use borrow.Author.Needs.{needs}

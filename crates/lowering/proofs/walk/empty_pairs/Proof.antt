@@ -1,3 +1,4 @@
+-- answers sha256 98db4259e4b8fa50
 -- `walk::empty_pairs` meets its contract. Assumes nothing.
 use borrow.Author.Needs.{needs}
 use mathlib.Core.Path.{refl, _∙_}

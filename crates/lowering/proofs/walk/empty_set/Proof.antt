@@ -1,3 +1,4 @@
+-- answers sha256 8b9a83114fc21fd1
 -- `walk::empty_set` meets its contract. Assumes nothing.
 use borrow.Author.Needs.{needs}
 use mathlib.Core.Path.{refl, _∙_}

@@ -1,3 +1,4 @@
+-- answers sha256 df068ad0766d95c7
 -- `walk::named` meets its contract. Assumes nothing.
 use borrow.Author.Needs.{needs}
 use mathlib.Core.Path.{refl, _∙_}

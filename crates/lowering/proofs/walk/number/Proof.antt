@@ -1,3 +1,4 @@
+-- answers sha256 bdbe422fe6f3f5d3
 -- `walk::number` meets its contract. Assumes nothing.
 use borrow.Author.Needs.{needs}
 use mathlib.Core.Path.{refl}

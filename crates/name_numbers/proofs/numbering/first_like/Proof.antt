@@ -1,3 +1,4 @@
+-- answers sha256 a402530a2cfb1742
 -- `symbols::names::first_like` meets its contract: no symbol passed has the letters. Assumes nothing.
 use borrow.Author.Count.{below-more}
 use Prim.Native.Nat.{ℕ, _-_, _<_, _≤_}

@@ -1,3 +1,4 @@
+-- answers sha256 eee65427a3fa3561
 -- `symbols::names::is_name` meets its contract. Assumes nothing.
 use native.Mathlib.Omega.{arith}
 use Rattle.name_numbers.proofs.TreeLaws.{name-yes, name-below, name-above}

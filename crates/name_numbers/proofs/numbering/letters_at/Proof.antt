@@ -1,3 +1,4 @@
+-- answers sha256 3bc8f53110660840
 -- `symbols::names::letters_at` meets its contract. Assumes nothing.
 use lib.ListN.{drop, length-drop}
 use mathlib.Core.Bool.{cond, Bool}

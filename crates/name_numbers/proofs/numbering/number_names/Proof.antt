@@ -1,3 +1,4 @@
+-- answers sha256 fd9f4adcb4e76970
 -- `symbols::names::number_names` meets its contract: the tree of the names passed, and their values. Assumes nothing.
 use mathlib.Core.List.{List}
 use lib.ListN.{take, set, length-set, length-replicate, length, getD}

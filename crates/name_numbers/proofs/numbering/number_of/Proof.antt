@@ -1,3 +1,4 @@
+-- answers sha256 943cecf04498b3e9
 -- `symbols::names::number_of` meets its contract, by where the walk ends. Assumes nothing.
 use lib.ListN.{length-set, getD}
 use borrow.Author.Needs.{needs}

@@ -1,3 +1,4 @@
+-- answers sha256 72a2d7474b419206
 -- `symbols::names::pack_names` meets its contract: the letters of the symbols passed. Assumes nothing.
 use lib.ListN.{take, set, length-set, length}
 use mathlib.Core.List.{List}

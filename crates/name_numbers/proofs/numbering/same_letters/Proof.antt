@@ -1,3 +1,4 @@
+-- answers sha256 eb83023973fc4c1b
 -- `symbols::names::same_letters` meets its contract. Assumes nothing.
 use lib.Dec.{eqb}
 use mathlib.Core.Bool.{_&&_, Bool}

@@ -1,3 +1,4 @@
+-- answers sha256 d96c7bbea4ac6cff
 -- `symbols::names::walk` meets its contract: the walk from the top is the walk from here, with the bits that are left. Assumes nothing.
 use Prim.Native.Nat.{suc, ℕ, _+_, _-_, _<_, _≤_}
 use mathlib.Core.Path.{_≡_, refl, sym, ap, _∙_}

@@ -1,3 +1,4 @@
+-- answers sha256 96c061ea5d448c28
 -- `passes::check` meets its contract. Assumes nothing.
 use borrow.Author.Needs.{needs}
 use mathlib.Core.Path.{_∙_}

@@ -1,3 +1,4 @@
+-- answers sha256 a9e8f2f8653486ab
 -- `passes::clear` meets its contract. Assumes nothing.
 use lib.ListN.{length-set, length, getD}
 use Prim.Native.Nat.{ℕ, _-_, _<_, _≤_}

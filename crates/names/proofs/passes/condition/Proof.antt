@@ -1,3 +1,4 @@
+-- answers sha256 3f156e1edbc7d80b
 -- `passes::condition` meets its contract. Assumes nothing.
 use borrow.Author.Needs.{needs}
 use Rattle.names.proofs.PassSteps.{condition-seen}

@@ -1,3 +1,4 @@
+-- answers sha256 5a9e287455ef5830
 -- `passes::conditions` meets its contract. Assumes nothing.
 use lib.Seq.{length-take-le}
 use borrow.Author.Needs.{needs}

@@ -1,3 +1,4 @@
+-- answers sha256 8666fb5aa8f66bf6
 -- `passes::declared_end` meets its contract: the declarations that are left, and the nodes behind them, stand at the place of the walk. Assumes nothing.
 use Prim.Native.Nat.{_-_, _≤_}
 use native.Mathlib.Omega.{arith}

@@ -1,3 +1,4 @@
+-- answers sha256 4e9f70ec33b0b8f3
 -- `passes::later` meets its contract. Assumes nothing.
 use borrow.Author.Needs.{needs}
 use Rattle.names.proofs.WholePass.{later-faulty, later-seen}

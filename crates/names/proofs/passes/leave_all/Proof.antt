@@ -1,3 +1,4 @@
+-- answers sha256 0067b3ec9e114c76
 -- `passes::leave_all` meets its contract. Assumes nothing.
 use borrow.Author.Needs.{needs}
 use Rattle.names.proofs.PassStepsOperations.{leaving-seen}

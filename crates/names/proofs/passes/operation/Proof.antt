@@ -1,3 +1,4 @@
+-- answers sha256 f026d2ce0d58dff6
 -- `passes::operation` meets its contract. Assumes nothing.
 use lib.Seq.{length-take-le}
 use borrow.Author.Needs.{needs}

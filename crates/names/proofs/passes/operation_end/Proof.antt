@@ -1,3 +1,4 @@
+-- answers sha256 6c83fd37fa5e90ab
 -- `passes::operation_end` meets its contract. Assumes nothing.
 use borrow.Author.Needs.{needs}
 use Prim.Native.Nat.{_+_}

@@ -1,3 +1,4 @@
+-- answers sha256 660a8d8e83d6f19a
 -- `passes::operations` meets its contract: the operations that are left have the first fault of all of them. Assumes nothing.
 use Prim.Native.Nat.{_-_, _≤_}
 use mathlib.Core.Path.{_≡_, refl, _∙_}

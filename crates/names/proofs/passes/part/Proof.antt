@@ -1,3 +1,4 @@
+-- answers sha256 3498b70d8535cf28
 -- `passes::part` meets its contract. Assumes nothing.
 use borrow.Author.Needs.{needs}
 use mathlib.Core.Logic.{⊎-elim}

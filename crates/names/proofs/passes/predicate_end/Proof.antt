@@ -1,3 +1,4 @@
+-- answers sha256 03570460c3afee04
 -- `passes::predicate_end` meets its contract. Assumes nothing.
 use borrow.Author.Needs.{needs}
 use native.Mathlib.Omega.{arith}

@@ -1,3 +1,4 @@
+-- answers sha256 6862131c5845510f
 -- `passes::reach_all` meets its contract. Assumes nothing.
 use borrow.Author.Needs.{needs}
 use Rattle.names.proofs.PassStepsOperations.{reaching-seen}

@@ -1,3 +1,4 @@
+-- answers sha256 17b3dce0eab441df
 -- `passes::side` meets its contract. Assumes nothing.
 use borrow.Author.Needs.{needs}
 use Rattle.names.proofs.PassStepsOperations.{side-seen}

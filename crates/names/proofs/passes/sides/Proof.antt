@@ -1,3 +1,4 @@
+-- answers sha256 671b65b6eb0dec48
 -- `passes::sides` meets its contract. Assumes nothing.
 use lib.Seq.{length-take-le}
 use borrow.Author.Needs.{needs}

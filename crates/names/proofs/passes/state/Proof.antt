@@ -1,3 +1,4 @@
+-- answers sha256 bc3cc21dbbc31c90
 -- `passes::state` meets its contract. Assumes nothing.
 use lib.Seq.{length-take-le}
 use borrow.Author.Needs.{needs}

@@ -1,3 +1,4 @@
+-- answers sha256 4843bebca2e96b87
 -- `passes::variables_of` meets its contract. Assumes nothing.
 use lib.Seq.{length-take-le}
 use borrow.Author.Needs.{needs}

@@ -1,3 +1,4 @@
+-- answers sha256 128f64886b25ea43
 -- `bodies::bodies` meets its contract.
 use mathlib.Core.List.{[], _∷_, _++_}
 use borrow.Author.Needs.{needs}

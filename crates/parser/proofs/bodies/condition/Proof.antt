@@ -1,3 +1,4 @@
+-- answers sha256 404ef0db424809f2
 -- `bodies::condition` meets its contract.
 use mathlib.Core.List.{[], _∷_}
 use Prim.Native.Nat.{_+_}

@@ -1,3 +1,4 @@
+-- answers sha256 ce49878c6b37e4ee
 -- `bodies::conditions` meets its contract.
 use mathlib.Core.Path.{refl}
 use mathlib.Core.List.{[], _∷_, _++_}

@@ -1,3 +1,4 @@
+-- answers sha256 c15f50366d919cbb
 -- `bodies::dossier` meets its contract.
 use borrow.Author.Needs.{needs}
 use native.Mathlib.Omega.{arith}

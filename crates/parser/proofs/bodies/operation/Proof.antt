@@ -1,3 +1,4 @@
+-- answers sha256 d17f6cc0286af8d0
 -- `bodies::operation` meets its contract.
 use mathlib.Core.Path.{refl}
 use mathlib.Core.List.{_++_}

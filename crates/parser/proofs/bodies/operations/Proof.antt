@@ -1,3 +1,4 @@
+-- answers sha256 777c83fd46b3243d
 -- `bodies::operations` meets its contract.
 use mathlib.Core.Path.{_≡_, refl, sym, _∙_}
 use mathlib.Core.List.{[], _∷_, _++_}

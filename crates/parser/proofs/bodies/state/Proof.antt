@@ -1,3 +1,4 @@
+-- answers sha256 42e8ffa1ede85834
 -- `bodies::state` meets its contract.
 use mathlib.Core.Path.{_≡_, refl}
 use mathlib.Core.List.{_∷_, _++_}

@@ -1,3 +1,4 @@
+-- answers sha256 f07bdaf8b66da183
 -- `bodies::states` meets its contract.
 use mathlib.Core.Path.{refl}
 use mathlib.Core.List.{[], _∷_}

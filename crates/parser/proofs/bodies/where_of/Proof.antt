@@ -1,3 +1,4 @@
+-- answers sha256 c12f72ab0f79738c
 -- `bodies::where_of` meets its contract.
 use mathlib.Core.Path.{refl}
 use mathlib.Core.List.{_∷_}

@@ -1,3 +1,4 @@
+-- answers sha256 63cd03bf7e890419
 -- `copies::copy_nodes` meets its contract: up to i the array has the other's numbers, behind that its own.
 use mathlib.Core.List.{List, [], _∷_, _++_}
 use Prim.Native.Nat.{zero, suc, ℕ, _-_, _<_, _≤_}

@@ -1,3 +1,4 @@
+-- answers sha256 5bf8f564c8cf7e45
 -- `headings::compare` meets its contract: the comparison from the entry and the body at hand on has the answer of the whole.
 use lib.ListN.{take}
 use Prim.Native.Nat.{_-_, _≤_}

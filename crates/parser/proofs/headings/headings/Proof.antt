@@ -1,3 +1,4 @@
+-- answers sha256 d12e5254b9154778
 -- `headings::headings` meets its contract: the faults come in the order of their places, and the first is found.
 use borrow.Author.Needs.{needs}
 use mathlib.Core.Path.{_∙_}

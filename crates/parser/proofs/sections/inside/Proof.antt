@@ -1,3 +1,4 @@
+-- answers sha256 eb58dc5e5291237e
 -- `sections::inside` meets its contract.
 use borrow.Author.Needs.{needs}
 use Prim.Native.Nat.{ℕ, _+_, _≤_}

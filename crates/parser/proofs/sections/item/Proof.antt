@@ -1,3 +1,4 @@
+-- answers sha256 c78597f8d6555702
 -- `sections::item` meets its contract.
 use borrow.Author.Needs.{needs}
 use Prim.Native.Nat.{ℕ, _+_}

@@ -1,3 +1,4 @@
+-- answers sha256 2ce963e9cec5ce64
 -- `sections::part` meets its contract.
 use borrow.Author.Needs.{needs}
 use native.Mathlib.Omega.{arith}

@@ -1,3 +1,4 @@
+-- answers sha256 f39a7e7054f9f926
 -- `sections::run` meets its contract.
 use lib.ListN.{take}
 use Prim.Native.Nat.{ℕ, _-_, _≤_}

@@ -1,3 +1,4 @@
+-- answers sha256 b45fdc09731d2b7b
 -- `sections::run_from` meets its contract.
 use borrow.Author.Needs.{needs}
 use mathlib.Core.Path.{refl}

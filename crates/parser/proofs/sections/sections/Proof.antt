@@ -1,3 +1,4 @@
+-- answers sha256 b7cd275a74e2afc7
 -- `sections::sections` meets its contract: each part begins behind those in front of it.
 use borrow.Author.Needs.{needs}
 use mathlib.Core.Path.{refl}

@@ -1,3 +1,4 @@
+-- answers sha256 d6d31ccf0fe0695f
 -- `sections::skip` meets its contract.
 use borrow.Author.Needs.{needs}
 use native.Mathlib.Omega.{arith}

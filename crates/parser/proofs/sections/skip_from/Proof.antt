@@ -1,3 +1,4 @@
+-- answers sha256 6749c02c57b7e55d
 -- `sections::skip_from` meets its contract.
 use borrow.Author.Needs.{needs}
 use native.Mathlib.Omega.{arith}

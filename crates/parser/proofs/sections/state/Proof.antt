@@ -1,3 +1,4 @@
+-- answers sha256 49c3e92951e40a2f
 -- `sections::state` meets its contract.
 use borrow.Author.Needs.{needs}
 use native.Mathlib.Omega.{arith}

@@ -1,3 +1,4 @@
+-- answers sha256 848b5a1f0729aa25
 -- `conjuncts::conjoin` meets its contract: both parts of an `and` are shorter than the whole. Assumes nothing.
 use Prim.Native.Nat.{ℕ, _<_, _-_}
 use borrow.Fn.Kinds.{In}

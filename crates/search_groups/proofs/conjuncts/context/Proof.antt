@@ -1,3 +1,4 @@
+-- answers sha256 52047ca235bd08dc
 -- `conjuncts::context` meets its contract. Assumes nothing.
 use borrow.Author.Needs.{needs}
 use native.Mathlib.Omega.{arith}

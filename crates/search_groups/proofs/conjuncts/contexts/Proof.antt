@@ -1,3 +1,4 @@
+-- answers sha256 585ecb0ea3538f30
 -- `conjuncts::contexts` meets its contract: what is written, and the contexts left, make the whole. Assumes nothing.
 use mathlib.Core.List.{List}
 use lib.ListN.{length-set, length}

@@ -1,3 +1,4 @@
+-- answers sha256 f8068678a06b32fa
 -- `conjuncts::fill` meets its contract. Assumes nothing.
 use borrow.Author.Needs.{needs}
 use native.Mathlib.Omega.{arith}

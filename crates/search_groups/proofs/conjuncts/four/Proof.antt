@@ -1,3 +1,4 @@
+-- answers sha256 5275a2e7f92b37f8
 -- `conjuncts::four` meets its contract. Assumes nothing.
 use borrow.Author.Needs.{needs}
 use Rattle.table_nodes.proofs.TableNumbers.{in-second, in-third, in-fourth}

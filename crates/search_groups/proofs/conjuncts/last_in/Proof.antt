@@ -1,3 +1,4 @@
+-- answers sha256 40bd4c70182c007a
 -- `conjuncts::last_in` meets its contract: what has been found, and what is still to come, make the whole. Assumes nothing.
 use Prim.Native.Nat.{max, _-_, _≤_}
 use native.Mathlib.Nat.{zero-max}

@@ -1,3 +1,4 @@
+-- answers sha256 6ee8c509cb3a985d
 -- `conjuncts::middle` meets its contract. Assumes nothing.
 use borrow.Author.Needs.{needs}
 use native.Mathlib.Omega.{arith}

@@ -1,3 +1,4 @@
+-- answers sha256 2bd6d6d793c4b935
 -- `conjuncts::place` meets its contract. Assumes nothing.
 use borrow.Author.Needs.{needs}
 use mathlib.Core.Path.{refl}

@@ -1,3 +1,4 @@
+-- answers sha256 9fde02cff9de51a9
 -- `conjuncts::rank` meets its contract. Assumes nothing.
 use borrow.Author.Needs.{needs}
 use native.Mathlib.Omega.{arith}

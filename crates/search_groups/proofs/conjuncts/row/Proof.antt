@@ -1,3 +1,4 @@
+-- answers sha256 0d372f384d866c0e
 -- `conjuncts::row` meets its contract. Assumes nothing.
 use borrow.Author.Needs.{needs}
 use native.Mathlib.Omega.{arith}

@@ -1,3 +1,4 @@
+-- answers sha256 4ae3d7ba6545c4d7
 -- `conjuncts::write` meets its contract. Assumes nothing.
 use borrow.Author.Needs.{needs}
 use mathlib.Core.Path.{refl}

@@ -1,3 +1,4 @@
+-- answers sha256 9b449a9418fd250b
 -- `groups::fill` meets its contract. Assumes nothing.
 use borrow.Author.Needs.{needs}
 use Rattle.search_groups.proofs.GroupRows.{grouped}

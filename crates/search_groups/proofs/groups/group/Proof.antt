@@ -1,3 +1,4 @@
+-- answers sha256 a314f2c3dda781e6
 -- `groups::group` meets its contract. Assumes nothing.
 use borrow.Author.Needs.{needs}
 use native.Mathlib.Omega.{arith}

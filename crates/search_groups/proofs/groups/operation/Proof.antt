@@ -1,3 +1,4 @@
+-- answers sha256 2947546e57ce9704
 -- `groups::operation` meets its contract. Assumes nothing.
 use borrow.Author.Needs.{needs}
 use native.Mathlib.Omega.{arith}

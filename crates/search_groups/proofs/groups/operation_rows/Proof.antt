@@ -1,3 +1,4 @@
+-- answers sha256 f2fdfd44482c7381
 -- `groups::operation_rows` meets its contract: what is written, and the operations left, make the whole. Assumes nothing.
 use mathlib.Core.List.{List}
 use Prim.Native.Nat.{ℕ, _-_, _≤_}

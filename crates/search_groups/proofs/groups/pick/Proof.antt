@@ -1,3 +1,4 @@
+-- answers sha256 559818fb858cf3f1
 -- `groups::pick` meets its contract. Assumes nothing.
 use lib.ListN.{length-set}
 use borrow.Author.Needs.{needs}

@@ -1,3 +1,4 @@
+-- answers sha256 c2a2c8f50d519743
 -- `groups::picked` meets its contract: what is written, and what is still to be read, make the whole. Assumes nothing.
 use mathlib.Core.List.{List}
 use Prim.Native.Nat.{ℕ, _-_, _≤_}

@@ -1,3 +1,4 @@
+-- answers sha256 57d815a797cac16b
 -- `groups::zeros` meets its contract. Assumes nothing.
 use lib.ListN.{replicate, length-set, length}
 use Prim.Native.Nat.{_-_, _≤_}

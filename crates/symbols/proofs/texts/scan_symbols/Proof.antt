@@ -1,3 +1,4 @@
+-- answers sha256 56995bae0096984a
 -- `symbols::texts::scan_symbols` meets its contract: the symbols taken so far, and the rest of the text from here. Assumes nothing.
 use lib.ListN.{length-set, length}
 use Prim.Native.Nat.{_-_}

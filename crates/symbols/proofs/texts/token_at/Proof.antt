@@ -1,3 +1,4 @@
+-- answers sha256 18118476e4e2f1e5
 -- `symbols::texts::token_at` meets its contract, class by class. Assumes nothing.
 use borrow.Author.Needs.{needs}
 use mathlib.Core.Path.{sym, ap, _∙_}

@@ -1,3 +1,4 @@
+-- answers sha256 8fc93b03ca1b8981
 -- `nodes::element_size` meets its contract. Assumes nothing.
 use borrow.Author.Needs.{needs}
 use mathlib.Core.Path.{sym, _∙_}

@@ -1,3 +1,4 @@
+-- answers sha256 08466317d1ccd2d1
 -- `nodes::first_size` meets its contract. Assumes nothing.
 use borrow.Author.Needs.{needs}
 use Rattle.table_nodes.proofs.TableNumbers.{first-some, first-none}

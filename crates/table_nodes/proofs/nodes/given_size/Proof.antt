@@ -1,3 +1,4 @@
+-- answers sha256 f86f9e1000a97411
 -- `nodes::given_size` meets its contract. Assumes nothing.
 use borrow.Author.Needs.{needs}
 use mathlib.Core.Path.{sym, _∙_}

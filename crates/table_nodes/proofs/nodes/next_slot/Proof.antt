@@ -1,3 +1,4 @@
+-- answers sha256 c05792376be52150
 -- `nodes::next_slot` meets its contract. Assumes nothing.
 use borrow.Author.Needs.{needs}
 use Rattle.table_nodes.proofs.TableNumbers.{slot-next, slot-last}

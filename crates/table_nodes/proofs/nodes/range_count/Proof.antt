@@ -1,3 +1,4 @@
+-- answers sha256 1e9bb17af751f6a3
 -- `nodes::range_count` meets its contract. Assumes nothing.
 use borrow.Author.Needs.{needs}
 use native.Mathlib.Omega.{arith}

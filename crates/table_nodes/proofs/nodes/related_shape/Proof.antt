@@ -1,3 +1,4 @@
+-- answers sha256 ee1371e3fa42dc2a
 -- `nodes::related_shape` meets its contract. Assumes nothing.
 use Rattle.table_nodes.proofs.TableNumbers.{shape-in, shape-notin}
 use Rattle.table_nodes.proofs.nodes.related_shape.Statement.{statement}

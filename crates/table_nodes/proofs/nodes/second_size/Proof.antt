@@ -1,3 +1,4 @@
+-- answers sha256 e911d4b49beab538
 -- `nodes::second_size` meets its contract. Assumes nothing.
 use borrow.Author.Needs.{needs}
 use Rattle.table_nodes.proofs.TableNumbers.{second-some, second-none}

@@ -1,3 +1,4 @@
+-- answers sha256 692415472d0687f4
 -- `nodes::set_node` meets its contract. Assumes nothing.
 use borrow.Author.Needs.{needs}
 use Rattle.table_nodes.proofs.TableNumbers.{in-second, in-third, in-fourth}

@@ -1,3 +1,4 @@
+-- answers sha256 93b8fe3e427087c4
 -- `nodes::truth_of` meets its contract. Assumes nothing.
 use Rattle.table_nodes.proofs.TableNumbers.{truth-yes, truth-no}
 use Rattle.table_nodes.proofs.nodes.truth_of.Statement.{statement}

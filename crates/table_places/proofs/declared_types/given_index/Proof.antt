@@ -1,3 +1,4 @@
+-- answers sha256 0a72187b75325286
 -- `declared_types::given_index` meets its contract. Assumes nothing.
 use borrow.Author.Needs.{needs}
 use Rattle.table_places.proofs.WritingTypes.{index-some, index-none, index-above}

@@ -1,3 +1,4 @@
+-- answers sha256 8ae1c469dc4e03af
 -- `declared_types::set_declared` meets its contract. Assumes nothing.
 use borrow.Author.Needs.{needs}
 use Rattle.table_places.proofs.WritingTypes.{declared-set}

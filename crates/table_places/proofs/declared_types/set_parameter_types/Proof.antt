@@ -1,3 +1,4 @@
+-- answers sha256 08978c887cae4718
 -- `declared_types::set_parameter_types` meets its contract: the operations that are left make of the table as it is what all of them make of that at entry.
 -- Assumes nothing.
 use Prim.Native.Nat.{_-_, _≤_}

@@ -1,3 +1,4 @@
+-- answers sha256 bd4c8034c9ee6960
 -- `declared_types::set_type` meets its contract. Assumes nothing.
 use borrow.Author.Needs.{needs}
 use Prim.Native.Nat.{ℕ, _+_}

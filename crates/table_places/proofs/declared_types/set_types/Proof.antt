@@ -1,3 +1,4 @@
+-- answers sha256 0d69d95b87215844
 -- `declared_types::set_types` meets its contract: what is left of the declarations makes of the table as it is what all of them make of that at entry. Assumes nothing.
 use mathlib.Core.List.{_∷_}
 use Prim.Native.Nat.{_+_, _-_, _≤_}

@@ -1,3 +1,4 @@
+-- answers sha256 b5b3083f0b459d09
 -- `places::place_all` meets its contract. Assumes nothing.
 use borrow.Author.Needs.{needs}
 use Rattle.table_places.proofs.WritingAll.{places-set}

@@ -1,3 +1,4 @@
+-- answers sha256 545df57d2b519e26
 -- `places::place_element` meets its contract. Assumes nothing.
 use lib.ListN.{set}
 use borrow.Author.Needs.{needs}

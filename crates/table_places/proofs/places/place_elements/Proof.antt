@@ -1,3 +1,4 @@
+-- answers sha256 d7890afbd740cbeb
 -- `places::place_elements` meets its contract: what is left of the given sets makes of the places as they are what all of them make of those at entry.
 -- Assumes nothing.
 use Prim.Native.Nat.{_+_, _-_, _≤_}

@@ -1,3 +1,4 @@
+-- answers sha256 1a579a8146b76e49
 -- `places::place_parameters` meets its contract: what is left of the parameters makes of the places as they are what all of them make of those at entry.
 -- Assumes nothing.
 use mathlib.Core.List.{_∷_}

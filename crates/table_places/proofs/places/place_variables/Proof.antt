@@ -1,3 +1,4 @@
+-- answers sha256 ff36b1e78856c45c
 -- `places::place_variables` meets its contract: what is left of the declarations makes of the places as they are what all of them make of those at entry.
 -- Assumes nothing.
 use mathlib.Core.List.{_∷_}

@@ -1,3 +1,4 @@
+-- answers sha256 aaaee880a2ad6105
 -- `passes::set_conditions` meets its contract. Assumes nothing.
 use borrow.Author.Needs.{needs}
 use mathlib.Core.Path.{_∙_}

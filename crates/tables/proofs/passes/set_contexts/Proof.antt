@@ -1,3 +1,4 @@
+-- answers sha256 9922314f7451fca6
 -- `passes::set_contexts` meets its contract. Assumes nothing.
 use borrow.Author.Needs.{needs}
 use mathlib.Core.Path.{_∙_}

@@ -1,3 +1,4 @@
+-- answers sha256 ed01cb43c68eba30
 -- `passes::set_operation` meets its contract. Assumes nothing.
 use borrow.Author.Needs.{needs}
 use mathlib.Core.Path.{_∙_}

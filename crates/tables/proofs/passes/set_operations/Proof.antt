@@ -1,3 +1,4 @@
+-- answers sha256 faba4b6f2ba8eca7
 -- `passes::set_operations` meets its contract: the operations that are left make of names, places and table as they are what all of them make of those at entry.
 -- Assumes nothing.
 use Prim.Native.Nat.{_-_, _≤_}

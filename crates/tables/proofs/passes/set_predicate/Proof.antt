@@ -1,3 +1,4 @@
+-- answers sha256 0d9a143e1c350773
 -- `passes::set_predicate` meets its contract. Assumes nothing.
 use borrow.Author.Needs.{needs}
 use Rattle.tables.proofs.WritingContexts.{predicate-none, predicate-set}

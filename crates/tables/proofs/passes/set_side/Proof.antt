@@ -1,3 +1,4 @@
+-- answers sha256 db7c071ad66504ac
 -- `passes::set_side` meets its contract. Assumes nothing.
 use borrow.Author.Needs.{needs}
 use Rattle.tables.proofs.WritingContexts.{side-set}

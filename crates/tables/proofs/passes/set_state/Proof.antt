@@ -1,3 +1,4 @@
+-- answers sha256 b564eae7cdc5ebcf
 -- `passes::set_state` meets its contract. Assumes nothing.
 use borrow.Author.Needs.{needs}
 use Rattle.tables.proofs.WritingContexts.{state-set}

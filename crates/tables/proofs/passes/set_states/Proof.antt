@@ -1,3 +1,4 @@
+-- answers sha256 a114621a20ecac11
 -- `passes::set_states` meets its contract. Assumes nothing.
 use borrow.Author.Needs.{needs}
 use Rattle.table_places.proofs.WritingAll.{states-set, state-read}

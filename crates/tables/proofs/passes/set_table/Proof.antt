@@ -1,3 +1,4 @@
+-- answers sha256 9b8e634a1a391324
 -- `passes::set_table` meets its contract. Assumes nothing.
 use borrow.Author.Needs.{needs}
 use native.Mathlib.Omega.{arith}

@@ -1,3 +1,4 @@
+-- answers sha256 952c1e43bb0b4204
 -- The walk for sizes over the nodes of terms and predicates meets its contracts. Assumes nothing.
 use Prim.Native.Nat.{ℕ, _<_, _+_, _-_, _*_}
 use borrow.Fn.Kinds.{In}

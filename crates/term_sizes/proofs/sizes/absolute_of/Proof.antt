@@ -1,3 +1,4 @@
+-- answers sha256 77a05b21e1cffaa3
 -- `sizes::absolute_of` meets its contract. Assumes nothing.
 use borrow.Author.Tests.{lt-ltb, le-ltb}
 use borrow.Author.Needs.{needs}

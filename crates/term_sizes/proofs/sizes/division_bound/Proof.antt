@@ -1,3 +1,4 @@
+-- answers sha256 bf9ffcc4b9923323
 -- `sizes::division_bound` meets its contract. Assumes nothing.
 use native.Mathlib.Omega.{arith}
 use Rattle.term_sizes.proofs.SizeWalkNumbers.{quotient-bound, remainder-bound}

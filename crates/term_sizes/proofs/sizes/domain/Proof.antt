@@ -1,3 +1,4 @@
+-- answers sha256 9a3309f1f5a8266c
 -- `sizes::domain` meets its contract. Assumes nothing.
 use mathlib.Core.List.{[]}
 use borrow.Author.Needs.{needs}

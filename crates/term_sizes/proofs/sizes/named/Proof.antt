@@ -1,3 +1,4 @@
+-- answers sha256 d361ab46c82a69a6
 -- `sizes::named` meets its contract. Assumes nothing.
 use borrow.Author.Needs.{needs}
 use mathlib.Core.Path.{refl}

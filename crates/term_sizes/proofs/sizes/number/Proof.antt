@@ -1,3 +1,4 @@
+-- answers sha256 fe2884293a88914f
 -- `sizes::number` meets its contract. Assumes nothing.
 use borrow.Author.Needs.{needs}
 use mathlib.Core.Path.{refl}

@@ -1,3 +1,4 @@
+-- answers sha256 13ed844980aadf05
 -- `sizes::operator_bound` meets its contract. Assumes nothing.
 use borrow.Author.Needs.{needs}
 use native.Mathlib.Omega.{arith}

@@ -1,3 +1,4 @@
+-- answers sha256 315c3976acd819f0
 -- `sizes::over` meets its contract. Assumes nothing.
 use borrow.Author.Tests.{le-leb, lt-leb, eq-eqb, ne-eqb}
 use borrow.Author.Needs.{needs}

@@ -1,3 +1,4 @@
+-- answers sha256 77b5d9ad04614cf5
 -- `sizes::prefix_bound` meets its contract. Assumes nothing.
 use native.Mathlib.Omega.{arith}
 use Rattle.term_sizes.proofs.SizeWalkNumbers.{negate-bound, count-bound, side-bound}

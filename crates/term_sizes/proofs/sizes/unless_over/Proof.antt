@@ -1,3 +1,4 @@
+-- answers sha256 1c87360d2bae33a7
 -- `sizes::unless_over` meets its contract. Assumes nothing.
 use borrow.Author.Tests.{eq-eqb, ne-eqb}
 use Rattle.term_sizes.proofs.sizes.unless_over.Statement.{statement}

@@ -1,3 +1,4 @@
+-- answers sha256 18bd5755481569cc
 -- `kinds::both_elements` meets its contract. Assumes nothing.
 use borrow.Author.Needs.{needs}
 use Rattle.type_rules.proofs.TypeNumbers.{and-yes, and-no}

@@ -1,3 +1,4 @@
+-- answers sha256 6efcb011acb3f814
 -- `kinds::both_given` meets its contract. Assumes nothing.
 use borrow.Author.Needs.{needs}
 use Rattle.type_rules.proofs.TypeNumbers.{and-yes, and-no}

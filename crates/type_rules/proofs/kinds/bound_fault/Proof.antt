@@ -1,3 +1,4 @@
+-- answers sha256 72286468c1e2521e
 -- `kinds::bound_fault` meets its contract. Assumes nothing.
 use borrow.Author.Needs.{needs}
 use Rattle.type_rules.proofs.TypeNumbers.{binder, inside-none, inside-some}

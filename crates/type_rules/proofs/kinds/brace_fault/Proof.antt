@@ -1,3 +1,4 @@
+-- answers sha256 2085224381eeb26d
 -- `kinds::brace_fault` meets its contract. Assumes nothing.
 use borrow.Author.Needs.{needs}
 use Rattle.type_rules.proofs.TypeNumbers.{brace-pairs, brace-other}

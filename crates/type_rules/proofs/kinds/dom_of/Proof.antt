@@ -1,3 +1,4 @@
+-- answers sha256 40063a558d4c9b21
 -- `kinds::dom_of` meets its contract. Assumes nothing.
 use borrow.Author.Tests.{le-leb, lt-leb}
 use borrow.Author.Needs.{needs}

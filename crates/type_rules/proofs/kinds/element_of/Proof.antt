@@ -1,3 +1,4 @@
+-- answers sha256 b542c2ad271a6764
 -- `kinds::element_of` meets its contract. Assumes nothing.
 use borrow.Author.Needs.{needs}
 use Prim.Native.Nat.{_+_}

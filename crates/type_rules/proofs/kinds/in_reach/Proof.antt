@@ -1,3 +1,4 @@
+-- answers sha256 102755afd0a11a7e
 -- `kinds::in_reach` meets its contract. Assumes nothing.
 use borrow.Author.Tests.{eq-eqb, ne-eqb}
 use Rattle.type_rules.specs.TypesByNumber.{isNumber, inReach}

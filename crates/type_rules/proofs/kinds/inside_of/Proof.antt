@@ -1,3 +1,4 @@
+-- answers sha256 5296e3cb53749046
 -- `kinds::inside_of` meets its contract. Assumes nothing.
 use borrow.Author.Tests.{eq-eqb, ne-eqb}
 use Rattle.type_rules.proofs.kinds.inside_of.Statement.{statement}

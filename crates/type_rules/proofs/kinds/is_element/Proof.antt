@@ -1,3 +1,4 @@
+-- answers sha256 794941b85870b946
 -- `kinds::is_element` meets its contract. Assumes nothing.
 use borrow.Author.Tests.{le-leb, lt-leb}
 use Rattle.type_rules.specs.TypesByNumber.{isElement}

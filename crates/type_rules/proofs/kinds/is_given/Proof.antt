@@ -1,3 +1,4 @@
+-- answers sha256 038a026474873d9a
 -- `kinds::is_given` meets its contract. Assumes nothing.
 use borrow.Author.Tests.{le-leb, lt-leb}
 use Rattle.type_rules.specs.TypesByNumber.{isGiven}

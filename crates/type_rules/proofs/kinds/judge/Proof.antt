@@ -1,3 +1,4 @@
+-- answers sha256 b9a0cb1c9d6faaa4
 -- `kinds::judge` meets its contract. Assumes nothing.
 use borrow.Author.Tests.{eq-eqb, ne-eqb}
 use borrow.Author.Needs.{needs}

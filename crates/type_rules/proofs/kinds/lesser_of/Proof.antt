@@ -1,3 +1,4 @@
+-- answers sha256 dc28b71e409fd07b
 -- `kinds::lesser_of` meets its contract. Assumes nothing.
 use borrow.Author.Tests.{lt-ltb, le-ltb, eq-eqb, ne-eqb}
 use Rattle.type_rules.specs.TypesByNumber.{lesser}

@@ -1,3 +1,4 @@
+-- answers sha256 29734d2b328c8f82
 -- `kinds::look` meets its contract. Assumes nothing.
 use lib.ListN.{List·getD-eq-default}
 use borrow.Author.Needs.{needs}

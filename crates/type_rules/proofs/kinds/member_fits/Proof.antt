@@ -1,3 +1,4 @@
+-- answers sha256 09fc20304ca0b396
 -- `kinds::member_fits` meets its contract. Assumes nothing.
 use lib.Dec.{eqb}
 use mathlib.Core.Path.{ap₂}

@@ -1,3 +1,4 @@
+-- answers sha256 6b7f82c2e44ef03a
 -- `kinds::over_fault` meets its contract. Assumes nothing.
 use borrow.Author.Needs.{needs}
 use native.Mathlib.Omega.{arith}

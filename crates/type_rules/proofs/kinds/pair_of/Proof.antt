@@ -1,3 +1,4 @@
+-- answers sha256 4145fe0dc3c13dc5
 -- `kinds::pair_of` meets its contract. Assumes nothing.
 use mathlib.Core.Bool.{_&&_}
 use borrow.Author.Needs.{needs}

@@ -1,3 +1,4 @@
+-- answers sha256 ca3f7a37a80dafc9
 -- `kinds::product_fits` meets its contract. Assumes nothing.
 use lib.Dec.{leb}
 use mathlib.Core.Path.{ap₂}

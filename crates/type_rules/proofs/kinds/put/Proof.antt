@@ -1,3 +1,4 @@
+-- answers sha256 e9f17e38ce3e0374
 -- `kinds::put` meets its contract. Assumes nothing.
 use lib.Seq.{set-out}
 use borrow.Author.Needs.{needs}

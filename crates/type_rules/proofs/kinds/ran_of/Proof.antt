@@ -1,3 +1,4 @@
+-- answers sha256 2cc5546d4be58f41
 -- `kinds::ran_of` meets its contract. Assumes nothing.
 use borrow.Author.Tests.{le-leb, lt-leb}
 use borrow.Author.Needs.{needs}

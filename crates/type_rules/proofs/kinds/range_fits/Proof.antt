@@ -1,3 +1,4 @@
+-- answers sha256 5567da7fb089e808
 -- `kinds::range_fits` meets its contract. Assumes nothing.
 use borrow.Author.Tests.{le-leb, lt-leb}
 use lib.Dec.{ltb}

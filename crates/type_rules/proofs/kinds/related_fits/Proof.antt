@@ -1,3 +1,4 @@
+-- answers sha256 391c4b3222a5a36f
 -- `kinds::related_fits` meets its contract. Assumes nothing.
 use mathlib.Core.Bool.{_&&_}
 use lib.Dec.{eqb}

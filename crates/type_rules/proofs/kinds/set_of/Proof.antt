@@ -1,3 +1,4 @@
+-- answers sha256 b4de57184a536bdd
 -- `kinds::set_of` meets its contract. Assumes nothing.
 use borrow.Author.Needs.{needs}
 use Prim.Native.Nat.{_+_}

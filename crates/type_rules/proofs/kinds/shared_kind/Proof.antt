@@ -1,3 +1,4 @@
+-- answers sha256 a18cab983520ea3b
 -- `kinds::shared_kind` meets its contract. Assumes nothing.
 use borrow.Author.Tests.{eq-eqb, ne-eqb}
 use Rattle.type_rules.specs.TypesByNumber.{shared}

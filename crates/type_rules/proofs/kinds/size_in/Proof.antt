@@ -1,3 +1,4 @@
+-- answers sha256 02ebd0c238a3a589
 -- `kinds::size_in` meets its contract. Assumes nothing.
 use lib.ListN.{List·getD-eq-default}
 use borrow.Author.Needs.{needs}

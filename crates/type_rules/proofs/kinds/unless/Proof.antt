@@ -1,3 +1,4 @@
+-- answers sha256 6e7219199a8f901a
 -- `kinds::unless` meets its contract. Assumes nothing.
 use borrow.Author.Needs.{needs}
 use Rattle.type_rules.proofs.kinds.unless.Statement.{statement}

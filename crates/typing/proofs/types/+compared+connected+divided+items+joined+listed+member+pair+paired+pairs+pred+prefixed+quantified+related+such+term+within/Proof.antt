@@ -1,3 +1,4 @@
+-- answers sha256 f8aa1c8b928e507a
 -- The walk over the nodes of terms and predicates meets its contracts. Assumes nothing.
 use Prim.Native.Nat.{ℕ, _<_, _+_, _-_, _*_}
 use borrow.Fn.Kinds.{In}

@@ -1,3 +1,4 @@
+-- answers sha256 91d5385e842cd088
 -- `types::comparison_fits` meets its contract. Assumes nothing.
 use borrow.Author.Tests.{eq-eqb, ne-eqb}
 use Rattle.type_rules.proofs.TypeNumbers.{equal-fits, order-fits}

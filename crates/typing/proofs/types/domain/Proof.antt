@@ -1,3 +1,4 @@
+-- answers sha256 0c3a5910e4b932be
 -- `types::domain` meets its contract. Assumes nothing.
 use mathlib.Core.List.{[]}
 use borrow.Author.Needs.{needs}

@@ -1,3 +1,4 @@
+-- answers sha256 f1755800c12c13f9
 -- `types::empty_pairs` meets its contract. Assumes nothing.
 use borrow.Author.Needs.{needs}
 use mathlib.Core.Path.{refl}

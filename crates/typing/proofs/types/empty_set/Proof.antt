@@ -1,3 +1,4 @@
+-- answers sha256 a06530de16c6d789
 -- `types::empty_set` meets its contract. Assumes nothing.
 use borrow.Author.Needs.{needs}
 use mathlib.Core.Path.{refl}

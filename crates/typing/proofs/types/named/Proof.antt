@@ -1,3 +1,4 @@
+-- answers sha256 23438fd86483bb47
 -- `types::named` meets its contract. Assumes nothing.
 use borrow.Author.Needs.{needs}
 use mathlib.Core.Path.{refl}

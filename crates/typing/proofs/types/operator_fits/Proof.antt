@@ -1,3 +1,4 @@
+-- answers sha256 a1f6d05a7f27bc4b
 -- `types::operator_fits` meets its contract. Assumes nothing.
 use borrow.Author.Tests.{le-leb, lt-leb, eq-eqb, ne-eqb}
 use Rattle.type_rules.proofs.TypeNumbers.{numbers-fit, sets-fit}

@@ -1,3 +1,4 @@
+-- answers sha256 9371fe27f80add66
 -- `types::prefix_fits` meets its contract. Assumes nothing.
 use Rattle.type_rules.proofs.TypeNumbers.{negate-fits, size-fits, side-fits}
 use Rattle.typing.proofs.types.prefix_fits.Statement.{statement}

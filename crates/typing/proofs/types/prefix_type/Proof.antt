@@ -1,3 +1,4 @@
+-- answers sha256 37470c31112be975
 -- `types::prefix_type` meets its contract. Assumes nothing.
 use borrow.Author.Needs.{needs}
 use Rattle.type_rules.proofs.TypeNumbers.{dom-type, ran-type, number-type}

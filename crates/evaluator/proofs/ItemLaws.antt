@@ -1,6 +1,6 @@
 -- The nodes of a brace opened by their shapes: what their parts must give, what operators take, and what they give. Assumes nothing.
 use mathlib.Core.Path.{_≡_, refl, sym, ap, ap₂, subst, _∙_}
-use mathlib.Core.Bool.{Bool, false}
+use mathlib.Core.Bool.{false}
 use mathlib.Core.List.{List}
 use Prim.Native.Nat.{ℕ, zero, suc, _-_, _^_, _<_}
 use lib.Dec.{eqb}

@@ -1,0 +1,33 @@
+// The tests of states, initial states, retrieve and steps, at the values in the slots. The rows of a predicate's conjuncts are 8 numbers each, of which the second
+// is where the conjunct's table ends (search_groups/specs/Conjuncts); `firsts` says where the rows of each predicate begin. The slots are left as they were.
+ghost use mathlib.Core.Path.{_≡_};
+ghost use Rattle.states.specs.Promises.{RowsAsked, RowsAnswer, ContextAsked, ContextAnswers};
+use truths::truth;
+
+// Do all conjuncts of the rows between two places hold? The first that does not decides.
+fn all_hold(t: &[u16; 16384], rows: &[u16; 16384], from: usize, to: usize, slots: &mut [i64; 64]) -> bool
+    requires { ⌜ RowsAsked (now t) (now rows) from to (now slots) ⌝ }
+    ensures answers { λ r. ⌜ RowsAnswer (now (t .entry)) (now (rows .entry)) from to (now (slots .entry)) r ⌝ }
+    ensures kept { λ r. ⌜ now (slots .exit) ≡ now (slots .entry) ⌝ }
+{
+    let mut i = from;
+    while i < to {
+        let end = rows[i + 1] as usize;
+        if !truth(t, end, slots) {
+            return false;
+        }
+        i += 8;
+    }
+    true
+}
+
+// Does the predicate of the n-th context hold (static_rules/specs/Scope.contexts)?
+pub fn context_holds(t: &[u16; 16384], rows: &[u16; 16384], firsts: &[u16; 40], n: usize, slots: &mut [i64; 64]) -> bool
+    requires { ⌜ ContextAsked (now t) (now rows) (now firsts) n (now slots) ⌝ }
+    ensures answers { λ r. ⌜ ContextAnswers (now (t .entry)) (now (rows .entry)) (now (firsts .entry)) n (now (slots .entry)) r ⌝ }
+    ensures kept { λ r. ⌜ now (slots .exit) ≡ now (slots .entry) ⌝ }
+{
+    let from = firsts[n] as usize;
+    let to = firsts[n + 1] as usize;
+    all_hold(t, rows, from, to, slots)
+}

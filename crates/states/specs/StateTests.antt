@@ -5,13 +5,14 @@ use mathlib.Core.Option.{some}
 use Prim.Native.Nat.{ℕ, _+_, _<_, _≤_}
 use lib.ListN.{length, getD, getElem?}
 use Rattle.lexical.specs.Lists.{all}
-use Rattle.form.specs.Tree.{Pred, Dossier}
+use Rattle.form.specs.Tree.{Pred, State, Operation, Dossier}
 use Rattle.static_rules.specs.Carriers.{Variable}
-use Rattle.static_rules.specs.Scope.{Scope, Context, contexts}
+use Rattle.static_rules.specs.Scope.{Scope, Context, contexts, unprimed, primed, inputs, outputs}
 use Rattle.meaning.specs.Meaning.{Binding, Environment, holds}
 use Rattle.meaning.specs.Bindings.{Over}
+use Rattle.meaning.specs.Operations.{after}
 use Rattle.value_types.specs.TypedValues.{InReach}
-use Rattle.table_places.specs.ResolvedTable.{Slots}
+use Rattle.table_places.specs.ResolvedTable.{Slots, slotted}
 use Rattle.table_places.specs.DossierTable.{slotsOf}
 use Rattle.evaluation.specs.EvaluationByNumber.{Values}
 use Rattle.evaluation.specs.SlotValues.{Slotted, Below}
@@ -42,3 +43,13 @@ pub record TestsOf (table rows firsts : List ℕ) (d : Dossier) : Type 0 where
 pub record Placed (vs : List Variable) (W : Slots) (b : Binding) (σ : Values) : Type 0 where
   pub over : Over vs b
   pub slotted : Slotted W b σ
+  pub long : length σ ≡ 64
+
+-- a step's bindings: the state before, the state after under its primed names, inputs and outputs in one array; the state after under its plain names in another.
+-- The state's slots begin at `plain`, the primed ones at `dashed`.
+pub record StepAt (d : Dossier) (s : State) (plain dashed : ℕ) (op : Operation) (b i o b′ : Binding) (σ later : Values) : Type 0 where
+  pub before : Placed (unprimed d s) (slotted plain (unprimed d s)) b σ
+  pub primes : Slotted (slotted dashed (primed d s)) (after b′) σ
+  pub inward : Placed (inputs d op) (slotted 16 (inputs d op)) i σ
+  pub outward : Placed (outputs d op) (slotted 19 (outputs d op)) o σ
+  pub behind : Placed (unprimed d s) (slotted plain (unprimed d s)) b′ later

@@ -2,7 +2,20 @@
 // is where the conjunct's table ends (search_groups/specs/Conjuncts); `firsts` says where the rows of each predicate begin. The slots are left as they were.
 ghost use mathlib.Core.Path.{_≡_};
 ghost use Rattle.states.specs.Promises.{RowsAsked, RowsAnswer, ContextAsked, ContextAnswers};
+ghost use Rattle.states.specs.Promises.{AbstractInitialAsked, AbstractInitialAnswers, ConcreteInitialAsked, ConcreteInitialAnswers};
+ghost use Rattle.states.specs.Promises.{RelatedAsked, RelatedAnswers};
 use truths::truth;
+
+// The places of predicates among the contexts.
+const ABSTRACT: usize = 0;
+
+const CONCRETE: usize = 1;
+
+const AINIT: usize = 2;
+
+const CINIT: usize = 3;
+
+const RETRIEVE: usize = 4;
 
 // Do all conjuncts of the rows between two places hold? The first that does not decides.
 fn all_hold(t: &[u16; 16384], rows: &[u16; 16384], from: usize, to: usize, slots: &mut [i64; 64]) -> bool
@@ -30,4 +43,43 @@ pub fn context_holds(t: &[u16; 16384], rows: &[u16; 16384], firsts: &[u16; 40], 
     let from = firsts[n] as usize;
     let to = firsts[n + 1] as usize;
     all_hold(t, rows, from, to, slots)
+}
+
+// Is the binding of the abstract variables an initial state: a state that meets ainit?
+pub fn abstract_initial(t: &[u16; 16384], rows: &[u16; 16384], firsts: &[u16; 40], slots: &mut [i64; 64]) -> bool
+    requires { ⌜ AbstractInitialAsked (now t) (now rows) (now firsts) (now slots) ⌝ }
+    ensures answers { λ r. ⌜ AbstractInitialAnswers (now (t .entry)) (now (rows .entry)) (now (firsts .entry)) (now (slots .entry)) r ⌝ }
+    ensures kept { λ r. ⌜ now (slots .exit) ≡ now (slots .entry) ⌝ }
+{
+    if !context_holds(t, rows, firsts, ABSTRACT, slots) {
+        return false;
+    }
+    context_holds(t, rows, firsts, AINIT, slots)
+}
+
+// The same of the concrete variables and cinit.
+pub fn concrete_initial(t: &[u16; 16384], rows: &[u16; 16384], firsts: &[u16; 40], slots: &mut [i64; 64]) -> bool
+    requires { ⌜ ConcreteInitialAsked (now t) (now rows) (now firsts) (now slots) ⌝ }
+    ensures answers { λ r. ⌜ ConcreteInitialAnswers (now (t .entry)) (now (rows .entry)) (now (firsts .entry)) (now (slots .entry)) r ⌝ }
+    ensures kept { λ r. ⌜ now (slots .exit) ≡ now (slots .entry) ⌝ }
+{
+    if !context_holds(t, rows, firsts, CONCRETE, slots) {
+        return false;
+    }
+    context_holds(t, rows, firsts, CINIT, slots)
+}
+
+// Are both bindings states, and related by retrieve?
+pub fn related(t: &[u16; 16384], rows: &[u16; 16384], firsts: &[u16; 40], slots: &mut [i64; 64]) -> bool
+    requires { ⌜ RelatedAsked (now t) (now rows) (now firsts) (now slots) ⌝ }
+    ensures answers { λ r. ⌜ RelatedAnswers (now (t .entry)) (now (rows .entry)) (now (firsts .entry)) (now (slots .entry)) r ⌝ }
+    ensures kept { λ r. ⌜ now (slots .exit) ≡ now (slots .entry) ⌝ }
+{
+    if !context_holds(t, rows, firsts, ABSTRACT, slots) {
+        return false;
+    }
+    if !context_holds(t, rows, firsts, CONCRETE, slots) {
+        return false;
+    }
+    context_holds(t, rows, firsts, RETRIEVE, slots)
 }

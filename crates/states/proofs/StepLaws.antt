@@ -1,0 +1,1 @@
+-- The contexts of operations, and what the answers mean for steps.

@@ -4,6 +4,7 @@ ghost use mathlib.Core.Path.{_≡_};
 ghost use Rattle.states.specs.Promises.{RowsAsked, RowsAnswer, ContextAsked, ContextAnswers};
 ghost use Rattle.states.specs.Promises.{AbstractInitialAsked, AbstractInitialAnswers, ConcreteInitialAsked, ConcreteInitialAnswers};
 ghost use Rattle.states.specs.Promises.{RelatedAsked, RelatedAnswers};
+ghost use Rattle.states.specs.Promises.{AbstractStepAsked, AbstractStepAnswers, ConcreteStepAsked, ConcreteStepAnswers};
 use truths::truth;
 
 // The places of predicates among the contexts.
@@ -16,6 +17,9 @@ const AINIT: usize = 2;
 const CINIT: usize = 3;
 
 const RETRIEVE: usize = 4;
+
+// Two for each operation, its abstract and its concrete predicate.
+const OPERATIONS: usize = 5;
 
 // Do all conjuncts of the rows between two places hold? The first that does not decides.
 fn all_hold(t: &[u16; 16384], rows: &[u16; 16384], from: usize, to: usize, slots: &mut [i64; 64]) -> bool
@@ -82,4 +86,37 @@ pub fn related(t: &[u16; 16384], rows: &[u16; 16384], firsts: &[u16; 40], slots:
         return false;
     }
     context_holds(t, rows, firsts, RETRIEVE, slots)
+}
+
+// Is it a step of the k-th operation's abstract side? `slots` has the state before, the state after under its primed slots, inputs and outputs; `later` has the
+// state after under the plain slots, so that the nodes of the state's predicate serve both states.
+pub fn abstract_step(t: &[u16; 16384], rows: &[u16; 16384], firsts: &[u16; 40], k: usize, slots: &mut [i64; 64], later: &mut [i64; 64]) -> bool
+    requires { ⌜ AbstractStepAsked (now t) (now rows) (now firsts) k (now slots) (now later) ⌝ }
+    ensures answers { λ r. ⌜ AbstractStepAnswers (now (t .entry)) (now (rows .entry)) (now (firsts .entry)) k (now (slots .entry)) (now (later .entry)) r ⌝ }
+    ensures kept { λ r. ⌜ now (slots .exit) ≡ now (slots .entry) ⌝ }
+    ensures later_kept { λ r. ⌜ now (later .exit) ≡ now (later .entry) ⌝ }
+{
+    if !context_holds(t, rows, firsts, ABSTRACT, slots) {
+        return false;
+    }
+    if !context_holds(t, rows, firsts, ABSTRACT, later) {
+        return false;
+    }
+    context_holds(t, rows, firsts, OPERATIONS + 2 * k, slots)
+}
+
+// The same of its concrete side.
+pub fn concrete_step(t: &[u16; 16384], rows: &[u16; 16384], firsts: &[u16; 40], k: usize, slots: &mut [i64; 64], later: &mut [i64; 64]) -> bool
+    requires { ⌜ ConcreteStepAsked (now t) (now rows) (now firsts) k (now slots) (now later) ⌝ }
+    ensures answers { λ r. ⌜ ConcreteStepAnswers (now (t .entry)) (now (rows .entry)) (now (firsts .entry)) k (now (slots .entry)) (now (later .entry)) r ⌝ }
+    ensures kept { λ r. ⌜ now (slots .exit) ≡ now (slots .entry) ⌝ }
+    ensures later_kept { λ r. ⌜ now (later .exit) ≡ now (later .entry) ⌝ }
+{
+    if !context_holds(t, rows, firsts, CONCRETE, slots) {
+        return false;
+    }
+    if !context_holds(t, rows, firsts, CONCRETE, later) {
+        return false;
+    }
+    context_holds(t, rows, firsts, OPERATIONS + 2 * k + 1, slots)
 }

@@ -57,7 +57,7 @@ module _ (d : Dossier) where
   abstract-entry i xs (o ∷ os) zero op e =
       subst
       (λ (x : Operation).
-          Entry d (operationContexts d i xs (o ∷ os)) (operationSlots d (o ∷ os)) zero (x .abstractly) (operationReach d (d .abstract) x) (abstractOf d x))
+      Entry d (operationContexts d i xs (o ∷ os)) (operationSlots d (o ∷ os)) zero (x .abstractly) (operationReach d (d .abstract) x) (abstractOf d x))
       (Option·some-injective o op e)
       (record { context = _; is = refl; slots-are = refl; predicate-is = refl; givens-are = refl; reach-is = refl })
   abstract-entry i xs (o ∷ os) (suc k) op e =
@@ -78,7 +78,7 @@ module _ (d : Dossier) where
   concrete-entry i xs (o ∷ os) zero op e =
       subst
       (λ (x : Operation).
-          Entry d (operationContexts d i xs (o ∷ os)) (operationSlots d (o ∷ os)) (suc zero) (x .concretely) (operationReach d (d .concrete) x) (concreteOf d x))
+      Entry d (operationContexts d i xs (o ∷ os)) (operationSlots d (o ∷ os)) (suc zero) (x .concretely) (operationReach d (d .concrete) x) (concreteOf d x))
       (Option·some-injective o op e)
       (record { context = _; is = refl; slots-are = refl; predicate-is = refl; givens-are = refl; reach-is = refl })
   concrete-entry i xs (o ∷ os) (suc k) op e =

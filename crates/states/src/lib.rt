@@ -22,7 +22,13 @@ const RETRIEVE: usize = 4;
 const OPERATIONS: usize = 5;
 
 // Do all conjuncts of the rows between two places hold? The first that does not decides.
-fn all_hold(t: &[u16; 16384], rows: &[u16; 16384], from: usize, to: usize, slots: &mut [i64; 64]) -> bool
+fn all_hold(
+    t: &[u16; 16384],
+    rows: &[u16; 16384],
+    from: usize,
+    to: usize,
+    slots: &mut [i64; 64],
+) -> bool
     requires { ⌜ RowsAsked (now t) (now rows) from to (now slots) ⌝ }
     ensures answers { λ r. ⌜ RowsAnswer (now (t .entry)) (now (rows .entry)) from to (now (slots .entry)) r ⌝ }
     ensures kept { λ r. ⌜ now (slots .exit) ≡ now (slots .entry) ⌝ }
@@ -39,7 +45,13 @@ fn all_hold(t: &[u16; 16384], rows: &[u16; 16384], from: usize, to: usize, slots
 }
 
 // Does the predicate of the n-th context hold (static_rules/specs/Scope.contexts)?
-pub fn context_holds(t: &[u16; 16384], rows: &[u16; 16384], firsts: &[u16; 40], n: usize, slots: &mut [i64; 64]) -> bool
+pub fn context_holds(
+    t: &[u16; 16384],
+    rows: &[u16; 16384],
+    firsts: &[u16; 40],
+    n: usize,
+    slots: &mut [i64; 64],
+) -> bool
     requires { ⌜ ContextAsked (now t) (now rows) (now firsts) n (now slots) ⌝ }
     ensures answers { λ r. ⌜ ContextAnswers (now (t .entry)) (now (rows .entry)) (now (firsts .entry)) n (now (slots .entry)) r ⌝ }
     ensures kept { λ r. ⌜ now (slots .exit) ≡ now (slots .entry) ⌝ }
@@ -50,7 +62,12 @@ pub fn context_holds(t: &[u16; 16384], rows: &[u16; 16384], firsts: &[u16; 40], 
 }
 
 // Is the binding of the abstract variables an initial state: a state that meets ainit?
-pub fn abstract_initial(t: &[u16; 16384], rows: &[u16; 16384], firsts: &[u16; 40], slots: &mut [i64; 64]) -> bool
+pub fn abstract_initial(
+    t: &[u16; 16384],
+    rows: &[u16; 16384],
+    firsts: &[u16; 40],
+    slots: &mut [i64; 64],
+) -> bool
     requires { ⌜ AbstractInitialAsked (now t) (now rows) (now firsts) (now slots) ⌝ }
     ensures answers { λ r. ⌜ AbstractInitialAnswers (now (t .entry)) (now (rows .entry)) (now (firsts .entry)) (now (slots .entry)) r ⌝ }
     ensures kept { λ r. ⌜ now (slots .exit) ≡ now (slots .entry) ⌝ }
@@ -62,7 +79,12 @@ pub fn abstract_initial(t: &[u16; 16384], rows: &[u16; 16384], firsts: &[u16; 40
 }
 
 // The same of the concrete variables and cinit.
-pub fn concrete_initial(t: &[u16; 16384], rows: &[u16; 16384], firsts: &[u16; 40], slots: &mut [i64; 64]) -> bool
+pub fn concrete_initial(
+    t: &[u16; 16384],
+    rows: &[u16; 16384],
+    firsts: &[u16; 40],
+    slots: &mut [i64; 64],
+) -> bool
     requires { ⌜ ConcreteInitialAsked (now t) (now rows) (now firsts) (now slots) ⌝ }
     ensures answers { λ r. ⌜ ConcreteInitialAnswers (now (t .entry)) (now (rows .entry)) (now (firsts .entry)) (now (slots .entry)) r ⌝ }
     ensures kept { λ r. ⌜ now (slots .exit) ≡ now (slots .entry) ⌝ }
@@ -74,7 +96,12 @@ pub fn concrete_initial(t: &[u16; 16384], rows: &[u16; 16384], firsts: &[u16; 40
 }
 
 // Are both bindings states, and related by retrieve?
-pub fn related(t: &[u16; 16384], rows: &[u16; 16384], firsts: &[u16; 40], slots: &mut [i64; 64]) -> bool
+pub fn related(
+    t: &[u16; 16384],
+    rows: &[u16; 16384],
+    firsts: &[u16; 40],
+    slots: &mut [i64; 64],
+) -> bool
     requires { ⌜ RelatedAsked (now t) (now rows) (now firsts) (now slots) ⌝ }
     ensures answers { λ r. ⌜ RelatedAnswers (now (t .entry)) (now (rows .entry)) (now (firsts .entry)) (now (slots .entry)) r ⌝ }
     ensures kept { λ r. ⌜ now (slots .exit) ≡ now (slots .entry) ⌝ }
@@ -90,7 +117,14 @@ pub fn related(t: &[u16; 16384], rows: &[u16; 16384], firsts: &[u16; 40], slots:
 
 // Is it a step of the k-th operation's abstract side? `slots` has the state before, the state after under its primed slots, inputs and outputs; `later` has the
 // state after under the plain slots, so that the nodes of the state's predicate serve both states.
-pub fn abstract_step(t: &[u16; 16384], rows: &[u16; 16384], firsts: &[u16; 40], k: usize, slots: &mut [i64; 64], later: &mut [i64; 64]) -> bool
+pub fn abstract_step(
+    t: &[u16; 16384],
+    rows: &[u16; 16384],
+    firsts: &[u16; 40],
+    k: usize,
+    slots: &mut [i64; 64],
+    later: &mut [i64; 64],
+) -> bool
     requires { ⌜ AbstractStepAsked (now t) (now rows) (now firsts) k (now slots) (now later) ⌝ }
     ensures answers { λ r. ⌜ AbstractStepAnswers (now (t .entry)) (now (rows .entry)) (now (firsts .entry)) k (now (slots .entry)) (now (later .entry)) r ⌝ }
     ensures kept { λ r. ⌜ now (slots .exit) ≡ now (slots .entry) ⌝ }
@@ -106,7 +140,14 @@ pub fn abstract_step(t: &[u16; 16384], rows: &[u16; 16384], firsts: &[u16; 40], 
 }
 
 // The same of its concrete side.
-pub fn concrete_step(t: &[u16; 16384], rows: &[u16; 16384], firsts: &[u16; 40], k: usize, slots: &mut [i64; 64], later: &mut [i64; 64]) -> bool
+pub fn concrete_step(
+    t: &[u16; 16384],
+    rows: &[u16; 16384],
+    firsts: &[u16; 40],
+    k: usize,
+    slots: &mut [i64; 64],
+    later: &mut [i64; 64],
+) -> bool
     requires { ⌜ ConcreteStepAsked (now t) (now rows) (now firsts) k (now slots) (now later) ⌝ }
     ensures answers { λ r. ⌜ ConcreteStepAnswers (now (t .entry)) (now (rows .entry)) (now (firsts .entry)) k (now (slots .entry)) (now (later .entry)) r ⌝ }
     ensures kept { λ r. ⌜ now (slots .exit) ≡ now (slots .entry) ⌝ }

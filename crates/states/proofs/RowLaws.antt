@@ -1,19 +1,19 @@
 -- The rows of conjuncts, one after the other: what is asked and answered from a place on.
-use mathlib.Core.Path.{_≡_, refl, sym, ap, _∙_, subst}
+use mathlib.Core.Path.{_≡_, refl, sym, _∙_, subst}
 use mathlib.Core.Bool.{Bool, true, false}
-use mathlib.Core.List.{List, [], _∷_}
+use mathlib.Core.List.{List, _∷_}
 use Prim.Native.Nat.{ℕ, _+_, _<_, _≤_}
 use native.Mathlib.Omega.{arith}
 use lib.ListN.{getD}
 use Rattle.lexical.specs.Lists.{all}
 use Rattle.form.specs.Tree.{Pred}
-use Rattle.static_rules.specs.Scope.{Scope, Context}
+use Rattle.static_rules.specs.Scope.{Scope}
 use Rattle.meaning.specs.Meaning.{Environment, holds}
 use Rattle.table_places.specs.ResolvedTable.{Slots}
 use Rattle.evaluation.specs.EvaluationByNumber.{Values}
 use Rattle.evaluation.specs.SlotValues.{Held}
 use Rattle.truths.specs.Promises.{Asked, Answers}
-use Rattle.states.specs.StateTests.{RowsAt, no-rows, more-rows, ContextAt}
+use Rattle.states.specs.StateTests.{RowsAt, no-rows, more-rows}
 use Rattle.states.specs.Promises.{RowsAsked, RowsAnswer, ContextAsked, ContextAnswers}
 
 -- what the evaluator answers where the slots are as they were

@@ -1,13 +1,13 @@
 -- The slots of variables and parameters are below those of bound names, and the contexts of a dossier are few.
-use mathlib.Core.Path.{_≡_, refl, sym, ap, _∙_, subst}
+use mathlib.Core.Path.{_≡_, refl, subst}
 use mathlib.Core.List.{List, [], _∷_, _++_, map}
 use mathlib.Core.Option.{some, Option·none-ne-some, Option·some-injective}
-use Prim.Native.Nat.{ℕ, zero, suc, _+_, _*_, _≤_, _<_}
+use Prim.Native.Nat.{ℕ, zero, suc, _+_, _*_, _≤_}
 use native.Mathlib.Omega.{arith}
 use lib.ListN.{length, getElem?, length-map}
 use Rattle.lexical.specs.Lists.{filter}
 use Rattle.lexical.specs.Symbols.{noEnding, prime}
-use Rattle.form.specs.Tree.{Letters, Declaration, declarations, inward, outward, Parameter, Operation, Dossier}
+use Rattle.form.specs.Tree.{Letters, declarations, inward, outward, Parameter, Operation, Dossier}
 use Rattle.form.specs.Written.{endingOf}
 use Rattle.form.specs.Headings.{operationsAt, operationLength}
 use Rattle.static_rules.specs.Carriers.{Variable}

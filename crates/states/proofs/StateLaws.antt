@@ -3,21 +3,20 @@ use mathlib.Core.Path.{_≡_, refl, sym, ap, _∙_, subst}
 use mathlib.Core.Bool.{Bool, true, false, _&&_}
 use mathlib.Core.List.{List, [], _∷_, _++_}
 use mathlib.Core.Option.{some}
-use Prim.Native.Nat.{ℕ, _+_, _<_, _≤_}
+use Prim.Native.Nat.{ℕ}
 use native.Mathlib.Omega.{arith}
-use lib.ListN.{length, getElem?}
-use Rattle.form.specs.Tree.{Pred, Given, Dossier}
+use lib.ListN.{getElem?}
+use Rattle.form.specs.Tree.{Pred, Dossier}
 use Rattle.static_rules.specs.Carriers.{Variable}
-use Rattle.static_rules.specs.Scope.{Scope, Context, contexts, unprimed}
-use Rattle.meaning.specs.Meaning.{Binding, Environment, holds}
+use Rattle.static_rules.specs.Scope.{Context, contexts, unprimed}
+use Rattle.meaning.specs.Meaning.{Binding, holds}
 use Rattle.meaning.specs.Bindings.{Over}
 use Rattle.meaning.specs.Operations.{environment, isState, abstractInitial, concreteInitial, related}
-use Rattle.value_types.specs.TypedValues.{InReach}
 use Rattle.table_places.specs.ResolvedTable.{Slots}
 use Rattle.table_places.specs.DossierTable.{slotsOf, abstractSlots, concreteSlots}
 use Rattle.evaluation.specs.EvaluationByNumber.{Values}
 use Rattle.evaluation.specs.SlotValues.{Slotted, Held}
-use Rattle.states.specs.StateTests.{ContextAt, TestsOf, Placed}
+use Rattle.states.specs.StateTests.{TestsOf, Placed}
 use Rattle.states.specs.Promises.{ContextAsked, ContextAnswers, AbstractIn, ConcreteIn}
 use Rattle.states.specs.Promises.{AbstractInitialAsked, AbstractInitialAnswers, ConcreteInitialAsked, ConcreteInitialAnswers, RelatedAsked, RelatedAnswers}
 

@@ -18,7 +18,7 @@ use Rattle.table_places.specs.ResolvedTable.{Slots, slotted}
 use Rattle.table_places.specs.DossierTable.{slotsOf, operationSlots, abstractSlots, concreteSlots, parameterSlots}
 use Rattle.evaluation.specs.EvaluationByNumber.{Values}
 use Rattle.evaluation.specs.SlotValues.{Slotted}
-use Rattle.states.specs.StateTests.{TestsOf, Placed, StepAt}
+use Rattle.states.specs.StateTests.{Placed, StepAt}
 use Rattle.states.specs.Promises.{ContextAsked, ContextAnswers}
 use Rattle.states.specs.Promises.{AbstractStepAsked, AbstractStepAnswers, ConcreteStepAsked, ConcreteStepAnswers}
 use Rattle.states.proofs.StateLaws.{ContextOf, abstract-context, concrete-context, asked-at, answer-at, over-append, slotted-append}

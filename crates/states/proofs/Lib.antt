@@ -1,0 +1,5 @@
+pub mod RowLaws
+pub mod StateLaws
+pub mod StepLaws
+pub mod SlotBounds
+pub mod ReadTests

@@ -1,0 +1,2 @@
+pub mod StateTests
+pub mod Promises

@@ -1,0 +1,163 @@
+// The tests of states, initial states, retrieve and steps, at the values in the slots. The rows of a predicate's conjuncts are 8 numbers each, of which the second
+// is where the conjunct's table ends (search_groups/specs/Conjuncts); `firsts` says where the rows of each predicate begin. The slots are left as they were.
+ghost use mathlib.Core.Path.{_≡_};
+ghost use Rattle.states.specs.Promises.{RowsAsked, RowsAnswer, ContextAsked, ContextAnswers};
+ghost use Rattle.states.specs.Promises.{AbstractInitialAsked, AbstractInitialAnswers, ConcreteInitialAsked, ConcreteInitialAnswers};
+ghost use Rattle.states.specs.Promises.{RelatedAsked, RelatedAnswers};
+ghost use Rattle.states.specs.Promises.{AbstractStepAsked, AbstractStepAnswers, ConcreteStepAsked, ConcreteStepAnswers};
+use truths::truth;
+
+// The places of predicates among the contexts.
+const ABSTRACT: usize = 0;
+
+const CONCRETE: usize = 1;
+
+const AINIT: usize = 2;
+
+const CINIT: usize = 3;
+
+const RETRIEVE: usize = 4;
+
+// Two for each operation, its abstract and its concrete predicate.
+const OPERATIONS: usize = 5;
+
+// Do all conjuncts of the rows between two places hold? The first that does not decides.
+fn all_hold(
+    t: &[u16; 16384],
+    rows: &[u16; 16384],
+    from: usize,
+    to: usize,
+    slots: &mut [i64; 64],
+) -> bool
+    requires { ⌜ RowsAsked (now t) (now rows) from to (now slots) ⌝ }
+    ensures answers { λ r. ⌜ RowsAnswer (now (t .entry)) (now (rows .entry)) from to (now (slots .entry)) r ⌝ }
+    ensures kept { λ r. ⌜ now (slots .exit) ≡ now (slots .entry) ⌝ }
+{
+    let mut i = from;
+    while i < to {
+        let end = rows[i + 1] as usize;
+        if !truth(t, end, slots) {
+            return false;
+        }
+        i += 8;
+    }
+    true
+}
+
+// Does the predicate of the n-th context hold (static_rules/specs/Scope.contexts)?
+pub fn context_holds(
+    t: &[u16; 16384],
+    rows: &[u16; 16384],
+    firsts: &[u16; 40],
+    n: usize,
+    slots: &mut [i64; 64],
+) -> bool
+    requires { ⌜ ContextAsked (now t) (now rows) (now firsts) n (now slots) ⌝ }
+    ensures answers { λ r. ⌜ ContextAnswers (now (t .entry)) (now (rows .entry)) (now (firsts .entry)) n (now (slots .entry)) r ⌝ }
+    ensures kept { λ r. ⌜ now (slots .exit) ≡ now (slots .entry) ⌝ }
+{
+    let from = firsts[n] as usize;
+    let to = firsts[n + 1] as usize;
+    all_hold(t, rows, from, to, slots)
+}
+
+// Is the binding of the abstract variables an initial state: a state that meets ainit?
+pub fn abstract_initial(
+    t: &[u16; 16384],
+    rows: &[u16; 16384],
+    firsts: &[u16; 40],
+    slots: &mut [i64; 64],
+) -> bool
+    requires { ⌜ AbstractInitialAsked (now t) (now rows) (now firsts) (now slots) ⌝ }
+    ensures answers { λ r. ⌜ AbstractInitialAnswers (now (t .entry)) (now (rows .entry)) (now (firsts .entry)) (now (slots .entry)) r ⌝ }
+    ensures kept { λ r. ⌜ now (slots .exit) ≡ now (slots .entry) ⌝ }
+{
+    if !context_holds(t, rows, firsts, ABSTRACT, slots) {
+        return false;
+    }
+    context_holds(t, rows, firsts, AINIT, slots)
+}
+
+// The same of the concrete variables and cinit.
+pub fn concrete_initial(
+    t: &[u16; 16384],
+    rows: &[u16; 16384],
+    firsts: &[u16; 40],
+    slots: &mut [i64; 64],
+) -> bool
+    requires { ⌜ ConcreteInitialAsked (now t) (now rows) (now firsts) (now slots) ⌝ }
+    ensures answers { λ r. ⌜ ConcreteInitialAnswers (now (t .entry)) (now (rows .entry)) (now (firsts .entry)) (now (slots .entry)) r ⌝ }
+    ensures kept { λ r. ⌜ now (slots .exit) ≡ now (slots .entry) ⌝ }
+{
+    if !context_holds(t, rows, firsts, CONCRETE, slots) {
+        return false;
+    }
+    context_holds(t, rows, firsts, CINIT, slots)
+}
+
+// Are both bindings states, and related by retrieve?
+pub fn related(
+    t: &[u16; 16384],
+    rows: &[u16; 16384],
+    firsts: &[u16; 40],
+    slots: &mut [i64; 64],
+) -> bool
+    requires { ⌜ RelatedAsked (now t) (now rows) (now firsts) (now slots) ⌝ }
+    ensures answers { λ r. ⌜ RelatedAnswers (now (t .entry)) (now (rows .entry)) (now (firsts .entry)) (now (slots .entry)) r ⌝ }
+    ensures kept { λ r. ⌜ now (slots .exit) ≡ now (slots .entry) ⌝ }
+{
+    if !context_holds(t, rows, firsts, ABSTRACT, slots) {
+        return false;
+    }
+    if !context_holds(t, rows, firsts, CONCRETE, slots) {
+        return false;
+    }
+    context_holds(t, rows, firsts, RETRIEVE, slots)
+}
+
+// Is it a step of the k-th operation's abstract side? `slots` has the state before, the state after under its primed slots, inputs and outputs; `later` has the
+// state after under the plain slots, so that the nodes of the state's predicate serve both states.
+pub fn abstract_step(
+    t: &[u16; 16384],
+    rows: &[u16; 16384],
+    firsts: &[u16; 40],
+    k: usize,
+    slots: &mut [i64; 64],
+    later: &mut [i64; 64],
+) -> bool
+    requires { ⌜ AbstractStepAsked (now t) (now rows) (now firsts) k (now slots) (now later) ⌝ }
+    ensures answers { λ r. ⌜ AbstractStepAnswers (now (t .entry)) (now (rows .entry)) (now (firsts .entry)) k (now (slots .entry)) (now (later .entry)) r ⌝ }
+    ensures kept { λ r. ⌜ now (slots .exit) ≡ now (slots .entry) ⌝ }
+    ensures later_kept { λ r. ⌜ now (later .exit) ≡ now (later .entry) ⌝ }
+{
+    if !context_holds(t, rows, firsts, ABSTRACT, slots) {
+        return false;
+    }
+    if !context_holds(t, rows, firsts, ABSTRACT, later) {
+        return false;
+    }
+    context_holds(t, rows, firsts, OPERATIONS + 2 * k, slots)
+}
+
+// The same of its concrete side.
+pub fn concrete_step(
+    t: &[u16; 16384],
+    rows: &[u16; 16384],
+    firsts: &[u16; 40],
+    k: usize,
+    slots: &mut [i64; 64],
+    later: &mut [i64; 64],
+) -> bool
+    requires { ⌜ ConcreteStepAsked (now t) (now rows) (now firsts) k (now slots) (now later) ⌝ }
+    ensures answers { λ r. ⌜ ConcreteStepAnswers (now (t .entry)) (now (rows .entry)) (now (firsts .entry)) k (now (slots .entry)) (now (later .entry)) r ⌝ }
+    ensures kept { λ r. ⌜ now (slots .exit) ≡ now (slots .entry) ⌝ }
+    ensures later_kept { λ r. ⌜ now (later .exit) ≡ now (later .entry) ⌝ }
+{
+    if !context_holds(t, rows, firsts, CONCRETE, slots) {
+        return false;
+    }
+    if !context_holds(t, rows, firsts, CONCRETE, later) {
+        return false;
+    }
+    context_holds(t, rows, firsts, OPERATIONS + 2 * k + 1, slots)
+}

@@ -3,3 +3,4 @@ pub mod ShapedValues
 pub mod Halving
 pub mod CarrierCells
 pub mod GroupBindings
+pub mod TypeCells

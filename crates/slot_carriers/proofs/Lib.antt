@@ -4,3 +4,4 @@ pub mod Halving
 pub mod CarrierCells
 pub mod GroupBindings
 pub mod TypeCells
+pub mod MadeCells

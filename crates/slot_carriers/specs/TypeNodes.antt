@@ -39,6 +39,15 @@ pub record FunctionIs (s a b d x : ℕ) : Type 0 where
 abbrev pub Functions : (s a b at n : ℕ) (cells : List ℕ) → Type 0
 Functions s a b at n cells = (d : ℕ) → d < n → FunctionIs s a b d (getD cells (at + d) 0)
 
+-- the first three numbers of a cell are written, and nothing else
+pub record CellWritten (old : List ℕ) (slot n s f : ℕ) (new : List ℕ) : Type 0 where
+  pub count : countIn new slot ≡ n
+  pub shape : shapeIn new slot ≡ s
+  pub first : firstIn new slot ≡ f
+  pub below : (i : ℕ) → i < 4 * slot → getD new i 0 ≡ getD old i 0
+  pub above : (i : ℕ) → 4 * slot + 4 ≤ i → getD new i 0 ≡ getD old i 0
+  pub same-length : length new ≡ length old
+
 -- asked: a carrier stands at q, and there is room for its list, if it has one
 pub record Placed (table : List ℕ) (q at : ℕ) : Type 0 where
   pub carrier : Carrier

@@ -3,7 +3,7 @@ ghost use mathlib.Core.Path.{_≡_};
 ghost use Prim.Native.Nat.{_+_, _<_, _≤_};
 ghost use lib.ListN.{getD, length, set};
 ghost use Rattle.slot_carriers.specs.CellGroups.{Others};
-ghost use Rattle.slot_carriers.specs.TypeNodes.{CountIs, FunctionIs, Functions, Placed, CellMade};
+ghost use Rattle.slot_carriers.specs.TypeNodes.{CountIs, FunctionIs, Functions, CellWritten, Placed, CellMade};
 
 // How many values a type has. The sets of n bits are as many as the partial functions from n elements to one.
 pub fn type_count(shape: u32, a: u32, b: u32) -> u32
@@ -56,4 +56,40 @@ fn set_list(shape: u32, a: u32, b: u32, n: u32, at: usize, cells: &mut [u32])
         put(cells, at + d as usize, function_at(shape, a, b, d));
         d += 1;
     }
+}
+
+// The first three numbers of a slot's cell.
+fn write_cell(cells: &mut [u32], slot: usize, count: u32, shape: u32, first: u32)
+    requires { ⌜ (slot < 64) × (length (now cells) ≡ 9216) ⌝ }
+    ensures { λ _. ⌜ CellWritten (now (cells .entry)) slot count shape first (now (cells .exit)) ⌝ }
+{
+    put(cells, 4 * slot, count);
+    put(cells, 4 * slot + 1, shape);
+    put(cells, 4 * slot + 2, first);
+}
+
+fn entry(table: &[u16], k: usize) -> u32
+    requires { ⌜ k < length (now table) ⌝ }
+    ensures { λ r. ⌜ (r ≡ getD (now (table .entry)) k 0) × (r < 65536) ⌝ }
+{
+    table[k] as u32
+}
+
+// The cell of the variable of a slot, whose type's node is at q; its functions are listed from `at` on. Answers the place behind them.
+fn set_cell(table: &[u16; 16384], q: usize, slot: usize, at: usize, cells: &mut [u32]) -> usize
+    requires { ⌜ (q + 4 ≤ 16384) × (slot < 64) × (256 ≤ at) × (at ≤ 9216) × (length (now cells) ≡ 9216) ⌝ }
+    requires { ⌜ Placed (now table) q at ⌝ }
+    ensures { λ r. ⌜ CellMade (now (table .entry)) q slot at (now (cells .entry)) (now (cells .exit)) r ⌝ }
+{
+    let shape = entry(table, q + 3);
+    let a = entry(table, q + 1);
+    let b = entry(table, q);
+    let n = type_count(shape, a, b);
+    if shape < 5 {
+        write_cell(cells, slot, n, shape, a);
+        return at;
+    }
+    write_cell(cells, slot, n, shape, at as u32);
+    set_list(shape, a, b, n, at, cells);
+    at + n as usize
 }

@@ -5,3 +5,4 @@ pub mod CarrierCells
 pub mod GroupBindings
 pub mod TypeCells
 pub mod MadeCells
+pub mod KeptCells

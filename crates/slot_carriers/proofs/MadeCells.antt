@@ -136,6 +136,7 @@ module _ (table : List ℕ) (q slot at s a b n : ℕ) (low : slot < 64) (es : s 
         };
         list = record { behind = λ k. high-shape _ (shapeIn new slot) refl k (omega (arith, v .shape)); before = λ k. high-shape _ (shapeIn new slot) refl k (omega (arith, v .shape)) };
         onward = omega arith;
+        end = λ c e. omega arith;
         below = v .below;
         above = λ i k m. v .above i k;
         same-length = v .same-length;
@@ -166,6 +167,7 @@ module _ (table : List ℕ) (q slot at s a b n : ℕ) (low : slot < 64) (es : s 
           };
           list = record { behind = λ k. omega (arith, first-in); before = λ k. omega (arith, first-in, count-in) };
           onward = omega arith;
+          end = λ c e. omega (arith, number c e);
           below = λ i h. o .below i (under i h) ∙ v .below i h;
           above = λ i h k. o .below i k ∙ v .above i h;
           same-length = o .same-length ∙ v .same-length;

@@ -64,6 +64,7 @@ pub record CellMade (table : List ℕ) (q slot at : ℕ) (old new : List ℕ) (r
   pub made : (c : Carrier) → TypeNode table q c → CellOf new slot c
   pub list : ListBetween new slot at r
   pub onward : at ≤ r
+  pub end : (c : Carrier) → TypeNode table q c → r ≤ at + countOf c
   pub below : (i : ℕ) → i < 4 * slot → getD new i 0 ≡ getD old i 0
   pub above : (i : ℕ) → 4 * slot + 4 ≤ i → i < at → getD new i 0 ≡ getD old i 0
   pub same-length : length new ≡ length old

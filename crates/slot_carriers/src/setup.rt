@@ -4,6 +4,7 @@ ghost use Prim.Native.Nat.{_+_, _<_, _≤_};
 ghost use lib.ListN.{getD, length, set};
 ghost use Rattle.slot_carriers.specs.CellGroups.{Others};
 ghost use Rattle.slot_carriers.specs.TypeNodes.{CountIs, FunctionIs, Functions, CellWritten, Placed, CellMade};
+ghost use Rattle.slot_carriers.specs.DeclaredGroups.{Declared, CellsMade, Copied};
 
 // How many values a type has. The sets of n bits are as many as the partial functions from n elements to one.
 pub fn type_count(shape: u32, a: u32, b: u32) -> u32
@@ -92,4 +93,30 @@ fn set_cell(table: &[u16; 16384], q: usize, slot: usize, at: usize, cells: &mut 
     write_cell(cells, slot, n, shape, at as u32);
     set_list(shape, a, b, n, at, cells);
     at + n as usize
+}
+
+// The cells of n variables from a slot on; the places of their nodes stand in `groups` from p on.
+fn set_from(table: &[u16; 16384], groups: &[u16; 160], p: usize, n: usize, slot: usize, at: usize, cells: &mut [u32]) -> usize
+    requires { ⌜ (p + n ≤ 160) × (slot + n ≤ 64) × (256 ≤ at) × (length (now cells) ≡ 9216) ⌝ }
+    requires { ⌜ Declared (now table) (now groups) p n at ⌝ }
+    ensures { λ r. ⌜ CellsMade (now (table .entry)) (now (groups .entry)) p n slot at (now (cells .entry)) (now (cells .exit)) r ⌝ }
+{
+    if n == 0 {
+        return at;
+    }
+    let q = entry(groups, p) as usize;
+    let next = set_cell(table, q + 4, slot, at, cells);
+    set_from(table, groups, p + 1, n - 1, slot + 1, next, cells)
+}
+
+// The cells of one group: `row` is where it stands in `groups`, `base` its first slot; lists from `from` on. Answers the place behind them.
+pub fn set_cells(table: &[u16; 16384], groups: &[u16; 160], row: usize, base: usize, from: usize, cells: &mut [u32; 9216]) -> usize
+    requires { ⌜ (row < 160) × (row + 1 + getD (now groups) row 0 ≤ 160) × (base + getD (now groups) row 0 ≤ 64) × (256 ≤ from) ⌝ }
+    requires { ⌜ Declared (now table) (now groups) (row + 1) (getD (now groups) row 0) from ⌝ }
+    ensures {
+        λ r. ⌜ CellsMade (now (table .entry)) (now (groups .entry)) (row + 1) (getD (now (groups .entry)) row 0) base from (now (cells .entry)) (now (cells .exit)) r ⌝
+    }
+{
+    let n = entry(groups, row) as usize;
+    set_from(table, groups, row + 1, n, base, from, cells)
 }

@@ -155,11 +155,10 @@ module _ (table groups : List ℕ) (p n slot at next r : ℕ) (old mid new : Lis
   made-cells : (vs : List Variable) → NodesOf table groups p vs → length vs ≡ n → CellsOf new slot vs
   unfolding NodesOf CellsOf
   made-cells [] w e = absurd (h (sym e))
-  made-cells (v ∷ vs) w e =
-      (
-        same-cell mid slot new slot at next (omega arith) same (c .list) (v .carrier) (c .made (v .carrier) (w .1)),
-        subst (λ (k : ℕ). CellsOf new k vs) (add-one slot) (m .made vs (next-place table groups p vs (w .2)) (less-one (length vs) n e))
-      )
+  made-cells (v ∷ vs) w e = (
+    same-cell mid slot new slot at next (omega arith) same (c .list) (v .carrier) (c .made (v .carrier) (w .1)),
+    subst (λ (k : ℕ). CellsOf new k vs) (add-one slot) (m .made vs (next-place table groups p vs (w .2)) (less-one (length vs) n e)),
+  )
 
   end-more : (vs : List Variable) → NodesOf table groups p vs → length vs ≡ n → r ≤ at + bindingCount vs + n
   unfolding NodesOf

@@ -103,12 +103,11 @@ module _ (s a b n at slot : ℕ) (cells : List ℕ) (f : shapeIn cells slot ≡ 
   listed-shaped (pairsOf relation g h) e l = low-shape s 4 (e .0) (omega arith) l
   listed-shaped (pairsOf partial g h) e l =
       (f ∙ e .0, listed (pairSetAt partial (sizeOf g) (sizeOf h)) (λ d x v. v .partials (e .0) (e .3) ∙ ap₂ (λ (k m : ℕ). partialMask k m d) (e .1) (e .2)))
-  listed-shaped (pairsOf total g h) e l =
-      (
-        f ∙ e .0,
-        listed (pairSetAt total (sizeOf g) (sizeOf h))
-        (λ d x v. v .totals (e .0) (some b _ (e .2)) (e .3) ∙ ap₂ (λ (k m : ℕ). totalMask k m d) (e .1) (e .2))
-      )
+  listed-shaped (pairsOf total g h) e l = (
+    f ∙ e .0,
+    listed (pairSetAt total (sizeOf g) (sizeOf h))
+        (λ d x v. v .totals (e .0) (some b _ (e .2)) (e .3) ∙ ap₂ (λ (k m : ℕ). totalMask k m d) (e .1) (e .2)),
+  )
 
 -- ---- the whole cell
 

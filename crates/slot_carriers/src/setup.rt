@@ -96,7 +96,15 @@ fn set_cell(table: &[u16; 16384], q: usize, slot: usize, at: usize, cells: &mut 
 }
 
 // The cells of n variables from a slot on; the places of their nodes stand in `groups` from p on.
-fn set_from(table: &[u16; 16384], groups: &[u16; 160], p: usize, n: usize, slot: usize, at: usize, cells: &mut [u32]) -> usize
+fn set_from(
+    table: &[u16; 16384],
+    groups: &[u16; 160],
+    p: usize,
+    n: usize,
+    slot: usize,
+    at: usize,
+    cells: &mut [u32],
+) -> usize
     requires { ⌜ (p + n ≤ 160) × (slot + n ≤ 64) × (256 ≤ at) × (length (now cells) ≡ 9216) ⌝ }
     requires { ⌜ Declared (now table) (now groups) p n at ⌝ }
     ensures { λ r. ⌜ CellsMade (now (table .entry)) (now (groups .entry)) p n slot at (now (cells .entry)) (now (cells .exit)) r ⌝ }
@@ -110,12 +118,17 @@ fn set_from(table: &[u16; 16384], groups: &[u16; 160], p: usize, n: usize, slot:
 }
 
 // The cells of one group: `row` is where it stands in `groups`, `base` its first slot; lists from `from` on. Answers the place behind them.
-pub fn set_cells(table: &[u16; 16384], groups: &[u16; 160], row: usize, base: usize, from: usize, cells: &mut [u32; 9216]) -> usize
+pub fn set_cells(
+    table: &[u16; 16384],
+    groups: &[u16; 160],
+    row: usize,
+    base: usize,
+    from: usize,
+    cells: &mut [u32; 9216],
+) -> usize
     requires { ⌜ (row < 160) × (row + 1 + getD (now groups) row 0 ≤ 160) × (base + getD (now groups) row 0 ≤ 64) × (256 ≤ from) ⌝ }
     requires { ⌜ Declared (now table) (now groups) (row + 1) (getD (now groups) row 0) from ⌝ }
-    ensures {
-        λ r. ⌜ CellsMade (now (table .entry)) (now (groups .entry)) (row + 1) (getD (now (groups .entry)) row 0) base from (now (cells .entry)) (now (cells .exit)) r ⌝
-    }
+    ensures { λ r. ⌜ CellsMade (now (table .entry)) (now (groups .entry)) (row + 1) (getD (now (groups .entry)) row 0) base from (now (cells .entry)) (now (cells .exit)) r ⌝ }
 {
     let n = entry(groups, row) as usize;
     set_from(table, groups, row + 1, n, base, from, cells)

@@ -18,7 +18,7 @@ add-set-from c = search needs
 
 set-from-requires : tie.Need-set-from-requires
 set-from-requires c κs = (
-  (omega (arith, c .before .entry .ensures .0, c .before .before .before .pre .0 .1), omega (arith, c .before .entry .ensures .0, c .before .before .before .pre .0 .2), c .before .before .before .pre .0 .3, ?),
+  (omega (arith, c .before .entry .ensures .0, c .before .before .before .pre .0 .1), omega (arith, c .before .entry .ensures .0, c .before .before .before .pre .0 .2), c .before .before .before .pre .0 .3, search needs),
   subst (λ (k : ℕ). Declared (c .before .before .before .args .table .now) (c .before .before .before .args .groups .now) (c .before .before .before .args .row + 1) k (c .before .before .before .args .from)) (sym (c .before .entry .ensures .0)) (c .before .before .before .pre .1),
 )
 

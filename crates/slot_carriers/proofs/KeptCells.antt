@@ -5,7 +5,8 @@ use mathlib.Core.List.{List, [], _∷_}
 use Prim.Native.Nat.{ℕ, suc, _+_, _-_, _*_, _<_, _≤_}
 use native.Mathlib.Numerals.{add-one}
 use native.Mathlib.Omega.{arith}
-use lib.ListN.{getD, length}
+use lib.ListN.{getD, length, set}
+use lib.Seq.{getD-set-same, getD-set-other}
 use lib.IntN.{ℤ, pos, _-ℤ_}
 use Rattle.form.specs.Tree.{Arrow, relation, partial, total}
 use Rattle.static_rules.specs.Carriers.{Carrier, elementsOf, numbers, subsetsOf, pairsOf, sizeOf, countOf, Variable}
@@ -16,7 +17,7 @@ use Rattle.carriers.proofs.Bindings.{bindings-some}
 use Rattle.slot_carriers.specs.Cells.{countIn, shapeIn, firstIn, Listed, PairsCell, Shaped, CellOf}
 use Rattle.slot_carriers.specs.CellGroups.{CellsOf, Others}
 use Rattle.slot_carriers.specs.TypeNodes.{TypeNode, Placed, ListBetween, CellMade}
-use Rattle.slot_carriers.specs.DeclaredGroups.{NodesOf, Declared, CellsMade, Copied}
+use Rattle.slot_carriers.specs.DeclaredGroups.{NodesOf, Declared, CellsMade, Again, Copied}
 use Rattle.slot_carriers.proofs.Halving.{either}
 
 -- the numbers of the slot s are at t, and what is between two places is as it was
@@ -177,3 +178,20 @@ module _ (table groups : List ℕ) (p n slot at next r : ℕ) (old mid new : Lis
         above = λ i k l. m .above i (omega arith) (omega (arith, c .onward)) ∙ c .above i (omega arith) l;
         same-length = m .same-length ∙ c .same-length;
       }
+
+-- ---- numbers that are written again
+
+pub again-next : (from to n x : ℕ) (l m r : List ℕ) → to + n < length m → Again from to n l m → r ≡ set m (to + n) x → x ≡ getD l (from + n) 0 → Again from to (n + 1) l r
+again-next from to n x l m r low a e f k h = go (either k n)
+  where
+    apart : k < n → to + k ≡ to + n → ⊥
+    apart g q = omega arith
+
+    go : (k < n) ⊎ (n ≤ k) → getD r (to + k) 0 ≡ getD l (from + k) 0
+    go (inl g) = ap (λ (z : List ℕ). getD z (to + k) 0) e ∙ getD-set-other m (to + n) (to + k) x 0 (apart g) ∙ a k g
+    go (inr g) =
+        let q : n ≡ k = omega arith in
+        subst (λ (i : ℕ). getD r (to + i) 0 ≡ getD l (from + i) 0) q (ap (λ (z : List ℕ). getD z (to + n) 0) e ∙ getD-set-same m (to + n) x 0 low ∙ f)
+
+pub again-none : (from to : ℕ) (l : List ℕ) → Again from to 0 l l
+again-none from to l k h = absurd (omega arith)

@@ -30,7 +30,11 @@ pub record CellsMade (table groups : List ℕ) (p n slot at : ℕ) (old new : Li
   pub above : (i : ℕ) → 4 * (slot + n) ≤ i → i < at → getD new i 0 ≡ getD old i 0
   pub same-length : length new ≡ length old
 
--- the cells of n slots are again at others
+-- n numbers are again at another place
+abbrev pub Again : (from to n : ℕ) (old new : List ℕ) → Type 0
+Again from to n old new = (k : ℕ) → k < n → getD new (to + k) 0 ≡ getD old (from + k) 0
+
+-- the cells of n slots are again at others, and all else is as it was
 pub record Copied (n base to : ℕ) (old new : List ℕ) : Type 0 where
-  pub each : (k : ℕ) → k < 4 * n → getD new (4 * to + k) 0 ≡ getD old (4 * base + k) 0
+  pub each : Again (4 * base) (4 * to) (4 * n) old new
   pub others : Others 0 old (4 * to) (4 * n) new

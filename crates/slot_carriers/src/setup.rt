@@ -4,7 +4,8 @@ ghost use Prim.Native.Nat.{_+_, _<_, _≤_};
 ghost use lib.ListN.{getD, length, set};
 ghost use Rattle.slot_carriers.specs.CellGroups.{Others};
 ghost use Rattle.slot_carriers.specs.TypeNodes.{CountIs, FunctionIs, Functions, CellWritten, Placed, CellMade};
-ghost use Rattle.slot_carriers.specs.DeclaredGroups.{Declared, CellsMade, Copied};
+ghost use Rattle.slot_carriers.specs.DeclaredGroups.{Declared, CellsMade, Again, Copied};
+use crate::cell;
 
 // How many values a type has. The sets of n bits are as many as the partial functions from n elements to one.
 pub fn type_count(shape: u32, a: u32, b: u32) -> u32
@@ -132,4 +133,26 @@ pub fn set_cells(
 {
     let n = entry(groups, row) as usize;
     set_from(table, groups, row + 1, n, base, from, cells)
+}
+
+// The n numbers from one place on, again from a place behind them on.
+fn copy_numbers(n: usize, from: usize, to: usize, cells: &mut [u32])
+    requires { ⌜ (from + n ≤ to) × (to + n ≤ length (now cells)) × (length (now cells) ≡ 9216) ⌝ }
+    ensures each { λ _. ⌜ Again from to n (now (cells .entry)) (now (cells .exit)) ⌝ }
+    ensures others { λ _. ⌜ Others 0 (now (cells .entry)) to n (now (cells .exit)) ⌝ }
+{
+    let mut k: usize = 0;
+    while k < n {
+        let x = cell(cells, from + k);
+        put(cells, to + k, x);
+        k += 1;
+    }
+}
+
+// The cells of n variables from one slot on, again from another slot on.
+pub fn copy_cells(n: usize, base: usize, to: usize, cells: &mut [u32; 9216])
+    requires { ⌜ (base + n ≤ to) × (to + n ≤ 64) ⌝ }
+    ensures { λ _. ⌜ Copied n base to (now (cells .entry)) (now (cells .exit)) ⌝ }
+{
+    copy_numbers(4 * n, 4 * base, 4 * to, cells)
 }

@@ -195,3 +195,85 @@ again-next from to n x l m r low a e f k h = go (either k n)
 
 pub again-none : (from to : ℕ) (l : List ℕ) → Again from to 0 l l
 again-none from to l k h = absurd (omega arith)
+
+-- ---- a group whose cells are again at some slot
+
+module _ (old new : List ℕ) (from end : ℕ) where
+  at-first : (s t : ℕ) → SameCell old (s + 0) new (t + 0) from end → SameCell old s new t from end
+  at-first s t w =
+      let e : s + 0 ≡ s = omega arith in
+      let f : t + 0 ≡ t = omega arith in
+      subst (λ (k : ℕ). SameCell old k new t from end) e (subst (λ (k : ℕ). SameCell old (s + 0) new k from end) f w)
+
+  list-first : (s : ℕ) → ListBetween old (s + 0) from end → ListBetween old s from end
+  list-first s w = let e : s + 0 ≡ s = omega arith in subst (λ (k : ℕ). ListBetween old k from end) e w
+
+  at-next : (s t j : ℕ) → SameCell old (s + suc j) new (t + suc j) from end → SameCell old (suc s + j) new (suc t + j) from end
+  at-next s t j w =
+      let e : s + suc j ≡ suc s + j = omega arith in
+      let f : t + suc j ≡ suc t + j = omega arith in
+      subst (λ (k : ℕ). SameCell old k new (suc t + j) from end) e (subst (λ (k : ℕ). SameCell old (s + suc j) new k from end) f w)
+
+  list-next : (s j : ℕ) → ListBetween old (s + suc j) from end → ListBetween old (suc s + j) from end
+  list-next s j w = let e : s + suc j ≡ suc s + j = omega arith in subst (λ (k : ℕ). ListBetween old k from end) e w
+
+  pub cells-again : (vs : List Variable) (s t : ℕ) → t + length vs ≤ 64 → ((j : ℕ) → j < length vs → SameCell old (s + j) new (t + j) from end)
+      → ((j : ℕ) → j < length vs → ListBetween old (s + j) from end) → CellsOf old s vs → CellsOf new t vs
+  unfolding CellsOf
+  cells-again [] s t low e b w = tt
+  cells-again (v ∷ vs) s t low e b w = (
+    same-cell old s new t from end (omega arith) (at-first s t (e 0 (omega arith))) (list-first s (b 0 (omega arith))) (v .carrier) (w .0),
+    cells-again vs (suc s) (suc t) (omega arith) (λ j h. at-next s t j (e (suc j) (omega arith))) (λ j h. list-next s j (b (suc j) (omega arith))) (w .1),
+  )
+
+-- a copied group
+pub copied-cells : (n base to : ℕ) (old new : List ℕ) (vs : List Variable) → to + n ≤ 64 → Copied n base to old new → length vs ≡ n
+    → ((j : ℕ) → base ≤ j → j < base + n → ListBetween old j 256 9216) → CellsOf old base vs → CellsOf new to vs
+copied-cells n base to old new vs low c e b w =
+    cells-again old new 256 9216 vs base to (omega arith) (λ j h. same j (omega arith)) (λ j h. b (base + j) (omega arith) (omega arith)) w
+  where
+    number : (j i : ℕ) → j < n → i < 4 → getD new (4 * (to + j) + i) 0 ≡ getD old (4 * (base + j) + i) 0
+    number j i h k =
+        let p : 4 * to + (4 * j + i) ≡ 4 * (to + j) + i = omega arith in
+        let q : 4 * base + (4 * j + i) ≡ 4 * (base + j) + i = omega arith in
+        subst (λ (m : ℕ). getD new m 0 ≡ getD old (4 * (base + j) + i) 0) p
+        (subst (λ (m : ℕ). getD new (4 * to + (4 * j + i)) 0 ≡ getD old m 0) q (c .each (4 * j + i) (omega arith)))
+
+    first-number : (j : ℕ) → j < n → countIn new (to + j) ≡ countIn old (base + j)
+    first-number j h =
+        let p : 4 * to + 4 * j ≡ 4 * (to + j) = omega arith in
+        let q : 4 * base + 4 * j ≡ 4 * (base + j) = omega arith in
+        subst (λ (m : ℕ). getD new m 0 ≡ getD old (4 * (base + j)) 0) p
+        (subst (λ (m : ℕ). getD new (4 * to + 4 * j) 0 ≡ getD old m 0) q (c .each (4 * j) (omega arith)))
+
+    same : (j : ℕ) → j < n → SameCell old (base + j) new (to + j) 256 9216
+    same j h =
+        record {
+          count = first-number j h;
+          shape = number j 1 h (omega arith);
+          first = number j 2 h (omega arith);
+          list = λ i k l. c .others .above i (omega arith);
+        }
+
+-- a group beside one that is made, with lists before its lists
+pub kept-cells : (table groups : List ℕ) (p n slot at s : ℕ) (old new : List ℕ) (r : ℕ) (vs : List Variable) → CellsMade table groups p n slot at old new r
+    → slot + n ≤ 64 → s + length vs ≤ 64 → (s + length vs ≤ slot) ⊎ (slot + n ≤ s) → 256 ≤ at
+    → ((j : ℕ) → s ≤ j → j < s + length vs → ListBetween old j 256 at) → CellsOf old s vs → CellsOf new s vs
+kept-cells table groups p n slot at s old new r vs m fit low side behind b w =
+    cells-again old new 256 at vs s s low (λ j h. same j h side) (λ j h. b (s + j) (omega arith) (omega arith)) w
+  where
+    same : (j : ℕ) → j < length vs → (s + length vs ≤ slot) ⊎ (slot + n ≤ s) → SameCell old (s + j) new (s + j) 256 at
+    same j h (inl g) =
+        record {
+          count = m .below _ (omega arith);
+          shape = m .below _ (omega arith);
+          first = m .below _ (omega arith);
+          list = λ i k l. m .above i (omega arith) l;
+        }
+    same j h (inr g) =
+        record {
+          count = m .above _ (omega arith) (omega arith);
+          shape = m .above _ (omega arith) (omega arith);
+          first = m .above _ (omega arith) (omega arith);
+          list = λ i k l. m .above i (omega arith) l;
+        }

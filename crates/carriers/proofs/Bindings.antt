@@ -71,11 +71,11 @@ pub digit-below : (n m k : ℕ) → 0 < m → digit n m k < m
 unfolding digit
 digit-below n m k h = mod-lt (k / n) h
 
-digit-small : (n m k : ℕ) → 0 < n → k < m * n → digit n m k ≡ k / n
+pub digit-small : (n m k : ℕ) → 0 < n → k < m * n → digit n m k ≡ k / n
 unfolding digit
 digit-small n m k p h = mod-eq-of-lt (div-lt-iff-lt-mul p .1 h)
 
-again-rest : (vs : List Variable) (k : ℕ) → bindingAt vs (k % bindingCount vs) ≡ bindingAt vs k
+pub again-rest : (vs : List Variable) (k : ℕ) → bindingAt vs (k % bindingCount vs) ≡ bindingAt vs k
 again-rest vs k = sym (again vs (k / bindingCount vs) (k % bindingCount vs)) ∙ ap (bindingAt vs) (div-add-mod' k (bindingCount vs))
 
 pub bindings-once : (vs : List Variable) (j k : ℕ) → j < bindingCount vs → k < bindingCount vs → bindingAt vs j ≡ bindingAt vs k → j ≡ k

@@ -48,7 +48,7 @@ turned (negsuc a) (negsuc b) e = lt-ltb a b (leb-false b a e)
 
 -- ---- the search
 
-either : (d m : ℕ) → (d < m) ⊎ (m ≤ d)
+pub either : (d m : ℕ) → (d < m) ⊎ (m ≤ d)
 either d m = go (ltb d m) refl
   where
     go : (t : Bool) → ltb d m ≡ t → (d < m) ⊎ (m ≤ d)

@@ -1,4 +1,8 @@
--- A search in values that rise, and that a cell's values are those of its carrier.
+-- A search in values that rise; that a cell's values are those of its carrier; the bindings of a group.
 pub mod ShapedValues
 pub mod Halving
 pub mod CarrierCells
+pub mod GroupBindings
+pub mod TypeCells
+pub mod MadeCells
+pub mod KeptCells

@@ -1,1 +1,4 @@
 pub mod Cells
+pub mod CellGroups
+pub mod TypeNodes
+pub mod DeclaredGroups

@@ -1,5 +1,8 @@
 // Carriers by slot: `cells` has four numbers for each slot, how many values its variable has, the shape of its type and two numbers of it; then the lists of
 // partial and total functions.
+pub mod groups;
+pub mod setup;
+
 ghost use mathlib.Core.Path.{_≡_};
 ghost use Prim.Native.Nat.{_<_, _≤_};
 ghost use lib.ListN.{getD, length};

@@ -1,3 +1,4 @@
+-- answers sha256 4b82e2d2d35544e0
 -- `groups::bind_by` meets its contract: the first variable has the quotient's value, the others hold the remainder. Assumes nothing.
 use lib.IntN.{pos}
 use lib.ListN.{length-set, length}

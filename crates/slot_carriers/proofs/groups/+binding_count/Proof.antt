@@ -1,3 +1,4 @@
+-- answers sha256 73c834cbc2e0fbab
 -- `groups::binding_count` meets its contract: the first variable's count, times that of the others. Assumes nothing.
 use Prim.Native.Nat.{ℕ, _<_}
 use borrow.Fn.Kinds.{In}

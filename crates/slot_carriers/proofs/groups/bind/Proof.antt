@@ -1,3 +1,4 @@
+-- answers sha256 79c093249b264229
 -- `groups::bind` meets its contract: the digits of k give the k-th binding in the fixed order. Assumes nothing.
 use borrow.Author.Needs.{needs}
 use Rattle.slot_carriers.proofs.GroupBindings.{holds-binding}

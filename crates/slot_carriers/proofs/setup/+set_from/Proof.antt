@@ -1,3 +1,4 @@
+-- answers sha256 ce000d05910a0a98
 -- `setup::set_from` meets its contract: the first cell is kept by what the others write. Assumes nothing.
 use mathlib.Core.Path.{subst, sym, _∙_}
 use Prim.Native.Nat.{ℕ, _<_, _+_}

@@ -1,3 +1,4 @@
+-- answers sha256 cb46a207762f9fec
 -- `setup::copy_numbers` meets its contract: what is read is before what is written, so it is as it was. Assumes nothing.
 use mathlib.Core.Path.{subst, _≡_, _∙_}
 use Prim.Native.Nat.{ℕ, _+_, _-_, _≤_}

@@ -1,3 +1,4 @@
+-- answers sha256 b74b6f4984b59cb1
 -- `setup::entry` meets its contract. Assumes nothing.
 use borrow.Author.Needs.{needs}
 use mathlib.Core.Path.{refl}

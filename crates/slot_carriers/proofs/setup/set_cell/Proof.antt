@@ -1,3 +1,4 @@
+-- answers sha256 9a6f370febc1f06a
 -- `setup::set_cell` meets its contract: what the node stands for, the cell stands for. Assumes nothing.
 use borrow.Author.Needs.{needs}
 use native.Mathlib.Omega.{arith}

@@ -1,3 +1,4 @@
+-- answers sha256 f428382f4b503727
 -- `setup::set_cells` meets its contract. Assumes nothing.
 use mathlib.Core.Path.{subst, sym}
 use borrow.Author.Needs.{needs}

@@ -1,3 +1,4 @@
+-- answers sha256 11faece8429ed601
 -- `setup::set_list` meets its contract: d of the functions are written, and nothing else is. Assumes nothing.
 use mathlib.Core.Path.{subst, _≡_}
 use Prim.Native.Nat.{ℕ, _-_, _≤_}

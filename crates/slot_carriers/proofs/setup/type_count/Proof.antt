@@ -1,3 +1,4 @@
+-- answers sha256 427a837f2e69466b
 -- `setup::type_count` meets its contract. Assumes nothing.
 use borrow.Author.Needs.{needs}
 use native.Mathlib.Omega.{arith}

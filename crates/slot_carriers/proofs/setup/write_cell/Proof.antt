@@ -1,3 +1,4 @@
+-- answers sha256 5b48bbf1951d9b37
 -- `setup::write_cell` meets its contract. Assumes nothing.
 use borrow.Author.Needs.{needs}
 use Rattle.slot_carriers.proofs.MadeCells.{written}

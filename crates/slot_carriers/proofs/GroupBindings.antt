@@ -11,7 +11,7 @@ use lib.IntN.{ℤ, pos}
 use Rattle.static_rules.specs.Carriers.{Variable, countOf}
 use Rattle.static_rules.specs.Limits.{bindingCount}
 use Rattle.meaning.specs.Meaning.{Binding}
-use Rattle.carriers.specs.ValuesByNumber.{valueAt, digit, bindingAt}
+use Rattle.carriers.specs.ValuesByNumber.{digit, bindingAt}
 use Rattle.carriers.proofs.Values.{count-some}
 use Rattle.carriers.proofs.Bindings.{bindings-some, bindings-at, digit-small, digit-below, again-rest}
 use Rattle.slot_carriers.specs.Cells.{countIn, valueIn, Reached, CellOf}

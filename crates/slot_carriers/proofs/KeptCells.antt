@@ -1,5 +1,5 @@
 -- A cell whose numbers and list are again at some slot stands for the same carrier there; the cells of a group one after the other. Assumes nothing.
-use mathlib.Core.Path.{_≡_, refl, sym, ap, ap₂, subst, _∙_}
+use mathlib.Core.Path.{_≡_, refl, sym, ap, subst, _∙_}
 use mathlib.Core.Logic.{_⊎_, inl, inr}
 use mathlib.Core.List.{List, [], _∷_}
 use Prim.Native.Nat.{ℕ, suc, _+_, _-_, _*_, _<_, _≤_}
@@ -8,14 +8,13 @@ use native.Mathlib.Omega.{arith}
 use lib.ListN.{getD, length, set}
 use lib.Seq.{getD-set-same, getD-set-other}
 use lib.IntN.{ℤ, pos, _-ℤ_}
-use Rattle.form.specs.Tree.{Arrow, relation, partial, total}
-use Rattle.static_rules.specs.Carriers.{Carrier, elementsOf, numbers, subsetsOf, pairsOf, sizeOf, countOf, Variable}
+use Rattle.form.specs.Tree.{relation, partial, total}
+use Rattle.static_rules.specs.Carriers.{Carrier, elementsOf, numbers, subsetsOf, pairsOf, countOf, Variable}
 use Rattle.static_rules.specs.Limits.{bindingCount}
-use Rattle.carriers.specs.ValuesByNumber.{pairSetAt}
 use Rattle.carriers.proofs.Values.{count-some}
 use Rattle.carriers.proofs.Bindings.{bindings-some}
 use Rattle.slot_carriers.specs.Cells.{countIn, shapeIn, firstIn, Listed, PairsCell, Shaped, CellOf}
-use Rattle.slot_carriers.specs.CellGroups.{CellsOf, Others}
+use Rattle.slot_carriers.specs.CellGroups.{CellsOf}
 use Rattle.slot_carriers.specs.TypeNodes.{TypeNode, Placed, ListBetween, CellMade}
 use Rattle.slot_carriers.specs.DeclaredGroups.{NodesOf, Declared, CellsMade, Again, Copied}
 use Rattle.slot_carriers.proofs.Halving.{either}

@@ -1,4 +1,4 @@
--- A search in values that rise; that a cell's values are those of its carrier; the bindings of a group.
+-- A search in values that rise; that a cell's values are those of its carrier; the bindings of a group; cells made of types' nodes, kept and copied.
 pub mod ShapedValues
 pub mod Halving
 pub mod CarrierCells

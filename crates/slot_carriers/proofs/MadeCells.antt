@@ -2,18 +2,17 @@
 use mathlib.Core.Path.{_≡_, refl, sym, ap, ap₂, subst, _∙_}
 use mathlib.Core.List.{List}
 use Prim.Native.Nat.{ℕ, suc, _+_, _*_, _^_, _<_, _≤_}
-use native.Mathlib.Nat.{zero-lt-suc}
 use native.Mathlib.Omega.{arith}
 use lib.ListN.{getD, length, set, length-set}
 use lib.Seq.{getD-set-same, getD-set-other}
 use lib.Pow.{pow-mono}
 use lib.IntN.{ℤ, pos, _-ℤ_}
-use Rattle.form.specs.Tree.{Arrow, relation, partial, total}
+use Rattle.form.specs.Tree.{relation, partial, total}
 use Rattle.static_rules.specs.Carriers.{Carrier, elementsOf, numbers, subsetsOf, pairsOf, sizeOf, countOf, arrowCount}
 use Rattle.carriers.specs.ValuesByNumber.{pairSetAt, partialMask, totalMask}
-use Rattle.slot_carriers.specs.Cells.{countIn, shapeIn, firstIn, Listed, PairsCell, Shaped, CellOf}
+use Rattle.slot_carriers.specs.Cells.{countIn, shapeIn, firstIn, Listed, PairsCell, Shaped}
 use Rattle.slot_carriers.specs.CellGroups.{Others}
-use Rattle.slot_carriers.specs.TypeNodes.{Stands, TypeNode, CountIs, FunctionIs, Functions, CellWritten, Placed, ListBetween, CellMade}
+use Rattle.slot_carriers.specs.TypeNodes.{Stands, TypeNode, CountIs, FunctionIs, Functions, CellWritten, Placed, CellMade}
 
 -- ---- three numbers
 

@@ -1,16 +1,16 @@
 -- How many values the type of a node has, and its list of functions. Assumes nothing.
-use mathlib.Core.Path.{_≡_, refl, sym, ap, ap₂, subst, _∙_}
+use mathlib.Core.Path.{_≡_, sym, ap, subst, _∙_}
 use mathlib.Core.Logic.{_⊎_, inl, inr}
 use mathlib.Core.List.{List}
-use Prim.Native.Nat.{ℕ, suc, _+_, _-_, _*_, _^_, _<_, _≤_}
-use native.Mathlib.Nat.{zero-lt-suc, mul-le-mul, mul-one}
+use Prim.Native.Nat.{ℕ, _+_, _-_, _*_, _^_, _<_, _≤_}
+use native.Mathlib.Nat.{mul-le-mul}
 use native.Mathlib.Omega.{arith}
 use lib.ListN.{getD, length, set, length-set}
 use lib.Seq.{getD-set-same, getD-set-other}
-use Rattle.form.specs.Tree.{Arrow, relation, partial, total}
-use Rattle.static_rules.specs.Carriers.{Carrier, elementsOf, numbers, subsetsOf, pairsOf, sizeOf, countOf, arrowCount}
+use Rattle.form.specs.Tree.{relation, partial, total}
+use Rattle.static_rules.specs.Carriers.{arrowCount}
 use Rattle.slot_carriers.specs.CellGroups.{Others}
-use Rattle.slot_carriers.specs.TypeNodes.{Stands, CountIs, FunctionIs, Functions}
+use Rattle.slot_carriers.specs.TypeNodes.{CountIs, FunctionIs, Functions}
 use Rattle.slot_carriers.proofs.Halving.{either}
 
 pub product-low : (a b : ℕ) → a < 65536 → b < 65536 → a * b ≤ 65535 * 65535
@@ -47,9 +47,6 @@ module _ (s a b r : ℕ) where
         partials = λ q h. absurd (omega arith);
         totals = λ q k h. absurd (omega arith);
       }
-
-some-elements : (b : ℕ) (m : ℕ) → b ≡ suc m → 0 < b
-some-elements b m e = omega arith
 
 -- ---- the list
 

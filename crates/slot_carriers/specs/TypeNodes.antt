@@ -4,7 +4,7 @@ use mathlib.Core.List.{List}
 use Prim.Native.Nat.{ℕ, _+_, _*_, _^_, _<_, _≤_}
 use lib.ListN.{getD, length}
 use lib.IntN.{pos, _-ℤ_}
-use Rattle.form.specs.Tree.{Arrow, relation, partial, total}
+use Rattle.form.specs.Tree.{relation, partial, total}
 use Rattle.form.specs.Codes.{arrowNumber}
 use Rattle.static_rules.specs.Carriers.{Carrier, elementsOf, numbers, subsetsOf, pairsOf, sizeOf, countOf, arrowCount}
 use Rattle.carriers.specs.ValuesByNumber.{partialMask, totalMask}

@@ -19,6 +19,7 @@ pub fn binding_count(cells: &[u32; 9216], base: usize, n: usize) -> usize
     c * binding_count(cells, base + 1, n - 1)
 }
 
+// The value of a slot is written.
 fn put(slots: &mut [i64], slot: usize, x: i64)
     requires { ⌜ slot < length (now slots) ⌝ }
     ensures { λ r. ⌜ now (slots .exit) ≡ set (now (slots .entry)) slot x ⌝ }

@@ -40,6 +40,7 @@ fn function_at(shape: u32, a: u32, b: u32, d: u32) -> u32
     carriers::total_mask(a, b, d) as u32
 }
 
+// A number of the cells is written.
 fn put(cells: &mut [u32], k: usize, x: u32)
     requires { ⌜ k < length (now cells) ⌝ }
     ensures { λ _. ⌜ now (cells .exit) ≡ set (now (cells .entry)) k x ⌝ }
@@ -70,6 +71,7 @@ fn write_cell(cells: &mut [u32], slot: usize, count: u32, shape: u32, first: u32
     put(cells, 4 * slot + 2, first);
 }
 
+// A number of the reader's table or groups.
 fn entry(table: &[u16], k: usize) -> u32
     requires { ⌜ k < length (now table) ⌝ }
     ensures { λ r. ⌜ (r ≡ getD (now (table .entry)) k 0) × (r < 65536) ⌝ }

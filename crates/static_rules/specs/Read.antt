@@ -37,7 +37,7 @@ readNames text d = pass (located text (least (nameFaults d))) (readBindings text
 unfoldable pub readHeadings : List ℕ → Dossier → Reading
 readHeadings text d = pass (located text (least (headingFaults d))) (readNames text d)
 
--- "4, 5 and 6"
+-- "4, 5 and 6": `form` computes the condition that form/specs/Form states, by the theorem form/proofs/FormOf.form-of
 abbrev pub afterForm : List ℕ → Outcome → Reading
 afterForm text (refused i r) = refusal (fault (placeAt text i) r)
 afterForm text (formed d) = readHeadings text d

@@ -1,0 +1,186 @@
+// One part of the check: labelled loops over the variable groups, each stepping to the next candidate of its group. What is passed over passes, since one of the premises is
+// false there; places are counted by arithmetic.
+ghost use mathlib.Core.Path.{_≡_};
+ghost use Prim.Native.Nat.{_-_, _*_, _<_, _≤_};
+ghost use Rattle.sets.specs.Sets.{has};
+ghost use Rattle.points.specs.Searches.{Sought};
+ghost use Rattle.nest.specs.NestPromises.{NestAsked, AbstractAnswers, ConcreteAnswers, AbstractPreAnswers, PreAnswers, ReadyAnswers, InputAsked, InputAnswers};
+ghost use Rattle.nest.specs.NestPromises.{OutputAnswers, AfterAnswers, MetAnswers, SweepAnswers};
+use plans::Part;
+use points::plan::{MET, READY, RELATED, STATES, STEPS};
+use points::slots::{BEFORE, INPUTS};
+use seek::{seek, Span};
+use slot_carriers::groups::bind;
+
+// Where a search of a part stopped, and whether the binding there fails.
+pub struct Swept {
+    pub at: usize,
+    pub failed: bool,
+}
+
+// The next abstract state from a on.
+fn next_abstract(t: &[u16; 16384], plan: &[u16; 20560], cells: &[u32; 9216], p: Part, a: usize, slots: &mut [[i64; 64]; 2]) -> usize
+    requires { ⌜ a ≤ p .na ⌝ }
+    requires { ⌜ NestAsked (now t) (now plan) (now cells) p (now slots) ⌝ }
+    ensures { λ r. ⌜ AbstractAnswers (now (t .entry)) (now (plan .entry)) (now (cells .entry)) p a (now (slots .entry)) (now (slots .exit)) r ⌝ }
+{
+    seek(t, plan, cells, Span { u: STATES, j: 0, m: p.va, w: p.na, from: a }, slots)
+}
+
+// The next concrete state from c on that is related to the abstract one.
+fn next_concrete(t: &[u16; 16384], plan: &[u16; 20560], cells: &[u32; 9216], p: Part, c: usize, slots: &mut [[i64; 64]; 2]) -> usize
+    requires { ⌜ c ≤ p .nc ⌝ }
+    requires { ⌜ NestAsked (now t) (now plan) (now cells) p (now slots) ⌝ }
+    ensures { λ r. ⌜ ConcreteAnswers (now (t .entry)) (now (plan .entry)) (now (cells .entry)) p c (now (slots .entry)) (now (slots .exit)) r ⌝ }
+{
+    seek(t, plan, cells, Span { u: RELATED, j: 0, m: p.vc, w: p.nc, from: c }, slots)
+}
+
+// Does the abstract precondition hold at this abstract state and these inputs?
+fn abstract_pre(t: &[u16; 16384], plan: &[u16; 20560], cells: &[u32; 9216], p: Part, slots: &mut [[i64; 64]; 2]) -> bool
+    requires { ⌜ NestAsked (now t) (now plan) (now cells) p (now slots) ⌝ }
+    ensures { λ r. ⌜ AbstractPreAnswers (now (t .entry)) (now (plan .entry)) (now (cells .entry)) p (now (slots .entry)) (now (slots .exit)) r ⌝ }
+{
+    seek(t, plan, cells, Span { u: READY, j: 0, m: p.vr, w: p.nr, from: 0 }, slots) < p.nr
+}
+
+// Does a binding pass whose premises hold?
+fn passes(t: &[u16; 16384], plan: &[u16; 20560], cells: &[u32; 9216], p: Part, slots: &mut [[i64; 64]; 2]) -> bool
+    requires { ⌜ NestAsked (now t) (now plan) (now cells) p (now slots) ⌝ }
+    ensures { λ r. ⌜ MetAnswers (now (t .entry)) (now (plan .entry)) (now (cells .entry)) p (now (slots .entry)) (now (slots .exit)) r ⌝ }
+{
+    seek(t, plan, cells, Span { u: MET, j: 0, m: p.vm, w: p.nm, from: 0 }, slots) < p.nm
+}
+
+// The same at the i-th inputs.
+fn pre_at(t: &[u16; 16384], plan: &[u16; 20560], cells: &[u32; 9216], p: Part, i: usize, slots: &mut [[i64; 64]; 2]) -> bool
+    requires { ⌜ i < p .ni ⌝ }
+    requires { ⌜ NestAsked (now t) (now plan) (now cells) p (now slots) ⌝ }
+    ensures { λ r. ⌜ PreAnswers (now (t .entry)) (now (plan .entry)) (now (cells .entry)) p i (now (slots .entry)) (now (slots .exit)) r ⌝ }
+{
+    bind(cells, INPUTS, p.vi, p.ni, i, &mut slots[BEFORE]);
+    abstract_pre(t, plan, cells, p, slots)
+}
+
+// The inputs at which the abstract precondition holds at this abstract state, as bits; the last one's first, so that each one doubles what is there.
+fn ready(t: &[u16; 16384], plan: &[u16; 20560], cells: &[u32; 9216], p: Part, slots: &mut [[i64; 64]; 2]) -> u64
+    requires { ⌜ NestAsked (now t) (now plan) (now cells) p (now slots) ⌝ }
+    ensures { λ r. ⌜ ReadyAnswers (now (t .entry)) (now (plan .entry)) (now (cells .entry)) p (now (slots .entry)) (now (slots .exit)) r ⌝ }
+{
+    let mut s: u64 = 0;
+    let mut i = p.ni;
+    while 0 < i {
+        i -= 1;
+        s = 2 * s + (pre_at(t, plan, cells, p, i, slots) as u64);
+    }
+    s
+}
+
+// The next one of these inputs from `from` on.
+fn next_bit(mask: u64, from: usize, n: usize) -> usize
+    requires { ⌜ (from ≤ n) × (n ≤ 64) ⌝ }
+    ensures { λ r. ⌜ Sought (has mask) from n r ⌝ }
+{
+    let mut i = from;
+    while i < n {
+        if (mask >> i) % 2 == 1 {
+            return i;
+        }
+        i += 1;
+    }
+    n
+}
+
+// The inputs have its values then.
+fn next_input(cells: &[u32; 9216], p: Part, mask: u64, from: usize, slots: &mut [[i64; 64]; 2]) -> usize
+    requires { ⌜ from ≤ p .ni ⌝ }
+    requires { ⌜ InputAsked (now cells) p (now slots) ⌝ }
+    ensures { λ r. ⌜ InputAnswers (now (cells .entry)) p mask from (now (slots .entry)) (now (slots .exit)) r ⌝ }
+{
+    let i = next_bit(mask, from, p.ni);
+    if i < p.ni {
+        bind(cells, INPUTS, p.vi, p.ni, i, &mut slots[BEFORE]);
+    }
+    i
+}
+
+// The next outputs from o on that no conjunct without a primed variable excludes.
+fn next_output(t: &[u16; 16384], plan: &[u16; 20560], cells: &[u32; 9216], p: Part, o: usize, slots: &mut [[i64; 64]; 2]) -> usize
+    requires { ⌜ o ≤ p .nq ⌝ }
+    requires { ⌜ NestAsked (now t) (now plan) (now cells) p (now slots) ⌝ }
+    ensures { λ r. ⌜ OutputAnswers (now (t .entry)) (now (plan .entry)) (now (cells .entry)) p o (now (slots .entry)) (now (slots .exit)) r ⌝ }
+{
+    seek(t, plan, cells, Span { u: STEPS, j: 0, m: p.vo, w: p.nq, from: o }, slots)
+}
+
+// The next concrete after state from k on that the concrete operation allows with these outputs.
+fn next_after(t: &[u16; 16384], plan: &[u16; 20560], cells: &[u32; 9216], p: Part, k: usize, slots: &mut [[i64; 64]; 2]) -> usize
+    requires { ⌜ k ≤ p .nk ⌝ }
+    requires { ⌜ NestAsked (now t) (now plan) (now cells) p (now slots) ⌝ }
+    ensures { λ r. ⌜ AfterAnswers (now (t .entry)) (now (plan .entry)) (now (cells .entry)) p k (now (slots .entry)) (now (slots .exit)) r ⌝ }
+{
+    seek(t, plan, cells, Span { u: STEPS, j: p.vo, m: p.vk, w: p.nk, from: k }, slots)
+}
+
+// How far x is behind y.
+fn behind(x: usize, y: usize) -> usize
+    ensures { λ r. ⌜ r ≡ x - y ⌝ }
+{
+    if x < y {
+        return 0;
+    }
+    x - y
+}
+
+// Looks at the bindings of a part from the place `from` up to the place `end`, and stops at the first that fails.
+pub fn sweep(t: &[u16; 16384], plan: &[u16; 20560], cells: &[u32; 9216], p: Part, from: usize, end: usize, slots: &mut [[i64; 64]; 2]) -> Swept
+    requires { ⌜ (from ≤ end) × (end ≤ p .na * p .nc * p .ni * p .nq * p .nk) ⌝ }
+    requires { ⌜ NestAsked (now t) (now plan) (now cells) p (now slots) ⌝ }
+    ensures { λ r. ⌜ SweepAnswers (now (t .entry)) (now (plan .entry)) (now (cells .entry)) p from end (r .at) (r .failed) ⌝ }
+{
+    // How many places a binding of each group has: of outputs nk, of inputs by_input, ..
+    let by_input = p.nq * p.nk;
+    let by_concrete = p.ni * by_input;
+    let by_abstract = p.nc * by_concrete;
+    let mut at = end;
+    let mut failed = false;
+    let mut a = next_abstract(t, plan, cells, p, from / by_abstract, slots);
+    'abstracts: while a < p.na {
+        if end <= a * by_abstract {
+            break 'abstracts;
+        }
+        let mask = ready(t, plan, cells, p, slots);
+        let mut c = next_concrete(t, plan, cells, p, behind(from / by_concrete, a * p.nc), slots);
+        while c < p.nc {
+            let x = a * p.nc + c;
+            if end <= x * by_concrete {
+                break 'abstracts;
+            }
+            let mut i = next_input(cells, p, mask, behind(from / by_input, x * p.ni), slots);
+            while i < p.ni {
+                let y = x * p.ni + i;
+                let mut o = next_output(t, plan, cells, p, behind(from / p.nk, y * p.nq), slots);
+                while o < p.nq {
+                    let z = y * p.nq + o;
+                    let mut k = next_after(t, plan, cells, p, behind(from, z * p.nk), slots);
+                    while k < p.nk {
+                        if end <= z * p.nk + k {
+                            break 'abstracts;
+                        }
+                        if !passes(t, plan, cells, p, slots) {
+                            at = z * p.nk + k;
+                            failed = true;
+                            break 'abstracts;
+                        }
+                        k = next_after(t, plan, cells, p, k + 1, slots);
+                    }
+                    o = next_output(t, plan, cells, p, o + 1, slots);
+                }
+                i = next_input(cells, p, mask, i + 1, slots);
+            }
+            c = next_concrete(t, plan, cells, p, c + 1, slots);
+        }
+        a = next_abstract(t, plan, cells, p, a + 1, slots);
+    }
+    Swept { at, failed }
+}

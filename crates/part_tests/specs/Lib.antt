@@ -1,0 +1,2 @@
+pub mod PartsByNumber
+pub mod Readings

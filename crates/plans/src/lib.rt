@@ -1,0 +1,197 @@
+// Plans: for each of the five searches of a part its variables, and the conjuncts that it asks by level. Level 0: no variable of the search is mentioned; level l: the
+// last one mentioned is number l - 1, so that a conjunct is asked as soon as that one has its value. A conjunct is one number: twice the end of its nodes, and 1 more where it is
+// asked of the after state.
+ghost use Rattle.plans.specs.PlanPromises.{CommonRows, OperationRows, InitialisationPlan, ApplicabilityPlan, CorrectnessPlan};
+use points::plan::{FIRST_COUNT, FIRST_SLOT, HEAD, LEVELS, MET, READY, RELATED, SECOND_SLOT, STATES, STEPS, TESTS};
+use points::slots;
+
+// A part: how many variables its groups have, and how many bindings: abstract, concrete, inputs, outputs, concrete primed; then of the two searches for a step of the abstract operation
+// and for what must be there.
+pub struct Part {
+    pub va: usize,
+    pub vc: usize,
+    pub vi: usize,
+    pub vo: usize,
+    pub vk: usize,
+    pub vr: usize,
+    pub vm: usize,
+    pub na: usize,
+    pub nc: usize,
+    pub ni: usize,
+    pub nq: usize,
+    pub nk: usize,
+    pub nr: usize,
+    pub nm: usize,
+}
+
+// The contexts: both states, initial states, retrieve, then two for each operation.
+const ABSTRACT_STATE: usize = 0;
+
+const CONCRETE_STATE: usize = 1;
+
+const AINIT: usize = 2;
+
+const CINIT: usize = 3;
+
+const RETRIEVE: usize = 4;
+
+const OPERATIONS: usize = 5;
+
+// A row of a conjunct: 8 numbers, of which the second is where its nodes end, and the others from the third on the last variable of each group that it mentions.
+const ROW: usize = 8;
+
+const END: usize = 1;
+
+const NO_COLUMN: usize = 0;
+
+const ABSTRACT: usize = 2;
+
+const CONCRETE: usize = 3;
+
+const OUTPUTS: usize = 5;
+
+const CONCRETE_PRIMED: usize = 6;
+
+const ABSTRACT_PRIMED: usize = 7;
+
+// A predicate that a search asks: where its rows begin and end; asked of the state before (0) or after (1); the column of the first group, how many variables that group has, the
+// column of the second.
+pub struct Asked {
+    pub from: usize,
+    pub to: usize,
+    pub side: usize,
+    pub first: usize,
+    pub count: usize,
+    pub second: usize,
+}
+
+fn row_number(rows: &[u16; 16384], k: usize) -> usize {
+    rows[k] as usize
+}
+
+// The level of the conjunct whose row begins at r.
+fn level_of(rows: &[u16; 16384], r: usize, p: Asked) -> usize {
+    let last = row_number(rows, r + p.second);
+    if last != 0 {
+        return p.count + last;
+    }
+    if p.first == NO_COLUMN {
+        return 0;
+    }
+    row_number(rows, r + p.first)
+}
+
+// Appends the conjuncts of a predicate that have the level l; the place behind them.
+fn append(rows: &[u16; 16384], p: Asked, l: usize, plan: &mut [u16; 20560], at: usize) -> usize {
+    let mut k = at;
+    let mut r = p.from;
+    while r < p.to {
+        if level_of(rows, r, p) == l {
+            plan[k] = (2 * row_number(rows, r + END) + p.side) as u16;
+            k += 1;
+        }
+        r += ROW;
+    }
+    k
+}
+
+// The plan of the search u over up to three predicates, its conjuncts from `at` on; the place behind them.
+fn plan_search(rows: &[u16; 16384], u: usize, p: Asked, q: Asked, r: Asked, plan: &mut [u16; 20560], at: usize) -> usize {
+    let mut k = at;
+    let mut l: usize = 0;
+    while l < LEVELS {
+        plan[HEAD * u + l] = k as u16;
+        k = append(rows, p, l, plan, k);
+        k = append(rows, q, l, plan, k);
+        k = append(rows, r, l, plan, k);
+        l += 1;
+    }
+    plan[HEAD * u + LEVELS] = k as u16;
+    k
+}
+
+// The slots of its variables: n from the slot `first` on, then those from the slot `second` on.
+fn head(plan: &mut [u16; 20560], u: usize, first: usize, n: usize, second: usize) {
+    plan[HEAD * u + FIRST_SLOT] = first as u16;
+    plan[HEAD * u + FIRST_COUNT] = n as u16;
+    plan[HEAD * u + SECOND_SLOT] = second as u16;
+}
+
+fn first_row(firsts: &[u16; 40], c: usize) -> usize {
+    firsts[c] as usize
+}
+
+// No predicate.
+fn none() -> Asked {
+    Asked { from: 0, to: 0, side: 0, first: NO_COLUMN, count: 0, second: ABSTRACT }
+}
+
+// The predicate of a context over one group of variables.
+fn over(firsts: &[u16; 40], c: usize, side: usize, second: usize) -> Asked {
+    Asked { from: first_row(firsts, c), to: first_row(firsts, c + 1), side, first: NO_COLUMN, count: 0, second }
+}
+
+// The predicate of the state after, behind n outputs; an operation's predicate, over n outputs and a group of primed variables.
+fn after(firsts: &[u16; 40], c: usize, n: usize, second: usize) -> Asked {
+    Asked { from: first_row(firsts, c), to: first_row(firsts, c + 1), side: 1, first: NO_COLUMN, count: n, second }
+}
+
+fn step(firsts: &[u16; 40], c: usize, n: usize, second: usize) -> Asked {
+    Asked { from: first_row(firsts, c), to: first_row(firsts, c + 1), side: 0, first: OUTPUTS, count: n, second }
+}
+
+// A search without variables and predicates.
+fn plan_nothing(rows: &[u16; 16384], u: usize, plan: &mut [u16; 20560], at: usize) -> usize {
+    plan_search(rows, u, none(), none(), none(), plan, at)
+}
+
+// Concrete after states, behind n outputs, that the concrete operation of context c allows.
+fn plan_steps(rows: &[u16; 16384], firsts: &[u16; 40], c: usize, n: usize, u: usize, plan: &mut [u16; 20560], at: usize) -> usize {
+    head(plan, u, slots::OUTPUTS, n, slots::CONCRETE_PRIMED);
+    plan_search(rows, u, after(firsts, CONCRETE_STATE, n, CONCRETE), step(firsts, c, n, CONCRETE_PRIMED), none(), plan, at)
+}
+
+// The plans of initialisation: concrete initial states; abstract initial states that are related.
+pub fn plan_initialisation(rows: &[u16; 16384], firsts: &[u16; 40], plan: &mut [u16; 20560])
+    requires { ⌜ CommonRows (now rows) (now firsts) ⌝ }
+    ensures { λ _. ⌜ InitialisationPlan (now (rows .entry)) (now (firsts .entry)) (now (plan .exit)) ⌝ }
+{
+    let k = plan_nothing(rows, STATES, plan, TESTS);
+    head(plan, RELATED, slots::CONCRETE, 0, slots::CONCRETE);
+    let k = plan_search(rows, RELATED, over(firsts, CONCRETE_STATE, 0, CONCRETE), over(firsts, CINIT, 0, CONCRETE), none(), plan, k);
+    let k = plan_nothing(rows, READY, plan, k);
+    let k = plan_nothing(rows, STEPS, plan, k);
+    head(plan, MET, slots::ABSTRACT, 0, slots::ABSTRACT);
+    plan_search(rows, MET, over(firsts, ABSTRACT_STATE, 0, ABSTRACT), over(firsts, AINIT, 0, ABSTRACT), over(firsts, RETRIEVE, 0, ABSTRACT), plan, k);
+}
+
+// The first three searches of an operation: j its number, n how many outputs it has.
+fn plan_premises(rows: &[u16; 16384], firsts: &[u16; 40], j: usize, n: usize, plan: &mut [u16; 20560]) -> usize {
+    head(plan, STATES, slots::ABSTRACT, 0, slots::ABSTRACT);
+    let k = plan_search(rows, STATES, over(firsts, ABSTRACT_STATE, 0, ABSTRACT), none(), none(), plan, TESTS);
+    head(plan, RELATED, slots::CONCRETE, 0, slots::CONCRETE);
+    let k = plan_search(rows, RELATED, over(firsts, CONCRETE_STATE, 0, CONCRETE), over(firsts, RETRIEVE, 0, CONCRETE), none(), plan, k);
+    head(plan, READY, slots::OUTPUTS, n, slots::ABSTRACT_PRIMED);
+    plan_search(rows, READY, after(firsts, ABSTRACT_STATE, n, ABSTRACT), step(firsts, OPERATIONS + 2 * j, n, ABSTRACT_PRIMED), none(), plan, k)
+}
+
+// Applicability: some concrete step.
+pub fn plan_applicability(rows: &[u16; 16384], firsts: &[u16; 40], j: usize, n: usize, plan: &mut [u16; 20560])
+    requires { ⌜ OperationRows (now rows) (now firsts) j n ⌝ }
+    ensures { λ _. ⌜ ApplicabilityPlan (now (rows .entry)) (now (firsts .entry)) (now (plan .exit)) j n ⌝ }
+{
+    let k = plan_premises(rows, firsts, j, n, plan);
+    let k = plan_nothing(rows, STEPS, plan, k);
+    plan_steps(rows, firsts, OPERATIONS + 2 * j + 1, n, MET, plan, k);
+}
+
+// Correctness: some abstract after state that is related and reached.
+pub fn plan_correctness(rows: &[u16; 16384], firsts: &[u16; 40], j: usize, n: usize, plan: &mut [u16; 20560])
+    requires { ⌜ OperationRows (now rows) (now firsts) j n ⌝ }
+    ensures { λ _. ⌜ CorrectnessPlan (now (rows .entry)) (now (firsts .entry)) (now (plan .exit)) j n ⌝ }
+{
+    let k = plan_premises(rows, firsts, j, n, plan);
+    let k = plan_steps(rows, firsts, OPERATIONS + 2 * j + 1, n, STEPS, plan, k);
+    head(plan, MET, slots::ABSTRACT_PRIMED, 0, slots::ABSTRACT_PRIMED);
+    plan_search(rows, MET, over(firsts, ABSTRACT_STATE, 1, ABSTRACT), over(firsts, RETRIEVE, 1, ABSTRACT), over(firsts, OPERATIONS + 2 * j, 0, ABSTRACT_PRIMED), plan, k);
+}

@@ -1,0 +1,3 @@
+pub mod Points
+pub mod PointTests
+pub mod Searches

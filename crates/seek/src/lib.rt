@@ -1,0 +1,126 @@
+// One primitive for all searching: the least number, from a given one on, of a binding of the variables of a search at which all its tests hold. `slots` has two arrays: the values
+// before and the primed ones; those of the after state under the plain slots.
+ghost use mathlib.Core.Path.{_≡_};
+ghost use Prim.Native.Nat.{_<_, _≤_};
+ghost use lib.ListN.{getD, length};
+ghost use Rattle.points.specs.Points.{primedSlot};
+ghost use Rattle.points.specs.Searches.{slotIn};
+ghost use Rattle.seek.specs.SeekPromises.{StoreAsked, StoreAnswers, LevelAsked, LevelAnswers, SeekAsked, SeekAnswers};
+use points::plan::{FIRST_COUNT, FIRST_SLOT, HEAD, SECOND_SLOT};
+use points::slots::{ABSTRACT_PRIMED, AFTER, BEFORE, CONCRETE, CONCRETE_PRIMED};
+use slot_carriers::count_of;
+use slot_carriers::value_at;
+use truths::truth;
+
+// Bindings of the m variables of the search u from number j on: w in all; those from `from` on are looked at.
+pub struct Span {
+    pub u: usize,
+    pub j: usize,
+    pub m: usize,
+    pub w: usize,
+    pub from: usize,
+}
+
+// A number of the plan.
+fn entry(plan: &[u16], k: usize) -> usize
+    requires { ⌜ k < length (now plan) ⌝ }
+    ensures { λ r. ⌜ (r ≡ getD (now (plan .entry)) k 0) × (r < 65536) ⌝ }
+{
+    plan[k] as usize
+}
+
+// The slot of variable j of the search u.
+fn slot_of(plan: &[u16; 20560], u: usize, j: usize) -> usize
+    requires { ⌜ (u < 5) × (j < 16) ⌝ }
+    ensures { λ r. ⌜ r ≡ slotIn (now (plan .entry)) u j ⌝ }
+{
+    let n = entry(plan, HEAD * u + FIRST_COUNT);
+    if j < n {
+        return entry(plan, HEAD * u + FIRST_SLOT) + j;
+    }
+    entry(plan, HEAD * u + SECOND_SLOT) + (j - n)
+}
+
+// The plain slot of a primed variable.
+fn plain_slot(slot: usize) -> usize
+    requires { ⌜ (22 ≤ slot) × (slot < 38) ⌝ }
+    ensures { λ r. ⌜ (r < 16) × (primedSlot r ≡ slot) ⌝ }
+{
+    if slot < ABSTRACT_PRIMED {
+        return slot - CONCRETE_PRIMED + CONCRETE;
+    }
+    slot - ABSTRACT_PRIMED
+}
+
+// Gives the variable of a slot its x-th value, a primed one in both arrays.
+pub fn store(cells: &[u32; 9216], slot: usize, x: usize, slots: &mut [[i64; 64]; 2])
+    requires { ⌜ StoreAsked (now cells) slot x (now slots) ⌝ }
+    ensures { λ _. ⌜ StoreAnswers (now (cells .entry)) slot x (now (slots .entry)) (now (slots .exit)) ⌝ }
+{
+    let v = value_at(cells, slot, x);
+    slots[BEFORE][slot] = v;
+    if CONCRETE_PRIMED <= slot {
+        slots[AFTER][plain_slot(slot)] = v;
+    }
+}
+
+// Do the tests of a level hold? The first that does not decides.
+fn level(
+    t: &[u16; 16384],
+    plan: &[u16; 20560],
+    u: usize,
+    l: usize,
+    slots: &mut [[i64; 64]; 2],
+) -> bool
+    requires { ⌜ LevelAsked (now t) (now plan) u l (now slots) ⌝ }
+    ensures answers { λ r. ⌜ LevelAnswers (now (t .entry)) (now (plan .entry)) u l (now (slots .entry)) r ⌝ }
+    ensures kept { λ r. ⌜ now (slots .exit) ≡ now (slots .entry) ⌝ }
+{
+    let to = entry(plan, HEAD * u + l + 1);
+    let mut k = entry(plan, HEAD * u + l);
+    while k < to {
+        let e = entry(plan, k);
+        if !truth(t, e / 2, &mut slots[e % 2]) {
+            return false;
+        }
+        k += 1;
+    }
+    true
+}
+
+// The search among the bindings of a span: s.w where there is none. What it finds stays in the slots.
+pub fn seek(
+    t: &[u16; 16384],
+    plan: &[u16; 20560],
+    cells: &[u32; 9216],
+    s: Span,
+    slots: &mut [[i64; 64]; 2],
+) -> usize
+    requires { ⌜ SeekAsked (now t) (now plan) (now cells) (s .u) (s .j) (s .m) (s .w) (s .from) (now slots) ⌝ }
+    ensures { λ r. ⌜ SeekAnswers (now (t .entry)) (now (plan .entry)) (now (cells .entry)) (s .u) (s .j) (s .m) (s .w) (s .from) (now (slots .entry)) (now (slots .exit)) r ⌝ }
+{
+    if s.from == s.w {
+        return s.w;
+    }
+    if !level(t, plan, s.u, s.j, slots) {
+        return s.w;
+    }
+    if s.m == 0 {
+        return s.from;
+    }
+    let slot = slot_of(plan, s.u, s.j);
+    let n = count_of(cells, slot);
+    let v = s.w / n;
+    let mut x = s.from / v;
+    let mut r = s.from % v;
+    while x < n {
+        store(cells, slot, x, slots);
+        let k = seek(t, plan, cells, Span { u: s.u, j: s.j + 1, m: s.m - 1, w: v, from: r }, slots);
+        if k < v {
+            return x * v + k;
+        }
+        x += 1;
+        r = 0;
+    }
+    s.w
+}

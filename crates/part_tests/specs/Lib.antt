@@ -1,2 +1,4 @@
 pub mod PartsByNumber
+pub mod PartGroups
+pub mod PartOrder
 pub mod Readings

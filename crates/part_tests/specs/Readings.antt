@@ -9,7 +9,7 @@ use Rattle.static_rules.specs.Carriers.{Variable}
 use Rattle.static_rules.specs.Scope.{unprimed, inputs, outputs}
 use Rattle.static_rules.specs.Limits.{bindingCount}
 use Rattle.slot_carriers.specs.DeclaredGroups.{NodesOf}
-use Rattle.states.specs.StateTests.{TestsOf}
+use Rattle.read_predicates.specs.PredicateRows.{TestsOf}
 
 -- a group: how many variables it has, and where the nodes of their types stand
 pub record GroupAt (table groups : List ℕ) (row : ℕ) (vs : List Variable) (many few : ℕ) : Type 0 where

@@ -1,0 +1,4 @@
+pub mod PointNumbers
+pub mod SearchLevels
+pub mod PointBindings
+pub mod PointTruths

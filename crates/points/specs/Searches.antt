@@ -46,7 +46,8 @@ pub data TestsAt (table plan cells : List ℕ) (to : ℕ) : (at : ℕ) → List 
   more-tests : {at : ℕ} {f : Point → Bool} {fs : List (Point → Bool)} → at < to → Test table cells (getD plan at 0) f → TestsAt table plan cells to (at + 1) fs
       → TestsAt table plan cells to at (f ∷ fs)
 
--- the search's variables from number j on have these slots, and its tests of the levels from j on stand in the plan
+-- the search's variables from number j on have these slots, and its tests of the levels from j on stand in the plan; those of a level l do not depend on the variables from
+-- number l on
 pub record Planned (table plan cells : List ℕ) (u j : ℕ) (ss : List ℕ) (tests : ℕ → List (Point → Bool)) : Type 0 where
   pub search-low : u < 5
   pub few : j + length ss ≤ 11
@@ -56,11 +57,11 @@ pub record Planned (table plan cells : List ℕ) (u j : ℕ) (ss : List ℕ) (te
   pub slot-low : (i : ℕ) → i < length ss → getD ss i 0 < 38
   pub readable : (i : ℕ) → i < length ss → Readable cells (getD ss i 0)
   pub some : (i : ℕ) → i < length ss → 0 < countIn cells (getD ss i 0)
+  pub free : (l i : ℕ) → j ≤ l → l ≤ j + i → i < length ss → (δ : Point) (x : ℕ) → levelHolds tests l (moved δ (getD ss i 0) x) ≡ levelHolds tests l δ
 
--- the whole search u finds P: a level does not depend on the variables behind it, and all levels together are P
+-- the whole search u finds P: all levels together are P
 pub record SearchOf (table plan cells : List ℕ) (u : ℕ) (ss : List ℕ) (P : Point → Bool) : Type 0 where
   pub tests : ℕ → List (Point → Bool)
   pub planned : Planned table plan cells u 0 ss tests
   pub distinct : Distinct ss
-  pub free : (l v : ℕ) → l ≤ v → v < length ss → (δ : Point) (x : ℕ) → levelHolds tests l (moved δ (getD ss v 0) x) ≡ levelHolds tests l δ
   pub whole : (δ : Point) → Tame cells δ → levelsHold tests 0 (length ss) δ ≡ P δ

@@ -1,1 +1,4 @@
 pub mod ReadPredicates
+pub mod SlotBounds
+pub mod ReadTests
+pub mod CountedRows

@@ -1,1 +1,2 @@
 pub mod TestedPredicates
+pub mod PredicateRows

@@ -13,7 +13,7 @@ use Rattle.table_places.specs.ResolvedTable.{Slots}
 use Rattle.evaluation.specs.EvaluationByNumber.{Values}
 use Rattle.evaluation.specs.SlotValues.{Held}
 use Rattle.truths.specs.Promises.{Asked, Answers}
-use Rattle.states.specs.StateTests.{RowsAt, no-rows, more-rows}
+use Rattle.read_predicates.specs.PredicateRows.{RowsAt, no-rows, more-rows}
 use Rattle.states.specs.Promises.{RowsAsked, RowsAnswer, ContextAsked, ContextAnswers}
 
 -- what the evaluator answers where the slots are as they were
@@ -23,7 +23,7 @@ answer-as {table} {e} {τ} {σ} {b} {c} k l a = subst (λ (v : Values). Answers 
 module _ (table rows : List ℕ) (to : ℕ) (σ : Values) where
   inside-of : (Γ : Scope) (W : Slots) (at : ℕ) (ps : List Pred) → RowsAt table rows Γ W to at ps → at < to → at + 8 ≤ to
   inside-of Γ W at _ (no-rows l) h = omega arith
-  inside-of Γ W at _ (more-rows l c r) h = l
+  inside-of Γ W at _ (more-rows l c o r) h = l
 
   pub row-inside : (at : ℕ) → RowsAsked table rows at to σ → at < to → at + 8 ≤ 16384
   row-inside at a h = let l = inside-of (a .scope) (a .slots) at (a .conjuncts) (a .stand) h in let k = a .low in omega arith
@@ -31,12 +31,12 @@ module _ (table rows : List ℕ) (to : ℕ) (σ : Values) where
   asked-of : (Γ : Scope) (W : Slots) (ρ : Environment) (at : ℕ) (ps : List Pred) → RowsAt table rows Γ W to at ps → Held Γ W 0 ρ σ → at < to
       → Asked table (getD rows (at + 1) 0) σ
   asked-of Γ W ρ at _ (no-rows l) k h = absurd (omega arith)
-  asked-of Γ W ρ at _ (more-rows {from = f} {p = p} l c r) k h =
+  asked-of Γ W ρ at _ (more-rows {from = f} {p = p} l c o r) k h =
       record { scope = Γ; slots = W; environment = ρ; predicate = p; from = f; stands = c; held = k }
 
   low-of : (Γ : Scope) (W : Slots) (at : ℕ) (ps : List Pred) → RowsAt table rows Γ W to at ps → at < to → getD rows (at + 1) 0 ≤ 16384
   low-of Γ W at _ (no-rows l) h = absurd (omega arith)
-  low-of Γ W at _ (more-rows l c r) h = c .low
+  low-of Γ W at _ (more-rows l c o r) h = c .low
 
   pub row-low : (at : ℕ) → RowsAsked table rows at to σ → at < to → getD rows (at + 1) 0 ≤ 16384
   row-low at a h = low-of (a .scope) (a .slots) at (a .conjuncts) (a .stand) h
@@ -50,7 +50,7 @@ module _ (table rows : List ℕ) (to : ℕ) (σ : Values) where
   rest-of : (Γ : Scope) (W : Slots) (ρ : Environment) (at : ℕ) (ps : List Pred) → RowsAt table rows Γ W to at ps → to ≤ 16384 → Held Γ W 0 ρ σ → at < to
       → RowsAsked table rows (at + 8) to σ
   rest-of Γ W ρ at _ (no-rows l) k x h = absurd (omega arith)
-  rest-of Γ W ρ at _ (more-rows {ps = ps} l c r) k x h = record { scope = Γ; slots = W; environment = ρ; conjuncts = ps; low = k; stand = r; held = x }
+  rest-of Γ W ρ at _ (more-rows {ps = ps} l c o r) k x h = record { scope = Γ; slots = W; environment = ρ; conjuncts = ps; low = k; stand = r; held = x }
 
   pub rest-asked : (at : ℕ) → RowsAsked table rows at to σ → at < to → RowsAsked table rows (at + 8) to σ
   rest-asked at a h = rest-of (a .scope) (a .slots) (a .environment) at (a .conjuncts) (a .stand) (a .low) (a .held) h
@@ -69,21 +69,21 @@ module _ (table rows : List ℕ) (to : ℕ) (σ : Values) where
     where
       go : (Γ : Scope) (W : Slots) (ρ : Environment) (ps : List Pred) → RowsAt table rows Γ W to at ps → Held Γ W 0 ρ σ → true ≡ all (λ (q : Pred). holds q ρ) ps
       go Γ W ρ _ (no-rows l) k = refl
-      go Γ W ρ _ (more-rows l c r) k = absurd (omega arith)
+      go Γ W ρ _ (more-rows l c o r) k = absurd (omega arith)
 
   pub answer-first : (at : ℕ) → at < to → Answers table (getD rows (at + 1) 0) σ false → RowsAnswer table rows at to σ false
   answer-first at h a = record { means = go }
     where
       go : (Γ : Scope) (W : Slots) (ρ : Environment) (ps : List Pred) → RowsAt table rows Γ W to at ps → Held Γ W 0 ρ σ → false ≡ all (λ (q : Pred). holds q ρ) ps
       go Γ W ρ _ (no-rows l) k = absurd (omega arith)
-      go Γ W ρ _ (more-rows {from = f} {p = p} {ps = ps} l c r) k = all-first (λ (q : Pred). holds q ρ) p ps (a .means Γ W ρ p f c k)
+      go Γ W ρ _ (more-rows {from = f} {p = p} {ps = ps} l c o r) k = all-first (λ (q : Pred). holds q ρ) p ps (a .means Γ W ρ p f c k)
 
   pub answer-next : (at : ℕ) (b : Bool) → at < to → Answers table (getD rows (at + 1) 0) σ true → RowsAnswer table rows (at + 8) to σ b → RowsAnswer table rows at to σ b
   answer-next at b h a x = record { means = go }
     where
       go : (Γ : Scope) (W : Slots) (ρ : Environment) (ps : List Pred) → RowsAt table rows Γ W to at ps → Held Γ W 0 ρ σ → b ≡ all (λ (q : Pred). holds q ρ) ps
       go Γ W ρ _ (no-rows l) k = absurd (omega arith)
-      go Γ W ρ _ (more-rows {from = f} {p = p} {ps = ps} l c r) k =
+      go Γ W ρ _ (more-rows {from = f} {p = p} {ps = ps} l c o r) k =
           all-next (λ (q : Pred). holds q ρ) p ps b (a .means Γ W ρ p f c k) (x .means Γ W ρ ps r k)
 
 -- the rows of a context

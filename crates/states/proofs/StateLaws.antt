@@ -16,7 +16,8 @@ use Rattle.table_places.specs.ResolvedTable.{Slots}
 use Rattle.table_places.specs.DossierTable.{slotsOf, abstractSlots, concreteSlots}
 use Rattle.evaluation.specs.EvaluationByNumber.{Values}
 use Rattle.evaluation.specs.SlotValues.{Slotted, Held}
-use Rattle.states.specs.StateTests.{TestsOf, Placed}
+use Rattle.read_predicates.specs.PredicateRows.{TestsOf}
+use Rattle.states.specs.StateTests.{Placed}
 use Rattle.states.specs.Promises.{ContextAsked, ContextAnswers, AbstractIn, ConcreteIn}
 use Rattle.states.specs.Promises.{AbstractInitialAsked, AbstractInitialAnswers, ConcreteInitialAsked, ConcreteInitialAnswers, RelatedAsked, RelatedAnswers}
 

@@ -15,7 +15,8 @@ use Rattle.table_places.specs.ResolvedTable.{Slots}
 use Rattle.table_places.specs.DossierTable.{abstractSlots, concreteSlots}
 use Rattle.evaluation.specs.EvaluationByNumber.{Values}
 use Rattle.evaluation.specs.SlotValues.{Held}
-use Rattle.states.specs.StateTests.{RowsAt, ContextAt, TestsOf, Placed, StepAt}
+use Rattle.read_predicates.specs.PredicateRows.{RowsAt, ContextAt, TestsOf}
+use Rattle.states.specs.StateTests.{Placed, StepAt}
 
 -- some conjuncts have the rows between two places, and the slots hold the values of their names; the answer is whether all of them hold
 pub record RowsAsked (table rows : List ℕ) (from to : ℕ) (σ : Values) : Type 0 where

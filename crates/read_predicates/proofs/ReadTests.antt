@@ -23,18 +23,33 @@ use Rattle.reader.specs.Gives.{Gives}
 use Rattle.reader.proofs.ReadGives.{read-gives}
 use Rattle.conjunct_tests.specs.ConjunctTests.{Conjunct, Conjuncts, no-conjuncts, more-conjuncts}
 use Rattle.conjunct_tests.proofs.ConjunctRows.{rows-conjuncts}
 use Rattle.read_predicates.specs.TestedPredicates.{Tested, none-tested, one-tested}
+use Rattle.read_predicates.specs.PredicateRows.{Columns, RowsAt, no-rows, more-rows, ContextAt, TestsOf}
 use Rattle.read_predicates.proofs.ReadPredicates.{read-tested}
-use Rattle.states.specs.StateTests.{RowsAt, no-rows, more-rows, ContextAt, TestsOf}
-use Rattle.states.proofs.SlotBounds.{slots-below, contexts-few}
+use Rattle.read_predicates.proofs.SlotBounds.{slots-below, contexts-few}
 
 module _ (table rows : List ℕ) where
+  row-entry : (pre rest : List ℕ) (at from to : ℕ) (ss : List ℕ) (i : ℕ) → at ≡ length pre → rows ≡ pre ++ (conjunctRow from to ss ++ rest)
+      → getD rows (at + i) 0 ≡ getD (conjunctRow from to ss ++ rest) i 0
+  row-entry pre rest at from to ss i l e =
+      ap (λ (w : List ℕ). getD w (at + i) 0) e
+      ∙ ap (λ (n : ℕ). getD (pre ++ (conjunctRow from to ss ++ rest)) (n + i) 0) l
+      ∙ at-right pre (conjunctRow from to ss ++ rest) i 0
+
   row-end : (pre rest : List ℕ) (at from to : ℕ) (ss : List ℕ) → at ≡ length pre → rows ≡ pre ++ (conjunctRow from to ss ++ rest) → getD rows (at + 1) 0 ≡ to
   unfolding conjunctRow
-  row-end pre rest at from to ss l e =
-      ap (λ (w : List ℕ). getD w (at + 1) 0) e
-      ∙ ap (λ (n : ℕ). getD (pre ++ (conjunctRow from to ss ++ rest)) (n + 1) 0) l
-      ∙ at-right pre (conjunctRow from to ss ++ rest) 1 0
+  row-end pre rest at from to ss l e = row-entry pre rest at from to ss 1 l e
+
+  row-columns : (pre rest : List ℕ) (at from to : ℕ) (ss : List ℕ) → at ≡ length pre → rows ≡ pre ++ (conjunctRow from to ss ++ rest) → Columns rows at ss
+  unfolding conjunctRow
+  row-columns pre rest at from to ss l e = record {
+    abstracts = row-entry pre rest at from to ss 2 l e;
+    concretes = row-entry pre rest at from to ss 3 l e;
+    inputs = row-entry pre rest at from to ss 4 l e;
+    outputs = row-entry pre rest at from to ss 5 l e;
+    concretes-primed = row-entry pre rest at from to ss 6 l e;
+    abstracts-primed = row-entry pre rest at from to ss 7 l e;
+  }
 
   row-long : (from to : ℕ) (ss : List ℕ) → length (conjunctRow from to ss) ≡ 8
   unfolding conjunctRow
@@ -52,6 +67,7 @@ module _ (table rows : List ℕ) where
       let a = length-append row rest in
       let b = length-append pre row in
       more-rows {at = at} (omega arith) (subst (λ (m : ℕ). Conjunct table Γ W p from m) (sym g) c)
+      (row-columns pre (rest ++ post) at from end (usedPred p W 38) l s)
       (rows-at Γ W rest ps r (pre ++ row) post (at + 8) to (omega arith) (s ∙ sym (append-assoc pre row (rest ++ post))) (omega arith))
 
   first-is : (n : ℕ) (cs : List Context) (Ws : List Slots) (qs : List ℕ) → getD (contextFirsts n cs Ws qs) 0 0 ≡ n

@@ -83,7 +83,7 @@ pub fn opening_part(groups: &[u16; 160], cells: &[u32; 9216]) -> Part
 }
 
 // The groups of the operation whose rows begin at `row`.
-fn sizes(groups: &[u16; 160], cells: &[u32; 9216], row: usize) -> Sizes {
+fn group_sizes(groups: &[u16; 160], cells: &[u32; 9216], row: usize) -> Sizes {
     let va = group(groups, ABSTRACT_ROW);
     let vc = group(groups, CONCRETE_ROW);
     let vi = group(groups, row);
@@ -100,7 +100,7 @@ pub fn applicability_part(groups: &[u16; 160], row: usize, cells: &[u32; 9216]) 
     requires { ⌜ OperationPartAsked (now groups) row (now cells) ⌝ }
     ensures { λ r. ⌜ ApplicabilityPartIs (now (groups .entry)) row (now (cells .entry)) r ⌝ }
 {
-    let s = sizes(groups, cells, row);
+    let s = group_sizes(groups, cells, row);
     Part { va: s.va, vc: s.vc, vi: s.vi, vo: 0, vk: 0, vr: s.vo + s.va, vm: s.vo + s.vc, na: s.na, nc: s.nc, ni: s.ni, nq: 1, nk: 1, nr: s.nq * s.na, nm: s.nq * s.nc }
 }
 
@@ -109,7 +109,7 @@ pub fn correctness_part(groups: &[u16; 160], row: usize, cells: &[u32; 9216]) ->
     requires { ⌜ OperationPartAsked (now groups) row (now cells) ⌝ }
     ensures { λ r. ⌜ CorrectnessPartIs (now (groups .entry)) row (now (cells .entry)) r ⌝ }
 {
-    let s = sizes(groups, cells, row);
+    let s = group_sizes(groups, cells, row);
     Part { va: s.va, vc: s.vc, vi: s.vi, vo: s.vo, vk: s.vc, vr: s.vo + s.va, vm: s.va, na: s.na, nc: s.nc, ni: s.ni, nq: s.nq, nk: s.nc, nr: s.nq * s.na, nm: s.na }
 }
 

@@ -10,7 +10,7 @@ use Rattle.slot_carriers.specs.Cells.{Reached}
 use Rattle.plans.specs.declared.Part.{Part}
 use Rattle.points.specs.Points.{Shows}
 use Rattle.part_tests.specs.PartGroups.{StateCells, OperationCells, openingPart, applicabilityPart, correctnessPart}
-use Rattle.part_tests.specs.Readings.{GroupAt}
+use Rattle.readings.specs.Readings.{GroupAt}
 
 -- the cells before anything is written
 pub record Blank (cells : List ℕ) : Type 0 where

@@ -1,4 +1,3 @@
 pub mod PartsByNumber
 pub mod PartGroups
 pub mod PartOrder
-pub mod Readings

@@ -12,7 +12,7 @@ use Rattle.obligations.specs.Subjects.{subjectOf}
 use Rattle.obligations.specs.Order.{passes, checks, total, look}
 use Rattle.obligations.specs.Report.{checkAt}
 use Rattle.part_tests.specs.PartOrder.{partSize, partBegin}
-use Rattle.part_tests.specs.Readings.{ReadingOf}
+use Rattle.readings.specs.Readings.{ReadingOf}
 use Rattle.part_setup.specs.SetupPromises.{FirstValues}
 
 -- one part, by its tests

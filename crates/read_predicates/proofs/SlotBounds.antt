@@ -55,7 +55,7 @@ module _ (d : Dossier) (f : Few d) where
   concrete-primed-below =
       let l = variables-few (d .givens) prime (declarations (d .concrete)) in let k = f .concrete in below-slotted 22 (primed d (d .concrete)) (omega arith)
 
-  inputs-few : (o : Operation) → FewParameters o → length (inputs d o) ≤ 3
+  pub inputs-few : (o : Operation) → FewParameters o → length (inputs d o) ≤ 3
   unfolding parametersOf
   inputs-few o h =
       let xs : List Parameter = filter (λ (x : Parameter). isInput (x .direction)) (o .parameters) in
@@ -64,7 +64,7 @@ module _ (d : Dossier) (f : Few d) where
       let k = h .inputs in
       omega arith
 
-  outputs-few : (o : Operation) → FewParameters o → length (outputs d o) ≤ 3
+  pub outputs-few : (o : Operation) → FewParameters o → length (outputs d o) ≤ 3
   unfolding parametersOf
   outputs-few o h =
       let xs : List Parameter = filter (λ (x : Parameter). isOutput (x .direction)) (o .parameters) in

@@ -1,9 +1,9 @@
 -- A search through blocks of equal length: a place is a block and a place in it. Assumes nothing.
 use Prim.Native.Nat.{ℕ, _+_, _-_, _*_, _/_, _%_, _<_, _≤_}
-use native.Mathlib.Nat.{add-mul, one-mul, div-add-mod', mod-lt, mul-le-mul-right, lt-of-lt-of-le, le-trans}
+use native.Mathlib.Nat.{add-mul, one-mul, div-add-mod', mod-lt, mul-le-mul-right, lt-of-lt-of-le}
 use native.Mathlib.Omega.{arith}
-use mathlib.Core.Path.{_≡_, refl, sym, ap, ap₂, _∙_, subst}
-use mathlib.Core.Bool.{Bool, true, false}
+use mathlib.Core.Path.{_≡_, ap, ap₂, _∙_, subst}
+use mathlib.Core.Bool.{Bool, false}
 use lib.Arith.{digits-div, digits-mod}
 use Rattle.points.specs.Searches.{Sought}
 
@@ -33,10 +33,10 @@ module _ (f : ℕ → Bool) (h : ℕ → ℕ → Bool) (n v from : ℕ) (split :
     through y a b =
         let hi : k ≤ v = q .high in
         elim (native.Mathlib.Decide.decLt y (x * v + r)) [
-          yes z ↦ g .past y a z
-        | no z ↦ (
-            let e : y ≡ x * v + (y - x * v) = omega arith in
-            ap f e ∙ at-block x (y - x * v) (omega arith) ∙ q .past (y - x * v) (omega arith) (omega arith))
+          | yes z ↦ g .past y a z
+          | no z ↦ (
+              let e : y ≡ x * v + (y - x * v) = omega arith in
+              ap f e ∙ at-block x (y - x * v) (omega arith) ∙ q .past (y - x * v) (omega arith) (omega arith))
         ]
 
     pub next : v ≤ k → Going f v from (x + 1) 0

@@ -3,13 +3,12 @@ use Prim.Native.Nat.{ℕ, _+_, _*_, _/_, _%_, _<_, _≤_}
 use native.Mathlib.Omega.{arith}
 use mathlib.Core.Path.{_≡_, refl, sym, ap, _∙_, subst}
 use mathlib.Core.Bool.{Bool, true, false}
-use mathlib.Core.List.{List, [], _∷_}
+use mathlib.Core.List.{List, []}
 use lib.ListN.{getD}
 use lib.IntN.{ℤ}
 use Rattle.lexical.specs.Lists.{all}
 use Rattle.truths.specs.Promises.{Asked, Answers}
 use Rattle.points.specs.Points.{Point, Shows}
-use Rattle.points.specs.PointTests.{Test}
 use Rattle.points.specs.Searches.{levelHolds, markIn, TestsAt, no-tests, more-tests}
 use Rattle.seek.specs.SeekPromises.{LevelAsked, LevelAnswers}
 
@@ -68,8 +67,14 @@ pub level-starts : {table plan : List ℕ} {u l to from : ℕ} {a : List (List �
 level-starts {plan = plan} {u = u} {l = l} {to = to} q e f =
     let ends : to ≡ markIn plan u (l + 1) = e ∙ mark-next plan u l in
     record {
-      kept = refl; low = subst (λ (x : ℕ). x ≤ 20560) (sym ends) (q .end-low); cells = q .cells; point = q .point; tests = q .tests l; shows = q .shows;
-      stand = seated ends f (q .stand); known = λ cells δ fs s t. record { rest = fs; stand = seated ends f t; same = refl }
+      kept = refl;
+      low = subst (λ (x : ℕ). x ≤ 20560) (sym ends) (q .end-low);
+      cells = q .cells;
+      point = q .point;
+      tests = q .tests l;
+      shows = q .shows;
+      stand = seated ends f (q .stand);
+      known = λ cells δ fs s t. record { rest = fs; stand = seated ends f t; same = refl };
     }
 
 module _ {table plan : List ℕ} {u l to : ℕ} {a₀ a : List (List ℤ)} {k : ℕ} (g : LevelGoing table plan u l a₀ a to k) where
@@ -99,6 +104,12 @@ module _ {table plan : List ℕ} {u l to : ℕ} {a₀ a : List (List ℤ)} {k : 
       level-goes e same =
           let next = next-holds (g .shows) h {fs = g .tests} (g .stand) refl (answer e) in
           record {
-            kept = same ∙ g .kept; low = g .low; cells = g .cells; point = g .point; tests = next .rest; shows = g .shows; stand = next .stand;
-            known = λ cells δ fs s t. (let left = g .known cells δ fs s t in next-holds s h (left .stand) (left .same) (answer e))
+            kept = same ∙ g .kept;
+            low = g .low;
+            cells = g .cells;
+            point = g .point;
+            tests = next .rest;
+            shows = g .shows;
+            stand = next .stand;
+            known = λ cells δ fs s t. (let left = g .known cells δ fs s t in next-holds s h (left .stand) (left .same) (answer e));
           }

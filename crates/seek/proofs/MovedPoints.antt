@@ -1,9 +1,9 @@
 -- Points that differ in some slots: a variable with another value, points beside the slots of a search, and what a search finds at them. Assumes nothing.
-use Prim.Native.Nat.{ℕ, zero, suc, _+_, _-_, _*_, _/_, _%_, _<_, _≤_}
+use Prim.Native.Nat.{ℕ, suc, _+_, _/_, _%_, _<_, _≤_}
 use native.Mathlib.Omega.{arith}
 use mathlib.Core.Path.{_≡_, refl, sym, ap, ap₂, _∙_}
 use mathlib.Core.Bool.{Bool, true, false, cond, _&&_}
-use mathlib.Core.Logic.{_⊎_, inl, inr}
+use mathlib.Core.Logic.{inl, inr}
 use mathlib.Core.List.{List, [], _∷_}
 use lib.Dec.{eqb}
 use lib.ListN.{getD, length}
@@ -56,7 +56,7 @@ module _ {s : ℕ} {ss : List ℕ} {δ ε : Point} (b : Beside (s ∷ ss) δ ε)
   beside-deeper x =
       record {
         same = λ t a.
-            at-moved (λ (y : ℕ). y ≡ moved δ s x t) ε s x t (λ e. sym (moved-here δ s x t e)) (λ n. b .same t (not-among s t ss n a) ∙ sym (moved-there δ s x t n))
+            at-moved (λ (y : ℕ). y ≡ moved δ s x t) ε s x t (λ e. sym (moved-here δ s x t e)) (λ n. b .same t (not-among s t ss n a) ∙ sym (moved-there δ s x t n));
       }
 
   -- the first slot gets the other's value

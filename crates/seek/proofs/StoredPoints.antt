@@ -11,7 +11,7 @@ use lib.Seq.{getD-set-same, getD-set-other}
 use lib.IntN.{ℤ, pos}
 use borrow.Author.Tests.{ltb-true, ltb-false}
 use Rattle.slot_carriers.specs.Cells.{countIn, valueIn}
-use Rattle.points.specs.Points.{Point, moved, primedSlot, Tame, Shows}
+use Rattle.points.specs.Points.{Point, moved, primedSlot, Tame}
 use Rattle.seek.specs.SeekPromises.{StoreAnswers}
 use Rattle.seek.proofs.MovedPoints.{at-moved}
 
@@ -58,20 +58,21 @@ module _ (cells : List ℕ) (slot x : ℕ) (v : ℤ) (is : v ≡ valueIn cells s
     stored-plain low =
         record {
           means = λ δ s l. (
-            let b = getD a 0 [] in
-            let two : length a ≡ 2 = s .two in
-            let long : length b ≡ 64 = s .before-long in
-            let first : getD (set a 0 (set b slot v)) 0 [] ≡ set b slot v = getD-set-same a 0 (set b slot v) [] (omega arith) in
-            let second : getD (set a 0 (set b slot v)) 1 [] ≡ getD a 1 [] = getD-set-other a 0 1 (set b slot v) [] (λ e. (let z : 1 ≡ 0 = e in omega arith)) in
-            record {
-              tame = tame δ (s .tame) l; two = length-set a 0 (set b slot v) ∙ two;
-              before-long = ap length first ∙ length-set b slot v ∙ long;
-              after-long = ap length second ∙ s .after-long;
-              before = λ k h. ap (λ (m : List ℤ). getD m k (pos 0)) first ∙ written δ b (λ z. z) slot refl (omega arith) k (λ e. e) (s .before k h);
-              after = λ k h. ap (λ (m : List ℤ). getD m k (pos 0)) second
-                  ∙ at-moved (λ (y : ℕ). getD (getD a 1 []) k (pos 0) ≡ valueIn cells (primedSlot k) y) δ slot x (primedSlot k)
-                  (λ e. absurd (let z : 22 ≤ primedSlot k = primed-high k in let y : primedSlot k ≡ slot = e in let f : ⊥ = omega arith in f)) (λ e. s .after k h)
-            })
+              let b = getD a 0 [] in
+              let two : length a ≡ 2 = s .two in
+              let long : length b ≡ 64 = s .before-long in
+              let first : getD (set a 0 (set b slot v)) 0 [] ≡ set b slot v = getD-set-same a 0 (set b slot v) [] (omega arith) in
+              let second : getD (set a 0 (set b slot v)) 1 [] ≡ getD a 1 [] = getD-set-other a 0 1 (set b slot v) [] (λ e. (let z : 1 ≡ 0 = e in omega arith)) in
+              record {
+                tame = tame δ (s .tame) l;
+                two = length-set a 0 (set b slot v) ∙ two;
+                before-long = ap length first ∙ length-set b slot v ∙ long;
+                after-long = ap length second ∙ s .after-long;
+                before = λ k h. ap (λ (m : List ℤ). getD m k (pos 0)) first ∙ written δ b (λ z. z) slot refl (omega arith) k (λ e. e) (s .before k h);
+                after = λ k h. ap (λ (m : List ℤ). getD m k (pos 0)) second
+                    ∙ at-moved (λ (y : ℕ). getD (getD a 1 []) k (pos 0) ≡ valueIn cells (primedSlot k) y) δ slot x (primedSlot k)
+                    (λ e. absurd (let z : 22 ≤ primedSlot k = primed-high k in let y : primedSlot k ≡ slot = e in let f : ⊥ = omega arith in f)) (λ e. s .after k h);
+              });
         }
 
     pub stored-primed : (p : ℕ) → slot < 38 → p < 16 → primedSlot p ≡ slot
@@ -79,25 +80,26 @@ module _ (cells : List ℕ) (slot x : ℕ) (v : ℤ) (is : v ≡ valueIn cells s
     stored-primed p low lp is-primed =
         record {
           means = λ δ s l. (
-            let b = getD a 0 [] in
-            let c = getD a 1 [] in
-            let a₁ = set a 0 (set b slot v) in
-            let d = set (getD a₁ 1 []) p v in
-            let two : length a ≡ 2 = s .two in
-            let still : length a₁ ≡ 2 = length-set a 0 (set b slot v) ∙ two in
-            let long : length b ≡ 64 = s .before-long in
-            let also : length c ≡ 64 = s .after-long in
-            let first : getD (set a₁ 1 d) 0 [] ≡ set b slot v =
-                    getD-set-other a₁ 1 0 d [] (λ e. (let z : 0 ≡ 1 = e in omega arith)) ∙ getD-set-same a 0 (set b slot v) [] (omega arith) in
-            let second : getD (set a₁ 1 d) 1 [] ≡ set c p v =
-                    getD-set-same a₁ 1 d [] (omega arith)
-                    ∙ ap (λ (m : List ℤ). set m p v) (getD-set-other a 0 1 (set b slot v) [] (λ e. (let z : 1 ≡ 0 = e in omega arith))) in
-            record {
-              tame = tame δ (s .tame) l; two = length-set a₁ 1 d ∙ still;
-              before-long = ap length first ∙ length-set b slot v ∙ long;
-              after-long = ap length second ∙ length-set c p v ∙ also;
-              before = λ k h. ap (λ (m : List ℤ). getD m k (pos 0)) first ∙ written δ b (λ z. z) slot refl (omega arith) k (λ e. e) (s .before k h);
-              after = λ k h. ap (λ (m : List ℤ). getD m k (pos 0)) second
-                  ∙ written δ c primedSlot p is-primed (omega arith) k (λ e. primed-same k p h lp (e ∙ sym is-primed)) (s .after k h)
-            })
+              let b = getD a 0 [] in
+              let c = getD a 1 [] in
+              let a₁ = set a 0 (set b slot v) in
+              let d = set (getD a₁ 1 []) p v in
+              let two : length a ≡ 2 = s .two in
+              let still : length a₁ ≡ 2 = length-set a 0 (set b slot v) ∙ two in
+              let long : length b ≡ 64 = s .before-long in
+              let also : length c ≡ 64 = s .after-long in
+              let first : getD (set a₁ 1 d) 0 [] ≡ set b slot v =
+              getD-set-other a₁ 1 0 d [] (λ e. (let z : 0 ≡ 1 = e in omega arith)) ∙ getD-set-same a 0 (set b slot v) [] (omega arith) in
+              let second : getD (set a₁ 1 d) 1 [] ≡ set c p v =
+              getD-set-same a₁ 1 d [] (omega arith)
+              ∙ ap (λ (m : List ℤ). set m p v) (getD-set-other a 0 1 (set b slot v) [] (λ e. (let z : 1 ≡ 0 = e in omega arith))) in
+              record {
+                tame = tame δ (s .tame) l;
+                two = length-set a₁ 1 d ∙ still;
+                before-long = ap length first ∙ length-set b slot v ∙ long;
+                after-long = ap length second ∙ length-set c p v ∙ also;
+                before = λ k h. ap (λ (m : List ℤ). getD m k (pos 0)) first ∙ written δ b (λ z. z) slot refl (omega arith) k (λ e. e) (s .before k h);
+                after = λ k h. ap (λ (m : List ℤ). getD m k (pos 0)) second
+                    ∙ written δ c primedSlot p is-primed (omega arith) k (λ e. primed-same k p h lp (e ∙ sym is-primed)) (s .after k h);
+              });
         }

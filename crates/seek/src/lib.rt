@@ -6,8 +6,15 @@ ghost use lib.ListN.{getD, length};
 ghost use Rattle.points.specs.Points.{primedSlot};
 ghost use Rattle.points.specs.Searches.{slotIn};
 ghost use Rattle.seek.specs.SeekPromises.{StoreAsked, StoreAnswers, LevelAsked, LevelAnswers, SeekAsked, SeekAnswers};
-use points::plan::{FIRST_COUNT, FIRST_SLOT, HEAD, SECOND_SLOT};
-use points::slots::{ABSTRACT_PRIMED, AFTER, BEFORE, CONCRETE, CONCRETE_PRIMED};
+use points::plan::FIRST_COUNT;
+use points::plan::FIRST_SLOT;
+use points::plan::HEAD;
+use points::plan::SECOND_SLOT;
+use points::slots::ABSTRACT_PRIMED;
+use points::slots::AFTER;
+use points::slots::BEFORE;
+use points::slots::CONCRETE;
+use points::slots::CONCRETE_PRIMED;
 use slot_carriers::count_of;
 use slot_carriers::value_at;
 use truths::truth;
@@ -115,7 +122,19 @@ pub fn seek(
     let mut r = s.from % v;
     while x < n {
         store(cells, slot, x, slots);
-        let k = seek(t, plan, cells, Span { u: s.u, j: s.j + 1, m: s.m - 1, w: v, from: r }, slots);
+        let k = seek(
+            t,
+            plan,
+            cells,
+            Span {
+                u: s.u,
+                j: s.j + 1,
+                m: s.m - 1,
+                w: v,
+                from: r,
+            },
+            slots,
+        );
         if k < v {
             return x * v + k;
         }

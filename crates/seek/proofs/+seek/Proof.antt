@@ -1,4 +1,4 @@
--- answers sha256 1e1bb2d808d3fcbe
+-- answers sha256 e3df84d7dde6230d
 -- `seek::seek` meets its contract. The invariant of the loop over the values of the first variable is `Inside`: nothing was found before block x, place r of it, and the
 -- arrays show a point that differs from the first one only in the search's slots. Measures: the variables left; the values left. Assumes nothing.
 use Prim.Native.Nat.{ℕ, _<_, _-_}
@@ -9,8 +9,8 @@ use borrow.Author.Needs.{needs}
 use borrow.Author.Tests.{not-true, not-false}
 use Rattle.seek.proofs.+seek.{statement}
 use Rattle.seek.proofs.+seek.Tie.{close}
-use Rattle.seek.proofs.Loops as loops
-use Rattle.seek.proofs.Inside as inside
+use Rattle.seek.proofs.WaysOut as ways
+use Rattle.seek.proofs.EverySearch as searches
 use Rattle.seek.proofs.seek.Reads as seek
 use Rattle.seek.proofs.seek.Kinds as seek-kinds
 use Rattle.seek.proofs.+seek.Lts-seek as seek-lts
@@ -29,7 +29,7 @@ abbrev seek-below : ℕ → In 4 seek-kinds.ps
 seek-below t = and 4 seek-kinds.ps (falls 4 seek-kinds.ps _<_ μ-seek t) seek.Pre
 
 abbrev seek-Inv-loop : seek-lts.InvT-loop
-seek-Inv-loop t plan cells s slots₀ slot n v x₀ r₀ slots x r = inside.Inside t plan cells (s .u) (s .j) (s .m) (s .w) (s .from) n v slot slots₀ slots x r
+seek-Inv-loop t plan cells s slots₀ slot n v x₀ r₀ slots x r = searches.Inside t plan cells (s .u) (s .j) (s .m) (s .w) (s .from) n v slot slots₀ slots x r
 
 abbrev seek-μ-loop : seek-lts.MeasureT-loop
 seek-μ-loop t plan cells s slots₀ slot n v x₀ r₀ slots x r = n - x
@@ -39,37 +39,37 @@ abbrev seek-claims : ℕ → seek-lts.Claims
 seek-claims t = (level-reads.Asked, level-reads.Learnt, slot-of-reads.Asked, slot-of-reads.Learnt, count-of-reads.Asked, count-of-reads.Learnt, store-reads.Asked, store-reads.Learnt, seek-below t, seek.Post)
 
 seek-returns : (t : ℕ) → seek-lts.Need-returns (seek-claims t) (seek-at t) seek.Post seek-Inv-loop seek-μ-loop
-seek-returns t c = loops.nothing-left (c .before .before .pre .1) (c .if1 .taken)
+seek-returns t c = ways.nothing-left (c .before .before .pre .1) (c .if1 .taken)
 
 seek-level-requires : (t : ℕ) → seek-lts.Need-level-requires (seek-claims t) (seek-at t) seek.Post seek-Inv-loop seek-μ-loop
-seek-level-requires t c κs = loops.level-asked (c .before .before .before .pre .1)
+seek-level-requires t c κs = ways.level-asked (c .before .before .before .pre .1)
 
 seek-returns-2 : (t : ℕ) → seek-lts.Need-returns-2 (seek-claims t) (seek-at t) seek.Post seek-Inv-loop seek-μ-loop
-seek-returns-2 t c = loops.level-fails (c .before .before .before .before .before .pre .1) (c .before .level .ensures .0) (not-true _ (c .if2 .taken)) (c .before .level .ensures .1)
+seek-returns-2 t c = ways.level-fails (c .before .before .before .before .before .pre .1) (c .before .level .ensures .0) (not-true _ (c .if2 .taken)) (c .before .level .ensures .1)
 
 seek-returns-3 : (t : ℕ) → seek-lts.Need-returns-3 (seek-claims t) (seek-at t) seek.Post seek-Inv-loop seek-μ-loop
-seek-returns-3 t c = loops.no-more (c .before .before .before .before .before .before .before .pre .1) (c .before .before .before .level .ensures .0) (not-false _ (c .before .before .if2 .left)) (c .before .before .before .level .ensures .1) (c .if3 .taken)
+seek-returns-3 t c = ways.no-more (c .before .before .before .before .before .before .before .pre .1) (c .before .before .before .level .ensures .0) (not-false _ (c .before .before .if2 .left)) (c .before .before .before .level .ensures .1) (c .if3 .taken)
 
 seek-slot-of-requires : (t : ℕ) → seek-lts.Need-slot-of-requires (seek-claims t) (seek-at t) seek.Post seek-Inv-loop seek-μ-loop
 seek-slot-of-requires t c κs = (c .before .before .before .before .before .before .before .pre .1 .planned .search-low, omega (arith, c .before .before .before .before .before .before .before .pre .1 .planned .few))
 
 seek-count-of-requires : (t : ℕ) → seek-lts.Need-count-of-requires (seek-claims t) (seek-at t) seek.Post seek-Inv-loop seek-μ-loop
-seek-count-of-requires t c κs = omega (arith, inside.slot-low (c .before .before .before .before .before .before .before .before .pre .1) (c .before .if3 .left) (c .slot-of .ensures))
+seek-count-of-requires t c κs = omega (arith, searches.slot-low (c .before .before .before .before .before .before .before .before .pre .1) (c .before .if3 .left) (c .slot-of .ensures))
 
 seek-div-v : (t : ℕ) → seek-lts.Need-div-v (seek-claims t) (seek-at t) seek.Post seek-Inv-loop seek-μ-loop
-seek-div-v t c = inside.n-pos (c .before .before .before .before .before .before .before .before .before .before .pre .1) (c .before .before .before .if3 .left) (c .before .before .slot-of .ensures) (c .before .count-of .ensures) (c .before .before .before .before .before .before .before .before .if1 .left)
+seek-div-v t c = searches.n-pos (c .before .before .before .before .before .before .before .before .before .before .pre .1) (c .before .before .before .if3 .left) (c .before .before .slot-of .ensures) (c .before .count-of .ensures) (c .before .before .before .before .before .before .before .before .if1 .left)
 
 seek-div-x : (t : ℕ) → seek-lts.Need-div-x (seek-claims t) (seek-at t) seek.Post seek-Inv-loop seek-μ-loop
-seek-div-x t c = inside.v-pos (c .before .before .before .before .before .before .before .before .before .before .before .pre .1) (c .before .before .before .before .if3 .left) (c .before .before .before .slot-of .ensures) (c .before .before .count-of .ensures) (c .before .before .before .before .before .before .before .before .before .if1 .left)
+seek-div-x t c = searches.v-pos (c .before .before .before .before .before .before .before .before .before .before .before .pre .1) (c .before .before .before .before .if3 .left) (c .before .before .before .slot-of .ensures) (c .before .before .count-of .ensures) (c .before .before .before .before .before .before .before .before .before .if1 .left)
 
 seek-rem-r : (t : ℕ) → seek-lts.Need-rem-r (seek-claims t) (seek-at t) seek.Post seek-Inv-loop seek-μ-loop
-seek-rem-r t c = inside.v-pos (c .before .before .before .before .before .before .before .before .before .before .before .before .pre .1) (c .before .before .before .before .before .if3 .left) (c .before .before .before .before .slot-of .ensures) (c .before .before .before .count-of .ensures) (c .before .before .before .before .before .before .before .before .before .before .if1 .left)
+seek-rem-r t c = searches.v-pos (c .before .before .before .before .before .before .before .before .before .before .before .before .pre .1) (c .before .before .before .before .before .if3 .left) (c .before .before .before .before .slot-of .ensures) (c .before .before .before .count-of .ensures) (c .before .before .before .before .before .before .before .before .before .before .if1 .left)
 
 seek-loop-holds : (t : ℕ) → seek-lts.Need-loop-holds (seek-claims t) (seek-at t) seek.Post seek-Inv-loop seek-μ-loop
-seek-loop-holds t c = inside.entered (c .before .before .before .before .before .before .before .before .before .before .before .before .pre .1) (c .before .before .before .before .before .if3 .left) (c .before .before .before .before .slot-of .ensures) (c .before .before .before .count-of .ensures) (c .before .before .before .before .before .before .before .before .before .before .if1 .left) (c .before .before .before .before .before .before .before .before .level .ensures .0) (not-false _ (c .before .before .before .before .before .before .before .if2 .left)) (c .before .before .before .before .before .before .before .before .level .ensures .1)
+seek-loop-holds t c = searches.entered (c .before .before .before .before .before .before .before .before .before .before .before .before .pre .1) (c .before .before .before .before .before .if3 .left) (c .before .before .before .before .slot-of .ensures) (c .before .before .before .count-of .ensures) (c .before .before .before .before .before .before .before .before .before .before .if1 .left) (c .before .before .before .before .before .before .before .before .level .ensures .0) (not-false _ (c .before .before .before .before .before .before .before .if2 .left)) (c .before .before .before .before .before .before .before .before .level .ensures .1)
 
 seek-store-requires : (t : ℕ) → seek-lts.Need-store-requires (seek-claims t) (seek-at t) seek.Post seek-Inv-loop seek-μ-loop
-seek-store-requires t c κs = inside.store-asked (c .before .before .loop .inv) (c .before .loop-test .taken)
+seek-store-requires t c κs = searches.store-asked (c .before .before .loop .inv) (c .before .loop-test .taken)
 
 seek-add-t18 : (t : ℕ) → seek-lts.Need-add-t18 (seek-claims t) (seek-at t) seek.Post seek-Inv-loop seek-μ-loop
 seek-add-t18 t c = omega (arith, c .before .before .before .before .before .before .before .before .before .before .before .before .before .before .before .before .before .pre .1 .planned .few)
@@ -78,16 +78,16 @@ seek-sub-t19 : (t : ℕ) → seek-lts.Need-sub-t19 (seek-claims t) (seek-at t) s
 seek-sub-t19 t c = omega (arith, c .before .before .before .before .before .before .before .before .before .before .before .if3 .left)
 
 seek-seek-requires : (t : ℕ) → seek-lts.Need-seek-requires (seek-claims t) (seek-at t) seek.Post seek-Inv-loop seek-μ-loop
-seek-seek-requires t c κs = (inside.fewer (c .before .before .before .before .before .before .before .before .before .before .before .before .before .before .before .before .before .before .before .pre .0) (c .before .before .before .before .before .before .before .before .before .before .before .before .if3 .left), inside.seek-asked (c .before .before .before .before .before .before .loop .inv) (c .before .before .before .before .before .loop-test .taken) (c .before .before .before .store .ensures))
+seek-seek-requires t c κs = (searches.fewer (c .before .before .before .before .before .before .before .before .before .before .before .before .before .before .before .before .before .before .before .pre .0) (c .before .before .before .before .before .before .before .before .before .before .before .before .if3 .left), searches.seek-asked (c .before .before .before .before .before .before .loop .inv) (c .before .before .before .before .before .loop-test .taken) (c .before .before .before .store .ensures))
 
 seek-mul-result : (t : ℕ) → seek-lts.Need-mul-result (seek-claims t) (seek-at t) seek.Post seek-Inv-loop seek-μ-loop
-seek-mul-result t c = omega (arith, inside.block-low (c .before .before .before .before .before .before .before .before .loop .inv) (c .before .before .before .before .before .before .before .loop-test .taken))
+seek-mul-result t c = omega (arith, searches.block-low (c .before .before .before .before .before .before .before .before .loop .inv) (c .before .before .before .before .before .before .before .loop-test .taken))
 
 seek-add-result : (t : ℕ) → seek-lts.Need-add-result (seek-claims t) (seek-at t) seek.Post seek-Inv-loop seek-μ-loop
-seek-add-result t c = omega (arith, inside.block-low (c .before .before .before .before .before .before .before .before .loop .inv) (c .before .before .before .before .before .before .before .loop-test .taken), inside.length-low (c .before .before .before .before .before .before .before .before .loop .inv), inside.place-low (c .before .before .before .before .before .before .before .before .loop .inv), c .if4 .taken)
+seek-add-result t c = omega (arith, searches.block-low (c .before .before .before .before .before .before .before .before .loop .inv) (c .before .before .before .before .before .before .before .loop-test .taken), searches.length-low (c .before .before .before .before .before .before .before .before .loop .inv), searches.place-low (c .before .before .before .before .before .before .before .before .loop .inv), c .if4 .taken)
 
 seek-returns-4 : (t : ℕ) → seek-lts.Need-returns-4 (seek-claims t) (seek-at t) seek.Post seek-Inv-loop seek-μ-loop
-seek-returns-4 t c = inside.carried (c .before .before .before .before .before .before .before .before .before .before .before .before .before .before .before .before .before .level .ensures .1) (inside.hit (c .before .before .before .before .before .before .before .before .loop .inv) (c .before .before .before .before .before .before .before .loop-test .taken) (c .before .before .before .before .before .store .ensures) (c .before .seek .ensures) (c .if4 .taken) (omega arith))
+seek-returns-4 t c = searches.carried (c .before .before .before .before .before .before .before .before .before .before .before .before .before .before .before .before .before .level .ensures .1) (searches.hit (c .before .before .before .before .before .before .before .before .loop .inv) (c .before .before .before .before .before .before .before .loop-test .taken) (c .before .before .before .before .before .store .ensures) (c .before .seek .ensures) (c .if4 .taken) (omega arith))
 
 seek-add-x : (t : ℕ) → seek-lts.Need-add-x (seek-claims t) (seek-at t) seek.Post seek-Inv-loop seek-μ-loop
 seek-add-x t c = search needs
@@ -96,10 +96,10 @@ seek-loop-less : (t : ℕ) → seek-lts.Need-loop-less (seek-claims t) (seek-at 
 seek-loop-less t c = omega (arith, c .before .before .before .before .before .before .before .loop-test .taken)
 
 seek-loop-again : (t : ℕ) → seek-lts.Need-loop-again (seek-claims t) (seek-at t) seek.Post seek-Inv-loop seek-μ-loop
-seek-loop-again t c = inside.again (c .before .before .before .before .before .before .before .before .loop .inv) (c .before .before .before .before .before .before .before .loop-test .taken) (c .before .before .before .before .before .store .ensures) (c .before .seek .ensures) (c .if4 .left) (omega arith)
+seek-loop-again t c = searches.again (c .before .before .before .before .before .before .before .before .loop .inv) (c .before .before .before .before .before .before .before .loop-test .taken) (c .before .before .before .before .before .store .ensures) (c .before .seek .ensures) (c .if4 .left) (omega arith)
 
 seek-returns-5 : (t : ℕ) → seek-lts.Need-returns-5 (seek-claims t) (seek-at t) seek.Post seek-Inv-loop seek-μ-loop
-seek-returns-5 t c = inside.carried (c .before .before .before .before .before .before .before .before .before .before .level .ensures .1) (inside.out (c .before .loop .inv) (c .loop-test .left))
+seek-returns-5 t c = searches.carried (c .before .before .before .before .before .before .before .before .before .before .level .ensures .1) (searches.out (c .before .loop .inv) (c .loop-test .left))
 
 pub +seek-spec : {M : Type 1} → statement M
 +seek-spec =

@@ -1,19 +1,17 @@
 -- The search, for every list of slots, tests and point that fit the plan: its ways out before the loop, and what is known in the loop. Assumes nothing.
-use Prim.Native.Nat.{ℕ, suc, _+_, _-_, _*_, _/_, _%_, _<_, _≤_, _^_}
+use Prim.Native.Nat.{ℕ, suc, _+_, _/_, _%_, _<_, _≤_}
 use native.Mathlib.Omega.{arith}
-use native.Mathlib.Nat.{add-zero, mul-comm, zero-mul, mul-zero, mul-add-div, zero-div, le-mul-of-pos-right}
+use native.Mathlib.Nat.{add-zero}
 use mathlib.Core.Path.{_≡_, refl, sym, ap, _∙_, subst}
 use mathlib.Core.Bool.{Bool, true, false, _&&_}
 use mathlib.Core.List.{List, [], _∷_}
-use lib.ListN.{getD, length}
+use lib.ListN.{length}
 use lib.Seq.{ext-getD}
 use lib.IntN.{ℤ}
-use Rattle.slot_carriers.specs.Cells.{countIn}
 use Rattle.points.specs.Points.{Point, moved, span, placed, Shows}
-use Rattle.points.specs.Searches.{levelHolds, under, Sought, slotIn, Planned}
-use Rattle.seek.specs.SeekPromises.{StoreAsked, StoreAnswers, LevelAsked, LevelAnswers, Left, SeekAsked, SeekAnswers}
+use Rattle.points.specs.Searches.{levelHolds, under, slotIn, Planned}
+use Rattle.seek.specs.SeekPromises.{LevelAsked, LevelAnswers, SeekAsked, SeekAnswers}
 use Rattle.seek.proofs.MovedPoints.{beside-refl}
-use Rattle.seek.proofs.Along.{behind, Along, along-starts, along-ends, along-goes, along-finds, along-leaves}
 
 -- ---- a plan's slots are those of every list that fits it
 pub planned-rest : {table plan cells : List ℕ} {u j s : ℕ} {ss : List ℕ} {tests : ℕ → List (Point → Bool)} → Planned table plan cells u j (s ∷ ss) tests
@@ -21,10 +19,15 @@ pub planned-rest : {table plan cells : List ℕ} {u j s : ℕ} {ss : List ℕ} {
 planned-rest {plan = plan} {u = u} {j = j} {s = s} {ss = ss} p =
     let few : j + suc (length ss) ≤ 11 = p .few in
     record {
-      search-low = p .search-low; few = omega arith; levels = λ l a b. p .levels l (omega arith) (omega arith); marks = p .marks;
+      search-low = p .search-low;
+      few = omega arith;
+      levels = λ l a b. p .levels l (omega arith) (omega arith);
+      marks = p .marks;
       slots = λ i l. ap (λ (z : ℕ). slotIn plan u z) (let z : j + 1 + i ≡ j + suc i = omega arith in z) ∙ p .slots (suc i) (omega arith);
-      slot-low = λ i l. p .slot-low (suc i) (omega arith); readable = λ i l. p .readable (suc i) (omega arith); some = λ i l. p .some (suc i) (omega arith);
-      free = λ l i a b h. p .free l (suc i) (omega arith) (omega arith) (omega arith)
+      slot-low = λ i l. p .slot-low (suc i) (omega arith);
+      readable = λ i l. p .readable (suc i) (omega arith);
+      some = λ i l. p .some (suc i) (omega arith);
+      free = λ l i a b h. p .free l (suc i) (omega arith) (omega arith) (omega arith);
     }
 
 pub first-is : {table plan cells : List ℕ} {u j s : ℕ} {ss : List ℕ} {tests : ℕ → List (Point → Bool)} → Planned table plan cells u j (s ∷ ss) tests → slotIn plan u j ≡ s
@@ -63,8 +66,14 @@ module _ {table plan cells : List ℕ} {u j m w from : ℕ} {a : List (List ℤ)
   level-asked =
       let few : j + length (q .slots) ≤ 11 = q .planned .few in
       record {
-        cells = cells; point = q .point; tests = q .tests; shows = q .shows; search-low = q .planned .search-low; level-low = omega arith;
-        end-low = q .planned .marks (j + 1) (omega arith); stand = q .planned .levels j (omega arith) (omega arith)
+        cells = cells;
+        point = q .point;
+        tests = q .tests;
+        shows = q .shows;
+        search-low = q .planned .search-low;
+        level-low = omega arith;
+        end-low = q .planned .marks (j + 1) (omega arith);
+        stand = q .planned .levels j (omega arith) (omega arith);
       }
 
   -- ---- the ways out before the loop
@@ -72,11 +81,12 @@ module _ {table plan cells : List ℕ} {u j m w from : ℕ} {a : List (List ℤ)
   nothing-left e =
       record {
         sought = λ ss tests δ p s l. record { low = omega arith; high = omega arith; past = λ k a b. absurd (none k a b); found = λ h. absurd (less h) };
-        left = λ ss tests δ p s l. record { point = δ; shows = s; beside = beside-refl ss δ; found = λ h. absurd (less h) }
+        left = λ ss tests δ p s l. record { point = δ; shows = s; beside = beside-refl ss δ; found = λ h. absurd (less h) };
       }
     where
       none : (k : ℕ) → from ≤ k → k < w → ⊥
       none k a b = omega arith
+
       less : w < w → ⊥
       less h = omega arith
 
@@ -84,12 +94,17 @@ module _ {table plan cells : List ℕ} {u j m w from : ℕ} {a : List (List ℤ)
   level-fails n f e =
       record {
         sought = λ ss tests δ p s l. record {
-          low = q .inside; high = omega arith;
-          past = λ k b c. under-false cells tests j ss δ k (sym (n .means cells δ tests s (p .levels j (omega arith) (omega arith))) ∙ f); found = λ h. absurd (less h)
+          low = q .inside;
+          high = omega arith;
+          past = λ k b c. under-false cells tests j ss δ k (sym (n .means cells δ tests s (p .levels j (omega arith) (omega arith))) ∙ f);
+          found = λ h. absurd (less h);
         };
         left = λ ss tests δ p s l. record {
-          point = δ; shows = subst (λ (z : List (List ℤ)). Shows cells δ z) (sym e) s; beside = beside-refl ss δ; found = λ h. absurd (less h)
-        }
+          point = δ;
+          shows = subst (λ (z : List (List ℤ)). Shows cells δ z) (sym e) s;
+          beside = beside-refl ss δ;
+          found = λ h. absurd (less h);
+        };
       }
     where
       less : w < w → ⊥
@@ -99,12 +114,17 @@ module _ {table plan cells : List ℕ} {u j m w from : ℕ} {a : List (List ℤ)
   no-more n f e z =
       record {
         sought = λ ss tests δ p s l. record {
-          low = omega arith; high = q .inside; past = λ k b c. absurd (none k b c);
-          found = λ h. under-none cells tests j ss δ from (l ∙ z) (sym (n .means cells δ tests s (p .levels j (omega arith) (omega arith))) ∙ f)
+          low = omega arith;
+          high = q .inside;
+          past = λ k b c. absurd (none k b c);
+          found = λ h. under-none cells tests j ss δ from (l ∙ z) (sym (n .means cells δ tests s (p .levels j (omega arith) (omega arith))) ∙ f);
         };
         left = λ ss tests δ p s l. record {
-          point = δ; shows = subst (λ (z : List (List ℤ)). Shows cells δ z) (sym e) s; beside = beside-refl ss δ; found = λ h t. placed-none cells ss δ from (l ∙ z) t
-        }
+          point = δ;
+          shows = subst (λ (z : List (List ℤ)). Shows cells δ z) (sym e) s;
+          beside = beside-refl ss δ;
+          found = λ h t. placed-none cells ss δ from (l ∙ z) t;
+        };
       }
     where
       none : (k : ℕ) → from ≤ k → k < from → ⊥

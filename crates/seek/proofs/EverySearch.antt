@@ -2,17 +2,17 @@
 use Prim.Native.Nat.{ℕ, suc, _+_, _-_, _*_, _/_, _%_, _<_, _≤_, _^_}
 use native.Mathlib.Omega.{arith}
 use native.Mathlib.Nat.{add-zero, mul-le-mul-right, mul-comm, zero-mul, mul-zero, mul-add-div, zero-div, le-mul-of-pos-right}
-use mathlib.Core.Path.{_≡_, refl, sym, ap, _∙_, subst}
+use mathlib.Core.Path.{_≡_, sym, ap, _∙_, subst}
 use mathlib.Core.Bool.{Bool, true}
 use mathlib.Core.List.{List, [], _∷_}
 use lib.ListN.{length}
 use lib.IntN.{ℤ}
 use Rattle.slot_carriers.specs.Cells.{countIn, Reached}
 use Rattle.points.specs.Points.{Point, moved, span, Shows}
-use Rattle.points.specs.Searches.{levelHolds, Sought, slotIn, Planned, under}
+use Rattle.points.specs.Searches.{Sought, slotIn, Planned, under}
 use Rattle.seek.specs.SeekPromises.{StoreAsked, StoreAnswers, LevelAnswers, Left, SeekAsked, SeekAnswers}
-use Rattle.seek.proofs.Along.{behind, Along, along-starts, along-ends, along-goes, along-finds, along-leaves}
-use Rattle.seek.proofs.Loops.{planned-rest, first-is, same-span, no-slots}
+use Rattle.seek.proofs.OneSearch.{behind, Along, along-starts, along-ends, along-goes, along-finds, along-leaves}
+use Rattle.seek.proofs.WaysOut.{planned-rest, first-is, same-span, no-slots}
 
 -- ---- products
 module _ (n s w : ℕ) (e : w ≡ n * s) (p : 0 < w) where
@@ -84,12 +84,15 @@ module _ {table plan cells : List ℕ} {u j m w from slot : ℕ} {a : List (List
         → Inside table plan cells u j m w from n (w / n) slot a₁ a₁ (from / (w / n)) (from % (w / n))
     entered passes f same =
         record {
-          asked = subst (λ (z : List (List ℤ)). SeekAsked table plan cells u j m w from z) (sym same) q; more = more; slot-is = is; count = count;
+          asked = subst (λ (z : List (List ℤ)). SeekAsked table plan cells u j m w from z) (sym same) q;
+          more = more;
+          slot-is = is;
+          count = count;
           size = whole ∙ ap (λ (z : ℕ). n * z) (sym (other-is n _ w whole positive));
           short = subst (λ (z : ℕ). z ≤ w) (sym (other-is n _ w whole positive)) (other-small n _ w whole positive);
           known = λ ss tests δ p s l.
               along-starts from (sym (passes .means cells δ tests (subst (λ (z : List (List ℤ)). Shows cells δ z) same s) (p .levels j (omega arith) (omega arith))) ∙ f)
-              (other-is n _ w (product ss p l) positive) v-pos s
+              (other-is n _ w (product ss p l) positive) v-pos s;
         }
 
 one-less : (m s : ℕ) (ss : List ℕ) → length (s ∷ ss) ≡ m → length ss ≡ m - 1
@@ -117,12 +120,13 @@ module _ {table plan cells : List ℕ} {u j m w from n v slot : ℕ} {a₀ a : L
       record {
         sought = λ ss tests δ p s e. sought ss tests δ p e (here .known ss tests δ p s e);
         left = λ ss tests δ p s e. (
-          let along = here .known ss tests δ p s e in
-          record { point = along .point; shows = along .shows; beside = along .beside; found = λ h. absurd (less h) })
+            let along = here .known ss tests δ p s e in
+            record { point = along .point; shows = along .shows; beside = along .beside; found = λ h. absurd (less h) });
       }
     where
       less : w < w → ⊥
       less h = omega arith
+
       sought : (ss : List ℕ) (tests : ℕ → List (Point → Bool)) (δ : Point) → Planned table plan cells u j ss tests → length ss ≡ m → Along cells tests j ss δ v from a x r
           → Sought (under cells tests j ss δ) from w w
       sought [] tests δ p e along = no-slots e (here .more)
@@ -139,9 +143,11 @@ module _ {table plan cells : List ℕ} {u j m w from n v slot : ℕ} {a₀ a : L
         go (s ∷ ss) p e =
             let is : slot ≡ s = here .slot-is ∙ first-is p in
             record {
-              point = witness .point; shows = witness .shows; slot-low = slot-low (here .asked) (here .more) (here .slot-is);
+              point = witness .point;
+              shows = witness .shows;
+              slot-low = slot-low (here .asked) (here .more) (here .slot-is);
               reached = subst (λ (z : ℕ). Reached cells z x) (sym is)
-                  (p .readable 0 (omega arith) .reached x (subst (λ (z : ℕ). x < z) (here .count ∙ ap (λ (z : ℕ). countIn cells z) is) l))
+                  (p .readable 0 (omega arith) .reached x (subst (λ (z : ℕ). x < z) (here .count ∙ ap (λ (z : ℕ). countIn cells z) is) l));
             }
 
     pub block-low : x * v ≤ 16777216
@@ -169,8 +175,15 @@ module _ {table plan cells : List ℕ} {u j m w from n v slot : ℕ} {a₀ a : L
               let short : v ≤ w = here .short in
               let low : r < v = place-low in
               record {
-                slots = ss; tests = here .asked .tests; point = moved (along .point) s x; planned = planned-rest p; shows = stored p along; many = one-less m s ss e;
-                counted = along .counted; few = omega arith; inside = omega arith
+                slots = ss;
+                tests = here .asked .tests;
+                point = moved (along .point) s x;
+                planned = planned-rest p;
+                shows = stored p along;
+                many = one-less m s ss e;
+                counted = along .counted;
+                few = omega arith;
+                inside = omega arith;
               }
 
       module _ {k : ℕ} {a₂ : List (List ℤ)} (sk : SeekAnswers table plan cells u (j + 1) (m - 1) v r a₁ a₂ k) where
@@ -185,8 +198,13 @@ module _ {table plan cells : List ℕ} {u j m w from n v slot : ℕ} {a₀ a : L
         pub again : {y : ℕ} → v ≤ k → y ≡ 0 → Inside table plan cells u j m w from n v slot a₀ a₂ (x + 1) y
         again {y} h zero-is =
             record {
-              asked = here .asked; more = here .more; slot-is = here .slot-is; count = here .count; size = here .size; short = here .short;
-              known = λ ss tests δ p s e. go ss tests δ p e (here .known ss tests δ p s e)
+              asked = here .asked;
+              more = here .more;
+              slot-is = here .slot-is;
+              count = here .count;
+              size = here .size;
+              short = here .short;
+              known = λ ss tests δ p s e. go ss tests δ p e (here .known ss tests δ p s e);
             }
           where
             go : (ss : List ℕ) (tests : ℕ → List (Point → Bool)) (δ : Point) → Planned table plan cells u j ss tests → length ss ≡ m → Along cells tests j ss δ v from a x r
@@ -199,7 +217,7 @@ module _ {table plan cells : List ℕ} {u j m w from n v slot : ℕ} {a₀ a : L
             subst (λ (z : ℕ). SeekAnswers table plan cells u j m w from a₀ a₂ z) (sym is)
             record {
               sought = λ ss tests δ p s e. sought ss tests δ p e (here .known ss tests δ p s e);
-              left = λ ss tests δ p s e. left ss tests δ p e (here .known ss tests δ p s e)
+              left = λ ss tests δ p s e. left ss tests δ p e (here .known ss tests δ p s e);
             }
           where
             sought : (ss : List ℕ) (tests : ℕ → List (Point → Bool)) (δ : Point) → Planned table plan cells u j ss tests → length ss ≡ m → Along cells tests j ss δ v from a x r
@@ -208,6 +226,7 @@ module _ {table plan cells : List ℕ} {u j m w from n v slot : ℕ} {a₀ a : L
             sought (s ∷ ss) tests δ p e along =
                 subst (λ (z : ℕ). Sought (under cells tests j (s ∷ ss) δ) from z (x * v + k)) (sym (here .size))
                 (along-finds along (planned-rest p) (within p e along) (leaves p e along) n h l)
+
             left : (ss : List ℕ) (tests : ℕ → List (Point → Bool)) (δ : Point) → Planned table plan cells u j ss tests → length ss ≡ m → Along cells tests j ss δ v from a x r
                 → Left cells ss δ w (x * v + k) a₂
             left [] tests δ p e along = no-slots e (here .more)

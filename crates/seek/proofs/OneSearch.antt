@@ -1,8 +1,7 @@
 -- The loop over the values of a search's first variable, at one list of slots, tests and point: what is known at its head, and one step of it. Assumes nothing.
 use Prim.Native.Nat.{ℕ, _+_, _*_, _/_, _%_, _<_, _≤_}
-use native.Mathlib.Omega.{arith}
-use mathlib.Core.Path.{_≡_, refl, sym, ap, ap₂, _∙_, subst}
-use mathlib.Core.Bool.{Bool, true, false, _&&_}
+use mathlib.Core.Path.{_≡_, sym, ap, ap₂, _∙_}
+use mathlib.Core.Bool.{Bool, true, _&&_}
 use mathlib.Core.List.{List, [], _∷_}
 use lib.Arith.{digits-div, digits-mod}
 use lib.IntN.{ℤ}
@@ -57,8 +56,12 @@ module _ {cells : List ℕ} {tests : ℕ → List (Point → Bool)} {j s : ℕ} 
     pub along-goes : v ≤ k → Along cells tests j (s ∷ ss) δ v from a₁ (x + 1) 0
     along-goes l =
         record {
-          going = next (under cells tests j (s ∷ ss) δ) block 0 v from split (here .going) inner l; passes = here .passes; counted = here .counted; point = left .point;
-          shows = left .shows; beside = beside-after (here .beside) x (left .beside)
+          going = next (under cells tests j (s ∷ ss) δ) block 0 v from split (here .going) inner l;
+          passes = here .passes;
+          counted = here .counted;
+          point = left .point;
+          shows = left .shows;
+          beside = beside-after (here .beside) x (left .beside);
         }
 
     pub along-finds : (n : ℕ) → k < v → x < n → Sought (under cells tests j (s ∷ ss) δ) from (n * v) (x * v + k)
@@ -73,6 +76,8 @@ module _ {cells : List ℕ} {tests : ℕ → List (Point → Bool)} {j s : ℕ} 
     pub along-leaves : (w : ℕ) → k < v → Left cells (s ∷ ss) δ w (x * v + k) a₁
     along-leaves w l =
         record {
-          point = left .point; shows = left .shows; beside = beside-after (here .beside) x (left .beside);
-          found = λ h t. left .found l t ∙ placed-beside cells ss (moved δ s x) (moved (here .point) s x) k (beside-deeper (here .beside) x) t ∙ found-there l t
+          point = left .point;
+          shows = left .shows;
+          beside = beside-after (here .beside) x (left .beside);
+          found = λ h t. left .found l t ∙ placed-beside cells ss (moved δ s x) (moved (here .point) s x) k (beside-deeper (here .beside) x) t ∙ found-there l t;
         }

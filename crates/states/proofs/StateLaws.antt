@@ -78,15 +78,15 @@ module _ (d : Dossier) where
   unfolding contexts slotsOf
   concrete-context = record { context = _; is = refl; slots-are = refl; predicate-is = refl; givens-are = refl; reach-is = refl }
 
-  ainit-context : ContextOf d 2 (d .ainit) (unprimed d (d .abstract)) (abstractSlots d)
+  pub ainit-context : ContextOf d 2 (d .ainit) (unprimed d (d .abstract)) (abstractSlots d)
   unfolding contexts slotsOf
   ainit-context = record { context = _; is = refl; slots-are = refl; predicate-is = refl; givens-are = refl; reach-is = refl }
 
-  cinit-context : ContextOf d 3 (d .cinit) (unprimed d (d .concrete)) (concreteSlots d)
+  pub cinit-context : ContextOf d 3 (d .cinit) (unprimed d (d .concrete)) (concreteSlots d)
   unfolding contexts slotsOf
   cinit-context = record { context = _; is = refl; slots-are = refl; predicate-is = refl; givens-are = refl; reach-is = refl }
 
-  retrieve-context : ContextOf d 4 (d .retrieve) (unprimed d (d .abstract) ++ unprimed d (d .concrete)) (abstractSlots d ++ concreteSlots d)
+  pub retrieve-context : ContextOf d 4 (d .retrieve) (unprimed d (d .abstract) ++ unprimed d (d .concrete)) (abstractSlots d ++ concreteSlots d)
   unfolding contexts slotsOf
   retrieve-context = record { context = _; is = refl; slots-are = refl; predicate-is = refl; givens-are = refl; reach-is = refl }
 

@@ -107,14 +107,14 @@ module _ (d : Dossier) where
       l : suc (suc (suc (suc (suc n)))) ≡ 5 + n
       l = omega arith
 
-  abstract-operation : (k : ℕ) (op : Operation) → getElem? (d .operations) k ≡ some op
+  pub abstract-operation : (k : ℕ) (op : Operation) → getElem? (d .operations) k ≡ some op
       → ContextOf d (5 + 2 * k) (op .abstractly) (operationReach d (d .abstract) op) (abstractOf d op)
   abstract-operation k op e =
       let l = double-is k in
       behind-five (double k) (5 + 2 * k) (op .abstractly) (operationReach d (d .abstract) op) (abstractOf d op)
       (abstract-entry (operationsAt d) (concreteTaken d) (d .operations) k op e) (omega arith)
 
-  concrete-operation : (k : ℕ) (op : Operation) → getElem? (d .operations) k ≡ some op
+  pub concrete-operation : (k : ℕ) (op : Operation) → getElem? (d .operations) k ≡ some op
       → ContextOf d (5 + 2 * k + 1) (op .concretely) (operationReach d (d .concrete) op) (concreteOf d op)
   concrete-operation k op e =
       let l = double-is k in

@@ -1,0 +1,16 @@
+pub mod LevelledTests
+pub mod SearchPlans
+pub mod UsedSlots
+pub mod SlotGroups
+pub mod AskedPredicates
+pub mod AskingKinds
+pub mod PointStates
+pub mod StateAskings
+pub mod OperationAskings
+pub mod FoundBindings
+pub mod NestParts
+pub mod InitialisationNest
+pub mod OperationPremises
+pub mod OperationSteps
+pub mod ApplicabilityNest
+pub mod CorrectnessNest

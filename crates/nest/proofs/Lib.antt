@@ -1,0 +1,11 @@
+pub mod Passed
+pub mod Blocks
+pub mod Apartness
+pub mod Standing
+pub mod Turns
+pub mod Rounds
+pub mod Products
+pub mod Found
+pub mod BoundInputs
+pub mod Bits
+pub mod ReadyInputs

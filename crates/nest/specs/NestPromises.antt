@@ -51,6 +51,7 @@ pub record Sized (cells : List ℕ) (p : Part) (G : Groups) : Type 0 where
   pub few-r : p .nr ≤ 2 ^ 18
   pub few-m : p .nm ≤ 2 ^ 18
   pub inputs-are : G .inputs ≡ upward 16 (p .vi)
+  pub inputs-few : p .vi ≤ 3
   pub grouped : Grouped cells 16 (p .vi)
 
 -- the searches of a part find its tests, at every point; no search writes a slot of a group before it

@@ -164,11 +164,12 @@ pub fn sweep(t: &[u16; 16384], plan: &[u16; 20560], cells: &[u32; 9216], p: Part
                     let z = y * p.nq + o;
                     let mut k = next_after(t, plan, cells, p, behind(from, z * p.nk), slots);
                     while k < p.nk {
-                        if end <= z * p.nk + k {
+                        let place = z * p.nk + k;
+                        if end <= place {
                             break 'abstracts;
                         }
                         if !passes(t, plan, cells, p, slots) {
-                            at = z * p.nk + k;
+                            at = place;
                             failed = true;
                             break 'abstracts;
                         }

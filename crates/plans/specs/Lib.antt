@@ -1,2 +1,3 @@
 pub mod PlansByNumber
 pub mod PlanPromises
+pub mod PlanWriting

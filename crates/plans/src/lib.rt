@@ -1,8 +1,23 @@
 // Plans: for each of the five searches of a part its variables, and the conjuncts that it asks by level. Level 0: no variable of the search is mentioned; level l: the
 // last one mentioned is number l - 1, so that a conjunct is asked as soon as that one has its value. A conjunct is one number: twice the end of its nodes, and 1 more where it is
 // asked of the after state.
-ghost use Rattle.plans.specs.PlanPromises.{CommonRows, OperationRows, InitialisationPlan, ApplicabilityPlan, CorrectnessPlan};
-use points::plan::{FIRST_COUNT, FIRST_SLOT, HEAD, LEVELS, MET, READY, RELATED, SECOND_SLOT, STATES, STEPS, TESTS};
+ghost use mathlib.Core.Path.{_≡_};
+ghost use Prim.Native.Nat.{_+_, _<_, _≤_};
+ghost use lib.ListN.{getD, length, set};
+ghost use Rattle.plans.specs.PlansByNumber.{levelOf, entriesFrom, entriesOf, searchEntries, Rows, noAsking};
+ghost use Rattle.plans.specs.PlanPromises.{RowsOf, CommonRows, OperationRows, InitialisationPlan, ApplicabilityPlan, CorrectnessPlan};
+ghost use Rattle.plans.specs.PlanWriting.{asking, RowIn, Appended, Room, Laying, Headed, Searched, Between, manyBy, overBy, afterBy, stepBy, Premises};
+use points::plan::FIRST_COUNT;
+use points::plan::FIRST_SLOT;
+use points::plan::HEAD;
+use points::plan::LEVELS;
+use points::plan::MET;
+use points::plan::READY;
+use points::plan::RELATED;
+use points::plan::SECOND_SLOT;
+use points::plan::STATES;
+use points::plan::STEPS;
+use points::plan::TESTS;
 use points::slots;
 
 // A part: how many variables its groups have, and how many bindings: abstract, concrete, inputs, outputs, concrete primed; then of the two searches for a step of the abstract operation
@@ -54,101 +69,235 @@ const CONCRETE_PRIMED: usize = 6;
 
 const ABSTRACT_PRIMED: usize = 7;
 
-// A predicate that a search asks: where its rows begin and end; asked of the state before (0) or after (1); the column of the first group, how many variables that group has, the
-// column of the second.
+// A predicate that a search asks: where its rows begin, and how many they are; asked of the state before (0) or after (1); the column of the first group, how many variables that
+// group has, the column of the second.
 pub struct Asked {
     pub from: usize,
-    pub to: usize,
+    pub many: usize,
     pub side: usize,
     pub first: usize,
     pub count: usize,
     pub second: usize,
 }
 
-fn row_number(rows: &[u16; 16384], k: usize) -> usize {
-    rows[k] as usize
+// A number of the rows or of the firsts.
+fn number(numbers: &[u16], k: usize) -> usize
+    requires { ⌜ k < length (now numbers) ⌝ }
+    ensures { λ r. ⌜ (r ≡ getD (now (numbers .entry)) k 0) × (r < 65536) ⌝ }
+{
+    numbers[k] as usize
+}
+
+// A number of the plan is written.
+fn put(plan: &mut [u16], k: usize, x: usize)
+    requires { ⌜ (k < length (now plan)) × (x < 65536) ⌝ }
+    ensures { λ _. ⌜ now (plan .exit) ≡ set (now (plan .entry)) k x ⌝ }
+{
+    plan[k] = x as u16;
 }
 
 // The level of the conjunct whose row begins at r.
-fn level_of(rows: &[u16; 16384], r: usize, p: Asked) -> usize {
-    let last = row_number(rows, r + p.second);
+fn level_of(rows: &[u16; 16384], r: usize, p: Asked) -> usize
+    requires { ⌜ RowIn (now rows) (asking p) r ⌝ }
+    ensures { λ x. ⌜ x ≡ levelOf (now (rows .entry)) (asking p) r ⌝ }
+{
+    let last = number(rows, r + p.second);
     if last != 0 {
         return p.count + last;
     }
     if p.first == NO_COLUMN {
         return 0;
     }
-    row_number(rows, r + p.first)
+    number(rows, r + p.first)
+}
+
+// Appends the conjunct whose row begins at r, if it has the level l; the place behind it.
+fn append_row(
+    rows: &[u16; 16384],
+    r: usize,
+    p: Asked,
+    l: usize,
+    plan: &mut [u16],
+    at: usize,
+) -> usize
+    requires { ⌜ RowIn (now rows) (asking p) r ⌝ }
+    requires { ⌜ (at + length (entriesFrom (now rows) (asking p) l 1 r) ≤ 20560) × (length (now plan) ≡ 20560) ⌝ }
+    ensures { λ k. ⌜ Appended (entriesFrom (now (rows .entry)) (asking p) l 1 r) at (now (plan .entry)) (now (plan .exit)) k ⌝ }
+{
+    if level_of(rows, r, p) != l {
+        return at;
+    }
+    put(plan, at, 2 * number(rows, r + END) + p.side);
+    at + 1
 }
 
 // Appends the conjuncts of a predicate that have the level l; the place behind them.
-fn append(rows: &[u16; 16384], p: Asked, l: usize, plan: &mut [u16; 20560], at: usize) -> usize {
+fn append(rows: &[u16; 16384], p: Asked, l: usize, plan: &mut [u16], at: usize) -> usize
+    requires { ⌜ Rows (now rows) (asking p) ⌝ }
+    requires { ⌜ (at + length (entriesOf (now rows) (asking p) l) ≤ 20560) × (length (now plan) ≡ 20560) ⌝ }
+    ensures { λ k. ⌜ Appended (entriesOf (now (rows .entry)) (asking p) l) at (now (plan .entry)) (now (plan .exit)) k ⌝ }
+{
     let mut k = at;
-    let mut r = p.from;
-    while r < p.to {
-        if level_of(rows, r, p) == l {
-            plan[k] = (2 * row_number(rows, r + END) + p.side) as u16;
-            k += 1;
-        }
-        r += ROW;
+    let mut i: usize = 0;
+    while i < p.many {
+        k = append_row(rows, p.from + ROW * i, p, l, plan, k);
+        i += 1;
     }
     k
 }
 
-// The plan of the search u over up to three predicates, its conjuncts from `at` on; the place behind them.
-fn plan_search(rows: &[u16; 16384], u: usize, p: Asked, q: Asked, r: Asked, plan: &mut [u16; 20560], at: usize) -> usize {
+// Those of all three predicates of a search.
+fn append_level(
+    rows: &[u16; 16384],
+    p: Asked,
+    q: Asked,
+    r: Asked,
+    l: usize,
+    plan: &mut [u16],
+    at: usize,
+) -> usize
+    requires { ⌜ (Rows (now rows) (asking p)) × (Rows (now rows) (asking q)) × (Rows (now rows) (asking r)) ⌝ }
+    requires { ⌜ (at + length (searchEntries (now rows) (asking p) (asking q) (asking r) l) ≤ 20560) × (length (now plan) ≡ 20560) ⌝ }
+    ensures { λ k. ⌜ Appended (searchEntries (now (rows .entry)) (asking p) (asking q) (asking r) l) at (now (plan .entry)) (now (plan .exit)) k ⌝ }
+{
+    let k = append(rows, p, l, plan, at);
+    let m = append(rows, q, l, plan, k);
+    append(rows, r, l, plan, m)
+}
+
+// The tests of the search u over up to three predicates, from `at` on; the place behind them.
+fn plan_search(
+    rows: &[u16; 16384],
+    u: usize,
+    p: Asked,
+    q: Asked,
+    r: Asked,
+    plan: &mut [u16],
+    at: usize,
+) -> usize
+    requires { ⌜ Room (now rows) u (asking p) (asking q) (asking r) at ⌝ }
+    requires { ⌜ length (now plan) ≡ 20560 ⌝ }
+    ensures { λ k. ⌜ Laying (now (rows .entry)) u (asking p) (asking q) (asking r) at (now (plan .entry)) (now (plan .exit)) k ⌝ }
+{
     let mut k = at;
+    put(plan, HEAD * u, k);
     let mut l: usize = 0;
     while l < LEVELS {
-        plan[HEAD * u + l] = k as u16;
-        k = append(rows, p, l, plan, k);
-        k = append(rows, q, l, plan, k);
-        k = append(rows, r, l, plan, k);
+        k = append_level(rows, p, q, r, l, plan, k);
         l += 1;
+        put(plan, HEAD * u + l, k);
     }
-    plan[HEAD * u + LEVELS] = k as u16;
     k
 }
 
 // The slots of its variables: n from the slot `first` on, then those from the slot `second` on.
-fn head(plan: &mut [u16; 20560], u: usize, first: usize, n: usize, second: usize) {
-    plan[HEAD * u + FIRST_SLOT] = first as u16;
-    plan[HEAD * u + FIRST_COUNT] = n as u16;
-    plan[HEAD * u + SECOND_SLOT] = second as u16;
+fn head(plan: &mut [u16], u: usize, first: usize, n: usize, second: usize)
+    requires { ⌜ (u < 5) × (first < 64) × (n < 64) × (second < 64) × (length (now plan) ≡ 20560) ⌝ }
+    ensures { λ _. ⌜ Headed u first n second (now (plan .entry)) (now (plan .exit)) ⌝ }
+{
+    put(plan, HEAD * u + FIRST_SLOT, first);
+    put(plan, HEAD * u + FIRST_COUNT, n);
+    put(plan, HEAD * u + SECOND_SLOT, second);
 }
 
-fn first_row(firsts: &[u16; 40], c: usize) -> usize {
-    firsts[c] as usize
+// How many rows a context has.
+fn rows_of(firsts: &[u16; 40], c: usize) -> usize
+    requires { ⌜ Between (now firsts) c ⌝ }
+    ensures { λ r. ⌜ r ≡ manyBy (now (firsts .entry)) c ⌝ }
+{
+    (number(firsts, c + 1) - number(firsts, c)) / ROW
 }
 
 // No predicate.
-fn none() -> Asked {
-    Asked { from: 0, to: 0, side: 0, first: NO_COLUMN, count: 0, second: ABSTRACT }
+fn none() -> Asked
+    ensures { λ r. ⌜ asking r ≡ noAsking ⌝ }
+{
+    Asked {
+        from: 0,
+        many: 0,
+        side: 0,
+        first: NO_COLUMN,
+        count: 0,
+        second: ABSTRACT,
+    }
 }
 
 // The predicate of a context over one group of variables.
-fn over(firsts: &[u16; 40], c: usize, side: usize, second: usize) -> Asked {
-    Asked { from: first_row(firsts, c), to: first_row(firsts, c + 1), side, first: NO_COLUMN, count: 0, second }
+fn over(firsts: &[u16; 40], c: usize, side: usize, second: usize) -> Asked
+    requires { ⌜ Between (now firsts) c ⌝ }
+    ensures { λ r. ⌜ asking r ≡ overBy (now (firsts .entry)) c side second ⌝ }
+{
+    Asked {
+        from: number(firsts, c),
+        many: rows_of(firsts, c),
+        side,
+        first: NO_COLUMN,
+        count: 0,
+        second,
+    }
 }
 
 // The predicate of the state after, behind n outputs; an operation's predicate, over n outputs and a group of primed variables.
-fn after(firsts: &[u16; 40], c: usize, n: usize, second: usize) -> Asked {
-    Asked { from: first_row(firsts, c), to: first_row(firsts, c + 1), side: 1, first: NO_COLUMN, count: n, second }
+fn after(firsts: &[u16; 40], c: usize, n: usize, second: usize) -> Asked
+    requires { ⌜ Between (now firsts) c ⌝ }
+    ensures { λ r. ⌜ asking r ≡ afterBy (now (firsts .entry)) c n second ⌝ }
+{
+    Asked {
+        from: number(firsts, c),
+        many: rows_of(firsts, c),
+        side: 1,
+        first: NO_COLUMN,
+        count: n,
+        second,
+    }
 }
 
-fn step(firsts: &[u16; 40], c: usize, n: usize, second: usize) -> Asked {
-    Asked { from: first_row(firsts, c), to: first_row(firsts, c + 1), side: 0, first: OUTPUTS, count: n, second }
+fn step(firsts: &[u16; 40], c: usize, n: usize, second: usize) -> Asked
+    requires { ⌜ Between (now firsts) c ⌝ }
+    ensures { λ r. ⌜ asking r ≡ stepBy (now (firsts .entry)) c n second ⌝ }
+{
+    Asked {
+        from: number(firsts, c),
+        many: rows_of(firsts, c),
+        side: 0,
+        first: OUTPUTS,
+        count: n,
+        second,
+    }
 }
 
 // A search without variables and predicates.
-fn plan_nothing(rows: &[u16; 16384], u: usize, plan: &mut [u16; 20560], at: usize) -> usize {
+fn plan_nothing(rows: &[u16; 16384], u: usize, plan: &mut [u16], at: usize) -> usize
+    requires { ⌜ (u < 5) × (80 ≤ at) × (at ≤ 20560) × (length (now plan) ≡ 20560) ⌝ }
+    ensures { λ k. ⌜ Laying (now (rows .entry)) u noAsking noAsking noAsking at (now (plan .entry)) (now (plan .exit)) k ⌝ }
+{
     plan_search(rows, u, none(), none(), none(), plan, at)
 }
 
 // Concrete after states, behind n outputs, that the concrete operation of context c allows.
-fn plan_steps(rows: &[u16; 16384], firsts: &[u16; 40], c: usize, n: usize, u: usize, plan: &mut [u16; 20560], at: usize) -> usize {
+fn plan_steps(
+    rows: &[u16; 16384],
+    firsts: &[u16; 40],
+    c: usize,
+    n: usize,
+    u: usize,
+    plan: &mut [u16],
+    at: usize,
+) -> usize
+    requires { ⌜ (u < 5) × (n ≤ 3) × (80 ≤ at) × (at + 4096 ≤ 20560) × (length (now plan) ≡ 20560) ⌝ }
+    requires { ⌜ (RowsOf (now rows) (now firsts) 1) × (RowsOf (now rows) (now firsts) c) ⌝ }
+    ensures { λ k. ⌜ Searched (now (rows .entry)) u 19 n 22 (afterBy (now (firsts .entry)) 1 n 3) (stepBy (now (firsts .entry)) c n 6) noAsking at (now (plan .entry)) (now (plan .exit)) k ⌝ }
+{
     head(plan, u, slots::OUTPUTS, n, slots::CONCRETE_PRIMED);
-    plan_search(rows, u, after(firsts, CONCRETE_STATE, n, CONCRETE), step(firsts, c, n, CONCRETE_PRIMED), none(), plan, at)
+    plan_search(
+        rows,
+        u,
+        after(firsts, CONCRETE_STATE, n, CONCRETE),
+        step(firsts, c, n, CONCRETE_PRIMED),
+        none(),
+        plan,
+        at,
+    )
 }
 
 // The plans of initialisation: concrete initial states; abstract initial states that are related.
@@ -158,25 +307,81 @@ pub fn plan_initialisation(rows: &[u16; 16384], firsts: &[u16; 40], plan: &mut [
 {
     let k = plan_nothing(rows, STATES, plan, TESTS);
     head(plan, RELATED, slots::CONCRETE, 0, slots::CONCRETE);
-    let k = plan_search(rows, RELATED, over(firsts, CONCRETE_STATE, 0, CONCRETE), over(firsts, CINIT, 0, CONCRETE), none(), plan, k);
+    let k = plan_search(
+        rows,
+        RELATED,
+        over(firsts, CONCRETE_STATE, 0, CONCRETE),
+        over(firsts, CINIT, 0, CONCRETE),
+        none(),
+        plan,
+        k,
+    );
     let k = plan_nothing(rows, READY, plan, k);
     let k = plan_nothing(rows, STEPS, plan, k);
     head(plan, MET, slots::ABSTRACT, 0, slots::ABSTRACT);
-    plan_search(rows, MET, over(firsts, ABSTRACT_STATE, 0, ABSTRACT), over(firsts, AINIT, 0, ABSTRACT), over(firsts, RETRIEVE, 0, ABSTRACT), plan, k);
+    plan_search(
+        rows,
+        MET,
+        over(firsts, ABSTRACT_STATE, 0, ABSTRACT),
+        over(firsts, AINIT, 0, ABSTRACT),
+        over(firsts, RETRIEVE, 0, ABSTRACT),
+        plan,
+        k,
+    );
 }
 
 // The first three searches of an operation: j its number, n how many outputs it has.
-fn plan_premises(rows: &[u16; 16384], firsts: &[u16; 40], j: usize, n: usize, plan: &mut [u16; 20560]) -> usize {
+fn plan_premises(
+    rows: &[u16; 16384],
+    firsts: &[u16; 40],
+    j: usize,
+    n: usize,
+    plan: &mut [u16],
+) -> usize
+    requires { ⌜ OperationRows (now rows) (now firsts) j n ⌝ }
+    requires { ⌜ length (now plan) ≡ 20560 ⌝ }
+    ensures { λ k. ⌜ Premises (now (rows .entry)) (now (firsts .entry)) j n (now (plan .exit)) k ⌝ }
+{
     head(plan, STATES, slots::ABSTRACT, 0, slots::ABSTRACT);
-    let k = plan_search(rows, STATES, over(firsts, ABSTRACT_STATE, 0, ABSTRACT), none(), none(), plan, TESTS);
+    let k = plan_search(
+        rows,
+        STATES,
+        over(firsts, ABSTRACT_STATE, 0, ABSTRACT),
+        none(),
+        none(),
+        plan,
+        TESTS,
+    );
     head(plan, RELATED, slots::CONCRETE, 0, slots::CONCRETE);
-    let k = plan_search(rows, RELATED, over(firsts, CONCRETE_STATE, 0, CONCRETE), over(firsts, RETRIEVE, 0, CONCRETE), none(), plan, k);
+    let k = plan_search(
+        rows,
+        RELATED,
+        over(firsts, CONCRETE_STATE, 0, CONCRETE),
+        over(firsts, RETRIEVE, 0, CONCRETE),
+        none(),
+        plan,
+        k,
+    );
     head(plan, READY, slots::OUTPUTS, n, slots::ABSTRACT_PRIMED);
-    plan_search(rows, READY, after(firsts, ABSTRACT_STATE, n, ABSTRACT), step(firsts, OPERATIONS + 2 * j, n, ABSTRACT_PRIMED), none(), plan, k)
+    plan_search(
+        rows,
+        READY,
+        after(firsts, ABSTRACT_STATE, n, ABSTRACT),
+        step(firsts, OPERATIONS + 2 * j, n, ABSTRACT_PRIMED),
+        none(),
+        plan,
+        k,
+    )
 }
 
 // Applicability: some concrete step.
-pub fn plan_applicability(rows: &[u16; 16384], firsts: &[u16; 40], j: usize, n: usize, plan: &mut [u16; 20560])
+pub fn plan_applicability(
+    rows: &[u16; 16384],
+    firsts: &[u16; 40],
+    j: usize,
+    n: usize,
+    plan: &mut [u16; 20560],
+)
     requires { ⌜ OperationRows (now rows) (now firsts) j n ⌝ }
     ensures { λ _. ⌜ ApplicabilityPlan (now (rows .entry)) (now (firsts .entry)) (now (plan .exit)) j n ⌝ }
 {
@@ -186,12 +391,26 @@ pub fn plan_applicability(rows: &[u16; 16384], firsts: &[u16; 40], j: usize, n: 
 }
 
 // Correctness: some abstract after state that is related and reached.
-pub fn plan_correctness(rows: &[u16; 16384], firsts: &[u16; 40], j: usize, n: usize, plan: &mut [u16; 20560])
+pub fn plan_correctness(
+    rows: &[u16; 16384],
+    firsts: &[u16; 40],
+    j: usize,
+    n: usize,
+    plan: &mut [u16; 20560],
+)
     requires { ⌜ OperationRows (now rows) (now firsts) j n ⌝ }
     ensures { λ _. ⌜ CorrectnessPlan (now (rows .entry)) (now (firsts .entry)) (now (plan .exit)) j n ⌝ }
 {
     let k = plan_premises(rows, firsts, j, n, plan);
     let k = plan_steps(rows, firsts, OPERATIONS + 2 * j + 1, n, STEPS, plan, k);
     head(plan, MET, slots::ABSTRACT_PRIMED, 0, slots::ABSTRACT_PRIMED);
-    plan_search(rows, MET, over(firsts, ABSTRACT_STATE, 1, ABSTRACT), over(firsts, RETRIEVE, 1, ABSTRACT), over(firsts, OPERATIONS + 2 * j, 0, ABSTRACT_PRIMED), plan, k);
+    plan_search(
+        rows,
+        MET,
+        over(firsts, ABSTRACT_STATE, 1, ABSTRACT),
+        over(firsts, RETRIEVE, 1, ABSTRACT),
+        over(firsts, OPERATIONS + 2 * j, 0, ABSTRACT_PRIMED),
+        plan,
+        k,
+    );
 }

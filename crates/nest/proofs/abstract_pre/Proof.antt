@@ -1,0 +1,15 @@
+-- answers sha256 fb55d1d282098fcb
+-- `nest::abstract_pre` meets its contract: the search for a step of the abstract operation finds one exactly if the precondition holds. Assumes nothing.
+use Rattle.nest.proofs.Found.{ask-ready, ready-found}
+use Rattle.nest.proofs.abstract_pre.Statement.{statement}
+use Rattle.nest.proofs.abstract_pre.Tie as tie
+
+seek-requires : tie.Need-seek-requires
+seek-requires c κs = ask-ready (c .before .pre)
+
+returns : tie.Need-returns
+returns c = ready-found (c .before .seek .ensures)
+
+pub abstract-pre-spec : {M : Type 1} → statement M
+abstract-pre-spec =
+    tie.close (tie.spec seek-requires returns)

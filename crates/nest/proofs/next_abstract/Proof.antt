@@ -1,0 +1,15 @@
+-- answers sha256 c8b56029c32a7581
+-- `nest::next_abstract` meets its contract: the search of abstract states finds them by their numbers. Assumes nothing.
+use Rattle.nest.proofs.Found.{ask-states, states-found}
+use Rattle.nest.proofs.next_abstract.Statement.{statement}
+use Rattle.nest.proofs.next_abstract.Tie as tie
+
+seek-requires : tie.Need-seek-requires
+seek-requires c κs = ask-states (c .before .pre .1) (c .before .pre .0)
+
+returns : tie.Need-returns
+returns c = states-found (c .seek .ensures)
+
+pub next-abstract-spec : {M : Type 1} → statement M
+next-abstract-spec =
+    tie.close (tie.spec seek-requires returns)

@@ -1,0 +1,15 @@
+-- answers sha256 fe9bc8b4a7afa4ca
+-- `nest::next_after` meets its contract: the other variables of the search for steps are those of the after state. Assumes nothing.
+use Rattle.nest.proofs.Found.{ask-afters, afters-found}
+use Rattle.nest.proofs.next_after.Statement.{statement}
+use Rattle.nest.proofs.next_after.Tie as tie
+
+seek-requires : tie.Need-seek-requires
+seek-requires c κs = ask-afters (c .before .pre .1) (c .before .pre .0)
+
+returns : tie.Need-returns
+returns c = afters-found (c .seek .ensures)
+
+pub next-after-spec : {M : Type 1} → statement M
+next-after-spec =
+    tie.close (tie.spec seek-requires returns)

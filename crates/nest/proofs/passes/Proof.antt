@@ -1,0 +1,15 @@
+-- answers sha256 e907df68308f6195
+-- `nest::passes` meets its contract: the search for what must be there finds it exactly if the binding passes. Assumes nothing.
+use Rattle.nest.proofs.Found.{ask-met, met-found}
+use Rattle.nest.proofs.passes.Statement.{statement}
+use Rattle.nest.proofs.passes.Tie as tie
+
+seek-requires : tie.Need-seek-requires
+seek-requires c κs = ask-met (c .before .pre)
+
+returns : tie.Need-returns
+returns c = met-found (c .before .seek .ensures)
+
+pub passes-spec : {M : Type 1} → statement M
+passes-spec =
+    tie.close (tie.spec seek-requires returns)

@@ -120,6 +120,13 @@ module _ (T : PartTests) (nc ni nq nk : ℕ) where
       → passesFrom T nc ni nq nk ((((a * nc + c) * ni + i) * nq + o) * nk + k) ≡ passesAt T a c i o k
   unfolding passesFrom
   passes-here a c i o k lc li lo lk =
-      simp
-      (digits-div (((a * nc + c) * ni + i) * nq + o) lk, digits-mod (((a * nc + c) * ni + i) * nq + o) lk, digits-div ((a * nc + c) * ni + i) lo,
-      digits-mod ((a * nc + c) * ni + i) lo, digits-div (a * nc + c) li, digits-mod (a * nc + c) li, digits-div a lc, digits-mod a lc)
+      simp (
+        digits-div (((a * nc + c) * ni + i) * nq + o) lk,
+        digits-mod (((a * nc + c) * ni + i) * nq + o) lk,
+        digits-div ((a * nc + c) * ni + i) lo,
+        digits-mod ((a * nc + c) * ni + i) lo,
+        digits-div (a * nc + c) li,
+        digits-mod (a * nc + c) li,
+        digits-div a lc,
+        digits-mod a lc,
+      )

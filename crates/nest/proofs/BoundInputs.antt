@@ -101,8 +101,8 @@ primed-high : (t : ℕ) → t < 16 → 22 ≤ primedSlot t
 unfolding primedSlot
 primed-high t h =
     elim (decLt t 8) [
-    | yes q ↦ rw (lt-ltb t 8 q) (omega arith)
-    | no q ↦ (let g : 8 ≤ t = omega arith in rw (le-ltb t 8 g) (omega arith))
+      | yes q ↦ rw (lt-ltb t 8 q) (omega arith)
+      | no q ↦ (let g : 8 ≤ t = omega arith in rw (le-ltb t 8 g) (omega arith))
     ]
 
 -- all slots but those of the group have the values that they had
@@ -115,7 +115,7 @@ bound-shows cells n k δ before σ few g low holds others w =
       before-long = ap length here ∙ others .same-length ∙ w .before-long;
       after-long = ap length there ∙ w .after-long;
       before = λ s h. ap (λ (l : List ℤ). getD l s (pos 0)) here ∙ value s h;
-      after = λ t h. ap (λ (l : List ℤ). getD l t (pos 0)) there ∙ w .after t h ∙ ap (valueIn cells (primedSlot t)) (sym (placed-other cells (upward 16 n) δ k (primedSlot t) (beyond t h)))
+      after = λ t h. ap (λ (l : List ℤ). getD l t (pos 0)) there ∙ w .after t h ∙ ap (valueIn cells (primedSlot t)) (sym (placed-other cells (upward 16 n) δ k (primedSlot t) (beyond t h)));
     }
   where
     here : getD (set before 0 σ) 0 [] ≡ σ
@@ -140,10 +140,10 @@ bound-shows cells n k δ before σ few g low holds others w =
     value : (s : ℕ) → s < 38 → getD σ s (pos 0) ≡ valueIn cells s (placed cells (upward 16 n) δ k s)
     value s h =
         elim (decLt s 16) [
-        | yes l ↦ outside s h (λ m. (let a = within 16 n s m in omega arith)) (others .below s l)
-        | no l ↦ elim (decLt s (16 + n)) [
-          | yes m ↦ bound (g .group) (g .each) (g .long) s (among-upward 16 n s (omega arith) m)
-          | no m ↦ outside s h (λ a. (let b = within 16 n s a in omega arith)) (others .above s (omega arith))
+          | yes l ↦ outside s h (λ m. (let a = within 16 n s m in omega arith)) (others .below s l)
+          | no l ↦ elim (decLt s (16 + n)) [
+            | yes m ↦ bound (g .group) (g .each) (g .long) s (among-upward 16 n s (omega arith) m)
+            | no m ↦ outside s h (λ a. (let b = within 16 n s a in omega arith)) (others .above s (omega arith))
           ]
         ]
 

@@ -38,7 +38,7 @@ stepped {cells} {ss} {δ} {n} {r} d c e l =
       point = l .point;
       shows = l .shows;
       beside = l .beside;
-      number = λ h. number-same cells ss (placed cells ss δ r) (l .point) (λ s m. l .found h s) ∙ number-placed cells ss δ r d c (subst (λ (t : ℕ). r < t) e h)
+      number = λ h. number-same cells ss (placed cells ss δ r) (l .point) (λ s m. l .found h s) ∙ number-placed cells ss δ r d c (subst (λ (t : ℕ). r < t) e h);
     }
 
 -- whether it found something
@@ -102,7 +102,7 @@ module _ {table plan cells : List ℕ} {p : Part} {G : Groups} {T : PartTests} (
 
       by : (k : ℕ) → k < span cells (G .primes)
           → T .steps (numberOf cells (G .concretes) (placed cells (G .primes) δ k)) (numberOf cells (G .inputs) (placed cells (G .primes) δ k))
-            (numberOf cells (G .outputs) (placed cells (G .primes) δ k)) (numberOf cells (G .primes) (placed cells (G .primes) δ k))
+          (numberOf cells (G .outputs) (placed cells (G .primes) δ k)) (numberOf cells (G .primes) (placed cells (G .primes) δ k))
           ≡ T .steps (numberOf cells (G .concretes) δ) (numberOf cells (G .inputs) δ) (numberOf cells (G .outputs) δ) k
       by k l =
           let b = beside-placed cells (G .primes) δ k in
@@ -119,50 +119,91 @@ module _ {table plan cells : List ℕ} {p : Part} {before : List (List ℤ)} (q 
   ask-states h =
       let N = q .nest in
       record {
-        slots = q .groups .abstracts; tests = N .states .tests; point = q .point; planned = N .states .planned; shows = q .shows; many = N .sized .va; counted = N .sized .na;
-        few = few-bindings _ 4096 (N .sized .few-a .1) (omega arith); inside = h
+        slots = q .groups .abstracts;
+        tests = N .states .tests;
+        point = q .point;
+        planned = N .states .planned;
+        shows = q .shows;
+        many = N .sized .va;
+        counted = N .sized .na;
+        few = few-bindings _ 4096 (N .sized .few-a .1) (omega arith);
+        inside = h;
       }
 
   pub ask-related : {c : ℕ} → c ≤ p .nc → SeekAsked table plan cells 1 0 (p .vc) (p .nc) c before
   ask-related h =
       let N = q .nest in
       record {
-        slots = q .groups .concretes; tests = N .related .tests; point = q .point; planned = N .related .planned; shows = q .shows; many = N .sized .vc; counted = N .sized .nc;
-        few = few-bindings _ 4096 (N .sized .few-c .1) (omega arith); inside = h
+        slots = q .groups .concretes;
+        tests = N .related .tests;
+        point = q .point;
+        planned = N .related .planned;
+        shows = q .shows;
+        many = N .sized .vc;
+        counted = N .sized .nc;
+        few = few-bindings _ 4096 (N .sized .few-c .1) (omega arith);
+        inside = h;
       }
 
   pub ask-ready : SeekAsked table plan cells 2 0 (p .vr) (p .nr) 0 before
   ask-ready =
       let N = q .nest in
       record {
-        slots = q .groups .readying; tests = N .ready .tests; point = q .point; planned = N .ready .planned; shows = q .shows; many = N .sized .vr; counted = N .sized .nr;
-        few = few-bindings _ _ (N .sized .few-r) (omega arith); inside = omega arith
+        slots = q .groups .readying;
+        tests = N .ready .tests;
+        point = q .point;
+        planned = N .ready .planned;
+        shows = q .shows;
+        many = N .sized .vr;
+        counted = N .sized .nr;
+        few = few-bindings _ _ (N .sized .few-r) (omega arith);
+        inside = omega arith;
       }
 
   pub ask-outputs : {o : ℕ} → o ≤ p .nq → SeekAsked table plan cells 3 0 (p .vo) (p .nq) o before
   ask-outputs h =
       let N = q .nest in
       record {
-        slots = q .groups .outputs; tests = N .steps .tests; point = q .point; planned = planned-front (q .groups .outputs) (q .groups .primes) (N .steps .planned); shows = q .shows;
-        many = N .sized .vo; counted = N .sized .nq; few = few-bindings _ 64 (N .sized .few-o .1) (omega arith); inside = h
+        slots = q .groups .outputs;
+        tests = N .steps .tests;
+        point = q .point;
+        planned = planned-front (q .groups .outputs) (q .groups .primes) (N .steps .planned);
+        shows = q .shows;
+        many = N .sized .vo;
+        counted = N .sized .nq;
+        few = few-bindings _ 64 (N .sized .few-o .1) (omega arith);
+        inside = h;
       }
 
   pub ask-afters : {k : ℕ} → k ≤ p .nk → SeekAsked table plan cells 3 (p .vo) (p .vk) (p .nk) k before
   ask-afters h =
       let N = q .nest in
       record {
-        slots = q .groups .primes; tests = N .steps .tests; point = q .point;
+        slots = q .groups .primes;
+        tests = N .steps .tests;
+        point = q .point;
         planned = subst (λ (j : ℕ). Planned table plan cells 3 j (q .groups .primes) (N .steps .tests)) (N .sized .vo)
-          (planned-rest (q .groups .outputs) (q .groups .primes) (N .steps .planned));
-        shows = q .shows; many = N .sized .vk; counted = N .sized .nk; few = few-bindings _ 4096 (N .sized .few-k .1) (omega arith); inside = h
+            (planned-rest (q .groups .outputs) (q .groups .primes) (N .steps .planned));
+        shows = q .shows;
+        many = N .sized .vk;
+        counted = N .sized .nk;
+        few = few-bindings _ 4096 (N .sized .few-k .1) (omega arith);
+        inside = h;
       }
 
   pub ask-met : SeekAsked table plan cells 4 0 (p .vm) (p .nm) 0 before
   ask-met =
       let N = q .nest in
       record {
-        slots = q .groups .meeting; tests = N .met .tests; point = q .point; planned = N .met .planned; shows = q .shows; many = N .sized .vm; counted = N .sized .nm;
-        few = few-bindings _ _ (N .sized .few-m) (omega arith); inside = omega arith
+        slots = q .groups .meeting;
+        tests = N .met .tests;
+        point = q .point;
+        planned = N .met .planned;
+        shows = q .shows;
+        many = N .sized .vm;
+        counted = N .sized .nm;
+        few = few-bindings _ _ (N .sized .few-m) (omega arith);
+        inside = omega arith;
       }
 
 module _ {table plan cells : List ℕ} {p : Part} {before after : List (List ℤ)} {from r : ℕ} where
@@ -170,25 +211,25 @@ module _ {table plan cells : List ℕ} {p : Part} {before after : List (List ℤ
   states-found s =
       record {
         sought = λ G T δ N w.
-          let c : Counts cells (G .abstracts) = planned-counts (N .states .planned) in
-          found (N .states) δ (w .tame) (p .na) (N .sized .na) (T .state)
-          (λ k h. ap (T .state) (number-placed cells (G .abstracts) δ k (N .states .distinct) c h))
-          (s .sought (G .abstracts) (N .states .tests) δ (N .states .planned) w (N .sized .va));
+            let c : Counts cells (G .abstracts) = planned-counts (N .states .planned) in
+            found (N .states) δ (w .tame) (p .na) (N .sized .na) (T .state)
+            (λ k h. ap (T .state) (number-placed cells (G .abstracts) δ k (N .states .distinct) c h))
+            (s .sought (G .abstracts) (N .states .tests) δ (N .states .planned) w (N .sized .va));
         left = λ G T δ N w. stepped (N .states .distinct) (planned-counts (N .states .planned)) (N .sized .na)
-          (s .left (G .abstracts) (N .states .tests) δ (N .states .planned) w (N .sized .va))
+            (s .left (G .abstracts) (N .states .tests) δ (N .states .planned) w (N .sized .va));
       }
 
   pub related-found : SeekAnswers table plan cells 1 0 (p .vc) (p .nc) from before after r → ConcreteAnswers table plan cells p from before after r
   related-found s =
       record {
         sought = λ G T δ N w.
-          let c : Counts cells (G .concretes) = planned-counts (N .related .planned) in
-          found (N .related) δ (w .tame) (p .nc) (N .sized .nc) (T .related (numberOf cells (G .abstracts) δ))
-          (λ k h. ap₂ (T .related) (number-apart cells (G .abstracts) (G .concretes) δ _ (abstracts-concretes N) (beside-placed cells (G .concretes) δ k))
+            let c : Counts cells (G .concretes) = planned-counts (N .related .planned) in
+            found (N .related) δ (w .tame) (p .nc) (N .sized .nc) (T .related (numberOf cells (G .abstracts) δ))
+            (λ k h. ap₂ (T .related) (number-apart cells (G .abstracts) (G .concretes) δ _ (abstracts-concretes N) (beside-placed cells (G .concretes) δ k))
             (number-placed cells (G .concretes) δ k (N .related .distinct) c h))
-          (s .sought (G .concretes) (N .related .tests) δ (N .related .planned) w (N .sized .vc));
+            (s .sought (G .concretes) (N .related .tests) δ (N .related .planned) w (N .sized .vc));
         left = λ G T δ N w. stepped (N .related .distinct) (planned-counts (N .related .planned)) (N .sized .nc)
-          (s .left (G .concretes) (N .related .tests) δ (N .related .planned) w (N .sized .vc))
+            (s .left (G .concretes) (N .related .tests) δ (N .related .planned) w (N .sized .vc));
       }
 
   pub outputs-found : SeekAnswers table plan cells 3 0 (p .vo) (p .nq) from before after r → OutputAnswers table plan cells p from before after r
@@ -196,7 +237,7 @@ module _ {table plan cells : List ℕ} {p : Part} {before after : List (List ℤ
       record {
         sought = λ G T δ N w. output-sought N δ (w .tame) (s .sought (G .outputs) (N .steps .tests) δ (front-plan N) w (N .sized .vo));
         left = λ G T δ N w. stepped (output-distinct N) (planned-counts (front-plan N)) (N .sized .nq)
-          (s .left (G .outputs) (N .steps .tests) δ (front-plan N) w (N .sized .vo))
+            (s .left (G .outputs) (N .steps .tests) δ (front-plan N) w (N .sized .vo));
       }
 
   pub afters-found : SeekAnswers table plan cells 3 (p .vo) (p .vk) (p .nk) from before after r → AfterAnswers table plan cells p from before after r
@@ -204,7 +245,7 @@ module _ {table plan cells : List ℕ} {p : Part} {before after : List (List ℤ
       record {
         sought = λ G T δ N w e. after-sought N δ (w .tame) e (s .sought (G .primes) (N .steps .tests) δ (rest-plan N) w (N .sized .vk));
         left = λ G T δ N w. stepped (prime-distinct N) (planned-counts (rest-plan N)) (N .sized .nk)
-          (s .left (G .primes) (N .steps .tests) δ (rest-plan N) w (N .sized .vk))
+            (s .left (G .primes) (N .steps .tests) δ (rest-plan N) w (N .sized .vk));
       }
 
 module _ {table plan cells : List ℕ} {p : Part} {before after : List (List ℤ)} {r : ℕ} where
@@ -212,14 +253,14 @@ module _ {table plan cells : List ℕ} {p : Part} {before after : List (List ℤ
   ready-found s =
       record {
         is = λ G T δ N w. some-found (N .ready) δ (w .tame) (p .nr) (N .sized .nr) (s .sought (G .readying) (N .ready .tests) δ (N .ready .planned) w (N .sized .vr))
-          ∙ N .ready-is δ (w .tame);
-        left = λ G T δ N w. only-left (s .left (G .readying) (N .ready .tests) δ (N .ready .planned) w (N .sized .vr))
+            ∙ N .ready-is δ (w .tame);
+        left = λ G T δ N w. only-left (s .left (G .readying) (N .ready .tests) δ (N .ready .planned) w (N .sized .vr));
       }
 
   pub met-found : SeekAnswers table plan cells 4 0 (p .vm) (p .nm) 0 before after r → MetAnswers table plan cells p before after (ltb r (p .nm))
   met-found s =
       record {
         is = λ G T δ N w. some-found (N .met) δ (w .tame) (p .nm) (N .sized .nm) (s .sought (G .meeting) (N .met .tests) δ (N .met .planned) w (N .sized .vm))
-          ∙ N .met-is δ (w .tame);
-        left = λ G T δ N w. only-left (s .left (G .meeting) (N .met .tests) δ (N .met .planned) w (N .sized .vm))
+            ∙ N .met-is δ (w .tame);
+        left = λ G T δ N w. only-left (s .left (G .meeting) (N .met .tests) δ (N .met .planned) w (N .sized .vm));
       }

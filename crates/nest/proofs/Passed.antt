@@ -64,8 +64,8 @@ module _ {f : ℕ → Bool} {from end : ℕ} where
   pub past-enter : (n s x : ℕ) → Past f from end (x * (n * s)) → Past f from end ((x * n + (from / s - x * n)) * s)
   past-enter n s x w =
       elim (decLt (x * n) (from / s)) [
-      | yes q ↦ past-before _ (subst (λ (t : ℕ). t * s ≤ from) (here q) (div-mul-le-self from s))
-      | no q ↦ past-same (same (from / s - x * n) (omega arith)) w
+        | yes q ↦ past-before _ (subst (λ (t : ℕ). t * s ≤ from) (here q) (div-mul-le-self from s))
+        | no q ↦ past-same (same (from / s - x * n) (omega arith)) w
       ]
     where
       here : x * n < from / s → from / s ≡ x * n + (from / s - x * n)

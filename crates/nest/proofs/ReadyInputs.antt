@@ -38,7 +38,7 @@ bound-inputs {cells = cells} {p} {before} {i} {σ} h b o G T δ N w =
           point = placed cells (upward 16 (p .vi)) δ i;
           shows = bound-shows cells (p .vi) i δ before σ (N .sized .inputs-few) (N .sized .grouped) low b o w;
           beside = beside-placed cells (upward 16 (p .vi)) δ i;
-          number = λ _. number-placed cells (upward 16 (p .vi)) δ i (upward-distinct 16 (p .vi)) (upward-counts cells 16 (p .vi) (N .sized .grouped)) low
+          number = λ _. number-placed cells (upward 16 (p .vi)) δ i (upward-distinct 16 (p .vi)) (upward-counts cells 16 (p .vi) (N .sized .grouped)) low;
         }
 
 never : 0 < 0 → ⊥
@@ -50,11 +50,11 @@ module _ {table plan cells : List ℕ} {p : Part} {before mid after : List (List
   pre-here h l a =
       record {
         is = λ G T δ N w. (let z = l G T δ N w in
-          a .is G T (z .point) N (z .shows)
-          ∙ ap₂ (T .ready) (number-apart cells (G .abstracts) (G .inputs) δ (z .point) (abstracts-inputs N) (z .beside)) (z .number h));
+            a .is G T (z .point) N (z .shows)
+            ∙ ap₂ (T .ready) (number-apart cells (G .abstracts) (G .inputs) δ (z .point) (abstracts-inputs N) (z .beside)) (z .number h));
         left = λ G T δ N w. (let z = l G T δ N w in
-          let y = a .left G T (z .point) N (z .shows) in
-          record { point = y .point; shows = y .shows; beside = beside-both (G .inputs) (G .readying) δ (z .point) (y .point) (z .beside) (y .beside); number = λ e. absurd (never e) })
+            let y = a .left G T (z .point) N (z .shows) in
+            record { point = y .point; shows = y .shows; beside = beside-both (G .inputs) (G .readying) δ (z .point) (y .point) (z .beside) (y .beside); number = λ e. absurd (never e) });
       }
 
 -- no input is left
@@ -121,8 +121,8 @@ module _ {table plan cells : List ℕ} {p : Part} where
         high = omega arith;
         each = λ G T δ N w. record {
           stepped = record { point = δ; shows = w; beside = record { same = λ s _. refl }; number = λ e. absurd (never e) };
-          sum = λ n e. no-bits (T .ready (numberOf cells (G .abstracts) δ)) (p .ni) n e
-        }
+          sum = λ n e. no-bits (T .ready (numberOf cells (G .abstracts) δ)) (p .ni) n e;
+        };
       }
 
   pub ready-asked : {before slots : List (List ℤ)} {s i : ℕ} → Readying table plan cells p before slots s i → NestAsked table plan cells p slots
@@ -141,8 +141,8 @@ module _ {table plan cells : List ℕ} {p : Part} where
           record {
             stepped = record { point = y .point; shows = y .shows; beside = twice (z .beside) (y .beside); number = λ e. absurd (never e) };
             sum = λ n e. one-more (T .ready (numberOf cells (G .abstracts) δ)) s i (p .ni) n b h (r .high) (x .sum)
-              (a .is G T (z .point) N (z .shows)
-              ∙ ap (λ (t : ℕ). T .ready t (i - 1)) (number-apart cells (G .abstracts) (G .inputs ++ G .readying) δ (z .point) (abstracts-ready N) (z .beside))) e
+                (a .is G T (z .point) N (z .shows)
+                ∙ ap (λ (t : ℕ). T .ready t (i - 1)) (number-apart cells (G .abstracts) (G .inputs ++ G .readying) δ (z .point) (abstracts-ready N) (z .beside))) e;
           }
         where
           twice : {ss : List ℕ} {δ ε φ : Point} → Beside ss δ ε → Beside ss ε φ → Beside ss δ φ
@@ -169,4 +169,5 @@ module _ {table plan cells : List ℕ} {p : Part} where
     where
       bits : ForNest table plan cells p before (λ (G : Groups) (T : PartTests) (δ : Point). (j : ℕ) → j < p .ni → has s j ≡ T .ready (numberOf cells (G .abstracts) δ) j)
       bits G T δ N w j l =
-          ap (λ (t : ℕ). has t j) (all-bits (T .ready (numberOf cells (G .abstracts) δ)) s i (p .ni) h (r .each G T δ N w .sum)) ∙ has-set (p .ni) (T .ready (numberOf cells (G .abstracts) δ)) j l
+          ap (λ (t : ℕ). has t j) (all-bits (T .ready (numberOf cells (G .abstracts) δ)) s i (p .ni) h (r .each G T δ N w .sum))
+          ∙ has-set (p .ni) (T .ready (numberOf cells (G .abstracts) δ)) j l

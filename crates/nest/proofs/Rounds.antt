@@ -39,7 +39,7 @@ module _ {table plan cells : List ℕ} {p : Part} {from end : ℕ} where
         shows = q .shows;
         numbers = tt;
         fixed = tt;
-        past = past-before _ (first-place (p .na) _ (perAbstract p) from (div-mul-le-self from (perAbstract p)))
+        past = past-before _ (first-place (p .na) _ (perAbstract p) from (div-mul-le-self from (perAbstract p)));
       })
       r
 
@@ -62,9 +62,9 @@ module _ {table plan cells : List ℕ} {p : Part} {from end : ℕ} where
             numbers = keep-abstract (G .inputs ++ G .readying) (z .beside) (abstracts-ready N) (record { abstract-is = w .number h });
             fixed = record {
               state = w .holds h;
-              bits = λ i g. y .bits G T (w .stands .point) N (w .stands .shows) i g ∙ ap (λ (t : ℕ). T .ready t i) (w .number h)
+              bits = λ i g. y .bits G T (w .stands .point) N (w .stands .shows) i g ∙ ap (λ (t : ℕ). T .ready t i) (w .number h);
             };
-            past = past-same (ap (λ (t : ℕ). t * perAbstract p) (no-outer (p .na) a)) (w .stands .past)
+            past = past-same (ap (λ (t : ℕ). t * perAbstract p) (no-outer (p .na) a)) (w .stands .past);
           }
 
   pub enter-inputs : {a mask c b i : ℕ} {s₀ s₁ : List (List ℤ)} → InConcretes table plan cells p from end a mask c s₀ → c < p .nc
@@ -77,7 +77,7 @@ module _ {table plan cells : List ℕ} {p : Part} {from end : ℕ} where
         shows = l .each G T N .stands .shows;
         numbers = record { up = l .each G T N .stands .numbers; concrete-is = l .each G T N .number h };
         fixed = record { up = l .each G T N .stands .fixed; related = l .each G T N .holds h; low = h };
-        past = l .each G T N .stands .past
+        past = l .each G T N .stands .past;
       }))
       (subst (λ (t : ℕ). InputAnswers cells p mask t s₀ s₁ i) e r)
 
@@ -92,7 +92,7 @@ module _ {table plan cells : List ℕ} {p : Part} {from end : ℕ} where
         shows = l .each G T N .stands .shows;
         numbers = record { up = l .each G T N .stands .numbers; input-is = l .each G T N .number h };
         fixed = record { up = l .each G T N .stands .fixed; ready = l .each G T N .holds h; low = h };
-        past = l .each G T N .stands .past
+        past = l .each G T N .stands .past;
       }))
       (subst (λ (t : ℕ). OutputAnswers table plan cells p t s₀ s₁ o) e r)
 
@@ -107,7 +107,7 @@ module _ {table plan cells : List ℕ} {p : Part} {from end : ℕ} where
         shows = l .each G T N .stands .shows;
         numbers = record { up = l .each G T N .stands .numbers; output-is = l .each G T N .number h };
         fixed = record { up = l .each G T N .stands .fixed; front = l .each G T N .holds h; low = h };
-        past = past-same (ap (λ (t : ℕ). (((a * p .nc + c) * p .ni + i) * p .nq + o) * t) (sym (mul-one (p .nk)))) (l .each G T N .stands .past)
+        past = past-same (ap (λ (t : ℕ). (((a * p .nc + c) * p .ni + i) * p .nq + o) * t) (sym (mul-one (p .nk)))) (l .each G T N .stands .past);
       }))
       (subst (λ (t : ℕ). AfterAnswers table plan cells p t s₀ s₁ k) (e ∙ back) r)
     where
@@ -125,7 +125,7 @@ module _ {table plan cells : List ℕ} {p : Part} {from end : ℕ} where
         shows = l .each G T N .stands .shows;
         numbers = tt;
         fixed = tt;
-        past = past-same (ap (λ (t : ℕ). t * perAbstract p) (sym (no-outer (p .na) (a + 1)))) (past-leave (p .nc) (perConcrete p) a c h (l .high) (l .each G T N .stands .past))
+        past = past-same (ap (λ (t : ℕ). t * perAbstract p) (sym (no-outer (p .na) (a + 1)))) (past-leave (p .nc) (perConcrete p) a c h (l .high) (l .each G T N .stands .past));
       })
       r
     where
@@ -158,7 +158,7 @@ module _ {table plan cells : List ℕ} {p : Part} {from end : ℕ} where
   -- ---- the binding of the innermost loop
 
   -- whether it passes
-  pub met-here : {a mask c i o k : ℕ} {s₀ s₁ : List (List ℤ)} {b : Bool} → InAfters table plan cells p from end a mask c i o k s₀ → k < p .nk → MetAnswers table plan cells p s₀ s₁ b
+  met-here : {a mask c i o k : ℕ} {s₀ s₁ : List (List ℤ)} {b : Bool} → InAfters table plan cells p from end a mask c i o k s₀ → k < p .nk → MetAnswers table plan cells p s₀ s₁ b
       → (G : Groups) (T : PartTests) → Nest table plan cells p G T → passing p T ((((a * p .nc + c) * p .ni + i) * p .nq + o) * p .nk + k) ≡ b
   met-here {a} {mask} {c} {i} {o} {k} l h r G T N =
       let w = l .each G T N in
@@ -185,7 +185,7 @@ module _ {table plan cells : List ℕ} {p : Part} {from end : ℕ} where
         shows = z .shows;
         numbers = keep-output (G .meeting) (z .beside) (abstracts-meeting N) (concretes-meeting N) (inputs-meeting N) (outputs-meeting N) (w .stands .numbers);
         fixed = w .stands .fixed;
-        past = past-more (((a * p .nc + c) * p .ni + i) * p .nq + o) (p .nk) k (w .stands .past) (met-here l h y G T N ∙ e)
+        past = past-more (((a * p .nc + c) * p .ni + i) * p .nq + o) (p .nk) k (w .stands .past) (met-here l h y G T N ∙ e);
       }
 
   pub again-afters : {a mask c i o k d : ℕ} {s₀ s₁ s₂ : List (List ℤ)} {b : Bool} → InAfters table plan cells p from end a mask c i o k s₀ → k < p .nk
@@ -205,7 +205,7 @@ module _ {table plan cells : List ℕ} {p : Part} {from end : ℕ} where
   answered {x} {at} {failed} h g e f w =
       record {
         looked = λ G T N. subst (λ (t : ℕ). Looked (passing p T) from end t failed) (sym e)
-          (subst (λ (b : Bool). Looked (passing p T) from end end b) (sym f) (looked-all x h g (w G T N)))
+            (subst (λ (b : Bool). Looked (passing p T) from end end b) (sym f) (looked-all x h g (w G T N)));
       }
 
   pub leave-abstracts : {a at : ℕ} {failed : Bool} {s : List (List ℤ)} → from ≤ end → InAbstracts table plan cells p from end a s → end ≤ a * perAbstract p → at ≡ end → failed ≡ false

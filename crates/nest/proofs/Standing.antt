@@ -42,7 +42,7 @@ module _ {cells : List ℕ} {slots : List (List ℤ)} {Numbers : Point → Type 
       record {
         stands = record { point = l .point; shows = l .shows; numbers = keep (l .point) (l .beside); fixed = w .fixed; past = past-step g n s x c d h (w .past) r all };
         number = l .number;
-        holds = r .found
+        holds = r .found;
       }
 
   -- into a block: the first inner block that is looked at
@@ -61,7 +61,7 @@ stands-out n s m y b c h g w k q =
       shows = w .shows;
       numbers = k (w .point) (w .numbers);
       fixed = q (w .fixed);
-      past = past-same (ap (λ (t : ℕ). t * (n * s)) (add-assoc (y * m) b 1)) (past-leave n s (y * m + b) c h g (w .past))
+      past = past-same (ap (λ (t : ℕ). t * (n * s)) (add-assoc (y * m) b 1)) (past-leave n s (y * m + b) c h g (w .past));
     }
 
 -- ---- the levels
@@ -143,7 +143,7 @@ pub record InOutputs (table plan cells : List ℕ) (p : Part) (from end a mask c
   pub high : o ≤ p .nq
   pub each : (G : Groups) (T : PartTests) → Nest table plan cells p G T
       → At cells slots (G .outputs) (OfInput cells G a c i) (ReadyHolds p T a mask c i) (T .front c i) (passing p T) from end (p .nq) (p .nk)
-        ((a * p .nc + c) * p .ni + i) o
+      ((a * p .nc + c) * p .ni + i) o
 
 pub record InAfters (table plan cells : List ℕ) (p : Part) (from end a mask c i o k : ℕ) (slots : List (List ℤ)) : Type 0 where
   pub asked : NestAsked table plan cells p slots
@@ -151,4 +151,4 @@ pub record InAfters (table plan cells : List ℕ) (p : Part) (from end a mask c 
   pub high : k ≤ p .nk
   pub each : (G : Groups) (T : PartTests) → Nest table plan cells p G T
       → At cells slots (G .primes) (OfOutput cells G a c i o) (FrontHolds p T a mask c i o) (T .steps c i o) (passing p T) from end (p .nk) 1
-        (((a * p .nc + c) * p .ni + i) * p .nq + o) k
+      (((a * p .nc + c) * p .ni + i) * p .nq + o) k

@@ -36,10 +36,10 @@ module _ {cells : List ℕ} {G : Groups} (ss : List ℕ) {δ ε : Point} (b : Be
   pub keep-abstract : {a : ℕ} → Apart (G .abstracts) ss → OfAbstract cells G a δ → OfAbstract cells G a ε
   keep-abstract x w = record { abstract-is = number-apart cells (G .abstracts) ss δ ε x b ∙ w .abstract-is }
 
-  pub keep-concrete : {a c : ℕ} → Apart (G .abstracts) ss → Apart (G .concretes) ss → OfConcrete cells G a c δ → OfConcrete cells G a c ε
+  keep-concrete : {a c : ℕ} → Apart (G .abstracts) ss → Apart (G .concretes) ss → OfConcrete cells G a c δ → OfConcrete cells G a c ε
   keep-concrete x y w = record { up = keep-abstract x (w .up); concrete-is = number-apart cells (G .concretes) ss δ ε y b ∙ w .concrete-is }
 
-  pub keep-input : {a c i : ℕ} → Apart (G .abstracts) ss → Apart (G .concretes) ss → Apart (G .inputs) ss → OfInput cells G a c i δ → OfInput cells G a c i ε
+  keep-input : {a c i : ℕ} → Apart (G .abstracts) ss → Apart (G .concretes) ss → Apart (G .inputs) ss → OfInput cells G a c i δ → OfInput cells G a c i ε
   keep-input x y z w = record { up = keep-concrete x y (w .up); input-is = number-apart cells (G .inputs) ss δ ε z b ∙ w .input-is }
 
   pub keep-output : {a c i o : ℕ} → Apart (G .abstracts) ss → Apart (G .concretes) ss → Apart (G .inputs) ss → Apart (G .outputs) ss → OfOutput cells G a c i o δ
@@ -55,7 +55,7 @@ asked-after ss q l =
       tests = q .tests;
       point = l (q .groups) (q .tests) (q .point) (q .nest) (q .shows) .point;
       nest = q .nest;
-      shows = l (q .groups) (q .tests) (q .point) (q .nest) (q .shows) .shows
+      shows = l (q .groups) (q .tests) (q .point) (q .nest) (q .shows) .shows;
     }
 
 lower : (x y c d : ℕ) → x ≤ y + c → c ≤ d → x ≤ y + d
@@ -80,7 +80,7 @@ afters-of T c i o u v w b n d e f g h r =
 module _ {table plan cells : List ℕ} {p : Part} {from end : ℕ} {before after : List (List ℤ)} (q : NestAsked table plan cells p before) where
   pub step-abstracts : {b d : ℕ} → from / perAbstract p ≤ b
       → ((G : Groups) (T : PartTests) → Nest table plan cells p G T
-        → Standing cells before (λ (δ : Point). Unit {0}) (Unit {0}) (passing p T) from end ((0 * p .na + b) * perAbstract p))
+      → Standing cells before (λ (δ : Point). Unit {0}) (Unit {0}) (passing p T) from end ((0 * p .na + b) * perAbstract p))
       → AbstractAnswers table plan cells p b before after d
       → InAbstracts table plan cells p from end d after
   step-abstracts {b} {d} low w r =
@@ -90,13 +90,13 @@ module _ {table plan cells : List ℕ} {p : Part} {from end : ℕ} {before after
         low = le-trans low (s .low);
         high = s .high;
         each = λ G T N. at-step (G .abstracts) (T .state) (p .na) (perAbstract p) 0 b d after (some-abstract (N .sized)) (w G T N)
-          (r .sought G T (w G T N .point) N (w G T N .shows)) (r .left G T (w G T N .point) N (w G T N .shows)) (λ ε _. tt)
-          (λ j e l h. state-block T (p .nc) (p .ni) (p .nq) (p .nk) j (ap (T .state) (sym (only-digit (p .na) _ e)) ∙ h))
+            (r .sought G T (w G T N .point) N (w G T N .shows)) (r .left G T (w G T N .point) N (w G T N .shows)) (λ ε _. tt)
+            (λ j e l h. state-block T (p .nc) (p .ni) (p .nq) (p .nk) j (ap (T .state) (sym (only-digit (p .na) _ e)) ∙ h));
       }
 
   pub step-concretes : {a mask b d : ℕ} → from / perConcrete p ≤ a * p .nc + b
       → ((G : Groups) (T : PartTests) → Nest table plan cells p G T
-        → Standing cells before (OfAbstract cells G a) (StateHolds p T a mask) (passing p T) from end ((a * p .nc + b) * perConcrete p))
+      → Standing cells before (OfAbstract cells G a) (StateHolds p T a mask) (passing p T) from end ((a * p .nc + b) * perConcrete p))
       → ConcreteAnswers table plan cells p b before after d
       → InConcretes table plan cells p from end a mask d after
   step-concretes {a} {mask} {b} {d} low w r =
@@ -106,15 +106,15 @@ module _ {table plan cells : List ℕ} {p : Part} {from end : ℕ} {before after
         low = lower _ _ _ _ low (s .low);
         high = s .high;
         each = λ G T N. at-step (G .concretes) (T .related a) (p .nc) (perConcrete p) a b d after (some-concrete (N .sized)) (w G T N)
-          (subst (λ (t : ℕ). Sought (T .related t) b (p .nc) d) (w G T N .numbers .abstract-is) (r .sought G T (w G T N .point) N (w G T N .shows)))
-          (r .left G T (w G T N .point) N (w G T N .shows))
-          (λ ε h. keep-abstract (G .concretes) h (abstracts-concretes N) (w G T N .numbers))
-          (λ j e l h. related-block T (p .nc) (p .ni) (p .nq) (p .nk) a j e h)
+            (subst (λ (t : ℕ). Sought (T .related t) b (p .nc) d) (w G T N .numbers .abstract-is) (r .sought G T (w G T N .point) N (w G T N .shows)))
+            (r .left G T (w G T N .point) N (w G T N .shows))
+            (λ ε h. keep-abstract (G .concretes) h (abstracts-concretes N) (w G T N .numbers))
+            (λ j e l h. related-block T (p .nc) (p .ni) (p .nq) (p .nk) a j e h);
       }
 
   pub step-inputs : {a mask c b d : ℕ} → from / perInput p ≤ (a * p .nc + c) * p .ni + b
       → ((G : Groups) (T : PartTests) → Nest table plan cells p G T
-        → Standing cells before (OfConcrete cells G a c) (RelatedHolds p T a mask c) (passing p T) from end (((a * p .nc + c) * p .ni + b) * perInput p))
+      → Standing cells before (OfConcrete cells G a c) (RelatedHolds p T a mask c) (passing p T) from end (((a * p .nc + c) * p .ni + b) * perInput p))
       → InputAnswers cells p mask b before after d
       → InInputs table plan cells p from end a mask c d after
   step-inputs {a} {mask} {c} {b} {d} low w r =
@@ -123,15 +123,15 @@ module _ {table plan cells : List ℕ} {p : Part} {from end : ℕ} {before after
         low = lower _ _ _ _ low (r .sought .low);
         high = r .sought .high;
         each = λ G T N. at-step (G .inputs) (T .ready a) (p .ni) (perInput p) (a * p .nc + c) b d after (some-input (N .sized)) (w G T N)
-          (sought-same (r .sought) (w G T N .fixed .up .bits))
-          (r .left table plan G T (w G T N .point) N (w G T N .shows))
-          (λ ε h. keep-concrete (G .inputs) h (abstracts-inputs N) (concretes-inputs N) (w G T N .numbers))
-          (λ j e l h. ready-block T (p .nc) (p .ni) (p .nq) (p .nk) a c j (w G T N .fixed .low) e h)
+            (sought-same (r .sought) (w G T N .fixed .up .bits))
+            (r .left table plan G T (w G T N .point) N (w G T N .shows))
+            (λ ε h. keep-concrete (G .inputs) h (abstracts-inputs N) (concretes-inputs N) (w G T N .numbers))
+            (λ j e l h. ready-block T (p .nc) (p .ni) (p .nq) (p .nk) a c j (w G T N .fixed .low) e h);
       }
 
   pub step-outputs : {a mask c i b d : ℕ} → from / p .nk ≤ ((a * p .nc + c) * p .ni + i) * p .nq + b
       → ((G : Groups) (T : PartTests) → Nest table plan cells p G T
-        → Standing cells before (OfInput cells G a c i) (ReadyHolds p T a mask c i) (passing p T) from end ((((a * p .nc + c) * p .ni + i) * p .nq + b) * p .nk))
+      → Standing cells before (OfInput cells G a c i) (ReadyHolds p T a mask c i) (passing p T) from end ((((a * p .nc + c) * p .ni + i) * p .nq + b) * p .nk))
       → OutputAnswers table plan cells p b before after d
       → InOutputs table plan cells p from end a mask c i d after
   step-outputs {a} {mask} {c} {i} {b} {d} low w r =
@@ -141,10 +141,10 @@ module _ {table plan cells : List ℕ} {p : Part} {from end : ℕ} {before after
         low = lower _ _ _ _ low (s .low);
         high = s .high;
         each = λ G T N. at-step (G .outputs) (T .front c i) (p .nq) (p .nk) ((a * p .nc + c) * p .ni + i) b d after (N .sized .few-k .0) (w G T N)
-          (here G T N) (r .left G T (w G T N .point) N (w G T N .shows))
-          (λ ε h. keep-input (G .outputs) h (abstracts-outputs N) (concretes-outputs N) (inputs-outputs N) (w G T N .numbers))
-          (λ j e l h. front-block T (p .nc) (p .ni) (p .nq) (p .nk) a c i j (w G T N .fixed .up .low) (w G T N .fixed .low) (N .sized .few-k .0) e
-            (λ k g. excluded G T N (j / p .nk % p .nq) k l g h))
+            (here G T N) (r .left G T (w G T N .point) N (w G T N .shows))
+            (λ ε h. keep-input (G .outputs) h (abstracts-outputs N) (concretes-outputs N) (inputs-outputs N) (w G T N .numbers))
+            (λ j e l h. front-block T (p .nc) (p .ni) (p .nq) (p .nk) a c i j (w G T N .fixed .up .low) (w G T N .fixed .low) (N .sized .few-k .0) e
+            (λ k g. excluded G T N (j / p .nk % p .nq) k l g h));
       }
     where
       here : (G : Groups) (T : PartTests) (N : Nest table plan cells p G T) → Sought (T .front c i) b (p .nq) d
@@ -170,8 +170,8 @@ module _ {table plan cells : List ℕ} {p : Part} {from end : ℕ} {before after
 
   pub step-afters : {a mask c i o b d : ℕ} → from ≤ (((a * p .nc + c) * p .ni + i) * p .nq + o) * p .nk + b
       → ((G : Groups) (T : PartTests) → Nest table plan cells p G T
-        → Standing cells before (OfOutput cells G a c i o) (FrontHolds p T a mask c i o) (passing p T) from end
-          (((((a * p .nc + c) * p .ni + i) * p .nq + o) * p .nk + b) * 1))
+      → Standing cells before (OfOutput cells G a c i o) (FrontHolds p T a mask c i o) (passing p T) from end
+      (((((a * p .nc + c) * p .ni + i) * p .nq + o) * p .nk + b) * 1))
       → AfterAnswers table plan cells p b before after d
       → InAfters table plan cells p from end a mask c i o d after
   step-afters {a} {mask} {c} {i} {o} {b} {d} low w r =
@@ -181,9 +181,9 @@ module _ {table plan cells : List ℕ} {p : Part} {from end : ℕ} {before after
         low = lower _ _ _ _ low (s .low);
         high = s .high;
         each = λ G T N. at-step (G .primes) (T .steps c i o) (p .nk) 1 (((a * p .nc + c) * p .ni + i) * p .nq + o) b d after (omega arith) (w G T N)
-          (sought-afters N (w G T N) r) (r .left G T (w G T N .point) N (w G T N .shows))
-          (λ ε h. keep-output (G .primes) h (abstracts-primes N) (concretes-primes N) (inputs-primes N) (outputs-primes N) (w G T N .numbers))
-          (λ j e l h. steps-block T (p .nc) (p .ni) (p .nq) (p .nk) a c i o j (w G T N .fixed .up .up .low) (w G T N .fixed .up .low) (w G T N .fixed .low) e h)
+            (sought-afters N (w G T N) r) (r .left G T (w G T N .point) N (w G T N .shows))
+            (λ ε h. keep-output (G .primes) h (abstracts-primes N) (concretes-primes N) (inputs-primes N) (outputs-primes N) (w G T N .numbers))
+            (λ j e l h. steps-block T (p .nc) (p .ni) (p .nq) (p .nk) a c i o j (w G T N .fixed .up .up .low) (w G T N .fixed .up .low) (w G T N .fixed .low) e h);
       }
 
 -- ---- each search goes forward

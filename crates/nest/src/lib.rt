@@ -7,9 +7,15 @@ ghost use Rattle.points.specs.Searches.{Sought};
 ghost use Rattle.nest.specs.NestPromises.{NestAsked, AbstractAnswers, ConcreteAnswers, AbstractPreAnswers, PreAnswers, ReadyAnswers, InputAsked, InputAnswers};
 ghost use Rattle.nest.specs.NestPromises.{OutputAnswers, AfterAnswers, MetAnswers, SweepAnswers};
 use plans::Part;
-use points::plan::{MET, READY, RELATED, STATES, STEPS};
-use points::slots::{BEFORE, INPUTS};
-use seek::{seek, Span};
+use points::plan::MET;
+use points::plan::READY;
+use points::plan::RELATED;
+use points::plan::STATES;
+use points::plan::STEPS;
+use points::slots::BEFORE;
+use points::slots::INPUTS;
+use seek::Span;
+use seek::seek;
 use slot_carriers::groups::bind;
 
 // Where a search of a part stopped, and whether the binding there fails.
@@ -19,41 +25,124 @@ pub struct Swept {
 }
 
 // The next abstract state from a on.
-fn next_abstract(t: &[u16; 16384], plan: &[u16; 20560], cells: &[u32; 9216], p: Part, a: usize, slots: &mut [[i64; 64]; 2]) -> usize
+fn next_abstract(
+    t: &[u16; 16384],
+    plan: &[u16; 20560],
+    cells: &[u32; 9216],
+    p: Part,
+    a: usize,
+    slots: &mut [[i64; 64]; 2],
+) -> usize
     requires { ⌜ a ≤ p .na ⌝ }
     requires { ⌜ NestAsked (now t) (now plan) (now cells) p (now slots) ⌝ }
     ensures { λ r. ⌜ AbstractAnswers (now (t .entry)) (now (plan .entry)) (now (cells .entry)) p a (now (slots .entry)) (now (slots .exit)) r ⌝ }
 {
-    seek(t, plan, cells, Span { u: STATES, j: 0, m: p.va, w: p.na, from: a }, slots)
+    seek(
+        t,
+        plan,
+        cells,
+        Span {
+            u: STATES,
+            j: 0,
+            m: p.va,
+            w: p.na,
+            from: a,
+        },
+        slots,
+    )
 }
 
 // The next concrete state from c on that is related to the abstract one.
-fn next_concrete(t: &[u16; 16384], plan: &[u16; 20560], cells: &[u32; 9216], p: Part, c: usize, slots: &mut [[i64; 64]; 2]) -> usize
+fn next_concrete(
+    t: &[u16; 16384],
+    plan: &[u16; 20560],
+    cells: &[u32; 9216],
+    p: Part,
+    c: usize,
+    slots: &mut [[i64; 64]; 2],
+) -> usize
     requires { ⌜ c ≤ p .nc ⌝ }
     requires { ⌜ NestAsked (now t) (now plan) (now cells) p (now slots) ⌝ }
     ensures { λ r. ⌜ ConcreteAnswers (now (t .entry)) (now (plan .entry)) (now (cells .entry)) p c (now (slots .entry)) (now (slots .exit)) r ⌝ }
 {
-    seek(t, plan, cells, Span { u: RELATED, j: 0, m: p.vc, w: p.nc, from: c }, slots)
+    seek(
+        t,
+        plan,
+        cells,
+        Span {
+            u: RELATED,
+            j: 0,
+            m: p.vc,
+            w: p.nc,
+            from: c,
+        },
+        slots,
+    )
 }
 
 // Does the abstract precondition hold at this abstract state and these inputs?
-fn abstract_pre(t: &[u16; 16384], plan: &[u16; 20560], cells: &[u32; 9216], p: Part, slots: &mut [[i64; 64]; 2]) -> bool
+fn abstract_pre(
+    t: &[u16; 16384],
+    plan: &[u16; 20560],
+    cells: &[u32; 9216],
+    p: Part,
+    slots: &mut [[i64; 64]; 2],
+) -> bool
     requires { ⌜ NestAsked (now t) (now plan) (now cells) p (now slots) ⌝ }
     ensures { λ r. ⌜ AbstractPreAnswers (now (t .entry)) (now (plan .entry)) (now (cells .entry)) p (now (slots .entry)) (now (slots .exit)) r ⌝ }
 {
-    seek(t, plan, cells, Span { u: READY, j: 0, m: p.vr, w: p.nr, from: 0 }, slots) < p.nr
+    seek(
+        t,
+        plan,
+        cells,
+        Span {
+            u: READY,
+            j: 0,
+            m: p.vr,
+            w: p.nr,
+            from: 0,
+        },
+        slots,
+    )
+        < p.nr
 }
 
 // Does a binding pass whose premises hold?
-fn passes(t: &[u16; 16384], plan: &[u16; 20560], cells: &[u32; 9216], p: Part, slots: &mut [[i64; 64]; 2]) -> bool
+fn passes(
+    t: &[u16; 16384],
+    plan: &[u16; 20560],
+    cells: &[u32; 9216],
+    p: Part,
+    slots: &mut [[i64; 64]; 2],
+) -> bool
     requires { ⌜ NestAsked (now t) (now plan) (now cells) p (now slots) ⌝ }
     ensures { λ r. ⌜ MetAnswers (now (t .entry)) (now (plan .entry)) (now (cells .entry)) p (now (slots .entry)) (now (slots .exit)) r ⌝ }
 {
-    seek(t, plan, cells, Span { u: MET, j: 0, m: p.vm, w: p.nm, from: 0 }, slots) < p.nm
+    seek(
+        t,
+        plan,
+        cells,
+        Span {
+            u: MET,
+            j: 0,
+            m: p.vm,
+            w: p.nm,
+            from: 0,
+        },
+        slots,
+    )
+        < p.nm
 }
 
 // The same at the i-th inputs.
-fn pre_at(t: &[u16; 16384], plan: &[u16; 20560], cells: &[u32; 9216], p: Part, i: usize, slots: &mut [[i64; 64]; 2]) -> bool
+fn pre_at(
+    t: &[u16; 16384],
+    plan: &[u16; 20560],
+    cells: &[u32; 9216],
+    p: Part,
+    i: usize,
+    slots: &mut [[i64; 64]; 2],
+) -> bool
     requires { ⌜ i < p .ni ⌝ }
     requires { ⌜ NestAsked (now t) (now plan) (now cells) p (now slots) ⌝ }
     ensures { λ r. ⌜ PreAnswers (now (t .entry)) (now (plan .entry)) (now (cells .entry)) p i (now (slots .entry)) (now (slots .exit)) r ⌝ }
@@ -63,7 +152,13 @@ fn pre_at(t: &[u16; 16384], plan: &[u16; 20560], cells: &[u32; 9216], p: Part, i
 }
 
 // The inputs at which the abstract precondition holds at this abstract state, as bits; the last one's first, so that each one doubles what is there.
-fn ready(t: &[u16; 16384], plan: &[u16; 20560], cells: &[u32; 9216], p: Part, slots: &mut [[i64; 64]; 2]) -> u64
+fn ready(
+    t: &[u16; 16384],
+    plan: &[u16; 20560],
+    cells: &[u32; 9216],
+    p: Part,
+    slots: &mut [[i64; 64]; 2],
+) -> u64
     requires { ⌜ NestAsked (now t) (now plan) (now cells) p (now slots) ⌝ }
     ensures { λ r. ⌜ ReadyAnswers (now (t .entry)) (now (plan .entry)) (now (cells .entry)) p (now (slots .entry)) (now (slots .exit)) r ⌝ }
 {
@@ -92,7 +187,13 @@ fn next_bit(mask: u64, from: usize, n: usize) -> usize
 }
 
 // The inputs have its values then.
-fn next_input(cells: &[u32; 9216], p: Part, mask: u64, from: usize, slots: &mut [[i64; 64]; 2]) -> usize
+fn next_input(
+    cells: &[u32; 9216],
+    p: Part,
+    mask: u64,
+    from: usize,
+    slots: &mut [[i64; 64]; 2],
+) -> usize
     requires { ⌜ from ≤ p .ni ⌝ }
     requires { ⌜ InputAsked (now cells) p (now slots) ⌝ }
     ensures { λ r. ⌜ InputAnswers (now (cells .entry)) p mask from (now (slots .entry)) (now (slots .exit)) r ⌝ }
@@ -105,21 +206,59 @@ fn next_input(cells: &[u32; 9216], p: Part, mask: u64, from: usize, slots: &mut 
 }
 
 // The next outputs from o on that no conjunct without a primed variable excludes.
-fn next_output(t: &[u16; 16384], plan: &[u16; 20560], cells: &[u32; 9216], p: Part, o: usize, slots: &mut [[i64; 64]; 2]) -> usize
+fn next_output(
+    t: &[u16; 16384],
+    plan: &[u16; 20560],
+    cells: &[u32; 9216],
+    p: Part,
+    o: usize,
+    slots: &mut [[i64; 64]; 2],
+) -> usize
     requires { ⌜ o ≤ p .nq ⌝ }
     requires { ⌜ NestAsked (now t) (now plan) (now cells) p (now slots) ⌝ }
     ensures { λ r. ⌜ OutputAnswers (now (t .entry)) (now (plan .entry)) (now (cells .entry)) p o (now (slots .entry)) (now (slots .exit)) r ⌝ }
 {
-    seek(t, plan, cells, Span { u: STEPS, j: 0, m: p.vo, w: p.nq, from: o }, slots)
+    seek(
+        t,
+        plan,
+        cells,
+        Span {
+            u: STEPS,
+            j: 0,
+            m: p.vo,
+            w: p.nq,
+            from: o,
+        },
+        slots,
+    )
 }
 
 // The next concrete after state from k on that the concrete operation allows with these outputs.
-fn next_after(t: &[u16; 16384], plan: &[u16; 20560], cells: &[u32; 9216], p: Part, k: usize, slots: &mut [[i64; 64]; 2]) -> usize
+fn next_after(
+    t: &[u16; 16384],
+    plan: &[u16; 20560],
+    cells: &[u32; 9216],
+    p: Part,
+    k: usize,
+    slots: &mut [[i64; 64]; 2],
+) -> usize
     requires { ⌜ k ≤ p .nk ⌝ }
     requires { ⌜ NestAsked (now t) (now plan) (now cells) p (now slots) ⌝ }
     ensures { λ r. ⌜ AfterAnswers (now (t .entry)) (now (plan .entry)) (now (cells .entry)) p k (now (slots .entry)) (now (slots .exit)) r ⌝ }
 {
-    seek(t, plan, cells, Span { u: STEPS, j: p.vo, m: p.vk, w: p.nk, from: k }, slots)
+    seek(
+        t,
+        plan,
+        cells,
+        Span {
+            u: STEPS,
+            j: p.vo,
+            m: p.vk,
+            w: p.nk,
+            from: k,
+        },
+        slots,
+    )
 }
 
 // How far x is behind y.
@@ -133,7 +272,15 @@ fn behind(x: usize, y: usize) -> usize
 }
 
 // Looks at the bindings of a part from the place `from` up to the place `end`, and stops at the first that fails.
-pub fn sweep(t: &[u16; 16384], plan: &[u16; 20560], cells: &[u32; 9216], p: Part, from: usize, end: usize, slots: &mut [[i64; 64]; 2]) -> Swept
+pub fn sweep(
+    t: &[u16; 16384],
+    plan: &[u16; 20560],
+    cells: &[u32; 9216],
+    p: Part,
+    from: usize,
+    end: usize,
+    slots: &mut [[i64; 64]; 2],
+) -> Swept
     requires { ⌜ (from ≤ end) × (end ≤ p .na * p .nc * p .ni * p .nq * p .nk) ⌝ }
     requires { ⌜ NestAsked (now t) (now plan) (now cells) p (now slots) ⌝ }
     ensures { λ r. ⌜ SweepAnswers (now (t .entry)) (now (plan .entry)) (now (cells .entry)) p from end (r .at) (r .failed) ⌝ }
@@ -150,7 +297,14 @@ pub fn sweep(t: &[u16; 16384], plan: &[u16; 20560], cells: &[u32; 9216], p: Part
             break 'abstracts;
         }
         let mask = ready(t, plan, cells, p, slots);
-        let mut c = next_concrete(t, plan, cells, p, behind(from / by_concrete, a * p.nc), slots);
+        let mut c = next_concrete(
+            t,
+            plan,
+            cells,
+            p,
+            behind(from / by_concrete, a * p.nc),
+            slots,
+        );
         while c < p.nc {
             let x = a * p.nc + c;
             if end <= x * by_concrete {

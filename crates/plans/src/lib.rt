@@ -7,18 +7,13 @@ ghost use lib.ListN.{getD, length, set};
 ghost use Rattle.plans.specs.PlansByNumber.{levelOf, entriesFrom, entriesOf, searchEntries, Rows, noAsking};
 ghost use Rattle.plans.specs.PlanPromises.{RowsOf, CommonRows, OperationRows, InitialisationPlan, ApplicabilityPlan, CorrectnessPlan};
 ghost use Rattle.plans.specs.PlanWriting.{asking, RowIn, Appended, Room, Laying, Headed, Searched, Between, manyBy, overBy, afterBy, stepBy, Premises};
-use points::plan::FIRST_COUNT;
-use points::plan::FIRST_SLOT;
-use points::plan::HEAD;
-use points::plan::LEVELS;
+use crate::contexts::OPERATIONS;
+use points::plan;
 use points::plan::MET;
-use points::plan::READY;
-use points::plan::RELATED;
-use points::plan::SECOND_SLOT;
-use points::plan::STATES;
-use points::plan::STEPS;
-use points::plan::TESTS;
 use points::slots;
+
+mod columns;
+mod contexts;
 
 // A part: how many variables its groups have, and how many bindings: abstract, concrete, inputs, outputs, concrete primed; then of the two searches for a step of the abstract operation
 // and for what must be there.
@@ -38,36 +33,6 @@ pub struct Part {
     pub nr: usize,
     pub nm: usize,
 }
-
-// The contexts: both states, initial states, retrieve, then two for each operation.
-const ABSTRACT_STATE: usize = 0;
-
-const CONCRETE_STATE: usize = 1;
-
-const AINIT: usize = 2;
-
-const CINIT: usize = 3;
-
-const RETRIEVE: usize = 4;
-
-const OPERATIONS: usize = 5;
-
-// A row of a conjunct: 8 numbers, of which the second is where its nodes end, and the others from the third on the last variable of each group that it mentions.
-const ROW: usize = 8;
-
-const END: usize = 1;
-
-const NO_COLUMN: usize = 0;
-
-const ABSTRACT: usize = 2;
-
-const CONCRETE: usize = 3;
-
-const OUTPUTS: usize = 5;
-
-const CONCRETE_PRIMED: usize = 6;
-
-const ABSTRACT_PRIMED: usize = 7;
 
 // A predicate that a search asks: where its rows begin, and how many they are; asked of the state before (0) or after (1); the column of the first group, how many variables that
 // group has, the column of the second.
@@ -105,7 +70,7 @@ fn level_of(rows: &[u16; 16384], r: usize, p: Asked) -> usize
     if last != 0 {
         return p.count + last;
     }
-    if p.first == NO_COLUMN {
+    if p.first == columns::NO_COLUMN {
         return 0;
     }
     number(rows, r + p.first)
@@ -127,7 +92,7 @@ fn append_row(
     if level_of(rows, r, p) != l {
         return at;
     }
-    put(plan, at, 2 * number(rows, r + END) + p.side);
+    put(plan, at, 2 * number(rows, r + columns::END) + p.side);
     at + 1
 }
 
@@ -140,7 +105,7 @@ fn append(rows: &[u16; 16384], p: Asked, l: usize, plan: &mut [u16], at: usize) 
     let mut k = at;
     let mut i: usize = 0;
     while i < p.many {
-        k = append_row(rows, p.from + ROW * i, p, l, plan, k);
+        k = append_row(rows, p.from + columns::ROW * i, p, l, plan, k);
         i += 1;
     }
     k
@@ -180,12 +145,12 @@ fn plan_search(
     ensures { λ k. ⌜ Laying (now (rows .entry)) u (asking p) (asking q) (asking r) at (now (plan .entry)) (now (plan .exit)) k ⌝ }
 {
     let mut k = at;
-    put(plan, HEAD * u, k);
+    put(plan, plan::HEAD * u, k);
     let mut l: usize = 0;
-    while l < LEVELS {
+    while l < plan::LEVELS {
         k = append_level(rows, p, q, r, l, plan, k);
         l += 1;
-        put(plan, HEAD * u + l, k);
+        put(plan, plan::HEAD * u + l, k);
     }
     k
 }
@@ -195,9 +160,9 @@ fn head(plan: &mut [u16], u: usize, first: usize, n: usize, second: usize)
     requires { ⌜ (u < 5) × (first < 64) × (n < 64) × (second < 64) × (length (now plan) ≡ 20560) ⌝ }
     ensures { λ _. ⌜ Headed u first n second (now (plan .entry)) (now (plan .exit)) ⌝ }
 {
-    put(plan, HEAD * u + FIRST_SLOT, first);
-    put(plan, HEAD * u + FIRST_COUNT, n);
-    put(plan, HEAD * u + SECOND_SLOT, second);
+    put(plan, plan::HEAD * u + plan::FIRST_SLOT, first);
+    put(plan, plan::HEAD * u + plan::FIRST_COUNT, n);
+    put(plan, plan::HEAD * u + plan::SECOND_SLOT, second);
 }
 
 // How many rows a context has.
@@ -205,7 +170,7 @@ fn rows_of(firsts: &[u16; 40], c: usize) -> usize
     requires { ⌜ Between (now firsts) c ⌝ }
     ensures { λ r. ⌜ r ≡ manyBy (now (firsts .entry)) c ⌝ }
 {
-    (number(firsts, c + 1) - number(firsts, c)) / ROW
+    (number(firsts, c + 1) - number(firsts, c)) / columns::ROW
 }
 
 // No predicate.
@@ -216,9 +181,9 @@ fn none() -> Asked
         from: 0,
         many: 0,
         side: 0,
-        first: NO_COLUMN,
+        first: columns::NO_COLUMN,
         count: 0,
-        second: ABSTRACT,
+        second: columns::ABSTRACT,
     }
 }
 
@@ -231,7 +196,7 @@ fn over(firsts: &[u16; 40], c: usize, side: usize, second: usize) -> Asked
         from: number(firsts, c),
         many: rows_of(firsts, c),
         side,
-        first: NO_COLUMN,
+        first: columns::NO_COLUMN,
         count: 0,
         second,
     }
@@ -246,7 +211,7 @@ fn after(firsts: &[u16; 40], c: usize, n: usize, second: usize) -> Asked
         from: number(firsts, c),
         many: rows_of(firsts, c),
         side: 1,
-        first: NO_COLUMN,
+        first: columns::NO_COLUMN,
         count: n,
         second,
     }
@@ -260,7 +225,7 @@ fn step(firsts: &[u16; 40], c: usize, n: usize, second: usize) -> Asked
         from: number(firsts, c),
         many: rows_of(firsts, c),
         side: 0,
-        first: OUTPUTS,
+        first: columns::OUTPUTS,
         count: n,
         second,
     }
@@ -292,8 +257,8 @@ fn plan_steps(
     plan_search(
         rows,
         u,
-        after(firsts, CONCRETE_STATE, n, CONCRETE),
-        step(firsts, c, n, CONCRETE_PRIMED),
+        after(firsts, contexts::CONCRETE_STATE, n, columns::CONCRETE),
+        step(firsts, c, n, columns::CONCRETE_PRIMED),
         none(),
         plan,
         at,
@@ -305,26 +270,26 @@ pub fn plan_initialisation(rows: &[u16; 16384], firsts: &[u16; 40], plan: &mut [
     requires { ⌜ CommonRows (now rows) (now firsts) ⌝ }
     ensures { λ _. ⌜ InitialisationPlan (now (rows .entry)) (now (firsts .entry)) (now (plan .exit)) ⌝ }
 {
-    let k = plan_nothing(rows, STATES, plan, TESTS);
-    head(plan, RELATED, slots::CONCRETE, 0, slots::CONCRETE);
+    let k = plan_nothing(rows, plan::STATES, plan, plan::TESTS);
+    head(plan, plan::RELATED, slots::CONCRETE, 0, slots::CONCRETE);
     let k = plan_search(
         rows,
-        RELATED,
-        over(firsts, CONCRETE_STATE, 0, CONCRETE),
-        over(firsts, CINIT, 0, CONCRETE),
+        plan::RELATED,
+        over(firsts, contexts::CONCRETE_STATE, 0, columns::CONCRETE),
+        over(firsts, contexts::CINIT, 0, columns::CONCRETE),
         none(),
         plan,
         k,
     );
-    let k = plan_nothing(rows, READY, plan, k);
-    let k = plan_nothing(rows, STEPS, plan, k);
+    let k = plan_nothing(rows, plan::READY, plan, k);
+    let k = plan_nothing(rows, plan::STEPS, plan, k);
     head(plan, MET, slots::ABSTRACT, 0, slots::ABSTRACT);
     plan_search(
         rows,
         MET,
-        over(firsts, ABSTRACT_STATE, 0, ABSTRACT),
-        over(firsts, AINIT, 0, ABSTRACT),
-        over(firsts, RETRIEVE, 0, ABSTRACT),
+        over(firsts, contexts::ABSTRACT_STATE, 0, columns::ABSTRACT),
+        over(firsts, contexts::AINIT, 0, columns::ABSTRACT),
+        over(firsts, contexts::RETRIEVE, 0, columns::ABSTRACT),
         plan,
         k,
     );
@@ -342,32 +307,32 @@ fn plan_premises(
     requires { ⌜ length (now plan) ≡ 20560 ⌝ }
     ensures { λ k. ⌜ Premises (now (rows .entry)) (now (firsts .entry)) j n (now (plan .exit)) k ⌝ }
 {
-    head(plan, STATES, slots::ABSTRACT, 0, slots::ABSTRACT);
+    head(plan, plan::STATES, slots::ABSTRACT, 0, slots::ABSTRACT);
     let k = plan_search(
         rows,
-        STATES,
-        over(firsts, ABSTRACT_STATE, 0, ABSTRACT),
+        plan::STATES,
+        over(firsts, contexts::ABSTRACT_STATE, 0, columns::ABSTRACT),
         none(),
         none(),
         plan,
-        TESTS,
+        plan::TESTS,
     );
-    head(plan, RELATED, slots::CONCRETE, 0, slots::CONCRETE);
+    head(plan, plan::RELATED, slots::CONCRETE, 0, slots::CONCRETE);
     let k = plan_search(
         rows,
-        RELATED,
-        over(firsts, CONCRETE_STATE, 0, CONCRETE),
-        over(firsts, RETRIEVE, 0, CONCRETE),
+        plan::RELATED,
+        over(firsts, contexts::CONCRETE_STATE, 0, columns::CONCRETE),
+        over(firsts, contexts::RETRIEVE, 0, columns::CONCRETE),
         none(),
         plan,
         k,
     );
-    head(plan, READY, slots::OUTPUTS, n, slots::ABSTRACT_PRIMED);
+    head(plan, plan::READY, slots::OUTPUTS, n, slots::ABSTRACT_PRIMED);
     plan_search(
         rows,
-        READY,
-        after(firsts, ABSTRACT_STATE, n, ABSTRACT),
-        step(firsts, OPERATIONS + 2 * j, n, ABSTRACT_PRIMED),
+        plan::READY,
+        after(firsts, contexts::ABSTRACT_STATE, n, columns::ABSTRACT),
+        step(firsts, OPERATIONS + 2 * j, n, columns::ABSTRACT_PRIMED),
         none(),
         plan,
         k,
@@ -386,7 +351,7 @@ pub fn plan_applicability(
     ensures { λ _. ⌜ ApplicabilityPlan (now (rows .entry)) (now (firsts .entry)) (now (plan .exit)) j n ⌝ }
 {
     let k = plan_premises(rows, firsts, j, n, plan);
-    let k = plan_nothing(rows, STEPS, plan, k);
+    let k = plan_nothing(rows, plan::STEPS, plan, k);
     plan_steps(rows, firsts, OPERATIONS + 2 * j + 1, n, MET, plan, k);
 }
 
@@ -402,14 +367,22 @@ pub fn plan_correctness(
     ensures { λ _. ⌜ CorrectnessPlan (now (rows .entry)) (now (firsts .entry)) (now (plan .exit)) j n ⌝ }
 {
     let k = plan_premises(rows, firsts, j, n, plan);
-    let k = plan_steps(rows, firsts, OPERATIONS + 2 * j + 1, n, STEPS, plan, k);
+    let k = plan_steps(
+        rows,
+        firsts,
+        OPERATIONS + 2 * j + 1,
+        n,
+        plan::STEPS,
+        plan,
+        k,
+    );
     head(plan, MET, slots::ABSTRACT_PRIMED, 0, slots::ABSTRACT_PRIMED);
     plan_search(
         rows,
         MET,
-        over(firsts, ABSTRACT_STATE, 1, ABSTRACT),
-        over(firsts, RETRIEVE, 1, ABSTRACT),
-        over(firsts, OPERATIONS + 2 * j, 0, ABSTRACT_PRIMED),
+        over(firsts, contexts::ABSTRACT_STATE, 1, columns::ABSTRACT),
+        over(firsts, contexts::RETRIEVE, 1, columns::ABSTRACT),
+        over(firsts, OPERATIONS + 2 * j, 0, columns::ABSTRACT_PRIMED),
         plan,
         k,
     );

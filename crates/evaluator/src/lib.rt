@@ -1,5 +1,5 @@
 // The evaluator: values of terms and predicates over the table that the reader leaves (table_places/specs/ResolvedTable). A node is four numbers, second, first,
-// end, shape, and stands behind its parts; `end` is the place behind a node, its last part ends at `end - 4`, an earlier one where the node says.
+// end, shape, and stands behind its parts; `end` is the place behind a node, its last part ends where the node begins, an earlier one where the node says.
 // A slot has the value of a variable or of a bound name; every function leaves the slots as they were.
 ghost use mathlib.Core.Path.{_≡_};
 ghost use Prim.Native.Nat.{ℕ, _+_, _<_, _≤_};
@@ -33,8 +33,7 @@ const IN: u16 = codes::IN as u16;
 // How many slots there are.
 pub const SLOTS: usize = table_nodes::slots::ELEMENTS as usize;
 
-// How far before its end a node's numbers stand; where the predicate of a binder ends, or the term before a range: its node and that of what is bound over, or of
-// the range, stand behind it.
+// How far before its end a node's numbers stand. Behind the last part of a binder, and of a membership in a range, stand two nodes: that of the set or range, and its own.
 const SHAPE_BACK: usize = 1;
 
 const END_BACK: usize = 2;
@@ -63,7 +62,7 @@ fn of_bits(s: u32) -> i64
     s as i64
 }
 
-// The first number of a domain, of which its node has 1000 more, and the k-th one from there on.
+// The first number of a domain, of which its node has RAISED more, and the k-th one from there on.
 fn lowest(w: u16) -> i64
     ensures is { λ r. ⌜ r ≡ pos w -ℤ pos 1000 ⌝ }
     ensures small { λ r. ⌜ natAbs r < 131072 ⌝ }
@@ -234,7 +233,11 @@ fn member(t: &[u16; node::NUMBERS], end: usize, slots: &mut [i64; SLOTS]) -> boo
             let x = part(t, end - TWO_NODES, slots);
             asked(
                 first == IN,
-                in_range(lowest(t[end - node::SIZE - FIRST_BACK]), t[end - node::SIZE - SECOND_BACK], x),
+                in_range(
+                    lowest(t[end - node::SIZE - FIRST_BACK]),
+                    t[end - node::SIZE - SECOND_BACK],
+                    x,
+                ),
             )
         }
         _ => {

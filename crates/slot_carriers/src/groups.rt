@@ -46,7 +46,14 @@ fn bind_by(cells: &[u32; CELLS], base: usize, n: usize, w: usize, k: usize, slot
 }
 
 // The same, in the fixed order of bindings.
-pub fn bind(cells: &[u32; CELLS], base: usize, n: usize, w: usize, k: usize, slots: &mut [i64; SLOTS])
+pub fn bind(
+    cells: &[u32; CELLS],
+    base: usize,
+    n: usize,
+    w: usize,
+    k: usize,
+    slots: &mut [i64; SLOTS],
+)
     requires { ⌜ (k < w) ⌝ }
     requires { ⌜ Grouped (now cells) base n ⌝ }
     requires { ⌜ Counts (now cells) base n w ⌝ }

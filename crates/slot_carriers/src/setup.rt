@@ -89,7 +89,13 @@ fn entry(table: &[u16], k: usize) -> u32
 }
 
 // The cell of the variable of a slot, whose type's node is at q; its functions are listed from `at` on. Answers the place behind them.
-fn set_cell(table: &[u16; node::NUMBERS], q: usize, slot: usize, at: usize, cells: &mut [u32]) -> usize
+fn set_cell(
+    table: &[u16; node::NUMBERS],
+    q: usize,
+    slot: usize,
+    at: usize,
+    cells: &mut [u32],
+) -> usize
     requires { ⌜ (q + 4 ≤ 16384) × (slot < 64) × (256 ≤ at) × (at ≤ 9216) × (length (now cells) ≡ 9216) ⌝ }
     requires { ⌜ Placed (now table) q at ⌝ }
     ensures { λ r. ⌜ CellMade (now (table .entry)) q slot at (now (cells .entry)) (now (cells .exit)) r ⌝ }

@@ -170,5 +170,11 @@ pub fn concrete_step(
     if !context_holds(t, rows, firsts, CONCRETE, later) {
         return false;
     }
-    context_holds(t, rows, firsts, OPERATIONS + SIDES * k + CONCRETE_SIDE, slots)
+    context_holds(
+        t,
+        rows,
+        firsts,
+        OPERATIONS + SIDES * k + CONCRETE_SIDE,
+        slots,
+    )
 }

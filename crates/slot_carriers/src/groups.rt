@@ -4,11 +4,13 @@ ghost use Prim.Native.Nat.{_<_};
 ghost use lib.IntN.{pos};
 ghost use lib.ListN.{length, set};
 ghost use Rattle.slot_carriers.specs.CellGroups.{Grouped, Counts, HoldsAt, HoldsBinding, Others};
+use crate::CELLS;
+use crate::SLOTS;
 use crate::count_of;
 use crate::value_at;
 
 // How many bindings the n variables from a slot on have.
-pub fn binding_count(cells: &[u32; 9216], base: usize, n: usize) -> usize
+pub fn binding_count(cells: &[u32; CELLS], base: usize, n: usize) -> usize
     requires { ⌜ Grouped (now cells) base n ⌝ }
     ensures { λ r. ⌜ Counts (now (cells .entry)) base n r ⌝ }
 {
@@ -28,7 +30,7 @@ fn put(slots: &mut [i64], slot: usize, x: i64)
 }
 
 // Gives the n variables from a slot on the values by the digits of k; they have w bindings.
-fn bind_by(cells: &[u32; 9216], base: usize, n: usize, w: usize, k: usize, slots: &mut [i64])
+fn bind_by(cells: &[u32; CELLS], base: usize, n: usize, w: usize, k: usize, slots: &mut [i64])
     requires { ⌜ (length (now slots) ≡ 64) × (k < w) ⌝ }
     requires { ⌜ Grouped (now cells) base n ⌝ }
     requires { ⌜ Counts (now cells) base n w ⌝ }
@@ -44,7 +46,14 @@ fn bind_by(cells: &[u32; 9216], base: usize, n: usize, w: usize, k: usize, slots
 }
 
 // The same, in the fixed order of bindings.
-pub fn bind(cells: &[u32; 9216], base: usize, n: usize, w: usize, k: usize, slots: &mut [i64; 64])
+pub fn bind(
+    cells: &[u32; CELLS],
+    base: usize,
+    n: usize,
+    w: usize,
+    k: usize,
+    slots: &mut [i64; SLOTS],
+)
     requires { ⌜ (k < w) ⌝ }
     requires { ⌜ Grouped (now cells) base n ⌝ }
     requires { ⌜ Counts (now cells) base n w ⌝ }

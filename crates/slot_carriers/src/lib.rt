@@ -2,11 +2,28 @@
 // partial and total functions.
 pub mod groups;
 pub mod setup;
+pub mod type_shapes;
 
 ghost use mathlib.Core.Path.{_≡_};
 ghost use Prim.Native.Nat.{_<_, _≤_};
 ghost use lib.ListN.{getD, length};
 ghost use Rattle.slot_carriers.specs.Cells.{countIn, valueIn, Reached, Readable, Split, Found};
+use lexical::bounds;
+
+// How many slots there are; how many numbers the cells have, those of the slots and room for the lists.
+pub const SLOTS: usize = 64;
+
+pub const CELLS: usize = 9216;
+
+// The numbers of one slot, and where the shape and the first number of its type stand among them.
+const CELL: usize = 4;
+
+const SHAPE: usize = 1;
+
+const FIRST: usize = 2;
+
+// How much more than the first number of a range its cell has, which is then not negative.
+const RAISED: i64 = bounds::LARGEST_NUMBER as i64;
 
 // A number of the cells.
 fn cell(cells: &[u32], k: usize) -> u32
@@ -17,31 +34,31 @@ fn cell(cells: &[u32], k: usize) -> u32
 }
 
 // How many values the variable of a slot has.
-pub fn count_of(cells: &[u32; 9216], slot: usize) -> usize
+pub fn count_of(cells: &[u32; CELLS], slot: usize) -> usize
     requires { ⌜ slot < 64 ⌝ }
     ensures { λ r. ⌜ r ≡ countIn (now (cells .entry)) slot ⌝ }
 {
-    cell(cells, 4 * slot) as usize
+    cell(cells, CELL * slot) as usize
 }
 
 // Its d-th value.
-pub fn value_at(cells: &[u32; 9216], slot: usize, d: usize) -> i64
+pub fn value_at(cells: &[u32; CELLS], slot: usize, d: usize) -> i64
     requires { ⌜ Reached (now cells) slot d ⌝ }
     ensures { λ r. ⌜ r ≡ valueIn (now (cells .entry)) slot d ⌝ }
 {
-    let shape = cell(cells, 4 * slot + 1);
-    let a = cell(cells, 4 * slot + 2);
-    if shape == 2 {
-        return a as i64 - 1000 + d as i64;
+    let shape = cell(cells, CELL * slot + SHAPE);
+    let a = cell(cells, CELL * slot + FIRST);
+    if shape == type_shapes::RANGE {
+        return a as i64 - RAISED + d as i64;
     }
-    if shape < 5 {
+    if shape < type_shapes::PARTIAL {
         return d as i64;
     }
     cell(cells, a as usize + d) as i64
 }
 
 // The first place between two whose value is not below x: values rise, so what is left is halved.
-fn first_from(cells: &[u32; 9216], slot: usize, low: usize, high: usize, x: i64) -> usize
+fn first_from(cells: &[u32; CELLS], slot: usize, low: usize, high: usize, x: i64) -> usize
     requires { ⌜ Readable (now cells) slot ⌝ }
     requires { ⌜ (low ≤ high) × (high ≤ countIn (now cells) slot) ⌝ }
     ensures { λ r. ⌜ Split (λ d. valueIn (now (cells .entry)) slot d) x low high r ⌝ }
@@ -57,7 +74,7 @@ fn first_from(cells: &[u32; 9216], slot: usize, low: usize, high: usize, x: i64)
 }
 
 // The place of x among the values of a slot, or their count where it is none of them.
-pub fn place_of(cells: &[u32; 9216], slot: usize, x: i64) -> usize
+pub fn place_of(cells: &[u32; CELLS], slot: usize, x: i64) -> usize
     requires { ⌜ Readable (now cells) slot ⌝ }
     ensures { λ r. ⌜ Found (λ d. valueIn (now (cells .entry)) slot d) (countIn (now (cells .entry)) slot) x r ⌝ }
 {

@@ -5,36 +5,45 @@ ghost use lib.ListN.{getD, length, set};
 ghost use Rattle.slot_carriers.specs.CellGroups.{Others};
 ghost use Rattle.slot_carriers.specs.TypeNodes.{CountIs, FunctionIs, Functions, CellWritten, Placed, CellMade};
 ghost use Rattle.slot_carriers.specs.DeclaredGroups.{Declared, CellsMade, Again, Copied};
+use crate::CELL;
+use crate::CELLS;
+use crate::FIRST;
+use crate::SHAPE;
 use crate::cell;
+use crate::type_shapes;
+use form::node;
+
+// How many numbers the reader leaves of the groups of variables (search_groups/src/groups).
+const GROUPS: usize = 160;
 
 // How many values a type has. The sets of n bits are as many as the partial functions from n elements to one.
 pub fn type_count(shape: u32, a: u32, b: u32) -> u32
     requires { ⌜ (a < 65536) × (b < 65536) ⌝ }
     ensures { λ r. ⌜ CountIs shape a b r ⌝ }
 {
-    if shape == 1 {
+    if shape == type_shapes::SET {
         return a;
     }
-    if shape == 2 {
+    if shape == type_shapes::RANGE {
         return b;
     }
-    if shape == 3 {
+    if shape == type_shapes::POWER {
         return carriers::partial_count(a, 1);
     }
-    if shape == 4 {
+    if shape == type_shapes::RELATION {
         return carriers::partial_count(a * b, 1);
     }
-    if shape == 5 {
+    if shape == type_shapes::PARTIAL {
         return carriers::partial_count(a, b);
     }
     carriers::total_count(a, b)
 }
 
-// The d-th of the partial (5) or total (6) functions.
+// The d-th of the partial or total functions.
 fn function_at(shape: u32, a: u32, b: u32, d: u32) -> u32
     ensures { λ r. ⌜ FunctionIs shape a b d r ⌝ }
 {
-    if shape == 5 {
+    if shape == type_shapes::PARTIAL {
         return carriers::partial_mask(a, b, d) as u32;
     }
     carriers::total_mask(a, b, d) as u32
@@ -66,9 +75,9 @@ fn write_cell(cells: &mut [u32], slot: usize, count: u32, shape: u32, first: u32
     requires { ⌜ (slot < 64) × (length (now cells) ≡ 9216) ⌝ }
     ensures { λ _. ⌜ CellWritten (now (cells .entry)) slot count shape first (now (cells .exit)) ⌝ }
 {
-    put(cells, 4 * slot, count);
-    put(cells, 4 * slot + 1, shape);
-    put(cells, 4 * slot + 2, first);
+    put(cells, CELL * slot, count);
+    put(cells, CELL * slot + SHAPE, shape);
+    put(cells, CELL * slot + FIRST, first);
 }
 
 // A number of the reader's table or groups.
@@ -80,16 +89,22 @@ fn entry(table: &[u16], k: usize) -> u32
 }
 
 // The cell of the variable of a slot, whose type's node is at q; its functions are listed from `at` on. Answers the place behind them.
-fn set_cell(table: &[u16; 16384], q: usize, slot: usize, at: usize, cells: &mut [u32]) -> usize
+fn set_cell(
+    table: &[u16; node::NUMBERS],
+    q: usize,
+    slot: usize,
+    at: usize,
+    cells: &mut [u32],
+) -> usize
     requires { ⌜ (q + 4 ≤ 16384) × (slot < 64) × (256 ≤ at) × (at ≤ 9216) × (length (now cells) ≡ 9216) ⌝ }
     requires { ⌜ Placed (now table) q at ⌝ }
     ensures { λ r. ⌜ CellMade (now (table .entry)) q slot at (now (cells .entry)) (now (cells .exit)) r ⌝ }
 {
-    let shape = entry(table, q + 3);
-    let a = entry(table, q + 1);
+    let shape = entry(table, q + node::SHAPE);
+    let a = entry(table, q + node::A);
     let b = entry(table, q);
     let n = type_count(shape, a, b);
-    if shape < 5 {
+    if shape < type_shapes::PARTIAL {
         write_cell(cells, slot, n, shape, a);
         return at;
     }
@@ -100,8 +115,8 @@ fn set_cell(table: &[u16; 16384], q: usize, slot: usize, at: usize, cells: &mut 
 
 // The cells of n variables from a slot on; the places of their nodes stand in `groups` from p on.
 fn set_from(
-    table: &[u16; 16384],
-    groups: &[u16; 160],
+    table: &[u16; node::NUMBERS],
+    groups: &[u16; GROUPS],
     p: usize,
     n: usize,
     slot: usize,
@@ -116,18 +131,18 @@ fn set_from(
         return at;
     }
     let q = entry(groups, p) as usize;
-    let next = set_cell(table, q + 4, slot, at, cells);
+    let next = set_cell(table, q + node::SIZE, slot, at, cells);
     set_from(table, groups, p + 1, n - 1, slot + 1, next, cells)
 }
 
 // The cells of one group: `row` is where it stands in `groups`, `base` its first slot; lists from `from` on. Answers the place behind them.
 pub fn set_cells(
-    table: &[u16; 16384],
-    groups: &[u16; 160],
+    table: &[u16; node::NUMBERS],
+    groups: &[u16; GROUPS],
     row: usize,
     base: usize,
     from: usize,
-    cells: &mut [u32; 9216],
+    cells: &mut [u32; CELLS],
 ) -> usize
     requires { ⌜ (row < 160) × (row + 1 + getD (now groups) row 0 ≤ 160) × (base + getD (now groups) row 0 ≤ 64) × (256 ≤ from) ⌝ }
     requires { ⌜ Declared (now table) (now groups) (row + 1) (getD (now groups) row 0) from ⌝ }
@@ -152,9 +167,9 @@ fn copy_numbers(n: usize, from: usize, to: usize, cells: &mut [u32])
 }
 
 // The cells of n variables from one slot on, again from another slot on.
-pub fn copy_cells(n: usize, base: usize, to: usize, cells: &mut [u32; 9216])
+pub fn copy_cells(n: usize, base: usize, to: usize, cells: &mut [u32; CELLS])
     requires { ⌜ (base + n ≤ to) × (to + n ≤ 64) ⌝ }
     ensures { λ _. ⌜ Copied n base to (now (cells .entry)) (now (cells .exit)) ⌝ }
 {
-    copy_numbers(4 * n, 4 * base, 4 * to, cells)
+    copy_numbers(CELL * n, CELL * base, CELL * to, cells)
 }

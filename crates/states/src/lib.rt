@@ -5,7 +5,14 @@ ghost use Rattle.states.specs.Promises.{RowsAsked, RowsAnswer, ContextAs
 ghost use Rattle.states.specs.Promises.{AbstractInitialAsked, AbstractInitialAnswers, ConcreteInitialAsked, ConcreteInitialAnswers};
 ghost use Rattle.states.specs.Promises.{RelatedAsked, RelatedAnswers};
 ghost use Rattle.states.specs.Promises.{AbstractStepAsked, AbstractStepAnswers, ConcreteStepAsked, ConcreteStepAnswers};
+use evaluator::SLOTS;
+use form::node;
+use search_groups::conjuncts::FIRSTS;
+use search_groups::conjuncts::ROW;
 use truths::truth;
+
+// Where a row has the end of its conjunct's table.
+const END: usize = 1;
 
 // The places of predicates among the contexts.
 const ABSTRACT: usize = 0;
@@ -21,13 +28,17 @@ const RETRIEVE: usize = 4;
 // Two for each operation, its abstract and its concrete predicate.
 const OPERATIONS: usize = 5;
 
+const SIDES: usize = 2;
+
+const CONCRETE_SIDE: usize = 1;
+
 // Do all conjuncts of the rows between two places hold? The first that does not decides.
 fn all_hold(
-    t: &[u16; 16384],
-    rows: &[u16; 16384],
+    t: &[u16; node::NUMBERS],
+    rows: &[u16; node::NUMBERS],
     from: usize,
     to: usize,
-    slots: &mut [i64; 64],
+    slots: &mut [i64; SLOTS],
 ) -> bool
     requires { ⌜ RowsAsked (now t) (now rows) from to (now slots) ⌝ }
     ensures answers { λ r. ⌜ RowsAnswer (now (t .entry)) (now (rows .entry)) from to (now (slots .entry)) r ⌝ }
@@ -35,22 +46,22 @@ fn all_hold(
 {
     let mut i = from;
     while i < to {
-        let end = rows[i + 1] as usize;
+        let end = rows[i + END] as usize;
         if !truth(t, end, slots) {
             return false;
         }
-        i += 8;
+        i += ROW;
     }
     true
 }
 
 // Does the predicate of the n-th context hold (static_rules/specs/Scope.contexts)?
 pub fn context_holds(
-    t: &[u16; 16384],
-    rows: &[u16; 16384],
-    firsts: &[u16; 40],
+    t: &[u16; node::NUMBERS],
+    rows: &[u16; node::NUMBERS],
+    firsts: &[u16; FIRSTS],
     n: usize,
-    slots: &mut [i64; 64],
+    slots: &mut [i64; SLOTS],
 ) -> bool
     requires { ⌜ ContextAsked (now t) (now rows) (now firsts) n (now slots) ⌝ }
     ensures answers { λ r. ⌜ ContextAnswers (now (t .entry)) (now (rows .entry)) (now (firsts .entry)) n (now (slots .entry)) r ⌝ }
@@ -63,10 +74,10 @@ pub fn context_holds(
 
 // Is the binding of the abstract variables an initial state: a state that meets ainit?
 pub fn abstract_initial(
-    t: &[u16; 16384],
-    rows: &[u16; 16384],
-    firsts: &[u16; 40],
-    slots: &mut [i64; 64],
+    t: &[u16; node::NUMBERS],
+    rows: &[u16; node::NUMBERS],
+    firsts: &[u16; FIRSTS],
+    slots: &mut [i64; SLOTS],
 ) -> bool
     requires { ⌜ AbstractInitialAsked (now t) (now rows) (now firsts) (now slots) ⌝ }
     ensures answers { λ r. ⌜ AbstractInitialAnswers (now (t .entry)) (now (rows .entry)) (now (firsts .entry)) (now (slots .entry)) r ⌝ }
@@ -80,10 +91,10 @@ pub fn abstract_initial(
 
 // The same of the concrete variables and cinit.
 pub fn concrete_initial(
-    t: &[u16; 16384],
-    rows: &[u16; 16384],
-    firsts: &[u16; 40],
-    slots: &mut [i64; 64],
+    t: &[u16; node::NUMBERS],
+    rows: &[u16; node::NUMBERS],
+    firsts: &[u16; FIRSTS],
+    slots: &mut [i64; SLOTS],
 ) -> bool
     requires { ⌜ ConcreteInitialAsked (now t) (now rows) (now firsts) (now slots) ⌝ }
     ensures answers { λ r. ⌜ ConcreteInitialAnswers (now (t .entry)) (now (rows .entry)) (now (firsts .entry)) (now (slots .entry)) r ⌝ }
@@ -97,10 +108,10 @@ pub fn concrete_initial(
 
 // Are both bindings states, and related by retrieve?
 pub fn related(
-    t: &[u16; 16384],
-    rows: &[u16; 16384],
-    firsts: &[u16; 40],
-    slots: &mut [i64; 64],
+    t: &[u16; node::NUMBERS],
+    rows: &[u16; node::NUMBERS],
+    firsts: &[u16; FIRSTS],
+    slots: &mut [i64; SLOTS],
 ) -> bool
     requires { ⌜ RelatedAsked (now t) (now rows) (now firsts) (now slots) ⌝ }
     ensures answers { λ r. ⌜ RelatedAnswers (now (t .entry)) (now (rows .entry)) (now (firsts .entry)) (now (slots .entry)) r ⌝ }
@@ -118,12 +129,12 @@ pub fn related(
 // Is it a step of the k-th operation's abstract side? `slots` has the state before, the state after under its primed slots, inputs and outputs; `later` has the
 // state after under the plain slots, so that the nodes of the state's predicate serve both states.
 pub fn abstract_step(
-    t: &[u16; 16384],
-    rows: &[u16; 16384],
-    firsts: &[u16; 40],
+    t: &[u16; node::NUMBERS],
+    rows: &[u16; node::NUMBERS],
+    firsts: &[u16; FIRSTS],
     k: usize,
-    slots: &mut [i64; 64],
-    later: &mut [i64; 64],
+    slots: &mut [i64; SLOTS],
+    later: &mut [i64; SLOTS],
 ) -> bool
     requires { ⌜ AbstractStepAsked (now t) (now rows) (now firsts) k (now slots) (now later) ⌝ }
     ensures answers { λ r. ⌜ AbstractStepAnswers (now (t .entry)) (now (rows .entry)) (now (firsts .entry)) k (now (slots .entry)) (now (later .entry)) r ⌝ }
@@ -136,17 +147,17 @@ pub fn abstract_step(
     if !context_holds(t, rows, firsts, ABSTRACT, later) {
         return false;
     }
-    context_holds(t, rows, firsts, OPERATIONS + 2 * k, slots)
+    context_holds(t, rows, firsts, OPERATIONS + SIDES * k, slots)
 }
 
 // The same of its concrete side.
 pub fn concrete_step(
-    t: &[u16; 16384],
-    rows: &[u16; 16384],
-    firsts: &[u16; 40],
+    t: &[u16; node::NUMBERS],
+    rows: &[u16; node::NUMBERS],
+    firsts: &[u16; FIRSTS],
     k: usize,
-    slots: &mut [i64; 64],
-    later: &mut [i64; 64],
+    slots: &mut [i64; SLOTS],
+    later: &mut [i64; SLOTS],
 ) -> bool
     requires { ⌜ ConcreteStepAsked (now t) (now rows) (now firsts) k (now slots) (now later) ⌝ }
     ensures answers { λ r. ⌜ ConcreteStepAnswers (now (t .entry)) (now (rows .entry)) (now (firsts .entry)) k (now (slots .entry)) (now (later .entry)) r ⌝ }
@@ -159,5 +170,11 @@ pub fn concrete_step(
     if !context_holds(t, rows, firsts, CONCRETE, later) {
         return false;
     }
-    context_holds(t, rows, firsts, OPERATIONS + 2 * k + 1, slots)
+    context_holds(
+        t,
+        rows,
+        firsts,
+        OPERATIONS + SIDES * k + CONCRETE_SIDE,
+        slots,
+    )
 }

@@ -1,1 +1,2 @@
 pub mod SetupPromises
+pub mod SetupSteps

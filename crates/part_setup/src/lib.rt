@@ -5,6 +5,7 @@ ghost use lib.ListN.{getD, length};
 ghost use Rattle.points.specs.Points.{primedSlot};
 ghost use Rattle.part_setup.specs.SetupPromises.{Blank, FirstValues, StatesAsked, StatesSet, OperationAsked, OperationSet, OpeningPartAsked, OpeningPartIs};
 ghost use Rattle.part_setup.specs.SetupPromises.{OperationPartAsked, ApplicabilityPartIs, CorrectnessPartIs, Filled};
+ghost use Rattle.part_setup.specs.SetupSteps.{StatesReady, SizesAre, FirstsIn};
 use plans::Part;
 use points::slots;
 use slot_carriers::groups::binding_count;
@@ -42,7 +43,11 @@ fn group(groups: &[u16], row: usize) -> usize
 }
 
 // The cells of both states, plain and primed; the place behind their lists.
-fn set_states(table: &[u16; 16384], groups: &[u16; 160], cells: &mut [u32; 9216]) -> usize {
+fn set_states(table: &[u16; 16384], groups: &[u16; 160], cells: &mut [u32; 9216]) -> usize
+    requires { ⌜ StatesAsked (now table) (now groups) ⌝ }
+    requires { ⌜ Blank (now cells) ⌝ }
+    ensures { λ r. ⌜ StatesReady (now (table .entry)) (now (groups .entry)) (now (cells .exit)) r ⌝ }
+{
     let at = set_cells(table, groups, ABSTRACT_ROW, slots::ABSTRACT, LISTS, cells);
     let end = set_cells(table, groups, CONCRETE_ROW, slots::CONCRETE, at, cells);
     copy_cells(group(groups, ABSTRACT_ROW), slots::ABSTRACT, slots::ABSTRACT_PRIMED, cells);
@@ -83,7 +88,10 @@ pub fn opening_part(groups: &[u16; 160], cells: &[u32; 9216]) -> Part
 }
 
 // The groups of the operation whose rows begin at `row`.
-fn group_sizes(groups: &[u16; 160], cells: &[u32; 9216], row: usize) -> Sizes {
+fn group_sizes(groups: &[u16; 160], cells: &[u32; 9216], row: usize) -> Sizes
+    requires { ⌜ OperationPartAsked (now groups) row (now cells) ⌝ }
+    ensures { λ r. ⌜ SizesAre (now (groups .entry)) row (now (cells .entry)) r ⌝ }
+{
     let va = group(groups, ABSTRACT_ROW);
     let vc = group(groups, CONCRETE_ROW);
     let vi = group(groups, row);
@@ -125,7 +133,11 @@ fn primed_slot(s: usize) -> usize
 }
 
 // Every variable gets its first value; the primed ones under the plain slots in another array.
-fn fill_before(cells: &[u32; 9216], a: &mut [i64]) {
+fn fill_before(cells: &[u32; 9216], a: &mut [i64])
+    requires { ⌜ FirstValues (now cells) ⌝ }
+    requires { ⌜ length (now a) ≡ 64 ⌝ }
+    ensures { λ _. ⌜ FirstsIn (now (cells .entry)) (λ s. s) 38 (now (a .exit)) ⌝ }
+{
     let mut s: usize = 0;
     while s < slots::COUNT {
         a[s] = value_at(cells, s, 0);
@@ -133,7 +145,11 @@ fn fill_before(cells: &[u32; 9216], a: &mut [i64]) {
     }
 }
 
-fn fill_after(cells: &[u32; 9216], a: &mut [i64]) {
+fn fill_after(cells: &[u32; 9216], a: &mut [i64])
+    requires { ⌜ FirstValues (now cells) ⌝ }
+    requires { ⌜ length (now a) ≡ 64 ⌝ }
+    ensures { λ _. ⌜ FirstsIn (now (cells .entry)) primedSlot 16 (now (a .exit)) ⌝ }
+{
     let mut s: usize = 0;
     while s < slots::INPUTS {
         a[s] = value_at(cells, primed_slot(s), 0);
@@ -142,10 +158,18 @@ fn fill_after(cells: &[u32; 9216], a: &mut [i64]) {
 }
 
 // Both arrays have the first value of every variable.
-pub fn fill(cells: &[u32; 9216], arrays: &mut [[i64; 64]; 2])
+fn fill_both(cells: &[u32; 9216], arrays: &mut [[i64; 64]])
     requires { ⌜ FirstValues (now cells) ⌝ }
+    requires { ⌜ length (now arrays) ≡ 2 ⌝ }
     ensures { λ _. ⌜ Filled (now (cells .entry)) (now (arrays .exit)) ⌝ }
 {
     fill_before(cells, &mut arrays[slots::BEFORE]);
     fill_after(cells, &mut arrays[slots::AFTER]);
+}
+
+pub fn fill(cells: &[u32; 9216], arrays: &mut [[i64; 64]; 2])
+    requires { ⌜ FirstValues (now cells) ⌝ }
+    ensures { λ _. ⌜ Filled (now (cells .entry)) (now (arrays .exit)) ⌝ }
+{
+    fill_both(cells, arrays)
 }

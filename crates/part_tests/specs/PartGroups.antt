@@ -19,8 +19,8 @@ pub record StateCells (cells : List ℕ) (us cs : List Variable) : Type 0 where
 -- those of an operation too
 pub record OperationCells (cells : List ℕ) (us cs is os : List Variable) : Type 0 where
   pub states : StateCells cells us cs
-  pub inputs-in : CellsOf cells 16 is
-  pub outputs-in : CellsOf cells 19 os
+  pub inputs : CellsOf cells 16 is
+  pub outputs : CellsOf cells 19 os
 
 -- "Initialisation runs over the concrete variables"
 abbrev pub openingPart : (us cs : List Variable) → Part

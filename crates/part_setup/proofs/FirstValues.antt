@@ -1,5 +1,5 @@
 -- The first values one behind the other in an array of slots, and both arrays together: they show the point at which every variable has its first value. Assumes nothing.
-use mathlib.Core.Path.{_≡_, refl, sym, ap, subst, _∙_}
+use mathlib.Core.Path.{_≡_, ap, subst, _∙_}
 use mathlib.Core.Logic.{_⊎_, inl, inr}
 use mathlib.Core.List.{List, []}
 use Prim.Native.Nat.{ℕ, _+_, _<_, _≤_}
@@ -9,7 +9,7 @@ use lib.Seq.{getD-set-same, getD-set-other}
 use lib.IntN.{ℤ, pos}
 use Rattle.slot_carriers.specs.Cells.{valueIn}
 use Rattle.slot_carriers.proofs.Halving.{either}
-use Rattle.points.specs.Points.{Shows, primedSlot}
+use Rattle.points.specs.Points.{primedSlot}
 use Rattle.part_setup.specs.SetupPromises.{Filled}
 use Rattle.part_setup.specs.SetupSteps.{FirstsIn}
 
@@ -50,12 +50,12 @@ module _ (cells : List ℕ) (arrays : List (List ℤ)) (b a : List ℤ) (two : l
   both-filled =
       record {
         shows =
-          record {
-            tame = record { low = λ s l. l };
-            two = length-set (set arrays 0 b) 1 a ∙ long;
-            before-long = ap length first ∙ h .long;
-            after-long = ap length second ∙ k .long;
-            before = λ s l. ap (λ (x : List ℤ). getD x s (pos 0)) first ∙ h .each s l;
-            after = λ t l. ap (λ (x : List ℤ). getD x t (pos 0)) second ∙ k .each t l;
-          };
+            record {
+              tame = record { low = λ s l. l };
+              two = length-set (set arrays 0 b) 1 a ∙ long;
+              before-long = ap length first ∙ h .long;
+              after-long = ap length second ∙ k .long;
+              before = λ s l. ap (λ (x : List ℤ). getD x s (pos 0)) first ∙ h .each s l;
+              after = λ t l. ap (λ (x : List ℤ). getD x t (pos 0)) second ∙ k .each t l;
+            };
       }

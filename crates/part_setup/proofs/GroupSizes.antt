@@ -10,7 +10,7 @@ use Rattle.static_rules.specs.Limits.{bindingCount}
 use Rattle.slot_carriers.specs.CellGroups.{CellsOf, Grouped, Counts}
 use Rattle.plans.specs.declared.Part.{Part}
 use Rattle.part_tests.specs.PartGroups.{openingPart}
-use Rattle.part_setup.specs.SetupPromises.{CountedAt, OpeningCounts, OpeningPartIs, OperationCounts, OperationPartAsked, ApplicabilityPartIs, CorrectnessPartIs}
+use Rattle.part_setup.specs.SetupPromises.{CountedAt, OpeningCounts, OpeningPartIs, OperationPartAsked, ApplicabilityPartIs, CorrectnessPartIs}
 use Rattle.part_setup.specs.SetupSteps.{SizesOf, SizesAre}
 use Rattle.part_setup.specs.declared.Sizes.{Sizes}
 
@@ -47,16 +47,16 @@ sizes-are groups row cells r ea ec ei eo ca cc ci co la lc lo =
       vc-low = lc;
       vo-low = lo;
       is = λ us cs is os w.
-        record {
-          va = ea ∙ w .abstracts .count;
-          vc = ec ∙ w .concretes .count;
-          vi = ei ∙ w .inputs .count;
-          vo = eo ∙ w .outputs .count;
-          na = counted groups cells 0 0 (r .va) 4096 (r .na) us (w .cells-are .states .abstracts) (w .abstracts) ea ca;
-          nc = counted groups cells 9 8 (r .vc) 4096 (r .nc) cs (w .cells-are .states .concretes) (w .concretes) ec cc;
-          ni = counted groups cells row 16 (r .vi) 64 (r .ni) is (w .cells-are .inputs) (w .inputs) ei ci;
-          nq = counted groups cells (row + 4) 19 (r .vo) 64 (r .nq) os (w .cells-are .outputs) (w .outputs) eo co;
-        };
+          record {
+            va = ea ∙ w .abstracts .count;
+            vc = ec ∙ w .concretes .count;
+            vi = ei ∙ w .inputs .count;
+            vo = eo ∙ w .outputs .count;
+            na = counted groups cells 0 0 (r .va) 4096 (r .na) us (w .cells-are .states .abstracts) (w .abstracts) ea ca;
+            nc = counted groups cells 9 8 (r .vc) 4096 (r .nc) cs (w .cells-are .states .concretes) (w .concretes) ec cc;
+            ni = counted groups cells row 16 (r .vi) 64 (r .ni) is (w .cells-are .inputs) (w .inputs) ei ci;
+            nq = counted groups cells (row + 4) 19 (r .vo) 64 (r .nq) os (w .cells-are .outputs) (w .outputs) eo co;
+          };
     }
 
 -- products of two of them are small
@@ -97,8 +97,8 @@ module _ (groups : List ℕ) (row : ℕ) (cells : List ℕ) (r : Sizes) (w : Siz
   applicability-is =
       record {
         is = λ us cs is os k.
-          let s : SizesOf us cs is os r = w .is us cs is os k in
-          λ i.
+            let s : SizesOf us cs is os r = w .is us cs is os k in
+            λ i.
             record {
               va = s .va i;
               vc = s .vc i;
@@ -138,8 +138,8 @@ module _ (groups : List ℕ) (row : ℕ) (cells : List ℕ) (r : Sizes) (w : Siz
   correctness-is =
       record {
         is = λ us cs is os k.
-          let s : SizesOf us cs is os r = w .is us cs is os k in
-          λ i.
+            let s : SizesOf us cs is os r = w .is us cs is os k in
+            λ i.
             record {
               va = s .va i;
               vc = s .vc i;

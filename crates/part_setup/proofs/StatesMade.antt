@@ -8,14 +8,14 @@ use lib.ListN.{getD, length}
 use Rattle.static_rules.specs.Carriers.{Variable}
 use Rattle.slot_carriers.specs.CellGroups.{CellsOf}
 use Rattle.slot_carriers.specs.DeclaredGroups.{Declared, CellsMade, Copied}
-use Rattle.part_tests.specs.PartGroups.{StateCells, OperationCells}
+use Rattle.part_tests.specs.PartGroups.{StateCells}
 use Rattle.readings.specs.Readings.{GroupAt}
 use Rattle.part_setup.specs.SetupPromises.{Blank, StatesAsked, StatesSet, OperationAsked, OperationSet}
 use Rattle.part_setup.specs.SetupSteps.{ListsBelow, StatesReady}
 use Rattle.part_setup.proofs.SetLists.{blank-lists, first-values-below, declared-at, made-lists, made-beside, copy-lists, copy-beside, copy-made}
 
 -- where the lists of a group end
-pub made-end : (table groups : List ℕ) (row slot at : ℕ) (old new : List ℕ) (r : ℕ) (vs : List Variable) (many few : ℕ)
+made-end : (table groups : List ℕ) (row slot at : ℕ) (old new : List ℕ) (r : ℕ) (vs : List Variable) (many few : ℕ)
     → CellsMade table groups (row + 1) (getD groups row 0) slot at old new r → GroupAt table groups row vs many few → r ≤ at + few + many
 made-end table groups row slot at old new r vs many few m g = omega (arith, m .end vs (g .nodes) (sym (g .count)), g .bindings, g .short, g .count)
 
@@ -64,11 +64,11 @@ module _ (table groups : List ℕ) (asked : StatesAsked table groups) (c0 : List
             abstracts = last 0 us (omega (arith, shortly)) (inl (omega (arith, shortly))) (third 0 us (omega (arith, shortly)) (inl (omega (arith, shortly))) us2);
             concretes = last 8 cs (omega (arith, shortly-c)) (inl (omega (arith, shortly-c))) (third 8 cs (omega (arith, shortly-c)) (inl (omega (arith, shortly-c))) cs2);
             concretes-primed =
-              copy-made k 8 22 c3 c4 q (omega (arith, ek, few-concretes)) (omega (arith, ek, few-concretes)) end lists3 cs (sym (ek ∙ gc .count)) (omega (arith, end-low))
-              (third 8 cs (omega (arith, shortly-c)) (inl (omega (arith, shortly-c))) cs2);
+                copy-made k 8 22 c3 c4 q (omega (arith, ek, few-concretes)) (omega (arith, ek, few-concretes)) end lists3 cs (sym (ek ∙ gc .count)) (omega (arith, end-low))
+                (third 8 cs (omega (arith, shortly-c)) (inl (omega (arith, shortly-c))) cs2);
             abstracts-primed =
-              last 30 us (omega (arith, shortly)) (inr (omega (arith, ek, few-concretes)))
-              (copy-made j 0 30 c2 c3 p (omega (arith, ej, few-abstracts)) (omega (arith, ej, few-abstracts)) end lists2 us (sym (ej ∙ gu .count)) (omega (arith, end-low)) us2);
+                last 30 us (omega (arith, shortly)) (inr (omega (arith, ek, few-concretes)))
+                (copy-made j 0 30 c2 c3 p (omega (arith, ej, few-abstracts)) (omega (arith, ej, few-abstracts)) end lists2 us (sym (ej ∙ gu .count)) (omega (arith, end-low)) us2);
           }
         where
           shortly : length us ≤ 8
@@ -165,10 +165,10 @@ module _ (table groups : List ℕ) (row : ℕ) (asked : OperationAsked table gro
       operation-set =
           record {
             made = λ us cs is os gu gc gi go.
-              record {
-                states = states-kept us cs (gu .short) (gc .short) (ready .made us cs gu gc);
-                inputs = past-outputs 16 is (omega (arith, gi .short)) (inl (omega (arith, gi .short))) (m2 .made is (gi .nodes) (sym (gi .count)));
-                outputs = m3 .made os (go .nodes) (sym (go .count));
-              };
+                record {
+                  states = states-kept us cs (gu .short) (gc .short) (ready .made us cs gu gc);
+                  inputs = past-outputs 16 is (omega (arith, gi .short)) (inl (omega (arith, gi .short))) (m2 .made is (gi .nodes) (sym (gi .count)));
+                  outputs = m3 .made os (go .nodes) (sym (go .count));
+                };
             first-values = first-values-below c3 end end-below lists-out;
           }

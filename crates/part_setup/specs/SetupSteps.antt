@@ -1,4 +1,4 @@
--- What the inner functions of the set-up ask and promise: cells of both states with the place behind their lists, sizes of an operation's groups, one filled array. Nothing here need be believed.
+-- What the inner functions of the set-up promise: cells of both states with the place behind their lists, an operation's sizes, one filled array. Nothing here need be believed.
 use mathlib.Core.Path.{_≡_}
 use mathlib.Core.List.{List}
 use Prim.Native.Nat.{ℕ, _<_, _≤_}

@@ -9,7 +9,8 @@ ghost use Rattle.part_setup.specs.SetupSteps.{StatesReady, SizesAre, Fir
 use plans::Part;
 use points::slots;
 use slot_carriers::groups::binding_count;
-use slot_carriers::setup::{copy_cells, set_cells};
+use slot_carriers::setup::copy_cells;
+use slot_carriers::setup::set_cells;
 use slot_carriers::value_at;
 
 // Where the lists of functions begin among the cells.
@@ -50,8 +51,18 @@ fn set_states(table: &[u16; 16384], groups: &[u16; 160], cells: &mut [u32; 9216]
 {
     let at = set_cells(table, groups, ABSTRACT_ROW, slots::ABSTRACT, LISTS, cells);
     let end = set_cells(table, groups, CONCRETE_ROW, slots::CONCRETE, at, cells);
-    copy_cells(group(groups, ABSTRACT_ROW), slots::ABSTRACT, slots::ABSTRACT_PRIMED, cells);
-    copy_cells(group(groups, CONCRETE_ROW), slots::CONCRETE, slots::CONCRETE_PRIMED, cells);
+    copy_cells(
+        group(groups, ABSTRACT_ROW),
+        slots::ABSTRACT,
+        slots::ABSTRACT_PRIMED,
+        cells,
+    );
+    copy_cells(
+        group(groups, CONCRETE_ROW),
+        slots::CONCRETE,
+        slots::CONCRETE_PRIMED,
+        cells,
+    );
     end
 }
 
@@ -65,14 +76,26 @@ pub fn opening_cells(table: &[u16; 16384], groups: &[u16; 160], cells: &mut [u32
 }
 
 // Those of an operation whose rows begin at `row`.
-pub fn operation_cells(table: &[u16; 16384], groups: &[u16; 160], row: usize, cells: &mut [u32; 9216])
+pub fn operation_cells(
+    table: &[u16; 16384],
+    groups: &[u16; 160],
+    row: usize,
+    cells: &mut [u32; 9216],
+)
     requires { ⌜ OperationAsked (now table) (now groups) row ⌝ }
     requires { ⌜ Blank (now cells) ⌝ }
     ensures { λ _. ⌜ OperationSet (now (table .entry)) (now (groups .entry)) row (now (cells .exit)) ⌝ }
 {
     let lists = set_states(table, groups, cells);
     let more = set_cells(table, groups, row, slots::INPUTS, lists, cells);
-    set_cells(table, groups, row + PARAMETER_ROW, slots::OUTPUTS, more, cells);
+    set_cells(
+        table,
+        groups,
+        row + PARAMETER_ROW,
+        slots::OUTPUTS,
+        more,
+        cells,
+    );
 }
 
 // Initialisation goes over the concrete variables.
@@ -84,7 +107,22 @@ pub fn opening_part(groups: &[u16; 160], cells: &[u32; 9216]) -> Part
     let vc = group(groups, CONCRETE_ROW);
     let na = binding_count(cells, slots::ABSTRACT, va);
     let nc = binding_count(cells, slots::CONCRETE, vc);
-    Part { va: 0, vc, vi: 0, vo: 0, vk: 0, vr: 0, vm: va, na: 1, nc, ni: 1, nq: 1, nk: 1, nr: 1, nm: na }
+    Part {
+        va: 0,
+        vc,
+        vi: 0,
+        vo: 0,
+        vk: 0,
+        vr: 0,
+        vm: va,
+        na: 1,
+        nc,
+        ni: 1,
+        nq: 1,
+        nk: 1,
+        nr: 1,
+        nm: na,
+    }
 }
 
 // The groups of the operation whose rows begin at `row`.
@@ -100,7 +138,16 @@ fn group_sizes(groups: &[u16; 160], cells: &[u32; 9216], row: usize) -> Sizes
     let nc = binding_count(cells, slots::CONCRETE, vc);
     let ni = binding_count(cells, slots::INPUTS, vi);
     let nq = binding_count(cells, slots::OUTPUTS, vo);
-    Sizes { va, vc, vi, vo, na, nc, ni, nq }
+    Sizes {
+        va,
+        vc,
+        vi,
+        vo,
+        na,
+        nc,
+        ni,
+        nq,
+    }
 }
 
 // Applicability over abstract, concrete, inputs.
@@ -109,7 +156,22 @@ pub fn applicability_part(groups: &[u16; 160], row: usize, cells: &[u32; 9216]) 
     ensures { λ r. ⌜ ApplicabilityPartIs (now (groups .entry)) row (now (cells .entry)) r ⌝ }
 {
     let s = group_sizes(groups, cells, row);
-    Part { va: s.va, vc: s.vc, vi: s.vi, vo: 0, vk: 0, vr: s.vo + s.va, vm: s.vo + s.vc, na: s.na, nc: s.nc, ni: s.ni, nq: 1, nk: 1, nr: s.nq * s.na, nm: s.nq * s.nc }
+    Part {
+        va: s.va,
+        vc: s.vc,
+        vi: s.vi,
+        vo: 0,
+        vk: 0,
+        vr: s.vo + s.va,
+        vm: s.vo + s.vc,
+        na: s.na,
+        nc: s.nc,
+        ni: s.ni,
+        nq: 1,
+        nk: 1,
+        nr: s.nq * s.na,
+        nm: s.nq * s.nc,
+    }
 }
 
 // Correctness over abstract, concrete, inputs, outputs, concrete primed.
@@ -118,7 +180,22 @@ pub fn correctness_part(groups: &[u16; 160], row: usize, cells: &[u32; 9216]) ->
     ensures { λ r. ⌜ CorrectnessPartIs (now (groups .entry)) row (now (cells .entry)) r ⌝ }
 {
     let s = group_sizes(groups, cells, row);
-    Part { va: s.va, vc: s.vc, vi: s.vi, vo: s.vo, vk: s.vc, vr: s.vo + s.va, vm: s.va, na: s.na, nc: s.nc, ni: s.ni, nq: s.nq, nk: s.nc, nr: s.nq * s.na, nm: s.na }
+    Part {
+        va: s.va,
+        vc: s.vc,
+        vi: s.vi,
+        vo: s.vo,
+        vk: s.vc,
+        vr: s.vo + s.va,
+        vm: s.va,
+        na: s.na,
+        nc: s.nc,
+        ni: s.ni,
+        nq: s.nq,
+        nk: s.nc,
+        nr: s.nq * s.na,
+        nm: s.na,
+    }
 }
 
 // The primed slot of a variable.
@@ -157,7 +234,7 @@ fn fill_after(cells: &[u32; 9216], a: &mut [i64])
     }
 }
 
-// Both arrays have the first value of every variable.
+// Both arrays have the first value of every variable. They come as a slice, whose length the proof can speak of.
 fn fill_both(cells: &[u32; 9216], arrays: &mut [[i64; 64]])
     requires { ⌜ FirstValues (now cells) ⌝ }
     requires { ⌜ length (now arrays) ≡ 2 ⌝ }
@@ -167,6 +244,7 @@ fn fill_both(cells: &[u32; 9216], arrays: &mut [[i64; 64]])
     fill_after(cells, &mut arrays[slots::AFTER]);
 }
 
+// The same, of an array of two.
 pub fn fill(cells: &[u32; 9216], arrays: &mut [[i64; 64]; 2])
     requires { ⌜ FirstValues (now cells) ⌝ }
     ensures { λ _. ⌜ Filled (now (cells .entry)) (now (arrays .exit)) ⌝ }

@@ -1,4 +1,4 @@
--- answers sha256 9ff947e0775882bb
+-- answers sha256 7cab2da9482e892e
 -- `opening_part` meets its contract. Assumes nothing.
 use borrow.Author.Needs.{needs}
 use native.Mathlib.Omega.{arith}
@@ -19,7 +19,8 @@ binding-count-requires-2 : tie.Need-binding-count-requires-2
 binding-count-requires-2 c κs = grouped (c .before .before .before .before .before .args .groups .now) (c .before .before .before .before .before .args .cells .now) 9 8 (c .before .group2 .result) 4096 (c .before .before .before .before .before .pre .concretely) (c .before .before .before .before .before .pre .counts .cells-are .concretes) (c .before .before .before .before .before .pre .counts .concretes) (omega arith) (c .before .group2 .ensures .0)
 
 returns : tie.Need-returns
-returns c = opening-is (c .before .before .before .before .before .before .args .groups .now) (c .before .before .before .before .before .before .args .cells .now) (c .before .before .before .before .group .result) (c .before .before .group2 .result) (c .before .binding-count .result) (c .binding-count2 .result) (c .before .before .before .before .group .ensures .0) (c .before .before .group2 .ensures .0) (c .before .binding-count .ensures) (c .binding-count2 .ensures)
+returns c = opening-is (c .before .before .before .before .before .before .args .groups .now) (c .before .before .before .before .before .before .args .cells .now) (c .before .before .before .before .group .result) (c .before .before .group2 .result) (c .before .binding-count .result) (c .binding-count2 .result)
+    (c .before .before .before .before .group .ensures .0) (c .before .before .group2 .ensures .0) (c .before .binding-count .ensures) (c .binding-count2 .ensures)
 
 pub opening-part-spec : {M : Type 1} → statement M
 opening-part-spec =

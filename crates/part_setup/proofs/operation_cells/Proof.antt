@@ -1,4 +1,4 @@
--- answers sha256 0c1d8a0e4a018164
+-- answers sha256 31a864737e6537e6
 -- `operation_cells` meets its contract: parameters behind the states, which keep their cells. Assumes nothing.
 use borrow.Author.Needs.{needs}
 use native.Mathlib.Omega.{arith}

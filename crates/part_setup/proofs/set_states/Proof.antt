@@ -1,4 +1,4 @@
--- answers sha256 69757410c0b6f616
+-- answers sha256 f890c77e7d6add3e
 -- `set_states` meets its contract: each group is made behind the lists of those before it, and kept by what is written later. Assumes nothing.
 use borrow.Author.Needs.{needs}
 use native.Mathlib.Omega.{arith}
@@ -32,7 +32,8 @@ copy-cells-requires-2 : tie.Need-copy-cells-requires-2
 copy-cells-requires-2 c κs = search needs
 
 returns : tie.Need-returns
-returns c = states-ready (c .before .before .before .before .before .before .before .before .before .before .before .before .args .table .now) (c .before .before .before .before .before .before .before .before .before .before .before .before .args .groups .now) (c .before .before .before .before .before .before .before .before .before .before .before .before .pre .0) (c .before .before .before .before .before .before .before .before .before .before .before .before .args .cells .now) (c .before .before .before .before .before .before .before .before .before .before .before .before .pre .1) (c .before .before .before .before .before .before .before .before .before .before .set-cells .last .1 .1 .1 .1 .1 .0) (c .before .before .before .before .before .before .before .before .before .before .set-cells .result) (c .before .before .before .before .before .before .before .before .before .before .set-cells .ensures) _ (c .before .before .before .before .before .before .before .before .set-cells2 .result) (c .before .before .before .before .before .before .before .before .set-cells2 .ensures) _ _ (c .before .before .before .before .before .before .group .result) (c .before .before .group2 .result) (c .before .before .before .before .before .before .group .ensures .0) (c .before .before .group2 .ensures .0) (c .before .before .before .before .copy-cells .ensures) (c .copy-cells2 .ensures)
+returns c = states-ready (c .before .before .before .before .before .before .before .before .before .before .before .before .args .table .now) (c .before .before .before .before .before .before .before .before .before .before .before .before .args .groups .now) (c .before .before .before .before .before .before .before .before .before .before .before .before .pre .0) (c .before .before .before .before .before .before .before .before .before .before .before .before .args .cells .now) (c .before .before .before .before .before .before .before .before .before .before .before .before .pre .1) (c .before .before .before .before .before .before .before .before .before .before .set-cells .last .1 .1 .1 .1 .1 .0) (c .before .before .before .before .before .before .before .before .before .before .set-cells .result) (c .before .before .before .before .before .before .before .before .before .before .set-cells .ensures) _ (c .before .before .before .before .before .before .before .before .set-cells2 .result) (c .before .before .before .before .before .before .before .before .set-cells2 .ensures) _ _
+    (c .before .before .before .before .before .before .group .result) (c .before .before .group2 .result) (c .before .before .before .before .before .before .group .ensures .0) (c .before .before .group2 .ensures .0) (c .before .before .before .before .copy-cells .ensures) (c .copy-cells2 .ensures)
 
 pub set-states-spec : {M : Type 1} → statement M
 set-states-spec =

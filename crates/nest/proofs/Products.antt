@@ -6,8 +6,8 @@ use native.Mathlib.Nat.{mul-le-mul, div-lt-iff-lt-mul}
 use native.Mathlib.Omega.{arith}
 use Rattle.plans.specs.declared.Part.{Part}
 use Rattle.nest.specs.NestPromises.{Groups, Sized}
-use Rattle.nest.proofs.Standing.{perInput, perConcrete, perAbstract}
-use Rattle.nest.proofs.Turns.{some-abstract}
+use Rattle.nest.proofs.LoopStates.{perInput, perConcrete, perAbstract}
+use Rattle.nest.proofs.NextCandidates.{some-abstract}
 
 times : (a b m n k : ℕ) → a ≤ m → b ≤ n → m * n ≤ k → a * b ≤ k
 times a b m n k h g e = let l : a * b ≤ m * n = mul-le-mul h g in omega arith

@@ -17,9 +17,9 @@ use Rattle.points.proofs.PointNumbers.{number-apart, number-placed, beside-plac
 use Rattle.plans.specs.declared.Part.{Part}
 use Rattle.nest.specs.PartTests.{PartTests}
 use Rattle.nest.specs.NestPromises.{Groups, NestAsked, Stepped, ForNest, AbstractPreAnswers, PreAnswers, ReadyAnswers}
-use Rattle.nest.proofs.Apartness.{abstracts-inputs, abstracts-ready, beside-both}
+use Rattle.nest.proofs.KeptGroups.{abstracts-inputs, abstracts-ready, beside-both}
 use Rattle.nest.proofs.BoundInputs.{upward-distinct, upward-counts, bound-shows}
-use Rattle.nest.proofs.Turns.{asked-after}
+use Rattle.nest.proofs.NextCandidates.{asked-after}
 
 -- ---- the inputs have the values of a binding
 

@@ -7,18 +7,15 @@ use mathlib.Core.Logic.{inl, inr}
 use mathlib.Core.List.{List, [], _∷_}
 use lib.Dec.{eqb}
 use lib.ListN.{getD, length}
-use borrow.Author.Tests.{eqb-true, eqb-false, eq-eqb, ne-eqb}
+use borrow.Author.Tests.{eqb-true, eqb-false}
 use Rattle.meaning.specs.Bindings.{Among}
 use Rattle.points.specs.Points.{Point, moved, span, placed, Beside}
 use Rattle.points.specs.Searches.{levelHolds, under}
+use Rattle.points.proofs.PointNumbers as points
+use Rattle.points.proofs.PointNumbers.{moved-other}
 
 pub moved-here : (δ : Point) (s x t : ℕ) → t ≡ s → moved δ s x t ≡ x
-unfolding moved
-moved-here δ s x t e = ap (λ (b : Bool). cond b x (δ t)) (eq-eqb t s e)
-
-pub moved-there : (δ : Point) (s x t : ℕ) → (t ≡ s → ⊥) → moved δ s x t ≡ δ t
-unfolding moved
-moved-there δ s x t e = ap (λ (b : Bool). cond b x (δ t)) (ne-eqb t s e)
+moved-here δ s x t e = ap (moved δ s x) e ∙ points.moved-here δ s x
 
 -- what holds of a moved point's value at t, by cases
 pub at-moved : (P : ℕ → Type 0) (δ : Point) (s x t : ℕ) → (t ≡ s → P x) → ((t ≡ s → ⊥) → P (δ t)) → P (moved δ s x t)
@@ -56,7 +53,7 @@ module _ {s : ℕ} {ss : List ℕ} {δ ε : Point} (b : Beside (s ∷ ss) δ ε)
   beside-deeper x =
       record {
         same = λ t a.
-            at-moved (λ (y : ℕ). y ≡ moved δ s x t) ε s x t (λ e. sym (moved-here δ s x t e)) (λ n. b .same t (not-among s t ss n a) ∙ sym (moved-there δ s x t n));
+            at-moved (λ (y : ℕ). y ≡ moved δ s x t) ε s x t (λ e. sym (moved-here δ s x t e)) (λ n. b .same t (not-among s t ss n a) ∙ sym (moved-other δ s x t n));
       }
 
   -- the first slot gets the other's value
@@ -65,7 +62,7 @@ module _ {s : ℕ} {ss : List ℕ} {δ ε : Point} (b : Beside (s ∷ ss) δ ε)
 
   -- the first slot has some value, and then the others change
   pub beside-after : (x : ℕ) {ζ : Point} → Beside ss (moved ε s x) ζ → Beside (s ∷ ss) δ ζ
-  beside-after x c = record { same = λ t a. c .same t (not-rest s t ss a) ∙ moved-there ε s x t (not-first s t ss a) ∙ b .same t a }
+  beside-after x c = record { same = λ t a. c .same t (not-rest s t ss a) ∙ moved-other ε s x t (not-first s t ss a) ∙ b .same t a }
 
 -- a truth that depends on no slot of the list is the same at points beside it
 free-beside : (F : Point → Bool) (ss : List ℕ) (δ ε : Point) → ((i : ℕ) → i < length ss → (δ : Point) (x : ℕ) → F (moved δ (getD ss i 0) x) ≡ F δ) → Beside ss δ ε → F δ ≡ F ε

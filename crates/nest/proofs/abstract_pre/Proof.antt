@@ -1,6 +1,6 @@
--- answers sha256 fb55d1d282098fcb
+-- answers sha256 cd0fa394a49f6fe1
 -- `nest::abstract_pre` meets its contract: the search for a step of the abstract operation finds one exactly if the precondition holds. Assumes nothing.
-use Rattle.nest.proofs.Found.{ask-ready, ready-found}
+use Rattle.nest.proofs.FoundNumbers.{ask-ready, ready-found}
 use Rattle.nest.proofs.abstract_pre.Statement.{statement}
 use Rattle.nest.proofs.abstract_pre.Tie as tie
 

@@ -1,6 +1,6 @@
--- answers sha256 c8b56029c32a7581
+-- answers sha256 bee309cbb0548018
 -- `nest::next_abstract` meets its contract: the search of abstract states finds them by their numbers. Assumes nothing.
-use Rattle.nest.proofs.Found.{ask-states, states-found}
+use Rattle.nest.proofs.FoundNumbers.{ask-states, states-found}
 use Rattle.nest.proofs.next_abstract.Statement.{statement}
 use Rattle.nest.proofs.next_abstract.Tie as tie
 

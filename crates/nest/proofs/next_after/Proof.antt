@@ -1,6 +1,6 @@
--- answers sha256 fe9bc8b4a7afa4ca
+-- answers sha256 d8f5531b68dd6a93
 -- `nest::next_after` meets its contract: the other variables of the search for steps are those of the after state. Assumes nothing.
-use Rattle.nest.proofs.Found.{ask-afters, afters-found}
+use Rattle.nest.proofs.FoundNumbers.{ask-afters, afters-found}
 use Rattle.nest.proofs.next_after.Statement.{statement}
 use Rattle.nest.proofs.next_after.Tie as tie
 

@@ -1,8 +1,8 @@
--- answers sha256 b62a2a2e42b6e571
+-- answers sha256 006c9edbe83d6302
 -- `nest::next_bit` meets its contract: no bit before i is set. Assumes nothing.
 use Prim.Native.Nat.{_-_}
 use native.Mathlib.Omega.{arith}
-use Rattle.nest.proofs.Bits.{Unset, unset-start, unset-next, unset-found, unset-end, set-bit, unset-bit}
+use Rattle.nest.proofs.NextBits.{Unset, unset-start, unset-next, unset-found, unset-end, set-bit, unset-bit}
 use Rattle.sets.specs.Sets.{has}
 use Rattle.nest.proofs.next_bit.Statement.{statement}
 use Rattle.nest.proofs.next_bit.Tie as tie

@@ -1,6 +1,6 @@
--- answers sha256 96996675116d504b
+-- answers sha256 0f0f3cf2cab1f9ea
 -- `nest::next_concrete` meets its contract: the search of related states finds them by their numbers. Assumes nothing.
-use Rattle.nest.proofs.Found.{ask-related, related-found}
+use Rattle.nest.proofs.FoundNumbers.{ask-related, related-found}
 use Rattle.nest.proofs.next_concrete.Statement.{statement}
 use Rattle.nest.proofs.next_concrete.Tie as tie
 

@@ -1,6 +1,6 @@
--- answers sha256 0e4a49bd712f166c
+-- answers sha256 a7dd291a616b54af
 -- `nest::next_output` meets its contract: the first variables of the search for steps are the outputs. Assumes nothing.
-use Rattle.nest.proofs.Found.{ask-outputs, outputs-found}
+use Rattle.nest.proofs.FoundNumbers.{ask-outputs, outputs-found}
 use Rattle.nest.proofs.next_output.Statement.{statement}
 use Rattle.nest.proofs.next_output.Tie as tie
 

@@ -1,6 +1,6 @@
--- answers sha256 e907df68308f6195
+-- answers sha256 18dde310a2a8941b
 -- `nest::passes` meets its contract: the search for what must be there finds it exactly if the binding passes. Assumes nothing.
-use Rattle.nest.proofs.Found.{ask-met, met-found}
+use Rattle.nest.proofs.FoundNumbers.{ask-met, met-found}
 use Rattle.nest.proofs.passes.Statement.{statement}
 use Rattle.nest.proofs.passes.Tie as tie
 

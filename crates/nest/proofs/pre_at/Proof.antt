@@ -1,11 +1,11 @@
--- answers sha256 40b712ad9ac76669
+-- answers sha256 6f04111e682cb404
 -- `nest::pre_at` meets its contract: the inputs get the values of their i-th binding, and the precondition is asked there. Assumes nothing.
 use borrow.Author.Needs.{needs}
 use mathlib.Core.Path.{ap, _∙_}
 use Rattle.points.specs.Points.{span}
 use Rattle.nest.proofs.BoundInputs.{inputs-count}
 use Rattle.nest.proofs.ReadyInputs.{bound-inputs, pre-here}
-use Rattle.nest.proofs.Turns.{asked-after}
+use Rattle.nest.proofs.NextCandidates.{asked-after}
 use Rattle.nest.proofs.pre_at.Statement.{statement}
 use Rattle.nest.proofs.pre_at.Tie as tie
 

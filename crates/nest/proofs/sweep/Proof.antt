@@ -1,4 +1,4 @@
--- answers sha256 f0cf5d3dcfc8af02
+-- answers sha256 e25da364ec7f497d
 -- `nest::sweep` meets its contract: in each loop, what is before the candidate at which it stands passed. Assumes nothing.
 use mathlib.Core.List.{_++_}
 use native.Mathlib.Nat.{le-of-lt}
@@ -8,10 +8,10 @@ use mathlib.Core.Bool.{false}
 use native.Mathlib.Omega.{arith}
 use borrow.Author.Needs.{needs}
 use borrow.Author.Tests.{not-true, not-false}
-use Rattle.nest.proofs.Passed.{enter-high, enter-last}
-use Rattle.nest.proofs.Standing.{InAbstracts, InConcretes, InInputs, InOutputs, InAfters}
-use Rattle.nest.proofs.Turns.{some-input, some-concrete, some-abstract, asked-after, rise-abstracts, rise-concretes, rise-outputs}
-use Rattle.nest.proofs.Rounds.{start, enter-concretes, enter-inputs, enter-outputs, enter-afters, again-abstracts, again-concretes, again-inputs, again-outputs, again-afters, rise-afters, leave-abstracts, leave-last, leave-concretes, leave-afters, leave-fault}
+use Rattle.nest.proofs.PassedPlaces.{enter-high, enter-last}
+use Rattle.nest.proofs.LoopStates.{InAbstracts, InConcretes, InInputs, InOutputs, InAfters}
+use Rattle.nest.proofs.NextCandidates.{some-input, some-concrete, some-abstract, asked-after, rise-abstracts, rise-concretes, rise-outputs}
+use Rattle.nest.proofs.NestedLoops.{start, enter-concretes, enter-inputs, enter-outputs, enter-afters, again-abstracts, again-concretes, again-inputs, again-outputs, again-afters, rise-afters, leave-abstracts, leave-last, leave-concretes, leave-afters, leave-fault}
 use Rattle.nest.proofs.Products.{small-input, small-concrete, small-abstract, small-a, small-ac, small-x, small-c, small-xi, small-y, small-yq, small-z, small-zk, start-high}
 use Rattle.nest.proofs.sweep.Statement.{statement}
 use Rattle.nest.proofs.sweep.Tie as tie

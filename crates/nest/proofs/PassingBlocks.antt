@@ -5,7 +5,7 @@ use Prim.Native.Nat.{ℕ, _+_, _*_, _/_, _%_, _<_}
 use native.Mathlib.Nat.{mod-lt, div-one}
 use lib.Arith.{digits-div, digits-mod}
 use Rattle.nest.specs.PartTests.{PartTests, passesAt, passesFrom}
-use Rattle.nest.proofs.Passed.{div-in}
+use Rattle.nest.proofs.PassedPlaces.{div-in}
 
 abbrev passing : (p q r s m : Bool) → Bool
 passing p q r s m = not (p && q && r && s) || m

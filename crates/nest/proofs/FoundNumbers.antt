@@ -16,7 +16,7 @@ use Rattle.seek.specs.SeekPromises.{Left, SeekAsked, SeekAnswers}
 use Rattle.plans.specs.declared.Part.{Part}
 use Rattle.nest.specs.PartTests.{PartTests}
 use Rattle.nest.specs.NestPromises.{Groups, Nest, NestAsked, Stepped, someBinding, AbstractAnswers, ConcreteAnswers, AbstractPreAnswers, OutputAnswers, AfterAnswers, MetAnswers}
-use Rattle.nest.proofs.Apartness.{abstracts-concretes, concretes-outputs, concretes-primes, inputs-outputs, inputs-primes, outputs-primes, distinct-left, distinct-right}
+use Rattle.nest.proofs.KeptGroups.{abstracts-concretes, concretes-outputs, concretes-primes, inputs-outputs, inputs-primes, outputs-primes, distinct-left, distinct-right}
 
 -- ---- for any search
 

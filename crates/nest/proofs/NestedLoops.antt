@@ -9,12 +9,12 @@ use lib.IntN.{ℤ}
 use Rattle.plans.specs.declared.Part.{Part}
 use Rattle.nest.specs.PartTests.{PartTests, Looked}
 use Rattle.nest.specs.NestPromises.{Groups, Nest, NestAsked, AbstractAnswers, ConcreteAnswers, ReadyAnswers, InputAnswers, OutputAnswers, AfterAnswers, MetAnswers, SweepAnswers}
-use Rattle.nest.proofs.Apartness.{abstracts-ready, abstracts-meeting, concretes-meeting, inputs-meeting, outputs-meeting}
-use Rattle.nest.proofs.Passed.{Past, past-before, past-same, past-more, past-leave, looked-all, looked-fault}
-use Rattle.nest.proofs.Blocks.{premises-hold, passes-here}
-use Rattle.nest.proofs.Standing.{Standing, stands-same, stands-in, stands-out, perInput, perConcrete, perAbstract, passing, StateHolds, FrontHolds}
-use Rattle.nest.proofs.Standing.{OfAbstract, OfOutput, InAbstracts, InConcretes, InInputs, InOutputs, InAfters}
-use Rattle.nest.proofs.Turns.{asked-after, keep-abstract, keep-output, step-abstracts, step-concretes, step-inputs, step-outputs, step-afters, sought-afters}
+use Rattle.nest.proofs.KeptGroups.{abstracts-ready, abstracts-meeting, concretes-meeting, inputs-meeting, outputs-meeting}
+use Rattle.nest.proofs.PassedPlaces.{Past, past-before, past-same, past-more, past-leave, looked-all, looked-fault}
+use Rattle.nest.proofs.PassingBlocks.{premises-hold, passes-here}
+use Rattle.nest.proofs.LoopStates.{Standing, stands-same, stands-in, stands-out, perInput, perConcrete, perAbstract, passing, StateHolds, FrontHolds}
+use Rattle.nest.proofs.LoopStates.{OfAbstract, OfOutput, InAbstracts, InConcretes, InInputs, InOutputs, InAfters}
+use Rattle.nest.proofs.NextCandidates.{asked-after, keep-abstract, keep-output, step-abstracts, step-concretes, step-inputs, step-outputs, step-afters, sought-afters}
 
 first-place : (n u s from : ℕ) → u * s ≤ from → (0 * n + u) * s ≤ from
 first-place n u s from h = omega arith

@@ -13,11 +13,11 @@ use Rattle.points.proofs.PointNumbers.{number-apart, sought-same}
 use Rattle.plans.specs.declared.Part.{Part}
 use Rattle.nest.specs.PartTests.{PartTests}
 use Rattle.nest.specs.NestPromises.{Groups, Sized, Nest, NestAsked, Stepped, ForNest, AbstractAnswers, ConcreteAnswers, InputAnswers, OutputAnswers, AfterAnswers}
-use Rattle.nest.proofs.Apartness.{abstracts-concretes, abstracts-inputs, abstracts-outputs, abstracts-primes, concretes-inputs, concretes-outputs}
-use Rattle.nest.proofs.Apartness.{concretes-primes, inputs-outputs, inputs-primes, outputs-primes, front-out}
-use Rattle.nest.proofs.Blocks.{state-block, related-block, ready-block, front-block, steps-block}
-use Rattle.nest.proofs.Standing.{Standing, at-step, perInput, perConcrete, perAbstract, passing, StateHolds, RelatedHolds, ReadyHolds, FrontHolds}
-use Rattle.nest.proofs.Standing.{OfAbstract, OfConcrete, OfInput, OfOutput, InAbstracts, InConcretes, InInputs, InOutputs, InAfters}
+use Rattle.nest.proofs.KeptGroups.{abstracts-concretes, abstracts-inputs, abstracts-outputs, abstracts-primes, concretes-inputs, concretes-outputs}
+use Rattle.nest.proofs.KeptGroups.{concretes-primes, inputs-outputs, inputs-primes, outputs-primes, front-out}
+use Rattle.nest.proofs.PassingBlocks.{state-block, related-block, ready-block, front-block, steps-block}
+use Rattle.nest.proofs.LoopStates.{Standing, at-step, perInput, perConcrete, perAbstract, passing, StateHolds, RelatedHolds, ReadyHolds, FrontHolds}
+use Rattle.nest.proofs.LoopStates.{OfAbstract, OfConcrete, OfInput, OfOutput, InAbstracts, InConcretes, InInputs, InOutputs, InAfters}
 
 -- ---- sizes
 

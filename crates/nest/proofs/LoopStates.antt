@@ -11,7 +11,7 @@ use Rattle.points.specs.Searches.{Sought}
 use Rattle.plans.specs.declared.Part.{Part}
 use Rattle.nest.specs.PartTests.{PartTests, passesFrom}
 use Rattle.nest.specs.NestPromises.{Groups, Nest, NestAsked, Stepped}
-use Rattle.nest.proofs.Passed.{Past, past-step, past-enter, past-leave, past-same}
+use Rattle.nest.proofs.PassedPlaces.{Past, past-step, past-enter, past-leave, past-same}
 
 pub record Standing (cells : List ℕ) (slots : List (List ℤ)) (Numbers : Point → Type 0) (Fixed : Type 0) (f : ℕ → Bool) (from end x : ℕ) : Type 0 where
   pub point : Point

@@ -23,7 +23,7 @@ pub struct Searched {
 }
 
 // The same of one part, counted from where it begins, and how many places the part has.
-pub struct Looked {
+pub struct PartLooked {
     pub size: usize,
     pub at: usize,
     pub failed: bool,
@@ -39,23 +39,23 @@ fn least(x: usize, y: usize) -> usize
 }
 
 // The places of a part from `from` up to `end`, or to its last.
-fn sweep_part(t: &[u16; 16384], plan: &[u16; 20560], cells: &[u32; 9216], p: Part, from: usize, end: usize) -> Looked
+fn sweep_part(t: &[u16; 16384], plan: &[u16; 20560], cells: &[u32; 9216], p: Part, from: usize, end: usize) -> PartLooked
     requires { ⌜ from ≤ end ⌝ }
     requires { ⌜ PartAsked (now t) (now plan) (now cells) p ⌝ }
     ensures { λ r. ⌜ PartAnswers (now (t .entry)) (now (plan .entry)) (now (cells .entry)) p from end (r .size) (r .at) (r .failed) ⌝ }
 {
     let size = p.na * p.nc * p.ni * p.nq * p.nk;
     if size <= from {
-        return Looked { size, at: from, failed: false };
+        return PartLooked { size, at: from, failed: false };
     }
     let mut arrays = [[0i64; 64]; 2];
     fill(cells, &mut arrays);
     let w = sweep(t, plan, cells, p, from, least(end, size), &mut arrays);
-    Looked { size, at: w.at, failed: w.failed }
+    PartLooked { size, at: w.at, failed: w.failed }
 }
 
 // Initialisation.
-fn look_opening(t: &[u16; 16384], rows: &[u16; 16384], firsts: &[u16; 40], groups: &[u16; 160], from: usize, end: usize) -> Looked
+fn look_opening(t: &[u16; 16384], rows: &[u16; 16384], firsts: &[u16; 40], groups: &[u16; 160], from: usize, end: usize) -> PartLooked
     requires { ⌜ from ≤ end ⌝ }
     requires { ⌜ LookAsked (now t) (now rows) (now firsts) (now groups) 0 ⌝ }
     ensures { λ r. ⌜ LookAnswers (now (t .entry)) (now (rows .entry)) (now (firsts .entry)) (now (groups .entry)) 0 from end (r .size) (r .at) (r .failed) ⌝ }
@@ -69,7 +69,7 @@ fn look_opening(t: &[u16; 16384], rows: &[u16; 16384], firsts: &[u16; 40], group
 }
 
 // Applicability of operation j.
-fn look_applicability(t: &[u16; 16384], rows: &[u16; 16384], firsts: &[u16; 40], groups: &[u16; 160], j: usize, from: usize, end: usize) -> Looked
+fn look_applicability(t: &[u16; 16384], rows: &[u16; 16384], firsts: &[u16; 40], groups: &[u16; 160], j: usize, from: usize, end: usize) -> PartLooked
     requires { ⌜ from ≤ end ⌝ }
     requires { ⌜ LookAsked (now t) (now rows) (now firsts) (now groups) (1 + 2 * j) ⌝ }
     ensures { λ r. ⌜ LookAnswers (now (t .entry)) (now (rows .entry)) (now (firsts .entry)) (now (groups .entry)) (1 + 2 * j) from end (r .size) (r .at) (r .failed) ⌝ }
@@ -84,7 +84,7 @@ fn look_applicability(t: &[u16; 16384], rows: &[u16; 16384], firsts: &[u16; 40],
 }
 
 // Correctness of operation j.
-fn look_correctness(t: &[u16; 16384], rows: &[u16; 16384], firsts: &[u16; 40], groups: &[u16; 160], j: usize, from: usize, end: usize) -> Looked
+fn look_correctness(t: &[u16; 16384], rows: &[u16; 16384], firsts: &[u16; 40], groups: &[u16; 160], j: usize, from: usize, end: usize) -> PartLooked
     requires { ⌜ from ≤ end ⌝ }
     requires { ⌜ LookAsked (now t) (now rows) (now firsts) (now groups) (2 + 2 * j) ⌝ }
     ensures { λ r. ⌜ LookAnswers (now (t .entry)) (now (rows .entry)) (now (firsts .entry)) (now (groups .entry)) (2 + 2 * j) from end (r .size) (r .at) (r .failed) ⌝ }
@@ -99,7 +99,7 @@ fn look_correctness(t: &[u16; 16384], rows: &[u16; 16384], firsts: &[u16; 40], g
 }
 
 // The k-th part: the opening obligations first, then two for each operation.
-fn look(t: &[u16; 16384], rows: &[u16; 16384], firsts: &[u16; 40], groups: &[u16; 160], k: usize, from: usize, end: usize) -> Looked
+fn look(t: &[u16; 16384], rows: &[u16; 16384], firsts: &[u16; 40], groups: &[u16; 160], k: usize, from: usize, end: usize) -> PartLooked
     requires { ⌜ from ≤ end ⌝ }
     requires { ⌜ LookAsked (now t) (now rows) (now firsts) (now groups) k ⌝ }
     ensures { λ r. ⌜ LookAnswers (now (t .entry)) (now (rows .entry)) (now (firsts .entry)) (now (groups .entry)) k from end (r .size) (r .at) (r .failed) ⌝ }

@@ -1,21 +1,19 @@
 -- The three kinds of parts, as they are set up: for every dossier whose reading the arrays are, the nest of its part. Assumes nothing.
 use mathlib.Core.Path.{_≡_, sym, ap, ap₂, _∙_, subst}
-use mathlib.Core.Bool.{Bool}
 use mathlib.Core.List.{List}
 use mathlib.Core.Option.{some}
-use Prim.Native.Nat.{ℕ, _+_, _-_, _*_, _<_, _≤_}
+use Prim.Native.Nat.{ℕ, _+_, _-_, _*_, _<_}
 use native.Mathlib.Omega.{arith}
 use lib.ListN.{length, getElem?}
 use Rattle.form.specs.Tree.{Operation, Dossier}
-use Rattle.static_rules.specs.Carriers.{Variable}
 use Rattle.static_rules.specs.Scope.{unprimed, inputs, outputs}
 use Rattle.static_rules.specs.Limits.{bindingCount}
 use Rattle.meaning.proofs.Places.{entry-below, below-entry}
 use Rattle.obligations.specs.Subjects.{subjectOf}
-use Rattle.obligations.proofs.Digits.{abstracts, concretes, givens, results, applicabilitySize, correctnessSize, startOf}
+use Rattle.obligations.proofs.Digits.{abstracts, concretes, givens, applicabilitySize, correctnessSize, startOf}
 use Rattle.plans.specs.declared.Part.{Part}
 use Rattle.plans.specs.PlanPromises.{InitialisationPlan, ApplicabilityPlan, CorrectnessPlan}
-use Rattle.nest.specs.PartTests.{PartTests, passesFrom}
+use Rattle.nest.specs.PartTests.{passesFrom}
 use Rattle.part_tests.specs.PartsByNumber.{initialisationTests, applicabilityTests, correctnessTests}
 use Rattle.part_tests.specs.PartGroups as made
 use Rattle.part_tests.specs.PartGroups.{openingPart, applicabilityPart, correctnessPart}
@@ -33,7 +31,7 @@ use Rattle.part_setup.specs.SetupPromises.{StatesSet, OperationSet, OpeningPart
 use Rattle.parts.proofs.PartOrderLaws.{first-size, first-begin, applicability-size, correctness-size, applicability-begin, correctness-begin}
 use Rattle.parts.proofs.ReadingSizes.{abstracts-count, concretes-count, givens-count, results-count}
 use Rattle.parts.proofs.SizedParts.{opening-sized, applicability-sized, correctness-sized}
-use Rattle.parts.proofs.PartLaws.{places, PartFor}
+use Rattle.parts.proofs.PartLaws.{PartFor}
 use Rattle.parts.proofs.SetupLaws.{opening-counts, OperationLook, us, cs, is, os, operation-counts, applicability-is, correctness-is, outputs-by-part}
 
 -- the cells of a dossier's variables, by the lists of its variables

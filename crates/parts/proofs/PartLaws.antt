@@ -1,5 +1,5 @@
 -- One part: its sizes fit, it is passed over or gone through, and what its places come to is what the checks of a dossier come to. Assumes nothing.
-use mathlib.Core.Path.{_≡_, refl, sym, ap, _∙_, subst}
+use mathlib.Core.Path.{_≡_, refl, sym, _∙_, subst}
 use mathlib.Core.Bool.{Bool, false}
 use mathlib.Core.List.{List}
 use Prim.Native.Nat.{ℕ, _+_, _*_, _<_, _≤_, min}
@@ -86,5 +86,5 @@ module _ {table rows firsts groups plan cells : List ℕ} {p : Part} {k : ℕ} w
         let y = x d R h in
         let e : size ≡ partSize d k = w .size-is ∙ y .many in
         looked-same (passesFrom (y .tests) (p .nc) (p .ni) (p .nq) (p .nk)) (λ (q : ℕ). passesPlace (subjectOf d) (partBegin d k + q)) from (min end size) at failed
-        (λ q m. y .same q (omega arith)) (w .looked l (y .groups) (y .tests) (y .nest));
+        (λ q m. y .same q (omega arith)) (w .looked (omega arith) (y .groups) (y .tests) (y .nest));
   }

@@ -1,10 +1,8 @@
 -- How many bindings the groups of a dossier have whose reading the arrays are, and that its check has fewer than 2^53 places. Assumes nothing.
-use mathlib.Core.Path.{_≡_, sym}
+use mathlib.Core.Path.{_≡_}
 use mathlib.Core.List.{List}
-use mathlib.Core.Option.{some}
-use Prim.Native.Nat.{ℕ, _<_, _≤_, _^_}
+use Prim.Native.Nat.{ℕ, _<_, _^_}
 use native.Mathlib.Omega.{arith}
-use lib.ListN.{getElem?}
 use Rattle.form.specs.Tree.{Operation, Dossier}
 use Rattle.static_rules.specs.Scope.{unprimed, inputs, outputs}
 use Rattle.static_rules.specs.Limits.{bindingCount}

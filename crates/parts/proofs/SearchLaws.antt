@@ -1,5 +1,5 @@
 -- The loop over the parts of a check: where it stands, how it goes on, and what it has found where it ends. Assumes nothing.
-use mathlib.Core.Path.{_≡_, refl, sym, ap, ap₂, _∙_, subst}
+use mathlib.Core.Path.{_≡_, sym, ap, ap₂, _∙_, subst}
 use mathlib.Core.Bool.{Bool, true, false}
 use mathlib.Core.List.{List}
 use Prim.Native.Nat.{ℕ, _+_, _-_, _*_, _<_, _≤_, _^_, min}
@@ -46,15 +46,15 @@ pub not-failed : {table rows firsts groups : List ℕ} {operations from end at :
 not-failed {table} {rows} {firsts} {groups} {operations} {from} {end} {at} e w = subst (SearchAnswers table rows firsts groups operations from end at) (sym e) w
 
 module _ {table rows firsts groups : List ℕ} {operations from end : ℕ} where
-  pub gone-start : from ≤ end → Gone table rows firsts groups operations from end 0 0 from
-  gone-start h = record {
+  pub gone-start : {k begin at : ℕ} → from ≤ end → k ≡ 0 → begin ≡ 0 → at ≡ from → Gone table rows firsts groups operations from end k begin at
+  gone-start h ek eb ea = record {
     within = omega arith;
     low = omega arith;
-    high = h;
+    high = omega arith;
     behind = λ l. omega arith;
-    begins = λ d g m. sym (first-begin d);
-    inside = λ d g m l. l;
-    passed = λ d g m l. looked-none (passesPlace (subjectOf d)) from;
+    begins = λ d g m. eb ∙ sym (first-begin d) ∙ ap (partBegin d) (sym ek);
+    inside = λ d g m l. omega arith;
+    passed = λ d g m l. subst (λ (n : ℕ). Looked (passesPlace (subjectOf d)) from n n false) (sym ea) (looked-none (passesPlace (subjectOf d)) from);
   }
 
   module _ {k begin at size r : ℕ} {failed : Bool} (i : Gone table rows firsts groups operations from end k begin at)
@@ -80,17 +80,21 @@ module _ {table rows firsts groups : List ℕ} {operations from end : ℕ} where
 
       pub step-small : begin + size < 2 ^ 53
       step-small =
-          omega (arith, i .begins (a .dossier) (a .reading) (a .many), w .size-is (a .dossier) (a .reading) (omega (arith, a .many)),
-          part-within (a .dossier) k (omega (arith, a .many)), reading-small (a .reading))
+          omega (
+            arith,
+            i .begins (a .dossier) (a .reading) (a .many),
+            w .size-is (a .dossier) (a .reading) (omega (arith, a .many)),
+            part-within (a .dossier) k (omega (arith, a .many)),
+            reading-small (a .reading),
+          )
 
-      pub gone-on : failed ≡ false → Gone table rows firsts groups operations from end (k + 1) (begin + size) (begin + r)
-      gone-on f = record {
+      pub gone-on : {next : ℕ} → failed ≡ false → next ≡ k + 1 → Gone table rows firsts groups operations from end next (begin + size) (begin + r)
+      gone-on f e = record {
         within = omega arith;
         low = first .low;
         high = first .high;
         behind = first .behind f;
-        begins = λ d g m.
-            ap₂ _+_ (i .begins d g m) (w .size-is d g (omega (arith, m))) ∙ sym (next-begin d k);
+        begins = λ d g m. ap₂ _+_ (i .begins d g m) (w .size-is d g (omega (arith, m))) ∙ sym (next-begin d k) ∙ ap (partBegin d) (sym e);
         inside = λ d g m l. step d g m l .inside;
         passed = λ d g m l. step d g m l .onward f;
       }

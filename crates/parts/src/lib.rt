@@ -3,8 +3,16 @@ ghost use mathlib.Core.Path.{_≡_};
 ghost use Prim.Native.Nat.{_+_, _*_, _^_, _<_, _≤_, min};
 ghost use Rattle.parts.specs.SearchPromises.{PartAsked, PartAnswers, LookAsked, LookAnswers, SearchAsked, SearchAnswers};
 use nest::sweep;
-use part_setup::{applicability_part, correctness_part, fill, opening_cells, opening_part, operation_cells};
-use plans::{plan_applicability, plan_correctness, plan_initialisation, Part};
+use part_setup::applicability_part;
+use part_setup::correctness_part;
+use part_setup::fill;
+use part_setup::opening_cells;
+use part_setup::opening_part;
+use part_setup::operation_cells;
+use plans::Part;
+use plans::plan_applicability;
+use plans::plan_correctness;
+use plans::plan_initialisation;
 
 // The first row of the groups that is an operation's, and how many numbers an operation has there.
 const OPERATION_ROWS: usize = 18;
@@ -39,23 +47,45 @@ fn least(x: usize, y: usize) -> usize
 }
 
 // The places of a part from `from` up to `end`, or to its last.
-fn sweep_part(t: &[u16; 16384], plan: &[u16; 20560], cells: &[u32; 9216], p: Part, from: usize, end: usize) -> PartLooked
+fn sweep_part(
+    t: &[u16; 16384],
+    plan: &[u16; 20560],
+    cells: &[u32; 9216],
+    p: Part,
+    from: usize,
+    end: usize,
+) -> PartLooked
     requires { ⌜ from ≤ end ⌝ }
     requires { ⌜ PartAsked (now t) (now plan) (now cells) p ⌝ }
     ensures { λ r. ⌜ PartAnswers (now (t .entry)) (now (plan .entry)) (now (cells .entry)) p from end (r .size) (r .at) (r .failed) ⌝ }
 {
     let size = p.na * p.nc * p.ni * p.nq * p.nk;
     if size <= from {
-        return PartLooked { size, at: from, failed: false };
+        return PartLooked {
+            size,
+            at: from,
+            failed: false,
+        };
     }
     let mut arrays = [[0i64; 64]; 2];
     fill(cells, &mut arrays);
     let w = sweep(t, plan, cells, p, from, least(end, size), &mut arrays);
-    PartLooked { size, at: w.at, failed: w.failed }
+    PartLooked {
+        size,
+        at: w.at,
+        failed: w.failed,
+    }
 }
 
 // Initialisation.
-fn look_opening(t: &[u16; 16384], rows: &[u16; 16384], firsts: &[u16; 40], groups: &[u16; 160], from: usize, end: usize) -> PartLooked
+fn look_opening(
+    t: &[u16; 16384],
+    rows: &[u16; 16384],
+    firsts: &[u16; 40],
+    groups: &[u16; 160],
+    from: usize,
+    end: usize,
+) -> PartLooked
     requires { ⌜ from ≤ end ⌝ }
     requires { ⌜ LookAsked (now t) (now rows) (now firsts) (now groups) 0 ⌝ }
     ensures { λ r. ⌜ LookAnswers (now (t .entry)) (now (rows .entry)) (now (firsts .entry)) (now (groups .entry)) 0 from end (r .size) (r .at) (r .failed) ⌝ }
@@ -69,7 +99,15 @@ fn look_opening(t: &[u16; 16384], rows: &[u16; 16384], firsts: &[u16; 40], group
 }
 
 // Applicability of operation j.
-fn look_applicability(t: &[u16; 16384], rows: &[u16; 16384], firsts: &[u16; 40], groups: &[u16; 160], j: usize, from: usize, end: usize) -> PartLooked
+fn look_applicability(
+    t: &[u16; 16384],
+    rows: &[u16; 16384],
+    firsts: &[u16; 40],
+    groups: &[u16; 160],
+    j: usize,
+    from: usize,
+    end: usize,
+) -> PartLooked
     requires { ⌜ from ≤ end ⌝ }
     requires { ⌜ LookAsked (now t) (now rows) (now firsts) (now groups) (1 + 2 * j) ⌝ }
     ensures { λ r. ⌜ LookAnswers (now (t .entry)) (now (rows .entry)) (now (firsts .entry)) (now (groups .entry)) (1 + 2 * j) from end (r .size) (r .at) (r .failed) ⌝ }
@@ -84,7 +122,15 @@ fn look_applicability(t: &[u16; 16384], rows: &[u16; 16384], firsts: &[u16; 40],
 }
 
 // Correctness of operation j.
-fn look_correctness(t: &[u16; 16384], rows: &[u16; 16384], firsts: &[u16; 40], groups: &[u16; 160], j: usize, from: usize, end: usize) -> PartLooked
+fn look_correctness(
+    t: &[u16; 16384],
+    rows: &[u16; 16384],
+    firsts: &[u16; 40],
+    groups: &[u16; 160],
+    j: usize,
+    from: usize,
+    end: usize,
+) -> PartLooked
     requires { ⌜ from ≤ end ⌝ }
     requires { ⌜ LookAsked (now t) (now rows) (now firsts) (now groups) (2 + 2 * j) ⌝ }
     ensures { λ r. ⌜ LookAnswers (now (t .entry)) (now (rows .entry)) (now (firsts .entry)) (now (groups .entry)) (2 + 2 * j) from end (r .size) (r .at) (r .failed) ⌝ }
@@ -99,7 +145,15 @@ fn look_correctness(t: &[u16; 16384], rows: &[u16; 16384], firsts: &[u16; 40], g
 }
 
 // The k-th part: the opening obligations first, then two for each operation.
-fn look(t: &[u16; 16384], rows: &[u16; 16384], firsts: &[u16; 40], groups: &[u16; 160], k: usize, from: usize, end: usize) -> PartLooked
+fn look(
+    t: &[u16; 16384],
+    rows: &[u16; 16384],
+    firsts: &[u16; 40],
+    groups: &[u16; 160],
+    k: usize,
+    from: usize,
+    end: usize,
+) -> PartLooked
     requires { ⌜ from ≤ end ⌝ }
     requires { ⌜ LookAsked (now t) (now rows) (now firsts) (now groups) k ⌝ }
     ensures { λ r. ⌜ LookAnswers (now (t .entry)) (now (rows .entry)) (now (firsts .entry)) (now (groups .entry)) k from end (r .size) (r .at) (r .failed) ⌝ }
@@ -115,7 +169,15 @@ fn look(t: &[u16; 16384], rows: &[u16; 16384], firsts: &[u16; 40], groups: &[u16
 }
 
 // The parts one after the other, from the place `from` up to `end`.
-pub fn search(t: &[u16; 16384], rows: &[u16; 16384], firsts: &[u16; 40], groups: &[u16; 160], operations: usize, from: usize, end: usize) -> Searched
+pub fn search(
+    t: &[u16; 16384],
+    rows: &[u16; 16384],
+    firsts: &[u16; 40],
+    groups: &[u16; 160],
+    operations: usize,
+    from: usize,
+    end: usize,
+) -> Searched
     requires { ⌜ (from ≤ end) × (end < 2 ^ 62) ⌝ }
     requires { ⌜ SearchAsked (now t) (now rows) (now firsts) (now groups) operations from ⌝ }
     ensures { λ r. ⌜ SearchAnswers (now (t .entry)) (now (rows .entry)) (now (firsts .entry)) (now (groups .entry)) operations from end (r .at) (r .failed) ⌝ }

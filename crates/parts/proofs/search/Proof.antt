@@ -1,4 +1,4 @@
--- answers sha256 0d9ba47fd2309a7a
+-- answers sha256 fbf6896e98116113
 -- `parts::search` meets its contract: at the head of the loop all places up to `at` pass, and the part k begins at `begin`.
 use Prim.Native.Nat.{_+_, _-_, _*_}
 use mathlib.Core.Path.{_≡_, refl}
@@ -21,7 +21,7 @@ add-parts : tie.Need-add-parts Inv-parts μ-parts
 add-parts c = omega (arith, operations-low (c .pre .1))
 
 parts-holds : tie.Need-parts-holds Inv-parts μ-parts
-parts-holds c = (gone-start (c .pre .0 .0), refl)
+parts-holds c = (gone-start (c .pre .0 .0) (omega arith) (omega arith) (omega arith), refl)
 
 sub-look : tie.Need-sub-look Inv-parts μ-parts
 sub-look c = c .before .before .parts .inv .0 .behind (unfinished (c .before .before .parts .inv .0) (c .if1 .left))
@@ -45,7 +45,7 @@ parts-less : tie.Need-parts-less Inv-parts μ-parts
 parts-less c = omega (arith, c .before .before .before .before .before .parts-test .taken)
 
 parts-again : tie.Need-parts-again Inv-parts μ-parts
-parts-again c = (gone-on (c .before .before .before .before .before .before .parts .inv .0) (c .before .before .before .look .ensures) (c .before .before .before .before .before .parts-test .taken) (unfinished (c .before .before .before .before .before .before .parts .inv .0) (c .before .before .before .before .if1 .left)) (c .before .before .before .before .before .before .before .pre .1) (c .before .if2 .left), c .before .before .before .before .before .before .parts .inv .1)
+parts-again c = (gone-on (c .before .before .before .before .before .before .parts .inv .0) (c .before .before .before .look .ensures) (c .before .before .before .before .before .parts-test .taken) (unfinished (c .before .before .before .before .before .before .parts .inv .0) (c .before .before .before .before .if1 .left)) (c .before .before .before .before .before .before .before .pre .1) (c .before .if2 .left) (omega arith), c .before .before .before .before .before .before .parts .inv .1)
 
 returns : tie.Need-returns Inv-parts μ-parts
 returns c = not-failed (c .before .parts .inv .1) (gone-whole (c .before .parts .inv .0) (omega (arith, c .parts-test .left)))

@@ -18,8 +18,8 @@ use Rattle.parts.proofs.PartOrderLaws.{first-begin, next-begin, all-end
 use Rattle.parts.proofs.ReadingSizes.{reading-small}
 use Rattle.parts.proofs.SearchSteps.{Continued, continued}
 
--- at the head of the loop, for every dossier whose reading the arrays are: the k-th part begins at `begin`, all places from `from` up to `at` pass; a part that ends behind `end` is the last one that
--- is looked at
+-- at the head of the loop, for every dossier whose reading the arrays are: the k-th part begins at `begin`, all places from `from` up to `at` pass; only where the search came to its end
+-- can `at` stand before `begin`
 pub record Gone (table rows firsts groups : List ℕ) (operations from end k begin at : ℕ) : Type 0 where
   pub within : k ≤ 1 + 2 * operations
   pub low : from ≤ at
@@ -38,7 +38,8 @@ part-asked k h a = record { dossier = a .dossier; reading = a .reading; part = o
 pub operations-low : {table rows firsts groups : List ℕ} {operations from : ℕ} → SearchAsked table rows firsts groups operations from → operations ≤ 16
 operations-low a = omega (arith, a .many, a .reading .operations)
 
-pub unfinished : {table rows firsts groups : List ℕ} {operations from end k begin at : ℕ} → Gone table rows firsts groups operations from end k begin at → (at ≡ end → ⊥) → at < end
+pub unfinished : {table rows firsts groups : List ℕ} {operations from end k begin at : ℕ} → Gone table rows firsts groups operations from end k begin at → (at ≡ end → ⊥)
+    → at < end
 unfinished {end = end} {at = at} i e = let n : at ≡ end → ⊥ = e in omega (arith, i .high)
 
 pub not-failed : {table rows firsts groups : List ℕ} {operations from end at : ℕ} {failed : Bool} → failed ≡ false → SearchAnswers table rows firsts groups operations from end at false

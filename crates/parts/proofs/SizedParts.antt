@@ -83,8 +83,8 @@ module _ (d : Dossier) where
     abbrev os : List Variable
     os = outputs d op
 
-    pub applicability-sized : {table rows firsts groups cells : List ℕ} → ReadingOf table rows firsts groups d → (j : ℕ) → getElem? (d .operations) j ≡ some op → OperationCelled cells d op
-        → Sized cells (applicabilityPart us cs is os) (applicabilityOf d op)
+    pub applicability-sized : {table rows firsts groups cells : List ℕ} → ReadingOf table rows firsts groups d → (j : ℕ) → getElem? (d .operations) j ≡ some op
+        → OperationCelled cells d op → Sized cells (applicabilityPart us cs is os) (applicabilityOf d op)
     unfolding span
     applicability-sized {cells = cells} R j listed C = record {
       va = upward-long 0 (length us);
@@ -113,8 +113,8 @@ module _ (d : Dossier) where
       grouped = grouped cells is (C .inputs-in) (R .inputs-at j op listed .bindings);
     }
 
-    pub correctness-sized : {table rows firsts groups cells : List ℕ} → ReadingOf table rows firsts groups d → (j : ℕ) → getElem? (d .operations) j ≡ some op → OperationCelled cells d op
-        → Sized cells (correctnessPart us cs is os) (correctnessOf d op)
+    pub correctness-sized : {table rows firsts groups cells : List ℕ} → ReadingOf table rows firsts groups d → (j : ℕ) → getElem? (d .operations) j ≡ some op
+        → OperationCelled cells d op → Sized cells (correctnessPart us cs is os) (correctnessOf d op)
     correctness-sized {cells = cells} R j listed C = record {
       va = upward-long 0 (length us);
       vc = upward-long 8 (length cs);

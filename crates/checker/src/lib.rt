@@ -1,0 +1,303 @@
+// The five calls on a held check kept in lent bytes: load, advance, verdict, witness, drop. Each reads the held text again.
+ghost use mathlib.Core.Path.{_≡_};
+ghost use mathlib.Core.List.{[]};
+ghost use Prim.Native.Nat.{_+_, _≤_};
+ghost use lib.ListN.{length};
+ghost use Rattle.obligations.specs.Calls as call;
+ghost use Rattle.held_checks.specs.Answers.{loadAnswer, advanceAnswer, verdictAnswer, witnessAnswer, dropped};
+ghost use Rattle.held_checks.specs.CallPromises.{Responds};
+ghost use Rattle.checker.specs.OpenPromises.{Opens, markAfter};
+use held_checks::ACCEPTED;
+use held_checks::AdvanceReply;
+use held_checks::HELD;
+use held_checks::LoadReply;
+use held_checks::MARK;
+use held_checks::NOTHING;
+use held_checks::Obligation;
+use held_checks::REFUTED;
+use held_checks::TEXT;
+use held_checks::UNFINISHED;
+use held_checks::Verdict;
+use held_checks::VerdictReply;
+use held_checks::WitnessReply;
+use held_checks::clear;
+use held_checks::fits;
+use held_checks::laid;
+use held_checks::lay;
+use held_checks::length_in;
+use held_checks::place_in;
+use held_checks::turn;
+use labels::LABELS;
+use part_places::OBLIGATIONS;
+use part_places::OPENING;
+use part_places::find;
+use part_places::total;
+use parts::search;
+use pieces::put_part;
+use text_readings::TextRead;
+use text_readings::read_text;
+use witnesses::WITNESS;
+use witnesses::put_witness;
+
+// Number 15: the longest advance.
+const LONGEST: usize = 1000000000;
+
+// What is held: the mark, or 0 for nothing, the place, how many operations and how many places there are.
+pub struct Opened {
+    pub mark: u8,
+    pub place: usize,
+    pub operations: usize,
+    pub all: usize,
+}
+
+fn nothing() -> Opened {
+    Opened {
+        mark: NOTHING,
+        place: 0,
+        operations: 0,
+        all: 0,
+    }
+}
+
+// The held text is read into the arrays.
+fn open_text(
+    held: &[u8; HELD],
+    table: &mut [u16; 16384],
+    rows: &mut [u16; 16384],
+    firsts: &mut [u16; 40],
+    groups: &mut [u16; 160],
+    labels: &mut [u16; LABELS],
+) -> TextRead {
+    let end = TEXT + length_in(held);
+    read_text(&held[TEXT..end], table, rows, firsts, groups, labels)
+}
+
+// What the bytes stand for, with the arrays of its text.
+fn open_bytes(
+    held: &[u8; HELD],
+    table: &mut [u16; 16384],
+    rows: &mut [u16; 16384],
+    firsts: &mut [u16; 40],
+    groups: &mut [u16; 160],
+    labels: &mut [u16; LABELS],
+) -> Opened
+    ensures { λ r. ⌜ Opens (now (held .entry)) (now (table .exit)) (now (rows .exit)) (now (firsts .exit)) (now (groups .exit)) (now (labels .exit)) (r .mark) (r .place) (r .operations) (r .all) ⌝ }
+{
+    if !laid(held) {
+        return nothing();
+    }
+    let answer = open_text(held, table, rows, firsts, groups, labels);
+    match answer {
+        TextRead::Refused(_, _) => nothing(),
+        TextRead::Read(operations) => {
+            let all = total(table, groups, operations);
+            let place = place_in(held);
+            let mark = held[MARK];
+            if !fits(all, place, mark) {
+                return nothing();
+            }
+            Opened {
+                mark,
+                place,
+                operations,
+                all,
+            }
+        }
+    }
+}
+
+// Load a text.
+pub fn load(text: &[u8], held: &mut [u8; HELD]) -> LoadReply
+    ensures { λ r. ⌜ Responds (now (held .entry)) (call.load (now (text .entry))) (now (held .exit)) [] (loadAnswer r) ⌝ }
+{
+    let mut table = [0u16; 16384];
+    let mut rows = [0u16; 16384];
+    let mut firsts = [0u16; 40];
+    let mut groups = [0u16; 160];
+    let mut labels = [0u16; LABELS];
+    let o = open_bytes(
+        held,
+        &mut table,
+        &mut rows,
+        &mut firsts,
+        &mut groups,
+        &mut labels,
+    );
+    if o.mark != NOTHING {
+        return LoadReply::SomethingHeld;
+    }
+    let answer = read_text(
+        text,
+        &mut table,
+        &mut rows,
+        &mut firsts,
+        &mut groups,
+        &mut labels,
+    );
+    match answer {
+        TextRead::Refused(n, p) => LoadReply::Faulty(n, p),
+        TextRead::Read(_) => {
+            lay(text, held);
+            LoadReply::Loaded
+        }
+    }
+}
+
+// The mark after a search that came to a place.
+fn mark_after(failed: bool, all: usize, place: usize) -> u8
+    ensures { λ r. ⌜ r ≡ markAfter failed all place ⌝ }
+{
+    if failed {
+        return REFUTED;
+    }
+    if all <= place {
+        return ACCEPTED;
+    }
+    UNFINISHED
+}
+
+// How many bindings were looked at up to a place, with the one that failed there.
+fn counted(failed: bool, at: usize) -> usize {
+    if failed {
+        return at + 1;
+    }
+    at
+}
+
+// Advance by n.
+pub fn advance(n: usize, held: &mut [u8; HELD]) -> AdvanceReply
+    ensures { λ r. ⌜ Responds (now (held .entry)) (call.advance n) (now (held .exit)) [] (advanceAnswer r) ⌝ }
+{
+    let mut table = [0u16; 16384];
+    let mut rows = [0u16; 16384];
+    let mut firsts = [0u16; 40];
+    let mut groups = [0u16; 160];
+    let mut labels = [0u16; LABELS];
+    let o = open_bytes(
+        held,
+        &mut table,
+        &mut rows,
+        &mut firsts,
+        &mut groups,
+        &mut labels,
+    );
+    if o.mark == NOTHING {
+        return AdvanceReply::NothingHeld;
+    }
+    if o.mark != UNFINISHED {
+        return AdvanceReply::CheckFinished;
+    }
+    if n == 0 {
+        return AdvanceReply::OutOfRange;
+    }
+    if n > LONGEST {
+        return AdvanceReply::OutOfRange;
+    }
+    let w = search(
+        &table,
+        &rows,
+        &firsts,
+        &groups,
+        o.operations,
+        o.place,
+        o.place + n,
+    );
+    let place = counted(w.failed, w.at);
+    turn(held, place, mark_after(w.failed, o.all, place));
+    AdvanceReply::Looked(place - o.place)
+}
+
+// The obligation of a part.
+fn obligation_of(part: usize) -> Obligation {
+    if part < OPENING {
+        return Obligation::Initialisation;
+    }
+    let k = (part - OPENING) / OBLIGATIONS;
+    if (part - OPENING) % OBLIGATIONS == 0 {
+        return Obligation::Applicability(k);
+    }
+    Obligation::Correctness(k)
+}
+
+// The verdict so far.
+pub fn verdict(held: &[u8; HELD]) -> VerdictReply
+    ensures { λ r. ⌜ Responds (now (held .entry)) call.verdict (now (held .entry)) [] (verdictAnswer r) ⌝ }
+{
+    let mut table = [0u16; 16384];
+    let mut rows = [0u16; 16384];
+    let mut firsts = [0u16; 40];
+    let mut groups = [0u16; 160];
+    let mut labels = [0u16; LABELS];
+    let o = open_bytes(
+        held,
+        &mut table,
+        &mut rows,
+        &mut firsts,
+        &mut groups,
+        &mut labels,
+    );
+    if o.mark == NOTHING {
+        return VerdictReply::NothingHeld;
+    }
+    if o.mark == UNFINISHED {
+        return VerdictReply::Is(Verdict::Unfinished);
+    }
+    if o.mark == ACCEPTED {
+        return VerdictReply::Is(Verdict::Accepted);
+    }
+    let f = find(&table, &groups, o.operations, o.place - 1);
+    VerdictReply::Is(Verdict::Refuted(obligation_of(f.part)))
+}
+
+// The witness of a held text, in bytes of its own.
+fn put_held(
+    held: &[u8; HELD],
+    labels: &[u16; LABELS],
+    table: &[u16; 16384],
+    groups: &[u16; 160],
+    o: Opened,
+    out: &mut [u8; WITNESS],
+) -> usize {
+    let f = find(table, groups, o.operations, o.place - 1);
+    let end = TEXT + length_in(held);
+    put_witness(&held[TEXT..end], labels, table, groups, f, out, 0)
+}
+
+// The binding that a refuted check has found, in lent bytes.
+pub fn witness(held: &[u8; HELD], lent: &mut [u8]) -> WitnessReply
+    ensures { λ r. ⌜ Responds (now (held .entry)) (call.witness (now (lent .entry))) (now (held .entry)) (now (lent .exit)) (witnessAnswer r) ⌝ }
+{
+    let mut table = [0u16; 16384];
+    let mut rows = [0u16; 16384];
+    let mut firsts = [0u16; 40];
+    let mut groups = [0u16; 160];
+    let mut labels = [0u16; LABELS];
+    let o = open_bytes(
+        held,
+        &mut table,
+        &mut rows,
+        &mut firsts,
+        &mut groups,
+        &mut labels,
+    );
+    if o.mark == NOTHING {
+        return WitnessReply::NothingHeld;
+    }
+    if o.mark != REFUTED {
+        return WitnessReply::NoCounterexample;
+    }
+    let mut out = [0u8; WITNESS];
+    let n = put_held(held, &labels, &table, &groups, o, &mut out);
+    if lent.len() < n {
+        return WitnessReply::ShortBytes;
+    }
+    put_part(&out, 0, n, lent, 0);
+    WitnessReply::Written(n)
+}
+
+// Nothing is held any more.
+pub fn drop(held: &mut [u8; HELD])
+    ensures { λ _. ⌜ Responds (now (held .entry)) call.release (now (held .exit)) [] dropped ⌝ }
+{
+    clear(held);
+}

@@ -1,0 +1,4 @@
+pub mod HeldBytes
+pub mod Answers
+pub mod CallPromises
+pub mod BytePromises

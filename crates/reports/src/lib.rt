@@ -1,0 +1,135 @@
+// The report of a text: what the program prints.
+ghost use mathlib.Core.Path.{_≡_};
+ghost use Prim.Native.Nat.{_+_, _≤_, _<_};
+ghost use lib.ListN.{length, getD};
+ghost use Rattle.obligations.specs.Report.{countLine};
+ghost use Rattle.pieces.specs.PiecePromises.{Writes, lettersAt};
+ghost use Rattle.reports.specs.ReportPromises.{Reported, LineWritten};
+use labels::LABELS;
+use labels::TITLES;
+use part_places::OBLIGATIONS;
+use part_places::OPENING;
+use part_places::find;
+use part_places::total;
+use parts::search;
+use pieces::put;
+use pieces::put_all;
+use pieces::put_decimal;
+use pieces::put_letters;
+use text_readings::TextRead;
+use text_readings::read_text;
+use witnesses::put_witness;
+
+// The greatest length of a report: a first line of 39 bytes, a witness, a line with the count of 30.
+pub const REPORT: usize = 19419;
+
+// The name of the k-th operation.
+fn put_title(text: &[u8], labels: &[u16; LABELS], k: usize, out: &mut [u8], at: usize) -> usize
+    requires { ⌜ (k < 16) × (at + 16 ≤ length (now out)) ⌝ }
+    ensures { λ r. ⌜ Writes at (lettersAt (now (text .entry)) (getD (now (labels .entry)) (64 + k) 0)) (now (out .entry)) (now (out .exit)) r ⌝ }
+{
+    put_letters(text, labels[TITLES + k] as usize, out, at)
+}
+
+// The first line of a refuted check.
+pub fn put_refuted(
+    text: &[u8],
+    labels: &[u16; LABELS],
+    part: usize,
+    out: &mut [u8],
+    at: usize,
+) -> usize
+    requires { ⌜ (part < 33) × (at + 39 ≤ length (now out)) ⌝ }
+    ensures { λ r. ⌜ LineWritten (now (text .entry)) (now (labels .entry)) part at (now (out .entry)) (now (out .exit)) r ⌝ }
+{
+    if part < OPENING {
+        return put_all(b"refuted initialisation\n", out, at);
+    }
+    let k = (part - OPENING) / OBLIGATIONS;
+    if (part - OPENING) % OBLIGATIONS == 0 {
+        let a = put_all(b"refuted applicability ", out, at);
+        let b = put_title(text, labels, k, out, a);
+        return put(out, b, b'\n');
+    }
+    let a = put_all(b"refuted correctness ", out, at);
+    let b = put_title(text, labels, k, out, a);
+    put(out, b, b'\n')
+}
+
+// The line with the count.
+fn put_count(n: usize, out: &mut [u8], at: usize) -> usize
+    requires { ⌜ at + 30 ≤ length (now out) ⌝ }
+    ensures { λ r. ⌜ Writes at (countLine n) (now (out .entry)) (now (out .exit)) r ⌝ }
+{
+    let a = put_all(b"bindings ", out, at);
+    let b = put_decimal(n as u64, out, a);
+    put(out, b, b'\n')
+}
+
+// The line of a refusal.
+fn put_refusal(n: u8, p: usize, out: &mut [u8]) -> usize
+    requires { ⌜ 53 ≤ length (now out) ⌝ }
+{
+    let a = put_all(b"refused ", out, 0);
+    let b = put_decimal(n as u64, out, a);
+    let c = put_all(b" at ", out, b);
+    let d = put_decimal(p as u64, out, c);
+    put(out, d, b'\n')
+}
+
+// The lines of a verdict.
+fn put_verdict(
+    text: &[u8],
+    labels: &[u16; LABELS],
+    table: &[u16; 16384],
+    rows: &[u16; 16384],
+    firsts: &[u16; 40],
+    groups: &[u16; 160],
+    operations: usize,
+    out: &mut [u8; REPORT],
+) -> usize {
+    let all = total(table, groups, operations);
+    let w = search(table, rows, firsts, groups, operations, 0, all);
+    if w.failed {
+        let f = find(table, groups, operations, w.at);
+        let a = put_refuted(text, labels, f.part, out, 0);
+        let b = put_witness(text, labels, table, groups, f, out, a);
+        return put_count(w.at + 1, out, b);
+    }
+    let a = put_all(b"accepted\n", out, 0);
+    put_count(w.at, out, a)
+}
+
+// The report of a text in front of the lent bytes, and its length.
+pub fn report(text: &[u8], out: &mut [u8; REPORT]) -> usize
+    ensures { λ r. ⌜ Reported (now (text .entry)) (now (out .entry)) (now (out .exit)) r ⌝ }
+{
+    let mut table = [0u16; 16384];
+    let mut rows = [0u16; 16384];
+    let mut firsts = [0u16; 40];
+    let mut groups = [0u16; 160];
+    let mut labels = [0u16; LABELS];
+    let answer = read_text(
+        text,
+        &mut table,
+        &mut rows,
+        &mut firsts,
+        &mut groups,
+        &mut labels,
+    );
+    match answer {
+        TextRead::Refused(n, p) => put_refusal(n, p, out),
+        TextRead::Read(operations) => {
+            put_verdict(
+                text,
+                &labels,
+                &table,
+                &rows,
+                &firsts,
+                &groups,
+                operations,
+                out,
+            )
+        }
+    }
+}

@@ -1,0 +1,147 @@
+// The binding at a place of a part, a line for each variable.
+ghost use mathlib.Core.Path.{_≡_};
+ghost use Prim.Native.Nat.{_+_, _*_, _<_, _≤_};
+ghost use lib.ListN.{length};
+ghost use Rattle.witnesses.specs.WitnessPromises.{WitnessAsked, WitnessWritten};
+use labels::LABELS;
+use lines::Group;
+use lines::put_group;
+use part_places::Found;
+use part_places::OBLIGATIONS;
+use part_places::OPENING;
+use part_places::part_cells;
+use plans::Part;
+use points::slots;
+use slot_carriers::groups::bind;
+
+// The greatest length of a witness: 30 lines.
+pub const WITNESS: usize = 19350;
+
+// The first places of the groups: of both states, and of an operation's inputs and outputs.
+const ABSTRACT_FIRST: usize = 1;
+
+const CONCRETE_FIRST: usize = 10;
+
+const INPUTS_FIRST: usize = 19;
+
+const OUTPUTS_FIRST: usize = 23;
+
+const OPERATION_ROW: usize = 8;
+
+// The binding at a place, by its digits.
+fn bind_place(cells: &[u32; 9216], p: Part, at: usize, values: &mut [i64; 64]) {
+    let o = at / p.nk;
+    let i = o / p.nq;
+    let c = i / p.ni;
+    bind(cells, slots::ABSTRACT, p.va, p.na, c / p.nc, values);
+    bind(cells, slots::CONCRETE, p.vc, p.nc, c % p.nc, values);
+    bind(cells, slots::INPUTS, p.vi, p.ni, i % p.ni, values);
+    bind(cells, slots::OUTPUTS, p.vo, p.nq, o % p.nq, values);
+    bind(cells, slots::CONCRETE_PRIMED, p.vk, p.nk, at % p.nk, values);
+}
+
+// The lines of all groups of a part; `row` is how far its operation's rows are from the first operation's. A group without variables leaves no line.
+fn put_groups(
+    text: &[u8],
+    labels: &[u16; LABELS],
+    values: &[i64; 64],
+    p: Part,
+    row: usize,
+    out: &mut [u8],
+    at: usize,
+) -> usize {
+    let a = put_group(
+        text,
+        labels,
+        values,
+        Group {
+            first: ABSTRACT_FIRST,
+            count: p.va,
+            slot: slots::ABSTRACT,
+            ending: 0,
+        },
+        out,
+        at,
+    );
+    let b = put_group(
+        text,
+        labels,
+        values,
+        Group {
+            first: CONCRETE_FIRST,
+            count: p.vc,
+            slot: slots::CONCRETE,
+            ending: 0,
+        },
+        out,
+        a,
+    );
+    let c = put_group(
+        text,
+        labels,
+        values,
+        Group {
+            first: INPUTS_FIRST + row,
+            count: p.vi,
+            slot: slots::INPUTS,
+            ending: b'?',
+        },
+        out,
+        b,
+    );
+    let d = put_group(
+        text,
+        labels,
+        values,
+        Group {
+            first: OUTPUTS_FIRST + row,
+            count: p.vo,
+            slot: slots::OUTPUTS,
+            ending: b'!',
+        },
+        out,
+        c,
+    );
+    put_group(
+        text,
+        labels,
+        values,
+        Group {
+            first: CONCRETE_FIRST,
+            count: p.vk,
+            slot: slots::CONCRETE_PRIMED,
+            ending: b'\'',
+        },
+        out,
+        d,
+    )
+}
+
+// How far the rows of the k-th part's operation are from the first operation's.
+fn operation_row(k: usize) -> usize {
+    if k < OPENING {
+        return 0;
+    }
+    OPERATION_ROW * ((k - OPENING) / OBLIGATIONS)
+}
+
+// The witness at a place of a part.
+pub fn put_witness(
+    text: &[u8],
+    labels: &[u16; LABELS],
+    table: &[u16; 16384],
+    groups: &[u16; 160],
+    f: Found,
+    out: &mut [u8],
+    at: usize,
+) -> usize
+    requires { ⌜ at + 19350 ≤ length (now out) ⌝ }
+    requires { ⌜ WitnessAsked (now table) (now groups) (f .part) (f .at) ⌝ }
+    ensures { λ r. ⌜ WitnessWritten (now (text .entry)) (now (labels .entry)) (now (table .entry)) (now (groups .entry)) (f .part) (f .at) at (now (out .entry)) (now (out .exit)) r ⌝ }
+{
+    let mut cells = [0u32; 9216];
+    let mut values = [0i64; 64];
+    let p = part_cells(table, groups, f.part, &mut cells);
+    bind_place(&cells, p, f.at, &mut values);
+    put_groups(text, labels, &values, p, operation_row(f.part), out, at)
+}

@@ -1,0 +1,1 @@
+// The demands over the calls: theorems alone.

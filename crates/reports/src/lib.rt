@@ -4,7 +4,9 @@ ghost use Prim.Native.Nat.{_+_, _≤_, _<_};
 ghost use lib.ListN.{length, getD};
 ghost use Rattle.obligations.specs.Report.{countLine};
 ghost use Rattle.pieces.specs.PiecePromises.{Writes, lettersAt};
-ghost use Rattle.reports.specs.ReportPromises.{Reported, LineWritten};
+ghost use Rattle.reports.specs.ReportPromises.{Reported, RefutedLine, LineWritten, VerdictAsked, VerdictWritten, refusalPiece, operationPart, partOf};
+ghost use Rattle.held_checks.specs.Answers.{obligationIs};
+use held_checks::Obligation;
 use labels::LABELS;
 use labels::TITLES;
 use part_places::OBLIGATIONS;
@@ -22,6 +24,14 @@ use witnesses::put_witness;
 
 // The greatest length of a report: a first line of 39 bytes, a witness, a line with the count of 30.
 pub const REPORT: usize = 19419;
+
+// The greatest length of the first line.
+pub const FIRST_LINE: usize = 39;
+
+// How many parts there are at most.
+const PARTS: usize = 33;
+
+const OPERATIONS: usize = 16;
 
 // The name of the k-th operation.
 fn put_title(text: &[u8], labels: &[u16; LABELS], k: usize, out: &mut [u8], at: usize) -> usize
@@ -69,6 +79,7 @@ fn put_count(n: usize, out: &mut [u8], at: usize) -> usize
 // The line of a refusal.
 fn put_refusal(n: u8, p: usize, out: &mut [u8]) -> usize
     requires { ⌜ 53 ≤ length (now out) ⌝ }
+    ensures { λ r. ⌜ Writes 0 (refusalPiece n p) (now (out .entry)) (now (out .exit)) r ⌝ }
 {
     let a = put_all(b"refused ", out, 0);
     let b = put_decimal(n as u64, out, a);
@@ -130,6 +141,57 @@ pub fn report(text: &[u8], out: &mut [u8; REPORT]) -> usize
                 operations,
                 out,
             )
+        }
+    }
+}
+
+// The part of an operation's obligation; one that no dossier has where the operation is none of 16.
+fn operation_part(k: usize, which: usize) -> usize
+    requires { ⌜ which ≤ 1 ⌝ }
+    ensures { λ r. ⌜ r ≡ operationPart which k ⌝ }
+{
+    if k >= OPERATIONS {
+        return PARTS;
+    }
+    OPENING + OBLIGATIONS * k + which
+}
+
+// The part of an obligation.
+fn part_of(o: Obligation) -> usize
+    ensures { λ r. ⌜ r ≡ partOf (obligationIs o) ⌝ }
+{
+    match o {
+        Obligation::Initialisation => 0,
+        Obligation::Applicability(k) => operation_part(k, 0),
+        Obligation::Correctness(k) => operation_part(k, 1),
+    }
+}
+
+// The first line of the report of a text that is refuted with an obligation.
+pub fn refuted_line(text: &[u8], o: Obligation, out: &mut [u8; FIRST_LINE]) -> usize
+    ensures { λ r. ⌜ RefutedLine (now (text .entry)) o (now (out .entry)) (now (out .exit)) r ⌝ }
+{
+    let mut table = [0u16; 16384];
+    let mut rows = [0u16; 16384];
+    let mut firsts = [0u16; 40];
+    let mut groups = [0u16; 160];
+    let mut labels = [0u16; LABELS];
+    let answer = read_text(
+        text,
+        &mut table,
+        &mut rows,
+        &mut firsts,
+        &mut groups,
+        &mut labels,
+    );
+    match answer {
+        TextRead::Refused(_, _) => 0,
+        TextRead::Read(_) => {
+            let part = part_of(o);
+            if part >= PARTS {
+                return 0;
+            }
+            put_refuted(text, &labels, part, out, 0)
         }
     }
 }

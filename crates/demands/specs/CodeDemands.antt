@@ -8,10 +8,10 @@ use Rattle.static_rules.specs.Read.{reading, read}
 use Rattle.obligations.specs.Subjects.{Subject}
 use Rattle.obligations.specs.Order.{obligationOf}
 use Rattle.obligations.specs.Report.{checkAt, witnessLines}
-use Rattle.obligations.specs.Calls.{Verdict, unfinished, refuted, nothing, holding, Call, load, advance, verdict, witness, release, Reply, respond, Exchange, Trace, heldAfter}
+use Rattle.obligations.specs.Calls.{Verdict, unfinished, refuted, nothing, holding, advance, verdict, witness, respond, Exchange, Trace, heldAfter}
 use Rattle.obligations.specs.Runs.{RunsMatch}
 use Rattle.obligations.specs.RefusalTable.{lentTo, expected, refusalIn}
-use Rattle.obligations.specs.CallDemands.{IsRefusal, FirstFailing, wholeCount, verdictAfter, Loaded, none, text, lastLoaded, Reached}
+use Rattle.obligations.specs.CallDemands.{IsRefusal, FirstFailing, wholeCount, verdictAfter, none, text, lastLoaded, Reached}
 use Rattle.obligations.specs.Demands.{acceptance}
 use Rattle.held_checks.specs.HeldBytes.{noneHeld, heldBy}
 use Rattle.held_checks.specs.Answers.{Answer, looked, verdictIs, written, answerTo}
@@ -32,6 +32,16 @@ pub record CodeDemand1 : Type 0 where
   pub exactly : (b : List ℕ) (x : Exchange) (c : List ℕ) → Step b x c → refusalIn (x .reply) ≡ expected (heldBy b) (x .call)
   pub unchanged : (b : List ℕ) (x : Exchange) (c : List ℕ) → Step b x c → IsRefusal (x .reply) → (c ≡ b) × (x .lent ≡ lentTo (x .call))
 
+-- "Witness writes one line per variable .. into lent bytes from their start, returns the length, touches no byte after it.": after the bytes e, into the bytes b, of the first failing check
+pub record Witnessed (e b c lent : List ℕ) (n : ℕ) : Type 0 where
+  pub subject : Subject
+  pub place : ℕ
+  pub held : heldBy e ≡ holding subject (suc place) (refuted (obligationOf (checkAt subject place)))
+  pub first : FirstFailing subject place
+  pub kept : c ≡ e
+  pub long : n ≡ length (witnessLines subject (checkAt subject place))
+  pub lines : lent ≡ witnessLines subject (checkAt subject place) ++ drop n b
+
 -- Demand 2: what is held after any list of calls, and what the calls show of it
 pub record CodeDemand2 : Type 0 where
   -- the bytes that a call leaves stand for exactly the held check that `respond` leaves
@@ -48,9 +58,7 @@ pub record CodeDemand2 : Type 0 where
   pub tells : (xs : List Exchange) (e : List ℕ) → Steps noneHeld xs e → (σ : Subject) (p : ℕ) (v : Verdict) → heldBy e ≡ holding σ p v
       → (c lent : List ℕ) (a : Answer) → Responds e verdict c lent a → (a ≡ verdictIs (verdictAfter σ p)) × (c ≡ e)
   -- "The binding shown is the first in the fixed order"
-  pub shows : (xs : List Exchange) (e : List ℕ) → Steps noneHeld xs e → (b c lent : List ℕ) (n : ℕ) → Responds e (witness b) c lent (written n)
-      → (σ : Subject) × ((q : ℕ) × ((heldBy e ≡ holding σ (suc q) (refuted (obligationOf (checkAt σ q)))) × FirstFailing σ q × (c ≡ e)
-      × (n ≡ length (witnessLines σ (checkAt σ q))) × (lent ≡ witnessLines σ (checkAt σ q) ++ drop n b)))
+  pub shows : (xs : List Exchange) (e : List ℕ) → Steps noneHeld xs e → (b c lent : List ℕ) (n : ℕ) → Responds e (witness b) c lent (written n) → Witnessed e b c lent n
 
 -- Demand 3: "Take any list of the calls ..., with any arguments, refused ones included, from nothing held on. Of every dossier that a verdict in it calls accepted, this holds"
 abbrev pub CodeDemand3 : Type 0

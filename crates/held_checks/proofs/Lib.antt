@@ -1,0 +1,4 @@
+-- The held check in bytes.
+pub mod HeldBytesLaws
+pub mod ByteSteps
+pub mod LayoutLaws

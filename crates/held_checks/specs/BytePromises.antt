@@ -5,12 +5,11 @@ use mathlib.Core.List.{List, [], _∷_}
 use Prim.Native.Nat.{ℕ, _^_, _<_, _≤_}
 use lib.Dec.{eqb}
 use lib.ListN.{length, take, drop}
-use Rattle.held_checks.specs.HeldBytes.{littleEndian, fromBytes, bytesOf}
+use Rattle.held_checks.specs.HeldBytes.{fromBytes, bytesOf}
 
--- r is the number in n bytes from a place on, and they are its bytes
+-- r is the number in n bytes from a place on
 pub record NumberAt (b : List ℕ) (at n r : ℕ) : Type 0 where
   pub is : r ≡ fromBytes (take n (drop at b))
-  pub back : littleEndian n r ≡ take n (drop at b)
   pub small : r < 256 ^ n
 
 unfoldable pub allZero : List ℕ → Bool

@@ -1,10 +1,10 @@
 // The held check in lent bytes, and the answers of the calls. The bytes: 0 the mark, 1 the profile, 2 the operation, 3 spare (all three 0), from 4 on the text's length, from 8 on the
 // place, numbers with the lowest byte first, from 16 on the text, and zeros behind it. All zero is nothing held.
 ghost use mathlib.Core.Path.{_≡_};
-ghost use Prim.Native.Nat.{_+_, _^_, _<_, _≤_};
-ghost use lib.ListN.{length, take, drop, replicate};
+ghost use Prim.Native.Nat.{_+_, _<_, _≤_};
+ghost use lib.ListN.{length, take, drop};
 ghost use Rattle.table_nodes.specs.TableWalkPromises.{patch};
-ghost use Rattle.held_checks.specs.HeldBytes.{littleEndian, fromBytes, bytesOf, noneHeld, isLaid, heldText, heldPlace, fitting};
+ghost use Rattle.held_checks.specs.HeldBytes.{littleEndian, fromBytes, bytesOf, noneHeld, isLaid, heldPlace, fitting};
 ghost use Rattle.held_checks.specs.BytePromises.{NumberAt, allZero, Turned};
 use lexical::bounds::TEXT_BYTES;
 
@@ -133,7 +133,8 @@ pub fn place_in(held: &[u8; HELD]) -> usize
 }
 
 // The bytes have the layout: spare bytes 0, and zeros behind the text.
-pub fn laid(held: &[u8; HELD]) -> bool
+fn has_layout(held: &[u8]) -> bool
+    requires { ⌜ length (now held) ≡ 32784 ⌝ }
     ensures { λ r. ⌜ r ≡ isLaid (now (held .entry)) ⌝ }
 {
     if held[PROFILE] != 0 {
@@ -145,11 +146,17 @@ pub fn laid(held: &[u8; HELD]) -> bool
     if held[SPARE] != 0 {
         return false;
     }
-    let n = length_in(held);
+    let n = number(held, LENGTH, LENGTH_BYTES);
     if n > TEXT_BYTES {
         return false;
     }
     zero_from(held, TEXT + n)
+}
+
+pub fn laid(held: &[u8; HELD]) -> bool
+    ensures { λ r. ⌜ r ≡ isLaid (now (held .entry)) ⌝ }
+{
+    has_layout(held)
 }
 
 // A mark fits a place of an order of so many places.
@@ -171,15 +178,23 @@ pub fn fits(all: usize, place: usize, mark: u8) -> bool
     false
 }
 
+// All bytes become 0.
+fn fill_zero(held: &mut [u8])
+    requires { ⌜ length (now held) ≡ 32784 ⌝ }
+    ensures { λ _. ⌜ now (held .exit) ≡ noneHeld ⌝ }
+{
+    let mut k: usize = 0;
+    while k < held.len() {
+        held[k] = 0;
+        k += 1;
+    }
+}
+
 // Nothing is held.
 pub fn clear(held: &mut [u8; HELD])
     ensures { λ _. ⌜ now (held .exit) ≡ noneHeld ⌝ }
 {
-    let mut k: usize = 0;
-    while k < HELD {
-        held[k] = 0;
-        k += 1;
-    }
+    fill_zero(held);
 }
 
 // The bytes of a text from the place TEXT on.
@@ -194,21 +209,37 @@ fn put_text(text: &[u8], held: &mut [u8])
     }
 }
 
+// All the bytes of a held text, at the beginning of its order.
+fn put_held(text: &[u8], held: &mut [u8])
+    requires { ⌜ (length (now text) ≤ 32768) × (length (now held) ≡ 32784) ⌝ }
+    ensures { λ _. ⌜ now (held .exit) ≡ bytesOf (now (text .entry)) 0 1 ⌝ }
+{
+    fill_zero(held);
+    held[MARK] = UNFINISHED;
+    put_number(held, LENGTH, LENGTH_BYTES, text.len());
+    put_text(text, held);
+}
+
 // A text is held, at the beginning of its order.
 pub fn lay(text: &[u8], held: &mut [u8; HELD])
     requires { ⌜ length (now text) ≤ 32768 ⌝ }
     ensures { λ _. ⌜ now (held .exit) ≡ bytesOf (now (text .entry)) 0 1 ⌝ }
 {
-    clear(held);
-    held[MARK] = UNFINISHED;
-    put_number(held, LENGTH, LENGTH_BYTES, text.len());
-    put_text(text, held);
+    put_held(text, held);
+}
+
+// The place and the mark.
+fn put_turn(held: &mut [u8], place: usize, mark: u8)
+    requires { ⌜ length (now held) ≡ 32784 ⌝ }
+    ensures { λ _. ⌜ Turned (now (held .entry)) place mark (now (held .exit)) ⌝ }
+{
+    held[MARK] = mark;
+    put_number(held, PLACE, PLACE_BYTES, place);
 }
 
 // The held check comes to a place, with a mark.
 pub fn turn(held: &mut [u8; HELD], place: usize, mark: u8)
     ensures { λ _. ⌜ Turned (now (held .entry)) place mark (now (held .exit)) ⌝ }
 {
-    held[MARK] = mark;
-    put_number(held, PLACE, PLACE_BYTES, place);
+    put_turn(held, place, mark);
 }

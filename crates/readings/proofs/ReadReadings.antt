@@ -62,7 +62,7 @@ both-few n m k e = (leb-true n k (left (leb n k) (leb m k) e), leb-true m k (rig
     right false false h = h
 
 -- of the states; of the operation at a place
-state-bindings : (d : Dossier) → bindingFaults d ≡ []
+pub state-bindings : (d : Dossier) → bindingFaults d ≡ []
     → (bindingCount (unprimed d (d .abstract)) ≤ 4096) × (bindingCount (unprimed d (d .concrete)) ≤ 4096) × (operationBindings d (operationsAt d) (d .operations) ≡ [])
 unfolding bindingFaults
 state-bindings d e =
@@ -73,7 +73,7 @@ state-bindings d e =
       k .2,
     )
 
-operation-bindings : (d : Dossier) (i : ℕ) (os : List Operation) → operationBindings d i os ≡ [] → (j : ℕ) (o : Operation) → getElem? os j ≡ some o
+pub operation-bindings : (d : Dossier) (i : ℕ) (os : List Operation) → operationBindings d i os ≡ [] → (j : ℕ) (o : Operation) → getElem? os j ≡ some o
     → (bindingCount (inputs d o) ≤ 64) × (bindingCount (outputs d o) ≤ 64)
 unfolding operationBindings
 operation-bindings d i [] e j o s = absurd (Option·none-ne-some o s)
@@ -87,7 +87,7 @@ operation-bindings d i (p ∷ os) e (suc j) o s =
 
 -- ---- the operation at a place
 
-few-at : {os : List Operation} → FewEach os → (j : ℕ) (o : Operation) → getElem? os j ≡ some o → FewParameters o
+pub few-at : {os : List Operation} → FewEach os → (j : ℕ) (o : Operation) → getElem? os j ≡ some o → FewParameters o
 few-at few-none j o e = absurd (Option·none-ne-some o e)
 few-at (few-more {o = p} h r) zero o e = subst FewParameters (Option·some-injective p o e) h
 few-at (few-more h r) (suc j) o e = few-at r j o e
@@ -99,17 +99,17 @@ within-at (p ∷ os) w zero o e = subst (λ (x : Operation). ParametersWithin (x
 within-at (p ∷ os) w (suc j) o e = within-at os (w .3) j o e
 
 -- the rows of an operation's inputs and outputs
-abbrev insOf : (q : ℕ) → Operation → List ℕ
+abbrev pub insOf : (q : ℕ) → Operation → List ℕ
 insOf q o = parameterRow (λ (x : Parameter). isInput (x .direction)) q (o .parameters)
 
-abbrev outsOf : (q : ℕ) → Operation → List ℕ
+abbrev pub outsOf : (q : ℕ) → Operation → List ℕ
 outsOf q o = parameterRow (λ (x : Parameter). isOutput (x .direction)) q (o .parameters)
 
-record RowsOf (groups spans : List ℕ) (at x : ℕ) (o : Operation) : Type 0 where
-  behind-inputs : List ℕ
-  behind-outputs : List ℕ
-  inputs-row : Split groups at (row 3 (insOf (span spans (9 + 4 * x)) o) ++ behind-inputs)
-  outputs-row : Split groups (at + 4) (row 3 (outsOf (span spans (9 + 4 * x)) o) ++ behind-outputs)
+pub record RowsOf (groups spans : List ℕ) (at x : ℕ) (o : Operation) : Type 0 where
+  pub behind-inputs : List ℕ
+  pub behind-outputs : List ℕ
+  pub inputs-row : Split groups at (row 3 (insOf (span spans (9 + 4 * x)) o) ++ behind-inputs)
+  pub outputs-row : Split groups (at + 4) (row 3 (outsOf (span spans (9 + 4 * x)) o) ++ behind-outputs)
 
 module _ {groups : List ℕ} (spans : List ℕ) where
   rows-first : (k at : ℕ) (o : Operation) (os : List Operation) (post : List ℕ) → FewParameters o → Split groups at (operationRows spans k (o ∷ os) ++ post)
@@ -133,7 +133,7 @@ module _ {groups : List ℕ} (spans : List ℕ) where
         split-move (omega arith) s₃,
       )
 
-  rows-of : (k at : ℕ) (os : List Operation) (post : List ℕ) → FewEach os → Split groups at (operationRows spans k os ++ post) → (j : ℕ) (o : Operation)
+  pub rows-of : (k at : ℕ) (os : List Operation) (post : List ℕ) → FewEach os → Split groups at (operationRows spans k os ++ post) → (j : ℕ) (o : Operation)
       → getElem? os j ≡ some o → (x y : ℕ) → x ≡ k + j → y ≡ at + 8 * j → RowsOf groups spans y x o
   rows-of k at _ post few-none s j o e x y f g = absurd (Option·none-ne-some o e)
   rows-of k at _ post (few-more {o = p} {os = os} h r) s zero o e x y f g =
@@ -153,15 +153,15 @@ state-row-long q [] = refl
 state-row-long q (x ∷ ds) = ap suc (state-row-long (q + 8) ds)
 
 -- where the rows of the states and of the operations begin
-record Rows (d : Dossier) (ρ : Numbering) (groups : List ℕ) : Type 0 where
-  behind-abstracts : List ℕ
-  behind-concretes : List ℕ
-  behind-operations : List ℕ
-  abstracts : Split groups 0 (row 8 (stateRow (span (spansOf d ρ) 0) (declarations (d .abstract))) ++ behind-abstracts)
-  concretes : Split groups 9 (row 8 (stateRow (span (spansOf d ρ) 3) (declarations (d .concrete))) ++ behind-concretes)
-  operations : Split groups 18 (operationRows (spansOf d ρ) 0 (d .operations) ++ behind-operations)
+pub record Rows (d : Dossier) (ρ : Numbering) (groups : List ℕ) : Type 0 where
+  pub behind-abstracts : List ℕ
+  pub behind-concretes : List ℕ
+  pub behind-operations : List ℕ
+  pub abstracts : Split groups 0 (row 8 (stateRow (span (spansOf d ρ) 0) (declarations (d .abstract))) ++ behind-abstracts)
+  pub concretes : Split groups 9 (row 8 (stateRow (span (spansOf d ρ) 3) (declarations (d .concrete))) ++ behind-concretes)
+  pub operations : Split groups 18 (operationRows (spansOf d ρ) 0 (d .operations) ++ behind-operations)
 
-groups-rows : (d : Dossier) (ρ : Numbering) (groups₀ groups : List ℕ) → length (declarations (d .abstract)) ≤ 8 → length (declarations (d .concrete)) ≤ 8
+pub groups-rows : (d : Dossier) (ρ : Numbering) (groups₀ groups : List ℕ) → length (declarations (d .abstract)) ≤ 8 → length (declarations (d .concrete)) ≤ 8
     → groups ≡ patch 0 (groupsOf d ρ) groups₀ → Rows d ρ groups
 unfolding patch groupsOf
 groups-rows d ρ groups₀ groups h k e =

@@ -20,7 +20,7 @@ use Rattle.evaluation.proofs.RangesAgree.{low-end, range-count}
 abbrev pub StandsFor : (piece : List ℕ) → Carrier → Type 0
 StandsFor piece c = Stands (getD piece 3 0) (getD piece 1 0) (getD piece 0 0) c
 
-size-known : (gs : List Given) (x : Name) (g : Given) → givenOf gs x ≡ some g → givenSize gs x ≡ sizeOf g
+pub size-known : (gs : List Given) (x : Name) (g : Given) → givenOf gs x ≡ some g → givenSize gs x ≡ sizeOf g
 unfolding givenSize
 size-known gs x g e = rw (givenSize, e)
 
@@ -57,6 +57,29 @@ arrow-some : (gs : List Given) (a : Arrow) (x y : Name) (g h : Given) → givenO
 unfolding carrierOf
 arrow-some gs a x y g h e f = rw (carrierOf, e, f)
 
+-- what holds of each type whose given sets are found, and of its carrier, holds of each type that has a carrier
+pub by-carrier : (gs : List Given) (Q : TypeForm → Carrier → Type 0) → ((x : Name) (g : Given) → givenOf gs x ≡ some g → Q (givenType x) (elementsOf g))
+    → ((x : Name) (g : Given) → givenOf gs x ≡ some g → Q (powerType x) (subsetsOf g)) → ((r : Range) → Q (rangeType r) (rangeCarrier r))
+    → ((a : Arrow) (x y : Name) (g h : Given) → givenOf gs x ≡ some g → givenOf gs y ≡ some h → Q (arrowType a x y) (pairsOf a g h))
+    → (t : TypeForm) (c : Carrier) → carrierOf gs t ≡ some c → Q t c
+by-carrier gs Q given power ranged arrow (givenType x) c e = go (givenOf gs x) refl
+  where
+    go : (o : Option Given) → givenOf gs x ≡ o → Q (givenType x) c
+    go none k = absurd (Option·none-ne-some c (sym (given-none gs x k) ∙ e))
+    go (some g) k = subst (Q (givenType x)) (Option·some-injective (elementsOf g) c (sym (given-some gs x g k) ∙ e)) (given x g k)
+by-carrier gs Q given power ranged arrow (powerType x) c e = go (givenOf gs x) refl
+  where
+    go : (o : Option Given) → givenOf gs x ≡ o → Q (powerType x) c
+    go none k = absurd (Option·none-ne-some c (sym (power-none gs x k) ∙ e))
+    go (some g) k = subst (Q (powerType x)) (Option·some-injective (subsetsOf g) c (sym (power-some gs x g k) ∙ e)) (power x g k)
+by-carrier gs Q given power ranged arrow (rangeType r) c e = subst (Q (rangeType r)) (Option·some-injective (rangeCarrier r) c (range-some gs r c e)) (ranged r)
+by-carrier gs Q given power ranged arrow (arrowType a x y) c e = go (givenOf gs x) refl (givenOf gs y) refl
+  where
+    go : (o : Option Given) → givenOf gs x ≡ o → (p : Option Given) → givenOf gs y ≡ p → Q (arrowType a x y) c
+    go none k p l = absurd (Option·none-ne-some c (sym (arrow-none gs a x y k) ∙ e))
+    go (some g) k none l = absurd (Option·none-ne-some c (sym (arrow-half gs a x y g k l) ∙ e))
+    go (some g) k (some h) l = subst (Q (arrowType a x y)) (Option·some-injective (pairsOf a g h) c (sym (arrow-some gs a x y g h k l) ∙ e)) (arrow a x y g h k l)
+
 module _ (gs : List Given) (few : (g : Given) → Among g gs → sizeOf g ≤ 8) where
   -- a type whose carrier is known
   elements-stand : (x : Name) (g : Given) → givenSize gs x ≡ sizeOf g → CarrierFits gs (elementsOf g) → StandsFor (typeTable (givenType x) gs) (elementsOf g)
@@ -77,31 +100,7 @@ module _ (gs : List Given) (few : (g : Given) → Among g gs → sizeOf g ≤ 8)
   pairs-stand a x y g h e f k = (refl, e, f, subst₂ (λ (n m : ℕ). n * m ≤ 16) (sym e) (sym f) (k .2))
 
   pub type-stands : (t : TypeForm) (c : Carrier) → carrierOf gs t ≡ some c → CarrierFits gs c → TypeWithin t → StandsFor (typeTable t gs) c
-  type-stands (givenType x) c e h w = go (givenOf gs x) refl
-    where
-      go : (o : Option Given) → givenOf gs x ≡ o → StandsFor (typeTable (givenType x) gs) c
-      go none k = absurd (Option·none-ne-some c (sym (given-none gs x k) ∙ e))
-      go (some g) k =
-          let i = Option·some-injective (elementsOf g) c (sym (given-some gs x g k) ∙ e) in
-          subst (λ (z : Carrier). StandsFor (typeTable (givenType x) gs) z) i
-          (elements-stand x g (size-known gs x g k) (subst (CarrierFits gs) (sym i) h))
-  type-stands (powerType x) c e h w = go (givenOf gs x) refl
-    where
-      go : (o : Option Given) → givenOf gs x ≡ o → StandsFor (typeTable (powerType x) gs) c
-      go none k = absurd (Option·none-ne-some c (sym (power-none gs x k) ∙ e))
-      go (some g) k =
-          let i = Option·some-injective (subsetsOf g) c (sym (power-some gs x g k) ∙ e) in
-          subst (λ (z : Carrier). StandsFor (typeTable (powerType x) gs) z) i
-          (subsets-stand x g (size-known gs x g k) (subst (CarrierFits gs) (sym i) h))
-  type-stands (rangeType r) c e h w =
-      let i = Option·some-injective (rangeCarrier r) c (range-some gs r c e) in
-      subst (λ (z : Carrier). StandsFor (typeTable (rangeType r) gs) z) i (range-stands r (subst (CarrierFits gs) (sym i) h) w)
-  type-stands (arrowType a x y) c e h w = go (givenOf gs x) refl (givenOf gs y) refl
-    where
-      go : (o : Option Given) → givenOf gs x ≡ o → (p : Option Given) → givenOf gs y ≡ p → StandsFor (typeTable (arrowType a x y) gs) c
-      go none k p l = absurd (Option·none-ne-some c (sym (arrow-none gs a x y k) ∙ e))
-      go (some g) k none l = absurd (Option·none-ne-some c (sym (arrow-half gs a x y g k l) ∙ e))
-      go (some g) k (some g′) l =
-          let i = Option·some-injective (pairsOf a g g′) c (sym (arrow-some gs a x y g g′ k l) ∙ e) in
-          subst (λ (z : Carrier). StandsFor (typeTable (arrowType a x y) gs) z) i
-          (pairs-stand a x y g g′ (size-known gs x g k) (size-known gs y g′ l) (subst (CarrierFits gs) (sym i) h))
+  type-stands =
+      by-carrier gs (λ (t : TypeForm) (c : Carrier). CarrierFits gs c → TypeWithin t → StandsFor (typeTable t gs) c) (λ x g k h w. elements-stand x g (size-known gs x g k) h)
+      (λ x g k h w. subsets-stand x g (size-known gs x g k) h) (λ r h w. range-stands r h w)
+      (λ a x y g f k l h w. pairs-stand a x y g f (size-known gs x g k) (size-known gs y f l) h)

@@ -1,1 +1,2 @@
 pub mod WitnessPromises
+pub mod WitnessSteps

@@ -1,0 +1,2 @@
+pub mod CheckDigits
+pub mod WitnessLaws

@@ -1,7 +1,7 @@
 -- What the functions that gather labels promise, by numbers: which number of which array each label is. Nothing here need be believed.
 use mathlib.Core.Path.{_≡_}
 use mathlib.Core.List.{List}
-use Prim.Native.Nat.{ℕ, _+_, _-_, _*_, _/_, _<_, _≤_}
+use Prim.Native.Nat.{ℕ, zero, suc, _+_, _-_, _*_, _/_, _<_, _≤_}
 use lib.ListN.{length, take, getD}
 use Rattle.form.specs.Tree.{Letters, Given, elements, Dossier}
 use Rattle.form.specs.Codes.{Numbering, dossierCodes}
@@ -17,6 +17,24 @@ pub record Between (from to : ℕ) (old new : List ℕ) : Type 0 where
   pub below : (i : ℕ) → i < from → getD new i 0 ≡ getD old i 0
   pub above : (i : ℕ) → to ≤ i → getD new i 0 ≡ getD old i 0
   pub same-length : length new ≡ length old
+
+-- n labels from a place on are the numbers f 0, f 1, ..
+pub record Stored (n at : ℕ) (f : ℕ → ℕ) (old new : List ℕ) : Type 0 where
+  pub others : Between at (at + n) old new
+  pub each : (k : ℕ) → k < n → getD new (at + k) 0 ≡ f k
+
+-- of nodes one behind another, from q on
+abbrev pub namesFrom : (nodes starts : List ℕ) (q : ℕ) → ℕ → ℕ
+namesFrom nodes starts q k = nameByte nodes starts (q + 4 * k)
+
+abbrev pub titlesOf : (nodes starts spans : List ℕ) → ℕ → ℕ
+titlesOf nodes starts spans j = nameByte nodes starts (getD spans (9 + 4 * j) 0 - 4)
+
+abbrev pub variableOf : (nodes starts table : List ℕ) (q : ℕ) → ℕ → ℕ
+variableOf nodes starts table q zero = nameByte nodes starts q
+variableOf nodes starts table q (suc zero) = getD table (q + 7) 0
+variableOf nodes starts table q (suc (suc zero)) = getD table (q + 6) 0
+variableOf nodes starts table q (suc (suc (suc k))) = getD table (q + 4) 0
 
 -- of the elements, where the first m nodes are those of a dossier
 pub record ElementsGathered (nodes starts : List ℕ) (m : ℕ) (old new : List ℕ) : Type 0 where

@@ -1,8 +1,9 @@
 // Pieces of text in lent bytes: each function writes from the place `at` on, touches no other byte, and answers the place behind what it wrote.
 ghost use mathlib.Core.Path.{_≡_};
 ghost use mathlib.Core.List.{[], _∷_};
-ghost use Prim.Native.Nat.{_+_, _≤_, _<_};
+ghost use Prim.Native.Nat.{_+_, _^_, _≤_, _<_};
 ghost use lib.ListN.{length, take, drop};
+ghost use lib.IntN.{natAbs};
 ghost use Rattle.obligations.specs.Report.{decimal, signedDecimal};
 ghost use Rattle.pieces.specs.PiecePromises.{Writes, lettersAt};
 use lexical::bounds::NAME_LETTERS;
@@ -33,7 +34,7 @@ pub fn put_part(text: &[u8], from: usize, n: usize, out: &mut [u8], at: usize) -
 {
     let mut k: usize = 0;
     while k < n {
-        out[at + k] = text[from + k];
+        put(out, at + k, text[from + k]);
         k += 1;
     }
     at + n
@@ -48,7 +49,7 @@ pub fn put_all(text: &[u8], out: &mut [u8], at: usize) -> usize
 }
 
 fn least(x: usize, y: usize) -> usize
-    ensures { λ r. ⌜ (r ≤ x) × (r ≤ y) ⌝ }
+    ensures { λ r. ⌜ (r ≤ x) × (r ≤ y) × (r < y → r ≡ x) ⌝ }
 {
     if x < y {
         return x;
@@ -68,16 +69,34 @@ pub fn put_letters(text: &[u8], from: usize, out: &mut [u8], at: usize) -> usize
     put_part(text, from, n, out, at)
 }
 
-// A number in decimal.
-pub fn put_decimal(n: u64, out: &mut [u8], at: usize) -> usize
-    requires { ⌜ at + 20 ≤ length (now out) ⌝ }
+// The number n, of at most d digits.
+fn put_digits(n: u64, d: usize, out: &mut [u8], at: usize) -> usize
+    requires { ⌜ (n < 10 ^ d) × (1 ≤ d) × (at + d ≤ length (now out)) ⌝ }
     ensures { λ r. ⌜ Writes at (decimal n) (now (out .entry)) (now (out .exit)) r ⌝ }
 {
     if n < TEN {
         return put(out, at, n as u8 + ZERO);
     }
-    let k = put_decimal(n / TEN, out, at);
+    let k = put_digits(n / TEN, d - 1, out, at);
     put(out, k, (n % TEN) as u8 + ZERO)
+}
+
+// A number in decimal.
+pub fn put_decimal(n: u64, out: &mut [u8], at: usize) -> usize
+    requires { ⌜ at + 20 ≤ length (now out) ⌝ }
+    ensures { λ r. ⌜ Writes at (decimal n) (now (out .entry)) (now (out .exit)) r ⌝ }
+{
+    put_digits(n, DIGITS, out, at)
+}
+
+// A number without its sign; the least one has no opposite of 64 bits.
+fn magnitude(x: i64) -> u64
+    ensures { λ r. ⌜ r ≡ natAbs x ⌝ }
+{
+    if x < 0 {
+        return (-(x + 1)) as u64 + 1;
+    }
+    x as u64
 }
 
 // A number that may be below 0.
@@ -87,7 +106,7 @@ pub fn put_signed(x: i64, out: &mut [u8], at: usize) -> usize
 {
     if x < 0 {
         let k = put(out, at, MINUS);
-        return put_decimal((-(x + 1)) as u64 + 1, out, k);
+        return put_decimal(magnitude(x), out, k);
     }
-    put_decimal(x as u64, out, at)
+    put_decimal(magnitude(x), out, at)
 }

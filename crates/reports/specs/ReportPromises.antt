@@ -2,12 +2,11 @@
 use mathlib.Core.Path.{_≡_}
 use mathlib.Core.Bool.{cond}
 use mathlib.Core.List.{List, _++_}
-use mathlib.Core.Option.{some}
 use Prim.Native.Nat.{ℕ, _+_, _*_, _<_, _≤_}
 use lib.Dec.{ltb}
-use lib.ListN.{length, drop, getElem?}
+use lib.ListN.{length, drop}
 use Rattle.lexical.specs.Lists.{bytes}
-use Rattle.form.specs.Tree.{Operation, Dossier}
+use Rattle.form.specs.Tree.{Dossier}
 use Rattle.static_rules.specs.Read.{reading, read}
 use Rattle.obligations.specs.Subjects.{subjectOf}
 use Rattle.obligations.specs.Order.{Obligation, initialisation, applicability, correctness, checks, look}
@@ -64,9 +63,9 @@ pub record VerdictWritten (text labels table rows firsts groups : List ℕ) (ope
 -- the first line of a refuted check, by its part
 pub record LineWritten (text labels : List ℕ) (part at : ℕ) (before after : List ℕ) (r : ℕ) : Type 0 where
   pub opening : (d : Dossier) → LabelsOf text labels d → part ≡ 0 → Writes at (refutedLine d initialisation) before after r
-  pub applying : (d : Dossier) → LabelsOf text labels d → (j : ℕ) (op : Operation) → getElem? (d .operations) j ≡ some op → part ≡ 1 + 2 * j
+  pub applying : (d : Dossier) → LabelsOf text labels d → (j : ℕ) → j < length (d .operations) → part ≡ 1 + 2 * j
       → Writes at (refutedLine d (applicability j)) before after r
-  pub correcting : (d : Dossier) → LabelsOf text labels d → (j : ℕ) (op : Operation) → getElem? (d .operations) j ≡ some op → part ≡ 2 + 2 * j
+  pub correcting : (d : Dossier) → LabelsOf text labels d → (j : ℕ) → j < length (d .operations) → part ≡ 2 + 2 * j
       → Writes at (refutedLine d (correctness j)) before after r
   pub long : length after ≡ length before
   pub onward : at ≤ r

@@ -1,0 +1,4 @@
+pub mod VerdictLines
+pub mod ReportAnswers
+pub mod LineLaws
+pub mod VerdictLaws

@@ -5,4 +5,5 @@ pub mod LettersOccur
 pub mod TypeLabels
 pub mod NamedNodes
 pub mod LabelledGroups
+pub mod SpeltNames
 pub mod ReadLabels

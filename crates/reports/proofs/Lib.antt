@@ -1,4 +1,5 @@
 pub mod VerdictLines
 pub mod ReportAnswers
 pub mod LineLaws
+pub mod LineRooms
 pub mod VerdictLaws

@@ -19,13 +19,13 @@ use Rattle.parts.specs.SearchPromises.{SearchAsked, SearchAnswers}
 use Rattle.parts.proofs.ReadingSizes.{reading-small}
 use Rattle.pieces.specs.PiecePromises.{Writes}
 use Rattle.pieces.proofs.WrittenPieces.{both-written}
-use Rattle.pieces.proofs.Digits.{few-digits}
 use Rattle.labels.specs.Labels.{LabelsOf}
 use Rattle.part_places.specs.Places.{GroupsOf, parts, AllAsked, TotalIs, PlaceAsked, PlaceFound}
 use Rattle.part_places.proofs.PlaceObligations.{obligation-opening, obligation-applying, obligation-correcting}
 use Rattle.part_places.proofs.ReadingGroups.{reading-groups}
 use Rattle.witnesses.specs.WitnessPromises.{WitnessAsked, WitnessWritten}
 use Rattle.reports.specs.ReportPromises.{LineWritten, VerdictAsked, VerdictWritten}
+use Rattle.reports.proofs.LineRooms.{digits-short}
 use Rattle.reports.proofs.VerdictLines.{came, whole-look, failed-inside, refuted-lines, accepted-lines}
 
 module _ {text labels table rows firsts groups : List ℕ} {operations : ℕ} (k : VerdictAsked text labels table rows firsts groups operations) where
@@ -101,7 +101,7 @@ accepted-long = refl
 count-short : (n : ℕ) → n < 18446744073709551616 → length (countLine n) ≤ 30
 unfolding countLine bytes
 count-short n h =
-    let e = few-digits 20 n (omega arith) (omega arith) in
+    let e = digits-short n h in
     let s = length-append (bytes "bindings " ++ decimal n) (bytes "\n") in
     let t = length-append (bytes "bindings ") (decimal n) in
     omega arith

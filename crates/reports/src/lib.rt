@@ -33,12 +33,20 @@ const PARTS: usize = 33;
 
 const OPERATIONS: usize = 16;
 
+// A label.
+fn label(labels: &[u16], k: usize) -> usize
+    requires { ⌜ k < length (now labels) ⌝ }
+    ensures { λ r. ⌜ r ≡ getD (now (labels .entry)) k 0 ⌝ }
+{
+    labels[k] as usize
+}
+
 // The name of the k-th operation.
 fn put_title(text: &[u8], labels: &[u16; LABELS], k: usize, out: &mut [u8], at: usize) -> usize
     requires { ⌜ (k < 16) × (at + 16 ≤ length (now out)) ⌝ }
     ensures { λ r. ⌜ Writes at (lettersAt (now (text .entry)) (getD (now (labels .entry)) (64 + k) 0)) (now (out .entry)) (now (out .exit)) r ⌝ }
 {
-    put_letters(text, labels[TITLES + k] as usize, out, at)
+    put_letters(text, label(labels, TITLES + k), out, at)
 }
 
 // The first line of a refuted check.

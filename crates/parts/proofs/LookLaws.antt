@@ -10,7 +10,7 @@ use Rattle.static_rules.specs.Scope.{unprimed, inputs, outputs}
 use Rattle.static_rules.specs.Limits.{bindingCount}
 use Rattle.meaning.proofs.Places.{entry-below, below-entry}
 use Rattle.obligations.specs.Subjects.{subjectOf}
-use Rattle.obligations.proofs.Digits.{abstracts, concretes, givens, applicabilitySize, correctnessSize, startOf}
+use Rattle.obligations.proofs.Digits.{concretes, givens, applicabilitySize, correctnessSize, startOf}
 use Rattle.plans.specs.declared.Part.{Part}
 use Rattle.plans.specs.PlanPromises.{InitialisationPlan, ApplicabilityPlan, CorrectnessPlan}
 use Rattle.nest.specs.PartTests.{passesFrom}
@@ -29,7 +29,7 @@ use Rattle.part_searches.proofs.ApplicabilityNest.{applicabilityOf, applicabili
 use Rattle.part_searches.proofs.CorrectnessNest.{correctnessOf, correctness-nest}
 use Rattle.part_setup.specs.SetupPromises.{StatesSet, OperationSet, OpeningPartIs, ApplicabilityPartIs, CorrectnessPartIs}
 use Rattle.parts.proofs.PartOrderLaws.{first-size, first-begin, applicability-size, correctness-size, applicability-begin, correctness-begin}
-use Rattle.parts.proofs.ReadingSizes.{abstracts-count, concretes-count, givens-count, results-count}
+use Rattle.parts.proofs.ReadingSizes.{concretes-count, givens-count, results-count, applicability-counts, correctness-counts}
 use Rattle.parts.proofs.SizedParts.{opening-sized, applicability-sized, correctness-sized}
 use Rattle.parts.proofs.PartLaws.{PartFor}
 use Rattle.parts.proofs.SetupLaws.{opening-counts, OperationLook, us, cs, is, os, operation-counts, applicability-is, correctness-is, outputs-by-part}
@@ -88,14 +88,12 @@ module _ {table rows firsts groups : List ℕ} {j : ℕ} (x : OperationLook tabl
       → PartFor table plan cells (applicabilityPart (us x) (cs x) (is x) (os x)) d (1 + 2 * j)
   applicability-here c n =
       let X = operation-reading c in
-      let e : applicabilitySize d op ≡ bindingCount (us x) * bindingCount (cs x) * bindingCount (is x)
-      = ap₂ _*_ (ap₂ _*_ (abstracts-count d) (concretes-count d)) (givens-count d op) in
       let z : partSize d (1 + 2 * j) ≡ applicabilitySize d op = applicability-size d j op (x .listed) in
       record {
         groups = applicabilityOf d op;
         tests = applicabilityTests d op;
         nest = applicability-nest X n (applicability-sized d op (x .reading) j (x .listed) (X .celled));
-        many = once-each (bindingCount (us x) * bindingCount (cs x) * bindingCount (is x)) ∙ sym (z ∙ e);
+        many = once-each (bindingCount (us x) * bindingCount (cs x) * bindingCount (is x)) ∙ sym (z ∙ applicability-counts d op);
         same = λ q h.
             let s : startOf (subjectOf d) j + q ≡ partBegin d (1 + 2 * j) + q = omega (arith, applicability-begin d j (omega (arith, low))) in
             ap₂ (λ (m k : ℕ). passesFrom (applicabilityTests d op) m k 1 1 q) (sym (concretes-count d)) (sym (givens-count d op))
@@ -107,14 +105,12 @@ module _ {table rows firsts groups : List ℕ} {j : ℕ} (x : OperationLook tabl
       → PartFor table plan cells (correctnessPart (us x) (cs x) (is x) (os x)) d (2 + 2 * j)
   correctness-here c n =
       let X = operation-reading c in
-      let e : correctnessSize d op ≡ bindingCount (us x) * bindingCount (cs x) * bindingCount (is x) * bindingCount (os x) * bindingCount (cs x)
-      = ap₂ _*_ (ap₂ _*_ (ap₂ _*_ (ap₂ _*_ (abstracts-count d) (concretes-count d)) (givens-count d op)) (results-count d op)) (concretes-count d) in
       let z : partSize d (2 + 2 * j) ≡ correctnessSize d op = correctness-size d j op (x .listed) in
       record {
         groups = correctnessOf d op;
         tests = correctnessTests d op (frontAt X);
         nest = correctness-nest X n (correctness-sized d op (x .reading) j (x .listed) (X .celled));
-        many = sym (z ∙ e);
+        many = sym (z ∙ correctness-counts d op);
         same = λ q h.
             let s : startOf (subjectOf d) j + applicabilitySize d op + q ≡ partBegin d (2 + 2 * j) + q = omega (arith, correctness-begin d j op (x .listed)) in
             ap₂ (λ (m k : ℕ). passesFrom (correctnessTests d op (frontAt X)) m k (bindingCount (os x)) m q) (sym (concretes-count d)) (sym (givens-count d op))

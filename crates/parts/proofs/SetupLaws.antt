@@ -37,7 +37,7 @@ module _ {table rows firsts groups : List ℕ} {k m : ℕ} where
       → LookAnswers table rows firsts groups m from end size at failed
   answers-as {from} {end} {size} {at} {failed} w e = subst (λ (n : ℕ). LookAnswers table rows firsts groups n from end size at failed) e w
 
-counted : {table groups : List ℕ} {row : ℕ} {vs : List Variable} {many few : ℕ} → GroupAt table groups row vs many few → CountedAt groups row vs few
+pub counted : {table groups : List ℕ} {row : ℕ} {vs : List Variable} {many few : ℕ} → GroupAt table groups row vs many few → CountedAt groups row vs few
 counted g = record { count = g .count; bindings = g .bindings }
 
 states-asked : {table rows firsts groups : List ℕ} {d : Dossier} → ReadingOf table rows firsts groups d → StatesAsked table groups

@@ -1,1 +1,2 @@
 pub mod LinesByNumber
+pub mod MembersByNumber

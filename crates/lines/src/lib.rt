@@ -1,10 +1,18 @@
 // The lines of a witness: values as document 01 writes them, a line for each variable of a group.
 ghost use mathlib.Core.Path.{_≡_};
 ghost use mathlib.Core.Bool.{cond};
-ghost use Prim.Native.Nat.{_+_, _*_, _≤_, _<_};
+ghost use mathlib.Core.List.{[], _∷_, map};
+ghost use Prim.Native.Nat.{_+_, _-_, _*_, _%_, _^_, _≤_, _<_};
+ghost use lib.Dec.{eqb};
+ghost use lib.IntN.{pos};
 ghost use lib.ListN.{length, getD};
+ghost use Rattle.sets.specs.Sets.{members};
+ghost use Rattle.meaning.specs.Values.{natural};
+ghost use Rattle.obligations.specs.Report.{braced};
+ghost use Rattle.labels.specs.Labels.{labelOf};
 ghost use Rattle.pieces.specs.PiecePromises.{Writes};
 ghost use Rattle.lines.specs.LinesByNumber.{elementPiece, pairPiece, memberPiece, valuePiece, linePiece, groupPiece};
+ghost use Rattle.lines.specs.MembersByNumber.{commaPiece, spared, membersPiece};
 use labels::LABELS;
 use labels::VARIABLE;
 use labels::VARIABLES;
@@ -22,6 +30,9 @@ const ELEMENTS: usize = 8;
 
 const BITS: usize = 16;
 
+// How many sets of that many bits there are.
+const SETS: usize = 65536;
+
 // Shapes of types; those above are sets of pairs.
 const ELEMENT: u16 = 1;
 
@@ -34,6 +45,13 @@ struct Shape {
     shape: u16,
     sides: usize,
     size: usize,
+}
+
+// A set: the given sets of its members, how many elements the second of two has (0 for one), its bits.
+struct Set {
+    sides: usize,
+    size: usize,
+    bits: u16,
 }
 
 // A group of variables: its first place among the groups, how many variables it has, the slot of its first value, the ending of its names (0 for none).
@@ -54,12 +72,34 @@ fn label(labels: &[u16], k: usize) -> u16
     0
 }
 
-// An element's place, a set's bits; 0 of a number below 0.
-fn natural_of(x: i64) -> usize {
+// The type of the variable at a place of the groups.
+fn shape_of(labels: &[u16; LABELS], i: usize) -> Shape
+    requires { ⌜ i < 160 ⌝ }
+    ensures { λ r. ⌜ (r .shape ≡ labelOf (now (labels .entry)) i 1) × (r .sides ≡ labelOf (now (labels .entry)) i 2) × (r .size ≡ labelOf (now (labels .entry)) i 3) × (r .sides < 65536) ⌝ }
+{
+    let first = VARIABLES + VARIABLE * i;
+    Shape {
+        shape: label(labels, first + 1),
+        sides: label(labels, first + 2) as usize,
+        size: label(labels, first + 3) as usize,
+    }
+}
+
+// An element's place; 0 of a number below 0.
+fn natural_of(x: i64) -> usize
+    ensures { λ r. ⌜ (r ≡ natural x) × (r < 2 ^ 63) ⌝ }
+{
     if x < 0 {
         return 0;
     }
     x as usize
+}
+
+// A set's bits.
+fn bits_of(x: i64) -> u16
+    ensures { λ r. ⌜ r ≡ natural x % 65536 ⌝ }
+{
+    (natural_of(x) % SETS) as u16
 }
 
 // Element k of the given set g.
@@ -71,7 +111,7 @@ fn put_element(
     out: &mut [u8],
     at: usize,
 ) -> usize
-    requires { ⌜ at + 16 ≤ length (now out) ⌝ }
+    requires { ⌜ (g < 65536) × (k < 2 ^ 63) × (at + 16 ≤ length (now out)) ⌝ }
     ensures { λ r. ⌜ Writes at (elementPiece (now (text .entry)) (now (labels .entry)) g k) (now (out .entry)) (now (out .exit)) r ⌝ }
 {
     let from = label(labels, ELEMENTS * g + k) as usize;
@@ -88,7 +128,7 @@ fn put_pair(
     out: &mut [u8],
     at: usize,
 ) -> usize
-    requires { ⌜ at + 37 ≤ length (now out) ⌝ }
+    requires { ⌜ (1 ≤ m) × (sides < 65536) × (k < 16) × (at + 37 ≤ length (now out)) ⌝ }
     ensures { λ r. ⌜ Writes at (pairPiece (now (text .entry)) (now (labels .entry)) sides m k) (now (out .entry)) (now (out .exit)) r ⌝ }
 {
     let a = put_element(text, labels, sides / ELEMENTS, k / m, out, at);
@@ -106,7 +146,7 @@ fn put_member(
     out: &mut [u8],
     at: usize,
 ) -> usize
-    requires { ⌜ at + 37 ≤ length (now out) ⌝ }
+    requires { ⌜ (sides < 65536) × (k < 16) × (at + 37 ≤ length (now out)) ⌝ }
     ensures { λ r. ⌜ Writes at (memberPiece (now (text .entry)) (now (labels .entry)) sides m k) (now (out .entry)) (now (out .exit)) r ⌝ }
 {
     if m == 0 {
@@ -118,6 +158,7 @@ fn put_member(
 // A comma, behind other members.
 fn put_comma(is_first: bool, out: &mut [u8], at: usize) -> usize
     requires { ⌜ at + 2 ≤ length (now out) ⌝ }
+    ensures { λ r. ⌜ Writes at (commaPiece «is_first») (now (out .entry)) (now (out .exit)) r ⌝ }
 {
     if is_first {
         return at;
@@ -125,31 +166,38 @@ fn put_comma(is_first: bool, out: &mut [u8], at: usize) -> usize
     put_all(b", ", out, at)
 }
 
-// A set in braces, lowest bit first.
-fn put_set(
+// The members from bit k on, lowest bit first.
+fn put_members(
     text: &[u8],
     labels: &[u16; LABELS],
-    sides: usize,
-    m: usize,
-    s: u16,
+    t: Set,
+    k: usize,
+    is_first: bool,
     out: &mut [u8],
     at: usize,
 ) -> usize
-    requires { ⌜ at + 624 ≤ length (now out) ⌝ }
+    requires { ⌜ (t .sides < 65536) × (k ≤ 16) × (at + 39 * (16 - k) ≤ length (now out) + spared «is_first») ⌝ }
+    ensures { λ r. ⌜ Writes at (membersPiece (memberPiece (now (text .entry)) (now (labels .entry)) (t .sides) (t .size)) (t .bits) k (16 - k) «is_first») (now (out .entry)) (now (out .exit)) r ⌝ }
 {
-    let begin = put(out, at, b'{');
-    let mut a = begin;
-    let mut is_first = true;
-    let mut k: usize = 0;
-    while k < BITS {
-        if has(s, k as u64) {
-            let b = put_comma(is_first, out, a);
-            a = put_member(text, labels, sides, m, k, out, b);
-            is_first = false;
-        }
-        k += 1;
+    if k >= BITS {
+        return at;
     }
-    put(out, a, b'}')
+    if !has(t.bits, k as u64) {
+        return put_members(text, labels, t, k + 1, is_first, out, at);
+    }
+    let a = put_comma(is_first, out, at);
+    let b = put_member(text, labels, t.sides, t.size, k, out, a);
+    put_members(text, labels, t, k + 1, false, out, b)
+}
+
+// A set in braces.
+fn put_set(text: &[u8], labels: &[u16; LABELS], t: Set, out: &mut [u8], at: usize) -> usize
+    requires { ⌜ (t .sides < 65536) × (at + 624 ≤ length (now out)) ⌝ }
+    ensures { λ r. ⌜ Writes at (braced (map (memberPiece (now (text .entry)) (now (labels .entry)) (t .sides) (t .size)) (members (t .bits)))) (now (out .entry)) (now (out .exit)) r ⌝ }
+{
+    let a = put(out, at, b'{');
+    let b = put_members(text, labels, t, 0, true, out, a);
+    put(out, b, b'}')
 }
 
 // A value of a type.
@@ -161,7 +209,7 @@ fn put_value(
     out: &mut [u8],
     at: usize,
 ) -> usize
-    requires { ⌜ at + 624 ≤ length (now out) ⌝ }
+    requires { ⌜ (t .sides < 65536) × (at + 624 ≤ length (now out)) ⌝ }
     ensures { λ r. ⌜ Writes at (valuePiece (now (text .entry)) (now (labels .entry)) (t .shape) (t .sides) (t .size) x) (now (out .entry)) (now (out .exit)) r ⌝ }
 {
     if t.shape == ELEMENT {
@@ -170,15 +218,27 @@ fn put_value(
     if t.shape == NUMBER {
         return put_signed(x, out, at);
     }
+    let bits = bits_of(x);
     if t.shape == SUBSET {
-        return put_set(text, labels, t.sides, 0, natural_of(x) as u16, out, at);
+        let s = Set {
+            sides: t.sides,
+            size: 0,
+            bits,
+        };
+        return put_set(text, labels, s, out, at);
     }
-    put_set(text, labels, t.sides, t.size, natural_of(x) as u16, out, at)
+    let s = Set {
+        sides: t.sides,
+        size: t.size,
+        bits,
+    };
+    put_set(text, labels, s, out, at)
 }
 
 // The ending of a name.
 fn put_ending(ending: u8, out: &mut [u8], at: usize) -> usize
     requires { ⌜ at < length (now out) ⌝ }
+    ensures { λ r. ⌜ Writes at (cond (eqb ending 0) [] (ending ∷ [])) (now (out .entry)) (now (out .exit)) r ⌝ }
 {
     if ending == 0 {
         return at;
@@ -199,16 +259,11 @@ fn put_line(
     requires { ⌜ (i < 160) × (at + 645 ≤ length (now out)) ⌝ }
     ensures { λ r. ⌜ Writes at (linePiece (now (text .entry)) (now (labels .entry)) i ending x) (now (out .entry)) (now (out .exit)) r ⌝ }
 {
-    let first = VARIABLES + VARIABLE * i;
-    let from = label(labels, first) as usize;
+    let t = shape_of(labels, i);
+    let from = label(labels, VARIABLES + VARIABLE * i) as usize;
     let a = put_letters(text, from, out, at);
     let b = put_ending(ending, out, a);
     let c = put_all(b" = ", out, b);
-    let t = Shape {
-        shape: label(labels, first + 1),
-        sides: label(labels, first + 2) as usize,
-        size: label(labels, first + 3) as usize,
-    };
     let d = put_value(text, labels, t, x, out, c);
     put(out, d, b'\n')
 }
@@ -216,8 +271,22 @@ fn put_line(
 // A value in a slot.
 fn slot(slots: &[i64], k: usize) -> i64
     requires { ⌜ k < length (now slots) ⌝ }
+    ensures { λ r. ⌜ r ≡ getD (now (slots .entry)) k (pos 0) ⌝ }
 {
     slots[k]
+}
+
+// The group without its first variable.
+fn rest_of(g: Group) -> Group
+    requires { ⌜ (1 ≤ g .count) × (g .first < 160) × (g .slot < 64) ⌝ }
+    ensures { λ r. ⌜ (r .first ≡ g .first + 1) × (r .count ≡ g .count - 1) × (r .slot ≡ g .slot + 1) × (r .ending ≡ g .ending) ⌝ }
+{
+    Group {
+        first: g.first + 1,
+        count: g.count - 1,
+        slot: g.slot + 1,
+        ending: g.ending,
+    }
 }
 
 // The lines of a group.
@@ -230,21 +299,13 @@ pub fn put_group(
     at: usize,
 ) -> usize
     requires { ⌜ (g .first + g .count ≤ 160) × (g .slot + g .count ≤ 64) × (at + 645 * g .count ≤ length (now out)) ⌝ }
-    ensures { λ r. ⌜ Writes at (groupPiece (now (text .entry)) (now (labels .entry)) (g .first) (g .count) (g .slot) (g .ending) (now (slots .entry))) (now (out .entry)) (now (out .exit)) r ⌝ }
+    ensures lines { λ r. ⌜ Writes at (groupPiece (now (text .entry)) (now (labels .entry)) (g .first) (g .count) (g .slot) (g .ending) (now (slots .entry))) (now (out .entry)) (now (out .exit)) r ⌝ }
+    ensures short { λ r. ⌜ r ≤ at + 645 * g .count ⌝ }
 {
-    let mut a = at;
-    let mut v: usize = 0;
-    while v < g.count {
-        a = put_line(
-            text,
-            labels,
-            g.first + v,
-            g.ending,
-            slot(slots, g.slot + v),
-            out,
-            a,
-        );
-        v += 1;
+    if g.count == 0 {
+        return at;
     }
-    a
+    let x = slot(slots, g.slot);
+    let a = put_line(text, labels, g.first, g.ending, x, out, at);
+    put_group(text, labels, slots, rest_of(g), out, a)
 }

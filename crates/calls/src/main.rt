@@ -1,5 +1,6 @@
 // Runs a script of calls on one held check, for tests: each line of standard input is a call, each answer goes to standard output. `l LEN` and the text load it, `a N` advances, `v` asks for
 // the verdict, `w LENT` for the witness in LENT lent bytes, `d` drops.
+ghost use Prim.Native.Nat.{_≤_, min};
 use checker::advance;
 use checker::drop;
 use checker::load;
@@ -32,7 +33,7 @@ const NINE: u8 = b'9';
 const TEN: usize = 10;
 
 // A number of the script, and the place behind it.
-struct Number {
+struct Digits {
     value: usize,
     next: usize,
 }
@@ -45,30 +46,36 @@ fn shifted(n: usize, digit: usize) -> usize {
     n * TEN + digit
 }
 
-fn is_digit(b: u8) -> bool {
+// The value of a digit, and ten of any other byte.
+fn digit_of(b: u8) -> usize {
     if b < ZERO {
-        return false;
+        return TEN;
     }
-    b <= NINE
+    if b > NINE {
+        return TEN;
+    }
+    (b - ZERO) as usize
 }
 
 // The number whose digits begin at a place.
-fn number(script: &[u8], at: usize) -> Number {
+fn number(script: &[u8], at: usize) -> Digits {
     let mut value: usize = 0;
     let mut next = at;
     while next < script.len() {
-        let b = script[next];
-        if !is_digit(b) {
-            return Number { value, next };
+        let digit = digit_of(script[next]);
+        if digit == TEN {
+            return Digits { value, next };
         }
-        value = shifted(value, (b - ZERO) as usize);
+        value = shifted(value, digit);
         next += 1;
     }
-    Number { value, next }
+    Digits { value, next }
 }
 
 // The place n behind another one, within the script.
-fn onward(at: usize, n: usize, length: usize) -> usize {
+fn onward(at: usize, n: usize, length: usize) -> usize
+    ensures { λ r. ⌜ (r ≤ length) × (min at length ≤ r) ⌝ }
+{
     if at >= length {
         return length;
     }

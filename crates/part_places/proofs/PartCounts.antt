@@ -6,7 +6,7 @@ use Prim.Native.Nat.{ℕ, _+_, _-_, _*_, _/_, _%_, _<_, _≤_}
 use native.Mathlib.Nat.{mul-le-mul}
 use native.Mathlib.Omega.{arith}
 use native.Mathlib.Decide.{decLt}
-use lib.ListN.{length, getElem?}
+use lib.ListN.{getElem?}
 use Rattle.form.specs.Tree.{Operation, Dossier}
 use Rattle.static_rules.specs.Scope.{unprimed, inputs, outputs}
 use Rattle.static_rules.specs.Limits.{bindingCount}
@@ -16,7 +16,7 @@ use Rattle.part_tests.specs.PartGroups.{openingPart, applicabilityPart, correct
 use Rattle.part_tests.specs.PartOrder.{partSize}
 use Rattle.parts.proofs.PartOrderLaws.{first-size, applicability-size, correctness-size}
 use Rattle.parts.proofs.ReadingSizes.{concretes-count, applicability-counts, correctness-counts}
-use Rattle.part_places.specs.Places.{GroupsOf, parts, PartAsked, PartSet, SizeIs}
+use Rattle.part_places.specs.Places.{GroupsOf, parts, PartSet, SizeIs}
 
 -- the bindings of a part's groups: together its places, each few
 pub record Sized (d : Dossier) (k : ℕ) (p : Part) : Type 0 where

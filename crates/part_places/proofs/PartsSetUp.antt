@@ -1,10 +1,10 @@
 -- A part is set up by its number: what is asked of the cells and the sizes, and that both are those of every dossier whose groups stand in the arrays. Assumes nothing.
-use mathlib.Core.Path.{_≡_, sym, subst}
+use mathlib.Core.Path.{_≡_, subst}
 use mathlib.Core.List.{List}
 use mathlib.Core.Option.{some}
 use Prim.Native.Nat.{ℕ, _+_, _-_, _*_, _/_, _%_, _<_, _≤_}
 use native.Mathlib.Omega.{arith}
-use lib.ListN.{length, getElem?}
+use lib.ListN.{getElem?}
 use Rattle.form.specs.Tree.{Operation, Dossier}
 use Rattle.static_rules.specs.Scope.{unprimed, inputs, outputs}
 use Rattle.meaning.proofs.Places.{below-entry}
@@ -12,7 +12,7 @@ use Rattle.plans.specs.declared.Part.{Part}
 use Rattle.part_setup.specs.SetupPromises.{StatesAsked, StatesSet, OperationAsked, OperationSet, OpeningCounts, OpeningPartAsked, OpeningPartIs}
 use Rattle.part_setup.specs.SetupPromises.{OperationCounts, OperationPartAsked, ApplicabilityPartIs, CorrectnessPartIs}
 use Rattle.parts.proofs.SetupLaws.{counted}
-use Rattle.part_places.specs.Places.{GroupsOf, parts, PartAsked, PartSet}
+use Rattle.part_places.specs.Places.{GroupsOf, PartAsked, PartSet}
 
 module _ {table groups : List ℕ} {d : Dossier} (G : GroupsOf table groups d) where
   states : StatesAsked table groups

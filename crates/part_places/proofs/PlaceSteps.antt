@@ -1,7 +1,7 @@
 -- The loops over the parts of a check: how many places stand before the k-th part, and which part a place belongs to. Assumes nothing.
 use mathlib.Core.Path.{_≡_, sym, ap, ap₂, _∙_}
 use mathlib.Core.List.{List}
-use Prim.Native.Nat.{ℕ, _+_, _-_, _*_, _<_, _≤_, _^_}
+use Prim.Native.Nat.{ℕ, _+_, _*_, _<_, _≤_, _^_}
 use native.Mathlib.Omega.{arith}
 use lib.ListN.{length}
 use Rattle.form.specs.Tree.{Dossier}
@@ -10,7 +10,7 @@ use Rattle.obligations.specs.Order.{total}
 use Rattle.part_tests.specs.PartOrder.{partSize, partBegin}
 use Rattle.parts.proofs.PartOrderLaws.{first-begin, next-begin, all-end, part-within}
 use Rattle.parts.proofs.ReadingSizes.{groups-small}
-use Rattle.part_places.specs.Places.{GroupsOf, parts, PartAsked, SizeIs, AllAsked, TotalIs, PlaceAsked, PlaceFound}
+use Rattle.part_places.specs.Places.{GroupsOf, PartAsked, SizeIs, AllAsked, TotalIs, PlaceFound}
 
 pub operations-low : {table groups : List ℕ} {operations : ℕ} → AllAsked table groups operations → operations ≤ 16
 operations-low a = omega (arith, a .many, a .groups-are .operations)

@@ -17,10 +17,10 @@ use Rattle.carriers.proofs.Bindings.{bindings-some}
 use Rattle.obligations.specs.Subjects.{subjectOf}
 use Rattle.obligations.specs.Order.{Check, initialises, applies, corrects, applicabilityChecks, correctnessChecks}
 use Rattle.obligations.specs.Report.{checkAt}
-use Rattle.obligations.proofs.Digits.{nth, concretes, givens, results, applicabilitySize, correctnessSize}
+use Rattle.obligations.proofs.Digits.{nth, concretes, givens, results}
 use Rattle.obligations.proofs.Digits.{applicability-digits, correctness-digits, initialisation-place, applicability-place, correctness-place}
 use Rattle.part_tests.specs.PartOrder.{partBegin}
-use Rattle.parts.proofs.ReadingSizes.{abstracts-count, concretes-count, givens-count, results-count}
+use Rattle.parts.proofs.ReadingSizes.{abstracts-count, concretes-count, givens-count, results-count, applicability-counts, correctness-counts}
 use Rattle.parts.proofs.PartOrderLaws.{first-begin, applicability-begin, correctness-begin}
 
 -- a group's digit, and what is before it
@@ -58,12 +58,6 @@ module _ (d : Dossier) where
     abbrev pub nq : ℕ
     nq = bindingCount (outputs d op)
 
-    pub applicability-counts : applicabilitySize d op ≡ na * nc * ni
-    applicability-counts = λ i. abstracts-count d i * concretes-count d i * givens-count d op i
-
-    pub correctness-counts : correctnessSize d op ≡ na * nc * ni * nq * nc
-    correctness-counts = λ i. abstracts-count d i * concretes-count d i * givens-count d op i * results-count d op i * concretes-count d i
-
     module _ (j : ℕ) (listed : getElem? (d .operations) j ≡ some op) where
       abbrev z : Check
       z = initialises []
@@ -86,7 +80,7 @@ module _ (d : Dossier) where
           ∙ ap (λ (x : ℕ). x * ni + i) (sym (div-add-mod' r (nc)))
           ∙ ap₂ (λ (x y : ℕ). (a * x + c) * y + i) (sym (concretes-count d)) (sym (givens-count d op)) in
           ap (λ (x : ℕ). checkAt (subjectOf d) (x + q)) (applicability-begin d j (omega (arith, below)))
-          ∙ applicability-place (subjectOf d) j op listed q (subst (λ (n : ℕ). q < n) (sym applicability-counts) h)
+          ∙ applicability-place (subjectOf d) j op listed q (subst (λ (n : ℕ). q < n) (sym (applicability-counts d op)) h)
           ∙ ap (λ (x : ℕ). getD (applicabilityChecks d j op) x z) s
           ∙ applicability-digits d j op z a c i
           (subst (λ (n : ℕ). a < n) (sym (abstracts-count d)) (front-in cs r (na) lr))
@@ -117,7 +111,7 @@ module _ (d : Dossier) where
           ∙ ap (λ (x : ℕ). ((x * ni + i) * nq + o) * nc + k) (sym (div-add-mod' t (nc)))
           ∙ (λ m. (((a * sym (concretes-count d) m + c) * sym (givens-count d op) m + i) * sym (results-count d op) m + o) * sym (concretes-count d) m + k) in
           ap (λ (x : ℕ). checkAt (subjectOf d) (x + q)) (correctness-begin d j op listed)
-          ∙ correctness-place (subjectOf d) j op listed q (subst (λ (n : ℕ). q < n) (sym correctness-counts) h)
+          ∙ correctness-place (subjectOf d) j op listed q (subst (λ (n : ℕ). q < n) (sym (correctness-counts d op)) h)
           ∙ ap (λ (x : ℕ). getD (correctnessChecks d j op) x z) s
           ∙ correctness-digits d j op z a c i o k
           (subst (λ (n : ℕ). a < n) (sym (abstracts-count d)) (front-in cs t (na) lt))

@@ -1,2 +1,4 @@
 pub mod CheckDigits
 pub mod WitnessLaws
+pub mod BoundPlaces
+pub mod PartLines

@@ -26,7 +26,7 @@ use Rattle.obligations.proofs.Digits.{nth}
 use Rattle.plans.specs.declared.Part.{Part}
 use Rattle.part_tests.specs.PartGroups.{StateCells, OperationCells, openingPart, applicabilityPart, correctnessPart}
 use Rattle.part_tests.specs.PartOrder.{partSize, partBegin}
-use Rattle.parts.proofs.ReadingSizes.{concretes-count}
+use Rattle.parts.proofs.ReadingSizes.{concretes-count, applicability-counts, correctness-counts}
 use Rattle.parts.proofs.PartOrderLaws.{first-size, applicability-size, correctness-size}
 use Rattle.pieces.specs.PiecePromises.{Writes}
 use Rattle.labels.specs.Labels.{LabelsFrom, LabelsOf}
@@ -35,7 +35,7 @@ use Rattle.lines.proofs.LabelledLines.{left, state-lines, primed-lines, input-l
 use Rattle.part_places.specs.Places.{GroupsOf, parts, PartSet}
 use Rattle.witnesses.specs.WitnessPromises.{WitnessWritten}
 use Rattle.witnesses.specs.WitnessSteps.{BoundAt, partPiece}
-use Rattle.witnesses.proofs.CheckDigits.{digit-in, front-in, us, cs, na, nc, ni, nq, applicability-counts, correctness-counts}
+use Rattle.witnesses.proofs.CheckDigits.{digit-in, front-in, us, cs, na, nc, ni, nq}
 use Rattle.witnesses.proofs.CheckDigits.{opening-check, applicability-check, correctness-check}
 
 -- ---- lines of variables one behind the other
@@ -55,7 +55,7 @@ unfolding bindingAt
 digits-long [] k = refl
 digits-long (v ∷ vs) k = ap suc (digits-long vs k)
 
-binding-long : (vs : List Variable) (k : ℕ) → k < bindingCount vs → length (nth (bindings vs) k) ≡ length vs
+pub binding-long : (vs : List Variable) (k : ℕ) → k < bindingCount vs → length (nth (bindings vs) k) ≡ length vs
 binding-long vs k h = ap length (bindings-at vs k [] h) ∙ digits-long vs k
 
 -- the lines of the k-th binding of a group, before others

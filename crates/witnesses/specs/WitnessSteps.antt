@@ -14,13 +14,17 @@ pub record SizedAt (cells : List ℕ) (s many n w : ℕ) : Type 0 where
   pub count : w ≡ bindingCount (grouped .group)
   pub short : n ≤ many
 
--- asked: the cells of all groups of a part, and a place in it
-pub record BindAsked (cells : List ℕ) (p : Part) (at : ℕ) : Type 0 where
+-- all groups of a part
+pub record PartSized (cells : List ℕ) (p : Part) : Type 0 where
   pub abstracts : SizedAt cells 0 8 (p .va) (p .na)
   pub concretes : SizedAt cells 8 8 (p .vc) (p .nc)
   pub inputs : SizedAt cells 16 3 (p .vi) (p .ni)
   pub outputs : SizedAt cells 19 3 (p .vo) (p .nq)
   pub primes : SizedAt cells 22 8 (p .vk) (p .nk)
+
+-- asked: the cells of all groups of a part, and a place in it
+pub record BindAsked (cells : List ℕ) (p : Part) (at : ℕ) : Type 0 where
+  pub sized : PartSized cells p
   pub low : at < p .na * p .nc * p .ni * p .nq * p .nk
 
 -- promised: the slots of each group hold the binding that its digit of the place says

@@ -1,28 +1,34 @@
--- What opening the held bytes leaves: nothing held, or the held check with the arrays of its text. Nothing here need be believed.
+-- What opening the held bytes leaves: nothing held, or the held check with the arrays of its text; and what the steps of the calls promise each other. Nothing here need be believed.
 use mathlib.Core.Path.{_≡_}
 use mathlib.Core.Bool.{Bool, true, cond}
 use mathlib.Core.List.{List}
-use Prim.Native.Nat.{ℕ, _<_}
+use Prim.Native.Nat.{ℕ, pred, _+_, _*_, _<_, _≤_}
 use lib.Dec.{leb}
-use lib.ListN.{length}
+use lib.ListN.{length, take}
 use Rattle.form.specs.Tree.{Dossier}
-use Rattle.static_rules.specs.Read.{reading, read}
 use Rattle.obligations.specs.Subjects.{subjectOf}
-use Rattle.obligations.specs.Order.{total}
-use Rattle.obligations.specs.Calls.{Held, nothing, holding}
-use Rattle.held_checks.specs.HeldBytes.{bytesOf, heldText, verdictMarked, fitting, heldBy}
-use Rattle.text_readings.specs.TextPromises as texts
+use Rattle.obligations.specs.Order.{initialisation, applicability, correctness, total}
+use Rattle.obligations.specs.Report.{checkAt, witnessLines}
+use Rattle.obligations.specs.Calls.{nothing, holding}
+use Rattle.readings.specs.Readings.{ReadingOf}
+use Rattle.labels.specs.Labels.{LabelsOf}
+use Rattle.part_places.specs.Places.{GroupsOf}
+use Rattle.held_checks.specs.declared.Obligation.{Obligation}
+use Rattle.held_checks.specs.HeldBytes.{bytesOf, heldText, isLaid, verdictMarked, fitting, heldBy}
+use Rattle.held_checks.specs.Answers.{obligationIs}
 
 -- something is held: the text's dossier, the place and the mark
 pub record Opened (b table rows firsts groups labels : List ℕ) (mark place operations all : ℕ) : Type 0 where
   pub dossier : Dossier
-  pub reads : read (heldText b) ≡ reading dossier
-  pub arrays : texts.Held (heldText b) table rows firsts groups labels dossier
+  pub arrays : ReadingOf table rows firsts groups dossier
+  pub groups-are : GroupsOf table groups dossier
+  pub labelled : LabelsOf (heldText b) labels dossier
   pub many : operations ≡ length (dossier .operations)
   pub all-is : all ≡ total (subjectOf dossier)
+  pub laid : isLaid b ≡ true
   pub fits : fitting all place mark ≡ true
   pub bytes : b ≡ bytesOf (heldText b) place mark
-  pub short : length (heldText b) < 32769
+  pub short : length (heldText b) ≤ 32768
   pub holds : heldBy b ≡ holding (subjectOf dossier) place (verdictMarked (subjectOf dossier) place mark)
 
 -- the mark is 0 where nothing is held
@@ -33,3 +39,24 @@ pub record Opens (b table rows firsts groups labels : List ℕ) (mark place oper
 -- the mark after a search
 abbrev pub markAfter : (failed : Bool) (all place : ℕ) → ℕ
 markAfter failed all place = cond failed 3 (cond (leb all place) 2 1)
+
+-- the obligation of a part by its number
+pub record PartTold (part : ℕ) (r : Obligation) : Type 0 where
+  pub opening : part ≡ 0 → obligationIs r ≡ initialisation
+  pub applying : (j : ℕ) → part ≡ 1 + 2 * j → obligationIs r ≡ applicability j
+  pub correcting : (j : ℕ) → part ≡ 2 + 2 * j → obligationIs r ≡ correctness j
+
+-- asked of a refuted check: the binding looked at last
+pub record LastAsked (text labels table groups : List ℕ) (operations place : ℕ) : Type 0 where
+  pub dossier : Dossier
+  pub groups-are : GroupsOf table groups dossier
+  pub labelled : LabelsOf text labels dossier
+  pub many : operations ≡ length (dossier .operations)
+  pub positive : 0 < place
+  pub inside : place ≤ total (subjectOf dossier)
+
+-- its lines
+pub record LastWritten (text labels table groups : List ℕ) (operations place : ℕ) (out : List ℕ) (r : ℕ) : Type 0 where
+  pub lines : (d : Dossier) → GroupsOf table groups d → LabelsOf text labels d → operations ≡ length (d .operations) → 0 < place → place ≤ total (subjectOf d)
+      → (take r out ≡ witnessLines (subjectOf d) (checkAt (subjectOf d) (pred place))) × (r ≡ length (witnessLines (subjectOf d) (checkAt (subjectOf d) (pred place))))
+  pub short : r ≤ 19350

@@ -1,12 +1,16 @@
 // The five calls on a held check kept in lent bytes: load, advance, verdict, witness, drop. Each reads the held text again.
 ghost use mathlib.Core.Path.{_≡_};
 ghost use mathlib.Core.List.{[]};
-ghost use Prim.Native.Nat.{_+_, _≤_};
-ghost use lib.ListN.{length};
+ghost use mathlib.Core.Bool.{true, cond};
+ghost use Prim.Native.Nat.{_+_, _^_, _<_, _≤_};
+ghost use lib.ListN.{length, take, drop};
 ghost use Rattle.obligations.specs.Calls as call;
+ghost use Rattle.held_checks.specs.HeldBytes.{heldText, isLaid};
 ghost use Rattle.held_checks.specs.Answers.{loadAnswer, advanceAnswer, verdictAnswer, witnessAnswer, dropped};
 ghost use Rattle.held_checks.specs.CallPromises.{Responds};
-ghost use Rattle.checker.specs.OpenPromises.{Opens, markAfter};
+ghost use Rattle.text_readings.specs.TextPromises.{ReadsText};
+ghost use Rattle.checker.specs.OpenPromises.{Opens, markAfter, PartTold, LastAsked, LastWritten};
+use form::node::NUMBERS;
 use held_checks::ACCEPTED;
 use held_checks::AdvanceReply;
 use held_checks::HELD;
@@ -34,6 +38,8 @@ use part_places::find;
 use part_places::total;
 use parts::search;
 use pieces::put_part;
+use search_groups::conjuncts::FIRSTS;
+use search_groups::groups::GROUPS;
 use text_readings::TextRead;
 use text_readings::read_text;
 use witnesses::WITNESS;
@@ -50,7 +56,9 @@ pub struct Opened {
     pub all: usize,
 }
 
-fn nothing() -> Opened {
+fn nothing() -> Opened
+    ensures { λ r. ⌜ r .mark ≡ 0 ⌝ }
+{
     Opened {
         mark: NOTHING,
         place: 0,
@@ -59,26 +67,38 @@ fn nothing() -> Opened {
     }
 }
 
+// The bytes of a text of length n.
+fn text_in(held: &[u8], n: usize) -> &[u8]
+    requires { ⌜ 16 + n ≤ length (now held) ⌝ }
+    ensures { λ r. ⌜ now r ≡ take n (drop 16 (now (held .entry))) ⌝ }
+{
+    let end = TEXT + n;
+    &held[TEXT..end]
+}
+
 // The held text is read into the arrays.
 fn open_text(
     held: &[u8; HELD],
-    table: &mut [u16; 16384],
-    rows: &mut [u16; 16384],
-    firsts: &mut [u16; 40],
-    groups: &mut [u16; 160],
+    table: &mut [u16; NUMBERS],
+    rows: &mut [u16; NUMBERS],
+    firsts: &mut [u16; FIRSTS],
+    groups: &mut [u16; GROUPS],
     labels: &mut [u16; LABELS],
-) -> TextRead {
-    let end = TEXT + length_in(held);
-    read_text(&held[TEXT..end], table, rows, firsts, groups, labels)
+) -> TextRead
+    requires { ⌜ isLaid (now held) ≡ true ⌝ }
+    ensures { λ r. ⌜ ReadsText (heldText (now (held .entry))) (now (table .exit)) (now (rows .exit)) (now (firsts .exit)) (now (groups .exit)) (now (labels .exit)) r ⌝ }
+{
+    let n = length_in(held);
+    read_text(text_in(held, n), table, rows, firsts, groups, labels)
 }
 
 // What the bytes stand for, with the arrays of its text.
 fn open_bytes(
     held: &[u8; HELD],
-    table: &mut [u16; 16384],
-    rows: &mut [u16; 16384],
-    firsts: &mut [u16; 40],
-    groups: &mut [u16; 160],
+    table: &mut [u16; NUMBERS],
+    rows: &mut [u16; NUMBERS],
+    firsts: &mut [u16; FIRSTS],
+    groups: &mut [u16; GROUPS],
     labels: &mut [u16; LABELS],
 ) -> Opened
     ensures { λ r. ⌜ Opens (now (held .entry)) (now (table .exit)) (now (rows .exit)) (now (firsts .exit)) (now (groups .exit)) (now (labels .exit)) (r .mark) (r .place) (r .operations) (r .all) ⌝ }
@@ -110,10 +130,10 @@ fn open_bytes(
 pub fn load(text: &[u8], held: &mut [u8; HELD]) -> LoadReply
     ensures { λ r. ⌜ Responds (now (held .entry)) (call.load (now (text .entry))) (now (held .exit)) [] (loadAnswer r) ⌝ }
 {
-    let mut table = [0u16; 16384];
-    let mut rows = [0u16; 16384];
-    let mut firsts = [0u16; 40];
-    let mut groups = [0u16; 160];
+    let mut table = [0u16; NUMBERS];
+    let mut rows = [0u16; NUMBERS];
+    let mut firsts = [0u16; FIRSTS];
+    let mut groups = [0u16; GROUPS];
     let mut labels = [0u16; LABELS];
     let o = open_bytes(
         held,
@@ -157,7 +177,10 @@ fn mark_after(failed: bool, all: usize, place: usize) -> u8
 }
 
 // How many bindings were looked at up to a place, with the one that failed there.
-fn counted(failed: bool, at: usize) -> usize {
+fn counted(failed: bool, at: usize) -> usize
+    requires { ⌜ at < 2 ^ 62 ⌝ }
+    ensures { λ r. ⌜ r ≡ cond failed (at + 1) at ⌝ }
+{
     if failed {
         return at + 1;
     }
@@ -168,10 +191,10 @@ fn counted(failed: bool, at: usize) -> usize {
 pub fn advance(n: usize, held: &mut [u8; HELD]) -> AdvanceReply
     ensures { λ r. ⌜ Responds (now (held .entry)) (call.advance n) (now (held .exit)) [] (advanceAnswer r) ⌝ }
 {
-    let mut table = [0u16; 16384];
-    let mut rows = [0u16; 16384];
-    let mut firsts = [0u16; 40];
-    let mut groups = [0u16; 160];
+    let mut table = [0u16; NUMBERS];
+    let mut rows = [0u16; NUMBERS];
+    let mut firsts = [0u16; FIRSTS];
+    let mut groups = [0u16; GROUPS];
     let mut labels = [0u16; LABELS];
     let o = open_bytes(
         held,
@@ -208,7 +231,9 @@ pub fn advance(n: usize, held: &mut [u8; HELD]) -> AdvanceReply
 }
 
 // The obligation of a part.
-fn obligation_of(part: usize) -> Obligation {
+fn obligation_of(part: usize) -> Obligation
+    ensures { λ r. ⌜ PartTold part r ⌝ }
+{
     if part < OPENING {
         return Obligation::Initialisation;
     }
@@ -223,10 +248,10 @@ fn obligation_of(part: usize) -> Obligation {
 pub fn verdict(held: &[u8; HELD]) -> VerdictReply
     ensures { λ r. ⌜ Responds (now (held .entry)) call.verdict (now (held .entry)) [] (verdictAnswer r) ⌝ }
 {
-    let mut table = [0u16; 16384];
-    let mut rows = [0u16; 16384];
-    let mut firsts = [0u16; 40];
-    let mut groups = [0u16; 160];
+    let mut table = [0u16; NUMBERS];
+    let mut rows = [0u16; NUMBERS];
+    let mut firsts = [0u16; FIRSTS];
+    let mut groups = [0u16; GROUPS];
     let mut labels = [0u16; LABELS];
     let o = open_bytes(
         held,
@@ -253,24 +278,29 @@ pub fn verdict(held: &[u8; HELD]) -> VerdictReply
 fn put_held(
     held: &[u8; HELD],
     labels: &[u16; LABELS],
-    table: &[u16; 16384],
-    groups: &[u16; 160],
+    table: &[u16; NUMBERS],
+    groups: &[u16; GROUPS],
     o: Opened,
-    out: &mut [u8; WITNESS],
-) -> usize {
+    out: &mut [u8],
+) -> usize
+    requires { ⌜ length (now out) ≡ 19350 ⌝ }
+    requires { ⌜ isLaid (now held) ≡ true ⌝ }
+    requires { ⌜ LastAsked (heldText (now held)) (now labels) (now table) (now groups) (o .operations) (o .place) ⌝ }
+    ensures { λ r. ⌜ LastWritten (heldText (now (held .entry))) (now (labels .entry)) (now (table .entry)) (now (groups .entry)) (o .operations) (o .place) (now (out .exit)) r ⌝ }
+{
     let f = find(table, groups, o.operations, o.place - 1);
-    let end = TEXT + length_in(held);
-    put_witness(&held[TEXT..end], labels, table, groups, f, out, 0)
+    let n = length_in(held);
+    put_witness(text_in(held, n), labels, table, groups, f, out, 0)
 }
 
 // The binding that a refuted check has found, in lent bytes.
 pub fn witness(held: &[u8; HELD], lent: &mut [u8]) -> WitnessReply
     ensures { λ r. ⌜ Responds (now (held .entry)) (call.witness (now (lent .entry))) (now (held .entry)) (now (lent .exit)) (witnessAnswer r) ⌝ }
 {
-    let mut table = [0u16; 16384];
-    let mut rows = [0u16; 16384];
-    let mut firsts = [0u16; 40];
-    let mut groups = [0u16; 160];
+    let mut table = [0u16; NUMBERS];
+    let mut rows = [0u16; NUMBERS];
+    let mut firsts = [0u16; FIRSTS];
+    let mut groups = [0u16; GROUPS];
     let mut labels = [0u16; LABELS];
     let o = open_bytes(
         held,

@@ -1,5 +1,6 @@
-pub mod VerdictLines
-pub mod ReportAnswers
-pub mod LineLaws
+-- The lines of a report: piece by piece, by what the search came to, by what was read.
 pub mod LineRooms
+pub mod LineLaws
+pub mod VerdictLines
 pub mod VerdictLaws
+pub mod ReportAnswers

@@ -48,8 +48,8 @@ module _ {text labels before after : List ℕ} {part at r : ℕ} where
     applying-line h e z w = record {
       opening = λ d l f. absurd (omega arith);
       applying = λ d l j g f.
-        let s : k ≡ j = omega arith in
-        both-written (both-written w (subst (λ (x : List ℕ). Writes q x b c m) (ap (λ (n : ℕ). lettersAt text (getD labels (64 + n) 0)) s ∙ title-of l j g) v)) u;
+          let s : k ≡ j = omega arith in
+          both-written (both-written w (subst (λ (x : List ℕ). Writes q x b c m) (ap (λ (n : ℕ). lettersAt text (getD labels (64 + n) 0)) s ∙ title-of l j g) v)) u;
       correcting = λ d l j g f. absurd (omega arith);
       long = u .long ∙ v .long ∙ w .long;
       onward = omega (arith, w .end, v .end, u .end);
@@ -63,9 +63,9 @@ module _ {text labels before after : List ℕ} {part at r : ℕ} where
       opening = λ d l f. absurd (omega arith);
       applying = λ d l j g f. absurd (z (omega arith));
       correcting = λ d l j g f.
-        let y : (part - 1) % 2 ≡ 1 = omega arith in
-        let s : k ≡ j = omega arith in
-        both-written (both-written w (subst (λ (x : List ℕ). Writes q x b c m) (ap (λ (n : ℕ). lettersAt text (getD labels (64 + n) 0)) s ∙ title-of l j g) v)) u;
+          let y : (part - 1) % 2 ≡ 1 = omega arith in
+          let s : k ≡ j = omega arith in
+          both-written (both-written w (subst (λ (x : List ℕ). Writes q x b c m) (ap (λ (n : ℕ). lettersAt text (getD labels (64 + n) 0)) s ∙ title-of l j g) v)) u;
       long = u .long ∙ v .long ∙ w .long;
       onward = omega (arith, w .end, v .end, u .end);
       short = omega (arith, w .end, v .end, u .end, letters-length text (getD labels (64 + k) 0));

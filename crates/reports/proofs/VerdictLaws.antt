@@ -26,7 +26,7 @@ use Rattle.part_places.proofs.ReadingGroups.{reading-groups}
 use Rattle.witnesses.specs.WitnessPromises.{WitnessAsked, WitnessWritten}
 use Rattle.reports.specs.ReportPromises.{LineWritten, VerdictAsked, VerdictWritten}
 use Rattle.reports.proofs.LineRooms.{digits-short}
-use Rattle.reports.proofs.VerdictLines.{came, whole-look, failed-inside, refuted-lines, accepted-lines}
+use Rattle.reports.proofs.VerdictLines.{came, whole-look, failed-inside, accepted-whole, refuted-lines, accepted-lines}
 
 module _ {text labels table rows firsts groups : List ℕ} {operations : ℕ} (k : VerdictAsked text labels table rows firsts groups operations) where
   -- what the callees ask
@@ -112,29 +112,34 @@ module _ {text labels table rows firsts groups : List ℕ} {operations : ℕ} (k
       → WitnessWritten text labels table groups part q x a b y → Writes y (countLine (at + 1)) b after r → VerdictWritten text labels table rows firsts groups operations before after r
   refuted-written {part} {q} {x} {y} {a} {b} f p line lines count = record {
     lines = λ d g l m.
-      let e = looked k t s f d g m in
-      let i = failed-inside d at e in
-      let o = reading-groups g in
-      let h : at ≡ partBegin d part + q = p .is d o m i in
-      let w = first-line d l (p .within d o m i) (p .low d o m i) line in
-      let v = lines .lines d o l (p .within d o m i) (p .low d o m i) in
-      let n : at + 1 ≡ suc at = omega arith in
-      let u : Writes y (countLine (suc at)) b after r = subst (λ (c : ℕ). Writes y (countLine c) b after r) n count in
-      subst (λ (z : List ℕ). Writes 0 z before after r) (sym (refuted-lines d at e))
-      (subst (λ (c : ℕ). Writes 0 (refutedLine d (obligationOf (checkAt (subjectOf d) c)) ++ witnessLines (subjectOf d) (checkAt (subjectOf d) c) ++ countLine (suc at)) before after r)
-      (sym h) (both-written (both-written w v) u));
+        let e = looked k t s f d g m in
+        let i = failed-inside d at e in
+        let o = reading-groups g in
+        let h : at ≡ partBegin d part + q = p .is d o m i in
+        let w = first-line d l (p .within d o m i) (p .low d o m i) line in
+        let v = lines .lines d o l (p .within d o m i) (p .low d o m i) in
+        let n : at + 1 ≡ suc at = omega arith in
+        let u : Writes y (countLine (suc at)) b after r = subst (λ (c : ℕ). Writes y (countLine c) b after r) n count in
+        subst (λ (z : List ℕ). Writes 0 z before after r) (sym (refuted-lines d at e))
+        (subst (λ (c : ℕ). Writes 0 (refutedLine d (obligationOf (checkAt (subjectOf d) c)) ++ witnessLines (subjectOf d) (checkAt (subjectOf d) c) ++ countLine (suc at)) before after r)
+        (sym h) (both-written (both-written w v) u));
     short =
-      let i = at-inside k t s f in
-      let z = reading-small (k .arrays) in
-      let c = count-short (at + 1) (omega arith) in
-      omega (arith, line .short, lines .short, count .end);
+        let i = at-inside k t s f in
+        let z = reading-small (k .arrays) in
+        let c = count-short (at + 1) (omega arith) in
+        omega (arith, line .short, lines .short, count .end);
   }
 
-  pub accepted-written : {x : ℕ} {a : List ℕ} → failed ≡ false → at < 18446744073709551616 → Writes 0 (bytes "accepted\n") before a x → Writes x (countLine at) a after r
+  pub accepted-written : {x : ℕ} {a : List ℕ} → failed ≡ false → Writes 0 (bytes "accepted\n") before a x → Writes x (countLine at) a after r
       → VerdictWritten text labels table rows firsts groups operations before after r
-  accepted-written {x} {a} f h word count = record {
+  accepted-written {x} {a} f word count = record {
     lines = λ d g l m.
-      let e = subst (λ (b : Bool). look (subjectOf d) (checks (subjectOf d)) ≡ came at b) f (whole-look d s g m (t .is d (reading-groups g) m)) in
-      subst (λ (z : List ℕ). Writes 0 z before after r) (sym (accepted-lines d at e)) (both-written word count);
-    short = omega (arith, accepted-long, word .end, count-short at h, count .end);
+        let e = subst (λ (b : Bool). look (subjectOf d) (checks (subjectOf d)) ≡ came at b) f (whole-look d s g m (t .is d (reading-groups g) m)) in
+        subst (λ (z : List ℕ). Writes 0 z before after r) (sym (accepted-lines d at e)) (both-written word count);
+    short =
+        let e = subst (λ (b : Bool). look (subjectOf (k .dossier)) (checks (subjectOf (k .dossier))) ≡ came at b) f
+        (whole-look (k .dossier) s (k .arrays) (k .many) (t .is (k .dossier) (reading-groups (k .arrays)) (k .many))) in
+        let n = accepted-whole (k .dossier) at e in
+        let z = reading-small (k .arrays) in
+        omega (arith, accepted-long, word .end, count-short at (omega arith), count .end);
   }

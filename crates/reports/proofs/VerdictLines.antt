@@ -11,7 +11,7 @@ use Rattle.form.specs.Tree.{Dossier}
 use Rattle.obligations.specs.Subjects.{subjectOf}
 use Rattle.obligations.specs.Order.{Check, initialises, obligationOf, checks, total, Look, look}
 use Rattle.obligations.specs.Report.{checkAt, witnessLines, refutedLine, countLine, verdictLines}
-use Rattle.obligations.proofs.Looks.{First, look-first, Whole, look-whole}
+use Rattle.obligations.proofs.Looks.{First, look-first, look-whole}
 use Rattle.readings.specs.Readings.{ReadingOf}
 use Rattle.parts.specs.SearchPromises.{SearchAnswers}
 
@@ -42,6 +42,12 @@ failed-inside d at e = go (look-first (subjectOf d) (initialises []) (checks (su
         let c : suc at ≡ suc (f .0) = sym (ap (λ (l : Look). l .count) e) ∙ f .1 in
         let h : f .0 < length (checks (subjectOf d)) = f .2 in
         omega arith
+
+-- where it did not fail, all places were looked at
+pub accepted-whole : (d : Dossier) (at : ℕ) → look (subjectOf d) (checks (subjectOf d)) ≡ came at false → at ≡ total (subjectOf d)
+unfolding total
+accepted-whole d at e =
+    sym (ap (λ (l : Look). l .count) e) ∙ look-whole (subjectOf d) (initialises []) (checks (subjectOf d)) (ap (λ (l : Look). l .failed) e) .0
 
 -- the lines of a check that is refuted at a place, and of an accepted one
 pub refuted-lines : (d : Dossier) (at : ℕ) → look (subjectOf d) (checks (subjectOf d)) ≡ came at true

@@ -87,7 +87,7 @@ fn put_count(n: usize, out: &mut [u8], at: usize) -> usize
 // The line of a refusal.
 fn put_refusal(n: u8, p: usize, out: &mut [u8]) -> usize
     requires { ⌜ 53 ≤ length (now out) ⌝ }
-    ensures { λ r. ⌜ Writes 0 (refusalPiece n p) (now (out .entry)) (now (out .exit)) r ⌝ }
+    ensures { λ r. ⌜ Writes 0 (refusalPiece n p) (now (out .entry)) (now (out .exit)) r × (r ≤ 53) ⌝ }
 {
     let a = put_all(b"refused ", out, 0);
     let b = put_decimal(n as u64, out, a);

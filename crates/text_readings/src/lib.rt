@@ -26,8 +26,7 @@ pub enum TextRead {
 fn measured(numbers: &[u16])
     requires { ⌜ length (now numbers) ≡ 16384 ⌝ }
     ensures { λ _. ⌜ length (now (numbers .entry)) ≡ 16384 ⌝ }
-{
-}
+{}
 
 // How many operations the dossier has whose nodes these are.
 fn operations(nodes: &[u16; NUMBERS], m: usize) -> usize

@@ -46,6 +46,18 @@ abbrev placeIn : TextRead → ℕ
 placeIn (Refused n p) = p
 placeIn (Read k) = 0
 
+-- the part of an obligation that the dossier has, and its line
+inside : (d : Dossier) (o : Obligation) → length (d .operations) ≤ 16 → ObligationIn d o → partOf o < 33
+inside d initialisation h i = omega arith
+inside d (applicability j) h i = let e = part-some 0 j (omega arith) in omega arith
+inside d (correctness j) h i = let e = part-some 1 j (omega arith) in omega arith
+
+line-of : {text labels before after : List ℕ} {part r : ℕ} (d : Dossier) (o : Obligation) → LabelsOf text labels d → length (d .operations) ≤ 16 → ObligationIn d o → part ≡ partOf o
+    → LineWritten text labels part 0 before after r → Writes 0 (refutedLine d o) before after r
+line-of d initialisation l h i g w = w .opening d l g
+line-of d (applicability j) l h i g w = w .applying d l j i (let e = part-some 0 j (omega arith) in omega arith)
+line-of d (correctness j) l h i g w = w .correcting d l j i (let e = part-some 1 j (omega arith) in omega arith)
+
 module _ {text table rows firsts groups labels : List ℕ} where
   -- the text is refused with this number and place
   pub refused-report : {n p : ℕ} → ReadsText text table rows firsts groups labels (Refused n p) → report text ≡ refusalPiece n p
@@ -106,23 +118,12 @@ module _ {text table rows firsts groups labels : List ℕ} where
       let h : ReadAs text table rows firsts groups labels (reading d) t = subst (λ (q : Reading). ReadAs text table rows firsts groups labels q t) s (w .answer) in
       (h .1 .labelled, h .1 .arrays .operations)
 
-  inside : (d : Dossier) (o : Obligation) → length (d .operations) ≤ 16 → ObligationIn d o → partOf o < 33
-  inside d initialisation h i = omega arith
-  inside d (applicability j) h i = let e = part-some 0 j (omega arith) in omega arith
-  inside d (correctness j) h i = let e = part-some 1 j (omega arith) in omega arith
-
   pub no-line : {t : TextRead} {k part : ℕ} (o : code.Obligation) (before : List ℕ) → ReadsText text table rows firsts groups labels t → t ≡ Read k
       → part ≡ partOf (obligationIs o) → 33 ≤ part → RefutedLine text o before before 0
   no-line {part = part} o before w e g h = record {
     bytes = λ d s i. absurd (let f = inside d (obligationIs o) (few w e d s .1) i in omega arith);
     short = omega arith;
   }
-
-  line-of : {before after : List ℕ} {part r : ℕ} (d : Dossier) (o : Obligation) → LabelsOf text labels d → length (d .operations) ≤ 16 → ObligationIn d o → part ≡ partOf o
-      → LineWritten text labels part 0 before after r → Writes 0 (refutedLine d o) before after r
-  line-of d initialisation l h i g w = w .opening d l g
-  line-of d (applicability j) l h i g w = w .applying d l j i (let e = part-some 0 j (omega arith) in omega arith)
-  line-of d (correctness j) l h i g w = w .correcting d l j i (let e = part-some 1 j (omega arith) in omega arith)
 
   pub line-written : {t : TextRead} {k part r : ℕ} {before after : List ℕ} (o : code.Obligation) → ReadsText text table rows firsts groups labels t → t ≡ Read k
       → part ≡ partOf (obligationIs o) → LineWritten text labels part 0 before after r → RefutedLine text o before after r

@@ -6,6 +6,7 @@ ghost use Rattle.obligations.specs.Report.{countLine};
 ghost use Rattle.pieces.specs.PiecePromises.{Writes, lettersAt};
 ghost use Rattle.reports.specs.ReportPromises.{Reported, RefutedLine, LineWritten, VerdictAsked, VerdictWritten, refusalPiece, operationPart, partOf};
 ghost use Rattle.held_checks.specs.Answers.{obligationIs};
+use form::node::NUMBERS;
 use held_checks::Obligation;
 use labels::LABELS;
 use labels::TITLES;
@@ -18,6 +19,8 @@ use pieces::put;
 use pieces::put_all;
 use pieces::put_decimal;
 use pieces::put_letters;
+use search_groups::conjuncts::FIRSTS;
+use search_groups::groups::GROUPS;
 use text_readings::TextRead;
 use text_readings::read_text;
 use witnesses::put_witness;
@@ -100,13 +103,16 @@ fn put_refusal(n: u8, p: usize, out: &mut [u8]) -> usize
 fn put_verdict(
     text: &[u8],
     labels: &[u16; LABELS],
-    table: &[u16; 16384],
-    rows: &[u16; 16384],
-    firsts: &[u16; 40],
-    groups: &[u16; 160],
+    table: &[u16; NUMBERS],
+    rows: &[u16; NUMBERS],
+    firsts: &[u16; FIRSTS],
+    groups: &[u16; GROUPS],
     operations: usize,
     out: &mut [u8; REPORT],
-) -> usize {
+) -> usize
+    requires { ⌜ VerdictAsked (now text) (now labels) (now table) (now rows) (now firsts) (now groups) operations ⌝ }
+    ensures { λ r. ⌜ VerdictWritten (now (text .entry)) (now (labels .entry)) (now (table .entry)) (now (rows .entry)) (now (firsts .entry)) (now (groups .entry)) operations (now (out .entry)) (now (out .exit)) r ⌝ }
+{
     let all = total(table, groups, operations);
     let w = search(table, rows, firsts, groups, operations, 0, all);
     if w.failed {
@@ -123,10 +129,10 @@ fn put_verdict(
 pub fn report(text: &[u8], out: &mut [u8; REPORT]) -> usize
     ensures { λ r. ⌜ Reported (now (text .entry)) (now (out .entry)) (now (out .exit)) r ⌝ }
 {
-    let mut table = [0u16; 16384];
-    let mut rows = [0u16; 16384];
-    let mut firsts = [0u16; 40];
-    let mut groups = [0u16; 160];
+    let mut table = [0u16; NUMBERS];
+    let mut rows = [0u16; NUMBERS];
+    let mut firsts = [0u16; FIRSTS];
+    let mut groups = [0u16; GROUPS];
     let mut labels = [0u16; LABELS];
     let answer = read_text(
         text,
@@ -179,10 +185,10 @@ fn part_of(o: Obligation) -> usize
 pub fn refuted_line(text: &[u8], o: Obligation, out: &mut [u8; FIRST_LINE]) -> usize
     ensures { λ r. ⌜ RefutedLine (now (text .entry)) o (now (out .entry)) (now (out .exit)) r ⌝ }
 {
-    let mut table = [0u16; 16384];
-    let mut rows = [0u16; 16384];
-    let mut firsts = [0u16; 40];
-    let mut groups = [0u16; 160];
+    let mut table = [0u16; NUMBERS];
+    let mut rows = [0u16; NUMBERS];
+    let mut firsts = [0u16; FIRSTS];
+    let mut groups = [0u16; GROUPS];
     let mut labels = [0u16; LABELS];
     let answer = read_text(
         text,

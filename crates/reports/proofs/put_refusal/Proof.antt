@@ -1,9 +1,9 @@
--- answers sha256 6585454d5de0c8c1
+-- answers sha256 e9f1974eef136c31
 -- `reports::put_refusal` meets its contract: the line of a refusal, piece by piece. Assumes nothing.
 use borrow.Author.Needs.{needs}
 use native.Mathlib.Omega.{arith}
 use Rattle.lexical.specs.Lists.{bytes}
-use Rattle.reports.proofs.LineRooms.{at-room, place-room, newline-room, refusal-written}
+use Rattle.reports.proofs.LineRooms.{at-room, place-room, newline-room, refusal-written, refusal-short}
 use Rattle.reports.proofs.put_refusal.Statement.{statement}
 use Rattle.reports.proofs.put_refusal.Tie as tie
 
@@ -36,7 +36,7 @@ same-length c = search needs
 
 returns : tie.Need-returns
 unfolding bytes
-returns c = refusal-written (c .before .before .before .before .before .before .before .before .before .before .before .before .before .before .before .before .before .before .before .before .before .before .before .args .n) (c .before .before .before .before .before .before .before .before .before .before .before .before .before .before .before .before .before .before .before .put-all .ensures) (c .before .before .before .before .before .before .before .before .before .before .before .before .before .before .before .put-decimal .ensures) (omega (arith, c .before .before .before .before .before .before .before .before .before .before .before .before .before .before .before .before .before .before .before .before .before .before .before .fits .n)) (c .before .before .before .before .before .before .before .before .before .before .before .before .before .before .before .before .before .before .before .before .before .before .before .pre) (c .before .before .before .before .before .before .before .before .before .before .put-all2 .ensures) (c .before .before .before .before .before .before .before .before .before .before .before .before .before .before .before .before .before .before .before .before .before .before .before .args .p) (c .before .before .before .before .before .before .put-decimal2 .ensures) (omega (arith, c .before .before .before .before .before .before .before .before .before .before .before .before .before .before .before .before .before .before .before .before .before .before .before .fits .p)) (c .before .before .put .ensures)
+returns c = let w = refusal-written (c .before .before .before .before .before .before .before .before .before .before .before .before .before .before .before .before .before .before .before .before .before .before .before .args .n) (c .before .before .before .before .before .before .before .before .before .before .before .before .before .before .before .before .before .before .before .put-all .ensures) (c .before .before .before .before .before .before .before .before .before .before .before .before .before .before .before .put-decimal .ensures) (omega (arith, c .before .before .before .before .before .before .before .before .before .before .before .before .before .before .before .before .before .before .before .before .before .before .before .fits .n)) (c .before .before .before .before .before .before .before .before .before .before .before .before .before .before .before .before .before .before .before .before .before .before .before .pre) (c .before .before .before .before .before .before .before .before .before .before .put-all2 .ensures) (c .before .before .before .before .before .before .before .before .before .before .before .before .before .before .before .before .before .before .before .before .before .before .before .args .p) (c .before .before .before .before .before .before .put-decimal2 .ensures) (omega (arith, c .before .before .before .before .before .before .before .before .before .before .before .before .before .before .before .before .before .before .before .before .before .before .before .fits .p)) (c .before .before .put .ensures) in (w, omega (arith, w .end, refusal-short (c .before .before .before .before .before .before .before .before .before .before .before .before .before .before .before .before .before .before .before .before .before .before .before .args .n) (c .before .before .before .before .before .before .before .before .before .before .before .before .before .before .before .before .before .before .before .before .before .before .before .args .p) (omega (arith, c .before .before .before .before .before .before .before .before .before .before .before .before .before .before .before .before .before .before .before .before .before .before .before .fits .n)) (omega (arith, c .before .before .before .before .before .before .before .before .before .before .before .before .before .before .before .before .before .before .before .before .before .before .before .fits .p))))
 
 pub put-refusal-spec : {M : Type 1} → statement M
 put-refusal-spec =

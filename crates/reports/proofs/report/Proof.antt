@@ -1,6 +1,7 @@
--- answers sha256 cd4e3f6649d498d8
--- `reports::report` meets its contract.
+-- answers sha256 a6ea56fce081b404
+-- `reports::report` meets its contract: the line of a refusal, or the lines of a verdict. Assumes nothing.
 use borrow.Author.Needs.{needs}
+use Rattle.reports.proofs.ReportAnswers.{refusal-reported, verdict-asked, verdict-reported}
 use Rattle.reports.proofs.report.Statement.{statement}
 use Rattle.reports.proofs.report.Tie as tie
 
@@ -17,13 +18,13 @@ enum-known-answer-2 : tie.Need-enum-known-answer-2
 enum-known-answer-2 c = search needs
 
 put-verdict-requires : tie.Need-put-verdict-requires
-put-verdict-requires c κs = search needs
+put-verdict-requires c κs = verdict-asked (c .before .before .before .before .before .before .before .before .before .read-text .ensures) (c .before .before .before .before .before .before .before .answer2 .given .1)
 
 returns : tie.Need-returns
-returns c = search needs
+returns c = refusal-reported (c .before .before .before .before .before .read-text .ensures) (c .before .before .before .answer .given .1) (c .put-refusal .ensures .0) (c .put-refusal .ensures .1)
 
 returns-2 : tie.Need-returns-2
-returns-2 c = search needs
+returns-2 c = verdict-reported (c .before .before .before .before .before .before .before .before .before .before .read-text .ensures) (c .before .before .before .before .before .before .before .before .answer2 .given .1) (c .put-verdict .ensures)
 
 pub report-spec : {M : Type 1} → statement M
 report-spec =

@@ -127,11 +127,30 @@ fn run_advance(n: usize, held: &mut [u8; HELD]) {
     }
 }
 
+// The first line of the report of the held text, in lent bytes.
+fn put_line(held: &[u8], n: usize, o: Obligation, line: &mut [u8; FIRST_LINE]) -> usize {
+    if held.len() < TEXT {
+        return 0;
+    }
+    let end = onward(TEXT, n, held.len());
+    refuted_line(&held[TEXT..end], o, line)
+}
+
+// The first n bytes.
+fn print_front(text: &[u8], n: usize) {
+    let start: usize = 0;
+    let end = onward(start, n, text.len());
+    print(&text[start..end]);
+}
+
+fn print_line(line: &[u8; FIRST_LINE], n: usize) {
+    print_front(line, n);
+}
+
 fn print_refuted(held: &[u8; HELD], o: Obligation) {
-    let end = onward(TEXT, length_in(held), HELD);
     let mut line = [0u8; FIRST_LINE];
-    let n = refuted_line(&held[TEXT..end], o, &mut line);
-    print(&line[..n]);
+    let n = put_line(held, length_in(held), o, &mut line);
+    print_line(&line, n);
 }
 
 fn print_verdict(held: &[u8; HELD], v: Verdict) {
@@ -150,18 +169,24 @@ fn run_verdict(held: &[u8; HELD]) {
     }
 }
 
-fn run_witness(n: usize, held: &[u8; HELD]) {
-    let mut space = [b'_'; LENT];
-    let end = onward(0, n, LENT);
-    let answer = witness(held, &mut space[..end]);
+// The witness in the first n of the bytes that there are.
+fn lend(n: usize, held: &[u8; HELD], space: &mut [u8]) {
+    let start: usize = 0;
+    let end = onward(start, n, space.len());
+    let answer = witness(held, &mut space[start..end]);
     match answer {
         WitnessReply::Written(k) => print_number(k),
         WitnessReply::NothingHeld => print_refused(21),
         WitnessReply::NoCounterexample => print_refused(24),
         WitnessReply::ShortBytes => print_refused(16),
     }
-    print(&space[..end]);
+    print_front(space, end);
     print(b"\n");
+}
+
+fn run_witness(n: usize, held: &[u8; HELD]) {
+    let mut space = [b'_'; LENT];
+    lend(n, held, &mut space);
 }
 
 // The call at a place; the place behind it.

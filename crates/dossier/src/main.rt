@@ -1,4 +1,5 @@
 // Reads a dossier on standard input and writes its report to standard output. Of a text that is too long only the first 32,769 bytes are read, which is enough to see that it is.
+ghost use Prim.Native.Nat.{_≤_};
 use reports::REPORT;
 use reports::report;
 
@@ -15,6 +16,26 @@ fn is_at_end() -> bool {
     libc::read(STANDARD_INPUT, &mut more) == 0
 }
 
+fn least(x: usize, y: usize) -> usize
+    ensures { λ r. ⌜ (0 ≤ r) × (r ≤ y) ⌝ }
+{
+    if x < y {
+        return x;
+    }
+    y
+}
+
+// The first n bytes go to standard output.
+fn write_front(text: &[u8], n: usize) {
+    let start: usize = 0;
+    let end = least(n, text.len());
+    io::write_all(STANDARD_OUTPUT, &text[start..end]);
+}
+
+fn write_report(out: &[u8; REPORT], n: usize) {
+    write_front(out, n);
+}
+
 fn main() {
     let mut text = [0u8; INPUT];
     let n = io::read_full(STANDARD_INPUT, &mut text);
@@ -26,5 +47,5 @@ fn main() {
     }
     let mut out = [0u8; REPORT];
     let length = report(&text[..n], &mut out);
-    io::write_all(STANDARD_OUTPUT, &out[..length]);
+    write_report(&out, length);
 }

@@ -2,11 +2,10 @@
 use mathlib.Core.Path.{_≡_}
 use mathlib.Core.List.{List}
 use Prim.Native.Nat.{ℕ, zero, suc, _+_, _-_, _*_, _/_, _<_, _≤_}
-use lib.ListN.{length, take, getD}
+use mathlib.Core.Option.{some}
+use lib.ListN.{length, take, getD, getElem?}
 use Rattle.form.specs.Tree.{Letters, Given, elements, Dossier}
 use Rattle.form.specs.Codes.{Numbering, dossierCodes}
-use mathlib.Core.Option.{some}
-use lib.ListN.{getElem?}
 
 -- the first byte of the name whose node stands at q: a name's number is 4 times that of the first symbol with its letters, and more for its ending
 abbrev pub nameByte : (nodes starts : List ℕ) (q : ℕ) → ℕ

@@ -5,7 +5,6 @@ use mathlib.Core.Option.{some}
 use Prim.Native.Nat.{ℕ, _+_, _*_, _<_, _≤_}
 use lib.ListN.{length, getElem?}
 use Rattle.form.specs.Tree.{Operation, Dossier}
-use Rattle.static_rules.specs.Carriers.{Variable}
 use Rattle.static_rules.specs.Scope.{unprimed, inputs, outputs}
 use Rattle.plans.specs.declared.Part.{Part}
 use Rattle.obligations.specs.Subjects.{subjectOf}

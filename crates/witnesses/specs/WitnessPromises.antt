@@ -1,8 +1,7 @@
 -- What the functions that write a witness promise. Nothing here need be believed.
 use mathlib.Core.Path.{_≡_}
 use mathlib.Core.List.{List}
-use Prim.Native.Nat.{ℕ, _+_, _*_, _<_, _≤_}
-use lib.IntN.{ℤ}
+use Prim.Native.Nat.{ℕ, _+_, _<_, _≤_}
 use lib.ListN.{length}
 use Rattle.form.specs.Tree.{Dossier}
 use Rattle.obligations.specs.Subjects.{subjectOf}

@@ -23,6 +23,7 @@ use Rattle.demands.specs.CodeDemands.{Step, Steps, no-call, one-call, Co
 use Rattle.demands.proofs.RepliesNumbered.{one-reply}
 use Rattle.demands.proofs.HeldStanding.{none-held}
 use Rattle.demands.proofs.CallsStand.{call-stands}
+use Rattle.demands.proofs.ReportDemand.{code-reports, decided}
 
 -- ---- one call
 
@@ -157,7 +158,9 @@ code-demand-2 = record {
   reached = λ xs e s. demand-2 .reached xs (follows xs e s .0);
   advances = advances;
   tells = tells;
+  decides = λ xs e s σ p v h c lent a r. decided σ p a (tells xs e s σ p v h c lent a r .0);
   shows = shows;
+  reports = code-reports;
 }
 
 -- "Take any list of the calls ..., with any arguments, refused ones included, from nothing held on. Of every dossier that a verdict in it calls accepted, this holds"

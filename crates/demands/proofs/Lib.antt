@@ -4,4 +4,5 @@ pub mod LongTexts
 pub mod ReadSizes
 pub mod HeldStanding
 pub mod CallsStand
+pub mod ReportDemand
 pub mod DemandsHold

@@ -1,4 +1,4 @@
-// The proved code, linked as a static library (exported/lib.rt), on bytes with others around them that must stay as they are.
+// The proved code, linked as a static library (exported.rattle), on bytes with others around them that must stay as they are.
 use crate::calls::{Reply, Verdict, HELD_BYTES};
 use crate::scan::Fault;
 use crate::search::Obligation;
@@ -43,7 +43,7 @@ impl Lent {
     }
 }
 
-// The kinds of replies of exported/lib.rt.
+// The kinds of replies of exported.rattle.
 fn reply_of(numbers: [u64; 3]) -> Reply {
     let [kind, first, second] = numbers;
     match kind {

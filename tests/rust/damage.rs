@@ -14,6 +14,34 @@ const ALIKE: [&[&str]; 7] = [
     &["div", "mod", "*"],
     &["forall", "exists", "exists1"],
 ];
+// Terms whose size is close to 2,147,483,647, or was before a mod, a div or a #.
+const LARGE: [&str; 14] = [
+    "1000 * 1000 * 1000 * 2",
+    "1000 * 1000 * 1000 * 3",
+    "1000 * 1000 * [ 1000 + 1000 + 147 ] + 483 * 1000 + 647",
+    "1000 * 1000 * [ 1000 + 1000 + 147 ] + 483 * 1000 + 648",
+    "- 1000 * 1000 * [ 1000 + 1000 + 147 ] - 483 * 1000 - 647",
+    "- 1000 * 1000 * 1000 * 2 - 1000 * 1000 * 148",
+    "1000 * 1000 * 1000 * 1000 mod 7",
+    "[ 1000 * 1000 * 1000 * 2 ] mod 7 * 1000",
+    "[ 1000 * 1000 * 1000 * 2 ] div 7 * 2",
+    "[ - 1000 * 1000 * 1000 * 2 ] div 7 + [ 1000 * 1000 * 147 ] div - 3",
+    "# { x : G | 1000 * 1000 * 1000 * 3 = 0 } + 1000 * 1000 * 1000 * 3",
+    "# { x : G | true } * 1000 * 1000 * 134",
+    "# { x : G | true } * 1000 * 1000 * 135",
+    "v1 - 1000 * w1",
+];
+// Predicates whose braces or ranges are close to a limit.
+const BRACES: [&str; 8] = [
+    "empty G H = empty G H",
+    "{ g1 |-> h1 } = empty G H",
+    "{ g1 |-> g1 } = { g1 |-> g1 }",
+    "{ h1 |-> h1 } = empty H H",
+    "1 in 0 .. 64",
+    "1 in 2 .. 1",
+    "1 in - 3 .. 60",
+    "true",
+];
 const NUMBERS: [&str; 10] = ["0", "1", "2", "7", "15", "63", "64", "65", "1000", "1001"];
 
 fn any_symbol(random: &mut Random) -> String {
@@ -103,7 +131,7 @@ pub fn damage_bytes(random: &mut Random, text: &mut Vec<u8>) {
     }
 }
 
-// A dossier around a predicate for retrieve, with a number of symbols in front of it that change nothing.
+// A dossier around a predicate of retrieve.
 fn around(predicate: &str) -> Vec<String> {
     let text = format!(
         "contents given G abstract concrete ainit cinit retrieve end given G g1 g2 end abstract m : P G ; a : 0 .. 2 ; where true end \
@@ -212,13 +240,15 @@ fn wide(random: &mut Random) -> Vec<String> {
     let list = |random: &mut Random, letter: &str, ending: &str, most: usize| {
         (1..=1 + random.below(most)).map(|k| format!("{letter}{k}{ending} : {} ;", one(random))).collect::<Vec<_>>().join(" ")
     };
-    let term = *random.pick(&["1000 * 1000 * 1000 * 2", "1000 * 1000 * 1000 * 3", "1000 * 1000 * [ 1000 + 1000 + 147 ] + 483 * 1000 + 647", "1000 * 1000 * [ 1000 + 1000 + 147 ] + 483 * 1000 + 648", "- 1000 * 1000 * 1000 * 2 - 1000 * 1000 * 148", "1000 * 1000 * 1000 * 1000 mod 7", "[ 1000 * 1000 * 1000 * 2 ] mod 7 * 1000", "[ 1000 * 1000 * 1000 * 2 ] div 7 * 2", "# { x : G | 1000 * 1000 * 1000 * 3 = 0 } + 1000 * 1000 * 1000 * 3", "# empty G * 1000 * 1000 * 134", "# empty G * 1000 * 1000 * 135", "0"]);
-    let brace = *random.pick(&["empty G H = empty G H", "{ g1 |-> h1 } = empty G H", "{ g1 |-> g1 } = { g1 |-> g1 }", "{ h1 |-> h1 } = empty H H", "1 in 0 .. 64", "1 in 2 .. 1", "1 in - 3 .. 60", "true"]);
+    let (divisor, rest) = (random.between(1, 1000), random.between(0, 20));
+    let sign = if random.percent(50) { "" } else { "- " };
+    let size = format!("[ {} ] mod {sign}{divisor} {} {sign}{rest}", random.pick(&LARGE), random.pick(&["=", "/=", "<", "<="]));
+    let brace = *random.pick(&BRACES);
+    let ainit = *random.pick(&["true", "false"]);
     let text = format!(
-        "contents given G given H abstract concrete ainit cinit retrieve op o end given G {} end given H {} end abstract {} where true end concrete {} where {} end \
-         ainit where false end cinit where {} end retrieve where 0 <= {} end op o {} {} abstract false concrete false end",
-        names("g", g).join(" "), names("h", h).join(" "), list(random, "v", "", 2), list(random, "w", "", 2), brace, brace, term,
-        list(random, "i", "?", 1), list(random, "u", "!", 1)
+        "contents given G given H abstract concrete ainit cinit retrieve op o end given G {} end given H {} end abstract {} where true end concrete {} where {brace} end \
+         ainit where {ainit} end cinit where {brace} end retrieve where {size} end op o {} {} abstract false concrete false end",
+        names("g", g).join(" "), names("h", h).join(" "), list(random, "v", "", 2), list(random, "w", "", 2), list(random, "i", "?", 1), list(random, "u", "!", 1)
     );
     text.split(' ').map(str::to_string).collect()
 }
@@ -265,6 +295,11 @@ pub fn text(random: &mut Random) -> Vec<u8> {
         25..=39 => dossier(random, Plan { wild, ..plan }),
         40 => dossier(random, Plan { bindings: 200, ..plan }),
         41..=50 | 70..=76 => counted(random),
+        51 => {
+            let operations = 4 + random.below(13);
+            dossier(random, Plan { operations, bindings: 4, depth: 4, ..plan })
+        }
+        52..=54 => dossier(random, Plan { bindings: 64, ..plan }),
         _ => dossier(random, plan),
     };
     let changes = if kind < 70 { *random.pick(&[0, 1, 1, 1, 2, 3]) } else { 0 };

@@ -8,6 +8,7 @@ mod expressions;
 mod form;
 mod form_terms;
 mod generate;
+mod grammar;
 mod limits;
 mod lists;
 mod meaning;
@@ -23,6 +24,7 @@ mod types;
 mod vectors;
 
 use calls::Reply;
+use grammar::Grammar;
 use random::Random;
 use std::path::{Path, PathBuf};
 use std::{fs, process, thread};
@@ -32,6 +34,8 @@ use tally::Tally;
 const LIMIT: u64 = 3_000_000;
 // Lists of calls for each text.
 const TEXTS_PER_LIST: u64 = 5;
+// Of so many texts one is read by the rules of form too.
+const TEXTS_PER_GRAMMAR: u64 = 10;
 // A shorter run need not have every kind of ending.
 const ALL_KINDS_FROM: u64 = 2_000;
 const THREADS: u64 = 2;
@@ -58,18 +62,18 @@ impl Run {
         path
     }
 
-    fn text(&self, k: u64, tally: &mut Tally) {
+    fn text(&self, k: u64, grammar: &Grammar, tally: &mut Tally) {
         let text = damage::text(&mut self.random(0, k));
         tally.texts += 1;
-        match differs(&text, tally) {
-            None => {}
-            Some(what) => {
-                tally.differ += 1;
-                if tally.differ <= SAVED {
-                    let path = self.save(&format!("text-{}-{k}.txt", self.seed), &text);
-                    println!("text {k} of seed {}: {what}\n  saved: {}", self.seed, path.display());
-                }
-            }
+        let mut what = differs(&text, tally);
+        if k / THREADS % TEXTS_PER_GRAMMAR == 0 && !grammar.agrees(&text) {
+            what = Some("the plain reader and the rules of form".to_string());
+        }
+        let Some(what) = what else { return };
+        tally.differ += 1;
+        if tally.differ <= SAVED {
+            let path = self.save(&format!("text-{}-{k}.txt", self.seed), &text);
+            println!("text {k} of seed {}: {what}\n  saved: {}", self.seed, path.display());
         }
     }
 
@@ -91,8 +95,9 @@ impl Run {
 
     fn part(&self, thread: u64) -> Tally {
         let mut tally = Tally::default();
+        let grammar = Grammar::new();
         for k in (0..self.count).filter(|k| k % THREADS == thread) {
-            self.text(k, &mut tally);
+            self.text(k, &grammar, &mut tally);
             if k / THREADS % TEXTS_PER_LIST == 0 {
                 self.list(k, &mut tally);
             }

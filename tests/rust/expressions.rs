@@ -294,8 +294,9 @@ impl Expressions<'_> {
     fn quantified(&mut self, scope: &Scope, depth: usize) {
         let word = *self.random.pick(&["forall", "exists", "exists1"]);
         let low = self.random.between(-2, 2);
+        let length = *self.random.pick(&[0, 0, 1, 1, 2, 2, 3, 3, 3, 63]);
         let over_given = !scope.givens.is_empty() && self.random.percent(50);
-        let shape = if over_given { Shape::Element(self.random.below(scope.givens.len())) } else { Shape::Range(low, low + self.random.between(0, 3)) };
+        let shape = if over_given { Shape::Element(self.random.below(scope.givens.len())) } else { Shape::Range(low, low + length) };
         let (bound, inner) = self.binder(scope, shape);
         self.put(&format!("( {word} {bound} :"));
         self.put_type(shape, scope);

@@ -4,7 +4,7 @@
 // there, and every piece of form that it begins can be completed; so the symbol that it cannot take is the first one such that no dossier begins
 // with the symbols up to it (number 4). Numbers 5 and 6 are met at their own symbols, on the way.
 use crate::scan::{fault, Fault, Kind, Name, Symbol};
-use crate::tree::{Arrow, Declaration, Dossier, Given, Operation, Range, State, Type, Use};
+use crate::tree::{Arrow, Declaration, Dossier, Given, Operation, Predicate, Range, State, Type, Use};
 
 pub const GIVEN_SETS: usize = 8;
 pub const ELEMENTS: usize = 8;
@@ -20,7 +20,7 @@ pub struct Reader<'a> {
     end: usize,
 }
 
-// The place of the symbol behind so many more of it.
+// What is read, or the first fault.
 pub type Read<T> = Result<T, Fault>;
 
 impl<'a> Reader<'a> {
@@ -195,7 +195,7 @@ impl<'a> Reader<'a> {
     }
 
     // ainit, cinit, retrieve
-    fn plain_body(&mut self, word: &str) -> Read<crate::tree::Predicate> {
+    fn plain_body(&mut self, word: &str) -> Read<Predicate> {
         self.take(word)?;
         self.take("where")?;
         let predicate = self.whole_predicate()?;

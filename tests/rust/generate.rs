@@ -212,7 +212,7 @@ impl Maker<'_> {
     fn given_sets(&mut self) {
         for _ in 0..self.plan.givens {
             let name = self.names.make(self.e.random);
-            let count = *self.e.random.pick(&[1, 2, 2, 2, 3, 3, 4]);
+            let count = *self.e.random.pick(&[1, 2, 2, 2, 2, 2, 3, 3, 3, 3, 4, 4, 5, 8]);
             let elements: Vec<String> = (0..count).map(|_| self.names.make(self.e.random)).collect();
             self.others.push(name.clone());
             self.others.push(elements[0].clone());

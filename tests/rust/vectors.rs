@@ -1,5 +1,6 @@
 // The plain implementation alone on stored cases: dossiers NAME.txt and scripts of calls NAME.script, with NAME.expected.
 use crate::calls::{Calls, Reply, Verdict};
+use crate::grammar::Grammar;
 use crate::report::{first_line, refusal, report};
 use crate::search::{Found, LeftOut};
 use std::fs;
@@ -75,10 +76,13 @@ fn cases(folder: &Path) -> Vec<PathBuf> {
     cases
 }
 
-fn run_case(case: &Path) -> Found<Vec<u8>> {
+fn run_case(case: &Path, grammar: &Grammar) -> Found<Vec<u8>> {
     let given = fs::read(case).expect("a case");
     if case.extension().is_some_and(|e| e == "script") {
         return run_script(&given);
+    }
+    if !grammar.agrees(&given) {
+        return Ok(b"the plain reader and the rules of form differ".to_vec());
     }
     report(&given, LIMIT).map(|(written, _)| written)
 }
@@ -86,9 +90,10 @@ fn run_case(case: &Path) -> Found<Vec<u8>> {
 // Whether all cases of the folders agree with what is expected.
 pub fn run(folders: &[String]) -> bool {
     let (mut same, mut differ, mut left_out) = (0, 0, 0);
+    let grammar = Grammar::new();
     for case in folders.iter().flat_map(|folder| cases(Path::new(folder))) {
         let expected = fs::read(case.with_extension("expected")).expect("what is expected");
-        match run_case(&case) {
+        match run_case(&case, &grammar) {
             Err(LeftOut) => left_out += 1,
             Ok(written) if written == expected => same += 1,
             Ok(written) => {

@@ -1,6 +1,6 @@
 // Damage to dossiers, dossiers near each limit, and noise.
 use crate::expressions::Shape;
-use crate::generate::{counted, dossier, small_plan, spelled, Plan};
+use crate::generate::{counted, dossier, small_plan, spelled, tangled, Plan};
 use crate::random::Random;
 use crate::scan::{MARKS, RESERVED, SYMBOLS, TEXT_BYTES};
 
@@ -86,6 +86,18 @@ fn exchange_names(random: &mut Random, symbols: &mut [String]) {
     }
 }
 
+// A bound name for another bound one, for an operation's, or for any other.
+fn exchange_bound(random: &mut Random, symbols: &mut [String]) {
+    let binders = ["forall", "exists", "exists1", "{"];
+    let bound: Vec<usize> = (1..symbols.len() - 1).filter(|k| binders.contains(&symbols[k - 1].as_str()) && symbols[k + 1] == ":").collect();
+    let operations: Vec<usize> = (1..symbols.len()).filter(|k| symbols[k - 1] == "op").collect();
+    let named: Vec<usize> = (0..symbols.len()).filter(|k| is_name(&symbols[*k])).collect();
+    let from = *random.pick(&[&bound, &operations, &named]);
+    if !bound.is_empty() && !from.is_empty() {
+        symbols[*random.pick(&bound)] = symbols[*random.pick(from)].clone();
+    }
+}
+
 fn exchange_numbers(random: &mut Random, symbols: &mut [String]) {
     let divisors: Vec<usize> = (1..symbols.len()).filter(|k| is_number(&symbols[*k]) && ["div", "mod"].contains(&symbols[k - 1].as_str())).collect();
     if !divisors.is_empty() && random.percent(40) {
@@ -102,7 +114,7 @@ pub fn damage(random: &mut Random, symbols: &mut Vec<String>) {
     }
     let (k, other) = (random.below(symbols.len()), random.below(symbols.len()));
     let behind = (k + 1).min(symbols.len() - 1);
-    match random.below(16) {
+    match random.below(18) {
         0 => symbols[k] = any_symbol(random),
         1 => symbols.insert(k, any_symbol(random)),
         2 => drop(symbols.remove(k)),
@@ -112,6 +124,7 @@ pub fn damage(random: &mut Random, symbols: &mut Vec<String>) {
         6 => symbols.truncate(k),
         7..=10 => exchange_names(random, symbols),
         11 | 12 => exchange_numbers(random, symbols),
+        13 | 14 => exchange_bound(random, symbols),
         _ => exchange_alike(random, symbols),
     }
 }
@@ -286,13 +299,14 @@ pub fn text(random: &mut Random) -> Vec<u8> {
         return long(random);
     }
     let plan = small_plan(random);
-    let wild = 1 + random.below(6);
+    let wild = *random.pick(&[1, 2, 3, 4, 6, 15, 35]);
     let mut symbols = match kind {
         3..=8 => deep(random),
         9..=12 => many(random),
         13..=18 => wide(random),
         19..=24 => half(random),
-        25..=39 => dossier(random, Plan { wild, ..plan }),
+        25..=33 => dossier(random, Plan { wild, ..plan }),
+        34..=39 | 77..=79 => tangled(random),
         40 => dossier(random, Plan { bindings: 200, ..plan }),
         41..=50 | 70..=76 => counted(random),
         51 => {

@@ -31,7 +31,7 @@ use std::{fs, process, thread};
 use tally::Tally;
 
 // How many nodes the plain implementation visits before a case is left out.
-const LIMIT: u64 = 3_000_000;
+const LIMIT: u64 = 2_000_000;
 // Lists of calls for each text.
 const TEXTS_PER_LIST: u64 = 5;
 // Of so many texts one is read by the rules of form too.

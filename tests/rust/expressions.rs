@@ -90,18 +90,18 @@ impl Expressions<'_> {
         match self.random.below(3) {
             0 => Wanted::Element(g),
             1 => Wanted::Set(g),
-            _ if Self::pairs_allowed(scope, g, h) => Wanted::Pairs(g, h),
+            _ if Self::pairs_allowed(scope, g, h) || self.random.percent(scope.wild) => Wanted::Pairs(g, h),
             _ => Wanted::Set(h),
         }
     }
 
+    // The type that is wanted, or in a wild choice any.
+    fn perhaps_another(&mut self, want: Wanted, scope: &Scope) -> Wanted {
+        if self.random.percent(scope.wild) { self.any_wanted(scope) } else { want }
+    }
+
     pub fn term(&mut self, want: Wanted, scope: &Scope, depth: usize) {
-        let want = if self.random.percent(scope.wild) { self.any_wanted(scope) } else { want };
-        if self.random.percent(scope.wild) && !scope.others.is_empty() {
-            let other = self.random.pick(&scope.others).clone();
-            let ending = *self.random.pick(&["", "", "'", "?", "!"]);
-            return self.put(&format!("{other}{ending}"));
-        }
+        let want = self.perhaps_another(want, scope);
         let parts = if depth == 0 { 1 } else { *self.random.pick(&[1, 1, 1, 2, 2, 3]) };
         for k in 0..parts {
             if k > 0 {
@@ -186,6 +186,12 @@ impl Expressions<'_> {
     }
 
     fn primary(&mut self, want: Wanted, scope: &Scope, depth: usize) {
+        let want = self.perhaps_another(want, scope);
+        if self.random.percent(scope.wild) && !scope.others.is_empty() {
+            let other = self.random.pick(&scope.others).clone();
+            let ending = *self.random.pick(&["", "", "'", "?", "!"]);
+            return self.put(&format!("{other}{ending}"));
+        }
         if depth > 0 && self.random.percent(8) && !matches!(want, Wanted::Element(_)) {
             self.put("[");
             self.term(want, scope, depth - 1);
@@ -329,8 +335,9 @@ impl Expressions<'_> {
                 self.term(want, scope, depth);
                 self.put(belongs);
                 let low = self.random.between(-4, 4);
-                let high = low + self.random.between(0, 5);
-                self.put_range(low, high);
+                let wild = self.random.percent(scope.wild);
+                let length = if wild { *self.random.pick(&[-1, 63, 64]) } else { self.random.between(0, 5) };
+                self.put_range(low, low + length);
             }
             (Wanted::Number, _) => {
                 let sign = *self.random.pick(&["=", "/=", "<", "<=", "="]);

@@ -328,6 +328,25 @@ pub fn counted(random: &mut Random) -> Vec<String> {
     text.split(' ').map(|symbol| symbol.to_string()).collect()
 }
 
+// A dossier with one small predicate whose parts take little heed of types and reach: faults inside faults.
+pub fn tangled(random: &mut Random) -> Vec<String> {
+    let words = |list: &str| list.split(' ').map(str::to_string).collect::<Vec<String>>();
+    let givens = vec![GivenSet { name: "G".to_string(), elements: words("g1 g2 g3 g4 g5") }, GivenSet { name: "H".to_string(), elements: words("h1 h2") }];
+    let state: Variables = vec![("m".to_string(), Shape::Set(1)), ("r".to_string(), Shape::Pairs("-->", 1, 1)), ("a".to_string(), Shape::Range(0, 1))];
+    let parameters = vec![("x?".to_string(), Shape::Element(1)), ("y!".to_string(), Shape::Range(0, 1))];
+    let names = [state.clone(), ended(&state, "'"), parameters].concat();
+    let wild = *random.pick(&[5, 15, 30]);
+    let scope = Scope { givens, names, fresh: words("b c d e"), bound: 0, wild, others: words("k o G m x y nobody g1") };
+    let depth = 1 + random.below(2);
+    let mut e = Expressions { random, out: Vec::new() };
+    e.put("contents given G given H abstract concrete ainit cinit retrieve op o end given G g1 g2 g3 g4 g5 end given H h1 h2 end");
+    e.put("abstract m : P H ; r : H --> H ; a : 0 .. 1 ; where true end concrete k : 0 .. 1 ; where true end");
+    e.put("ainit where a = 0 and m = empty H and dom r = { h1 , h2 } end cinit where k = 0 end retrieve where a = k end op o x? : H ; y! : 0 .. 1 ; abstract");
+    e.predicate(&scope, depth);
+    e.put("concrete k' = k end");
+    e.out
+}
+
 // The text of some symbols: blanks where they are needed, and others in one of several habits.
 pub fn spelled(random: &mut Random, symbols: &[String]) -> Vec<u8> {
     let habit = random.below(3);

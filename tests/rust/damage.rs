@@ -15,7 +15,7 @@ const ALIKE: [&[&str]; 7] = [
     &["forall", "exists", "exists1"],
 ];
 // Terms whose size is close to 2,147,483,647, or was before a mod, a div or a #.
-const LARGE: [&str; 14] = [
+const LARGE: [&str; 16] = [
     "1000 * 1000 * 1000 * 2",
     "1000 * 1000 * 1000 * 3",
     "1000 * 1000 * [ 1000 + 1000 + 147 ] + 483 * 1000 + 647",
@@ -29,6 +29,8 @@ const LARGE: [&str; 14] = [
     "# { x : G | 1000 * 1000 * 1000 * 3 = 0 } + 1000 * 1000 * 1000 * 3",
     "# { x : G | true } * 1000 * 1000 * 134",
     "# { x : G | true } * 1000 * 1000 * 135",
+    "1000 * 1000 * 135 * # { x : G | 1000 * 1000 * 1000 * 3 = 0 }",
+    "1000 * 1000 * 1000 * [ 3 - 1000 * 1000 * 1000 * 3 ]",
     "v1 - 1000 * w1",
 ];
 // Predicates whose braces or ranges are close to a limit.

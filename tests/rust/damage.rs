@@ -33,8 +33,8 @@ const LARGE: [&str; 16] = [
     "1000 * 1000 * 1000 * [ 3 - 1000 * 1000 * 1000 * 3 ]",
     "v1 - 1000 * w1",
 ];
-// Predicates whose braces or ranges are close to a limit.
-const BRACES: [&str; 8] = [
+// Predicates whose braces, ranges or divisors are close to a limit or over it, also with a second fault around them.
+const BRACES: [&str; 12] = [
     "empty G H = empty G H",
     "{ g1 |-> h1 } = empty G H",
     "{ g1 |-> g1 } = { g1 |-> g1 }",
@@ -42,6 +42,10 @@ const BRACES: [&str; 8] = [
     "1 in 0 .. 64",
     "1 in 2 .. 1",
     "1 in - 3 .. 60",
+    "g1 in 2 .. 1",
+    "g1 div 0 = 0",
+    "1 mod - 0 = g1",
+    "{ g1 |-> g1 , g1 |-> nobody } = empty G G",
     "true",
 ];
 const NUMBERS: [&str; 10] = ["0", "1", "2", "7", "15", "63", "64", "65", "1000", "1001"];

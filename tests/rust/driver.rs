@@ -32,7 +32,7 @@ use tally::Tally;
 
 // How many nodes the plain implementation visits before a case is left out.
 const LIMIT: u64 = 2_000_000;
-// Lists of calls for each text.
+// With so many texts goes one list of calls.
 const TEXTS_PER_LIST: u64 = 5;
 // Of so many texts one is read by the rules of form too.
 const TEXTS_PER_GRAMMAR: u64 = 10;

@@ -15,7 +15,7 @@ const ALIKE: [&[&str]; 7] = [
     &["forall", "exists", "exists1"],
 ];
 // Terms whose size is close to 2,147,483,647, or was before a mod, a div or a #.
-const LARGE: [&str; 16] = [
+const LARGE: [&str; 18] = [
     "1000 * 1000 * 1000 * 2",
     "1000 * 1000 * 1000 * 3",
     "1000 * 1000 * [ 1000 + 1000 + 147 ] + 483 * 1000 + 647",
@@ -32,6 +32,8 @@ const LARGE: [&str; 16] = [
     "1000 * 1000 * 135 * # { x : G | 1000 * 1000 * 1000 * 3 = 0 }",
     "1000 * 1000 * 1000 * [ 3 - 1000 * 1000 * 1000 * 3 ]",
     "v1 - 1000 * w1",
+    "v1 * 1000 * 1000 * 2 + 1000 * 1000 * 147",
+    "v1 * 1000 * 1000 * 2 + 1000 * 1000 * 148",
 ];
 // Predicates whose braces, ranges or divisors are close to a limit or over it, also with a second fault around them.
 const BRACES: [&str; 12] = [

@@ -147,16 +147,7 @@ impl Expressions<'_> {
                     self.put_number(divisor);
                 }
             },
-            Wanted::Set(g) => {
-                let relation = self.named_pairs(scope, g);
-                match relation {
-                    Some((name, from)) => {
-                        self.put(if from { "dom" } else { "ran" });
-                        self.put(&name);
-                    }
-                    None => self.primary(want, scope, depth),
-                }
-            }
+            Wanted::Set(g) => self.side_of_pairs(g, scope, depth),
             _ => self.primary(want, scope, depth),
         }
     }
@@ -167,6 +158,21 @@ impl Expressions<'_> {
         let of = if self.random.percent(30) && Self::pairs_allowed(scope, g, h) { Wanted::Pairs(g, h) } else { Wanted::Set(g) };
         self.put("#");
         self.primary(of, scope, depth);
+    }
+
+    // dom or ran of some pairs from or to a given set, of a name where there is one and it is chosen.
+    fn side_of_pairs(&mut self, g: usize, scope: &Scope, depth: usize) {
+        let named = if self.random.percent(50) { self.named_pairs(scope, g) } else { None };
+        if let Some((name, from)) = named {
+            return self.put(&format!("{} {name}", if from { "dom" } else { "ran" }));
+        }
+        let h = self.random.below(scope.givens.len());
+        if !Self::pairs_allowed(scope, g, h) {
+            return self.primary(Wanted::Set(g), scope, depth);
+        }
+        let from = self.random.percent(50);
+        self.put(if from { "dom" } else { "ran" });
+        self.primary(if from { Wanted::Pairs(g, h) } else { Wanted::Pairs(h, g) }, scope, depth);
     }
 
     // A name of pairs from or to a given set.

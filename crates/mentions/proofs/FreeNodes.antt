@@ -74,8 +74,9 @@ module _ {t : List ℕ} {e s : ℕ} where
   unfolding TermNode
   slot-free k d = term-free (λ f ρ τ a v. rw (TermNode, k) (λ n. (n .0, n .1 ∙ a .same (firstAt t e) d)))
 
-  pub slot-says : {n : ℕ} → shapeAt t e ≡ 2 → n ≡ firstAt t e → TermSays t e s (not (eqb n s))
-  slot-says {n} k is = record { means = λ y. slot-free k (λ z. refused (sym (ap not (eq-eqb n s (is ∙ z))) ∙ y)) }
+  pub slot-says : {i n : ℕ} → shapeAt t e ≡ 2 → i ≡ e - 3 → n ≡ getD t i 0 → TermSays t e s (not (eqb n s))
+  slot-says {i} {n} k at is =
+      record { means = λ y. slot-free k (λ z. refused (sym (ap not (eq-eqb n s (is ∙ ap (λ (j : ℕ). getD t j 0) at ∙ z))) ∙ y)) }
 
   pub prefix-free : shapeAt t e ≡ 3 → TermFree t (e - 4) s → TermFree t e s
   unfolding TermNode

@@ -1,4 +1,4 @@
--- answers sha256 58cf23a97f6c9ae4
+-- answers sha256 8093fd7307bd04f7
 -- The functions of `mentions` that walk down the nodes, and call each other, meet their contracts: where the parts are free, so is the node. The measure is where the nodes end. Assumes nothing.
 use Prim.Native.Nat.{ℕ, _<_, _+_, _*_}
 use borrow.Fn.Kinds.{In}
@@ -316,7 +316,7 @@ free-term-returns-5 : (t : ℕ) → free-term-lts.Need-returns-5 (free-term-clai
 free-term-returns-5 t c = record { means = λ e. nodes.number-free (c .match .keys1) }
 
 free-term-returns-6 : (t : ℕ) → free-term-lts.Need-returns-6 (free-term-claims t) (free-term-at t) free-term.Post
-free-term-returns-6 t c = nodes.slot-says (c .before .before .match .keys2) (c .number .ensures)
+free-term-returns-6 t c = nodes.slot-says (c .before .before .match .keys2) (omega arith) (c .number .ensures)
 
 free-term-returns-7 : (t : ℕ) → free-term-lts.Need-returns-7 (free-term-claims t) (free-term-at t) free-term.Post
 free-term-returns-7 t c = record { means = λ e. nodes.prefix-free (c .before .match .keys3) (c .free-term .ensures .means e) }

@@ -1,4 +1,4 @@
--- answers sha256 7cb6fa194cabce4a
+-- answers sha256 bcca0ecdd845f821
 -- `seek::seek` meets its contract. The invariant of the loop over the values of the first variable is `Inside`: nothing was found before block x, place r of it, and the
 -- arrays show a point that differs from the first one only in the search's slots; nothing is found from the block where the loop ends on. Measures: the variables left; the values left. Assumes nothing.
 use Prim.Native.Nat.{ℕ, _<_, _-_}
@@ -84,7 +84,7 @@ seek-loop-holds : (t : ℕ) → seek-lts.Need-loop-holds (seek-claims t) (seek-a
 seek-loop-holds t c = searches.entered (c .before .before .before .before .before .before .before .before .before .before .before .before .before .before .before .pre .1) (c .before .before .before .before .before .before .before .before .if3 .left) (c .before .before .before .before .before .before .before .slot-of .ensures) (c .before .before .before .before .before .before .count-of .ensures) (c .before .before .before .before .before .before .before .before .before .before .before .before .before .if1 .left) (c .before .before .before .before .before .before .before .before .before .before .before .level .ensures .1) (c .before .before .aim .ensures .0) (c .before .before .before .before .before .before .before .before .before .before .before .level .ensures .0) (not-false _ (c .before .before .before .before .before .before .before .before .before .before .if2 .left)) (c .before .before .aim .ensures .1) (c .later .ensures)
 
 seek-store-requires : (t : ℕ) → seek-lts.Need-store-requires (seek-claims t) (seek-at t) seek.Post seek-Inv-loop seek-μ-loop
-seek-store-requires t c κs = searches.store-asked (c .before .before .before .loop .inv) (searches.below-high (c .before .before .before .loop .inv) (c .before .if4 .taken))
+seek-store-requires t c κs = searches.store-asked (c .before .before .before .loop .inv) (searches.below-high (c .before .before .before .loop .inv) (omega (arith, c .before .if4 .taken)))
 
 seek-add-t23 : (t : ℕ) → seek-lts.Need-add-t23 (seek-claims t) (seek-at t) seek.Post seek-Inv-loop seek-μ-loop
 seek-add-t23 t c = search needs
@@ -93,16 +93,16 @@ seek-sub-t24 : (t : ℕ) → seek-lts.Need-sub-t24 (seek-claims t) (seek-at t) s
 seek-sub-t24 t c = search needs
 
 seek-seek-requires : (t : ℕ) → seek-lts.Need-seek-requires (seek-claims t) (seek-at t) seek.Post seek-Inv-loop seek-μ-loop
-seek-seek-requires t c κs = (searches.fewer (c .before .before .before .before .before .before .before .before .before .before .before .before .before .before .before .before .before .before .before .before .before .before .before .pre .0) (c .before .before .before .before .before .before .before .before .before .before .before .before .before .before .before .before .if3 .left), searches.seek-asked (c .before .before .before .before .before .before .before .loop .inv) (searches.below-high (c .before .before .before .before .before .before .before .loop .inv) (c .before .before .before .before .before .if4 .taken)) (c .before .before .before .store .ensures))
+seek-seek-requires t c κs = (searches.fewer (c .before .before .before .before .before .before .before .before .before .before .before .before .before .before .before .before .before .before .before .before .before .before .before .pre .0) (c .before .before .before .before .before .before .before .before .before .before .before .before .before .before .before .before .if3 .left), searches.seek-asked (c .before .before .before .before .before .before .before .loop .inv) (searches.below-high (c .before .before .before .before .before .before .before .loop .inv) (omega (arith, c .before .before .before .before .before .if4 .taken))) (c .before .before .before .store .ensures))
 
 seek-mul-result : (t : ℕ) → seek-lts.Need-mul-result (seek-claims t) (seek-at t) seek.Post seek-Inv-loop seek-μ-loop
-seek-mul-result t c = omega (arith, searches.block-low (c .before .before .before .before .before .before .before .before .before .loop .inv) (searches.below-high (c .before .before .before .before .before .before .before .before .before .loop .inv) (c .before .before .before .before .before .before .before .if4 .taken)))
+seek-mul-result t c = omega (arith, searches.block-low (c .before .before .before .before .before .before .before .before .before .loop .inv) (searches.below-high (c .before .before .before .before .before .before .before .before .before .loop .inv) (omega (arith, c .before .before .before .before .before .before .before .if4 .taken))))
 
 seek-add-result : (t : ℕ) → seek-lts.Need-add-result (seek-claims t) (seek-at t) seek.Post seek-Inv-loop seek-μ-loop
-seek-add-result t c = omega (arith, searches.block-low (c .before .before .before .before .before .before .before .before .before .loop .inv) (searches.below-high (c .before .before .before .before .before .before .before .before .before .loop .inv) (c .before .before .before .before .before .before .before .if4 .taken)), searches.length-low (c .before .before .before .before .before .before .before .before .before .loop .inv), searches.place-low (c .before .before .before .before .before .before .before .before .before .loop .inv), c .if5 .taken)
+seek-add-result t c = omega (arith, searches.block-low (c .before .before .before .before .before .before .before .before .before .loop .inv) (searches.below-high (c .before .before .before .before .before .before .before .before .before .loop .inv) (omega (arith, c .before .before .before .before .before .before .before .if4 .taken))), searches.length-low (c .before .before .before .before .before .before .before .before .before .loop .inv), searches.place-low (c .before .before .before .before .before .before .before .before .before .loop .inv), c .if5 .taken)
 
 seek-returns-4 : (t : ℕ) → seek-lts.Need-returns-4 (seek-claims t) (seek-at t) seek.Post seek-Inv-loop seek-μ-loop
-seek-returns-4 t c = searches.carried (c .before .before .before .before .before .before .before .before .before .before .before .before .aim .ensures .1 ∙ (c .before .before .before .before .before .before .before .before .before .before .before .before .before .before .before .before .before .before .before .before .before .level .ensures .1)) (searches.hit (c .before .before .before .before .before .before .before .before .before .loop .inv) (searches.below-high (c .before .before .before .before .before .before .before .before .before .loop .inv) (c .before .before .before .before .before .before .before .if4 .taken)) (c .before .before .before .before .before .store .ensures) (c .before .seek .ensures) (c .if5 .taken) (omega arith))
+seek-returns-4 t c = searches.carried (c .before .before .before .before .before .before .before .before .before .before .before .before .aim .ensures .1 ∙ (c .before .before .before .before .before .before .before .before .before .before .before .before .before .before .before .before .before .before .before .before .before .level .ensures .1)) (searches.hit (c .before .before .before .before .before .before .before .before .before .loop .inv) (searches.below-high (c .before .before .before .before .before .before .before .before .before .loop .inv) (omega (arith, c .before .before .before .before .before .before .before .if4 .taken))) (c .before .before .before .before .before .store .ensures) (c .before .seek .ensures) (c .if5 .taken) (omega arith))
 
 seek-add-x : (t : ℕ) → seek-lts.Need-add-x (seek-claims t) (seek-at t) seek.Post seek-Inv-loop seek-μ-loop
 seek-add-x t c = search needs
@@ -111,10 +111,10 @@ seek-loop-less : (t : ℕ) → seek-lts.Need-loop-less (seek-claims t) (seek-at 
 seek-loop-less t c = omega (arith, c .before .before .before .before .before .before .before .if4 .taken)
 
 seek-loop-again : (t : ℕ) → seek-lts.Need-loop-again (seek-claims t) (seek-at t) seek.Post seek-Inv-loop seek-μ-loop
-seek-loop-again t c = searches.again (c .before .before .before .before .before .before .before .before .before .loop .inv) (searches.below-high (c .before .before .before .before .before .before .before .before .before .loop .inv) (c .before .before .before .before .before .before .before .if4 .taken)) (c .before .before .before .before .before .store .ensures) (c .before .seek .ensures) (c .if5 .left) (omega arith)
+seek-loop-again t c = searches.again (c .before .before .before .before .before .before .before .before .before .loop .inv) (searches.below-high (c .before .before .before .before .before .before .before .before .before .loop .inv) (omega (arith, c .before .before .before .before .before .before .before .if4 .taken))) (c .before .before .before .before .before .store .ensures) (c .before .seek .ensures) (c .if5 .left) (omega arith)
 
 seek-returns-5 : (t : ℕ) → seek-lts.Need-returns-5 (seek-claims t) (seek-at t) seek.Post seek-Inv-loop seek-μ-loop
-seek-returns-5 t c = searches.carried (c .before .before .before .before .before .aim .ensures .1 ∙ (c .before .before .before .before .before .before .before .before .before .before .before .before .before .before .level .ensures .1)) (searches.out (c .before .before .loop .inv) (c .if4 .left))
+seek-returns-5 t c = searches.carried (c .before .before .before .before .before .aim .ensures .1 ∙ (c .before .before .before .before .before .before .before .before .before .before .before .before .before .before .level .ensures .1)) (searches.out (c .before .before .loop .inv) (omega (arith, c .if4 .left)))
 
 pub +seek-spec : {M : Type 1} → statement M
 +seek-spec =

@@ -1,4 +1,4 @@
--- answers sha256 e3148aed6394a6e3
+-- answers sha256 74b6ce713823fae7
 -- `mentions::equations::solving` meets its contract: an equation with the variable on one side says it to be the other one. Assumes nothing.
 use borrow.Author.Needs.{needs}
 use mathlib.Core.Path.{refl}
@@ -44,13 +44,13 @@ tells-requires : tie.Need-tells-requires
 tells-requires c κs = search needs
 
 returns-5 : tie.Need-returns-5
-returns-5 c = record { means = λ n. left-solves (c .before .before .before .before .before .if3 .left) (c .before .before .before .if4 .left) (c .before .before .earlier .ensures) (c .before .tells .ensures .means (c .if5 .taken)) }
+returns-5 c = record { means = λ n. left-solves (c .before .before .before .before .before .if3 .left) (omega (arith, c .before .before .before .if4 .left)) (c .before .before .earlier .ensures) (c .before .tells .ensures .means (c .if5 .taken)) }
 
 tells-requires-2 : tie.Need-tells-requires-2
 tells-requires-2 c κs = search needs
 
 returns-6 : tie.Need-returns-6
-returns-6 c = record { means = λ n. right-solves (c .before .before .before .before .before .before .before .if3 .left) (c .before .before .before .before .before .if4 .left) (c .before .before .before .before .earlier .ensures) (c .before .tells2 .ensures .means (c .if6 .taken)) }
+returns-6 c = record { means = λ n. right-solves (c .before .before .before .before .before .before .before .if3 .left) (omega (arith, c .before .before .before .before .before .if4 .left)) (c .before .before .before .before .earlier .ensures) (c .before .tells2 .ensures .means (c .if6 .taken)) }
 
 returns-7 : tie.Need-returns-7
 returns-7 c = record { means = λ n. absurd (n refl) }

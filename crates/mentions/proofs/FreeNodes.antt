@@ -1,8 +1,8 @@
 -- Nodes of terms and of the items of braces, by their shapes: where the parts are free of a slot, so is the node. Assumes nothing.
-use mathlib.Core.Path.{_≡_, refl, sym, ap, subst, _∙_}
+use mathlib.Core.Path.{_≡_, sym, ap, subst, _∙_}
 use mathlib.Core.Bool.{Bool, true, false, not}
 use mathlib.Core.List.{List}
-use Prim.Native.Nat.{ℕ, zero, suc, _+_, _-_, _<_, _≤_}
+use Prim.Native.Nat.{ℕ, zero, suc, _-_, _<_}
 use native.Mathlib.Omega.{arith}
 use native.Mathlib.Decide.{ℕ-discrete}
 use lib.Dec.{eqb, T}
@@ -10,8 +10,8 @@ use borrow.Author.Tests.{eq-eqb}
 use lib.ListN.{getD, length, set, length-set}
 use lib.Seq.{getD-set-same, getD-set-other}
 use lib.IntN.{ℤ, pos}
-use Rattle.evaluation.specs.EvaluationByNumber.{Values, Terms, Truths, shapeAt, endAt, firstAt, secondAt, TermIs, ItemsIs, TruthIs}
-use Rattle.evaluation.specs.EvaluationByNumber.{Part, Bound, TermNode, ItemsNode}
+use Rattle.evaluation.specs.EvaluationByNumber.{Values, Truths, shapeAt, endAt, firstAt, secondAt, TermIs, ItemsIs, TruthIs}
+use Rattle.evaluation.specs.EvaluationByNumber.{Bound, TermNode, ItemsNode}
 use Rattle.mentions.specs.MentionPromises.{Agree, Frames, TermFree, ItemsFree, TruthFree, Earlier, TermSays}
 
 -- an answer no says nothing

@@ -16,7 +16,7 @@ use form::node;
 use table_nodes::table_shapes;
 
 // A number of the table.
-pub fn number(t: &[u16], k: usize) -> usize
+fn number(t: &[u16], k: usize) -> usize
     requires { ⌜ k < length (now t) ⌝ }
     ensures { λ r. ⌜ r ≡ getD (now (t .entry)) k 0 ⌝ }
 {
@@ -24,7 +24,7 @@ pub fn number(t: &[u16], k: usize) -> usize
 }
 
 // Where an earlier part of a node ends, as the number so far before the node's end says: 0, where no node ends, if that is not before it.
-pub fn earlier(t: &[u16; node::NUMBERS], end: usize, back: usize) -> usize
+fn earlier(t: &[u16; node::NUMBERS], end: usize, back: usize) -> usize
     requires { ⌜ Inside end × (0 < back) × (back ≤ 4) ⌝ }
     ensures { λ r. ⌜ Earlier end (getD (now (t .entry)) (end - back) 0) r ⌝ }
 {

@@ -1,26 +1,26 @@
 -- The value that a test says a variable to have: at all its other values the test fails, and with it its level. Assumes nothing.
-use Prim.Native.Nat.{ℕ, _+_, _-_, _/_, _%_, _<_, _≤_}
+use Prim.Native.Nat.{ℕ, _+_, _-_, _%_, _<_, _≤_}
 use native.Mathlib.Omega.{arith}
 use mathlib.Core.Path.{_≡_, refl, sym, ap, _∙_, subst}
 use mathlib.Core.Bool.{Bool, true, false}
 use mathlib.Core.Logic.{_⊎_, inl, inr}
-use mathlib.Core.List.{List, [], _∷_}
+use mathlib.Core.List.{List, []}
 use lib.Dec.{T}
 use lib.ListN.{getD, length, set, length-set}
 use lib.Seq.{getD-set-same, getD-set-other}
 use lib.IntN.{ℤ, pos}
 use lib.Signed.{ltZ}
 use Rattle.lexical.specs.Lists.{all}
-use Rattle.slot_carriers.specs.Cells.{countIn, valueIn, Readable, Found}
+use Rattle.slot_carriers.specs.Cells.{countIn, valueIn, Found}
 use Rattle.slot_carriers.proofs.Halving.{either, less-self}
-use Rattle.evaluation.specs.EvaluationByNumber.{Values, Inside, TermIs}
+use Rattle.evaluation.specs.EvaluationByNumber.{Values, Inside}
 use Rattle.evaluator.specs.EvaluationPromises.{TermRuns, TermAnswers}
 use Rattle.evaluator.proofs.NodeLaws.{term-runs}
-use Rattle.mentions.specs.MentionPromises.{Agree, Solved}
+use Rattle.mentions.specs.MentionPromises.{Agree}
 use Rattle.points.specs.Points.{Point, moved, primedSlot, Shows}
 use Rattle.points.specs.PointTests.{Test}
 use Rattle.points.specs.Searches.{levelHolds, markIn, TestsAt, no-tests, more-tests}
-use Rattle.seek.specs.AimPromises.{Says, Equates, EquationAnswers, AimAsked, AimAnswers}
+use Rattle.seek.specs.AimPromises.{Says, Equates, AimAsked, AimAnswers}
 use Rattle.seek.proofs.LevelTests.{hold}
 use Rattle.seek.proofs.SlotPlaces.{concrete-plain, abstract-plain}
 use Rattle.seek.proofs.StoredPoints.{stored-plain, stored-primed}

@@ -211,36 +211,26 @@ pub fn seek(
     let slot = slot_of(plan, s.u, s.j);
     let n = count_of(cells, slot);
     let v = s.w / n;
-    let b = aim(
-        t,
-        plan,
-        cells,
-        Target {
-            u: s.u,
-            l: s.j + 1,
-            slot,
-            n,
-        },
-        slots,
-    );
+    let target = Target {
+        u: s.u,
+        l: s.j + 1,
+        slot,
+        n,
+    };
+    let b = aim(t, plan, cells, target, slots);
     let first = later(s.from, b.low * v);
     let mut x = first / v;
     let mut r = first % v;
     while x < b.high {
         store(cells, slot, x, slots);
-        let k = seek(
-            t,
-            plan,
-            cells,
-            Span {
-                u: s.u,
-                j: s.j + 1,
-                m: s.m - 1,
-                w: v,
-                from: r,
-            },
-            slots,
-        );
+        let rest = Span {
+            u: s.u,
+            j: s.j + 1,
+            m: s.m - 1,
+            w: v,
+            from: r,
+        };
+        let k = seek(t, plan, cells, rest, slots);
         if k < v {
             return x * v + k;
         }

@@ -86,11 +86,11 @@ seek-loop-holds t c = searches.entered (c .before .before .before .before .befor
 seek-store-requires : (t : ℕ) → seek-lts.Need-store-requires (seek-claims t) (seek-at t) seek.Post seek-Inv-loop seek-μ-loop
 seek-store-requires t c κs = searches.store-asked (c .before .before .before .loop .inv) (searches.below-high (c .before .before .before .loop .inv) (omega (arith, c .before .if4 .taken)))
 
-seek-add-t23 : (t : ℕ) → seek-lts.Need-add-t23 (seek-claims t) (seek-at t) seek.Post seek-Inv-loop seek-μ-loop
-seek-add-t23 t c = search needs
+seek-add-t24 : (t : ℕ) → seek-lts.Need-add-t24 (seek-claims t) (seek-at t) seek.Post seek-Inv-loop seek-μ-loop
+seek-add-t24 t c = search needs
 
-seek-sub-t24 : (t : ℕ) → seek-lts.Need-sub-t24 (seek-claims t) (seek-at t) seek.Post seek-Inv-loop seek-μ-loop
-seek-sub-t24 t c = search needs
+seek-sub-t25 : (t : ℕ) → seek-lts.Need-sub-t25 (seek-claims t) (seek-at t) seek.Post seek-Inv-loop seek-μ-loop
+seek-sub-t25 t c = search needs
 
 seek-seek-requires : (t : ℕ) → seek-lts.Need-seek-requires (seek-claims t) (seek-at t) seek.Post seek-Inv-loop seek-μ-loop
 seek-seek-requires t c κs = (searches.fewer (c .before .before .before .before .before .before .before .before .before .before .before .before .before .before .before .before .before .before .before .before .before .before .before .pre .0) (c .before .before .before .before .before .before .before .before .before .before .before .before .before .before .before .before .if3 .left), searches.seek-asked (c .before .before .before .before .before .before .before .loop .inv) (searches.below-high (c .before .before .before .before .before .before .before .loop .inv) (omega (arith, c .before .before .before .before .before .if4 .taken))) (c .before .before .before .store .ensures))
@@ -121,5 +121,5 @@ pub +seek-spec : {M : Type 1} → statement M
     close μ-seek
     λ t. seek-lts.spec (seek-claims t) (seek-at t) seek.Post seek-Inv-loop seek-μ-loop (seek-returns t) (seek-level-requires t) (seek-returns-2 t)
     (seek-returns-3 t) (seek-slot-of-requires t) (seek-count-of-requires t) (seek-div-v t) (seek-add-later t) (seek-aim-requires t) (seek-mul-later t)
-    (seek-later-requires t) (seek-div-x t) (seek-rem-r t) (seek-loop-holds t) (seek-store-requires t) (seek-add-t23 t) (seek-sub-t24 t) (seek-seek-requires t)
+    (seek-later-requires t) (seek-div-x t) (seek-rem-r t) (seek-loop-holds t) (seek-store-requires t) (seek-add-t24 t) (seek-sub-t25 t) (seek-seek-requires t)
     (seek-mul-result t) (seek-add-result t) (seek-returns-4 t) (seek-add-x t) (seek-loop-less t) (seek-loop-again t) (seek-returns-5 t)

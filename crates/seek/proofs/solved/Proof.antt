@@ -1,4 +1,4 @@
--- answers sha256 40fe4ca0e8a6978e
+-- answers sha256 3370ce25c59f2844
 -- `seek::solved` meets its contract. Assumes nothing.
 use mathlib.Core.Logic.{inl, inr}
 use borrow.Author.Needs.{needs}
@@ -11,7 +11,7 @@ solving-requires : tie.Need-solving-requires
 solving-requires c κs = search needs
 
 returns : tie.Need-returns
-returns c = record { means = λ n. record { own = _; side = inl (c .before .if1 .taken, refl); solves = c .solving .ensures .means n } }
+returns c = record { means = λ n. record { own = _; side = inl (omega (arith, c .before .if1 .taken), refl); solves = c .solving .ensures .means n } }
 
 returns-2 : tie.Need-returns-2
 returns-2 c = record { means = λ n. absurd (n refl) }

@@ -63,7 +63,7 @@ module _ (T : Terms) (P : Truths) (I : Terms) (t : List ℕ) (e : ℕ) (ρ : Val
   unfolding TermNode
   is-number k = rw (TermNode, k) (λ h. h)
 
-  is-slot : shapeAt t e ≡ 2 → TermNode T P I t e ρ v → (firstAt t e < 64) × (v ≡ getD ρ (firstAt t e) (pos 0))
+  pub is-slot : shapeAt t e ≡ 2 → TermNode T P I t e ρ v → (firstAt t e < 64) × (v ≡ getD ρ (firstAt t e) (pos 0))
   unfolding TermNode
   is-slot k = rw (TermNode, k) (λ h. h)
 

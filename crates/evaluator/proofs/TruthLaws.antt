@@ -40,7 +40,7 @@ module _ (T : Terms) (P : Truths) (t : List ℕ) (e : ℕ) (ρ : Values) (b : Bo
   unfolding TruthNode
   is-connective k = rw (TruthNode, k) (λ h. h)
 
-  is-comparison : shapeAt t e ≡ 19 → TruthNode T P t e ρ b → ComparisonNode T t e ρ b
+  pub is-comparison : shapeAt t e ≡ 19 → TruthNode T P t e ρ b → ComparisonNode T t e ρ b
   unfolding TruthNode
   is-comparison k = rw (TruthNode, k) (λ h. h)
 

@@ -34,15 +34,15 @@ const IN: u16 = codes::IN as u16;
 pub const SLOTS: usize = table_nodes::slots::ELEMENTS as usize;
 
 // How far before its end a node's numbers stand. Behind the last part of a binder, and of a membership in a range, stand two nodes: that of the set or range, and its own.
-const SHAPE_BACK: usize = 1;
+pub const SHAPE_BACK: usize = 1;
 
-const END_BACK: usize = 2;
+pub const END_BACK: usize = 2;
 
-const FIRST_BACK: usize = 3;
+pub const FIRST_BACK: usize = 3;
 
-const SECOND_BACK: usize = 4;
+pub const SECOND_BACK: usize = 4;
 
-const TWO_NODES: usize = node::SIZE + node::SIZE;
+pub const TWO_NODES: usize = node::SIZE + node::SIZE;
 
 // How much more than the first number of a range its node has, which is then not negative; the number of `true`.
 const RAISED: i64 = bounds::LARGEST_NUMBER as i64;

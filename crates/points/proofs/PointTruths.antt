@@ -22,12 +22,14 @@ use Rattle.slot_carriers.proofs.CarrierCells.{value-of}
 use Rattle.value_types.specs.TypedValues.{InReach}
 use Rattle.table_places.specs.ResolvedTable.{Slots, slotted}
 use Rattle.search_groups.specs.Conjuncts.{usedPred}
+use Rattle.evaluation.specs.Heights.{heightPred}
 use Rattle.evaluation.specs.SlotValues.{Slotted, Below, Held}
 use Rattle.conjunct_tests.specs.ConjunctTests.{Conjunct, Agree, agree-none, agree-more}
+use Rattle.conjunct_tests.proofs.ConjunctRows.{conjunct-answers}
 use Rattle.conjunct_tests.proofs.SlotFrame.{frame-slots}
 use Rattle.truths.specs.Promises.{Asked, Answers}
 use Rattle.points.specs.Points.{Point, Tame, Shows}
-use Rattle.points.specs.PointTests.{bindingBy, truthAt, sideSlot, sideOf, Celled, Test}
+use Rattle.points.specs.PointTests.{bindingBy, truthAt, sideSlot, sideOf, Celled, Given, Test}
 use Rattle.points.proofs.PointBindings.{value-low, primed-abstract, primed-concrete, Primes, no-primes, more-primes, state-primes}
 
 -- ---- slots with cells
@@ -156,6 +158,14 @@ test-by table cells Γ W q from to side e half rest c r b h l k = record {
   answers = λ δ arrays shows x a.
       subst (λ (n : ℕ). Answers table to (getD arrays n []) x) rest (subst (λ (n : ℕ). Answers table n (getD arrays (e % 2) []) x) half a)
       .means Γ W (record { givens = Γ .givens; values = bindingBy (Γ .reach) W (sideOf side δ) }) q from c (held-at cells δ arrays shows side Γ W r b h l k);
+  gives = λ δ arrays shows.
+      subst (λ (n : ℕ). Given table n (getD arrays (e % 2) []) (truthAt Γ W q (sideOf side δ))) (sym half)
+      (subst (λ (n : ℕ). Given table to (getD arrays n []) (truthAt Γ W q (sideOf side δ))) (sym rest)
+      (record {
+        fuel = heightPred q;
+        is = conjunct-answers table Γ W q from to (record { givens = Γ .givens; values = bindingBy (Γ .reach) W (sideOf side δ) }) (getD arrays side []) c
+            (held-at cells δ arrays shows side Γ W r b h l k);
+      }));
 }
 
 pub test-at : (table cells : List ℕ) (Γ : Scope) (W : Slots) (q : Pred) (from to side : ℕ) → Conjunct table Γ W q from to → InReach Γ → Below 38 W

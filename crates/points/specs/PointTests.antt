@@ -12,6 +12,7 @@ use Rattle.meaning.specs.Meaning.{Binding, holds}
 use Rattle.carriers.specs.ValuesByNumber.{valueAt}
 use Rattle.slot_carriers.specs.Cells.{CellOf}
 use Rattle.table_places.specs.ResolvedTable.{Slots}
+use Rattle.evaluation.specs.EvaluationByNumber.{Values, TruthIs}
 use Rattle.truths.specs.Promises.{Asked, Answers}
 use Rattle.points.specs.Points.{Point, primedSlot, Shows}
 
@@ -39,7 +40,13 @@ Celled cells side [] (w ∷ W) = ⊥
 Celled cells side (v ∷ vs) [] = ⊥
 Celled cells side (v ∷ vs) (w ∷ W) = (w .0 ≡ v .called) × CellOf cells (sideSlot side (w .1)) (v .carrier) × Celled cells side vs W
 
--- e, twice a place in the table, and 1 more where the state after is asked, is a test of f: at every point the evaluator can be asked, and answers f
+-- the nodes up to e give the truth b, with values in slots
+pub record Given (table : List ℕ) (e : ℕ) (σ : Values) (b : Bool) : Type 0 where
+  pub fuel : ℕ
+  pub is : TruthIs fuel table e σ b
+
+-- e, twice a place in the table, and 1 more where the state after is asked, is a test of f: at every point the evaluator can be asked, and answers f, which the nodes give
 pub record Test (table cells : List ℕ) (e : ℕ) (f : Point → Bool) : Type 0 where
   pub asked : (δ : Point) (arrays : List (List ℤ)) → Shows cells δ arrays → Asked table (e / 2) (getD arrays (e % 2) [])
   pub answers : (δ : Point) (arrays : List (List ℤ)) → Shows cells δ arrays → (r : Bool) → Answers table (e / 2) (getD arrays (e % 2) []) r → r ≡ f δ
+  pub gives : (δ : Point) (arrays : List (List ℤ)) → Shows cells δ arrays → Given table (e / 2) (getD arrays (e % 2) []) (f δ)

@@ -1,6 +1,6 @@
 -- A search through blocks of equal length: a place is a block and a place in it. Assumes nothing.
 use Prim.Native.Nat.{ℕ, _+_, _-_, _*_, _/_, _%_, _<_, _≤_}
-use native.Mathlib.Nat.{add-mul, one-mul, div-add-mod', mod-lt, mul-le-mul-right, lt-of-lt-of-le}
+use native.Mathlib.Nat.{add-mul, one-mul, div-add-mod', mod-lt, mul-le-mul-right}
 use native.Mathlib.Omega.{arith}
 use mathlib.Core.Path.{_≡_, ap, ap₂, _∙_, subst}
 use mathlib.Core.Bool.{Bool, false}
@@ -13,13 +13,11 @@ pub record Going (f : ℕ → Bool) (v from x r : ℕ) : Type 0 where
   pub low : from ≤ x * v + r
   pub past : (k : ℕ) → from ≤ k → k < x * v + r → f k ≡ false
 
-pub started : (f : ℕ → Bool) (v from : ℕ) → 0 < v → Going f v from (from / v) (from % v)
-started f v from p =
-    let e : from / v * v + from % v ≡ from = div-add-mod' from v in
-    record { short = mod-lt from p; low = omega arith; past = λ k a b. absurd (none k a (subst (λ (x : ℕ). k < x) e b)) }
-  where
-    none : (k : ℕ) → from ≤ k → k < from → ⊥
-    none k a b = omega arith
+-- the search may begin later: what is left out is not found
+pub started : (f : ℕ → Bool) (v from first : ℕ) → 0 < v → from ≤ first → ((k : ℕ) → from ≤ k → k < first → f k ≡ false) → Going f v from (first / v) (first % v)
+started f v from first p l skips =
+    let e : first / v * v + first % v ≡ first = div-add-mod' first v in
+    record { short = mod-lt first p; low = omega arith; past = λ k a b. skips k a (subst (λ (x : ℕ). k < x) e b) }
 
 -- n blocks in all
 module _ (f : ℕ → Bool) (h : ℕ → ℕ → Bool) (n v from : ℕ) (split : (k : ℕ) → f k ≡ h (k / v) (k % v)) where
@@ -59,10 +57,19 @@ module _ (f : ℕ → Bool) (h : ℕ → ℕ → Bool) (n v from : ℕ) (split :
         let up : (x + 1) * v ≤ n * v = mul-le-mul-right v (omega arith) in
         record { low = omega arith; high = omega arith; past = through; found = λ a. at-block x k p ∙ q .found p }
 
-  pub ended : {x r : ℕ} → Going f v from x r → n ≤ x → from ≤ n * v → Sought f from (n * v) (n * v)
-  ended {x} {r} g l w =
-      let up : n * v ≤ x * v = mul-le-mul-right v l in
-      record { low = w; high = omega arith; past = λ y a b. g .past y a (lt-of-lt-of-le b (let z : n * v ≤ x * v + r = omega arith in z)); found = λ a. absurd (less a) }
-    where
-      less : n * v < n * v → ⊥
-      less a = omega arith
+-- it may end at block `high`: nothing is found from there on
+pub ended : {f : ℕ → Bool} {v from x r : ℕ} (n high : ℕ) → Going f v from x r → high ≤ x → ((k : ℕ) → high * v ≤ k → k < n * v → f k ≡ false) → from ≤ n * v
+    → Sought f from (n * v) (n * v)
+ended {f} {v} {from} {x} {r} n high g l beyond w =
+    let up : high * v ≤ x * v = mul-le-mul-right v l in
+    record { low = w; high = omega arith; past = λ y a b. past y up a b; found = λ a. absurd (less a) }
+  where
+    less : n * v < n * v → ⊥
+    less a = omega arith
+
+    past : (y : ℕ) → high * v ≤ x * v → from ≤ y → y < n * v → f y ≡ false
+    past y up a b =
+        elim (native.Mathlib.Decide.decLt y (x * v + r)) [
+          | yes z ↦ g .past y a z
+          | no z ↦ beyond y (omega arith) b
+        ]

@@ -12,7 +12,7 @@ use Rattle.points.specs.Points.{Point, Shows}
 use Rattle.points.specs.Searches.{levelHolds, markIn, TestsAt, no-tests, more-tests}
 use Rattle.seek.specs.SeekPromises.{LevelAsked, LevelAnswers}
 
-abbrev hold : List (Point → Bool) → Point → Bool
+abbrev pub hold : List (Point → Bool) → Point → Bool
 hold fs δ = all (λ (f : Point → Bool). f δ) fs
 
 -- tests of which those before number k hold: what is left decides
@@ -59,7 +59,7 @@ seated : {table plan cells : List ℕ} {to to' at at' : ℕ} {fs : List (Point �
 seated {table} {plan} {cells} {to} {to'} {at} {at'} {fs} e f t =
     subst (λ (x : ℕ). TestsAt table plan cells x at fs) (sym e) (subst (λ (x : ℕ). TestsAt table plan cells to' x fs) (sym f) t)
 
-mark-next : (plan : List ℕ) (u l : ℕ) → getD plan (16 * u + l + 1) 0 ≡ markIn plan u (l + 1)
+pub mark-next : (plan : List ℕ) (u l : ℕ) → getD plan (16 * u + l + 1) 0 ≡ markIn plan u (l + 1)
 mark-next plan u l = ap (λ (i : ℕ). getD plan i 0) (let z : 16 * u + l + 1 ≡ 16 * u + (l + 1) = omega arith in z)
 
 pub level-starts : {table plan : List ℕ} {u l to from : ℕ} {a : List (List ℤ)} → LevelAsked table plan u l a → to ≡ getD plan (16 * u + l + 1) 0 → from ≡ markIn plan u l

@@ -1,14 +1,14 @@
 -- The loop over the values of a search's first variable, at one list of slots, tests and point: what is known at its head, and one step of it. Assumes nothing.
 use Prim.Native.Nat.{ℕ, _+_, _*_, _/_, _%_, _<_, _≤_}
 use mathlib.Core.Path.{_≡_, sym, ap, ap₂, _∙_}
-use mathlib.Core.Bool.{Bool, true, _&&_}
+use mathlib.Core.Bool.{Bool, true, false, _&&_}
 use mathlib.Core.List.{List, [], _∷_}
 use lib.Arith.{digits-div, digits-mod}
 use lib.IntN.{ℤ}
 use Rattle.points.specs.Points.{Point, moved, span, placed, Shows, Beside}
 use Rattle.points.specs.Searches.{levelHolds, under, Sought, Planned}
 use Rattle.seek.specs.SeekPromises.{Left}
-use Rattle.seek.proofs.Blocks.{Going, started, next, found, ended}
+use Rattle.seek.proofs.Blocks.{Going, started, next, found}
 use Rattle.seek.proofs.MovedPoints.{beside-refl, beside-after, under-beside, placed-beside, beside-deeper}
 
 -- the slots behind the first
@@ -25,10 +25,12 @@ pub record Along (cells : List ℕ) (tests : ℕ → List (Point → Bool)) (j :
   pub shows : Shows cells point a
   pub beside : Beside ss δ point
 
-pub along-starts : {cells : List ℕ} {tests : ℕ → List (Point → Bool)} {j : ℕ} {ss : List ℕ} {δ : Point} {v : ℕ} (from : ℕ) {a : List (List ℤ)}
-    → levelHolds tests j δ ≡ true → v ≡ span cells (behind ss) → 0 < v → Shows cells δ a → Along cells tests j ss δ v from a (from / v) (from % v)
-along-starts {cells} {tests} {j} {ss} {δ} {v} from p e l s =
-    record { going = started (under cells tests j ss δ) v from l; passes = p; counted = e; point = δ; shows = s; beside = beside-refl ss δ }
+-- the search begins at `first`, and leaves out what is not found before
+pub along-starts : {cells : List ℕ} {tests : ℕ → List (Point → Bool)} {j : ℕ} {ss : List ℕ} {δ : Point} {v : ℕ} (from first : ℕ) {a : List (List ℤ)}
+    → levelHolds tests j δ ≡ true → v ≡ span cells (behind ss) → 0 < v → Shows cells δ a → from ≤ first
+    → ((k : ℕ) → from ≤ k → k < first → under cells tests j ss δ k ≡ false) → Along cells tests j ss δ v from a (first / v) (first % v)
+along-starts {cells} {tests} {j} {ss} {δ} {v} from first p e l s h skips =
+    record { going = started (under cells tests j ss δ) v from first l h skips; passes = p; counted = e; point = δ; shows = s; beside = beside-refl ss δ }
 
 module _ {cells : List ℕ} {tests : ℕ → List (Point → Bool)} {j s : ℕ} {ss : List ℕ} {δ : Point} {v from : ℕ} {a : List (List ℤ)} {x r : ℕ}
     (here : Along cells tests j (s ∷ ss) δ v from a x r) where
@@ -40,9 +42,6 @@ module _ {cells : List ℕ} {tests : ℕ → List (Point → Bool)} {j s : ℕ} 
   split k =
       ap (λ (b : Bool). b && under cells tests (j + 1) ss (moved δ s (k / span cells ss)) (k % span cells ss)) (here .passes)
       ∙ ap (λ (z : ℕ). under cells tests (j + 1) ss (moved δ s (k / z)) (k % z)) (sym (here .counted))
-
-  pub along-ends : (n : ℕ) → n ≤ x → from ≤ n * v → Sought (under cells tests j (s ∷ ss) δ) from (n * v) (n * v)
-  along-ends n l h = ended (under cells tests j (s ∷ ss) δ) block n v from split (here .going) l h
 
   -- the search in block x
   module _ {table plan : List ℕ} {u k : ℕ} {a₁ : List (List ℤ)} (p : Planned table plan cells u (j + 1) ss tests)

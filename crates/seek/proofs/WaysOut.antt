@@ -39,6 +39,18 @@ unfolding under
 under-false cells tests l [] δ k e = e
 under-false cells tests l (s ∷ ss) δ k e = ap (λ (b : Bool). b && under cells tests (l + 1) ss (moved δ s (k / span cells ss)) (k % span cells ss)) e
 
+-- as do those of the next one, at the value that the first variable has there
+and-false : (b : Bool) → (b && false) ≡ false
+and-false true = refl
+and-false false = refl
+
+pub under-next : (cells : List ℕ) (tests : ℕ → List (Point → Bool)) (l s : ℕ) (ss : List ℕ) (δ : Point) (k : ℕ)
+    → levelHolds tests (l + 1) (moved δ s (k / span cells ss)) ≡ false → under cells tests l (s ∷ ss) δ k ≡ false
+unfolding under
+under-next cells tests l s ss δ k e =
+    ap (λ (b : Bool). levelHolds tests l δ && b) (under-false cells tests (l + 1) ss (moved δ s (k / span cells ss)) (k % span cells ss) e)
+    ∙ and-false (levelHolds tests l δ)
+
 some-slots : {A : Type 0} (s : ℕ) (ss : List ℕ) → length (s ∷ ss) ≡ 0 → A
 some-slots s ss e = absurd (let z : suc (length ss) ≡ 0 = e in let f : ⊥ = omega arith in f)
 

@@ -1,1 +1,2 @@
+pub mod AimPromises
 pub mod SeekPromises

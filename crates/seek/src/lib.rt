@@ -1,11 +1,14 @@
 // One primitive for all searching: the least number, from a given one on, of a binding of the variables of a search at which all its tests hold. `slots` has two arrays: the values
 // before and the primed ones; those of the after state under the plain slots.
 ghost use mathlib.Core.Path.{_≡_};
-ghost use Prim.Native.Nat.{_<_, _≤_};
+ghost use Prim.Native.Nat.{_+_, _<_, _≤_, max};
 ghost use lib.ListN.{getD, length};
 ghost use Rattle.points.specs.Points.{primedSlot};
-ghost use Rattle.points.specs.Searches.{slotIn};
+ghost use Rattle.points.specs.Searches.{slotIn, markIn};
+ghost use Rattle.seek.specs.AimPromises.{SolvedAnswers, EquationAnswers, AimAsked, AimAnswers};
 ghost use Rattle.seek.specs.SeekPromises.{StoreAsked, StoreAnswers, LevelAsked, LevelAnswers, SeekAsked, SeekAnswers};
+use evaluator::value;
+use mentions::equations::solving;
 use points::plan::FIRST_COUNT;
 use points::plan::FIRST_SLOT;
 use points::plan::HEAD;
@@ -16,6 +19,7 @@ use points::slots::BEFORE;
 use points::slots::CONCRETE;
 use points::slots::CONCRETE_PRIMED;
 use slot_carriers::count_of;
+use slot_carriers::place_of;
 use slot_carriers::value_at;
 use truths::truth;
 
@@ -26,6 +30,26 @@ pub struct Span {
     pub m: usize,
     pub w: usize,
     pub from: usize,
+}
+
+// The variable of a slot, with n values, and the level of the search u whose tests can be asked once it has one.
+struct Target {
+    u: usize,
+    l: usize,
+    slot: usize,
+    n: usize,
+}
+
+// A test, and where the term ends that it says a variable to be; 0 for no test.
+struct Told {
+    test: usize,
+    end: usize,
+}
+
+// The values to look at, from low up to high.
+struct Bounds {
+    low: usize,
+    high: usize,
 }
 
 // A number of the plan.
@@ -95,6 +119,75 @@ fn level(
     true
 }
 
+// Where the term ends that a test says the variable of a slot to be, or 0. Of the state after the values stand under the plain slots.
+fn solved(t: &[u16; 16384], e: usize, slot: usize) -> usize
+    requires { ⌜ slot < 38 ⌝ }
+    ensures { λ r. ⌜ SolvedAnswers (now (t .entry)) e slot r ⌝ }
+{
+    if e % 2 == BEFORE {
+        return solving(t, e / 2, slot);
+    }
+    if slot < CONCRETE_PRIMED {
+        return 0;
+    }
+    solving(t, e / 2, plain_slot(slot))
+}
+
+// The first test of a level that says the variable of a slot to be some term.
+fn equation(t: &[u16; 16384], plan: &[u16; 20560], u: usize, l: usize, slot: usize) -> Told
+    requires { ⌜ (u < 5) × (l ≤ 11) × (slot < 38) × (markIn (now plan) u (l + 1) ≤ 20560) ⌝ }
+    ensures { λ r. ⌜ EquationAnswers (now (t .entry)) (now (plan .entry)) u l slot (r .test) (r .end) ⌝ }
+{
+    let to = entry(plan, HEAD * u + l + 1);
+    let mut k = entry(plan, HEAD * u + l);
+    while k < to {
+        let e = entry(plan, k);
+        let q = solved(t, e, slot);
+        if q != 0 {
+            return Told { test: e, end: q };
+        }
+        k += 1;
+    }
+    Told { test: 0, end: 0 }
+}
+
+// Which of the variable's values to look at: all, or where a test says which it is, that one alone, if it is one of them. At all others that test fails.
+fn aim(
+    t: &[u16; 16384],
+    plan: &[u16; 20560],
+    cells: &[u32; 9216],
+    g: Target,
+    slots: &mut [[i64; 64]; 2],
+) -> Bounds
+    requires { ⌜ AimAsked (now t) (now plan) (now cells) (g .u) (g .l) (g .slot) (g .n) (now slots) ⌝ }
+    ensures answers { λ r. ⌜ AimAnswers (now (t .entry)) (now (plan .entry)) (now (cells .entry)) (g .u) (g .l) (g .slot) (g .n) (now (slots .entry)) (r .low) (r .high) ⌝ }
+    ensures kept { λ r. ⌜ now (slots .exit) ≡ now (slots .entry) ⌝ }
+{
+    let q = equation(t, plan, g.u, g.l, g.slot);
+    if q.end == 0 {
+        return Bounds { low: 0, high: g.n };
+    }
+    let y = value(t, q.end, &mut slots[q.test % 2]);
+    let d = place_of(cells, g.slot, y);
+    if d < g.n {
+        return Bounds {
+            low: d,
+            high: d + 1,
+        };
+    }
+    Bounds { low: d, high: d }
+}
+
+// The later of two places.
+fn later(a: usize, b: usize) -> usize
+    ensures { λ r. ⌜ r ≡ max a b ⌝ }
+{
+    if a < b {
+        return b;
+    }
+    a
+}
+
 // The search among the bindings of a span: s.w where there is none. What it finds stays in the slots.
 pub fn seek(
     t: &[u16; 16384],
@@ -118,23 +211,26 @@ pub fn seek(
     let slot = slot_of(plan, s.u, s.j);
     let n = count_of(cells, slot);
     let v = s.w / n;
-    let mut x = s.from / v;
-    let mut r = s.from % v;
-    while x < n {
+    let target = Target {
+        u: s.u,
+        l: s.j + 1,
+        slot,
+        n,
+    };
+    let b = aim(t, plan, cells, target, slots);
+    let first = later(s.from, b.low * v);
+    let mut x = first / v;
+    let mut r = first % v;
+    while x < b.high {
         store(cells, slot, x, slots);
-        let k = seek(
-            t,
-            plan,
-            cells,
-            Span {
-                u: s.u,
-                j: s.j + 1,
-                m: s.m - 1,
-                w: v,
-                from: r,
-            },
-            slots,
-        );
+        let rest = Span {
+            u: s.u,
+            j: s.j + 1,
+            m: s.m - 1,
+            w: v,
+            from: r,
+        };
+        let k = seek(t, plan, cells, rest, slots);
         if k < v {
             return x * v + k;
         }

@@ -27,7 +27,7 @@ less-over (negsuc a) (pos b) (negsuc c) e f = clash (sym f)
 less-over (negsuc a) (negsuc b) (pos c) e f = refl
 less-over (negsuc a) (negsuc b) (negsuc c) e f = over c b a f e
 
-less-self : (x : ℤ) → ltZ x x ≡ false
+pub less-self : (x : ℤ) → ltZ x x ≡ false
 less-self (pos a) = le-ltb a a (omega arith)
 less-self (negsuc a) = le-ltb a a (omega arith)
 

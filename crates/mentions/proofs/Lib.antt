@@ -1,0 +1,4 @@
+-- Nodes that are free of a slot, by their shapes; equations.
+pub mod FreeNodes
+pub mod FreeTruths
+pub mod SolvedTerms

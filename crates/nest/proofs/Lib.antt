@@ -3,6 +3,7 @@ pub mod PassingBlocks
 pub mod KeptGroups
 pub mod LoopStates
 pub mod NextCandidates
+pub mod RememberedConclusions
 pub mod NestedLoops
 pub mod Products
 pub mod FoundNumbers

@@ -8,7 +8,8 @@ use native.Mathlib.Omega.{arith}
 use lib.IntN.{ℤ}
 use Rattle.plans.specs.declared.Part.{Part}
 use Rattle.nest.specs.PartTests.{PartTests, Looked}
-use Rattle.nest.specs.NestPromises.{Groups, Nest, NestAsked, AbstractAnswers, ConcreteAnswers, ReadyAnswers, InputAnswers, OutputAnswers, AfterAnswers, MetAnswers, SweepAnswers}
+use Rattle.nest.specs.NestPromises.{Groups, Nest, NestAsked, AbstractAnswers, ConcreteAnswers, ReadyAnswers, InputAnswers, OutputAnswers, AfterAnswers, SweepAnswers}
+use Rattle.nest.specs.Remembering.{numbered, BindingAsked, AgainAnswers}
 use Rattle.nest.proofs.KeptGroups.{abstracts-ready, abstracts-meeting, concretes-meeting, inputs-meeting, outputs-meeting}
 use Rattle.nest.proofs.PassedPlaces.{Past, past-before, past-same, past-more, past-leave, looked-all, looked-fault}
 use Rattle.nest.proofs.PassingBlocks.{premises-hold, passes-here}
@@ -157,25 +158,42 @@ module _ {table plan cells : List ℕ} {p : Part} {from end : ℕ} where
 
   -- ---- the binding of the innermost loop
 
+  -- the slots show it
+  pub binding-here : {a mask c i o k : ℕ} {s : List (List ℤ)} → InAfters table plan cells p from end a mask c i o k s → a < p .na → c < p .nc → i < p .ni → o < p .nq → k < p .nk
+      → BindingAsked table plan cells p (numbered a c i o k) s
+  binding-here l ha hc hi ho hk =
+      let z = l .asked .nest .sized in
+      record {
+        asked = l .asked;
+        inside = record { low-a = (ha, z .few-a .1); low-c = (hc, z .few-c .1); low-i = (hi, z .few-i .1); low-o = (ho, z .few-o .1); low-k = (hk, z .few-k .1) };
+        each = λ G T N.
+            let w = l .each G T N in
+            let n = w .stands .numbers in
+            record {
+              point = w .stands .point;
+              shows = w .stands .shows;
+              abstract-is = n .up .up .up .abstract-is;
+              concrete-is = n .up .up .concrete-is;
+              input-is = n .up .input-is;
+              output-is = n .output-is;
+              prime-is = w .number hk;
+            };
+      }
+
   -- whether it passes
-  met-here : {a mask c i o k : ℕ} {s₀ s₁ : List (List ℤ)} {b : Bool} → InAfters table plan cells p from end a mask c i o k s₀ → k < p .nk → MetAnswers table plan cells p s₀ s₁ b
+  met-here : {a mask c i o k : ℕ} {s₀ s₁ : List (List ℤ)} {known : List ℕ} {b : Bool} → InAfters table plan cells p from end a mask c i o k s₀ → k < p .nk
+      → AgainAnswers table plan cells p (numbered a c i o k) s₀ s₁ known b
       → (G : Groups) (T : PartTests) → Nest table plan cells p G T → passing p T ((((a * p .nc + c) * p .ni + i) * p .nq + o) * p .nk + k) ≡ b
   met-here {a} {mask} {c} {i} {o} {k} l h r G T N =
       let w = l .each G T N in
       let f = w .stands .fixed in
-      let n = w .stands .numbers in
       passes-here T (p .nc) (p .ni) (p .nq) (p .nk) a c i o k (f .up .up .low) (f .up .low) (f .low) h
       ∙ premises-hold T a c i o k (f .up .up .up .state) (f .up .up .related) (f .up .ready) (w .holds h)
-      ∙ sym
-      (r .is G T (w .stands .point) N (w .stands .shows)
-      ∙ by-numbers T _ _ _ _ _ a c i o k (n .up .up .up .abstract-is) (n .up .up .concrete-is) (n .up .input-is) (n .output-is) (w .number h))
-    where
-      by-numbers : (T : PartTests) (a b c d e a' b' c' d' e' : ℕ) → a ≡ a' → b ≡ b' → c ≡ c' → d ≡ d' → e ≡ e' → T .met a b c d e ≡ T .met a' b' c' d' e'
-      by-numbers T a b c d e a' b' c' d' e' h₁ h₂ h₃ h₄ h₅ = cc
+      ∙ r .is G T N
 
   -- behind it, if it does
-  behind-it : {a mask c i o k : ℕ} {s₀ s₁ : List (List ℤ)} {b : Bool} → InAfters table plan cells p from end a mask c i o k s₀ → k < p .nk
-      → MetAnswers table plan cells p s₀ s₁ b → b ≡ true → (G : Groups) (T : PartTests) → Nest table plan cells p G T
+  behind-it : {a mask c i o k : ℕ} {s₀ s₁ : List (List ℤ)} {known : List ℕ} {b : Bool} → InAfters table plan cells p from end a mask c i o k s₀ → k < p .nk
+      → AgainAnswers table plan cells p (numbered a c i o k) s₀ s₁ known b → b ≡ true → (G : Groups) (T : PartTests) → Nest table plan cells p G T
       → Standing cells s₁ (OfOutput cells G a c i o) (FrontHolds p T a mask c i o) (passing p T) from end (((((a * p .nc + c) * p .ni + i) * p .nq + o) * p .nk + (k + 1)) * 1)
   behind-it {a} {mask} {c} {i} {o} {k} l h y e G T N =
       let w = l .each G T N in
@@ -188,12 +206,12 @@ module _ {table plan cells : List ℕ} {p : Part} {from end : ℕ} where
         past = past-more (((a * p .nc + c) * p .ni + i) * p .nq + o) (p .nk) k (w .stands .past) (met-here l h y G T N ∙ e);
       }
 
-  pub again-afters : {a mask c i o k d : ℕ} {s₀ s₁ s₂ : List (List ℤ)} {b : Bool} → InAfters table plan cells p from end a mask c i o k s₀ → k < p .nk
-      → MetAnswers table plan cells p s₀ s₁ b → b ≡ true → AfterAnswers table plan cells p (k + 1) s₁ s₂ d → InAfters table plan cells p from end a mask c i o d s₂
+  pub again-afters : {a mask c i o k d : ℕ} {s₀ s₁ s₂ : List (List ℤ)} {known : List ℕ} {b : Bool} → InAfters table plan cells p from end a mask c i o k s₀ → k < p .nk
+      → AgainAnswers table plan cells p (numbered a c i o k) s₀ s₁ known b → b ≡ true → AfterAnswers table plan cells p (k + 1) s₁ s₂ d → InAfters table plan cells p from end a mask c i o d s₂
   again-afters {k = k} l h y e r = step-afters (asked-after (λ G. G .meeting) (l .asked) (y .left)) (one-more _ _ k (l .low)) (behind-it l h y e) r
 
-  pub rise-afters : {a mask c i o k d : ℕ} {s₀ s₁ s₂ : List (List ℤ)} {b : Bool} → InAfters table plan cells p from end a mask c i o k s₀ → k < p .nk
-      → MetAnswers table plan cells p s₀ s₁ b → b ≡ true → AfterAnswers table plan cells p (k + 1) s₁ s₂ d → k + 1 ≤ d
+  pub rise-afters : {a mask c i o k d : ℕ} {s₀ s₁ s₂ : List (List ℤ)} {known : List ℕ} {b : Bool} → InAfters table plan cells p from end a mask c i o k s₀ → k < p .nk
+      → AgainAnswers table plan cells p (numbered a c i o k) s₀ s₁ known b → b ≡ true → AfterAnswers table plan cells p (k + 1) s₁ s₂ d → k + 1 ≤ d
   rise-afters l h y e r =
       let q = l .asked in
       sought-afters (asked-after (λ G. G .meeting) q (y .left)) (q .nest) (behind-it l h y e (q .groups) (q .tests) (q .nest)) r .low
@@ -234,8 +252,8 @@ module _ {table plan cells : List ℕ} {p : Part} {from end : ℕ} where
       → end ≤ (((a * p .nc + c) * p .ni + i) * p .nq + o) * p .nk + k → at ≡ end → failed ≡ false → SweepAnswers table plan cells p from end at failed
   leave-afters h l g e f = answered h g e f (λ G T N. past-same (mul-one _) (l .each G T N .stands .past))
 
-  pub leave-fault : {a mask c i o k : ℕ} {s₀ s₁ : List (List ℤ)} {b : Bool} → InAfters table plan cells p from end a mask c i o k s₀ → k < p .nk
-      → (((a * p .nc + c) * p .ni + i) * p .nq + o) * p .nk + k < end → MetAnswers table plan cells p s₀ s₁ b → b ≡ false
+  pub leave-fault : {a mask c i o k : ℕ} {s₀ s₁ : List (List ℤ)} {known : List ℕ} {b : Bool} → InAfters table plan cells p from end a mask c i o k s₀ → k < p .nk
+      → (((a * p .nc + c) * p .ni + i) * p .nq + o) * p .nk + k < end → AgainAnswers table plan cells p (numbered a c i o k) s₀ s₁ known b → b ≡ false
       → SweepAnswers table plan cells p from end ((((a * p .nc + c) * p .ni + i) * p .nq + o) * p .nk + k) true
   leave-fault l h g y e =
       record { looked = λ G T N. looked-fault _ (l .low) g (met-here l h y G T N ∙ e) (past-same (mul-one _) (l .each G T N .stands .past)) }

@@ -1,2 +1,3 @@
 pub mod PartTests
 pub mod NestPromises
+pub mod Remembering

@@ -1,6 +1,6 @@
 -- What the functions of the nest ask and promise. Nothing here need be believed.
 use mathlib.Core.Path.{_≡_}
-use mathlib.Core.Bool.{Bool, true}
+use mathlib.Core.Bool.{Bool, true, false}
 use mathlib.Core.List.{List, _++_}
 use Prim.Native.Nat.{ℕ, _*_, _<_, _≤_, _^_}
 use lib.ListN.{length}
@@ -54,7 +54,7 @@ pub record Sized (cells : List ℕ) (p : Part) (G : Groups) : Type 0 where
   pub inputs-few : p .vi ≤ 3
   pub grouped : Grouped cells 16 (p .vi)
 
--- the searches of a part find its tests, at every point; no search writes a slot of a group before it
+-- the searches of a part find its tests, at every point; on which groups what must be there depends; no search writes a slot of a group before it
 pub record Nest (table plan cells : List ℕ) (p : Part) (G : Groups) (T : PartTests) : Type 0 where
   pub sized : Sized cells p G
   pub states : SearchOf table plan cells 0 (G .abstracts) (λ (δ : Point). T .state (numberOf cells (G .abstracts) δ))
@@ -70,6 +70,8 @@ pub record Nest (table plan cells : List ℕ) (p : Part) (G : Groups) (T : PartT
   pub met : SearchOf table plan cells 4 (G .meeting) meetly
   pub met-is : (δ : Point) → Tame cells δ → someBinding cells (G .meeting) meetly δ
       ≡ T .met (numberOf cells (G .abstracts) δ) (numberOf cells (G .concretes) δ) (numberOf cells (G .inputs) δ) (numberOf cells (G .outputs) δ) (numberOf cells (G .primes) δ)
+  pub met-primed : p .primed ≡ true → (a c d i o k : ℕ) → T .met a c i o k ≡ T .met a d i o k
+  pub met-plain : p .primed ≡ false → (a b c i o q k l : ℕ) → T .met a c i o k ≡ T .met b c i q l
   pub apart-abstracts : Apart (G .abstracts) (G .concretes ++ (G .inputs ++ (G .outputs ++ (G .primes ++ (G .readying ++ G .meeting)))))
   pub apart-concretes : Apart (G .concretes) (G .inputs ++ (G .outputs ++ (G .primes ++ G .meeting)))
   pub apart-inputs : Apart (G .inputs) (G .outputs ++ (G .primes ++ (G .readying ++ G .meeting)))

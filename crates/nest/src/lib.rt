@@ -6,6 +6,13 @@ ghost use Rattle.sets.specs.Sets.{has};
 ghost use Rattle.points.specs.Searches.{Sought};
 ghost use Rattle.nest.specs.NestPromises.{NestAsked, AbstractAnswers, ConcreteAnswers, AbstractPreAnswers, PreAnswers, ReadyAnswers, InputAsked, InputAnswers};
 ghost use Rattle.nest.specs.NestPromises.{OutputAnswers, AfterAnswers, MetAnswers, SweepAnswers};
+ghost use Rattle.nest.specs.Remembering.{Remembered, BindingAsked, AgainAnswers};
+use crate::known::KNOWN;
+use crate::known::Numbers;
+use crate::known::is_known;
+use crate::known::key_of;
+use crate::known::mark_of;
+use crate::known::remember;
 use plans::Part;
 use points::plan::MET;
 use points::plan::READY;
@@ -17,6 +24,8 @@ use points::slots::INPUTS;
 use seek::Span;
 use seek::seek;
 use slot_carriers::groups::bind;
+
+mod known;
 
 // Where a search of a part stopped, and whether the binding there fails.
 pub struct Swept {
@@ -134,7 +143,33 @@ fn passes(
         < p.nm
 }
 
-// The same at the i-th inputs.
+// The same of the binding that the slots have; not searched for where it is known.
+fn passes_again(
+    t: &[u16; 16384],
+    plan: &[u16; 20560],
+    cells: &[u32; 9216],
+    p: Part,
+    b: Numbers,
+    slots: &mut [[i64; 64]; 2],
+    known: &mut [u16],
+) -> bool
+    requires { ⌜ BindingAsked (now t) (now plan) (now cells) p b (now slots) ⌝ }
+    requires { ⌜ Remembered (now t) (now plan) (now cells) p (now known) ⌝ }
+    ensures { λ r. ⌜ AgainAnswers (now (t .entry)) (now (plan .entry)) (now (cells .entry)) p b (now (slots .entry)) (now (slots .exit)) (now (known .exit)) r ⌝ }
+{
+    let key = key_of(p, b);
+    let mark = mark_of(p, b);
+    if is_known(known, key, mark) {
+        return true;
+    }
+    if !passes(t, plan, cells, p, slots) {
+        return false;
+    }
+    remember(known, key, mark);
+    true
+}
+
+// The abstract precondition at the i-th inputs.
 fn pre_at(
     t: &[u16; 16384],
     plan: &[u16; 20560],
@@ -289,6 +324,7 @@ pub fn sweep(
     let by_input = p.nq * p.nk;
     let by_concrete = p.ni * by_input;
     let by_abstract = p.nc * by_concrete;
+    let mut known = [0u16; KNOWN];
     let mut at = end;
     let mut failed = false;
     let mut a = next_abstract(t, plan, cells, p, from / by_abstract, slots);
@@ -322,7 +358,15 @@ pub fn sweep(
                         if end <= place {
                             break 'abstracts;
                         }
-                        if !passes(t, plan, cells, p, slots) {
+                        if !passes_again(
+                            t,
+                            plan,
+                            cells,
+                            p,
+                            Numbers { a, c, i, o, k },
+                            slots,
+                            &mut known,
+                        ) {
                             at = place;
                             failed = true;
                             break 'abstracts;

@@ -1,5 +1,6 @@
 -- The nest of an operation's applicability: its searches find the related states at which the abstract precondition holds, and for each a concrete step.
-use mathlib.Core.Bool.{true}
+use mathlib.Core.Path.{_≡_, refl, sym, _∙_}
+use mathlib.Core.Bool.{true, false, true≢false}
 use mathlib.Core.List.{List, [], _++_}
 use Prim.Native.Nat.{ℕ}
 use native.Mathlib.Omega.{arith}
@@ -41,8 +42,8 @@ module _ {table rows firsts groups cells plan : List ℕ} {d : Dossier} {op : Op
   no-steps : SearchOf table plan cells 3 [] (λ (δ : Point). true)
   no-steps = search-of {see = Anywhere} none-asked none-asked none-asked (N .steps) (no-variables (omega arith))
 
-  pub applicability-nest : {p : Part} → Sized cells p (applicabilityOf d op) → Nest table plan cells p (applicabilityOf d op) (applicabilityTests d op)
-  applicability-nest z =
+  pub applicability-nest : {p : Part} → p .primed ≡ false → Sized cells p (applicabilityOf d op) → Nest table plan cells p (applicabilityOf d op) (applicabilityTests d op)
+  applicability-nest u z =
       let a = small X .abstracts in
       let c = small X .concretes in
       let i = small X .inputs-few in
@@ -58,6 +59,8 @@ module _ {table rows firsts groups cells plan : List ℕ} {d : Dossier} {op : Op
         meetly = steppingAt X;
         met = steps-search X (omega arith) (N .met);
         met-is = some-step X;
+        met-primed = λ e. absurd (true≢false (sym e ∙ u));
+        met-plain = λ e a b c i o q k l. refl;
         apart-abstracts = run-apart
             (outside-append (outside-run 8 vc (λ s h k l m. omega arith))
             (outside-append (outside-run 16 vi (λ s h k l m. omega arith))

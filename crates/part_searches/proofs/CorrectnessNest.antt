@@ -1,7 +1,7 @@
 -- The nest of an operation's correctness: its searches find the concrete steps from related states at which the abstract precondition holds, and for each an abstract step to a
 -- related state.
-use mathlib.Core.Path.{_≡_, ap₂, _∙_}
-use mathlib.Core.Bool.{Bool}
+use mathlib.Core.Path.{_≡_, refl, sym, ap₂, _∙_}
+use mathlib.Core.Bool.{Bool, true, true≢false}
 use mathlib.Core.List.{List, _++_}
 use Prim.Native.Nat.{ℕ, _+_, _≤_}
 use native.Mathlib.Omega.{arith}
@@ -83,8 +83,8 @@ module _ {table rows firsts groups cells plan : List ℕ} {d : Dossier} {op : Op
       (number-apart cells (outputGroup d op) (abstractAfterGroup d) δ ε (run-apart (before-after 19 vo (omega arith))) b)
       (number-apart cells (concreteAfterGroup d) (abstractAfterGroup d) δ ε (run-apart (before-after 22 vc (omega arith))) b))
 
-  pub correctness-nest : {p : Part} → Sized cells p (correctnessOf d op) → Nest table plan cells p (correctnessOf d op) (correctnessTests d op (frontAt X))
-  correctness-nest z =
+  pub correctness-nest : {p : Part} → p .primed ≡ true → Sized cells p (correctnessOf d op) → Nest table plan cells p (correctnessOf d op) (correctnessTests d op (frontAt X))
+  correctness-nest u z =
       let a = small X .abstracts in
       let c = small X .concretes in
       let i = small X .inputs-few in
@@ -101,6 +101,8 @@ module _ {table rows firsts groups cells plan : List ℕ} {d : Dossier} {op : Op
         meetly = λ δ. matching δ δ;
         met = met;
         met-is = met-is;
+        met-primed = λ e a c d i o k. refl;
+        met-plain = λ e. absurd (true≢false (sym u ∙ e));
         apart-abstracts = run-apart
             (outside-append (outside-run 8 vc (λ s h k l m. omega arith))
             (outside-append (outside-run 16 vi (λ s h k l m. omega arith))

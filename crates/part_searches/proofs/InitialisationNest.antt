@@ -1,6 +1,6 @@
 -- The nest of the initialisation part: its searches find the concrete initial states, and for each an abstract initial state that is related.
-use mathlib.Core.Path.{_≡_, refl, ap}
-use mathlib.Core.Bool.{Bool, true, _&&_}
+use mathlib.Core.Path.{_≡_, refl, sym, ap, _∙_}
+use mathlib.Core.Bool.{Bool, true, false, true≢false, _&&_}
 use mathlib.Core.List.{List, []}
 use Prim.Native.Nat.{ℕ, _≤_}
 use native.Mathlib.Omega.{arith}
@@ -81,9 +81,9 @@ module _ {table rows firsts groups plan cells : List ℕ} {d : Dossier} (R : Rea
       some-group cells 0 (unprimed d (d .abstract)) (C .abstracts) meetly δ t (initialMatch d (numberOf cells (concreteGroup d) δ))
       (λ ε u b. ap (λ (c : ℕ). initialMatch d c (abstractAt d (numberOf cells (abstractGroup d) ε))) (number-apart cells (concreteGroup d) (abstractGroup d) δ ε concretes-apart b))
 
-  pub initialisation-nest : {p : Part} → Sized cells p (initialisationGroups d) → Nest table plan cells p (initialisationGroups d) (initialisationTests d)
+  pub initialisation-nest : {p : Part} → p .primed ≡ false → Sized cells p (initialisationGroups d) → Nest table plan cells p (initialisationGroups d) (initialisationTests d)
   unfolding someBinding any upward span
-  initialisation-nest z = record {
+  initialisation-nest u z = record {
     sized = z;
     states = states;
     related = related;
@@ -95,6 +95,8 @@ module _ {table rows firsts groups plan cells : List ℕ} {d : Dossier} (R : Rea
     meetly = meetly;
     met = met;
     met-is = met-is;
+    met-primed = λ e. absurd (true≢false (sym e ∙ u));
+    met-plain = λ e a b c i o q k l. refl;
     apart-abstracts = none-apart;
     apart-concretes = concretes-apart;
     apart-inputs = none-apart;

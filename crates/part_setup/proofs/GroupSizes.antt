@@ -1,5 +1,6 @@
 -- How many variables and bindings the groups of a part have, read from the groups' rows and the cells; and that the sizes of a part are those. Assumes nothing.
 use mathlib.Core.Path.{_≡_, sym, _∙_}
+use mathlib.Core.Bool.{true, false}
 use mathlib.Core.List.{List}
 use Prim.Native.Nat.{ℕ, _+_, _*_, _<_, _≤_}
 use native.Mathlib.Nat.{mul-le-mul}
@@ -25,17 +26,17 @@ counted : (groups cells : List ℕ) (row s k few r : ℕ) (vs : List Variable) �
 counted groups cells row s k few r vs w c e n = n vs w (sym (e ∙ c .count))
 
 pub opening-is : (groups cells : List ℕ) (va vc na nc : ℕ) → va ≡ getD groups 0 0 → vc ≡ getD groups 9 0 → Counts cells 0 va na → Counts cells 8 vc nc
-    → OpeningPartIs groups cells record { va = 0; vc = vc; vi = 0; vo = 0; vk = 0; vr = 0; vm = va; na = 1; nc = nc; ni = 1; nq = 1; nk = 1; nr = 1; nm = na }
+    → OpeningPartIs groups cells record { va = 0; vc = vc; vi = 0; vo = 0; vk = 0; vr = 0; vm = va; na = 1; nc = nc; ni = 1; nq = 1; nk = 1; nr = 1; nm = na; primed = false }
 opening-is groups cells va vc na nc ea ec ca cc = record { is = at }
   where
     at : (us cs : List Variable) → OpeningCounts groups cells us cs
-        → _≡_ {A = Part} (record { va = 0; vc = vc; vi = 0; vo = 0; vk = 0; vr = 0; vm = va; na = 1; nc = nc; ni = 1; nq = 1; nk = 1; nr = 1; nm = na }) (openingPart us cs)
+        → _≡_ {A = Part} (record { va = 0; vc = vc; vi = 0; vo = 0; vk = 0; vr = 0; vm = va; na = 1; nc = nc; ni = 1; nq = 1; nk = 1; nr = 1; nm = na; primed = false }) (openingPart us cs)
     at us cs w =
         let lc : vc ≡ length cs = ec ∙ w .concretes .count in
         let la : va ≡ length us = ea ∙ w .abstracts .count in
         let bc : nc ≡ bindingCount cs = counted groups cells 9 8 vc 4096 nc cs (w .cells-are .concretes) (w .concretes) ec cc in
         let ba : na ≡ bindingCount us = counted groups cells 0 0 va 4096 na us (w .cells-are .abstracts) (w .abstracts) ea ca in
-        λ i. record { va = 0; vc = lc i; vi = 0; vo = 0; vk = 0; vr = 0; vm = la i; na = 1; nc = bc i; ni = 1; nq = 1; nk = 1; nr = 1; nm = ba i }
+        λ i. record { va = 0; vc = lc i; vi = 0; vo = 0; vk = 0; vr = 0; vm = la i; na = 1; nc = bc i; ni = 1; nq = 1; nk = 1; nr = 1; nm = ba i; primed = false }
 
 -- the eight sizes of an operation
 pub sizes-are : (groups : List ℕ) (row : ℕ) (cells : List ℕ) (r : Sizes) → r .va ≡ getD groups 0 0 → r .vc ≡ getD groups 9 0 → r .vi ≡ getD groups row 0
@@ -93,6 +94,7 @@ module _ (groups : List ℕ) (row : ℕ) (cells : List ℕ) (r : Sizes) (w : Siz
         nk = 1;
         nr = r .nq * r .na;
         nm = r .nq * r .nc;
+        primed = false;
       }
   applicability-is =
       record {
@@ -114,6 +116,7 @@ module _ (groups : List ℕ) (row : ℕ) (cells : List ℕ) (r : Sizes) (w : Siz
               nk = 1;
               nr = s .nq i * s .na i;
               nm = s .nq i * s .nc i;
+              primed = false;
             };
       }
 
@@ -134,6 +137,7 @@ module _ (groups : List ℕ) (row : ℕ) (cells : List ℕ) (r : Sizes) (w : Siz
         nk = r .nc;
         nr = r .nq * r .na;
         nm = r .na;
+        primed = true;
       }
   correctness-is =
       record {
@@ -155,5 +159,6 @@ module _ (groups : List ℕ) (row : ℕ) (cells : List ℕ) (r : Sizes) (w : Siz
               nk = s .nc i;
               nr = s .nq i * s .na i;
               nm = s .na i;
+              primed = true;
             };
       }

@@ -122,6 +122,7 @@ pub fn opening_part(groups: &[u16; 160], cells: &[u32; 9216]) -> Part
         nk: 1,
         nr: 1,
         nm: na,
+        primed: false,
     }
 }
 
@@ -171,6 +172,7 @@ pub fn applicability_part(groups: &[u16; 160], row: usize, cells: &[u32; 9216]) 
         nk: 1,
         nr: s.nq * s.na,
         nm: s.nq * s.nc,
+        primed: false,
     }
 }
 
@@ -195,6 +197,7 @@ pub fn correctness_part(groups: &[u16; 160], row: usize, cells: &[u32; 9216]) ->
         nk: s.nc,
         nr: s.nq * s.na,
         nm: s.na,
+        primed: true,
     }
 }
 

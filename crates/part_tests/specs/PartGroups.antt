@@ -1,4 +1,5 @@
 -- The sizes and the slots of the groups of each part, by the variables of both states, of inputs and of outputs. Nothing here need be believed.
+use mathlib.Core.Bool.{true, false}
 use mathlib.Core.List.{List, [], _++_}
 use Prim.Native.Nat.{ℕ, _+_, _*_}
 use lib.ListN.{length}
@@ -39,6 +40,7 @@ openingPart us cs = record {
   nk = 1;
   nr = 1;
   nm = bindingCount us;
+  primed = false;
 }
 
 abbrev pub openingGroups : (us cs : List Variable) → Groups
@@ -69,6 +71,7 @@ applicabilityPart us cs is os = record {
   nk = 1;
   nr = bindingCount os * bindingCount us;
   nm = bindingCount os * bindingCount cs;
+  primed = false;
 }
 
 abbrev pub applicabilityGroups : (us cs is os : List Variable) → Groups
@@ -99,6 +102,7 @@ correctnessPart us cs is os = record {
   nk = bindingCount cs;
   nr = bindingCount os * bindingCount us;
   nm = bindingCount us;
+  primed = true;
 }
 
 abbrev pub correctnessGroups : (us cs is os : List Variable) → Groups

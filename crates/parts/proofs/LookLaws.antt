@@ -1,5 +1,5 @@
 -- The three kinds of parts, as they are set up: for every dossier whose reading the arrays are, the nest of its part. Assumes nothing.
-use mathlib.Core.Path.{_≡_, sym, ap, ap₂, _∙_, subst}
+use mathlib.Core.Path.{_≡_, refl, sym, ap, ap₂, _∙_, subst}
 use mathlib.Core.List.{List}
 use mathlib.Core.Option.{some}
 use Prim.Native.Nat.{ℕ, _+_, _-_, _*_, _<_}
@@ -47,7 +47,7 @@ opening-here {d = d} R C n =
     record {
       groups = initialisationGroups d;
       tests = initialisationTests d;
-      nest = initialisation-nest R C n (opening-sized d R C);
+      nest = initialisation-nest R C n refl (opening-sized d R C);
       many = omega (arith, first-size d);
       same = λ q h.
           let s : q ≡ partBegin d 0 + q = omega (arith, first-begin d) in
@@ -92,7 +92,7 @@ module _ {table rows firsts groups : List ℕ} {j : ℕ} (x : OperationLook tabl
       record {
         groups = applicabilityOf d op;
         tests = applicabilityTests d op;
-        nest = applicability-nest X n (applicability-sized d op (x .reading) j (x .listed) (X .celled));
+        nest = applicability-nest X n refl (applicability-sized d op (x .reading) j (x .listed) (X .celled));
         many = once-each (bindingCount (us x) * bindingCount (cs x) * bindingCount (is x)) ∙ sym (z ∙ applicability-counts d op);
         same = λ q h.
             let s : startOf (subjectOf d) j + q ≡ partBegin d (1 + 2 * j) + q = omega (arith, applicability-begin d j (omega (arith, low))) in
@@ -109,7 +109,7 @@ module _ {table rows firsts groups : List ℕ} {j : ℕ} (x : OperationLook tabl
       record {
         groups = correctnessOf d op;
         tests = correctnessTests d op (frontAt X);
-        nest = correctness-nest X n (correctness-sized d op (x .reading) j (x .listed) (X .celled));
+        nest = correctness-nest X n refl (correctness-sized d op (x .reading) j (x .listed) (X .celled));
         many = sym (z ∙ correctness-counts d op);
         same = λ q h.
             let s : startOf (subjectOf d) j + applicabilitySize d op + q ≡ partBegin d (2 + 2 * j) + q = omega (arith, correctness-begin d j op (x .listed)) in

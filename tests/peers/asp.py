@@ -149,7 +149,8 @@ class Asp(Walk):
             product = [a + b for a in product for b in cases]
         for case in product:
             joins = [f'{name}({a},{k})' for (name, a), k in self.joins.items() if any(k in x for x in case) or any(k in a for n, a in self.joins)]
-            self.out.append(f'{head} :- {", ".join(literals + joins + case)}.')
+            body = literals + joins + case
+            self.out.append(f'{head} :- {", ".join(body)}.' if body else f'{head}.')
 
     # variables
     def carrier(self, t, x):
@@ -160,36 +161,47 @@ class Asp(Walk):
         self.tables.setdefault(name, ' '.join(f'{name}({v}).' for v in self.d.values(t)))
         return f'{name}({x})'
 
-    def atom(self, name, *groups):
-        names = [self.env[n] for g in groups for n in g]
-        return f'{name}({",".join(names)})' if names else name
+    def atom(self, name, primed=False):
+        """the text of a relation's atom and the names in it; a relation has a column for each variable that it depends on, and no other"""
+        names = [n + "'" if primed and n in self.plain else n for n in self.columns[name]]
+        return name + (f'({",".join(self.env[n] for n in names)})' if names else ''), names
+
+    def relation(self, head, allowed, atoms, parts=(), absent=None):
+        """the relation `head` over the allowed names: it holds where the atoms and predicates do and the absent atom does not, whatever the other names are"""
+        names = {n for a in atoms for n in a[1]}
+        used = {n for p in parts for n in names_of(p) if n in self.env} | set(absent[1] if absent else [])
+        literals = [a[0] for a in atoms] + [self.carrier(self.types[n], self.env[n]) for n in self.env if n in used - names]
+        self.columns[head] = [n for n in allowed if n in names | used]
+        self.rule(self.atom(head)[0], literals + ([f'not {absent[0]}'] if absent else []), parts, self.env)
 
     def program(self):
         d = self.d
         a, c = [n for n, t in d.abstract], [n for n, t in d.concrete]
         a2, c2 = [n + "'" for n in a], [n + "'" for n in c]
+        self.plain, self.columns, atom, relation = a + c, {}, self.atom, self.relation
         self.types = dict(d.abstract + d.concrete)
         self.types.update({n + "'": t for n, t in self.types.items()})
         self.env = env = {n: 'V' + n.replace("'", '_') for n in self.types}
-        for name, declared, p in (('astate', d.abstract, d.astate), ('cstate', d.concrete, d.cstate)):
-            self.rule(self.atom(name, dict(declared)), [self.carrier(t, env[n]) for n, t in declared], [p], env)
-        astate, cstate, related = self.atom('astate', a), self.atom('cstate', c), self.atom('related', a, c)
-        astate2, cstate2, related2 = self.atom('astate', a2), self.atom('cstate', c2), self.atom('related', a2, c2)
-        self.rule(related, [astate, cstate], [d.retrieve], env)
-        self.rule(self.atom('ainit', a), [astate], [d.ainit], env)
-        self.rule(self.atom('cinit', c), [cstate], [d.cinit], env)
-        self.out += [f'{self.atom("begun", c)} :- {self.atom("ainit", a)}, {related}.', f'bad(0) :- {self.atom("cinit", c)}, not {self.atom("begun", c)}.']
+        relation('astate', a, [], [d.astate])
+        relation('cstate', c, [], [d.cstate])
+        relation('related', a + c, [atom('astate'), atom('cstate')], [d.retrieve])
+        relation('ainit', a, [atom('astate')], [d.ainit])
+        relation('cinit', c, [atom('cstate')], [d.cinit])
+        relation('begun', c, [atom('ainit'), atom('related')])
+        relation('bad(0)', [], [atom('cinit')], absent=atom('begun'))
         for j, (name, inputs, outputs, above, below) in enumerate(d.ops):
             self.types.update(inputs + outputs)
-            env.update({n: f'V{n[:-1]}{"_i" if n[-1] == "?" else "_o"}' for n, t in inputs + outputs})
+            self.env = env = {**{n: x for n, x in env.items() if n[-1] not in '?!'}, **{n: f'V{n[:-1]}{"_i" if n[-1] == "?" else "_o"}' for n, t in inputs + outputs}}
             i, o = [n for n, t in inputs], [n for n, t in outputs]
-            domains = [self.carrier(t, env[n]) for n, t in inputs + outputs]
-            aop, cop = self.atom(f'aop{j}', a, i, o, a2), self.atom(f'cop{j}', c, i, o, c2)
-            self.rule(aop, [astate, astate2] + domains, [above], env)
-            self.rule(cop, [cstate, cstate2] + domains, [below], env)
-            ready, able, need, met = self.atom(f'ready{j}', a, i), self.atom(f'able{j}', c, i), self.atom(f'need{j}', a, i, o, c2), self.atom(f'met{j}', a, i, o, c2)
-            self.out += [f'{ready} :- {aop}.', f'{able} :- {cop}.', f'bad({2 * j + 1}) :- {ready}, {related}, not {able}.',
-                         f'{need} :- {ready}, {related}, {cop}.', f'{met} :- {need}, {aop}, {related2}.', f'bad({2 * j + 2}) :- {need}, not {met}.']
+            aop, cop, ready, able, need, met = [f'{x}{j}' for x in ('aop', 'cop', 'ready', 'able', 'need', 'met')]
+            relation(aop, a + i + o + a2, [atom('astate'), atom('astate', True)], [above])
+            relation(cop, c + i + o + c2, [atom('cstate'), atom('cstate', True)], [below])
+            relation(ready, a + i, [atom(aop)])
+            relation(able, c + i, [atom(cop)])
+            relation(f'bad({2 * j + 1})', [], [atom(ready), atom('related')], absent=atom(able))
+            relation(need, a + i + o + c2, [atom(ready), atom('related'), atom(cop)])
+            relation(met, a + i + o + c2, [atom(need), atom(aop), atom('related', True)])
+            relation(f'bad({2 * j + 2})', [], [atom(need)], absent=atom(met))
         return '\n'.join(list(self.tables.values()) + self.out + ['#show bad/1.', ''])
 
 

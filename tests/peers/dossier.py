@@ -3,7 +3,7 @@
 Types of variables: ('given', G), ('range', a, b), ('pow', G), ('rel', G, H), ('pfun', G, H), ('fun', G, H).
 Types of terms: 'num', ('elem', G), ('set', G), ('pairs', G, H). A term is (operator, type, parts...), a predicate (connective or comparison, parts...).
 Values are numbers: an element its place, a set its bits."""
-import itertools, re
+import itertools, math, re
 
 SYMBOL = re.compile(r"\s+|([A-Za-z0-9]+['?!]?|\|->|<->|-\+>|-->|<=>|<=|=>|/=|\.\.|[:;,|@()\[\]{}=<+*#-])")
 
@@ -258,6 +258,12 @@ class Dossier:
         h = self.size(t[2])
         rows = [0] * (t[0] == 'pfun') + [1 << j for j in range(h)]
         return sorted(sum(r << i * h for i, r in enumerate(f)) for f in itertools.product(rows, repeat=self.size(t[1])))
+
+    def bindings(self):
+        """how many bindings the whole order has"""
+        count = lambda declared: math.prod(len(self.values(t)) for n, t in declared)
+        a, c = count(self.abstract), count(self.concrete)
+        return c + sum(a * c * count(inputs) * (1 + count(outputs) * c) for _, inputs, outputs, _, _ in self.ops)
 
     def limits(self, t, of):
         """least and largest value of a number term; `of` gives those of a name"""

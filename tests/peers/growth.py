@@ -75,12 +75,40 @@ op stat a! : 0..3 ; b! : 0..3 ; abstract a! + b! <= # m + 2 concrete a! + b! <= 
 '''
 
 
+def links(n):
+    ports = ' '.join(f'p{i + 1}' for i in range(n))
+    return f'''contents given NODE given PORT abstract concrete ainit cinit retrieve op join op leave op ports op degree end
+given NODE a b c end
+given PORT {ports} end
+abstract link : NODE <-> PORT ; where true end
+concrete xa : P PORT ; xb : P PORT ; xc : P PORT ; where true end
+ainit where link = empty NODE PORT end
+cinit where xa = empty PORT and xb = empty PORT and xc = empty PORT end
+retrieve where (forall p : PORT @ (a |-> p in link <=> p in xa) and (b |-> p in link <=> p in xb) and (c |-> p in link <=> p in xc)) end
+op join n? : NODE ; p? : PORT ;
+  abstract n? |-> p? notin link and link' = link union {{n? |-> p?}}
+  concrete (n? = a => p? notin xa and xa' = xa union {{p?}} and xb' = xb and xc' = xc)
+    and (n? = b => p? notin xb and xb' = xb union {{p?}} and xa' = xa and xc' = xc)
+    and (n? = c => p? notin xc and xc' = xc union {{p?}} and xa' = xa and xb' = xb) end
+op leave p? : PORT ;
+  abstract p? in ran link and link' = link minus {{a |-> p?, b |-> p?, c |-> p?}}
+  concrete (p? in xa or p? in xb or p? in xc) and xa' = xa minus {{p?}} and xb' = xb minus {{p?}} and xc' = xc minus {{p?}} end
+op ports s! : P PORT ;
+  abstract link' = link and s! = ran link
+  concrete xa' = xa and xb' = xb and xc' = xc and s! = xa union xb union xc end
+op degree n? : NODE ; d! : 0..{n} ;
+  abstract link' = link and d! = # {{p : PORT | n? |-> p in link}}
+  concrete xa' = xa and xb' = xb and xc' = xc and (n? = a => d! = # xa) and (n? = b => d! = # xb) and (n? = c => d! = # xc) end
+'''
+
+
 def families():
-    """(family, [(name, text)]), each from small to large"""
+    """(family, [(name, text)]), each from small to large; all are accepted"""
     return [('clock', [(f'clock, {m} minutes', clock(m)) for m in (4, 8, 12, 20, 28, 40, 60)]),
             ('pool', [(f'pool, {n} cells', pool(n)) for n in (2, 3, 4, 5, 6)]),
-            ('weak', [(f'weak, {n} members, {k + 1} values', weak(n, k)) for n, k in ((2, 3), (3, 3), (4, 3), (5, 3), (5, 7), (6, 7))]),
-            ('outputs', [(f'outputs, {n} members', outputs(n)) for n in (2, 3, 4, 5, 6)])]
+            ('weak', [(f'weak, {n} members, {k + 1} values', weak(n, k)) for n, k in ((2, 3), (3, 3), (4, 3), (5, 3), (5, 7), (6, 7), (7, 7), (8, 15))]),
+            ('outputs', [(f'outputs, {n} members', outputs(n)) for n in (2, 3, 4, 5, 6, 7, 8)]),
+            ('links', [(f'links, {n} ports', links(n)) for n in (1, 2, 3, 4)])]
 
 
 def draw(lines, path):

@@ -4,12 +4,12 @@ Numbers have one width, the least in which no term of the dossier overflows; a s
 the dossier are unfolded. What stands under "there is" on the side of the premises is a constant of the query. Under "there is none" (the concrete precondition, the
 abstract after state, the abstract initial state) there are two translations:
   quantified  a quantifier of SMT-LIB over the variables
-  unfolded    a variable that a conjunct gives (v' = t) is replaced by t; the others are unfolded over all their values
+  unfolded    a variable that a conjunct gives (v' = t) is replaced by t; the others are unfolded over all their values, up to 16,384
 Each query is sent as text and answered sat or unsat; the first sat refutes the dossier."""
-import itertools
+import itertools, math
 from dossier import Walk, conjuncts, names_of, solved
 
-MOST = 4096
+MOST = 16384    # values over which a variable is unfolded; above, it is quantified
 
 
 class Smt(Walk):
@@ -166,61 +166,55 @@ class Smt(Walk):
 
     def none(self, declared, parts, env):
         """no values of the declared names meet the predicates `parts`, each with the renaming of its names"""
-        parts = [(c, r) for p, r in parts for c in conjuncts(p)]
-        known = {n: t for n, t in env.items()}
-        left = dict(declared)
+        parts, left, needs, env = [(c, r) for p, r in parts for c in conjuncts(p)], dict(declared), [], dict(env)
         if self.style == 'unfolded':
-            return self.unfold(left, parts, known)
-        binders, inner = [], dict(env)
-        needs = []
-        for n, t in declared:
+            parts = self.solve(left, parts, needs, env)
+            if math.prod(len(self.d.values(t)) for t in left.values()) <= MOST:
+                return self.unfold(left, parts, needs, env)
+        binders = []
+        for n, t in left.items():
             self.count += 1
-            inner[n] = f'x{self.count}'
-            binders.append(f'({inner[n]} {self.sort(t)})')
-            needs.append(self.carried(t, inner[n]))
-        texts = [x for x in needs if x is not None] + [self.truth(p, self.renamed(inner, r)) for p, r in parts]
-        self.claim(f'(forall ({" ".join(binders)}) {self.deny(self.text_of(self.join("and", texts)))})')
-
-    def text_of(self, x):
-        return {True: 'true', False: 'false'}.get(x, x) if isinstance(x, bool) else x
+            env[n] = f'x{self.count}'
+            binders.append(f'({env[n]} {self.sort(t)})')
+            needs.append(self.carried(t, env[n]))
+        texts = [x for x in needs if x is not None] + [self.truth(p, self.renamed(env, r)) for p, r in parts]
+        none = self.deny(self.join('and', texts))
+        self.claim(f'(forall ({" ".join(binders)}) {none})' if isinstance(none, str) else none)
 
     def renamed(self, env, r):
         return {**env, **{n: env[m] for n, m in r.items() if m in env}}
 
-    def unfold(self, left, parts, env):
-        needs, found = [], True
+    def solve(self, left, parts, needs, env):
+        """takes the variables that a conjunct gives out of `left`: each is a constant of the query; the conjuncts that remain"""
+        found = True
         while found and left:
             found = None
             for c, r in parts:
-                back = {n: r.get(n, n) for n in names_of(c)}
-                open_names = {n for n, m in back.items() if m in left}
-                s = solved(c, open_names)
-                if s and not ({back[n] for n in names_of(s[1]) if n in back} & set(left)):
-                    found = s[0], back[s[0]], s[1], (c, r)
+                real = {n: r.get(n, n) for n in names_of(c)}
+                s = solved(c, {n for n, m in real.items() if m in left})
+                if s and not {real[n] for n in names_of(s[1]) if n in real} & set(left):
+                    found = real[s[0]], s[1], (c, r)
                     break
             if found:
-                name, real, term, part = found
-                t = left.pop(real)
-                value = self.term(term, self.renamed(env, part[1]))
+                name, term, part = found
+                t = left.pop(name)
+                value = self.literal(self.term(term, self.renamed(env, part[1])), term[1])
                 self.count += 1
-                env[real] = f'x{self.count}'
-                kind = term[1]
-                self.lines.append(f'(define-const {env[real]} {self.sort(t)} {self.literal(value, kind)})')
-                needs.append(self.carried(t, env[real]))
+                env[name] = f'x{self.count}'
+                self.lines.append(f'(define-const {env[name]} {self.sort(t)} {value})')
+                needs.append(self.carried(t, env[name]))
                 parts = [p for p in parts if p is not part]
-        carriers = [list(self.d.values(t)) for t in left.values()]
-        outside = [p for p in parts if not ({p[1].get(n, n) for n in names_of(p[0])} & set(left))]
-        inside = [p for p in parts if p not in outside]
-        gate = self.join('and', [x for x in needs if x is not None] + [self.truth(p, self.renamed(env, r)) for p, r in outside])
-        if not inside:
-            return self.claim(self.deny(gate))
+        return parts
+
+    def unfold(self, left, parts, needs, env):
+        inside = [p for p in parts if {p[1].get(n, n) for n in names_of(p[0])} & set(left)]
+        gate = [x for x in needs if x is not None] + [self.truth(p, self.renamed(env, r)) for p, r in parts if (p, r) not in inside]
         some = []
-        for values in itertools.product(*carriers):
-            here = {**env, **dict(zip(left, values))}
-            some.append(self.conjunction(inside, here))
+        for values in itertools.product(*[self.d.values(t) for t in left.values()]):
+            some.append(self.conjunction(inside, {**env, **dict(zip(left, values))}))
             if some[-1] is True:
                 break
-        self.claim(self.deny(self.join('and', [gate, self.join('or', list(dict.fromkeys(some)))])))
+        self.claim(self.deny(self.join('and', gate + [self.join('or', list(dict.fromkeys(some)))])))
 
     def conjunction(self, parts, env):
         texts = []

@@ -108,7 +108,7 @@ def families():
             ('pool', [(f'pool, {n} cells', pool(n)) for n in (2, 3, 4, 5, 6)]),
             ('weak', [(f'weak, {n} members, {k + 1} values', weak(n, k)) for n, k in ((2, 3), (3, 3), (4, 3), (5, 3), (5, 7), (6, 7), (7, 7), (8, 15))]),
             ('outputs', [(f'outputs, {n} members', outputs(n)) for n in (2, 3, 4, 5, 6, 7, 8)]),
-            ('links', [(f'links, {n} ports', links(n)) for n in (1, 2, 3, 4)])]
+            ('links', [(f'links, {n} port' + 's' * (n > 1), links(n)) for n in (1, 2, 3, 4)])]
 
 
 def draw(lines, path):

@@ -4,7 +4,7 @@ applicability and 2J + 2 correctness of operation J). The grounder computes the 
 Values are numbers as in dossier.py. A top conjunct `v = t` is an equation that the grounder solves; `forall x @ x in S <=> q` is one for S; a disjunction with equations in
 it makes a rule for each case; # and dom and ran are joins with tables; every other conjunct is a comparison of arithmetic terms, in which truth is 0 or 1."""
 import itertools
-from dossier import Walk, conjuncts, names_of, solved
+from walk import Walk, conjuncts, names_of, solved
 
 TABLE = 10    # bits up to which #, dom and ran are tables
 CASES = 16    # rules that one predicate is split into

@@ -7,7 +7,7 @@ abstract after state, the abstract initial state) there are two translations:
   unfolded    a variable that a conjunct gives (v' = t) is replaced by t; the others are unfolded over all their values, up to 16,384
 Each query is sent as text and answered sat or unsat; the first sat refutes the dossier."""
 import itertools, math
-from dossier import Walk, conjuncts, names_of, solved
+from walk import Walk, conjuncts, names_of, solved
 
 MOST = 16384    # values over which a variable is unfolded; above, it is quantified
 

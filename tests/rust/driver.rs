@@ -2,6 +2,7 @@
 // usage: driver COUNT SEED FOLDER       COUNT texts and COUNT / 5 lists of calls; what differs is saved in FOLDER
 //        driver --vectors FOLDER..      the plain implementation alone on stored cases
 //        driver --text FILE..           the reports of both on some texts
+//        driver                         the plain implementation's report of the text on standard input
 mod calls;
 mod damage;
 mod expressions;
@@ -27,11 +28,14 @@ use calls::Reply;
 use grammar::Grammar;
 use random::Random;
 use std::path::{Path, PathBuf};
-use std::{fs, process, thread};
+use std::io::{Read, Write};
+use std::{fs, io, process, thread};
 use tally::Tally;
 
 // How many nodes the plain implementation visits before a case is left out.
 const LIMIT: u64 = 2_000_000;
+// The same for a single text on standard input.
+const PLAIN_LIMIT: u64 = 400_000_000;
 // With so many texts goes one list of calls.
 const TEXTS_PER_LIST: u64 = 5;
 // Of so many texts one is read by the rules of form too.
@@ -167,12 +171,23 @@ fn run_texts(files: &[String]) -> bool {
     same
 }
 
+// The plain implementation's report of the text on standard input; nothing where the enumeration takes too long.
+fn run_plain() -> bool {
+    let mut text = Vec::new();
+    io::stdin().read_to_end(&mut text).expect("standard input");
+    match report::report(&text, PLAIN_LIMIT) {
+        Err(_) => false,
+        Ok((written, _)) => io::stdout().write_all(&written).is_ok(),
+    }
+}
+
 fn run(arguments: &[String]) -> bool {
     match arguments {
+        [] => run_plain(),
         [mode, folders @ ..] if mode == "--vectors" => vectors::run(folders),
         [mode, files @ ..] if mode == "--text" => run_texts(files),
         [count, seed, folder] => run_random(count.parse().expect("COUNT"), seed.parse().expect("SEED"), Path::new(folder)),
-        _ => panic!("usage: driver COUNT SEED FOLDER, or --vectors FOLDER.., or --text FILE.."),
+        _ => panic!("usage: driver COUNT SEED FOLDER, or --vectors FOLDER.., or --text FILE.., or a text on standard input"),
     }
 }
 

@@ -2,3 +2,4 @@
 pub mod FreeNodes
 pub mod FreeTruths
 pub mod SolvedTerms
+pub mod OneValue

@@ -1,4 +1,4 @@
--- answers sha256 39065ebe24bc29cb
+-- answers sha256 238e00dcecac8c9d
 -- `memo::described` meets its contract: what is listed are the slots from s on that the conjunct mentions. Assumes nothing.
 use Prim.Native.Nat.{_≤_}
 use native.Mathlib.Omega.{arith}
@@ -29,7 +29,7 @@ sub-s : tie.Need-sub-s Inv-loop μ-loop
 sub-s c = search needs
 
 with-slot-requires : tie.Need-with-slot-requires Inv-loop μ-loop
-with-slot-requires c κs = (omega (arith, c .before .loop .inv .2, c .loop-test .taken), c .before .loop .inv .0, lists-before (c .loop-test .taken) (c .before .loop .inv .1))
+with-slot-requires c κs = (omega (arith, c .before .loop .inv .2, c .loop-test .taken), c .before .loop .inv .0, lists-before (omega (arith, c .loop-test .taken)) (c .before .loop .inv .1))
 
 loop-less : tie.Need-loop-less Inv-loop μ-loop
 loop-less c = omega (arith, c .before .loop-test .taken)
@@ -38,7 +38,7 @@ loop-again : tie.Need-loop-again Inv-loop μ-loop
 loop-again c = (c .before .before .loop .inv .0, c .with-slot .ensures, omega (arith, c .before .before .loop .inv .2))
 
 returns-2 : tie.Need-returns-2 Inv-loop μ-loop
-returns-2 c = lists-all (c .loop-test .left) (c .before .loop .inv .1)
+returns-2 c = lists-all (omega (arith, c .loop-test .left)) (c .before .loop .inv .1)
 
 pub described-spec : {M : Type 1} → statement M
 described-spec =

@@ -38,16 +38,27 @@ pub fn is_name(code: u8) -> bool
     }
 }
 
-// Eight letters of a name, from letter `skip` on, packed; 0 for another symbol.
-pub fn letters_at(s: &[u8], code: u8, at: usize, skip: usize) -> u64
-    requires { ⌜ (at ≤ length (now s)) × (length (now s) ≤ 32768) × (skip ≤ 8) ⌝ }
-    ensures { λ r. ⌜ r ≡ cond (isName code) (packed 8 (drop skip (run (drop at (now (s .entry)))))) 0 ⌝ }
+// How many letters a name has that begins at `at`; 0 for another symbol.
+pub fn name_letters(s: &[u8], code: u8, at: usize) -> usize
+    requires { ⌜ at ≤ length (now s) ⌝ }
+    ensures letters { λ r. ⌜ r ≡ cond (isName code) (length (run (drop at (now (s .entry))))) 0 ⌝ }
+    ensures inside { λ r. ⌜ at + r ≤ length (now (s .entry)) ⌝ }
 {
     if is_name(code) {
-        let n = run_from(s, at);
-        return eight(s, at + skip, at + n);
+        return run_from(s, at);
     }
     0
+}
+
+// Eight of the n letters from `at` on, from letter `skip` on, packed: most names have no letter behind the first eight.
+pub fn letters_at(s: &[u8], at: usize, n: usize, skip: usize) -> u64
+    requires { ⌜ (at + n ≤ length (now s)) × (length (now s) ≤ 32768) × (skip ≤ 8) ⌝ }
+    ensures { λ r. ⌜ ((c : ℕ) → n ≡ cond (isName c) (length (run (drop at (now (s .entry))))) 0 → r ≡ cond (isName c) (packed 8 (drop skip (run (drop at (now (s .entry)))))) 0) ⌝ }
+{
+    if n <= skip {
+        return 0;
+    }
+    eight(s, at + skip, at + n)
 }
 
 // The letters of each name, packed; 0 for another symbol.
@@ -66,8 +77,9 @@ pub fn pack_names(
     while i < n {
         let code = codes[i];
         let at = starts[i] as usize;
-        low[i] = letters_at(s, code, at, 0);
-        high[i] = letters_at(s, code, at, PACKED);
+        let letters = name_letters(s, code, at);
+        low[i] = letters_at(s, at, letters, 0);
+        high[i] = letters_at(s, at, letters, PACKED);
         i += 1;
     }
 }

@@ -48,6 +48,15 @@ pub letters-some : (s : List ℕ) (at k n : ℕ) {r : ℕ} (b : Bool) → k < n 
 letters-some s at k n true l h e = run-part s at k e h
 letters-some s at k n false l h e = absurd (omega arith)
 
+-- one letter
+pub letters-one : (s : List ℕ) (at k n : ℕ) → n ≡ k + 1 → at + n ≤ length s → getD s (at + k) 0 ≡ packed 8 (take ((at + n) - (at + k)) (drop (at + k) s))
+unfolding packed
+letters-one s at k n e h =
+    let i : (at + n) - (at + k) ≡ 1 = omega arith in
+    let x : ℕ = getD s (at + k) 0 in
+    let z : x ≡ x + 0 = omega arith in
+    z ∙ sym (ap₂ (λ (j : ℕ) (w : List ℕ). packed 8 (take j w)) i (drop-cons s (at + k) 0 (omega arith)))
+
 -- what is so of a symbol, where the text goes on by w
 abbrev pub Sound : List ℕ → Symbol → Type 0
 Sound w (fixed k) = 10 ≤ codeOf k

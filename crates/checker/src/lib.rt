@@ -1,4 +1,6 @@
 // The five calls on a held check kept in lent bytes: load, advance, verdict, witness, drop. Each reads the held text again.
+// Stack: 1,536 KiB are enough for every text and every call. The arrays of a reading stand there, and the walks over nodes go as deep as a chain of operators
+// is long. The figure is measured, on the texts that need the most (tests/stack), and not proved.
 ghost use mathlib.Core.Path.{_≡_};
 ghost use mathlib.Core.List.{[]};
 ghost use mathlib.Core.Bool.{true, cond};

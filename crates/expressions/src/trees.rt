@@ -1,11 +1,12 @@
 // Terms and predicates: numbers 4 and 5 of document 01, and the nodes of their trees.
 ghost use mathlib.Core.Path.{_≡_};
 ghost use mathlib.Core.List.{[], _∷_};
-ghost use Prim.Native.Nat.{_+_, _≤_, _<_};
+ghost use Prim.Native.Nat.{ℕ, _+_, _-_, _*_, _≤_, _<_};
 ghost use lib.ListN.{length, getD};
 ghost use Rattle.lexical.specs.Kinds as kind;
 ghost use Rattle.form.specs.Machine.{exact, aTerm, anOperand, aTermRest, aRel, aMem, aRight, aBrace, aList, aPairs, aUnary, aParen, aPredRest};
-ghost use Rattle.form_nodes.specs.FormPromises.{Reads, TermReads, PredReads, Room};
+ghost use Rattle.form_nodes.specs.FormPromises.{Reads, TermReads, PredReads, Room, Ahead, Classes, operators, connectives, levelOf};
+ghost use Rattle.declarations.specs.DossierPromises.{More};
 ghost use Rattle.form_nodes.specs.Derivations.{Made, anOperand, aTermFrom, aTermRest, someItems, somePairs, aPredFrom, aPredRest, aUnary, anAtom, someRelated};
 use form::shapes;
 use form_nodes::Read;
@@ -41,6 +42,21 @@ use lexical::bounds::DEPTH;
 use lexical::codes;
 use lexical::refusals::DEEP;
 use lexical::refusals::NO_DOSSIER;
+
+// Which kind of operator stands at a place; what level of connective.
+fn operator_at(s: &[u8], at: usize) -> u8
+    ensures { λ r. ⌜ Classes operators (getD (now (s .entry)) at 0) r × (r ≤ 2295 * (length (now (s .entry)) - at)) ⌝ }
+{
+    let k = kind_at(s, at);
+    operator_of(k)
+}
+
+fn connective_at(s: &[u8], at: usize) -> u8
+    ensures { λ r. ⌜ Classes connectives (getD (now (s .entry)) at 0) r × (r ≤ 2295 * (length (now (s .entry)) - at)) ⌝ }
+{
+    let k = kind_at(s, at);
+    connective_of(k)
+}
 
 // A term that no operator stands in, but in brackets.
 fn operand(s: &[u8], v: &[u16], at: usize, d: u8, b: u8, code: &mut [u16], n: usize) -> Read
@@ -118,7 +134,7 @@ fn term_from(
     }
 }
 
-// Operators behind a term, and their right sides.
+// Operators behind a term, and their right sides: a chain, as long as it may be, is one loop.
 fn term_rest(
     s: &[u8],
     v: &[u16],
@@ -132,26 +148,52 @@ fn term_rest(
     requires { ⌜ Room (now s) (now code) at n × (d ≤ 24) × (b ≤ 3) × (1 ≤ min) × (min ≤ 10) ⌝ }
     ensures { λ r. ⌜ TermReads (now (s .entry)) at n d b min (aTermRest d b ∷ []) r × Made (now (s .entry)) (now (v .entry)) (aTermRest min) at n (now (code .entry)) (now (code .exit)) r ⌝ }
 {
-    let k = kind_at(s, at);
-    let o = operator_of(k);
-    if level_of(o) < min {
-        return Read::At(at, n);
+    let mut e = at;
+    let mut m = n;
+    let mut o = operator_at(s, at);
+    while min <= level_of(o) {
+        match term_more(s, v, e, d, b, o, code, m) {
+            Read::At(f, c) => {
+                e = f;
+                m = c;
+                o = operator_at(s, f);
+            }
+            Read::Fault(p, q) => return Read::Fault(p, q),
+        }
     }
+    Read::At(e, m)
+}
+
+// The operator of the kind o that stands behind a term, and its right side.
+fn term_more(
+    s: &[u8],
+    v: &[u16],
+    at: usize,
+    d: u8,
+    b: u8,
+    o: u8,
+    code: &mut [u16],
+    n: usize,
+) -> Read
+    requires { ⌜ Room (now s) (now code) at n × (d ≤ 24) × (b ≤ 3) × (1 ≤ o) × (at < length (now s)) × Classes operators (getD (now s) at 0) o ⌝ }
+    ensures { λ r. ⌜ Reads (now (s .entry)) at n (aTermRest d b ∷ []) (aTermRest d b ∷ []) r × Ahead at r × ((min : ℕ) → min ≤ levelOf o → More (now (s .entry)) (now (v .entry)) (aTermRest min) at n (now (code .entry)) (now (code .exit)) r) ⌝ }
+{
     if kinds::DIVIDES <= o {
         return match end(s, at + 1, n) {
             Read::At(e, m) => {
                 let x = magnitude(s, v, at + 1);
                 let y = division(s, at);
                 let c = put(code, n, shapes::DIVIDED, at, x, y);
-                term_rest(s, v, e, d, b, min, code, c)
+                Read::At(e, c)
             }
             Read::Fault(p, q) => Read::Fault(p, q),
         };
     }
+    let k = kind_at(s, at);
     match term_from(s, v, at + 1, d, b, o + 1, code, n) {
         Read::At(e, m) => {
             let c = put(code, m, shapes::BINARY, at, wide(k), 0);
-            term_rest(s, v, e, d, b, min, code, c)
+            Read::At(e, c)
         }
         Read::Fault(p, q) => Read::Fault(p, q),
     }
@@ -312,7 +354,7 @@ fn pred_from(
     }
 }
 
-// Connectives behind a predicate, and their right sides.
+// Connectives behind a predicate, and their right sides: a chain, as long as it may be, is one loop.
 fn pred_rest(
     s: &[u8],
     v: &[u16],
@@ -326,11 +368,37 @@ fn pred_rest(
     requires { ⌜ Room (now s) (now code) at n × (d ≤ 24) × (b ≤ 3) × (1 ≤ min) × (min ≤ 10) ⌝ }
     ensures { λ r. ⌜ PredReads (now (s .entry)) at n d b min [] r × Made (now (s .entry)) (now (v .entry)) (aPredRest min) at n (now (code .entry)) (now (code .exit)) r ⌝ }
 {
-    let k = kind_at(s, at);
-    let l = connective_of(k);
-    if l < min {
-        return Read::At(at, n);
+    let mut e = at;
+    let mut m = n;
+    let mut l = connective_at(s, at);
+    while min <= l {
+        match pred_more(s, v, e, d, b, l, code, m) {
+            Read::At(f, c) => {
+                e = f;
+                m = c;
+                l = connective_at(s, f);
+            }
+            Read::Fault(p, q) => return Read::Fault(p, q),
+        }
     }
+    Read::At(e, m)
+}
+
+// The connective of the level l that stands behind a predicate, and its right side.
+fn pred_more(
+    s: &[u8],
+    v: &[u16],
+    at: usize,
+    d: u8,
+    b: u8,
+    l: u8,
+    code: &mut [u16],
+    n: usize,
+) -> Read
+    requires { ⌜ Room (now s) (now code) at n × (d ≤ 24) × (b ≤ 3) × (1 ≤ l) × (at < length (now s)) × Classes connectives (getD (now s) at 0) l ⌝ }
+    ensures { λ r. ⌜ ((base : ℕ) → (l ≡ 1 → base ≡ d) → Reads (now (s .entry)) at n (aPredRest base d b ∷ []) (aPredRest base d b ∷ []) r) × Ahead at r × ((min : ℕ) → min ≤ l → More (now (s .entry)) (now (v .entry)) (aPredRest min) at n (now (code .entry)) (now (code .exit)) r) ⌝ }
+{
+    let k = kind_at(s, at);
     if l == kinds::IMPLIES_LEVEL {
         if DEPTH <= d {
             return Read::Fault(at, DEEP);
@@ -338,7 +406,7 @@ fn pred_rest(
         return match pred_from(s, v, at + 1, d + 1, b, kinds::IMPLIES_LEVEL, code, n) {
             Read::At(e, m) => {
                 let c = put(code, m, shapes::CONNECTED, at, wide(k), 0);
-                pred_rest(s, v, e, d, b, min, code, c)
+                Read::At(e, c)
             }
             Read::Fault(p, q) => Read::Fault(p, q),
         };
@@ -346,7 +414,7 @@ fn pred_rest(
     match pred_from(s, v, at + 1, d, b, l + 1, code, n) {
         Read::At(e, m) => {
             let c = put(code, m, shapes::CONNECTED, at, wide(k), 0);
-            pred_rest(s, v, e, d, b, min, code, c)
+            Read::At(e, c)
         }
         Read::Fault(p, q) => Read::Fault(p, q),
     }

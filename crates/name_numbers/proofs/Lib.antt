@@ -2,5 +2,6 @@
 pub mod ScanLaws
 pub mod TreeLaws
 pub mod NumberingLaws
+pub mod RecentLaws
 pub mod SoundLaws
 pub mod RowLaws

@@ -14,7 +14,7 @@ use Rattle.lexical.specs.declared.Stop.{Stop}
 use Rattle.lexical.specs.declared.Stop.the-variants.{At, Free, Deep}
 use Rattle.name_numbers.proofs.TreeLaws.{both, same-both, one-more, NotFree, at-node, free-zero, keep, insert}
 
-abbrev walkOf : (low high tree : List ℕ) → ℕ → Stop
+abbrev pub walkOf : (low high tree : List ℕ) → ℕ → Stop
 walkOf low high tree j = walkFrom 128 low high tree (getD low j 0) (getD high j 0) (getD low j 0) (getD high j 0) 8192
 
 module _ {low high tree : List ℕ} {i : ℕ} (h : Tree low high tree i) where
@@ -29,7 +29,7 @@ module _ {low high tree : List ℕ} {i : ℕ} (h : Tree low high tree i) where
     known = λ j l n. one-more j i (Reached low high j (walkOf low high tree j)) l (λ m. h .known j m n) (λ e. absurd (n (ap (λ (x : ℕ). getD low x 0) e ∙ z)));
   }
 
-  grown : Reached low high i (walkOf low high tree i) → Tree low high tree (i + 1)
+  pub grown : Reached low high i (walkOf low high tree i) → Tree low high tree (i + 1)
   grown r = record {
     below = wider;
     firsts = h .firsts;
@@ -96,7 +96,7 @@ module _ {low high tree : List ℕ} {i : ℕ} (h : Tree low high tree i) where
             ∙ insert low high (getD low i 0) (getD high i 0) tree k i l (same-both (getD low i 0) (getD low i 0) (getD high i 0) (getD high i 0) refl refl) 128 (getD low i 0) (getD high i 0) 8192 free))
             (reached (first-new n))))
 
-zero-at : (n k : ℕ) → _≡_ {A = ℕ} (getD (replicate n 0) k 0) 0
+pub zero-at : (n k : ℕ) → _≡_ {A = ℕ} (getD (replicate n 0) k 0) 0
 zero-at zero k = refl
 zero-at (suc n) zero = refl
 zero-at (suc n) (suc k) = zero-at n k

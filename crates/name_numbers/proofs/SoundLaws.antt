@@ -37,6 +37,26 @@ run-part s at k {n} {r} l h =
     h ∙ ap₂ (λ (i : ℕ) (w : List ℕ). packed 8 (take i w)) e (sym (drop-drop k at s))
     ∙ ap (packed 8) (sym (drop-take k (length (run (drop at s))) (drop at s)) ∙ ap (drop k) (run-take (drop at s)))
 
+-- the letters from k on of a name, by how many it has: none, and some
+pub letters-none : (w : List ℕ) (n k : ℕ) (b : Bool) → n ≡ cond b (length w) 0 → n ≤ k → 0 ≡ cond b (packed 8 (drop k w)) 0
+unfolding packed
+letters-none w n k true e h = sym (ap (packed 8) (drop-of-length-le w {i = k} (omega arith)))
+letters-none w n k false e h = refl
+
+pub letters-some : (s : List ℕ) (at k n : ℕ) {r : ℕ} (b : Bool) → k < n → r ≡ packed 8 (take ((at + n) - (at + k)) (drop (at + k) s))
+    → n ≡ cond b (length (run (drop at s))) 0 → r ≡ cond b (packed 8 (drop k (run (drop at s)))) 0
+letters-some s at k n true l h e = run-part s at k e h
+letters-some s at k n false l h e = absurd (omega arith)
+
+-- one letter
+pub letters-one : (s : List ℕ) (at k n : ℕ) → n ≡ k + 1 → at + n ≤ length s → getD s (at + k) 0 ≡ packed 8 (take ((at + n) - (at + k)) (drop (at + k) s))
+unfolding packed
+letters-one s at k n e h =
+    let i : (at + n) - (at + k) ≡ 1 = omega arith in
+    let x : ℕ = getD s (at + k) 0 in
+    let z : x ≡ x + 0 = omega arith in
+    z ∙ sym (ap₂ (λ (j : ℕ) (w : List ℕ). packed 8 (take j w)) i (drop-cons s (at + k) 0 (omega arith)))
+
 -- what is so of a symbol, where the text goes on by w
 abbrev pub Sound : List ℕ → Symbol → Type 0
 Sound w (fixed k) = 10 ≤ codeOf k

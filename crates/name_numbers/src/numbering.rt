@@ -11,6 +11,7 @@ ghost use Rattle.lexical.specs.Symbols.{run, scan, symbols};
 ghost use Rattle.lexical.specs.Promises.{filled, valueIn, numberIn};
 ghost use Rattle.lexical.specs.SymbolPromises.{packed, isName, lowIn, highIn, Rows, walkFrom, IsFirst, Tree};
 ghost use Rattle.lexical.specs.SymbolPromises.{filledLow, filledHigh, filledNumbers, filledValues};
+ghost use Rattle.name_numbers.specs.RecentNames.{Recent, Recalls};
 use lexical::Stop;
 use lexical::bounds::SYMBOLS;
 use lexical::classes::run_from;
@@ -29,6 +30,11 @@ const ROOT: usize = 2 * SYMBOLS;
 
 const SLOTS: usize = ROOT + 1;
 
+// How many bytes a name can begin with, and how many names are remembered: one for each.
+const LETTERS: u64 = 256;
+
+const RECENT: usize = LETTERS as usize;
+
 pub fn is_name(code: u8) -> bool
     ensures { λ r. ⌜ r ≡ isName code ⌝ }
 {
@@ -38,16 +44,30 @@ pub fn is_name(code: u8) -> bool
     }
 }
 
-// Eight letters of a name, from letter `skip` on, packed; 0 for another symbol.
-pub fn letters_at(s: &[u8], code: u8, at: usize, skip: usize) -> u64
-    requires { ⌜ (at ≤ length (now s)) × (length (now s) ≤ 32768) × (skip ≤ 8) ⌝ }
-    ensures { λ r. ⌜ r ≡ cond (isName code) (packed 8 (drop skip (run (drop at (now (s .entry)))))) 0 ⌝ }
+// How many letters a name has that begins at `at`; 0 for another symbol.
+pub fn name_letters(s: &[u8], code: u8, at: usize) -> usize
+    requires { ⌜ at ≤ length (now s) ⌝ }
+    ensures letters { λ r. ⌜ r ≡ cond (isName code) (length (run (drop at (now (s .entry))))) 0 ⌝ }
+    ensures inside { λ r. ⌜ at + r ≤ length (now (s .entry)) ⌝ }
 {
     if is_name(code) {
-        let n = run_from(s, at);
-        return eight(s, at + skip, at + n);
+        return run_from(s, at);
     }
     0
+}
+
+// Eight of the n letters from `at` on, from letter `skip` on, packed: most names have one, and none behind the first eight.
+pub fn letters_at(s: &[u8], at: usize, n: usize, skip: usize) -> u64
+    requires { ⌜ (at + n ≤ length (now s)) × (length (now s) ≤ 32768) × (skip ≤ 8) ⌝ }
+    ensures { λ r. ⌜ ((c : ℕ) → n ≡ cond (isName c) (length (run (drop at (now (s .entry))))) 0 → r ≡ cond (isName c) (packed 8 (drop skip (run (drop at (now (s .entry)))))) 0) ⌝ }
+{
+    if n <= skip {
+        return 0;
+    }
+    if n == skip + 1 {
+        return s[at + skip] as u64;
+    }
+    eight(s, at + skip, at + n)
 }
 
 // The letters of each name, packed; 0 for another symbol.
@@ -66,8 +86,9 @@ pub fn pack_names(
     while i < n {
         let code = codes[i];
         let at = starts[i] as usize;
-        low[i] = letters_at(s, code, at, 0);
-        high[i] = letters_at(s, code, at, PACKED);
+        let letters = name_letters(s, code, at);
+        low[i] = letters_at(s, at, letters, 0);
+        high[i] = letters_at(s, at, letters, PACKED);
         i += 1;
     }
 }
@@ -147,6 +168,48 @@ pub fn number_of(low: &[u64], high: &[u64], tree: &mut [u16], i: usize, old: u16
     }
 }
 
+// The number and one of the first symbol with the letters of symbol i, where it was the last name looked for that begins like it; else 0.
+pub fn recalled(low: &[u64], high: &[u64], recent: &[u16], i: usize) -> usize
+    requires { ⌜ Recent (now low) (now high) (now recent) i × (i < 4096) × (length (now low) ≡ 4096) × (length (now high) ≡ 4096) × (length (now recent) ≡ 256) ⌝ }
+    ensures { λ r. ⌜ Recalls (now (low .entry)) (now (high .entry)) i r ⌝ }
+{
+    let a = low[i];
+    let b = high[i];
+    let t = recent[(a % LETTERS) as usize] as usize;
+    if t == 0 {
+        return 0;
+    }
+    if same_letters(low, high, t - 1, a, b) {
+        return t;
+    }
+    0
+}
+
+// The same as `number_of`: most names were looked for before, and are found without a walk.
+pub fn numbered(
+    low: &[u64],
+    high: &[u64],
+    tree: &mut [u16],
+    recent: &mut [u16],
+    i: usize,
+    old: u16,
+) -> u16
+    requires { ⌜ Tree (now low) (now high) (now tree) i × (i < 4096) × (length (now low) ≡ 4096) × (length (now high) ≡ 4096) × (length (now tree) ≡ 8193) × (length (now recent) ≡ 256) × Recent (now low) (now high) (now recent) i ⌝ }
+    ensures { λ r. ⌜ Tree (now (low .entry)) (now (high .entry)) (now (tree .exit)) (i + 1) × (length (now (tree .exit)) ≡ 8193) × (getD (now (low .entry)) i 0 ≡ 0 → r ≡ old) × ((getD (now (low .entry)) i 0 ≡ 0 → ⊥) → IsFirst (now (low .entry)) (now (high .entry)) i r) × (length (now (recent .exit)) ≡ 256) × Recent (now (low .entry)) (now (high .entry)) (now (recent .exit)) (i + 1) ⌝ }
+{
+    let a = low[i];
+    if a == 0 {
+        return old;
+    }
+    let t = recalled(low, high, recent, i);
+    if t != 0 {
+        return (t - 1) as u16;
+    }
+    let r = number_of(low, high, tree, i, old);
+    recent[(a % LETTERS) as usize] = r + 1;
+    r
+}
+
 // The value of each name: the number of the first symbol that has its letters.
 pub fn number_names(s: &[u8], codes: &[u8], starts: &[u16], values: &mut [u16], n: usize)
     requires { ⌜ Rows (now s) (now codes) (now starts) n × (length (now codes) ≡ 4096) × (length (now starts) ≡ 4096) × (length (now values) ≡ 4096) × ((i : ℕ) → i < n → getD (now values) i 0 ≡ getD (filledNumbers (now s)) i 0) ⌝ }
@@ -156,10 +219,11 @@ pub fn number_names(s: &[u8], codes: &[u8], starts: &[u16], values: &mut [u16], 
     let mut high = [0u64; SYMBOLS];
     pack_names(s, codes, starts, n, &mut low, &mut high);
     let mut tree = [0u16; SLOTS];
+    let mut recent = [0u16; RECENT];
     let mut i = 0;
     while i < n {
         let old = values[i];
-        values[i] = number_of(&low, &high, &mut tree, i, old);
+        values[i] = numbered(&low, &high, &mut tree, &mut recent, i, old);
         i += 1;
     }
 }

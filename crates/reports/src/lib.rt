@@ -125,7 +125,7 @@ fn put_verdict(
     put_count(w.at, out, a)
 }
 
-// The report of a text in front of the lent bytes, and its length.
+// The report of a text in front of the lent bytes, and its length. 1,536 KiB of stack are enough for every text, as for the calls (crates/checker).
 pub fn report(text: &[u8], out: &mut [u8; REPORT]) -> usize
     ensures { λ r. ⌜ Reported (now (text .entry)) (now (out .entry)) (now (out .exit)) r ⌝ }
 {

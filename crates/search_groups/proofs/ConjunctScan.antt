@@ -1,4 +1,4 @@
--- A scan over nodes, four numbers at a time, finds the last variable of a group.
+-- A scan over nodes, four numbers at a time, finds the last variable of each group.
 use mathlib.Core.Path.{_≡_, refl, sym, ap, ap₂, _∙_}
 use mathlib.Core.Bool.{Bool, true, false, _&&_, cond}
 use mathlib.Core.List.{List, [], _∷_, _++_}
@@ -10,7 +10,8 @@ use lib.ListN.{length, take, drop, getD, length-take}
 use lib.Seq.{drop-cons}
 use borrow.Author.Tests.{eq-eqb, ne-eqb, le-leb, lt-leb, lt-ltb, le-ltb}
 use Rattle.search_groups.specs.Conjuncts.{lastIn}
-use Rattle.search_groups.specs.GroupPromises.{slotHere, slotsAt, piece}
+use Rattle.search_groups.specs.GroupPromises.{slotHere, slotsAt, piece, Noted, LastsOf, LastsAhead}
+use Rattle.search_groups.specs.declared.conjuncts.Mentioned.{Mentioned}
 
 max-assoc : (a b c : ℕ) → max (max a b) c ≡ max a (max b c)
 max-assoc a b c = omega arith
@@ -49,7 +50,7 @@ few-slots (b ∷ a ∷ i ∷ []) h = refl
 few-slots (b ∷ a ∷ i ∷ k ∷ x) h = absurd (omega arith)
 
 -- what a node adds; what has been found and what is still to come make the whole
-pub scan-step : (t : List ℕ) (i end base n best v w all : ℕ) → v ≡ lastIn base n (slotHere (getD t (i + 3) 0) (getD t (i + 1) 0)) → w ≡ max best v
+scan-step : (t : List ℕ) (i end base n best v w all : ℕ) → v ≡ lastIn base n (slotHere (getD t (i + 3) 0) (getD t (i + 1) 0)) → w ≡ max best v
     → max best (lastIn base n (slotsAt (piece t i end))) ≡ all → i + 4 ≤ end → end ≤ length t → max w (lastIn base n (slotsAt (piece t (i + 4) end))) ≡ all
 unfolding slotsAt
 scan-step t i end base n best v w all e f g h l =
@@ -60,7 +61,7 @@ scan-step t i end base n best v w all e f g h l =
     ∙ ap (λ (x : ℕ). max x rest) (sym e) in
     ap (λ (x : ℕ). max x rest) f ∙ max-assoc best v rest ∙ ap (max best) (sym u) ∙ g
 
-pub scan-done : (t : List ℕ) (i end base n best all : ℕ) → max best (lastIn base n (slotsAt (piece t i end))) ≡ all → end < i + 4 → end ≤ length t → best ≡ all
+scan-done : (t : List ℕ) (i end base n best all : ℕ) → max best (lastIn base n (slotsAt (piece t i end))) ≡ all → end < i + 4 → end ≤ length t → best ≡ all
 unfolding lastIn
 scan-done t i end base n best all g h l =
     let p : length (piece t i end) ≤ end - i = omega (arith, length-take (end - i) (drop i t)) in
@@ -90,3 +91,62 @@ rank-behind k a base n e g h = sym (one-slot k a base n e true false (le-leb bas
 
 pub rank-here : (k a base n : ℕ) → k ≡ 2 → base ≤ a → a < base + n → a - base + 1 ≡ lastIn base n (slotHere k a)
 rank-here k a base n e g h = sym (one-slot k a base n e true true (le-leb base a g) (lt-ltb a (base + n) h))
+
+-- ---- all groups in one scan
+
+-- a node without a slot adds nothing
+pub noted-none : (k a : ℕ) (l : Mentioned) → (k ≡ 2 → ⊥) → Noted k a l l
+noted-none k a l h =
+    record {
+      abstracts = one 0 8 (l .abstracts);
+      concretes = one 8 8 (l .concretes);
+      inputs = one 16 3 (l .inputs);
+      outputs = one 19 3 (l .outputs);
+      cprimed = one 22 8 (l .cprimed);
+      aprimed = one 30 8 (l .aprimed);
+    }
+  where
+    one : (base n v : ℕ) → v ≡ max v (lastIn base n (slotHere k a))
+    one base n v = sym (max-zero v) ∙ ap (max v) (no-slot k a base n h)
+
+pub lasts-start : (whole : List ℕ)
+    → LastsAhead whole whole (record { abstracts = 0; concretes = 0; inputs = 0; outputs = 0; cprimed = 0; aprimed = 0 })
+lasts-start whole =
+    record {
+      abstracts = zero-max _;
+      concretes = zero-max _;
+      inputs = zero-max _;
+      outputs = zero-max _;
+      cprimed = zero-max _;
+      aprimed = zero-max _;
+    }
+
+pub lasts-step : (t : List ℕ) (i end : ℕ) (whole : List ℕ) (l r : Mentioned) → Noted (getD t (i + 3) 0) (getD t (i + 1) 0) l r
+    → LastsAhead (slotsAt (piece t i end)) whole l → i + 4 ≤ end → end ≤ length t → LastsAhead (slotsAt (piece t (i + 4) end)) whole r
+lasts-step t i end whole l r m g h k =
+    record {
+      abstracts = one 0 8 (l .abstracts) (r .abstracts) (m .abstracts) (g .abstracts);
+      concretes = one 8 8 (l .concretes) (r .concretes) (m .concretes) (g .concretes);
+      inputs = one 16 3 (l .inputs) (r .inputs) (m .inputs) (g .inputs);
+      outputs = one 19 3 (l .outputs) (r .outputs) (m .outputs) (g .outputs);
+      cprimed = one 22 8 (l .cprimed) (r .cprimed) (m .cprimed) (g .cprimed);
+      aprimed = one 30 8 (l .aprimed) (r .aprimed) (m .aprimed) (g .aprimed);
+    }
+  where
+    one : (base n v w : ℕ) → w ≡ max v (lastIn base n (slotHere (getD t (i + 3) 0) (getD t (i + 1) 0)))
+        → max v (lastIn base n (slotsAt (piece t i end))) ≡ lastIn base n whole → max w (lastIn base n (slotsAt (piece t (i + 4) end))) ≡ lastIn base n whole
+    one base n v w e f = scan-step t i end base n v _ w _ refl e f h k
+
+pub lasts-done : (t : List ℕ) (i end : ℕ) (whole : List ℕ) (l : Mentioned) → LastsAhead (slotsAt (piece t i end)) whole l → end < i + 4 → end ≤ length t → LastsOf whole l
+lasts-done t i end whole l g h k =
+    record {
+      abstracts = one 0 8 (l .abstracts) (g .abstracts);
+      concretes = one 8 8 (l .concretes) (g .concretes);
+      inputs = one 16 3 (l .inputs) (g .inputs);
+      outputs = one 19 3 (l .outputs) (g .outputs);
+      cprimed = one 22 8 (l .cprimed) (g .cprimed);
+      aprimed = one 30 8 (l .aprimed) (g .aprimed);
+    }
+  where
+    one : (base n v : ℕ) → max v (lastIn base n (slotsAt (piece t i end))) ≡ lastIn base n whole → v ≡ lastIn base n whole
+    one base n v e = scan-done t i end base n v _ e h k

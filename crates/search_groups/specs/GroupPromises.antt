@@ -2,7 +2,7 @@
 use mathlib.Core.Path.{_≡_}
 use mathlib.Core.Bool.{cond}
 use mathlib.Core.List.{List, [], _∷_, _++_}
-use Prim.Native.Nat.{ℕ, suc, _+_, _-_, _*_, _/_, _%_, _≤_, _<_}
+use Prim.Native.Nat.{ℕ, suc, _+_, _-_, _*_, _/_, _%_, _≤_, _<_, max}
 use lib.Dec.{eqb, ltb}
 use lib.ListN.{length, take, drop, getD, set}
 use Rattle.lexical.specs.Lists.{filter}
@@ -13,7 +13,8 @@ use Rattle.node_spans.specs.Spans.{Stands, Structured, OperationsAt, span, span
 use Rattle.table_nodes.specs.TableWalkPromises.{patch}
 use Rattle.table_places.specs.ResolvedTable.{Slots, predTable}
 use Rattle.table_places.specs.DossierTable.{row, operationRows, groupsOf, slotsOf, startsOf}
-use Rattle.search_groups.specs.Conjuncts.{conjunctRow, contextRows, contextFirsts}
+use Rattle.search_groups.specs.Conjuncts.{lastIn, conjunctRow, contextRows, contextFirsts}
+use Rattle.search_groups.specs.declared.conjuncts.Mentioned.{Mentioned}
 
 -- the slots in the nodes of a table, in their order: a node of shape 2 has one
 unfoldable pub slotHere : (k a : ℕ) → List ℕ
@@ -29,6 +30,25 @@ slotsAt (b ∷ a ∷ i ∷ k ∷ rest) = slotHere k a ++ slotsAt rest
 -- the numbers from one place up to another
 abbrev pub piece : List ℕ → (from end : ℕ) → List ℕ
 piece table from end = take (end - from) (drop from table)
+
+-- of each group, by its first slot and how many it has, the last variable before and after
+pub record EachLast (P : (base n v w : ℕ) → Type 0) (l r : Mentioned) : Type 0 where
+  pub abstracts : P 0 8 (l .abstracts) (r .abstracts)
+  pub concretes : P 8 8 (l .concretes) (r .concretes)
+  pub inputs : P 16 3 (l .inputs) (r .inputs)
+  pub outputs : P 19 3 (l .outputs) (r .outputs)
+  pub cprimed : P 22 8 (l .cprimed) (r .cprimed)
+  pub aprimed : P 30 8 (l .aprimed) (r .aprimed)
+
+-- with a node more; of the slots s; what has been found, and what is still to come, make the whole
+abbrev pub Noted : (k a : ℕ) (l r : Mentioned) → Type 0
+Noted k a l r = EachLast (λ (base n v w : ℕ). w ≡ max v (lastIn base n (slotHere k a))) l r
+
+abbrev pub LastsOf : List ℕ → Mentioned → Type 0
+LastsOf s r = EachLast (λ (base n v w : ℕ). w ≡ lastIn base n s) r r
+
+abbrev pub LastsAhead : (rest whole : List ℕ) → Mentioned → Type 0
+LastsAhead rest whole r = EachLast (λ (base n v w : ℕ). max w (lastIn base n rest) ≡ lastIn base n whole) r r
 
 -- The conjuncts by numbers: the nodes from q on, and the rows they make. The last node is no `and` (shape 18, code 51), or it has the end of its left part
 pub data Conjoin : (q : ℕ) → (codes rows : List ℕ) → Type 0 where

@@ -5,7 +5,7 @@ ghost use lib.ListN.{length};
 ghost use Rattle.form.specs.Codes.{node};
 ghost use Rattle.table_nodes.specs.TableWalkPromises.{patch};
 ghost use Rattle.search_groups.specs.Conjuncts.{lastIn, conjunctRow};
-ghost use Rattle.search_groups.specs.GroupPromises.{slotHere, slotsAt, piece, Middle, RowPut, Conjoined};
+ghost use Rattle.search_groups.specs.GroupPromises.{slotHere, slotsAt, piece, Noted, LastsOf, Middle, RowPut, Conjoined};
 ghost use Rattle.search_groups.specs.GroupPromises.{Place, ContextPut, ListPut, Listed};
 use form::node;
 use lexical::bounds;
@@ -74,18 +74,49 @@ fn rank(k: u16, a: u16, base: u16, n: u16) -> u16
     a - base + 1
 }
 
-// The last variable of a group that the nodes between two places mention.
-fn last_in(table: &[u16], from: usize, end: usize, base: u16, n: u16) -> u16
-    requires { ⌜ (from ≤ end) × (end ≤ length (now table)) × (end ≤ 65535) × (base + n ≤ 64) ⌝ }
-    ensures { λ r. ⌜ r ≡ lastIn base n (slotsAt (piece (now (table .entry)) from end)) ⌝ }
+// The last variable of each group that some nodes mention, counted from 1; 0 for none. The last two are those of primed concrete and abstract variables.
+struct Mentioned {
+    abstracts: u16,
+    concretes: u16,
+    inputs: u16,
+    outputs: u16,
+    cprimed: u16,
+    aprimed: u16,
+}
+
+// The same with a node more, by its shape and its first number: most nodes have no slot.
+fn noted(l: Mentioned, k: u16, a: u16) -> Mentioned
+    ensures { λ r. ⌜ Noted k a l r ⌝ }
 {
-    let mut best: u16 = 0;
+    if k != table_shapes::SLOT {
+        return l;
+    }
+    Mentioned {
+        abstracts: larger(l.abstracts, rank(k, a, slots::ABSTRACT, VARIABLES)),
+        concretes: larger(l.concretes, rank(k, a, slots::CONCRETE, VARIABLES)),
+        inputs: larger(l.inputs, rank(k, a, slots::INPUTS, INPUTS)),
+        outputs: larger(l.outputs, rank(k, a, slots::OUTPUTS, OUTPUTS)),
+        cprimed: larger(l.cprimed, rank(k, a, slots::CONCRETE_PRIMED, VARIABLES)),
+        aprimed: larger(l.aprimed, rank(k, a, slots::ABSTRACT_PRIMED, VARIABLES)),
+    }
+}
+
+// Those of the nodes between two places, in one walk.
+fn lasts(table: &[u16], from: usize, end: usize) -> Mentioned
+    requires { ⌜ (from ≤ end) × (end ≤ length (now table)) × (end ≤ 65535) ⌝ }
+    ensures { λ r. ⌜ LastsOf (slotsAt (piece (now (table .entry)) from end)) r ⌝ }
+{
+    let mut best = Mentioned {
+        abstracts: 0,
+        concretes: 0,
+        inputs: 0,
+        outputs: 0,
+        cprimed: 0,
+        aprimed: 0,
+    };
     let mut i = from;
     while i + node::SIZE <= end {
-        best = larger(
-            best,
-            rank(table[i + node::SHAPE], table[i + node::A], base, n),
-        );
+        best = noted(best, table[i + node::SHAPE], table[i + node::A]);
         i += node::SIZE;
     }
     best
@@ -107,14 +138,9 @@ fn write(table: &[u16], from: usize, end: usize, out: &mut [u16], n: usize)
     requires { ⌜ (from ≤ end) × (end ≤ length (now table)) × (end ≤ 65535) × (n + 8 ≤ length (now out)) × (length (now out) ≤ 65535) ⌝ }
     ensures { λ r. ⌜ now (out .exit) ≡ patch n (conjunctRow from end (slotsAt (piece (now (table .entry)) from end))) (now (out .entry)) ⌝ }
 {
-    let a = last_in(table, from, end, slots::ABSTRACT, VARIABLES);
-    let b = last_in(table, from, end, slots::CONCRETE, VARIABLES);
-    let c = last_in(table, from, end, slots::INPUTS, INPUTS);
-    let d = last_in(table, from, end, slots::OUTPUTS, OUTPUTS);
-    let e = last_in(table, from, end, slots::CONCRETE_PRIMED, VARIABLES);
-    let f = last_in(table, from, end, slots::ABSTRACT_PRIMED, VARIABLES);
-    four(out, n, from as u16, end as u16, a, b);
-    four(out, n + HALF_ROW, c, d, e, f);
+    let l = lasts(table, from, end);
+    four(out, n, from as u16, end as u16, l.abstracts, l.concretes);
+    four(out, n + HALF_ROW, l.inputs, l.outputs, l.cprimed, l.aprimed);
 }
 
 // The same where there is room for it: the place behind it.

@@ -10,7 +10,7 @@ use lib.Signed.{leZ, ltZ}
 use borrow.Author.Tests.{ltb-true, ltb-false, leb-true, leb-false, lt-ltb, le-ltb}
 use Rattle.slot_carriers.specs.Cells.{Split, Found}
 
-clash : {A : Type 0} → true ≡ false → A
+pub clash : {A : Type 0} → true ≡ false → A
 clash e = absurd (let z : _≡_ {A = ℕ} 0 1 = cc in omega arith)
 
 -- ---- the order of integers
@@ -34,7 +34,7 @@ less-self (negsuc a) = le-ltb a a (omega arith)
 met : (a b : ℕ) → ltb a b ≡ false → leb a b ≡ true → a ≡ b
 met a b e f = let h : b ≤ a = ltb-false a b e in let k : a ≤ b = leb-true a b f in omega arith
 
-meet : (x y : ℤ) → ltZ x y ≡ false → leZ x y ≡ true → x ≡ y
+pub meet : (x y : ℤ) → ltZ x y ≡ false → leZ x y ≡ true → x ≡ y
 meet (pos a) (pos b) e f = ap pos (met a b e f)
 meet (pos a) (negsuc b) e f = clash (sym f)
 meet (negsuc a) (pos b) e f = clash e

@@ -5,6 +5,7 @@ pub mod setup;
 pub mod type_shapes;
 
 ghost use mathlib.Core.Path.{_≡_};
+ghost use mathlib.Core.Bool.{true};
 ghost use Prim.Native.Nat.{_<_, _≤_};
 ghost use lib.ListN.{getD, length};
 ghost use Rattle.slot_carriers.specs.Cells.{countIn, valueIn, Reached, Readable, Split, Found};
@@ -24,6 +25,8 @@ const FIRST: usize = 2;
 
 // How much more than the first number of a range its cell has, which is then not negative.
 const RAISED: i64 = bounds::LARGEST_NUMBER as i64;
+
+const RAISED_PLACES: usize = bounds::LARGEST_NUMBER as usize;
 
 // A number of the cells.
 fn cell(cells: &[u32], k: usize) -> u32
@@ -73,12 +76,54 @@ fn first_from(cells: &[u32; CELLS], slot: usize, low: usize, high: usize, x: i64
     first_from(cells, slot, low, mid, x)
 }
 
+// A guess at the place of x: of every type but functions the values rise by one, so it is how far x is from the first of them. Nothing is promised: `stands` looks.
+fn guess(cells: &[u32; CELLS], slot: usize, x: i64) -> usize
+    requires { ⌜ slot < 64 ⌝ }
+{
+    let shape = cell(cells, CELL * slot + SHAPE);
+    if type_shapes::PARTIAL <= shape {
+        return CELLS;
+    }
+    if x < 0 {
+        return CELLS;
+    }
+    if shape != type_shapes::RANGE {
+        return x as usize;
+    }
+    let first = cell(cells, CELL * slot + FIRST) as usize;
+    let raised = x as usize + RAISED_PLACES;
+    if raised < first {
+        return CELLS;
+    }
+    raised - first
+}
+
+// Is x the d-th of the n values of a slot?
+fn stands(cells: &[u32; CELLS], slot: usize, n: usize, d: usize, x: i64) -> bool
+    requires { ⌜ Readable (now cells) slot ⌝ }
+    requires { ⌜ n ≡ countIn (now cells) slot ⌝ }
+    ensures { λ r. ⌜ (r ≡ true → Found (λ d. valueIn (now (cells .entry)) slot d) n x d) ⌝ }
+{
+    if n <= d {
+        return false;
+    }
+    let y = value_at(cells, slot, d);
+    if y < x {
+        return false;
+    }
+    y <= x
+}
+
 // The place of x among the values of a slot, or their count where it is none of them.
 pub fn place_of(cells: &[u32; CELLS], slot: usize, x: i64) -> usize
     requires { ⌜ Readable (now cells) slot ⌝ }
     ensures { λ r. ⌜ Found (λ d. valueIn (now (cells .entry)) slot d) (countIn (now (cells .entry)) slot) x r ⌝ }
 {
     let n = count_of(cells, slot);
+    let d = guess(cells, slot, x);
+    if stands(cells, slot, n, d, x) {
+        return d;
+    }
     let r = first_from(cells, slot, 0, n, x);
     if r >= n {
         return n;

@@ -1,6 +1,6 @@
--- answers sha256 72a2d7474b419206
+-- answers sha256 11e9b89aa8b7452b
 -- `symbols::names::pack_names` meets its contract: the letters of the symbols passed. Assumes nothing.
-use lib.ListN.{take, set, length-set, length}
+use lib.ListN.{take, set, length-set, length, getD}
 use mathlib.Core.List.{List}
 use Prim.Native.Nat.{ℕ, _-_, _≤_}
 use mathlib.Core.Path.{_≡_, ap, _∙_}
@@ -34,8 +34,11 @@ shared-slice-read-at c = search needs
 cast-at : tie.Need-cast-at Inv-loop μ-loop
 cast-at c = let h = place-inside (c .before .before .before .before .before .before .before .before .before .pre .0) (c .before .before .before .loop .i) (c .before .before .loop-test .taken) in let k = c .before .before .before .before .before .before .before .before .before .pre .0 .short in search needs
 
+name-letters-requires : tie.Need-name-letters-requires Inv-loop μ-loop
+name-letters-requires c κs = place-inside (c .before .before .before .before .before .before .before .before .before .pre .0) (c .before .before .before .loop .i) (c .before .before .loop-test .taken)
+
 letters-at-requires : tie.Need-letters-at-requires Inv-loop μ-loop
-letters-at-requires c κs = (place-inside (c .before .before .before .before .before .before .before .before .before .pre .0) (c .before .before .before .loop .i) (c .before .before .loop-test .taken), c .before .before .before .before .before .before .before .before .before .pre .0 .short, omega arith)
+letters-at-requires c κs = (c .name-letters .ensures .1, c .before .before .before .before .before .before .before .before .before .before .pre .0 .short, omega arith)
 
 mul-low : tie.Need-mul-low Inv-loop μ-loop
 mul-low c = search needs
@@ -44,7 +47,7 @@ slice-write-low : tie.Need-slice-write-low Inv-loop μ-loop
 slice-write-low c = search needs
 
 letters-at-requires-2 : tie.Need-letters-at-requires-2 Inv-loop μ-loop
-letters-at-requires-2 c κs = (place-inside (c .before .before .before .before .before .before .before .before .before .before .pre .0) (c .before .before .before .before .loop .i) (c .before .before .before .loop-test .taken), c .before .before .before .before .before .before .before .before .before .before .pre .0 .short, omega arith)
+letters-at-requires-2 c κs = (c .before .name-letters .ensures .1, c .before .before .before .before .before .before .before .before .before .before .before .pre .0 .short, omega arith)
 
 mul-high : tie.Need-mul-high Inv-loop μ-loop
 mul-high c = search needs
@@ -59,8 +62,8 @@ loop-less : tie.Need-loop-less Inv-loop μ-loop
 loop-less c = search needs
 
 loop-again : tie.Need-loop-again Inv-loop μ-loop
-loop-again c = let e = packed-step (c .before .before .before .before .before .before .before .before .before .before .before .pre .0) (c .before .before .before .before .before .loop .i) (c .before .before .before .before .loop-test .taken) (c .before .before .before .before .before .before .before .before .before .before .before .args .low .now) (c .before .before .before .before .before .before .before .before .before .before .before .args .high .now) (c .before .before .before .before .before .before .before .before .before .before .before .pre .3) (c .before .before .before .before .before .before .before .before .before .before .before .pre .4) (c .before .letters-at .ensures) (c .letters-at2 .ensures) in
-    (ap (λ (l : List ℕ). set l (c .before .before .before .before .before .loop .i) (c .before .letters-at .result)) (c .before .before .before .before .before .loop .inv .0) ∙ e .0, ap (λ (l : List ℕ). set l (c .before .before .before .before .before .loop .i) (c .letters-at2 .result)) (c .before .before .before .before .before .loop .inv .1) ∙ e .1, omega arith, length-set (c .before .before .before .before .before .loop .low) (c .before .before .before .before .before .loop .i) (c .before .letters-at .result) ∙ c .before .before .before .before .before .loop .inv .3, length-set (c .before .before .before .before .before .loop .high) (c .before .before .before .before .before .loop .i) (c .letters-at2 .result) ∙ c .before .before .before .before .before .loop .inv .4)
+loop-again c = let e = packed-step (c .before .before .before .before .before .before .before .before .before .before .before .before .pre .0) (c .before .before .before .before .before .before .loop .i) (c .before .before .before .before .before .loop-test .taken) (c .before .before .before .before .before .before .before .before .before .before .before .before .args .low .now) (c .before .before .before .before .before .before .before .before .before .before .before .before .args .high .now) (c .before .before .before .before .before .before .before .before .before .before .before .before .pre .3) (c .before .before .before .before .before .before .before .before .before .before .before .before .pre .4) (c .before .letters-at .ensures (getD (c .before .before .before .before .before .before .before .before .before .before .before .before .args .codes .now) (c .before .before .before .before .before .before .loop .i) 0) (c .before .before .name-letters .ensures .0)) (c .letters-at2 .ensures (getD (c .before .before .before .before .before .before .before .before .before .before .before .before .args .codes .now) (c .before .before .before .before .before .before .loop .i) 0) (c .before .before .name-letters .ensures .0)) in
+    (ap (λ (l : List ℕ). set l (c .before .before .before .before .before .before .loop .i) (c .before .letters-at .result)) (c .before .before .before .before .before .before .loop .inv .0) ∙ e .0, ap (λ (l : List ℕ). set l (c .before .before .before .before .before .before .loop .i) (c .letters-at2 .result)) (c .before .before .before .before .before .before .loop .inv .1) ∙ e .1, omega arith, length-set (c .before .before .before .before .before .before .loop .low) (c .before .before .before .before .before .before .loop .i) (c .before .letters-at .result) ∙ c .before .before .before .before .before .before .loop .inv .3, length-set (c .before .before .before .before .before .before .loop .high) (c .before .before .before .before .before .before .loop .i) (c .letters-at2 .result) ∙ c .before .before .before .before .before .before .loop .inv .4)
 
 same-length : tie.Need-same-length Inv-loop μ-loop
 same-length c = search needs
@@ -73,5 +76,5 @@ returns c = let k = c .before .before .before .before .before .before .before .p
 
 pub pack-names-spec : {M : Type 1} → statement M
 pack-names-spec =
-    tie.close (tie.spec Inv-loop μ-loop loop-holds shared-slice-read-code mul-at shared-slice-read-at cast-at letters-at-requires mul-low slice-write-low
-    letters-at-requires-2 mul-high slice-write-high add-i loop-less loop-again same-length same-length-2 returns)
+    tie.close (tie.spec Inv-loop μ-loop loop-holds shared-slice-read-code mul-at shared-slice-read-at cast-at name-letters-requires letters-at-requires mul-low
+    slice-write-low letters-at-requires-2 mul-high slice-write-high add-i loop-less loop-again same-length same-length-2 returns)

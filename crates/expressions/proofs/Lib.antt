@@ -1,0 +1,2 @@
+-- What the chains of operators and connectives count on.
+pub mod Chains

@@ -7,12 +7,20 @@ ghost use Rattle.points.specs.Searches.{Sought};
 ghost use Rattle.nest.specs.NestPromises.{NestAsked, AbstractAnswers, ConcreteAnswers, AbstractPreAnswers, PreAnswers, ReadyAnswers, InputAsked, InputAnswers};
 ghost use Rattle.nest.specs.NestPromises.{OutputAnswers, AfterAnswers, MetAnswers, SweepAnswers};
 ghost use Rattle.nest.specs.Remembering.{Remembered, BindingAsked, AgainAnswers};
+use crate::blocks::is_within;
+use crate::blocks::masks_of;
+use crate::blocks::next_open_abstract;
+use crate::blocks::next_open_concrete;
+use crate::blocks::pair_mark;
+use crate::blocks::remember_pair;
+use crate::blocks::remember_whole;
 use crate::known::KNOWN;
 use crate::known::Numbers;
 use crate::known::is_known;
 use crate::known::key_of;
 use crate::known::mark_of;
 use crate::known::remember;
+use idle_variables::keys::KEYS;
 use plans::Part;
 use points::plan::MET;
 use points::plan::READY;
@@ -25,6 +33,7 @@ use seek::Span;
 use seek::seek;
 use slot_carriers::groups::bind;
 
+mod blocks;
 mod known;
 
 // Where a search of a part stopped, and whether the binding there fails.
@@ -325,25 +334,34 @@ pub fn sweep(
     let by_concrete = p.ni * by_input;
     let by_abstract = p.nc * by_concrete;
     let mut known = [0u16; KNOWN];
+    let masks = masks_of(t, plan, p);
+    let mut done = [0u16; KEYS];
+    let mut seen = [0u16; KEYS];
     let mut at = end;
     let mut failed = false;
-    let mut a = next_abstract(t, plan, cells, p, from / by_abstract, slots);
+    let mut a = next_open_abstract(t, plan, cells, p, from / by_abstract, masks, slots, &done);
     'abstracts: while a < p.na {
-        if end <= a * by_abstract {
+        let first = a * by_abstract;
+        if end <= first {
             break 'abstracts;
         }
+        let mark = pair_mark(cells, p, masks, a);
         let mask = ready(t, plan, cells, p, slots);
-        let mut c = next_concrete(
+        let mut c = next_open_concrete(
             t,
             plan,
             cells,
             p,
             behind(from / by_concrete, a * p.nc),
+            masks,
+            mark,
             slots,
+            &seen,
         );
         while c < p.nc {
             let x = a * p.nc + c;
-            if end <= x * by_concrete {
+            let within = x * by_concrete;
+            if end <= within {
                 break 'abstracts;
             }
             let mut i = next_input(cells, p, mask, behind(from / by_input, x * p.ni), slots);
@@ -377,9 +395,26 @@ pub fn sweep(
                 }
                 i = next_input(cells, p, mask, i + 1, slots);
             }
-            c = next_concrete(t, plan, cells, p, c + 1, slots);
+            remember_pair(
+                cells,
+                p,
+                c,
+                masks,
+                mark,
+                is_within(from, end, within, by_concrete),
+                &mut seen,
+            );
+            c = next_open_concrete(t, plan, cells, p, c + 1, masks, mark, slots, &seen);
         }
-        a = next_abstract(t, plan, cells, p, a + 1, slots);
+        remember_whole(
+            cells,
+            p,
+            a,
+            masks,
+            is_within(from, end, first, by_abstract),
+            &mut done,
+        );
+        a = next_open_abstract(t, plan, cells, p, a + 1, masks, slots, &done);
     }
     Swept { at, failed }
 }

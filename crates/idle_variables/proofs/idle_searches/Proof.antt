@@ -1,7 +1,8 @@
--- answers sha256 c5a41ef883b3f409
+-- answers sha256 e3201b23c69148f2
 -- `idle_variables::idle_searches` meets its contract: the searches from u on before v are idle. Assumes nothing.
 use mathlib.Core.Bool.{false≢true}
 use Prim.Native.Nat.{_-_}
+use native.Mathlib.Omega.{arith}
 use borrow.Author.Needs.{needs}
 use borrow.Author.Tests.{not-false}
 use Rattle.idle_variables.proofs.IdleSearches.{SearchesPassed, no-search, one-search, searches-say}
@@ -18,7 +19,7 @@ loop-holds : tie.Need-loop-holds Inv-loop μ-loop
 loop-holds c = no-search
 
 idle-search-requires : tie.Need-idle-search-requires Inv-loop μ-loop
-idle-search-requires c κs = ((c .loop-test .taken, c .before .before .pre .0), c .before .before .pre .1)
+idle-search-requires c κs = ((omega (arith, c .loop-test .taken), c .before .before .pre .0), c .before .before .pre .1)
 
 returns : tie.Need-returns Inv-loop μ-loop
 returns c = record { means = λ e. absurd (false≢true e) }
@@ -33,7 +34,7 @@ loop-again : tie.Need-loop-again Inv-loop μ-loop
 loop-again c = one-search (c .before .before .before .loop .inv) (c .before .idle-search .ensures) (not-false _ (c .if1 .left))
 
 returns-2 : tie.Need-returns-2 Inv-loop μ-loop
-returns-2 c = searches-say (c .loop-test .left) (c .before .loop .inv)
+returns-2 c = searches-say (omega (arith, c .loop-test .left)) (c .before .loop .inv)
 
 pub idle-searches-spec : {M : Type 1} → statement M
 idle-searches-spec =

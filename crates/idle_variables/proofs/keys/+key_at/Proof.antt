@@ -1,4 +1,4 @@
--- answers sha256 eb2e1f3a8c8affe9
+-- answers sha256 7c7d641a9e359759
 -- `keys::key_at` meets its contract: the key of the variables behind the first, and the first one's digit, if it is not idle. Measure: the variables left. Assumes nothing.
 use Prim.Native.Nat.{_/_, ℕ, _<_}
 use mathlib.Core.Path.{subst, sym}
@@ -52,7 +52,7 @@ key-at-key-at-requires : (t : ℕ) → key-at-lts.Need-key-at-requires (key-at-c
 key-at-key-at-requires t c κs = (omega (arith, c .before .before .before .before .before .if2 .left), (rest-asked (c .before .before .before .before .before .before .before .before .before .pre .1 .0) (c .before .before .before .before .before .if2 .left) (c .before .before .before .before .count-of .ensures) _, mod-lt (c .before .before .before .before .before .before .before .before .before .args .x) (rest-some (c .before .before .before .before .before .before .before .before .before .pre .1 .0) (c .before .before .before .before .before .if2 .left) (c .before .before .before .before .count-of .ensures))))
 
 key-at-returns-3 : (t : ℕ) → key-at-lts.Need-returns-3 (key-at-claims t) (key-at-at t) key-at.Post
-key-at-returns-3 t c = ((key-idle (c .before .before .before .before .before .before .before .before .before .before .before .before .pre .1 .0) (c .before .before .before .before .before .before .before .before .if2 .left) (c .before .before .before .before .before .before .before .count-of .ensures) (c .before .before .before .before .before .before .before .before .before .before .before .before .args .x) (c .before .before .key-at .ensures .0) (c .if3 .taken)), subst (λ (k : ℕ). k < c .before .before .before .before .before .before .before .before .before .before .before .before .args .g .count) (sym (key-idle (c .before .before .before .before .before .before .before .before .before .before .before .before .pre .1 .0) (c .before .before .before .before .before .before .before .before .if2 .left) (c .before .before .before .before .before .before .before .count-of .ensures) (c .before .before .before .before .before .before .before .before .before .before .before .before .args .x) (c .before .before .key-at .ensures .0) (c .if3 .taken))) (key-low (c .before .before .before .before .before .before .before .before .before .before .before .before .pre .1 .0) (c .before .before .before .before .before .before .before .before .before .before .before .before .args .x) (c .before .before .before .before .before .before .before .before .before .before .before .before .pre .1 .1)))
+key-at-returns-3 t c = ((key-idle (c .before .before .before .before .before .before .before .before .before .before .before .before .pre .1 .0) (c .before .before .before .before .before .before .before .before .if2 .left) (c .before .before .before .before .before .before .before .count-of .ensures) (c .before .before .before .before .before .before .before .before .before .before .before .before .args .x) (c .before .before .key-at .ensures .0) (omega (arith, c .if3 .taken))), subst (λ (k : ℕ). k < c .before .before .before .before .before .before .before .before .before .before .before .before .args .g .count) (sym (key-idle (c .before .before .before .before .before .before .before .before .before .before .before .before .pre .1 .0) (c .before .before .before .before .before .before .before .before .if2 .left) (c .before .before .before .before .before .before .before .count-of .ensures) (c .before .before .before .before .before .before .before .before .before .before .before .before .args .x) (c .before .before .key-at .ensures .0) (omega (arith, c .if3 .taken)))) (key-low (c .before .before .before .before .before .before .before .before .before .before .before .before .pre .1 .0) (c .before .before .before .before .before .before .before .before .before .before .before .before .args .x) (c .before .before .before .before .before .before .before .before .before .before .before .before .pre .1 .1)))
 
 key-at-div-result : (t : ℕ) → key-at-lts.Need-div-result (key-at-claims t) (key-at-at t) key-at.Post
 key-at-div-result t c = rest-some (c .before .before .before .before .before .before .before .before .before .before .before .before .pre .1 .0) (c .before .before .before .before .before .before .before .before .if2 .left) (c .before .before .before .before .before .before .before .count-of .ensures)

@@ -8,7 +8,7 @@ use native.Mathlib.Decide.{ℕ-discrete}
 use lib.Dec.{eqb, T}
 use borrow.Author.Tests.{eq-eqb}
 use lib.ListN.{getD, length, set, length-set}
-use lib.Seq.{getD-set-same, getD-set-other}
+use lib.Seq.{getD-set-same, getD-set-other, ext-getD}
 use lib.IntN.{ℤ, pos}
 use Rattle.evaluation.specs.EvaluationByNumber.{Values, Truths, shapeAt, endAt, firstAt, secondAt, TermIs, ItemsIs, TruthIs}
 use Rattle.evaluation.specs.EvaluationByNumber.{Bound, TermNode, ItemsNode}
@@ -38,6 +38,24 @@ pub frames-bound : (P : Truths) (end i : ℕ) (low : ℤ) (n : ℕ) (g : ℕ →
     → Bound P end i low n τ g
 frames-bound P end i low n g s p a b =
     record { free = b .free; each = λ k l. p _ _ (agree-set a i _ (b .free)) (g k) (b .each k l) }
+
+-- a binder writes its own slot: behind that both have the same values
+same-set : {i : ℕ} {ρ τ : Values} → Agree i ρ τ → (v : ℤ) → set ρ i v ≡ set τ i v
+same-set {i} {ρ} {τ} a v =
+    let long : length ρ ≡ 64 = a .long in
+    let also : length τ ≡ 64 = a .other-long in
+    let wide : length (set ρ i v) ≡ 64 = length-set ρ i v ∙ long in
+    ext-getD (pos 0) (set ρ i v) (set τ i v) (wide ∙ sym (length-set τ i v ∙ also))
+    (λ k l. elim (ℕ-discrete k i) [
+      | yes e ↦ subst (λ (j : ℕ). getD (set ρ i v) j (pos 0) ≡ getD (set τ i v) j (pos 0)) (sym e)
+          (getD-set-same ρ i v (pos 0) (omega (arith, e, l)) ∙ sym (getD-set-same τ i v (pos 0) (omega (arith, e, l))))
+      | no e ↦ getD-set-other ρ i k v (pos 0) e ∙ a .same k e ∙ sym (getD-set-other τ i k v (pos 0) e)
+    ])
+
+pub bound-own : (P : Truths) (end i : ℕ) (low : ℤ) (n : ℕ) (g : ℕ → Bool) {s : ℕ} {ρ τ : Values} → i ≡ s → Agree s ρ τ → Bound P end i low n ρ g → Bound P end i low n τ g
+bound-own P end i low n g {ρ = ρ} {τ = τ} is a b =
+    let own : Agree i ρ τ = subst (λ (j : ℕ). Agree j ρ τ) (sym is) a in
+    record { free = b .free; each = λ k l. subst (λ (σ : Values). P end σ (g k)) (same-set own _) (b .each k l) }
 
 -- a part that ends where the node says
 pub part-frame : {t : List ℕ} {e p r s : ℕ} {ρ τ : Values} (f : ℕ) (x : ℤ) → Earlier e p r → TermFree t r s → Agree s ρ τ → (p < e) × TermIs f t p ρ x → (p < e) × TermIs f t p τ x
@@ -108,6 +126,12 @@ module _ {t : List ℕ} {e s : ℕ} where
   such-free k p =
       term-free (λ f ρ τ a v. rw (TermNode, k)
       (λ n. record { test = n .test; room = n .room; few = n .few; bound = frames-bound _ (e - 8) (firstAt t e) _ _ (n .test) s (p .frame f) a (n .bound); is = n .is }))
+
+  pub such-own : shapeAt t e ≡ 6 → firstAt t e ≡ s → TermFree t e s
+  unfolding TermNode
+  such-own k is =
+      term-free (λ f ρ τ a v. rw (TermNode, k)
+      (λ n. record { test = n .test; room = n .room; few = n .few; bound = bound-own _ (e - 8) (firstAt t e) _ _ (n .test) is a (n .bound); is = n .is }))
 
   pub brace-free : eqb (shapeAt t e) 1 ≡ false → eqb (shapeAt t e) 2 ≡ false → eqb (shapeAt t e) 3 ≡ false → eqb (shapeAt t e) 4 ≡ false → eqb (shapeAt t e) 5 ≡ false
       → eqb (shapeAt t e) 6 ≡ false → ItemsFree t (e - 4) s → TermFree t e s

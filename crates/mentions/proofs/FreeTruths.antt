@@ -6,7 +6,7 @@ use Prim.Native.Nat.{ℕ, zero, suc, _-_, _<_}
 use lib.Dec.{eqb}
 use Rattle.evaluation.specs.EvaluationByNumber.{Values, shapeAt, endAt, firstAt, secondAt, TermIs, TruthIs, TruthNode, AskedNode}
 use Rattle.mentions.specs.MentionPromises.{Agree, Frames, TermFree, TruthFree, AskedFree, Earlier}
-use Rattle.mentions.proofs.FreeNodes.{frames-bound, part-frame}
+use Rattle.mentions.proofs.FreeNodes.{frames-bound, bound-own, part-frame}
 
 abbrev TruthFrames : List ℕ → (e s : ℕ) → Type 0
 TruthFrames t e s = (f : ℕ) → Frames (λ ρ b. TruthNode (λ j σ x. TermIs f t j σ x) (λ j σ c. TruthIs f t j σ c) t e ρ b) s
@@ -62,6 +62,12 @@ module _ {t : List ℕ} {e s : ℕ} where
   quantifier-free k p =
       truth-free (λ f ρ τ a b. rw (TruthNode, k)
       (λ n. record { test = n .test; room = n .room; bound = frames-bound _ (e - 8) (firstAt t e) _ _ (n .test) s (p .frame f) a (n .bound); is = n .is }))
+
+  pub quantifier-own : shapeAt t e ≡ 24 → firstAt t e ≡ s → TruthFree t e s
+  unfolding TruthNode
+  quantifier-own k is =
+      truth-free (λ f ρ τ a b. rw (TruthNode, k)
+      (λ n. record { test = n .test; room = n .room; bound = bound-own _ (e - 8) (firstAt t e) _ _ (n .test) is a (n .bound); is = n .is }))
 
   pub asked-free : eqb (shapeAt t e) 16 ≡ false → eqb (shapeAt t e) 17 ≡ false → eqb (shapeAt t e) 18 ≡ false → eqb (shapeAt t e) 19 ≡ false
       → eqb (shapeAt t e) 24 ≡ false → AskedFree t e s → TruthFree t e s

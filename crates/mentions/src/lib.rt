@@ -1,5 +1,5 @@
 // Which slots the nodes of the evaluator's table mention: whether a term or a predicate is free of a slot, so that its value does not depend on it; which term an equation says a variable to be.
-// Nodes as in `evaluator`. Nothing is asked of the table: where a part does not end before its node, the answer is no.
+// Nodes as in `evaluator`. Nothing is asked of the table: where a part does not end before its node, the answer is no. A binder is free of its own slot, which it writes.
 pub mod equations;
 
 ghost use mathlib.Core.Path.{_≡_};
@@ -58,6 +58,9 @@ pub fn free_term(t: &[u16; node::NUMBERS], end: usize, slot: usize) -> bool
             free_term(t, end - node::SIZE, slot)
         }
         table_shapes::SUCH => {
+            if number(t, end - FIRST_BACK) == slot {
+                return true;
+            }
             if end < TWO_NODES {
                 return false;
             }
@@ -123,6 +126,9 @@ pub fn free_pred(t: &[u16; node::NUMBERS], end: usize, slot: usize) -> bool
             free_term(t, end - node::SIZE, slot)
         }
         table_shapes::QUANTIFIED => {
+            if number(t, end - FIRST_BACK) == slot {
+                return true;
+            }
             if end < TWO_NODES {
                 return false;
             }

@@ -4,6 +4,7 @@ ghost use mathlib.Core.Path.{_≡_};
 ghost use Prim.Native.Nat.{_+_, _<_, _≤_};
 ghost use lib.ListN.{length};
 ghost use Rattle.idle_variables.specs.KeyPromises.{keyIn, KeyAsked, Marked};
+ghost use Rattle.memo.specs.MemoPromises.{Memo};
 ghost use Rattle.nest.specs.NestPromises.{NestAsked};
 ghost use Rattle.nest.specs.OpenBlocks.{MasksAsked, MasksAnswers, pairGroup, concreteGroup, wholeGroup, PairsSeen, WholesSeen, OpenConcrete, OpenAbstract, Within};
 use crate::next_abstract;
@@ -84,16 +85,19 @@ pub fn next_open_concrete(
     m: Masks,
     mark: u16,
     slots: &mut [[i64; 64]; 2],
+    memo: &mut [u64; memo::NUMBERS],
     seen: &[u16],
 ) -> usize
     requires { ⌜ c ≤ p .nc ⌝ }
     requires { ⌜ NestAsked (now t) (now plan) (now cells) p (now slots) ⌝ }
+    requires { ⌜ Memo (now t) (now memo) ⌝ }
     requires { ⌜ PairsSeen (now t) (now plan) (now cells) p m (now seen) ⌝ }
-    ensures { λ r. ⌜ OpenConcrete (now (t .entry)) (now (plan .entry)) (now (cells .entry)) p m mark c (now (slots .entry)) (now (slots .exit)) r ⌝ }
+    ensures answers { λ r. ⌜ OpenConcrete (now (t .entry)) (now (plan .entry)) (now (cells .entry)) p m mark c (now (slots .entry)) (now (slots .exit)) r ⌝ }
+    ensures remembers { λ r. ⌜ Memo (now (t .entry)) (now (memo .exit)) ⌝ }
 {
     let mut from = c;
     while from < p.nc {
-        let d = next_concrete(t, plan, cells, p, from, slots);
+        let d = next_concrete(t, plan, cells, p, from, slots, memo);
         let group = KeyGroup {
             first: CONCRETE,
             many: p.vc,
@@ -117,16 +121,19 @@ pub fn next_open_abstract(
     a: usize,
     m: Masks,
     slots: &mut [[i64; 64]; 2],
+    memo: &mut [u64; memo::NUMBERS],
     done: &[u16],
 ) -> usize
     requires { ⌜ a ≤ p .na ⌝ }
     requires { ⌜ NestAsked (now t) (now plan) (now cells) p (now slots) ⌝ }
+    requires { ⌜ Memo (now t) (now memo) ⌝ }
     requires { ⌜ WholesSeen (now t) (now plan) (now cells) p m (now done) ⌝ }
-    ensures { λ r. ⌜ OpenAbstract (now (t .entry)) (now (plan .entry)) (now (cells .entry)) p a (now (slots .entry)) (now (slots .exit)) r ⌝ }
+    ensures answers { λ r. ⌜ OpenAbstract (now (t .entry)) (now (plan .entry)) (now (cells .entry)) p a (now (slots .entry)) (now (slots .exit)) r ⌝ }
+    ensures remembers { λ r. ⌜ Memo (now (t .entry)) (now (memo .exit)) ⌝ }
 {
     let mut from = a;
     while from < p.na {
-        let d = next_abstract(t, plan, cells, p, from, slots);
+        let d = next_abstract(t, plan, cells, p, from, slots, memo);
         let group = KeyGroup {
             first: ABSTRACT,
             many: p.va,

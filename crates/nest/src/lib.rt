@@ -3,6 +3,7 @@
 ghost use mathlib.Core.Path.{_≡_};
 ghost use Prim.Native.Nat.{_-_, _*_, _<_, _≤_};
 ghost use Rattle.sets.specs.Sets.{has};
+ghost use Rattle.memo.specs.MemoPromises.{Memo};
 ghost use Rattle.points.specs.Searches.{Sought};
 ghost use Rattle.nest.specs.NestPromises.{NestAsked, AbstractAnswers, ConcreteAnswers, AbstractPreAnswers, PreAnswers, ReadyAnswers, InputAsked, InputAnswers};
 ghost use Rattle.nest.specs.NestPromises.{OutputAnswers, AfterAnswers, MetAnswers, SweepAnswers};
@@ -50,10 +51,13 @@ fn next_abstract(
     p: Part,
     a: usize,
     slots: &mut [[i64; 64]; 2],
+    memo: &mut [u64; memo::NUMBERS],
 ) -> usize
     requires { ⌜ a ≤ p .na ⌝ }
     requires { ⌜ NestAsked (now t) (now plan) (now cells) p (now slots) ⌝ }
-    ensures { λ r. ⌜ AbstractAnswers (now (t .entry)) (now (plan .entry)) (now (cells .entry)) p a (now (slots .entry)) (now (slots .exit)) r ⌝ }
+    requires { ⌜ Memo (now t) (now memo) ⌝ }
+    ensures answers { λ r. ⌜ AbstractAnswers (now (t .entry)) (now (plan .entry)) (now (cells .entry)) p a (now (slots .entry)) (now (slots .exit)) r ⌝ }
+    ensures remembers { λ r. ⌜ Memo (now (t .entry)) (now (memo .exit)) ⌝ }
 {
     seek(
         t,
@@ -67,6 +71,7 @@ fn next_abstract(
             from: a,
         },
         slots,
+        memo,
     )
 }
 
@@ -78,10 +83,13 @@ fn next_concrete(
     p: Part,
     c: usize,
     slots: &mut [[i64; 64]; 2],
+    memo: &mut [u64; memo::NUMBERS],
 ) -> usize
     requires { ⌜ c ≤ p .nc ⌝ }
     requires { ⌜ NestAsked (now t) (now plan) (now cells) p (now slots) ⌝ }
-    ensures { λ r. ⌜ ConcreteAnswers (now (t .entry)) (now (plan .entry)) (now (cells .entry)) p c (now (slots .entry)) (now (slots .exit)) r ⌝ }
+    requires { ⌜ Memo (now t) (now memo) ⌝ }
+    ensures answers { λ r. ⌜ ConcreteAnswers (now (t .entry)) (now (plan .entry)) (now (cells .entry)) p c (now (slots .entry)) (now (slots .exit)) r ⌝ }
+    ensures remembers { λ r. ⌜ Memo (now (t .entry)) (now (memo .exit)) ⌝ }
 {
     seek(
         t,
@@ -95,6 +103,7 @@ fn next_concrete(
             from: c,
         },
         slots,
+        memo,
     )
 }
 
@@ -105,9 +114,12 @@ fn abstract_pre(
     cells: &[u32; 9216],
     p: Part,
     slots: &mut [[i64; 64]; 2],
+    memo: &mut [u64; memo::NUMBERS],
 ) -> bool
     requires { ⌜ NestAsked (now t) (now plan) (now cells) p (now slots) ⌝ }
-    ensures { λ r. ⌜ AbstractPreAnswers (now (t .entry)) (now (plan .entry)) (now (cells .entry)) p (now (slots .entry)) (now (slots .exit)) r ⌝ }
+    requires { ⌜ Memo (now t) (now memo) ⌝ }
+    ensures answers { λ r. ⌜ AbstractPreAnswers (now (t .entry)) (now (plan .entry)) (now (cells .entry)) p (now (slots .entry)) (now (slots .exit)) r ⌝ }
+    ensures remembers { λ r. ⌜ Memo (now (t .entry)) (now (memo .exit)) ⌝ }
 {
     seek(
         t,
@@ -121,6 +133,7 @@ fn abstract_pre(
             from: 0,
         },
         slots,
+        memo,
     )
         < p.nr
 }
@@ -132,9 +145,12 @@ fn passes(
     cells: &[u32; 9216],
     p: Part,
     slots: &mut [[i64; 64]; 2],
+    memo: &mut [u64; memo::NUMBERS],
 ) -> bool
     requires { ⌜ NestAsked (now t) (now plan) (now cells) p (now slots) ⌝ }
-    ensures { λ r. ⌜ MetAnswers (now (t .entry)) (now (plan .entry)) (now (cells .entry)) p (now (slots .entry)) (now (slots .exit)) r ⌝ }
+    requires { ⌜ Memo (now t) (now memo) ⌝ }
+    ensures answers { λ r. ⌜ MetAnswers (now (t .entry)) (now (plan .entry)) (now (cells .entry)) p (now (slots .entry)) (now (slots .exit)) r ⌝ }
+    ensures remembers { λ r. ⌜ Memo (now (t .entry)) (now (memo .exit)) ⌝ }
 {
     seek(
         t,
@@ -148,6 +164,7 @@ fn passes(
             from: 0,
         },
         slots,
+        memo,
     )
         < p.nm
 }
@@ -161,17 +178,20 @@ fn passes_again(
     b: Numbers,
     slots: &mut [[i64; 64]; 2],
     known: &mut [u16],
+    memo: &mut [u64; memo::NUMBERS],
 ) -> bool
     requires { ⌜ BindingAsked (now t) (now plan) (now cells) p b (now slots) ⌝ }
     requires { ⌜ Remembered (now t) (now plan) (now cells) p (now known) ⌝ }
-    ensures { λ r. ⌜ AgainAnswers (now (t .entry)) (now (plan .entry)) (now (cells .entry)) p b (now (slots .entry)) (now (slots .exit)) (now (known .exit)) r ⌝ }
+    requires { ⌜ Memo (now t) (now memo) ⌝ }
+    ensures answers { λ r. ⌜ AgainAnswers (now (t .entry)) (now (plan .entry)) (now (cells .entry)) p b (now (slots .entry)) (now (slots .exit)) (now (known .exit)) r ⌝ }
+    ensures remembers { λ r. ⌜ Memo (now (t .entry)) (now (memo .exit)) ⌝ }
 {
     let key = key_of(p, b);
     let mark = mark_of(p, b);
     if is_known(known, key, mark) {
         return true;
     }
-    if !passes(t, plan, cells, p, slots) {
+    if !passes(t, plan, cells, p, slots, memo) {
         return false;
     }
     remember(known, key, mark);
@@ -186,13 +206,16 @@ fn pre_at(
     p: Part,
     i: usize,
     slots: &mut [[i64; 64]; 2],
+    memo: &mut [u64; memo::NUMBERS],
 ) -> bool
     requires { ⌜ i < p .ni ⌝ }
     requires { ⌜ NestAsked (now t) (now plan) (now cells) p (now slots) ⌝ }
-    ensures { λ r. ⌜ PreAnswers (now (t .entry)) (now (plan .entry)) (now (cells .entry)) p i (now (slots .entry)) (now (slots .exit)) r ⌝ }
+    requires { ⌜ Memo (now t) (now memo) ⌝ }
+    ensures answers { λ r. ⌜ PreAnswers (now (t .entry)) (now (plan .entry)) (now (cells .entry)) p i (now (slots .entry)) (now (slots .exit)) r ⌝ }
+    ensures remembers { λ r. ⌜ Memo (now (t .entry)) (now (memo .exit)) ⌝ }
 {
     bind(cells, INPUTS, p.vi, p.ni, i, &mut slots[BEFORE]);
-    abstract_pre(t, plan, cells, p, slots)
+    abstract_pre(t, plan, cells, p, slots, memo)
 }
 
 // The inputs at which the abstract precondition holds at this abstract state, as bits; the last one's first, so that each one doubles what is there.
@@ -202,15 +225,18 @@ fn ready(
     cells: &[u32; 9216],
     p: Part,
     slots: &mut [[i64; 64]; 2],
+    memo: &mut [u64; memo::NUMBERS],
 ) -> u64
     requires { ⌜ NestAsked (now t) (now plan) (now cells) p (now slots) ⌝ }
-    ensures { λ r. ⌜ ReadyAnswers (now (t .entry)) (now (plan .entry)) (now (cells .entry)) p (now (slots .entry)) (now (slots .exit)) r ⌝ }
+    requires { ⌜ Memo (now t) (now memo) ⌝ }
+    ensures answers { λ r. ⌜ ReadyAnswers (now (t .entry)) (now (plan .entry)) (now (cells .entry)) p (now (slots .entry)) (now (slots .exit)) r ⌝ }
+    ensures remembers { λ r. ⌜ Memo (now (t .entry)) (now (memo .exit)) ⌝ }
 {
     let mut s: u64 = 0;
     let mut i = p.ni;
     while 0 < i {
         i -= 1;
-        s = 2 * s + (pre_at(t, plan, cells, p, i, slots) as u64);
+        s = 2 * s + (pre_at(t, plan, cells, p, i, slots, memo) as u64);
     }
     s
 }
@@ -257,10 +283,13 @@ fn next_output(
     p: Part,
     o: usize,
     slots: &mut [[i64; 64]; 2],
+    memo: &mut [u64; memo::NUMBERS],
 ) -> usize
     requires { ⌜ o ≤ p .nq ⌝ }
     requires { ⌜ NestAsked (now t) (now plan) (now cells) p (now slots) ⌝ }
-    ensures { λ r. ⌜ OutputAnswers (now (t .entry)) (now (plan .entry)) (now (cells .entry)) p o (now (slots .entry)) (now (slots .exit)) r ⌝ }
+    requires { ⌜ Memo (now t) (now memo) ⌝ }
+    ensures answers { λ r. ⌜ OutputAnswers (now (t .entry)) (now (plan .entry)) (now (cells .entry)) p o (now (slots .entry)) (now (slots .exit)) r ⌝ }
+    ensures remembers { λ r. ⌜ Memo (now (t .entry)) (now (memo .exit)) ⌝ }
 {
     seek(
         t,
@@ -274,6 +303,7 @@ fn next_output(
             from: o,
         },
         slots,
+        memo,
     )
 }
 
@@ -285,10 +315,13 @@ fn next_after(
     p: Part,
     k: usize,
     slots: &mut [[i64; 64]; 2],
+    memo: &mut [u64; memo::NUMBERS],
 ) -> usize
     requires { ⌜ k ≤ p .nk ⌝ }
     requires { ⌜ NestAsked (now t) (now plan) (now cells) p (now slots) ⌝ }
-    ensures { λ r. ⌜ AfterAnswers (now (t .entry)) (now (plan .entry)) (now (cells .entry)) p k (now (slots .entry)) (now (slots .exit)) r ⌝ }
+    requires { ⌜ Memo (now t) (now memo) ⌝ }
+    ensures answers { λ r. ⌜ AfterAnswers (now (t .entry)) (now (plan .entry)) (now (cells .entry)) p k (now (slots .entry)) (now (slots .exit)) r ⌝ }
+    ensures remembers { λ r. ⌜ Memo (now (t .entry)) (now (memo .exit)) ⌝ }
 {
     seek(
         t,
@@ -302,6 +335,7 @@ fn next_after(
             from: k,
         },
         slots,
+        memo,
     )
 }
 
@@ -334,19 +368,30 @@ pub fn sweep(
     let by_concrete = p.ni * by_input;
     let by_abstract = p.nc * by_concrete;
     let mut known = [0u16; KNOWN];
+    let mut memo = [0u64; memo::NUMBERS];
     let masks = masks_of(t, plan, p);
     let mut done = [0u16; KEYS];
     let mut seen = [0u16; KEYS];
     let mut at = end;
     let mut failed = false;
-    let mut a = next_open_abstract(t, plan, cells, p, from / by_abstract, masks, slots, &done);
+    let mut a = next_open_abstract(
+        t,
+        plan,
+        cells,
+        p,
+        from / by_abstract,
+        masks,
+        slots,
+        &mut memo,
+        &done,
+    );
     'abstracts: while a < p.na {
         let first = a * by_abstract;
         if end <= first {
             break 'abstracts;
         }
         let mark = pair_mark(cells, p, masks, a);
-        let mask = ready(t, plan, cells, p, slots);
+        let mask = ready(t, plan, cells, p, slots, &mut memo);
         let mut c = next_open_concrete(
             t,
             plan,
@@ -356,6 +401,7 @@ pub fn sweep(
             masks,
             mark,
             slots,
+            &mut memo,
             &seen,
         );
         while c < p.nc {
@@ -367,10 +413,26 @@ pub fn sweep(
             let mut i = next_input(cells, p, mask, behind(from / by_input, x * p.ni), slots);
             while i < p.ni {
                 let y = x * p.ni + i;
-                let mut o = next_output(t, plan, cells, p, behind(from / p.nk, y * p.nq), slots);
+                let mut o = next_output(
+                    t,
+                    plan,
+                    cells,
+                    p,
+                    behind(from / p.nk, y * p.nq),
+                    slots,
+                    &mut memo,
+                );
                 while o < p.nq {
                     let z = y * p.nq + o;
-                    let mut k = next_after(t, plan, cells, p, behind(from, z * p.nk), slots);
+                    let mut k = next_after(
+                        t,
+                        plan,
+                        cells,
+                        p,
+                        behind(from, z * p.nk),
+                        slots,
+                        &mut memo,
+                    );
                     while k < p.nk {
                         let place = z * p.nk + k;
                         if end <= place {
@@ -384,14 +446,15 @@ pub fn sweep(
                             Numbers { a, c, i, o, k },
                             slots,
                             &mut known,
+                            &mut memo,
                         ) {
                             at = place;
                             failed = true;
                             break 'abstracts;
                         }
-                        k = next_after(t, plan, cells, p, k + 1, slots);
+                        k = next_after(t, plan, cells, p, k + 1, slots, &mut memo);
                     }
-                    o = next_output(t, plan, cells, p, o + 1, slots);
+                    o = next_output(t, plan, cells, p, o + 1, slots, &mut memo);
                 }
                 i = next_input(cells, p, mask, i + 1, slots);
             }
@@ -404,7 +467,18 @@ pub fn sweep(
                 is_within(from, end, within, by_concrete),
                 &mut seen,
             );
-            c = next_open_concrete(t, plan, cells, p, c + 1, masks, mark, slots, &seen);
+            c = next_open_concrete(
+                t,
+                plan,
+                cells,
+                p,
+                c + 1,
+                masks,
+                mark,
+                slots,
+                &mut memo,
+                &seen,
+            );
         }
         remember_whole(
             cells,
@@ -414,7 +488,7 @@ pub fn sweep(
             is_within(from, end, first, by_abstract),
             &mut done,
         );
-        a = next_open_abstract(t, plan, cells, p, a + 1, masks, slots, &done);
+        a = next_open_abstract(t, plan, cells, p, a + 1, masks, slots, &mut memo, &done);
     }
     Swept { at, failed }
 }

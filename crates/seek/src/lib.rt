@@ -3,6 +3,7 @@
 ghost use mathlib.Core.Path.{_≡_};
 ghost use Prim.Native.Nat.{_+_, _<_, _≤_, max};
 ghost use lib.ListN.{getD, length};
+ghost use Rattle.memo.specs.MemoPromises.{Memo};
 ghost use Rattle.points.specs.Points.{primedSlot};
 ghost use Rattle.points.specs.Searches.{slotIn, markIn};
 ghost use Rattle.seek.specs.AimPromises.{SolvedAnswers, EquationAnswers, AimAsked, AimAnswers};
@@ -102,10 +103,13 @@ fn level(
     u: usize,
     l: usize,
     slots: &mut [[i64; 64]; 2],
+    memo: &mut [u64; memo::NUMBERS],
 ) -> bool
     requires { ⌜ LevelAsked (now t) (now plan) u l (now slots) ⌝ }
+    requires { ⌜ Memo (now t) (now memo) ⌝ }
     ensures answers { λ r. ⌜ LevelAnswers (now (t .entry)) (now (plan .entry)) u l (now (slots .entry)) r ⌝ }
     ensures kept { λ r. ⌜ now (slots .exit) ≡ now (slots .entry) ⌝ }
+    ensures remembers { λ r. ⌜ Memo (now (t .entry)) (now (memo .exit)) ⌝ }
 {
     let to = entry(plan, HEAD * u + l + 1);
     let mut k = entry(plan, HEAD * u + l);
@@ -195,14 +199,17 @@ pub fn seek(
     cells: &[u32; 9216],
     s: Span,
     slots: &mut [[i64; 64]; 2],
+    memo: &mut [u64; memo::NUMBERS],
 ) -> usize
     requires { ⌜ SeekAsked (now t) (now plan) (now cells) (s .u) (s .j) (s .m) (s .w) (s .from) (now slots) ⌝ }
-    ensures { λ r. ⌜ SeekAnswers (now (t .entry)) (now (plan .entry)) (now (cells .entry)) (s .u) (s .j) (s .m) (s .w) (s .from) (now (slots .entry)) (now (slots .exit)) r ⌝ }
+    requires { ⌜ Memo (now t) (now memo) ⌝ }
+    ensures answers { λ r. ⌜ SeekAnswers (now (t .entry)) (now (plan .entry)) (now (cells .entry)) (s .u) (s .j) (s .m) (s .w) (s .from) (now (slots .entry)) (now (slots .exit)) r ⌝ }
+    ensures remembers { λ r. ⌜ Memo (now (t .entry)) (now (memo .exit)) ⌝ }
 {
     if s.from == s.w {
         return s.w;
     }
-    if !level(t, plan, s.u, s.j, slots) {
+    if !level(t, plan, s.u, s.j, slots, memo) {
         return s.w;
     }
     if s.m == 0 {
@@ -230,7 +237,7 @@ pub fn seek(
             w: v,
             from: r,
         };
-        let k = seek(t, plan, cells, rest, slots);
+        let k = seek(t, plan, cells, rest, slots, memo);
         if k < v {
             return x * v + k;
         }

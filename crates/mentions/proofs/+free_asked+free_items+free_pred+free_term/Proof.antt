@@ -1,8 +1,9 @@
--- answers sha256 8093fd7307bd04f7
+-- answers sha256 43adbfb93cdebf88
 -- The functions of `mentions` that walk down the nodes, and call each other, meet their contracts: where the parts are free, so is the node. The measure is where the nodes end. Assumes nothing.
 use Prim.Native.Nat.{ℕ, _<_, _+_, _*_}
 use borrow.Fn.Kinds.{In}
 use borrow.Fn.PlainCycle.{Measures, is, falls, and}
+use mathlib.Core.Path.{sym, _∙_}
 use native.Mathlib.Omega.{arith}
 use borrow.Author.Needs.{needs}
 use borrow.Author.Tests.{not-false}
@@ -70,7 +71,7 @@ abbrev free-items-claims : ℕ → free-items-lts.Claims
 free-items-claims t = (free-term-below t, free-term.Post, earlier-reads.Asked, earlier-reads.Learnt, free-items-below t, free-items.Post)
 
 abbrev free-pred-claims : ℕ → free-pred-lts.Claims
-free-pred-claims t = (free-pred-below t, free-pred.Post, earlier-reads.Asked, earlier-reads.Learnt, free-term-below t, free-term.Post, free-asked-below t, free-asked.Post)
+free-pred-claims t = (free-pred-below t, free-pred.Post, earlier-reads.Asked, earlier-reads.Learnt, free-term-below t, free-term.Post, number-reads.Asked, number-reads.Learnt, free-asked-below t, free-asked.Post)
 
 abbrev free-term-claims : ℕ → free-term-lts.Claims
 free-term-claims t = (number-reads.Asked, number-reads.Learnt, free-term-below t, free-term.Post, earlier-reads.Asked, earlier-reads.Learnt, free-pred-below t, free-pred.Post, free-items-below t, free-items.Post)
@@ -237,8 +238,17 @@ free-pred-returns-4 t c = record { means = λ e. nodes.refused e }
 free-pred-free-term-requires-2 : (t : ℕ) → free-pred-lts.Need-free-term-requires-2 (free-pred-claims t) (free-pred-at t) free-pred.Post
 free-pred-free-term-requires-2 t c κs = search needs
 
+free-pred-sub-number : (t : ℕ) → free-pred-lts.Need-sub-number (free-pred-claims t) (free-pred-at t) free-pred.Post
+free-pred-sub-number t c = search needs
+
+free-pred-number-requires : (t : ℕ) → free-pred-lts.Need-number-requires (free-pred-claims t) (free-pred-at t) free-pred.Post
+free-pred-number-requires t c κs = search needs
+
 free-pred-returns-5 : (t : ℕ) → free-pred-lts.Need-returns-5 (free-pred-claims t) (free-pred-at t) free-pred.Post
-free-pred-returns-5 t c = record { means = λ e. nodes.refused e }
+free-pred-returns-5 t c = record { means = λ e. truths.quantifier-own (c .before .before .before .match .keys5) (sym (c .before .number .ensures) ∙ c .if5 .taken) }
+
+free-pred-returns-6 : (t : ℕ) → free-pred-lts.Need-returns-6 (free-pred-claims t) (free-pred-at t) free-pred.Post
+free-pred-returns-6 t c = record { means = λ e. nodes.refused e }
 
 free-pred-free-pred-requires-4 : (t : ℕ) → free-pred-lts.Need-free-pred-requires-4 (free-pred-claims t) (free-pred-at t) free-pred.Post
 free-pred-free-pred-requires-4 t c κs = search needs
@@ -246,23 +256,23 @@ free-pred-free-pred-requires-4 t c κs = search needs
 free-pred-free-asked-requires : (t : ℕ) → free-pred-lts.Need-free-asked-requires (free-pred-claims t) (free-pred-at t) free-pred.Post
 free-pred-free-asked-requires t c κs = (omega arith, record { some = c .before .before .before .if1 .left; within = c .before .before .if2 .left })
 
-free-pred-returns-6 : (t : ℕ) → free-pred-lts.Need-returns-6 (free-pred-claims t) (free-pred-at t) free-pred.Post
-free-pred-returns-6 t c = record { means = λ e. truths.told-free (c .match .keys1) }
-
 free-pred-returns-7 : (t : ℕ) → free-pred-lts.Need-returns-7 (free-pred-claims t) (free-pred-at t) free-pred.Post
-free-pred-returns-7 t c = record { means = λ e. truths.not-free (c .before .match .keys2) (c .free-pred .ensures .means e) }
+free-pred-returns-7 t c = record { means = λ e. truths.told-free (c .match .keys1) }
 
 free-pred-returns-8 : (t : ℕ) → free-pred-lts.Need-returns-8 (free-pred-claims t) (free-pred-at t) free-pred.Post
-free-pred-returns-8 t c = record { means = λ e. truths.connective-free (c .before .before .before .before .match .keys3) (c .before .before .before .earlier .ensures) (c .before .before .free-pred2 .ensures .means (not-false _ (c .before .if3 .left))) (c .free-pred3 .ensures .means e) }
+free-pred-returns-8 t c = record { means = λ e. truths.not-free (c .before .match .keys2) (c .free-pred .ensures .means e) }
 
 free-pred-returns-9 : (t : ℕ) → free-pred-lts.Need-returns-9 (free-pred-claims t) (free-pred-at t) free-pred.Post
-free-pred-returns-9 t c = record { means = λ e. truths.comparison-free (c .before .before .before .before .match .keys4) (c .before .before .before .earlier2 .ensures) (c .before .before .free-term .ensures .means (not-false _ (c .before .if4 .left))) (c .free-term2 .ensures .means e) }
+free-pred-returns-9 t c = record { means = λ e. truths.connective-free (c .before .before .before .before .match .keys3) (c .before .before .before .earlier .ensures) (c .before .before .free-pred2 .ensures .means (not-false _ (c .before .if3 .left))) (c .free-pred3 .ensures .means e) }
 
 free-pred-returns-10 : (t : ℕ) → free-pred-lts.Need-returns-10 (free-pred-claims t) (free-pred-at t) free-pred.Post
-free-pred-returns-10 t c = record { means = λ e. truths.quantifier-free (c .before .before .match .keys5) (c .free-pred4 .ensures .means e) }
+free-pred-returns-10 t c = record { means = λ e. truths.comparison-free (c .before .before .before .before .match .keys4) (c .before .before .before .earlier2 .ensures) (c .before .before .free-term .ensures .means (not-false _ (c .before .if4 .left))) (c .free-term2 .ensures .means e) }
 
 free-pred-returns-11 : (t : ℕ) → free-pred-lts.Need-returns-11 (free-pred-claims t) (free-pred-at t) free-pred.Post
-free-pred-returns-11 t c = record { means = λ e. truths.asked-free (unequal (c .before .match .rest .0 .0 .0 .0 .1)) (unequal (c .before .match .rest .0 .0 .0 .1)) (unequal (c .before .match .rest .0 .0 .1)) (unequal (c .before .match .rest .0 .1)) (unequal (c .before .match .rest .1)) (c .free-asked .ensures .means e) }
+free-pred-returns-11 t c = record { means = λ e. truths.quantifier-free (c .before .before .before .before .before .match .keys5) (c .free-pred4 .ensures .means e) }
+
+free-pred-returns-12 : (t : ℕ) → free-pred-lts.Need-returns-12 (free-pred-claims t) (free-pred-at t) free-pred.Post
+free-pred-returns-12 t c = record { means = λ e. truths.asked-free (unequal (c .before .match .rest .0 .0 .0 .0 .1)) (unequal (c .before .match .rest .0 .0 .0 .1)) (unequal (c .before .match .rest .0 .0 .1)) (unequal (c .before .match .rest .0 .1)) (unequal (c .before .match .rest .1)) (c .free-asked .ensures .means e) }
 
 free-term-returns : (t : ℕ) → free-term-lts.Need-returns (free-term-claims t) (free-term-at t) free-term.Post
 free-term-returns t c = record { means = λ e. nodes.refused e }
@@ -303,8 +313,17 @@ free-term-returns-3 t c = record { means = λ e. nodes.refused e }
 free-term-free-term-requires-4 : (t : ℕ) → free-term-lts.Need-free-term-requires-4 (free-term-claims t) (free-term-at t) free-term.Post
 free-term-free-term-requires-4 t c κs = search needs
 
+free-term-sub-number-2 : (t : ℕ) → free-term-lts.Need-sub-number-2 (free-term-claims t) (free-term-at t) free-term.Post
+free-term-sub-number-2 t c = search needs
+
+free-term-number-requires-2 : (t : ℕ) → free-term-lts.Need-number-requires-2 (free-term-claims t) (free-term-at t) free-term.Post
+free-term-number-requires-2 t c κs = search needs
+
 free-term-returns-4 : (t : ℕ) → free-term-lts.Need-returns-4 (free-term-claims t) (free-term-at t) free-term.Post
-free-term-returns-4 t c = record { means = λ e. nodes.refused e }
+free-term-returns-4 t c = record { means = λ e. nodes.such-own (c .before .before .before .match .keys6) (sym (c .before .number2 .ensures) ∙ c .if4 .taken) }
+
+free-term-returns-5 : (t : ℕ) → free-term-lts.Need-returns-5 (free-term-claims t) (free-term-at t) free-term.Post
+free-term-returns-5 t c = record { means = λ e. nodes.refused e }
 
 free-term-free-pred-requires : (t : ℕ) → free-term-lts.Need-free-pred-requires (free-term-claims t) (free-term-at t) free-term.Post
 free-term-free-pred-requires t c κs = search needs
@@ -312,26 +331,26 @@ free-term-free-pred-requires t c κs = search needs
 free-term-free-items-requires : (t : ℕ) → free-term-lts.Need-free-items-requires (free-term-claims t) (free-term-at t) free-term.Post
 free-term-free-items-requires t c κs = search needs
 
-free-term-returns-5 : (t : ℕ) → free-term-lts.Need-returns-5 (free-term-claims t) (free-term-at t) free-term.Post
-free-term-returns-5 t c = record { means = λ e. nodes.number-free (c .match .keys1) }
-
 free-term-returns-6 : (t : ℕ) → free-term-lts.Need-returns-6 (free-term-claims t) (free-term-at t) free-term.Post
-free-term-returns-6 t c = nodes.slot-says (c .before .before .match .keys2) (omega arith) (c .number .ensures)
+free-term-returns-6 t c = record { means = λ e. nodes.number-free (c .match .keys1) }
 
 free-term-returns-7 : (t : ℕ) → free-term-lts.Need-returns-7 (free-term-claims t) (free-term-at t) free-term.Post
-free-term-returns-7 t c = record { means = λ e. nodes.prefix-free (c .before .match .keys3) (c .free-term .ensures .means e) }
+free-term-returns-7 t c = nodes.slot-says (c .before .before .match .keys2) (omega arith) (c .number .ensures)
 
 free-term-returns-8 : (t : ℕ) → free-term-lts.Need-returns-8 (free-term-claims t) (free-term-at t) free-term.Post
-free-term-returns-8 t c = record { means = λ e. nodes.division-free (c .before .match .keys4) (c .free-term2 .ensures .means e) }
+free-term-returns-8 t c = record { means = λ e. nodes.prefix-free (c .before .match .keys3) (c .free-term .ensures .means e) }
 
 free-term-returns-9 : (t : ℕ) → free-term-lts.Need-returns-9 (free-term-claims t) (free-term-at t) free-term.Post
-free-term-returns-9 t c = record { means = λ e. nodes.operator-free (c .before .before .before .before .match .keys5) (c .before .before .before .earlier .ensures) (c .before .before .free-term3 .ensures .means (not-false _ (c .before .if3 .left))) (c .free-term4 .ensures .means e) }
+free-term-returns-9 t c = record { means = λ e. nodes.division-free (c .before .match .keys4) (c .free-term2 .ensures .means e) }
 
 free-term-returns-10 : (t : ℕ) → free-term-lts.Need-returns-10 (free-term-claims t) (free-term-at t) free-term.Post
-free-term-returns-10 t c = record { means = λ e. nodes.such-free (c .before .before .match .keys6) (c .free-pred .ensures .means e) }
+free-term-returns-10 t c = record { means = λ e. nodes.operator-free (c .before .before .before .before .match .keys5) (c .before .before .before .earlier .ensures) (c .before .before .free-term3 .ensures .means (not-false _ (c .before .if3 .left))) (c .free-term4 .ensures .means e) }
 
 free-term-returns-11 : (t : ℕ) → free-term-lts.Need-returns-11 (free-term-claims t) (free-term-at t) free-term.Post
-free-term-returns-11 t c = record { means = λ e. nodes.brace-free (unequal (c .before .match .rest .0 .0 .0 .0 .0 .1)) (unequal (c .before .match .rest .0 .0 .0 .0 .1)) (unequal (c .before .match .rest .0 .0 .0 .1)) (unequal (c .before .match .rest .0 .0 .1)) (unequal (c .before .match .rest .0 .1)) (unequal (c .before .match .rest .1)) (c .free-items .ensures .means e) }
+free-term-returns-11 t c = record { means = λ e. nodes.such-free (c .before .before .before .before .before .match .keys6) (c .free-pred .ensures .means e) }
+
+free-term-returns-12 : (t : ℕ) → free-term-lts.Need-returns-12 (free-term-claims t) (free-term-at t) free-term.Post
+free-term-returns-12 t c = record { means = λ e. nodes.brace-free (unequal (c .before .match .rest .0 .0 .0 .0 .0 .1)) (unequal (c .before .match .rest .0 .0 .0 .0 .1)) (unequal (c .before .match .rest .0 .0 .0 .1)) (unequal (c .before .match .rest .0 .0 .1)) (unequal (c .before .match .rest .0 .1)) (unequal (c .before .match .rest .1)) (c .free-items .ensures .means e) }
 
 pub +free-asked+free-items+free-pred+free-term-spec : {M : Type 1} → statement M
 +free-asked+free-items+free-pred+free-term-spec =
@@ -349,10 +368,12 @@ pub +free-asked+free-items+free-pred+free-term-spec : {M : Type 1} → statement
     (λ t. free-pred-lts.spec (free-pred-claims t) (free-pred-at t) free-pred.Post (free-pred-returns t) (free-pred-returns-2 t) (free-pred-sub-shape t)
     (free-pred-mul-shape t) (free-pred-element-copy-out-shape t) (free-pred-free-pred-requires t) (free-pred-earlier-requires t) (free-pred-free-pred-requires-2
     t) (free-pred-returns-3 t) (free-pred-free-pred-requires-3 t) (free-pred-earlier-requires-2 t) (free-pred-free-term-requires t) (free-pred-returns-4 t)
-    (free-pred-free-term-requires-2 t) (free-pred-returns-5 t) (free-pred-free-pred-requires-4 t) (free-pred-free-asked-requires t) (free-pred-returns-6 t)
-    (free-pred-returns-7 t) (free-pred-returns-8 t) (free-pred-returns-9 t) (free-pred-returns-10 t) (free-pred-returns-11 t))
+    (free-pred-free-term-requires-2 t) (free-pred-sub-number t) (free-pred-number-requires t) (free-pred-returns-5 t) (free-pred-returns-6 t)
+    (free-pred-free-pred-requires-4 t) (free-pred-free-asked-requires t) (free-pred-returns-7 t) (free-pred-returns-8 t) (free-pred-returns-9 t)
+    (free-pred-returns-10 t) (free-pred-returns-11 t) (free-pred-returns-12 t))
     λ t. free-term-lts.spec (free-term-claims t) (free-term-at t) free-term.Post (free-term-returns t) (free-term-returns-2 t) (free-term-sub-shape t)
     (free-term-mul-shape t) (free-term-element-copy-out-shape t) (free-term-sub-number t) (free-term-number-requires t) (free-term-free-term-requires t)
     (free-term-free-term-requires-2 t) (free-term-earlier-requires t) (free-term-free-term-requires-3 t) (free-term-returns-3 t) (free-term-free-term-requires-4
-    t) (free-term-returns-4 t) (free-term-free-pred-requires t) (free-term-free-items-requires t) (free-term-returns-5 t) (free-term-returns-6 t)
-    (free-term-returns-7 t) (free-term-returns-8 t) (free-term-returns-9 t) (free-term-returns-10 t) (free-term-returns-11 t)
+    t) (free-term-sub-number-2 t) (free-term-number-requires-2 t) (free-term-returns-4 t) (free-term-returns-5 t) (free-term-free-pred-requires t)
+    (free-term-free-items-requires t) (free-term-returns-6 t) (free-term-returns-7 t) (free-term-returns-8 t) (free-term-returns-9 t) (free-term-returns-10 t)
+    (free-term-returns-11 t) (free-term-returns-12 t)

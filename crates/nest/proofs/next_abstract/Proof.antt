@@ -1,14 +1,14 @@
--- answers sha256 bee309cbb0548018
+-- answers sha256 75caaf9d948eed6f
 -- `nest::next_abstract` meets its contract: the search of abstract states finds them by their numbers. Assumes nothing.
 use Rattle.nest.proofs.FoundNumbers.{ask-states, states-found}
 use Rattle.nest.proofs.next_abstract.Statement.{statement}
 use Rattle.nest.proofs.next_abstract.Tie as tie
 
 seek-requires : tie.Need-seek-requires
-seek-requires c κs = ask-states (c .before .pre .1) (c .before .pre .0)
+seek-requires c κs = (ask-states (c .before .before .pre .1 .0) (c .before .before .pre .0), c .before .before .pre .1 .1)
 
 returns : tie.Need-returns
-returns c = states-found (c .seek .ensures)
+returns c = (states-found (c .seek .ensures .0), c .seek .ensures .1)
 
 pub next-abstract-spec : {M : Type 1} → statement M
 next-abstract-spec =

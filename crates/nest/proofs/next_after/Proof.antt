@@ -1,14 +1,14 @@
--- answers sha256 d8f5531b68dd6a93
+-- answers sha256 4a407166eec6b87d
 -- `nest::next_after` meets its contract: the other variables of the search for steps are those of the after state. Assumes nothing.
 use Rattle.nest.proofs.FoundNumbers.{ask-afters, afters-found}
 use Rattle.nest.proofs.next_after.Statement.{statement}
 use Rattle.nest.proofs.next_after.Tie as tie
 
 seek-requires : tie.Need-seek-requires
-seek-requires c κs = ask-afters (c .before .pre .1) (c .before .pre .0)
+seek-requires c κs = (ask-afters (c .before .before .pre .1 .0) (c .before .before .pre .0), c .before .before .pre .1 .1)
 
 returns : tie.Need-returns
-returns c = afters-found (c .seek .ensures)
+returns c = (afters-found (c .seek .ensures .0), c .seek .ensures .1)
 
 pub next-after-spec : {M : Type 1} → statement M
 next-after-spec =

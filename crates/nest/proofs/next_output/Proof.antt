@@ -1,14 +1,14 @@
--- answers sha256 a7dd291a616b54af
+-- answers sha256 b171d9b61c0ca601
 -- `nest::next_output` meets its contract: the first variables of the search for steps are the outputs. Assumes nothing.
 use Rattle.nest.proofs.FoundNumbers.{ask-outputs, outputs-found}
 use Rattle.nest.proofs.next_output.Statement.{statement}
 use Rattle.nest.proofs.next_output.Tie as tie
 
 seek-requires : tie.Need-seek-requires
-seek-requires c κs = ask-outputs (c .before .pre .1) (c .before .pre .0)
+seek-requires c κs = (ask-outputs (c .before .before .pre .1 .0) (c .before .before .pre .0), c .before .before .pre .1 .1)
 
 returns : tie.Need-returns
-returns c = outputs-found (c .seek .ensures)
+returns c = (outputs-found (c .seek .ensures .0), c .seek .ensures .1)
 
 pub next-output-spec : {M : Type 1} → statement M
 next-output-spec =

@@ -1,14 +1,14 @@
--- answers sha256 18dde310a2a8941b
+-- answers sha256 097f4aaa29225f12
 -- `nest::passes` meets its contract: the search for what must be there finds it exactly if the binding passes. Assumes nothing.
 use Rattle.nest.proofs.FoundNumbers.{ask-met, met-found}
 use Rattle.nest.proofs.passes.Statement.{statement}
 use Rattle.nest.proofs.passes.Tie as tie
 
 seek-requires : tie.Need-seek-requires
-seek-requires c κs = ask-met (c .before .pre)
+seek-requires c κs = (ask-met (c .before .before .pre .0), c .before .before .pre .1)
 
 returns : tie.Need-returns
-returns c = met-found (c .before .seek .ensures)
+returns c = (met-found (c .before .seek .ensures .0), c .before .seek .ensures .1)
 
 pub passes-spec : {M : Type 1} → statement M
 passes-spec =

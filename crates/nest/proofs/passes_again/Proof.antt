@@ -1,4 +1,4 @@
--- answers sha256 2928b4ba58e497f1
+-- answers sha256 f9c49dbab39d7759
 -- `nest::passes_again` meets its contract: what has its mark is true, and what is found true gets it. Assumes nothing.
 use lib.ListN.{getD}
 use borrow.Author.Needs.{needs}
@@ -16,31 +16,31 @@ mark-of-requires : tie.Need-mark-of-requires
 mark-of-requires c κs = c .before .before .pre .0 .inside
 
 is-known-requires : tie.Need-is-known-requires
-is-known-requires c κs = c .before .before .before .before .pre .1 .long
+is-known-requires c κs = c .before .before .before .before .pre .1 .0 .long
 
 same-length : tie.Need-same-length
 same-length c = search needs
 
 returns : tie.Need-returns
-returns c = known-again (c .before .before .before .before .before .before .pre .0) (c .before .before .before .before .before .before .pre .1) (ap (λ (t : ℕ). getD (c .before .before .before .before .before .before .args .known .now) t 0) (sym (c .before .before .before .before .key-of .ensures)) ∙ c .before .is-known .ensures (c .if1 .taken) ∙ c .before .before .before .mark-of .ensures)
+returns c = (known-again (c .before .before .before .before .before .before .pre .0) (c .before .before .before .before .before .before .pre .1 .0) (ap (λ (t : ℕ). getD (c .before .before .before .before .before .before .args .known .now) t 0) (sym (c .before .before .before .before .key-of .ensures)) ∙ c .before .is-known .ensures (c .if1 .taken) ∙ c .before .before .before .mark-of .ensures), c .before .before .before .before .before .before .pre .1 .1)
 
 passes-requires : tie.Need-passes-requires
-passes-requires c κs = c .before .before .before .before .before .before .before .pre .0 .asked
+passes-requires c κs = (c .before .before .before .before .before .before .before .before .pre .0 .asked, c .before .before .before .before .before .before .before .before .pre .1 .1)
 
 same-length-2 : tie.Need-same-length-2
 same-length-2 c = search needs
 
 returns-2 : tie.Need-returns-2
-returns-2 c = failed-here (c .before .before .before .before .before .before .before .before .before .pre .0) (c .before .before .before .before .before .before .before .before .before .pre .1) (c .before .passes .ensures) (not-true _ (c .if2 .taken))
+returns-2 c = (failed-here (c .before .before .before .before .before .before .before .before .before .before .pre .0) (c .before .before .before .before .before .before .before .before .before .before .pre .1 .0) (c .before .passes .ensures .0) (not-true _ (c .if2 .taken)), c .before .passes .ensures .1)
 
 remember-requires : tie.Need-remember-requires
-remember-requires c κs = c .before .before .before .before .before .before .before .before .before .before .pre .1 .long
+remember-requires c κs = c .before .before .before .before .before .before .before .before .before .before .before .pre .1 .0 .long
 
 same-length-3 : tie.Need-same-length-3
 same-length-3 c = search needs
 
 returns-3 : tie.Need-returns-3
-returns-3 c = noted-here (c .before .before .before .before .before .before .before .before .before .before .before .before .before .pre .0) (c .before .before .before .before .before .before .before .before .before .before .before .before .before .pre .1) (c .before .before .before .before .before .passes .ensures) (not-false _ (c .before .before .before .before .if2 .left)) (c .before .before .before .before .before .before .before .before .before .before .before .key-of .ensures) (c .before .before .before .before .before .before .before .before .before .before .mark-of .ensures) (c .before .before .remember .ensures)
+returns-3 c = (noted-here (c .before .before .before .before .before .before .before .before .before .before .before .before .before .before .pre .0) (c .before .before .before .before .before .before .before .before .before .before .before .before .before .before .pre .1 .0) (c .before .before .before .before .before .passes .ensures .0) (not-false _ (c .before .before .before .before .if2 .left)) (c .before .before .before .before .before .before .before .before .before .before .before .before .key-of .ensures) (c .before .before .before .before .before .before .before .before .before .before .before .mark-of .ensures) (c .before .before .remember .ensures), c .before .before .before .before .before .passes .ensures .1)
 
 pub passes-again-spec : {M : Type 1} → statement M
 passes-again-spec =

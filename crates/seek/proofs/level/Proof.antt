@@ -1,4 +1,4 @@
--- answers sha256 663d365761f92ba6
+-- answers sha256 73b1d1fd6e35d520
 -- `seek::level` meets its contract: the tests before the present place hold, and the arrays are as they were. Assumes nothing.
 use Prim.Native.Nat.{_%_, _-_}
 use mathlib.Core.List.{[]}
@@ -13,34 +13,34 @@ use Rattle.seek.proofs.LevelTests as tests
 use Rattle.seek.proofs.level.Tie as tie
 
 abbrev Inv-loop : tie.InvT-loop
-Inv-loop t plan u l slots₀ to k₀ slots k = tests.LevelGoing t plan u l slots₀ slots to k
+Inv-loop t plan u l slots₀ memo to k₀ slots k = tests.LevelGoing t plan u l slots₀ slots to k
 
 abbrev μ-loop : tie.MeasureT-loop
-μ-loop t plan u l slots₀ to k₀ slots k = to - k
+μ-loop t plan u l slots₀ memo to k₀ slots k = to - k
 
 mul-entry : tie.Need-mul-entry Inv-loop μ-loop
-mul-entry c = omega (arith, c .before .pre .search-low)
+mul-entry c = omega (arith, c .before .pre .0 .search-low)
 
 add-entry : tie.Need-add-entry Inv-loop μ-loop
-add-entry c = omega (arith, c .before .pre .search-low, c .before .pre .level-low)
+add-entry c = omega (arith, c .before .pre .0 .search-low, c .before .pre .0 .level-low)
 
 add-entry-2 : tie.Need-add-entry-2 Inv-loop μ-loop
-add-entry-2 c = omega (arith, c .before .pre .search-low, c .before .pre .level-low)
+add-entry-2 c = omega (arith, c .before .pre .0 .search-low, c .before .pre .0 .level-low)
 
 entry-requires : tie.Need-entry-requires Inv-loop μ-loop
-entry-requires c κs = omega (arith, c .before .pre .search-low, c .before .pre .level-low, c .entry-arg .given .0)
+entry-requires c κs = omega (arith, c .before .pre .0 .search-low, c .before .pre .0 .level-low, c .entry-arg .given .0)
 
 mul-entry-2 : tie.Need-mul-entry-2 Inv-loop μ-loop
-mul-entry-2 c = omega (arith, c .before .before .before .pre .search-low)
+mul-entry-2 c = omega (arith, c .before .before .before .pre .0 .search-low)
 
 add-entry-3 : tie.Need-add-entry-3 Inv-loop μ-loop
-add-entry-3 c = omega (arith, c .before .before .before .pre .search-low, c .before .before .before .pre .level-low)
+add-entry-3 c = omega (arith, c .before .before .before .pre .0 .search-low, c .before .before .before .pre .0 .level-low)
 
 entry-requires-2 : tie.Need-entry-requires-2 Inv-loop μ-loop
 entry-requires-2 c κs = search needs
 
 loop-holds : tie.Need-loop-holds Inv-loop μ-loop
-loop-holds c = tests.level-starts (c .before .before .before .before .pre) (c .before .before .entry .ensures .0) (c .entry2 .ensures .0)
+loop-holds c = tests.level-starts (c .before .before .before .before .pre .0) (c .before .before .entry .ensures .0) (c .entry2 .ensures .0)
 
 entry-requires-3 : tie.Need-entry-requires-3 Inv-loop μ-loop
 entry-requires-3 c κs = search needs
@@ -55,7 +55,7 @@ truth-requires : tie.Need-truth-requires Inv-loop μ-loop
 truth-requires c κs = tests.level-asks (c .before .before .before .before .loop .inv) (c .before .before .before .loop-test .taken) (c .before .entry3 .ensures .0)
 
 returns : tie.Need-returns Inv-loop μ-loop
-returns c = (tests.level-stops (c .before .before .before .before .before .before .loop .inv) (c .before .before .before .before .before .loop-test .taken) (c .before .before .before .entry3 .ensures .0) (c .before .truth .ensures .0) (not-true _ (c .if1 .taken)), (ap (set (c .before .before .before .before .before .before .loop .slots) (c .before .before .before .entry3 .result % 2)) (c .before .truth .ensures .1) ∙ set-getD (c .before .before .before .before .before .before .loop .slots) (c .before .before .before .entry3 .result % 2) []) ∙ c .before .before .before .before .before .before .loop .inv .kept)
+returns c = (tests.level-stops (c .before .before .before .before .before .before .loop .inv) (c .before .before .before .before .before .loop-test .taken) (c .before .before .before .entry3 .ensures .0) (c .before .truth .ensures .0) (not-true _ (c .if1 .taken)), ((ap (set (c .before .before .before .before .before .before .loop .slots) (c .before .before .before .entry3 .result % 2)) (c .before .truth .ensures .1) ∙ set-getD (c .before .before .before .before .before .before .loop .slots) (c .before .before .before .entry3 .result % 2) []) ∙ c .before .before .before .before .before .before .loop .inv .kept, c .before .before .before .before .before .before .before .before .before .before .before .pre .1))
 
 add-k : tie.Need-add-k Inv-loop μ-loop
 add-k c = search needs
@@ -67,7 +67,7 @@ loop-again : tie.Need-loop-again Inv-loop μ-loop
 loop-again c = tests.level-goes (c .before .before .before .before .before .before .loop .inv) (c .before .before .before .before .before .loop-test .taken) (c .before .before .before .entry3 .ensures .0) (c .before .truth .ensures .0) (not-false _ (c .if1 .left)) (ap (set (c .before .before .before .before .before .before .loop .slots) (c .before .before .before .entry3 .result % 2)) (c .before .truth .ensures .1) ∙ set-getD (c .before .before .before .before .before .before .loop .slots) (c .before .before .before .entry3 .result % 2) [])
 
 returns-2 : tie.Need-returns-2 Inv-loop μ-loop
-returns-2 c = (tests.level-ends (c .before .loop .inv) (c .loop-test .left), c .before .loop .inv .kept)
+returns-2 c = (tests.level-ends (c .before .loop .inv) (c .loop-test .left), (c .before .loop .inv .kept, c .before .before .before .before .before .before .pre .1))
 
 pub level-spec : {M : Type 1} → statement M
 level-spec =

@@ -31,3 +31,8 @@ pub record MarkSays (cells : List ℕ) (g : KeyGroup) (x mark : ℕ) (marks : Li
 pub data Marked (may : Bool) (key mark : ℕ) (before : List ℕ) : List ℕ → Type 0 where
   no-mark : Marked may key mark before before
   mark-made : may ≡ true → Marked may key mark before (set before key mark)
+
+-- the block of so many places from `first` on lies between two places
+pub record Within (from end first size : ℕ) (r : Bool) : Type 0 where
+  pub low : r ≡ true → from ≤ first
+  pub high : r ≡ true → first + size ≤ end

@@ -2,7 +2,7 @@
 ghost use mathlib.Core.Path.{_≡_};
 ghost use Prim.Native.Nat.{_<_};
 ghost use lib.ListN.{length};
-ghost use Rattle.idle_variables.specs.KeyPromises.{keyIn, KeyAsked, MarkSays, Marked};
+ghost use Rattle.idle_variables.specs.KeyPromises.{keyIn, KeyAsked, MarkSays, Marked, Within};
 use slot_carriers::count_of;
 
 // How many places there are for marks: no state has more bindings.
@@ -55,7 +55,7 @@ pub fn is_marked(cells: &[u32; 9216], g: KeyGroup, x: usize, mark: u16, marks: &
     marks[key_at(cells, g, x)] == mark
 }
 
-// Makes the mark there, if it may.
+// Makes the mark there, if it may be made.
 pub fn make_mark(
     cells: &[u32; 9216],
     g: KeyGroup,
@@ -72,4 +72,17 @@ pub fn make_mark(
     if may {
         marks[key_at(cells, g, x)] = mark;
     }
+}
+
+// Does the block of `size` places from `first` on lie between two places? Only then is it looked at as a whole.
+pub fn is_within(from: usize, end: usize, first: usize, size: usize) -> bool
+    ensures { λ r. ⌜ Within from end first size r ⌝ }
+{
+    if first < from {
+        return false;
+    }
+    if end < first {
+        return false;
+    }
+    size <= end - first
 }

@@ -14,13 +14,13 @@ use Rattle.points.proofs.PointNumbers.{number-apart, number-low}
 use Rattle.points.proofs.SearchLevels.{planned-counts}
 use Rattle.plans.specs.declared.Part.{Part}
 use Rattle.idle_variables.specs.KeyedNumbers.{keyed}
-use Rattle.idle_variables.specs.KeyPromises.{keyIn, MarkSays, Marked, no-mark, mark-made}
+use Rattle.idle_variables.specs.KeyPromises.{keyIn, MarkSays, Marked, no-mark, mark-made, Within}
 use Rattle.idle_variables.proofs.KeySteps.{key-low}
 use Rattle.nest.specs.declared.blocks.Masks.{Masks}
 use Rattle.nest.specs.PartTests.{PartTests}
 use Rattle.nest.specs.NestPromises.{Groups, Nest, NestAsked, Stepped, ForNest, AbstractAnswers, ConcreteAnswers}
 use Rattle.nest.specs.PassedBlocks.{PairPasses, WholePasses, PairKeys, WholeKeys, SeenPairs, SeenWholes}
-use Rattle.nest.specs.OpenBlocks.{MasksAnswers, pairGroup, concreteGroup, wholeGroup, PairsSeen, WholesSeen, OpenConcrete, OpenAbstract, Within}
+use Rattle.nest.specs.OpenBlocks.{MasksAnswers, pairGroup, concreteGroup, wholeGroup, PairsSeen, WholesSeen, OpenConcrete, OpenAbstract}
 use Rattle.nest.proofs.PassedPlaces.{Past, past-leave}
 use Rattle.nest.proofs.PassingBlocks.{no-state, no-related}
 use Rattle.nest.proofs.KeptGroups.{abstracts-concretes}

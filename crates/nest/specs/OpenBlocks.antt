@@ -1,6 +1,6 @@
 -- What the functions ask and promise that pass over blocks which are known to pass. Nothing here need be believed.
 use mathlib.Core.Path.{_≡_}
-use mathlib.Core.Bool.{Bool, true}
+use mathlib.Core.Bool.{true}
 use mathlib.Core.List.{List}
 use Prim.Native.Nat.{ℕ, _+_, _<_, _≤_}
 use lib.ListN.{length}
@@ -62,8 +62,3 @@ pub record OpenAbstract (table plan cells : List ℕ) (p : Part) (a : ℕ) (befo
   pub past : (G : Groups) (T : PartTests) → Nest table plan cells p G T → (e : ℕ) → a ≤ e → e < r → WholePasses p T e
   pub found : (G : Groups) (T : PartTests) → Nest table plan cells p G T → (r < p .na) → T .state r ≡ true
   pub left : ForNest table plan cells p before (λ (G : Groups) (T : PartTests) (δ : Point). Stepped cells (G .abstracts) δ (p .na) r after)
-
--- the block of so many places from `first` on lies between two places
-pub record Within (from end first size : ℕ) (r : Bool) : Type 0 where
-  pub low : r ≡ true → from ≤ first
-  pub high : r ≡ true → first + size ≤ end

@@ -6,9 +6,9 @@ ghost use lib.ListN.{length};
 ghost use Rattle.idle_variables.specs.KeyPromises.{keyIn, KeyAsked, Marked};
 ghost use Rattle.memo.specs.MemoPromises.{Memo};
 ghost use Rattle.nest.specs.NestPromises.{NestAsked};
-ghost use Rattle.nest.specs.OpenBlocks.{MasksAsked, MasksAnswers, pairGroup, concreteGroup, wholeGroup, PairsSeen, WholesSeen, OpenConcrete, OpenAbstract, Within};
-use crate::next_abstract;
-use crate::next_concrete;
+ghost use Rattle.nest.specs.OpenBlocks.{MasksAsked, MasksAnswers, pairGroup, concreteGroup, wholeGroup, PairsSeen, WholesSeen, OpenConcrete, OpenAbstract};
+use crate::candidates::next_abstract;
+use crate::candidates::next_concrete;
 use idle_variables::idle_of;
 use idle_variables::keys::KeyGroup;
 use idle_variables::keys::is_marked;
@@ -60,19 +60,6 @@ pub fn pair_mark(cells: &[u32; 9216], p: Part, m: Masks, a: usize) -> u16
         idle: m.pairs,
     };
     (key_at(cells, group, a) + 1) as u16
-}
-
-// Does the block of `size` places from `first` on lie between two places? Only then is it looked at as a whole.
-pub fn is_within(from: usize, end: usize, first: usize, size: usize) -> bool
-    ensures { λ r. ⌜ Within from end first size r ⌝ }
-{
-    if first < from {
-        return false;
-    }
-    if end < first {
-        return false;
-    }
-    size <= end - first
 }
 
 // The next related concrete state from c on whose block with the abstract state of the mark is not known to pass.

@@ -5,16 +5,16 @@ ghost use Prim.Native.Nat.{_-_, _*_, _<_, _≤_};
 ghost use Rattle.sets.specs.Sets.{has};
 ghost use Rattle.memo.specs.MemoPromises.{Memo};
 ghost use Rattle.points.specs.Searches.{Sought};
-ghost use Rattle.nest.specs.NestPromises.{NestAsked, AbstractAnswers, ConcreteAnswers, AbstractPreAnswers, PreAnswers, ReadyAnswers, InputAsked, InputAnswers};
-ghost use Rattle.nest.specs.NestPromises.{OutputAnswers, AfterAnswers, MetAnswers, SweepAnswers};
+ghost use Rattle.nest.specs.NestPromises.{NestAsked, AbstractPreAnswers, PreAnswers, ReadyAnswers, InputAsked, InputAnswers, MetAnswers, SweepAnswers};
 ghost use Rattle.nest.specs.Remembering.{Remembered, BindingAsked, AgainAnswers};
-use crate::blocks::is_within;
 use crate::blocks::masks_of;
 use crate::blocks::next_open_abstract;
 use crate::blocks::next_open_concrete;
 use crate::blocks::pair_mark;
 use crate::blocks::remember_pair;
 use crate::blocks::remember_whole;
+use crate::candidates::next_after;
+use crate::candidates::next_output;
 use crate::known::KNOWN;
 use crate::known::Numbers;
 use crate::known::is_known;
@@ -22,12 +22,10 @@ use crate::known::key_of;
 use crate::known::mark_of;
 use crate::known::remember;
 use idle_variables::keys::KEYS;
+use idle_variables::keys::is_within;
 use plans::Part;
 use points::plan::MET;
 use points::plan::READY;
-use points::plan::RELATED;
-use points::plan::STATES;
-use points::plan::STEPS;
 use points::slots::BEFORE;
 use points::slots::INPUTS;
 use seek::Span;
@@ -35,76 +33,13 @@ use seek::seek;
 use slot_carriers::groups::bind;
 
 mod blocks;
+mod candidates;
 mod known;
 
 // Where a search of a part stopped, and whether the binding there fails.
 pub struct Swept {
     pub at: usize,
     pub failed: bool,
-}
-
-// The next abstract state from a on.
-fn next_abstract(
-    t: &[u16; 16384],
-    plan: &[u16; 20560],
-    cells: &[u32; 9216],
-    p: Part,
-    a: usize,
-    slots: &mut [[i64; 64]; 2],
-    memo: &mut [u64; memo::NUMBERS],
-) -> usize
-    requires { ⌜ a ≤ p .na ⌝ }
-    requires { ⌜ NestAsked (now t) (now plan) (now cells) p (now slots) ⌝ }
-    requires { ⌜ Memo (now t) (now memo) ⌝ }
-    ensures answers { λ r. ⌜ AbstractAnswers (now (t .entry)) (now (plan .entry)) (now (cells .entry)) p a (now (slots .entry)) (now (slots .exit)) r ⌝ }
-    ensures remembers { λ r. ⌜ Memo (now (t .entry)) (now (memo .exit)) ⌝ }
-{
-    seek(
-        t,
-        plan,
-        cells,
-        Span {
-            u: STATES,
-            j: 0,
-            m: p.va,
-            w: p.na,
-            from: a,
-        },
-        slots,
-        memo,
-    )
-}
-
-// The next concrete state from c on that is related to the abstract one.
-fn next_concrete(
-    t: &[u16; 16384],
-    plan: &[u16; 20560],
-    cells: &[u32; 9216],
-    p: Part,
-    c: usize,
-    slots: &mut [[i64; 64]; 2],
-    memo: &mut [u64; memo::NUMBERS],
-) -> usize
-    requires { ⌜ c ≤ p .nc ⌝ }
-    requires { ⌜ NestAsked (now t) (now plan) (now cells) p (now slots) ⌝ }
-    requires { ⌜ Memo (now t) (now memo) ⌝ }
-    ensures answers { λ r. ⌜ ConcreteAnswers (now (t .entry)) (now (plan .entry)) (now (cells .entry)) p c (now (slots .entry)) (now (slots .exit)) r ⌝ }
-    ensures remembers { λ r. ⌜ Memo (now (t .entry)) (now (memo .exit)) ⌝ }
-{
-    seek(
-        t,
-        plan,
-        cells,
-        Span {
-            u: RELATED,
-            j: 0,
-            m: p.vc,
-            w: p.nc,
-            from: c,
-        },
-        slots,
-        memo,
-    )
 }
 
 // Does the abstract precondition hold at this abstract state and these inputs?
@@ -273,70 +208,6 @@ fn next_input(
         bind(cells, INPUTS, p.vi, p.ni, i, &mut slots[BEFORE]);
     }
     i
-}
-
-// The next outputs from o on that no conjunct without a primed variable excludes.
-fn next_output(
-    t: &[u16; 16384],
-    plan: &[u16; 20560],
-    cells: &[u32; 9216],
-    p: Part,
-    o: usize,
-    slots: &mut [[i64; 64]; 2],
-    memo: &mut [u64; memo::NUMBERS],
-) -> usize
-    requires { ⌜ o ≤ p .nq ⌝ }
-    requires { ⌜ NestAsked (now t) (now plan) (now cells) p (now slots) ⌝ }
-    requires { ⌜ Memo (now t) (now memo) ⌝ }
-    ensures answers { λ r. ⌜ OutputAnswers (now (t .entry)) (now (plan .entry)) (now (cells .entry)) p o (now (slots .entry)) (now (slots .exit)) r ⌝ }
-    ensures remembers { λ r. ⌜ Memo (now (t .entry)) (now (memo .exit)) ⌝ }
-{
-    seek(
-        t,
-        plan,
-        cells,
-        Span {
-            u: STEPS,
-            j: 0,
-            m: p.vo,
-            w: p.nq,
-            from: o,
-        },
-        slots,
-        memo,
-    )
-}
-
-// The next concrete after state from k on that the concrete operation allows with these outputs.
-fn next_after(
-    t: &[u16; 16384],
-    plan: &[u16; 20560],
-    cells: &[u32; 9216],
-    p: Part,
-    k: usize,
-    slots: &mut [[i64; 64]; 2],
-    memo: &mut [u64; memo::NUMBERS],
-) -> usize
-    requires { ⌜ k ≤ p .nk ⌝ }
-    requires { ⌜ NestAsked (now t) (now plan) (now cells) p (now slots) ⌝ }
-    requires { ⌜ Memo (now t) (now memo) ⌝ }
-    ensures answers { λ r. ⌜ AfterAnswers (now (t .entry)) (now (plan .entry)) (now (cells .entry)) p k (now (slots .entry)) (now (slots .exit)) r ⌝ }
-    ensures remembers { λ r. ⌜ Memo (now (t .entry)) (now (memo .exit)) ⌝ }
-{
-    seek(
-        t,
-        plan,
-        cells,
-        Span {
-            u: STEPS,
-            j: p.vo,
-            m: p.vk,
-            w: p.nk,
-            from: k,
-        },
-        slots,
-        memo,
-    )
 }
 
 // How far x is behind y.

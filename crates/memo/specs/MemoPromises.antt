@@ -57,9 +57,10 @@ pub record Memo (table memo : List ℕ) : Type 0 where
 
 -- ---- what the functions promise
 
--- where there is a key, it has the value behind it; it is not far behind what it was made from
+-- where there is a key, there was one, and it has the value behind it; it is not far behind what it was made from
 pub record Pushed (k : ℕ) (v : ℤ) (r : ℕ) : Type 0 where
   pub near : r ≤ 4096 * k + 4095
+  pub front : (r ≡ 0 → ⊥) → k ≡ 0 → ⊥
   pub some : (r ≡ 0 → ⊥) → Behind k v r
 
 pub record KeyAnswers (list node : ℕ) (σ : Values) (r : ℕ) : Type 0 where

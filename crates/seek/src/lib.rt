@@ -9,6 +9,7 @@ ghost use Rattle.points.specs.Searches.{slotIn, markIn};
 ghost use Rattle.seek.specs.AimPromises.{SolvedAnswers, EquationAnswers, AimAsked, AimAnswers};
 ghost use Rattle.seek.specs.SeekPromises.{StoreAsked, StoreAnswers, LevelAsked, LevelAnswers, SeekAsked, SeekAnswers};
 use evaluator::value;
+use memo::recall;
 use mentions::equations::solving;
 use points::plan::FIRST_COUNT;
 use points::plan::FIRST_SLOT;
@@ -22,7 +23,6 @@ use points::slots::CONCRETE_PRIMED;
 use slot_carriers::count_of;
 use slot_carriers::place_of;
 use slot_carriers::value_at;
-use truths::truth;
 
 // Bindings of the m variables of the search u from number j on: w in all; those from `from` on are looked at.
 pub struct Span {
@@ -115,7 +115,7 @@ fn level(
     let mut k = entry(plan, HEAD * u + l);
     while k < to {
         let e = entry(plan, k);
-        if !truth(t, e / 2, &mut slots[e % 2]) {
+        if !recall(t, e / 2, &mut slots[e % 2], memo) {
             return false;
         }
         k += 1;

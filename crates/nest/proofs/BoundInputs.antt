@@ -32,7 +32,7 @@ within a zero t m = absurd m
 within a (suc n) t (inl e) = (omega arith, omega arith)
 within a (suc n) t (inr m) = let w = within (suc a) n t m in (omega arith, omega arith)
 
-among-upward : (a n t : ℕ) → a ≤ t → t < a + n → Among t (upward a n)
+pub among-upward : (a n t : ℕ) → a ≤ t → t < a + n → Among t (upward a n)
 unfolding Among upward
 among-upward a zero t h g = absurd (none a t h g)
   where

@@ -76,8 +76,11 @@ module _ {table plan cells : List ℕ} {p : Part} {G : Groups} {T : PartTests} (
   behind-primes : Apart (G .abstracts) (G .readying ++ G .meeting)
   behind-primes = apart-right (G .abstracts) (G .primes) _ behind-outputs
 
+  pub abstracts-readying : Apart (G .abstracts) (G .readying)
+  abstracts-readying = apart-left (G .abstracts) (G .readying) _ behind-primes
+
   pub abstracts-ready : Apart (G .abstracts) (G .inputs ++ G .readying)
-  abstracts-ready = apart-both (G .abstracts) (G .inputs) (G .readying) abstracts-inputs (apart-left (G .abstracts) (G .readying) _ behind-primes)
+  abstracts-ready = apart-both (G .abstracts) (G .inputs) (G .readying) abstracts-inputs abstracts-readying
 
   pub abstracts-meeting : Apart (G .abstracts) (G .meeting)
   abstracts-meeting = apart-right (G .abstracts) (G .readying) (G .meeting) behind-primes

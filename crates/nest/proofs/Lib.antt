@@ -10,3 +10,8 @@ pub mod FoundNumbers
 pub mod BoundInputs
 pub mod NextBits
 pub mod ReadyInputs
+pub mod IdleGroups
+pub mod KeyedTests
+pub mod AlikeBlocks
+pub mod BlockPlaces
+pub mod OpenSearches

@@ -11,7 +11,7 @@ use Rattle.points.specs.Searches.{Sought}
 use Rattle.plans.specs.declared.Part.{Part}
 use Rattle.nest.specs.PartTests.{PartTests, passesFrom}
 use Rattle.nest.specs.NestPromises.{Groups, Nest, NestAsked, Stepped}
-use Rattle.nest.proofs.PassedPlaces.{Past, past-step, past-enter, past-leave, past-same}
+use Rattle.nest.proofs.PassedPlaces.{Past, past-step, past-open, past-enter, past-leave, past-same}
 
 pub record Standing (cells : List ℕ) (slots : List (List ℤ)) (Numbers : Point → Type 0) (Fixed : Type 0) (f : ℕ → Bool) (from end x : ℕ) : Type 0 where
   pub point : Point
@@ -43,6 +43,21 @@ module _ {cells : List ℕ} {slots : List (List ℤ)} {Numbers : Point → Type 
         stands = record { point = l .point; shows = l .shows; numbers = keep (l .point) (l .beside); fixed = w .fixed; past = past-step g n s x c d h (w .past) r all };
         number = l .number;
         holds = r .found;
+      }
+
+  -- on to a block over those that pass
+  pub at-open : (ss : List ℕ) (g : ℕ → Bool) (n s x c d : ℕ) (after : List (List ℤ)) → 0 < s
+      → (w : Standing cells slots Numbers Fixed f from end ((x * n + c) * s))
+      → (d < n → g d ≡ true)
+      → Stepped cells ss (w .point) n d after
+      → ((ε : Point) → Beside ss (w .point) ε → Numbers ε)
+      → ((e : ℕ) → c ≤ e → e < d → (j : ℕ) → j / s ≡ x * n + e → f j ≡ true)
+      → At cells after ss Numbers Fixed g f from end n s x d
+  at-open ss g n s x c d after h w r l keep all =
+      record {
+        stands = record { point = l .point; shows = l .shows; numbers = keep (l .point) (l .beside); fixed = w .fixed; past = past-open n s x c d h (w .past) all };
+        number = l .number;
+        holds = r;
       }
 
   -- into a block: the first inner block that is looked at

@@ -7,21 +7,21 @@ use native.Mathlib.Nat.{le-refl, mul-one, div-one, div-mul-le-self}
 use native.Mathlib.Omega.{arith}
 use lib.IntN.{ℤ}
 use Rattle.plans.specs.declared.Part.{Part}
+use Rattle.idle_variables.specs.KeyPromises.{keyIn}
+use Rattle.nest.specs.declared.blocks.Masks.{Masks}
 use Rattle.nest.specs.PartTests.{PartTests, Looked}
-use Rattle.nest.specs.NestPromises.{Groups, Nest, NestAsked, AbstractAnswers, ConcreteAnswers, ReadyAnswers, InputAnswers, OutputAnswers, AfterAnswers, SweepAnswers}
+use Rattle.nest.specs.NestPromises.{Groups, Nest, NestAsked, ReadyAnswers, InputAnswers, OutputAnswers, AfterAnswers, SweepAnswers}
+use Rattle.nest.specs.OpenBlocks.{pairGroup, OpenConcrete, OpenAbstract}
 use Rattle.nest.specs.Remembering.{numbered, BindingAsked, AgainAnswers}
 use Rattle.nest.proofs.KeptGroups.{abstracts-ready, abstracts-meeting, concretes-meeting, inputs-meeting, outputs-meeting}
 use Rattle.nest.proofs.PassedPlaces.{Past, past-before, past-same, past-more, past-leave, looked-all, looked-fault}
 use Rattle.nest.proofs.PassingBlocks.{premises-hold, passes-here}
 use Rattle.nest.proofs.LoopStates.{Standing, stands-same, stands-in, stands-out, perInput, perConcrete, perAbstract, passing, StateHolds, FrontHolds}
 use Rattle.nest.proofs.LoopStates.{OfAbstract, OfOutput, InAbstracts, InConcretes, InInputs, InOutputs, InAfters}
-use Rattle.nest.proofs.NextCandidates.{asked-after, keep-abstract, keep-output, step-abstracts, step-concretes, step-inputs, step-outputs, step-afters, sought-afters}
+use Rattle.nest.proofs.NextCandidates.{no-outer, asked-after, keep-abstract, keep-output, step-abstracts, step-concretes, step-inputs, step-outputs, step-afters, sought-afters}
 
 first-place : (n u s from : ℕ) → u * s ≤ from → (0 * n + u) * s ≤ from
 first-place n u s from h = omega arith
-
-no-outer : (n u : ℕ) → 0 * n + u ≡ u
-no-outer n u = omega arith
 
 -- the first digit lies at `from` or behind it
 enter-low : (u y : ℕ) → u ≤ y + (u - y)
@@ -31,7 +31,7 @@ one-more : (x y c : ℕ) → x ≤ y + c → x ≤ y + (c + 1)
 one-more x y c h = omega arith
 
 module _ {table plan cells : List ℕ} {p : Part} {from end : ℕ} where
-  pub start : {a : ℕ} {s₀ s₁ : List (List ℤ)} → NestAsked table plan cells p s₀ → AbstractAnswers table plan cells p (from / perAbstract p) s₀ s₁ a
+  pub start : {a : ℕ} {s₀ s₁ : List (List ℤ)} → NestAsked table plan cells p s₀ → OpenAbstract table plan cells p (from / perAbstract p) s₀ s₁ a
       → InAbstracts table plan cells p from end a s₁
   start q r =
       step-abstracts q (le-refl _)
@@ -46,11 +46,12 @@ module _ {table plan cells : List ℕ} {p : Part} {from end : ℕ} where
 
   -- ---- into a loop
 
-  pub enter-concretes : {a mask b c : ℕ} {s₀ s₁ s₂ : List (List ℤ)} → InAbstracts table plan cells p from end a s₀ → a < p .na → ReadyAnswers table plan cells p s₀ s₁ mask
-      → b ≡ from / perConcrete p - a * p .nc → ConcreteAnswers table plan cells p b s₁ s₂ c → InConcretes table plan cells p from end a mask c s₂
-  enter-concretes {a} {mask} {b} {c} {s₀} {s₁} {s₂} l h y e r =
-      step-concretes (asked-after (λ G. G .inputs ++ G .readying) (l .asked) (y .left)) (enter-low _ _) (λ G T N. stands-in (p .nc) (perConcrete p) a (here G T N))
-      (subst (λ (t : ℕ). ConcreteAnswers table plan cells p t s₁ s₂ c) e r)
+  pub enter-concretes : {a mask b c mark : ℕ} {m : Masks} {s₀ s₁ s₂ : List (List ℤ)} → InAbstracts table plan cells p from end a s₀ → a < p .na → ReadyAnswers table plan cells p s₀ s₁ mask
+      → b ≡ from / perConcrete p - a * p .nc → mark ≡ keyIn cells (pairGroup p m) a + 1 → OpenConcrete table plan cells p m mark b s₁ s₂ c
+      → InConcretes table plan cells p from end a mask c s₂
+  enter-concretes {a} {mask} {b} {c} {mark} {m} {s₀} {s₁} {s₂} l h y e k r =
+      step-concretes (asked-after (λ G. G .inputs ++ G .readying) (l .asked) (y .left)) (enter-low _ _) (λ G T N. stands-in (p .nc) (perConcrete p) a (here G T N)) k
+      (subst (λ (t : ℕ). OpenConcrete table plan cells p m mark t s₁ s₂ c) e r)
     where
       here : (G : Groups) (T : PartTests) (N : Nest table plan cells p G T)
           → Standing cells s₁ (OfAbstract cells G a) (StateHolds p T a mask) (passing p T) from end (a * (p .nc * perConcrete p))
@@ -118,7 +119,7 @@ module _ {table plan cells : List ℕ} {p : Part} {from end : ℕ} where
   -- ---- on, when the loop inside is through
 
   pub again-abstracts : {a mask c d : ℕ} {s₁ s₂ : List (List ℤ)} → from / perAbstract p ≤ a → InConcretes table plan cells p from end a mask c s₁ → p .nc ≤ c
-      → AbstractAnswers table plan cells p (a + 1) s₁ s₂ d → InAbstracts table plan cells p from end d s₂
+      → OpenAbstract table plan cells p (a + 1) s₁ s₂ d → InAbstracts table plan cells p from end d s₂
   again-abstracts {a} {mask} {c} low l h r =
       step-abstracts (l .asked) (next (from / perAbstract p) a low)
       (λ G T N. record {
@@ -133,12 +134,12 @@ module _ {table plan cells : List ℕ} {p : Part} {from end : ℕ} where
       next : (u a : ℕ) → u ≤ a → u ≤ a + 1
       next u a g = omega arith
 
-  pub again-concretes : {a mask c i d : ℕ} {s₀ s₁ s₂ : List (List ℤ)} → InConcretes table plan cells p from end a mask c s₀
-      → InInputs table plan cells p from end a mask c i s₁ → p .ni ≤ i → ConcreteAnswers table plan cells p (c + 1) s₁ s₂ d
+  pub again-concretes : {a mask c i d mark : ℕ} {m : Masks} {s₀ s₁ s₂ : List (List ℤ)} → InConcretes table plan cells p from end a mask c s₀
+      → InInputs table plan cells p from end a mask c i s₁ → p .ni ≤ i → mark ≡ keyIn cells (pairGroup p m) a + 1 → OpenConcrete table plan cells p m mark (c + 1) s₁ s₂ d
       → InConcretes table plan cells p from end a mask d s₂
-  again-concretes {a} {mask} {c} {i} l m h r =
-      step-concretes (m .asked) (one-more _ _ c (l .low))
-      (λ G T N. stands-out (p .ni) (perInput p) (p .nc) a c i h (m .high) (m .each G T N .stands) (λ δ n. n .up) (λ w. w .up)) r
+  again-concretes {a} {mask} {c} {i} l n h k r =
+      step-concretes (n .asked) (one-more _ _ c (l .low))
+      (λ G T N. stands-out (p .ni) (perInput p) (p .nc) a c i h (n .high) (n .each G T N .stands) (λ δ v. v .up) (λ w. w .up)) k r
 
   pub again-inputs : {a mask c i o d : ℕ} {s₀ s₁ s₂ : List (List ℤ)} → InInputs table plan cells p from end a mask c i s₀
       → InOutputs table plan cells p from end a mask c i o s₁ → p .nq ≤ o → InputAnswers cells p mask (i + 1) s₁ s₂ d

@@ -3,7 +3,7 @@ use mathlib.Core.Path.{_≡_, sym, ap, ap₂, subst, _∙_}
 use mathlib.Core.Bool.{Bool, true, false}
 use mathlib.Core.List.{List}
 use Prim.Native.Nat.{ℕ, _+_, _*_, _/_, _%_, _<_, _≤_}
-use native.Mathlib.Nat.{mul-pos, div-add-mod', le-trans}
+use native.Mathlib.Nat.{mul-pos, le-trans}
 use native.Mathlib.Omega.{arith}
 use lib.IntN.{ℤ}
 use Rattle.sets.specs.Sets.{has}
@@ -11,12 +11,17 @@ use Rattle.points.specs.Points.{Point, numberOf, Beside, Apart}
 use Rattle.points.specs.Searches.{Sought}
 use Rattle.points.proofs.PointNumbers.{number-apart, sought-same}
 use Rattle.plans.specs.declared.Part.{Part}
+use Rattle.idle_variables.specs.KeyPromises.{keyIn}
+use Rattle.nest.specs.declared.blocks.Masks.{Masks}
 use Rattle.nest.specs.PartTests.{PartTests}
-use Rattle.nest.specs.NestPromises.{Groups, Sized, Nest, NestAsked, Stepped, ForNest, AbstractAnswers, ConcreteAnswers, InputAnswers, OutputAnswers, AfterAnswers}
+use Rattle.nest.specs.PassedBlocks.{PairPasses}
+use Rattle.nest.specs.OpenBlocks.{pairGroup, OpenConcrete, OpenAbstract}
+use Rattle.nest.specs.NestPromises.{Groups, Sized, Nest, NestAsked, Stepped, ForNest, InputAnswers, OutputAnswers, AfterAnswers}
 use Rattle.nest.proofs.KeptGroups.{abstracts-concretes, abstracts-inputs, abstracts-outputs, abstracts-primes, concretes-inputs, concretes-outputs}
 use Rattle.nest.proofs.KeptGroups.{concretes-primes, inputs-outputs, inputs-primes, outputs-primes, front-out}
-use Rattle.nest.proofs.PassingBlocks.{state-block, related-block, ready-block, front-block, steps-block}
-use Rattle.nest.proofs.LoopStates.{Standing, at-step, perInput, perConcrete, perAbstract, passing, StateHolds, RelatedHolds, ReadyHolds, FrontHolds}
+use Rattle.nest.proofs.PassingBlocks.{ready-block, front-block, steps-block}
+use Rattle.nest.proofs.LoopStates.{Standing, at-step, at-open, perInput, perConcrete, perAbstract, passing, StateHolds, RelatedHolds, ReadyHolds, FrontHolds}
+use Rattle.nest.proofs.BlockPlaces.{pair-places, whole-places}
 use Rattle.nest.proofs.LoopStates.{OfAbstract, OfConcrete, OfInput, OfOutput, InAbstracts, InConcretes, InInputs, InOutputs, InAfters}
 
 -- ---- sizes
@@ -61,12 +66,8 @@ asked-after ss q l =
 lower : (x y c d : ℕ) → x ≤ y + c → c ≤ d → x ≤ y + d
 lower x y c d h g = omega arith
 
--- a number below n blocks has one digit
-only-digit : (n u : ℕ) → u / n ≡ 0 → u % n ≡ u
-only-digit n u e =
-    let d : u / n * n + u % n ≡ u = div-add-mod' u n in
-    let z : u / n * n ≡ 0 * n = ap (λ (t : ℕ). t * n) e in
-    omega arith
+pub no-outer : (n u : ℕ) → 0 * n + u ≡ u
+no-outer n u = omega arith
 
 -- after states by the numbers that the slots have
 afters-of : (T : PartTests) (c i o u v w b n d : ℕ) → u ≡ c → v ≡ i → w ≡ o → T .front c i o ≡ true → (T .front u v w ≡ true → Sought (T .steps u v w) b n d)
@@ -81,36 +82,46 @@ module _ {table plan cells : List ℕ} {p : Part} {from end : ℕ} {before after
   pub step-abstracts : {b d : ℕ} → from / perAbstract p ≤ b
       → ((G : Groups) (T : PartTests) → Nest table plan cells p G T
       → Standing cells before (λ (δ : Point). Unit {0}) (Unit {0}) (passing p T) from end ((0 * p .na + b) * perAbstract p))
-      → AbstractAnswers table plan cells p b before after d
+      → OpenAbstract table plan cells p b before after d
       → InAbstracts table plan cells p from end d after
   step-abstracts {b} {d} low w r =
-      let s : Sought (q .tests .state) b (p .na) d = r .sought (q .groups) (q .tests) (q .point) (q .nest) (q .shows) in
       record {
         asked = asked-after (λ G. G .abstracts) q (r .left);
-        low = le-trans low (s .low);
-        high = s .high;
-        each = λ G T N. at-step (G .abstracts) (T .state) (p .na) (perAbstract p) 0 b d after (some-abstract (N .sized)) (w G T N)
-            (r .sought G T (w G T N .point) N (w G T N .shows)) (r .left G T (w G T N .point) N (w G T N .shows)) (λ ε _. tt)
-            (λ j e l h. state-block T (p .nc) (p .ni) (p .nq) (p .nk) j (ap (T .state) (sym (only-digit (p .na) _ e)) ∙ h));
+        low = le-trans low (r .low);
+        high = r .high;
+        each = λ G T N. (let z = N .sized in
+            at-open (G .abstracts) (T .state) (p .na) (perAbstract p) 0 b d after (some-abstract z) (w G T N) (r .found G T N)
+            (r .left G T (w G T N .point) N (w G T N .shows)) (λ ε _. tt)
+            (λ e l g j h. whole-places p T (z .few-i .0) (z .few-o .0) (z .few-k .0) (z .few-c .0) e (r .past G T N e l g) j (h ∙ no-outer (p .na) e)));
       }
 
-  pub step-concretes : {a mask b d : ℕ} → from / perConcrete p ≤ a * p .nc + b
+  -- with the mark of the abstract state
+  pub step-concretes : {a mask b d mark : ℕ} {m : Masks} → from / perConcrete p ≤ a * p .nc + b
       → ((G : Groups) (T : PartTests) → Nest table plan cells p G T
       → Standing cells before (OfAbstract cells G a) (StateHolds p T a mask) (passing p T) from end ((a * p .nc + b) * perConcrete p))
-      → ConcreteAnswers table plan cells p b before after d
+      → mark ≡ keyIn cells (pairGroup p m) a + 1
+      → OpenConcrete table plan cells p m mark b before after d
       → InConcretes table plan cells p from end a mask d after
-  step-concretes {a} {mask} {b} {d} low w r =
-      let s = r .sought (q .groups) (q .tests) (q .point) (q .nest) (q .shows) in
+  step-concretes {a} {mask} {b} {d} {mark} {m} low w k r =
       record {
         asked = asked-after (λ G. G .concretes) q (r .left);
-        low = lower _ _ _ _ low (s .low);
-        high = s .high;
-        each = λ G T N. at-step (G .concretes) (T .related a) (p .nc) (perConcrete p) a b d after (some-concrete (N .sized)) (w G T N)
-            (subst (λ (t : ℕ). Sought (T .related t) b (p .nc) d) (w G T N .numbers .abstract-is) (r .sought G T (w G T N .point) N (w G T N .shows)))
+        low = lower _ _ _ _ low (r .low);
+        high = r .high;
+        each = λ G T N. at-open (G .concretes) (T .related a) (p .nc) (perConcrete p) a b d after (some-concrete (N .sized)) (w G T N)
+            (λ h. sym (ap (λ (t : ℕ). T .related t d) (w G T N .numbers .abstract-is)) ∙ r .found G T (w G T N .point) N (w G T N .shows) h)
             (r .left G T (w G T N .point) N (w G T N .shows))
             (λ ε h. keep-abstract (G .concretes) h (abstracts-concretes N) (w G T N .numbers))
-            (λ j e l h. related-block T (p .nc) (p .ni) (p .nq) (p .nk) a j e h);
+            (λ e l g j h. pair-places p T (N .sized .few-i .0) (N .sized .few-o .0) (N .sized .few-k .0) a e (inside e g) (over G T N e l g) j h);
       }
+    where
+      inside : (e : ℕ) → e < d → e < p .nc
+      inside e g = omega (arith, r .high)
+
+      over : (G : Groups) (T : PartTests) → Nest table plan cells p G T → (e : ℕ) → b ≤ e → e < d → PairPasses p T a e
+      over G T N e l g =
+          let v = w G T N in
+          subst (λ (t : ℕ). PairPasses p T t e) (v .numbers .abstract-is)
+          (r .past G T (v .point) N (v .shows) (k ∙ sym (ap (λ (t : ℕ). keyIn cells (pairGroup p m) t + 1) (v .numbers .abstract-is))) e l g)
 
   pub step-inputs : {a mask c b d : ℕ} → from / perInput p ≤ (a * p .nc + c) * p .ni + b
       → ((G : Groups) (T : PartTests) → Nest table plan cells p G T
@@ -186,14 +197,8 @@ module _ {table plan cells : List ℕ} {p : Part} {from end : ℕ} {before after
             (λ j e l h. steps-block T (p .nc) (p .ni) (p .nq) (p .nk) a c i o j (w G T N .fixed .up .up .low) (w G T N .fixed .up .low) (w G T N .fixed .low) e h);
       }
 
--- ---- each search goes forward
+-- ---- a search goes forward
 
 module _ {table plan cells : List ℕ} {p : Part} {before after : List (List ℤ)} {b d : ℕ} (q : NestAsked table plan cells p before) where
-  pub rise-abstracts : AbstractAnswers table plan cells p b before after d → b ≤ d
-  rise-abstracts r = r .sought (q .groups) (q .tests) (q .point) (q .nest) (q .shows) .low
-
-  pub rise-concretes : ConcreteAnswers table plan cells p b before after d → b ≤ d
-  rise-concretes r = r .sought (q .groups) (q .tests) (q .point) (q .nest) (q .shows) .low
-
   pub rise-outputs : OutputAnswers table plan cells p b before after d → b ≤ d
   rise-outputs r = r .sought (q .groups) (q .tests) (q .point) (q .nest) (q .shows) .low

@@ -103,6 +103,14 @@ module _ {f : ℕ → Bool} {from end : ℕ} where
       before : (j : ℕ) → j < x → j < end
       before j m = omega arith
 
+-- over blocks that pass: from number c up to number d of the outer block x
+pub past-open : {f : ℕ → Bool} {from end : ℕ} (n s x c d : ℕ) → 0 < s → Past f from end ((x * n + c) * s)
+    → ((e : ℕ) → c ≤ e → e < d → (j : ℕ) → j / s ≡ x * n + e → f j ≡ true) → Past f from end ((x * n + d) * s)
+past-open {f} n s x c d h w all = past-blocks s (x * n + c) (x * n + d) h w at
+  where
+    at : (j : ℕ) → x * n + c ≤ j / s → j / s < x * n + d → f j ≡ true
+    at j l m = all (j / s - x * n) (omega arith) (omega arith) j (omega arith)
+
 -- the first digit b within block x is no more than there are
 pub enter-high : (from n s x b : ℕ) → 0 < n → 0 < s → from / (n * s) ≤ x → b ≡ from / s - x * n → b ≤ n
 enter-high from n s x b p q h e =

@@ -26,11 +26,11 @@ fourth-out true false r m = refl
 fourth-out false q r m = refl
 
 module _ (T : PartTests) (a c i o k : ℕ) where
-  no-state : T .state a ≡ false → passesAt T a c i o k ≡ true
+  pub no-state : T .state a ≡ false → passesAt T a c i o k ≡ true
   unfolding passesAt
   no-state h = ap (λ (p : Bool). passing p (T .related a c) (T .ready a i) (T .steps c i o k) (T .met a c i o k)) h
 
-  no-related : T .related a c ≡ false → passesAt T a c i o k ≡ true
+  pub no-related : T .related a c ≡ false → passesAt T a c i o k ≡ true
   unfolding passesAt
   no-related h = ap (λ (p : Bool). passing (T .state a) p (T .ready a i) (T .steps c i o k) (T .met a c i o k)) h ∙ second-out (T .state a) _ _ _
 
@@ -51,24 +51,6 @@ module _ (T : PartTests) (nc ni nq nk : ℕ) where
   -- the digits of a place by the sizes of blocks
   by-input : (j : ℕ) → j / (nq * nk) ≡ j / nk / nq
   by-input j = sym (div-in j nq nk)
-
-  by-concrete : (j : ℕ) → j / (ni * (nq * nk)) ≡ j / nk / nq / ni
-  by-concrete j = sym (div-in j ni (nq * nk)) ∙ ap (λ (t : ℕ). t / ni) (by-input j)
-
-  by-abstract : (j : ℕ) → j / (nc * (ni * (nq * nk))) ≡ j / nk / nq / ni / nc
-  by-abstract j = sym (div-in j nc (ni * (nq * nk))) ∙ ap (λ (t : ℕ). t / nc) (by-concrete j)
-
-  pub state-block : (j : ℕ) → T .state (j / (nc * (ni * (nq * nk)))) ≡ false → passesFrom T nc ni nq nk j ≡ true
-  unfolding passesFrom
-  state-block j h = no-state T _ _ _ _ _ (ap (T .state) (sym (by-abstract j)) ∙ h)
-
-  related-at : (a j u : ℕ) → u ≡ j / nk / nq / ni → u / nc ≡ a → T .related a (u % nc) ≡ false → passesFrom T nc ni nq nk j ≡ true
-  unfolding passesFrom
-  related-at a j u w e h =
-      no-related T _ _ _ _ _ (sym (ap (λ (t : ℕ). T .related (t / nc) (t % nc)) w) ∙ ap (λ (t : ℕ). T .related t (u % nc)) e ∙ h)
-
-  pub related-block : (a j : ℕ) → j / (ni * (nq * nk)) / nc ≡ a → T .related a (j / (ni * (nq * nk)) % nc) ≡ false → passesFrom T nc ni nq nk j ≡ true
-  related-block a j e h = related-at a j _ (by-concrete j) e h
 
   ready-at : (a c j u : ℕ) → c < nc → u ≡ j / nk / nq → u / ni ≡ a * nc + c → T .ready a (u % ni) ≡ false → passesFrom T nc ni nq nk j ≡ true
   unfolding passesFrom

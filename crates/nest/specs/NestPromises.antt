@@ -50,6 +50,8 @@ pub record Sized (cells : List ℕ) (p : Part) (G : Groups) : Type 0 where
   pub few-k : (0 < p .nk) × (p .nk ≤ 4096)
   pub few-r : p .nr ≤ 2 ^ 18
   pub few-m : p .nm ≤ 2 ^ 18
+  pub abstracts-are : G .abstracts ≡ upward 0 (p .va)
+  pub concretes-are : G .concretes ≡ upward 8 (p .vc)
   pub inputs-are : G .inputs ≡ upward 16 (p .vi)
   pub inputs-few : p .vi ≤ 3
   pub grouped : Grouped cells 16 (p .vi)

@@ -5,97 +5,41 @@ ghost use Prim.Native.Nat.{_-_, _*_, _<_, _≤_};
 ghost use Rattle.sets.specs.Sets.{has};
 ghost use Rattle.memo.specs.MemoPromises.{Memo};
 ghost use Rattle.points.specs.Searches.{Sought};
-ghost use Rattle.nest.specs.NestPromises.{NestAsked, AbstractAnswers, ConcreteAnswers, AbstractPreAnswers, PreAnswers, ReadyAnswers, InputAsked, InputAnswers};
-ghost use Rattle.nest.specs.NestPromises.{OutputAnswers, AfterAnswers, MetAnswers, SweepAnswers};
+ghost use Rattle.nest.specs.NestPromises.{NestAsked, AbstractPreAnswers, PreAnswers, ReadyAnswers, InputAsked, InputAnswers, MetAnswers, SweepAnswers};
 ghost use Rattle.nest.specs.Remembering.{Remembered, BindingAsked, AgainAnswers};
+use crate::blocks::masks_of;
+use crate::blocks::next_open_abstract;
+use crate::blocks::next_open_concrete;
+use crate::blocks::pair_mark;
+use crate::blocks::remember_pair;
+use crate::blocks::remember_whole;
+use crate::candidates::next_after;
+use crate::candidates::next_output;
 use crate::known::KNOWN;
 use crate::known::Numbers;
 use crate::known::is_known;
 use crate::known::key_of;
 use crate::known::mark_of;
 use crate::known::remember;
+use idle_variables::keys::KEYS;
+use idle_variables::keys::is_within;
 use plans::Part;
 use points::plan::MET;
 use points::plan::READY;
-use points::plan::RELATED;
-use points::plan::STATES;
-use points::plan::STEPS;
 use points::slots::BEFORE;
 use points::slots::INPUTS;
 use seek::Span;
 use seek::seek;
 use slot_carriers::groups::bind;
 
+mod blocks;
+mod candidates;
 mod known;
 
 // Where a search of a part stopped, and whether the binding there fails.
 pub struct Swept {
     pub at: usize,
     pub failed: bool,
-}
-
-// The next abstract state from a on.
-fn next_abstract(
-    t: &[u16; 16384],
-    plan: &[u16; 20560],
-    cells: &[u32; 9216],
-    p: Part,
-    a: usize,
-    slots: &mut [[i64; 64]; 2],
-    memo: &mut [u64; memo::NUMBERS],
-) -> usize
-    requires { ⌜ a ≤ p .na ⌝ }
-    requires { ⌜ NestAsked (now t) (now plan) (now cells) p (now slots) ⌝ }
-    requires { ⌜ Memo (now t) (now memo) ⌝ }
-    ensures answers { λ r. ⌜ AbstractAnswers (now (t .entry)) (now (plan .entry)) (now (cells .entry)) p a (now (slots .entry)) (now (slots .exit)) r ⌝ }
-    ensures remembers { λ r. ⌜ Memo (now (t .entry)) (now (memo .exit)) ⌝ }
-{
-    seek(
-        t,
-        plan,
-        cells,
-        Span {
-            u: STATES,
-            j: 0,
-            m: p.va,
-            w: p.na,
-            from: a,
-        },
-        slots,
-        memo,
-    )
-}
-
-// The next concrete state from c on that is related to the abstract one.
-fn next_concrete(
-    t: &[u16; 16384],
-    plan: &[u16; 20560],
-    cells: &[u32; 9216],
-    p: Part,
-    c: usize,
-    slots: &mut [[i64; 64]; 2],
-    memo: &mut [u64; memo::NUMBERS],
-) -> usize
-    requires { ⌜ c ≤ p .nc ⌝ }
-    requires { ⌜ NestAsked (now t) (now plan) (now cells) p (now slots) ⌝ }
-    requires { ⌜ Memo (now t) (now memo) ⌝ }
-    ensures answers { λ r. ⌜ ConcreteAnswers (now (t .entry)) (now (plan .entry)) (now (cells .entry)) p c (now (slots .entry)) (now (slots .exit)) r ⌝ }
-    ensures remembers { λ r. ⌜ Memo (now (t .entry)) (now (memo .exit)) ⌝ }
-{
-    seek(
-        t,
-        plan,
-        cells,
-        Span {
-            u: RELATED,
-            j: 0,
-            m: p.vc,
-            w: p.nc,
-            from: c,
-        },
-        slots,
-        memo,
-    )
 }
 
 // Does the abstract precondition hold at this abstract state and these inputs?
@@ -266,70 +210,6 @@ fn next_input(
     i
 }
 
-// The next outputs from o on that no conjunct without a primed variable excludes.
-fn next_output(
-    t: &[u16; 16384],
-    plan: &[u16; 20560],
-    cells: &[u32; 9216],
-    p: Part,
-    o: usize,
-    slots: &mut [[i64; 64]; 2],
-    memo: &mut [u64; memo::NUMBERS],
-) -> usize
-    requires { ⌜ o ≤ p .nq ⌝ }
-    requires { ⌜ NestAsked (now t) (now plan) (now cells) p (now slots) ⌝ }
-    requires { ⌜ Memo (now t) (now memo) ⌝ }
-    ensures answers { λ r. ⌜ OutputAnswers (now (t .entry)) (now (plan .entry)) (now (cells .entry)) p o (now (slots .entry)) (now (slots .exit)) r ⌝ }
-    ensures remembers { λ r. ⌜ Memo (now (t .entry)) (now (memo .exit)) ⌝ }
-{
-    seek(
-        t,
-        plan,
-        cells,
-        Span {
-            u: STEPS,
-            j: 0,
-            m: p.vo,
-            w: p.nq,
-            from: o,
-        },
-        slots,
-        memo,
-    )
-}
-
-// The next concrete after state from k on that the concrete operation allows with these outputs.
-fn next_after(
-    t: &[u16; 16384],
-    plan: &[u16; 20560],
-    cells: &[u32; 9216],
-    p: Part,
-    k: usize,
-    slots: &mut [[i64; 64]; 2],
-    memo: &mut [u64; memo::NUMBERS],
-) -> usize
-    requires { ⌜ k ≤ p .nk ⌝ }
-    requires { ⌜ NestAsked (now t) (now plan) (now cells) p (now slots) ⌝ }
-    requires { ⌜ Memo (now t) (now memo) ⌝ }
-    ensures answers { λ r. ⌜ AfterAnswers (now (t .entry)) (now (plan .entry)) (now (cells .entry)) p k (now (slots .entry)) (now (slots .exit)) r ⌝ }
-    ensures remembers { λ r. ⌜ Memo (now (t .entry)) (now (memo .exit)) ⌝ }
-{
-    seek(
-        t,
-        plan,
-        cells,
-        Span {
-            u: STEPS,
-            j: p.vo,
-            m: p.vk,
-            w: p.nk,
-            from: k,
-        },
-        slots,
-        memo,
-    )
-}
-
 // How far x is behind y.
 fn behind(x: usize, y: usize) -> usize
     ensures { λ r. ⌜ r ≡ x - y ⌝ }
@@ -360,26 +240,45 @@ pub fn sweep(
     let by_abstract = p.nc * by_concrete;
     let mut known = [0u16; KNOWN];
     let mut memo = [0u64; memo::NUMBERS];
+    let masks = masks_of(t, plan, p);
+    let mut done = [0u16; KEYS];
+    let mut seen = [0u16; KEYS];
     let mut at = end;
     let mut failed = false;
-    let mut a = next_abstract(t, plan, cells, p, from / by_abstract, slots, &mut memo);
+    let mut a = next_open_abstract(
+        t,
+        plan,
+        cells,
+        p,
+        from / by_abstract,
+        masks,
+        slots,
+        &mut memo,
+        &done,
+    );
     'abstracts: while a < p.na {
-        if end <= a * by_abstract {
+        let first = a * by_abstract;
+        if end <= first {
             break 'abstracts;
         }
+        let mark = pair_mark(cells, p, masks, a);
         let mask = ready(t, plan, cells, p, slots, &mut memo);
-        let mut c = next_concrete(
+        let mut c = next_open_concrete(
             t,
             plan,
             cells,
             p,
             behind(from / by_concrete, a * p.nc),
+            masks,
+            mark,
             slots,
             &mut memo,
+            &seen,
         );
         while c < p.nc {
             let x = a * p.nc + c;
-            if end <= x * by_concrete {
+            let within = x * by_concrete;
+            if end <= within {
                 break 'abstracts;
             }
             let mut i = next_input(cells, p, mask, behind(from / by_input, x * p.ni), slots);
@@ -430,9 +329,37 @@ pub fn sweep(
                 }
                 i = next_input(cells, p, mask, i + 1, slots);
             }
-            c = next_concrete(t, plan, cells, p, c + 1, slots, &mut memo);
+            remember_pair(
+                cells,
+                p,
+                c,
+                masks,
+                mark,
+                is_within(from, end, within, by_concrete),
+                &mut seen,
+            );
+            c = next_open_concrete(
+                t,
+                plan,
+                cells,
+                p,
+                c + 1,
+                masks,
+                mark,
+                slots,
+                &mut memo,
+                &seen,
+            );
         }
-        a = next_abstract(t, plan, cells, p, a + 1, slots, &mut memo);
+        remember_whole(
+            cells,
+            p,
+            a,
+            masks,
+            is_within(from, end, first, by_abstract),
+            &mut done,
+        );
+        a = next_open_abstract(t, plan, cells, p, a + 1, masks, slots, &mut memo, &done);
     }
     Swept { at, failed }
 }

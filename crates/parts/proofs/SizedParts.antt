@@ -71,6 +71,8 @@ module _ (d : Dossier) where
     few-k = (omega arith, omega arith);
     few-r = omega arith;
     few-m = omega (arith, R .abstracts .bindings);
+    abstracts-are = refl;
+    concretes-are = refl;
     inputs-are = refl;
     inputs-few = omega arith;
     grouped = record { group = []; each = tt; long = refl; few = omega arith };
@@ -108,6 +110,8 @@ module _ (d : Dossier) where
       few-k = (omega arith, omega arith);
       few-r = both-few (bindingCount os) (bindingCount us) (R .outputs-at j op listed .bindings) (R .abstracts .bindings);
       few-m = both-few (bindingCount os) (bindingCount cs) (R .outputs-at j op listed .bindings) (R .concretes .bindings);
+      abstracts-are = refl;
+      concretes-are = refl;
       inputs-are = refl;
       inputs-few = R .inputs-at j op listed .short;
       grouped = grouped cells is (C .inputs-in) (R .inputs-at j op listed .bindings);
@@ -137,6 +141,8 @@ module _ (d : Dossier) where
       few-k = (bindings-some cs, R .concretes .bindings);
       few-r = both-few (bindingCount os) (bindingCount us) (R .outputs-at j op listed .bindings) (R .abstracts .bindings);
       few-m = omega (arith, R .abstracts .bindings);
+      abstracts-are = refl;
+      concretes-are = refl;
       inputs-are = refl;
       inputs-few = R .inputs-at j op listed .short;
       grouped = grouped cells is (C .inputs-in) (R .inputs-at j op listed .bindings);

@@ -1,0 +1,3 @@
+pub mod KeyedNumbers
+pub mod IdlePromises
+pub mod KeyPromises

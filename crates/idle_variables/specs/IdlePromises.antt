@@ -25,7 +25,7 @@ pub record SearchIdle (table plan : List ℕ) (u slot : ℕ) : Type 0 where
 pub record SearchesIdle (table plan : List ℕ) (u slot : ℕ) : Type 0 where
   pub each : (v : ℕ) → u ≤ v → v < 5 → SearchIdle table plan v slot
 
--- an answer yes says so
+-- an answer yes says so; no says nothing, since a variable that counts as one that matters only makes fewer blocks alike
 pub record TestSays (table : List ℕ) (e slot : ℕ) (r : Bool) : Type 0 where
   pub means : r ≡ true → TestIdle table e slot
 
@@ -42,7 +42,7 @@ pub record SearchesSay (table plan : List ℕ) (u slot : ℕ) (r : Bool) : Type 
 pub record PlanAsked (plan : List ℕ) : Type 0 where
   pub marks : (u l : ℕ) → u < 5 → l ≤ 12 → markIn plan u l ≤ 20560
 
--- the bits of m variables from the slot s on: where one is set, no search from u on depends on its variable
+-- the bits of m variables from the slot s on: where one is set, no search from u on depends on its variable; where none is, nothing is said
 pub record MaskSays (table plan : List ℕ) (u s m r : ℕ) : Type 0 where
   pub small : r < 2 ^ m
   pub each : (i : ℕ) → i < m → has r i ≡ true → SearchesIdle table plan u (s + i)

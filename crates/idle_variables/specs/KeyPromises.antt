@@ -22,17 +22,17 @@ pub record KeyAsked (cells : List ℕ) (g : KeyGroup) : Type 0 where
   pub some : (s : ℕ) → Among s (upward (g .first) (g .many)) → 0 < countIn cells s
   pub few : g .count ≤ 4096
 
--- the mark of the x-th binding stands at its key
+-- yes: the mark of the x-th binding stands at its key; no says nothing
 pub record MarkSays (cells : List ℕ) (g : KeyGroup) (x mark : ℕ) (marks : List ℕ) (r : Bool) : Type 0 where
   pub low : r ≡ true → x < g .count
   pub stands : r ≡ true → getD marks (keyIn cells g x) 0 ≡ mark
 
--- a mark is made, if it may be
+-- no mark is made unless it may be, and no other place changes. That one is made is left open: to forget is always right, it only has a block looked at again
 pub data Marked (may : Bool) (key mark : ℕ) (before : List ℕ) : List ℕ → Type 0 where
   no-mark : Marked may key mark before before
   mark-made : may ≡ true → Marked may key mark before (set before key mark)
 
--- the block of so many places from `first` on lies between two places
+-- yes: the block of so many places from `first` on lies between two places; no says nothing, the block is then not marked
 pub record Within (from end first size : ℕ) (r : Bool) : Type 0 where
   pub low : r ≡ true → from ≤ first
   pub high : r ≡ true → first + size ≤ end

@@ -1,5 +1,5 @@
-// One part of the check: labelled loops over the variable groups, each stepping to the next candidate of its group. What is passed over passes, since one of the premises is
-// false there; places are counted by arithmetic.
+// One part of the check: labelled loops over the variable groups, each stepping to the next candidate of its group. What is passed over passes: one of the premises is false there, or
+// it lies in a block that passes as one did that was looked at whole. Places are counted by arithmetic.
 ghost use mathlib.Core.Path.{_≡_};
 ghost use Prim.Native.Nat.{_-_, _*_, _<_, _≤_};
 ghost use Rattle.sets.specs.Sets.{has};

@@ -17,10 +17,11 @@ use Rattle.obligations.proofs.Advances.{next-length}
 use Rattle.parts.specs.SearchPromises.{SearchAsked, SearchAnswers}
 use Rattle.parts.proofs.ReadingSizes.{reading-small}
 use Rattle.held_checks.specs.HeldBytes.{bytesOf, heldText, heldBy}
-use Rattle.held_checks.specs.Answers.{refused, looked}
-use Rattle.held_checks.specs.BytePromises.{Turned}
+use Rattle.held_checks.specs.declared.AdvanceReply.{AdvanceReply}
+use Rattle.held_checks.specs.Answers.{refused, advanceAnswer}
 use Rattle.held_checks.specs.CallPromises.{Responds}
-use Rattle.checker.specs.OpenPromises.{Opened, markAfter}
+use Rattle.held_checks.specs.StepPromises.{placeAfter, Moves}
+use Rattle.checker.specs.OpenPromises.{Opened}
 use Rattle.checker.proofs.MarkLaws.{fits-unfinished, marked-unfinished, mark-is}
 use Rattle.checker.proofs.CallLaws.{responds, refuses, held-as}
 
@@ -40,9 +41,9 @@ over-range : (n : ℕ) → 1000000000 < n → (eqb n 0 || ltb 1000000000 n) ≡ 
 over-range n h = ap₂ _||_ (ne-eqb n 0 (λ e. absurd (omega arith))) (lt-ltb 1000000000 n h)
 
 -- how many were looked at, from the place that the search came to
-count-is : (p at place : ℕ) (failed : Bool) → p ≤ at → place ≡ cond failed (at + 1) at → p + cond failed (suc (at - p)) (at - p) ≡ place
-count-is p at place true h e = omega arith
-count-is p at place false h e = omega arith
+count-is : (p at : ℕ) (failed : Bool) → p ≤ at → p + cond failed (suc (at - p)) (at - p) ≡ placeAfter failed at
+count-is p at true h = omega arith
+count-is p at false h = omega arith
 
 least-of : (m n : ℕ) (failed : Bool) → cond failed (suc m) m ≤ n → m ≤ n
 least-of m n true h = omega arith
@@ -56,11 +57,11 @@ look-most σ xs = on (look σ xs .failed) refl
     on true q = let f = look-first σ (initialises []) xs q in omega (arith, f .1, f .2)
     on false q = omega (arith, look-whole σ (initialises []) xs q .0)
 
-advanced-is : (σ : Subject) (p at place : ℕ) (failed : Bool) → p ≤ at → place ≡ cond failed (at + 1) at
+advanced-is : (σ : Subject) (p at place : ℕ) (failed : Bool) → p ≤ at → placeAfter failed at ≡ place
     → advanced σ p record { count = cond failed (suc (at - p)) (at - p); failed = failed } ≡ outcome (calls.looked (place - p)) (holding σ place (verdictAt σ place failed)) []
 unfolding advanced
 advanced-is σ p at place failed h e =
-    let s : p + cond failed (suc (at - p)) (at - p) ≡ place = count-is p at place failed h e in
+    let s : p + cond failed (suc (at - p)) (at - p) ≡ place = count-is p at failed h ∙ e in
     let c : cond failed (suc (at - p)) (at - p) ≡ place - p = omega (arith, s) in
     ap₂ (λ (m k : ℕ). outcome (calls.looked m) (holding σ k (verdictAt σ k failed)) []) c s
 
@@ -106,14 +107,11 @@ module _ {b table rows firsts groups labels : List ℕ} {mark place operations a
         let m : at - place ≤ n = least-of (at - place) n failed s in
         omega (arith, m)
 
-    pub looked-least : {next : ℕ} → next ≡ cond failed (at + 1) at → place ≤ next
-    looked-least {next} e = omega (arith, count-is place at next failed (w .low) e)
-
-    pub advance-looked : {after : List ℕ} {next mark′ : ℕ} → next ≡ cond failed (at + 1) at → mark′ ≡ markAfter failed all next → Turned b next mark′ after
-        → Responds b (advance n) after [] (looked (next - place))
-    advance-looked {next = next} {mark′} e m t =
+    pub advance-looked : {after : List ℕ} {r : AdvanceReply} → Moves b place all failed at after r → Responds b (advance n) after [] (advanceAnswer r)
+    advance-looked m =
+        let next : ℕ = placeAfter failed at in
         responds (outcome (calls.looked (next - place)) (holding σ next (verdictAt σ next failed)) [])
-        (is-advancing n ∙ advancing-by σ place n (in-range n positive low) ∙ ap (advanced σ place) looks ∙ advanced-is σ place at next failed (w .low) e)
-        refl
-        (t .is (heldText b) place mark (o .short) (o .bytes) ∙ ap (bytesOf (heldText b) next) (m ∙ mark-is σ next (o .all-is) failed))
+        (is-advancing n ∙ advancing-by σ place n (in-range n positive low) ∙ ap (advanced σ place) looks ∙ advanced-is σ place at next failed (w .low) refl)
+        (m .answer)
+        (m .bytes .is (heldText b) place mark (o .short) (o .bytes) ∙ ap (bytesOf (heldText b) next) (mark-is σ next (o .all-is) failed))
         refl

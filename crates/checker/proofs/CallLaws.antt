@@ -1,5 +1,5 @@
 -- What load, verdict and drop answer and leave, and the refusals of advance and witness, from what the bytes stand for. Assumes nothing.
-use mathlib.Core.Path.{_≡_, refl, sym, ap, _∙_}
+use mathlib.Core.Path.{_≡_, refl, sym, ap, _∙_, subst}
 use mathlib.Core.Bool.{Bool, true, false}
 use mathlib.Core.List.{List, []}
 use Prim.Native.Nat.{ℕ, pred}
@@ -17,9 +17,10 @@ use Rattle.text_readings.specs.declared.TextRead.the-variants.{Read, Refused}
 use Rattle.held_checks.specs.HeldBytes.{bytesOf, noneHeld, verdictMarked, heldBy}
 use Rattle.held_checks.specs.Answers.{Answer, refused, refusedAt, loaded, verdictIs, dropped, answerTo}
 use Rattle.held_checks.specs.CallPromises.{textAfter, bytesLeft, bytesAfter, Responds}
-use Rattle.checker.specs.OpenPromises.{Opened}
+use Rattle.held_checks.specs.StepPromises.{toldBy}
+use Rattle.checker.specs.OpenPromises.{Opened, Opens}
 use Rattle.checker.proofs.OpenLaws.{TextHeld, TextFaulty}
-use Rattle.checker.proofs.MarkLaws.{fits-accepted, marked-unfinished, marked-accepted, marked-refuted}
+use Rattle.checker.proofs.MarkLaws.{above, fits-accepted, marked-unfinished, marked-accepted, marked-refuted}
 
 -- what a call promises, from one equation of what it comes to
 module _ {b : List ℕ} {c : Call} {after lent : List ℕ} {a : Answer} where
@@ -42,7 +43,7 @@ module _ {b : List ℕ} (none : heldBy b ≡ nothing) where
   unfolding respond numberOf
   nothing-advance n = refuses nothingHeld nothing (ap (λ (h : Held). respond h (advance n)) none) refl refl
 
-  pub nothing-verdict : Responds b verdict b [] (refused 21)
+  nothing-verdict : Responds b verdict b [] (refused 21)
   unfolding respond numberOf
   nothing-verdict = refuses nothingHeld nothing (ap (λ (h : Held). respond h verdict) none) refl refl
 
@@ -59,10 +60,11 @@ module _ {b : List ℕ} (none : heldBy b ≡ nothing) where
       answerOf (Refused n p) = refusedAt n p
       answerOf (Read m) = loaded
 
-  pub load-loaded : (t : List ℕ) {after table rows firsts groups labels : List ℕ} {m : ℕ} → TextHeld t table rows firsts groups labels m → after ≡ bytesOf t 0 1 → Responds b (load t) after [] loaded
+  pub load-loaded : (t : List ℕ) {after table rows firsts groups labels : List ℕ} {m : ℕ} {a : Answer} → TextHeld t table rows firsts groups labels m → after ≡ bytesOf t 0 1 → a ≡ loaded
+      → Responds b (load t) after [] a
   unfolding respond loading
-  load-loaded t h e =
-      responds (outcome calls.loaded (holding (subjectOf (h .dossier)) 0 unfinished) []) (ap (λ (k : Held). respond k (load t)) none ∙ ap loading (h .reads)) refl e refl
+  load-loaded t h e q =
+      responds (outcome calls.loaded (holding (subjectOf (h .dossier)) 0 unfinished) []) (ap (λ (k : Held). respond k (load t)) none ∙ ap loading (h .reads)) q e refl
 
 -- drop is never refused
 pub drop-answers : (b : List ℕ) {after : List ℕ} → after ≡ noneHeld → Responds b release after [] dropped
@@ -85,10 +87,10 @@ module _ {b table rows firsts groups labels : List ℕ} {mark place operations a
   unfolding respond
   verdict-is v e = responds (outcome (calls.verdictIs v) (holding σ place v) []) (ap (λ (h : Held). respond h verdict) (held-as e)) refl refl refl
 
-  pub verdict-unfinished : mark ≡ 1 → Responds b verdict b [] (verdictIs unfinished)
+  verdict-unfinished : mark ≡ 1 → Responds b verdict b [] (verdictIs unfinished)
   verdict-unfinished e = verdict-is unfinished (marked-unfinished σ place e)
 
-  pub verdict-accepted : mark ≡ 2 → Responds b verdict b [] (verdictIs accepted)
+  verdict-accepted : mark ≡ 2 → Responds b verdict b [] (verdictIs accepted)
   verdict-accepted e = verdict-is accepted (marked-accepted σ place e)
 
   -- a finished check is not advanced
@@ -112,3 +114,25 @@ module _ {b table rows firsts groups labels : List ℕ} {mark place operations a
       on false q =
           refuses noCounterexample (holding σ place accepted)
           (ap (λ (h : Held). respond h (witness l)) (held-as (marked-accepted σ place (fits-accepted all place mark (o .fits) (eqb-false mark 1 q) e)))) refl refl
+
+-- what verdict answers by the mark of bytes that hold no refuted check
+module _ {b table rows firsts groups labels : List ℕ} {mark place operations all : ℕ} (o : Opens b table rows firsts groups labels mark place operations all) (not : mark ≡ 3 → ⊥) where
+  told-by : (m : ℕ) → mark ≡ m → Responds b verdict b [] (toldBy m) → Responds b verdict b [] (toldBy mark)
+  told-by m e = subst (λ (k : ℕ). Responds b verdict b [] (toldBy k)) (sym e)
+
+  told-marked : Responds b verdict b [] (toldBy mark)
+  told-marked = on (eqb mark 0) refl
+    where
+      two : mark ≡ 2 → Opened b table rows firsts groups labels mark place operations all → Responds b verdict b [] (toldBy mark)
+      two e held = told-by 2 e (verdict-accepted held e)
+
+      some : (t : Bool) → eqb mark 1 ≡ t → Opened b table rows firsts groups labels mark place operations all → Responds b verdict b [] (toldBy mark)
+      some true q held = let e = eqb-true mark 1 q in told-by 1 e (verdict-unfinished held e)
+      some false q held = two (fits-accepted all place mark (held .fits) (eqb-false mark 1 q) not) held
+
+      on : (t : Bool) → eqb mark 0 ≡ t → Responds b verdict b [] (toldBy mark)
+      on true q = let e = eqb-true mark 0 q in told-by 0 e (nothing-verdict (o .none e))
+      on false q = some (eqb mark 1) refl (o .some (above (eqb-false mark 0 q)))
+
+  pub verdict-told : {a : Answer} → a ≡ toldBy mark → Responds b verdict b [] a
+  verdict-told e = subst (λ (k : Answer). Responds b verdict b [] k) (sym e) told-marked

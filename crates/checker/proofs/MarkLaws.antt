@@ -4,14 +4,14 @@ use mathlib.Core.Bool.{Bool, true, false, cond, _&&_, _||_, or-false}
 use Prim.Native.Nat.{ℕ, pred, _<_, _≤_}
 use native.Mathlib.Omega.{arith}
 use lib.Dec.{eqb, ltb, leb}
-use borrow.Author.Tests.{eqb-true, eqb-false, ne-eqb, ltb-true, leb-true, le-leb, lt-leb}
+use borrow.Author.Tests.{eqb-true, eqb-false, ne-eqb, ltb-true, leb-true}
 use Rattle.form.proofs.SteadyMarks.{both}
 use Rattle.obligations.specs.Subjects.{Subject}
 use Rattle.obligations.specs.Order.{obligationOf, total}
 use Rattle.obligations.specs.Report.{checkAt}
 use Rattle.obligations.specs.Calls.{unfinished, accepted, refuted, verdictAt}
 use Rattle.held_checks.specs.HeldBytes.{markOf, fitting, verdictMarked}
-use Rattle.checker.specs.OpenPromises.{markAfter}
+use Rattle.held_checks.specs.StepPromises.{markAfter}
 
 module _ (all place mark : ℕ) (f : fitting all place mark ≡ true) where
   -- "unfinished only before the last place"
@@ -62,13 +62,6 @@ module _ (σ : Subject) (p : ℕ) {m : ℕ} where
   pub marked-refuted : (m ≡ 1 → ⊥) → (m ≡ 2 → ⊥) → verdictMarked σ p m ≡ refuted (obligationOf (checkAt σ (pred p)))
   unfolding verdictMarked
   marked-refuted e f = rw (verdictMarked, ne-eqb m 1 e, ne-eqb m 2 f)
-
--- the mark after a search that found no failing binding
-pub mark-whole : (failed : Bool) (all place : ℕ) → failed ≡ false → all ≤ place → 2 ≡ markAfter failed all place
-mark-whole failed all place e h = sym (ap₂ (λ (s t : Bool). cond s 3 (cond t 2 1)) e (le-leb all place h))
-
-pub mark-part : (failed : Bool) (all place : ℕ) → failed ≡ false → place < all → 1 ≡ markAfter failed all place
-mark-part failed all place e h = sym (ap₂ (λ (s t : Bool). cond s 3 (cond t 2 1)) e (lt-leb all place h))
 
 -- the mark after a look is that of its verdict
 pub mark-is : (σ : Subject) (p : ℕ) {all : ℕ} → all ≡ total σ → (failed : Bool) → markAfter failed all p ≡ markOf (verdictAt σ p failed)

@@ -24,34 +24,13 @@ use Rattle.part_places.proofs.PlaceObligations.{obligation-opening, obligation-
 use Rattle.pieces.specs.PiecePromises.{Writes}
 use Rattle.witnesses.specs.WitnessPromises.{WitnessAsked, WitnessWritten}
 use Rattle.held_checks.specs.declared.Obligation.{Obligation}
-use Rattle.held_checks.specs.declared.Obligation.the-variants.{Initialisation, Applicability, Correctness}
 use Rattle.held_checks.specs.HeldBytes.{heldText, heldBy}
 use Rattle.held_checks.specs.Answers.{refused, verdictIs, written, obligationIs}
 use Rattle.held_checks.specs.CallPromises.{Responds}
-use Rattle.checker.specs.OpenPromises.{Opened, PartTold, LastAsked, LastWritten}
+use Rattle.held_checks.specs.StepPromises.{PartTold}
+use Rattle.checker.specs.OpenPromises.{Opened, LastAsked, LastWritten}
 use Rattle.checker.proofs.MarkLaws.{fits-refuted, marked-refuted}
 use Rattle.checker.proofs.CallLaws.{responds, refuses, held-as, verdict-is}
-
--- the obligation of a part, as the code finds it
-pub told-opening : (part : ℕ) → part < 1 → PartTold part Initialisation
-told-opening part h = record { opening = λ e. refl; applying = λ j e. absurd (omega arith); correcting = λ j e. absurd (omega arith) }
-
-pub told-applying : (part : ℕ) → 1 ≤ part → (part - 1) % 2 ≡ 0 → PartTold part (Applicability ((part - 1) / 2))
-told-applying part h m = record {
-  opening = λ e. absurd (omega arith);
-  applying = λ j e. (let s : (part - 1) / 2 ≡ j = omega arith in ap order.applicability s);
-  correcting = λ j e. absurd (omega arith);
-}
-
-pub told-correcting : (part : ℕ) → 1 ≤ part → ((part - 1) % 2 ≡ 0 → ⊥) → PartTold part (Correctness ((part - 1) / 2))
-told-correcting part h m =
-    let n : (part - 1) % 2 ≡ 0 → ⊥ = m in
-    let r : (part - 1) % 2 ≡ 1 = omega arith in
-    record {
-      opening = λ e. absurd (omega arith);
-      applying = λ j e. absurd (omega (arith, r, e));
-      correcting = λ j e. (let s : (part - 1) / 2 ≡ j = omega (arith, r, e) in ap order.correctness s);
-    }
 
 -- the obligation of a part, by its number, is that of the checks at its places
 part-obligation : (d : Dossier) (part q : ℕ) {r : Obligation} → PartTold part r → part < parts d → q < partSize d part → obligationIs r ≡ obligationOf (checkAt (subjectOf d) (partBegin d part + q))

@@ -1,21 +1,18 @@
 -- What opening the held bytes leaves: nothing held, or the held check with the arrays of its text; and what the steps of the calls promise each other. Nothing here need be believed.
 use mathlib.Core.Path.{_≡_}
-use mathlib.Core.Bool.{Bool, true, cond}
+use mathlib.Core.Bool.{true}
 use mathlib.Core.List.{List}
-use Prim.Native.Nat.{ℕ, pred, _+_, _*_, _<_, _≤_}
-use lib.Dec.{leb}
+use Prim.Native.Nat.{ℕ, pred, _<_, _≤_}
 use lib.ListN.{length, take}
 use Rattle.form.specs.Tree.{Dossier}
 use Rattle.obligations.specs.Subjects.{subjectOf}
-use Rattle.obligations.specs.Order.{initialisation, applicability, correctness, total}
+use Rattle.obligations.specs.Order.{total}
 use Rattle.obligations.specs.Report.{checkAt, witnessLines}
 use Rattle.obligations.specs.Calls.{nothing, holding}
 use Rattle.readings.specs.Readings.{ReadingOf}
 use Rattle.labels.specs.Labels.{LabelsOf}
 use Rattle.part_places.specs.Places.{GroupsOf}
-use Rattle.held_checks.specs.declared.Obligation.{Obligation}
 use Rattle.held_checks.specs.HeldBytes.{bytesOf, heldText, isLaid, verdictMarked, fitting, heldBy}
-use Rattle.held_checks.specs.Answers.{obligationIs}
 
 -- something is held: the text's dossier, the place and the mark
 pub record Opened (b table rows firsts groups labels : List ℕ) (mark place operations all : ℕ) : Type 0 where
@@ -35,16 +32,6 @@ pub record Opened (b table rows firsts groups labels : List ℕ) (mark place ope
 pub record Opens (b table rows firsts groups labels : List ℕ) (mark place operations all : ℕ) : Type 0 where
   pub none : mark ≡ 0 → heldBy b ≡ nothing
   pub some : 0 < mark → Opened b table rows firsts groups labels mark place operations all
-
--- the mark after a search
-abbrev pub markAfter : (failed : Bool) (all place : ℕ) → ℕ
-markAfter failed all place = cond failed 3 (cond (leb all place) 2 1)
-
--- the obligation of a part by its number
-pub record PartTold (part : ℕ) (r : Obligation) : Type 0 where
-  pub opening : part ≡ 0 → obligationIs r ≡ initialisation
-  pub applying : (j : ℕ) → part ≡ 1 + 2 * j → obligationIs r ≡ applicability j
-  pub correcting : (j : ℕ) → part ≡ 2 + 2 * j → obligationIs r ≡ correctness j
 
 -- asked of a refuted check: the binding looked at last
 pub record LastAsked (text labels table groups : List ℕ) (operations place : ℕ) : Type 0 where

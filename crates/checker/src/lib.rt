@@ -3,23 +3,21 @@
 // is long. The figure is measured, on the texts that need the most (tests/stack), and not proved.
 ghost use mathlib.Core.Path.{_≡_};
 ghost use mathlib.Core.List.{[]};
-ghost use mathlib.Core.Bool.{true, cond};
-ghost use Prim.Native.Nat.{_+_, _^_, _<_, _≤_};
+ghost use mathlib.Core.Bool.{true};
+ghost use Prim.Native.Nat.{_+_, _≤_};
 ghost use lib.ListN.{length, take, drop};
 ghost use Rattle.obligations.specs.Calls as call;
 ghost use Rattle.held_checks.specs.HeldBytes.{heldText, isLaid};
 ghost use Rattle.held_checks.specs.Answers.{loadAnswer, advanceAnswer, verdictAnswer, witnessAnswer, dropped};
 ghost use Rattle.held_checks.specs.CallPromises.{Responds};
 ghost use Rattle.text_readings.specs.TextPromises.{ReadsText};
-ghost use Rattle.checker.specs.OpenPromises.{Opens, markAfter, PartTold, LastAsked, LastWritten};
+ghost use Rattle.checker.specs.OpenPromises.{Opens, LastAsked, LastWritten};
 use form::node::NUMBERS;
-use held_checks::ACCEPTED;
 use held_checks::AdvanceReply;
 use held_checks::HELD;
 use held_checks::LoadReply;
 use held_checks::MARK;
 use held_checks::NOTHING;
-use held_checks::Obligation;
 use held_checks::REFUTED;
 use held_checks::TEXT;
 use held_checks::UNFINISHED;
@@ -27,15 +25,15 @@ use held_checks::Verdict;
 use held_checks::VerdictReply;
 use held_checks::WitnessReply;
 use held_checks::clear;
+use held_checks::come_to;
 use held_checks::fits;
 use held_checks::laid;
 use held_checks::lay;
 use held_checks::length_in;
+use held_checks::obligation_of;
 use held_checks::place_in;
-use held_checks::turn;
+use held_checks::told;
 use labels::LABELS;
-use part_places::OBLIGATIONS;
-use part_places::OPENING;
 use part_places::find;
 use part_places::total;
 use parts::search;
@@ -158,35 +156,8 @@ pub fn load(text: &[u8], held: &mut [u8; HELD]) -> LoadReply
     );
     match answer {
         TextRead::Refused(n, p) => LoadReply::Faulty(n, p),
-        TextRead::Read(_) => {
-            lay(text, held);
-            LoadReply::Loaded
-        }
+        TextRead::Read(_) => lay(text, held),
     }
-}
-
-// The mark after a search that came to a place.
-fn mark_after(failed: bool, all: usize, place: usize) -> u8
-    ensures { λ r. ⌜ r ≡ markAfter failed all place ⌝ }
-{
-    if failed {
-        return REFUTED;
-    }
-    if all <= place {
-        return ACCEPTED;
-    }
-    UNFINISHED
-}
-
-// How many bindings were looked at up to a place, with the one that failed there.
-fn counted(failed: bool, at: usize) -> usize
-    requires { ⌜ at < 2 ^ 62 ⌝ }
-    ensures { λ r. ⌜ r ≡ cond failed (at + 1) at ⌝ }
-{
-    if failed {
-        return at + 1;
-    }
-    at
 }
 
 // Advance by n.
@@ -227,23 +198,7 @@ pub fn advance(n: usize, held: &mut [u8; HELD]) -> AdvanceReply
         o.place,
         o.place + n,
     );
-    let place = counted(w.failed, w.at);
-    turn(held, place, mark_after(w.failed, o.all, place));
-    AdvanceReply::Looked(place - o.place)
-}
-
-// The obligation of a part.
-fn obligation_of(part: usize) -> Obligation
-    ensures { λ r. ⌜ PartTold part r ⌝ }
-{
-    if part < OPENING {
-        return Obligation::Initialisation;
-    }
-    let k = (part - OPENING) / OBLIGATIONS;
-    if (part - OPENING) % OBLIGATIONS == 0 {
-        return Obligation::Applicability(k);
-    }
-    Obligation::Correctness(k)
+    come_to(held, o.place, o.all, w.failed, w.at)
 }
 
 // The verdict so far.
@@ -263,14 +218,8 @@ pub fn verdict(held: &[u8; HELD]) -> VerdictReply
         &mut groups,
         &mut labels,
     );
-    if o.mark == NOTHING {
-        return VerdictReply::NothingHeld;
-    }
-    if o.mark == UNFINISHED {
-        return VerdictReply::Is(Verdict::Unfinished);
-    }
-    if o.mark == ACCEPTED {
-        return VerdictReply::Is(Verdict::Accepted);
+    if o.mark != REFUTED {
+        return told(o.mark);
     }
     let f = find(&table, &groups, o.operations, o.place - 1);
     VerdictReply::Is(Verdict::Refuted(obligation_of(f.part)))

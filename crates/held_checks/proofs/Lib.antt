@@ -2,3 +2,4 @@
 pub mod HeldBytesLaws
 pub mod ByteSteps
 pub mod LayoutLaws
+pub mod StepLaws

@@ -1,11 +1,13 @@
 // The held check in lent bytes, and the answers of the calls. The bytes: 0 the mark, 1 the profile, 2 the operation, 3 spare (all three 0), from 4 on the text's length, from 8 on the
 // place, numbers with the lowest byte first, from 16 on the text, and zeros behind it. All zero is nothing held.
 ghost use mathlib.Core.Path.{_≡_};
-ghost use Prim.Native.Nat.{_+_, _<_, _≤_};
+ghost use Prim.Native.Nat.{_+_, _^_, _<_, _≤_};
 ghost use lib.ListN.{length, take, drop};
 ghost use Rattle.table_nodes.specs.TableWalkPromises.{patch};
 ghost use Rattle.held_checks.specs.HeldBytes.{littleEndian, fromBytes, bytesOf, noneHeld, isLaid, heldPlace, fitting};
 ghost use Rattle.held_checks.specs.BytePromises.{NumberAt, allZero, Turned};
+ghost use Rattle.held_checks.specs.Answers.{verdictAnswer};
+ghost use Rattle.held_checks.specs.StepPromises.{Lays, placeAfter, markAfter, Moves, PartTold, toldBy};
 use lexical::bounds::TEXT_BYTES;
 
 pub const MARK: usize = 0;
@@ -40,6 +42,11 @@ pub const UNFINISHED: u8 = 1;
 pub const ACCEPTED: u8 = 2;
 
 pub const REFUTED: u8 = 3;
+
+// The parts of a check: one of the initialisation, then two of each operation.
+const OPENING: usize = 1;
+
+const OBLIGATIONS: usize = 2;
 
 // An obligation, the last two with the operation's index.
 pub enum Obligation {
@@ -220,12 +227,13 @@ fn put_held(text: &[u8], held: &mut [u8])
     put_text(text, held);
 }
 
-// A text is held, at the beginning of its order.
-pub fn lay(text: &[u8], held: &mut [u8; HELD])
+// A text is held, at the beginning of its order: what load answers of a text that is read.
+pub fn lay(text: &[u8], held: &mut [u8; HELD]) -> LoadReply
     requires { ⌜ length (now text) ≤ 32768 ⌝ }
-    ensures { λ _. ⌜ now (held .exit) ≡ bytesOf (now (text .entry)) 0 1 ⌝ }
+    ensures { λ r. ⌜ Lays (now (text .entry)) (now (held .exit)) r ⌝ }
 {
     put_held(text, held);
+    LoadReply::Loaded
 }
 
 // The place and the mark.
@@ -238,8 +246,75 @@ fn put_turn(held: &mut [u8], place: usize, mark: u8)
 }
 
 // The held check comes to a place, with a mark.
-pub fn turn(held: &mut [u8; HELD], place: usize, mark: u8)
+fn turn(held: &mut [u8; HELD], place: usize, mark: u8)
     ensures { λ _. ⌜ Turned (now (held .entry)) place mark (now (held .exit)) ⌝ }
 {
     put_turn(held, place, mark);
+}
+
+// How many bindings were looked at up to a place, with the one that failed there.
+pub fn counted(failed: bool, at: usize) -> usize
+    requires { ⌜ at < 2 ^ 62 ⌝ }
+    ensures { λ r. ⌜ r ≡ placeAfter failed at ⌝ }
+{
+    if failed {
+        return at + 1;
+    }
+    at
+}
+
+// The mark after a search that came to a place.
+fn mark_after(failed: bool, all: usize, place: usize) -> u8
+    ensures { λ r. ⌜ r ≡ markAfter failed all place ⌝ }
+{
+    if failed {
+        return REFUTED;
+    }
+    if all <= place {
+        return ACCEPTED;
+    }
+    UNFINISHED
+}
+
+// A search from a place on stopped at another, of so many in all: the held check comes there. What advance answers.
+pub fn come_to(
+    held: &mut [u8; HELD],
+    from: usize,
+    all: usize,
+    failed: bool,
+    at: usize,
+) -> AdvanceReply
+    requires { ⌜ (from ≤ at) × (at < 2 ^ 62) ⌝ }
+    ensures { λ r. ⌜ Moves (now (held .entry)) from all failed at (now (held .exit)) r ⌝ }
+{
+    let place = counted(failed, at);
+    turn(held, place, mark_after(failed, all, place));
+    AdvanceReply::Looked(place - from)
+}
+
+// What verdict answers by a mark, where that is not the mark of a refuted check.
+pub fn told(mark: u8) -> VerdictReply
+    ensures { λ r. ⌜ verdictAnswer r ≡ toldBy mark ⌝ }
+{
+    if mark == NOTHING {
+        return VerdictReply::NothingHeld;
+    }
+    if mark == UNFINISHED {
+        return VerdictReply::Is(Verdict::Unfinished);
+    }
+    VerdictReply::Is(Verdict::Accepted)
+}
+
+// The obligation of a part.
+pub fn obligation_of(part: usize) -> Obligation
+    ensures { λ r. ⌜ PartTold part r ⌝ }
+{
+    if part < OPENING {
+        return Obligation::Initialisation;
+    }
+    let k = (part - OPENING) / OBLIGATIONS;
+    if (part - OPENING) % OBLIGATIONS == 0 {
+        return Obligation::Applicability(k);
+    }
+    Obligation::Correctness(k)
 }

@@ -1,17 +1,16 @@
 -- Block places: a block passes exactly if all its places do; a loop may step over blocks that pass. Assumes nothing.
-use mathlib.Core.Path.{_≡_, refl, sym, ap, subst, _∙_}
-use mathlib.Core.Bool.{Bool, true, false}
-use Prim.Native.Nat.{ℕ, _+_, _-_, _*_, _/_, _%_, _<_, _≤_}
-use native.Mathlib.Nat.{mod-lt, le-div-iff-mul-le, div-lt-iff-lt-mul, mul-le-mul}
-use native.Mathlib.Decide.{decLt}
+use mathlib.Core.Path.{_≡_, sym, ap, _∙_}
+use mathlib.Core.Bool.{true}
+use Prim.Native.Nat.{ℕ, _+_, _*_, _/_, _%_, _<_, _≤_}
+use native.Mathlib.Nat.{mod-lt, mul-le-mul}
 use native.Mathlib.Omega.{arith}
 use lib.Arith.{digits-div, digits-mod}
 use Rattle.plans.specs.declared.Part.{Part}
-use Rattle.nest.specs.PartTests.{PartTests, passesAt, passesFrom}
-use Rattle.nest.proofs.PassedPlaces.{Past, div-in}
-use Rattle.nest.proofs.PassingBlocks.{passes-here}
+use Rattle.nest_steps.specs.PartTests.{PartTests, passesAt, passesFrom}
+use Rattle.nest.proofs.PassedPlaces.{Past}
+use Rattle.nest_steps.proofs.PassingBlocks.{div-in, passes-here}
 use Rattle.nest.proofs.LoopStates.{perConcrete, perAbstract, passing}
-use Rattle.nest.specs.PassedBlocks.{PairPasses, WholePasses}
+use Rattle.nest_steps.specs.PassedBlocks.{PairPasses, WholePasses}
 
 -- ---- from blocks to places
 

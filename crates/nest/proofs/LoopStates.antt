@@ -9,8 +9,8 @@ use Rattle.sets.specs.Sets.{has}
 use Rattle.points.specs.Points.{Point, numberOf, Shows, Beside}
 use Rattle.points.specs.Searches.{Sought}
 use Rattle.plans.specs.declared.Part.{Part}
-use Rattle.nest.specs.PartTests.{PartTests, passesFrom}
-use Rattle.nest.specs.NestPromises.{Groups, Nest, NestAsked, Stepped}
+use Rattle.nest_steps.specs.PartTests.{PartTests, passesFrom}
+use Rattle.nest_steps.specs.NestPromises.{Groups, Nest, NestAsked, Stepped}
 use Rattle.nest.proofs.PassedPlaces.{Past, past-step, past-open, past-enter, past-leave, past-same}
 
 pub record Standing (cells : List ℕ) (slots : List (List ℤ)) (Numbers : Point → Type 0) (Fixed : Type 0) (f : ℕ → Bool) (from end x : ℕ) : Type 0 where

@@ -8,17 +8,18 @@ use native.Mathlib.Omega.{arith}
 use lib.IntN.{ℤ}
 use Rattle.plans.specs.declared.Part.{Part}
 use Rattle.idle_variables.specs.KeyPromises.{keyIn}
-use Rattle.nest.specs.declared.blocks.Masks.{Masks}
-use Rattle.nest.specs.PartTests.{PartTests, Looked}
-use Rattle.nest.specs.NestPromises.{Groups, Nest, NestAsked, ReadyAnswers, InputAnswers, OutputAnswers, AfterAnswers, SweepAnswers}
-use Rattle.nest.specs.OpenBlocks.{pairGroup, OpenConcrete, OpenAbstract}
-use Rattle.nest.specs.Remembering.{numbered, BindingAsked, AgainAnswers}
-use Rattle.nest.proofs.KeptGroups.{abstracts-ready, abstracts-meeting, concretes-meeting, inputs-meeting, outputs-meeting}
+use Rattle.nest_steps.specs.declared.blocks.Masks.{Masks}
+use Rattle.nest_steps.specs.PartTests.{PartTests, Looked}
+use Rattle.nest_steps.specs.NestPromises.{Groups, Nest, NestAsked, ReadyAnswers, InputAnswers, OutputAnswers, AfterAnswers}
+use Rattle.nest.specs.SweepPromises.{SweepAnswers}
+use Rattle.nest_steps.specs.OpenBlocks.{pairGroup, OpenConcrete, OpenAbstract}
+use Rattle.nest_steps.specs.Remembering.{numbered, BindingAsked, AgainAnswers}
+use Rattle.nest_steps.proofs.KeptGroups.{abstracts-ready, abstracts-meeting, concretes-meeting, inputs-meeting, outputs-meeting, asked-after}
 use Rattle.nest.proofs.PassedPlaces.{Past, past-before, past-same, past-more, past-leave, looked-all, looked-fault}
-use Rattle.nest.proofs.PassingBlocks.{premises-hold, passes-here}
+use Rattle.nest_steps.proofs.PassingBlocks.{premises-hold, passes-here}
 use Rattle.nest.proofs.LoopStates.{Standing, stands-same, stands-in, stands-out, perInput, perConcrete, perAbstract, passing, StateHolds, FrontHolds}
 use Rattle.nest.proofs.LoopStates.{OfAbstract, OfOutput, InAbstracts, InConcretes, InInputs, InOutputs, InAfters}
-use Rattle.nest.proofs.NextCandidates.{no-outer, asked-after, keep-abstract, keep-output, step-abstracts, step-concretes, step-inputs, step-outputs, step-afters, sought-afters}
+use Rattle.nest.proofs.NextCandidates.{no-outer, keep-abstract, keep-output, step-abstracts, step-concretes, step-inputs, step-outputs, step-afters, sought-afters}
 
 first-place : (n u s from : ℕ) → u * s ≤ from → (0 * n + u) * s ≤ from
 first-place n u s from h = omega arith

@@ -6,20 +6,19 @@ use Prim.Native.Nat.{ℕ, _+_, _*_, _/_, _%_, _<_, _≤_}
 use native.Mathlib.Nat.{mul-pos, le-trans}
 use native.Mathlib.Omega.{arith}
 use lib.IntN.{ℤ}
-use Rattle.sets.specs.Sets.{has}
 use Rattle.points.specs.Points.{Point, numberOf, Beside, Apart}
 use Rattle.points.specs.Searches.{Sought}
 use Rattle.points.proofs.PointNumbers.{number-apart, sought-same}
 use Rattle.plans.specs.declared.Part.{Part}
 use Rattle.idle_variables.specs.KeyPromises.{keyIn}
-use Rattle.nest.specs.declared.blocks.Masks.{Masks}
-use Rattle.nest.specs.PartTests.{PartTests}
-use Rattle.nest.specs.PassedBlocks.{PairPasses}
-use Rattle.nest.specs.OpenBlocks.{pairGroup, OpenConcrete, OpenAbstract}
-use Rattle.nest.specs.NestPromises.{Groups, Sized, Nest, NestAsked, Stepped, ForNest, InputAnswers, OutputAnswers, AfterAnswers}
-use Rattle.nest.proofs.KeptGroups.{abstracts-concretes, abstracts-inputs, abstracts-outputs, abstracts-primes, concretes-inputs, concretes-outputs}
-use Rattle.nest.proofs.KeptGroups.{concretes-primes, inputs-outputs, inputs-primes, outputs-primes, front-out}
-use Rattle.nest.proofs.PassingBlocks.{ready-block, front-block, steps-block}
+use Rattle.nest_steps.specs.declared.blocks.Masks.{Masks}
+use Rattle.nest_steps.specs.PartTests.{PartTests}
+use Rattle.nest_steps.specs.PassedBlocks.{PairPasses}
+use Rattle.nest_steps.specs.OpenBlocks.{pairGroup, OpenConcrete, OpenAbstract}
+use Rattle.nest_steps.specs.NestPromises.{Groups, Sized, Nest, NestAsked, InputAnswers, OutputAnswers, AfterAnswers}
+use Rattle.nest_steps.proofs.KeptGroups.{abstracts-concretes, abstracts-inputs, abstracts-outputs, abstracts-primes, concretes-inputs, concretes-outputs}
+use Rattle.nest_steps.proofs.KeptGroups.{concretes-primes, inputs-outputs, inputs-primes, outputs-primes, front-out, asked-after}
+use Rattle.nest_steps.proofs.PassingBlocks.{ready-block, front-block, steps-block}
 use Rattle.nest.proofs.LoopStates.{Standing, at-step, at-open, perInput, perConcrete, perAbstract, passing, StateHolds, RelatedHolds, ReadyHolds, FrontHolds}
 use Rattle.nest.proofs.BlockPlaces.{pair-places, whole-places}
 use Rattle.nest.proofs.LoopStates.{OfAbstract, OfConcrete, OfInput, OfOutput, InAbstracts, InConcretes, InInputs, InOutputs, InAfters}
@@ -50,18 +49,6 @@ module _ {cells : List ℕ} {G : Groups} (ss : List ℕ) {δ ε : Point} (b : Be
   pub keep-output : {a c i o : ℕ} → Apart (G .abstracts) ss → Apart (G .concretes) ss → Apart (G .inputs) ss → Apart (G .outputs) ss → OfOutput cells G a c i o δ
       → OfOutput cells G a c i o ε
   keep-output x y z v w = record { up = keep-input x y z (w .up); output-is = number-apart cells (G .outputs) ss δ ε v b ∙ w .output-is }
-
--- the arrays can be asked again behind a search
-pub asked-after : {table plan cells : List ℕ} {p : Part} {before after : List (List ℤ)} (ss : Groups → List ℕ) {e r : ℕ} → NestAsked table plan cells p before
-    → ForNest table plan cells p before (λ (G : Groups) (T : PartTests) (δ : Point). Stepped cells (ss G) δ e r after) → NestAsked table plan cells p after
-asked-after ss q l =
-    record {
-      groups = q .groups;
-      tests = q .tests;
-      point = l (q .groups) (q .tests) (q .point) (q .nest) (q .shows) .point;
-      nest = q .nest;
-      shows = l (q .groups) (q .tests) (q .point) (q .nest) (q .shows) .shows;
-    }
 
 lower : (x y c d : ℕ) → x ≤ y + c → c ≤ d → x ≤ y + d
 lower x y c d h g = omega arith

@@ -2,20 +2,17 @@
 use mathlib.Core.Path.{_≡_, refl, sym, ap, subst, _∙_}
 use mathlib.Core.Bool.{Bool, true, false, false≢true, true≢false}
 use Prim.Native.Nat.{ℕ, _+_, _-_, _*_, _/_, _%_, _<_, _≤_}
-use native.Mathlib.Nat.{le-div-iff-mul-le, div-lt-iff-lt-mul, div-mul-le-self, div-div-eq-div-mul, mul-comm}
+use native.Mathlib.Nat.{le-div-iff-mul-le, div-lt-iff-lt-mul, div-mul-le-self}
 use native.Mathlib.Decide.{decLt}
 use native.Mathlib.Omega.{arith}
 use lib.Arith.{digits-div, digits-mod}
 use Rattle.points.specs.Searches.{Sought}
-use Rattle.nest.specs.PartTests.{Looked}
+use Rattle.nest_steps.specs.PartTests.{Looked}
+use Rattle.nest_steps.proofs.PassingBlocks.{div-in}
 
 -- every place from `from` on that is before x, and before the end, passes
 pub record Past (f : ℕ → Bool) (from end x : ℕ) : Type 0 where
   pub each : (j : ℕ) → from ≤ j → j < x → j < end → f j ≡ true
-
--- two divisions are one
-pub div-in : (j n s : ℕ) → j / s / n ≡ j / (n * s)
-div-in j n s = div-div-eq-div-mul j s n ∙ ap (λ (m : ℕ). j / m) (mul-comm s n)
 
 high-digit : (x n q e : ℕ) → q ≡ x * n + e → e < n → q / n ≡ x
 high-digit x n q e w h = ap (λ (t : ℕ). t / n) w ∙ digits-div x h

@@ -11,7 +11,7 @@ use Rattle.points.specs.Points.{Point}
 use Rattle.points.specs.Searches.{SearchOf}
 use Rattle.plans.specs.declared.Part.{Part}
 use Rattle.plans.specs.PlanPromises.{ApplicabilityPlan}
-use Rattle.nest.specs.NestPromises.{Groups, Sized, Nest}
+use Rattle.nest_steps.specs.NestPromises.{Groups, Sized, Nest}
 use Rattle.part_tests.specs.PartGroups.{applicabilityGroups}
 use Rattle.part_tests.specs.PartsByNumber.{applicabilityTests}
 use Rattle.part_searches.proofs.SearchPlans.{none-asked, search-of}

@@ -15,7 +15,7 @@ use Rattle.points.specs.Searches.{SearchOf}
 use Rattle.points.proofs.PointNumbers.{number-apart}
 use Rattle.plans.specs.declared.Part.{Part}
 use Rattle.plans.specs.PlanPromises.{CorrectnessPlan}
-use Rattle.nest.specs.NestPromises.{Groups, someBinding, Sized, Nest}
+use Rattle.nest_steps.specs.NestPromises.{Groups, someBinding, Sized, Nest}
 use Rattle.part_tests.specs.PartGroups.{correctnessGroups}
 use Rattle.part_tests.specs.PartsByNumber.{abstractAt, match, correctnessTests}
 use Rattle.part_searches.proofs.SearchPlans.{search-of}

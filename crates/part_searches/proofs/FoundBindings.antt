@@ -21,7 +21,7 @@ use Rattle.slot_carriers.specs.CellGroups.{CellsOf}
 use Rattle.points.specs.Points.{Point, span, numberOf, placed, Tame, Beside, Distinct}
 use Rattle.points.proofs.PointNumbers.{Counts, number-low, number-append, number-placed, span-append, span-some, tame-placed, beside-placed}
 use Rattle.points.proofs.PointBindings.{span-count}
-use Rattle.nest.specs.NestPromises.{someBinding}
+use Rattle.nest_steps.specs.NestPromises.{someBinding}
 use Rattle.part_searches.proofs.SlotGroups.{among-upward, upward-among, distinct-upward, filled}
 
 -- ---- some number

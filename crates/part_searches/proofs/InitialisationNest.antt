@@ -15,7 +15,7 @@ use Rattle.points.specs.Searches.{SearchOf}
 use Rattle.points.proofs.PointNumbers.{number-apart}
 use Rattle.plans.specs.declared.Part.{Part}
 use Rattle.plans.specs.PlanPromises.{InitialisationPlan}
-use Rattle.nest.specs.NestPromises.{Groups, someBinding, Sized, Nest}
+use Rattle.nest_steps.specs.NestPromises.{Groups, someBinding, Sized, Nest}
 use Rattle.part_tests.specs.PartGroups.{openingGroups}
 use Rattle.part_tests.specs.PartsByNumber.{abstractAt, concreteAt, initial, initialMatch, initialisationTests}
 use Rattle.part_searches.specs.PartCells.{StatesCelled}

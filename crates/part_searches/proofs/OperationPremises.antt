@@ -14,7 +14,7 @@ use Rattle.points.specs.Points.{Point, numberOf, Tame, Apart}
 use Rattle.points.specs.Searches.{SearchOf}
 use Rattle.points.proofs.PointNumbers.{number-apart}
 use Rattle.plans.specs.PlanPromises.{OperationRows, PremisesPlan}
-use Rattle.nest.specs.NestPromises.{someBinding}
+use Rattle.nest_steps.specs.NestPromises.{someBinding}
 use Rattle.part_tests.specs.PartsByNumber.{abstractAt, concreteAt, outputAt, abstractState, relatedTo, abstractly, concretely, readyAt}
 use Rattle.part_searches.specs.PartCells.{OperationCelled}
 use Rattle.readings.specs.Readings.{ReadingOf}

@@ -15,7 +15,7 @@ use Rattle.points.specs.Points.{Point, span, numberOf, placed, Tame, Apart, Dis
 use Rattle.points.specs.Searches.{levelsHold, Planned, SearchOf}
 use Rattle.points.proofs.PointNumbers.{Counts, number-apart, number-append, number-low, number-placed, same-number, tame-placed}
 use Rattle.plans.specs.PlanPromises.{StepsPlan}
-use Rattle.nest.specs.NestPromises.{someBinding}
+use Rattle.nest_steps.specs.NestPromises.{someBinding}
 use Rattle.part_tests.specs.PartsByNumber.{concreteAt, outputAt, concretely, stepping}
 use Rattle.part_searches.proofs.LevelledTests.{Levelled, byLevel, levels-steady}
 use Rattle.part_searches.proofs.SearchPlans.{Searched, AskedAs, none-asked, askedFunctions, asked-levellings, search-planned, search-whole}

@@ -8,7 +8,7 @@ use Rattle.obligations.specs.Subjects.{Subject}
 use Rattle.obligations.specs.Order.{passes, total, Look, look}
 use Rattle.obligations.specs.Report.{checkAt}
 use Rattle.obligations.proofs.Advances.{nextChecks, advance-passes, advance-fails}
-use Rattle.nest.specs.PartTests.{Looked}
+use Rattle.nest_steps.specs.PartTests.{Looked}
 
 -- whether the check at a place passes
 abbrev pub passesPlace : Subject → ℕ → Bool

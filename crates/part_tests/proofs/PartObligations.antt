@@ -14,7 +14,7 @@ use Rattle.obligations.specs.Subjects.{subjectOf}
 use Rattle.obligations.specs.Obligations.{gives}
 use Rattle.obligations.specs.Order.{initialises, applies, corrects, passes}
 use Rattle.obligations.proofs.OperationTests.{initialisation-at, applicability-at, correctness-at}
-use Rattle.nest.specs.PartTests.{passesAt}
+use Rattle.nest_steps.specs.PartTests.{passesAt}
 use Rattle.part_tests.specs.PartsByNumber.{abstractAt, concreteAt, inputAt, outputAt, initial, initialMatch, initialisationTests}
 use Rattle.part_tests.specs.PartsByNumber.{abstractState, relatedTo, abstractly, concretely, readyAt, stepping, match, applicabilityTests, correctnessTests}
 

@@ -13,7 +13,7 @@ use Rattle.obligations.specs.Order.{initialises, applicabilityChecks, correctne
 use Rattle.obligations.specs.Report.{checkAt}
 use Rattle.obligations.proofs.Digits.{abstracts, concretes, givens, results, applicabilitySize, correctnessSize, startOf}
 use Rattle.obligations.proofs.Digits.{applicability-digits, correctness-digits, initialisation-place, applicability-place, correctness-place}
-use Rattle.nest.specs.PartTests.{passesAt, passesFrom}
+use Rattle.nest_steps.specs.PartTests.{passesAt, passesFrom}
 use Rattle.part_tests.specs.PartsByNumber.{initialisationTests, applicabilityTests, correctnessTests}
 use Rattle.part_tests.proofs.PartObligations.{passes-initialises, passes-applies, passes-corrects}
 

@@ -8,7 +8,7 @@ use Rattle.static_rules.specs.Carriers.{Variable}
 use Rattle.static_rules.specs.Limits.{bindingCount}
 use Rattle.slot_carriers.specs.CellGroups.{CellsOf}
 use Rattle.plans.specs.declared.Part.{Part}
-use Rattle.nest.specs.NestPromises.{Groups}
+use Rattle.nest_steps.specs.NestPromises.{Groups}
 
 -- the cells of both states, plain and primed
 pub record StateCells (cells : List ℕ) (us cs : List Variable) : Type 0 where

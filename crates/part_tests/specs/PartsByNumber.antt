@@ -10,7 +10,7 @@ use Rattle.static_rules.specs.Scope.{inputs}
 use Rattle.meaning.specs.Meaning.{Binding, holds}
 use Rattle.meaning.specs.Bindings.{bindings}
 use Rattle.meaning.specs.Operations.{environment, abstractBindings, concreteBindings, outputBindings, isState, after}
-use Rattle.nest.specs.PartTests.{PartTests}
+use Rattle.nest_steps.specs.PartTests.{PartTests}
 
 abbrev pub nth : List Binding → ℕ → Binding
 nth bs k = getD bs k []

@@ -13,7 +13,7 @@ use Rattle.obligations.specs.Subjects.{subjectOf}
 use Rattle.obligations.proofs.Digits.{concretes, givens, applicabilitySize, correctnessSize, startOf}
 use Rattle.plans.specs.declared.Part.{Part}
 use Rattle.plans.specs.PlanPromises.{InitialisationPlan, ApplicabilityPlan, CorrectnessPlan}
-use Rattle.nest.specs.PartTests.{passesFrom}
+use Rattle.nest_steps.specs.PartTests.{passesFrom}
 use Rattle.part_tests.specs.PartsByNumber.{initialisationTests, applicabilityTests, correctnessTests}
 use Rattle.part_tests.specs.PartGroups as made
 use Rattle.part_tests.specs.PartGroups.{openingPart, applicabilityPart, correctnessPart}

@@ -10,8 +10,9 @@ use lib.IntN.{ℤ}
 use Rattle.form.specs.Tree.{Dossier}
 use Rattle.obligations.specs.Subjects.{subjectOf}
 use Rattle.plans.specs.declared.Part.{Part}
-use Rattle.nest.specs.PartTests.{PartTests, passesFrom, Looked}
-use Rattle.nest.specs.NestPromises.{Groups, Nest, NestAsked, SweepAnswers}
+use Rattle.nest_steps.specs.PartTests.{PartTests, passesFrom, Looked}
+use Rattle.nest_steps.specs.NestPromises.{Groups, Nest, NestAsked}
+use Rattle.nest.specs.SweepPromises.{SweepAnswers}
 use Rattle.part_setup.specs.SetupPromises.{FirstValues, Filled}
 use Rattle.part_tests.specs.PartOrder.{partSize, partBegin}
 use Rattle.readings.specs.Readings.{ReadingOf}

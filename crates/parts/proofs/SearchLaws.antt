@@ -9,7 +9,7 @@ use lib.ListN.{length}
 use Rattle.form.specs.Tree.{Dossier}
 use Rattle.obligations.specs.Subjects.{subjectOf}
 use Rattle.obligations.specs.Order.{total}
-use Rattle.nest.specs.PartTests.{Looked}
+use Rattle.nest_steps.specs.PartTests.{Looked}
 use Rattle.part_tests.specs.PartOrder.{partSize, partBegin}
 use Rattle.readings.specs.Readings.{ReadingOf}
 use Rattle.part_tests.proofs.LookedChecks.{passesPlace, looked-look, looked-none}

@@ -4,7 +4,7 @@ use mathlib.Core.Bool.{Bool, true, false, true≢false}
 use Prim.Native.Nat.{ℕ, _+_, _-_, _<_, _≤_, min}
 use native.Mathlib.Omega.{arith}
 use native.Mathlib.Decide.{decLt}
-use Rattle.nest.specs.PartTests.{Looked}
+use Rattle.nest_steps.specs.PartTests.{Looked}
 use Rattle.part_tests.proofs.LookedChecks.{looked-part, looked-join}
 
 -- from `from` on the search came to `to`, in a part that ends at `last`: it goes on from there, or stops at a failing place

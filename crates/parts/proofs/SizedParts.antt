@@ -16,7 +16,7 @@ use Rattle.slot_carriers.specs.CellGroups.{CellsOf, Grouped}
 use Rattle.points.specs.Points.{span}
 use Rattle.points.proofs.PointNumbers.{span-append}
 use Rattle.points.proofs.PointBindings.{span-count}
-use Rattle.nest.specs.NestPromises.{Sized}
+use Rattle.nest_steps.specs.NestPromises.{Sized}
 use Rattle.part_tests.specs.PartGroups.{openingPart, applicabilityPart, correctnessPart}
 use Rattle.part_searches.specs.PartCells.{StatesCelled, OperationCelled}
 use Rattle.readings.specs.Readings.{ReadingOf}

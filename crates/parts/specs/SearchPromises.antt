@@ -6,8 +6,8 @@ use Prim.Native.Nat.{ℕ, suc, _+_, _-_, _*_, _<_, _≤_, min}
 use lib.ListN.{length, take, drop}
 use Rattle.form.specs.Tree.{Dossier}
 use Rattle.plans.specs.declared.Part.{Part}
-use Rattle.nest.specs.PartTests.{PartTests, passesFrom, Looked}
-use Rattle.nest.specs.NestPromises.{Groups, Nest}
+use Rattle.nest_steps.specs.PartTests.{PartTests, passesFrom, Looked}
+use Rattle.nest_steps.specs.NestPromises.{Groups, Nest}
 use Rattle.obligations.specs.Subjects.{subjectOf}
 use Rattle.obligations.specs.Order.{passes, checks, total, look}
 use Rattle.obligations.specs.Report.{checkAt}

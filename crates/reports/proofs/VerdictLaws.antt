@@ -23,6 +23,7 @@ use Rattle.labels.specs.Labels.{LabelsOf}
 use Rattle.part_places.specs.Places.{GroupsOf, parts, AllAsked, TotalIs, PlaceAsked, PlaceFound}
 use Rattle.part_places.proofs.PlaceObligations.{obligation-opening, obligation-applying, obligation-correcting}
 use Rattle.part_places.proofs.ReadingGroups.{reading-groups}
+use Rattle.held_checks.specs.StepPromises.{placeAfter}
 use Rattle.witnesses.specs.WitnessPromises.{WitnessAsked, WitnessWritten}
 use Rattle.reports.specs.ReportPromises.{LineWritten, VerdictAsked, VerdictWritten}
 use Rattle.reports.proofs.LineRooms.{digits-short}
@@ -47,7 +48,7 @@ module _ {text labels table rows firsts groups : List ℕ} {operations : ℕ} (k
       looked : (d : Dossier) → ReadingOf table rows firsts groups d → operations ≡ length (d .operations) → look (subjectOf d) (checks (subjectOf d)) ≡ came at true
       looked d r m = subst (λ (b : Bool). look (subjectOf d) (checks (subjectOf d)) ≡ came at b) f (whole-look d s r m (t .is d (reading-groups r) m))
 
-      pub at-inside : at < total (subjectOf (k .dossier))
+      at-inside : at < total (subjectOf (k .dossier))
       at-inside = failed-inside (k .dossier) at (looked (k .dossier) (k .arrays) (k .many))
 
       pub place-asked : PlaceAsked table groups operations at
@@ -68,6 +69,21 @@ module _ {text labels table rows firsts groups : List ℕ} {operations : ℕ} (k
             let h = p .within (k .dossier) (reading-groups (k .arrays)) (k .many) at-inside in
             let o = k .arrays .operations in
             omega arith
+
+-- where a search over all places stops, no place is too great to count
+module _ {text labels table rows firsts groups : List ℕ} {operations : ℕ} (k : VerdictAsked text labels table rows firsts groups operations) {all at : ℕ} {failed : Bool}
+    (t : TotalIs table groups operations all) (s : SearchAnswers table rows firsts groups operations 0 all at failed) where
+  came-whole : failed ≡ false → at ≡ total (subjectOf (k .dossier))
+  came-whole f =
+      accepted-whole (k .dossier) at (subst (λ (b : Bool). look (subjectOf (k .dossier)) (checks (subjectOf (k .dossier))) ≡ came at b) f
+      (whole-look (k .dossier) s (k .arrays) (k .many) (t .is (k .dossier) (reading-groups (k .arrays)) (k .many))))
+
+  pub at-small : at < 2 ^ 62
+  at-small = on failed refl
+    where
+      on : (b : Bool) → failed ≡ b → at < 2 ^ 62
+      on true f = let i = at-inside k t s f in let z = reading-small (k .arrays) in omega arith
+      on false f = let i = came-whole f in let z = reading-small (k .arrays) in omega arith
 
 -- the first line of the obligation at a place of a part
 module _ {text labels before after : List ℕ} {part q x : ℕ} (d : Dossier) (l : LabelsOf text labels d) (h : part < parts d) (low : q < partSize d part)
@@ -106,11 +122,18 @@ count-short n h =
     let t = length-append (bytes "bindings ") (decimal n) in
     omega arith
 
+-- how many bindings were looked at
+count-failed : (failed : Bool) (at : ℕ) {n : ℕ} → failed ≡ true → n ≡ placeAfter failed at → n ≡ suc at
+count-failed failed at f e = let q : at + 1 ≡ suc at = omega arith in e ∙ ap (λ (b : Bool). placeAfter b at) f ∙ q
+
+count-whole : (failed : Bool) (at : ℕ) {n : ℕ} → failed ≡ false → n ≡ placeAfter failed at → n ≡ at
+count-whole failed at f e = e ∙ ap (λ (b : Bool). placeAfter b at) f
+
 module _ {text labels table rows firsts groups : List ℕ} {operations : ℕ} (k : VerdictAsked text labels table rows firsts groups operations) {all at : ℕ} {failed : Bool}
     (t : TotalIs table groups operations all) (s : SearchAnswers table rows firsts groups operations 0 all at failed) {before after : List ℕ} {r : ℕ} where
-  pub refuted-written : {part q x y : ℕ} {a b : List ℕ} → failed ≡ true → PlaceFound table groups operations at part q → LineWritten text labels part 0 before a x
-      → WitnessWritten text labels table groups part q x a b y → Writes y (countLine (at + 1)) b after r → VerdictWritten text labels table rows firsts groups operations before after r
-  refuted-written {part} {q} {x} {y} {a} {b} f p line lines count = record {
+  pub refuted-written : {part q x y n : ℕ} {a b : List ℕ} → failed ≡ true → PlaceFound table groups operations at part q → LineWritten text labels part 0 before a x
+      → WitnessWritten text labels table groups part q x a b y → n ≡ placeAfter failed at → Writes y (countLine n) b after r → VerdictWritten text labels table rows firsts groups operations before after r
+  refuted-written {part} {q} {x} {y} {n} {a} {b} f p line lines looks count = record {
     lines = λ d g l m.
         let e = looked k t s f d g m in
         let i = failed-inside d at e in
@@ -118,28 +141,28 @@ module _ {text labels table rows firsts groups : List ℕ} {operations : ℕ} (k
         let h : at ≡ partBegin d part + q = p .is d o m i in
         let w = first-line d l (p .within d o m i) (p .low d o m i) line in
         let v = lines .lines d o l (p .within d o m i) (p .low d o m i) in
-        let n : at + 1 ≡ suc at = omega arith in
-        let u : Writes y (countLine (suc at)) b after r = subst (λ (c : ℕ). Writes y (countLine c) b after r) n count in
+        let u : Writes y (countLine (suc at)) b after r = subst (λ (c : ℕ). Writes y (countLine c) b after r) (count-failed failed at f looks) count in
         subst (λ (z : List ℕ). Writes 0 z before after r) (sym (refuted-lines d at e))
         (subst (λ (c : ℕ). Writes 0 (refutedLine d (obligationOf (checkAt (subjectOf d) c)) ++ witnessLines (subjectOf d) (checkAt (subjectOf d) c) ++ countLine (suc at)) before after r)
         (sym h) (both-written (both-written w v) u));
     short =
         let i = at-inside k t s f in
         let z = reading-small (k .arrays) in
-        let c = count-short (at + 1) (omega arith) in
+        let e = count-failed failed at f looks in
+        let c = count-short n (omega arith) in
         omega (arith, line .short, lines .short, count .end);
   }
 
-  pub accepted-written : {x : ℕ} {a : List ℕ} → failed ≡ false → Writes 0 (bytes "accepted\n") before a x → Writes x (countLine at) a after r
+  pub accepted-written : {x n : ℕ} {a : List ℕ} → failed ≡ false → Writes 0 (bytes "accepted\n") before a x → n ≡ placeAfter failed at → Writes x (countLine n) a after r
       → VerdictWritten text labels table rows firsts groups operations before after r
-  accepted-written {x} {a} f word count = record {
+  accepted-written {x} {n} {a} f word looks count = record {
     lines = λ d g l m.
         let e = subst (λ (b : Bool). look (subjectOf d) (checks (subjectOf d)) ≡ came at b) f (whole-look d s g m (t .is d (reading-groups g) m)) in
-        subst (λ (z : List ℕ). Writes 0 z before after r) (sym (accepted-lines d at e)) (both-written word count);
+        let u : Writes x (countLine at) a after r = subst (λ (c : ℕ). Writes x (countLine c) a after r) (count-whole failed at f looks) count in
+        subst (λ (z : List ℕ). Writes 0 z before after r) (sym (accepted-lines d at e)) (both-written word u);
     short =
-        let e = subst (λ (b : Bool). look (subjectOf (k .dossier)) (checks (subjectOf (k .dossier))) ≡ came at b) f
-        (whole-look (k .dossier) s (k .arrays) (k .many) (t .is (k .dossier) (reading-groups (k .arrays)) (k .many))) in
-        let n = accepted-whole (k .dossier) at e in
+        let e = count-whole failed at f looks in
+        let i = came-whole k t s f in
         let z = reading-small (k .arrays) in
-        omega (arith, accepted-long, word .end, count-short at (omega arith), count .end);
+        omega (arith, accepted-long, word .end, count-short n (omega arith), count .end);
   }

@@ -8,6 +8,7 @@ ghost use Rattle.reports.specs.ReportPromises.{Reported, RefutedLine, Li
 ghost use Rattle.held_checks.specs.Answers.{obligationIs};
 use form::node::NUMBERS;
 use held_checks::Obligation;
+use held_checks::counted;
 use labels::LABELS;
 use labels::TITLES;
 use part_places::OBLIGATIONS;
@@ -115,14 +116,15 @@ fn put_verdict(
 {
     let all = total(table, groups, operations);
     let w = search(table, rows, firsts, groups, operations, 0, all);
+    let n = counted(w.failed, w.at);
     if w.failed {
         let f = find(table, groups, operations, w.at);
         let a = put_refuted(text, labels, f.part, out, 0);
         let b = put_witness(text, labels, table, groups, f, out, a);
-        return put_count(w.at + 1, out, b);
+        return put_count(n, out, b);
     }
     let a = put_all(b"accepted\n", out, 0);
-    put_count(w.at, out, a)
+    put_count(n, out, a)
 }
 
 // The report of a text in front of the lent bytes, and its length. 1,536 KiB of stack are enough for every text, as for the calls (crates/checker).

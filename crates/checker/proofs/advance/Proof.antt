@@ -1,11 +1,11 @@
--- answers sha256 74d983cf2c28c9f7
+-- answers sha256 4f47bad156cb7f6c
 -- `checker::advance` meets its contract: the search from the held place on is the look at the next bindings.
 use borrow.Author.Needs.{needs}
 use mathlib.Core.Path.{refl}
 use native.Mathlib.Omega.{arith}
 use Rattle.checker.proofs.MarkLaws.{above}
 use Rattle.checker.proofs.CallLaws.{nothing-advance, advance-finished}
-use Rattle.checker.proofs.AdvanceLaws.{advance-none, advance-over, place-small, search-asked, looked-most, looked-least, advance-looked}
+use Rattle.checker.proofs.AdvanceLaws.{advance-none, advance-over, place-small, search-asked, looked-most, advance-looked}
 use Rattle.checker.proofs.advance.Statement.{statement}
 use Rattle.checker.proofs.advance.Tie as tie
 
@@ -30,22 +30,12 @@ add-search c = omega (arith, place-small (c .before .before .before .before .bef
 search-requires : tie.Need-search-requires
 search-requires c κs = ((omega arith, omega (arith, place-small (c .before .before .before .before .before .before .before .before .before .before .before .open-bytes .ensures .some (above (c .before .before .before .before .before .before .before .before .before .if1 .left))) (c .before .before .before .before .before .before .before .if2 .left), c .before .before .before .before .before .if4 .left)), search-asked (c .before .before .before .before .before .before .before .before .before .before .before .open-bytes .ensures .some (above (c .before .before .before .before .before .before .before .before .before .if1 .left))) (c .before .before .before .before .before .before .before .if2 .left))
 
-counted-requires : tie.Need-counted-requires
-counted-requires c κs = omega (arith, looked-most (c .before .before .before .before .before .before .before .before .before .before .before .before .open-bytes .ensures .some (above (c .before .before .before .before .before .before .before .before .before .before .if1 .left))) (c .before .before .before .before .before .before .before .before .if2 .left) (c .before .before .before .before .before .before .before .if3 .left) (omega (arith, c .before .before .before .before .before .before .if4 .left)) refl (c .search .ensures), place-small (c .before .before .before .before .before .before .before .before .before .before .before .before .open-bytes .ensures .some (above (c .before .before .before .before .before .before .before .before .before .before .if1 .left))) (c .before .before .before .before .before .before .before .before .if2 .left), c .before .before .before .before .before .before .if4 .left)
-
-mark-after-requires : tie.Need-mark-after-requires
-mark-after-requires c κs = search needs
-
-turn-requires : tie.Need-turn-requires
-turn-requires c κs = search needs
-
-sub-t22 : tie.Need-sub-t22
-sub-t22 c = looked-least (c .before .before .before .before .before .before .before .before .before .before .before .before .before .before .before .before .before .open-bytes .ensures .some (above (c .before .before .before .before .before .before .before .before .before .before .before .before .before .before .before .if1 .left))) (c .before .before .before .before .before .before .before .before .before .before .before .before .before .if2 .left) (c .before .before .before .before .before .before .before .before .before .before .before .before .if3 .left) (omega (arith, c .before .before .before .before .before .before .before .before .before .before .before .if4 .left)) refl (c .before .before .before .before .before .search .ensures) (c .before .before .before .before .counted .ensures)
+come-to-requires : tie.Need-come-to-requires
+come-to-requires c κs = (c .before .search .ensures .low, omega (arith, looked-most (c .before .before .before .before .before .before .before .before .before .before .before .before .before .open-bytes .ensures .some (above (c .before .before .before .before .before .before .before .before .before .before .before .if1 .left))) (c .before .before .before .before .before .before .before .before .before .if2 .left) (c .before .before .before .before .before .before .before .before .if3 .left) (omega (arith, c .before .before .before .before .before .before .before .if4 .left)) refl (c .before .search .ensures), place-small (c .before .before .before .before .before .before .before .before .before .before .before .before .before .open-bytes .ensures .some (above (c .before .before .before .before .before .before .before .before .before .before .before .if1 .left))) (c .before .before .before .before .before .before .before .before .before .if2 .left), c .before .before .before .before .before .before .before .if4 .left))
 
 returns-5 : tie.Need-returns-5
-returns-5 c = advance-looked (c .before .before .before .before .before .before .before .before .before .before .before .before .before .before .before .before .before .open-bytes .ensures .some (above (c .before .before .before .before .before .before .before .before .before .before .before .before .before .before .before .if1 .left))) (c .before .before .before .before .before .before .before .before .before .before .before .before .before .if2 .left) (c .before .before .before .before .before .before .before .before .before .before .before .before .if3 .left) (omega (arith, c .before .before .before .before .before .before .before .before .before .before .before .if4 .left)) refl (c .before .before .before .before .before .search .ensures) (c .before .before .before .before .counted .ensures) (c .before .before .mark-after .ensures) (c .before .turn .ensures)
+returns-5 c = advance-looked (c .before .before .before .before .before .before .before .before .before .before .before .before .before .before .open-bytes .ensures .some (above (c .before .before .before .before .before .before .before .before .before .before .before .before .if1 .left))) (c .before .before .before .before .before .before .before .before .before .before .if2 .left) (c .before .before .before .before .before .before .before .before .before .if3 .left) (omega (arith, c .before .before .before .before .before .before .before .before .if4 .left)) refl (c .before .before .search .ensures) (c .come-to .ensures)
 
 pub advance-spec : {M : Type 1} → statement M
 advance-spec =
-    tie.close (tie.spec open-bytes-requires returns returns-2 returns-3 returns-4 add-search search-requires counted-requires mark-after-requires turn-requires
-    sub-t22 returns-5)
+    tie.close (tie.spec open-bytes-requires returns returns-2 returns-3 returns-4 add-search search-requires come-to-requires returns-5)

@@ -1,4 +1,4 @@
--- answers sha256 6beb8f709aaadd6d
+-- answers sha256 d37df7b86b6c5a32
 -- `checker::load` meets its contract.
 use borrow.Author.Needs.{needs}
 use Rattle.checker.proofs.OpenLaws.{text-held, text-faulty, read-short}
@@ -29,7 +29,7 @@ returns-2 : tie.Need-returns-2
 returns-2 c = load-faulty (c .before .before .before .before .before .before .before .before .before .before .before .open-bytes .ensures .none (c .before .before .before .before .before .before .before .before .before .if1 .left)) (c .before .before .before .before .before .before .before .before .before .before .before .before .before .before .before .before .before .before .before .args .text .now) (text-faulty (c .before .before .before .read-text .ensures) (c .before .answer .given .1)) (c .before .answer .given .1)
 
 returns-3 : tie.Need-returns-3
-returns-3 c = load-loaded (c .before .before .before .before .before .before .before .before .before .before .before .before .open-bytes .ensures .none (c .before .before .before .before .before .before .before .before .before .before .if1 .left)) (c .before .before .before .before .before .before .before .before .before .before .before .before .before .before .before .before .before .before .before .before .args .text .now) (text-held (c .before .before .before .before .read-text .ensures) (c .before .before .enum-told .given .1)) (c .lay .ensures)
+returns-3 c = load-loaded (c .before .before .before .before .before .before .before .before .before .before .before .before .open-bytes .ensures .none (c .before .before .before .before .before .before .before .before .before .before .if1 .left)) (c .before .before .before .before .before .before .before .before .before .before .before .before .before .before .before .before .before .before .before .before .args .text .now) (text-held (c .before .before .before .before .read-text .ensures) (c .before .before .enum-told .given .1)) (c .lay .ensures .bytes) (c .lay .ensures .answer)
 
 pub load-spec : {M : Type 1} → statement M
 load-spec =

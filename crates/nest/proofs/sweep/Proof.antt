@@ -1,4 +1,4 @@
--- answers sha256 d2793c3ab03a083e
+-- answers sha256 e980a1ccb5af4cd6
 -- `nest::sweep` meets its contract: in each loop, what is before the candidate at which it stands passed. Assumes nothing.
 use mathlib.Core.List.{_++_}
 use native.Mathlib.Nat.{le-of-lt}
@@ -10,16 +10,18 @@ use borrow.Author.Needs.{needs}
 use borrow.Author.Tests.{not-true, not-false}
 use Rattle.nest.proofs.PassedPlaces.{enter-high, enter-last}
 use Rattle.nest.proofs.LoopStates.{InAbstracts, InConcretes, InInputs, InOutputs, InAfters}
-use Rattle.nest.proofs.NextCandidates.{some-input, some-concrete, some-abstract, asked-after, rise-outputs}
+use Rattle.nest.proofs.NextCandidates.{some-input, some-concrete, some-abstract, rise-outputs}
+use Rattle.nest_steps.proofs.KeptGroups.{asked-after}
 use Rattle.nest.proofs.NestedLoops.{start, enter-concretes, enter-inputs, enter-outputs, enter-afters, again-abstracts, again-concretes, again-inputs, again-outputs, binding-here, again-afters, rise-afters, leave-abstracts, leave-last, leave-concretes, leave-afters, leave-fault}
 use Rattle.nest.proofs.Products.{small-input, small-concrete, small-abstract, small-a, small-ac, small-x, small-c, small-xi, small-y, small-yq, small-z, small-zk, start-high}
 use Rattle.memo.specs.MemoPromises.{Memo}
 use Rattle.memo.proofs.Memos.{blank-memo}
-use Rattle.nest.specs.Remembering.{Remembered}
-use Rattle.nest.specs.OpenBlocks.{PairsSeen, WholesSeen}
-use Rattle.nest.proofs.IdleGroups.{pair-asked, concrete-asked, whole-asked}
-use Rattle.nest.proofs.OpenSearches.{no-pair-seen, no-whole-seen, pair-marked, whole-marked}
-use Rattle.nest.proofs.RememberedConclusions.{none-known}
+use Rattle.nest_steps.specs.Remembering.{Remembered}
+use Rattle.nest_steps.specs.OpenBlocks.{PairsSeen, WholesSeen}
+use Rattle.nest_steps.proofs.IdleGroups.{pair-asked, concrete-asked, whole-asked}
+use Rattle.nest_steps.proofs.OpenSearches.{no-pair-seen, no-whole-seen}
+use Rattle.nest.proofs.MarkedBlocks.{pair-marked, whole-marked}
+use Rattle.nest_steps.proofs.RememberedConclusions.{none-known}
 use Rattle.nest.proofs.sweep.Statement.{statement}
 use Rattle.nest.proofs.sweep.Tie as tie
 

@@ -1,0 +1,12 @@
+pub mod PassingBlocks
+pub mod KeptGroups
+pub mod FoundNumbers
+pub mod RememberedConclusions
+pub mod KeyProducts
+pub mod BoundInputs
+pub mod NextBits
+pub mod ReadyInputs
+pub mod IdleGroups
+pub mod KeyedTests
+pub mod AlikeBlocks
+pub mod OpenSearches

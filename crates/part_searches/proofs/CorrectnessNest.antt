@@ -46,12 +46,12 @@ module _ {table rows firsts groups cells plan : List ℕ} {d : Dossier} {op : Op
   vo = length (outputs d op)
 
   -- the abstract after state matches, at the numbers of a point
-  abbrev matching : Point → Point → Bool
+  abbrev pub matching : Point → Point → Bool
   matching δ ε =
       match d op (numberOf cells (abstractGroup d) δ) (numberOf cells (inputGroup d op) δ) (numberOf cells (outputGroup d op) δ) (numberOf cells (concreteAfterGroup d) δ)
       (abstractAt d (numberOf cells (abstractAfterGroup d) ε))
 
-  met : SearchOf table plan cells 4 (abstractAfterGroup d) (λ (δ : Point). matching δ δ)
+  pub met : SearchOf table plan cells 4 (abstractAfterGroup d) (λ (δ : Point). matching δ δ)
   unfolding match
   met =
       let a = small X .abstracts in

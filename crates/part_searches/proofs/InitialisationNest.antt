@@ -51,7 +51,7 @@ module _ {table rows firsts groups plan cells : List ℕ} {d : Dossier} (R : Rea
   steps = search-of {see = Anywhere} none-asked none-asked none-asked (N .steps) (no-variables (omega arith))
 
   -- the concrete initial states
-  related : SearchOf table plan cells 1 (concreteGroup d) (λ (δ : Point). initial d (numberOf cells (concreteGroup d) δ))
+  pub related : SearchOf table plan cells 1 (concreteGroup d) (λ (δ : Point). initial d (numberOf cells (concreteGroup d) δ))
   unfolding initial
   related =
       search-same
@@ -62,10 +62,10 @@ module _ {table rows firsts groups plan cells : List ℕ} {d : Dossier} (R : Rea
       (and-true (holds (d .cinit) (environment d (concreteAt d (numberOf cells (concreteGroup d) δ))))))
 
   -- an abstract initial state that is related
-  abbrev meetly : Point → Bool
+  abbrev pub meetly : Point → Bool
   meetly δ = initialMatch d (numberOf cells (concreteGroup d) δ) (abstractAt d (numberOf cells (abstractGroup d) δ))
 
-  met : SearchOf table plan cells 4 (abstractGroup d) meetly
+  pub met : SearchOf table plan cells 4 (abstractGroup d) meetly
   unfolding initialMatch
   met =
       search-of (abstract-asked (R .tests) C few-a few-c (common-rows (R .tests) .abstractly)) (ainit-asked (R .tests) C few-a few-c (common-rows (R .tests) .ainit))

@@ -1,0 +1,5 @@
+pub mod Placings
+pub mod Shown
+pub mod Reads
+pub mod FalseConjuncts
+pub mod Omissions

@@ -1,0 +1,2 @@
+pub mod TrialPromises
+pub mod Written

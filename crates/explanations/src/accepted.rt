@@ -23,7 +23,7 @@ use step_facts::related_pairs;
 use step_facts::spans;
 use step_facts::step;
 
-// How many concrete states there are.
+// How many concrete states there are, counted one after the other; unlike the counts of `step_facts` this one has no promise.
 fn concrete_states(
     t: &[u16; 16384],
     rows: &[u16; 16384],

@@ -123,7 +123,7 @@ fn say_left_out_concretely(
     say_omission(t, rows, firsts, groups, operations, j, outputs, page);
 }
 
-// What the predicates of all operations leave out.
+// What the predicates of all operations leave out. What is listed is left out; that what is not listed is mentioned rests on `mentions::free_pred`, whose promise is one-sided.
 pub fn say_omissions(
     t: &[u16; 16384],
     rows: &[u16; 16384],

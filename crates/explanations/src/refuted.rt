@@ -59,7 +59,7 @@ fn say_initial(
     say_conjunct(text, rows, row, words::WHY_TWO_STATES_ARE_NOT_RELATED, page);
 }
 
-// The abstract initial states from the first on; `and more` where there are more than are shown.
+// The abstract initial states from the one in x on, as many as are shown; `and more` where there are others.
 fn say_initials(
     text: &[u8],
     t: &[u16; 16384],
@@ -223,7 +223,7 @@ fn say_step(
     say_conjunct(text, rows, row, words::WHY_TWO_STATES_ARE_NOT_RELATED, page);
 }
 
-// The abstract steps with the outputs of the binding, from the step r on; those before `end` have them.
+// The abstract steps with the inputs and outputs of the binding, as many as are shown; `and more` where there are others.
 fn say_steps(
     text: &[u8],
     t: &[u16; 16384],

@@ -1,5 +1,7 @@
 // Runs a script of calls on one held check, for tests: each line of standard input is a call, each answer goes to standard output. `l LEN` and the text load it, `a N` advances, `v` asks for
 // the verdict, `w LENT` for the witness in LENT lent bytes, `d` drops.
+#![tactic(auto)]
+
 ghost use Rattle.std.specs.Prelude.{◌≤◌, min};
 
 use checker::{advance, drop, load, verdict, witness};

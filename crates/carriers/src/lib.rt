@@ -1,4 +1,6 @@
 // The k-th value of a carrier, in the fixed order. An element, a subset and a relation is k itself.
+#![tactic(auto)]
+
 ghost use Rattle.std.specs.Prelude.{◌≡◌, true, false, ◌*◌, ◌^◌, ◌<◌, ◌≤◌, pos, ◌+ℤ◌};
 ghost use Rattle.form.specs.Tree.{partial, total};
 ghost use Rattle.static_rules.specs.Carriers.{arrow_count};

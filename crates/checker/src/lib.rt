@@ -1,6 +1,8 @@
 // The five calls on a held check kept in lent bytes: load, advance, verdict, witness, drop. Each reads the held text again.
 // Stack: 1,536 KiB are enough for every text and every call. The arrays of a reading stand there, and the walks over nodes go as deep as a chain of operators
 // is long. The figure is measured, on the texts that need the most (tests/stack), and not proved.
+#![tactic(auto)]
+
 ghost use Rattle.std.specs.Prelude.{◌≡◌, [], true, ◌+◌, ◌≤◌, length, take, drop};
 ghost use Rattle.obligations.specs.Calls as call;
 ghost use Rattle.held_checks.specs.HeldBytes.{held_text, is_laid};

@@ -1,5 +1,7 @@
 // The text of a conjunct: the bytes between the first and the last symbol of its nodes, with the brackets that belong to them. What is found has no promise: it is shown beside facts that are
 // proved of the conjunct's table.
+#![tactic(auto)]
+
 ghost use Rattle.std.specs.Prelude.{◌≤◌};
 
 use form::node;

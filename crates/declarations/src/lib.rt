@@ -1,2 +1,4 @@
 // Contents, declarations, given sets.
+#![tactic(auto)]
+
 pub mod contents;

@@ -1,2 +1,4 @@
 // Declared names: given sets, variables, parameters.
+#![tactic(auto)]
+
 pub mod declared;

@@ -1,1 +1,3 @@
 // The demands over the calls: theorems alone.
+#![tactic(auto)]
+

@@ -1,6 +1,8 @@
 // The evaluator: values of terms and predicates over the table that the reader leaves (table_places/specs/ResolvedTable). A node is four numbers, second, first,
 // end, shape, and stands behind its parts; `end` is the place behind a node, its last part ends where the node begins, an earlier one where the node says.
 // A slot has the value of a variable or of a bound name; every function leaves the slots as they were.
+#![tactic(auto)]
+
 ghost use Rattle.std.specs.Prelude.{◌≡◌, ℕ, ◌+◌, ◌<◌, ◌≤◌, ℤ, pos, nat_abs, ◌+ℤ◌, ◌-ℤ◌};
 ghost use Rattle.evaluation.specs.EvaluationByNumber.{Inside};
 ghost use Rattle.evaluator.specs.EvaluationPromises.{TermRuns, TermAnswers, ItemsRun, ItemsAnswer, TruthRuns, TruthAnswers};

@@ -1,4 +1,6 @@
 // Reads a dossier on standard input and writes its explanation to standard output. Of a text that is too long only the first 32,769 bytes are read, which is enough to see that it is.
+#![tactic(auto)]
+
 ghost use Rattle.std.specs.Prelude.{◌≤◌};
 
 use explanations::explain;

@@ -1,4 +1,6 @@
 // What is explained of a text: the items of a page, from facts that are proved, and the page written in words.
+#![tactic(auto)]
+
 ghost use Rattle.std.specs.Prelude.{◌<◌};
 ghost use Rattle.state_facts.specs.Reads.{ReadAsked};
 ghost use Rattle.part_places.specs.Places.{AllAsked};

@@ -1,2 +1,4 @@
 // Terms and predicates.
+#![tactic(auto)]
+
 pub mod trees;

@@ -1,4 +1,6 @@
 // Kinds of symbols, nodes, ranges: what the form pass is made of.
+#![tactic(auto)]
+
 pub mod kinds;
 pub mod nodes;
 pub mod ranges;

@@ -1,5 +1,7 @@
 // The held check in lent bytes, and the answers of the calls. The bytes: 0 the mark, 1 the profile, 2 the operation, 3 spare (all three 0), from 4 on the text's length, from 8 on the
 // place, numbers with the lowest byte first, from 16 on the text, and zeros behind it. All zero is nothing held.
+#![tactic(auto)]
+
 ghost use Rattle.std.specs.Prelude.{◌≡◌, ◌+◌, ◌^◌, ◌<◌, ◌≤◌, length, take, drop};
 ghost use Rattle.table_nodes.specs.TableWalkPromises.{patch};
 ghost use Rattle.held_checks.specs.HeldBytes.{little_endian, from_bytes, bytes_of, none_held, is_laid, held_place, fitting};

@@ -1,4 +1,6 @@
 // Variables that do not matter: no test of some searches of a part mentions them. Of the state before only; a test of the state after does not read them.
+#![tactic(auto)]
+
 pub mod keys;
 
 ghost use Rattle.std.specs.Prelude.{◌≡◌, ◌+◌, ◌<◌, ◌≤◌, get_or, length};

@@ -1,4 +1,6 @@
 // Where in a text the names begin that a report shows, and the types of variables: gathered from the reader's arrays into one.
+#![tactic(auto)]
+
 ghost use Rattle.std.specs.Prelude.{◌≡◌, ◌+◌, ◌-◌, ◌*◌, ◌<◌, ◌≤◌, get_or, length};
 ghost use Rattle.labels.specs.LabelPromises.{name_byte, names_from, variable_of, Stored, ElementsGathered, TitlesGathered, VariablesGathered};
 

@@ -1,17 +1,17 @@
 -- Laws of the classes of bytes, and of runs.
 use mathlib.Core.Path.{◌≡◌, refl, ap, ◌∙◌, sym}
-use mathlib.Core.Bool.{Bool, true, false, ◌&&◌, ◌||◌, cond}
+use mathlib.Core.Bool.{Bool, true, false, ◌&&◌}
 use mathlib.Core.List.{List, [], ◌∷◌}
 use mathlib.Core.Logic.{◌⊎◌, inl, inr}
-use Prim.Native.Nat.{ℕ, zero, suc, ◌+◌, ◌-◌, ◌≤◌, ◌<◌}
+use Prim.Native.Nat.{ℕ, zero, suc, ◌+◌, ◌≤◌, ◌<◌}
 use native.Mathlib.Omega.{arith}
 use native.Mathlib.Numerals.{add-one}
 use lib.Dec.{eqb, leb}
-use borrow.Author.Tests.{leb-true, leb-false, le-leb, lt-leb, eqb-true, eqb-false, ne_eqb}
-use lib.ListN.{length, take, drop, get_or, drop_of_length-le}
+use borrow.Author.Tests.{leb-true, eqb-true, eqb-false, ne_eqb}
+use lib.ListN.{length, drop, get_or, drop_of_length-le}
 use lib.Seq.{drop-cons}
 use Rattle.lexical.specs.Lists.{bytes, any}
-use Rattle.lexical.specs.Symbols.{Class, letter, digit, mark, blank, other, between, class_of, in_run, run}
+use Rattle.lexical.specs.Symbols.{Class, letter, digit, mark, other, between, class_of, in_run, run}
 
 abbrev pub Same : (ℕ → Class) → Class → ℕ → ℕ → Type 0
 Same f v lo zero = Unit {0}

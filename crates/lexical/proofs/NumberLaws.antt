@@ -2,18 +2,17 @@
 use mathlib.Core.Path.{◌≡◌, refl, ap, ap₂, ◌∙◌, sym}
 use mathlib.Core.Bool.{Bool, true, false, not, ◌&&◌, ◌||◌, cond}
 use mathlib.Core.List.{List, [], ◌∷◌}
-use Prim.Native.Nat.{ℕ, zero, suc, ◌+◌, ◌-◌, ◌*◌, ◌≤◌, ◌<◌}
+use Prim.Native.Nat.{ℕ, suc, ◌+◌, ◌-◌, ◌*◌, ◌≤◌, ◌<◌}
 use native.Mathlib.Omega.{arith}
 use native.Mathlib.Numerals.{add-one}
 use lib.Dec.{eqb, leb}
-use borrow.Author.Tests.{leb-true, leb-false, le-leb, lt-leb, eq-eqb, ne_eqb, eqb-true}
-use lib.ListN.{length, take, drop, get_or, length-drop}
+use borrow.Author.Tests.{leb-true, leb-false, le-leb, lt-leb, eq-eqb, ne_eqb}
+use lib.ListN.{length, take, drop, get_or}
 use lib.Seq.{drop-cons}
 use Rattle.lexical.specs.Lists.{all, any, bytes}
-use Rattle.lexical.specs.Symbols.{Class, letter, digit, mark, blank, other, between, class_of, is_digit, in_run, run, decimal_from, is_number, number_found, by_class, Found, found, numeral, unlisted}
+use Rattle.lexical.specs.Symbols.{Class, letter, digit, mark, blank, other, between, class_of, is_digit, in_run, run, decimal_from, is_number, number_found, by_class, found, numeral, unlisted}
 use Rattle.lexical.specs.Kinds.{code_of}
 use Rattle.lexical.specs.SymbolPromises.{token_of, more_of, decimal_or}
-use Rattle.lexical.specs.declared.Token.{Token}
 use Rattle.lexical.specs.declared.Token.TheVariants.{Unlisted, Listed}
 use Rattle.lexical.proofs.ByteLaws.{digits, outside}
 use Rattle.lexical.proofs.WordLaws.{run_take}

@@ -1,5 +1,5 @@
 -- Laws of words: packed bytes, reserved words, names and their endings.
-use mathlib.Core.Path.{◌≡◌, refl, ap, ap₂, ◌∙◌, sym, subst}
+use mathlib.Core.Path.{◌≡◌, refl, ap, ap₂, ◌∙◌, sym}
 use mathlib.Core.Bool.{Bool, true, false, cond}
 use mathlib.Core.List.{List, [], ◌∷◌}
 use mathlib.Core.Option.{Option, none, some}
@@ -7,14 +7,14 @@ use Prim.Native.Nat.{ℕ, zero, suc, ◌+◌, ◌-◌, ◌*◌, ◌≤◌, ◌<�
 use Prim.Native.String.{String}
 use native.Mathlib.Omega.{arith}
 use native.Mathlib.Nat.{add-zero}
-use lib.Dec.{eqb, leb, ltb}
+use lib.Dec.{eqb, ltb}
 use borrow.Author.Tests.{ltb-true, ltb-false, eqb-true, eq-eqb, ne_eqb, le-leb, lt-leb}
 use lib.ListN.{length, take, drop, get_or}
-use lib.Seq.{get_or-drop, drop-drop, drop-cons}
+use lib.Seq.{get_or-drop, drop-drop}
 use mathlib.Core.Logic.{⊎_elim}
 use Rattle.lexical.specs.Lists.{bytes, same, any}
 use Rattle.lexical.specs.Kinds.{Kind, words, code_of, number, plain, primed, input, output, colon, semicolon, comma, bar, spot, openParen, closeParen, openBracket, closeBracket, openBrace, closeBrace, up_to, equals, differs, less, at_most, implies, iff, plus, minus, times, size, maplet, relation, partial, total, CONTENTS, GIVEN, ABSTRACT, CONCRETE, AINIT, CINIT, RETRIEVE, OP, END, WHERE, POWER, EMPTY, TRUE, FALSE, NOT, AND, OR, FORALL, EXISTS, EXISTS1, IN, NOTIN, UNION, MINUS, INTER, DIV, MOD, DOM, RAN}
-use Rattle.lexical.specs.Symbols.{Class, letter, digit, mark, blank, other, class_of, in_run, run, reserved, word_of, ending_of, ending_length, kind_of_name, name, Name, found, unlisted, Ending, noEnding, prime, query, shriek, by_class, between}
+use Rattle.lexical.specs.Symbols.{letter, other, class_of, in_run, run, reserved, word_of, ending_of, ending_length, kind_of_name, name, found, unlisted, Ending, noEnding, prime, query, shriek, by_class, between}
 use Rattle.lexical.specs.SymbolPromises.{token_of, packed, keyed, word_code, ending_code}
 use Rattle.lexical.specs.declared.Token.{Token}
 use Rattle.lexical.specs.declared.Token.TheVariants.{Unlisted, Listed}

@@ -5,7 +5,7 @@ use Prim.Native.String.{String}
 use Rattle.lexical.specs.Lists.{bytes}
 use Rattle.lexical.specs.Kinds.{Kind, code_of}
 use Rattle.lexical.specs.Refusals.{least}
-use Rattle.lexical.specs.Symbols.{digit, Symbol, fixed, numeral, name}
+use Rattle.lexical.specs.Symbols.{Symbol, fixed, numeral, name}
 use Rattle.lexical.specs.Symbols.{Found, gap, unlisted, found, Placed, scan, symbols, scan_faults, Ending, noEnding, prime, query, shriek, class_of, is_digit}
 use Rattle.lexical.specs.declared.Scanned.{Scanned}
 use Rattle.lexical.specs.declared.Scanned.TheVariants.{Symbols}

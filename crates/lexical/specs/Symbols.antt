@@ -1,5 +1,5 @@
 -- Document 01, "Symbols": bytes to symbols, and numbers 1, 2 and 3.
-use Rattle.std.specs.Prelude.{Bool, true, false, not, ◌&&◌, ◌||◌, cond, List, [], ◌∷◌, ◌++◌, map, ℕ, zero, suc, pred, ◌+◌, ◌-◌, ◌*◌, eqb, leb, ltb, length, drop, get_or}
+use Rattle.std.specs.Prelude.{Bool, true, false, not, ◌&&◌, ◌||◌, cond, List, [], ◌∷◌, map, ℕ, zero, suc, pred, ◌+◌, ◌-◌, ◌*◌, eqb, leb, ltb, length, drop, get_or}
 use Rattle.std.proofs.Math.Option.{Option, none, some}
 use Prim.Native.String.{String}
 use Rattle.lexical.specs.Lists.{bytes, same, begins, all, any}

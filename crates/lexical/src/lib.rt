@@ -1,4 +1,6 @@
 // Document 01, "Symbols": classes of bytes, and the one symbol at a place.
+#![tactic(auto)]
+
 pub mod bounds;
 pub mod classes;
 pub mod codes;

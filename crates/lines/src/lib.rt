@@ -1,4 +1,6 @@
 // The lines of a witness: values as document 01 writes them, a line for each variable of a group.
+#![tactic(auto)]
+
 ghost use Rattle.std.specs.Prelude.{◌≡◌, cond, [], ◌∷◌, map, ◌+◌, ◌-◌, ◌*◌, ◌%◌, ◌^◌, ◌≤◌, ◌<◌, eqb, pos, length, get_or};
 ghost use Rattle.sets.specs.Sets.{members};
 ghost use Rattle.meaning.specs.Values.{natural};

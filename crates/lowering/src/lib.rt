@@ -1,2 +1,4 @@
 // Terms and predicates to nodes of the table.
+#![tactic(auto)]
+
 pub mod walk;

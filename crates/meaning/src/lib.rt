@@ -1,1 +1,3 @@
 // The meaning of terms, predicates, states and operations: definitions and theorems, no code.
+#![tactic(auto)]
+

@@ -1,5 +1,7 @@
 // Truths that are remembered: what a conjunct whose last node is a quantifier comes to, by the conjunct and by the values of the at most four slots that it mentions.
 // `memo` has for each place where a conjunct can end the list of its slots; behind these the cells, each twice a whole key, and 1 more where the conjunct is true. 0 is nothing.
+#![tactic(auto)]
+
 ghost use Rattle.std.specs.Prelude.{◌≡◌, ◌+◌, ◌<◌, ◌^◌, get_or, length};
 ghost use Rattle.evaluator.specs.EvaluationPromises.{TruthAnswers};
 ghost use Rattle.mentions.specs.MentionPromises.{TruthFree};

@@ -1,5 +1,7 @@
 // Which slots the nodes of the evaluator's table mention: whether a term or a predicate is free of a slot, so that its value does not depend on it; which term an equation says a variable to be.
 // Nodes as in `evaluator`. Nothing is asked of the table: where a part does not end before its node, the answer is no. A binder is free of its own slot, which it writes.
+#![tactic(auto)]
+
 pub mod equations;
 
 ghost use Rattle.std.specs.Prelude.{◌≡◌, ◌-◌, ◌<◌, ◌≤◌, get_or, length};

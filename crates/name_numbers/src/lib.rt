@@ -1,2 +1,4 @@
 // The names of a text, numbered by the first symbol that has their letters.
+#![tactic(auto)]
+
 pub mod numbering;

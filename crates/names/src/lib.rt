@@ -1,4 +1,6 @@
 // Names and types: numbers 8, 9, 10, 11 and 14 of document 01, over the nodes of a dossier.
+#![tactic(auto)]
+
 ghost use Rattle.std.specs.Prelude.{length, replicate};
 ghost use Rattle.declared_names.specs.PassPromises.{GivenSeen, CheckSeen};
 

@@ -1,5 +1,7 @@
 // One part of the check: labelled loops over the variable groups, each stepping to the next candidate of its group. What is passed over passes: one of the premises is false there, or
 // it lies in a block that passes as one did that was looked at whole. Places are counted by arithmetic.
+#![tactic(auto)]
+
 ghost use Rattle.std.specs.Prelude.{◌≡◌, ◌-◌, ◌*◌, ◌≤◌};
 ghost use Rattle.nest_steps.specs.NestPromises.{NestAsked};
 ghost use Rattle.nest.specs.SweepPromises.{SweepAnswers};

@@ -1,5 +1,7 @@
 // The steps of the nest: the inputs at which the abstract precondition holds, the next of them, and whether a binding passes; in modules the next candidate of each group, the conclusions
 // that are known to be true, and the blocks that pass alike.
+#![tactic(auto)]
+
 ghost use Rattle.std.specs.Prelude.{◌<◌, ◌≤◌};
 ghost use Rattle.sets.specs.Sets.{has};
 ghost use Rattle.memo.specs.MemoPromises.{Memo};

@@ -1,4 +1,6 @@
 // What operators do to values: a number is itself, an element its place, a set its bits. An operator is told by its symbol's code.
+#![tactic(auto)]
+
 ghost use Rattle.std.specs.Prelude.{◌≡◌, Bool, true, false, not, ℕ, ◌<◌, ◌≤◌, ℤ, pos, nat_abs, ◌+ℤ◌, ◌-ℤ◌};
 ghost use Rattle.sets.specs.Sets as sets;
 ghost use Rattle.meaning.specs.Values.{natural, same_integer};

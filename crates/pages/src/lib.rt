@@ -1,4 +1,6 @@
 // A page: the items of an explanation one behind the other, each a phrase and the numbers that are filled into it. An item for which there is no room is left out.
+#![tactic(auto)]
+
 ghost use Rattle.std.specs.Prelude.{◌≤◌};
 
 // How many numbers an item has, how many items there may be, and how many numbers a page has: how many items there are, then these.

@@ -1,4 +1,6 @@
 // Symbols to the structure of a dossier: numbers 4, 5, 6 and 7 of document 01.
+#![tactic(auto)]
+
 ghost use Rattle.std.specs.Prelude.{◌≡◌, ◌≤◌, length, take, get_or};
 ghost use Rattle.std.proofs.Math.Option.{none};
 ghost use Rattle.lexical.specs.Refusals.{number_of};

@@ -1,4 +1,6 @@
 // The parts of a check by their places: how many places each has, and all of them; the part of a place.
+#![tactic(auto)]
+
 ghost use Rattle.std.specs.Prelude.{◌≡◌, ◌+◌, ◌*◌, ◌<◌, ◌≤◌};
 ghost use Rattle.part_setup.specs.SetupPromises.{Blank};
 ghost use Rattle.part_places.specs.Places.{PartAsked, PartSet, SizeIs, AllAsked, TotalIs, PlaceAsked, PlaceFound};

@@ -1,4 +1,6 @@
 // What a part of the check starts from: the cells of its variables' carriers, the sizes of its groups, and every variable's first value in the slots.
+#![tactic(auto)]
+
 ghost use Rattle.std.specs.Prelude.{◌≡◌, ◌<◌, get_or, length};
 ghost use Rattle.points.specs.Points.{primed_slot};
 ghost use Rattle.part_setup.specs.SetupPromises.{Blank, FirstValues, StatesAsked, StatesSet, OperationAsked, OperationSet, OpeningPartAsked, OpeningPartIs};

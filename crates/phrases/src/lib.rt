@@ -1,4 +1,6 @@
 // Phrases: the words of explanations with what is filled in, written on a sheet. Facts come as numbers and as values in slots; what is written has no promise.
+#![tactic(auto)]
+
 ghost use Rattle.std.specs.Prelude.{◌≤◌};
 
 use crate::words::{SPELLINGS, WORDS};

@@ -1,4 +1,6 @@
 // Pieces of text in lent bytes: each function writes from the place `at` on, touches no other byte, and answers the place behind what it wrote.
+#![tactic(auto)]
+
 ghost use Rattle.std.specs.Prelude.{◌≡◌, [], ◌∷◌, ◌+◌, ◌^◌, ◌≤◌, ◌<◌, length, take, drop, nat_abs};
 ghost use Rattle.obligations.specs.Report.{decimal, signed_decimal};
 ghost use Rattle.pieces.specs.PiecePromises.{Writes, letters_at};

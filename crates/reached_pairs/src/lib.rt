@@ -1,5 +1,7 @@
 // The pairs of states that both machines of a dossier reach side by side, each with the shortest list of operations with inputs that leads to it. Layer by layer: the pairs of layer 1 are
 // the initial states; those of layer n + 1 are what the pairs of layer n lead to and what has no mark yet. There is no queue, and no layer is kept but in the marks.
+#![tactic(auto)]
+
 ghost use Rattle.std.specs.Prelude.{◌≡◌, ◌*◌, ◌<◌, ◌≤◌, length};
 ghost use Rattle.memo.specs.MemoPromises.{Memo};
 ghost use Rattle.step_searches.specs.StepPromises.{Below, PrepareAsked, OpenAsked};

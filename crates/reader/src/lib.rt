@@ -1,4 +1,6 @@
 // The reading of a text: the passes of document 01 in their order.
+#![tactic(auto)]
+
 ghost use Rattle.std.specs.Prelude.{◌≤◌, length};
 ghost use Rattle.static_rules.specs.Limits.{binding_faults, size_faults};
 ghost use Rattle.reader.specs.Promises.{Reads, Written, Kept, Named, Tabled, Finds, Faults, Refuses, Leaves, Checks};

@@ -1,4 +1,6 @@
 // The page of a refused text: where it was refused, by which rule, and a hint by the number of the refusal.
+#![tactic(auto)]
+
 use lexical::bounds::{PAIRS, PARAMETER_BINDINGS, RANGE_NUMBERS, STATE_BINDINGS, SYMBOLS};
 use lexical::codes;
 use pages::{PAGE, say, say_of};

@@ -1,5 +1,7 @@
 // Numbers 10 and 13: the two sides of an operator, and what they are. Each type is tried: the atom that the operator stands in is replaced by an equation of the side with a term of that type,
 // and where this is not refused by 10 at its sign, the side is of that type. Sizes are tried in the same manner, by sums that are refused by 13.
+#![tactic(auto)]
+
 use crate::trials::{Side, Term, fits, size_of};
 use lexical::bounds::SYMBOLS;
 use lexical::codes;

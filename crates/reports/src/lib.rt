@@ -1,4 +1,6 @@
 // The report of a text: what the program prints.
+#![tactic(auto)]
+
 ghost use Rattle.std.specs.Prelude.{◌≡◌, ◌+◌, ◌≤◌, ◌<◌, length, get_or};
 ghost use Rattle.obligations.specs.Report.{count_line};
 ghost use Rattle.pieces.specs.PiecePromises.{Writes, letters_at};

@@ -1,5 +1,7 @@
 // One primitive for all searching: the least number, from a given one on, of a binding of the variables of a search at which all its tests hold. `slots` has two arrays: the values
 // before and the primed ones; those of the after state under the plain slots.
+#![tactic(auto)]
+
 ghost use Rattle.std.specs.Prelude.{◌≡◌, ◌+◌, ◌<◌, ◌≤◌, max, get_or, length};
 ghost use Rattle.memo.specs.MemoPromises.{Memo};
 ghost use Rattle.points.specs.Points.{primed_slot};

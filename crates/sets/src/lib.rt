@@ -1,4 +1,6 @@
 // Sets as bits, and division that rounds toward minus infinity. A set is a `u16`: no set has more than 16 bits (document 01, numbers 6 and 11).
+#![tactic(auto)]
+
 ghost use Rattle.std.specs.Prelude.{◌≡◌, ◌<◌, ◌≤◌, ◌/◌, ◌%◌, ◌^◌};
 ghost use Rattle.sets.specs.Sets.{has, union, without, inter, single, size, pair, dom, ran};
 ghost use Rattle.sets.specs.Division.{floor_div, floor_mod};

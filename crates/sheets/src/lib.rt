@@ -1,5 +1,7 @@
 // A sheet: lent bytes that are written from a place on, in lines of at most 100 columns. What has no room is left out, so that nobody need count; each function answers the place behind
 // what it wrote. What is written has no promise: an explanation's words are read through, and its facts are proved before they are written.
+#![tactic(auto)]
+
 ghost use Rattle.std.specs.Prelude.{◌≤◌};
 
 use pieces::put_decimal;

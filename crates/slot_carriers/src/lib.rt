@@ -1,5 +1,7 @@
 // Carriers by slot: `cells` has four numbers for each slot, how many values its variable has, the shape of its type and two numbers of it; then the lists of
 // partial and total functions.
+#![tactic(auto)]
+
 pub mod groups;
 pub mod setup;
 pub mod type_shapes;

@@ -1,5 +1,7 @@
 // Facts about a dossier by numbers of bindings, for a program that explains counterexamples: the values of the bindings that are shown. Numbers are those of the fixed order;
 // one that is out of range is answered, never refused.
+#![tactic(auto)]
+
 pub mod conjuncts;
 pub mod omissions;
 pub mod placing;

@@ -1,5 +1,7 @@
 // States and steps of a dossier's two machines, one after the other, by the numbers of their bindings: the searches of an operation's correctness part and of the initialisation part,
 // with the variables that are given at one of their bindings and all others at their first values.
+#![tactic(auto)]
+
 ghost use Rattle.std.specs.Prelude.{◌*◌, ◌<◌, ◌≤◌};
 ghost use Rattle.memo.specs.MemoPromises.{Memo};
 ghost use Rattle.part_setup.specs.SetupPromises.{Blank};

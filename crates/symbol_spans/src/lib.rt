@@ -1,4 +1,6 @@
 // Stretches of a text's symbols, by their kinds: the operands of an operator, the atom that it stands in. They say where to try another text, not what a text means.
+#![tactic(auto)]
+
 ghost use Rattle.std.specs.Prelude.{◌≤◌, ◌<◌};
 
 use lexical::bounds::SYMBOLS;

@@ -1,4 +1,6 @@
 // Bytes to symbols (document 01, "Symbols"): the lowest layer of the reader.
+#![tactic(auto)]
+
 ghost use Rattle.lexical.specs.Promises.{Scans};
 
 use crate::texts::scan_symbols;

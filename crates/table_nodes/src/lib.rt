@@ -1,4 +1,6 @@
 // The table that the evaluator runs: its nodes.
+#![tactic(auto)]
+
 pub mod nodes;
 pub mod slots;
 pub mod table_shapes;

@@ -1,3 +1,5 @@
 // Slots of names, and the carriers of declared types.
+#![tactic(auto)]
+
 pub mod declared_types;
 pub mod places;

@@ -1,4 +1,6 @@
 // Number 13: sizes of terms and predicates, from the end of their nodes.
+#![tactic(auto)]
+
 pub mod sizes;
 
 // The size of a term, its least fault (place * KEY_ROOM + number + 1) or 0, and where its nodes begin. A term at fault has the size 0.

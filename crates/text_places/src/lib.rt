@@ -1,4 +1,6 @@
 // Where a byte of a text stands: its line and column, where that line begins, where the symbol ends that begins there.
+#![tactic(auto)]
+
 ghost use Rattle.std.specs.Prelude.{◌≡◌, cond, ◌+◌, ◌≤◌, eqb, get_or, take};
 ghost use Rattle.text_places.specs.PlacePromises.{newlines, LineStart};
 

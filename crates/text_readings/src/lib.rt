@@ -1,4 +1,6 @@
 // A text read for the calls and the report: its fault, or the arrays of its dossier.
+#![tactic(auto)]
+
 ghost use Rattle.std.specs.Prelude.{◌≡◌, ◌≤◌, length};
 ghost use Rattle.text_readings.specs.TextPromises.{ReadsText, Counted, Gathered};
 

@@ -1,4 +1,6 @@
 // Words that are tried in a text: lent bytes that are written from a place on. What has no room is left out.
+#![tactic(auto)]
+
 use lexical::classes::byte_at;
 
 // As many bytes as tell of a text that it is too long.

@@ -1,5 +1,7 @@
 // Texts that are tried: what reading answers for a text with other words in some place. An explanation says of a refused text what could stand where it was refused, and each of these sayings
 // is the answer for one such text.
+#![tactic(auto)]
+
 ghost use Rattle.std.specs.Prelude.{[], ◌∷◌, ◌++◌, length, take, drop, ◌≡◌, ◌-◌, ◌≤◌, min};
 ghost use Rattle.tried_texts.specs.TrialPromises.{AnswerOf, instead};
 ghost use Rattle.tried_texts.specs.Written.{Goes, Says};

@@ -1,4 +1,6 @@
 // Does a predicate of the reader's table hold at the values in the slots? The evaluator's answer, over the definitions.
+#![tactic(auto)]
+
 ghost use Rattle.std.specs.Prelude.{◌≡◌};
 ghost use Rattle.truths.specs.Promises.{Asked, Answers};
 

@@ -1,4 +1,6 @@
 // Types and faults by numbers: which types fit, and which fault stands where they do not.
+#![tactic(auto)]
+
 pub mod entries;
 pub mod faults;
 pub mod kinds;

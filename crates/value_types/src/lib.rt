@@ -1,1 +1,3 @@
 // Values have their types and sizes: definitions and theorems, no code.
+#![tactic(auto)]
+

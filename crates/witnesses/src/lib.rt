@@ -1,4 +1,6 @@
 // The binding at a place of a part, a line for each variable.
+#![tactic(auto)]
+
 ghost use Rattle.std.specs.Prelude.{◌≡◌, ◌+◌, ◌-◌, ◌*◌, ◌/◌, ◌≤◌, length};
 ghost use Rattle.pieces.specs.PiecePromises.{Writes};
 ghost use Rattle.witnesses.specs.WitnessPromises.{WitnessAsked, WitnessWritten};

@@ -254,7 +254,7 @@ module _ (x y : ℤ) (fx : SFits w32 x) (fy : SFits w32 y) where
     quotient_abs = subst (λ (z : ℤ). nat_abs z ≤ 2 ^ 31) (sym e) (omega (arith, floor_abs x y, abs-small x (2 ^ 31) fx.sfits))
 
     quotient-back : to_z w64 (of_z w64 q) ≡ q
-    quotient-back = to_z-of_z (record { sfits = lt_of_le_of_lt (mag_abs q) (lt_of_le_of_lt quotient_abs (lit< tt)) })
+    quotient-back = to_z-of_z {w = w64} (record { sfits = lt_of_le_of_lt (mag_abs q) (lt_of_le_of_lt quotient_abs (lit< tt)) })
 
     product_abs : nat_abs (q *ℤ y) ≤ 2 ^ 31 * 2 ^ 31
     product_abs = subst (λ (n : ℕ). n ≤ 2 ^ 31 * 2 ^ 31) (sym (times_abs q y)) (mul-le-mul quotient_abs (abs-small y (2 ^ 31) fy.sfits))

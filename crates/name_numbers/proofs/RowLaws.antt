@@ -1,22 +1,21 @@
 -- Laws of the symbols in arrays: the letters of each, and the value of each name.
 use mathlib.Core.Path.{◌≡◌, refl, ap, ap₂, ◌∙◌, sym, subst}
-use mathlib.Core.Bool.{Bool, true, false, ◌&&◌, cond}
-use mathlib.Core.List.{List, [], ◌∷◌, ◌++◌, map}
-use Prim.Native.Nat.{ℕ, zero, suc, ◌+◌, ◌-◌, ◌*◌, ◌≤◌, ◌<◌}
+use mathlib.Core.Bool.{Bool, true, false, cond}
+use mathlib.Core.List.{List, [], ◌∷◌, map}
+use Prim.Native.Nat.{ℕ, zero, suc, ◌+◌, ◌≤◌, ◌<◌}
 use native.Mathlib.Omega.{arith}
 use native.Mathlib.Numerals.{add-one}
-use lib.Dec.{eqb, leb, ltb}
-use lib.ListN.{length, take, drop, get_or, set, length-map, length-append, length-drop, get_or-append, replicate, length-replicate}
-use lib.Seq.{take-suc, take_all, get_or-take, get_or-drop, get_or-append-add, length-take-le, set-get_or, drop_at}
+use lib.ListN.{length, take, drop, get_or, set, length-map, get_or-append}
+use lib.Seq.{take-suc, take_all, get_or-take, get_or-drop, get_or-append-add, length-take-le}
 use Rattle.lexical.specs.Lists.{same}
-use Rattle.lexical.specs.Kinds.{Kind, code_of}
+use Rattle.lexical.specs.Kinds.{code_of}
 use Rattle.lexical.specs.Symbols.{run, Symbol, fixed, numeral, name, Name, Ending, noEnding, prime, query, shriek, kind_of_name, Placed, scan, symbols}
 use Rattle.lexical.specs.Promises.{code_in, number_in, filled, has_letters, first_named, value_in}
-use Rattle.lexical.specs.SymbolPromises.{packed, is_name, low_in, high_in, filled_low, filled_high, filled_numbers, filled_values, Rows, IsFirst, Tree}
+use Rattle.lexical.specs.SymbolPromises.{packed, is_name, low_in, high_in, filled_low, filled_high, Rows, IsFirst}
 use Rattle.lexical.proofs.WordLaws.{Fits, packed-one, run_fits, same_refl, same_true}
 use Rattle.name_numbers.proofs.TreeLaws.{name-above}
 use Rattle.name_numbers.proofs.ScanLaws.{filled_more}
-use Rattle.name_numbers.proofs.SoundLaws.{Sound, Stands, AllStand, all-stand, nowhere, stands_at, map_at}
+use Rattle.name_numbers.proofs.SoundLaws.{Sound, Stands, all-stand, nowhere, stands_at, map_at}
 
 -- an array that is filled up to i, and one place more
 pub filled-step : (f : Placed → ℕ) (l : List Placed) (i : ℕ) (old : List ℕ) (v : ℕ) → i < length l → length l ≤ length old → v ≡ f (get_or l i nowhere)

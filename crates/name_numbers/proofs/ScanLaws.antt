@@ -3,26 +3,26 @@ use mathlib.Core.Path.{◌≡◌, refl, ap, ap₂, ◌∙◌, sym, subst}
 use mathlib.Core.Bool.{Bool, true, false, ◌&&◌, ◌||◌, cond}
 use mathlib.Core.List.{List, [], ◌∷◌, ◌++◌, map, map-append, append_assoc, append-nil}
 use mathlib.Core.Option.{Option, none, some}
-use Prim.Native.Nat.{ℕ, zero, suc, pred, ◌+◌, ◌-◌, ◌*◌, ◌≤◌, ◌<◌}
+use Prim.Native.Nat.{ℕ, zero, suc, pred, ◌+◌, ◌≤◌, ◌<◌}
 use Prim.Native.String.{String}
 use native.Mathlib.Omega.{arith}
 use native.Mathlib.Nat.{add-zero}
 use native.Mathlib.Numerals.{add-one}
-use lib.Dec.{eqb, leb, ltb}
-use borrow.Author.Tests.{leb-true, leb-false, le-ltb, lt-ltb, ne_eqb, eq-eqb}
+use lib.Dec.{leb, ltb}
+use borrow.Author.Tests.{leb-true, le-ltb, ne_eqb}
 use lib.ListN.{length, take, drop, get_or, set, length-append, length-map, length-drop, drop_of_length-le}
 use lib.Seq.{drop-cons, get_or-drop, drop-drop, take_all, take_at, set_at}
 use Rattle.lexical.specs.Lists.{bytes, begins}
 use Rattle.lexical.specs.Kinds.{Kind, marks, words}
-use Rattle.lexical.specs.Refusals.{Fault, fault, before, lesser, least, number_of, longText, unlistedSymbol, manySymbols}
+use Rattle.lexical.specs.Refusals.{Fault, fault, before, lesser, least, number_of, manySymbols}
 use Rattle.lexical.specs.Symbols.{Class, letter, digit, mark, blank, other, class_of, in_run, run, Symbol, fixed, numeral, name, Found, gap, unlisted, found, Ending, noEnding, prime, query, shriek, ending_of, ending_length}
-use Rattle.lexical.specs.Symbols.{reserved, word_of, is_number, number_found, decimal_from, longer, longest, by_class, symbol_at, Placed, Scan, done, stopped, next, scanned, scan_from, scan, symbols, scan_faults, length_faults}
-use Rattle.lexical.specs.Promises.{code_in, number_in, fault_of, taken, filled, first_of, fault_in, written, Scans}
+use Rattle.lexical.specs.Symbols.{reserved, word_of, is_number, number_found, decimal_from, longer, longest, by_class, symbol_at, Placed, Scan, done, stopped, next, scanned, scan_from, scan, symbols, scan_faults}
+use Rattle.lexical.specs.Promises.{code_in, number_in, fault_of, taken, filled}
 use Rattle.lexical.specs.SymbolPromises.{token_of, Takes}
 use Rattle.lexical.specs.declared.Token.{Token}
 use Rattle.lexical.specs.declared.Token.TheVariants.{Gap, Unlisted, Listed}
 use Rattle.lexical.specs.declared.Scanned.{Scanned}
-use Rattle.lexical.specs.declared.Scanned.TheVariants.{Symbols, LongText, UnlistedSymbol, ManySymbols}
+use Rattle.lexical.specs.declared.Scanned.TheVariants.{Symbols, UnlistedSymbol, ManySymbols}
 use Rattle.lexical.proofs.WordLaws.{run_length}
 
 -- what stands at a place, by the class of its byte

@@ -1,24 +1,21 @@
 -- Laws of the symbols of a text: what stands at the place of each, its code, and the letters of names.
 use mathlib.Core.Path.{◌≡◌, refl, ap, ap₂, ◌∙◌, sym, subst}
-use mathlib.Core.Bool.{Bool, true, false, ◌&&◌, cond}
-use mathlib.Core.List.{List, [], ◌∷◌, ◌++◌, map}
+use mathlib.Core.Bool.{Bool, true, false, cond}
+use mathlib.Core.List.{List, [], ◌∷◌, map}
 use mathlib.Core.Option.{Option, none, some}
-use Prim.Native.Nat.{ℕ, zero, suc, pred, ◌+◌, ◌-◌, ◌*◌, ◌≤◌, ◌<◌}
+use Prim.Native.Nat.{ℕ, zero, suc, pred, ◌+◌, ◌-◌, ◌≤◌, ◌<◌}
 use Prim.Native.String.{String}
 use native.Mathlib.Omega.{arith}
-use native.Mathlib.Numerals.{add-one}
-use lib.Dec.{eqb, leb, ltb}
-use borrow.Author.Tests.{leb-true, ltb-true, ltb-false, eqb-true}
-use lib.ListN.{length, take, drop, get_or, length-map, drop_of_length-le}
-use lib.Seq.{drop-cons, drop-drop, get_or-take}
+use lib.Dec.{leb, ltb}
+use borrow.Author.Tests.{leb-true, ltb-true, ltb-false}
+use lib.ListN.{length, take, drop, get_or, drop_of_length-le}
+use lib.Seq.{drop-cons, drop-drop}
 use Rattle.lexical.specs.Lists.{bytes, begins, same}
 use Rattle.lexical.specs.Kinds.{Kind, marks, words, code_of}
 use Rattle.lexical.specs.Symbols.{Class, letter, digit, mark, blank, other, class_of, in_run, run, Symbol, fixed, numeral, name, Found, gap, unlisted, found, Ending, noEnding, prime, query, shriek, ending_of, ending_length}
-use Rattle.lexical.specs.Symbols.{reserved, word_of, is_number, number_found, decimal_from, longer, longest, by_class, symbol_at, Placed, Scan, scanned, scan_from, scan, symbols}
-use Rattle.lexical.specs.Promises.{code_in, number_in, has_letters, first_named, value_in}
-use Rattle.lexical.specs.SymbolPromises.{packed, is_name, low_in, high_in}
-use Rattle.lexical.proofs.WordLaws.{Fits, packed-one, run_fits, run_take, same_refl, same_true}
-use Rattle.name_numbers.proofs.TreeLaws.{both, same-both, not-both}
+use Rattle.lexical.specs.Symbols.{reserved, word_of, is_number, number_found, decimal_from, longer, longest, by_class, symbol_at, Placed, scanned, scan_from, scan, symbols}
+use Rattle.lexical.specs.SymbolPromises.{packed}
+use Rattle.lexical.proofs.WordLaws.{run_take}
 
 drop-take : (k n : ℕ) (l : List ℕ) → drop k (take n l) ≡ take (n - k) (drop k l)
 drop-take zero n l = let e : n - 0 ≡ n = omega arith in sym (ap (λ (i : ℕ). take i l) e)

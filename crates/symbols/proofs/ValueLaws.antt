@@ -2,10 +2,10 @@
 use mathlib.Core.Path.{◌≡◌, refl, ap, ◌∙◌, sym}
 use mathlib.Core.Bool.{Bool, true, false}
 use mathlib.Core.List.{List, [], ◌∷◌}
-use Prim.Native.Nat.{ℕ, zero, suc}
+use Prim.Native.Nat.{ℕ, suc}
 use native.Mathlib.Omega.{arith}
 use lib.ListN.{get_or}
-use Rattle.lexical.specs.Lists.{same, any}
+use Rattle.lexical.specs.Lists.{any}
 use Rattle.lexical.specs.Symbols.{Symbol, fixed, numeral, name, Placed}
 use Rattle.lexical.specs.Promises.{has_letters, first_named}
 use Rattle.lexical.proofs.WordLaws.{same_true}

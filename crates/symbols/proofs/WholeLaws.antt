@@ -1,17 +1,16 @@
 -- Laws of the whole scan, of a text of any length.
-use mathlib.Core.Path.{◌≡◌, refl, ap, ap₂, ◌∙◌, sym, subst}
+use mathlib.Core.Path.{◌≡◌, ap, ◌∙◌, sym, subst}
 use mathlib.Core.Bool.{Bool, true, false, cond}
 use mathlib.Core.List.{List, [], ◌∷◌, ◌++◌, map}
-use mathlib.Core.Option.{Option, none, some}
-use Prim.Native.Nat.{ℕ, ◌+◌, ◌≤◌, ◌<◌}
+use Prim.Native.Nat.{ℕ, ◌≤◌, ◌<◌}
 use native.Mathlib.Omega.{arith}
 use lib.Dec.{ltb}
 use borrow.Author.Tests.{le-ltb, lt-ltb}
 use lib.ListN.{length, take, drop, get_or, length-map}
 use lib.Seq.{take_all, take_at, drop_at}
-use Rattle.lexical.specs.Refusals.{Fault, fault, lesser, least, longText}
-use Rattle.lexical.specs.Symbols.{Symbol, Placed, scan, symbols, scan_faults, length_faults}
-use Rattle.lexical.specs.Promises.{code_in, number_in, value_in, value_at, fault_of, taken, filled, first_of, fault_in, written, Scans}
+use Rattle.lexical.specs.Refusals.{fault, lesser, least, longText}
+use Rattle.lexical.specs.Symbols.{Placed, scan, symbols, scan_faults, length_faults}
+use Rattle.lexical.specs.Promises.{code_in, number_in, value_in, value_at, taken, filled, first_of, written, Scans}
 use Rattle.lexical.specs.SymbolPromises.{filled_numbers, filled_values, Takes, Rows}
 use Rattle.lexical.specs.declared.Scanned.{Scanned}
 use Rattle.lexical.specs.declared.Scanned.TheVariants.{Symbols, LongText, UnlistedSymbol, ManySymbols}

@@ -2,7 +2,7 @@
 use mathlib.Core.Path.{◌≡◌, refl, ap, ◌∙◌, sym, subst}
 use mathlib.Core.Bool.{Bool, true, false, not, ◌&&◌, cond}
 use mathlib.Core.List.{List, [], ◌∷◌, map}
-use mathlib.Core.Option.{Option, none, some}
+use mathlib.Core.Option.{none, some}
 use Prim.Native.Nat.{ℕ, suc, pred, ◌≤◌, ◌<◌}
 use native.Mathlib.Omega.{arith}
 use lib.Dec.{ltb}
@@ -12,11 +12,11 @@ use Rattle.lexical.specs.Kinds as kind
 use Rattle.lexical.specs.Kinds.{Kind, code_of, is}
 use Rattle.lexical.specs.Symbols.{Symbol, fixed, kind_of}
 use Rattle.lexical.specs.Refusals.{Refusal, deep}
-use Rattle.form.specs.Tree.{End, Range, Domain, given_set, range, Declaration, State, Operation, Dossier, declarations}
+use Rattle.form.specs.Tree.{End, Range, Domain, given_set, range, State, Operation, Dossier, declarations}
 use Rattle.form.specs.Tree.{Term, number, name, group, prefix, binary, divided, listed, pairs, such, empty_set, empty_pairs, Items, only, also, Pairs, only_pair, also_pair}
 use Rattle.form.specs.Tree.{Pred, truth, falsity, negation, paren, quantified, connected, compared, member, within, related}
-use Rattle.form.specs.Written.{Mark, unmarked, binds, Written, minus_of, write_end, write_range, write_domain, write_term, write_items, write_pairs, write_pred}
-use Rattle.form.specs.Written.{write_givens, write_declarations, write_where, write_state, write_parameters, write_operations, write_contents, written, symbols_of}
+use Rattle.form.specs.Written.{unmarked, binds, Written, minus_of, write_end, write_range, write_domain, write_term, write_items, write_pairs, write_pred}
+use Rattle.form.specs.Written.{write_where, write_state, write_operations, written, symbols_of}
 use Rattle.form.specs.Form.{Whole, Begins, at_mark, Forms, kind_at, refuse, excess, is_used, settled}
 use Rattle.form.specs.BoundNames.{TermBindsFew, ItemsBindFew, PairsBindFew, PredBindsFew, OperationsBindFew, BindsFew}
 use Rattle.form.proofs.RelationsBehind as kept

@@ -9,7 +9,7 @@ use Rattle.form.specs.Tree.{Term, number, name, group, prefix, binary, divided, 
 use Rattle.form.specs.Tree.{Pred, truth, falsity, negation, paren, quantified, connected, compared, member, within, related}
 use Rattle.form.specs.Tree.{Arrow, relation, partial, total, TypeForm, givenType, powerType, range_type, arrow_type, Declaration, declarations, Parameter, Given, elements, State, Operation, Dossier}
 use Rattle.form.specs.Written.{prefix_kind, operator_kind, connective_kind, quantifier_kind, comparison_kind, membership_kind, ending_of}
-use Rattle.form.specs.Written.{write_term, write_pred, write_domain, write_type, write_entries, a_given, an_operation, write_declarations, write_parameters}
+use Rattle.form.specs.Written.{write_term, write_pred, write_domain, write_type, write_entries, a_given, write_declarations, write_parameters}
 use Rattle.form.specs.Headings.{givens_at, abstract_at, concrete_at, ainit_at, cinit_at, retrieve_at, operations_at, given_length, operation_length}
 
 -- what a node is, its symbol, and two numbers

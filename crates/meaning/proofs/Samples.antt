@@ -1,10 +1,10 @@
 -- BASE with a second concrete variable that the operation leaves out, with an input and an output: what newcomers misread, computed.
 use mathlib.Core.Path.{◌≡◌, refl}
-use mathlib.Core.Bool.{Bool, true, false, not, ◌&&◌}
-use mathlib.Core.List.{List, [], ◌∷◌, map}
+use mathlib.Core.Bool.{Bool, true, false}
+use mathlib.Core.List.{List, [], ◌∷◌}
 use Prim.Native.Nat.{ℕ}
 use Prim.Native.String.{String}
-use lib.IntN.{ℤ, pos, negsuc}
+use lib.IntN.{ℤ, pos}
 use lib.ListN.{length}
 use Rattle.lexical.specs.Lists.{bytes, filter}
 use Rattle.lexical.specs.Symbols.{Name, noEnding, query, shriek, Ending}

@@ -1,7 +1,7 @@
 -- The table that the evaluator runs: for each node of a term or predicate one node at the same place, with names, given sets and types resolved.
 -- T has what each name is (type_rules/specs/TypesByNumber), W where its value is found, z the sizes of the given sets; s is the slot of the next bound name,
 -- and p the place of the tree's first number in the table.
-use Rattle.std.specs.Prelude.{cond, List, ◌++◌, ℕ, suc, ◌+◌, ◌-◌, ◌/◌, ◌%◌, ltb, length, set}
+use Rattle.std.specs.Prelude.{cond, List, ◌++◌, ℕ, ◌+◌, ◌-◌, ◌/◌, ◌%◌, ltb, length, set}
 use Rattle.lexical.specs.Kinds.{code_of}
 use Rattle.lexical.specs.Symbols.{noEnding}
 use Rattle.form.specs.Tree.{Domain, given_set, range, Membership, isIn, notIn}

@@ -10,7 +10,7 @@ use lib.ListN.{length, drop, get_or}
 use borrow.Author.Tests.{leb-true}
 use Rattle.lexical.specs.Lists.{bytes, begins, all}
 use Rattle.lexical.specs.Kinds.{Kind, marks, words}
-use Rattle.lexical.specs.Symbols.{Class, letter, digit, mark, blank, other, Ending, noEnding, prime, query, shriek, Symbol, fixed, numeral, name, Found, gap, unlisted, found}
+use Rattle.lexical.specs.Symbols.{Class, letter, digit, mark, blank, other, Ending, noEnding, prime, query, shriek, fixed, numeral, name, Found, gap, unlisted, found}
 use Rattle.lexical.specs.Symbols.{class_of, is_digit, run, decimal_from, is_number, number_found, reserved, ending_of, ending_length, word_of, longer, longest, by_class, symbol_at}
 use Rattle.lexical.specs.Symbols.{Placed, scanned, scan_from, scan, symbols}
 use Rattle.symbols.proofs.BooleanTests.{and_right}

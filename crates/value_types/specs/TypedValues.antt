@@ -1,6 +1,6 @@
 -- What a value of a type is, and what is known of the names in reach of a predicate in a dossier without faults. Nothing here need be believed:
 -- the theorems of proofs/ say that values have their types and sizes, so that the evaluator's numbers hold them.
-use Rattle.std.specs.Prelude.{◌≡◌, true, List, [], ◌∷◌, map, ℕ, ◌*◌, ◌^◌, ◌<◌, ◌≤◌, ℤ, pos, nat_abs, length}
+use Rattle.std.specs.Prelude.{◌≡◌, true, List, [], ◌∷◌, map, ℕ, ◌*◌, ◌^◌, ◌<◌, ◌≤◌, pos, nat_abs}
 use Rattle.std.proofs.Math.Option.{some}
 use Rattle.form.specs.Tree.{Letters, Range, Domain, given_set, range, Given}
 use Rattle.form.specs.Tree.{Term, number, name, group, prefix, binary, divided, listed, pairs, such, empty_set, empty_pairs, Items, only, also, Pairs, only_pair, also_pair}

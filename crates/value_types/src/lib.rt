@@ -1,3 +1,2 @@
 // Values have their types and sizes: definitions and theorems, no code.
 #![tactic(auto)]
-

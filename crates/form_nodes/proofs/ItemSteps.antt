@@ -1,17 +1,17 @@
 -- What the machine's items do at a symbol, by the class that the code tells.
-use mathlib.Core.Path.{◌≡◌, refl, ap, ◌∙◌, sym, subst}
-use mathlib.Core.Bool.{Bool, true, false, cond}
-use mathlib.Core.List.{List, [], ◌∷◌, ◌++◌}
+use mathlib.Core.Path.{◌≡◌, refl, ap, ◌∙◌, sym}
+use mathlib.Core.Bool.{Bool, true, false}
+use mathlib.Core.List.{List, [], ◌∷◌}
 use Prim.Native.Nat.{ℕ, zero, suc, ◌≤◌, ◌<◌}
 use native.Mathlib.Omega.{arith}
 use borrow.Author.Tests.{eq-eqb}
 use Rattle.lexical.specs.Kinds as kind
 use Rattle.lexical.specs.Kinds.{Kind, code_of, is, lookup}
 use Rattle.form.specs.Written.{unmarked, opens}
-use Rattle.form.specs.Machine.{Item, exact, aName, anEmptyRest, anEnd, aDomain, aTerm, anOperand, aTermRest, aRel, aMem, aRight, aNeg, aNumRest, aBrace, aNamed, aFirst, aList, aPairs, aUnary, aParen, a_pred_rest, a_declared}
-use Rattle.form.specs.Machine.{Act, take, skip, stuck, then, Start, leaf, prefixed, bracket, brace, emptied, nothing, starts, from_start, start_term, operate, start_pred, on_name, act, Next, go, halt, does, step, passed, ends}
-use Rattle.form_nodes.specs.FormPromises.{operators, connectives, pred_starts, relations, memberships, quantifiers, names}
-use Rattle.form_nodes.proofs.Classes.{Misses, lookup-miss, by-table-or}
+use Rattle.form.specs.Machine.{Item, exact, aName, anEmptyRest, anEnd, aDomain, aTerm, aTermRest, aRel, aMem, aRight, aUnary, aParen, a_pred_rest}
+use Rattle.form.specs.Machine.{Act, take, skip, stuck, then, start_term, operate, start_pred, on_name, act, go, halt, does, step, passed, ends}
+use Rattle.form_nodes.specs.FormPromises.{operators, connectives, pred_starts, relations, memberships, names}
+use Rattle.form_nodes.proofs.Classes.{lookup-miss, by-table-or}
 use Rattle.form.proofs.Table.{◌&◌}
 
 -- one entry

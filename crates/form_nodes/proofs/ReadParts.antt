@@ -1,7 +1,7 @@
 -- How what is read at one place is put together from its parts.
 use mathlib.Core.Path.{◌≡◌, refl, ap, ◌∙◌, sym, subst}
 use mathlib.Core.Bool.{Bool, true, false, cond}
-use mathlib.Core.List.{List, [], ◌∷◌, ◌++◌, map, append_assoc}
+use mathlib.Core.List.{List, [], ◌∷◌, ◌++◌, append_assoc}
 use mathlib.Core.Option.{Option, none, some}
 use Prim.Native.Nat.{ℕ, zero, suc, ◌+◌, ◌*◌, ◌≤◌, ◌<◌}
 use native.Mathlib.Omega.{arith}
@@ -16,8 +16,8 @@ use Rattle.lexical.specs.Symbols.{Symbol, fixed, kind_of}
 use Rattle.lexical.specs.Refusals.{Refusal, noDossier, deep}
 use Rattle.form.specs.Written.{Mark, unmarked}
 use Rattle.form.specs.Form.{kind_at, settled}
-use Rattle.form.specs.Machine.{Item, Next, go, halt, step, ends, Run, complete, failed, unless_over, onward, run_from}
-use Rattle.form_nodes.specs.FormPromises.{codes, run_at, after, place_of, refusal_numbered, Counted, Reads, Ahead, Advances}
+use Rattle.form.specs.Machine.{Item, Next, go, halt, step, ends, complete, failed, unless_over, onward, run_from}
+use Rattle.form_nodes.specs.FormPromises.{codes, run_at, after, Counted, Reads, Ahead}
 use Rattle.form.specs.Machine.{kind_before}
 use Rattle.form_nodes.specs.declared.Read.{Read}
 use Rattle.form_nodes.specs.declared.Read.TheVariants.{At, Fault}

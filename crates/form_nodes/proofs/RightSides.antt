@@ -1,9 +1,8 @@
 -- States that do the same over more than one symbol: behind in and notin, and behind {.
-use mathlib.Core.Path.{◌≡◌, refl, ap, ◌∙◌, sym, subst}
+use mathlib.Core.Path.{◌≡◌, refl, ap, ◌∙◌, sym}
 use mathlib.Core.Bool.{Bool, true, false}
-use mathlib.Core.List.{List, [], ◌∷◌, ◌++◌}
-use mathlib.Core.Option.{none}
-use Prim.Native.Nat.{ℕ, zero, suc, ◌+◌, ◌≤◌, ◌<◌}
+use mathlib.Core.List.{List, [], ◌∷◌}
+use Prim.Native.Nat.{ℕ, suc, ◌+◌, ◌≤◌, ◌<◌}
 use native.Mathlib.Omega.{arith}
 use lib.Dec.{eqb, ltb}
 use lib.ListN.{length, get_or, get_or-eq_default}
@@ -11,15 +10,13 @@ use borrow.Author.Tests.{eqb-true, eqb-false, ltb-true, ltb-false}
 use Rattle.lexical.specs.Kinds as kind
 use Rattle.lexical.specs.Kinds.{Kind, code_of, is, lookup}
 use Rattle.form.specs.Written.{unmarked, opens, binds}
-use Rattle.form.specs.Form.{settled}
 use Rattle.form.specs.Machine.{Item, exact, anEnd, aTerm, anOperand, aTermRest, aRight, aNeg, aNumRest, aBrace, aNamed, aFirst}
-use Rattle.form.specs.Machine.{Act, take, skip, then, nothing, starts, start_term, operate, act, Next, go, does, step}
+use Rattle.form.specs.Machine.{Act, take, skip, then, nothing, starts, start_term, operate, act, does, step}
 use Rattle.form_nodes.specs.FormPromises.{Reads, Ranged, positive, negative, unranged, range_end_at}
 use Rattle.form.specs.Computed.{compute_form}
 use Rattle.form_nodes.specs.declared.Read.{Read}
-use Rattle.form_nodes.specs.declared.Read.TheVariants.{At}
 use Rattle.form_nodes.proofs.Classes.{lookup-miss}
-use Rattle.form_nodes.proofs.ReadParts.{only, here, takes, taken, joined, Within, Alike, alike, alike-now, alike_then}
+use Rattle.form_nodes.proofs.ReadParts.{only, here, takes, taken, joined, Alike, alike, alike-now, alike_then}
 use Rattle.form_nodes.proofs.RangeEnds.{is-end, range-well, used-well}
 use Rattle.form_nodes.proofs.SameSteps.{frame, named, unnamed}
 

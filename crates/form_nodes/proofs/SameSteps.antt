@@ -1,27 +1,23 @@
 -- States that do the same at a symbol, and what is read where an operator or a connective ends it.
 use mathlib.Core.Path.{◌≡◌, refl, ap, ◌∙◌, sym, subst}
-use mathlib.Core.Bool.{Bool, true, false}
 use mathlib.Core.List.{List, [], ◌∷◌, ◌++◌, append_assoc}
-use mathlib.Core.Option.{none}
-use Prim.Native.Nat.{ℕ, zero, suc, ◌+◌, ◌≤◌, ◌<◌}
+use Prim.Native.Nat.{ℕ, zero, suc, ◌≤◌, ◌<◌}
 use native.Mathlib.Omega.{arith}
-use lib.ListN.{length, get_or}
+use lib.ListN.{get_or}
 use Rattle.lexical.specs.Kinds as kind
 use Rattle.lexical.specs.Kinds.{Kind, code_of, is, lookup}
 use Rattle.form.specs.Written.{Mark, unmarked, opens, binds}
-use Rattle.form.specs.Form.{settled}
-use Rattle.form.specs.Machine.{Item, exact, aName, anEmptyRest, anEnd, aDomain, aTerm, anOperand, aTermRest, aRel, aMem, aRight, aNeg, aNumRest, aBrace, aNamed, aFirst, aList, aPairs, aUnary, aParen, a_pred_rest, a_declared}
-use Rattle.form.specs.Machine.{Act, take, skip, stuck, then, Start, leaf, prefixed, bracket, brace, emptied, nothing, starts, from_start, start_term, operate, start_pred, act, Next, go, halt, does, step, ends}
-use Rattle.form_nodes.specs.FormPromises.{operators, connectives, pred_starts, relations, memberships, quantifiers, level_of, Starts, StartCode, Reads, TermReads, TermStops, PredReads, PredStops, Ranged, positive, negative, unranged, range_end_at}
+use Rattle.form.specs.Machine.{Item, exact, aName, anEmptyRest, anEnd, aDomain, aTerm, anOperand, aTermRest, aRel, aMem, aBrace, aNamed, aFirst, aList, aPairs, aUnary, aParen, a_pred_rest, a_declared}
+use Rattle.form.specs.Machine.{Act, take, skip, stuck, then, Start, leaf, prefixed, bracket, brace, emptied, nothing, starts, from_start, start_term, operate, start_pred, act, Next, go, halt, does, step}
+use Rattle.form_nodes.specs.FormPromises.{operators, connectives, pred_starts, relations, memberships, quantifiers, level_of, Starts, StartCode, Reads, TermReads, TermStops, PredReads, PredStops}
 use Rattle.form.specs.Computed.{compute_form}
 use Rattle.form_nodes.specs.declared.kinds.Start as declared
 use Rattle.form_nodes.specs.declared.Read.{Read}
 use Rattle.form_nodes.specs.declared.Read.TheVariants.{At, Fault}
-use Rattle.form_nodes.proofs.Classes.{Misses, lookup-miss, by-table-or, spanned}
+use Rattle.form_nodes.proofs.Classes.{lookup-miss, by-table-or, spanned}
 use Rattle.form.proofs.Table.{◌&◌}
-use Rattle.form_nodes.proofs.ReadParts.{here, next, likewise, fails, takes, taken, joined, Within, Alike, alike, alike-now, alike_then}
-use Rattle.form_nodes.proofs.RangeEnds.{is-end, range-well, used-well}
-use Rattle.form_nodes.proofs.ItemSteps.{by-act, first_entry, at_operator, operating, rest-step, pred-rest-step, at_pred_start, pred_starting, either, lookup-mapped, division, binary, connecting, any-depth, unary-step, at_relation, rel-step, mem-step}
+use Rattle.form_nodes.proofs.ReadParts.{here, next, likewise, fails}
+use Rattle.form_nodes.proofs.ItemSteps.{by-act, first_entry, at_operator, operating, rest-step, pred-rest-step, at_pred_start, pred_starting, lookup-mapped, division, binary, connecting, any-depth, unary-step, at_relation, rel-step, mem-step}
 
 -- what begins a term, with more behind it
 pub frame : (d b : ℕ) (v : Start) (σ ρ γ : List Item) (m n : Next) → does (from_start d b (σ ++ ρ) v) γ m ≡ does (from_start d b σ v) (ρ ++ γ) n

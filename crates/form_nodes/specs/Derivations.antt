@@ -1,6 +1,6 @@
 -- What the form pass reads, by the codes s and the values ν of the symbols, and the nodes that it leaves of it. The trees that these are the nodes of are parser/proofs/DerivedTrees.
 -- Nothing here need be believed.
-use Rattle.std.specs.Prelude.{◌≡◌, Bool, true, false, cond, List, [], ◌∷◌, ◌++◌, ℕ, suc, ◌+◌, ◌-◌, ◌*◌, ◌≤◌, ◌<◌, eqb, ltb, leb, length, take, drop, get_or}
+use Rattle.std.specs.Prelude.{◌≡◌, Bool, false, cond, List, [], ◌++◌, ℕ, ◌+◌, ◌-◌, ◌*◌, ◌≤◌, ◌<◌, eqb, ltb, leb, length, take, get_or}
 use Rattle.lexical.specs.Kinds.{Kind, code_of, lookup}
 use Rattle.form.specs.Codes.{node}
 use Rattle.form_nodes.specs.FormPromises.{Classes, Starts, operators, connectives, pred_starts, relations, level_of}

@@ -6,7 +6,6 @@ use Rattle.lexical.specs.Symbols.{Symbol, kind_of}
 use Rattle.lexical.specs.Refusals.{Refusal, noDossier, deep, manyDeclared}
 use Rattle.lexical.specs.Promises.{Scans}
 use Rattle.lexical.specs.declared.Scanned.TheVariants.{Symbols}
-use Rattle.form.specs.Form.{kind_at}
 use Rattle.form.specs.Machine as machine
 use Rattle.form.specs.Machine.{kind_before, Item, aTermRest, a_pred_rest, Run, failed, run_from, starts}
 use Rattle.form_nodes.specs.declared.kinds.Start.{Start}

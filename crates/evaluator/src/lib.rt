@@ -77,7 +77,7 @@ fn next(k: u16, n: u16) -> u16
 }
 
 // The same as `value`: variables and numbers, which most parts are, without a call.
-#[cycle(holds_items_member_once_part_quantified_some_such_value)]
+#[cycle(evaluation)]
 fn part(t: &[u16; node::NUMBERS], end: usize, slots: &mut [i64; SLOTS]) -> i64
     requires inside { Inside end }
     requires term_runs { TermRuns t.now end slots.old }
@@ -95,7 +95,7 @@ fn part(t: &[u16; node::NUMBERS], end: usize, slots: &mut [i64; SLOTS]) -> i64
 }
 
 // The value of the term whose nodes end at `end`.
-#[cycle(holds_items_member_once_part_quantified_some_such_value)]
+#[cycle(evaluation)]
 pub fn value(t: &[u16; node::NUMBERS], end: usize, slots: &mut [i64; SLOTS]) -> i64
     requires inside { Inside end }
     requires term_runs { TermRuns t.now end slots.old }
@@ -126,7 +126,7 @@ pub fn value(t: &[u16; node::NUMBERS], end: usize, slots: &mut [i64; SLOTS]) -> 
 }
 
 // The set of the items or pairs whose nodes end at `end`.
-#[cycle(holds_items_member_once_part_quantified_some_such_value)]
+#[cycle(evaluation)]
 fn items(t: &[u16; node::NUMBERS], end: usize, slots: &mut [i64; SLOTS]) -> i64
     requires inside { Inside end }
     requires items_run { ItemsRun t.now end slots.old }
@@ -160,7 +160,7 @@ fn items(t: &[u16; node::NUMBERS], end: usize, slots: &mut [i64; SLOTS]) -> i64
 }
 
 // {x : G | p}: the elements at which the predicate holds, from the last bit down.
-#[cycle(holds_items_member_once_part_quantified_some_such_value)]
+#[cycle(evaluation)]
 fn such(t: &[u16; node::NUMBERS], end: usize, slots: &mut [i64; SLOTS]) -> i64
     requires inside { Inside end }
     requires such_runs { SuchRuns t.now end slots.old }
@@ -181,7 +181,7 @@ fn such(t: &[u16; node::NUMBERS], end: usize, slots: &mut [i64; SLOTS]) -> i64
 }
 
 // Whether the predicate whose nodes end at `end` holds.
-#[cycle(holds_items_member_once_part_quantified_some_such_value)]
+#[cycle(evaluation)]
 pub fn holds(t: &[u16; node::NUMBERS], end: usize, slots: &mut [i64; SLOTS]) -> bool
     requires inside { Inside end }
     requires truth_runs { TruthRuns t.now end slots.old }
@@ -212,7 +212,7 @@ pub fn holds(t: &[u16; node::NUMBERS], end: usize, slots: &mut [i64; SLOTS]) -> 
 }
 
 // in and notin: an element and its set, a number and a range, a pair and its relation.
-#[cycle(holds_items_member_once_part_quantified_some_such_value)]
+#[cycle(evaluation)]
 fn member(t: &[u16; node::NUMBERS], end: usize, slots: &mut [i64; SLOTS]) -> bool
     requires inside { Inside end }
     requires asked_runs { AskedRuns t.now end slots.old }
@@ -248,7 +248,7 @@ fn member(t: &[u16; node::NUMBERS], end: usize, slots: &mut [i64; SLOTS]) -> boo
 }
 
 // forall is no value at which the predicate is false, exists some value at which it is true, exists1 exactly one such value.
-#[cycle(holds_items_member_once_part_quantified_some_such_value)]
+#[cycle(evaluation)]
 fn quantified(t: &[u16; node::NUMBERS], end: usize, slots: &mut [i64; SLOTS]) -> bool
     requires inside { Inside end }
     requires quantifier_runs { QuantifierRuns t.now end slots.old }
@@ -264,7 +264,7 @@ fn quantified(t: &[u16; node::NUMBERS], end: usize, slots: &mut [i64; SLOTS]) ->
 }
 
 // Is the predicate of the quantifier as wanted at one of the values?
-#[cycle(holds_items_member_once_part_quantified_some_such_value)]
+#[cycle(evaluation)]
 fn some(t: &[u16; node::NUMBERS], end: usize, wanted: bool, slots: &mut [i64; SLOTS]) -> bool
     requires inside { Inside end }
     requires bound_runs { BoundRuns t.now end slots.old }
@@ -290,7 +290,7 @@ fn some(t: &[u16; node::NUMBERS], end: usize, wanted: bool, slots: &mut [i64; SL
 }
 
 // Does it hold at exactly one of them?
-#[cycle(holds_items_member_once_part_quantified_some_such_value)]
+#[cycle(evaluation)]
 fn once(t: &[u16; node::NUMBERS], end: usize, slots: &mut [i64; SLOTS]) -> bool
     requires inside { Inside end }
     requires bound_runs { BoundRuns t.now end slots.old }

@@ -36,7 +36,7 @@ fn connective_at(s: &[u8], at: usize) -> u8
 }
 
 // A term that no operator stands in, but in brackets.
-#[cycle(atom_brace_items_listed_member_operand_pairs_paren_pred_pred_from_pred_more_pred_rest_quantified_related_such_term_term_from_term_more_term_rest_unary)]
+#[cycle(trees)]
 fn operand(s: &[u8], v: &[u16], at: usize, d: u8, b: u8, code: &mut [u16], n: usize) -> Read
     requires { Room s.now code.old at n × (d ≤ 24) × (b ≤ 3) }
     ensures { Reads s.now at n (anOperand d b ∷ []) [] result × Made s.now v.now anOperand at n code.old code.new result }
@@ -85,7 +85,7 @@ fn operand(s: &[u8], v: &[u16], at: usize, d: u8, b: u8, code: &mut [u16], n: us
     }
 }
 
-#[cycle(atom_brace_items_listed_member_operand_pairs_paren_pred_pred_from_pred_more_pred_rest_quantified_related_such_term_term_from_term_more_term_rest_unary)]
+#[cycle(trees)]
 fn term(s: &[u8], v: &[u16], at: usize, d: u8, b: u8, code: &mut [u16], n: usize) -> Read
     requires { Room s.now code.old at n × (d ≤ 24) × (b ≤ 3) }
     ensures { Reads s.now at n (aTerm d b ∷ []) [] result × Made s.now v.now (aTermFrom 1) at n code.old code.new result }
@@ -94,7 +94,7 @@ fn term(s: &[u8], v: &[u16], at: usize, d: u8, b: u8, code: &mut [u16], n: usize
 }
 
 // A term with operators of the level min and higher ones.
-#[cycle(atom_brace_items_listed_member_operand_pairs_paren_pred_pred_from_pred_more_pred_rest_quantified_related_such_term_term_from_term_more_term_rest_unary)]
+#[cycle(trees)]
 fn term_from(
     s: &[u8],
     v: &[u16],
@@ -115,7 +115,7 @@ fn term_from(
 }
 
 // Operators behind a term, and their right sides: a chain, as long as it may be, is one loop.
-#[cycle(atom_brace_items_listed_member_operand_pairs_paren_pred_pred_from_pred_more_pred_rest_quantified_related_such_term_term_from_term_more_term_rest_unary)]
+#[cycle(trees)]
 fn term_rest(
     s: &[u8],
     v: &[u16],
@@ -146,7 +146,7 @@ fn term_rest(
 }
 
 // The operator of the kind o that stands behind a term, and its right side.
-#[cycle(atom_brace_items_listed_member_operand_pairs_paren_pred_pred_from_pred_more_pred_rest_quantified_related_such_term_term_from_term_more_term_rest_unary)]
+#[cycle(trees)]
 fn term_more(
     s: &[u8],
     v: &[u16],
@@ -182,7 +182,7 @@ fn term_more(
 }
 
 // Behind the { at a place.
-#[cycle(atom_brace_items_listed_member_operand_pairs_paren_pred_pred_from_pred_more_pred_rest_quantified_related_such_term_term_from_term_more_term_rest_unary)]
+#[cycle(trees)]
 fn brace(s: &[u8], v: &[u16], at: usize, d: u8, b: u8, code: &mut [u16], n: usize) -> Read
     requires { Room s.now code.old at n × (d ≤ 24) × (b ≤ 3) × (at < length s.now) × (get_or s.now at 0 ≡ 19) }
     ensures { Reads s.now (at + 1) (n + 4) (aBrace d b ∷ []) [] result × Made s.now v.now anOperand at n code.old code.new result }
@@ -197,7 +197,7 @@ fn brace(s: &[u8], v: &[u16], at: usize, d: u8, b: u8, code: &mut [u16], n: usiz
 }
 
 // {t, ..} or {t |-> t, ..}.
-#[cycle(atom_brace_items_listed_member_operand_pairs_paren_pred_pred_from_pred_more_pred_rest_quantified_related_such_term_term_from_term_more_term_rest_unary)]
+#[cycle(trees)]
 fn listed(s: &[u8], v: &[u16], at: usize, d: u8, b: u8, code: &mut [u16], n: usize) -> Read
     requires { Room s.now code.old at n × (d ≤ 24) × (b ≤ 3) × (at < length s.now) × (get_or s.now at 0 ≡ 19) × (get_or s.now (at + 1) 0 ≡ 2 → get_or s.now (at + 1 + 1) 0 ≡ 10 → ⊥) }
     ensures { Reads s.now (at + 1) (n + 4) (aBrace d b ∷ []) [] result × Made s.now v.now anOperand at n code.old code.new result }
@@ -226,7 +226,7 @@ fn listed(s: &[u8], v: &[u16], at: usize, d: u8, b: u8, code: &mut [u16], n: usi
 }
 
 // {x : G | p}.
-#[cycle(atom_brace_items_listed_member_operand_pairs_paren_pred_pred_from_pred_more_pred_rest_quantified_related_such_term_term_from_term_more_term_rest_unary)]
+#[cycle(trees)]
 fn such(s: &[u8], v: &[u16], at: usize, d: u8, b: u8, code: &mut [u16], n: usize) -> Read
     requires { Room s.now code.old at n × (d ≤ 24) × (b ≤ 3) × (at < length s.now) × (get_or s.now at 0 ≡ 19) × (get_or s.now (at + 1) 0 ≡ 2) × (get_or s.now (at + 1 + 1) 0 ≡ 10) }
     ensures { Reads s.now (at + 1) (n + 4) (aBrace d b ∷ []) [] result × Made s.now v.now anOperand at n code.old code.new result }
@@ -255,7 +255,7 @@ fn such(s: &[u8], v: &[u16], at: usize, d: u8, b: u8, code: &mut [u16], n: usize
 }
 
 // Behind the first term of {t, ..}.
-#[cycle(atom_brace_items_listed_member_operand_pairs_paren_pred_pred_from_pred_more_pred_rest_quantified_related_such_term_term_from_term_more_term_rest_unary)]
+#[cycle(trees)]
 fn items(s: &[u8], v: &[u16], at: usize, d: u8, b: u8, code: &mut [u16], n: usize) -> Read
     requires { Room s.now code.old at n × (d ≤ 24) × (b ≤ 3) }
     ensures { Reads s.now at n (aList d b ∷ []) [] result × Made s.now v.now someItems at n code.old code.new result }
@@ -281,7 +281,7 @@ fn items(s: &[u8], v: &[u16], at: usize, d: u8, b: u8, code: &mut [u16], n: usiz
 }
 
 // Behind the first side of {t |-> t, ..}.
-#[cycle(atom_brace_items_listed_member_operand_pairs_paren_pred_pred_from_pred_more_pred_rest_quantified_related_such_term_term_from_term_more_term_rest_unary)]
+#[cycle(trees)]
 fn pairs(s: &[u8], v: &[u16], at: usize, d: u8, b: u8, code: &mut [u16], n: usize) -> Read
     requires { Room s.now code.old at n × (d ≤ 24) × (b ≤ 3) }
     ensures { Reads s.now at n (exact kind.maplet ∷ aTerm d b ∷ aPairs d b ∷ []) [] result × Made s.now v.now somePairs at n code.old code.new result }
@@ -314,7 +314,7 @@ fn pairs(s: &[u8], v: &[u16], at: usize, d: u8, b: u8, code: &mut [u16], n: usiz
     }
 }
 
-#[cycle(atom_brace_items_listed_member_operand_pairs_paren_pred_pred_from_pred_more_pred_rest_quantified_related_such_term_term_from_term_more_term_rest_unary)]
+#[cycle(trees)]
 pub fn pred(s: &[u8], v: &[u16], at: usize, d: u8, b: u8, code: &mut [u16], n: usize) -> Read
     requires { Room s.now code.old at n × (d ≤ 24) × (b ≤ 3) }
     ensures { Reads s.now at n (aUnary d b ∷ a_pred_rest d d b ∷ []) [] result × Made s.now v.now (aPredFrom 1) at n code.old code.new result }
@@ -323,7 +323,7 @@ pub fn pred(s: &[u8], v: &[u16], at: usize, d: u8, b: u8, code: &mut [u16], n: u
 }
 
 // A predicate with connectives of the level min and higher ones.
-#[cycle(atom_brace_items_listed_member_operand_pairs_paren_pred_pred_from_pred_more_pred_rest_quantified_related_such_term_term_from_term_more_term_rest_unary)]
+#[cycle(trees)]
 fn pred_from(
     s: &[u8],
     v: &[u16],
@@ -344,7 +344,7 @@ fn pred_from(
 }
 
 // Connectives behind a predicate, and their right sides: a chain, as long as it may be, is one loop.
-#[cycle(atom_brace_items_listed_member_operand_pairs_paren_pred_pred_from_pred_more_pred_rest_quantified_related_such_term_term_from_term_more_term_rest_unary)]
+#[cycle(trees)]
 fn pred_rest(
     s: &[u8],
     v: &[u16],
@@ -375,7 +375,7 @@ fn pred_rest(
 }
 
 // The connective of the level l that stands behind a predicate, and its right side.
-#[cycle(atom_brace_items_listed_member_operand_pairs_paren_pred_pred_from_pred_more_pred_rest_quantified_related_such_term_term_from_term_more_term_rest_unary)]
+#[cycle(trees)]
 fn pred_more(
     s: &[u8],
     v: &[u16],
@@ -412,7 +412,7 @@ fn pred_more(
 }
 
 // A predicate that no connective stands in, but in parentheses.
-#[cycle(atom_brace_items_listed_member_operand_pairs_paren_pred_pred_from_pred_more_pred_rest_quantified_related_such_term_term_from_term_more_term_rest_unary)]
+#[cycle(trees)]
 fn unary(s: &[u8], v: &[u16], at: usize, d: u8, b: u8, code: &mut [u16], n: usize) -> Read
     requires { Room s.now code.old at n × (d ≤ 24) × (b ≤ 3) }
     ensures { Reads s.now at n (aUnary d b ∷ []) [] result × Made s.now v.now aUnary at n code.old code.new result }
@@ -448,7 +448,7 @@ fn unary(s: &[u8], v: &[u16], at: usize, d: u8, b: u8, code: &mut [u16], n: usiz
 }
 
 // Behind the ( at a place.
-#[cycle(atom_brace_items_listed_member_operand_pairs_paren_pred_pred_from_pred_more_pred_rest_quantified_related_such_term_term_from_term_more_term_rest_unary)]
+#[cycle(trees)]
 fn paren(s: &[u8], v: &[u16], at: usize, d: u8, b: u8, code: &mut [u16], n: usize) -> Read
     requires { Room s.now code.old at n × (d ≤ 24) × (b ≤ 3) × (at < length s.now) × (get_or s.now at 0 ≡ 15) }
     ensures { Reads s.now (at + 1) (n + 4) (aParen d b ∷ []) [] result × Made s.now v.now aUnary at n code.old code.new result }
@@ -465,7 +465,7 @@ fn paren(s: &[u8], v: &[u16], at: usize, d: u8, b: u8, code: &mut [u16], n: usiz
 }
 
 // Behind ( and a quantifier.
-#[cycle(atom_brace_items_listed_member_operand_pairs_paren_pred_pred_from_pred_more_pred_rest_quantified_related_such_term_term_from_term_more_term_rest_unary)]
+#[cycle(trees)]
 fn quantified(s: &[u8], v: &[u16], at: usize, d: u8, b: u8, code: &mut [u16], n: usize) -> Read
     requires { Room s.now code.old at n × (d ≤ 24) × (b ≤ 3) × (at + 1 < length s.now) × (53 ≤ get_or s.now (at + 1) 0) × (get_or s.now (at + 1) 0 ≤ 55) × (get_or s.now at 0 ≡ 15) }
     ensures { Reads s.now (at + 1) (n + 4) (aParen d b ∷ []) [] result × Made s.now v.now aUnary at n code.old code.new result }
@@ -499,7 +499,7 @@ fn quantified(s: &[u8], v: &[u16], at: usize, d: u8, b: u8, code: &mut [u16], n:
 }
 
 // What stands behind the first term of a predicate.
-#[cycle(atom_brace_items_listed_member_operand_pairs_paren_pred_pred_from_pred_more_pred_rest_quantified_related_such_term_term_from_term_more_term_rest_unary)]
+#[cycle(trees)]
 fn atom(s: &[u8], v: &[u16], at: usize, d: u8, b: u8, code: &mut [u16], n: usize) -> Read
     requires { Room s.now code.old at n × (d ≤ 24) × (b ≤ 3) }
     ensures { Reads s.now at n (aRel d b ∷ []) [] result × Made s.now v.now anAtom at n code.old code.new result }
@@ -528,7 +528,7 @@ fn atom(s: &[u8], v: &[u16], at: usize, d: u8, b: u8, code: &mut [u16], n: usize
 }
 
 // Behind `in` or `notin`.
-#[cycle(atom_brace_items_listed_member_operand_pairs_paren_pred_pred_from_pred_more_pred_rest_quantified_related_such_term_term_from_term_more_term_rest_unary)]
+#[cycle(trees)]
 fn member(s: &[u8], v: &[u16], at: usize, d: u8, b: u8, code: &mut [u16], n: usize) -> Read
     requires { Room s.now code.old at n × (d ≤ 24) × (b ≤ 3) × (at < length s.now) × (56 ≤ get_or s.now at 0) × (get_or s.now at 0 ≤ 57) }
     ensures { Reads s.now (at + 1) (n + 4) (aRight d b ∷ []) [] result × Made s.now v.now anAtom at n code.old code.new result }
@@ -554,7 +554,7 @@ fn member(s: &[u8], v: &[u16], at: usize, d: u8, b: u8, code: &mut [u16], n: usi
 }
 
 // Behind t |-> t.
-#[cycle(atom_brace_items_listed_member_operand_pairs_paren_pred_pred_from_pred_more_pred_rest_quantified_related_such_term_term_from_term_more_term_rest_unary)]
+#[cycle(trees)]
 fn related(s: &[u8], v: &[u16], at: usize, d: u8, b: u8, code: &mut [u16], n: usize) -> Read
     requires { Room s.now code.old at n × (d ≤ 24) × (b ≤ 3) }
     ensures { Reads s.now at n (aMem d b ∷ []) [] result × Made s.now v.now someRelated at n code.old code.new result }

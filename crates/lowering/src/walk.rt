@@ -134,7 +134,7 @@ fn empty_pairs(
 }
 
 // The term whose nodes end at `end`.
-#[cycle(compared_connected_divided_items_joined_last_pair_listed_member_negated_next_pair_paired_pairs_pred_prefixed_quantified_related_such_term_within)]
+#[cycle(walk)]
 fn term(
     code: &[u16],
     end: usize,
@@ -166,7 +166,7 @@ fn term(
 }
 
 // A prefix before a term.
-#[cycle(compared_connected_divided_items_joined_last_pair_listed_member_negated_next_pair_paired_pairs_pred_prefixed_quantified_related_such_term_within)]
+#[cycle(walk)]
 fn prefixed(
     code: &[u16],
     end: usize,
@@ -192,7 +192,7 @@ fn prefixed(
 }
 
 // t div n, t mod n.
-#[cycle(compared_connected_divided_items_joined_last_pair_listed_member_negated_next_pair_paired_pairs_pred_prefixed_quantified_related_such_term_within)]
+#[cycle(walk)]
 fn divided(
     code: &[u16],
     end: usize,
@@ -217,7 +217,7 @@ fn divided(
 }
 
 // Two terms with an operator between them.
-#[cycle(compared_connected_divided_items_joined_last_pair_listed_member_negated_next_pair_paired_pairs_pred_prefixed_quantified_related_such_term_within)]
+#[cycle(walk)]
 fn joined(
     code: &[u16],
     end: usize,
@@ -242,7 +242,7 @@ fn joined(
 }
 
 // {x : G | p}.
-#[cycle(compared_connected_divided_items_joined_last_pair_listed_member_negated_next_pair_paired_pairs_pred_prefixed_quantified_related_such_term_within)]
+#[cycle(walk)]
 fn such(
     code: &[u16],
     end: usize,
@@ -273,7 +273,7 @@ fn such(
 }
 
 // {t, ...}.
-#[cycle(compared_connected_divided_items_joined_last_pair_listed_member_negated_next_pair_paired_pairs_pred_prefixed_quantified_related_such_term_within)]
+#[cycle(walk)]
 fn listed(
     code: &[u16],
     end: usize,
@@ -296,7 +296,7 @@ fn listed(
 }
 
 // {t |-> t, ...}.
-#[cycle(compared_connected_divided_items_joined_last_pair_listed_member_negated_next_pair_paired_pairs_pred_prefixed_quantified_related_such_term_within)]
+#[cycle(walk)]
 fn paired(
     code: &[u16],
     end: usize,
@@ -319,7 +319,7 @@ fn paired(
 }
 
 // The terms of a brace.
-#[cycle(compared_connected_divided_items_joined_last_pair_listed_member_negated_next_pair_paired_pairs_pred_prefixed_quantified_related_such_term_within)]
+#[cycle(walk)]
 fn items(
     code: &[u16],
     end: usize,
@@ -354,7 +354,7 @@ fn items(
 }
 
 // The pairs of a brace.
-#[cycle(compared_connected_divided_items_joined_last_pair_listed_member_negated_next_pair_paired_pairs_pred_prefixed_quantified_related_such_term_within)]
+#[cycle(walk)]
 fn pairs(
     code: &[u16],
     end: usize,
@@ -377,7 +377,7 @@ fn pairs(
 }
 
 // The last pair of a brace.
-#[cycle(compared_connected_divided_items_joined_last_pair_listed_member_negated_next_pair_paired_pairs_pred_prefixed_quantified_related_such_term_within)]
+#[cycle(walk)]
 fn last_pair(
     code: &[u16],
     end: usize,
@@ -408,7 +408,7 @@ fn last_pair(
 }
 
 // Another pair of a brace, before those that follow it.
-#[cycle(compared_connected_divided_items_joined_last_pair_listed_member_negated_next_pair_paired_pairs_pred_prefixed_quantified_related_such_term_within)]
+#[cycle(walk)]
 fn next_pair(
     code: &[u16],
     end: usize,
@@ -442,7 +442,7 @@ fn next_pair(
 }
 
 // The predicate whose nodes end at `end`.
-#[cycle(compared_connected_divided_items_joined_last_pair_listed_member_negated_next_pair_paired_pairs_pred_prefixed_quantified_related_such_term_within)]
+#[cycle(walk)]
 pub fn pred(
     code: &[u16],
     end: usize,
@@ -494,7 +494,7 @@ fn constant(
 }
 
 // not p.
-#[cycle(compared_connected_divided_items_joined_last_pair_listed_member_negated_next_pair_paired_pairs_pred_prefixed_quantified_related_such_term_within)]
+#[cycle(walk)]
 fn negated(
     code: &[u16],
     end: usize,
@@ -517,7 +517,7 @@ fn negated(
 }
 
 // Two predicates with a connective between them.
-#[cycle(compared_connected_divided_items_joined_last_pair_listed_member_negated_next_pair_paired_pairs_pred_prefixed_quantified_related_such_term_within)]
+#[cycle(walk)]
 fn connected(
     code: &[u16],
     end: usize,
@@ -542,7 +542,7 @@ fn connected(
 }
 
 // t = u, and the other comparisons.
-#[cycle(compared_connected_divided_items_joined_last_pair_listed_member_negated_next_pair_paired_pairs_pred_prefixed_quantified_related_such_term_within)]
+#[cycle(walk)]
 fn compared(
     code: &[u16],
     end: usize,
@@ -567,7 +567,7 @@ fn compared(
 }
 
 // t in u.
-#[cycle(compared_connected_divided_items_joined_last_pair_listed_member_negated_next_pair_paired_pairs_pred_prefixed_quantified_related_such_term_within)]
+#[cycle(walk)]
 fn member(
     code: &[u16],
     end: usize,
@@ -592,7 +592,7 @@ fn member(
 }
 
 // t in a..b.
-#[cycle(compared_connected_divided_items_joined_last_pair_listed_member_negated_next_pair_paired_pairs_pred_prefixed_quantified_related_such_term_within)]
+#[cycle(walk)]
 fn within(
     code: &[u16],
     end: usize,
@@ -617,7 +617,7 @@ fn within(
 }
 
 // t |-> u in v.
-#[cycle(compared_connected_divided_items_joined_last_pair_listed_member_negated_next_pair_paired_pairs_pred_prefixed_quantified_related_such_term_within)]
+#[cycle(walk)]
 fn related(
     code: &[u16],
     end: usize,
@@ -644,7 +644,7 @@ fn related(
 }
 
 // (forall x : T @ p), and the other quantifiers.
-#[cycle(compared_connected_divided_items_joined_last_pair_listed_member_negated_next_pair_paired_pairs_pred_prefixed_quantified_related_such_term_within)]
+#[cycle(walk)]
 fn quantified(
     code: &[u16],
     end: usize,

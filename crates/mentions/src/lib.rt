@@ -33,7 +33,7 @@ fn earlier(t: &[u16; node::NUMBERS], end: usize, back: usize) -> usize
 }
 
 // Is the term whose nodes end at `end` free of the slot?
-#[cycle(free_asked_free_items_free_pred_free_term)]
+#[cycle(free)]
 pub fn free_term(t: &[u16; node::NUMBERS], end: usize, slot: usize) -> bool
     ensures { TermSays t.now end slot result }
 {
@@ -69,7 +69,7 @@ pub fn free_term(t: &[u16; node::NUMBERS], end: usize, slot: usize) -> bool
 }
 
 // Are the items or pairs of a brace?
-#[cycle(free_asked_free_items_free_pred_free_term)]
+#[cycle(free)]
 fn free_items(t: &[u16; node::NUMBERS], end: usize, slot: usize) -> bool
     ensures { ItemsSay t.now end slot result }
 {
@@ -99,7 +99,7 @@ fn free_items(t: &[u16; node::NUMBERS], end: usize, slot: usize) -> bool
 }
 
 // Is the predicate whose nodes end at `end`?
-#[cycle(free_asked_free_items_free_pred_free_term)]
+#[cycle(free)]
 pub fn free_pred(t: &[u16; node::NUMBERS], end: usize, slot: usize) -> bool
     ensures { TruthSays t.now end slot result }
 {
@@ -139,7 +139,7 @@ pub fn free_pred(t: &[u16; node::NUMBERS], end: usize, slot: usize) -> bool
 }
 
 // Are the parts of in and notin?
-#[cycle(free_asked_free_items_free_pred_free_term)]
+#[cycle(free)]
 fn free_asked(t: &[u16; node::NUMBERS], end: usize, slot: usize) -> bool
     requires { Inside end }
     ensures { AskedSays t.now end slot result }

@@ -134,7 +134,7 @@ fn domain(code: &[u16], end: usize) -> Sized
 }
 
 // The term whose nodes end at `end`.
-#[cycle(connected_divided_items_listed_operated_pair_paired_pairs_pred_prefixed_quantified_related_such_term_within)]
+#[cycle(sizes)]
 fn term(code: &[u16], end: usize, bounds: &mut [u16]) -> Sized
     requires { end ≤ length code.now }
     ensures { TermSized code.now end bounds.old bounds.new result }
@@ -186,7 +186,7 @@ fn named(code: &[u16], end: usize, bounds: &[u16]) -> Sized
 }
 
 // A prefix before a term.
-#[cycle(connected_divided_items_listed_operated_pair_paired_pairs_pred_prefixed_quantified_related_such_term_within)]
+#[cycle(sizes)]
 fn prefixed(code: &[u16], end: usize, bounds: &mut [u16]) -> Sized
     requires { (end ≤ length code.now) × (4 ≤ end) × (get_or code.now (end - 4 + 3) 0 ≡ 3) }
     ensures { TermSized code.now end bounds.old bounds.new result }
@@ -202,7 +202,7 @@ fn prefixed(code: &[u16], end: usize, bounds: &mut [u16]) -> Sized
 }
 
 // t div n, t mod n.
-#[cycle(connected_divided_items_listed_operated_pair_paired_pairs_pred_prefixed_quantified_related_such_term_within)]
+#[cycle(sizes)]
 fn divided(code: &[u16], end: usize, bounds: &mut [u16]) -> Sized
     requires { (end ≤ length code.now) × (4 ≤ end) × (get_or code.now (end - 4 + 3) 0 ≡ 4) }
     ensures { TermSized code.now end bounds.old bounds.new result }
@@ -218,7 +218,7 @@ fn divided(code: &[u16], end: usize, bounds: &mut [u16]) -> Sized
 }
 
 // Two terms with an operator between them.
-#[cycle(connected_divided_items_listed_operated_pair_paired_pairs_pred_prefixed_quantified_related_such_term_within)]
+#[cycle(sizes)]
 fn operated(code: &[u16], end: usize, bounds: &mut [u16]) -> Sized
     requires { (end ≤ length code.now) × (4 ≤ end) × (get_or code.now (end - 4 + 3) 0 ≡ 5) }
     ensures { TermSized code.now end bounds.old bounds.new result }
@@ -237,7 +237,7 @@ fn operated(code: &[u16], end: usize, bounds: &mut [u16]) -> Sized
 }
 
 // {x : G | p}.
-#[cycle(connected_divided_items_listed_operated_pair_paired_pairs_pred_prefixed_quantified_related_such_term_within)]
+#[cycle(sizes)]
 fn such(code: &[u16], end: usize, bounds: &mut [u16]) -> Sized
     requires { (end ≤ length code.now) × (4 ≤ end) × (get_or code.now (end - 4 + 3) 0 ≡ 6) }
     ensures { TermSized code.now end bounds.old bounds.new result }
@@ -257,7 +257,7 @@ fn such(code: &[u16], end: usize, bounds: &mut [u16]) -> Sized
 }
 
 // {t, ...}.
-#[cycle(connected_divided_items_listed_operated_pair_paired_pairs_pred_prefixed_quantified_related_such_term_within)]
+#[cycle(sizes)]
 fn listed(code: &[u16], end: usize, bounds: &mut [u16]) -> Sized
     requires { (end ≤ length code.now) × (4 ≤ end) × (get_or code.now (end - 4 + 3) 0 ≡ 7) }
     ensures { TermSized code.now end bounds.old bounds.new result }
@@ -271,7 +271,7 @@ fn listed(code: &[u16], end: usize, bounds: &mut [u16]) -> Sized
 }
 
 // {t |-> t, ...}.
-#[cycle(connected_divided_items_listed_operated_pair_paired_pairs_pred_prefixed_quantified_related_such_term_within)]
+#[cycle(sizes)]
 fn paired(code: &[u16], end: usize, bounds: &mut [u16]) -> Sized
     requires { (end ≤ length code.now) × (4 ≤ end) × (get_or code.now (end - 4 + 3) 0 ≡ 8) }
     ensures { TermSized code.now end bounds.old bounds.new result }
@@ -285,7 +285,7 @@ fn paired(code: &[u16], end: usize, bounds: &mut [u16]) -> Sized
 }
 
 // The terms of a brace.
-#[cycle(connected_divided_items_listed_operated_pair_paired_pairs_pred_prefixed_quantified_related_such_term_within)]
+#[cycle(sizes)]
 fn items(code: &[u16], end: usize, bounds: &mut [u16]) -> Sized
     requires { end ≤ length code.now }
     ensures { ItemsSized code.now end bounds.old bounds.new result }
@@ -313,7 +313,7 @@ fn items(code: &[u16], end: usize, bounds: &mut [u16]) -> Sized
 }
 
 // The pairs of a brace; the last two terms before the node of the last pair.
-#[cycle(connected_divided_items_listed_operated_pair_paired_pairs_pred_prefixed_quantified_related_such_term_within)]
+#[cycle(sizes)]
 fn pairs(code: &[u16], end: usize, bounds: &mut [u16]) -> Sized
     requires { end ≤ length code.now }
     ensures { PairsSized code.now end bounds.old bounds.new result }
@@ -336,7 +336,7 @@ fn pairs(code: &[u16], end: usize, bounds: &mut [u16]) -> Sized
 }
 
 // Two terms, one behind the other.
-#[cycle(connected_divided_items_listed_operated_pair_paired_pairs_pred_prefixed_quantified_related_such_term_within)]
+#[cycle(sizes)]
 fn pair(code: &[u16], end: usize, bounds: &mut [u16]) -> Sized
     requires { end ≤ length code.now }
     ensures { PairSized code.now end bounds.old bounds.new result }
@@ -352,7 +352,7 @@ fn pair(code: &[u16], end: usize, bounds: &mut [u16]) -> Sized
 }
 
 // The predicate whose nodes end at `end`.
-#[cycle(connected_divided_items_listed_operated_pair_paired_pairs_pred_prefixed_quantified_related_such_term_within)]
+#[cycle(sizes)]
 pub fn pred(code: &[u16], end: usize, bounds: &mut [u16]) -> Sized
     requires { end ≤ length code.now }
     ensures { PredSized code.now end bounds.old bounds.new result }
@@ -375,7 +375,7 @@ pub fn pred(code: &[u16], end: usize, bounds: &mut [u16]) -> Sized
 }
 
 // Two predicates with a connective between them.
-#[cycle(connected_divided_items_listed_operated_pair_paired_pairs_pred_prefixed_quantified_related_such_term_within)]
+#[cycle(sizes)]
 fn connected(code: &[u16], end: usize, bounds: &mut [u16]) -> Sized
     requires { (end ≤ length code.now) × (4 ≤ end) × (get_or code.now (end - 4 + 3) 0 ≡ 3) }
     ensures { PredSized code.now end bounds.old bounds.new result }
@@ -391,7 +391,7 @@ fn connected(code: &[u16], end: usize, bounds: &mut [u16]) -> Sized
 }
 
 // t in a..b.
-#[cycle(connected_divided_items_listed_operated_pair_paired_pairs_pred_prefixed_quantified_related_such_term_within)]
+#[cycle(sizes)]
 fn within(code: &[u16], end: usize, bounds: &mut [u16]) -> Sized
     requires { (end ≤ length code.now) × (4 ≤ end) × (get_or code.now (end - 4 + 3) 0 ≡ 6) }
     ensures { PredSized code.now end bounds.old bounds.new result }
@@ -406,7 +406,7 @@ fn within(code: &[u16], end: usize, bounds: &mut [u16]) -> Sized
 }
 
 // t |-> u in v.
-#[cycle(connected_divided_items_listed_operated_pair_paired_pairs_pred_prefixed_quantified_related_such_term_within)]
+#[cycle(sizes)]
 fn related(code: &[u16], end: usize, bounds: &mut [u16]) -> Sized
     requires { (end ≤ length code.now) × (4 ≤ end) × (get_or code.now (end - 4 + 3) 0 ≡ 7) }
     ensures { PredSized code.now end bounds.old bounds.new result }
@@ -422,7 +422,7 @@ fn related(code: &[u16], end: usize, bounds: &mut [u16]) -> Sized
 }
 
 // (forall x : T @ p), and the other quantifiers.
-#[cycle(connected_divided_items_listed_operated_pair_paired_pairs_pred_prefixed_quantified_related_such_term_within)]
+#[cycle(sizes)]
 fn quantified(code: &[u16], end: usize, bounds: &mut [u16]) -> Sized
     requires { (end ≤ length code.now) × (4 ≤ end) × (get_or code.now (end - 4 + 3) 0 ≡ 8) }
     ensures { PredSized code.now end bounds.old bounds.new result }

@@ -101,7 +101,7 @@ fn domain(code: &[u16], end: usize, names: &[u16]) -> Seen
 }
 
 // The term whose nodes end at `end`.
-#[cycle(compared_connected_divided_items_joined_listed_member_pair_paired_pairs_pred_prefixed_quantified_related_such_term_within)]
+#[cycle(types)]
 fn term(code: &[u16], end: usize, names: &mut [u16], sizes: &[u16]) -> Seen
     requires { end ≤ length code.now }
     ensures { TermSeen code.now end names.old names.new sizes.now result }
@@ -179,7 +179,7 @@ fn empty_pairs(code: &[u16], end: usize, names: &[u16], sizes: &[u16]) -> Seen
 }
 
 // A prefix before a term.
-#[cycle(compared_connected_divided_items_joined_listed_member_pair_paired_pairs_pred_prefixed_quantified_related_such_term_within)]
+#[cycle(types)]
 fn prefixed(code: &[u16], end: usize, names: &mut [u16], sizes: &[u16]) -> Seen
     requires { (end ≤ length code.now) × (4 ≤ end) × (get_or code.now (end - 4 + 3) 0 ≡ 3) }
     ensures { TermSeen code.now end names.old names.new sizes.now result }
@@ -198,7 +198,7 @@ fn prefixed(code: &[u16], end: usize, names: &mut [u16], sizes: &[u16]) -> Seen
 const REMAINDER: u32 = shapes::REMAINDER as u32;
 
 // t div n, t mod n.
-#[cycle(compared_connected_divided_items_joined_listed_member_pair_paired_pairs_pred_prefixed_quantified_related_such_term_within)]
+#[cycle(types)]
 fn divided(code: &[u16], end: usize, names: &mut [u16], sizes: &[u16]) -> Seen
     requires { (end ≤ length code.now) × (4 ≤ end) × (get_or code.now (end - 4 + 3) 0 ≡ 4) }
     ensures { TermSeen code.now end names.old names.new sizes.now result }
@@ -219,7 +219,7 @@ fn divided(code: &[u16], end: usize, names: &mut [u16], sizes: &[u16]) -> Seen
 }
 
 // Two terms with an operator between them.
-#[cycle(compared_connected_divided_items_joined_listed_member_pair_paired_pairs_pred_prefixed_quantified_related_such_term_within)]
+#[cycle(types)]
 fn joined(code: &[u16], end: usize, names: &mut [u16], sizes: &[u16]) -> Seen
     requires { (end ≤ length code.now) × (4 ≤ end) × (get_or code.now (end - 4 + 3) 0 ≡ 5) }
     ensures { TermSeen code.now end names.old names.new sizes.now result }
@@ -237,7 +237,7 @@ fn joined(code: &[u16], end: usize, names: &mut [u16], sizes: &[u16]) -> Seen
 }
 
 // {x : G | p}.
-#[cycle(compared_connected_divided_items_joined_listed_member_pair_paired_pairs_pred_prefixed_quantified_related_such_term_within)]
+#[cycle(types)]
 fn such(code: &[u16], end: usize, names: &mut [u16], sizes: &[u16]) -> Seen
     requires { (end ≤ length code.now) × (4 ≤ end) × (get_or code.now (end - 4 + 3) 0 ≡ 6) }
     ensures { TermSeen code.now end names.old names.new sizes.now result }
@@ -258,7 +258,7 @@ fn such(code: &[u16], end: usize, names: &mut [u16], sizes: &[u16]) -> Seen
 }
 
 // {t, ...}.
-#[cycle(compared_connected_divided_items_joined_listed_member_pair_paired_pairs_pred_prefixed_quantified_related_such_term_within)]
+#[cycle(types)]
 fn listed(code: &[u16], end: usize, names: &mut [u16], sizes: &[u16]) -> Seen
     requires { (end ≤ length code.now) × (4 ≤ end) × (get_or code.now (end - 4 + 3) 0 ≡ 7) }
     ensures { TermSeen code.now end names.old names.new sizes.now result }
@@ -274,7 +274,7 @@ fn listed(code: &[u16], end: usize, names: &mut [u16], sizes: &[u16]) -> Seen
 }
 
 // {t |-> t, ...}.
-#[cycle(compared_connected_divided_items_joined_listed_member_pair_paired_pairs_pred_prefixed_quantified_related_such_term_within)]
+#[cycle(types)]
 fn paired(code: &[u16], end: usize, names: &mut [u16], sizes: &[u16]) -> Seen
     requires { (end ≤ length code.now) × (4 ≤ end) × (get_or code.now (end - 4 + 3) 0 ≡ 8) }
     ensures { TermSeen code.now end names.old names.new sizes.now result }
@@ -290,7 +290,7 @@ fn paired(code: &[u16], end: usize, names: &mut [u16], sizes: &[u16]) -> Seen
 }
 
 // The terms of a brace.
-#[cycle(compared_connected_divided_items_joined_listed_member_pair_paired_pairs_pred_prefixed_quantified_related_such_term_within)]
+#[cycle(types)]
 fn items(code: &[u16], end: usize, names: &mut [u16], sizes: &[u16]) -> Seen
     requires { end ≤ length code.now }
     ensures { ItemsSeen code.now end names.old names.new sizes.now result }
@@ -313,7 +313,7 @@ fn items(code: &[u16], end: usize, names: &mut [u16], sizes: &[u16]) -> Seen
 }
 
 // The pairs of a brace; the last two terms before the node of the last pair.
-#[cycle(compared_connected_divided_items_joined_listed_member_pair_paired_pairs_pred_prefixed_quantified_related_such_term_within)]
+#[cycle(types)]
 fn pairs(code: &[u16], end: usize, names: &mut [u16], sizes: &[u16]) -> Seen
     requires { end ≤ length code.now }
     ensures { PairsSeen code.now end names.old names.new sizes.now result }
@@ -336,7 +336,7 @@ fn pairs(code: &[u16], end: usize, names: &mut [u16], sizes: &[u16]) -> Seen
 }
 
 // Two terms, one behind the other.
-#[cycle(compared_connected_divided_items_joined_listed_member_pair_paired_pairs_pred_prefixed_quantified_related_such_term_within)]
+#[cycle(types)]
 fn pair(code: &[u16], end: usize, names: &mut [u16], sizes: &[u16]) -> Seen
     requires { end ≤ length code.now }
     ensures { PairSeen code.now end names.old names.new sizes.now result }
@@ -352,7 +352,7 @@ fn pair(code: &[u16], end: usize, names: &mut [u16], sizes: &[u16]) -> Seen
 }
 
 // The predicate whose nodes end at `end`.
-#[cycle(compared_connected_divided_items_joined_listed_member_pair_paired_pairs_pred_prefixed_quantified_related_such_term_within)]
+#[cycle(types)]
 pub fn pred(code: &[u16], end: usize, names: &mut [u16], sizes: &[u16]) -> Seen
     requires { end ≤ length code.now }
     ensures { PredSeen code.now end names.old names.new sizes.now result }
@@ -379,7 +379,7 @@ pub fn pred(code: &[u16], end: usize, names: &mut [u16], sizes: &[u16]) -> Seen
 }
 
 // Two predicates with a connective between them.
-#[cycle(compared_connected_divided_items_joined_listed_member_pair_paired_pairs_pred_prefixed_quantified_related_such_term_within)]
+#[cycle(types)]
 fn connected(code: &[u16], end: usize, names: &mut [u16], sizes: &[u16]) -> Seen
     requires { (end ≤ length code.now) × (4 ≤ end) × (get_or code.now (end - 4 + 3) 0 ≡ 3) }
     ensures { PredSeen code.now end names.old names.new sizes.now result }
@@ -395,7 +395,7 @@ fn connected(code: &[u16], end: usize, names: &mut [u16], sizes: &[u16]) -> Seen
 }
 
 // t = u, and the other comparisons.
-#[cycle(compared_connected_divided_items_joined_listed_member_pair_paired_pairs_pred_prefixed_quantified_related_such_term_within)]
+#[cycle(types)]
 fn compared(code: &[u16], end: usize, names: &mut [u16], sizes: &[u16]) -> Seen
     requires { (end ≤ length code.now) × (4 ≤ end) × (get_or code.now (end - 4 + 3) 0 ≡ 4) }
     ensures { PredSeen code.now end names.old names.new sizes.now result }
@@ -413,7 +413,7 @@ fn compared(code: &[u16], end: usize, names: &mut [u16], sizes: &[u16]) -> Seen
 }
 
 // t in u.
-#[cycle(compared_connected_divided_items_joined_listed_member_pair_paired_pairs_pred_prefixed_quantified_related_such_term_within)]
+#[cycle(types)]
 fn member(code: &[u16], end: usize, names: &mut [u16], sizes: &[u16]) -> Seen
     requires { (end ≤ length code.now) × (4 ≤ end) × (get_or code.now (end - 4 + 3) 0 ≡ 5) }
     ensures { PredSeen code.now end names.old names.new sizes.now result }
@@ -431,7 +431,7 @@ fn member(code: &[u16], end: usize, names: &mut [u16], sizes: &[u16]) -> Seen
 }
 
 // t in a..b.
-#[cycle(compared_connected_divided_items_joined_listed_member_pair_paired_pairs_pred_prefixed_quantified_related_such_term_within)]
+#[cycle(types)]
 fn within(code: &[u16], end: usize, names: &mut [u16], sizes: &[u16]) -> Seen
     requires { (end ≤ length code.now) × (4 ≤ end) × (get_or code.now (end - 4 + 3) 0 ≡ 6) }
     ensures { PredSeen code.now end names.old names.new sizes.now result }
@@ -449,7 +449,7 @@ fn within(code: &[u16], end: usize, names: &mut [u16], sizes: &[u16]) -> Seen
 }
 
 // t |-> u in v.
-#[cycle(compared_connected_divided_items_joined_listed_member_pair_paired_pairs_pred_prefixed_quantified_related_such_term_within)]
+#[cycle(types)]
 fn related(code: &[u16], end: usize, names: &mut [u16], sizes: &[u16]) -> Seen
     requires { (end ≤ length code.now) × (4 ≤ end) × (get_or code.now (end - 4 + 3) 0 ≡ 7) }
     ensures { PredSeen code.now end names.old names.new sizes.now result }
@@ -468,7 +468,7 @@ fn related(code: &[u16], end: usize, names: &mut [u16], sizes: &[u16]) -> Seen
 }
 
 // (forall x : T @ p), and the other quantifiers.
-#[cycle(compared_connected_divided_items_joined_listed_member_pair_paired_pairs_pred_prefixed_quantified_related_such_term_within)]
+#[cycle(types)]
 fn quantified(code: &[u16], end: usize, names: &mut [u16], sizes: &[u16]) -> Seen
     requires { (end ≤ length code.now) × (4 ≤ end) × (get_or code.now (end - 4 + 3) 0 ≡ 8) }
     ensures { PredSeen code.now end names.old names.new sizes.now result }

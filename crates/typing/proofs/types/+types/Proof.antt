@@ -9,59 +9,59 @@ use lib.ListN.{get_or}
 use Rattle.typing.proofs.LastNodes.{term-short, items-short, pairs-short, pred-short, term-rest, pred-rest, eight, ten}
 use Rattle.typing.proofs.TypeWalkTerms.{term-number, term-prefix, term-divided, term-binary, term-such, term-listed, term-pairs, items-only, items-also, pair-seen, pairs-only, pairs-also}
 use Rattle.typing.proofs.TypeWalkPreds.{pred_constant, pred-negation, pred-connected, pred-compared, pred-member, pred-within, pred-related, pred-quantified}
-use Rattle.typing.proofs.types.+compared_connected_divided_items_joined_listed_member_pair_paired_pairs_pred_prefixed_quantified_related_such_term_within.{statement}
-use Rattle.typing.proofs.types.+compared_connected_divided_items_joined_listed_member_pair_paired_pairs_pred_prefixed_quantified_related_such_term_within.Tie.{close}
+use Rattle.typing.proofs.types.+types.{statement}
+use Rattle.typing.proofs.types.+types.Tie.{close}
 use Rattle.typing.proofs.types.compared.Reads as compared
 use Rattle.typing.proofs.types.compared.Kinds as compared-kinds
-use Rattle.typing.proofs.types.+compared_connected_divided_items_joined_listed_member_pair_paired_pairs_pred_prefixed_quantified_related_such_term_within.Lts-compared as compared-lts
+use Rattle.typing.proofs.types.+types.Lts-compared as compared-lts
 use Rattle.typing.proofs.types.connected.Reads as connected
 use Rattle.typing.proofs.types.connected.Kinds as connected-kinds
-use Rattle.typing.proofs.types.+compared_connected_divided_items_joined_listed_member_pair_paired_pairs_pred_prefixed_quantified_related_such_term_within.Lts-connected as connected-lts
+use Rattle.typing.proofs.types.+types.Lts-connected as connected-lts
 use Rattle.typing.proofs.types.divided.Reads as divided
 use Rattle.typing.proofs.types.divided.Kinds as divided-kinds
-use Rattle.typing.proofs.types.+compared_connected_divided_items_joined_listed_member_pair_paired_pairs_pred_prefixed_quantified_related_such_term_within.Lts-divided as divided-lts
+use Rattle.typing.proofs.types.+types.Lts-divided as divided-lts
 use Rattle.typing.proofs.types.items.Reads as items
 use Rattle.typing.proofs.types.items.Kinds as items-kinds
-use Rattle.typing.proofs.types.+compared_connected_divided_items_joined_listed_member_pair_paired_pairs_pred_prefixed_quantified_related_such_term_within.Lts-items as items-lts
+use Rattle.typing.proofs.types.+types.Lts-items as items-lts
 use Rattle.typing.proofs.types.joined.Reads as joined
 use Rattle.typing.proofs.types.joined.Kinds as joined-kinds
-use Rattle.typing.proofs.types.+compared_connected_divided_items_joined_listed_member_pair_paired_pairs_pred_prefixed_quantified_related_such_term_within.Lts-joined as joined-lts
+use Rattle.typing.proofs.types.+types.Lts-joined as joined-lts
 use Rattle.typing.proofs.types.listed.Reads as listed
 use Rattle.typing.proofs.types.listed.Kinds as listed-kinds
-use Rattle.typing.proofs.types.+compared_connected_divided_items_joined_listed_member_pair_paired_pairs_pred_prefixed_quantified_related_such_term_within.Lts-listed as listed-lts
+use Rattle.typing.proofs.types.+types.Lts-listed as listed-lts
 use Rattle.typing.proofs.types.member.Reads as member
 use Rattle.typing.proofs.types.member.Kinds as member-kinds
-use Rattle.typing.proofs.types.+compared_connected_divided_items_joined_listed_member_pair_paired_pairs_pred_prefixed_quantified_related_such_term_within.Lts-member as member-lts
+use Rattle.typing.proofs.types.+types.Lts-member as member-lts
 use Rattle.typing.proofs.types.pair.Reads as pair
 use Rattle.typing.proofs.types.pair.Kinds as pair-kinds
-use Rattle.typing.proofs.types.+compared_connected_divided_items_joined_listed_member_pair_paired_pairs_pred_prefixed_quantified_related_such_term_within.Lts-pair as pair-lts
+use Rattle.typing.proofs.types.+types.Lts-pair as pair-lts
 use Rattle.typing.proofs.types.paired.Reads as paired
 use Rattle.typing.proofs.types.paired.Kinds as paired-kinds
-use Rattle.typing.proofs.types.+compared_connected_divided_items_joined_listed_member_pair_paired_pairs_pred_prefixed_quantified_related_such_term_within.Lts-paired as paired-lts
+use Rattle.typing.proofs.types.+types.Lts-paired as paired-lts
 use Rattle.typing.proofs.types.pairs.Reads as pairs
 use Rattle.typing.proofs.types.pairs.Kinds as pairs-kinds
-use Rattle.typing.proofs.types.+compared_connected_divided_items_joined_listed_member_pair_paired_pairs_pred_prefixed_quantified_related_such_term_within.Lts-pairs as pairs-lts
+use Rattle.typing.proofs.types.+types.Lts-pairs as pairs-lts
 use Rattle.typing.proofs.types.pred.Reads as pred
 use Rattle.typing.proofs.types.pred.Kinds as pred-kinds
-use Rattle.typing.proofs.types.+compared_connected_divided_items_joined_listed_member_pair_paired_pairs_pred_prefixed_quantified_related_such_term_within.Lts-pred as pred-lts
+use Rattle.typing.proofs.types.+types.Lts-pred as pred-lts
 use Rattle.typing.proofs.types.prefixed.Reads as prefixed
 use Rattle.typing.proofs.types.prefixed.Kinds as prefixed-kinds
-use Rattle.typing.proofs.types.+compared_connected_divided_items_joined_listed_member_pair_paired_pairs_pred_prefixed_quantified_related_such_term_within.Lts-prefixed as prefixed-lts
+use Rattle.typing.proofs.types.+types.Lts-prefixed as prefixed-lts
 use Rattle.typing.proofs.types.quantified.Reads as quantified
 use Rattle.typing.proofs.types.quantified.Kinds as quantified-kinds
-use Rattle.typing.proofs.types.+compared_connected_divided_items_joined_listed_member_pair_paired_pairs_pred_prefixed_quantified_related_such_term_within.Lts-quantified as quantified-lts
+use Rattle.typing.proofs.types.+types.Lts-quantified as quantified-lts
 use Rattle.typing.proofs.types.related.Reads as related
 use Rattle.typing.proofs.types.related.Kinds as related-kinds
-use Rattle.typing.proofs.types.+compared_connected_divided_items_joined_listed_member_pair_paired_pairs_pred_prefixed_quantified_related_such_term_within.Lts-related as related-lts
+use Rattle.typing.proofs.types.+types.Lts-related as related-lts
 use Rattle.typing.proofs.types.such.Reads as such
 use Rattle.typing.proofs.types.such.Kinds as such-kinds
-use Rattle.typing.proofs.types.+compared_connected_divided_items_joined_listed_member_pair_paired_pairs_pred_prefixed_quantified_related_such_term_within.Lts-such as such-lts
+use Rattle.typing.proofs.types.+types.Lts-such as such-lts
 use Rattle.typing.proofs.types.term.Reads as term
 use Rattle.typing.proofs.types.term.Kinds as term-kinds
-use Rattle.typing.proofs.types.+compared_connected_divided_items_joined_listed_member_pair_paired_pairs_pred_prefixed_quantified_related_such_term_within.Lts-term as term-lts
+use Rattle.typing.proofs.types.+types.Lts-term as term-lts
 use Rattle.typing.proofs.types.within.Reads as within
 use Rattle.typing.proofs.types.within.Kinds as within-kinds
-use Rattle.typing.proofs.types.+compared_connected_divided_items_joined_listed_member_pair_paired_pairs_pred_prefixed_quantified_related_such_term_within.Lts-within as within-lts
+use Rattle.typing.proofs.types.+types.Lts-within as within-lts
 use Rattle.type_rules.proofs.kinds.bound_fault.Reads as bound-fault-reads
 use Rattle.type_rules.proofs.kinds.brace_fault.Reads as brace-fault-reads
 use Rattle.type_rules.proofs.kinds.index.Reads as index_Reads

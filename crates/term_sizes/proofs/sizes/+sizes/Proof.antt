@@ -10,53 +10,53 @@ use Rattle.typing.proofs.LastNodes.{eight, ten}
 use Rattle.term_sizes.proofs.SizeWalk.{term-short, items-short, pairs-short, pred-short, term-rest, pred-rest}
 use Rattle.term_sizes.proofs.SizeWalkTerms.{term-empty, term-empty-pairs, term-prefix, term-divided, term-binary, term-such, term-listed, term-pairs, items-only, items-also, pair-sized, pairs-only, pairs-also}
 use Rattle.term_sizes.proofs.SizeWalkPreds.{pred_constant, pred-negation, pred-connected, pred-compared, pred-member, pred-within, pred-related, pred-quantified}
-use Rattle.term_sizes.proofs.sizes.+connected_divided_items_listed_operated_pair_paired_pairs_pred_prefixed_quantified_related_such_term_within.{statement}
-use Rattle.term_sizes.proofs.sizes.+connected_divided_items_listed_operated_pair_paired_pairs_pred_prefixed_quantified_related_such_term_within.Tie.{close}
+use Rattle.term_sizes.proofs.sizes.+sizes.{statement}
+use Rattle.term_sizes.proofs.sizes.+sizes.Tie.{close}
 use Rattle.term_sizes.proofs.sizes.connected.Reads as connected
 use Rattle.term_sizes.proofs.sizes.connected.Kinds as connected-kinds
-use Rattle.term_sizes.proofs.sizes.+connected_divided_items_listed_operated_pair_paired_pairs_pred_prefixed_quantified_related_such_term_within.Lts-connected as connected-lts
+use Rattle.term_sizes.proofs.sizes.+sizes.Lts-connected as connected-lts
 use Rattle.term_sizes.proofs.sizes.divided.Reads as divided
 use Rattle.term_sizes.proofs.sizes.divided.Kinds as divided-kinds
-use Rattle.term_sizes.proofs.sizes.+connected_divided_items_listed_operated_pair_paired_pairs_pred_prefixed_quantified_related_such_term_within.Lts-divided as divided-lts
+use Rattle.term_sizes.proofs.sizes.+sizes.Lts-divided as divided-lts
 use Rattle.term_sizes.proofs.sizes.items.Reads as items
 use Rattle.term_sizes.proofs.sizes.items.Kinds as items-kinds
-use Rattle.term_sizes.proofs.sizes.+connected_divided_items_listed_operated_pair_paired_pairs_pred_prefixed_quantified_related_such_term_within.Lts-items as items-lts
+use Rattle.term_sizes.proofs.sizes.+sizes.Lts-items as items-lts
 use Rattle.term_sizes.proofs.sizes.listed.Reads as listed
 use Rattle.term_sizes.proofs.sizes.listed.Kinds as listed-kinds
-use Rattle.term_sizes.proofs.sizes.+connected_divided_items_listed_operated_pair_paired_pairs_pred_prefixed_quantified_related_such_term_within.Lts-listed as listed-lts
+use Rattle.term_sizes.proofs.sizes.+sizes.Lts-listed as listed-lts
 use Rattle.term_sizes.proofs.sizes.operated.Reads as operated
 use Rattle.term_sizes.proofs.sizes.operated.Kinds as operated-kinds
-use Rattle.term_sizes.proofs.sizes.+connected_divided_items_listed_operated_pair_paired_pairs_pred_prefixed_quantified_related_such_term_within.Lts-operated as operated-lts
+use Rattle.term_sizes.proofs.sizes.+sizes.Lts-operated as operated-lts
 use Rattle.term_sizes.proofs.sizes.pair.Reads as pair
 use Rattle.term_sizes.proofs.sizes.pair.Kinds as pair-kinds
-use Rattle.term_sizes.proofs.sizes.+connected_divided_items_listed_operated_pair_paired_pairs_pred_prefixed_quantified_related_such_term_within.Lts-pair as pair-lts
+use Rattle.term_sizes.proofs.sizes.+sizes.Lts-pair as pair-lts
 use Rattle.term_sizes.proofs.sizes.paired.Reads as paired
 use Rattle.term_sizes.proofs.sizes.paired.Kinds as paired-kinds
-use Rattle.term_sizes.proofs.sizes.+connected_divided_items_listed_operated_pair_paired_pairs_pred_prefixed_quantified_related_such_term_within.Lts-paired as paired-lts
+use Rattle.term_sizes.proofs.sizes.+sizes.Lts-paired as paired-lts
 use Rattle.term_sizes.proofs.sizes.pairs.Reads as pairs
 use Rattle.term_sizes.proofs.sizes.pairs.Kinds as pairs-kinds
-use Rattle.term_sizes.proofs.sizes.+connected_divided_items_listed_operated_pair_paired_pairs_pred_prefixed_quantified_related_such_term_within.Lts-pairs as pairs-lts
+use Rattle.term_sizes.proofs.sizes.+sizes.Lts-pairs as pairs-lts
 use Rattle.term_sizes.proofs.sizes.pred.Reads as pred
 use Rattle.term_sizes.proofs.sizes.pred.Kinds as pred-kinds
-use Rattle.term_sizes.proofs.sizes.+connected_divided_items_listed_operated_pair_paired_pairs_pred_prefixed_quantified_related_such_term_within.Lts-pred as pred-lts
+use Rattle.term_sizes.proofs.sizes.+sizes.Lts-pred as pred-lts
 use Rattle.term_sizes.proofs.sizes.prefixed.Reads as prefixed
 use Rattle.term_sizes.proofs.sizes.prefixed.Kinds as prefixed-kinds
-use Rattle.term_sizes.proofs.sizes.+connected_divided_items_listed_operated_pair_paired_pairs_pred_prefixed_quantified_related_such_term_within.Lts-prefixed as prefixed-lts
+use Rattle.term_sizes.proofs.sizes.+sizes.Lts-prefixed as prefixed-lts
 use Rattle.term_sizes.proofs.sizes.quantified.Reads as quantified
 use Rattle.term_sizes.proofs.sizes.quantified.Kinds as quantified-kinds
-use Rattle.term_sizes.proofs.sizes.+connected_divided_items_listed_operated_pair_paired_pairs_pred_prefixed_quantified_related_such_term_within.Lts-quantified as quantified-lts
+use Rattle.term_sizes.proofs.sizes.+sizes.Lts-quantified as quantified-lts
 use Rattle.term_sizes.proofs.sizes.related.Reads as related
 use Rattle.term_sizes.proofs.sizes.related.Kinds as related-kinds
-use Rattle.term_sizes.proofs.sizes.+connected_divided_items_listed_operated_pair_paired_pairs_pred_prefixed_quantified_related_such_term_within.Lts-related as related-lts
+use Rattle.term_sizes.proofs.sizes.+sizes.Lts-related as related-lts
 use Rattle.term_sizes.proofs.sizes.such.Reads as such
 use Rattle.term_sizes.proofs.sizes.such.Kinds as such-kinds
-use Rattle.term_sizes.proofs.sizes.+connected_divided_items_listed_operated_pair_paired_pairs_pred_prefixed_quantified_related_such_term_within.Lts-such as such-lts
+use Rattle.term_sizes.proofs.sizes.+sizes.Lts-such as such-lts
 use Rattle.term_sizes.proofs.sizes.term.Reads as term
 use Rattle.term_sizes.proofs.sizes.term.Kinds as term-kinds
-use Rattle.term_sizes.proofs.sizes.+connected_divided_items_listed_operated_pair_paired_pairs_pred_prefixed_quantified_related_such_term_within.Lts-term as term-lts
+use Rattle.term_sizes.proofs.sizes.+sizes.Lts-term as term-lts
 use Rattle.term_sizes.proofs.sizes.within.Reads as within
 use Rattle.term_sizes.proofs.sizes.within.Kinds as within-kinds
-use Rattle.term_sizes.proofs.sizes.+connected_divided_items_listed_operated_pair_paired_pairs_pred_prefixed_quantified_related_such_term_within.Lts-within as within-lts
+use Rattle.term_sizes.proofs.sizes.+sizes.Lts-within as within-lts
 use Rattle.term_sizes.proofs.sizes.bare.Reads as bare-reads
 use Rattle.term_sizes.proofs.sizes.division_bound.Reads as division-bound-reads
 use Rattle.term_sizes.proofs.sizes.domain.Reads as domain-reads

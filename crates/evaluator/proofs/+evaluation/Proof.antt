@@ -12,8 +12,8 @@ use borrow.Fn.PlainCycle.{Measures, is, falls, and}
 use native.Mathlib.Omega.{arith}
 use borrow.Author.Rules.{rules}
 use Rattle.evaluator.proofs.LoopLaws.{SuchSoFar, SomeSoFar, OnceSoFar}
-use Rattle.evaluator.proofs.+holds_items_member_once_part_quantified_some_such_value.{statement}
-use Rattle.evaluator.proofs.+holds_items_member_once_part_quantified_some_such_value.Tie.{close}
+use Rattle.evaluator.proofs.+evaluation.{statement}
+use Rattle.evaluator.proofs.+evaluation.Tie.{close}
 use Rattle.evaluator.proofs.LoopLaws as loops
 use Rattle.evaluator.proofs.NumberLaws as numbers
 use Rattle.evaluator.proofs.NodeLaws as nodes
@@ -22,31 +22,31 @@ use Rattle.evaluator.proofs.TruthLaws as truths
 use Rattle.evaluator.proofs.MemberLaws as members
 use Rattle.evaluator.proofs.holds.Reads as holds
 use Rattle.evaluator.proofs.holds.Kinds as holds-kinds
-use Rattle.evaluator.proofs.+holds_items_member_once_part_quantified_some_such_value.Lts-holds as holds-lts
+use Rattle.evaluator.proofs.+evaluation.Lts-holds as holds-lts
 use Rattle.evaluator.proofs.items.Reads as items
 use Rattle.evaluator.proofs.items.Kinds as items-kinds
-use Rattle.evaluator.proofs.+holds_items_member_once_part_quantified_some_such_value.Lts-items as items-lts
+use Rattle.evaluator.proofs.+evaluation.Lts-items as items-lts
 use Rattle.evaluator.proofs.member.Reads as member
 use Rattle.evaluator.proofs.member.Kinds as member-kinds
-use Rattle.evaluator.proofs.+holds_items_member_once_part_quantified_some_such_value.Lts-member as member-lts
+use Rattle.evaluator.proofs.+evaluation.Lts-member as member-lts
 use Rattle.evaluator.proofs.once.Reads as once
 use Rattle.evaluator.proofs.once.Kinds as once-kinds
-use Rattle.evaluator.proofs.+holds_items_member_once_part_quantified_some_such_value.Lts-once as once-lts
+use Rattle.evaluator.proofs.+evaluation.Lts-once as once-lts
 use Rattle.evaluator.proofs.part.Reads as part
 use Rattle.evaluator.proofs.part.Kinds as part-kinds
-use Rattle.evaluator.proofs.+holds_items_member_once_part_quantified_some_such_value.Lts-part as part-lts
+use Rattle.evaluator.proofs.+evaluation.Lts-part as part-lts
 use Rattle.evaluator.proofs.quantified.Reads as quantified
 use Rattle.evaluator.proofs.quantified.Kinds as quantified-kinds
-use Rattle.evaluator.proofs.+holds_items_member_once_part_quantified_some_such_value.Lts-quantified as quantified-lts
+use Rattle.evaluator.proofs.+evaluation.Lts-quantified as quantified-lts
 use Rattle.evaluator.proofs.some.Reads as some
 use Rattle.evaluator.proofs.some.Kinds as some-kinds
-use Rattle.evaluator.proofs.+holds_items_member_once_part_quantified_some_such_value.Lts-some as some-lts
+use Rattle.evaluator.proofs.+evaluation.Lts-some as some-lts
 use Rattle.evaluator.proofs.such.Reads as such
 use Rattle.evaluator.proofs.such.Kinds as such-kinds
-use Rattle.evaluator.proofs.+holds_items_member_once_part_quantified_some_such_value.Lts-such as such-lts
+use Rattle.evaluator.proofs.+evaluation.Lts-such as such-lts
 use Rattle.evaluator.proofs.value.Reads as value
 use Rattle.evaluator.proofs.value.Kinds as value-kinds
-use Rattle.evaluator.proofs.+holds_items_member_once_part_quantified_some_such_value.Lts-value as value-lts
+use Rattle.evaluator.proofs.+evaluation.Lts-value as value-lts
 use Rattle.evaluator.proofs.counted.Reads as counted-reads
 use Rattle.evaluator.proofs.lowest.Reads as lowest-reads
 use Rattle.evaluator.proofs.next.Reads as next-reads

@@ -12,65 +12,65 @@ use Rattle.lowering.proofs.TableWalk.{term-short, items-short, pairs-short, pred
 use Rattle.lowering.proofs.TableWalkTerms.{term-prefix, term-divided, term-binary, term-such, term-listed, term-pairs}
 use Rattle.lowering.proofs.TableWalkBraces.{items-only, items-also, pairs-only, pairs-also}
 use Rattle.lowering.proofs.TableWalkPreds.{pred-negation, pred-connected, pred-compared, pred-member, pred-within, pred-related, pred-quantified}
-use Rattle.lowering.proofs.walk.+compared_connected_divided_items_joined_last_pair_listed_member_negated_next_pair_paired_pairs_pred_prefixed_quantified_related_such_term_within.{statement}
-use Rattle.lowering.proofs.walk.+compared_connected_divided_items_joined_last_pair_listed_member_negated_next_pair_paired_pairs_pred_prefixed_quantified_related_such_term_within.Tie.{close}
+use Rattle.lowering.proofs.walk.+walk.{statement}
+use Rattle.lowering.proofs.walk.+walk.Tie.{close}
 use Rattle.lowering.proofs.walk.compared.Reads as compared
 use Rattle.lowering.proofs.walk.compared.Kinds as compared-kinds
-use Rattle.lowering.proofs.walk.+compared_connected_divided_items_joined_last_pair_listed_member_negated_next_pair_paired_pairs_pred_prefixed_quantified_related_such_term_within.Lts-compared as compared-lts
+use Rattle.lowering.proofs.walk.+walk.Lts-compared as compared-lts
 use Rattle.lowering.proofs.walk.connected.Reads as connected
 use Rattle.lowering.proofs.walk.connected.Kinds as connected-kinds
-use Rattle.lowering.proofs.walk.+compared_connected_divided_items_joined_last_pair_listed_member_negated_next_pair_paired_pairs_pred_prefixed_quantified_related_such_term_within.Lts-connected as connected-lts
+use Rattle.lowering.proofs.walk.+walk.Lts-connected as connected-lts
 use Rattle.lowering.proofs.walk.divided.Reads as divided
 use Rattle.lowering.proofs.walk.divided.Kinds as divided-kinds
-use Rattle.lowering.proofs.walk.+compared_connected_divided_items_joined_last_pair_listed_member_negated_next_pair_paired_pairs_pred_prefixed_quantified_related_such_term_within.Lts-divided as divided-lts
+use Rattle.lowering.proofs.walk.+walk.Lts-divided as divided-lts
 use Rattle.lowering.proofs.walk.items.Reads as items
 use Rattle.lowering.proofs.walk.items.Kinds as items-kinds
-use Rattle.lowering.proofs.walk.+compared_connected_divided_items_joined_last_pair_listed_member_negated_next_pair_paired_pairs_pred_prefixed_quantified_related_such_term_within.Lts-items as items-lts
+use Rattle.lowering.proofs.walk.+walk.Lts-items as items-lts
 use Rattle.lowering.proofs.walk.joined.Reads as joined
 use Rattle.lowering.proofs.walk.joined.Kinds as joined-kinds
-use Rattle.lowering.proofs.walk.+compared_connected_divided_items_joined_last_pair_listed_member_negated_next_pair_paired_pairs_pred_prefixed_quantified_related_such_term_within.Lts-joined as joined-lts
+use Rattle.lowering.proofs.walk.+walk.Lts-joined as joined-lts
 use Rattle.lowering.proofs.walk.last_pair.Reads as last-pair
 use Rattle.lowering.proofs.walk.last_pair.Kinds as last-pair-kinds
-use Rattle.lowering.proofs.walk.+compared_connected_divided_items_joined_last_pair_listed_member_negated_next_pair_paired_pairs_pred_prefixed_quantified_related_such_term_within.Lts-last_pair as last-pair-lts
+use Rattle.lowering.proofs.walk.+walk.Lts-last_pair as last-pair-lts
 use Rattle.lowering.proofs.walk.listed.Reads as listed
 use Rattle.lowering.proofs.walk.listed.Kinds as listed-kinds
-use Rattle.lowering.proofs.walk.+compared_connected_divided_items_joined_last_pair_listed_member_negated_next_pair_paired_pairs_pred_prefixed_quantified_related_such_term_within.Lts-listed as listed-lts
+use Rattle.lowering.proofs.walk.+walk.Lts-listed as listed-lts
 use Rattle.lowering.proofs.walk.member.Reads as member
 use Rattle.lowering.proofs.walk.member.Kinds as member-kinds
-use Rattle.lowering.proofs.walk.+compared_connected_divided_items_joined_last_pair_listed_member_negated_next_pair_paired_pairs_pred_prefixed_quantified_related_such_term_within.Lts-member as member-lts
+use Rattle.lowering.proofs.walk.+walk.Lts-member as member-lts
 use Rattle.lowering.proofs.walk.negated.Reads as negated
 use Rattle.lowering.proofs.walk.negated.Kinds as negated-kinds
-use Rattle.lowering.proofs.walk.+compared_connected_divided_items_joined_last_pair_listed_member_negated_next_pair_paired_pairs_pred_prefixed_quantified_related_such_term_within.Lts-negated as negated-lts
+use Rattle.lowering.proofs.walk.+walk.Lts-negated as negated-lts
 use Rattle.lowering.proofs.walk.next_pair.Reads as next-pair
 use Rattle.lowering.proofs.walk.next_pair.Kinds as next-pair-kinds
-use Rattle.lowering.proofs.walk.+compared_connected_divided_items_joined_last_pair_listed_member_negated_next_pair_paired_pairs_pred_prefixed_quantified_related_such_term_within.Lts-next_pair as next-pair-lts
+use Rattle.lowering.proofs.walk.+walk.Lts-next_pair as next-pair-lts
 use Rattle.lowering.proofs.walk.paired.Reads as paired
 use Rattle.lowering.proofs.walk.paired.Kinds as paired-kinds
-use Rattle.lowering.proofs.walk.+compared_connected_divided_items_joined_last_pair_listed_member_negated_next_pair_paired_pairs_pred_prefixed_quantified_related_such_term_within.Lts-paired as paired-lts
+use Rattle.lowering.proofs.walk.+walk.Lts-paired as paired-lts
 use Rattle.lowering.proofs.walk.pairs.Reads as pairs
 use Rattle.lowering.proofs.walk.pairs.Kinds as pairs-kinds
-use Rattle.lowering.proofs.walk.+compared_connected_divided_items_joined_last_pair_listed_member_negated_next_pair_paired_pairs_pred_prefixed_quantified_related_such_term_within.Lts-pairs as pairs-lts
+use Rattle.lowering.proofs.walk.+walk.Lts-pairs as pairs-lts
 use Rattle.lowering.proofs.walk.pred.Reads as pred
 use Rattle.lowering.proofs.walk.pred.Kinds as pred-kinds
-use Rattle.lowering.proofs.walk.+compared_connected_divided_items_joined_last_pair_listed_member_negated_next_pair_paired_pairs_pred_prefixed_quantified_related_such_term_within.Lts-pred as pred-lts
+use Rattle.lowering.proofs.walk.+walk.Lts-pred as pred-lts
 use Rattle.lowering.proofs.walk.prefixed.Reads as prefixed
 use Rattle.lowering.proofs.walk.prefixed.Kinds as prefixed-kinds
-use Rattle.lowering.proofs.walk.+compared_connected_divided_items_joined_last_pair_listed_member_negated_next_pair_paired_pairs_pred_prefixed_quantified_related_such_term_within.Lts-prefixed as prefixed-lts
+use Rattle.lowering.proofs.walk.+walk.Lts-prefixed as prefixed-lts
 use Rattle.lowering.proofs.walk.quantified.Reads as quantified
 use Rattle.lowering.proofs.walk.quantified.Kinds as quantified-kinds
-use Rattle.lowering.proofs.walk.+compared_connected_divided_items_joined_last_pair_listed_member_negated_next_pair_paired_pairs_pred_prefixed_quantified_related_such_term_within.Lts-quantified as quantified-lts
+use Rattle.lowering.proofs.walk.+walk.Lts-quantified as quantified-lts
 use Rattle.lowering.proofs.walk.related.Reads as related
 use Rattle.lowering.proofs.walk.related.Kinds as related-kinds
-use Rattle.lowering.proofs.walk.+compared_connected_divided_items_joined_last_pair_listed_member_negated_next_pair_paired_pairs_pred_prefixed_quantified_related_such_term_within.Lts-related as related-lts
+use Rattle.lowering.proofs.walk.+walk.Lts-related as related-lts
 use Rattle.lowering.proofs.walk.such.Reads as such
 use Rattle.lowering.proofs.walk.such.Kinds as such-kinds
-use Rattle.lowering.proofs.walk.+compared_connected_divided_items_joined_last_pair_listed_member_negated_next_pair_paired_pairs_pred_prefixed_quantified_related_such_term_within.Lts-such as such-lts
+use Rattle.lowering.proofs.walk.+walk.Lts-such as such-lts
 use Rattle.lowering.proofs.walk.term.Reads as term
 use Rattle.lowering.proofs.walk.term.Kinds as term-kinds
-use Rattle.lowering.proofs.walk.+compared_connected_divided_items_joined_last_pair_listed_member_negated_next_pair_paired_pairs_pred_prefixed_quantified_related_such_term_within.Lts-term as term-lts
+use Rattle.lowering.proofs.walk.+walk.Lts-term as term-lts
 use Rattle.lowering.proofs.walk.within.Reads as within
 use Rattle.lowering.proofs.walk.within.Kinds as within-kinds
-use Rattle.lowering.proofs.walk.+compared_connected_divided_items_joined_last_pair_listed_member_negated_next_pair_paired_pairs_pred_prefixed_quantified_related_such_term_within.Lts-within as within-lts
+use Rattle.lowering.proofs.walk.+walk.Lts-within as within-lts
 use Rattle.type_rules.proofs.kinds.index.Reads as index_Reads
 use Rattle.type_rules.proofs.kinds.look.Reads as look-reads
 use Rattle.type_rules.proofs.kinds.pair_of.Reads as pair-of-reads

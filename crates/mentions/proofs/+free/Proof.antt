@@ -8,22 +8,22 @@ use native.Mathlib.Omega.{arith}
 use borrow.Author.Rules.{rules}
 use borrow.Author.Tests.{not-false}
 use Rattle.evaluator.proofs.NodeLaws.{unequal}
-use Rattle.mentions.proofs.+free_asked_free_items_free_pred_free_term.{statement}
-use Rattle.mentions.proofs.+free_asked_free_items_free_pred_free_term.Tie.{close}
+use Rattle.mentions.proofs.+free.{statement}
+use Rattle.mentions.proofs.+free.Tie.{close}
 use Rattle.mentions.proofs.FreeNodes as nodes
 use Rattle.mentions.proofs.FreeTruths as truths
 use Rattle.mentions.proofs.free_asked.Reads as free-asked
 use Rattle.mentions.proofs.free_asked.Kinds as free-asked-kinds
-use Rattle.mentions.proofs.+free_asked_free_items_free_pred_free_term.Lts-free_asked as free-asked-lts
+use Rattle.mentions.proofs.+free.Lts-free_asked as free-asked-lts
 use Rattle.mentions.proofs.free_items.Reads as free-items
 use Rattle.mentions.proofs.free_items.Kinds as free-items-kinds
-use Rattle.mentions.proofs.+free_asked_free_items_free_pred_free_term.Lts-free_items as free-items-lts
+use Rattle.mentions.proofs.+free.Lts-free_items as free-items-lts
 use Rattle.mentions.proofs.free_pred.Reads as free-pred
 use Rattle.mentions.proofs.free_pred.Kinds as free-pred-kinds
-use Rattle.mentions.proofs.+free_asked_free_items_free_pred_free_term.Lts-free_pred as free-pred-lts
+use Rattle.mentions.proofs.+free.Lts-free_pred as free-pred-lts
 use Rattle.mentions.proofs.free_term.Reads as free-term
 use Rattle.mentions.proofs.free_term.Kinds as free-term-kinds
-use Rattle.mentions.proofs.+free_asked_free_items_free_pred_free_term.Lts-free_term as free-term-lts
+use Rattle.mentions.proofs.+free.Lts-free_term as free-term-lts
 use Rattle.mentions.proofs.earlier.Reads as earlier-reads
 use Rattle.mentions.proofs.number.Reads as number-reads
 

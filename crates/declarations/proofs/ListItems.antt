@@ -1,13 +1,13 @@
 -- What the machine's items do in contents, bodies and declarations, and how the counts of number 6 are kept.
-use mathlib.Core.Path.{◌≡◌, refl, ap, ◌∙◌, sym, subst}
-use mathlib.Core.Bool.{Bool, true, false, cond}
+use mathlib.Core.Path.{◌≡◌, refl, ap, ◌∙◌, sym}
+use mathlib.Core.Bool.{Bool}
 use mathlib.Core.List.{List, [], ◌∷◌, ◌++◌}
 use mathlib.Core.Option.{Option, none, some}
-use Prim.Native.Nat.{ℕ, zero, suc, ◌+◌, ◌*◌, ◌≤◌, ◌<◌}
+use Prim.Native.Nat.{ℕ, zero, suc, ◌+◌, ◌≤◌, ◌<◌}
 use native.Mathlib.Omega.{arith}
 use native.Mathlib.Numerals.{add-one}
 use lib.Dec.{ltb}
-use lib.ListN.{length, drop, get_or}
+use lib.ListN.{length, get_or}
 use borrow.Author.Tests.{le-ltb, lt-ltb}
 use Rattle.lexical.specs.Kinds as kind
 use Rattle.lexical.specs.Kinds.{Kind, code_of, is, lookup}
@@ -15,15 +15,14 @@ use Rattle.lexical.specs.Refusals.{Refusal, manyDeclared}
 use Rattle.form.specs.Written.{Mark, unmarked, a_given, an_element, aVariable, anInput, anOutput, an_operation}
 use Rattle.form.specs.Form.{settled, excess, refuse}
 use Rattle.form.specs.Computed.{compute_form}
-use Rattle.form.specs.Machine.{Item, exact, aName, anEnd, a_type, aTypeRest, aDossier, a_declared, aUnary, a_pred_rest, some_entries, someOpEntries, someBodies, someElements, someDeclarations, someOperations, some_parameters}
-use Rattle.form.specs.Machine.{Act, take, skip, stuck, then, act, on_name, Next, go, halt, does, step, ends, unless_over}
-use Rattle.form_nodes.specs.FormPromises.{codes, run_at, Reads, names}
-use Rattle.declarations.specs.DossierPromises.{EntriesOf, of_givens, of_operations, five_words, a_typed, a_condition_to, two_states, three_conditions, arrows, directions, counted_by, inputs_by, outputs_by, mark_by}
-use Rattle.form_nodes.specs.declared.Read.{Read}
-use Rattle.form_nodes.specs.declared.Read.TheVariants.{At, Fault}
-use Rattle.form_nodes.proofs.Classes.{Misses, lookup-miss, by-table-or}
+use Rattle.form.specs.Machine.{Item, exact, aName, anEnd, a_type, aTypeRest, aDossier, a_declared, some_entries, someOpEntries, someBodies, someElements, someDeclarations, someOperations, some_parameters}
+use Rattle.form.specs.Machine.{Act, take, skip, stuck, then, act, on_name, go, halt, does, step, ends, unless_over}
+use Rattle.form_nodes.specs.FormPromises.{run_at, Reads, names}
+use Rattle.declarations.specs.DossierPromises.{EntriesOf, of_givens, of_operations, a_typed, a_condition_to, two_states, three_conditions, arrows, directions, counted_by, inputs_by, outputs_by, mark_by}
+use Rattle.form_nodes.specs.declared.Read.TheVariants.{Fault}
+use Rattle.form_nodes.proofs.Classes.{lookup-miss, by-table-or}
 use Rattle.form_nodes.proofs.ReadParts.{only, Within, step-at}
-use Rattle.form_nodes.proofs.ItemSteps.{by-act, exact-takes, exact-stops, mapped, lookup-mapped, either, naming, either-some}
+use Rattle.form_nodes.proofs.ItemSteps.{by-act, exact-takes, exact-stops, lookup-mapped, either, naming, either-some}
 use Rattle.form.proofs.Table.{◌&◌}
 
 -- a count of at most the limit is well, a larger one is not

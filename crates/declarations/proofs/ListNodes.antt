@@ -1,14 +1,12 @@
 -- How the nodes of a list are put together from those of its parts.
 use mathlib.Core.Path.{◌≡◌, refl, ap, ◌∙◌, sym, subst}
-use mathlib.Core.List.{List, [], ◌∷◌, ◌++◌, append_assoc, append-nil}
-use Prim.Native.Nat.{ℕ, ◌+◌, ◌-◌, ◌*◌, ◌≤◌, ◌<◌}
+use mathlib.Core.List.{List, [], ◌++◌, append_assoc, append-nil}
+use Prim.Native.Nat.{ℕ, ◌+◌}
 use lib.ListN.{take, get_or}
-use Rattle.form.specs.Machine.{ends}
-use Rattle.form.specs.Machine as machine
 use Rattle.form.specs.Codes.{node}
 use Rattle.form_nodes.specs.FormPromises.{Writes, Closes, Shown}
 use Rattle.form_nodes.specs.Derivations.{Part, Derives, Made, MadeAt, NameAt, name_code, some_entries, a_type, aDeclaration, someElements, someGivens, declares, a_given}
-use Rattle.declarations.specs.DossierPromises.{WordsAt, ContentsMade, More, MoreAt, behind}
+use Rattle.declarations.specs.DossierPromises.{WordsAt, ContentsMade, More, MoreAt}
 use Rattle.form_nodes.specs.declared.Read.{Read}
 use Rattle.form_nodes.specs.declared.Read.TheVariants.{At, Fault}
 use Rattle.form_nodes.proofs.NodesOfParts.{from}

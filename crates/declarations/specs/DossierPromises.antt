@@ -1,11 +1,11 @@
 -- What the functions that read contents, bodies and declarations promise each other, and what a dossier that was read is. Nothing here need be believed.
-use Rattle.std.specs.Prelude.{◌≡◌, List, [], ◌∷◌, ◌++◌, ℕ, zero, suc, ◌+◌, ◌-◌, ◌*◌, ◌≤◌, ◌<◌, length, take, get_or}
+use Rattle.std.specs.Prelude.{◌≡◌, List, [], ◌∷◌, ◌++◌, ℕ, zero, suc, ◌+◌, ◌-◌, ◌*◌, ◌≤◌, length, take, get_or}
 use Rattle.lexical.specs.Kinds as kind
 use Rattle.lexical.specs.Kinds.{Kind, code_of}
 use Rattle.lexical.specs.Symbols.{Symbol}
-use Rattle.form.specs.Written.{Mark, a_given, an_element, aVariable, anInput, anOutput, an_operation}
-use Rattle.form.specs.Machine.{Item, exact, a_declared, a_type, aUnary, a_pred_rest, some_entries, someOpEntries, someBodies, someElements, someDeclarations, someOperations, Run, complete, failed, run}
-use Rattle.form_nodes.specs.FormPromises.{codes, refusal_numbered, place_of, Reads, Classes}
+use Rattle.form.specs.Written.{Mark, a_given, aVariable, anInput, anOutput, an_operation}
+use Rattle.form.specs.Machine.{Item, exact, a_declared, a_type, aUnary, a_pred_rest, some_entries, someOpEntries, someBodies, someDeclarations, Run, complete, failed, run}
+use Rattle.form_nodes.specs.FormPromises.{codes, refusal_numbered, Reads, Classes}
 use Rattle.form_nodes.specs.Derivations as part
 use Rattle.form_nodes.specs.Derivations.{Part, Derives, Made}
 use Rattle.form_nodes.specs.declared.Read.{Read}

@@ -1,0 +1,75 @@
+-- `contents::parameters` meets its contract.
+use mathlib.Core.Path.{subst, refl, sym, ◌∙◌}
+use mathlib.Core.List.{[], ◌∷◌, ◌++◌}
+use Prim.Native.Nat.{◌+◌, ◌<◌, ◌≤◌}
+use borrow.Author.Tests.{leb-true, leb-false}
+use native.Mathlib.Omega.{arith}
+use borrow.Author.Rules.{rules}
+use lib.ListN.{length}
+use Rattle.form.specs.Machine.{some_parameters}
+use Rattle.form.specs.Computed.{compute_form}
+use Rattle.form_nodes.specs.FormPromises.{Reads}
+use Rattle.form_nodes.specs.declared.Read.{Read}
+use Rattle.form_nodes.specs.declared.Read.TheVariants.{At}
+use Rattle.form_nodes.specs.Derivations.{NameAt, Made, aDeclaration, no_parameters, takes_more}
+use Rattle.declarations.specs.DossierPromises.{Directs, a_typed, counted_by, inputs_by, outputs_by, mark_by}
+use Rattle.form_nodes.proofs.ReadParts.{here, next, taken, likewise, fails, framed, known}
+use Rattle.declarations.proofs.ListItems.{crowded, parameter-takes, parameters-behind, parameter-well, parameter-over, inputs_few, outputs_few}
+use Rattle.form_nodes.proofs.RightSides.{inside}
+use Rattle.declarations.proofs.ListNodes.{more-none, more-then, more-made, more-part}
+use Rattle.declarations.proofs.contents.parameters.Goals as goal
+
+pub kind_at-requires : goal.kind_at-requires
+unfolding compute_form
+kind_at-requires c = search rules
+
+pub direction_of-c-requires : goal.direction_of-c-requires
+unfolding compute_form
+direction_of-c-requires c = search rules
+
+pub loop-c-init : goal.loop-c-init
+unfolding compute_form
+loop-c-init c = let room = c.requires in (here (omega arith), more-none _ _ _, refl, omega arith, omega arith, subst (λ x. Directs x c.direction_of-c.result) c.kind_at.ensures.is c.direction_of-c.ensures)
+
+pub full-requires : goal.full-requires
+unfolding compute_form
+full-requires c = search rules
+
+pub returns-then-full : goal.returns-then-full
+unfolding compute_form
+returns-then-full c = let room = c.requires in let i = c.loop-c.invariant.0 in let l = c.loop-c.invariant.2 in let d₀ = c.loop-c.invariant.5.low in let d₁ = c.loop-c.invariant.5.high in let z : c.loop-c.at < length c.args.s.now = inside c.args.s.now c.loop-c.at (omega arith) in (next i (crowded (λ γ. a_typed ++ (some_parameters (inputs_by c.loop-c.c c.loop-c.i) (outputs_by c.loop-c.c c.loop-c.o) ∷ γ)) (mark_by c.loop-c.c c.loop-c.i c.loop-c.o) z (parameter-over c.args.s.now c.loop-c.at c.loop-c.c c.loop-c.i c.loop-c.o (leb-true 3 (counted_by c.loop-c.c c.loop-c.i c.loop-c.o) (sym c.full.ensures ∙ c.if-full.true))) (λ κ e γ. parameter-takes c.loop-c.i c.loop-c.o c.loop-c.c κ γ (c.loop-c.invariant.5.classes.class κ e) c.loop-c-test.true)), tt)
+
+pub declaration-requires : goal.declaration-requires
+unfolding compute_form
+declaration-requires c = let room = c.requires in let i = c.loop-c.invariant.0 in let l = c.loop-c.invariant.2 in let d₀ = c.loop-c.invariant.5.low in let d₁ = c.loop-c.invariant.5.high in let z : c.loop-c.at < length c.args.s.now = inside c.args.s.now c.loop-c.at (omega arith) in let b : NameAt c.args.s.now c.loop-c.at = record { low = omega arith; high = omega arith } in search rules
+
+pub inputs-i-requires : goal.inputs-i-requires
+unfolding compute_form
+inputs-i-requires c = let l = c.loop-c.invariant.3 in search rules
+
+pub outputs-o-requires : goal.outputs-o-requires
+unfolding compute_form
+outputs-o-requires c = let l = c.loop-c.invariant.4 in search rules
+
+pub kind_at-requires-in-At : goal.kind_at-requires-in-At
+unfolding compute_form
+kind_at-requires-in-At c = search rules
+
+pub direction_of-c-requires-in-At : goal.direction_of-c-requires-in-At
+unfolding compute_form
+direction_of-c-requires-in-At c = search rules
+
+pub loop-c-smaller : goal.loop-c-smaller
+loop-c-smaller c = let room = c.requires in let i = c.loop-c.invariant.0 in let l = c.loop-c.invariant.2 in let d₀ = c.loop-c.invariant.5.low in let d₁ = c.loop-c.invariant.5.high in let z : c.loop-c.at < length c.args.s.now = inside c.args.s.now c.loop-c.at (omega arith) in let h = (known c.in-At.is c.declaration.ensures.0) in let f = h.from in let g = h.within in omega arith
+
+pub loop-c-preserved : goal.loop-c-preserved
+unfolding compute_form
+loop-c-preserved c = let room = c.requires in let i = c.loop-c.invariant.0 in let l = c.loop-c.invariant.2 in let d₀ = c.loop-c.invariant.5.low in let d₁ = c.loop-c.invariant.5.high in let z : c.loop-c.at < length c.args.s.now = inside c.args.s.now c.loop-c.at (omega arith) in let h = (known c.in-At.is c.declaration.ensures.0) in (subst (λ x. Reads c.args.s.now c.args.start c.args.from (some_parameters 0 0 ∷ []) (x ∷ []) (At c.in-At.e c.in-At.m)) (let a = c.inputs-i.ensures in let b = c.outputs-o.ensures in cc) (next i (taken {μ = a_typed ++ (some_parameters (inputs_by c.loop-c.c c.loop-c.i) (outputs_by c.loop-c.c c.loop-c.o) ∷ [])} {m = c.loop-c.n + 4} (mark_by c.loop-c.c c.loop-c.i c.loop-c.o) z (parameter-well c.args.s.now c.loop-c.at c.loop-c.c c.loop-c.i c.loop-c.o (leb-false 3 (counted_by c.loop-c.c c.loop-c.i c.loop-c.o) (sym c.full.ensures ∙ c.if-full.false))) (λ κ e γ. parameter-takes c.loop-c.i c.loop-c.o c.loop-c.c κ γ (c.loop-c.invariant.5.classes.class κ e) c.loop-c-test.true) (framed (some_parameters (inputs_by c.loop-c.c c.loop-c.i) (outputs_by c.loop-c.c c.loop-c.o) ∷ []) h) (omega arith))), more-then c.loop-c.invariant.1 (let p = subst (λ (z : Read). Made c.args.s.now c.args.v.now aDeclaration c.loop-c.at c.loop-c.n c.loop-c.code c.declaration.new.code z) c.in-At.is c.declaration.ensures.1 in more-part p (λ j u d. takes_more (omega arith) (omega arith) p.derives d)), search rules, subst (λ x. x ≤ 3) (sym c.inputs-i.ensures) (inputs_few c.loop-c.c c.loop-c.i c.loop-c.o (leb-false 3 (counted_by c.loop-c.c c.loop-c.i c.loop-c.o) (sym c.full.ensures ∙ c.if-full.false)) c.loop-c.invariant.3), subst (λ x. x ≤ 3) (sym c.outputs-o.ensures) (outputs_few c.loop-c.c c.loop-c.i c.loop-c.o (leb-false 3 (counted_by c.loop-c.c c.loop-c.i c.loop-c.o) (sym c.full.ensures ∙ c.if-full.false)) c.loop-c.invariant.4), subst (λ x. Directs x c.direction_of-c-in-At.result) c.kind_at-in-At.ensures.is c.direction_of-c-in-At.ensures)
+
+pub returns-in-Fault : goal.returns-in-Fault
+unfolding compute_form
+returns-in-Fault c = let room = c.requires in let i = c.loop-c.invariant.0 in let l = c.loop-c.invariant.2 in let d₀ = c.loop-c.invariant.5.low in let d₁ = c.loop-c.invariant.5.high in let z : c.loop-c.at < length c.args.s.now = inside c.args.s.now c.loop-c.at (omega arith) in (next i (taken {μ = a_typed ++ (some_parameters (inputs_by c.loop-c.c c.loop-c.i) (outputs_by c.loop-c.c c.loop-c.o) ∷ [])} {m = c.loop-c.n + 4} (mark_by c.loop-c.c c.loop-c.i c.loop-c.o) z (parameter-well c.args.s.now c.loop-c.at c.loop-c.c c.loop-c.i c.loop-c.o (leb-false 3 (counted_by c.loop-c.c c.loop-c.i c.loop-c.o) (sym c.full.ensures ∙ c.if-full.false))) (λ κ e γ. parameter-takes c.loop-c.i c.loop-c.o c.loop-c.c κ γ (c.loop-c.invariant.5.classes.class κ e) c.loop-c-test.true) (fails (framed (some_parameters (inputs_by c.loop-c.c c.loop-c.i) (outputs_by c.loop-c.c c.loop-c.o) ∷ []) (known c.in-Fault.is c.declaration.ensures.0))) (omega arith)), tt)
+
+pub returns : goal.returns
+unfolding compute_form
+returns c = let i = c.loop-c.invariant.0 in (next i (likewise (λ κ e γ. parameters-behind c.loop-c.i c.loop-c.o κ γ (c.loop-c.invariant.5.classes.class κ e ∙ c.loop-c-test.false)) (λ γ. refl) (here (omega arith))), more-made c.loop-c.invariant.1 no_parameters)

@@ -1,6 +1,6 @@
 -- The pass over a whole dossier by numbers: what each part makes of the table of names, and its first fault.
 -- That the fault is the least of static_rules/specs/Names.nameFaults is names/proofs/PassAgrees. Nothing here need be believed.
-use Rattle.std.specs.Prelude.{◌≡◌, Bool, List, [], ◌∷◌, ◌++◌, map, ℕ, suc, ◌+◌, length, set}
+use Rattle.std.specs.Prelude.{List, [], ◌∷◌, ◌++◌, ℕ, suc, ◌+◌, length, set}
 use Rattle.lexical.specs.Symbols.{Name, Ending, noEnding}
 use Rattle.form.specs.Tree.{Letters, TypeForm, givenType, powerType, range_type, arrow_type, Declaration, declarations, Parameter, Given, elements, State, Operation, Dossier, range}
 use Rattle.form.specs.Written.{ending_of, write_declarations}

@@ -1,0 +1,16 @@
+-- `types::domain` meets its contract. Assumes nothing.
+use mathlib.Core.List.{[]}
+use mathlib.Core.Path.{refl}
+use native.Mathlib.Omega.{arith}
+use Rattle.typing.proofs.LastNodes.{domain-short}
+use Rattle.typing.proofs.TypeWalkTerms.{domain-given, domain-range}
+use Rattle.typing.proofs.types.domain.Goals as goal
+
+pub returns-then-end-lt-SIZE : goal.returns-then-end-lt-SIZE
+returns-then-end-lt-SIZE c = domain-short c.args.code.now c.args.end (omega arith) c.args.names.now [] _ c.nothing.ensures c.if-end-lt-SIZE.true
+
+pub returns-then-code-at-eq-SET : goal.returns-then-code-at-eq-SET
+returns-then-code-at-eq-SET c = domain-given c.args.code.now c.args.end (omega arith) c.args.names.now [] c.node_at-n.result _ c.index.result c.look-e.result c.wide.result c.is_given.result c.node_at-n.ensures c.if-code-at-eq-SET.true refl c.index.ensures.0 c.look-e.ensures c.wide.ensures.0 c.is_given.ensures c.element_of.ensures c.unless-f.ensures
+
+pub returns : goal.returns
+returns c = domain-range c.args.code.now c.args.end (omega arith) c.args.names.now [] c.node_at-n.result _ c.wide-2.result c.range_fits.result c.node_at-n.ensures c.if-code-at-eq-SET.false refl c.wide-2.ensures.0 c.range_fits.ensures refl c.unless-f-2.ensures

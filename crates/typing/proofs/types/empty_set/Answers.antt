@@ -1,0 +1,7 @@
+-- `types::empty_set` meets its contract. Assumes nothing.
+use mathlib.Core.Path.{refl}
+use Rattle.typing.proofs.TypeWalkTerms.{term-empty}
+use Rattle.typing.proofs.types.empty_set.Goals as goal
+
+pub returns : goal.returns
+returns c = term-empty c.args.code.now c.args.end c.requires.0 c.args.names.now c.args.sizes.now c.node_at-n.result _ c.index.result c.look-e.result c.wide.result c.element_of.result c.is_given.result c.node_at-n.ensures c.requires.2 refl c.index.ensures.0 c.look-e.ensures c.wide.ensures.0 c.is_given.ensures c.element_of.ensures c.set_of.ensures c.unless-f.ensures

@@ -1,0 +1,83 @@
+use mathlib.Core.List.{[], ◌∷◌}
+use Prim.Native.Nat.{ℕ, ◌+◌, ◌-◌, ◌*◌, ◌≤◌}
+use mathlib.Core.Path.{◌≡◌}
+use lib.ListN.{length, get_or}
+use Rattle.form.specs.Machine.{aTermRest, a_pred_rest}
+use Rattle.form_nodes.specs.FormPromises.{Reads, Classes, operators, connectives}
+use Rattle.form_nodes.specs.declared.Read.TheVariants.{At}
+use Rattle.declarations.specs.DossierPromises.{MoreAt}
+use Rattle.form_nodes.specs.Derivations.{EndAt, RangeAt, DomainAt}
+use Rattle.form_nodes.specs.Derivations as derived
+use Rattle.expressions.proofs.trees.+trees.Given as goal
+
+abbrev pub decreases-atom : goal.decreases-atom
+decreases-atom l = 8 * (length l.s.now - l.at) + 1
+
+abbrev pub decreases-brace : goal.decreases-brace
+decreases-brace l = 8 * (length l.s.now - l.at) + 1
+
+abbrev pub decreases-items : goal.decreases-items
+decreases-items l = 8 * (length l.s.now - l.at) + 0
+
+abbrev pub decreases-listed : goal.decreases-listed
+decreases-listed l = 8 * (length l.s.now - l.at) + 0
+
+abbrev pub decreases-member : goal.decreases-member
+decreases-member l = 8 * (length l.s.now - l.at) + 0
+
+abbrev pub decreases-operand : goal.decreases-operand
+decreases-operand l = 8 * (length l.s.now - l.at) + 2
+
+abbrev pub decreases-pairs : goal.decreases-pairs
+decreases-pairs l = 8 * (length l.s.now - l.at) + 0
+
+abbrev pub decreases-paren : goal.decreases-paren
+decreases-paren l = 8 * (length l.s.now - l.at) + 1
+
+abbrev pub decreases-pred : goal.decreases-pred
+decreases-pred l = 8 * (length l.s.now - l.at) + 7
+
+abbrev pub decreases-pred_from : goal.decreases-pred_from
+decreases-pred_from l = 8 * (length l.s.now - l.at) + 6
+
+abbrev pub decreases-pred_more : goal.decreases-pred_more
+decreases-pred_more l = 8 * (length l.s.now - l.at) + 0
+
+abbrev pub decreases-pred_rest : goal.decreases-pred_rest
+decreases-pred_rest l = 8 * (length l.s.now - l.at) + 1
+
+abbrev pub decreases-quantified : goal.decreases-quantified
+decreases-quantified l = 8 * (length l.s.now - l.at) + 0
+
+abbrev pub decreases-related : goal.decreases-related
+decreases-related l = 8 * (length l.s.now - l.at) + 0
+
+abbrev pub decreases-such : goal.decreases-such
+decreases-such l = 8 * (length l.s.now - l.at) + 0
+
+abbrev pub decreases-term : goal.decreases-term
+decreases-term l = 8 * (length l.s.now - l.at) + 4
+
+abbrev pub decreases-term_from : goal.decreases-term_from
+decreases-term_from l = 8 * (length l.s.now - l.at) + 3
+
+abbrev pub decreases-term_more : goal.decreases-term_more
+decreases-term_more l = 8 * (length l.s.now - l.at) + 0
+
+abbrev pub decreases-term_rest : goal.decreases-term_rest
+decreases-term_rest l = 8 * (length l.s.now - l.at) + 1
+
+abbrev pub decreases-unary : goal.decreases-unary
+decreases-unary l = 8 * (length l.s.now - l.at) + 5
+
+abbrev pub invariant-pred_rest-loop-l : goal.invariant-pred_rest-loop-l
+invariant-pred_rest-loop-l l = ((base : ℕ) → (l.min ≡ 1 → base ≡ l.d) → Reads l.s l.at l.n (a_pred_rest base l.d l.b ∷ []) (a_pred_rest base l.d l.b ∷ []) (At l.e l.m)) × MoreAt l.s l.v (derived.a_pred_rest l.min) l.at l.n l.initial.code l.code l.e l.m × (length l.code ≡ length l.initial.code) × Classes connectives (get_or l.s l.e 0) l.l × (l.l ≤ 2295 * (length l.s - l.e))
+
+abbrev pub decreases-pred_rest-loop-l : goal.decreases-pred_rest-loop-l
+decreases-pred_rest-loop-l l = length l.s - l.e
+
+abbrev pub invariant-term_rest-loop-code : goal.invariant-term_rest-loop-code
+invariant-term_rest-loop-code l = Reads l.s l.at l.n (aTermRest l.d l.b ∷ []) (aTermRest l.d l.b ∷ []) (At l.e l.m) × MoreAt l.s l.v (derived.aTermRest l.min) l.at l.n l.initial.code l.code l.e l.m × (length l.code ≡ length l.initial.code) × Classes operators (get_or l.s l.e 0) l.o × (l.o ≤ 2295 * (length l.s - l.e))
+
+abbrev pub decreases-term_rest-loop-code : goal.decreases-term_rest-loop-code
+decreases-term_rest-loop-code l = length l.s - l.e

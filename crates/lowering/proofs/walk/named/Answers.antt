@@ -1,0 +1,11 @@
+-- `walk::named` meets its contract. Assumes nothing.
+use mathlib.Core.Path.{refl, ◌∙◌}
+use Rattle.table_nodes.proofs.TableNumbers.{placed-slot, placed-element}
+use Rattle.lowering.proofs.TableWalkTerms.{term-name}
+use Rattle.lowering.proofs.walk.named.Goals as goal
+
+pub returns-then-w-lt-ELEMENTS : goal.returns-then-w-lt-ELEMENTS
+returns-then-w-lt-ELEMENTS c = term-name c.args.code.now c.args.end c.args.slot c.requires.0 c.requires.3 c.args.names.now c.args.places.now c.args.sizes.now c.args.out.now c.requires.1 _ _ _ c.index-x.result c.look-w.result c.requires.4 (c.index-x.ensures.0 ∙ c.look.ensures) c.look-w.ensures refl (placed-slot c.look-w.result c.if-w-lt-ELEMENTS.true) c.set_node.ensures c.look-e.ensures refl
+
+pub returns : goal.returns
+returns c = term-name c.args.code.now c.args.end c.args.slot c.requires.0 c.requires.3 c.args.names.now c.args.places.now c.args.sizes.now c.args.out.now c.requires.1 _ _ _ c.index-x.result c.look-w.result c.requires.4 (c.index-x.ensures.0 ∙ c.look.ensures) c.look-w.ensures refl (placed-element c.look-w.result c.if-w-lt-ELEMENTS.false) c.set_node-2.ensures c.look-e.ensures refl

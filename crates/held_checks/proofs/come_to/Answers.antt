@@ -1,0 +1,14 @@
+-- `held_checks::come_to` meets its contract: the bytes come to the place, and its distance is the answer. Assumes nothing.
+use borrow.Author.Rules.{rules}
+use native.Mathlib.Omega.{arith}
+use Rattle.held_checks.proofs.StepLaws.{onward, moves}
+use Rattle.held_checks.proofs.come_to.Goals as goal
+
+pub counted-place-requires : goal.counted-place-requires
+counted-place-requires c = omega (arith, c.requires.1)
+
+pub overflow_sub-result : goal.overflow_sub-result
+overflow_sub-result c = onward c.args.from c.args.at c.args.failed c.counted-place.ensures c.requires.0
+
+pub returns : goal.returns
+returns c = moves c.counted-place.ensures c.mark_after.ensures c.turn.ensures

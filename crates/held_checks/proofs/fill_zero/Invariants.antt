@@ -1,0 +1,13 @@
+use lib.ListN.{take, replicate, length-set, length}
+use Prim.Native.Nat.{◌-◌, ◌≤◌}
+use mathlib.Core.Path.{◌≡◌, refl}
+use native.Mathlib.Omega.{arith}
+use borrow.Author.Rules.{rules}
+use Rattle.held_checks.proofs.ByteSteps.{zeros-more, zeros-all}
+use Rattle.held_checks.proofs.fill_zero.Given as goal
+
+abbrev pub invariant-loop-k : goal.invariant-loop-k
+invariant-loop-k l = (l.k ≤ length l.held) × ((length l.held ≡ 32784) × (take l.k l.held ≡ replicate l.k 0))
+
+abbrev pub decreases-loop-k : goal.decreases-loop-k
+decreases-loop-k l = length l.held - l.k

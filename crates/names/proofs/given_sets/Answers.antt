@@ -1,0 +1,6 @@
+-- `given_sets` meets its contract: the tables are free at first. Assumes nothing.
+use Rattle.declared_names.proofs.GivenSetNodes.{given-from}
+use Rattle.names.proofs.given_sets.Goals as goal
+
+pub returns : goal.returns
+returns c = given-from c.clear.ensures c.give.ensures

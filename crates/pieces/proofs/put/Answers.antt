@@ -1,0 +1,7 @@
+-- `pieces::put` meets its contract. Assumes nothing.
+use borrow.Author.Rules.{rules}
+use Rattle.pieces.proofs.WrittenPieces.{byte-written}
+use Rattle.pieces.proofs.put.Goals as goal
+
+pub returns : goal.returns
+returns c = byte-written _ _ _ c.requires

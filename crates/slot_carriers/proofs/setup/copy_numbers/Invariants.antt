@@ -1,0 +1,15 @@
+use mathlib.Core.Path.{subst, ◌≡◌, ◌∙◌}
+use Prim.Native.Nat.{ℕ, ◌+◌, ◌-◌, ◌≤◌}
+use native.Mathlib.Omega.{arith}
+use Rattle.slot_carriers.specs.CellGroups.{Others}
+use Rattle.slot_carriers.specs.DeclaredGroups.{Again}
+use Rattle.slot_carriers.proofs.GroupBindings.{others-none}
+use Rattle.slot_carriers.proofs.TypeCells.{others-next}
+use Rattle.slot_carriers.proofs.KeptCells.{again-next, again-none}
+use Rattle.slot_carriers.proofs.setup.copy_numbers.Given as goal
+
+abbrev pub invariant-loop-k : goal.invariant-loop-k
+invariant-loop-k l = (l.k ≤ l.n) × (Again l.from l.to l.k l.initial.cells l.cells) × (Others 0 l.initial.cells l.to l.k l.cells)
+
+abbrev pub decreases-loop-k : goal.decreases-loop-k
+decreases-loop-k l = l.n - l.k

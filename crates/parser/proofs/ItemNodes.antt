@@ -6,8 +6,9 @@ use native.Mathlib.Omega.{arith}
 use lib.ListN.{length, get_or, length-append}
 use lib.Seq.{get_or-append-add}
 use Rattle.form.specs.Tree.{Letters, Pred, TypeForm, givenType, powerType, range_type, arrow_type, Declaration, declarations, Parameter, Given, elements, State}
+use Rattle.form.specs.Headings.{given_length}
 use Rattle.form.specs.Written.{write_declarations}
-use Rattle.form.specs.Codes.{node, Numbering, entry_codes, element_codes, given_codes, type_codes, declaration_codes, parameter_codes, pred_codes, condition_codes, state_codes}
+use Rattle.form.specs.Codes.{node, type_width, Numbering, entry_codes, element_codes, given_codes, type_codes, declaration_codes, parameter_codes, pred_codes, condition_codes, state_codes}
 use Rattle.parser.specs.Sections.{size_of, size_at, In, Run, stops, passes, StateAt}
 
 -- behind the first n numbers of c stands q
@@ -65,7 +66,7 @@ items-run {low} {high} {n} {c} (more {k} {i} {a} {b} x {y} h₁ h₂ e r) q s o 
     let g = split_at w 3 in
     let p = length-append x y in
     let j = length-append (node k i a b ++ x) (y ++ q) in
-    let t = items-run r q (split-next (node k i a b ++ x) (y ++ q) w) o in
+    let t = items-run {n = n + length (node k i a b ++ x)} r q (split-next (node k i a b ++ x) (y ++ q) w) o in
     passes {i = n} {e = n + length (node k i a b ++ (x ++ y))} (record { room = omega arith; lower = omega arith; upper = omega arith }) (omega arith)
     (subst₂ (λ (u v : ℕ). Run c (length c) low high u v) (omega arith) (omega arith) t)
 
@@ -94,7 +95,7 @@ unfolding given_codes size_of
 givens-items i [] ρ = none
 givens-items i (g ∷ gs) ρ =
     more {k = 3} [] (omega arith) (omega arith) refl
-    (items-append (items-wide (elements-items (i + 2) (elements g) ρ) (omega arith) (omega arith)) (givens-items _ gs ρ))
+    (items-append (items-wide (elements-items (i + 2) (elements g) ρ) (omega arith) (omega arith)) (givens-items (i + given_length g) gs ρ))
 
 type-length : (t : TypeForm) (i : ℕ) (ρ : Numbering) → length (type_codes t i ρ) ≡ 4
 type-length (givenType g) i ρ = refl
@@ -109,12 +110,12 @@ six t i ρ a = ap (λ (x : ℕ). 4 + x) (type-length t i ρ)
 pub declarations-items : (i : ℕ) (ds : List Declaration) (ρ : Numbering) → Items 6 6 (declaration_codes i ds ρ)
 unfolding declaration_codes
 declarations-items i [] ρ = none
-declarations-items i (d ∷ ds) ρ = more {k = 6} (type_codes d.type (i + 2) ρ) (omega arith) (omega arith) (six d.type (i + 2) ρ _) (declarations-items _ ds ρ)
+declarations-items i (d ∷ ds) ρ = more {k = 6} (type_codes d.type (i + 2) ρ) (omega arith) (omega arith) (six d.type (i + 2) ρ _) (declarations-items (i + 3 + type_width d.type) ds ρ)
 
 pub parameters-items : (i : ℕ) (xs : List Parameter) (ρ : Numbering) → Items 6 6 (parameter_codes i xs ρ)
 unfolding parameter_codes
 parameters-items i [] ρ = none
-parameters-items i (x ∷ xs) ρ = more {k = 6} (type_codes x.declaration.type (i + 2) ρ) (omega arith) (omega arith) (six x.declaration.type (i + 2) ρ _) (parameters-items _ xs ρ)
+parameters-items i (x ∷ xs) ρ = more {k = 6} (type_codes x.declaration.type (i + 2) ρ) (omega arith) (omega arith) (six x.declaration.type (i + 2) ρ _) (parameters-items (i + 3 + type_width x.declaration.type) xs ρ)
 
 pub condition-items : (i : ℕ) (p : Pred) (ρ : Numbering) → Items 7 7 (condition_codes i p ρ)
 unfolding condition_codes size_of

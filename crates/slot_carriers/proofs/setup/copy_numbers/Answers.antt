@@ -37,8 +37,5 @@ loop-k-preserved c = (
   others-next c.args.cells.now c.loop-k.cells c.put.new.cells c.args.to c.loop-k.k c.cell-x.result c.loop-k.invariant.2 c.put.ensures,
 )
 
-pub ?same_length : goal.?same_length
-?same_length c = c.before.loop.invariant.2.same_length
-
 pub returns : goal.returns
 returns c = record { each = subst (λ (i : ℕ). Again c.args.from c.args.to i c.args.cells.now c.loop-k.cells) (let z : c.loop-k.k ≡ c.args.n = omega arith in z) c.loop-k.invariant.1; others = subst (λ (i : ℕ). Others 0 c.args.cells.now c.args.to i c.loop-k.cells) (let z : c.loop-k.k ≡ c.args.n = omega arith in z) c.loop-k.invariant.2 }

@@ -25,8 +25,5 @@ loop-d-preserved c = (
   others-next c.args.cells.now c.loop-d.cells c.put.new.cells c.args.at c.loop-d.d c.function_at.result c.loop-d.invariant.2 c.put.ensures,
 )
 
-pub ?same_length : goal.?same_length
-?same_length c = c.before.loop.invariant.2.same_length
-
 pub returns : goal.returns
 returns c = record { list = subst (λ (k : ℕ). Functions c.args.shape c.args.a c.args.b c.args.at k c.loop-d.cells) (let z : c.loop-d.d ≡ c.args.n = omega arith in z) c.loop-d.invariant.1; others = subst (λ (k : ℕ). Others 0 c.args.cells.now c.args.at k c.loop-d.cells) (let z : c.loop-d.d ≡ c.args.n = omega arith in z) c.loop-d.invariant.2 }

@@ -1,0 +1,15 @@
+use lib.ListN.{take}
+use Prim.Native.Nat.{◌-◌, ◌≤◌}
+use mathlib.Core.Path.{◌∙◌}
+use native.Mathlib.Omega.{arith}
+use borrow.Author.Rules.{rules}
+use Rattle.parser.specs.Sections.{Compares}
+use Rattle.parser.specs.declared.headings.Heads.{Heads}
+use Rattle.parser.proofs.ItemsPassed.{found-wanting, found-extra, found_all, found-other, found-same}
+use Rattle.parser.proofs.headings.compare.Given as goal
+
+abbrev pub invariant-loop-e : goal.invariant-loop-e
+invariant-loop-e l = (l.e ≤ l.m) × (l.h ≤ l.m) × ((q : Heads) → Compares (take l.m l.nodes) l.m l.low l.high l.to l.last l.wanting l.from l.head q → Compares (take l.m l.nodes) l.m l.low l.high l.to l.last l.wanting l.e l.h q)
+
+abbrev pub decreases-loop-e : goal.decreases-loop-e
+decreases-loop-e l = l.m - l.e

@@ -1,0 +1,11 @@
+-- `sections::skip` meets its contract.
+use borrow.Author.Rules.{rules}
+use native.Mathlib.Omega.{arith}
+use Rattle.parser.proofs.ItemsPassed.{skipped}
+use Rattle.parser.proofs.sections.skip.Goals as goal
+
+pub returns-then-left-size : goal.returns-then-left-size
+returns-then-left-size c = record { within = omega arith; ahead = omega arith; exact = λ l h. let e = skipped c.args.nodes.now c.args.m c.args.at c.part-shape.result c.part-count.result c.item-size.result l c.part-shape.ensures c.part-count.ensures c.item-size.ensures.size in omega arith }
+
+pub returns : goal.returns
+returns c = record { within = omega arith; ahead = omega arith; exact = λ l h. let e = skipped c.args.nodes.now c.args.m c.args.at c.part-shape.result c.part-count.result c.item-size.result l c.part-shape.ensures c.part-count.ensures c.item-size.ensures.size in omega arith }

@@ -1,0 +1,8 @@
+-- `sections::state` meets its contract.
+use borrow.Author.Rules.{rules}
+use native.Mathlib.Omega.{arith}
+use Rattle.parser.proofs.ItemsPassed.{state-is}
+use Rattle.parser.proofs.sections.state.Goals as goal
+
+pub returns : goal.returns
+returns c = record { within = omega arith; exact = λ e s. state-is s c.skip-first.ensures.exact c.run-last.ensures.exact c.skip.ensures.exact }

@@ -6,7 +6,7 @@ use Prim.Native.Nat.{ℕ, suc, ◌+◌, ◌-◌, ◌*◌, ◌≤◌, ◌<◌}
 use native.Mathlib.Omega.{arith}
 use lib.Dec.{leb}
 use lib.ListN.{length, get_or, get_or-eq_default}
-use Rattle.lexical.specs.Symbols.{noEnding}
+use Rattle.lexical.specs.Symbols.{no_ending}
 use Rattle.form.specs.Tree.{declarations, Operation}
 use Rattle.form.specs.Headings.{operation_length}
 use Rattle.form.specs.Codes.{Numbering}
@@ -52,7 +52,7 @@ module _ (nodes spans : List ℕ) (k : ℕ) (T : Names) (z : Sizes) (from to : �
       let is = part-stands nodes (span spans k) (span spans (k + 1)) from to code _ p q h w.variables in
       f i (subst (λ (x : ℕ). HeadingAt nodes x i) (sym p) w.heading)
       ∙ ap (λ (b : Bool). unless_key b (key i 12))
-      (group-fits code 0 4096 T z n (suc i) (variables_of noEnding (declarations s)) ρ g (is ∙ sym (variables-codes (suc i) (declarations s) ρ)))
+      (group-fits code 0 4096 T z n (suc i) (variables_of no_ending (declarations s)) ρ g (is ∙ sym (variables-codes (suc i) (declarations s) ρ)))
 
   pub operation-bound : (n m r : ℕ) (ok : Bool) → from ≡ span spans (9 + 4 * k) → to ≡ span spans (9 + 4 * k + 1) → PartOf nodes from to code → GroupCounted code 2 64 T z n
       → GroupCounted code 3 64 T z m → ok ≡ (leb n 64 && leb m 64) → HeadingFaulted nodes from ok r → OperationBound nodes spans k T z r

@@ -11,9 +11,9 @@ use lib.IntN.{ℤ, pos, negsuc, sub_ℕ, ◌-ℤ◌, nat_abs}
 use lib.Signed.{le_z, lt_z}
 use borrow.Author.Tests.{leb-true, le-ltb}
 use Rattle.lexical.specs.Lists.{filter}
-use Rattle.lexical.specs.Symbols.{Name, Ending, noEnding, prime, query, shriek}
-use Rattle.lexical.specs.Refusals.{fault, number_of, unless, manyBindings, nameUnknown, wideType}
-use Rattle.form.specs.Tree.{Letters, Range, Arrow, relation, partial, total, TypeForm, givenType, powerType, range_type, arrow_type, Given, Declaration, Direction, inward, outward, Parameter, Operation, Dossier}
+use Rattle.lexical.specs.Symbols.{Name, Ending, no_ending, prime, query, shriek}
+use Rattle.lexical.specs.Refusals.{fault, number_of, unless, many_bindings, name_unknown, wide_type}
+use Rattle.form.specs.Tree.{Letters, Range, Arrow, relation, partial, total, TypeForm, given_type, power_type, range_type, arrow_type, Given, Declaration, Direction, inward, outward, Parameter, Operation, Dossier}
 use Rattle.form.specs.Written.{ending_of}
 use Rattle.form.specs.Headings.{abstract_at, concrete_at, operations_at, operation_length}
 use Rattle.form.specs.Codes.{Numbering, ending_number, number_of_name, name_number, end_number}
@@ -61,7 +61,7 @@ unfolding range_faults range_fits
 range-counts r i e p q =
     range-width (end-stands r.lower.negative r.lower.magnitude p) (end-stands r.upper.negative r.upper.magnitude q)
     (both_left (le_z (end_value r.lower) (end_value r.upper)) (lt_z (end_value r.upper -ℤ end_value r.lower) (pos 64))
-    (unless-nil (range_fits (end_value r.lower) (end_value r.upper)) (fault (i + end_length r.lower) wideType) e))
+    (unless-nil (range_fits (end_value r.lower) (end_value r.upper)) (fault (i + end_length r.lower) wide_type) e))
 
 -- ---- types ----
 
@@ -73,14 +73,14 @@ module _ (T : Names) (z : Sizes) (gs : List Given) (ρ : Numbering) where
     counts : type_count t T ρ z ≡ count_of carrier
 
   known-given : (o : Option Given) (i : ℕ) → known o i ≡ [] → (x : Given) × (o ≡ some x)
-  known-given none i e = not_nil (fault i nameUnknown) [] e
+  known-given none i e = not_nil (fault i name_unknown) [] e
   known-given (some x) i e = (x, refl)
 
-  given-carrier : (g : Name) (x : Given) → given_of gs g ≡ some x → carrier_of gs (givenType g) ≡ some (elements_of x)
+  given-carrier : (g : Name) (x : Given) → given_of gs g ≡ some x → carrier_of gs (given_type g) ≡ some (elements_of x)
   unfolding carrier_of
   given-carrier g x e = rw (carrier_of, e)
 
-  power-carrier : (g : Name) (x : Given) → given_of gs g ≡ some x → carrier_of gs (powerType g) ≡ some (subsets_of x)
+  power-carrier : (g : Name) (x : Given) → given_of gs g ≡ some x → carrier_of gs (power_type g) ≡ some (subsets_of x)
   unfolding carrier_of
   power-carrier g x e = rw (carrier_of, e)
 
@@ -96,9 +96,9 @@ module _ (T : Names) (z : Sizes) (gs : List Given) (ρ : Numbering) where
 
   type-counts : (t : TypeForm) (i : ℕ) → type_faults gs t i ≡ [] → TypeShown T z gs ρ t → Counts t
   unfolding type_faults carrier_of type_count count_of
-  type-counts (givenType g) i e s =
+  type-counts (given_type g) i e s =
       let x = known-given (given_of gs g) i e in record { carrier = elements_of x.0; carries = given-carrier g x.0 x.1; counts = s x.0 x.1 }
-  type-counts (powerType g) i e s =
+  type-counts (power_type g) i e s =
       let x = known-given (given_of gs g) (suc i) e in
       record { carrier = subsets_of x.0; carries = power-carrier g x.0 x.1; counts = ap (λ (n : ℕ). 2 ^ n) (s x.0 x.1) }
   type-counts (range_type r) i e s = record { carrier = range_carrier r; carries = refl; counts = range-counts r i e s.0 s.1 }
@@ -123,7 +123,7 @@ module _ (T : Names) (z : Sizes) (gs : List Given) (ρ : Numbering) where
 
   ending-left : (x : Letters) (e : Ending) → number_of_name ρ x e % 4 ≡ ending_number e
   unfolding number_of_name
-  ending-left x noEnding = omega arith
+  ending-left x no_ending = omega arith
   ending-left x prime = omega arith
   ending-left x query = omega arith
   ending-left x shriek = omega arith
@@ -150,12 +150,12 @@ module _ (T : Names) (z : Sizes) (gs : List Given) (ρ : Numbering) where
   none-count w e = refl
 
   -- the variables of a state
-  pub state-counts : {ds : List Declaration} → TypesFit gs ds → TypesShown T z gs ρ (variables_of noEnding ds)
-      → typed_count 0 (variables_of noEnding ds) T ρ z ≡ binding_count (variables gs noEnding ds)
+  pub state-counts : {ds : List Declaration} → TypesFit gs ds → TypesShown T z gs ρ (variables_of no_ending ds)
+      → typed_count 0 (variables_of no_ending ds) T ρ z ≡ binding_count (variables gs no_ending ds)
   unfolding variables_of
-  state-counts no_types s = none-count 0 noEnding
+  state-counts no_types s = none-count 0 no_ending
   state-counts (one_type {d = d} {ds = ds} i e f) s =
-      one-counts 0 noEnding _ (variables_of noEnding ds) d ds (ap (λ (n : ℕ). eqb n 0) (ending-left d.declared noEnding)) (type-counts d.type i e (shown-first s)) refl
+      one-counts 0 no_ending _ (variables_of no_ending ds) d ds (ap (λ (n : ℕ). eqb n 0) (ending-left d.declared no_ending)) (type-counts d.type i e (shown-first s)) refl
       (state-counts f (shown_rest s))
 
   fit-first : {d : Declaration} {ds : List Declaration} → TypesFit gs (d ∷ ds) → TypeShown T z gs ρ d.type → Counts d.type
@@ -216,13 +216,13 @@ module _ (T : Names) (z : Sizes) (d : Dossier) (ρ : Numbering) where
   unfolding scope.parameters_of
   outputs-count o f s = parameters-count T z d.givens ρ 3 shriek is_output output-right o.parameters f s
 
-  many : (ok : Bool) (i : ℕ) → unless_key ok (key i 12) ≡ least_key (unless ok (fault i manyBindings))
+  many : (ok : Bool) (i : ℕ) → unless_key ok (key i 12) ≡ least_key (unless ok (fault i many_bindings))
   unfolding number_of
-  many ok i = unless-least ok i manyBindings
+  many ok i = unless-least ok i many_bindings
 
-  few-small : (ok : Bool) (i : ℕ) → Small (unless ok (fault i manyBindings))
+  few-small : (ok : Bool) (i : ℕ) → Small (unless ok (fault i many_bindings))
   unfolding number_of
-  few-small ok i = small-unless ok (fault i manyBindings) (omega arith)
+  few-small ok i = small-unless ok (fault i many_bindings) (omega arith)
 
   operations-small : (i : ℕ) (os : List Operation) → Small (operation_bindings d i os)
   unfolding operation_bindings
@@ -230,7 +230,7 @@ module _ (T : Names) (z : Sizes) (d : Dossier) (ρ : Numbering) where
   operations-small i (o ∷ os) = small-append (few-small _ i) (operations-small (i + operation_length o) os)
 
   one-least : (o : Operation) → TypesFit d.givens (map (λ (x : Parameter). x.declaration) o.parameters) → TypesShown T z d.givens ρ (parameters_of o.parameters) → (i : ℕ)
-      → operation_over o T ρ z i ≡ least_key (unless (leb (binding_count (inputs d o)) 64 && leb (binding_count (outputs d o)) 64) (fault i manyBindings))
+      → operation_over o T ρ z i ≡ least_key (unless (leb (binding_count (inputs d o)) 64 && leb (binding_count (outputs d o)) 64) (fault i many_bindings))
   unfolding operation_over
   one-least o f s i =
       ap₂ (λ (n m : ℕ). unless_key (leb n 64 && leb m 64) (key i 12)) (inputs-count o f s) (outputs-count o f s)

@@ -8,7 +8,7 @@ use native.Mathlib.Omega.{arith}
 use lib.Dec.{eqb, leb}
 use lib.ListN.{length, drop, get_or}
 use borrow.Author.Tests.{leb-true, leb-false, lt-leb, eq-eqb, ne_eqb}
-use Rattle.form.specs.Tree.{TypeForm, givenType, powerType, range_type, arrow_type, relation, partial, total}
+use Rattle.form.specs.Tree.{TypeForm, given_type, power_type, range_type, arrow_type, relation, partial, total}
 use Rattle.form.specs.Codes.{Numbering, node, name_number, end_number, end_width, arrow_number, type_codes}
 use Rattle.type_rules.specs.TypesByNumber.{Names, Sizes}
 use Rattle.declared_names.specs.NamesByNumber.{Typed}
@@ -87,40 +87,40 @@ power-none c b = omega (arith, pow-zero b)
 -- ---- a type's node ----
 
 abbrev shape_of : TypeForm → ℕ
-shape_of (givenType g) = 1
+shape_of (given_type g) = 1
 shape_of (range_type r) = 2
-shape_of (powerType g) = 3
+shape_of (power_type g) = 3
 shape_of (arrow_type a g h) = arrow_number a
 
 abbrev place_of : TypeForm → ℕ → ℕ
-place_of (givenType g) i = i
+place_of (given_type g) i = i
 place_of (range_type r) i = i + end_width r.lower
-place_of (powerType g) i = i
+place_of (power_type g) i = i
 place_of (arrow_type a g h) i = i
 
 abbrev left_of : TypeForm → Numbering → ℕ
-left_of (givenType g) ρ = name_number ρ g
+left_of (given_type g) ρ = name_number ρ g
 left_of (range_type r) ρ = end_number r.lower
-left_of (powerType g) ρ = name_number ρ g
+left_of (power_type g) ρ = name_number ρ g
 left_of (arrow_type a g h) ρ = name_number ρ g
 
 abbrev right_of : TypeForm → Numbering → ℕ
-right_of (givenType g) ρ = 0
+right_of (given_type g) ρ = 0
 right_of (range_type r) ρ = end_number r.upper
-right_of (powerType g) ρ = 0
+right_of (power_type g) ρ = 0
 right_of (arrow_type a g h) ρ = name_number ρ h
 
 as-node : (t : TypeForm) (i : ℕ) (ρ : Numbering) → type_codes t i ρ ≡ node (shape_of t) (place_of t i) (left_of t ρ) (right_of t ρ)
-as-node (givenType g) i ρ = refl
+as-node (given_type g) i ρ = refl
 as-node (range_type r) i ρ = refl
-as-node (powerType g) i ρ = refl
+as-node (power_type g) i ρ = refl
 as-node (arrow_type a g h) i ρ = refl
 
 count_by : (t : TypeForm) (T : Names) (ρ : Numbering) (z : Sizes) → counted_by (shape_of t) (left_of t ρ) (right_of t ρ) T z ≡ type_count t T ρ z
 unfolding counted_by type_count
-count_by (givenType g) T ρ z = refl
+count_by (given_type g) T ρ z = refl
 count_by (range_type r) T ρ z = refl
-count_by (powerType g) T ρ z = refl
+count_by (power_type g) T ρ z = refl
 count_by (arrow_type relation g h) T ρ z = refl
 count_by (arrow_type partial g h) T ρ z = refl
 count_by (arrow_type total g h) T ρ z = refl

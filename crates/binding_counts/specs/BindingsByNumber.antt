@@ -2,8 +2,8 @@
 -- That these are the counts and faults of static_rules/specs/Limits is proofs/BindingsAgree. Nothing here need be believed.
 use Rattle.std.specs.Prelude.{◌≡◌, Bool, ◌&&◌, cond, List, [], ◌∷◌, ◌++◌, ℕ, ◌+◌, ◌-◌, ◌*◌, ◌^◌, ◌%◌, ◌≤◌, min, eqb, leb, length, drop}
 use Rattle.std.proofs.Math.Option.{Option, none, some}
-use Rattle.lexical.specs.Symbols.{Name, noEnding}
-use Rattle.form.specs.Tree.{relation, partial, total, TypeForm, givenType, powerType, range_type, arrow_type, Given, declarations, State, Operation, Dossier}
+use Rattle.lexical.specs.Symbols.{Name, no_ending}
+use Rattle.form.specs.Tree.{relation, partial, total, TypeForm, given_type, power_type, range_type, arrow_type, Given, declarations, State, Operation, Dossier}
 use Rattle.form.specs.Headings.{operation_length}
 use Rattle.form.specs.Codes.{Numbering, name_number, end_number, type_codes}
 use Rattle.static_rules.specs.Carriers.{size_of, given_of}
@@ -31,9 +31,9 @@ counted_by s a b T z =
     (cond (eqb s 4) (2 ^ (size_at T z a * size_at T z b)) (cond (eqb s 5) ((size_at T z b + 1) ^ size_at T z a) (size_at T z b ^ size_at T z a)))))
 
 unfoldable pub type_count : TypeForm → Names → Numbering → Sizes → ℕ
-type_count (givenType g) T ρ z = size_at T z (name_number ρ g)
+type_count (given_type g) T ρ z = size_at T z (name_number ρ g)
 type_count (range_type r) T ρ z = end_number r.upper - end_number r.lower + 1
-type_count (powerType g) T ρ z = 2 ^ size_at T z (name_number ρ g)
+type_count (power_type g) T ρ z = 2 ^ size_at T z (name_number ρ g)
 type_count (arrow_type relation g h) T ρ z = 2 ^ (size_at T z (name_number ρ g) * size_at T z (name_number ρ h))
 type_count (arrow_type partial g h) T ρ z = (size_at T z (name_number ρ h) + 1) ^ size_at T z (name_number ρ g)
 type_count (arrow_type total g h) T ρ z = size_at T z (name_number ρ h) ^ size_at T z (name_number ρ g)
@@ -48,7 +48,7 @@ typed_count e (x ∷ xs) T ρ z = typed_factor e x T ρ z * typed_count e xs T �
 
 -- the fault of a state, of an operation, of some operations, whose heading is the symbol i
 unfoldable pub state_over : State → Names → Numbering → Sizes → (i : ℕ) → ℕ
-state_over s T ρ z i = unless_key (leb (typed_count 0 (variables_of noEnding (declarations s)) T ρ z) 4096) (key i 12)
+state_over s T ρ z i = unless_key (leb (typed_count 0 (variables_of no_ending (declarations s)) T ρ z) 4096) (key i 12)
 
 unfoldable pub operation_over : Operation → Names → Numbering → Sizes → (i : ℕ) → ℕ
 operation_over o T ρ z i =
@@ -86,8 +86,8 @@ abbrev pub GivenShown : Names → Sizes → List Given → Numbering → Name �
 GivenShown T z gs ρ g = (x : Given) → given_of gs g ≡ some x → size_at T z (name_number ρ g) ≡ size_of x
 
 abbrev pub TypeShown : Names → Sizes → List Given → Numbering → TypeForm → Type 0
-TypeShown T z gs ρ (givenType g) = GivenShown T z gs ρ g
-TypeShown T z gs ρ (powerType g) = GivenShown T z gs ρ g
+TypeShown T z gs ρ (given_type g) = GivenShown T z gs ρ g
+TypeShown T z gs ρ (power_type g) = GivenShown T z gs ρ g
 TypeShown T z gs ρ (range_type r) = (r.lower.magnitude ≤ 1000) × (r.upper.magnitude ≤ 1000)
 TypeShown T z gs ρ (arrow_type a g h) = GivenShown T z gs ρ g × GivenShown T z gs ρ h
 
@@ -101,8 +101,8 @@ pub data OperationsShown (T : Names) (z : Sizes) (gs : List Given) (ρ : Numberi
       → OperationsShown T z gs ρ (o ∷ os)
 
 pub record GivensShown (T : Names) (z : Sizes) (d : Dossier) (ρ : Numbering) : Type 0 where
-  pub abstracts : TypesShown T z d.givens ρ (variables_of noEnding (declarations d.abstract))
-  pub concretes : TypesShown T z d.givens ρ (variables_of noEnding (declarations d.concrete))
+  pub abstracts : TypesShown T z d.givens ρ (variables_of no_ending (declarations d.abstract))
+  pub concretes : TypesShown T z d.givens ρ (variables_of no_ending (declarations d.concrete))
   pub parameters : OperationsShown T z d.givens ρ d.operations
 
 -- the pass finds the least fault

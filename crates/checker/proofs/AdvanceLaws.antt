@@ -7,7 +7,7 @@ use native.Mathlib.Omega.{arith}
 use lib.Dec.{eqb, ltb}
 use lib.ListN.{length, take, drop}
 use borrow.Author.Tests.{ne_eqb, lt-ltb, le-ltb}
-use Rattle.lexical.specs.Refusals.{number_of, advanceRange}
+use Rattle.lexical.specs.Refusals.{number_of, advance_range}
 use Rattle.obligations.specs.Subjects.{Subject, subject_of}
 use Rattle.obligations.specs.Order.{Check, initialises, checks, total, Look, look}
 use Rattle.obligations.specs.Calls as calls
@@ -26,13 +26,13 @@ use Rattle.checker.proofs.MarkLaws.{fits-unfinished, marked-unfinished, mark-is}
 use Rattle.checker.proofs.CallLaws.{responds, refuses, held-as}
 
 -- "Advance by 0 or over 1,000,000,000.", and what else it comes to
-advancing-not : (σ : Subject) (p n : ℕ) → (eqb n 0 || ltb 1000000000 n) ≡ true → advancing σ p n ≡ outcome (calls.refused advanceRange) (holding σ p unfinished) []
+advancing-not : (σ : Subject) (p n : ℕ) → (eqb n 0 || ltb 1000000000 n) ≡ true → advancing σ p n ≡ outcome (calls.refused advance_range) (holding σ p unfinished) []
 unfolding advancing
-advancing-not σ p n e = ap (λ (t : Bool). cond t (outcome (calls.refused advanceRange) (holding σ p unfinished) []) (advanced σ p (look σ (take n (drop p (checks σ)))))) e
+advancing-not σ p n e = ap (λ (t : Bool). cond t (outcome (calls.refused advance_range) (holding σ p unfinished) []) (advanced σ p (look σ (take n (drop p (checks σ)))))) e
 
 advancing-by : (σ : Subject) (p n : ℕ) → (eqb n 0 || ltb 1000000000 n) ≡ false → advancing σ p n ≡ advanced σ p (look σ (take n (drop p (checks σ))))
 unfolding advancing
-advancing-by σ p n e = ap (λ (t : Bool). cond t (outcome (calls.refused advanceRange) (holding σ p unfinished) []) (advanced σ p (look σ (take n (drop p (checks σ)))))) e
+advancing-by σ p n e = ap (λ (t : Bool). cond t (outcome (calls.refused advance_range) (holding σ p unfinished) []) (advanced σ p (look σ (take n (drop p (checks σ)))))) e
 
 in-range : (n : ℕ) → (n ≡ 0 → ⊥) → n ≤ 1000000000 → (eqb n 0 || ltb 1000000000 n) ≡ false
 in-range n z h = ap₂ ◌||◌ (ne_eqb n 0 z) (le-ltb 1000000000 n h)
@@ -75,7 +75,7 @@ module _ {b table rows firsts groups labels : List ℕ} {mark place operations a
 
   out_of_range : (n : ℕ) → (eqb n 0 || ltb 1000000000 n) ≡ true → Responds b (advance n) b [] (refused 15)
   unfolding number_of
-  out_of_range n e = refuses advanceRange (holding σ place unfinished) (is-advancing n ∙ advancing-not σ place n e) refl refl
+  out_of_range n e = refuses advance_range (holding σ place unfinished) (is-advancing n ∙ advancing-not σ place n e) refl refl
 
   pub advance-none : (n : ℕ) → n ≡ 0 → Responds b (advance n) b [] (refused 15)
   advance-none n e = out_of_range n (ap (λ (k : ℕ). eqb k 0 || ltb 1000000000 k) e)

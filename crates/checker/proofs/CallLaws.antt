@@ -5,7 +5,7 @@ use mathlib.Core.List.{List, []}
 use Prim.Native.Nat.{ℕ, pred}
 use lib.Dec.{eqb}
 use borrow.Author.Tests.{eqb-true, eqb-false}
-use Rattle.lexical.specs.Refusals.{Refusal, number_of, nothingHeld, somethingHeld, checkFinished, noCounterexample}
+use Rattle.lexical.specs.Refusals.{Refusal, number_of, nothing_held, something_held, check_finished, no_counterexample}
 use Rattle.obligations.specs.Subjects.{Subject, subject_of}
 use Rattle.obligations.specs.Order.{obligation_of}
 use Rattle.obligations.specs.Report.{check_at}
@@ -41,15 +41,15 @@ module _ {b : List ℕ} {c : Call} {after lent : List ℕ} {a : Answer} where
 module _ {b : List ℕ} (none : held_by b ≡ nothing) where
   pub nothing-advance : (n : ℕ) → Responds b (advance n) b [] (refused 21)
   unfolding respond number_of
-  nothing-advance n = refuses nothingHeld nothing (ap (λ (h : Held). respond h (advance n)) none) refl refl
+  nothing-advance n = refuses nothing_held nothing (ap (λ (h : Held). respond h (advance n)) none) refl refl
 
   nothing-verdict : Responds b verdict b [] (refused 21)
   unfolding respond number_of
-  nothing-verdict = refuses nothingHeld nothing (ap (λ (h : Held). respond h verdict) none) refl refl
+  nothing-verdict = refuses nothing_held nothing (ap (λ (h : Held). respond h verdict) none) refl refl
 
   pub nothing-witness : (l : List ℕ) → Responds b (witness l) b l (refused 21)
   unfolding respond number_of
-  nothing-witness l = refuses nothingHeld nothing (ap (λ (h : Held). respond h (witness l)) none) refl refl
+  nothing-witness l = refuses nothing_held nothing (ap (λ (h : Held). respond h (witness l)) none) refl refl
 
   pub load-faulty : (t : List ℕ) {n p : ℕ} {x : TextRead} → TextFaulty t x → x ≡ Refused n p → Responds b (load t) b [] (refused_at n p)
   unfolding respond loading
@@ -77,7 +77,7 @@ module _ {b table rows firsts groups labels : List ℕ} {mark place operations a
 
   pub load-held : (t : List ℕ) → Responds b (load t) b [] (refused 22)
   unfolding respond number_of
-  load-held t = refuses somethingHeld (holding σ place (verdict_marked σ place mark)) (ap (λ (h : Held). respond h (load t)) o.holds) refl refl
+  load-held t = refuses something_held (holding σ place (verdict_marked σ place mark)) (ap (λ (h : Held). respond h (load t)) o.holds) refl refl
 
   -- what is held, by its verdict
   pub held-as : {v : Verdict} → verdict_marked σ place mark ≡ v → held_by b ≡ holding σ place v
@@ -99,9 +99,9 @@ module _ {b table rows firsts groups labels : List ℕ} {mark place operations a
   advance-finished n e = on (eqb mark 2) refl
     where
       on : (t : Bool) → eqb mark 2 ≡ t → Responds b (advance n) b [] (refused 23)
-      on true q = refuses checkFinished (holding σ place accepted) (ap (λ (h : Held). respond h (advance n)) (held-as (marked-accepted σ place (eqb-true mark 2 q)))) refl refl
+      on true q = refuses check_finished (holding σ place accepted) (ap (λ (h : Held). respond h (advance n)) (held-as (marked-accepted σ place (eqb-true mark 2 q)))) refl refl
       on false q =
-          refuses checkFinished (holding σ place (refuted (obligation_of (check_at σ (pred place)))))
+          refuses check_finished (holding σ place (refuted (obligation_of (check_at σ (pred place)))))
           (ap (λ (h : Held). respond h (advance n)) (held-as (marked-refuted σ place e (eqb-false mark 2 q)))) refl refl
 
   -- no counterexample
@@ -110,9 +110,9 @@ module _ {b table rows firsts groups labels : List ℕ} {mark place operations a
   witness-none l e = on (eqb mark 1) refl
     where
       on : (t : Bool) → eqb mark 1 ≡ t → Responds b (witness l) b l (refused 24)
-      on true q = refuses noCounterexample (holding σ place unfinished) (ap (λ (h : Held). respond h (witness l)) (held-as (marked-unfinished σ place (eqb-true mark 1 q)))) refl refl
+      on true q = refuses no_counterexample (holding σ place unfinished) (ap (λ (h : Held). respond h (witness l)) (held-as (marked-unfinished σ place (eqb-true mark 1 q)))) refl refl
       on false q =
-          refuses noCounterexample (holding σ place accepted)
+          refuses no_counterexample (holding σ place accepted)
           (ap (λ (h : Held). respond h (witness l)) (held-as (marked-accepted σ place (fits-accepted all place mark o.fits (eqb-false mark 1 q) e)))) refl refl
 
 -- what verdict answers by the mark of bytes that hold no refuted check

@@ -8,7 +8,7 @@ use lib.Dec.{ltb}
 use lib.ListN.{length, take, drop}
 use borrow.Author.Tests.{ltb-false}
 use Rattle.lexical.specs.Symbols.{length_faults}
-use Rattle.lexical.specs.Refusals.{Fault, fault, longText, least, number_of}
+use Rattle.lexical.specs.Refusals.{Fault, fault, long_text, least, number_of}
 use Rattle.form.specs.Tree.{Dossier}
 use Rattle.static_rules.specs.Read as definition
 use Rattle.static_rules.specs.Read.{refusal, reading, pass, read_symbols, read}
@@ -35,7 +35,7 @@ unfolding read length_faults least
 read_short t {d} e = on (ltb 32768 (length t)) refl
   where
     on : (b : Bool) → ltb 32768 (length t) ≡ b → length t ≤ 32768
-    on true q = absurd (subst IsRead (sym e ∙ ap (λ (c : Bool). pass (least (cond c (fault 32768 longText ∷ []) [])) (read_symbols t)) q) tt)
+    on true q = absurd (subst IsRead (sym e ∙ ap (λ (c : Bool). pass (least (cond c (fault 32768 long_text ∷ []) [])) (read_symbols t)) q) tt)
     on false q = ltb-false 32768 (length t) q
 
 -- what an answer of the reading says of the text

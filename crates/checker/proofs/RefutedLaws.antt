@@ -9,7 +9,7 @@ use native.Mathlib.Decide.{dec_lt}
 use lib.ListN.{length, take, drop}
 use lib.Seq.{take-append_seam}
 use borrow.Author.Tests.{lt-ltb, le-ltb}
-use Rattle.lexical.specs.Refusals.{number_of, shortBytes}
+use Rattle.lexical.specs.Refusals.{number_of, short_bytes}
 use Rattle.form.specs.Tree.{Dossier}
 use Rattle.table_nodes.specs.TableWalkPromises.{patch}
 use Rattle.obligations.specs.Subjects.{Subject, subject_of}
@@ -102,17 +102,17 @@ last_written {labels = labels} {table} {groups} {after = after} {operations} {pl
 
 -- "into lent bytes from their start, returns the length, touches no byte after it"
 writing-short : (σ : Subject) (p : ℕ) (o : order.Obligation) (lines lent : List ℕ) → length lent < length lines
-    → writing σ p o lines lent ≡ outcome (calls.refused shortBytes) (holding σ p (refuted o)) lent
+    → writing σ p o lines lent ≡ outcome (calls.refused short_bytes) (holding σ p (refuted o)) lent
 unfolding writing
 writing-short σ p o lines lent h =
-    ap (λ (t : Bool). cond t (outcome (calls.refused shortBytes) (holding σ p (refuted o)) lent) (outcome (calls.written (length lines)) (holding σ p (refuted o)) (lines ++ drop (length lines) lent)))
+    ap (λ (t : Bool). cond t (outcome (calls.refused short_bytes) (holding σ p (refuted o)) lent) (outcome (calls.written (length lines)) (holding σ p (refuted o)) (lines ++ drop (length lines) lent)))
     (lt-ltb (length lent) (length lines) h)
 
 writing-all : (σ : Subject) (p : ℕ) (o : order.Obligation) (lines lent : List ℕ) → length lines ≤ length lent
     → writing σ p o lines lent ≡ outcome (calls.written (length lines)) (holding σ p (refuted o)) (lines ++ drop (length lines) lent)
 unfolding writing
 writing-all σ p o lines lent h =
-    ap (λ (t : Bool). cond t (outcome (calls.refused shortBytes) (holding σ p (refuted o)) lent) (outcome (calls.written (length lines)) (holding σ p (refuted o)) (lines ++ drop (length lines) lent)))
+    ap (λ (t : Bool). cond t (outcome (calls.refused short_bytes) (holding σ p (refuted o)) lent) (outcome (calls.written (length lines)) (holding σ p (refuted o)) (lines ++ drop (length lines) lent)))
     (le-ltb (length lent) (length lines) h)
 
 module _ {b table rows firsts groups labels : List ℕ} {mark place operations all : ℕ} (o : Opened b table rows firsts groups labels mark place operations all)
@@ -150,7 +150,7 @@ module _ {b table rows firsts groups labels : List ℕ} {mark place operations a
 
     pub witness-short : {l : List ℕ} → length l < n → Responds b (witness l) b l (refused 16)
     unfolding number_of
-    witness-short {l} h = refuses shortBytes (holding σ place (refuted told)) (is-writing l ∙ writing-short σ place told lines l (omega (arith, lines_are.1))) refl refl
+    witness-short {l} h = refuses short_bytes (holding σ place (refuted told)) (is-writing l ∙ writing-short σ place told lines l (omega (arith, lines_are.1))) refl refl
 
     pub witness-written : {l after : List ℕ} {r : ℕ} → n ≤ length l → Writes 0 (take n (drop 0 out)) l after r → Responds b (witness l) b after (written n)
     unfolding patch

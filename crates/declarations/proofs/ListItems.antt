@@ -11,11 +11,11 @@ use lib.ListN.{length, get_or}
 use borrow.Author.Tests.{le-ltb, lt-ltb}
 use Rattle.lexical.specs.Kinds as kind
 use Rattle.lexical.specs.Kinds.{Kind, code_of, is, lookup}
-use Rattle.lexical.specs.Refusals.{Refusal, manyDeclared}
-use Rattle.form.specs.Written.{Mark, unmarked, a_given, an_element, aVariable, anInput, anOutput, an_operation}
+use Rattle.lexical.specs.Refusals.{Refusal, many_declared}
+use Rattle.form.specs.Written.{Mark, unmarked, a_given, an_element, a_variable, an_input, an_output, an_operation}
 use Rattle.form.specs.Form.{settled, excess, refuse}
 use Rattle.form.specs.Computed.{compute_form}
-use Rattle.form.specs.Machine.{Item, exact, aName, anEnd, a_type, aTypeRest, aDossier, a_declared, some_entries, someOpEntries, someBodies, someElements, someDeclarations, someOperations, some_parameters}
+use Rattle.form.specs.Machine.{Item, exact, a_name, an_end, a_type, a_type_rest, a_dossier, a_declared, some_entries, some_op_entries, some_bodies, some_elements, some_declarations, some_operations, some_parameters}
 use Rattle.form.specs.Machine.{Act, take, skip, stuck, then, act, on_name, go, halt, does, step, ends, unless_over}
 use Rattle.form_nodes.specs.FormPromises.{run_at, Reads, names}
 use Rattle.declarations.specs.DossierPromises.{EntriesOf, of_givens, of_operations, a_typed, a_condition_to, two_states, three_conditions, arrows, directions, counted_by, inputs_by, outputs_by, mark_by}
@@ -26,21 +26,21 @@ use Rattle.form_nodes.proofs.ItemSteps.{by-act, exact-takes, exact-stops, lookup
 use Rattle.form.proofs.Table.{◌&◌}
 
 -- a count of at most the limit is well, a larger one is not
-few-well : (l n : ℕ) → n ≤ l → refuse (ltb l n) manyDeclared ≡ none
+few-well : (l n : ℕ) → n ≤ l → refuse (ltb l n) many_declared ≡ none
 unfolding refuse
-few-well l n h = ap (λ (b : Bool). refuse b manyDeclared) (le-ltb l n h)
+few-well l n h = ap (λ (b : Bool). refuse b many_declared) (le-ltb l n h)
 
-many-over : (l n : ℕ) → l < n → refuse (ltb l n) manyDeclared ≡ some manyDeclared
+many-over : (l n : ℕ) → l < n → refuse (ltb l n) many_declared ≡ some many_declared
 unfolding refuse
-many-over l n h = ap (λ (b : Bool). refuse b manyDeclared) (lt-ltb l n h)
+many-over l n h = ap (λ (b : Bool). refuse b many_declared) (lt-ltb l n h)
 
 -- a mark that counts up to a limit
 pub data Counts : (ℕ → Mark) → ℕ → Type 0 where
   givens : Counts a_given 8
   elements : Counts an_element 8
-  variables : Counts aVariable 8
-  inputs : Counts anInput 3
-  outputs : Counts anOutput 3
+  variables : Counts a_variable 8
+  inputs : Counts an_input 3
+  outputs : Counts an_output 3
   operations : Counts an_operation 16
 
 pub count-well : {x : ℕ → Mark} {l : ℕ} (s : List ℕ) (at n : ℕ) → Counts x l → n ≤ l → Within s at (λ k j v. settled k j v (x n) ≡ none)
@@ -52,7 +52,7 @@ count-well s at n inputs h w q = few-well 3 n h
 count-well s at n outputs h w q = few-well 3 n h
 count-well s at n operations h w q = few-well 16 n h
 
-pub count-over : {x : ℕ → Mark} {l : ℕ} (s : List ℕ) (at n : ℕ) → Counts x l → l < n → Within s at (λ k j v. settled k j v (x n) ≡ some manyDeclared)
+pub count-over : {x : ℕ → Mark} {l : ℕ} (s : List ℕ) (at n : ℕ) → Counts x l → l < n → Within s at (λ k j v. settled k j v (x n) ≡ some many_declared)
 unfolding settled excess
 count-over s at n givens h w q = many-over 8 n h
 count-over s at n elements h w q = many-over 8 n h
@@ -67,7 +67,7 @@ entry-counts of_operations = operations
 
 -- a symbol is one too many
 pub crowded : {s : List ℕ} {at n : ℕ} {ι ο : List Item} (ρ : List Item → List Item) (x : Mark) → at < length s
-    → Within s at (λ k j v. settled k j v x ≡ some manyDeclared)
+    → Within s at (λ k j v. settled k j v x ≡ some many_declared)
     → ((κ : Kind) → code_of κ ≡ get_or s at 0 → (γ : List Item) → step (ι ++ γ) κ ≡ go x (ρ γ)) → Reads s at n ι ο (Fault at 6)
 crowded {s} {at} {ι = ι} ρ x l f h =
     record {
@@ -94,8 +94,8 @@ entry-word of_givens k κ γ e =
     only (λ j. step (some_entries k ∷ γ) j ≡ go unmarked (a_declared (a_given (suc k)) ∷ some_entries (suc k) ∷ γ)) kind.GIVEN refl refl κ e
     ∙ ap (λ (i : ℕ). go unmarked (a_declared (a_given i) ∷ some_entries i ∷ γ)) (sym (add-one k))
 entry-word of_operations k κ γ e =
-    only (λ j. step (someOpEntries k ∷ γ) j ≡ go unmarked (a_declared (an_operation (suc k)) ∷ someOpEntries (suc k) ∷ γ)) kind.OP refl refl κ e
-    ∙ ap (λ (i : ℕ). go unmarked (a_declared (an_operation i) ∷ someOpEntries i ∷ γ)) (sym (add-one k))
+    only (λ j. step (some_op_entries k ∷ γ) j ≡ go unmarked (a_declared (an_operation (suc k)) ∷ some_op_entries (suc k) ∷ γ)) kind.OP refl refl κ e
+    ∙ ap (λ (i : ℕ). go unmarked (a_declared (an_operation i) ∷ some_op_entries i ∷ γ)) (sym (add-one k))
 
 -- an item that takes a first symbol, and at any other does as the word j and what is behind it
 behind : (i : Item) (p : Kind) (a : Act) (j : Kind) (ρ : List Item) (κ : Kind) (γ : List Item) → act i κ ≡ lookup ((p, a) ∷ (j, then ρ) ∷ []) stuck κ
@@ -114,7 +114,7 @@ pub entry-behind : {word limit : ℕ} {f : ℕ → Item} {ο : List Item} {x : �
     → (code_of κ ≡ word → ⊥) → step (f k ∷ γ) κ ≡ step (ο ++ γ) κ
 unfolding act code_of
 entry-behind of_givens k κ γ f = behind (some_entries k) kind.GIVEN _ kind.ABSTRACT _ κ γ refl f
-entry-behind of_operations k κ γ f = behind (someOpEntries k) kind.OP _ kind.END _ κ γ refl f
+entry-behind of_operations k κ γ f = behind (some_op_entries k) kind.OP _ kind.END _ κ γ refl f
 
 pub entry-ends : {word limit : ℕ} {f : ℕ → Item} {ο : List Item} {x : ℕ → Mark} → EntriesOf word limit f ο x → (k : ℕ) (γ : List Item) → ends (f k ∷ γ) ≡ ends (ο ++ γ)
 unfolding compute_form
@@ -122,54 +122,54 @@ entry-ends of_givens k γ = refl
 entry-ends of_operations k γ = refl
 
 -- elements
-pub element-first : (γ : List Item) → step (a_declared (an_element 1) ∷ someElements 1 ∷ γ) kind.plain ≡ step (someElements 0 ∷ γ) kind.plain
+pub element-first : (γ : List Item) → step (a_declared (an_element 1) ∷ some_elements 1 ∷ γ) kind.plain ≡ step (some_elements 0 ∷ γ) kind.plain
 unfolding compute_form
 element-first γ = refl
 
-pub element-takes : (k : ℕ) (γ : List Item) → step (someElements k ∷ γ) kind.plain ≡ go (an_element (k + 1)) (someElements (k + 1) ∷ γ)
+pub element-takes : (k : ℕ) (γ : List Item) → step (some_elements k ∷ γ) kind.plain ≡ go (an_element (k + 1)) (some_elements (k + 1) ∷ γ)
 unfolding compute_form
-element-takes k γ = ap (λ (i : ℕ). go (an_element i) (someElements i ∷ γ)) (sym (add-one k))
+element-takes k γ = ap (λ (i : ℕ). go (an_element i) (some_elements i ∷ γ)) (sym (add-one k))
 
-pub elements-behind : (k : ℕ) (κ : Kind) (γ : List Item) → (code_of κ ≡ 2 → ⊥) → step (someElements k ∷ γ) κ ≡ step (exact kind.END ∷ γ) κ
+pub elements-behind : (k : ℕ) (κ : Kind) (γ : List Item) → (code_of κ ≡ 2 → ⊥) → step (some_elements k ∷ γ) κ ≡ step (exact kind.END ∷ γ) κ
 unfolding act code_of
-elements-behind k κ γ f = behind (someElements k) kind.plain _ kind.END [] κ γ refl f
+elements-behind k κ γ f = behind (some_elements k) kind.plain _ kind.END [] κ γ refl f
 
 -- the bodies of given sets
 pub given_word : (k : ℕ) (γ : List Item)
-    → step (someBodies k ∷ γ) kind.GIVEN ≡ go unmarked (a_declared (a_given (k + 1)) ∷ a_declared (an_element 1) ∷ someElements 1 ∷ someBodies (k + 1) ∷ γ)
+    → step (some_bodies k ∷ γ) kind.GIVEN ≡ go unmarked (a_declared (a_given (k + 1)) ∷ a_declared (an_element 1) ∷ some_elements 1 ∷ some_bodies (k + 1) ∷ γ)
 unfolding compute_form
-given_word k γ = ap (λ (i : ℕ). go unmarked (a_declared (a_given i) ∷ a_declared (an_element 1) ∷ someElements 1 ∷ someBodies i ∷ γ)) (sym (add-one k))
+given_word k γ = ap (λ (i : ℕ). go unmarked (a_declared (a_given i) ∷ a_declared (an_element 1) ∷ some_elements 1 ∷ some_bodies i ∷ γ)) (sym (add-one k))
 
 pub givens-behind : (k : ℕ) (κ : Kind) (γ : List Item) → (code_of κ ≡ 37 → ⊥)
-    → step (someBodies k ∷ γ) κ ≡ step ((two_states ++ (three_conditions ++ (someOperations 0 ∷ []))) ++ γ) κ
+    → step (some_bodies k ∷ γ) κ ≡ step ((two_states ++ (three_conditions ++ (some_operations 0 ∷ []))) ++ γ) κ
 unfolding act code_of
-givens-behind k κ γ f = behind (someBodies k) kind.GIVEN _ kind.ABSTRACT _ κ γ refl f
+givens-behind k κ γ f = behind (some_bodies k) kind.GIVEN _ kind.ABSTRACT _ κ γ refl f
 
 -- declarations
-pub declaration-first : (γ : List Item) → step (a_declared (aVariable 1) ∷ (a_typed ++ (someDeclarations 1 ∷ γ))) kind.plain ≡ step (someDeclarations 0 ∷ γ) kind.plain
+pub declaration-first : (γ : List Item) → step (a_declared (a_variable 1) ∷ (a_typed ++ (some_declarations 1 ∷ γ))) kind.plain ≡ step (some_declarations 0 ∷ γ) kind.plain
 unfolding compute_form
 declaration-first γ = refl
 
-pub declaration-takes : (k : ℕ) (γ : List Item) → step (someDeclarations k ∷ γ) kind.plain ≡ go (aVariable (k + 1)) (a_typed ++ (someDeclarations (k + 1) ∷ γ))
+pub declaration-takes : (k : ℕ) (γ : List Item) → step (some_declarations k ∷ γ) kind.plain ≡ go (a_variable (k + 1)) (a_typed ++ (some_declarations (k + 1) ∷ γ))
 unfolding compute_form
-declaration-takes k γ = ap (λ (i : ℕ). go (aVariable i) (a_typed ++ (someDeclarations i ∷ γ))) (sym (add-one k))
+declaration-takes k γ = ap (λ (i : ℕ). go (a_variable i) (a_typed ++ (some_declarations i ∷ γ))) (sym (add-one k))
 
-pub declarations-behind : (k : ℕ) (κ : Kind) (γ : List Item) → (code_of κ ≡ 2 → ⊥) → step (someDeclarations k ∷ γ) κ ≡ step (exact kind.WHERE ∷ γ) κ
+pub declarations-behind : (k : ℕ) (κ : Kind) (γ : List Item) → (code_of κ ≡ 2 → ⊥) → step (some_declarations k ∷ γ) κ ≡ step (exact kind.WHERE ∷ γ) κ
 unfolding act code_of
-declarations-behind k κ γ f = behind (someDeclarations k) kind.plain _ kind.WHERE [] κ γ refl f
+declarations-behind k κ γ f = behind (some_declarations k) kind.plain _ kind.WHERE [] κ γ refl f
 
 -- operations
 pub operation-word : (k : ℕ) (γ : List Item)
-    → step (someOperations k ∷ γ) kind.OP
-    ≡ go unmarked (a_declared (an_operation (k + 1)) ∷ some_parameters 0 0 ∷ (a_condition_to kind.CONCRETE ++ (a_condition_to kind.END ++ (someOperations (k + 1) ∷ γ))))
+    → step (some_operations k ∷ γ) kind.OP
+    ≡ go unmarked (a_declared (an_operation (k + 1)) ∷ some_parameters 0 0 ∷ (a_condition_to kind.CONCRETE ++ (a_condition_to kind.END ++ (some_operations (k + 1) ∷ γ))))
 unfolding compute_form
 operation-word k γ =
-    ap (λ (i : ℕ). go unmarked (a_declared (an_operation i) ∷ some_parameters 0 0 ∷ (a_condition_to kind.CONCRETE ++ (a_condition_to kind.END ++ (someOperations i ∷ γ)))))
+    ap (λ (i : ℕ). go unmarked (a_declared (an_operation i) ∷ some_parameters 0 0 ∷ (a_condition_to kind.CONCRETE ++ (a_condition_to kind.END ++ (some_operations i ∷ γ)))))
     (sym (add-one k))
 
-pub operations_behind : (k : ℕ) (κ : Kind) (γ : List Item) → (code_of κ ≡ 43 → ⊥) → step (someOperations k ∷ γ) κ ≡ step γ κ
+pub operations_behind : (k : ℕ) (κ : Kind) (γ : List Item) → (code_of κ ≡ 43 → ⊥) → step (some_operations k ∷ γ) κ ≡ step γ κ
 unfolding act code_of
-operations_behind k κ γ f = by-act (someOperations k) γ κ skip (lookup-miss _ skip κ (f, tt))
+operations_behind k κ γ f = by-act (some_operations k) γ κ skip (lookup-miss _ skip κ (f, tt))
 
 -- parameters, by their direction
 pub parameter-takes : (i o c : ℕ) (κ : Kind) (γ : List Item) → lookup directions 0 κ ≡ c → (c ≡ 0 → ⊥)
@@ -177,26 +177,26 @@ pub parameter-takes : (i o c : ℕ) (κ : Kind) (γ : List Item) → lookup dire
 unfolding act step lookup is code_of
 parameter-takes i o c κ γ e f =
     by-table-or (λ m b. lookup directions 0 m ≡ c → does b γ (step γ m) ≡ go (mark_by c i o) (a_typed ++ (some_parameters (inputs_by c i) (outputs_by c o) ∷ γ)))
-    ((kind.input, take (anInput (suc i)) (a_typed ++ (some_parameters (suc i) o ∷ []))) ∷ (kind.output, take (anOutput (suc o)) (a_typed ++ (some_parameters i (suc o) ∷ []))) ∷ (kind.ABSTRACT, then []) ∷ [])
+    ((kind.input, take (an_input (suc i)) (a_typed ++ (some_parameters (suc i) o ∷ []))) ∷ (kind.output, take (an_output (suc o)) (a_typed ++ (some_parameters i (suc o) ∷ []))) ∷ (kind.ABSTRACT, then []) ∷ [])
     stuck κ
     ((λ q. input q) & (λ q. output q) & (λ q. absurd (f (sym q))) & tt)
     (λ m q. absurd (f (sym q ∙ lookup-miss directions 0 κ (m.0, (m.1.0, tt))))) e
   where
-    input : 1 ≡ c → go (anInput (suc i)) (a_typed ++ (some_parameters (suc i) o ∷ γ)) ≡ go (mark_by c i o) (a_typed ++ (some_parameters (inputs_by c i) (outputs_by c o) ∷ γ))
+    input : 1 ≡ c → go (an_input (suc i)) (a_typed ++ (some_parameters (suc i) o ∷ γ)) ≡ go (mark_by c i o) (a_typed ++ (some_parameters (inputs_by c i) (outputs_by c o) ∷ γ))
     input q =
-        ap (λ (j : ℕ). go (anInput j) (a_typed ++ (some_parameters j o ∷ γ))) (sym (add-one i))
+        ap (λ (j : ℕ). go (an_input j) (a_typed ++ (some_parameters j o ∷ γ))) (sym (add-one i))
         ∙ ap (λ (d : ℕ). go (mark_by d i o) (a_typed ++ (some_parameters (inputs_by d i) (outputs_by d o) ∷ γ))) q
 
-    output : 2 ≡ c → go (anOutput (suc o)) (a_typed ++ (some_parameters i (suc o) ∷ γ)) ≡ go (mark_by c i o) (a_typed ++ (some_parameters (inputs_by c i) (outputs_by c o) ∷ γ))
+    output : 2 ≡ c → go (an_output (suc o)) (a_typed ++ (some_parameters i (suc o) ∷ γ)) ≡ go (mark_by c i o) (a_typed ++ (some_parameters (inputs_by c i) (outputs_by c o) ∷ γ))
     output q =
-        ap (λ (j : ℕ). go (anOutput j) (a_typed ++ (some_parameters i j ∷ γ))) (sym (add-one o))
+        ap (λ (j : ℕ). go (an_output j) (a_typed ++ (some_parameters i j ∷ γ))) (sym (add-one o))
         ∙ ap (λ (d : ℕ). go (mark_by d i o) (a_typed ++ (some_parameters (inputs_by d i) (outputs_by d o) ∷ γ))) q
 
 pub parameters-behind : (i o : ℕ) (κ : Kind) (γ : List Item) → lookup directions 0 κ ≡ 0 → step (some_parameters i o ∷ γ) κ ≡ step (exact kind.ABSTRACT ∷ γ) κ
 unfolding act step lookup is code_of
 parameters-behind i o κ γ e =
     by-table-or (λ m b. lookup directions 0 m ≡ 0 → does b γ (step γ m) ≡ step (exact kind.ABSTRACT ∷ γ) m)
-    ((kind.input, take (anInput (suc i)) (a_typed ++ (some_parameters (suc i) o ∷ []))) ∷ (kind.output, take (anOutput (suc o)) (a_typed ++ (some_parameters i (suc o) ∷ []))) ∷ (kind.ABSTRACT, then []) ∷ [])
+    ((kind.input, take (an_input (suc i)) (a_typed ++ (some_parameters (suc i) o ∷ []))) ∷ (kind.output, take (an_output (suc o)) (a_typed ++ (some_parameters i (suc o) ∷ []))) ∷ (kind.ABSTRACT, then []) ∷ [])
     stuck κ
     ((λ q. absurd (omega (arith, q))) & (λ q. absurd (omega (arith, q))) & (λ q. refl) & tt)
     (λ m q. sym (exact-stops kind.ABSTRACT κ γ m.1.1.0)) e
@@ -206,40 +206,40 @@ parameter-well s at zero i o h = count-well s at (o + 1) outputs (omega arith)
 parameter-well s at (suc zero) i o h = count-well s at (i + 1) inputs (omega arith)
 parameter-well s at (suc (suc c)) i o h = count-well s at (o + 1) outputs (omega arith)
 
-pub parameter-over : (s : List ℕ) (at c i o : ℕ) → (3 ≤ counted_by c i o) → Within s at (λ k j v. settled k j v (mark_by c i o) ≡ some manyDeclared)
+pub parameter-over : (s : List ℕ) (at c i o : ℕ) → (3 ≤ counted_by c i o) → Within s at (λ k j v. settled k j v (mark_by c i o) ≡ some many_declared)
 parameter-over s at zero i o h = count-over s at (o + 1) outputs (omega arith)
 parameter-over s at (suc zero) i o h = count-over s at (i + 1) inputs (omega arith)
 parameter-over s at (suc (suc c)) i o h = count-over s at (o + 1) outputs (omega arith)
 
 -- types
-pub type-rest-step : (κ : Kind) (γ : List Item) {c : ℕ} → lookup arrows 0 κ ≡ c → step (aTypeRest ∷ γ) κ ≡ does (either (then (aName ∷ [])) skip c) γ (step γ κ)
+pub type-rest-step : (κ : Kind) (γ : List Item) {c : ℕ} → lookup arrows 0 κ ≡ c → step (a_type_rest ∷ γ) κ ≡ does (either (then (a_name ∷ [])) skip c) γ (step γ κ)
 unfolding act
-type-rest-step κ γ q = by-act aTypeRest γ κ _ (lookup-mapped (either (then (aName ∷ [])) skip) arrows κ ∙ ap (either (then (aName ∷ [])) skip) q)
+type-rest-step κ γ q = by-act a_type_rest γ κ _ (lookup-mapped (either (then (a_name ∷ [])) skip) arrows κ ∙ ap (either (then (a_name ∷ [])) skip) q)
 
-pub type-rest-taken : (κ : Kind) (γ : List Item) → (lookup arrows 0 κ ≡ 0 → ⊥) → step (aTypeRest ∷ γ) κ ≡ go unmarked (aName ∷ γ)
+pub type-rest-taken : (κ : Kind) (γ : List Item) → (lookup arrows 0 κ ≡ 0 → ⊥) → step (a_type_rest ∷ γ) κ ≡ go unmarked (a_name ∷ γ)
 unfolding act
 type-rest-taken κ γ f =
-    by-act aTypeRest γ κ (then (aName ∷ []))
-    (lookup-mapped (either (then (aName ∷ [])) skip) arrows κ ∙ either-some (then (aName ∷ [])) skip (lookup arrows 0 κ) f)
+    by-act a_type_rest γ κ (then (a_name ∷ []))
+    (lookup-mapped (either (then (a_name ∷ [])) skip) arrows κ ∙ either-some (then (a_name ∷ [])) skip (lookup arrows 0 κ) f)
 
 abbrev type_table : List (Kind × Act)
 type_table =
-    (kind.number, then (exact kind.up_to ∷ anEnd ∷ [])) ∷ (kind.minus, then (exact kind.number ∷ exact kind.up_to ∷ anEnd ∷ [])) ∷ (kind.POWER, then (aName ∷ [])) ∷ []
+    (kind.number, then (exact kind.up_to ∷ an_end ∷ [])) ∷ (kind.minus, then (exact kind.number ∷ exact kind.up_to ∷ an_end ∷ [])) ∷ (kind.POWER, then (a_name ∷ [])) ∷ []
 
-pub type-name : (κ : Kind) (γ : List Item) → (lookup names 0 κ ≡ 0 → ⊥) → step (a_type ∷ γ) κ ≡ go unmarked (aTypeRest ∷ γ)
+pub type-name : (κ : Kind) (γ : List Item) → (lookup names 0 κ ≡ 0 → ⊥) → step (a_type ∷ γ) κ ≡ go unmarked (a_type_rest ∷ γ)
 unfolding act step lookup is code_of
 type-name κ γ f =
-    by-table-or (λ j a. (lookup names 0 j ≡ 0 → ⊥) → does a γ (step γ j) ≡ go unmarked (aTypeRest ∷ γ)) type_table (on_name (then (aTypeRest ∷ [])) stuck κ) κ
+    by-table-or (λ j a. (lookup names 0 j ≡ 0 → ⊥) → does a γ (step γ j) ≡ go unmarked (a_type_rest ∷ γ)) type_table (on_name (then (a_type_rest ∷ [])) stuck κ) κ
     ((λ g. absurd (g refl)) & (λ g. absurd (g refl)) & (λ g. absurd (g refl)) & tt)
-    (λ m g. ap (λ (a : Act). does a γ (step γ κ)) (naming (then (aTypeRest ∷ [])) stuck κ refl ∙ either-some (then (aTypeRest ∷ [])) stuck (lookup names 0 κ) g)) f
+    (λ m g. ap (λ (a : Act). does a γ (step γ κ)) (naming (then (a_type_rest ∷ [])) stuck κ refl ∙ either-some (then (a_type_rest ∷ [])) stuck (lookup names 0 κ) g)) f
 
-pub type-range : (κ : Kind) (γ : List Item) → lookup names 0 κ ≡ 0 → (code_of κ ≡ 46 → ⊥) → step (a_type ∷ γ) κ ≡ step (anEnd ∷ exact kind.up_to ∷ anEnd ∷ γ) κ
+pub type-range : (κ : Kind) (γ : List Item) → lookup names 0 κ ≡ 0 → (code_of κ ≡ 46 → ⊥) → step (a_type ∷ γ) κ ≡ step (an_end ∷ exact kind.up_to ∷ an_end ∷ γ) κ
 unfolding act step lookup is code_of
 type-range κ γ q p =
-    by-table-or (λ j a. lookup names 0 j ≡ 0 → (code_of j ≡ 46 → ⊥) → does a γ (step γ j) ≡ step (anEnd ∷ exact kind.up_to ∷ anEnd ∷ γ) j) type_table
-    (on_name (then (aTypeRest ∷ [])) stuck κ) κ ((λ g h. refl) & (λ g h. refl) & (λ g h. absurd (h refl)) & tt)
-    (λ m g h. ap (λ (a : Act). does a γ (step γ κ)) (naming (then (aTypeRest ∷ [])) stuck κ g)
-    ∙ sym (by-act anEnd (exact kind.up_to ∷ anEnd ∷ γ) κ stuck (lookup-miss ((kind.number, then []) ∷ (kind.minus, then (exact kind.number ∷ [])) ∷ []) stuck κ (m.0, (m.1.0, tt))))) q p
+    by-table-or (λ j a. lookup names 0 j ≡ 0 → (code_of j ≡ 46 → ⊥) → does a γ (step γ j) ≡ step (an_end ∷ exact kind.up_to ∷ an_end ∷ γ) j) type_table
+    (on_name (then (a_type_rest ∷ [])) stuck κ) κ ((λ g h. refl) & (λ g h. refl) & (λ g h. absurd (h refl)) & tt)
+    (λ m g h. ap (λ (a : Act). does a γ (step γ κ)) (naming (then (a_type_rest ∷ [])) stuck κ g)
+    ∙ sym (by-act an_end (exact kind.up_to ∷ an_end ∷ γ) κ stuck (lookup-miss ((kind.number, then []) ∷ (kind.minus, then (exact kind.number ∷ [])) ∷ []) stuck κ (m.0, (m.1.0, tt))))) q p
 
 -- a direction other than that of an input
 pub count-other : (c i o : ℕ) → (c ≡ 1 → ⊥) → counted_by c i o ≡ o
@@ -268,7 +268,7 @@ outputs_few (suc zero) i o h l = l
 outputs_few (suc (suc c)) i o h l = omega arith
 
 -- the first word
-pub dossier-first : (κ : Kind) (γ : List Item) → step (aDossier ∷ γ) κ ≡ step (exact kind.CONTENTS ∷ some_entries 0 ∷ γ) κ
+pub dossier-first : (κ : Kind) (γ : List Item) → step (a_dossier ∷ γ) κ ≡ step (exact kind.CONTENTS ∷ some_entries 0 ∷ γ) κ
 unfolding act step lookup is code_of
 dossier-first κ γ =
     by-table-or (λ m b. does b γ (step γ m) ≡ step (exact kind.CONTENTS ∷ some_entries 0 ∷ γ) m) ((kind.CONTENTS, then (some_entries 0 ∷ [])) ∷ []) stuck κ (refl & tt)

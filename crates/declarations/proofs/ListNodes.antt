@@ -5,7 +5,7 @@ use Prim.Native.Nat.{ℕ, ◌+◌}
 use lib.ListN.{take, get_or}
 use Rattle.form.specs.Codes.{node}
 use Rattle.form_nodes.specs.FormPromises.{Writes, Closes, Shown}
-use Rattle.form_nodes.specs.Derivations.{Part, Derives, Made, MadeAt, NameAt, name_code, some_entries, a_type, aDeclaration, someElements, someGivens, declares, a_given}
+use Rattle.form_nodes.specs.Derivations.{Part, Derives, Made, MadeAt, NameAt, name_code, some_entries, a_type, a_declaration, some_elements, some_givens, declares, a_given}
 use Rattle.declarations.specs.DossierPromises.{WordsAt, ContentsMade, More, MoreAt}
 use Rattle.form_nodes.specs.declared.Read.{Read}
 use Rattle.form_nodes.specs.declared.Read.TheVariants.{At, Fault}
@@ -52,7 +52,7 @@ to-place {s} {ν} {x} {i} {u = u} q d = subst (λ (z : ℕ). Derives s ν x i z 
 
 -- a declared name, : type ;
 pub declaration-made : {s ν a b c y : List ℕ} {at i n m e o : ℕ} (r : Read) → NameAt s at → i ≡ at + 1 + 1 → get_or s (at + 1) 0 ≡ 10 → Writes a n y b m
-    → y ≡ node 6 at (name_code s ν at) 0 → MadeAt s ν a_type i m b c e o → Closes s e 11 o r → Made s ν aDeclaration at n a c r
+    → y ≡ node 6 at (name_code s ν at) 0 → MadeAt s ν a_type i m b c e o → Closes s e 11 o r → Made s ν a_declaration at n a c r
 declaration-made {s} {ν} {a} {b} {c} {y} {at} {i} {n} {m} {e} {o} (At f q) g h t w z p x =
     record {
       nodes = node 6 at (name_code s ν at) 0 ++ p.nodes;
@@ -70,12 +70,12 @@ more-part p f = record { nodes = p.nodes; more = f; written = p.written }
 
 -- a given set's body
 pub given-more : {s ν a b c y : List ℕ} {at n m e o : ℕ} (r : Read) → get_or s at 0 ≡ 37 → get_or s (at + 1) 0 ≡ 2 → get_or s (at + 1 + 1) 0 ≡ 2 → Writes a n y b m
-    → y ≡ node 3 at (name_code s ν (at + 1)) 0 → MadeAt s ν someElements (at + 1 + 1) m b c e o → Closes s e 44 o r → More s ν someGivens at n a c r
+    → y ≡ node 3 at (name_code s ν (at + 1)) 0 → MadeAt s ν some_elements (at + 1 + 1) m b c e o → Closes s e 44 o r → More s ν some_givens at n a c r
 given-more {s} {ν} {a} {b} {c} {y} {at} {n} {m} {e} {o} (At f q) g h t w z p x =
     record {
       nodes = node 3 at (name_code s ν (at + 1)) 0 ++ p.nodes;
       more = λ k u d.
-          subst (λ (l : List ℕ). Derives s ν someGivens at k l) (sym (append_assoc (node 3 at (name_code s ν (at + 1)) 0) p.nodes u))
+          subst (λ (l : List ℕ). Derives s ν some_givens at k l) (sym (append_assoc (node 3 at (name_code s ν (at + 1)) 0) p.nodes u))
           (a_given g h t p.derives x.shown.0.1 (from x.shown.0.0 d));
       written =
           ap (λ (k : ℕ). take k c) x.shown.1

@@ -3,8 +3,8 @@ use Rattle.std.specs.Prelude.{◌≡◌, List, [], ◌∷◌, ◌++◌, ℕ, zer
 use Rattle.lexical.specs.Kinds as kind
 use Rattle.lexical.specs.Kinds.{Kind, code_of}
 use Rattle.lexical.specs.Symbols.{Symbol}
-use Rattle.form.specs.Written.{Mark, a_given, aVariable, anInput, anOutput, an_operation}
-use Rattle.form.specs.Machine.{Item, exact, a_declared, a_type, aUnary, a_pred_rest, some_entries, someOpEntries, someBodies, someDeclarations, Run, complete, failed, run}
+use Rattle.form.specs.Written.{Mark, a_given, a_variable, an_input, an_output, an_operation}
+use Rattle.form.specs.Machine.{Item, exact, a_declared, a_type, a_unary, a_pred_rest, some_entries, some_op_entries, some_bodies, some_declarations, Run, complete, failed, run}
 use Rattle.form_nodes.specs.FormPromises.{codes, refusal_numbered, Reads, Classes}
 use Rattle.form_nodes.specs.Derivations as part
 use Rattle.form_nodes.specs.Derivations.{Part, Derives, Made}
@@ -21,11 +21,11 @@ a_typed = exact kind.colon ∷ a_type ∷ exact kind.semicolon ∷ []
 
 -- a predicate, and the word behind it
 abbrev pub a_condition_to : Kind → List Item
-a_condition_to κ = aUnary 0 0 ∷ a_pred_rest 0 0 0 ∷ exact κ ∷ []
+a_condition_to κ = a_unary 0 0 ∷ a_pred_rest 0 0 0 ∷ exact κ ∷ []
 
 -- the bodies that begin with a word
 abbrev pub a_state_of : Kind → List Item
-a_state_of κ = exact κ ∷ a_declared (aVariable 1) ∷ exact kind.colon ∷ a_type ∷ exact kind.semicolon ∷ someDeclarations 1 ∷ a_condition_to kind.END
+a_state_of κ = exact κ ∷ a_declared (a_variable 1) ∷ exact kind.colon ∷ a_type ∷ exact kind.semicolon ∷ some_declarations 1 ∷ a_condition_to kind.END
 
 abbrev pub a_where_of : Kind → List Item
 a_where_of κ = exact κ ∷ exact kind.WHERE ∷ a_condition_to kind.END
@@ -38,8 +38,8 @@ three_conditions = a_where_of kind.AINIT ++ (a_where_of kind.CINIT ++ a_where_of
 
 -- entries of the contents: their word, how many there may be, what is expected before one and behind all, and the mark of one
 pub data EntriesOf : (word limit : ℕ) → (ℕ → Item) → List Item → (ℕ → Mark) → Type 0 where
-  of_givens : EntriesOf 37 8 some_entries (five_words ++ (someOpEntries 0 ∷ [])) a_given
-  of_operations : EntriesOf 43 16 someOpEntries (exact kind.END ∷ someBodies 0 ∷ []) an_operation
+  of_givens : EntriesOf 37 8 some_entries (five_words ++ (some_op_entries 0 ∷ [])) a_given
+  of_operations : EntriesOf 43 16 some_op_entries (exact kind.END ∷ some_bodies 0 ∷ []) an_operation
 
 abbrev pub EntriesRead : (s : List ℕ) (at n word limit : ℕ) → Read → Type 0
 EntriesRead s at n word limit r = (f : ℕ → Item) (ο : List Item) (x : ℕ → Mark) → EntriesOf word limit f ο x → Reads s at n (f 0 ∷ []) ο r
@@ -131,7 +131,7 @@ outcome (Fault e f) = failed e (refusal_numbered f)
 pub record Formed (s ν a b : List ℕ) (r : Read) : Type 0 where
   pub exact : (w : List Symbol) → codes w ≡ s → run w ≡ outcome r
   pub ended : Ended (length s) r
-  pub made : Made s ν part.aDossier 0 0 a b r
+  pub made : Made s ν part.a_dossier 0 0 a b r
 
 -- how many parameters of a direction there are, after i inputs and o outputs; how many inputs, and outputs, there are with one more; and its mark
 abbrev pub counted_by : (c i o : ℕ) → ℕ
@@ -150,6 +150,6 @@ outputs_by (suc zero) o = o
 outputs_by (suc (suc c)) o = o + 1
 
 abbrev pub mark_by : (c i o : ℕ) → Mark
-mark_by zero i o = anOutput (o + 1)
-mark_by (suc zero) i o = anInput (i + 1)
-mark_by (suc (suc c)) i o = anOutput (o + 1)
+mark_by zero i o = an_output (o + 1)
+mark_by (suc zero) i o = an_input (i + 1)
+mark_by (suc (suc c)) i o = an_output (o + 1)

@@ -1,11 +1,11 @@
 // The contents of a dossier, given sets and declarations: numbers 4 and 6 of document 01, and their nodes.
 ghost use Rattle.std.specs.Prelude.{◌≡◌, [], ◌∷◌, ◌++◌, ◌+◌, ◌*◌, ◌≤◌, ◌<◌, leb, length, get_or};
 ghost use Rattle.lexical.specs.Kinds as kind;
-ghost use Rattle.form.specs.Written.{an_element, aVariable};
-ghost use Rattle.form.specs.Machine.{exact, a_declared, a_type, aTypeRest, aDossier, someBodies, someElements, someDeclarations, someOperations, some_parameters};
+ghost use Rattle.form.specs.Written.{an_element, a_variable};
+ghost use Rattle.form.specs.Machine.{exact, a_declared, a_type, a_type_rest, a_dossier, some_bodies, some_elements, some_declarations, some_operations, some_parameters};
 ghost use Rattle.form_nodes.specs.FormPromises.{Reads, Room, Shown};
 ghost use Rattle.form_nodes.specs.Derivations as part;
-ghost use Rattle.form_nodes.specs.Derivations.{Made, NameAt, aDeclaration, someGivens};
+ghost use Rattle.form_nodes.specs.Derivations.{Made, NameAt, a_declaration, some_givens};
 ghost use Rattle.declarations.specs.DossierPromises.{EntriesRead, five_words, WordsAt, ContentsMade, When, More, two_states, three_conditions, Arrows, Directs, a_typed, counted_by, inputs_by, outputs_by};
 
 use form::shapes;
@@ -71,7 +71,7 @@ fn words(s: &[u8], at: usize, n: usize) -> Read
 
 pub fn contents(s: &[u8], v: &[u16], code: &mut [u16]) -> Read
     requires { (length s.now ≤ 4096) × (4 * length s.now ≤ length code.old) }
-    ensures { Reads s.now 0 0 (aDossier ∷ []) (someBodies 0 ∷ []) result × ContentsMade s.now v.now code.new result }
+    ensures { Reads s.now 0 0 (a_dossier ∷ []) (some_bodies 0 ∷ []) result × ContentsMade s.now v.now code.new result }
 {
     match close(s, 0, codes::CONTENTS, 0) {
         Read::At(a, m) => match entries(
@@ -109,7 +109,7 @@ pub fn contents(s: &[u8], v: &[u16], code: &mut [u16]) -> Read
 // The elements of a given set, one or more, up to its `end`.
 fn elements(s: &[u8], v: &[u16], start: usize, code: &mut [u16], from: usize) -> Read
     requires { Room s.now code.old start from }
-    ensures { Reads s.now start from (a_declared (an_element 1) ∷ someElements 1 ∷ []) (exact kind.END ∷ []) result × Made s.now v.now part.someElements start from code.old code.new result × When (get_or s.now start 0 ≡ 2) result }
+    ensures { Reads s.now start from (a_declared (an_element 1) ∷ some_elements 1 ∷ []) (exact kind.END ∷ []) result × Made s.now v.now part.some_elements start from code.old code.new result × When (get_or s.now start 0 ≡ 2) result }
 {
     if kind_at(s, start) == codes::PLAIN {
         let mut at = start;
@@ -132,7 +132,7 @@ fn elements(s: &[u8], v: &[u16], start: usize, code: &mut [u16], from: usize) ->
 // The body of a given set behind its name, with the `end`.
 fn given(s: &[u8], v: &[u16], at: usize, code: &mut [u16], n: usize) -> Read
     requires { Room s.now code.old at n × (at + 1 < length s.now) × (get_or s.now at 0 ≡ 37) × (get_or s.now (at + 1) 0 ≡ 2) }
-    ensures { Reads s.now (at + 1 + 1) (n + 4) (a_declared (an_element 1) ∷ someElements 1 ∷ []) ([]) result × More s.now v.now someGivens at n code.old code.new result }
+    ensures { Reads s.now (at + 1 + 1) (n + 4) (a_declared (an_element 1) ∷ some_elements 1 ∷ []) ([]) result × More s.now v.now some_givens at n code.old code.new result }
 {
     let x = name_number(s, v, at + 1);
     let m = put(code, n, shapes::GIVEN, at, x, 0);
@@ -145,7 +145,7 @@ fn given(s: &[u8], v: &[u16], at: usize, code: &mut [u16], n: usize) -> Read
 // The bodies of given sets.
 pub fn givens(s: &[u8], v: &[u16], start: usize, code: &mut [u16], from: usize) -> Read
     requires { Room s.now code.old start from }
-    ensures { Reads s.now start from (someBodies 0 ∷ []) (two_states ++ (three_conditions ++ (someOperations 0 ∷ []))) result × Made s.now v.now someGivens start from code.old code.new result }
+    ensures { Reads s.now start from (some_bodies 0 ∷ []) (two_states ++ (three_conditions ++ (some_operations 0 ∷ []))) result × Made s.now v.now some_givens start from code.old code.new result }
 {
     let mut at = start;
     let mut n = from;
@@ -186,7 +186,7 @@ fn arrow_of(k: u8) -> u8
 // A type that begins with a name: a given set, or an arrow between two.
 fn named(s: &[u8], v: &[u16], at: usize, code: &mut [u16], n: usize) -> Read
     requires { Room s.now code.old at n × NameAt s.now at × (at < length s.now) }
-    ensures { Reads s.now (at + 1) (n + 4) (aTypeRest ∷ []) ([]) result × Made s.now v.now part.a_type at n code.old code.new result }
+    ensures { Reads s.now (at + 1) (n + 4) (a_type_rest ∷ []) ([]) result × Made s.now v.now part.a_type at n code.old code.new result }
 {
     let x = name_number(s, v, at);
     let k = kind_at(s, at + 1);
@@ -232,7 +232,7 @@ fn type_form(s: &[u8], v: &[u16], at: usize, code: &mut [u16], n: usize) -> Read
 // Behind a declared name: its node, and : type ;
 fn declaration(s: &[u8], v: &[u16], at: usize, code: &mut [u16], n: usize) -> Read
     requires { Room s.now code.old at n × NameAt s.now at × (at < length s.now) }
-    ensures { Reads s.now (at + 1) (n + 4) a_typed [] result × Made s.now v.now aDeclaration at n code.old code.new result }
+    ensures { Reads s.now (at + 1) (n + 4) a_typed [] result × Made s.now v.now a_declaration at n code.old code.new result }
 {
     let x = name_number(s, v, at);
     let m = put(code, n, shapes::DECLARED, at, x, 0);
@@ -248,7 +248,7 @@ fn declaration(s: &[u8], v: &[u16], at: usize, code: &mut [u16], n: usize) -> Re
 // The declarations of a state, one or more, up to its `where`.
 pub fn declarations(s: &[u8], v: &[u16], start: usize, code: &mut [u16], from: usize) -> Read
     requires { Room s.now code.old start from }
-    ensures { Reads s.now start from (a_declared (aVariable 1) ∷ a_typed ++ (someDeclarations 1 ∷ [])) (exact kind.WHERE ∷ []) result × Made s.now v.now part.someDeclarations start from code.old code.new result × When (get_or s.now start 0 ≡ 2) result }
+    ensures { Reads s.now start from (a_declared (a_variable 1) ∷ a_typed ++ (some_declarations 1 ∷ [])) (exact kind.WHERE ∷ []) result × Made s.now v.now part.some_declarations start from code.old code.new result × When (get_or s.now start 0 ≡ 2) result }
 {
     if kind_at(s, start) == codes::PLAIN {
         let mut at = start;

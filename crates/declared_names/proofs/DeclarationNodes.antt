@@ -9,7 +9,7 @@ use lib.Dec.{eqb, leb}
 use lib.ListN.{length, drop, get_or, set, length-drop, length-append}
 use lib.Seq.{get_or-drop, drop-drop, drop_at}
 use borrow.Author.Tests.{ne_eqb, leb-true}
-use Rattle.form.specs.Tree.{TypeForm, givenType, powerType, range_type, arrow_type, relation, partial, total}
+use Rattle.form.specs.Tree.{TypeForm, given_type, power_type, range_type, arrow_type, relation, partial, total}
 use Rattle.form.specs.Codes.{Numbering, node, name_number, end_number, end_width, arrow_number, type_codes, type_width}
 use Rattle.type_rules.specs.TypesByNumber.{Names, Sizes, entry, is_free, lesser, inside_key, is_given, element_of, set_of, pair_of, key, unless_key, range_fits, product_fits, over_key, domain_key}
 use Rattle.declared_names.specs.NamesByNumber.{Typed, typed_codes, type_kind, type_key, shown, hidden, declared_key}
@@ -31,33 +31,33 @@ module _ (code : List ℕ) (at k i a b : ℕ) (rest : List ℕ) (e : drop at cod
 
 -- the node of a type
 abbrev pub shape_of : TypeForm → ℕ
-shape_of (givenType g) = 1
+shape_of (given_type g) = 1
 shape_of (range_type r) = 2
-shape_of (powerType g) = 3
+shape_of (power_type g) = 3
 shape_of (arrow_type a g h) = arrow_number a
 
 abbrev pub place_of : TypeForm → ℕ → ℕ
-place_of (givenType g) i = i
+place_of (given_type g) i = i
 place_of (range_type r) i = i + end_width r.lower
-place_of (powerType g) i = i
+place_of (power_type g) i = i
 place_of (arrow_type a g h) i = i
 
 abbrev pub left_of : TypeForm → Numbering → ℕ
-left_of (givenType g) ρ = name_number ρ g
+left_of (given_type g) ρ = name_number ρ g
 left_of (range_type r) ρ = end_number r.lower
-left_of (powerType g) ρ = name_number ρ g
+left_of (power_type g) ρ = name_number ρ g
 left_of (arrow_type a g h) ρ = name_number ρ g
 
 abbrev pub right_of : TypeForm → Numbering → ℕ
-right_of (givenType g) ρ = 0
+right_of (given_type g) ρ = 0
 right_of (range_type r) ρ = end_number r.upper
-right_of (powerType g) ρ = 0
+right_of (power_type g) ρ = 0
 right_of (arrow_type a g h) ρ = name_number ρ h
 
 pub as-node : (t : TypeForm) (i : ℕ) (ρ : Numbering) → type_codes t i ρ ≡ node (shape_of t) (place_of t i) (left_of t ρ) (right_of t ρ)
-as-node (givenType g) i ρ = refl
+as-node (given_type g) i ρ = refl
 as-node (range_type r) i ρ = refl
-as-node (powerType g) i ρ = refl
+as-node (power_type g) i ρ = refl
 as-node (arrow_type a g h) i ρ = refl
 
 -- kind and fault of a type by the numbers of its node
@@ -71,9 +71,9 @@ key_by s i a b x y z =
 
 kind-by : (t : TypeForm) (T : Names) (ρ : Numbering) → kind_by (shape_of t) (entry T (left_of t ρ)) (entry T (right_of t ρ)) ≡ type_kind t T ρ
 unfolding kind_by type_kind
-kind-by (givenType g) T ρ = refl
+kind-by (given_type g) T ρ = refl
 kind-by (range_type r) T ρ = refl
-kind-by (powerType g) T ρ = refl
+kind-by (power_type g) T ρ = refl
 kind-by (arrow_type relation g h) T ρ = refl
 kind-by (arrow_type partial g h) T ρ = refl
 kind-by (arrow_type total g h) T ρ = refl
@@ -81,9 +81,9 @@ kind-by (arrow_type total g h) T ρ = refl
 key-by : (t : TypeForm) (T : Names) (ρ : Numbering) (z : Sizes) (i : ℕ)
     → key_by (shape_of t) (place_of t i) (left_of t ρ) (right_of t ρ) (entry T (left_of t ρ)) (entry T (right_of t ρ)) z ≡ type_key t T ρ z i
 unfolding key_by type_key domain_key pairs_key_at
-key-by (givenType g) T ρ z i = refl
+key-by (given_type g) T ρ z i = refl
 key-by (range_type r) T ρ z i = refl
-key-by (powerType g) T ρ z i = refl
+key-by (power_type g) T ρ z i = refl
 key-by (arrow_type relation g h) T ρ z i = refl
 key-by (arrow_type partial g h) T ρ z i = refl
 key-by (arrow_type total g h) T ρ z i = refl

@@ -10,7 +10,7 @@ use lib.Dec.{ltb}
 use borrow.Author.Tests.{ltb-true, ltb-false}
 use lib.ListN.{length, drop, get_or, set, length-drop, length-append, length-map}
 use lib.Seq.{drop-drop, get_or-set_same, get_or-set_other}
-use Rattle.lexical.specs.Symbols.{noEnding}
+use Rattle.lexical.specs.Symbols.{no_ending}
 use Rattle.form.specs.Tree.{Letters, Given, elements}
 use Rattle.form.specs.Headings.{given_length}
 use Rattle.form.specs.Codes.{Numbering, node, number_of_name, element_codes, given_codes}
@@ -97,7 +97,7 @@ module _ (code : List ℕ) (at g g' : ℕ) (T U : Names) (z z' : Sizes) (ρ : Nu
     (put : U ≡ set T (get_or code (at + 1) 0) k) (f : ℕ) (here : GivenFaulted code at T f) (bound : (q : ℕ) → get_or target q 0 ≤ 8) (eight : length target ≤ 8) where
   -- the next node is an element's
   pub element-on : f ≡ 0 → (x : Letters) (es : List Letters) (gs : List Given) (j l : ℕ)
-      → drop at code ≡ node 4 j (number_of_name ρ x noEnding) 0 ++ (element_codes (suc j) es ρ ++ given_codes l gs ρ)
+      → drop at code ≡ node 4 j (number_of_name ρ x no_ending) 0 ++ (element_codes (suc j) es ρ ++ given_codes l gs ρ)
       → g + length gs ≡ length target → 1 ≤ g
       → inside_key (elements_key (x ∷ es) (15 + g) T ρ j) (givens_key gs g (elements_named (x ∷ es) (15 + g) T ρ) ρ l) ≡ fault
       → givens_named gs g (elements_named (x ∷ es) (15 + g) T ρ) ρ ≡ names
@@ -107,12 +107,12 @@ module _ (code : List ℕ) (at g g' : ℕ) (T U : Names) (z z' : Sizes) (ρ : Nu
       → Left code (at + 4) g' U z' ρ fault names target
   unfolding elements_key elements_named is_free
   element-on q x es gs j l e few begun faults named done last more =
-      let no = element-shape code at j (number_of_name ρ x noEnding) 0 (element_codes (suc j) es ρ ++ given_codes l gs ρ) e in
+      let no = element-shape code at j (number_of_name ρ x no_ending) 0 (element_codes (suc j) es ρ ++ given_codes l gs ρ) e in
       let same : g' ≡ g = count.element no in
-      let a = node-a code at 4 j (number_of_name ρ x noEnding) 0 (element_codes (suc j) es ρ ++ given_codes l gs ρ) e in
-      let p = node-place code at 4 j (number_of_name ρ x noEnding) 0 (element_codes (suc j) es ρ ++ given_codes l gs ρ) e in
-      let u : U ≡ set T (number_of_name ρ x noEnding) (15 + g) = put ∙ ap₂ (λ (n m : ℕ). set T n m) a (kind.element no ∙ ap (λ (n : ℕ). 15 + n) same) in
-      let free : unless_key (is_free (entry T (number_of_name ρ x noEnding))) (key j 8) ≡ 0 = sym (here.element no ∙ ap₂ (λ (n m : ℕ). unless_key (is_free (entry T n)) (key m 8)) a p) ∙ q in
+      let a = node-a code at 4 j (number_of_name ρ x no_ending) 0 (element_codes (suc j) es ρ ++ given_codes l gs ρ) e in
+      let p = node-place code at 4 j (number_of_name ρ x no_ending) 0 (element_codes (suc j) es ρ ++ given_codes l gs ρ) e in
+      let u : U ≡ set T (number_of_name ρ x no_ending) (15 + g) = put ∙ ap₂ (λ (n m : ℕ). set T n m) a (kind.element no ∙ ap (λ (n : ℕ). 15 + n) same) in
+      let free : unless_key (is_free (entry T (number_of_name ρ x no_ending))) (key j 8) ≡ 0 = sym (here.element no ∙ ap₂ (λ (n m : ℕ). unless_key (is_free (entry T n)) (key m 8)) a p) ∙ q in
       let b = bound (g - 1) in
       let z₁ : z' ≡ set z (g - 1) (get_or z (g - 1) 0 + 1) = (rw same at (size.element no (omega arith) (rw same (omega arith)))) in
       record {
@@ -120,13 +120,13 @@ module _ (code : List ℕ) (at g g' : ℕ) (T U : Names) (z z' : Sizes) (ρ : Nu
         gs = gs;
         j = suc j;
         l = l;
-        here = behind code at 4 j (number_of_name ρ x noEnding) 0 (element_codes (suc j) es ρ ++ given_codes l gs ρ) e;
+        here = behind code at 4 j (number_of_name ρ x no_ending) 0 (element_codes (suc j) es ρ ++ given_codes l gs ρ) e;
         few = rw same few;
         begun = λ h. omega arith;
         faults =
             rw same
             (ap (λ (t : Names). inside_key (elements_key es (15 + g) t ρ (suc j)) (givens_key gs g (elements_named es (15 + g) t ρ) ρ l)) u
-            ∙ (sym (ap (λ (n : ℕ). inside_key n (givens_key gs g (elements_named (x ∷ es) (15 + g) T ρ) ρ l)) (inside-none (unless_key (is_free (entry T (number_of_name ρ x noEnding))) (key j 8)) (elements_key es (15 + g) (set T (number_of_name ρ x noEnding) (15 + g)) ρ (suc j)) free)) ∙ faults));
+            ∙ (sym (ap (λ (n : ℕ). inside_key n (givens_key gs g (elements_named (x ∷ es) (15 + g) T ρ) ρ l)) (inside-none (unless_key (is_free (entry T (number_of_name ρ x no_ending))) (key j 8)) (elements_key es (15 + g) (set T (number_of_name ρ x no_ending) (15 + g)) ρ (suc j)) free)) ∙ faults));
         named = rw (same, u) named;
         done = λ n h. rw z₁ (get_or-set_other z (g - 1) n (get_or z (g - 1) 0 + 1) 0 (λ w. apart n h w) ∙ done n (omega arith));
         last = λ h. rw (same, z₁, get_or-set_same z (g - 1) (get_or z (g - 1) 0 + 1) 0 (omega arith)) (grown ∙ last);
@@ -134,14 +134,14 @@ module _ (code : List ℕ) (at g g' : ℕ) (T U : Names) (z z' : Sizes) (ρ : Nu
       }
     where
       apart : (n : ℕ) → n + 1 < g' → n ≡ g - 1 → ⊥
-      apart n h w = let same = count.element (element-shape code at j (number_of_name ρ x noEnding) 0 (element_codes (suc j) es ρ ++ given_codes l gs ρ) e) in omega arith
+      apart n h w = let same = count.element (element-shape code at j (number_of_name ρ x no_ending) 0 (element_codes (suc j) es ρ ++ given_codes l gs ρ) e) in omega arith
 
       grown : get_or z (g - 1) 0 + 1 + length es ≡ get_or z (g - 1) 0 + suc (length es)
       grown = omega arith
 
   -- the next node is a title's
   pub title-on : f ≡ 0 → (x : Given) (gs : List Given) (l : ℕ)
-      → drop at code ≡ node 3 l (number_of_name ρ x.title noEnding) 0 ++ (element_codes (l + 2) (elements x) ρ ++ given_codes (l + given_length x) gs ρ)
+      → drop at code ≡ node 3 l (number_of_name ρ x.title no_ending) 0 ++ (element_codes (l + 2) (elements x) ρ ++ given_codes (l + given_length x) gs ρ)
       → g + suc (length gs) ≡ length target
       → givens_key (x ∷ gs) g T ρ l ≡ fault
       → givens_named (x ∷ gs) g T ρ ≡ names
@@ -152,15 +152,15 @@ module _ (code : List ℕ) (at g g' : ℕ) (T U : Names) (z z' : Sizes) (ρ : Nu
   unfolding givens_key givens_named is_free
   title-on q x gs l e few faults named done last more =
       let rest = element_codes (l + 2) (elements x) ρ ++ given_codes (l + given_length x) gs ρ in
-      let yes : get_or code (at + 3) 0 ≡ 3 = node-shape code at 3 l (number_of_name ρ x.title noEnding) 0 rest e in
+      let yes : get_or code (at + 3) 0 ≡ 3 = node-shape code at 3 l (number_of_name ρ x.title no_ending) 0 rest e in
       let up : g' ≡ g + 1 = count.title yes (omega arith) in
       let one : g' ≡ suc g = up ∙ add-one g in
-      let a = node-a code at 3 l (number_of_name ρ x.title noEnding) 0 rest e in
-      let p = node-place code at 3 l (number_of_name ρ x.title noEnding) 0 rest e in
+      let a = node-a code at 3 l (number_of_name ρ x.title no_ending) 0 rest e in
+      let p = node-place code at 3 l (number_of_name ρ x.title no_ending) 0 rest e in
       let first : 7 + g' ≡ 8 + g = omega arith in
       let second : 15 + g' ≡ 16 + g = omega arith in
-      let u : U ≡ set T (number_of_name ρ x.title noEnding) (8 + g) = put ∙ ap₂ (λ (n m : ℕ). set T n m) a (kind.title yes ∙ first) in
-      let free : unless_key (is_free (entry T (number_of_name ρ x.title noEnding))) (key (l + 1) 8) ≡ 0 = sym (here.title yes ∙ ap₂ (λ (n m : ℕ). unless_key (is_free (entry T n)) (key (m + 1) 8)) a p) ∙ q in
+      let u : U ≡ set T (number_of_name ρ x.title no_ending) (8 + g) = put ∙ ap₂ (λ (n m : ℕ). set T n m) a (kind.title yes ∙ first) in
+      let free : unless_key (is_free (entry T (number_of_name ρ x.title no_ending))) (key (l + 1) 8) ≡ 0 = sym (here.title yes ∙ ap₂ (λ (n m : ℕ). unless_key (is_free (entry T n)) (key (m + 1) 8)) a p) ∙ q in
       let less : g' - 1 ≡ g = omega arith in
       let z₁ : z' ≡ set z g 0 = (rw less at (size.title yes (omega arith))) in
       record {
@@ -168,12 +168,12 @@ module _ (code : List ℕ) (at g g' : ℕ) (T U : Names) (z z' : Sizes) (ρ : Nu
         gs = gs;
         j = l + 2;
         l = l + given_length x;
-        here = behind code at 3 l (number_of_name ρ x.title noEnding) 0 rest e;
+        here = behind code at 3 l (number_of_name ρ x.title no_ending) 0 rest e;
         few = omega arith;
         begun = λ h. omega arith;
         faults =
             rw (second, one, u)
-            (sym (inside-none (unless_key (is_free (entry T (number_of_name ρ x.title noEnding))) (key (l + 1) 8)) _ free) ∙ faults);
+            (sym (inside-none (unless_key (is_free (entry T (number_of_name ρ x.title no_ending))) (key (l + 1) 8)) _ free) ∙ faults);
         named = rw (second, one, u) named;
         done = λ n h. rw z₁ (get_or-set_other z g n 0 0 (λ w. omega arith) ∙ before g target z done last n (omega arith));
         last = λ h. rw (less, z₁, get_or-set_same z g 0 0 (omega arith)) (zero-add (size_of x) ∙ (more 0 ∙ ap (λ (n : ℕ). get_or target n 0) (add-zero g)));
@@ -214,16 +214,16 @@ module _ (code : List ℕ) (at g : ℕ) (T : Names) (z : Sizes) (ρ : Numbering)
   halting f room here n [] [] j l e faults = elim (nothing_left code at room e) [ ]
   halting f room here n [] (x ∷ gs) j l e faults =
       let rest = element_codes (l + 2) (elements x) ρ ++ given_codes (l + given_length x) gs ρ in
-      let a = node-a code at 3 l (number_of_name ρ x.title noEnding) 0 rest e in
-      let p = node-place code at 3 l (number_of_name ρ x.title noEnding) 0 rest e in
-      let d : f ≡ unless_key (is_free (entry T (number_of_name ρ x.title noEnding))) (key (l + 1) 8) = here.title (node-shape code at 3 l (number_of_name ρ x.title noEnding) 0 rest e) ∙ ap₂ (λ (n m : ℕ). unless_key (is_free (entry T n)) (key (m + 1) 8)) a p in
-      (d ∙ sym (inside-some (unless_key (is_free (entry T (number_of_name ρ x.title noEnding))) (key (l + 1) 8)) (inside_key (elements_key (elements x) (16 + g) (set T (number_of_name ρ x.title noEnding) (8 + g)) ρ (l + 2)) (givens_key gs (suc g) (elements_named (elements x) (16 + g) (set T (number_of_name ρ x.title noEnding) (8 + g)) ρ) ρ (l + given_length x))) (λ w. n (d ∙ w)))) ∙ faults
+      let a = node-a code at 3 l (number_of_name ρ x.title no_ending) 0 rest e in
+      let p = node-place code at 3 l (number_of_name ρ x.title no_ending) 0 rest e in
+      let d : f ≡ unless_key (is_free (entry T (number_of_name ρ x.title no_ending))) (key (l + 1) 8) = here.title (node-shape code at 3 l (number_of_name ρ x.title no_ending) 0 rest e) ∙ ap₂ (λ (n m : ℕ). unless_key (is_free (entry T n)) (key (m + 1) 8)) a p in
+      (d ∙ sym (inside-some (unless_key (is_free (entry T (number_of_name ρ x.title no_ending))) (key (l + 1) 8)) (inside_key (elements_key (elements x) (16 + g) (set T (number_of_name ρ x.title no_ending) (8 + g)) ρ (l + 2)) (givens_key gs (suc g) (elements_named (elements x) (16 + g) (set T (number_of_name ρ x.title no_ending) (8 + g)) ρ) ρ (l + given_length x))) (λ w. n (d ∙ w)))) ∙ faults
   halting f room here n (x ∷ es) gs j l e faults =
       let rest = element_codes (suc j) es ρ ++ given_codes l gs ρ in
-      let a = node-a code at 4 j (number_of_name ρ x noEnding) 0 rest e in
-      let p = node-place code at 4 j (number_of_name ρ x noEnding) 0 rest e in
-      let d : f ≡ unless_key (is_free (entry T (number_of_name ρ x noEnding))) (key j 8) = here.element (element-shape code at j (number_of_name ρ x noEnding) 0 rest e) ∙ ap₂ (λ (n m : ℕ). unless_key (is_free (entry T n)) (key m 8)) a p in
-      let s : inside_key (unless_key (is_free (entry T (number_of_name ρ x noEnding))) (key j 8)) (elements_key es (15 + g) (set T (number_of_name ρ x noEnding) (15 + g)) ρ (suc j)) ≡ f = inside-some (unless_key (is_free (entry T (number_of_name ρ x noEnding))) (key j 8)) (elements_key es (15 + g) (set T (number_of_name ρ x noEnding) (15 + g)) ρ (suc j)) (λ w. n (d ∙ w)) ∙ sym d in
+      let a = node-a code at 4 j (number_of_name ρ x no_ending) 0 rest e in
+      let p = node-place code at 4 j (number_of_name ρ x no_ending) 0 rest e in
+      let d : f ≡ unless_key (is_free (entry T (number_of_name ρ x no_ending))) (key j 8) = here.element (element-shape code at j (number_of_name ρ x no_ending) 0 rest e) ∙ ap₂ (λ (n m : ℕ). unless_key (is_free (entry T n)) (key m 8)) a p in
+      let s : inside_key (unless_key (is_free (entry T (number_of_name ρ x no_ending))) (key j 8)) (elements_key es (15 + g) (set T (number_of_name ρ x no_ending) (15 + g)) ρ (suc j)) ≡ f = inside-some (unless_key (is_free (entry T (number_of_name ρ x no_ending))) (key j 8)) (elements_key es (15 + g) (set T (number_of_name ρ x no_ending) (15 + g)) ρ (suc j)) (λ w. n (d ∙ w)) ∙ sym d in
       sym (inside-some f (givens_key gs g (elements_named (x ∷ es) (15 + g) T ρ) ρ l) n) ∙ (sym (ap (λ (m : ℕ). inside_key m (givens_key gs g (elements_named (x ∷ es) (15 + g) T ρ) ρ l)) s) ∙ faults)
 
   pub halt : (f : ℕ) → at + 4 ≤ length code → GivenFaulted code at T f → (f ≡ 0 → ⊥) → Left code at g T z ρ fault names target → f ≡ fault
@@ -250,9 +250,9 @@ module _ (code : List ℕ) (at g : ℕ) (T : Names) (z : Sizes) (ρ : Numbering)
   ending room [] [] j l e few faults named done last =
       record { faultless = faults; all_named = named; all_sized = λ q h. before g target z done last q (omega arith) }
   ending room [] (x ∷ gs) j l e few faults named done last =
-      elim (no_more 3 l (number_of_name ρ x.title noEnding) 0 (element_codes (l + 2) (elements x) ρ ++ given_codes (l + given_length x) gs ρ) room e) [ ]
+      elim (no_more 3 l (number_of_name ρ x.title no_ending) 0 (element_codes (l + 2) (elements x) ρ ++ given_codes (l + given_length x) gs ρ) room e) [ ]
   ending room (x ∷ es) gs j l e few faults named done last =
-      elim (no_more 4 j (number_of_name ρ x noEnding) 0 (element_codes (suc j) es ρ ++ given_codes l gs ρ) room e) [ ]
+      elim (no_more 4 j (number_of_name ρ x no_ending) 0 (element_codes (suc j) es ρ ++ given_codes l gs ρ) room e) [ ]
 
   pub ended : length code < at + 4 → Left code at g T z ρ fault names target → Ended
   ended room r = ending room r.es r.gs r.j r.l r.here r.few r.faults r.named r.done r.last

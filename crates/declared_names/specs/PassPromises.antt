@@ -4,7 +4,7 @@ use Rattle.std.specs.Prelude.{◌≡◌, List, [], ◌++◌, map, ℕ, suc, ◌+
 use Rattle.form.specs.Tree.{TypeForm, Declaration, declarations, Given, State, Operation, Pred, Dossier}
 use Rattle.form.specs.Codes.{Numbering, node, name_number, number_of_name, type_codes, given_codes, pred_width, abstractly_at, declaration_codes, parameter_codes, condition_codes, state_codes, operation_codes}
 use Rattle.form.specs.Headings.{givens_at, abstract_at, concrete_at, ainit_at, cinit_at, retrieve_at, operations_at}
-use Rattle.lexical.specs.Symbols.{noEnding}
+use Rattle.lexical.specs.Symbols.{no_ending}
 use Rattle.static_rules.specs.Carriers.{size_of}
 use Rattle.type_rules.specs.TypesByNumber.{Names, Sizes, entry, is_free, is_given, key, unless_key, lesser, inside_key, over_key, pred_key}
 use Rattle.declared_names.specs.NamesByNumber.{Typed, typed_codes, type_kind, type_key, shown, hidden, declared_key, givens_key, givens_named, state_key, state_named, reaching, leaving, operation_key, operation_named, operations_key, conditions_key, conditions_named, dossier_key}
@@ -88,7 +88,7 @@ pub record PredicateEnd (code : List ℕ) (at r : ℕ) : Type 0 where
 
 abbrev pub operation_code : (i : ℕ) → Operation → Numbering → List ℕ
 operation_code i o ρ =
-    node 8 i (number_of_name ρ o.title noEnding) 0
+    node 8 i (number_of_name ρ o.title no_ending) 0
     ++ (parameter_codes (i + 2) o.parameters ρ
     ++ (condition_codes (abstractly_at i o) o.abstractly ρ ++ condition_codes (suc (abstractly_at i o) + pred_width o.abstractly) o.concretely ρ))
 

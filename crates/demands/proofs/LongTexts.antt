@@ -9,15 +9,15 @@ use borrow.Author.Tests.{lt-ltb}
 use lib.ListN.{length, take}
 use lib.Seq.{length-take-le, take_all}
 use Rattle.lexical.specs.Symbols.{length_faults}
-use Rattle.lexical.specs.Refusals.{fault, lesser, least, longText}
+use Rattle.lexical.specs.Refusals.{fault, lesser, least, long_text}
 use Rattle.form.specs.Tree.{Dossier}
 use Rattle.static_rules.specs.Read.{Reading, refusal, reading, pass, read_symbols, read}
 use Rattle.obligations.specs.Report.{reported, report}
 
 -- 1. "Text over 32,768 bytes; place 32,768."
-pub long-read : (t : List ℕ) → 32768 < length t → read t ≡ refusal (fault 32768 longText)
+pub long-read : (t : List ℕ) → 32768 < length t → read t ≡ refusal (fault 32768 long_text)
 unfolding read length_faults least lesser
-long-read t h = ap (λ (x : Bool). pass (least (cond x (fault 32768 longText ∷ []) [])) (read_symbols t)) (lt-ltb 32768 (length t) h)
+long-read t h = ap (λ (x : Bool). pass (least (cond x (fault 32768 long_text ∷ []) [])) (read_symbols t)) (lt-ltb 32768 (length t) h)
 
 abbrev IsRefusal : Reading → Type 0
 IsRefusal (refusal f) = Unit {0}

@@ -4,43 +4,43 @@ use mathlib.Core.Bool.{true, false}
 use mathlib.Core.List.{List, [], ◌∷◌}
 use Prim.Native.Nat.{ℕ}
 use lib.Dec.{eqb}
-use Rattle.lexical.specs.Refusals.{Refusal, longText, unlistedSymbol, manySymbols, noDossier, deep, manyDeclared, headingDiffers, nameInUse, nameUnknown, typesMisfit, wideType, manyBindings, largeSize, zeroDivisor}
-use Rattle.lexical.specs.Refusals.{advanceRange, shortBytes, nothingHeld, somethingHeld, checkFinished, noCounterexample, number_of, fault}
+use Rattle.lexical.specs.Refusals.{Refusal, long_text, unlisted_symbol, many_symbols, no_dossier, deep, many_declared, heading_differs, name_in_use, name_unknown, types_misfit, wide_type, many_bindings, large_size, zero_divisor}
+use Rattle.lexical.specs.Refusals.{advance_range, short_bytes, nothing_held, something_held, check_finished, no_counterexample, number_of, fault}
 use Rattle.obligations.specs.Calls as calls
 use Rattle.held_checks.specs.Answers.{Answer, refused, refused_at, loaded, dropped, looked, verdict_is, written, answer_to}
 
 -- the refusal of a number: the first in the table that has it
 unfoldable numbered : (n : ℕ) → List Refusal → Refusal
-numbered n [] = longText
+numbered n [] = long_text
 numbered n (r ∷ rs) = elim (eqb (number_of r) n) [ true ↦ r | false ↦ numbered n rs ]
 
 abbrev every_refusal : List Refusal
 every_refusal =
-    longText ∷ unlistedSymbol ∷ manySymbols ∷ noDossier ∷ deep ∷ manyDeclared ∷ headingDiffers ∷ nameInUse ∷ nameUnknown ∷ typesMisfit ∷ wideType ∷ manyBindings ∷ largeSize ∷ zeroDivisor
-    ∷ advanceRange ∷ shortBytes ∷ nothingHeld ∷ somethingHeld ∷ checkFinished ∷ noCounterexample ∷ []
+    long_text ∷ unlisted_symbol ∷ many_symbols ∷ no_dossier ∷ deep ∷ many_declared ∷ heading_differs ∷ name_in_use ∷ name_unknown ∷ types_misfit ∷ wide_type ∷ many_bindings ∷ large_size ∷ zero_divisor
+    ∷ advance_range ∷ short_bytes ∷ nothing_held ∷ something_held ∷ check_finished ∷ no_counterexample ∷ []
 
 numbered-back : (r : Refusal) → numbered (number_of r) every_refusal ≡ r
 unfolding numbered number_of
-numbered-back longText = refl
-numbered-back unlistedSymbol = refl
-numbered-back manySymbols = refl
-numbered-back noDossier = refl
+numbered-back long_text = refl
+numbered-back unlisted_symbol = refl
+numbered-back many_symbols = refl
+numbered-back no_dossier = refl
 numbered-back deep = refl
-numbered-back manyDeclared = refl
-numbered-back headingDiffers = refl
-numbered-back nameInUse = refl
-numbered-back nameUnknown = refl
-numbered-back typesMisfit = refl
-numbered-back wideType = refl
-numbered-back manyBindings = refl
-numbered-back largeSize = refl
-numbered-back zeroDivisor = refl
-numbered-back advanceRange = refl
-numbered-back shortBytes = refl
-numbered-back nothingHeld = refl
-numbered-back somethingHeld = refl
-numbered-back checkFinished = refl
-numbered-back noCounterexample = refl
+numbered-back many_declared = refl
+numbered-back heading_differs = refl
+numbered-back name_in_use = refl
+numbered-back name_unknown = refl
+numbered-back types_misfit = refl
+numbered-back wide_type = refl
+numbered-back many_bindings = refl
+numbered-back large_size = refl
+numbered-back zero_divisor = refl
+numbered-back advance_range = refl
+numbered-back short_bytes = refl
+numbered-back nothing_held = refl
+numbered-back something_held = refl
+numbered-back check_finished = refl
+numbered-back no_counterexample = refl
 
 -- the reply of an answer
 abbrev reply_of : Answer → calls.Reply

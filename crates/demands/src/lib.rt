@@ -1,3 +1,2 @@
 // The demands over the calls: theorems alone.
 #![tactic(auto)]
-

@@ -9,7 +9,7 @@ use lib.ListN.{get_or}
 use lib.IntN.{ℤ, pos, ◌-ℤ◌}
 use Rattle.sets.specs.Sets as sets
 use Rattle.meaning.specs.Values.{natural}
-use Rattle.form.specs.Tree.{Membership, isIn, notIn}
+use Rattle.form.specs.Tree.{Membership, is_in, not_in}
 use Rattle.table_nodes.specs.TableByNumber.{related_shape}
 use Rattle.evaluation.specs.OperatorsByNumber.{Small, IsPlace, IsBits, prefixed, PrefixTakes, divided, operated, OperatorTakes, compared, connected, asked, in_range}
 use Rattle.evaluation.specs.EvaluationByNumber.{Values, second_at, end_at, low_at, count_at, Inside, Terms, Truths, Part, Bound, Pair, pair_code, TermNode, ItemsNode, TruthNode, AskedNode, quantified}
@@ -233,5 +233,5 @@ module _ (T : Terms) (P : Truths) (t : List ℕ) (e : ℕ) (σ : Values) (i x y 
   pub related-node : (o : Membership) → Node t e (related_shape o) i x y → i < e → y < e → T i σ u → T y σ v → T (e - 4) σ w → Pair x u v → IsBits w
       → b ≡ asked (eqb (related_shape o) 22) (sets.has (natural w) (natural (pair_code x u v))) → TruthNode T P t e σ b
   unfolding TruthNode AskedNode
-  related-node isIn n l m p r o h k q = rw (TruthNode, n.shape_is) (related 22 n l m p r o h k q)
-  related-node notIn n l m p r o h k q = rw (TruthNode, n.shape_is) (related 23 n l m p r o h k q)
+  related-node is_in n l m p r o h k q = rw (TruthNode, n.shape_is) (related 22 n l m p r o h k q)
+  related-node not_in n l m p r o h k q = rw (TruthNode, n.shape_is) (related 23 n l m p r o h k q)

@@ -9,7 +9,7 @@ use lib.IntN.{ℤ}
 use Rattle.lexical.specs.Kinds.{code_of}
 use Rattle.lexical.specs.Lists.{all, any, count, upward}
 use Rattle.form.specs.Tree.{End, Operator, plus, minus, union, without, times, inter, Division, quotient, remainder, Comparison, equals, differs, less, at_most}
-use Rattle.form.specs.Tree.{Membership, isIn, notIn, Connective, and, or, implies, iff, Quantifier, forall, exists, exists1}
+use Rattle.form.specs.Tree.{Membership, is_in, not_in, Connective, and, or, implies, iff, Quantifier, forall, exists, exists1}
 use Rattle.form.specs.Written.{operator_kind, connective_kind, quantifier_kind, comparison_kind, membership_kind}
 use Rattle.form.specs.Codes.{sign_of, division_number}
 use Rattle.static_rules.specs.Carriers.{end_value}
@@ -66,12 +66,12 @@ connectives-agree iff false q = refl
 -- in and notin, by the symbol or by the shape of the node
 pub memberships-agree : (o : Membership) (b : Bool) → val.asked o b ≡ asked (eqb (code_of (membership_kind o)) 56) b
 unfolding code_of
-memberships-agree isIn b = refl
-memberships-agree notIn b = refl
+memberships-agree is_in b = refl
+memberships-agree not_in b = refl
 
 pub relations-agree : (o : Membership) (b : Bool) → val.asked o b ≡ asked (eqb (related_shape o) 22) b
-relations-agree isIn b = refl
-relations-agree notIn b = refl
+relations-agree is_in b = refl
+relations-agree not_in b = refl
 
 -- ---- quantifiers: the values of a list, by their numbers
 

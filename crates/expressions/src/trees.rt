@@ -1,10 +1,10 @@
 // Terms and predicates: numbers 4 and 5 of document 01, and the nodes of their trees.
 ghost use Rattle.std.specs.Prelude.{◌≡◌, [], ◌∷◌, ℕ, ◌+◌, ◌-◌, ◌*◌, ◌≤◌, ◌<◌, length, get_or};
 ghost use Rattle.lexical.specs.Kinds as kind;
-ghost use Rattle.form.specs.Machine.{exact, aTerm, anOperand, aTermRest, aRel, aMem, aRight, aBrace, aList, aPairs, aUnary, aParen, a_pred_rest};
+ghost use Rattle.form.specs.Machine.{exact, a_term, an_operand, a_term_rest, a_rel, a_mem, a_right, a_brace, a_list, a_pairs, a_unary, a_paren, a_pred_rest};
 ghost use Rattle.form_nodes.specs.FormPromises.{Reads, TermReads, PredReads, Room, Ahead, Classes, operators, connectives, level_of};
 ghost use Rattle.declarations.specs.DossierPromises.{More};
-ghost use Rattle.form_nodes.specs.Derivations.{Made, anOperand, aTermFrom, aTermRest, someItems, somePairs, aPredFrom, a_pred_rest, aUnary, anAtom, someRelated};
+ghost use Rattle.form_nodes.specs.Derivations.{Made, an_operand, a_term_from, a_term_rest, some_items, some_pairs, a_pred_from, a_pred_rest, a_unary, an_atom, some_related};
 
 use form::shapes;
 use form_nodes::kinds::{
@@ -39,7 +39,7 @@ fn connective_at(s: &[u8], at: usize) -> u8
 #[cycle(trees)]
 fn operand(s: &[u8], v: &[u16], at: usize, d: u8, b: u8, code: &mut [u16], n: usize) -> Read
     requires { Room s.now code.old at n × (d ≤ 24) × (b ≤ 3) }
-    ensures { Reads s.now at n (anOperand d b ∷ []) [] result × Made s.now v.now anOperand at n code.old code.new result }
+    ensures { Reads s.now at n (an_operand d b ∷ []) [] result × Made s.now v.now an_operand at n code.old code.new result }
 {
     let k = kind_at(s, at);
     let start = start_of(k);
@@ -88,7 +88,7 @@ fn operand(s: &[u8], v: &[u16], at: usize, d: u8, b: u8, code: &mut [u16], n: us
 #[cycle(trees)]
 fn term(s: &[u8], v: &[u16], at: usize, d: u8, b: u8, code: &mut [u16], n: usize) -> Read
     requires { Room s.now code.old at n × (d ≤ 24) × (b ≤ 3) }
-    ensures { Reads s.now at n (aTerm d b ∷ []) [] result × Made s.now v.now (aTermFrom 1) at n code.old code.new result }
+    ensures { Reads s.now at n (a_term d b ∷ []) [] result × Made s.now v.now (a_term_from 1) at n code.old code.new result }
 {
     term_from(s, v, at, d, b, kinds::LOOSE, code, n)
 }
@@ -106,7 +106,7 @@ fn term_from(
     n: usize,
 ) -> Read
     requires { Room s.now code.old at n × (d ≤ 24) × (b ≤ 3) × (1 ≤ min) × (min ≤ 10) }
-    ensures { TermReads s.now at n d b min (aTerm d b ∷ []) result × Made s.now v.now (aTermFrom min) at n code.old code.new result }
+    ensures { TermReads s.now at n d b min (a_term d b ∷ []) result × Made s.now v.now (a_term_from min) at n code.old code.new result }
 {
     match operand(s, v, at, d, b, code, n) {
         Read::At(e, m) => term_rest(s, v, e, d, b, min, code, m),
@@ -127,7 +127,7 @@ fn term_rest(
     n: usize,
 ) -> Read
     requires { Room s.now code.old at n × (d ≤ 24) × (b ≤ 3) × (1 ≤ min) × (min ≤ 10) }
-    ensures { TermReads s.now at n d b min (aTermRest d b ∷ []) result × Made s.now v.now (aTermRest min) at n code.old code.new result }
+    ensures { TermReads s.now at n d b min (a_term_rest d b ∷ []) result × Made s.now v.now (a_term_rest min) at n code.old code.new result }
 {
     let mut e = at;
     let mut m = n;
@@ -158,7 +158,7 @@ fn term_more(
     n: usize,
 ) -> Read
     requires { Room s.now code.old at n × (d ≤ 24) × (b ≤ 3) × (1 ≤ o) × (at < length s.now) × Classes operators (get_or s.now at 0) o }
-    ensures { Reads s.now at n (aTermRest d b ∷ []) (aTermRest d b ∷ []) result × Ahead at result × ((min : ℕ) → min ≤ level_of o → More s.now v.now (aTermRest min) at n code.old code.new result) }
+    ensures { Reads s.now at n (a_term_rest d b ∷ []) (a_term_rest d b ∷ []) result × Ahead at result × ((min : ℕ) → min ≤ level_of o → More s.now v.now (a_term_rest min) at n code.old code.new result) }
 {
     if kinds::DIVIDES <= o {
         return match end(s, at + 1, n) {
@@ -185,7 +185,7 @@ fn term_more(
 #[cycle(trees)]
 fn brace(s: &[u8], v: &[u16], at: usize, d: u8, b: u8, code: &mut [u16], n: usize) -> Read
     requires { Room s.now code.old at n × (d ≤ 24) × (b ≤ 3) × (at < length s.now) × (get_or s.now at 0 ≡ 19) }
-    ensures { Reads s.now (at + 1) (n + 4) (aBrace d b ∷ []) [] result × Made s.now v.now anOperand at n code.old code.new result }
+    ensures { Reads s.now (at + 1) (n + 4) (a_brace d b ∷ []) [] result × Made s.now v.now an_operand at n code.old code.new result }
 {
     if kind_at(s, at + 1) == codes::PLAIN {
         if kind_at(s, at + 1 + 1) == codes::COLON {
@@ -200,7 +200,7 @@ fn brace(s: &[u8], v: &[u16], at: usize, d: u8, b: u8, code: &mut [u16], n: usiz
 #[cycle(trees)]
 fn listed(s: &[u8], v: &[u16], at: usize, d: u8, b: u8, code: &mut [u16], n: usize) -> Read
     requires { Room s.now code.old at n × (d ≤ 24) × (b ≤ 3) × (at < length s.now) × (get_or s.now at 0 ≡ 19) × (get_or s.now (at + 1) 0 ≡ 2 → get_or s.now (at + 1 + 1) 0 ≡ 10 → ⊥) }
-    ensures { Reads s.now (at + 1) (n + 4) (aBrace d b ∷ []) [] result × Made s.now v.now anOperand at n code.old code.new result }
+    ensures { Reads s.now (at + 1) (n + 4) (a_brace d b ∷ []) [] result × Made s.now v.now an_operand at n code.old code.new result }
 {
     match term(s, v, at + 1, d, b, code, n) {
         Read::At(e, m) => {
@@ -229,7 +229,7 @@ fn listed(s: &[u8], v: &[u16], at: usize, d: u8, b: u8, code: &mut [u16], n: usi
 #[cycle(trees)]
 fn such(s: &[u8], v: &[u16], at: usize, d: u8, b: u8, code: &mut [u16], n: usize) -> Read
     requires { Room s.now code.old at n × (d ≤ 24) × (b ≤ 3) × (at < length s.now) × (get_or s.now at 0 ≡ 19) × (get_or s.now (at + 1) 0 ≡ 2) × (get_or s.now (at + 1 + 1) 0 ≡ 10) }
-    ensures { Reads s.now (at + 1) (n + 4) (aBrace d b ∷ []) [] result × Made s.now v.now anOperand at n code.old code.new result }
+    ensures { Reads s.now (at + 1) (n + 4) (a_brace d b ∷ []) [] result × Made s.now v.now an_operand at n code.old code.new result }
 {
     if BOUND_NAMES <= b {
         return Read::Fault(at + 1, DEEP);
@@ -258,7 +258,7 @@ fn such(s: &[u8], v: &[u16], at: usize, d: u8, b: u8, code: &mut [u16], n: usize
 #[cycle(trees)]
 fn items(s: &[u8], v: &[u16], at: usize, d: u8, b: u8, code: &mut [u16], n: usize) -> Read
     requires { Room s.now code.old at n × (d ≤ 24) × (b ≤ 3) }
-    ensures { Reads s.now at n (aList d b ∷ []) [] result × Made s.now v.now someItems at n code.old code.new result }
+    ensures { Reads s.now at n (a_list d b ∷ []) [] result × Made s.now v.now some_items at n code.old code.new result }
 {
     let k = kind_at(s, at);
     if k == codes::CLOSE_BRACE {
@@ -284,7 +284,7 @@ fn items(s: &[u8], v: &[u16], at: usize, d: u8, b: u8, code: &mut [u16], n: usiz
 #[cycle(trees)]
 fn pairs(s: &[u8], v: &[u16], at: usize, d: u8, b: u8, code: &mut [u16], n: usize) -> Read
     requires { Room s.now code.old at n × (d ≤ 24) × (b ≤ 3) }
-    ensures { Reads s.now at n (exact kind.maplet ∷ aTerm d b ∷ aPairs d b ∷ []) [] result × Made s.now v.now somePairs at n code.old code.new result }
+    ensures { Reads s.now at n (exact kind.maplet ∷ a_term d b ∷ a_pairs d b ∷ []) [] result × Made s.now v.now some_pairs at n code.old code.new result }
 {
     match close(s, at, codes::MAPLET, n) {
         Read::At(a, z) => match term(s, v, a, d, b, code, n) {
@@ -317,7 +317,7 @@ fn pairs(s: &[u8], v: &[u16], at: usize, d: u8, b: u8, code: &mut [u16], n: usiz
 #[cycle(trees)]
 pub fn pred(s: &[u8], v: &[u16], at: usize, d: u8, b: u8, code: &mut [u16], n: usize) -> Read
     requires { Room s.now code.old at n × (d ≤ 24) × (b ≤ 3) }
-    ensures { Reads s.now at n (aUnary d b ∷ a_pred_rest d d b ∷ []) [] result × Made s.now v.now (aPredFrom 1) at n code.old code.new result }
+    ensures { Reads s.now at n (a_unary d b ∷ a_pred_rest d d b ∷ []) [] result × Made s.now v.now (a_pred_from 1) at n code.old code.new result }
 {
     pred_from(s, v, at, d, b, kinds::IFF_LEVEL, code, n)
 }
@@ -335,7 +335,7 @@ fn pred_from(
     n: usize,
 ) -> Read
     requires { Room s.now code.old at n × (d ≤ 24) × (b ≤ 3) × (1 ≤ min) × (min ≤ 10) }
-    ensures { PredReads s.now at n d b min (aUnary d b ∷ []) result × Made s.now v.now (aPredFrom min) at n code.old code.new result }
+    ensures { PredReads s.now at n d b min (a_unary d b ∷ []) result × Made s.now v.now (a_pred_from min) at n code.old code.new result }
 {
     match unary(s, v, at, d, b, code, n) {
         Read::At(e, m) => pred_rest(s, v, e, d, b, min, code, m),
@@ -415,7 +415,7 @@ fn pred_more(
 #[cycle(trees)]
 fn unary(s: &[u8], v: &[u16], at: usize, d: u8, b: u8, code: &mut [u16], n: usize) -> Read
     requires { Room s.now code.old at n × (d ≤ 24) × (b ≤ 3) }
-    ensures { Reads s.now at n (aUnary d b ∷ []) [] result × Made s.now v.now aUnary at n code.old code.new result }
+    ensures { Reads s.now at n (a_unary d b ∷ []) [] result × Made s.now v.now a_unary at n code.old code.new result }
 {
     let k = kind_at(s, at);
     let c = pred_start_of(k);
@@ -451,7 +451,7 @@ fn unary(s: &[u8], v: &[u16], at: usize, d: u8, b: u8, code: &mut [u16], n: usiz
 #[cycle(trees)]
 fn paren(s: &[u8], v: &[u16], at: usize, d: u8, b: u8, code: &mut [u16], n: usize) -> Read
     requires { Room s.now code.old at n × (d ≤ 24) × (b ≤ 3) × (at < length s.now) × (get_or s.now at 0 ≡ 15) }
-    ensures { Reads s.now (at + 1) (n + 4) (aParen d b ∷ []) [] result × Made s.now v.now aUnary at n code.old code.new result }
+    ensures { Reads s.now (at + 1) (n + 4) (a_paren d b ∷ []) [] result × Made s.now v.now a_unary at n code.old code.new result }
 {
     let k = kind_at(s, at + 1);
     let c = quantifier_of(k);
@@ -468,7 +468,7 @@ fn paren(s: &[u8], v: &[u16], at: usize, d: u8, b: u8, code: &mut [u16], n: usiz
 #[cycle(trees)]
 fn quantified(s: &[u8], v: &[u16], at: usize, d: u8, b: u8, code: &mut [u16], n: usize) -> Read
     requires { Room s.now code.old at n × (d ≤ 24) × (b ≤ 3) × (at + 1 < length s.now) × (53 ≤ get_or s.now (at + 1) 0) × (get_or s.now (at + 1) 0 ≤ 55) × (get_or s.now at 0 ≡ 15) }
-    ensures { Reads s.now (at + 1) (n + 4) (aParen d b ∷ []) [] result × Made s.now v.now aUnary at n code.old code.new result }
+    ensures { Reads s.now (at + 1) (n + 4) (a_paren d b ∷ []) [] result × Made s.now v.now a_unary at n code.old code.new result }
 {
     let x = at + 1 + 1;
     if kind_at(s, x) == codes::PLAIN {
@@ -502,7 +502,7 @@ fn quantified(s: &[u8], v: &[u16], at: usize, d: u8, b: u8, code: &mut [u16], n:
 #[cycle(trees)]
 fn atom(s: &[u8], v: &[u16], at: usize, d: u8, b: u8, code: &mut [u16], n: usize) -> Read
     requires { Room s.now code.old at n × (d ≤ 24) × (b ≤ 3) }
-    ensures { Reads s.now at n (aRel d b ∷ []) [] result × Made s.now v.now anAtom at n code.old code.new result }
+    ensures { Reads s.now at n (a_rel d b ∷ []) [] result × Made s.now v.now an_atom at n code.old code.new result }
 {
     let k = kind_at(s, at);
     let c = relation_of(k);
@@ -531,7 +531,7 @@ fn atom(s: &[u8], v: &[u16], at: usize, d: u8, b: u8, code: &mut [u16], n: usize
 #[cycle(trees)]
 fn member(s: &[u8], v: &[u16], at: usize, d: u8, b: u8, code: &mut [u16], n: usize) -> Read
     requires { Room s.now code.old at n × (d ≤ 24) × (b ≤ 3) × (at < length s.now) × (56 ≤ get_or s.now at 0) × (get_or s.now at 0 ≤ 57) }
-    ensures { Reads s.now (at + 1) (n + 4) (aRight d b ∷ []) [] result × Made s.now v.now anAtom at n code.old code.new result }
+    ensures { Reads s.now (at + 1) (n + 4) (a_right d b ∷ []) [] result × Made s.now v.now an_atom at n code.old code.new result }
 {
     let k = kind_at(s, at);
     if is_range(s, at + 1) {
@@ -557,7 +557,7 @@ fn member(s: &[u8], v: &[u16], at: usize, d: u8, b: u8, code: &mut [u16], n: usi
 #[cycle(trees)]
 fn related(s: &[u8], v: &[u16], at: usize, d: u8, b: u8, code: &mut [u16], n: usize) -> Read
     requires { Room s.now code.old at n × (d ≤ 24) × (b ≤ 3) }
-    ensures { Reads s.now at n (aMem d b ∷ []) [] result × Made s.now v.now someRelated at n code.old code.new result }
+    ensures { Reads s.now at n (a_mem d b ∷ []) [] result × Made s.now v.now some_related at n code.old code.new result }
 {
     let k = kind_at(s, at);
     let c = membership_of(k);

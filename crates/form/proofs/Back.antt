@@ -7,12 +7,12 @@ use Prim.Native.Nat.{ℕ, suc}
 use Rattle.lexical.specs.Kinds as kind
 use Rattle.lexical.specs.Kinds.{Kind, code_of, is, lookup}
 use Rattle.lexical.specs.Symbols as symbol
-use Rattle.lexical.specs.Symbols.{Name, noEnding, Symbol, fixed}
+use Rattle.lexical.specs.Symbols.{Name, no_ending, Symbol, fixed}
 use Rattle.form.specs.Tree as tree
 use Rattle.form.specs.Tree.{Letters, End, Connective, Quantifier, Given, Parameter, Operation, Declaration, State, Pred, Term, Dossier}
-use Rattle.form.specs.Written.{connective_kind, quantifier_kind, binds, aVariable, an_operation}
-use Rattle.form.specs.Machine.{Item, exact, a_declared, aName, anEmptyRest, anEnd, a_type, aTypeRest, aDomain, aDossier, aTerm, anOperand, aTermRest, aRel, aMem, aRight, aNeg, aNumRest}
-use Rattle.form.specs.Machine.{aBrace, aNamed, aFirst, aList, aPairs, aUnary, aParen, a_pred_rest, some_entries, someOpEntries, someBodies, someElements, someDeclarations, someOperations, some_parameters}
+use Rattle.form.specs.Written.{connective_kind, quantifier_kind, binds, a_variable, an_operation}
+use Rattle.form.specs.Machine.{Item, exact, a_declared, a_name, an_empty_rest, an_end, a_type, a_type_rest, a_domain, a_dossier, a_term, an_operand, a_term_rest, a_rel, a_mem, a_right, a_neg, a_num_rest}
+use Rattle.form.specs.Machine.{a_brace, a_named, a_first, a_list, a_pairs, a_unary, a_paren, a_pred_rest, some_entries, some_op_entries, some_bodies, some_elements, some_declarations, some_operations, some_parameters}
 use Rattle.form.specs.Machine.{Act, take, skip, stuck, then, starts, from_start, start_term, operate, start_pred, on_name, act, Start}
 use Rattle.form.proofs.Table.{by-table, Each, ◌&◌, Carried, symbol_of, ending_at}
 use Rattle.form.proofs.PlainSymbols.{plain_parameters, named, plain_term, plain_pred, plain_declarations, plain_domain, plain_state, plain_where, Bodies}
@@ -95,7 +95,7 @@ back-pred γ i ρ by d k s =
     & (λ c h. by (tree.negation h.0) h.1)
     & (λ c h. let g = by (parenthesised h.0) h.1 in (g.0, g.1 ∙ parenthesised-plain h.0 (print (ρ ++ γ) h.1)))
     & tt)
-    (back-term γ i (aTermRest d k ∷ aRel d k ∷ ρ)
+    (back-term γ i (a_term_rest d k ∷ a_rel d k ∷ ρ)
     (λ t h.
     let g = by (relate (extended t h.0) h.1.0) h.1.1 in
     let w = print (ρ ++ γ) h.1.1 in
@@ -144,24 +144,24 @@ with_given g b =
 
 abbrev quantifies : (d k : ℕ) → Act
 quantifies d k =
-    then (a_declared (binds (suc k)) ∷ exact kind.colon ∷ aDomain ∷ exact kind.spot ∷ aUnary d (suc k) ∷ a_pred_rest d d (suc k) ∷ exact kind.closeParen ∷ [])
+    then (a_declared (binds (suc k)) ∷ exact kind.colon ∷ a_domain ∷ exact kind.spot ∷ a_unary d (suc k) ∷ a_pred_rest d d (suc k) ∷ exact kind.close_paren ∷ [])
 
 -- what follows a ( by what follows a quantifier there
-quantifies-back : (γ : List Item) (d k : ℕ) (q : Quantifier) → Back γ (aParen d k) (fixed (quantifier_kind q)) (quantifies d k)
+quantifies-back : (γ : List Item) (d k : ℕ) (q : Quantifier) → Back γ (a_paren d k) (fixed (quantifier_kind q)) (quantifies d k)
 unfolding plain_term is code_of
 quantifies-back γ d k q h = (
   (quantifying q h.0 h.1.1.0 (joined h.1.1.1.1.0 h.1.1.1.1.1.0), h.1.1.1.1.1.1.1),
-  ap (λ (l : List Symbol). fixed (quantifier_kind q) ∷ named h.0 noEnding ∷ fixed kind.colon ∷ plain_domain h.1.1.0 (fixed kind.spot ∷ l))
-      (joined-plain h.1.1.1.1.0 h.1.1.1.1.1.0 (fixed kind.closeParen ∷ print γ h.1.1.1.1.1.1.1)),
+  ap (λ (l : List Symbol). fixed (quantifier_kind q) ∷ named h.0 no_ending ∷ fixed kind.colon ∷ plain_domain h.1.1.0 (fixed kind.spot ∷ l))
+      (joined-plain h.1.1.1.1.0 h.1.1.1.1.1.0 (fixed kind.close_paren ∷ print γ h.1.1.1.1.1.1.1)),
 )
 
 -- a state's declarations and predicate; `where` and a predicate
 abbrev state_items : List Item → List Item
 state_items γ =
-    a_declared (aVariable 1) ∷ exact kind.colon ∷ a_type ∷ exact kind.semicolon ∷ someDeclarations 1 ∷ aUnary 0 0 ∷ a_pred_rest 0 0 0 ∷ exact kind.END ∷ γ
+    a_declared (a_variable 1) ∷ exact kind.colon ∷ a_type ∷ exact kind.semicolon ∷ some_declarations 1 ∷ a_unary 0 0 ∷ a_pred_rest 0 0 0 ∷ exact kind.END ∷ γ
 
 abbrev where_items : List Item → List Item
-where_items γ = exact kind.WHERE ∷ aUnary 0 0 ∷ a_pred_rest 0 0 0 ∷ exact kind.END ∷ γ
+where_items γ = exact kind.WHERE ∷ a_unary 0 0 ∷ a_pred_rest 0 0 0 ∷ exact kind.END ∷ γ
 
 state-back : (γ : List Item) (h : Fills (state_items γ)) → (s : State) × (r : Fills γ) × (plain_state s (print γ r) ≡ print (state_items γ) h)
 unfolding is code_of
@@ -183,7 +183,7 @@ where-back γ h =
 
 -- the bodies from `retrieve` on; from `cinit`, `ainit`, `concrete`
 abbrev from_retrieve : List Item → List Item
-from_retrieve γ = exact kind.RETRIEVE ∷ where_items (someOperations 0 ∷ γ)
+from_retrieve γ = exact kind.RETRIEVE ∷ where_items (some_operations 0 ∷ γ)
 
 abbrev from_cinit : List Item → List Item
 from_cinit γ = exact kind.CINIT ∷ where_items (from_retrieve γ)
@@ -195,14 +195,14 @@ abbrev from_concrete : List Item → List Item
 from_concrete γ = exact kind.CONCRETE ∷ state_items (from_ainit γ)
 
 -- the bodies from `abstract` on
-bodies-back : (γ : List Item) (n : ℕ) → Back γ (someBodies n) (fixed kind.ABSTRACT) (then (state_items (from_concrete [])))
+bodies-back : (γ : List Item) (n : ℕ) → Back γ (some_bodies n) (fixed kind.ABSTRACT) (then (state_items (from_concrete [])))
 unfolding is code_of
 bodies-back γ n h =
     let a = state-back (from_concrete γ) h in
     let c = state-back (from_ainit γ) a.1.1 in
     let i = where-back (from_cinit γ) c.1.1 in
     let j = where-back (from_retrieve γ) i.1.1 in
-    let r = where-back (someOperations 0 ∷ γ) j.1.1 in (
+    let r = where-back (some_operations 0 ∷ γ) j.1.1 in (
       (
         record { givens = []; abstract = a.0; concrete = c.0; ainit = i.0; cinit = j.0; retrieve = r.0; operations = r.1.0 },
         r.1.1,
@@ -215,8 +215,8 @@ bodies-back γ n h =
 
 -- an operation from its parameters on
 operations-back : (γ : List Item) (n : ℕ)
-    → Back γ (someOperations n) (fixed kind.OP) (then (a_declared (an_operation (suc n)) ∷ some_parameters 0 0 ∷ aUnary 0 0 ∷ a_pred_rest 0 0 0 ∷ exact kind.CONCRETE
-    ∷ aUnary 0 0 ∷ a_pred_rest 0 0 0 ∷ exact kind.END ∷ someOperations (suc n) ∷ []))
+    → Back γ (some_operations n) (fixed kind.OP) (then (a_declared (an_operation (suc n)) ∷ some_parameters 0 0 ∷ a_unary 0 0 ∷ a_pred_rest 0 0 0 ∷ exact kind.CONCRETE
+    ∷ a_unary 0 0 ∷ a_pred_rest 0 0 0 ∷ exact kind.END ∷ some_operations (suc n) ∷ []))
 unfolding is code_of
 operations-back γ n h =
     let x : Letters = h.0 in
@@ -228,20 +228,20 @@ operations-back γ n h =
     let os : List Operation = h.1.1.1.1.1.1.1.1.0 in
     let r : Fills γ = h.1.1.1.1.1.1.1.1.1 in (
       (record { title = x; parameters = ps; abstractly = joined p y; concretely = joined q z } ∷ os, r),
-      ap (λ (l : List Symbol). fixed kind.OP ∷ named x noEnding ∷ plain_parameters ps (fixed kind.ABSTRACT ∷ l))
+      ap (λ (l : List Symbol). fixed kind.OP ∷ named x no_ending ∷ plain_parameters ps (fixed kind.ABSTRACT ∷ l))
           (joined-plain p y _ ∙ ap (λ (l : List Symbol). plain_pred p (plain_pred_tail y (fixed kind.CONCRETE ∷ l))) (joined-plain q z _)),
     )
 
 -- what follows a name in braces by what follows a : there
 binds-back : (γ : List Item) (d k : ℕ)
-    → Back γ (aNamed d k) (fixed kind.colon) (then (aName ∷ exact kind.bar ∷ aUnary d (suc k) ∷ a_pred_rest d d (suc k) ∷ exact kind.closeBrace ∷ []))
+    → Back γ (a_named d k) (fixed kind.colon) (then (a_name ∷ exact kind.bar ∷ a_unary d (suc k) ∷ a_pred_rest d d (suc k) ∷ exact kind.close_brace ∷ []))
 unfolding is code_of
 binds-back γ d k h =
     let p : Pred = h.1.1.0 in
     let x : PredTail = h.1.1.1.0 in
     let r : Fills γ = h.1.1.1.1.1 in (
       (bound h.0 (joined p x), r),
-      ap (λ (l : List Symbol). fixed kind.colon ∷ symbol.name h.0 ∷ fixed kind.bar ∷ l) (joined-plain p x (fixed kind.closeBrace ∷ print γ r)),
+      ap (λ (l : List Symbol). fixed kind.colon ∷ symbol.name h.0 ∷ fixed kind.bar ∷ l) (joined-plain p x (fixed kind.close_brace ∷ print γ r)),
     )
 
 abbrev end_of : Bool → ℕ → End
@@ -252,85 +252,85 @@ pub back : (γ : List Item) (i : Item) (s : Kind) → Backs γ i s (act i s)
 unfolding plain_term act is code_of
 back γ (exact e) s = back-table γ (exact e) _ _ s ((λ c h. ((c, h), refl)) & tt) (λ c. tt)
 back γ (a_declared m) s = back-table γ (a_declared m) _ _ s ((λ c h. ((c, h), refl)) & tt) (λ c. tt)
-back γ aName s = back-name γ aName _ _ s (λ x h. ((x, h), refl)) (λ c. tt)
-back γ anEmptyRest s = back-name γ anEmptyRest _ _ s (λ x h. ((some x, h), refl)) (λ c. (none, λ w. refl))
-back γ anEnd s = back-table γ anEnd _ _ s ((λ c h. ((end_of false c, h), refl)) & (λ c h. ((end_of true h.0, h.1), refl)) & tt) (λ c. tt)
+back γ a_name s = back-name γ a_name _ _ s (λ x h. ((x, h), refl)) (λ c. tt)
+back γ an_empty_rest s = back-name γ an_empty_rest _ _ s (λ x h. ((some x, h), refl)) (λ c. (none, λ w. refl))
+back γ an_end s = back-table γ an_end _ _ s ((λ c h. ((end_of false c, h), refl)) & (λ c h. ((end_of true h.0, h.1), refl)) & tt) (λ c. tt)
 back γ a_type s =
     back-table γ a_type _ _ s
     ((λ c h. ((tree.range_type (record { lower = end_of false c; upper = h.1.0 }), h.1.1), refl))
     & (λ c h. ((tree.range_type (record { lower = end_of true h.0; upper = h.1.1.0 }), h.1.1.1), refl))
-    & (λ c h. ((tree.powerType h.0, h.1), refl))
+    & (λ c h. ((tree.power_type h.0, h.1), refl))
     & tt)
     (back-name γ a_type _ _ s (λ x h. ((arrowed x h.0, h.1), arrowed-plain x h.0 (print γ h.1))) (λ c. tt))
-back γ aTypeRest s =
-    back-table γ aTypeRest _ _ s
+back γ a_type_rest s =
+    back-table γ a_type_rest _ _ s
     ((λ c h. ((some (tree.relation, h.0), h.1), refl))
     & (λ c h. ((some (tree.partial, h.0), h.1), refl))
     & (λ c h. ((some (tree.total, h.0), h.1), refl))
     & tt)
     (λ c. (none, λ w. refl))
-back γ aDomain s =
-    back-table γ aDomain _ _ s
+back γ a_domain s =
+    back-table γ a_domain _ _ s
     ((λ c h. ((tree.range (record { lower = end_of false c; upper = h.1.0 }), h.1.1), refl))
     & (λ c h. ((tree.range (record { lower = end_of true h.0; upper = h.1.1.0 }), h.1.1.1), refl))
     & tt)
-    (back-name γ aDomain _ _ s (λ x h. ((tree.given_set x, h), refl)) (λ c. tt))
-back γ aDossier s = back-table γ aDossier _ _ s ((λ c h. ((dossier_from h.0.0 h.0.1 h.0.2, h.1), refl)) & tt) (λ c. tt)
-back γ (aTerm d k) s = back-term γ (aTerm d k) (aTermRest d k ∷ []) (λ t h. ((extended t h.0, h.1), extended-plain t h.0 (print γ h.1))) d k s
-back γ (anOperand d k) s = back-term γ (anOperand d k) [] (λ t h. ((t, h), refl)) d k s
-back γ (aTermRest d k) s = back-operate γ (aTermRest d k) [] (λ x h. ((x, h), refl)) d k skip s (λ c. (Tail.nothing, λ w. refl))
-back γ (aRel d k) s =
-    back-table γ (aRel d k) _ _ s
+    (back-name γ a_domain _ _ s (λ x h. ((tree.given_set x, h), refl)) (λ c. tt))
+back γ a_dossier s = back-table γ a_dossier _ _ s ((λ c h. ((dossier_from h.0.0 h.0.1 h.0.2, h.1), refl)) & tt) (λ c. tt)
+back γ (a_term d k) s = back-term γ (a_term d k) (a_term_rest d k ∷ []) (λ t h. ((extended t h.0, h.1), extended-plain t h.0 (print γ h.1))) d k s
+back γ (an_operand d k) s = back-term γ (an_operand d k) [] (λ t h. ((t, h), refl)) d k s
+back γ (a_term_rest d k) s = back-operate γ (a_term_rest d k) [] (λ x h. ((x, h), refl)) d k skip s (λ c. (Tail.nothing, λ w. refl))
+back γ (a_rel d k) s =
+    back-table γ (a_rel d k) _ _ s
     ((λ c h. ((comparing tree.equals h.0, h.1), refl))
     & (λ c h. ((comparing tree.differs h.0, h.1), refl))
     & (λ c h. ((comparing tree.less h.0, h.1), refl))
     & (λ c h. ((comparing tree.at_most h.0, h.1), refl))
-    & (λ c h. ((belonging tree.isIn h.0, h.1), refl))
-    & (λ c h. ((belonging tree.notIn h.0, h.1), refl))
+    & (λ c h. ((belonging tree.is_in h.0, h.1), refl))
+    & (λ c h. ((belonging tree.not_in h.0, h.1), refl))
     & (λ c h. ((pairing h.0 h.1.0.0 h.1.0.1, h.1.1), refl))
     & tt)
     (λ c. tt)
-back γ (aMem d k) s = back-table γ (aMem d k) _ _ s ((λ c h. (((tree.isIn, h.0), h.1), refl)) & (λ c h. (((tree.notIn, h.0), h.1), refl)) & tt) (λ c. tt)
-back γ (aRight d k) s =
-    back-table γ (aRight d k) _ _ s
+back γ (a_mem d k) s = back-table γ (a_mem d k) _ _ s ((λ c h. (((tree.is_in, h.0), h.1), refl)) & (λ c h. (((tree.not_in, h.0), h.1), refl)) & tt) (λ c. tt)
+back γ (a_right d k) s =
+    back-table γ (a_right d k) _ _ s
     ((λ c h. ((from_number c h.0, h.1), from_number-plain c h.0 (print γ h.1)))
     & (λ c h. ((from_negated h.0, h.1), from_negated-plain h.0 (print γ h.1)))
     & tt)
-    (back-term γ (aRight d k) (aTermRest d k ∷ []) (λ t h. ((a_set (extended t h.0), h.1), extended-plain t h.0 (print γ h.1))) d k s)
-back γ (aNeg d k) s =
-    back-table γ (aNeg d k) _ _ s ((λ c h. ((negated_number c h.0, h.1), negated_number-plain c h.0 (print γ h.1))) & tt)
-    (back-term γ (aNeg d k) (aTermRest d k ∷ []) (λ t h. ((negated_term (extended t h.0), h.1), extended-plain t h.0 (print γ h.1))) (suc d) k s)
-back γ (aNumRest d k) s =
-    back-table γ (aNumRest d k) _ _ s ((λ c h. ((filling.up_to h.0, h.1), refl)) & tt)
-    (back-operate γ (aNumRest d k) [] (λ x h. ((goes_on x, h), refl)) d k skip s (λ c. (goes_on Tail.nothing, λ w. refl)))
-back γ (aBrace d k) s =
-    back-table γ (aBrace d k) _ _ s ((λ c h. ((from_name c h.0, h.1), from_name-plain c h.0 (print γ h.1))) & tt)
-    (back-term γ (aBrace d k) (aTermRest d k ∷ aFirst d k ∷ [])
+    (back-term γ (a_right d k) (a_term_rest d k ∷ []) (λ t h. ((a_set (extended t h.0), h.1), extended-plain t h.0 (print γ h.1))) d k s)
+back γ (a_neg d k) s =
+    back-table γ (a_neg d k) _ _ s ((λ c h. ((negated_number c h.0, h.1), negated_number-plain c h.0 (print γ h.1))) & tt)
+    (back-term γ (a_neg d k) (a_term_rest d k ∷ []) (λ t h. ((negated_term (extended t h.0), h.1), extended-plain t h.0 (print γ h.1))) (suc d) k s)
+back γ (a_num_rest d k) s =
+    back-table γ (a_num_rest d k) _ _ s ((λ c h. ((filling.up_to h.0, h.1), refl)) & tt)
+    (back-operate γ (a_num_rest d k) [] (λ x h. ((goes_on x, h), refl)) d k skip s (λ c. (goes_on Tail.nothing, λ w. refl)))
+back γ (a_brace d k) s =
+    back-table γ (a_brace d k) _ _ s ((λ c h. ((from_name c h.0, h.1), from_name-plain c h.0 (print γ h.1))) & tt)
+    (back-term γ (a_brace d k) (a_term_rest d k ∷ a_first d k ∷ [])
     (λ t h. ((first (extended t h.0) h.1.0, h.1.1), extended-plain t h.0 (plain_after_first h.1.0 (print γ h.1.1)))) d k s)
-back γ (aNamed d k) s =
-    back-table γ (aNamed d k) _ _ s
+back γ (a_named d k) s =
+    back-table γ (a_named d k) _ _ s
     ((λ c h. binds-back γ d k h)
     & (λ c h. ((used Tail.nothing (more_items (h.0 ∷ h.1.0)), h.1.1), refl))
     & (λ c h. ((used Tail.nothing (more_items []), h), refl))
     & (λ c h. ((used Tail.nothing (more_pairs h.0 h.1.0), h.1.1), refl))
     & tt)
-    (back-operate γ (aNamed d k) (aFirst d k ∷ []) (λ x h. ((used x h.0, h.1), refl)) d k stuck s (λ c. tt))
-back γ (aFirst d k) s =
-    back-table γ (aFirst d k) _ _ s
+    (back-operate γ (a_named d k) (a_first d k ∷ []) (λ x h. ((used x h.0, h.1), refl)) d k stuck s (λ c. tt))
+back γ (a_first d k) s =
+    back-table γ (a_first d k) _ _ s
     ((λ c h. ((more_items (h.0 ∷ h.1.0), h.1.1), refl))
     & (λ c h. ((more_items [], h), refl))
     & (λ c h. ((more_pairs h.0 h.1.0, h.1.1), refl))
     & tt)
     (λ c. tt)
-back γ (aList d k) s = back-table γ (aList d k) _ _ s ((λ c h. ((h.0 ∷ h.1.0, h.1.1), refl)) & (λ c h. (([], h), refl)) & tt) (λ c. tt)
-back γ (aPairs d k) s =
-    back-table γ (aPairs d k) _ _ s ((λ c h. (((h.0, h.1.1.0) ∷ h.1.1.1.0, h.1.1.1.1), refl)) & (λ c h. (([], h), refl)) & tt) (λ c. tt)
-back γ (aUnary d k) s = back-pred γ (aUnary d k) [] (λ p h. ((p, h), refl)) d k s
-back γ (aParen d k) s =
-    back-table γ (aParen d k) _ _ s
+back γ (a_list d k) s = back-table γ (a_list d k) _ _ s ((λ c h. ((h.0 ∷ h.1.0, h.1.1), refl)) & (λ c h. (([], h), refl)) & tt) (λ c. tt)
+back γ (a_pairs d k) s =
+    back-table γ (a_pairs d k) _ _ s ((λ c h. (((h.0, h.1.1.0) ∷ h.1.1.1.0, h.1.1.1.1), refl)) & (λ c h. (([], h), refl)) & tt) (λ c. tt)
+back γ (a_unary d k) s = back-pred γ (a_unary d k) [] (λ p h. ((p, h), refl)) d k s
+back γ (a_paren d k) s =
+    back-table γ (a_paren d k) _ _ s
     ((λ c h. quantifies-back γ d k tree.forall h) & (λ c h. quantifies-back γ d k tree.exists h) & (λ c h. quantifies-back γ d k tree.exists1 h) & tt)
-    (back-pred γ (aParen d k) (a_pred_rest d d k ∷ exact kind.closeParen ∷ [])
-    (λ p h. ((inside (joined p h.0), h.1.1), joined-plain p h.0 (fixed kind.closeParen ∷ print γ h.1.1))) d k s)
+    (back-pred γ (a_paren d k) (a_pred_rest d d k ∷ exact kind.close_paren ∷ [])
+    (λ p h. ((inside (joined p h.0), h.1.1), joined-plain p h.0 (fixed kind.close_paren ∷ print γ h.1.1))) d k s)
 back γ (a_pred_rest b e k) s =
     back-table γ (a_pred_rest b e k) _ _ s
     ((λ c h. connects γ tree.and h) & (λ c h. connects γ tree.or h) & (λ c h. connects γ tree.implies h) & (λ c h. connects γ tree.iff h) & tt)
@@ -341,19 +341,19 @@ back γ (some_entries n) s =
     & (λ c h. ((([], h.1.1.1.1.0.0, h.1.1.1.1.0.1), h.1.1.1.1.1), refl))
     & tt)
     (λ c. tt)
-back γ (someOpEntries n) s =
-    back-table γ (someOpEntries n) _ _ s ((λ c h. (((h.0 ∷ h.1.0.0, h.1.0.1), h.1.1), refl)) & (λ c h. ((([], h.0), h.1), refl)) & tt) (λ c. tt)
-back γ (someBodies n) s =
-    back-table γ (someBodies n) _ _ s
+back γ (some_op_entries n) s =
+    back-table γ (some_op_entries n) _ _ s ((λ c h. (((h.0 ∷ h.1.0.0, h.1.0.1), h.1.1), refl)) & (λ c h. ((([], h.0), h.1), refl)) & tt) (λ c. tt)
+back γ (some_bodies n) s =
+    back-table γ (some_bodies n) _ _ s
     ((λ c h. ((with_given (record { title = h.0; first_element = h.1.0; other_elements = h.1.1.0 }) h.1.1.1.0, h.1.1.1.1), refl))
     & (λ c h. bodies-back γ n h)
     & tt)
     (λ c. tt)
-back γ (someElements n) s = back-table γ (someElements n) _ _ s ((λ c h. ((c ∷ h.0, h.1), refl)) & (λ c h. (([], h), refl)) & tt) (λ c. tt)
-back γ (someDeclarations n) s =
-    back-table γ (someDeclarations n) _ _ s
+back γ (some_elements n) s = back-table γ (some_elements n) _ _ s ((λ c h. ((c ∷ h.0, h.1), refl)) & (λ c h. (([], h), refl)) & tt) (λ c. tt)
+back γ (some_declarations n) s =
+    back-table γ (some_declarations n) _ _ s
     ((λ c h. ((record { declared = c; type = h.1.0 } ∷ h.1.1.1.0, h.1.1.1.1), refl)) & (λ c h. (([], h), refl)) & tt) (λ c. tt)
-back γ (someOperations n) s = back-table γ (someOperations n) _ _ s ((λ c h. operations-back γ n h) & tt) (λ c. ([], λ w. refl))
+back γ (some_operations n) s = back-table γ (some_operations n) _ _ s ((λ c h. operations-back γ n h) & tt) (λ c. ([], λ w. refl))
 back γ (some_parameters i o) s =
     back-table γ (some_parameters i o) _ _ s
     ((λ c h. ((record { direction = tree.inward; declaration = record { declared = c; type = h.1.0 } } ∷ h.1.1.1.0, h.1.1.1.1), refl))

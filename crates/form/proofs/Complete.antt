@@ -5,12 +5,12 @@ use mathlib.Core.List.{List, [], ◌∷◌, ◌++◌}
 use mathlib.Core.Option.{Option, none, some}
 use Rattle.lexical.specs.Kinds as kind
 use Rattle.lexical.specs.Kinds.{code_of, is, lookup}
-use Rattle.lexical.specs.Symbols.{Name, noEnding, Symbol, fixed, kind_of}
+use Rattle.lexical.specs.Symbols.{Name, no_ending, Symbol, fixed, kind_of}
 use Rattle.form.specs.Tree as tree
 use Rattle.form.specs.Tree.{Letters, State, Dossier}
 use Rattle.form.specs.Written.{Mark, symbols_of}
-use Rattle.form.specs.Machine.{Item, exact, a_declared, aName, anEmptyRest, anEnd, a_type, aTypeRest, aDomain, aDossier, aTerm, anOperand, aTermRest, aRel, aMem, aRight, aNeg, aNumRest}
-use Rattle.form.specs.Machine.{aBrace, aNamed, aFirst, aList, aPairs, aUnary, aParen, a_pred_rest, some_entries, someOpEntries, someBodies, someElements, someDeclarations, someOperations, some_parameters}
+use Rattle.form.specs.Machine.{Item, exact, a_declared, a_name, an_empty_rest, an_end, a_type, a_type_rest, a_domain, a_dossier, a_term, an_operand, a_term_rest, a_rel, a_mem, a_right, a_neg, a_num_rest}
+use Rattle.form.specs.Machine.{a_brace, a_named, a_first, a_list, a_pairs, a_unary, a_paren, a_pred_rest, some_entries, some_op_entries, some_bodies, some_elements, some_declarations, some_operations, some_parameters}
 use Rattle.form.specs.Machine.{Act, take, skip, stuck, act, Next, go, halt, does, step, passed, ends}
 use Rattle.form.proofs.Takes.{initial, feed_on, feed}
 use Rattle.form.proofs.Table.{Spelled, AllSpelled, carried, is_fixed, carries}
@@ -82,7 +82,7 @@ abbrev letters : Letters
 letters = 120 ∷ []
 
 abbrev any_name : Name
-any_name = record { letters = letters; ending = noEnding }
+any_name = record { letters = letters; ending = no_ending }
 
 abbrev any_carried : (a b : Bool) → carried a b
 any_carried true b = tt
@@ -90,7 +90,7 @@ any_carried false true = 0
 any_carried false false = letters
 
 abbrev any_state : State
-any_state = record { first_declaration = record { declared = letters; type = tree.givenType any_name }; other_declarations = []; predicate = tree.truth }
+any_state = record { first_declaration = record { declared = letters; type = tree.given_type any_name }; other_declarations = []; predicate = tree.truth }
 
 abbrev any_bodies : Bodies
 any_bodies =
@@ -107,13 +107,13 @@ any_bodies =
 abbrev pub default : (i : Item) → Fill i
 default (exact c) = any_carried (is_fixed c) (is c kind.number)
 default (a_declared m) = letters
-default aName = any_name
-default anEmptyRest = none
-default anEnd = record { negative = false; magnitude = 0 }
-default a_type = tree.givenType any_name
-default aTypeRest = none
-default aDomain = tree.given_set any_name
-default aDossier =
+default a_name = any_name
+default an_empty_rest = none
+default an_end = record { negative = false; magnitude = 0 }
+default a_type = tree.given_type any_name
+default a_type_rest = none
+default a_domain = tree.given_set any_name
+default a_dossier =
     record {
       given_entries = [];
       operation_entries = [];
@@ -125,28 +125,28 @@ default aDossier =
       retrieve = tree.truth;
       operations = [];
     }
-default (aTerm d k) = tree.name any_name
-default (anOperand d k) = tree.name any_name
-default (aTermRest d k) = Tail.nothing
-default (aRel d k) = comparing tree.equals (tree.name any_name)
-default (aMem d k) = (tree.isIn, tree.name any_name)
-default (aRight d k) = a_set (tree.name any_name)
-default (aNeg d k) = negated_term (tree.name any_name)
-default (aNumRest d k) = goes_on Tail.nothing
-default (aBrace d k) = first (tree.name any_name) (more_items [])
-default (aNamed d k) = bound any_name tree.truth
-default (aFirst d k) = more_items []
-default (aList d k) = []
-default (aPairs d k) = []
-default (aUnary d k) = tree.truth
-default (aParen d k) = inside tree.truth
+default (a_term d k) = tree.name any_name
+default (an_operand d k) = tree.name any_name
+default (a_term_rest d k) = Tail.nothing
+default (a_rel d k) = comparing tree.equals (tree.name any_name)
+default (a_mem d k) = (tree.is_in, tree.name any_name)
+default (a_right d k) = a_set (tree.name any_name)
+default (a_neg d k) = negated_term (tree.name any_name)
+default (a_num_rest d k) = goes_on Tail.nothing
+default (a_brace d k) = first (tree.name any_name) (more_items [])
+default (a_named d k) = bound any_name tree.truth
+default (a_first d k) = more_items []
+default (a_list d k) = []
+default (a_pairs d k) = []
+default (a_unary d k) = tree.truth
+default (a_paren d k) = inside tree.truth
 default (a_pred_rest b c k) = PredTail.nothing
 default (some_entries n) = ([], [], any_bodies)
-default (someOpEntries n) = ([], any_bodies)
-default (someBodies n) = any_bodies
-default (someElements n) = []
-default (someDeclarations n) = []
-default (someOperations n) = []
+default (some_op_entries n) = ([], any_bodies)
+default (some_bodies n) = any_bodies
+default (some_elements n) = []
+default (some_declarations n) = []
+default (some_operations n) = []
 default (some_parameters i o) = []
 
 -- a completion for each item of a state

@@ -53,7 +53,7 @@ bound (there h) = let k = bound h in let l = k.inside in record { at = suc k.at;
 bound-over : (n : ℕ) → 3 < n → (k s : Kind) (rest : List Symbol) → kind_at rest 0 ≡ kind.colon → settled k s rest (binds n) ≡ some deep
 unfolding settled excess is_used is code_of refuse
 bound-over n l k s rest e =
-    ap (λ (c : Kind). cond (is k kind.openBrace && not (is c kind.colon)) none (refuse (ltb 3 n) deep)) e ∙ on (is k kind.openBrace)
+    ap (λ (c : Kind). cond (is k kind.open_brace && not (is c kind.colon)) none (refuse (ltb 3 n) deep)) e ∙ on (is k kind.open_brace)
   where
     on : (b : Bool) → cond (b && not (is kind.colon kind.colon)) none (refuse (ltb 3 n) deep) ≡ some deep
     on true = ap (λ (c : Bool). refuse c deep) (lt-ltb 3 n l)

@@ -6,14 +6,14 @@ use mathlib.Core.Option.{Option, none, some}
 use Prim.Native.Nat.{ℕ}
 use Rattle.lexical.specs.Kinds as kind
 use Rattle.lexical.specs.Symbols as symbol
-use Rattle.lexical.specs.Symbols.{Name, noEnding, Symbol, fixed, numeral}
+use Rattle.lexical.specs.Symbols.{Name, no_ending, Symbol, fixed, numeral}
 use Rattle.form.specs.Tree.{Letters, End, Range, Domain, Operator, Division, Connective, Quantifier, Comparison, Membership}
 use Rattle.form.specs.Tree.{Term, number, name, prefix, negate, binary, divided, listed, pairs, such, empty_set, empty_pairs, Items, only, also, Pairs, only_pair, also_pair}
 use Rattle.form.specs.Tree.{Pred, paren, quantified, connected, compared, member, within, related}
-use Rattle.form.specs.Tree.{Arrow, TypeForm, givenType, arrow_type, Declaration, Parameter, Operation, Dossier}
+use Rattle.form.specs.Tree.{Arrow, TypeForm, given_type, arrow_type, Declaration, Parameter, Operation, Dossier}
 use Rattle.form.specs.Written.{operator_kind, division_kind, connective_kind, quantifier_kind, comparison_kind, membership_kind, arrow_kind}
-use Rattle.form.specs.Machine.{Item, exact, a_declared, aName, anEmptyRest, anEnd, a_type, aTypeRest, aDomain, aDossier, aTerm, anOperand, aTermRest, aRel, aMem, aRight, aNeg, aNumRest}
-use Rattle.form.specs.Machine.{aBrace, aNamed, aFirst, aList, aPairs, aUnary, aParen, a_pred_rest, some_entries, someOpEntries, someBodies, someElements, someDeclarations, someOperations, some_parameters}
+use Rattle.form.specs.Machine.{Item, exact, a_declared, a_name, an_empty_rest, an_end, a_type, a_type_rest, a_domain, a_dossier, a_term, an_operand, a_term_rest, a_rel, a_mem, a_right, a_neg, a_num_rest}
+use Rattle.form.specs.Machine.{a_brace, a_named, a_first, a_list, a_pairs, a_unary, a_paren, a_pred_rest, some_entries, some_op_entries, some_bodies, some_elements, some_declarations, some_operations, some_parameters}
 use Rattle.form.proofs.Table.{Carried, symbol_of}
 use Rattle.form.proofs.PlainSymbols.{named, plain_end, plain_range, plain_domain, plain_term, plain_items, plain_pairs, plain_pred, plain_type, plain_elements, plain_declarations}
 use Rattle.form.proofs.PlainSymbols.{plain_parameters, plain_operations, plain_entries, Bodies, plain_bodies, plain_from, plain_dossier}
@@ -93,11 +93,11 @@ plain_relating (belonging o r) w = fixed (membership_kind o) ∷ plain_right r w
 plain_relating (pairing t o u) w = fixed kind.maplet ∷ plain_term t (fixed (membership_kind o) ∷ plain_term u w)
 
 abbrev pub plain_more : List Term → List Symbol → List Symbol
-plain_more [] w = fixed kind.closeBrace ∷ w
+plain_more [] w = fixed kind.close_brace ∷ w
 plain_more (t ∷ ts) w = fixed kind.comma ∷ plain_term t (plain_more ts w)
 
 abbrev pub plain_more_pairs : List (Term × Term) → List Symbol → List Symbol
-plain_more_pairs [] w = fixed kind.closeBrace ∷ w
+plain_more_pairs [] w = fixed kind.close_brace ∷ w
 plain_more_pairs (t ∷ ts) w = fixed kind.comma ∷ plain_term t.0 (fixed kind.maplet ∷ plain_term t.1 (plain_more_pairs ts w))
 
 abbrev pub plain_after_first : AfterFirst → List Symbol → List Symbol
@@ -106,16 +106,16 @@ plain_after_first (more_pairs t ts) w = fixed kind.maplet ∷ plain_term t (plai
 
 abbrev pub plain_in_brace : InBrace → List Symbol → List Symbol
 plain_in_brace (first t x) w = plain_term t (plain_after_first x w)
-plain_in_brace (such_that x g p) w = named x noEnding ∷ fixed kind.colon ∷ symbol.name g ∷ fixed kind.bar ∷ plain_pred p (fixed kind.closeBrace ∷ w)
+plain_in_brace (such_that x g p) w = named x no_ending ∷ fixed kind.colon ∷ symbol.name g ∷ fixed kind.bar ∷ plain_pred p (fixed kind.close_brace ∷ w)
 
 abbrev pub plain_after_name : AfterName → List Symbol → List Symbol
 plain_after_name (used x y) w = plain_tail x (plain_after_first y w)
-plain_after_name (bound g p) w = fixed kind.colon ∷ symbol.name g ∷ fixed kind.bar ∷ plain_pred p (fixed kind.closeBrace ∷ w)
+plain_after_name (bound g p) w = fixed kind.colon ∷ symbol.name g ∷ fixed kind.bar ∷ plain_pred p (fixed kind.close_brace ∷ w)
 
 abbrev pub plain_in_paren : InParen → List Symbol → List Symbol
-plain_in_paren (inside p) w = plain_pred p (fixed kind.closeParen ∷ w)
+plain_in_paren (inside p) w = plain_pred p (fixed kind.close_paren ∷ w)
 plain_in_paren (quantifying q x t p) w =
-    fixed (quantifier_kind q) ∷ named x noEnding ∷ fixed kind.colon ∷ plain_domain t (fixed kind.spot ∷ plain_pred p (fixed kind.closeParen ∷ w))
+    fixed (quantifier_kind q) ∷ named x no_ending ∷ fixed kind.colon ∷ plain_domain t (fixed kind.spot ∷ plain_pred p (fixed kind.close_paren ∷ w))
 
 abbrev pub plain_empty_rest : Option Name → List Symbol → List Symbol
 plain_empty_rest none w = w
@@ -129,70 +129,70 @@ plain_type_rest (some a) w = fixed (arrow_kind a.0) ∷ symbol.name a.1 ∷ w
 abbrev pub Fill : Item → Type 0
 Fill (exact c) = Carried c
 Fill (a_declared m) = Letters
-Fill aName = Name
-Fill anEmptyRest = Option Name
-Fill anEnd = End
+Fill a_name = Name
+Fill an_empty_rest = Option Name
+Fill an_end = End
 Fill a_type = TypeForm
-Fill aTypeRest = Option (Arrow × Name)
-Fill aDomain = Domain
-Fill aDossier = Dossier
-Fill (aTerm d k) = Term
-Fill (anOperand d k) = Term
-Fill (aTermRest d k) = Tail
-Fill (aRel d k) = Relating
-Fill (aMem d k) = Membership × Term
-Fill (aRight d k) = Right
-Fill (aNeg d k) = Negated
-Fill (aNumRest d k) = AfterNumber
-Fill (aBrace d k) = InBrace
-Fill (aNamed d k) = AfterName
-Fill (aFirst d k) = AfterFirst
-Fill (aList d k) = List Term
-Fill (aPairs d k) = List (Term × Term)
-Fill (aUnary d k) = Pred
-Fill (aParen d k) = InParen
+Fill a_type_rest = Option (Arrow × Name)
+Fill a_domain = Domain
+Fill a_dossier = Dossier
+Fill (a_term d k) = Term
+Fill (an_operand d k) = Term
+Fill (a_term_rest d k) = Tail
+Fill (a_rel d k) = Relating
+Fill (a_mem d k) = Membership × Term
+Fill (a_right d k) = Right
+Fill (a_neg d k) = Negated
+Fill (a_num_rest d k) = AfterNumber
+Fill (a_brace d k) = InBrace
+Fill (a_named d k) = AfterName
+Fill (a_first d k) = AfterFirst
+Fill (a_list d k) = List Term
+Fill (a_pairs d k) = List (Term × Term)
+Fill (a_unary d k) = Pred
+Fill (a_paren d k) = InParen
 Fill (a_pred_rest b c k) = PredTail
 Fill (some_entries n) = List Letters × List Letters × Bodies
-Fill (someOpEntries n) = List Letters × Bodies
-Fill (someBodies n) = Bodies
-Fill (someElements n) = List Letters
-Fill (someDeclarations n) = List Declaration
-Fill (someOperations n) = List Operation
+Fill (some_op_entries n) = List Letters × Bodies
+Fill (some_bodies n) = Bodies
+Fill (some_elements n) = List Letters
+Fill (some_declarations n) = List Declaration
+Fill (some_operations n) = List Operation
 Fill (some_parameters i o) = List Parameter
 
 -- the symbols of what stands for an item, then w
 abbrev pub fill : (i : Item) → Fill i → List Symbol → List Symbol
 fill (exact c) f w = symbol_of c f ∷ w
-fill (a_declared m) f w = named f noEnding ∷ w
-fill aName f w = symbol.name f ∷ w
-fill anEmptyRest f w = plain_empty_rest f w
-fill anEnd f w = plain_end f w
+fill (a_declared m) f w = named f no_ending ∷ w
+fill a_name f w = symbol.name f ∷ w
+fill an_empty_rest f w = plain_empty_rest f w
+fill an_end f w = plain_end f w
 fill a_type f w = plain_type f w
-fill aTypeRest f w = plain_type_rest f w
-fill aDomain f w = plain_domain f w
-fill aDossier f w = plain_dossier f w
-fill (aTerm d k) f w = plain_term f w
-fill (anOperand d k) f w = plain_term f w
-fill (aTermRest d k) f w = plain_tail f w
-fill (aRel d k) f w = plain_relating f w
-fill (aMem d k) f w = fixed (membership_kind f.0) ∷ plain_term f.1 w
-fill (aRight d k) f w = plain_right f w
-fill (aNeg d k) f w = plain_negated f w
-fill (aNumRest d k) f w = plain_after_number f w
-fill (aBrace d k) f w = plain_in_brace f w
-fill (aNamed d k) f w = plain_after_name f w
-fill (aFirst d k) f w = plain_after_first f w
-fill (aList d k) f w = plain_more f w
-fill (aPairs d k) f w = plain_more_pairs f w
-fill (aUnary d k) f w = plain_pred f w
-fill (aParen d k) f w = plain_in_paren f w
+fill a_type_rest f w = plain_type_rest f w
+fill a_domain f w = plain_domain f w
+fill a_dossier f w = plain_dossier f w
+fill (a_term d k) f w = plain_term f w
+fill (an_operand d k) f w = plain_term f w
+fill (a_term_rest d k) f w = plain_tail f w
+fill (a_rel d k) f w = plain_relating f w
+fill (a_mem d k) f w = fixed (membership_kind f.0) ∷ plain_term f.1 w
+fill (a_right d k) f w = plain_right f w
+fill (a_neg d k) f w = plain_negated f w
+fill (a_num_rest d k) f w = plain_after_number f w
+fill (a_brace d k) f w = plain_in_brace f w
+fill (a_named d k) f w = plain_after_name f w
+fill (a_first d k) f w = plain_after_first f w
+fill (a_list d k) f w = plain_more f w
+fill (a_pairs d k) f w = plain_more_pairs f w
+fill (a_unary d k) f w = plain_pred f w
+fill (a_paren d k) f w = plain_in_paren f w
 fill (a_pred_rest b c k) f w = plain_pred_tail f w
 fill (some_entries n) f w = plain_from f.0 f.1 f.2 w
-fill (someOpEntries n) f w = plain_entries kind.OP f.0 (fixed kind.END ∷ plain_bodies f.1 w)
-fill (someBodies n) f w = plain_bodies f w
-fill (someElements n) f w = plain_elements f (fixed kind.END ∷ w)
-fill (someDeclarations n) f w = plain_declarations f (fixed kind.WHERE ∷ w)
-fill (someOperations n) f w = plain_operations f w
+fill (some_op_entries n) f w = plain_entries kind.OP f.0 (fixed kind.END ∷ plain_bodies f.1 w)
+fill (some_bodies n) f w = plain_bodies f w
+fill (some_elements n) f w = plain_elements f (fixed kind.END ∷ w)
+fill (some_declarations n) f w = plain_declarations f (fixed kind.WHERE ∷ w)
+fill (some_operations n) f w = plain_operations f w
 fill (some_parameters i o) f w = plain_parameters f (fixed kind.ABSTRACT ∷ w)
 
 abbrev pub Fills : List Item → Type 0
@@ -239,21 +239,21 @@ braced (first t (more_items ts)) = listed (items_of t ts)
 braced (first t (more_pairs u ts)) = pairs (pairs_in t u ts)
 braced (such_that x g p) = such x g p
 
-items-braced : (t : Term) (ts : List Term) (w : List Symbol) → plain_items (items_of t ts) (fixed kind.closeBrace ∷ w) ≡ plain_term t (plain_more ts w)
+items-braced : (t : Term) (ts : List Term) (w : List Symbol) → plain_items (items_of t ts) (fixed kind.close_brace ∷ w) ≡ plain_term t (plain_more ts w)
 unfolding items_of plain_term
 items-braced t [] w = refl
 items-braced t (u ∷ us) w = ap (λ (l : List Symbol). plain_term t (fixed kind.comma ∷ l)) (items-braced u us w)
 
 pairs-braced : (t u : Term) (ts : List (Term × Term)) (w : List Symbol)
-    → plain_pairs (pairs_in t u ts) (fixed kind.closeBrace ∷ w) ≡ plain_term t (fixed kind.maplet ∷ plain_term u (plain_more_pairs ts w))
+    → plain_pairs (pairs_in t u ts) (fixed kind.close_brace ∷ w) ≡ plain_term t (fixed kind.maplet ∷ plain_term u (plain_more_pairs ts w))
 unfolding pairs_in plain_term
 pairs-braced t u [] w = refl
 pairs-braced t u (v ∷ vs) w = ap (λ (l : List Symbol). plain_term t (fixed kind.maplet ∷ plain_term u (fixed kind.comma ∷ l))) (pairs-braced v.0 v.1 vs w)
 
-pub braced-plain : (b : InBrace) (w : List Symbol) → plain_term (braced b) w ≡ fixed kind.openBrace ∷ plain_in_brace b w
+pub braced-plain : (b : InBrace) (w : List Symbol) → plain_term (braced b) w ≡ fixed kind.open_brace ∷ plain_in_brace b w
 unfolding braced plain_term
-braced-plain (first t (more_items ts)) w = ap (λ (l : List Symbol). fixed kind.openBrace ∷ l) (items-braced t ts w)
-braced-plain (first t (more_pairs u ts)) w = ap (λ (l : List Symbol). fixed kind.openBrace ∷ l) (pairs-braced t u ts w)
+braced-plain (first t (more_items ts)) w = ap (λ (l : List Symbol). fixed kind.open_brace ∷ l) (items-braced t ts w)
+braced-plain (first t (more_pairs u ts)) w = ap (λ (l : List Symbol). fixed kind.open_brace ∷ l) (pairs-braced t u ts w)
 braced-plain (such_that x g p) w = refl
 
 -- a predicate by what stands in its parentheses
@@ -261,7 +261,7 @@ pub parenthesised : InParen → Pred
 parenthesised (inside p) = paren p
 parenthesised (quantifying q x t p) = quantified q x t p
 
-pub parenthesised-plain : (x : InParen) (w : List Symbol) → plain_pred (parenthesised x) w ≡ fixed kind.openParen ∷ plain_in_paren x w
+pub parenthesised-plain : (x : InParen) (w : List Symbol) → plain_pred (parenthesised x) w ≡ fixed kind.open_paren ∷ plain_in_paren x w
 unfolding parenthesised plain_term
 parenthesised-plain (inside p) w = refl
 parenthesised-plain (quantifying q x t p) w = refl
@@ -292,7 +292,7 @@ emptied-plain g (some h) w = refl
 
 -- a type by what follows its first name
 pub arrowed : Name → Option (Arrow × Name) → TypeForm
-arrowed g none = givenType g
+arrowed g none = given_type g
 arrowed g (some a) = arrow_type a.0 g a.1
 
 pub arrowed-plain : (g : Name) (x : Option (Arrow × Name)) (w : List Symbol) → plain_type (arrowed g x) w ≡ symbol.name g ∷ plain_type_rest x w
@@ -330,10 +330,10 @@ negated_number-plain n (up_to e) w = refl
 
 -- what stands in braces, by what follows a name there
 pub from_name : Letters → AfterName → InBrace
-from_name x (used y z) = first (extended (name (record { letters = x; ending = noEnding })) y) z
+from_name x (used y z) = first (extended (name (record { letters = x; ending = no_ending })) y) z
 from_name x (bound g p) = such_that x g p
 
-pub from_name-plain : (x : Letters) (y : AfterName) (w : List Symbol) → plain_in_brace (from_name x y) w ≡ named x noEnding ∷ plain_after_name y w
+pub from_name-plain : (x : Letters) (y : AfterName) (w : List Symbol) → plain_in_brace (from_name x y) w ≡ named x no_ending ∷ plain_after_name y w
 unfolding from_name plain_term
-from_name-plain x (used y z) w = extended-plain (name (record { letters = x; ending = noEnding })) y (plain_after_first z w)
+from_name-plain x (used y z) w = extended-plain (name (record { letters = x; ending = no_ending })) y (plain_after_first z w)
 from_name-plain x (bound g p) w = refl

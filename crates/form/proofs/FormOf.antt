@@ -13,8 +13,8 @@ use Rattle.symbols.proofs.BooleanTests.{and_left, and_right, clash, or-false}
 use Rattle.lexical.specs.Kinds as kind
 use Rattle.lexical.specs.Kinds.{Kind, code_of, is, lookup}
 use Rattle.lexical.specs.Symbols.{Symbol, fixed}
-use Rattle.lexical.specs.Refusals.{Refusal, fault, number_of, before, longText, unlistedSymbol, manySymbols, noDossier, deep, manyDeclared, headingDiffers, nameInUse, nameUnknown}
-use Rattle.lexical.specs.Refusals.{typesMisfit, wideType, manyBindings, largeSize, zeroDivisor, advanceRange, shortBytes, nothingHeld, somethingHeld, checkFinished, noCounterexample}
+use Rattle.lexical.specs.Refusals.{Refusal, fault, number_of, before, long_text, unlisted_symbol, many_symbols, no_dossier, deep, many_declared, heading_differs, name_in_use, name_unknown}
+use Rattle.lexical.specs.Refusals.{types_misfit, wide_type, many_bindings, large_size, zero_divisor, advance_range, short_bytes, nothing_held, something_held, check_finished, no_counterexample}
 use Rattle.form.specs.Tree.{Dossier}
 use Rattle.form.specs.Written.{Mark, unmarked, written, write_contents}
 use Rattle.form.specs.Form as shape
@@ -99,7 +99,7 @@ range-number k s w h =
 
 used-no_colon : (k : Kind) (w : List Symbol) → is_used k w ≡ true → not (is (kind_at w 0) kind.colon) ≡ true
 unfolding is_used
-used-no_colon k w h = and_right (is k kind.openBrace) (not (is (kind_at w 0) kind.colon)) h
+used-no_colon k w h = and_right (is k kind.open_brace) (not (is (kind_at w 0) kind.colon)) h
 
 fits-mark : {m μ : Mark} {k s : Kind} {v : List Symbol} → Fits m μ k s v → (IsOpens m → is (kind_at v 0) kind.number ≡ false) → (IsBinds m → is (kind_at v 0) kind.colon ≡ true) → m ≡ μ
 fits-mark equal o b = refl
@@ -147,35 +147,35 @@ not-before j i s r h g = ap (λ (x : Bool). x || eqb j i && ltb (number_of s) (n
 -- a refusal is told by its number
 refusals : List Refusal
 refusals =
-    longText ∷ unlistedSymbol ∷ manySymbols ∷ noDossier ∷ deep ∷ manyDeclared ∷ headingDiffers ∷ nameInUse ∷ nameUnknown ∷ typesMisfit ∷ wideType
-    ∷ manyBindings ∷ largeSize ∷ zeroDivisor ∷ advanceRange ∷ shortBytes ∷ nothingHeld ∷ somethingHeld ∷ checkFinished ∷ noCounterexample ∷ []
+    long_text ∷ unlisted_symbol ∷ many_symbols ∷ no_dossier ∷ deep ∷ many_declared ∷ heading_differs ∷ name_in_use ∷ name_unknown ∷ types_misfit ∷ wide_type
+    ∷ many_bindings ∷ large_size ∷ zero_divisor ∷ advance_range ∷ short_bytes ∷ nothing_held ∷ something_held ∷ check_finished ∷ no_counterexample ∷ []
 
 refusal_in : List Refusal → ℕ → Refusal
-refusal_in [] n = longText
+refusal_in [] n = long_text
 refusal_in (r ∷ rs) n = elim (eqb (number_of r) n) [ true ↦ r | false ↦ refusal_in rs n ]
 
 refusal-back : (r : Refusal) → refusal_in refusals (number_of r) ≡ r
 unfolding refusal_in refusals number_of
-refusal-back longText = refl
-refusal-back unlistedSymbol = refl
-refusal-back manySymbols = refl
-refusal-back noDossier = refl
+refusal-back long_text = refl
+refusal-back unlisted_symbol = refl
+refusal-back many_symbols = refl
+refusal-back no_dossier = refl
 refusal-back deep = refl
-refusal-back manyDeclared = refl
-refusal-back headingDiffers = refl
-refusal-back nameInUse = refl
-refusal-back nameUnknown = refl
-refusal-back typesMisfit = refl
-refusal-back wideType = refl
-refusal-back manyBindings = refl
-refusal-back largeSize = refl
-refusal-back zeroDivisor = refl
-refusal-back advanceRange = refl
-refusal-back shortBytes = refl
-refusal-back nothingHeld = refl
-refusal-back somethingHeld = refl
-refusal-back checkFinished = refl
-refusal-back noCounterexample = refl
+refusal-back many_declared = refl
+refusal-back heading_differs = refl
+refusal-back name_in_use = refl
+refusal-back name_unknown = refl
+refusal-back types_misfit = refl
+refusal-back wide_type = refl
+refusal-back many_bindings = refl
+refusal-back large_size = refl
+refusal-back zero_divisor = refl
+refusal-back advance_range = refl
+refusal-back short_bytes = refl
+refusal-back nothing_held = refl
+refusal-back something_held = refl
+refusal-back check_finished = refl
+refusal-back no_counterexample = refl
 
 -- of two faults neither of which is before the other both are one
 same_place : (i j : ℕ) (r s : Refusal) → before (fault i r) (fault j s) ≡ false → (j ≤ i) × (i ≡ j → number_of s ≤ number_of r)

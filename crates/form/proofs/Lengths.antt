@@ -6,7 +6,7 @@ use Prim.Native.Nat.{ℕ, suc, ◌+◌}
 use native.Mathlib.Omega.{arith}
 use lib.ListN.{length}
 use Rattle.lexical.specs.Kinds as kind
-use Rattle.form.specs.Tree.{Letters, End, Range, TypeForm, givenType, powerType, range_type, arrow_type, Given, elements}
+use Rattle.form.specs.Tree.{Letters, End, Range, TypeForm, given_type, power_type, range_type, arrow_type, Given, elements}
 use Rattle.form.specs.Written.{Written, bare, digits, minus_of, write_end, write_range, write_type, write_elements, write_givens}
 use Rattle.form.specs.Codes.{end_width, type_width}
 use Rattle.form.specs.Headings.{given_length}
@@ -23,8 +23,8 @@ range_length r w = omega (arith, end-length r.lower (bare kind.up_to ∷ write_e
 
 pub type-length : (t : TypeForm) (w : List Written) → length (write_type t w) ≡ type_width t + length w
 unfolding write_type type_width
-type-length (givenType g) w = omega arith
-type-length (powerType g) w = omega arith
+type-length (given_type g) w = omega arith
+type-length (power_type g) w = omega arith
 type-length (range_type r) w = omega (arith, range_length r w, range_length r [])
 type-length (arrow_type a g h) w = omega arith
 

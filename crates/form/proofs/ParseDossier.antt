@@ -6,9 +6,9 @@ use native.Mathlib.Omega.{arith}
 use lib.ListN.{length, drop}
 use Rattle.lexical.specs.Kinds as kind
 use Rattle.lexical.specs.Kinds.{is, code_of}
-use Rattle.lexical.specs.Symbols.{noEnding, Symbol, fixed}
+use Rattle.lexical.specs.Symbols.{no_ending, Symbol, fixed}
 use Rattle.form.specs.Tree.{Pred, State, Operation, Dossier}
-use Rattle.form.specs.Written.{a_given, aVariable, an_operation, Written, bare, write_type, write_pred, write_entries, write_givens, write_declarations, write_where, write_state}
+use Rattle.form.specs.Written.{a_given, a_variable, an_operation, Written, bare, write_type, write_pred, write_entries, write_givens, write_declarations, write_where, write_state}
 use Rattle.form.specs.Written.{write_parameters, write_operations, write_contents, written, symbols_of}
 use Rattle.form.specs.Form.{kind_at, PredGrouped, OperationsGrouped, Grouped, Whole}
 use Rattle.form.specs.Parse.{got, parse_pred, parse_entries, parse_givens, parse_where, parse_state, parse_operations, parse_dossier}
@@ -53,7 +53,7 @@ reads-state s g f x w b =
     let j : length (symbols_in v) ≤ length (symbols_in u) = declarations-fit 1 s.other_declarations v in
     rw (
       parse_state,
-      reads-declaration s.first_declaration.declared noEnding (aVariable 1) s.first_declaration.type u,
+      reads-declaration s.first_declaration.declared no_ending (a_variable 1) s.first_declaration.type u,
       reads-declarations 1 f s.other_declarations v refl (omega arith),
       reads-body s.predicate g f (bare kind.END ∷ w) end-ends (omega arith),
     )

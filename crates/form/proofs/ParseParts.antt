@@ -8,9 +8,9 @@ use native.Mathlib.Omega.{arith}
 use lib.ListN.{length}
 use Rattle.lexical.specs.Kinds as kind
 use Rattle.lexical.specs.Kinds.{Kind, is, lookup, code_of}
-use Rattle.lexical.specs.Symbols.{Ending, noEnding, prime, query, shriek, fixed, kind_of_name}
-use Rattle.form.specs.Tree.{Letters, Arrow, relation, partial, total, TypeForm, givenType, powerType, range_type, arrow_type, Declaration, Direction, inward, outward, Parameter, Given}
-use Rattle.form.specs.Written.{Mark, aVariable, Written, bare, declared, arrow_kind, write_type, write_entries, write_elements, write_givens, write_declarations}
+use Rattle.lexical.specs.Symbols.{Ending, no_ending, prime, query, shriek, fixed, kind_of_name}
+use Rattle.form.specs.Tree.{Letters, Arrow, relation, partial, total, TypeForm, given_type, power_type, range_type, arrow_type, Declaration, Direction, inward, outward, Parameter, Given}
+use Rattle.form.specs.Written.{Mark, a_variable, Written, bare, declared, arrow_kind, write_type, write_entries, write_elements, write_givens, write_declarations}
 use Rattle.form.specs.Written.{ending_of, parameter_mark, inputs_after, outputs_after, write_parameters}
 use Rattle.form.specs.Form.{kind_at}
 use Rattle.form.specs.Parse.{got, arrow_of, parse_type, parse_entries, parse_elements, parse_givens, parse_declaration, parse_declarations, parse_parameters}
@@ -22,7 +22,7 @@ use Rattle.form.proofs.ParseTerms.{range-fits}
 -- how the kinds of type are told apart
 name-no_power : (e : Ending) → is (kind_of_name e) kind.POWER ≡ false
 unfolding is code_of
-name-no_power noEnding = refl
+name-no_power no_ending = refl
 name-no_power prime = refl
 name-no_power query = refl
 name-no_power shriek = refl
@@ -44,15 +44,15 @@ semicolon_no_arrow = refl
 -- a type, before ;
 pub type-fits : (t : TypeForm) (w : List Written) → length (symbols_in w) ≤ length (symbols_in (write_type t w))
 unfolding write_type
-type-fits (givenType g) w = omega arith
-type-fits (powerType g) w = omega arith
+type-fits (given_type g) w = omega arith
+type-fits (power_type g) w = omega arith
 type-fits (range_type r) w = range-fits r w
 type-fits (arrow_type a g h) w = omega arith
 
 reads_type : (t : TypeForm) (w : List Written) → parse_type (symbols_in (write_type t (bare kind.semicolon ∷ w))) ≡ got t (fixed kind.semicolon ∷ symbols_in w)
 unfolding parse_type write_type kind_at
-reads_type (givenType g) w = rw (parse_type, name-no_power g.ending, name-kind g.ending, semicolon_no_arrow)
-reads_type (powerType g) w = rw (parse_type, power-is-power)
+reads_type (given_type g) w = rw (parse_type, name-no_power g.ending, name-kind g.ending, semicolon_no_arrow)
+reads_type (power_type g) w = rw (parse_type, power-is-power)
 reads_type (range_type r) w = rw (parse_type, (range-starts r (bare kind.semicolon ∷ w)).2, (range-starts r (bare kind.semicolon ∷ w)).1, reads-range r (bare kind.semicolon ∷ w))
 reads_type (arrow_type a g h) w = rw (parse_type, name-no_power g.ending, name-kind g.ending, arrow-kind a)
 
@@ -123,7 +123,7 @@ reads-declarations n zero (d ∷ ds) w e b = absurd (omega arith)
 reads-declarations n (suc f) (d ∷ ds) w e b =
     rw (
       parse_declarations,
-      reads-declaration d.declared noEnding (aVariable (suc n)) d.type (write_declarations (suc n) ds w),
+      reads-declaration d.declared no_ending (a_variable (suc n)) d.type (write_declarations (suc n) ds w),
       reads-declarations (suc n) f ds w e (omega (arith, type-fits d.type (bare kind.semicolon ∷ write_declarations (suc n) ds w))),
     )
 

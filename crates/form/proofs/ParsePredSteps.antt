@@ -6,9 +6,9 @@ use mathlib.Core.Option.{Option, none, some}
 use Prim.Native.Nat.{ℕ, zero, suc, ◌≤◌, ◌<◌}
 use Rattle.lexical.specs.Kinds as kind
 use Rattle.lexical.specs.Kinds.{is, lookup, code_of}
-use Rattle.lexical.specs.Symbols.{noEnding, Symbol, fixed}
+use Rattle.lexical.specs.Symbols.{no_ending, Symbol, fixed}
 use Rattle.lexical.specs.Symbols as symbol
-use Rattle.form.specs.Tree.{Letters, Range, Domain, given_set, range, Connective, and, or, implies, iff, Quantifier, forall, exists, exists1, Comparison, equals, differs, less, at_most, Membership, isIn, notIn}
+use Rattle.form.specs.Tree.{Letters, Range, Domain, given_set, range, Connective, and, or, implies, iff, Quantifier, forall, exists, exists1, Comparison, equals, differs, less, at_most, Membership, is_in, not_in}
 use Rattle.form.specs.Tree.{Term, Pred, truth, falsity, negation, paren, quantified, connected, compared, member, within, related}
 use Rattle.form.specs.Written.{Written, bare, connective_kind, quantifier_kind, comparison_kind, membership_kind, minus_of, digits, write_end, write_range, write_domain}
 use Rattle.form.specs.Form.{kind_at, connective_level, right_level}
@@ -62,7 +62,7 @@ pub unary-not : (f : ℕ) (p : Pred) (v w : List Symbol) → parse_unary f v ≡
 unfolding parse_unary lookup is code_of kind_at
 unary-not f p v w e = rw (parse_unary, e)
 
-pub unary-paren : (f : ℕ) (p : Pred) (v w : List Symbol) → parse_paren f v ≡ got p w → parse_unary (suc f) (fixed kind.openParen ∷ v) ≡ got p w
+pub unary-paren : (f : ℕ) (p : Pred) (v w : List Symbol) → parse_paren f v ≡ got p w → parse_unary (suc f) (fixed kind.open_paren ∷ v) ≡ got p w
 unfolding parse_unary lookup is code_of kind_at
 unary-paren f p v w e = e
 
@@ -72,7 +72,7 @@ unfolding parse_unary kind_at
 unary-atom f t p u v w b e h = rw (parse_unary, b, e, h)
 
 -- the inside of ( ): a predicate, or a quantifier, its name, its domain and a predicate
-pub paren-inside : (f : ℕ) (p : Pred) (v w : List Symbol) → lookup quantifiers none (first_of v) ≡ none → parse_pred f 1 v ≡ got p (fixed kind.closeParen ∷ w)
+pub paren-inside : (f : ℕ) (p : Pred) (v w : List Symbol) → lookup quantifiers none (first_of v) ≡ none → parse_pred f 1 v ≡ got p (fixed kind.close_paren ∷ w)
     → parse_paren (suc f) v ≡ got (paren p) w
 unfolding parse_paren kind_at
 paren-inside f p v w b e = rw (parse_paren, b, e)
@@ -84,8 +84,8 @@ quantifier-kind exists = refl
 quantifier-kind exists1 = refl
 
 pub paren-quantified : (f : ℕ) (q : Quantifier) (x : Letters) (t : Domain) (p : Pred) (u v w : List Symbol) → parse_domain u ≡ got t (fixed kind.spot ∷ v)
-    → parse_pred f 1 v ≡ got p (fixed kind.closeParen ∷ w)
-    → parse_paren (suc f) (fixed (quantifier_kind q) ∷ symbol.name (record { letters = x; ending = noEnding }) ∷ fixed kind.colon ∷ u) ≡ got (quantified q x t p) w
+    → parse_pred f 1 v ≡ got p (fixed kind.close_paren ∷ w)
+    → parse_paren (suc f) (fixed (quantifier_kind q) ∷ symbol.name (record { letters = x; ending = no_ending }) ∷ fixed kind.colon ∷ u) ≡ got (quantified q x t p) w
 unfolding parse_paren kind_at
 paren-quantified f q x t p u v w e h = rw (parse_paren, quantifier-kind q, e, h)
 
@@ -99,8 +99,8 @@ comparison-kind at_most = refl
 
 membership-kind : (o : Membership) → lookup relations maps (membership_kind o) ≡ contains o
 unfolding lookup is code_of
-membership-kind isIn = refl
-membership-kind notIn = refl
+membership-kind is_in = refl
+membership-kind not_in = refl
 
 pub atom-compared : (o : Comparison) (f : ℕ) (t u : Term) (v w : List Symbol) → parse_term f 1 v ≡ got u w
     → parse_atom (suc f) t (fixed (comparison_kind o) ∷ v) ≡ got (compared o t u) w
@@ -120,8 +120,8 @@ atom-within o f t r v w b e = rw (parse_atom, membership-kind o, b, e)
 pub atom-related : (o : Membership) (f : ℕ) (t u s : Term) (v w x : List Symbol) → parse_term f 1 v ≡ got u (fixed (membership_kind o) ∷ w) → parse_term f 1 w ≡ got s x
     → parse_atom (suc f) t (fixed kind.maplet ∷ v) ≡ got (related o t u s) x
 unfolding parse_atom lookup is code_of kind_at
-atom-related isIn f t u s v w x e h = rw (parse_atom, e, h)
-atom-related notIn f t u s v w x e h = rw (parse_atom, e, h)
+atom-related is_in f t u s v w x e h = rw (parse_atom, e, h)
+atom-related not_in f t u s v w x e h = rw (parse_atom, e, h)
 
 -- how a range begins, and what the domain of a bound name is read as
 range-tests : (b : Bool) (n : ℕ) (w : List Written) → (is_range (symbols_in (minus_of b (digits n ∷ bare kind.up_to ∷ w))) ≡ true)

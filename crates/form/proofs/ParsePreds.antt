@@ -156,15 +156,15 @@ negation-read p r i = from-unary (negation p) (1 + r.count) (omega arith) (λ d 
 
 pub paren-read : (p : Pred) → PredRead p → PredRead (paren p)
 unfolding write_pred lookup is code_of
-paren-read p r = from-unary (paren p) (2 + r.count) (omega arith) (λ d k w. omega (arith, r.fits (suc d) k (bare kind.closeParen ∷ w))) (λ d k w. refl) go
+paren-read p r = from-unary (paren p) (2 + r.count) (omega arith) (λ d k w. omega (arith, r.fits (suc d) k (bare kind.close_paren ∷ w))) (λ d k w. refl) go
   where
     go : Unary (paren p) (2 + r.count)
     go zero d k w e b = absurd (omega arith)
     go (suc zero) d k w e b = absurd (omega arith)
     go (suc (suc f)) d k w e b =
         unary-paren (suc f) (paren p) _ (symbols_in w)
-        (paren-inside f p _ (symbols_in w) (r.unquantified (suc d) k (bare kind.closeParen ∷ w))
-        (reads-whole-pred p r f (suc d) k (bare kind.closeParen ∷ w) paren-ends (omega arith)))
+        (paren-inside f p _ (symbols_in w) (r.unquantified (suc d) k (bare kind.close_paren ∷ w))
+        (reads-whole-pred p r f (suc d) k (bare kind.close_paren ∷ w) paren-ends (omega arith)))
 
 domain-fits : (t : Domain) (w : List Written) → length (symbols_in w) ≤ length (symbols_in (write_domain t w))
 domain-fits (given_set g) w = omega arith
@@ -173,7 +173,7 @@ domain-fits (range r) w = range-fits r w
 pub quantified-read : (q : Quantifier) (x : Letters) (t : Domain) (p : Pred) → PredRead p → PredRead (quantified q x t p)
 unfolding write_pred lookup is code_of
 quantified-read q x t p r = from-unary (quantified q x t p) (2 + r.count) (omega arith)
-    (λ d k w. omega (arith, domain-fits t (bare kind.spot ∷ write_pred p (suc d) (suc k) (bare kind.closeParen ∷ w)), r.fits (suc d) (suc k) (bare kind.closeParen ∷ w)))
+    (λ d k w. omega (arith, domain-fits t (bare kind.spot ∷ write_pred p (suc d) (suc k) (bare kind.close_paren ∷ w)), r.fits (suc d) (suc k) (bare kind.close_paren ∷ w)))
     (λ d k w. refl) go
   where
     go : Unary (quantified q x t p) (2 + r.count)
@@ -181,17 +181,17 @@ quantified-read q x t p r = from-unary (quantified q x t p) (2 + r.count) (omega
     go (suc zero) d k w e b = absurd (omega arith)
     go (suc (suc f)) d k w e b =
         unary-paren (suc f) (quantified q x t p) _ (symbols_in w)
-        (paren-quantified f q x t p _ _ (symbols_in w) (reads-domain t (bare kind.spot ∷ write_pred p (suc d) (suc k) (bare kind.closeParen ∷ w)))
-        (reads-whole-pred p r f (suc d) (suc k) (bare kind.closeParen ∷ w) paren-ends (omega arith)))
+        (paren-quantified f q x t p _ _ (symbols_in w) (reads-domain t (bare kind.spot ∷ write_pred p (suc d) (suc k) (bare kind.close_paren ∷ w)))
+        (reads-whole-pred p r f (suc d) (suc k) (bare kind.close_paren ∷ w) paren-ends (omega arith)))
 
 -- {x : G | p}
 pub such-read : (x : Letters) (g : Name) (p : Pred) → PredRead p → TermRead (such x g p)
 unfolding write_term
-such-read x g p r = from-operand (such x g p) (2 + r.count) (omega arith) (λ d k w. omega (arith, r.fits (suc d) (suc k) (bare kind.closeBrace ∷ w))) go
+such-read x g p r = from-operand (such x g p) (2 + r.count) (omega arith) (λ d k w. omega (arith, r.fits (suc d) (suc k) (bare kind.close_brace ∷ w))) go
   where
     go : Operand (such x g p) (2 + r.count)
     go zero l d k w e b = absurd (omega arith)
     go (suc zero) l d k w e b = absurd (omega arith)
     go (suc (suc f)) l d k w e b =
         operand-brace (suc f) (such x g p) _ (symbols_in w)
-        (brace-such f x g p _ (symbols_in w) (reads-whole-pred p r f (suc d) (suc k) (bare kind.closeBrace ∷ w) brace-ends (omega arith)))
+        (brace-such f x g p _ (symbols_in w) (reads-whole-pred p r f (suc d) (suc k) (bare kind.close_brace ∷ w) brace-ends (omega arith)))

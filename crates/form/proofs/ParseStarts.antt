@@ -7,10 +7,10 @@ use Prim.Native.Nat.{ℕ, suc, ◌≤◌, ◌<◌}
 use native.Mathlib.Omega.{arith}
 use Rattle.lexical.specs.Kinds as kind
 use Rattle.lexical.specs.Kinds.{Kind, is, lookup, code_of}
-use Rattle.lexical.specs.Symbols.{Ending, noEnding, prime, query, shriek, Symbol, fixed, numeral}
+use Rattle.lexical.specs.Symbols.{Ending, no_ending, prime, query, shriek, Symbol, fixed, numeral}
 use Rattle.lexical.specs.Symbols as symbol
 use Rattle.form.specs.Tree.{Prefix, negate, size, dom, ran, Operator, plus, minus, union, without, times, inter, Division, quotient, remainder}
-use Rattle.form.specs.Tree.{Connective, and, or, implies, iff, Comparison, equals, differs, less, at_most, Membership, isIn, notIn}
+use Rattle.form.specs.Tree.{Connective, and, or, implies, iff, Comparison, equals, differs, less, at_most, Membership, is_in, not_in}
 use Rattle.form.specs.Tree.{Term, number, name, group, prefix, binary, divided, listed, pairs, such, empty_set, empty_pairs}
 use Rattle.form.specs.Written.{Written, bare, operator_kind, division_kind, prefix_kind, connective_kind, comparison_kind, membership_kind, write_end, write_term}
 use Rattle.form.specs.Form.{kind_at, operator_level, division_level, connective_level}
@@ -42,9 +42,9 @@ pred-ends-above h e = record { level = omega arith; term = e.term }
 closes : (k : Kind) → lookup infixes not_infix k ≡ not_infix → is_name_kind k ≡ false → is k kind.colon ≡ false → is k kind.up_to ≡ false → TermEnds 1 k
 closes k e n c u = record { level = rw e (omega arith); not_name = n; not_colon = c; not_up_to = u }
 
-pub bracket-ends : TermEnds 1 kind.closeBracket
+pub bracket-ends : TermEnds 1 kind.close_bracket
 unfolding lookup is code_of
-bracket-ends = closes kind.closeBracket refl refl refl refl
+bracket-ends = closes kind.close_bracket refl refl refl refl
 
 pub comma-ends : TermEnds 1 kind.comma
 unfolding lookup is code_of
@@ -54,13 +54,13 @@ pub maplet-ends : TermEnds 1 kind.maplet
 unfolding lookup is code_of
 maplet-ends = closes kind.maplet refl refl refl refl
 
-pub brace-ends : PredEnds 1 kind.closeBrace
+pub brace-ends : PredEnds 1 kind.close_brace
 unfolding lookup is code_of
-brace-ends = record { level = omega arith; term = closes kind.closeBrace refl refl refl refl }
+brace-ends = record { level = omega arith; term = closes kind.close_brace refl refl refl refl }
 
-pub paren-ends : PredEnds 1 kind.closeParen
+pub paren-ends : PredEnds 1 kind.close_paren
 unfolding lookup is code_of
-paren-ends = record { level = omega arith; term = closes kind.closeParen refl refl refl refl }
+paren-ends = record { level = omega arith; term = closes kind.close_paren refl refl refl refl }
 
 pub end-ends : PredEnds 1 kind.END
 unfolding lookup is code_of
@@ -94,8 +94,8 @@ comparison-ends at_most = closes kind.at_most refl refl refl refl
 
 pub membership-ends : (o : Membership) → TermEnds 1 (membership_kind o)
 unfolding lookup is code_of
-membership-ends isIn = closes kind.IN refl refl refl refl
-membership-ends notIn = closes kind.NOTIN refl refl refl refl
+membership-ends is_in = closes kind.IN refl refl refl refl
+membership-ends not_in = closes kind.NOTIN refl refl refl refl
 
 connective-ends : (o : Connective) → TermEnds 1 (connective_kind o)
 unfolding lookup is code_of
@@ -123,7 +123,7 @@ number-starts n l v e = record { is_term = refl; unquantified = refl; unbound = 
 
 name-starts : (x : List ℕ) (a : Ending) (l : ℕ) (v : List Symbol) → TermEnds l (first_of v) → TermStart (symbol.name (record { letters = x; ending = a }) ∷ v)
 unfolding lookup is code_of kind_at is_range
-name-starts x noEnding l v e = record { is_term = refl; unquantified = refl; unbound = e.not_colon; no_range = refl; no_upper = refl }
+name-starts x no_ending l v e = record { is_term = refl; unquantified = refl; unbound = e.not_colon; no_range = refl; no_upper = refl }
 name-starts x prime l v e = record { is_term = refl; unquantified = refl; unbound = refl; no_range = refl; no_upper = refl }
 name-starts x query l v e = record { is_term = refl; unquantified = refl; unbound = refl; no_range = refl; no_upper = refl }
 name-starts x shriek l v e = record { is_term = refl; unquantified = refl; unbound = refl; no_range = refl; no_upper = refl }
@@ -135,11 +135,11 @@ prefix-starts size v s = record { is_term = refl; unquantified = refl; unbound =
 prefix-starts dom v s = record { is_term = refl; unquantified = refl; unbound = refl; no_range = refl; no_upper = refl }
 prefix-starts ran v s = record { is_term = refl; unquantified = refl; unbound = refl; no_range = refl; no_upper = refl }
 
-bracket-starts : (v : List Symbol) → TermStart (fixed kind.openBracket ∷ v)
+bracket-starts : (v : List Symbol) → TermStart (fixed kind.open_bracket ∷ v)
 unfolding lookup is code_of kind_at is_range
 bracket-starts v = record { is_term = refl; unquantified = refl; unbound = refl; no_range = refl; no_upper = refl }
 
-brace-starts : (v : List Symbol) → TermStart (fixed kind.openBrace ∷ v)
+brace-starts : (v : List Symbol) → TermStart (fixed kind.open_brace ∷ v)
 unfolding lookup is code_of kind_at is_range
 brace-starts v = record { is_term = refl; unquantified = refl; unbound = refl; no_range = refl; no_upper = refl }
 

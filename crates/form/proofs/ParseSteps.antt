@@ -8,14 +8,14 @@ use lib.Dec.{leb, T, le→leb, leb→le}
 use lib.ListN.{get_or}
 use Rattle.lexical.specs.Kinds as kind
 use Rattle.lexical.specs.Kinds.{Kind, is, lookup, code_of}
-use Rattle.lexical.specs.Symbols.{Name, Ending, noEnding, prime, query, shriek, Symbol, fixed, numeral, kind_of, kind_of_name}
+use Rattle.lexical.specs.Symbols.{Name, Ending, no_ending, prime, query, shriek, Symbol, fixed, numeral, kind_of, kind_of_name}
 use Rattle.lexical.specs.Symbols as symbol
 use Rattle.form.specs.Tree.{Letters, End, Range, Prefix, negate, size, dom, ran, Operator, plus, minus, union, without, times, inter, Division, quotient, remainder}
 use Rattle.form.specs.Tree.{Term, number, name, group, prefix, binary, divided, listed, pairs, such, empty_set, empty_pairs, Items, only, also, Pairs, only_pair, also_pair, Pred}
 use Rattle.form.specs.Written.{Written, bare, operator_kind, division_kind, prefix_kind, minus_of, digits, write_end, write_range}
 use Rattle.form.specs.Form.{kind_at, operator_level, division_level}
 use Rattle.form.specs.Parse.{got, parse_term, parse_term_rest, parse_operand, parse_brace, parse_items, parse_pairs, parse_pred, parse_end, parse_range, parse_empty}
-use Rattle.form.specs.Parse.{aName, a_prefix, starts, Infix, between, divides, not_infix, infixes}
+use Rattle.form.specs.Parse.{a_name, a_prefix, starts, Infix, between, divides, not_infix, infixes}
 use Rattle.form.proofs.Takes.{symbols_in}
 
 -- a test as a path
@@ -106,9 +106,9 @@ pub operand-number : (f n : ℕ) (w : List Symbol) → parse_operand (suc f) (nu
 unfolding parse_operand lookup is code_of kind_at
 operand-number f n w = refl
 
-start-name : (e : Ending) → lookup starts aName (kind_of_name e) ≡ aName
+start-name : (e : Ending) → lookup starts a_name (kind_of_name e) ≡ a_name
 unfolding lookup is code_of
-start-name noEnding = refl
+start-name no_ending = refl
 start-name prime = refl
 start-name query = refl
 start-name shriek = refl
@@ -117,12 +117,12 @@ pub operand-name : (f : ℕ) (x : Name) (w : List Symbol) → parse_operand (suc
 unfolding parse_operand kind_at
 operand-name f x w = rw (parse_operand, start-name x.ending)
 
-pub operand-group : (f : ℕ) (t : Term) (v w : List Symbol) → parse_term f 1 v ≡ got t (fixed kind.closeBracket ∷ w)
-    → parse_operand (suc f) (fixed kind.openBracket ∷ v) ≡ got (group t) w
+pub operand-group : (f : ℕ) (t : Term) (v w : List Symbol) → parse_term f 1 v ≡ got t (fixed kind.close_bracket ∷ w)
+    → parse_operand (suc f) (fixed kind.open_bracket ∷ v) ≡ got (group t) w
 unfolding parse_operand lookup is code_of kind_at
 operand-group f t v w e = rw (parse_operand, e)
 
-start-prefix : (o : Prefix) → lookup starts aName (prefix_kind o) ≡ a_prefix o
+start-prefix : (o : Prefix) → lookup starts a_name (prefix_kind o) ≡ a_prefix o
 unfolding lookup is code_of
 start-prefix negate = refl
 start-prefix size = refl
@@ -133,7 +133,7 @@ pub operand_prefix : (o : Prefix) (f : ℕ) (t : Term) (v w : List Symbol) → p
 unfolding parse_operand kind_at
 operand_prefix o f t v w e = rw (parse_operand, start-prefix o, e)
 
-pub operand-brace : (f : ℕ) (t : Term) (v w : List Symbol) → parse_brace f v ≡ got t w → parse_operand (suc f) (fixed kind.openBrace ∷ v) ≡ got t w
+pub operand-brace : (f : ℕ) (t : Term) (v w : List Symbol) → parse_brace f v ≡ got t w → parse_operand (suc f) (fixed kind.open_brace ∷ v) ≡ got t w
 unfolding parse_operand lookup is code_of kind_at
 operand-brace f t v w e = e
 
@@ -144,7 +144,7 @@ operand-empty f g w e = rw (parse_empty, e)
 
 pub name-kind : (e : Ending) → is_name_kind (kind_of_name e) ≡ true
 unfolding lookup is code_of
-name-kind noEnding = refl
+name-kind no_ending = refl
 name-kind prime = refl
 name-kind query = refl
 name-kind shriek = refl
@@ -158,23 +158,23 @@ operand-empty-pairs f g h w = rw (parse_empty, name-kind h.ending)
 abbrev pub binds_at : List Symbol → Bool
 binds_at v = is (kind_at v 0) kind.plain && is (kind_at v 1) kind.colon
 
-pub brace-such : (f : ℕ) (x : Letters) (g : Name) (p : Pred) (v w : List Symbol) → parse_pred f 1 v ≡ got p (fixed kind.closeBrace ∷ w)
-    → parse_brace (suc f) (symbol.name (record { letters = x; ending = noEnding }) ∷ fixed kind.colon ∷ symbol.name g ∷ fixed kind.bar ∷ v) ≡ got (such x g p) w
+pub brace-such : (f : ℕ) (x : Letters) (g : Name) (p : Pred) (v w : List Symbol) → parse_pred f 1 v ≡ got p (fixed kind.close_brace ∷ w)
+    → parse_brace (suc f) (symbol.name (record { letters = x; ending = no_ending }) ∷ fixed kind.colon ∷ symbol.name g ∷ fixed kind.bar ∷ v) ≡ got (such x g p) w
 unfolding parse_brace is code_of kind_at
 brace-such f x g p v w e = rw (parse_brace, e)
 
 pub brace-listed : (f : ℕ) (t : Term) (ts : Items) (u v w : List Symbol) → binds_at v ≡ false → parse_term f 1 v ≡ got t u → is (first_of u) kind.maplet ≡ false
-    → parse_items f t u ≡ got ts (fixed kind.closeBrace ∷ w) → parse_brace (suc f) v ≡ got (listed ts) w
+    → parse_items f t u ≡ got ts (fixed kind.close_brace ∷ w) → parse_brace (suc f) v ≡ got (listed ts) w
 unfolding parse_brace kind_at
 brace-listed f t ts u v w b e m h = rw (parse_brace, b, e, m, e, h)
 
 pub brace-pairs : (f : ℕ) (t : Term) (ts : Pairs) (u v w : List Symbol) → binds_at v ≡ false → parse_term f 1 v ≡ got t u → is (first_of u) kind.maplet ≡ true
-    → parse_pairs f t u ≡ got ts (fixed kind.closeBrace ∷ w) → parse_brace (suc f) v ≡ got (pairs ts) w
+    → parse_pairs f t u ≡ got ts (fixed kind.close_brace ∷ w) → parse_brace (suc f) v ≡ got (pairs ts) w
 unfolding parse_brace kind_at
 brace-pairs f t ts u v w b e m h = rw (parse_brace, b, e, m, e, h)
 
 -- behind a term or pair of a list: the closing brace ends the list, a comma goes on with it
-pub items-end : (f : ℕ) (t : Term) (w : List Symbol) → parse_items f t (fixed kind.closeBrace ∷ w) ≡ got (only t) (fixed kind.closeBrace ∷ w)
+pub items-end : (f : ℕ) (t : Term) (w : List Symbol) → parse_items f t (fixed kind.close_brace ∷ w) ≡ got (only t) (fixed kind.close_brace ∷ w)
 unfolding parse_items is code_of kind_at
 items-end zero t w = refl
 items-end (suc f) t w = refl
@@ -184,8 +184,8 @@ pub items_more : (f : ℕ) (t u : Term) (ts : Items) (v w x : List Symbol) → p
 unfolding parse_items is code_of kind_at
 items_more f t u ts v w x e h = rw (parse_items, e, h)
 
-pub pairs_end : (f : ℕ) (t u : Term) (v w : List Symbol) → parse_term f 1 v ≡ got u (fixed kind.closeBrace ∷ w)
-    → parse_pairs (suc f) t (fixed kind.maplet ∷ v) ≡ got (only_pair t u) (fixed kind.closeBrace ∷ w)
+pub pairs_end : (f : ℕ) (t u : Term) (v w : List Symbol) → parse_term f 1 v ≡ got u (fixed kind.close_brace ∷ w)
+    → parse_pairs (suc f) t (fixed kind.maplet ∷ v) ≡ got (only_pair t u) (fixed kind.close_brace ∷ w)
 unfolding parse_pairs is code_of kind_at
 pairs_end f t u v w e = rw (parse_pairs, e, e)
 

@@ -104,12 +104,12 @@ name-read x = from-operand (name x) 1 (omega arith) (λ d k w. omega arith) go
 
 pub group-read : (t : Term) → TermRead t → TermRead (group t)
 unfolding write_term
-group-read t r = from-operand (group t) (2 + r.count) (omega arith) (λ d k w. omega (arith, r.fits (suc d) k (bare kind.closeBracket ∷ w))) go
+group-read t r = from-operand (group t) (2 + r.count) (omega arith) (λ d k w. omega (arith, r.fits (suc d) k (bare kind.close_bracket ∷ w))) go
   where
     go : Operand (group t) (2 + r.count)
     go zero l d k w e b = absurd (omega arith)
     go (suc f) l d k w e b =
-        operand-group f t _ (symbols_in w) (reads_whole t r f (suc d) k (bare kind.closeBracket ∷ w) bracket-ends (omega arith))
+        operand-group f t _ (symbols_in w) (reads_whole t r f (suc d) k (bare kind.close_bracket ∷ w) bracket-ends (omega arith))
 
 pub prefix-read : (o : Prefix) (t : Term) → TermRead t → prefix_level ≤ term_level t → TermRead (prefix o t)
 unfolding write_term

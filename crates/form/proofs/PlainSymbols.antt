@@ -6,11 +6,11 @@ use Prim.Native.Nat.{ℕ, suc}
 use Rattle.lexical.specs.Kinds as kind
 use Rattle.lexical.specs.Kinds.{Kind}
 use Rattle.lexical.specs.Symbols as symbol
-use Rattle.lexical.specs.Symbols.{Ending, noEnding, Symbol, fixed, numeral}
+use Rattle.lexical.specs.Symbols.{Ending, no_ending, Symbol, fixed, numeral}
 use Rattle.form.specs.Tree.{Letters, End, Range, Domain, given_set, range, and, or, implies, iff}
 use Rattle.form.specs.Tree.{Term, number, name, group, prefix, binary, divided, listed, pairs, such, empty_set, empty_pairs, Items, only, also, Pairs, only_pair, also_pair}
 use Rattle.form.specs.Tree.{Pred, truth, falsity, negation, paren, quantified, connected, compared, member, within, related}
-use Rattle.form.specs.Tree.{TypeForm, givenType, powerType, range_type, arrow_type, Declaration, Parameter, Given, State, Operation, Dossier}
+use Rattle.form.specs.Tree.{TypeForm, given_type, power_type, range_type, arrow_type, Declaration, Parameter, Given, State, Operation, Dossier}
 use Rattle.form.specs.Written.{Mark, Written, prefix_kind, operator_kind, division_kind, connective_kind, quantifier_kind, comparison_kind, membership_kind, arrow_kind}
 use Rattle.form.specs.Written.{minus_of, write_end, write_range, write_domain, write_term, write_items, write_pairs, write_pred, write_type, write_entries, write_elements, write_givens}
 use Rattle.form.specs.Written.{write_declarations, write_where, write_state, ending_of, write_parameters, write_operations, write_contents, written, symbols_of}
@@ -38,14 +38,14 @@ unfoldable mutual
   pub plain_term : Term → List Symbol → List Symbol
   plain_term (number n) w = numeral n ∷ w
   plain_term (name x) w = symbol.name x ∷ w
-  plain_term (group t) w = fixed kind.openBracket ∷ plain_term t (fixed kind.closeBracket ∷ w)
+  plain_term (group t) w = fixed kind.open_bracket ∷ plain_term t (fixed kind.close_bracket ∷ w)
   plain_term (prefix o t) w = fixed (prefix_kind o) ∷ plain_term t w
   plain_term (binary o t u) w = plain_term t (fixed (operator_kind o) ∷ plain_term u w)
   plain_term (divided o t e) w = plain_term t (fixed (division_kind o) ∷ plain_end e w)
-  plain_term (listed ts) w = fixed kind.openBrace ∷ plain_items ts (fixed kind.closeBrace ∷ w)
-  plain_term (pairs ts) w = fixed kind.openBrace ∷ plain_pairs ts (fixed kind.closeBrace ∷ w)
+  plain_term (listed ts) w = fixed kind.open_brace ∷ plain_items ts (fixed kind.close_brace ∷ w)
+  plain_term (pairs ts) w = fixed kind.open_brace ∷ plain_pairs ts (fixed kind.close_brace ∷ w)
   plain_term (such x g p) w =
-      fixed kind.openBrace ∷ named x noEnding ∷ fixed kind.colon ∷ symbol.name g ∷ fixed kind.bar ∷ plain_pred p (fixed kind.closeBrace ∷ w)
+      fixed kind.open_brace ∷ named x no_ending ∷ fixed kind.colon ∷ symbol.name g ∷ fixed kind.bar ∷ plain_pred p (fixed kind.close_brace ∷ w)
   plain_term (empty_set g) w = fixed kind.EMPTY ∷ symbol.name g ∷ w
   plain_term (empty_pairs g h) w = fixed kind.EMPTY ∷ symbol.name g ∷ symbol.name h ∷ w
 
@@ -61,9 +61,9 @@ unfoldable mutual
   plain_pred truth w = fixed kind.TRUE ∷ w
   plain_pred falsity w = fixed kind.FALSE ∷ w
   plain_pred (negation p) w = fixed kind.NOT ∷ plain_pred p w
-  plain_pred (paren p) w = fixed kind.openParen ∷ plain_pred p (fixed kind.closeParen ∷ w)
+  plain_pred (paren p) w = fixed kind.open_paren ∷ plain_pred p (fixed kind.close_paren ∷ w)
   plain_pred (quantified q x t p) w =
-      fixed kind.openParen ∷ fixed (quantifier_kind q) ∷ named x noEnding ∷ fixed kind.colon ∷ plain_domain t (fixed kind.spot ∷ plain_pred p (fixed kind.closeParen ∷ w))
+      fixed kind.open_paren ∷ fixed (quantifier_kind q) ∷ named x no_ending ∷ fixed kind.colon ∷ plain_domain t (fixed kind.spot ∷ plain_pred p (fixed kind.close_paren ∷ w))
   plain_pred (connected o p q) w = plain_pred p (fixed (connective_kind o) ∷ plain_pred q w)
   plain_pred (compared o t u) w = plain_term t (fixed (comparison_kind o) ∷ plain_term u w)
   plain_pred (member o t u) w = plain_term t (fixed (membership_kind o) ∷ plain_term u w)
@@ -71,26 +71,26 @@ unfoldable mutual
   plain_pred (related o t u v) w = plain_term t (fixed kind.maplet ∷ plain_term u (fixed (membership_kind o) ∷ plain_term v w))
 
 abbrev pub plain_type : TypeForm → List Symbol → List Symbol
-plain_type (givenType g) w = symbol.name g ∷ w
-plain_type (powerType g) w = fixed kind.POWER ∷ symbol.name g ∷ w
+plain_type (given_type g) w = symbol.name g ∷ w
+plain_type (power_type g) w = fixed kind.POWER ∷ symbol.name g ∷ w
 plain_type (range_type r) w = plain_range r w
 plain_type (arrow_type a g h) w = symbol.name g ∷ fixed (arrow_kind a) ∷ symbol.name h ∷ w
 
 abbrev pub plain_entries : Kind → List Letters → List Symbol → List Symbol
 plain_entries k [] w = w
-plain_entries k (x ∷ xs) w = fixed k ∷ named x noEnding ∷ plain_entries k xs w
+plain_entries k (x ∷ xs) w = fixed k ∷ named x no_ending ∷ plain_entries k xs w
 
 abbrev pub plain_elements : List Letters → List Symbol → List Symbol
 plain_elements [] w = w
-plain_elements (x ∷ xs) w = named x noEnding ∷ plain_elements xs w
+plain_elements (x ∷ xs) w = named x no_ending ∷ plain_elements xs w
 
 abbrev pub plain_givens : List Given → List Symbol → List Symbol
 plain_givens [] w = w
-plain_givens (g ∷ gs) w = fixed kind.GIVEN ∷ named g.title noEnding ∷ named g.first_element noEnding ∷ plain_elements g.other_elements (fixed kind.END ∷ plain_givens gs w)
+plain_givens (g ∷ gs) w = fixed kind.GIVEN ∷ named g.title no_ending ∷ named g.first_element no_ending ∷ plain_elements g.other_elements (fixed kind.END ∷ plain_givens gs w)
 
 abbrev pub plain_declarations : List Declaration → List Symbol → List Symbol
 plain_declarations [] w = w
-plain_declarations (d ∷ ds) w = named d.declared noEnding ∷ fixed kind.colon ∷ plain_type d.type (fixed kind.semicolon ∷ plain_declarations ds w)
+plain_declarations (d ∷ ds) w = named d.declared no_ending ∷ fixed kind.colon ∷ plain_type d.type (fixed kind.semicolon ∷ plain_declarations ds w)
 
 abbrev pub plain_where : Pred → List Symbol → List Symbol
 plain_where p w = fixed kind.WHERE ∷ plain_pred p (fixed kind.END ∷ w)
@@ -106,7 +106,7 @@ plain_parameters (x ∷ xs) w =
 abbrev pub plain_operations : List Operation → List Symbol → List Symbol
 plain_operations [] w = w
 plain_operations (o ∷ os) w =
-    fixed kind.OP ∷ named o.title noEnding ∷ plain_parameters o.parameters (fixed kind.ABSTRACT ∷ plain_pred o.abstractly (fixed kind.CONCRETE
+    fixed kind.OP ∷ named o.title no_ending ∷ plain_parameters o.parameters (fixed kind.ABSTRACT ∷ plain_pred o.abstractly (fixed kind.CONCRETE
     ∷ plain_pred o.concretely (fixed kind.END ∷ plain_operations os w)))
 
 -- a dossier's bodies
@@ -166,14 +166,14 @@ mutual
   pub term-plain : (t : Term) (d k : ℕ) (w : List Written) → symbols_in (write_term t d k w) ≡ plain_term t (symbols_in w)
   term-plain (number n) d k w = refl
   term-plain (name x) d k w = refl
-  term-plain (group t) d k w = ap (λ (l : List Symbol). fixed kind.openBracket ∷ l) (term-plain t _ _ _)
+  term-plain (group t) d k w = ap (λ (l : List Symbol). fixed kind.open_bracket ∷ l) (term-plain t _ _ _)
   term-plain (prefix o t) d k w = ap (λ (l : List Symbol). fixed (prefix_kind o) ∷ l) (term-plain t _ _ _)
   term-plain (binary o t u) d k w = term-plain t _ _ _ ∙ ap (λ (l : List Symbol). plain_term t (fixed (operator_kind o) ∷ l)) (term-plain u _ _ _)
   term-plain (divided o t e) d k w = term-plain t _ _ _ ∙ ap (λ (l : List Symbol). plain_term t (fixed (division_kind o) ∷ l)) (end-plain e w)
-  term-plain (listed ts) d k w = ap (λ (l : List Symbol). fixed kind.openBrace ∷ l) (items-plain ts _ _ _)
-  term-plain (pairs ts) d k w = ap (λ (l : List Symbol). fixed kind.openBrace ∷ l) (pairs-plain ts _ _ _)
+  term-plain (listed ts) d k w = ap (λ (l : List Symbol). fixed kind.open_brace ∷ l) (items-plain ts _ _ _)
+  term-plain (pairs ts) d k w = ap (λ (l : List Symbol). fixed kind.open_brace ∷ l) (pairs-plain ts _ _ _)
   term-plain (such x g p) d k w =
-      ap (λ (l : List Symbol). fixed kind.openBrace ∷ named x noEnding ∷ fixed kind.colon ∷ symbol.name g ∷ fixed kind.bar ∷ l) (pred-plain p _ _ _)
+      ap (λ (l : List Symbol). fixed kind.open_brace ∷ named x no_ending ∷ fixed kind.colon ∷ symbol.name g ∷ fixed kind.bar ∷ l) (pred-plain p _ _ _)
   term-plain (empty_set g) d k w = refl
   term-plain (empty_pairs g h) d k w = refl
 
@@ -190,9 +190,9 @@ mutual
   pred-plain truth d k w = refl
   pred-plain falsity d k w = refl
   pred-plain (negation p) d k w = ap (λ (l : List Symbol). fixed kind.NOT ∷ l) (pred-plain p _ _ _)
-  pred-plain (paren p) d k w = ap (λ (l : List Symbol). fixed kind.openParen ∷ l) (pred-plain p _ _ _)
+  pred-plain (paren p) d k w = ap (λ (l : List Symbol). fixed kind.open_paren ∷ l) (pred-plain p _ _ _)
   pred-plain (quantified q x t p) d k w =
-      ap (λ (l : List Symbol). fixed kind.openParen ∷ fixed (quantifier_kind q) ∷ named x noEnding ∷ fixed kind.colon ∷ l)
+      ap (λ (l : List Symbol). fixed kind.open_paren ∷ fixed (quantifier_kind q) ∷ named x no_ending ∷ fixed kind.colon ∷ l)
       (domain-plain t _ ∙ ap (λ (l : List Symbol). plain_domain t (fixed kind.spot ∷ l)) (pred-plain p _ _ _))
   pred-plain (connected and p q) d k w = pred-plain p _ _ _ ∙ ap (λ (l : List Symbol). plain_pred p (fixed kind.AND ∷ l)) (pred-plain q _ _ _)
   pred-plain (connected or p q) d k w = pred-plain p _ _ _ ∙ ap (λ (l : List Symbol). plain_pred p (fixed kind.OR ∷ l)) (pred-plain q _ _ _)
@@ -206,34 +206,34 @@ mutual
 
 pub type-plain : (t : TypeForm) (w : List Written) → symbols_in (write_type t w) ≡ plain_type t (symbols_in w)
 unfolding write_type
-type-plain (givenType g) w = refl
-type-plain (powerType g) w = refl
+type-plain (given_type g) w = refl
+type-plain (power_type g) w = refl
 type-plain (range_type r) w = range-plain r w
 type-plain (arrow_type a g h) w = refl
 
 entries-plain : (k : Kind) (m : ℕ → Mark) (n : ℕ) (xs : List Letters) (w : List Written) → symbols_in (write_entries k m n xs w) ≡ plain_entries k xs (symbols_in w)
 unfolding write_entries
 entries-plain k m n [] w = refl
-entries-plain k m n (x ∷ xs) w = ap (λ (l : List Symbol). fixed k ∷ named x noEnding ∷ l) (entries-plain k m (suc n) xs w)
+entries-plain k m n (x ∷ xs) w = ap (λ (l : List Symbol). fixed k ∷ named x no_ending ∷ l) (entries-plain k m (suc n) xs w)
 
 elements-plain : (n : ℕ) (xs : List Letters) (w : List Written) → symbols_in (write_elements n xs w) ≡ plain_elements xs (symbols_in w)
 unfolding write_elements
 elements-plain n [] w = refl
-elements-plain n (x ∷ xs) w = ap (λ (l : List Symbol). named x noEnding ∷ l) (elements-plain (suc n) xs w)
+elements-plain n (x ∷ xs) w = ap (λ (l : List Symbol). named x no_ending ∷ l) (elements-plain (suc n) xs w)
 
 givens-plain : (n : ℕ) (gs : List Given) (w : List Written) → symbols_in (write_givens n gs w) ≡ plain_givens gs (symbols_in w)
 unfolding write_givens
 givens-plain n [] w = refl
 givens-plain n (g ∷ gs) w =
-    ap (λ (l : List Symbol). fixed kind.GIVEN ∷ named g.title noEnding ∷ l)
+    ap (λ (l : List Symbol). fixed kind.GIVEN ∷ named g.title no_ending ∷ l)
     (elements-plain 0 (g.first_element ∷ g.other_elements) _
-    ∙ ap (λ (l : List Symbol). named g.first_element noEnding ∷ plain_elements g.other_elements (fixed kind.END ∷ l)) (givens-plain (suc n) gs w))
+    ∙ ap (λ (l : List Symbol). named g.first_element no_ending ∷ plain_elements g.other_elements (fixed kind.END ∷ l)) (givens-plain (suc n) gs w))
 
 declarations-plain : (n : ℕ) (ds : List Declaration) (w : List Written) → symbols_in (write_declarations n ds w) ≡ plain_declarations ds (symbols_in w)
 unfolding write_declarations
 declarations-plain n [] w = refl
 declarations-plain n (d ∷ ds) w =
-    ap (λ (l : List Symbol). named d.declared noEnding ∷ fixed kind.colon ∷ l)
+    ap (λ (l : List Symbol). named d.declared no_ending ∷ fixed kind.colon ∷ l)
     (type-plain d.type _ ∙ ap (λ (l : List Symbol). plain_type d.type (fixed kind.semicolon ∷ l)) (declarations-plain (suc n) ds w))
 
 where-plain : (p : Pred) (w : List Written) → symbols_in (write_where p w) ≡ plain_where p (symbols_in w)
@@ -257,7 +257,7 @@ operations-plain : (n : ℕ) (os : List Operation) (w : List Written) → symbol
 unfolding write_operations
 operations-plain n [] w = refl
 operations-plain n (o ∷ os) w =
-    ap (λ (l : List Symbol). fixed kind.OP ∷ named o.title noEnding ∷ l)
+    ap (λ (l : List Symbol). fixed kind.OP ∷ named o.title no_ending ∷ l)
     (parameters-plain 0 0 o.parameters _
     ∙ ap (λ (l : List Symbol). plain_parameters o.parameters (fixed kind.ABSTRACT ∷ l))
     (pred-plain o.abstractly _ _ _

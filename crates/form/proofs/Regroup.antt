@@ -5,7 +5,7 @@ use Prim.Native.Nat.{ℕ}
 use native.Mathlib.Omega.{arith}
 use Rattle.lexical.specs.Kinds as kind
 use Rattle.lexical.specs.Symbols as symbol
-use Rattle.lexical.specs.Symbols.{Symbol, noEnding, fixed}
+use Rattle.lexical.specs.Symbols.{Symbol, no_ending, fixed}
 use Rattle.form.specs.Tree.{Term, number, name, group, prefix, binary, divided, listed, pairs, such, empty_set, empty_pairs, Items, only, also, Pairs, only_pair, also_pair}
 use Rattle.form.specs.Tree.{Pred, truth, falsity, negation, paren, quantified, connected, compared, member, within, related, State, Operation, Dossier}
 use Rattle.form.specs.Written.{prefix_kind, operator_kind, connective_kind, quantifier_kind, comparison_kind, membership_kind, symbols_of}
@@ -31,7 +31,7 @@ mutual
   onto (group t) r =
       let g = onto t After.nothing in
       term-as (operand (group g.tree) g.grouped (omega arith) r)
-      (λ v. ap (λ (l : List Symbol). fixed kind.openBracket ∷ l) (g.same (fixed kind.closeBracket ∷ follows r v)))
+      (λ v. ap (λ (l : List Symbol). fixed kind.open_bracket ∷ l) (g.same (fixed kind.close_bracket ∷ follows r v)))
   onto (prefix o t) r =
       let g = onto t r in
       term-as (prefixed o g.tree g.grouped 1 g.holds (omega arith)) (λ v. ap (λ (l : List Symbol). fixed (prefix_kind o) ∷ l) (g.same v))
@@ -41,14 +41,14 @@ mutual
   onto (divided j t e) r = onto t (dividing j e r)
   onto (listed ts) r =
       let g = onto_items ts in
-      term-as (operand (listed g.0) g.1 (omega arith) r) (λ v. ap (λ (l : List Symbol). fixed kind.openBrace ∷ l) (g.2 (fixed kind.closeBrace ∷ follows r v)))
+      term-as (operand (listed g.0) g.1 (omega arith) r) (λ v. ap (λ (l : List Symbol). fixed kind.open_brace ∷ l) (g.2 (fixed kind.close_brace ∷ follows r v)))
   onto (pairs ts) r =
       let g = onto_pairs ts in
-      term-as (operand (pairs g.0) g.1 (omega arith) r) (λ v. ap (λ (l : List Symbol). fixed kind.openBrace ∷ l) (g.2 (fixed kind.closeBrace ∷ follows r v)))
+      term-as (operand (pairs g.0) g.1 (omega arith) r) (λ v. ap (λ (l : List Symbol). fixed kind.open_brace ∷ l) (g.2 (fixed kind.close_brace ∷ follows r v)))
   onto (such x s p) r =
       let g = onto_pred p AfterPred.nothing in
       term-as (operand (such x s g.tree) g.grouped (omega arith) r)
-      (λ v. ap (λ (l : List Symbol). fixed kind.openBrace ∷ named x noEnding ∷ fixed kind.colon ∷ symbol.name s ∷ fixed kind.bar ∷ l) (g.same (fixed kind.closeBrace ∷ follows r v)))
+      (λ v. ap (λ (l : List Symbol). fixed kind.open_brace ∷ named x no_ending ∷ fixed kind.colon ∷ symbol.name s ∷ fixed kind.bar ∷ l) (g.same (fixed kind.close_brace ∷ follows r v)))
   onto (empty_set s) r = operand (empty_set s) tt (omega arith) r
   onto (empty_pairs s q) r = operand (empty_pairs s q) tt (omega arith) r
 
@@ -87,11 +87,11 @@ mutual
   onto_pred (paren p) r =
       let g = onto_pred p AfterPred.nothing in
       pred_as (unary (paren g.tree) g.grouped (omega arith) r)
-      (λ v. ap (λ (l : List Symbol). fixed kind.openParen ∷ l) (g.same (fixed kind.closeParen ∷ follows_pred r v)))
+      (λ v. ap (λ (l : List Symbol). fixed kind.open_paren ∷ l) (g.same (fixed kind.close_paren ∷ follows_pred r v)))
   onto_pred (quantified q x t p) r =
       let g = onto_pred p AfterPred.nothing in
       pred_as (unary (quantified q x t g.tree) g.grouped (omega arith) r)
-      (λ v. ap (λ (l : List Symbol). fixed kind.openParen ∷ fixed (quantifier_kind q) ∷ named x noEnding ∷ fixed kind.colon ∷ plain_domain t (fixed kind.spot ∷ l)) (g.same (fixed kind.closeParen ∷ follows_pred r v)))
+      (λ v. ap (λ (l : List Symbol). fixed kind.open_paren ∷ fixed (quantifier_kind q) ∷ named x no_ending ∷ fixed kind.colon ∷ plain_domain t (fixed kind.spot ∷ l)) (g.same (fixed kind.close_paren ∷ follows_pred r v)))
   onto_pred (connected o p q) r =
       let g = onto_pred q r in
       pred_as (onto_pred p (connecting o g.tree g.grouped)) (λ v. ap (λ (l : List Symbol). plain_pred p (fixed (connective_kind o) ∷ l)) (g.same v))
@@ -141,7 +141,7 @@ regroup_operations (o ∷ os) =
     let r = regroup_operations os in (
       record { title = o.title; parameters = o.parameters; abstractly = a.0; concretely = c.0 } ∷ r.0,
       (a.1, c.1, r.1),
-      λ v. ap (λ (l : List Symbol). fixed kind.OP ∷ named o.title noEnding ∷ plain_parameters o.parameters (fixed kind.ABSTRACT ∷ l))
+      λ v. ap (λ (l : List Symbol). fixed kind.OP ∷ named o.title no_ending ∷ plain_parameters o.parameters (fixed kind.ABSTRACT ∷ l))
           (a.2 (fixed kind.CONCRETE ∷ plain_pred c.0 (fixed kind.END ∷ plain_operations r.0 v))
           ∙ ap (λ (l : List Symbol). plain_pred o.abstractly (fixed kind.CONCRETE ∷ l))
           (c.2 (fixed kind.END ∷ plain_operations r.0 v) ∙ ap (λ (l : List Symbol). plain_pred o.concretely (fixed kind.END ∷ l)) (r.2 v))),

@@ -6,7 +6,7 @@ use Rattle.lexical.specs.Kinds.{Kind}
 use Rattle.form.specs.Tree.{Letters, End, Range, Domain, given_set, range, and, or, implies, iff}
 use Rattle.form.specs.Tree.{Term, number, name, group, prefix, binary, divided, listed, pairs, such, empty_set, empty_pairs, Items, only, also, Pairs, only_pair, also_pair}
 use Rattle.form.specs.Tree.{Pred, truth, falsity, negation, paren, quantified, connected, compared, member, within, related}
-use Rattle.form.specs.Tree.{TypeForm, givenType, powerType, range_type, arrow_type, Declaration, Parameter, Given, State, Operation, Dossier}
+use Rattle.form.specs.Tree.{TypeForm, given_type, power_type, range_type, arrow_type, Declaration, Parameter, Given, State, Operation, Dossier}
 use Rattle.form.specs.Written.{Mark, Written, minus_of, write_end, write_range, write_domain, write_term, write_items, write_pairs, write_pred, write_type, write_entries}
 use Rattle.form.specs.Written.{write_elements}
 use Rattle.form.specs.Written.{write_givens, write_declarations, write_where, write_state, write_parameters, write_operations, write_contents}
@@ -70,8 +70,8 @@ module _ (R : List Written → List Written → Type 0) (step : (x y : Written) 
 
   type : (t : TypeForm) (u v : List Written) → R u v → R (write_type t u) (write_type t v)
   unfolding write_type
-  type (givenType g) u v h = one h
-  type (powerType g) u v h = one (one h)
+  type (given_type g) u v h = one h
+  type (power_type g) u v h = one (one h)
   type (range_type r) u v h = ranged r u v h
   type (arrow_type a g f) u v h = one (one (one h))
 

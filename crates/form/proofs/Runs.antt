@@ -9,7 +9,7 @@ use native.Mathlib.Nat.{add-zero}
 use lib.ListN.{length, take, drop}
 use Rattle.lexical.specs.Kinds.{Kind}
 use Rattle.lexical.specs.Symbols.{Symbol, kind_of}
-use Rattle.lexical.specs.Refusals.{Refusal, noDossier}
+use Rattle.lexical.specs.Refusals.{Refusal, no_dossier}
 use Rattle.form.specs.Written.{Mark}
 use Rattle.form.specs.Form.{kind_at, settled}
 use Rattle.form.specs.Machine.{Item, Next, go, halt, step, ends, Run, complete, failed, unless_over, onward, run_from}
@@ -32,8 +32,8 @@ pub record Passed (w : List Symbol) (k : Kind) (γ : List Item) (j : ℕ) : Type
 
 -- why a run stops in the state γ at the symbol j
 pub data Cause (w : List Symbol) (k : Kind) (γ : List Item) (j : ℕ) : Refusal → Type 0 where
-  cannot_take : j < length w → step γ (kind_at w j) ≡ halt → Cause w k γ j noDossier
-  cannot_end : j ≡ length w → ends γ ≡ false → Cause w k γ j noDossier
+  cannot_take : j < length w → step γ (kind_at w j) ≡ halt → Cause w k γ j no_dossier
+  cannot_end : j ≡ length w → ends γ ≡ false → Cause w k γ j no_dossier
   over : (m : Mark) (ρ : List Item) {r : Refusal} → j < length w → step γ (kind_at w j) ≡ go m ρ
       → settled (kind_before k w j) (kind_at w j) (drop (suc j) w) m ≡ some r → Cause w k γ j r
 
@@ -84,7 +84,7 @@ Outcome w k γ i complete = Completed w k γ
 Outcome w k γ i (failed e r) = Failed w k γ i e r
 
 -- nothing is left
-at-end : (k : Kind) (i : ℕ) (γ : List Item) (b : Bool) → ends γ ≡ b → Outcome [] k γ i (cond b complete (failed i noDossier))
+at-end : (k : Kind) (i : ℕ) (γ : List Item) (b : Bool) → ends γ ≡ b → Outcome [] k γ i (cond b complete (failed i no_dossier))
 at-end k i γ true q = record { all = λ j l. absurd (omega arith); state = γ; fed = refl; ends_there = q }
 at-end k i γ false q =
     record {
@@ -142,7 +142,7 @@ over-there s w k i γ ρ m r e q =
       stopped = record { at = 0; place = sym (add-zero i); within = omega arith; state = γ; fed = refl; cause = over m ρ (omega arith) e q };
     }
 
-stuck_there : (s : Symbol) (w : List Symbol) (k : Kind) (i : ℕ) (γ : List Item) → step γ (kind_of s) ≡ halt → Failed (s ∷ w) k γ i i noDossier
+stuck_there : (s : Symbol) (w : List Symbol) (k : Kind) (i : ℕ) (γ : List Item) → step γ (kind_of s) ≡ halt → Failed (s ∷ w) k γ i i no_dossier
 unfolding kind_at
 stuck_there s w k i γ e =
     record {

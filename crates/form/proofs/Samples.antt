@@ -8,7 +8,7 @@ use Prim.Native.String.{String}
 use lib.Dec.{eqb}
 use Rattle.lexical.specs.Lists.{all, bytes}
 use Rattle.lexical.specs.Base.{Parts, dossier_of}
-use Rattle.lexical.specs.Refusals.{Refusal, number_of, noDossier, deep, manyDeclared, Fault}
+use Rattle.lexical.specs.Refusals.{Refusal, number_of, no_dossier, deep, many_declared, Fault}
 use Rattle.form.specs.Tree.{Term, number, name, group, prefix, binary, divided, listed, pairs, such, empty_set, empty_pairs}
 use Rattle.form.specs.Tree.{Pred, truth, falsity, negation, paren, quantified, connected, compared, member, within, related}
 use Rattle.form.specs.Codes.{term_width, pred_width}
@@ -37,12 +37,12 @@ rest = "abstract m : 0..1 ; where true end concrete k : 0..1 ; where true end ai
 pub samples : List Sample
 samples =
     fine "k = # m and not k = 0 => k in - 1 .. 2 <=> {x : SEG | x in m} = {s1, s2}"
-    ∷ faulty "{x' : SEG | true} = m" 2 noDossier
-    ∷ faulty "s1 |-> s2 in 0 .. 2" 5 noDossier
-    ∷ faulty "k in - - 1 .. 2" 5 noDossier
-    ∷ faulty "a < b < c" 3 noDossier
-    ∷ faulty "{s1, s2 |-> s1} = m" 4 noDossier
-    ∷ faulty "k div [2] = 0" 2 noDossier
+    ∷ faulty "{x' : SEG | true} = m" 2 no_dossier
+    ∷ faulty "s1 |-> s2 in 0 .. 2" 5 no_dossier
+    ∷ faulty "k in - - 1 .. 2" 5 no_dossier
+    ∷ faulty "a < b < c" 3 no_dossier
+    ∷ faulty "{s1, s2 |-> s1} = m" 4 no_dossier
+    ∷ faulty "k div [2] = 0" 2 no_dossier
     ∷ fine "((((((((((((((((((((((((true))))))))))))))))))))))))"
     ∷ faulty "(((((((((((((((((((((((((true)))))))))))))))))))))))))" 24 deep
     ∷ faulty "(((((((((((((((((((((((( - 1 = k ))))))))))))))))))))))))" 24 deep
@@ -66,16 +66,16 @@ samples =
     ∷ givens "given G given H " "given G a end given I b end " 15
     ∷ givens "given G " "given G a end given H b end " 13
     ∷ givens "given G given H " "given G a end " 15
-    ∷ text "" 0 noDossier
-    ∷ text "contents given a given b given c given d given e given f given g given h" 17 noDossier
-    ∷ text "contents given a given b given c given d given e given f given g given h given i" 18 manyDeclared
-    ∷ text "contents abstract concrete ainit cinit retrieve end given G a b c d e f g h" 17 noDossier
-    ∷ text "contents abstract concrete ainit cinit retrieve end given G a b c d e f g h i" 17 manyDeclared
-    ∷ text "contents abstract concrete ainit cinit retrieve end abstract a : G ; b : G ; c : G ; d : G ; e : G ; f : G ; g : G ; h : G ;" 40 noDossier
-    ∷ text "contents abstract concrete ainit cinit retrieve end abstract a : G ; b : G ; c : G ; d : G ; e : G ; f : G ; g : G ; h : G ; i : G ;" 40 manyDeclared
-    ∷ operation "op add a? : SEG ; b? : SEG ; c? : SEG ; a! : SEG ; b! : SEG ; c! : SEG ; " 78 noDossier
-    ∷ operation "op add a? : SEG ; b? : SEG ; c? : SEG ; d? : SEG ; abstract true concrete true end" 66 manyDeclared
-    ∷ operation "op add a! : SEG ; b! : SEG ; c! : SEG ; d! : SEG ; abstract true concrete true end" 66 manyDeclared
+    ∷ text "" 0 no_dossier
+    ∷ text "contents given a given b given c given d given e given f given g given h" 17 no_dossier
+    ∷ text "contents given a given b given c given d given e given f given g given h given i" 18 many_declared
+    ∷ text "contents abstract concrete ainit cinit retrieve end given G a b c d e f g h" 17 no_dossier
+    ∷ text "contents abstract concrete ainit cinit retrieve end given G a b c d e f g h i" 17 many_declared
+    ∷ text "contents abstract concrete ainit cinit retrieve end abstract a : G ; b : G ; c : G ; d : G ; e : G ; f : G ; g : G ; h : G ;" 40 no_dossier
+    ∷ text "contents abstract concrete ainit cinit retrieve end abstract a : G ; b : G ; c : G ; d : G ; e : G ; f : G ; g : G ; h : G ; i : G ;" 40 many_declared
+    ∷ operation "op add a? : SEG ; b? : SEG ; c? : SEG ; a! : SEG ; b! : SEG ; c! : SEG ; " 78 no_dossier
+    ∷ operation "op add a? : SEG ; b? : SEG ; c? : SEG ; d? : SEG ; abstract true concrete true end" 66 many_declared
+    ∷ operation "op add a! : SEG ; b! : SEG ; c! : SEG ; d! : SEG ; abstract true concrete true end" 66 many_declared
     ∷ []
 
 abbrev refused_at : ℕ → Refusal → Outcome → Bool

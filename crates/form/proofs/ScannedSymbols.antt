@@ -9,7 +9,7 @@ use lib.Dec.{leb, ltb}
 use lib.ListN.{length, drop, get_or}
 use Rattle.lexical.specs.Lists.{bytes, same, begins, all}
 use Rattle.lexical.specs.Kinds.{Kind, code_of, marks, words}
-use Rattle.lexical.specs.Symbols.{Class, letter, digit, mark, blank, other, Ending, noEnding, prime, query, shriek, Symbol, fixed, numeral, name, Found, gap, unlisted, found}
+use Rattle.lexical.specs.Symbols.{Class, letter, digit, mark, blank, other, Ending, no_ending, prime, query, shriek, Symbol, fixed, numeral, name, Found, gap, unlisted, found}
 use Rattle.lexical.specs.Symbols.{class_of, run, decimal_from, is_number, number_found, reserved, ending_of, ending_length, word_of, longer, longest, by_class, symbol_at}
 use Rattle.lexical.specs.Symbols.{Placed, scanned, scan_from, scan, symbols}
 use Rattle.form.proofs.Table.{is_fixed, Spelled, AllSpelled}
@@ -56,7 +56,7 @@ word-spelled r e none h = on (leb (length r) 16)
     on : (b : Bool) → SpelledFound (cond b (found (name (record { letters = r; ending = e })) (length r + ending_length e)) unlisted)
     on true = tt
     on false = tt
-word-spelled r noEnding (some k) h = h
+word-spelled r no_ending (some k) h = h
 word-spelled r prime (some k) h = tt
 word-spelled r query (some k) h = tt
 word-spelled r shriek (some k) h = tt

@@ -7,10 +7,10 @@ use Prim.Native.Nat.{ℕ, suc}
 use Rattle.lexical.specs.Kinds as kind
 use Rattle.lexical.specs.Kinds.{Kind, code_of, is, lookup}
 use Rattle.lexical.specs.Symbols.{Symbol, kind_of}
-use Rattle.form.specs.Written.{Mark, unmarked, opens, binds, a_given, an_element, aVariable, anInput, anOutput, an_operation}
+use Rattle.form.specs.Written.{Mark, unmarked, opens, binds, a_given, an_element, a_variable, an_input, an_output, an_operation}
 use Rattle.form.specs.Form.{kind_at}
-use Rattle.form.specs.Machine.{Item, exact, a_declared, aName, anEmptyRest, anEnd, a_type, aTypeRest, aDomain, aDossier, aTerm, anOperand, aTermRest, aRel, aMem, aRight, aNeg, aNumRest}
-use Rattle.form.specs.Machine.{aBrace, aNamed, aFirst, aList, aPairs, aUnary, aParen, a_pred_rest, some_entries, someOpEntries, someBodies, someElements, someDeclarations, someOperations, some_parameters}
+use Rattle.form.specs.Machine.{Item, exact, a_declared, a_name, an_empty_rest, an_end, a_type, a_type_rest, a_domain, a_dossier, a_term, an_operand, a_term_rest, a_rel, a_mem, a_right, a_neg, a_num_rest}
+use Rattle.form.specs.Machine.{a_brace, a_named, a_first, a_list, a_pairs, a_unary, a_paren, a_pred_rest, some_entries, some_op_entries, some_bodies, some_elements, some_declarations, some_operations, some_parameters}
 use Rattle.form.specs.Machine.{Act, take, skip, stuck, starts, from_start, start_term, operate, start_pred, on_name, act, Start, Next, go, halt, does, step}
 use Rattle.form.proofs.Takes.{feed_on, feed}
 use Rattle.form.proofs.Table.{Each, by-table}
@@ -29,44 +29,44 @@ follows (opens n) γ = not (is (first_kind γ) kind.number)
 follows (binds n) γ = is (first_kind γ) kind.colon
 follows (a_given n) γ = true
 follows (an_element n) γ = true
-follows (aVariable n) γ = true
-follows (anInput n) γ = true
-follows (anOutput n) γ = true
+follows (a_variable n) γ = true
+follows (an_input n) γ = true
+follows (an_output n) γ = true
 follows (an_operation n) γ = true
 
 -- the items γ may follow an item: a declared name takes its mark from there
 abbrev goes_before : Item → List Item → Bool
 goes_before (exact c) γ = true
 goes_before (a_declared m) γ = follows m γ
-goes_before aName γ = true
-goes_before anEmptyRest γ = true
-goes_before anEnd γ = true
+goes_before a_name γ = true
+goes_before an_empty_rest γ = true
+goes_before an_end γ = true
 goes_before a_type γ = true
-goes_before aTypeRest γ = true
-goes_before aDomain γ = true
-goes_before aDossier γ = true
-goes_before (aTerm d k) γ = true
-goes_before (anOperand d k) γ = true
-goes_before (aTermRest d k) γ = true
-goes_before (aRel d k) γ = true
-goes_before (aMem d k) γ = true
-goes_before (aRight d k) γ = true
-goes_before (aNeg d k) γ = true
-goes_before (aNumRest d k) γ = true
-goes_before (aBrace d k) γ = true
-goes_before (aNamed d k) γ = true
-goes_before (aFirst d k) γ = true
-goes_before (aList d k) γ = true
-goes_before (aPairs d k) γ = true
-goes_before (aUnary d k) γ = true
-goes_before (aParen d k) γ = true
+goes_before a_type_rest γ = true
+goes_before a_domain γ = true
+goes_before a_dossier γ = true
+goes_before (a_term d k) γ = true
+goes_before (an_operand d k) γ = true
+goes_before (a_term_rest d k) γ = true
+goes_before (a_rel d k) γ = true
+goes_before (a_mem d k) γ = true
+goes_before (a_right d k) γ = true
+goes_before (a_neg d k) γ = true
+goes_before (a_num_rest d k) γ = true
+goes_before (a_brace d k) γ = true
+goes_before (a_named d k) γ = true
+goes_before (a_first d k) γ = true
+goes_before (a_list d k) γ = true
+goes_before (a_pairs d k) γ = true
+goes_before (a_unary d k) γ = true
+goes_before (a_paren d k) γ = true
 goes_before (a_pred_rest b c k) γ = true
 goes_before (some_entries n) γ = true
-goes_before (someOpEntries n) γ = true
-goes_before (someBodies n) γ = true
-goes_before (someElements n) γ = true
-goes_before (someDeclarations n) γ = true
-goes_before (someOperations n) γ = true
+goes_before (some_op_entries n) γ = true
+goes_before (some_bodies n) γ = true
+goes_before (some_elements n) γ = true
+goes_before (some_declarations n) γ = true
+goes_before (some_operations n) γ = true
 goes_before (some_parameters i o) γ = true
 
 -- a state in which each item goes before those behind it
@@ -97,7 +97,7 @@ keeps-operate i γ ρ h d k other s p = keeps-table i γ _ other s (h, (h, (h, (
 
 keeps_pred : (i : Item) (γ ρ : List Item) → steady (ρ ++ γ) ≡ steady (i ∷ γ) → (d k : ℕ) (s : Kind) → Keeps i γ (start_pred d k ρ s)
 unfolding start_pred is code_of kind_at plain_term
-keeps_pred i γ ρ h d k s = keeps-table i γ _ _ s (h, (h, (h, (h, tt)))) (keeps-term i γ (aTermRest d k ∷ aRel d k ∷ ρ) h d k s)
+keeps_pred i γ ρ h d k s = keeps-table i γ _ _ s (h, (h, (h, (h, tt)))) (keeps-term i γ (a_term_rest d k ∷ a_rel d k ∷ ρ) h d k s)
 
 keeps-name : (i : Item) (γ : List Item) (a b : Act) (s : Kind) → Keeps i γ a → Keeps i γ b → Keeps i γ (on_name a b s)
 unfolding on_name
@@ -108,35 +108,35 @@ keeps : (i : Item) (γ : List Item) (s : Kind) → Keeps i γ (act i s)
 unfolding act is code_of kind_at plain_term
 keeps (exact c) γ s = keeps-table (exact c) γ _ _ s (refl, tt) tt
 keeps (a_declared m) γ s = keeps-table (a_declared m) γ _ _ s (refl, tt) tt
-keeps aName γ s = keeps-name aName γ _ _ s refl tt
-keeps anEmptyRest γ s = keeps-name anEmptyRest γ _ _ s refl tt
-keeps anEnd γ s = keeps-table anEnd γ _ _ s (refl, (refl, tt)) tt
+keeps a_name γ s = keeps-name a_name γ _ _ s refl tt
+keeps an_empty_rest γ s = keeps-name an_empty_rest γ _ _ s refl tt
+keeps an_end γ s = keeps-table an_end γ _ _ s (refl, (refl, tt)) tt
 keeps a_type γ s = keeps-table a_type γ _ _ s (refl, (refl, (refl, tt))) (keeps-name a_type γ _ _ s refl tt)
-keeps aTypeRest γ s = keeps-table aTypeRest γ _ _ s (refl, (refl, (refl, tt))) tt
-keeps aDomain γ s = keeps-table aDomain γ _ _ s (refl, (refl, tt)) (keeps-name aDomain γ _ _ s refl tt)
-keeps aDossier γ s = keeps-table aDossier γ _ _ s (refl, tt) tt
-keeps (aTerm d k) γ s = keeps-term (aTerm d k) γ _ refl d k s
-keeps (anOperand d k) γ s = keeps-term (anOperand d k) γ _ refl d k s
-keeps (aTermRest d k) γ s = keeps-operate (aTermRest d k) γ _ refl d k skip s tt
-keeps (aRel d k) γ s = keeps-table (aRel d k) γ _ _ s (refl, (refl, (refl, (refl, (refl, (refl, (refl, tt))))))) tt
-keeps (aMem d k) γ s = keeps-table (aMem d k) γ _ _ s (refl, (refl, tt)) tt
-keeps (aRight d k) γ s = keeps-table (aRight d k) γ _ _ s (refl, (refl, tt)) (keeps-term (aRight d k) γ _ refl d k s)
-keeps (aNeg d k) γ s = keeps-table (aNeg d k) γ _ _ s (refl, tt) (keeps-term (aNeg d k) γ _ refl (suc d) k s)
-keeps (aNumRest d k) γ s = keeps-table (aNumRest d k) γ _ _ s (refl, tt) (keeps-operate (aNumRest d k) γ _ refl d k skip s tt)
-keeps (aBrace d k) γ s = keeps-table (aBrace d k) γ _ _ s (refl, tt) (keeps-term (aBrace d k) γ _ refl d k s)
-keeps (aNamed d k) γ s = keeps-table (aNamed d k) γ _ _ s (refl, (refl, (refl, (refl, tt)))) (keeps-operate (aNamed d k) γ _ refl d k stuck s tt)
-keeps (aFirst d k) γ s = keeps-table (aFirst d k) γ _ _ s (refl, (refl, (refl, tt))) tt
-keeps (aList d k) γ s = keeps-table (aList d k) γ _ _ s (refl, (refl, tt)) tt
-keeps (aPairs d k) γ s = keeps-table (aPairs d k) γ _ _ s (refl, (refl, tt)) tt
-keeps (aUnary d k) γ s = keeps_pred (aUnary d k) γ _ refl d k s
-keeps (aParen d k) γ s = keeps-table (aParen d k) γ _ _ s (refl, (refl, (refl, tt))) (keeps_pred (aParen d k) γ _ refl d k s)
+keeps a_type_rest γ s = keeps-table a_type_rest γ _ _ s (refl, (refl, (refl, tt))) tt
+keeps a_domain γ s = keeps-table a_domain γ _ _ s (refl, (refl, tt)) (keeps-name a_domain γ _ _ s refl tt)
+keeps a_dossier γ s = keeps-table a_dossier γ _ _ s (refl, tt) tt
+keeps (a_term d k) γ s = keeps-term (a_term d k) γ _ refl d k s
+keeps (an_operand d k) γ s = keeps-term (an_operand d k) γ _ refl d k s
+keeps (a_term_rest d k) γ s = keeps-operate (a_term_rest d k) γ _ refl d k skip s tt
+keeps (a_rel d k) γ s = keeps-table (a_rel d k) γ _ _ s (refl, (refl, (refl, (refl, (refl, (refl, (refl, tt))))))) tt
+keeps (a_mem d k) γ s = keeps-table (a_mem d k) γ _ _ s (refl, (refl, tt)) tt
+keeps (a_right d k) γ s = keeps-table (a_right d k) γ _ _ s (refl, (refl, tt)) (keeps-term (a_right d k) γ _ refl d k s)
+keeps (a_neg d k) γ s = keeps-table (a_neg d k) γ _ _ s (refl, tt) (keeps-term (a_neg d k) γ _ refl (suc d) k s)
+keeps (a_num_rest d k) γ s = keeps-table (a_num_rest d k) γ _ _ s (refl, tt) (keeps-operate (a_num_rest d k) γ _ refl d k skip s tt)
+keeps (a_brace d k) γ s = keeps-table (a_brace d k) γ _ _ s (refl, tt) (keeps-term (a_brace d k) γ _ refl d k s)
+keeps (a_named d k) γ s = keeps-table (a_named d k) γ _ _ s (refl, (refl, (refl, (refl, tt)))) (keeps-operate (a_named d k) γ _ refl d k stuck s tt)
+keeps (a_first d k) γ s = keeps-table (a_first d k) γ _ _ s (refl, (refl, (refl, tt))) tt
+keeps (a_list d k) γ s = keeps-table (a_list d k) γ _ _ s (refl, (refl, tt)) tt
+keeps (a_pairs d k) γ s = keeps-table (a_pairs d k) γ _ _ s (refl, (refl, tt)) tt
+keeps (a_unary d k) γ s = keeps_pred (a_unary d k) γ _ refl d k s
+keeps (a_paren d k) γ s = keeps-table (a_paren d k) γ _ _ s (refl, (refl, (refl, tt))) (keeps_pred (a_paren d k) γ _ refl d k s)
 keeps (a_pred_rest b c k) γ s = keeps-table (a_pred_rest b c k) γ _ _ s (refl, (refl, (refl, (refl, tt)))) tt
 keeps (some_entries n) γ s = keeps-table (some_entries n) γ _ _ s (refl, (refl, tt)) tt
-keeps (someOpEntries n) γ s = keeps-table (someOpEntries n) γ _ _ s (refl, (refl, tt)) tt
-keeps (someBodies n) γ s = keeps-table (someBodies n) γ _ _ s (refl, (refl, tt)) tt
-keeps (someElements n) γ s = keeps-table (someElements n) γ _ _ s (refl, (refl, tt)) tt
-keeps (someDeclarations n) γ s = keeps-table (someDeclarations n) γ _ _ s (refl, (refl, tt)) tt
-keeps (someOperations n) γ s = keeps-table (someOperations n) γ _ _ s (refl, tt) tt
+keeps (some_op_entries n) γ s = keeps-table (some_op_entries n) γ _ _ s (refl, (refl, tt)) tt
+keeps (some_bodies n) γ s = keeps-table (some_bodies n) γ _ _ s (refl, (refl, tt)) tt
+keeps (some_elements n) γ s = keeps-table (some_elements n) γ _ _ s (refl, (refl, tt)) tt
+keeps (some_declarations n) γ s = keeps-table (some_declarations n) γ _ _ s (refl, (refl, tt)) tt
+keeps (some_operations n) γ s = keeps-table (some_operations n) γ _ _ s (refl, tt) tt
 keeps (some_parameters i o) γ s = keeps-table (some_parameters i o) γ _ _ s (refl, (refl, (refl, tt))) tt
 
 -- both of two tests

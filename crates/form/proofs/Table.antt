@@ -7,14 +7,14 @@ use lib.Dec.{eqb, leb}
 use borrow.Author.Tests.{eqb-true}
 use Rattle.lexical.specs.Kinds as kind
 use Rattle.lexical.specs.Kinds.{Kind, code_of, is, lookup}
-use Rattle.lexical.specs.Symbols.{Symbol, fixed, numeral, name, Ending, noEnding, prime, query, shriek, kind_of, kind_of_name}
+use Rattle.lexical.specs.Symbols.{Symbol, fixed, numeral, name, Ending, no_ending, prime, query, shriek, kind_of, kind_of_name}
 use Rattle.form.specs.Tree.{Letters}
 
 -- all kinds
 abbrev pub kinds : List Kind
 kinds =
     kind.number ∷ kind.plain ∷ kind.primed ∷ kind.input ∷ kind.output ∷ kind.colon ∷ kind.semicolon ∷ kind.comma ∷ kind.bar ∷ kind.spot
-    ∷ kind.openParen ∷ kind.closeParen ∷ kind.openBracket ∷ kind.closeBracket ∷ kind.openBrace ∷ kind.closeBrace ∷ kind.up_to ∷ kind.equals
+    ∷ kind.open_paren ∷ kind.close_paren ∷ kind.open_bracket ∷ kind.close_bracket ∷ kind.open_brace ∷ kind.close_brace ∷ kind.up_to ∷ kind.equals
     ∷ kind.differs ∷ kind.less ∷ kind.at_most ∷ kind.implies ∷ kind.iff ∷ kind.plus ∷ kind.minus ∷ kind.times ∷ kind.size ∷ kind.maplet
     ∷ kind.relation ∷ kind.partial ∷ kind.total ∷ kind.CONTENTS ∷ kind.GIVEN ∷ kind.ABSTRACT ∷ kind.CONCRETE ∷ kind.AINIT ∷ kind.CINIT
     ∷ kind.RETRIEVE ∷ kind.OP ∷ kind.END ∷ kind.WHERE ∷ kind.POWER ∷ kind.EMPTY ∷ kind.TRUE ∷ kind.FALSE ∷ kind.NOT ∷ kind.AND ∷ kind.OR
@@ -39,12 +39,12 @@ kind-back kind.semicolon = refl
 kind-back kind.comma = refl
 kind-back kind.bar = refl
 kind-back kind.spot = refl
-kind-back kind.openParen = refl
-kind-back kind.closeParen = refl
-kind-back kind.openBracket = refl
-kind-back kind.closeBracket = refl
-kind-back kind.openBrace = refl
-kind-back kind.closeBrace = refl
+kind-back kind.open_paren = refl
+kind-back kind.close_paren = refl
+kind-back kind.open_bracket = refl
+kind-back kind.close_bracket = refl
+kind-back kind.open_brace = refl
+kind-back kind.close_brace = refl
 kind-back kind.up_to = refl
 kind-back kind.equals = refl
 kind-back kind.differs = refl
@@ -148,7 +148,7 @@ Carried k = carried (is_fixed k) (is k kind.number)
 
 -- the ending that a name of the kind k has
 abbrev pub ending_at : Kind → Ending
-ending_at k = cond (is k kind.primed) prime (cond (is k kind.input) query (cond (is k kind.output) shriek noEnding))
+ending_at k = cond (is k kind.primed) prime (cond (is k kind.input) query (cond (is k kind.output) shriek no_ending))
 
 abbrev pub symbol_from : (a b : Bool) (k : Kind) → carried a b → Symbol
 symbol_from true b k c = fixed k
@@ -171,7 +171,7 @@ carries (numeral n) h = (n, refl)
 carries (name x) h = at x.ending
   where
     at : (e : Ending) → (c : Carried (kind_of_name e)) × (symbol_of (kind_of_name e) c ≡ name (record { letters = x.letters; ending = e }))
-    at noEnding = (x.letters, refl)
+    at no_ending = (x.letters, refl)
     at prime = (x.letters, refl)
     at query = (x.letters, refl)
     at shriek = (x.letters, refl)

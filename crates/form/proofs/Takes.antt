@@ -7,12 +7,12 @@ use Prim.Native.Nat.{ℕ}
 use Rattle.lexical.specs.Kinds as kind
 use Rattle.lexical.specs.Kinds.{Kind, is}
 use Rattle.lexical.specs.Symbols.{Symbol, kind_of}
-use Rattle.form.specs.Written.{Mark, unmarked, opens, binds, a_given, an_element, aVariable, anInput, anOutput, an_operation, Written}
+use Rattle.form.specs.Written.{Mark, unmarked, opens, binds, a_given, an_element, a_variable, an_input, an_output, an_operation, Written}
 use Rattle.form.specs.Form.{Begins, kind_at, is_range_end, is_used}
-use Rattle.form.specs.Machine.{Item, aDossier, Next, go, halt, step, ends}
+use Rattle.form.specs.Machine.{Item, a_dossier, Next, go, halt, step, ends}
 
 abbrev pub initial : List Item
-initial = aDossier ∷ []
+initial = a_dossier ∷ []
 
 -- what is expected after the symbols u, where the machine takes them all
 abbrev pub feed_on : Next → (List Item → Option (List Item)) → Option (List Item)
@@ -48,9 +48,9 @@ IsOpens (opens n) = Unit {0}
 IsOpens (binds n) = ⊥
 IsOpens (a_given n) = ⊥
 IsOpens (an_element n) = ⊥
-IsOpens (aVariable n) = ⊥
-IsOpens (anInput n) = ⊥
-IsOpens (anOutput n) = ⊥
+IsOpens (a_variable n) = ⊥
+IsOpens (an_input n) = ⊥
+IsOpens (an_output n) = ⊥
 IsOpens (an_operation n) = ⊥
 
 abbrev pub IsBinds : Mark → Type 0
@@ -59,9 +59,9 @@ IsBinds (opens n) = ⊥
 IsBinds (binds n) = Unit {0}
 IsBinds (a_given n) = ⊥
 IsBinds (an_element n) = ⊥
-IsBinds (aVariable n) = ⊥
-IsBinds (anInput n) = ⊥
-IsBinds (anOutput n) = ⊥
+IsBinds (a_variable n) = ⊥
+IsBinds (an_input n) = ⊥
+IsBinds (an_output n) = ⊥
 IsBinds (an_operation n) = ⊥
 
 -- a dossier that begins with u and s, where the machine marks s by m, and goes on so that the mark is the tree's

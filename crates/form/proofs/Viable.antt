@@ -8,7 +8,7 @@ use Rattle.lexical.specs.Kinds as kind
 use Rattle.lexical.specs.Kinds.{is}
 use Rattle.lexical.specs.Symbols.{Symbol, kind_of}
 use Rattle.form.specs.Tree.{Dossier}
-use Rattle.form.specs.Written.{Mark, unmarked, opens, binds, a_given, an_element, aVariable, anInput, anOutput, an_operation, symbols_of}
+use Rattle.form.specs.Written.{Mark, unmarked, opens, binds, a_given, an_element, a_variable, an_input, an_output, an_operation, symbols_of}
 use Rattle.form.specs.Form.{Whole, Begins}
 use Rattle.form.specs.Machine.{Item, Next, go, halt, step, ends}
 use Rattle.form.proofs.Takes.{initial, feed_on, feed, IsOpens, IsBinds, Continues}
@@ -56,9 +56,9 @@ after-opens (opens n) γ e h = not-true _ e
 after-opens (binds n) γ e h = absurd h
 after-opens (a_given n) γ e h = absurd h
 after-opens (an_element n) γ e h = absurd h
-after-opens (aVariable n) γ e h = absurd h
-after-opens (anInput n) γ e h = absurd h
-after-opens (anOutput n) γ e h = absurd h
+after-opens (a_variable n) γ e h = absurd h
+after-opens (an_input n) γ e h = absurd h
+after-opens (an_output n) γ e h = absurd h
 after-opens (an_operation n) γ e h = absurd h
 
 after-binds : (m : Mark) (γ : List Item) → follows m γ ≡ true → IsBinds m → is (first_kind γ) kind.colon ≡ true
@@ -67,9 +67,9 @@ after-binds (opens n) γ e h = absurd h
 after-binds (binds n) γ e h = e
 after-binds (a_given n) γ e h = absurd h
 after-binds (an_element n) γ e h = absurd h
-after-binds (aVariable n) γ e h = absurd h
-after-binds (anInput n) γ e h = absurd h
-after-binds (anOutput n) γ e h = absurd h
+after-binds (a_variable n) γ e h = absurd h
+after-binds (an_input n) γ e h = absurd h
+after-binds (an_output n) γ e h = absurd h
 after-binds (an_operation n) γ e h = absurd h
 
 -- a dossier goes on from a symbol that the machine takes so that the mark is the tree's

@@ -3,11 +3,11 @@
 use Rattle.std.specs.Prelude.{Bool, true, false, cond, List, [], ◌∷◌, ◌++◌, ℕ, suc, ◌+◌, ◌-◌, ◌*◌, length}
 use Rattle.lexical.specs.Kinds as kind
 use Rattle.lexical.specs.Kinds.{code_of}
-use Rattle.lexical.specs.Symbols.{Name, Ending, noEnding, prime, query, shriek}
+use Rattle.lexical.specs.Symbols.{Name, Ending, no_ending, prime, query, shriek}
 use Rattle.form.specs.Tree.{Letters, End, Range, Domain, given_set, range, Division, quotient, remainder}
 use Rattle.form.specs.Tree.{Term, number, name, group, prefix, binary, divided, listed, pairs, such, empty_set, empty_pairs, Items, only, also, Pairs, only_pair, also_pair}
 use Rattle.form.specs.Tree.{Pred, truth, falsity, negation, paren, quantified, connected, compared, member, within, related}
-use Rattle.form.specs.Tree.{Arrow, relation, partial, total, TypeForm, givenType, powerType, range_type, arrow_type, Declaration, declarations, Parameter, Given, elements, State, Operation, Dossier}
+use Rattle.form.specs.Tree.{Arrow, relation, partial, total, TypeForm, given_type, power_type, range_type, arrow_type, Declaration, declarations, Parameter, Given, elements, State, Operation, Dossier}
 use Rattle.form.specs.Written.{prefix_kind, operator_kind, connective_kind, quantifier_kind, comparison_kind, membership_kind, ending_of}
 use Rattle.form.specs.Written.{write_term, write_pred, write_domain, write_type, write_entries, a_given, write_declarations, write_parameters}
 use Rattle.form.specs.Headings.{givens_at, abstract_at, concrete_at, ainit_at, cinit_at, retrieve_at, operations_at, given_length, operation_length}
@@ -20,7 +20,7 @@ abbrev pub Numbering : Type 0
 Numbering = Letters → ℕ
 
 abbrev pub ending_number : Ending → ℕ
-ending_number noEnding = 0
+ending_number no_ending = 0
 ending_number prime = 1
 ending_number query = 2
 ending_number shriek = 3
@@ -73,7 +73,7 @@ unfoldable mutual
   term_codes (prefix o t) i ρ = term_codes t (suc i) ρ ++ node 3 i (code_of (prefix_kind o)) 0
   term_codes (divided o t e) i ρ = term_codes t i ρ ++ node 4 (i + term_width t) e.magnitude (sign_of e.negative + division_number o)
   term_codes (binary o t u) i ρ = term_codes t i ρ ++ (term_codes u (suc (i + term_width t)) ρ ++ node 5 (i + term_width t) (code_of (operator_kind o)) 0)
-  term_codes (such x g p) i ρ = pred_codes p (i + 5) ρ ++ (node 1 (i + 3) (name_number ρ g) 0 ++ node 6 i (number_of_name ρ x noEnding) 0)
+  term_codes (such x g p) i ρ = pred_codes p (i + 5) ρ ++ (node 1 (i + 3) (name_number ρ g) 0 ++ node 6 i (number_of_name ρ x no_ending) 0)
   term_codes (listed ts) i ρ = items_codes ts (suc i) ρ ++ node 7 i 0 0
   term_codes (pairs ts) i ρ = pairs_codes ts (suc i) ρ ++ node 8 i 0 0
   term_codes (empty_set g) i ρ = node 9 i (name_number ρ g) 0
@@ -104,7 +104,7 @@ unfoldable mutual
       ++ (term_codes v (suc (suc (i + term_width t) + term_width u)) ρ ++ node 7 (suc (i + term_width t) + term_width u) (code_of (membership_kind o)) 0))
   pred_codes (quantified q x t p) i ρ =
       pred_codes p (i + 5 + domain_width t) ρ
-      ++ (domain_codes t (i + 4) ρ ++ node 8 (suc i) (number_of_name ρ x noEnding) (code_of (quantifier_kind q)))
+      ++ (domain_codes t (i + 4) ρ ++ node 8 (suc i) (number_of_name ρ x no_ending) (code_of (quantifier_kind q)))
 
 abbrev pub arrow_number : Arrow → ℕ
 arrow_number relation = 4
@@ -112,9 +112,9 @@ arrow_number partial = 5
 arrow_number total = 6
 
 abbrev pub type_codes : TypeForm → (i : ℕ) → Numbering → List ℕ
-type_codes (givenType g) i ρ = node 1 i (name_number ρ g) 0
+type_codes (given_type g) i ρ = node 1 i (name_number ρ g) 0
 type_codes (range_type r) i ρ = range_codes r i
-type_codes (powerType g) i ρ = node 3 i (name_number ρ g) 0
+type_codes (power_type g) i ρ = node 3 i (name_number ρ g) 0
 type_codes (arrow_type a g h) i ρ = node (arrow_number a) i (name_number ρ g) (name_number ρ h)
 
 unfoldable pub type_width : TypeForm → ℕ
@@ -123,17 +123,17 @@ type_width t = length (write_type t [])
 -- 1 an entry `given NAME` of the contents, 2 an entry `op NAME`: the name
 unfoldable pub entry_codes : (shape i : ℕ) → List Letters → Numbering → List ℕ
 entry_codes k i [] ρ = []
-entry_codes k i (x ∷ xs) ρ = node k (suc i) (number_of_name ρ x noEnding) 0 ++ entry_codes k (i + 2) xs ρ
+entry_codes k i (x ∷ xs) ρ = node k (suc i) (number_of_name ρ x no_ending) 0 ++ entry_codes k (i + 2) xs ρ
 
 -- 4 an element
 unfoldable pub element_codes : (i : ℕ) → List Letters → Numbering → List ℕ
 element_codes i [] ρ = []
-element_codes i (x ∷ xs) ρ = node 4 i (number_of_name ρ x noEnding) 0 ++ element_codes (suc i) xs ρ
+element_codes i (x ∷ xs) ρ = node 4 i (number_of_name ρ x no_ending) 0 ++ element_codes (suc i) xs ρ
 
 -- 3 a given set's body, at its heading
 unfoldable pub given_codes : (i : ℕ) → List Given → Numbering → List ℕ
 given_codes i [] ρ = []
-given_codes i (g ∷ gs) ρ = node 3 i (number_of_name ρ g.title noEnding) 0 ++ (element_codes (i + 2) (elements g) ρ ++ given_codes (i + given_length g) gs ρ)
+given_codes i (g ∷ gs) ρ = node 3 i (number_of_name ρ g.title no_ending) 0 ++ (element_codes (i + 2) (elements g) ρ ++ given_codes (i + given_length g) gs ρ)
 
 -- 6 a declared name, and then its type
 abbrev pub declaration_code : (i : ℕ) → Ending → Declaration → Numbering → List ℕ
@@ -141,7 +141,7 @@ declaration_code i e d ρ = node 6 i (number_of_name ρ d.declared e) 0 ++ type_
 
 unfoldable pub declaration_codes : (i : ℕ) → List Declaration → Numbering → List ℕ
 declaration_codes i [] ρ = []
-declaration_codes i (d ∷ ds) ρ = declaration_code i noEnding d ρ ++ declaration_codes (i + 3 + type_width d.type) ds ρ
+declaration_codes i (d ∷ ds) ρ = declaration_code i no_ending d ρ ++ declaration_codes (i + 3 + type_width d.type) ds ρ
 
 unfoldable pub parameter_codes : (i : ℕ) → List Parameter → Numbering → List ℕ
 parameter_codes i [] ρ = []
@@ -166,7 +166,7 @@ abstractly_at i o = i + 3 + length (write_parameters 0 0 o.parameters [])
 unfoldable pub operation_codes : (i : ℕ) → List Operation → Numbering → List ℕ
 operation_codes i [] ρ = []
 operation_codes i (o ∷ os) ρ =
-    node 8 i (number_of_name ρ o.title noEnding) 0
+    node 8 i (number_of_name ρ o.title no_ending) 0
     ++ (parameter_codes (i + 2) o.parameters ρ
     ++ (condition_codes (abstractly_at i o) o.abstractly ρ
     ++ (condition_codes (suc (abstractly_at i o) + pred_width o.abstractly) o.concretely ρ ++ operation_codes (i + operation_length o) os ρ)))

@@ -4,11 +4,11 @@ use Rattle.std.proofs.Math.Option.{Option, none, some}
 use Rattle.lexical.specs.Kinds as kind
 use Rattle.lexical.specs.Kinds.{Kind, is}
 use Rattle.lexical.specs.Symbols.{Symbol, fixed, kind_of}
-use Rattle.lexical.specs.Refusals.{Refusal, fault, before, noDossier, deep, manyDeclared}
+use Rattle.lexical.specs.Refusals.{Refusal, fault, before, no_dossier, deep, many_declared}
 use Rattle.form.specs.Tree.{Operator, plus, minus, union, without, times, inter, Connective, and, or, implies, iff}
 use Rattle.form.specs.Tree.{Term, number, name, group, prefix, binary, divided, listed, pairs, such, empty_set, empty_pairs, Items, only, also, Pairs, only_pair, also_pair}
 use Rattle.form.specs.Tree.{Pred, truth, falsity, negation, paren, quantified, connected, compared, member, within, related, Operation, Dossier}
-use Rattle.form.specs.Written.{Mark, unmarked, opens, binds, a_given, an_element, aVariable, anInput, anOutput, an_operation, Written, written, symbols_of}
+use Rattle.form.specs.Written.{Mark, unmarked, opens, binds, a_given, an_element, a_variable, an_input, an_output, an_operation, Written, written, symbols_of}
 
 -- How tightly things bind. "* div mod inter bind tighter than + - union minus, all to the left; prefixes - # dom ran tighter still."
 abbrev pub operator_level : Operator → ℕ
@@ -147,12 +147,12 @@ unfoldable pub excess : Mark → Option Refusal
 excess unmarked = none
 excess (opens n) = refuse (ltb 24 n) deep
 excess (binds n) = refuse (ltb 3 n) deep
-excess (a_given n) = refuse (ltb 8 n) manyDeclared
-excess (an_element n) = refuse (ltb 8 n) manyDeclared
-excess (aVariable n) = refuse (ltb 8 n) manyDeclared
-excess (anInput n) = refuse (ltb 3 n) manyDeclared
-excess (anOutput n) = refuse (ltb 3 n) manyDeclared
-excess (an_operation n) = refuse (ltb 16 n) manyDeclared
+excess (a_given n) = refuse (ltb 8 n) many_declared
+excess (an_element n) = refuse (ltb 8 n) many_declared
+excess (a_variable n) = refuse (ltb 8 n) many_declared
+excess (an_input n) = refuse (ltb 3 n) many_declared
+excess (an_output n) = refuse (ltb 3 n) many_declared
+excess (an_operation n) = refuse (ltb 16 n) many_declared
 
 unfoldable pub kind_at : List Symbol → ℕ → Kind
 kind_at w i = kind_of (get_or w i (fixed kind.END))
@@ -163,7 +163,7 @@ is_range_end k s rest = (is k kind.IN || is k kind.NOTIN) && is s kind.minus && 
 
 -- after { a name is bound once a : follows
 unfoldable pub is_used : Kind → List Symbol → Bool
-is_used k rest = is k kind.openBrace && not (is (kind_at rest 0) kind.colon)
+is_used k rest = is k kind.open_brace && not (is (kind_at rest 0) kind.colon)
 
 -- what a symbol with this mark counts for, between the kind before it and the symbols behind it
 unfoldable pub settled : Kind → Kind → List Symbol → Mark → Option Refusal
@@ -172,9 +172,9 @@ settled k s rest (opens n) = cond (is_range_end k s rest) none (excess (opens n)
 settled k s rest (binds n) = cond (is_used k rest) none (excess (binds n))
 settled k s rest (a_given n) = excess (a_given n)
 settled k s rest (an_element n) = excess (an_element n)
-settled k s rest (aVariable n) = excess (aVariable n)
-settled k s rest (anInput n) = excess (anInput n)
-settled k s rest (anOutput n) = excess (anOutput n)
+settled k s rest (a_variable n) = excess (a_variable n)
+settled k s rest (an_input n) = excess (an_input n)
+settled k s rest (an_output n) = excess (an_output n)
 settled k s rest (an_operation n) = excess (an_operation n)
 
 -- 5 and 6 at the symbol i: some dossier that begins with the symbols up to and including it opens or counts too much there
@@ -185,7 +185,7 @@ pub record TooMuch (w : List Symbol) (i : ℕ) (r : Refusal) : Type 0 where
 
 -- all faults of the pass, at symbols by their numbers, the text's end being the number of its symbols
 pub data FormFault (w : List Symbol) : ℕ → Refusal → Type 0 where
-  at_form : {i : ℕ} → NoDossier w i → FormFault w i noDossier
+  at_form : {i : ℕ} → NoDossier w i → FormFault w i no_dossier
   at_mark : {i : ℕ} {r : Refusal} → TooMuch w i r → FormFault w i r
 
 pub data Outcome : Type 0 where

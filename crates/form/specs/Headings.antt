@@ -1,7 +1,7 @@
 -- Document 01, number 7: headings against contents; and the symbol at which each body begins.
 use Rattle.std.specs.Prelude.{List, [], ◌∷◌, ◌++◌, ℕ, suc, ◌+◌, length}
 use Rattle.lexical.specs.Lists.{same}
-use Rattle.lexical.specs.Refusals.{Fault, fault, headingDiffers, unless}
+use Rattle.lexical.specs.Refusals.{Fault, fault, heading_differs, unless}
 use Rattle.form.specs.Tree.{Letters, Given, Operation, Dossier}
 use Rattle.form.specs.Written.{write_contents, write_givens, write_state, write_where, write_operations}
 
@@ -36,15 +36,15 @@ operation_length o = length (write_operations 0 (o ∷ []) [])
 -- 7. "A body's heading differs from its contents entry, is extra, or is wanting (place: the heading's first symbol, or that of what stands in its stead, or the text's end)."
 unfoldable pub given_headings : (i : ℕ) → List Letters → List Given → List Fault
 given_headings i [] [] = []
-given_headings i [] (g ∷ gs) = fault i headingDiffers ∷ given_headings (i + given_length g) [] gs
-given_headings i (x ∷ xs) [] = fault i headingDiffers ∷ []
-given_headings i (x ∷ xs) (g ∷ gs) = unless (same x g.title) (fault i headingDiffers) ++ given_headings (i + given_length g) xs gs
+given_headings i [] (g ∷ gs) = fault i heading_differs ∷ given_headings (i + given_length g) [] gs
+given_headings i (x ∷ xs) [] = fault i heading_differs ∷ []
+given_headings i (x ∷ xs) (g ∷ gs) = unless (same x g.title) (fault i heading_differs) ++ given_headings (i + given_length g) xs gs
 
 unfoldable pub operation_headings : (i : ℕ) → List Letters → List Operation → List Fault
 operation_headings i [] [] = []
-operation_headings i [] (o ∷ os) = fault i headingDiffers ∷ operation_headings (i + operation_length o) [] os
-operation_headings i (x ∷ xs) [] = fault i headingDiffers ∷ []
-operation_headings i (x ∷ xs) (o ∷ os) = unless (same x o.title) (fault i headingDiffers) ++ operation_headings (i + operation_length o) xs os
+operation_headings i [] (o ∷ os) = fault i heading_differs ∷ operation_headings (i + operation_length o) [] os
+operation_headings i (x ∷ xs) [] = fault i heading_differs ∷ []
+operation_headings i (x ∷ xs) (o ∷ os) = unless (same x o.title) (fault i heading_differs) ++ operation_headings (i + operation_length o) xs os
 
 unfoldable pub heading_faults : Dossier → List Fault
 heading_faults d = given_headings (givens_at d) d.given_entries d.givens ++ operation_headings (operations_at d) d.operation_entries d.operations

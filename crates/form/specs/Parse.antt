@@ -3,13 +3,13 @@ use Rattle.std.specs.Prelude.{Bool, true, false, ◌&&◌, cond, List, [], ◌�
 use Rattle.std.proofs.Math.Option.{Option, none, some}
 use Rattle.lexical.specs.Kinds as kind
 use Rattle.lexical.specs.Kinds.{Kind, is, lookup}
-use Rattle.lexical.specs.Symbols.{Name, noEnding, Symbol, fixed, numeral}
+use Rattle.lexical.specs.Symbols.{Name, no_ending, Symbol, fixed, numeral}
 use Rattle.lexical.specs.Symbols as symbol
 use Rattle.form.specs.Tree.{Letters, End, Range, Domain, given_set, range, Prefix, negate, size, dom, ran, Operator, plus, minus, union, without, times, inter, Division, quotient, remainder}
-use Rattle.form.specs.Tree.{Connective, and, or, implies, iff, Quantifier, forall, exists, exists1, Comparison, equals, differs, less, at_most, Membership, isIn, notIn}
+use Rattle.form.specs.Tree.{Connective, and, or, implies, iff, Quantifier, forall, exists, exists1, Comparison, equals, differs, less, at_most, Membership, is_in, not_in}
 use Rattle.form.specs.Tree.{Term, number, name, group, prefix, binary, divided, listed, pairs, such, empty_set, empty_pairs, Items, only, also, Pairs, only_pair, also_pair}
 use Rattle.form.specs.Tree.{Pred, truth, falsity, negation, paren, quantified, connected, compared, member, within, related}
-use Rattle.form.specs.Tree.{Arrow, relation, partial, total, TypeForm, givenType, powerType, range_type, arrow_type, Declaration, inward, outward, Parameter, Given, State, Operation, Dossier}
+use Rattle.form.specs.Tree.{Arrow, relation, partial, total, TypeForm, given_type, power_type, range_type, arrow_type, Declaration, inward, outward, Parameter, Given, State, Operation, Dossier}
 use Rattle.form.specs.Form.{kind_at, operator_level, division_level, connective_level, right_level, Outcome, refused, formed}
 use Rattle.form.specs.Machine.{Run, complete, failed, run}
 
@@ -28,8 +28,8 @@ abbrev next : List Symbol → List Symbol
 next w = drop 1 w
 
 abbrev name_of : Symbol → Name
-name_of (fixed k) = record { letters = []; ending = noEnding }
-name_of (numeral n) = record { letters = []; ending = noEnding }
+name_of (fixed k) = record { letters = []; ending = no_ending }
+name_of (numeral n) = record { letters = []; ending = no_ending }
 name_of (symbol.name x) = x
 
 abbrev value_of : Symbol → ℕ
@@ -38,7 +38,7 @@ value_of (numeral n) = n
 value_of (symbol.name x) = 0
 
 abbrev name_at : List Symbol → Name
-name_at [] = record { letters = []; ending = noEnding }
+name_at [] = record { letters = []; ending = no_ending }
 name_at (s ∷ w) = name_of s
 
 abbrev letters_at : List Symbol → Letters
@@ -74,11 +74,11 @@ parse_empty w = cond (is_name (kind_at w 1)) (got (empty_pairs (name_at w) (name
 
 -- what a term begins with, and what goes on with it
 pub data Start : Type 0 where
-  a_number aName aGroup aBrace anEmpty : Start
+  a_number a_name a_group a_brace an_empty : Start
   a_prefix : Prefix → Start
 
 abbrev pub starts : List (Kind × Start)
-starts = (kind.number, a_number) ∷ (kind.openBracket, aGroup) ∷ (kind.openBrace, aBrace) ∷ (kind.EMPTY, anEmpty)
+starts = (kind.number, a_number) ∷ (kind.open_bracket, a_group) ∷ (kind.open_brace, a_brace) ∷ (kind.EMPTY, an_empty)
     ∷ (kind.minus, a_prefix negate) ∷ (kind.size, a_prefix size) ∷ (kind.DOM, a_prefix dom) ∷ (kind.RAN, a_prefix ran) ∷ []
 
 pub data Infix : Type 0 where
@@ -97,10 +97,10 @@ abbrev pub quantifiers : List (Kind × Option Quantifier)
 quantifiers = (kind.FORALL, some forall) ∷ (kind.EXISTS, some exists) ∷ (kind.EXISTS1, some exists1) ∷ []
 
 pub data Begin : Type 0 where
-  isTrue isFalse isNot isParen is_term : Begin
+  is_true is_false is_not is_paren is_term : Begin
 
 abbrev pub begins : List (Kind × Begin)
-begins = (kind.TRUE, isTrue) ∷ (kind.FALSE, isFalse) ∷ (kind.NOT, isNot) ∷ (kind.openParen, isParen) ∷ []
+begins = (kind.TRUE, is_true) ∷ (kind.FALSE, is_false) ∷ (kind.NOT, is_not) ∷ (kind.open_paren, is_paren) ∷ []
 
 pub data Relation : Type 0 where
   compares : Comparison → Relation
@@ -109,10 +109,10 @@ pub data Relation : Type 0 where
 
 abbrev pub relations : List (Kind × Relation)
 relations = (kind.equals, compares equals) ∷ (kind.differs, compares differs) ∷ (kind.less, compares less) ∷ (kind.at_most, compares at_most)
-    ∷ (kind.IN, contains isIn) ∷ (kind.NOTIN, contains notIn) ∷ []
+    ∷ (kind.IN, contains is_in) ∷ (kind.NOTIN, contains not_in) ∷ []
 
 abbrev membership : Kind → Membership
-membership k = cond (is k kind.IN) isIn notIn
+membership k = cond (is k kind.IN) is_in not_in
 
 -- The first number bounds how deep the calls go. `parse_term_rest l t w` goes on behind t with operators that bind at least as tightly as l.
 unfoldable mutual
@@ -136,12 +136,12 @@ unfoldable mutual
   pub parse_operand : ℕ → List Symbol → Parsed Term
   parse_operand zero w = got (number 0) w
   parse_operand (suc f) w =
-      elim (lookup starts aName (first w)) [
+      elim (lookup starts a_name (first w)) [
         | a_number ↦ got (number (value_at w)) (next w)
-        | aName ↦ got (name (name_at w)) (next w)
-        | aGroup ↦ let p : Parsed Term = parse_term f 1 (next w) in got (group p.tree) (next p.rest)
-        | aBrace ↦ parse_brace f (next w)
-        | anEmpty ↦ parse_empty (next w)
+        | a_name ↦ got (name (name_at w)) (next w)
+        | a_group ↦ let p : Parsed Term = parse_term f 1 (next w) in got (group p.tree) (next p.rest)
+        | a_brace ↦ parse_brace f (next w)
+        | an_empty ↦ parse_empty (next w)
         | a_prefix o ↦ let p : Parsed Term = parse_operand f (next w) in got (prefix o p.tree) p.rest
       ]
 
@@ -201,10 +201,10 @@ unfoldable mutual
   parse_unary zero w = got truth w
   parse_unary (suc f) w =
       elim (lookup begins is_term (first w)) [
-        | isTrue ↦ got truth (next w)
-        | isFalse ↦ got falsity (next w)
-        | isNot ↦ let p : Parsed Pred = parse_unary f (next w) in got (negation p.tree) p.rest
-        | isParen ↦ parse_paren f (next w)
+        | is_true ↦ got truth (next w)
+        | is_false ↦ got falsity (next w)
+        | is_not ↦ let p : Parsed Pred = parse_unary f (next w) in got (negation p.tree) p.rest
+        | is_paren ↦ parse_paren f (next w)
         | is_term ↦ let t : Parsed Term = parse_term f 1 w in parse_atom f t.tree t.rest
       ]
 
@@ -239,12 +239,12 @@ unfoldable pub arrow_of : Kind → Option Arrow
 arrow_of k = lookup ((kind.relation, some relation) ∷ (kind.partial, some partial) ∷ (kind.total, some total) ∷ []) none k
 
 abbrev type_rest : Option Arrow → List Symbol → Parsed TypeForm
-type_rest none w = got (givenType (name_at w)) (next w)
+type_rest none w = got (given_type (name_at w)) (next w)
 type_rest (some a) w = got (arrow_type a (name_at w) (name_at (drop 2 w))) (drop 3 w)
 
 unfoldable pub parse_type : List Symbol → Parsed TypeForm
 parse_type w =
-    cond (is (first w) kind.POWER) (got (powerType (name_at (next w))) (drop 2 w))
+    cond (is (first w) kind.POWER) (got (power_type (name_at (next w))) (drop 2 w))
     (cond (is_name (first w)) (type_rest (arrow_of (kind_at w 1)) w) (let r : Parsed Range = parse_range w in got (range_type r.tree) r.rest))
 
 -- `k NAME` again and again

@@ -44,7 +44,7 @@ pub data Comparison : Type 0 where
   equals differs less at_most : Comparison
 
 pub data Membership : Type 0 where
-  isIn notIn : Membership
+  is_in not_in : Membership
 
 -- "Terms and predicates contain each other, through set braces."
 mutual
@@ -93,7 +93,7 @@ pub data Arrow : Type 0 where
 
 -- "A given set; a range a..b; P G; G <-> H relations; G -+> H partial functions; G --> H total functions."
 pub data TypeForm : Type 0 where
-  givenType powerType : Name → TypeForm
+  given_type power_type : Name → TypeForm
   range_type : Range → TypeForm
   arrow_type : Arrow → Name → Name → TypeForm
 

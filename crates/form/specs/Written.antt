@@ -2,20 +2,20 @@
 use Rattle.std.specs.Prelude.{Bool, true, false, List, [], ◌∷◌, map, ℕ, suc}
 use Rattle.lexical.specs.Kinds as kind
 use Rattle.lexical.specs.Kinds.{Kind}
-use Rattle.lexical.specs.Symbols.{Name, Ending, noEnding, query, shriek, Symbol, fixed, numeral}
+use Rattle.lexical.specs.Symbols.{Name, Ending, no_ending, query, shriek, Symbol, fixed, numeral}
 use Rattle.lexical.specs.Symbols as symbol
 use Rattle.form.specs.Tree.{Letters, End, Range, Domain, given_set, range, Prefix, negate, size, dom, ran, Operator, plus, minus, union, without, times, inter, Division, quotient, remainder}
-use Rattle.form.specs.Tree.{Connective, and, or, implies, iff, Quantifier, forall, exists, exists1, Comparison, equals, differs, less, at_most, Membership, isIn, notIn}
+use Rattle.form.specs.Tree.{Connective, and, or, implies, iff, Quantifier, forall, exists, exists1, Comparison, equals, differs, less, at_most, Membership, is_in, not_in}
 use Rattle.form.specs.Tree.{Term, number, name, group, prefix, binary, divided, listed, pairs, such, empty_set, empty_pairs, Items, only, also, Pairs, only_pair, also_pair}
 use Rattle.form.specs.Tree.{Pred, truth, falsity, negation, paren, quantified, connected, compared, member, within, related}
-use Rattle.form.specs.Tree.{Arrow, relation, partial, total, TypeForm, givenType, powerType, range_type, arrow_type, Declaration, Direction, inward, outward, Parameter, Given, State, Operation, Dossier}
+use Rattle.form.specs.Tree.{Arrow, relation, partial, total, TypeForm, given_type, power_type, range_type, arrow_type, Declaration, Direction, inward, outward, Parameter, Given, State, Operation, Dossier}
 
 -- 5 and 6: what a symbol opens (this depth), binds (this bound name in reach) or counts (this one of its list), the first being 1
 pub data Mark : Type 0 where
   unmarked : Mark
   opens binds : ℕ → Mark
   -- given sets, elements of one, variables of a state, inputs, outputs, operations
-  a_given an_element aVariable anInput anOutput an_operation : ℕ → Mark
+  a_given an_element a_variable an_input an_output an_operation : ℕ → Mark
 
 pub record Written : Type 0 where
   pub symbol : Symbol
@@ -73,8 +73,8 @@ comparison_kind less = kind.less
 comparison_kind at_most = kind.at_most
 
 abbrev pub membership_kind : Membership → Kind
-membership_kind isIn = kind.IN
-membership_kind notIn = kind.NOTIN
+membership_kind is_in = kind.IN
+membership_kind not_in = kind.NOTIN
 
 abbrev pub arrow_kind : Arrow → Kind
 arrow_kind relation = kind.relation
@@ -114,15 +114,15 @@ unfoldable mutual
   pub write_term : Term → (d k : ℕ) → List Written → List Written
   write_term (number n) d k w = digits n ∷ w
   write_term (name x) d k w = used x ∷ w
-  write_term (group t) d k w = opening kind.openBracket (suc d) ∷ write_term t (suc d) k (bare kind.closeBracket ∷ w)
+  write_term (group t) d k w = opening kind.open_bracket (suc d) ∷ write_term t (suc d) k (bare kind.close_bracket ∷ w)
   write_term (prefix o t) d k w = opening (prefix_kind o) (suc d) ∷ write_term t (suc d) k w
   write_term (binary o t u) d k w = write_term t d k (bare (operator_kind o) ∷ write_term u d k w)
   write_term (divided o t e) d k w = write_term t d k (bare (division_kind o) ∷ write_end e w)
-  write_term (listed ts) d k w = opening kind.openBrace (suc d) ∷ write_items ts (suc d) k (bare kind.closeBrace ∷ w)
-  write_term (pairs ts) d k w = opening kind.openBrace (suc d) ∷ write_pairs ts (suc d) k (bare kind.closeBrace ∷ w)
+  write_term (listed ts) d k w = opening kind.open_brace (suc d) ∷ write_items ts (suc d) k (bare kind.close_brace ∷ w)
+  write_term (pairs ts) d k w = opening kind.open_brace (suc d) ∷ write_pairs ts (suc d) k (bare kind.close_brace ∷ w)
   write_term (such x g p) d k w =
-      opening kind.openBrace (suc d) ∷ declared x noEnding (binds (suc k)) ∷ bare kind.colon ∷ used g ∷ bare kind.bar
-      ∷ write_pred p (suc d) (suc k) (bare kind.closeBrace ∷ w)
+      opening kind.open_brace (suc d) ∷ declared x no_ending (binds (suc k)) ∷ bare kind.colon ∷ used g ∷ bare kind.bar
+      ∷ write_pred p (suc d) (suc k) (bare kind.close_brace ∷ w)
   write_term (empty_set g) d k w = bare kind.EMPTY ∷ used g ∷ w
   write_term (empty_pairs g h) d k w = bare kind.EMPTY ∷ used g ∷ used h ∷ w
 
@@ -138,10 +138,10 @@ unfoldable mutual
   write_pred truth d k w = bare kind.TRUE ∷ w
   write_pred falsity d k w = bare kind.FALSE ∷ w
   write_pred (negation p) d k w = opening kind.NOT (suc d) ∷ write_pred p (suc d) k w
-  write_pred (paren p) d k w = opening kind.openParen (suc d) ∷ write_pred p (suc d) k (bare kind.closeParen ∷ w)
+  write_pred (paren p) d k w = opening kind.open_paren (suc d) ∷ write_pred p (suc d) k (bare kind.close_paren ∷ w)
   write_pred (quantified q x t p) d k w =
-      opening kind.openParen (suc d) ∷ bare (quantifier_kind q) ∷ declared x noEnding (binds (suc k)) ∷ bare kind.colon
-      ∷ write_domain t (bare kind.spot ∷ write_pred p (suc d) (suc k) (bare kind.closeParen ∷ w))
+      opening kind.open_paren (suc d) ∷ bare (quantifier_kind q) ∷ declared x no_ending (binds (suc k)) ∷ bare kind.colon
+      ∷ write_domain t (bare kind.spot ∷ write_pred p (suc d) (suc k) (bare kind.close_paren ∷ w))
   write_pred (connected o p q) d k w = write_pred p d k (connective o d ∷ write_pred q (right_depth o d) k w)
   write_pred (compared o t u) d k w = write_term t d k (bare (comparison_kind o) ∷ write_term u d k w)
   write_pred (member o t u) d k w = write_term t d k (bare (membership_kind o) ∷ write_term u d k w)
@@ -149,31 +149,31 @@ unfoldable mutual
   write_pred (related o t u v) d k w = write_term t d k (bare kind.maplet ∷ write_term u d k (bare (membership_kind o) ∷ write_term v d k w))
 
 unfoldable pub write_type : TypeForm → List Written → List Written
-write_type (givenType g) w = used g ∷ w
-write_type (powerType g) w = bare kind.POWER ∷ used g ∷ w
+write_type (given_type g) w = used g ∷ w
+write_type (power_type g) w = bare kind.POWER ∷ used g ∷ w
 write_type (range_type r) w = write_range r w
 write_type (arrow_type a g h) w = used g ∷ bare (arrow_kind a) ∷ used h ∷ w
 
 -- contents entries `given NAME` and `op NAME`, each numbered by the mark, after n of them
 unfoldable pub write_entries : Kind → (ℕ → Mark) → ℕ → List Letters → List Written → List Written
 write_entries k m n [] w = w
-write_entries k m n (x ∷ xs) w = bare k ∷ declared x noEnding (m (suc n)) ∷ write_entries k m (suc n) xs w
+write_entries k m n (x ∷ xs) w = bare k ∷ declared x no_ending (m (suc n)) ∷ write_entries k m (suc n) xs w
 
 unfoldable pub write_elements : ℕ → List Letters → List Written → List Written
 write_elements n [] w = w
-write_elements n (x ∷ xs) w = declared x noEnding (an_element (suc n)) ∷ write_elements (suc n) xs w
+write_elements n (x ∷ xs) w = declared x no_ending (an_element (suc n)) ∷ write_elements (suc n) xs w
 
 -- `given NAME elements end`
 unfoldable pub write_givens : ℕ → List Given → List Written → List Written
 write_givens n [] w = w
 write_givens n (g ∷ gs) w =
-    bare kind.GIVEN ∷ declared g.title noEnding (a_given (suc n))
+    bare kind.GIVEN ∷ declared g.title no_ending (a_given (suc n))
     ∷ write_elements 0 (g.first_element ∷ g.other_elements) (bare kind.END ∷ write_givens (suc n) gs w)
 
 unfoldable pub write_declarations : ℕ → List Declaration → List Written → List Written
 write_declarations n [] w = w
 write_declarations n (d ∷ ds) w =
-    declared d.declared noEnding (aVariable (suc n)) ∷ bare kind.colon ∷ write_type d.type (bare kind.semicolon ∷ write_declarations (suc n) ds w)
+    declared d.declared no_ending (a_variable (suc n)) ∷ bare kind.colon ∷ write_type d.type (bare kind.semicolon ∷ write_declarations (suc n) ds w)
 
 -- `where predicate end`
 unfoldable pub write_where : Pred → List Written → List Written
@@ -189,8 +189,8 @@ ending_of outward = shriek
 
 -- the mark of one more parameter after i inputs and o outputs, and how many of each there are then
 abbrev pub parameter_mark : Direction → (i o : ℕ) → Mark
-parameter_mark inward i o = anInput (suc i)
-parameter_mark outward i o = anOutput (suc o)
+parameter_mark inward i o = an_input (suc i)
+parameter_mark outward i o = an_output (suc o)
 
 abbrev pub inputs_after : Direction → ℕ → ℕ
 inputs_after inward i = suc i
@@ -210,7 +210,7 @@ write_parameters i o (x ∷ xs) w =
 unfoldable pub write_operations : ℕ → List Operation → List Written → List Written
 write_operations n [] w = w
 write_operations n (o ∷ os) w =
-    bare kind.OP ∷ declared o.title noEnding (an_operation (suc n))
+    bare kind.OP ∷ declared o.title no_ending (an_operation (suc n))
     ∷ write_parameters 0 0 o.parameters (bare kind.ABSTRACT ∷ write_pred o.abstractly 0 0 (bare kind.CONCRETE
     ∷ write_pred o.concretely 0 0 (bare kind.END ∷ write_operations (suc n) os w)))
 

@@ -8,7 +8,7 @@ use borrow.Author.Tests.{eq-eqb}
 use Rattle.lexical.specs.Kinds as kind
 use Rattle.lexical.specs.Kinds.{Kind, code_of, is, lookup}
 use Rattle.form.specs.Written.{unmarked, opens}
-use Rattle.form.specs.Machine.{Item, exact, aName, anEmptyRest, anEnd, aDomain, aTerm, aTermRest, aRel, aMem, aRight, aUnary, aParen, a_pred_rest}
+use Rattle.form.specs.Machine.{Item, exact, a_name, an_empty_rest, an_end, a_domain, a_term, a_term_rest, a_rel, a_mem, a_right, a_unary, a_paren, a_pred_rest}
 use Rattle.form.specs.Machine.{Act, take, skip, stuck, then, start_term, operate, start_pred, on_name, act, go, halt, does, step, passed, ends}
 use Rattle.form_nodes.specs.FormPromises.{operators, connectives, pred_starts, relations, memberships, names}
 use Rattle.form_nodes.proofs.Classes.{lookup-miss, by-table-or}
@@ -46,7 +46,7 @@ unfolding lookup
 first_entry {A} e t u c d κ q = ap (λ (x : A). elim (is κ e.0) as (λ (b : Bool). A) [ true ↦ e.1 | false ↦ x ]) q
 
 -- a number without -
-pub end-unsigned : (κ : Kind) (γ : List Item) → (code_of κ ≡ code_of kind.minus → ⊥) → step (anEnd ∷ γ) κ ≡ step (exact kind.number ∷ γ) κ
+pub end-unsigned : (κ : Kind) (γ : List Item) → (code_of κ ≡ code_of kind.minus → ⊥) → step (an_end ∷ γ) κ ≡ step (exact kind.number ∷ γ) κ
 unfolding act step lookup
 end-unsigned κ γ f =
     ap (λ (a : Act). does a γ (step γ κ))
@@ -70,25 +70,25 @@ lookup-mapped f (e ∷ t) κ = on (is κ e.0) (lookup-mapped f t κ)
 
 abbrev pub at_operator : (d b : ℕ) → List Item → Act → ℕ → Act
 at_operator d b γ other zero = other
-at_operator d b γ other (suc zero) = then (aTerm d b ∷ γ)
-at_operator d b γ other (suc (suc zero)) = then (aTerm d b ∷ γ)
-at_operator d b γ other (suc (suc (suc n))) = then (anEnd ∷ aTermRest d b ∷ γ)
+at_operator d b γ other (suc zero) = then (a_term d b ∷ γ)
+at_operator d b γ other (suc (suc zero)) = then (a_term d b ∷ γ)
+at_operator d b γ other (suc (suc (suc n))) = then (an_end ∷ a_term_rest d b ∷ γ)
 
 pub operating : (d b : ℕ) (γ : List Item) (other : Act) (κ : Kind) → operate d b γ other κ ≡ at_operator d b γ other (lookup operators 0 κ)
 unfolding operate
 operating d b γ other κ = lookup-mapped (at_operator d b γ other) operators κ
 
-pub rest-step : (d b : ℕ) (κ : Kind) (γ : List Item) {c : ℕ} → lookup operators 0 κ ≡ c → step (aTermRest d b ∷ γ) κ ≡ does (at_operator d b [] skip c) γ (step γ κ)
+pub rest-step : (d b : ℕ) (κ : Kind) (γ : List Item) {c : ℕ} → lookup operators 0 κ ≡ c → step (a_term_rest d b ∷ γ) κ ≡ does (at_operator d b [] skip c) γ (step γ κ)
 unfolding act
-rest-step d b κ γ q = by-act (aTermRest d b) γ κ _ (operating d b [] skip κ ∙ ap (at_operator d b [] skip) q)
+rest-step d b κ γ q = by-act (a_term_rest d b) γ κ _ (operating d b [] skip κ ∙ ap (at_operator d b [] skip) q)
 
-pub binary : (d b c : ℕ) (γ : List Item) (other : Act) → 1 ≤ c → c < 3 → at_operator d b γ other c ≡ then (aTerm d b ∷ γ)
+pub binary : (d b c : ℕ) (γ : List Item) (other : Act) → 1 ≤ c → c < 3 → at_operator d b γ other c ≡ then (a_term d b ∷ γ)
 binary d b zero γ other l h = absurd (omega arith)
 binary d b (suc zero) γ other l h = refl
 binary d b (suc (suc zero)) γ other l h = refl
 binary d b (suc (suc (suc c))) γ other l h = absurd (omega arith)
 
-pub division : (d b c : ℕ) (γ : List Item) (other : Act) → 3 ≤ c → at_operator d b γ other c ≡ then (anEnd ∷ aTermRest d b ∷ γ)
+pub division : (d b c : ℕ) (γ : List Item) (other : Act) → 3 ≤ c → at_operator d b γ other c ≡ then (an_end ∷ a_term_rest d b ∷ γ)
 division d b zero γ other l = absurd (omega arith)
 division d b (suc zero) γ other l = absurd (omega arith)
 division d b (suc (suc zero)) γ other l = absurd (omega arith)
@@ -96,9 +96,9 @@ division d b (suc (suc (suc c))) γ other l = refl
 
 abbrev pub at_connective : (base d b : ℕ) → ℕ → Act
 at_connective base d b zero = skip
-at_connective base d b (suc zero) = then (aUnary base b ∷ a_pred_rest base base b ∷ [])
-at_connective base d b (suc (suc zero)) = take (opens (suc d)) (aUnary (suc d) b ∷ a_pred_rest base (suc d) b ∷ [])
-at_connective base d b (suc (suc (suc n))) = then (aUnary d b ∷ a_pred_rest base d b ∷ [])
+at_connective base d b (suc zero) = then (a_unary base b ∷ a_pred_rest base base b ∷ [])
+at_connective base d b (suc (suc zero)) = take (opens (suc d)) (a_unary (suc d) b ∷ a_pred_rest base (suc d) b ∷ [])
+at_connective base d b (suc (suc (suc n))) = then (a_unary d b ∷ a_pred_rest base d b ∷ [])
 
 pub pred-rest-step : (base d b : ℕ) (κ : Kind) (γ : List Item) {c : ℕ} → lookup connectives 0 κ ≡ c
     → step (a_pred_rest base d b ∷ γ) κ ≡ does (at_connective base d b c) γ (step γ κ)
@@ -106,9 +106,9 @@ unfolding act
 pred-rest-step base d b κ γ q = by-act (a_pred_rest base d b) γ κ _ (lookup-mapped (at_connective base d b) connectives κ ∙ ap (at_connective base d b) q)
 
 -- a connective other than => goes on at its depth, <=> where the predicate began there
-pub connecting : (base d b c : ℕ) → 1 ≤ c → (c ≡ 2 → ⊥) → (c ≡ 1 → base ≡ d) → at_connective base d b c ≡ then (aUnary d b ∷ a_pred_rest base d b ∷ [])
+pub connecting : (base d b c : ℕ) → 1 ≤ c → (c ≡ 2 → ⊥) → (c ≡ 1 → base ≡ d) → at_connective base d b c ≡ then (a_unary d b ∷ a_pred_rest base d b ∷ [])
 connecting base d b zero l n e = absurd (omega arith)
-connecting base d b (suc zero) l n e = ap (λ (x : ℕ). then (aUnary x b ∷ a_pred_rest base x b ∷ [])) (e refl)
+connecting base d b (suc zero) l n e = ap (λ (x : ℕ). then (a_unary x b ∷ a_pred_rest base x b ∷ [])) (e refl)
 connecting base d b (suc (suc zero)) l n e = absurd (n refl)
 connecting base d b (suc (suc (suc c))) l n e = refl
 
@@ -121,75 +121,75 @@ any-depth base d e b (suc (suc c)) h = absurd (omega arith)
 abbrev pub at_pred_start : (d b : ℕ) → List Item → Act → ℕ → Act
 at_pred_start d b γ other zero = other
 at_pred_start d b γ other (suc zero) = then γ
-at_pred_start d b γ other (suc (suc zero)) = take (opens (suc d)) (aUnary (suc d) b ∷ γ)
-at_pred_start d b γ other (suc (suc (suc n))) = take (opens (suc d)) (aParen (suc d) b ∷ γ)
+at_pred_start d b γ other (suc (suc zero)) = take (opens (suc d)) (a_unary (suc d) b ∷ γ)
+at_pred_start d b γ other (suc (suc (suc n))) = take (opens (suc d)) (a_paren (suc d) b ∷ γ)
 
 pub pred_starting : (d b : ℕ) (γ : List Item) (κ : Kind)
-    → start_pred d b γ κ ≡ at_pred_start d b γ (start_term d b (aTermRest d b ∷ aRel d b ∷ γ) κ) (lookup pred_starts 0 κ)
+    → start_pred d b γ κ ≡ at_pred_start d b γ (start_term d b (a_term_rest d b ∷ a_rel d b ∷ γ) κ) (lookup pred_starts 0 κ)
 unfolding start_pred
-pred_starting d b γ κ = lookup-mapped (at_pred_start d b γ (start_term d b (aTermRest d b ∷ aRel d b ∷ γ) κ)) pred_starts κ
+pred_starting d b γ κ = lookup-mapped (at_pred_start d b γ (start_term d b (a_term_rest d b ∷ a_rel d b ∷ γ) κ)) pred_starts κ
 
 pub unary-step : (d b : ℕ) (κ : Kind) (γ : List Item) {c : ℕ} → lookup pred_starts 0 κ ≡ c
-    → step (aUnary d b ∷ γ) κ ≡ does (at_pred_start d b [] (start_term d b (aTermRest d b ∷ aRel d b ∷ []) κ) c) γ (step γ κ)
+    → step (a_unary d b ∷ γ) κ ≡ does (at_pred_start d b [] (start_term d b (a_term_rest d b ∷ a_rel d b ∷ []) κ) c) γ (step γ κ)
 unfolding act
-unary-step d b κ γ q = by-act (aUnary d b) γ κ _ (pred_starting d b [] κ ∙ ap (at_pred_start d b [] (start_term d b (aTermRest d b ∷ aRel d b ∷ []) κ)) q)
+unary-step d b κ γ q = by-act (a_unary d b) γ κ _ (pred_starting d b [] κ ∙ ap (at_pred_start d b [] (start_term d b (a_term_rest d b ∷ a_rel d b ∷ []) κ)) q)
 
 abbrev pub at_relation : (d b : ℕ) → ℕ → Act
 at_relation d b zero = stuck
-at_relation d b (suc zero) = then (aTerm d b ∷ [])
-at_relation d b (suc (suc zero)) = then (aRight d b ∷ [])
-at_relation d b (suc (suc (suc n))) = then (aTerm d b ∷ aMem d b ∷ [])
+at_relation d b (suc zero) = then (a_term d b ∷ [])
+at_relation d b (suc (suc zero)) = then (a_right d b ∷ [])
+at_relation d b (suc (suc (suc n))) = then (a_term d b ∷ a_mem d b ∷ [])
 
-pub rel-step : (d b : ℕ) (κ : Kind) (γ : List Item) {c : ℕ} → lookup relations 0 κ ≡ c → step (aRel d b ∷ γ) κ ≡ does (at_relation d b c) γ (step γ κ)
+pub rel-step : (d b : ℕ) (κ : Kind) (γ : List Item) {c : ℕ} → lookup relations 0 κ ≡ c → step (a_rel d b ∷ γ) κ ≡ does (at_relation d b c) γ (step γ κ)
 unfolding act
-rel-step d b κ γ q = by-act (aRel d b) γ κ _ (lookup-mapped (at_relation d b) relations κ ∙ ap (at_relation d b) q)
+rel-step d b κ γ q = by-act (a_rel d b) γ κ _ (lookup-mapped (at_relation d b) relations κ ∙ ap (at_relation d b) q)
 
 abbrev pub either : Act → Act → ℕ → Act
 either a b zero = b
 either a b (suc n) = a
 
-pub mem-step : (d b : ℕ) (κ : Kind) (γ : List Item) {c : ℕ} → lookup memberships 0 κ ≡ c → step (aMem d b ∷ γ) κ ≡ does (either (then (aTerm d b ∷ [])) stuck c) γ (step γ κ)
+pub mem-step : (d b : ℕ) (κ : Kind) (γ : List Item) {c : ℕ} → lookup memberships 0 κ ≡ c → step (a_mem d b ∷ γ) κ ≡ does (either (then (a_term d b ∷ [])) stuck c) γ (step γ κ)
 unfolding act
 mem-step d b κ γ q =
-    by-act (aMem d b) γ κ _ (lookup-mapped (either (then (aTerm d b ∷ [])) stuck) memberships κ ∙ ap (either (then (aTerm d b ∷ [])) stuck) q)
+    by-act (a_mem d b) γ κ _ (lookup-mapped (either (then (a_term d b ∷ [])) stuck) memberships κ ∙ ap (either (then (a_term d b ∷ [])) stuck) q)
 
 pub naming : (a b : Act) (κ : Kind) {c : ℕ} → lookup names 0 κ ≡ c → on_name a b κ ≡ either a b c
 unfolding on_name
 naming a b κ q = lookup-mapped (either a b) names κ ∙ ap (either a b) q
 
-pub name-step : (κ : Kind) (γ : List Item) {c : ℕ} → lookup names 0 κ ≡ c → step (aName ∷ γ) κ ≡ does (either (then []) stuck c) γ (step γ κ)
+pub name-step : (κ : Kind) (γ : List Item) {c : ℕ} → lookup names 0 κ ≡ c → step (a_name ∷ γ) κ ≡ does (either (then []) stuck c) γ (step γ κ)
 unfolding act
-name-step κ γ q = by-act aName γ κ _ (naming (then []) stuck κ q)
+name-step κ γ q = by-act a_name γ κ _ (naming (then []) stuck κ q)
 
-pub second-step : (κ : Kind) (γ : List Item) {c : ℕ} → lookup names 0 κ ≡ c → step (anEmptyRest ∷ γ) κ ≡ does (either (then []) skip c) γ (step γ κ)
+pub second-step : (κ : Kind) (γ : List Item) {c : ℕ} → lookup names 0 κ ≡ c → step (an_empty_rest ∷ γ) κ ≡ does (either (then []) skip c) γ (step γ κ)
 unfolding act
-second-step κ γ q = by-act anEmptyRest γ κ _ (naming (then []) skip κ q)
+second-step κ γ q = by-act an_empty_rest γ κ _ (naming (then []) skip κ q)
 
 pub either-some : (a b : Act) (c : ℕ) → (c ≡ 0 → ⊥) → either a b c ≡ a
 either-some a b zero f = absurd (f refl)
 either-some a b (suc c) f = refl
 
-pub name-taken : (κ : Kind) (γ : List Item) → (lookup names 0 κ ≡ 0 → ⊥) → step (aName ∷ γ) κ ≡ go unmarked γ
+pub name-taken : (κ : Kind) (γ : List Item) → (lookup names 0 κ ≡ 0 → ⊥) → step (a_name ∷ γ) κ ≡ go unmarked γ
 unfolding act
-name-taken κ γ f = by-act aName γ κ (then []) (naming (then []) stuck κ refl ∙ either-some (then []) stuck (lookup names 0 κ) f)
+name-taken κ γ f = by-act a_name γ κ (then []) (naming (then []) stuck κ refl ∙ either-some (then []) stuck (lookup names 0 κ) f)
 
-pub second-taken : (κ : Kind) (γ : List Item) → (lookup names 0 κ ≡ 0 → ⊥) → step (anEmptyRest ∷ γ) κ ≡ go unmarked γ
+pub second-taken : (κ : Kind) (γ : List Item) → (lookup names 0 κ ≡ 0 → ⊥) → step (an_empty_rest ∷ γ) κ ≡ go unmarked γ
 unfolding act
-second-taken κ γ f = by-act anEmptyRest γ κ (then []) (naming (then []) skip κ refl ∙ either-some (then []) skip (lookup names 0 κ) f)
+second-taken κ γ f = by-act an_empty_rest γ κ (then []) (naming (then []) skip κ refl ∙ either-some (then []) skip (lookup names 0 κ) f)
 
-pub domain-name : (κ : Kind) (γ : List Item) → (lookup names 0 κ ≡ 0 → ⊥) → step (aDomain ∷ γ) κ ≡ go unmarked γ
+pub domain-name : (κ : Kind) (γ : List Item) → (lookup names 0 κ ≡ 0 → ⊥) → step (a_domain ∷ γ) κ ≡ go unmarked γ
 unfolding act step lookup is code_of
 domain-name κ γ f =
     by-table-or (λ j a. (lookup names 0 j ≡ 0 → ⊥) → does a γ (step γ j) ≡ go unmarked γ)
-    ((kind.number, then (exact kind.up_to ∷ anEnd ∷ [])) ∷ (kind.minus, then (exact kind.number ∷ exact kind.up_to ∷ anEnd ∷ [])) ∷ [])
+    ((kind.number, then (exact kind.up_to ∷ an_end ∷ [])) ∷ (kind.minus, then (exact kind.number ∷ exact kind.up_to ∷ an_end ∷ [])) ∷ [])
     (on_name (then []) stuck κ) κ ((λ g. absurd (g refl)) & (λ g. absurd (g refl)) & tt)
     (λ m g. ap (λ (a : Act). does a γ (step γ κ)) (naming (then []) stuck κ refl ∙ either-some (then []) stuck (lookup names 0 κ) g)) f
 
-pub domain-range : (κ : Kind) (γ : List Item) → lookup names 0 κ ≡ 0 → step (aDomain ∷ γ) κ ≡ step (anEnd ∷ exact kind.up_to ∷ anEnd ∷ γ) κ
+pub domain-range : (κ : Kind) (γ : List Item) → lookup names 0 κ ≡ 0 → step (a_domain ∷ γ) κ ≡ step (an_end ∷ exact kind.up_to ∷ an_end ∷ γ) κ
 unfolding act step lookup is code_of
 domain-range κ γ q =
-    by-table-or (λ j a. lookup names 0 j ≡ 0 → does a γ (step γ j) ≡ step (anEnd ∷ exact kind.up_to ∷ anEnd ∷ γ) j)
-    ((kind.number, then (exact kind.up_to ∷ anEnd ∷ [])) ∷ (kind.minus, then (exact kind.number ∷ exact kind.up_to ∷ anEnd ∷ [])) ∷ [])
+    by-table-or (λ j a. lookup names 0 j ≡ 0 → does a γ (step γ j) ≡ step (an_end ∷ exact kind.up_to ∷ an_end ∷ γ) j)
+    ((kind.number, then (exact kind.up_to ∷ an_end ∷ [])) ∷ (kind.minus, then (exact kind.number ∷ exact kind.up_to ∷ an_end ∷ [])) ∷ [])
     (on_name (then []) stuck κ) κ ((λ g. refl) & (λ g. refl) & tt)
     (λ m g. ap (λ (a : Act). does a γ (step γ κ)) (naming (then []) stuck κ g)
-    ∙ sym (by-act anEnd (exact kind.up_to ∷ anEnd ∷ γ) κ stuck (lookup-miss ((kind.number, then []) ∷ (kind.minus, then (exact kind.number ∷ [])) ∷ []) stuck κ (m.0, (m.1.0, tt))))) q
+    ∙ sym (by-act an_end (exact kind.up_to ∷ an_end ∷ γ) κ stuck (lookup-miss ((kind.number, then []) ∷ (kind.minus, then (exact kind.number ∷ [])) ∷ []) stuck κ (m.0, (m.1.0, tt))))) q

@@ -7,7 +7,7 @@ use lib.ListN.{take, get_or}
 use Rattle.lexical.specs.Kinds.{Kind, code_of, lookup, is}
 use Rattle.form.specs.Codes.{node}
 use Rattle.form_nodes.specs.FormPromises.{Writes, Closes, Shown, Starts, Classes, level_of}
-use Rattle.form_nodes.specs.Derivations.{Part, aPredFrom, aUnary, Derives, quantified, MadeAt, Made, NameAt, MemberAt, DomainAt, domain_node, name_code}
+use Rattle.form_nodes.specs.Derivations.{Part, a_pred_from, a_unary, Derives, quantified, MadeAt, Made, NameAt, MemberAt, DomainAt, domain_node, name_code}
 use Rattle.form_nodes.specs.declared.Read.{Read}
 use Rattle.form_nodes.specs.declared.Read.TheVariants.{At, Fault}
 use Rattle.form_nodes.specs.declared.kinds.Start.{Start}
@@ -65,11 +65,11 @@ module _ {s ν : List ℕ} where
 
   -- a quantified predicate, whose places are known by other words
   pub ranging : {i t e f k : ℕ} {n : List ℕ} → get_or s i 0 ≡ 15 → 53 ≤ get_or s (i + 1) 0 → get_or s (i + 1) 0 ≤ 55 → get_or s (i + 1 + 1) 0 ≡ 2
-      → (t ≡ i + 1 + 1 + 1 + 1) × (get_or s (i + 1 + 1 + 1) 0 ≡ 10) → DomainAt s t e → (f ≡ e + 1) × (get_or s e 0 ≡ 14) → Derives s ν (aPredFrom 1) f k n → get_or s k 0 ≡ 16
-      → Derives s ν aUnary i (k + 1) ((n ++ domain_node s ν t) ++ node 8 (i + 1) (name_code s ν (i + 1 + 1)) (get_or s (i + 1) 0))
+      → (t ≡ i + 1 + 1 + 1 + 1) × (get_or s (i + 1 + 1 + 1) 0 ≡ 10) → DomainAt s t e → (f ≡ e + 1) × (get_or s e 0 ≡ 14) → Derives s ν (a_pred_from 1) f k n → get_or s k 0 ≡ 16
+      → Derives s ν a_unary i (k + 1) ((n ++ domain_node s ν t) ++ node 8 (i + 1) (name_code s ν (i + 1 + 1)) (get_or s (i + 1) 0))
   ranging {i} {t} {e} {f} {k} {n} p lo hi x q o y d z =
       subst
-      (λ (u : ℕ). DomainAt s u e → Derives s ν aUnary i (k + 1) ((n ++ domain_node s ν u) ++ node 8 (i + 1) (name_code s ν (i + 1 + 1)) (get_or s (i + 1) 0)))
+      (λ (u : ℕ). DomainAt s u e → Derives s ν a_unary i (k + 1) ((n ++ domain_node s ν u) ++ node 8 (i + 1) (name_code s ν (i + 1 + 1)) (get_or s (i + 1) 0)))
       (sym q.0)
       (λ g. quantified p lo hi x q.1 g y.1 (from y.0 d) z)
       o

@@ -184,7 +184,7 @@ behind s p P h = subst (λ (j : ℕ). Within s j P) (sym (add-one p)) h
 used-test : (w : List Symbol) {s : List ℕ} → codes w ≡ s → (p : ℕ) → is_used (kind_at w p) (drop (suc (suc p)) w) ≡ (eqb (get_or s p 0) 19 && not (eqb (get_or s (p + 1 + 1) 0) 10))
 unfolding is_used is code_of
 used-test w {s} q p =
-    let a : is (kind_at w p) kind.openBrace ≡ eqb (get_or s p 0) 19 = code-test (λ (x : ℕ). eqb x 19) refl w q p in
+    let a : is (kind_at w p) kind.open_brace ≡ eqb (get_or s p 0) 19 = code-test (λ (x : ℕ). eqb x 19) refl w q p in
     let b : is (kind_at (drop (suc (suc p)) w) 0) kind.colon ≡ eqb (get_or s (p + 1 + 1) 0) 10 =
     ap (λ (κ : Kind). is κ kind.colon) (kind-behind w (suc (suc p)) 0) ∙ code-test (λ (x : ℕ). eqb x 10) refl w q (suc (suc p) + 0)
     ∙ ap (λ (j : ℕ). eqb (get_or s j 0) 10) (omega arith) in

@@ -13,7 +13,7 @@ use borrow.Author.Tests.{ltb-true, ltb-false}
 use Rattle.lexical.specs.Kinds as kind
 use Rattle.lexical.specs.Kinds.{Kind, code_of}
 use Rattle.lexical.specs.Symbols.{Symbol, fixed, kind_of}
-use Rattle.lexical.specs.Refusals.{Refusal, noDossier, deep}
+use Rattle.lexical.specs.Refusals.{Refusal, no_dossier, deep}
 use Rattle.form.specs.Written.{Mark, unmarked}
 use Rattle.form.specs.Form.{kind_at, settled}
 use Rattle.form.specs.Machine.{Item, Next, go, halt, step, ends, complete, failed, unless_over, onward, run_from}
@@ -44,7 +44,7 @@ unfolding run_at run_from kind_at
 run-at w at γ l = ap (λ (v : List Symbol). run_from v (kind_before kind.END w at) at γ) (drop-cons w at (fixed kind.END) l)
 
 -- and at the end it is whether the text may end there
-pub run_end : (w : List Symbol) (at : ℕ) (γ : List Item) → length w ≤ at → run_at w at γ ≡ cond (ends γ) complete (failed at noDossier)
+pub run_end : (w : List Symbol) (at : ℕ) (γ : List Item) → length w ≤ at → run_at w at γ ≡ cond (ends γ) complete (failed at no_dossier)
 unfolding run_at run_from
 run_end w at γ l = ap (λ (v : List Symbol). run_from v (kind_before kind.END w at) at γ) (drop_of_length-le w l)
 
@@ -101,11 +101,11 @@ module _ {s : List ℕ} {at n : ℕ} {ι ο : List Item} where
       → Reads s at n ι ο (Fault at 4)
   stops l h e = record { from = omega arith; within = l; count = tt; same = λ w q γ. on w q γ (ltb at (length s)) refl }
     where
-      on : (w : List Symbol) → codes w ≡ s → (γ : List Item) (b : Bool) → ltb at (length s) ≡ b → run_at w at (ι ++ γ) ≡ failed at noDossier
+      on : (w : List Symbol) → codes w ≡ s → (γ : List Item) (b : Bool) → ltb at (length s) ≡ b → run_at w at (ι ++ γ) ≡ failed at no_dossier
       on w q γ true t = step-at s at ι w q (ltb-true at (length s) t) (λ δ. halt) h γ
       on w q γ false t =
           let lw : length w ≤ at = let y = as_long w q in let z = ltb-false at (length s) t in omega arith in
-          run_end w at (ι ++ γ) lw ∙ ap (λ (y : Bool). cond y complete (failed at noDossier)) (e γ)
+          run_end w at (ι ++ γ) lw ∙ ap (λ (y : Bool). cond y complete (failed at no_dossier)) (e γ)
 
   -- two states that do the same at a symbol and at the end
   pub likewise : {μ : List Item} {r : Read} → ((κ : Kind) → code_of κ ≡ get_or s at 0 → (γ : List Item) → step (ι ++ γ) κ ≡ step (μ ++ γ) κ)
@@ -122,7 +122,7 @@ module _ {s : List ℕ} {at n : ℕ} {ι ο : List Item} where
           ∙ sym (run-at w at (μ ++ γ) lw)
       on w q γ false t =
           let lw : length w ≤ at = let z = ltb-false at (length w) t in omega arith in
-          run_end w at (ι ++ γ) lw ∙ ap (λ (y : Bool). cond y complete (failed at noDossier)) (e γ) ∙ sym (run_end w at (μ ++ γ) lw)
+          run_end w at (ι ++ γ) lw ∙ ap (λ (y : Bool). cond y complete (failed at no_dossier)) (e γ) ∙ sym (run_end w at (μ ++ γ) lw)
 
   -- a part at fault
   pub fails : {μ : List Item} {e f m : ℕ} → Reads s at m ι μ (Fault e f) → Reads s at n ι ο (Fault e f)
@@ -190,7 +190,7 @@ alike-now s at ι μ h e w q γ = on (ltb at (length w)) refl
         ∙ sym (run-at w at (μ ++ γ) lw)
     on false t =
         let lw : length w ≤ at = let z = ltb-false at (length w) t in omega arith in
-        run_end w at (ι ++ γ) lw ∙ ap (λ (y : Bool). cond y complete (failed at noDossier)) (e γ) ∙ sym (run_end w at (μ ++ γ) lw)
+        run_end w at (ι ++ γ) lw ∙ ap (λ (y : Bool). cond y complete (failed at no_dossier)) (e γ) ∙ sym (run_end w at (μ ++ γ) lw)
 
 -- both take the symbol, with marks that count alike
 pub alike_then : (s : List ℕ) (at : ℕ) (ι μ ι' μ' : List Item) (x y : Mark) → at < length s

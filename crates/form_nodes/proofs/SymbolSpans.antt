@@ -6,7 +6,7 @@ use native.Mathlib.Omega.{arith}
 use lib.ListN.{get_or}
 use Rattle.form.specs.Codes.{node}
 use Rattle.form_nodes.specs.FormPromises.{Shown, Named, Writes}
-use Rattle.form_nodes.specs.Derivations.{name_code, NameAt, EndAt, positive, negative, RangeAt, ranges, Part, anOperand, Derives, empty_one, empty_two, MadeAt}
+use Rattle.form_nodes.specs.Derivations.{name_code, NameAt, EndAt, positive, negative, RangeAt, ranges, Part, an_operand, Derives, empty_one, empty_two, MadeAt}
 use Rattle.form_nodes.specs.declared.Read.{Read}
 use Rattle.form_nodes.specs.declared.Read.TheVariants.{At, Fault}
 
@@ -41,11 +41,11 @@ pub made_one : {s ν a b : List ℕ} {x : Part} {i j n m : ℕ} {y : List ℕ} �
 made_one {y = y} d h = record { nodes = y; derives = d; written = h.nodes }
 
 pub empty-one : {s ν a b : List ℕ} {i n m x : ℕ} → get_or s i 0 ≡ 47 → NameAt s (i + 1) → x ≡ name_code s ν (i + 1) → Writes a n (node 9 i x 0) b m
-    → MadeAt s ν anOperand i n a b (i + 1 + 1) m
+    → MadeAt s ν an_operand i n a b (i + 1 + 1) m
 empty-one {a = a} {b} {i} {n} {m} q g e h = made_one (empty_one q g) (subst (λ (z : ℕ). Writes a n (node 9 i z 0) b m) e h)
 
 pub empty-two : {s ν a b : List ℕ} {i n m x y : ℕ} → get_or s i 0 ≡ 47 → NameAt s (i + 1) → NameAt s (i + 1 + 1) → x ≡ name_code s ν (i + 1)
-    → y ≡ name_code s ν (i + 1 + 1) → Writes a n (node 10 i x y) b m → MadeAt s ν anOperand i n a b (i + 1 + 1 + 1) m
+    → y ≡ name_code s ν (i + 1 + 1) → Writes a n (node 10 i x y) b m → MadeAt s ν an_operand i n a b (i + 1 + 1 + 1) m
 empty-two {s} {ν} {a} {b} {i} {n} {m} {x} q g h e f w =
     made_one (empty_two q g h)
     (subst (λ (z : ℕ). Writes a n (node 10 i z (name_code s ν (i + 1 + 1))) b m) e (subst (λ (z : ℕ). Writes a n (node 10 i x z) b m) f w))

@@ -3,11 +3,11 @@ use Rattle.std.specs.Prelude.{◌≡◌, Bool, true, false, cond, ◌&&◌, List
 use Rattle.lexical.specs.Kinds as kind
 use Rattle.lexical.specs.Kinds.{Kind, code_of, lookup}
 use Rattle.lexical.specs.Symbols.{Symbol, kind_of}
-use Rattle.lexical.specs.Refusals.{Refusal, noDossier, deep, manyDeclared}
+use Rattle.lexical.specs.Refusals.{Refusal, no_dossier, deep, many_declared}
 use Rattle.lexical.specs.Promises.{Scans}
 use Rattle.lexical.specs.declared.Scanned.TheVariants.{Symbols}
 use Rattle.form.specs.Machine as machine
-use Rattle.form.specs.Machine.{kind_before, Item, aTermRest, a_pred_rest, Run, failed, run_from, starts}
+use Rattle.form.specs.Machine.{kind_before, Item, a_term_rest, a_pred_rest, Run, failed, run_from, starts}
 use Rattle.form_nodes.specs.declared.kinds.Start.{Start}
 use Rattle.form_nodes.specs.declared.kinds.Start.TheVariants.{Leaf, Prefix, Bracket, Brace, Empty, Nothing}
 use Rattle.form_nodes.specs.declared.Read.{Read}
@@ -23,7 +23,7 @@ run_at w at γ = run_from (drop at w) (kind_before kind.END w at) at γ
 
 -- the code's numbers of refusals
 abbrev pub refusal_numbered : ℕ → Refusal
-refusal_numbered n = cond (eqb n 4) noDossier (cond (eqb n 5) deep manyDeclared)
+refusal_numbered n = cond (eqb n 4) no_dossier (cond (eqb n 5) deep many_declared)
 
 -- how the machine ends, where a part was read and γ is expected behind it
 abbrev pub after : Read → List Symbol → List Item → Run
@@ -100,7 +100,7 @@ connectives = (kind.AND, 4) ∷ (kind.OR, 3) ∷ (kind.implies, 2) ∷ (kind.iff
 
 -- what a predicate begins with: 1 a truth value, 2 `not`, 3 (; otherwise a term
 abbrev pub pred_starts : List (Kind × ℕ)
-pred_starts = (kind.TRUE, 1) ∷ (kind.FALSE, 1) ∷ (kind.NOT, 2) ∷ (kind.openParen, 3) ∷ []
+pred_starts = (kind.TRUE, 1) ∷ (kind.FALSE, 1) ∷ (kind.NOT, 2) ∷ (kind.open_paren, 3) ∷ []
 
 -- what stands behind the first term of a predicate: 1 a comparison, 2 a membership, 3 |->
 abbrev pub relations : List (Kind × ℕ)
@@ -163,7 +163,7 @@ TermStops s min (At e m) = (κ : Kind) → code_of κ ≡ get_or s e 0 → level
 TermStops s min (Fault e f) = Unit {0}
 
 pub record TermReads (s : List ℕ) (at n d b min : ℕ) (ι : List Item) (r : Read) : Type 0 where
-  pub reads : Reads s at n ι (aTermRest d b ∷ []) r
+  pub reads : Reads s at n ι (a_term_rest d b ∷ []) r
   pub stops : TermStops s min r
 
 abbrev pub PredStops : List ℕ → ℕ → Read → Type 0

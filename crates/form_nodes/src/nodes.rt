@@ -1,9 +1,9 @@
 // The nodes of a tree, four numbers each (form/specs/Codes.antt).
 ghost use Rattle.std.specs.Prelude.{◌≡◌, [], ◌∷◌, ◌+◌, ◌≤◌, ◌<◌, length, get_or};
-ghost use Rattle.form.specs.Machine.{aName, anEmptyRest};
+ghost use Rattle.form.specs.Machine.{a_name, an_empty_rest};
 ghost use Rattle.form_nodes.specs.FormPromises.{Room, Writes, Reads};
 ghost use Rattle.form.specs.Codes.{node};
-ghost use Rattle.form_nodes.specs.Derivations.{Made, anOperand, name_code, end_code, magnitude_code, division_code, leaf_node, range_node, domain_node};
+ghost use Rattle.form_nodes.specs.Derivations.{Made, an_operand, name_code, end_code, magnitude_code, division_code, leaf_node, range_node, domain_node};
 
 use crate::Read;
 use crate::kinds::{NONE, kind_at, name_of, value_at, wide};
@@ -132,7 +132,7 @@ pub fn put_domain(s: &[u8], v: &[u16], at: usize, code: &mut [u16], n: usize) ->
 // One name or two behind an `empty`.
 pub fn empty(s: &[u8], v: &[u16], at: usize, code: &mut [u16], n: usize) -> Read
     requires { Room s.now code.old at n × (at < length s.now) × (get_or s.now at 0 ≡ 47) }
-    ensures { Reads s.now (at + 1) (n + 4) (aName ∷ anEmptyRest ∷ []) [] result × Made s.now v.now anOperand at n code.old code.new result }
+    ensures { Reads s.now (at + 1) (n + 4) (a_name ∷ an_empty_rest ∷ []) [] result × Made s.now v.now an_operand at n code.old code.new result }
 {
     let k = kind_at(s, at + 1);
     if name_of(k) == NONE {

@@ -1,7 +1,7 @@
 // Ends, ranges and what a bound name ranges over.
 ghost use Rattle.std.specs.Prelude.{[], ◌∷◌, ◌≤◌, ◌<◌, length};
 ghost use Rattle.lexical.specs.Kinds as kind;
-ghost use Rattle.form.specs.Machine.{exact, anEnd, aDomain};
+ghost use Rattle.form.specs.Machine.{exact, an_end, a_domain};
 ghost use Rattle.form_nodes.specs.FormPromises.{Closes, Reads, Advances, Ranged, RangeEnd, Shown};
 ghost use Rattle.form_nodes.specs.Derivations.{EndAt, RangeAt, DomainAt};
 
@@ -27,7 +27,7 @@ pub fn close(s: &[u8], at: usize, k: u8, n: usize) -> Read
 // A number, which may carry -.
 pub fn end(s: &[u8], at: usize, n: usize) -> Read
     requires { (at ≤ length s.now) × (length s.now ≤ 4096) }
-    ensures { Advances s.now at n (anEnd ∷ []) [] result × Shown (EndAt s.now at) n result }
+    ensures { Advances s.now at n (an_end ∷ []) [] result × Shown (EndAt s.now at) n result }
 {
     if kind_at(s, at) == codes::DASH {
         return close(s, at + 1, codes::NUMBER, n);
@@ -89,7 +89,7 @@ pub fn is_range(s: &[u8], at: usize) -> bool
 // a..b
 pub fn range(s: &[u8], at: usize, n: usize) -> Read
     requires { (at ≤ length s.now) × (length s.now ≤ 4096) }
-    ensures { Advances s.now at n (anEnd ∷ exact kind.up_to ∷ anEnd ∷ []) [] result × Shown (RangeAt s.now at) n result }
+    ensures { Advances s.now at n (an_end ∷ exact kind.up_to ∷ an_end ∷ []) [] result × Shown (RangeAt s.now at) n result }
 {
     match end(s, at, n) {
         Read::At(e, m) => match close(s, e, codes::UP_TO, m) {
@@ -103,7 +103,7 @@ pub fn range(s: &[u8], at: usize, n: usize) -> Read
 // What a bound name ranges over.
 pub fn domain(s: &[u8], at: usize, n: usize) -> Read
     requires { (at ≤ length s.now) × (length s.now ≤ 4096) }
-    ensures { Reads s.now at n (aDomain ∷ []) [] result × Shown (DomainAt s.now at) n result }
+    ensures { Reads s.now at n (a_domain ∷ []) [] result × Shown (DomainAt s.now at) n result }
 {
     let k = kind_at(s, at);
     if name_of(k) == NONE {

@@ -8,7 +8,7 @@ use native.Mathlib.Omega.{arith}
 use native.Mathlib.Nat.{zero-add, eq-or-lt_of_le}
 use lib.ListN.{length, take, get_or, get_elem?, length-append}
 use lib.Seq.{length-take-le}
-use Rattle.lexical.specs.Symbols.{noEnding}
+use Rattle.lexical.specs.Symbols.{no_ending}
 use Rattle.form.specs.Tree.{Letters, Given, elements, Dossier}
 use Rattle.form.specs.Headings.{givens_at, given_length}
 use Rattle.form.specs.Codes.{node, Numbering, number_of_name, element_codes, given_codes, dossier_codes}
@@ -72,7 +72,7 @@ unfolding given_codes size_of
 set_at {c} {q} i g gs ρ r h s =
     let E : List ℕ = element_codes (i + 2) (elements g) ρ in
     let G : List ℕ = given_codes (i + given_length g) gs ρ in
-    let u : Split c (q + 4) (E ++ (G ++ r)) = split-as (append_assoc E G r) (split-next (node 3 i (number_of_name ρ g.title noEnding) 0) ((E ++ G) ++ r) s) in
+    let u : Split c (q + 4) (E ++ (G ++ r)) = split-as (append_assoc E G r) (split-next (node 3 i (number_of_name ρ g.title no_ending) 0) ((E ++ G) ++ r) s) in
     let z : size_at c q ≡ 4 = size-here s in
     let l : length c ≡ q + 4 + length (E ++ (G ++ r)) = split-length u in
     record {

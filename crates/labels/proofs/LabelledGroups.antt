@@ -6,7 +6,7 @@ use Prim.Native.Nat.{ℕ, suc, ◌+◌, ◌-◌, ◌*◌, ◌<◌, ◌≤◌}
 use native.Mathlib.Omega.{arith}
 use lib.ListN.{length, get_or, replicate}
 use Rattle.lexical.specs.Lists.{filter}
-use Rattle.lexical.specs.Symbols.{noEnding, Ending}
+use Rattle.lexical.specs.Symbols.{no_ending, Ending}
 use Rattle.form.specs.Tree.{Given, Declaration, Parameter}
 use Rattle.static_rules.specs.Carriers.{Carrier, Variable}
 use Rattle.static_rules.specs.Scope.{variables}
@@ -84,7 +84,7 @@ module _ (text nodes starts table : List ℕ) (gs : List Given) (few : length gs
       (one_labelled {v = variable_of e x h.carrier}
       (record { spelt = n; typed = type-typed-at q (type_table x.type gs) h.carrier f (type-typed gs few x.type h.carrier h.is) }) r)
 
-  pub state-labelled : (e : Ending) {q : ℕ} {ds : List Declaration} → TypesAt table gs q ds → NamesAt text nodes starts q (variables_of noEnding ds) → HaveCarriers gs ds
+  pub state-labelled : (e : Ending) {q : ℕ} {ds : List Declaration} → TypesAt table gs q ds → NamesAt text nodes starts q (variables_of no_ending ds) → HaveCarriers gs ds
       → Labelled text nodes starts table gs (state_row q ds) (variables gs e ds)
   unfolding state_row variables variables_of HaveCarriers
   state-labelled e no_types n h = none_labelled

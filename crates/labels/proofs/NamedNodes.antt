@@ -6,7 +6,7 @@ use Prim.Native.Nat.{ℕ, zero, suc, ◌+◌, ◌-◌, ◌*◌, ◌/◌, ◌≤�
 use native.Mathlib.Omega.{arith}
 use lib.ListN.{length, take, drop, get_or, get_elem?, take-append-drop}
 use lib.Seq.{length-take-le}
-use Rattle.lexical.specs.Symbols.{noEnding, prime, query, shriek, Ending}
+use Rattle.lexical.specs.Symbols.{no_ending, prime, query, shriek, Ending}
 use Rattle.form.specs.Tree.{Letters, Declaration, declarations, Operation, Dossier}
 use Rattle.form.specs.Headings.{abstract_at, concrete_at, operations_at}
 use Rattle.form.specs.Codes.{Numbering, number_of_name, ending_number, type_width, declaration_codes, dossier_codes}
@@ -26,7 +26,7 @@ use Rattle.labels.specs.LabelPromises.{name_byte}
 -- ---- a name
 
 quarter : (n : ℕ) (e : Ending) → (4 * n + ending_number e) / 4 ≡ n
-quarter n noEnding = omega arith
+quarter n no_ending = omega arith
 quarter n prime = omega arith
 quarter n query = omega arith
 quarter n shriek = omega arith
@@ -79,12 +79,12 @@ stands-split {nodes} {from = from} {to} s =
     }
 
 variables-nodes : {nodes : List ℕ} {ρ : Numbering} {from to : ℕ} (i : ℕ) (ds : List Declaration) → Stands nodes from to (declaration_codes i ds ρ)
-    → NodesFrom nodes ρ from (variables_of noEnding ds)
-variables-nodes {ρ = ρ} i ds s = nodes-from i (variables_of noEnding ds) _ (variables-codes i ds ρ) (stands-split s)
+    → NodesFrom nodes ρ from (variables_of no_ending ds)
+variables-nodes {ρ = ρ} i ds s = nodes-from i (variables_of no_ending ds) _ (variables-codes i ds ρ) (stands-split s)
 
 -- an operation: its name's node, and its parameters
 pub record OperationNodes (nodes spans : List ℕ) (ρ : Numbering) (k : ℕ) (o : Operation) : Type 0 where
-  pub title : get_or nodes (span spans (9 + 4 * k) - 4 + 1) 0 ≡ number_of_name ρ o.title noEnding
+  pub title : get_or nodes (span spans (9 + 4 * k) - 4 + 1) 0 ≡ number_of_name ρ o.title no_ending
   pub parameters : NodesFrom nodes ρ (span spans (9 + 4 * k)) (parameters_of o.parameters)
 
 abbrev EachNodes : (nodes spans : List ℕ) → Numbering → (k : ℕ) → List Operation → Type 0
@@ -120,8 +120,8 @@ module _ (d : Dossier) (ρ : Numbering) (nodes : List ℕ) (m : ℕ) (l : m ≤ 
       (λ n k i p ps. one-nodes n k i p ps) (operations_from d ρ) 0 (operations_at d) d.operations (split-longer z w (at-operations d ρ)) s j o t j (omega arith)
 
   -- the variables of the two states
-  pub abstract-nodes : NodesFrom nodes ρ (span spans 0) (variables_of noEnding (declarations d.abstract))
+  pub abstract-nodes : NodesFrom nodes ρ (span spans 0) (variables_of no_ending (declarations d.abstract))
   abstract-nodes = variables-nodes (suc (abstract_at d)) (declarations d.abstract) (structured d ρ nodes spans m l e rest g).abstract.variables
 
-  pub concrete-nodes : NodesFrom nodes ρ (span spans 3) (variables_of noEnding (declarations d.concrete))
+  pub concrete-nodes : NodesFrom nodes ρ (span spans 3) (variables_of no_ending (declarations d.concrete))
   concrete-nodes = variables-nodes (suc (concrete_at d)) (declarations d.concrete) (structured d ρ nodes spans m l e rest g).concrete.variables

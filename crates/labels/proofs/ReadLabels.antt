@@ -6,7 +6,7 @@ use Prim.Native.Nat.{ℕ, ◌+◌, ◌-◌, ◌*◌, ◌<◌, ◌≤◌}
 use native.Mathlib.Omega.{arith}
 use lib.ListN.{length, get_elem?, get_or, take, drop}
 use lib.Seq.{length-take-le}
-use Rattle.lexical.specs.Symbols.{noEnding}
+use Rattle.lexical.specs.Symbols.{no_ending}
 use Rattle.form.specs.Tree.{Letters, Given, elements, declarations, inward, outward, Parameter, Operation, Dossier}
 use Rattle.form.specs.Written.{ending_of}
 use Rattle.form.specs.Codes.{dossier_codes, Numbering}
@@ -57,21 +57,21 @@ read-labels text nodes starts spans₀ table₀ groups₀ rows₀ firsts₀ span
   titles_at = λ j o t.
       let b = below j o t in
       subst (λ (p : ℕ). SpeltAt text p o.title) (sym (vs.others.below (64 + j) (omega arith) ∙ ts.each j b))
-      (name-spelt text nodes starts ρ (Occurs text) spelt (get_or spans (9 + 4 * j) 0 - 4) o.title noEnding
+      (name-spelt text nodes starts ρ (Occurs text) spelt (get_or spans (9 + 4 * j) 0 - 4) o.title no_ending
       (operations-nodes d ρ nodes m h u spans (drop (length s) spans₀) w.spans_are j o t).title (operation-in occur.operations_in j o t).0);
   abstracts =
-      let n = variables-few gs noEnding (declarations d.abstract) in
+      let n = variables-few gs no_ending (declarations d.abstract) in
       let f = given.variables.abstract in
       row-labels vs
-      (state-labelled text nodes starts table gs few noEnding
+      (state-labelled text nodes starts table gs few no_ending
       (subst (λ (t : List ℕ). TypesAt t gs (span s 0) (declarations d.abstract)) (sym w.table_is) (abstract_types d ρ A table₀ room))
       (named (span s 0) occur.abstract_in (abstract-nodes d ρ nodes m h u s [] (sym (append-nil s)))) fine.abstract)
       0 8 places.behind_abstracts places.abstracts 1 refl (omega arith);
   concretes =
-      let n = variables-few gs noEnding (declarations d.concrete) in
+      let n = variables-few gs no_ending (declarations d.concrete) in
       let f = given.variables.concrete in
       row-labels vs
-      (state-labelled text nodes starts table gs few noEnding
+      (state-labelled text nodes starts table gs few no_ending
       (subst (λ (t : List ℕ). TypesAt t gs (span s 3) (declarations d.concrete)) (sym w.table_is) (concrete_types d ρ A table₀ room))
       (named (span s 3) occur.concrete_in (concrete-nodes d ρ nodes m h u s [] (sym (append-nil s)))) fine.concrete)
       9 8 places.behind_concretes places.concretes 10 refl (omega arith);

@@ -13,7 +13,7 @@ use borrow.Author.Tests.{leb-true}
 use Rattle.lexical.specs.Kinds as kind
 use Rattle.lexical.specs.Kinds.{Kind, marks, words}
 use Rattle.lexical.specs.Lists.{bytes, begins}
-use Rattle.lexical.specs.Symbols.{Class, letter, digit, mark, blank, other, Ending, noEnding, prime, query, shriek, Name, Symbol, fixed, numeral, name, Found, gap, unlisted, found}
+use Rattle.lexical.specs.Symbols.{Class, letter, digit, mark, blank, other, Ending, no_ending, prime, query, shriek, Name, Symbol, fixed, numeral, name, Found, gap, unlisted, found}
 use Rattle.lexical.specs.Symbols.{Placed, scanned, scan_from, scan, symbols}
 use Rattle.lexical.specs.Symbols.{class_of, run, decimal_from, is_number, number_found, reserved, ending_of, ending_length, word_of, longer, longest, by_class, symbol_at}
 use Rattle.lexical.specs.Promises.{has_letters, first_named, Scans}
@@ -44,7 +44,7 @@ word-begins w e none = on (leb (length (run w)) 16) (λ q. leb-true (length (run
         → BeginsFound w (cond b (found (name (record { letters = run w; ending = e })) (length (run w) + ending_length e)) unlisted)
     on true h = (refl, h refl)
     on false h = tt
-word-begins w noEnding (some k) = tt
+word-begins w no_ending (some k) = tt
 word-begins w prime (some k) = tt
 word-begins w query (some k) = tt
 word-begins w shriek (some k) = tt

@@ -8,7 +8,7 @@ use native.Mathlib.Omega.{arith}
 use lib.ListN.{length, get_or, get_elem?}
 use Rattle.lexical.specs.Lists.{find}
 use Rattle.lexical.specs.Symbols.{Name}
-use Rattle.form.specs.Tree.{Arrow, relation, partial, total, Given, TypeForm, givenType, powerType, arrow_type}
+use Rattle.form.specs.Tree.{Arrow, relation, partial, total, Given, TypeForm, given_type, power_type, arrow_type}
 use Rattle.form.specs.Codes.{arrow_number}
 use Rattle.static_rules.specs.Carriers.{Carrier, elements_of, subsets_of, pairs_in, same_name, plain, given_of, carrier_of}
 use Rattle.static_rules.specs.Scope.{place_in}
@@ -38,11 +38,11 @@ abbrev pub TypedBy : List Given → (piece : List ℕ) → Carrier → Type 0
 TypedBy gs piece c = Typed gs (get_or piece 3 0) (get_or piece 2 0) (get_or piece 0 0) c
 
 module _ (gs : List Given) (few : length gs ≤ 8) where
-  elements-typed : (x : Name) (g : Given) → given_of gs x ≡ some g → TypedBy gs (type_table (givenType x) gs) (elements_of g)
+  elements-typed : (x : Name) (g : Given) → given_of gs x ≡ some g → TypedBy gs (type_table (given_type x) gs) (elements_of g)
   unfolding type_table Typed
   elements-typed x g e = (refl, place-given gs x g e)
 
-  subsets-typed : (x : Name) (g : Given) → given_of gs x ≡ some g → TypedBy gs (type_table (powerType x) gs) (subsets_of g)
+  subsets-typed : (x : Name) (g : Given) → given_of gs x ≡ some g → TypedBy gs (type_table (power_type x) gs) (subsets_of g)
   unfolding type_table Typed
   subsets-typed x g e = (refl, place-given gs x g e)
 

@@ -13,8 +13,8 @@ use lib.ListN.{length, take, drop, get_or}
 use lib.Seq.{get_or-drop, drop-drop}
 use mathlib.Core.Logic.{⊎_elim}
 use Rattle.lexical.specs.Lists.{bytes, same, any}
-use Rattle.lexical.specs.Kinds.{Kind, words, code_of, number, plain, primed, input, output, colon, semicolon, comma, bar, spot, openParen, closeParen, openBracket, closeBracket, openBrace, closeBrace, up_to, equals, differs, less, at_most, implies, iff, plus, minus, times, size, maplet, relation, partial, total, CONTENTS, GIVEN, ABSTRACT, CONCRETE, AINIT, CINIT, RETRIEVE, OP, END, WHERE, POWER, EMPTY, TRUE, FALSE, NOT, AND, OR, FORALL, EXISTS, EXISTS1, IN, NOTIN, UNION, MINUS, INTER, DIV, MOD, DOM, RAN}
-use Rattle.lexical.specs.Symbols.{letter, other, class_of, in_run, run, reserved, word_of, ending_of, ending_length, kind_of_name, name, found, unlisted, Ending, noEnding, prime, query, shriek, by_class, between}
+use Rattle.lexical.specs.Kinds.{Kind, words, code_of, number, plain, primed, input, output, colon, semicolon, comma, bar, spot, open_paren, close_paren, open_bracket, close_bracket, open_brace, close_brace, up_to, equals, differs, less, at_most, implies, iff, plus, minus, times, size, maplet, relation, partial, total, CONTENTS, GIVEN, ABSTRACT, CONCRETE, AINIT, CINIT, RETRIEVE, OP, END, WHERE, POWER, EMPTY, TRUE, FALSE, NOT, AND, OR, FORALL, EXISTS, EXISTS1, IN, NOTIN, UNION, MINUS, INTER, DIV, MOD, DOM, RAN}
+use Rattle.lexical.specs.Symbols.{letter, other, class_of, in_run, run, reserved, word_of, ending_of, ending_length, kind_of_name, name, found, unlisted, Ending, no_ending, prime, query, shriek, by_class, between}
 use Rattle.lexical.specs.SymbolPromises.{token_of, packed, keyed, word_code, ending_code}
 use Rattle.lexical.specs.declared.Token.{Token}
 use Rattle.lexical.specs.declared.Token.TheVariants.{Unlisted, Listed}
@@ -207,12 +207,12 @@ code-some semicolon = omega arith
 code-some comma = omega arith
 code-some bar = omega arith
 code-some spot = omega arith
-code-some openParen = omega arith
-code-some closeParen = omega arith
-code-some openBracket = omega arith
-code-some closeBracket = omega arith
-code-some openBrace = omega arith
-code-some closeBrace = omega arith
+code-some open_paren = omega arith
+code-some close_paren = omega arith
+code-some open_bracket = omega arith
+code-some close_bracket = omega arith
+code-some open_brace = omega arith
+code-some close_brace = omega arith
 code-some up_to = omega arith
 code-some equals = omega arith
 code-some differs = omega arith
@@ -268,8 +268,8 @@ module _ (r : List ℕ) (e : Ending) (o : Option Kind) {n ending word : ℕ} (l 
   on_none none h z = refl
   on_none (some k) h z = let c = code-some k in absurd (omega arith)
 
-  no-ending : (x : Ending) → ending ≡ ending_code x → ending ≡ 0 → x ≡ noEnding
-  no-ending noEnding h z = refl
+  no-ending : (x : Ending) → ending ≡ ending_code x → ending ≡ 0 → x ≡ no_ending
+  no-ending no_ending h z = refl
   no-ending prime h z = absurd (omega arith)
   no-ending query h z = absurd (omega arith)
   no-ending shriek h z = absurd (omega arith)
@@ -278,7 +278,7 @@ module _ (r : List ℕ) (e : Ending) (o : Option Kind) {n ending word : ℕ} (l 
   unfolding word_of
   word-plain f z = on o q ∙ ap (λ (x : Ending). token_of (word_of r x o)) (sym (no-ending e p z))
     where
-      on : (x : Option Kind) → word ≡ word_code x → Listed word n 0 ≡ token_of (word_of r noEnding x)
+      on : (x : Option Kind) → word ≡ word_code x → Listed word n 0 ≡ token_of (word_of r no_ending x)
       on none h = absurd (f h)
       on (some k) h = ap₂ (λ (a b : ℕ). Listed a b 0) h l
 
@@ -288,7 +288,7 @@ module _ (r : List ℕ) (e : Ending) (o : Option Kind) {n ending word : ℕ} (l 
     where
       on : (x : Option Kind) → word ≡ word_code x → (y : Ending) → ending ≡ ending_code y → Unlisted ≡ token_of (word_of r y x)
       on none h y i = absurd (f h)
-      on (some k) h noEnding i = absurd (g i)
+      on (some k) h no_ending i = absurd (g i)
       on (some k) h prime i = refl
       on (some k) h query i = refl
       on (some k) h shriek i = refl
@@ -314,7 +314,7 @@ module _ (r : List ℕ) (e : Ending) (o : Option Kind) {n ending word : ℕ} (l 
   name-ended z h g = on e p ∙ name-short z h
     where
       on : (y : Ending) → ending ≡ ending_code y → Listed (2 + ending) (n + 1) 0 ≡ Listed (code_of (kind_of_name y)) (length r + ending_length y) 0
-      on noEnding i = absurd (g i)
+      on no_ending i = absurd (g i)
       on prime i = ap₂ (λ (a b : ℕ). Listed a b 0) (ap (λ (j : ℕ). 2 + j) i) (ap (λ (j : ℕ). j + 1) l)
       on query i = ap₂ (λ (a b : ℕ). Listed a b 0) (ap (λ (j : ℕ). 2 + j) i) (ap (λ (j : ℕ). j + 1) l)
       on shriek i = ap₂ (λ (a b : ℕ). Listed a b 0) (ap (λ (j : ℕ). 2 + j) i) (ap (λ (j : ℕ). j + 1) l)

@@ -6,7 +6,7 @@ pub data Kind : Type 0 where
   -- a number; a name by its ending: none, ', ?, !
   number plain primed input output : Kind
   -- : ; , | @ ( ) [ ] { } ..
-  colon semicolon comma bar spot openParen closeParen openBracket closeBracket openBrace closeBrace up_to : Kind
+  colon semicolon comma bar spot open_paren close_paren open_bracket close_bracket open_brace close_brace up_to : Kind
   -- = /= < <= => <=> + - * # |-> <-> -+> -->
   equals differs less at_most implies iff plus minus times size maplet relation partial total : Kind
   -- the words in BASE other than its names
@@ -16,8 +16,8 @@ pub data Kind : Type 0 where
 
 -- "Marks: ..., the longest match taken"
 abbrev pub marks : List (String × Kind)
-marks = (":", colon) ∷ (";", semicolon) ∷ (",", comma) ∷ ("|", bar) ∷ ("@", spot) ∷ ("(", openParen) ∷ (")", closeParen)
-    ∷ ("[", openBracket) ∷ ("]", closeBracket) ∷ ("{", openBrace) ∷ ("}", closeBrace) ∷ ("..", up_to) ∷ ("=", equals) ∷ ("/=", differs)
+marks = (":", colon) ∷ (";", semicolon) ∷ (",", comma) ∷ ("|", bar) ∷ ("@", spot) ∷ ("(", open_paren) ∷ (")", close_paren)
+    ∷ ("[", open_bracket) ∷ ("]", close_bracket) ∷ ("{", open_brace) ∷ ("}", close_brace) ∷ ("..", up_to) ∷ ("=", equals) ∷ ("/=", differs)
     ∷ ("<", less) ∷ ("<=", at_most) ∷ ("=>", implies) ∷ ("<=>", iff) ∷ ("+", plus) ∷ ("-", minus) ∷ ("*", times) ∷ ("#", size)
     ∷ ("|->", maplet) ∷ ("<->", relation) ∷ ("-+>", partial) ∷ ("-->", total) ∷ []
 
@@ -40,12 +40,12 @@ code_of semicolon = 11
 code_of comma = 12
 code_of bar = 13
 code_of spot = 14
-code_of openParen = 15
-code_of closeParen = 16
-code_of openBracket = 17
-code_of closeBracket = 18
-code_of openBrace = 19
-code_of closeBrace = 20
+code_of open_paren = 15
+code_of close_paren = 16
+code_of open_bracket = 17
+code_of close_bracket = 18
+code_of open_brace = 19
+code_of close_brace = 20
 code_of up_to = 21
 code_of equals = 22
 code_of differs = 23

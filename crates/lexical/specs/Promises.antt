@@ -3,7 +3,7 @@ use Rattle.std.specs.Prelude.{◌≡◌, List, [], ◌∷◌, ◌++◌, map, Boo
 use Rattle.std.proofs.Math.Option.{Option, none, some}
 use Rattle.lexical.specs.Lists.{same}
 use Rattle.lexical.specs.Kinds.{code_of}
-use Rattle.lexical.specs.Refusals.{Fault, fault, least, longText, unlistedSymbol, manySymbols}
+use Rattle.lexical.specs.Refusals.{Fault, fault, least, long_text, unlisted_symbol, many_symbols}
 use Rattle.lexical.specs.Symbols.{Class, letter, digit, mark, blank, other, Symbol, fixed, numeral, name, kind_of}
 use Rattle.lexical.specs.Symbols.{Placed, scan, symbols, scan_faults, length_faults}
 use Rattle.lexical.specs.declared.Class as byteClass
@@ -31,9 +31,9 @@ code_in s = code_of (kind_of s)
 -- the refusal that an answer is, by its name and place
 abbrev pub fault_of : Scanned → Option Fault
 fault_of (Symbols n) = none
-fault_of LongText = some (fault 32768 longText)
-fault_of (UnlistedSymbol p) = some (fault p unlistedSymbol)
-fault_of (ManySymbols p) = some (fault p manySymbols)
+fault_of LongText = some (fault 32768 long_text)
+fault_of (UnlistedSymbol p) = some (fault p unlisted_symbol)
+fault_of (ManySymbols p) = some (fault p many_symbols)
 
 -- the symbols that there is room for
 abbrev pub taken : List ℕ → List Placed

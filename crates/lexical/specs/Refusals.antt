@@ -3,31 +3,31 @@ use Rattle.std.specs.Prelude.{Bool, true, false, ◌&&◌, ◌||◌, List, [], �
 use Rattle.std.proofs.Math.Option.{Option, none, some}
 
 pub data Refusal : Type 0 where
-  longText unlistedSymbol manySymbols noDossier deep manyDeclared headingDiffers nameInUse nameUnknown typesMisfit wideType manyBindings largeSize zeroDivisor : Refusal
-  advanceRange shortBytes : Refusal
-  nothingHeld somethingHeld checkFinished noCounterexample : Refusal
+  long_text unlisted_symbol many_symbols no_dossier deep many_declared heading_differs name_in_use name_unknown types_misfit wide_type many_bindings large_size zero_divisor : Refusal
+  advance_range short_bytes : Refusal
+  nothing_held something_held check_finished no_counterexample : Refusal
 
 unfoldable pub number_of : Refusal → ℕ
-number_of longText = 1
-number_of unlistedSymbol = 2
-number_of manySymbols = 3
-number_of noDossier = 4
+number_of long_text = 1
+number_of unlisted_symbol = 2
+number_of many_symbols = 3
+number_of no_dossier = 4
 number_of deep = 5
-number_of manyDeclared = 6
-number_of headingDiffers = 7
-number_of nameInUse = 8
-number_of nameUnknown = 9
-number_of typesMisfit = 10
-number_of wideType = 11
-number_of manyBindings = 12
-number_of largeSize = 13
-number_of zeroDivisor = 14
-number_of advanceRange = 15
-number_of shortBytes = 16
-number_of nothingHeld = 21
-number_of somethingHeld = 22
-number_of checkFinished = 23
-number_of noCounterexample = 24
+number_of many_declared = 6
+number_of heading_differs = 7
+number_of name_in_use = 8
+number_of name_unknown = 9
+number_of types_misfit = 10
+number_of wide_type = 11
+number_of many_bindings = 12
+number_of large_size = 13
+number_of zero_divisor = 14
+number_of advance_range = 15
+number_of short_bytes = 16
+number_of nothing_held = 21
+number_of something_held = 22
+number_of check_finished = 23
+number_of no_counterexample = 24
 
 -- "Each returns its number, 1 to 14 also the place"
 pub record Fault : Type 0 where

@@ -6,7 +6,7 @@ use Rattle.lexical.specs.Lists.{bytes}
 use Rattle.lexical.specs.Kinds.{Kind, code_of}
 use Rattle.lexical.specs.Refusals.{least}
 use Rattle.lexical.specs.Symbols.{Symbol, fixed, numeral, name}
-use Rattle.lexical.specs.Symbols.{Found, gap, unlisted, found, Placed, scan, symbols, scan_faults, Ending, noEnding, prime, query, shriek, class_of, is_digit}
+use Rattle.lexical.specs.Symbols.{Found, gap, unlisted, found, Placed, scan, symbols, scan_faults, Ending, no_ending, prime, query, shriek, class_of, is_digit}
 use Rattle.lexical.specs.declared.Scanned.{Scanned}
 use Rattle.lexical.specs.declared.Scanned.TheVariants.{Symbols}
 use Rattle.lexical.specs.declared.Stop.{Stop}
@@ -37,7 +37,7 @@ word_code none = 0
 word_code (some k) = code_of k
 
 abbrev pub ending_code : Ending → ℕ
-ending_code noEnding = 0
+ending_code no_ending = 0
 ending_code prime = 1
 ending_code query = 2
 ending_code shriek = 3

@@ -4,7 +4,7 @@ use Rattle.std.proofs.Math.Option.{Option, none, some}
 use Prim.Native.String.{String}
 use Rattle.lexical.specs.Lists.{bytes, same, begins, all, any}
 use Rattle.lexical.specs.Kinds.{Kind, number, plain, primed, input, output, marks, words}
-use Rattle.lexical.specs.Refusals.{Fault, fault, longText, unlistedSymbol, manySymbols}
+use Rattle.lexical.specs.Refusals.{Fault, fault, long_text, unlisted_symbol, many_symbols}
 
 -- "Bytes are sorted into classes by range: letters, digits, marks, blanks, all others."
 pub data Class : Type 0 where
@@ -23,7 +23,7 @@ class_of b =
 
 -- what may end a name: nothing, ' ? or !
 pub data Ending : Type 0 where
-  noEnding prime query shriek : Ending
+  no_ending prime query shriek : Ending
 
 pub record Name : Type 0 where
   pub letters : List ℕ
@@ -37,7 +37,7 @@ pub data Symbol : Type 0 where
   name : Name → Symbol
 
 abbrev pub kind_of_name : Ending → Kind
-kind_of_name noEnding = plain
+kind_of_name no_ending = plain
 kind_of_name prime = primed
 kind_of_name query = input
 kind_of_name shriek = output
@@ -89,11 +89,11 @@ reserved (e ∷ t) r = elim (same (bytes e.0) r) [ true ↦ some e.1 | false ↦
 
 -- "takes along one ' ? or ! right after it"
 unfoldable pub ending_of : List ℕ → Ending
-ending_of [] = noEnding
-ending_of (b ∷ w) = cond (eqb b 39) prime (cond (eqb b 63) query (cond (eqb b 33) shriek noEnding))
+ending_of [] = no_ending
+ending_of (b ∷ w) = cond (eqb b 39) prime (cond (eqb b 63) query (cond (eqb b 33) shriek no_ending))
 
 abbrev pub ending_length : Ending → ℕ
-ending_length noEnding = 0
+ending_length no_ending = 0
 ending_length prime = 1
 ending_length query = 1
 ending_length shriek = 1
@@ -101,7 +101,7 @@ ending_length shriek = 1
 -- "A name's starts with a letter and has 16 at most"; a reserved word is "with a ' ? or ! not listed at all"
 unfoldable pub word_of : List ℕ → Ending → Option Kind → Found
 word_of r e none = cond (leb (length r) 16) (found (name (record { letters = r; ending = e })) (length r + ending_length e)) unlisted
-word_of r noEnding (some k) = found (fixed k) (length r)
+word_of r no_ending (some k) = found (fixed k) (length r)
 word_of r prime (some k) = unlisted
 word_of r query (some k) = unlisted
 word_of r shriek (some k) = unlisted
@@ -162,10 +162,10 @@ place_at text i = get_or (map (λ (x : Placed). x.place) (symbols (scan text))) 
 
 -- 1. "Text over 32,768 bytes; place 32,768."
 unfoldable pub length_faults : List ℕ → List Fault
-length_faults text = cond (ltb 32768 (length text)) (fault 32768 longText ∷ []) []
+length_faults text = cond (ltb 32768 (length text)) (fault 32768 long_text ∷ []) []
 
 -- 2. "A byte or symbol not listed; its first byte." 3. "Symbol 4,097."; n symbols stand before
 unfoldable pub scan_faults : (n : ℕ) → Scan → List Fault
 scan_faults n done = []
-scan_faults n (stopped p) = fault p unlistedSymbol ∷ []
-scan_faults n (next x s) = elim (eqb n 4096) [ true ↦ fault x.place manySymbols ∷ scan_faults (suc n) s | false ↦ scan_faults (suc n) s ]
+scan_faults n (stopped p) = fault p unlisted_symbol ∷ []
+scan_faults n (next x s) = elim (eqb n 4096) [ true ↦ fault x.place many_symbols ∷ scan_faults (suc n) s | false ↦ scan_faults (suc n) s ]

@@ -6,7 +6,7 @@ use Prim.Native.Nat.{ℕ, zero, suc, ◌+◌, ◌-◌, ◌≤◌, ◌<◌}
 use native.Mathlib.Omega.{arith}
 use lib.ListN.{length, get_or, replicate, length-replicate}
 use Rattle.lexical.specs.Symbols.{Name}
-use Rattle.form.specs.Tree.{Letters, TypeForm, givenType, powerType, range_type, arrow_type, Given, Operation, Dossier}
+use Rattle.form.specs.Tree.{Letters, TypeForm, given_type, power_type, range_type, arrow_type, Given, Operation, Dossier}
 use Rattle.form.specs.Headings.{givens_at}
 use Rattle.form.specs.Codes.{Numbering, name_number}
 use Rattle.static_rules.specs.Carriers.{size_of}
@@ -43,8 +43,8 @@ module _ (ρ : Numbering) (P : Letters → Type 0) (gs : List Given) (z : Sizes)
       ap (λ (n : ℕ). get_or z n 0) (eight_less (entry T (name_number ρ g)) (index_of gs x.title) is) ∙ sizes (index_of gs x.title) (index_in gs x.title f.listed) ∙ f.sized
 
   type-shown : (t : TypeForm) → TypeIn P t → TypeShown T z gs ρ t
-  type-shown (givenType g) h = given-shown g h
-  type-shown (powerType g) h = given-shown g h
+  type-shown (given_type g) h = given-shown g h
+  type-shown (power_type g) h = given-shown g h
   type-shown (range_type r) h = h
   type-shown (arrow_type a g k) h = (given-shown g h.0, given-shown k h.1)
 

@@ -8,8 +8,8 @@ use native.Mathlib.Omega.{arith}
 use lib.ListN.{length, drop, set, replicate, length-append}
 use lib.Seq.{set_comm}
 use Rattle.lexical.specs.Lists.{filter}
-use Rattle.lexical.specs.Symbols.{Name, Ending, noEnding, prime, query, shriek}
-use Rattle.form.specs.Tree.{Letters, TypeForm, givenType, powerType, range_type, arrow_type, relation, partial, total, range, Given, Declaration, Parameter, Direction, inward, outward}
+use Rattle.lexical.specs.Symbols.{Name, Ending, no_ending, prime, query, shriek}
+use Rattle.form.specs.Tree.{Letters, TypeForm, given_type, power_type, range_type, arrow_type, relation, partial, total, range, Given, Declaration, Parameter, Direction, inward, outward}
 use Rattle.form.specs.Written.{ending_of}
 use Rattle.form.specs.Codes.{Numbering, name_number, number_of_name, declaration_code, declaration_codes, parameter_codes, type_width}
 use Rattle.static_rules.specs.Carriers.{Carrier, elements_of, subsets_of, pairs_in, Variable, largest, carrier_of, given_of}
@@ -62,8 +62,8 @@ SizeIs (some c) n = largest c ≡ n
 
 -- the size of a declared type, by the ends of a range
 unfoldable type_bound : TypeForm → ℕ
-type_bound (givenType g) = 0
-type_bound (powerType g) = 0
+type_bound (given_type g) = 0
+type_bound (power_type g) = 0
 type_bound (range_type r) = domain_bound (range r)
 type_bound (arrow_type a g h) = 0
 
@@ -78,8 +78,8 @@ two-givens f h (some g) (some k) = h g k
 
 size_is : (gs : List Given) (t : TypeForm) → EndsNear t → SizeIs (carrier_of gs t) (type_bound t)
 unfolding carrier_of type_bound largest
-size_is gs (givenType g) h = one_given elements_of (λ k. refl) (given_of gs g)
-size_is gs (powerType g) h = one_given subsets_of (λ k. refl) (given_of gs g)
+size_is gs (given_type g) h = one_given elements_of (λ k. refl) (given_of gs g)
+size_is gs (power_type g) h = one_given subsets_of (λ k. refl) (given_of gs g)
 size_is gs (range_type r) h = sym (domain-bound (λ (x : Letters). Unit {0}) (range r) h)
 size_is gs (arrow_type a g k) h = two-givens (pairs_in a) (λ x y. refl) (given_of gs g) (given_of gs k)
 
@@ -101,23 +101,23 @@ declared-shown gs ρ x t i es S h k = carried-shown ρ x (carrier_of gs t) k.car
 -- the nodes of a declaration
 module _ (i : ℕ) (e : Ending) (d : Declaration) (ρ : Numbering) (rest : List ℕ) where
   node-behind : (t : TypeForm) → drop 8 (declaration_code i e (record { declared = d.declared; type = t }) ρ ++ rest) ≡ rest
-  node-behind (givenType g) = refl
-  node-behind (powerType g) = refl
+  node-behind (given_type g) = refl
+  node-behind (power_type g) = refl
   node-behind (range_type r) = refl
   node-behind (arrow_type a g h) = refl
 
   node-size : (t : TypeForm) → entry_size true (declaration_code i e (record { declared = d.declared; type = t }) ρ ++ rest) 4 ≡ type_bound t
   unfolding type_size type_bound domain_bound
-  node-size (givenType g) = refl
-  node-size (powerType g) = refl
+  node-size (given_type g) = refl
+  node-size (power_type g) = refl
   node-size (range_type r) = refl
   node-size (arrow_type relation g h) = refl
   node-size (arrow_type partial g h) = refl
   node-size (arrow_type total g h) = refl
 
   node-long : (t : TypeForm) → length (declaration_code i e (record { declared = d.declared; type = t }) ρ) ≡ 8
-  node-long (givenType g) = refl
-  node-long (powerType g) = refl
+  node-long (given_type g) = refl
+  node-long (power_type g) = refl
   node-long (range_type r) = refl
   node-long (arrow_type a g h) = refl
 
@@ -134,20 +134,20 @@ declared-count : (i : ℕ) (ds : List Declaration) (ρ : Numbering) → length (
 unfolding declaration_codes
 declared-count i [] ρ = refl
 declared-count i (d ∷ ds) ρ =
-    let a = length-append (declaration_code i noEnding d ρ) (declaration_codes (i + 3 + type_width d.type) ds ρ) in
-    let b = node-long i noEnding d ρ [] d.type in
+    let a = length-append (declaration_code i no_ending d ρ) (declaration_codes (i + 3 + type_width d.type) ds ρ) in
+    let b = node-long i no_ending d ρ [] d.type in
     let c = declared-count (i + 3 + type_width d.type) ds ρ in
     omega arith
 
 eighth : (n m : ℕ) → n ≡ 8 * m → n / 8 ≡ m
 eighth n m e = omega arith
 
-module _ (gs : List Given) (ρ : Numbering) (e : Ending) (s : ℕ) (ending : (x : Letters) → number_of_name ρ x noEnding + s ≡ number_of_name ρ x e) (S : Bounds) where
+module _ (gs : List Given) (ρ : Numbering) (e : Ending) (s : ℕ) (ending : (x : Letters) → number_of_name ρ x no_ending + s ≡ number_of_name ρ x e) (S : Bounds) where
   group_of : {ds : List Declaration} → TypesFit gs ds → TypesNear ds → (i : ℕ) → marks_of true (length ds) (declaration_codes i ds ρ) s S ≡ shown_on (variables gs e ds) ρ S
   unfolding marks_of declaration_codes shown_on variables
   group_of fits.no_types near.no_types i = refl
   group_of (fits.one_type {d = d} {ds = ds} j f t) (near.one_type h u) i =
-      one-marked i noEnding d ρ (declaration_codes (i + 3 + type_width d.type) ds ρ) (length ds) s S
+      one-marked i no_ending d ρ (declaration_codes (i + 3 + type_width d.type) ds ρ) (length ds) s S
       ∙ ap₂ (λ (T : Bounds) (n : ℕ). set T n (type_bound d.type)) (group_of t u (i + 3 + type_width d.type)) (ending d.declared)
       ∙ sym (declared-shown gs ρ (record { letters = d.declared; ending = e }) d.type j (variables gs e ds) S h (type-carries gs d.type j f))
 
@@ -156,10 +156,10 @@ module _ (gs : List Given) (ρ : Numbering) (e : Ending) (s : ℕ) (ending : (x 
       ap (λ (k : ℕ). marks_of true k (declaration_codes i ds ρ) s S) (eighth (length (declaration_codes i ds ρ)) (length ds) (declared-count i ds ρ)) ∙ group_of t u i
 
 -- the numbers of plain and of primed names
-pub plain-ending : (ρ : Numbering) (x : Letters) → number_of_name ρ x noEnding + 0 ≡ number_of_name ρ x noEnding
+pub plain-ending : (ρ : Numbering) (x : Letters) → number_of_name ρ x no_ending + 0 ≡ number_of_name ρ x no_ending
 plain-ending ρ x = omega arith
 
-pub primed-ending : (ρ : Numbering) (x : Letters) → number_of_name ρ x noEnding + 1 ≡ number_of_name ρ x prime
+pub primed-ending : (ρ : Numbering) (x : Letters) → number_of_name ρ x no_ending + 1 ≡ number_of_name ρ x prime
 unfolding number_of_name
 primed-ending ρ x = omega arith
 

@@ -5,7 +5,7 @@ use mathlib.Core.List.{List, [], ◌++◌, map}
 use Prim.Native.Nat.{ℕ, ◌+◌, ◌-◌, ◌*◌, ◌≤◌, ◌<◌}
 use native.Mathlib.Omega.{arith}
 use lib.ListN.{length, take, drop, replicate}
-use Rattle.lexical.specs.Symbols.{noEnding, prime}
+use Rattle.lexical.specs.Symbols.{no_ending, prime}
 use Rattle.form.specs.Tree.{Pred, Given, Declaration, declarations, Parameter, State, Operation, Dossier}
 use Rattle.form.specs.Codes.{Numbering, declaration_codes, parameter_codes}
 use Rattle.static_rules.specs.Carriers.{Variable}
@@ -58,8 +58,8 @@ marks-none none s S e = ap (λ (l : List ℕ). marks true l s S) e
 -- ---- the variables in reach ----
 
 module _ (gs : List Given) (ρ : Numbering) {ds : List Declaration} (t : TypesFit gs ds) (u : TypesNear ds) where
-  plain-marks : (a : List ℕ) (i : ℕ) (S : Bounds) → a ≡ declaration_codes i ds ρ → marks true a 0 S ≡ shown_on (variables gs noEnding ds) ρ S
-  plain-marks a i S e = ap (λ (l : List ℕ). marks true l 0 S) e ∙ group-marks gs ρ noEnding 0 (plain-ending ρ) S t u i
+  plain-marks : (a : List ℕ) (i : ℕ) (S : Bounds) → a ≡ declaration_codes i ds ρ → marks true a 0 S ≡ shown_on (variables gs no_ending ds) ρ S
+  plain-marks a i S e = ap (λ (l : List ℕ). marks true l 0 S) e ∙ group-marks gs ρ no_ending 0 (plain-ending ρ) S t u i
 
   primed-marks : (a : List ℕ) (i : ℕ) (S : Bounds) → a ≡ declaration_codes i ds ρ → marks true a 1 S ≡ shown_on (variables gs prime ds) ρ S
   primed-marks a i S e = ap (λ (l : List ℕ). marks true l 1 S) e ∙ group-marks gs ρ prime 1 (primed-ending ρ) S t u i

@@ -3,7 +3,7 @@ use mathlib.Core.Path.{◌≡◌}
 use mathlib.Core.List.{[], ◌∷◌}
 use Prim.Native.Nat.{ℕ, suc, ◌+◌, ◌<◌}
 use native.Mathlib.Omega.{arith}
-use Rattle.lexical.specs.Refusals.{number_of, largeSize}
+use Rattle.lexical.specs.Refusals.{number_of, large_size}
 use Rattle.form.specs.Tree.{Letters, Quantifier, Domain, given_set, range}
 use Rattle.form.specs.Tree.{Term, number, name, group, prefix, binary, divided, listed, pairs, such, empty_set, empty_pairs, Items, only, also, Pairs, only_pair, also_pair}
 use Rattle.form.specs.Tree.{Pred, truth, falsity, negation, paren, quantified, connected, compared, member, within, related}
@@ -15,7 +15,7 @@ use Rattle.type_rules.specs.TypesByNumber.{key_room}
 use Rattle.names.proofs.TypesAgreeLeast.{small-append, small-whole, no_fault}
 use Rattle.names.proofs.TypesAgreeWidths.{Steady, wide_term, wide_items, wide_pairs, wide_pred, term-width, pred-width}
 
-large : number_of largeSize < key_room
+large : number_of large_size < key_room
 unfolding number_of
 large = omega arith
 

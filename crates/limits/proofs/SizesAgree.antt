@@ -4,7 +4,7 @@ use mathlib.Core.Path.{◌≡◌, refl, ap, ap₂, ◌∙◌, sym}
 use mathlib.Core.List.{[], ◌∷◌}
 use Prim.Native.Nat.{ℕ, suc, ◌+◌}
 use lib.ListN.{set}
-use Rattle.lexical.specs.Symbols.{noEnding}
+use Rattle.lexical.specs.Symbols.{no_ending}
 use Rattle.form.specs.Tree.{Letters, Quantifier, Domain}
 use Rattle.form.specs.Tree.{Term, number, name, group, prefix, binary, divided, listed, pairs, such, empty_set, empty_pairs, Items, only, also, Pairs, only_pair, also_pair}
 use Rattle.form.specs.Tree.{Pred, truth, falsity, negation, paren, quantified, connected, compared, member, within, related}
@@ -23,11 +23,11 @@ use Rattle.limits.proofs.SizesAgreeParts.{TermHolds, ItemsHold, PairsHold, PredH
 
 -- what stands inside a quantifier: the bound name's size and the place of the predicate, by numbers and by the definitions
 quantified-holds : (ρ : Numbering) (P : Letters → Type 0) (Γ : Sizes) (S : Bounds) (q : Quantifier) (x : Letters) (t : Domain) (p : Pred) → DomainIn P t
-    → PredHolds ρ ((plain x, domain_size t) ∷ Γ) (set S (number_of_name ρ x noEnding) (domain_size t)) p
+    → PredHolds ρ ((plain x, domain_size t) ∷ Γ) (set S (number_of_name ρ x no_ending) (domain_size t)) p
     → PredHolds ρ Γ S (quantified q x t p)
 unfolding size_term term_over
 quantified-holds ρ P Γ S q x t p h a i =
-    ap₂ (λ (n w : ℕ). pred_over p (set S (number_of_name ρ x noEnding) n) ρ (i + 5 + w)) (domain-bound P t h) (domain-width t) ∙ a (i + 5 + domain_length t)
+    ap₂ (λ (n w : ℕ). pred_over p (set S (number_of_name ρ x no_ending) n) ρ (i + 5 + w)) (domain-bound P t h) (domain-width t) ∙ a (i + 5 + domain_length t)
 
 module _ (ρ : Numbering) (P : Letters → Type 0) (ν : Numbered ρ P) where
   mutual
@@ -48,7 +48,7 @@ module _ (ρ : Numbering) (P : Letters → Type 0) (ν : Numbered ρ P) where
     term-holds (pairs ts) Γ S s h = λ i. record { least = pairs-hold ts Γ S s h (suc i); bound = refl }
     term-holds (such x g p) Γ S s h = λ i.
         record {
-          least = pred-holds p ((plain x, 0) ∷ Γ) (set S (number_of_name ρ x noEnding) 0) (bound-shown ρ P ν Γ S s x h.0 0) h.2 (i + 5);
+          least = pred-holds p ((plain x, 0) ∷ Γ) (set S (number_of_name ρ x no_ending) 0) (bound-shown ρ P ν Γ S s x h.0 0) h.2 (i + 5);
           bound = refl;
         }
     term-holds (empty_set g) Γ S s h = λ i. record { least = sym least-nil; bound = refl }
@@ -70,7 +70,7 @@ module _ (ρ : Numbering) (P : Letters → Type 0) (ν : Numbered ρ P) where
     pred-holds (paren p) Γ S s h = λ i. pred-holds p Γ S s h (suc i)
     pred-holds (quantified q x t p) Γ S s h =
         quantified-holds ρ P Γ S q x t p h.1
-        (pred-holds p ((plain x, domain_size t) ∷ Γ) (set S (number_of_name ρ x noEnding) (domain_size t))
+        (pred-holds p ((plain x, domain_size t) ∷ Γ) (set S (number_of_name ρ x no_ending) (domain_size t))
         (bound-shown ρ P ν Γ S s x h.0 (domain_size t)) h.2)
     pred-holds (connected o p q) Γ S s h = preds-least ρ Γ S p q (pred-holds p Γ S s h.0) (pred-holds q Γ S s h.1)
     pred-holds (compared o t u) Γ S s h = two-least ρ Γ S t u (term-holds t Γ S s h.0) (term-holds u Γ S s h.1)

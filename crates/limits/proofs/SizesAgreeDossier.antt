@@ -7,8 +7,8 @@ use Prim.Native.Nat.{ℕ, ◌+◌, ◌≤◌}
 use native.Mathlib.Omega.{arith}
 use lib.ListN.{set, length-set, length-replicate}
 use Rattle.lexical.specs.Lists.{filter, find, concat}
-use Rattle.lexical.specs.Symbols.{Name, Ending, noEnding, prime}
-use Rattle.form.specs.Tree.{TypeForm, givenType, powerType, range_type, arrow_type}
+use Rattle.lexical.specs.Symbols.{Name, Ending, no_ending, prime}
+use Rattle.form.specs.Tree.{TypeForm, given_type, power_type, range_type, arrow_type}
 use Rattle.form.specs.Tree.{Letters, Given, Declaration, declarations, Parameter, State, Operation, Dossier}
 use Rattle.form.specs.Headings.{operation_length}
 use Rattle.form.specs.Codes.{Numbering, name_number}
@@ -80,7 +80,7 @@ head_in (one_typed p t h) = p
 tail_in : {P : Letters → Type 0} {x : Typed} {xs : List Typed} → TypedIn P (x ∷ xs) → TypedIn P xs
 tail_in (one_typed p t h) = h
 
-declared-letters : {P : Letters → Type 0} (ds : List Declaration) → TypedIn P (variables_of noEnding ds) → LettersIn P ds
+declared-letters : {P : Letters → Type 0} (ds : List Declaration) → TypedIn P (variables_of no_ending ds) → LettersIn P ds
 unfolding variables_of
 declared-letters [] h = no_letters
 declared-letters (d ∷ ds) h = one_letters (head_in h) (declared-letters ds (tail_in h))
@@ -124,7 +124,7 @@ module _ {P : Letters → Type 0} (d : Dossier) (h : DossierIn P d) where
   unfolding scope.parameters_of
   operation-names s l o t =
       names-append
-      (names-append (names-append (variable-names d.givens noEnding l) (variable-names d.givens prime l))
+      (names-append (names-append (variable-names d.givens no_ending l) (variable-names d.givens prime l))
       (variable-names d.givens _ (parameter-letters (λ (x : Parameter). scope.is_input x.direction) o.parameters t)))
       (variable-names d.givens _ (parameter-letters (λ (x : Parameter). scope.is_output x.direction) o.parameters t))
 
@@ -138,8 +138,8 @@ module _ {P : Letters → Type 0} (d : Dossier) (h : DossierIn P d) where
   contexts-in : ContextsIn P (contexts d)
   unfolding contexts
   contexts-in =
-      let a = variable-names d.givens noEnding abstract-letters in
-      let c = variable-names d.givens noEnding concrete-letters in
+      let a = variable-names d.givens no_ending abstract-letters in
+      let c = variable-names d.givens no_ending concrete-letters in
       one_context h.abstract_holds_lem a
       (one_context h.concrete_holds_lem c
       (one_context h.ainit_in a (one_context h.cinit_in c (one_context h.retrieve_in (names-append a c) (operations_in h.operations_in _ _)))))
@@ -170,12 +170,12 @@ head-type : {P : Letters → Type 0} {x : Typed} {xs : List Typed} → TypedIn P
 head-type (one_typed p t h) = t
 
 type-near : (P : Letters → Type 0) (t : TypeForm) → TypeIn P t → EndsNear t
-type-near P (givenType g) h = tt
-type-near P (powerType g) h = tt
+type-near P (given_type g) h = tt
+type-near P (power_type g) h = tt
 type-near P (range_type r) h = h
 type-near P (arrow_type a g k) h = tt
 
-declared-near : {P : Letters → Type 0} (ds : List Declaration) → TypedIn P (variables_of noEnding ds) → TypesNear ds
+declared-near : {P : Letters → Type 0} (ds : List Declaration) → TypedIn P (variables_of no_ending ds) → TypesNear ds
 unfolding variables_of
 declared-near [] h = near.no_types
 declared-near {P} (d ∷ ds) h = near.one_type (type-near P d.type (head-type h)) (declared-near ds (tail_in h))

@@ -4,7 +4,7 @@ use mathlib.Core.List.{◌++◌}
 use Prim.Native.Nat.{ℕ, suc, ◌+◌}
 use native.Mathlib.Omega.{arith}
 use lib.Dec.{leb}
-use Rattle.lexical.specs.Refusals.{number_of, largeSize}
+use Rattle.lexical.specs.Refusals.{number_of, large_size}
 use Rattle.form.specs.Tree.{End, Prefix, negate, size, dom, ran, Operator, plus, minus, union, without, times, inter, Division, quotient, remainder}
 use Rattle.form.specs.Tree.{Term, Items, Pairs, Pred}
 use Rattle.form.specs.Codes.{Numbering, term_width, pred_width}
@@ -110,7 +110,7 @@ module _ (ρ : Numbering) (Γ : Sizes) (S : Bounds) where
       record {
         least =
             whole-least (leb (operator_bound o (term_bound t S ρ) (term_bound u S ρ)) 2147483647)
-            (leb (operator_size o (size_term t Γ i).bound (size_term u Γ (suc (size_term t Γ i).next)).bound) 2147483647) (i + term_width t) (size_term t Γ i).next largeSize
+            (leb (operator_size o (size_term t Γ i).bound (size_term u Γ (suc (size_term t Γ i).next)).bound) 2147483647) (i + term_width t) (size_term t Γ i).next large_size
             (lesser (term_over t S ρ i) (term_over u S ρ (suc (i + term_width t))))
             ((size_term t Γ i).faults ++ (size_term u Γ (suc (size_term t Γ i).next)).faults) (two-least t u a b i) (term-next t Γ i)
             (λ e. ap (λ (n : ℕ). leb n 2147483647) (binary-size o t u a b i));

@@ -5,7 +5,7 @@ use mathlib.Core.List.{List, [], ◌∷◌, ◌++◌, map}
 use Prim.Native.Nat.{ℕ, suc, ◌+◌}
 use lib.ListN.{length}
 use Rattle.lexical.specs.Lists.{any}
-use Rattle.lexical.specs.Refusals.{Fault, fault, nameInUse, unless}
+use Rattle.lexical.specs.Refusals.{Fault, fault, name_in_use, unless}
 use Rattle.form.specs.Tree.{Letters, Given, Declaration, declarations, Parameter, Operation, Dossier}
 use Rattle.form.specs.Written.{write_type}
 use Rattle.form.specs.Headings.{givens_at, abstract_at, concrete_at, operations_at, operation_length}
@@ -26,7 +26,7 @@ declared-types gs xs i (d ∷ ds) e =
 
 -- a parameter's name that is in use
 abbrev name_fault : List Parameter → Parameter → ℕ → List Fault
-name_fault xs y i = unless (not (any (λ (x : Parameter). same_name (parameter_name x) (parameter_name y)) xs)) (fault i nameInUse)
+name_fault xs y i = unless (not (any (λ (x : Parameter). same_name (parameter_name x) (parameter_name y)) xs)) (fault i name_in_use)
 
 parameter-types : (gs : List Given) (xs : List Parameter) (i : ℕ) (ys : List Parameter) → parameter_faults gs xs i ys ≡ [] → TypesFit gs (map (λ (x : Parameter). x.declaration) ys)
 unfolding parameter_faults

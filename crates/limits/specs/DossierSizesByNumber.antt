@@ -1,7 +1,7 @@
 -- The pass for number 13 over a whole dossier, by numbers. That the least of these faults is that of static_rules/specs/Limits.sizeFaults is proofs/SizesAgreeDossier.
 -- Nothing here need be believed.
 use Rattle.std.specs.Prelude.{◌≡◌, Bool, true, cond, List, [], ◌∷◌, ◌++◌, map, ℕ, zero, suc, ◌+◌, ◌/◌, ◌≤◌, max, eqb, length, take, drop, get_or, set, replicate}
-use Rattle.form.specs.Tree.{TypeForm, givenType, powerType, range_type, arrow_type, Declaration, declarations, Parameter, Pred, Operation, Dossier}
+use Rattle.form.specs.Tree.{TypeForm, given_type, power_type, range_type, arrow_type, Declaration, declarations, Parameter, Pred, Operation, Dossier}
 use Rattle.form.specs.Headings.{abstract_at, concrete_at, ainit_at, cinit_at, retrieve_at, operations_at}
 use Rattle.form.specs.Codes.{Numbering, name_number, abstractly_at, pred_width, pred_codes, declaration_codes}
 use Rattle.static_rules.specs.Carriers.{Variable, largest}
@@ -28,8 +28,8 @@ least_over (c ∷ cs) ρ n = lesser (context_over c ρ n) (least_over cs ρ n)
 
 -- the ends of a declared range are numbers to 1,000, as in every text: only these stand in a node with 1,000 added
 abbrev pub EndsNear : TypeForm → Type 0
-EndsNear (givenType g) = Unit {0}
-EndsNear (powerType g) = Unit {0}
+EndsNear (given_type g) = Unit {0}
+EndsNear (power_type g) = Unit {0}
 EndsNear (range_type r) = (r.lower.magnitude ≤ 1000) × (r.upper.magnitude ≤ 1000)
 EndsNear (arrow_type a g h) = Unit {0}
 

@@ -12,7 +12,7 @@ use lib.ListN.{length, take, get_or, get_elem?}
 use lib.Seq.{take_all}
 use borrow.Author.Tests.{ne_eqb}
 use Rattle.lexical.specs.Lists.{bytes}
-use Rattle.lexical.specs.Symbols.{Name, Ending, noEnding, prime, query, shriek}
+use Rattle.lexical.specs.Symbols.{Name, Ending, no_ending, prime, query, shriek}
 use Rattle.form.specs.Tree.{Letters, Arrow, relation, partial, total, Given, elements, Declaration, declarations, State, Operation, Dossier}
 use Rattle.static_rules.specs.Carriers.{Carrier, elements_of, numbers, subsets_of, pairs_in, Variable, size_of, count_of, arrow_count, carrier_of}
 use Rattle.static_rules.specs.Scope.{variables, parameters_of, unprimed, primed, inputs, outputs}
@@ -126,7 +126,7 @@ module _ (text labels : List ℕ) (gs : List Given) (spelt : ElementsAt text lab
 
 -- the ending of a name as a byte
 abbrev pub ending_byte : Ending → ℕ
-ending_byte noEnding = 0
+ending_byte no_ending = 0
 ending_byte prime = 39
 ending_byte query = 63
 ending_byte shriek = 33
@@ -137,7 +137,7 @@ ended e v = record { called = record { letters = v.called.letters; ending = e };
 
 ending-piece : (e : Ending) → ending_piece [] [] (ending_byte e) ≡ ending_bytes e
 unfolding bytes
-ending-piece noEnding = refl
+ending-piece no_ending = refl
 ending-piece prime = refl
 ending-piece query = refl
 ending-piece shriek = refl
@@ -206,14 +206,14 @@ module _ (text labels : List ℕ) (d : Dossier) (spelt : ElementsAt text labels 
   pub state-lines : (x : State) → LabelsFrom text labels d.givens i (unprimed d x) → k < binding_count (unprimed d x) → Holding σ s (get_or (bindings (unprimed d x)) k [])
       → group_piece text labels i (length (unprimed d x)) s 0 σ ≡ binding_lines (unprimed d x) (get_or (bindings (unprimed d x)) k [])
   state-lines x l q h =
-      group_lines text labels d.givens spelt noEnding i s k (unprimed d x) σ l q h
-      ∙ ap (λ (vs : List Variable). binding_lines vs (get_or (bindings (unprimed d x)) k [])) (ended-variables d.givens noEnding noEnding (declarations x))
+      group_lines text labels d.givens spelt no_ending i s k (unprimed d x) σ l q h
+      ∙ ap (λ (vs : List Variable). binding_lines vs (get_or (bindings (unprimed d x)) k [])) (ended-variables d.givens no_ending no_ending (declarations x))
 
   pub primed-lines : (x : State) → LabelsFrom text labels d.givens i (unprimed d x) → k < binding_count (unprimed d x) → Holding σ s (get_or (bindings (unprimed d x)) k [])
       → group_piece text labels i (length (unprimed d x)) s 39 σ ≡ binding_lines (primed d x) (after (get_or (bindings (unprimed d x)) k []))
   primed-lines x l q h =
       group_lines text labels d.givens spelt prime i s k (unprimed d x) σ l q h
-      ∙ ap (λ (vs : List Variable). binding_lines vs (get_or (bindings (unprimed d x)) k [])) (ended-variables d.givens noEnding prime (declarations x))
+      ∙ ap (λ (vs : List Variable). binding_lines vs (get_or (bindings (unprimed d x)) k [])) (ended-variables d.givens no_ending prime (declarations x))
       ∙ sym (after-lines (primed d x) (get_or (bindings (unprimed d x)) k []))
 
   pub input-lines : (op : Operation) → LabelsFrom text labels d.givens i (inputs d op) → k < binding_count (inputs d op) → Holding σ s (get_or (bindings (inputs d op)) k [])

@@ -6,7 +6,7 @@ use native.Mathlib.Omega.{arith}
 use lib.ListN.{length, take, get_or, set}
 use Rattle.lexical.specs.Kinds as kind
 use Rattle.lexical.specs.Kinds.{code_of}
-use Rattle.lexical.specs.Symbols.{noEnding}
+use Rattle.lexical.specs.Symbols.{no_ending}
 use Rattle.form.specs.Tree.{Domain, given_set, range}
 use Rattle.form.specs.Written.{connective_kind, comparison_kind, membership_kind, quantifier_kind}
 use Rattle.form.specs.Codes.{node, Numbering, name_number, number_of_name, end_number, end_width, term_width, pred_width, domain_width, range_codes, domain_codes, term_codes, pred_codes}
@@ -185,10 +185,10 @@ module _ (code : List ℕ) (e s : ℕ) (l : e ≤ length code) (far : 4 ≤ e) (
       (bound-walked e T U₁ U₂ U₃ W Y₁ Y₂ Y₃ out o₁ o₂ _ after d p r x d.kind old was s far room hd.falls hd.long hp.walked u₁ u₃ y₁ y₃ oq wq n sq) q
       (λ o b D P i ρ base y.
       let j : ℕ = i + 5 + domain_width D in
-      let h = two-parts code e l base (pred_codes P j ρ) (domain_codes D (i + 4) ρ) 8 (suc i) (number_of_name ρ b noEnding) (code_of (quantifier_kind o)) y in
+      let h = two-parts code e l base (pred_codes P j ρ) (domain_codes D (i + 4) ρ) 8 (suc i) (number_of_name ρ b no_ending) (code_of (quantifier_kind o)) y in
       let sD = hd.right D (i + 4) ρ (base ++ pred_codes P j ρ) h.before in
-      let xb : x ≡ number_of_name ρ b noEnding = xq ∙ h.is_first in
-      let hq = pred-again code d.start (next_slot s) (set T (number_of_name ρ b noEnding) (domain_kind D T ρ)) U₁ U₂ (set W (number_of_name ρ b noEnding) s) Y₁ Y₂ z o₁ o₂ p
+      let xb : x ≡ number_of_name ρ b no_ending = xq ∙ h.is_first in
+      let hq = pred-again code d.start (next_slot s) (set T (number_of_name ρ b no_ending) (domain_kind D T ρ)) U₁ U₂ (set W (number_of_name ρ b no_ending) s) Y₁ Y₂ z o₁ o₂ p
       s' nq (u₁ ∙ ap₂ (set T) xb sD.kind_is) (y₁ ∙ ap (λ (m : ℕ). set W m s) xb) hp in
       let sP = hq.right P j ρ base (middle code (e - 4) d.start (base ++ pred_codes P j ρ) (domain_codes D (i + 4) ρ) h.before hd.falls sD.start_is) in
       two_made e out far room r 0 (length base) (λ m. domain_table D T z ρ) (λ m. node 24 0 s (code_of (quantifier_kind o))) d p _ _ _ _ o₁ o₂ _ after sD sP n

@@ -5,7 +5,7 @@ use Prim.Native.Nat.{ℕ, suc, ◌+◌, ◌-◌, ◌≤◌}
 use native.Mathlib.Omega.{arith}
 use lib.ListN.{length, get_or, set}
 use Rattle.lexical.specs.Kinds.{code_of}
-use Rattle.lexical.specs.Symbols.{noEnding}
+use Rattle.lexical.specs.Symbols.{no_ending}
 use Rattle.form.specs.Tree.{given_set}
 use Rattle.form.specs.Written.{prefix_kind, operator_kind}
 use Rattle.form.specs.Codes.{node, name_number, number_of_name, sign_of, division_number, term_width, term_codes, items_codes, pairs_codes, pred_codes}
@@ -141,10 +141,10 @@ module _ (code : List ℕ) (e s : ℕ) (l : e ≤ length code) (far : 4 ≤ e) (
       term-from code e s l T W z out 6 U₃ Y₃ after r
       (bound-walked e T U₁ U₂ U₃ W Y₁ Y₂ Y₃ out o₁ o₂ _ after d p r x d.kind old was s far room hd.falls hd.long hp.walked u₁ u₃ y₁ y₃ oq wq n sq) q
       (λ c g P i ρ base y.
-      let h = two-parts code e l base (pred_codes P (i + 5) ρ) (node 1 (i + 3) (name_number ρ g) 0) 6 i (number_of_name ρ c noEnding) 0 y in
+      let h = two-parts code e l base (pred_codes P (i + 5) ρ) (node 1 (i + 3) (name_number ρ g) 0) 6 i (number_of_name ρ c no_ending) 0 y in
       let sD = hd.right (given_set g) (i + 3) ρ (base ++ pred_codes P (i + 5) ρ) h.before in
-      let xc : x ≡ number_of_name ρ c noEnding = xq ∙ h.is_first in
-      let hq = pred-again code d.start (next_slot s) (set T (number_of_name ρ c noEnding) (element_of (entry T (name_number ρ g)))) U₁ U₂ (set W (number_of_name ρ c noEnding) s) Y₁ Y₂ z o₁ o₂ p
+      let xc : x ≡ number_of_name ρ c no_ending = xq ∙ h.is_first in
+      let hq = pred-again code d.start (next_slot s) (set T (number_of_name ρ c no_ending) (element_of (entry T (name_number ρ g)))) U₁ U₂ (set W (number_of_name ρ c no_ending) s) Y₁ Y₂ z o₁ o₂ p
       s' nq (u₁ ∙ ap₂ (set T) xc sD.kind_is) (y₁ ∙ ap (λ (j : ℕ). set W j s) xc) hp in
       let sP = hq.right P (i + 5) ρ base (middle code (e - 4) d.start (base ++ pred_codes P (i + 5) ρ) (node 1 (i + 3) (name_number ρ g) 0) h.before hd.falls sD.start_is) in
       two_made e out far room r _ (length base) (λ b. domain_table (given_set g) T z ρ) (λ b. node 6 0 s 0) d p _ _ _ _ o₁ o₂ _ after sD sP n

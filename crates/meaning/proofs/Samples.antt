@@ -7,7 +7,7 @@ use Prim.Native.String.{String}
 use lib.IntN.{ℤ, pos}
 use lib.ListN.{length}
 use Rattle.lexical.specs.Lists.{bytes, filter}
-use Rattle.lexical.specs.Symbols.{Name, noEnding, query, shriek, Ending}
+use Rattle.lexical.specs.Symbols.{Name, no_ending, query, shriek, Ending}
 use Rattle.form.specs.Tree.{Operation, Dossier, partial, total, relation}
 use Rattle.static_rules.specs.Read.{Reading, refusal, reading}
 use Rattle.static_rules.specs.Computed.{compute_read}
@@ -25,7 +25,7 @@ called x e z = (record { letters = bytes x; ending = e }, number z)
 
 -- the concrete state k, j; the input x?; the output y!
 abbrev state : ℤ → ℤ → Binding
-state k j = called "k" noEnding k ∷ called "j" noEnding j ∷ []
+state k j = called "k" no_ending k ∷ called "j" no_ending j ∷ []
 
 abbrev input : ℤ → Binding
 input x = called "x" query x ∷ []
@@ -53,11 +53,11 @@ answers =
     ∷ at (λ d o. yes (concrete_pre d o (state (pos 2) (pos 0)) (input (pos 1)))) (compute_read (bytes text))
     ∷ at (λ d o. yes (concrete_pre d o (state (pos 1) (pos 0)) (input (pos 1)))) (compute_read (bytes text))
     -- some outputs exist, on the abstract side too
-    ∷ at (λ d o. yes (abstract_pre d o (called "m" noEnding (pos 0) ∷ []) (input (pos 1)))) (compute_read (bytes text))
+    ∷ at (λ d o. yes (abstract_pre d o (called "m" no_ending (pos 0) ∷ []) (input (pos 1)))) (compute_read (bytes text))
     -- the state before is one
     ∷ at (λ d o. yes (concrete_pre d o (state (pos 0) (pos 4)) (input (pos 1)))) (compute_read (bytes text))
     -- the variables are joined by name, in whatever sequence a binding lists them
-    ∷ at (λ d o. yes (concrete_pre d o (called "j" noEnding (pos 0) ∷ called "k" noEnding (pos 2) ∷ []) (input (pos 1)))) (compute_read (bytes text))
+    ∷ at (λ d o. yes (concrete_pre d o (called "j" no_ending (pos 0) ∷ called "k" no_ending (pos 2) ∷ []) (input (pos 1)))) (compute_read (bytes text))
     ∷ []
 
 pub answers-are : answers ≡ 4 ∷ 0 ∷ 1 ∷ 1 ∷ 0 ∷ 0 ∷ []

@@ -4,7 +4,7 @@ use Rattle.std.specs.Int.Signed.{le_z, lt_z}
 use Rattle.sets.specs.Sets as sets
 use Rattle.sets.specs.Division.{floor_div, floor_mod}
 use Rattle.form.specs.Tree.{Prefix, negate, size, dom, ran, Operator, plus, minus, union, without, times, inter, Division, quotient, remainder, Comparison, equals, differs, less, at_most}
-use Rattle.form.specs.Tree.{Membership, isIn, notIn, Connective, and, or, implies, iff}
+use Rattle.form.specs.Tree.{Membership, is_in, not_in, Connective, and, or, implies, iff}
 
 -- the number, place or bits; and how many elements the given sets have that it is over: an element's or a set's, the first and the second of a set of pairs
 pub record Value : Type 0 where
@@ -77,8 +77,8 @@ compare less u v = lt_z u.code v.code
 compare at_most u v = le_z u.code v.code
 
 abbrev pub asked : Membership → Bool → Bool
-asked isIn b = b
-asked notIn b = not b
+asked is_in b = b
+asked not_in b = not b
 
 -- the manual's connectives (3.7)
 unfoldable pub connect : Connective → Bool → Bool → Bool

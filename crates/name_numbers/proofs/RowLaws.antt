@@ -9,7 +9,7 @@ use lib.ListN.{length, take, drop, get_or, set, length-map, get_or-append}
 use lib.Seq.{take-suc, take_all, get_or-take, get_or-drop, get_or-append-add, length-take-le}
 use Rattle.lexical.specs.Lists.{same}
 use Rattle.lexical.specs.Kinds.{code_of}
-use Rattle.lexical.specs.Symbols.{run, Symbol, fixed, numeral, name, Name, Ending, noEnding, prime, query, shriek, kind_of_name, Placed, scan, symbols}
+use Rattle.lexical.specs.Symbols.{run, Symbol, fixed, numeral, name, Name, Ending, no_ending, prime, query, shriek, kind_of_name, Placed, scan, symbols}
 use Rattle.lexical.specs.Promises.{code_in, number_in, filled, has_letters, first_named, value_in}
 use Rattle.lexical.specs.SymbolPromises.{packed, is_name, low_in, high_in, filled_low, filled_high, Rows, IsFirst}
 use Rattle.lexical.proofs.WordLaws.{Fits, packed-one, run_fits, same_refl, same_true}
@@ -49,7 +49,7 @@ letters-low w (numeral n) h = refl
 letters-low w (name x) h = on x.ending
   where
     on : (e : Ending) → cond (is_name (code_of (kind_of_name e))) (packed 8 (run w)) 0 ≡ packed 8 x.letters
-    on noEnding = ap (packed 8) (sym h.0)
+    on no_ending = ap (packed 8) (sym h.0)
     on prime = ap (packed 8) (sym h.0)
     on query = ap (packed 8) (sym h.0)
     on shriek = ap (packed 8) (sym h.0)
@@ -61,7 +61,7 @@ letters-high w (numeral n) h = refl
 letters-high w (name x) h = on x.ending
   where
     on : (e : Ending) → cond (is_name (code_of (kind_of_name e))) (packed 8 (drop 8 (run w))) 0 ≡ packed 8 (drop 8 x.letters)
-    on noEnding = ap (λ (l : List ℕ). packed 8 (drop 8 l)) (sym h.0)
+    on no_ending = ap (λ (l : List ℕ). packed 8 (drop 8 l)) (sym h.0)
     on prime = ap (λ (l : List ℕ). packed 8 (drop 8 l)) (sym h.0)
     on query = ap (λ (l : List ℕ). packed 8 (drop 8 l)) (sym h.0)
     on shriek = ap (λ (l : List ℕ). packed 8 (drop 8 l)) (sym h.0)

@@ -14,8 +14,8 @@ use lib.ListN.{length, take, drop, get_or, set, length-append, length-map, lengt
 use lib.Seq.{drop-cons, get_or-drop, drop-drop, take_all, take_at, set_at}
 use Rattle.lexical.specs.Lists.{bytes, begins}
 use Rattle.lexical.specs.Kinds.{Kind, marks, words}
-use Rattle.lexical.specs.Refusals.{Fault, fault, before, lesser, least, number_of, manySymbols}
-use Rattle.lexical.specs.Symbols.{Class, letter, digit, mark, blank, other, class_of, in_run, run, Symbol, fixed, numeral, name, Found, gap, unlisted, found, Ending, noEnding, prime, query, shriek, ending_of, ending_length}
+use Rattle.lexical.specs.Refusals.{Fault, fault, before, lesser, least, number_of, many_symbols}
+use Rattle.lexical.specs.Symbols.{Class, letter, digit, mark, blank, other, class_of, in_run, run, Symbol, fixed, numeral, name, Found, gap, unlisted, found, Ending, no_ending, prime, query, shriek, ending_of, ending_length}
 use Rattle.lexical.specs.Symbols.{reserved, word_of, is_number, number_found, decimal_from, longer, longest, by_class, symbol_at, Placed, Scan, done, stopped, next, scanned, scan_from, scan, symbols, scan_faults}
 use Rattle.lexical.specs.Promises.{code_in, number_in, fault_of, taken, filled}
 use Rattle.lexical.specs.SymbolPromises.{token_of, Takes}
@@ -41,12 +41,12 @@ unfolding word_of
 small_word m r e none p q = on (leb (length r) 16) e
   where
     on : (b : Bool) (x : Ending) → Small m (cond b (found (name (record { letters = r; ending = e })) (length r + ending_length x)) unlisted)
-    on true noEnding = (omega arith, omega arith)
+    on true no_ending = (omega arith, omega arith)
     on true prime = (omega arith, omega arith)
     on true query = (omega arith, omega arith)
     on true shriek = (omega arith, omega arith)
     on false x = tt
-small_word m r noEnding (some k) p q = (omega arith, omega arith)
+small_word m r no_ending (some k) p q = (omega arith, omega arith)
 small_word m r prime (some k) p q = tt
 small_word m r query (some k) p q = tt
 small_word m r shriek (some k) p q = tt
@@ -197,7 +197,7 @@ faults-after : (k : ℕ) (l : List Placed) (r : Scan) → k + length l ≤ 4096 
 unfolding scan_faults
 faults-after k [] r h = ap (λ (n : ℕ). scan_faults n r) (sym (add-zero k))
 faults-after k (x ∷ l) r h =
-    ap (λ (b : Bool). elim b [ true ↦ fault x.place manySymbols ∷ scan_faults (suc k) (joined l r) | false ↦ scan_faults (suc k) (joined l r) ]) (ne_eqb k 4096 (omega arith))
+    ap (λ (b : Bool). elim b [ true ↦ fault x.place many_symbols ∷ scan_faults (suc k) (joined l r) | false ↦ scan_faults (suc k) (joined l r) ]) (ne_eqb k 4096 (omega arith))
     ∙ faults-after (suc k) l r (omega arith) ∙ ap (λ (n : ℕ). scan_faults n r) (omega arith)
 
 abbrev After : ℕ → Option Fault → Type 0
@@ -219,18 +219,18 @@ later (b ∷ w) zero p n h = on (symbol_at (b ∷ w)) (λ k m i. after_more p (l
     on gap r = r 0 n h
     on unlisted r = omega arith
     on (found s m) r = subst (λ (l : List Fault). After p (least l))
-        (sym (ap (λ (x : Bool). elim x [ true ↦ fault p manySymbols ∷ scan_faults (suc n) (scan_from w (pred m) (p + 1)) | false ↦ scan_faults (suc n) (scan_from w (pred m) (p + 1)) ]) (ne_eqb n 4096 (omega arith))))
+        (sym (ap (λ (x : Bool). elim x [ true ↦ fault p many_symbols ∷ scan_faults (suc n) (scan_from w (pred m) (p + 1)) | false ↦ scan_faults (suc n) (scan_from w (pred m) (p + 1)) ]) (ne_eqb n 4096 (omega arith))))
         (r (pred m) (suc n) (omega arith))
 
-lesser-later : (p q : ℕ) (o : Option Fault) → p < q → After q o → lesser (fault p manySymbols) o ≡ fault p manySymbols
+lesser-later : (p q : ℕ) (o : Option Fault) → p < q → After q o → lesser (fault p many_symbols) o ≡ fault p many_symbols
 unfolding lesser before
 lesser-later p q none l h = refl
 lesser-later p q (some g) l h =
-    ap₂ (λ (x y : Bool). elim (x || y && ltb (number_of g.refusal) (number_of manySymbols)) [ true ↦ g | false ↦ fault p manySymbols ])
+    ap₂ (λ (x y : Bool). elim (x || y && ltb (number_of g.refusal) (number_of many_symbols)) [ true ↦ g | false ↦ fault p many_symbols ])
     (le-ltb g.place p (omega arith)) (ne_eqb g.place p (omega arith))
 
 -- the 4,097th symbol is refused at its place
-many-least : (x : Placed) (w : List ℕ) (p : ℕ) → x.place < p → least (scan_faults 4096 (next x (scan_from w 0 p))) ≡ some (fault x.place manySymbols)
+many-least : (x : Placed) (w : List ℕ) (p : ℕ) → x.place < p → least (scan_faults 4096 (next x (scan_from w 0 p))) ≡ some (fault x.place many_symbols)
 unfolding scan_faults least
 many-least x w p h = ap some (lesser-later x.place p (least (scan_faults 4097 (scan_from w 0 p))) h (later w 0 p 4097 (omega arith)))
 

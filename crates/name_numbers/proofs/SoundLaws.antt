@@ -12,7 +12,7 @@ use lib.ListN.{length, take, drop, get_or, drop_of_length-le}
 use lib.Seq.{drop-cons, drop-drop}
 use Rattle.lexical.specs.Lists.{bytes, begins, same}
 use Rattle.lexical.specs.Kinds.{Kind, marks, words, code_of}
-use Rattle.lexical.specs.Symbols.{Class, letter, digit, mark, blank, other, class_of, in_run, run, Symbol, fixed, numeral, name, Found, gap, unlisted, found, Ending, noEnding, prime, query, shriek, ending_of, ending_length}
+use Rattle.lexical.specs.Symbols.{Class, letter, digit, mark, blank, other, class_of, in_run, run, Symbol, fixed, numeral, name, Found, gap, unlisted, found, Ending, no_ending, prime, query, shriek, ending_of, ending_length}
 use Rattle.lexical.specs.Symbols.{reserved, word_of, is_number, number_found, decimal_from, longer, longest, by_class, symbol_at, Placed, scanned, scan_from, scan, symbols}
 use Rattle.lexical.specs.SymbolPromises.{packed}
 use Rattle.lexical.proofs.WordLaws.{run_take}
@@ -118,7 +118,7 @@ word_sound w r e none q l c = on (leb (length r) 16) refl
     on : (b : Bool) → leb (length r) 16 ≡ b → SoundAt w (cond b (found (name (record { letters = r; ending = e })) (length r + ending_length e)) unlisted)
     on true h = (q, leb-true (length r) 16 h, l)
     on false h = tt
-word_sound w r noEnding (some k) q l c = c
+word_sound w r no_ending (some k) q l c = c
 word_sound w r prime (some k) q l c = tt
 word_sound w r query (some k) q l c = tt
 word_sound w r shriek (some k) q l c = tt

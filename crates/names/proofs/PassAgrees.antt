@@ -6,7 +6,7 @@ use native.Mathlib.Omega.{arith}
 use lib.ListN.{length, get_or}
 use mathlib.Core.Bool.{not}
 use Rattle.lexical.specs.Lists.{any, concat}
-use Rattle.lexical.specs.Symbols.{Name, noEnding}
+use Rattle.lexical.specs.Symbols.{Name, no_ending}
 use Rattle.lexical.specs.Refusals.{Fault}
 use Rattle.form.specs.Tree.{Letters, declarations, Dossier}
 use Rattle.form.specs.Headings.{givens_at, abstract_at, concrete_at, ainit_at, cinit_at, retrieve_at, operations_at}
@@ -36,8 +36,8 @@ use Rattle.names.proofs.PassAgreesDossier.{operations-least, heads-small, contex
 -- all letters of a dossier's bodies are the text's, and ends of ranges are numbers to 1,000
 pub record DossierIn (P : Letters → Type 0) (d : Dossier) : Type 0 where
   pub givens_in : GivensIn P d.givens
-  pub abstract_in : TypedIn P (variables_of noEnding (declarations d.abstract))
-  pub concrete_in : TypedIn P (variables_of noEnding (declarations d.concrete))
+  pub abstract_in : TypedIn P (variables_of no_ending (declarations d.abstract))
+  pub concrete_in : TypedIn P (variables_of no_ending (declarations d.concrete))
   pub abstract_holds_lem : PredIn P d.abstract.predicate
   pub concrete_holds_lem : PredIn P d.concrete.predicate
   pub ainit_in : PredIn P d.ainit
@@ -48,10 +48,10 @@ pub record DossierIn (P : Letters → Type 0) (d : Dossier) : Type 0 where
 -- ---- the parts, in the order of the text ----
 
 abbrev abstract_variables : Dossier → List Variable
-abstract_variables d = variables d.givens noEnding (declarations d.abstract)
+abstract_variables d = variables d.givens no_ending (declarations d.abstract)
 
 abbrev concrete_variables : Dossier → List Variable
-concrete_variables d = variables d.givens noEnding (declarations d.concrete)
+concrete_variables d = variables d.givens no_ending (declarations d.concrete)
 
 abbrev givens_part : Dossier → List Fault
 givens_part d = given_faults [] (givens_at d) d.givens

@@ -8,7 +8,7 @@ use native.Mathlib.Omega.{arith}
 use lib.ListN.{length}
 use Rattle.lexical.specs.Kinds as kind
 use Rattle.lexical.specs.Lists.{find}
-use Rattle.lexical.specs.Symbols.{Name, noEnding}
+use Rattle.lexical.specs.Symbols.{Name, no_ending}
 use Rattle.form.specs.Tree.{Letters, Given, Declaration, declarations, Pred, Dossier}
 use Rattle.form.specs.Written.{Written, bare, write_where}
 use Rattle.form.specs.Headings.{ainit_at, cinit_at, retrieve_at}
@@ -54,7 +54,7 @@ where-length p w = omega (arith, pred-length p 0 0 (bare kind.END ∷ w))
 
 -- the declared names are in use
 abbrev pub AreUsed : List Declaration → List Letters → Type 0
-AreUsed ds us = (y : Name) → has_typed (variables_of noEnding ds) y ≡ true → in_use us y ≡ true
+AreUsed ds us = (y : Name) → has_typed (variables_of no_ending ds) y ≡ true → in_use us y ≡ true
 
 pub use-same : (b c : Bool) → (b ≡ true → c ≡ true) → cond b true c ≡ c
 use-same true c h = sym (h refl)
@@ -63,34 +63,34 @@ use-same false c h = refl
 module _ (ρ : Numbering) (P : Letters → Type 0) (ν : Numbered ρ P) {gs : List Given} (p : GivensIn P gs) (z : Sizes) (d : Sized gs z) where
   -- variables that are in use come into reach
   pub again : {xs : List Letters} {ds : List Declaration} → Group ρ P ν p z d xs ds → (us : List Letters) → AreUsed ds us → {T : Names} {r : Name → Option Ty} → Sees ρ P gs T (in_use us) r
-      → Sees ρ P gs (shown (variables_of noEnding ds) 0 T ρ) (in_use us) (λ (y : Name). or_type (found (variables gs noEnding ds) y) (r y))
-  again {ds = ds} g us h s = group-shown ρ P ν p z d g s (in_use us) (λ y. use-same (has_typed (variables_of noEnding ds) y) (in_use us y) (h y))
+      → Sees ρ P gs (shown (variables_of no_ending ds) 0 T ρ) (in_use us) (λ (y : Name). or_type (found (variables gs no_ending ds) y) (r y))
+  again {ds = ds} g us h s = group-shown ρ P ν p z d g s (in_use us) (λ y. use-same (has_typed (variables_of no_ending ds) y) (in_use us y) (h y))
 
   -- and go out of it
   pub leave : {xs : List Letters} {ds : List Declaration} → Group ρ P ν p z d xs ds → (us : List Letters) → AreUsed ds us → {T : Names} {r : Name → Option Ty}
-      → Sees ρ P gs T (in_use us) (λ (y : Name). or_type (found (variables gs noEnding ds) y) (r y))
-      → ((y : Name) → has_typed (variables_of noEnding ds) y ≡ true → r y ≡ none) → Sees ρ P gs (hidden (variables_of noEnding ds) 0 2 T ρ) (in_use us) r
+      → Sees ρ P gs T (in_use us) (λ (y : Name). or_type (found (variables gs no_ending ds) y) (r y))
+      → ((y : Name) → has_typed (variables_of no_ending ds) y ≡ true → r y ≡ none) → Sees ρ P gs (hidden (variables_of no_ending ds) 0 2 T ρ) (in_use us) r
   leave {ds = ds} g us h {r = r} s k =
       group-hidden ρ P ν p z d g s (in_use us) r (λ y e. (refl, ap (λ (o : Option Variable). or_type o (r y)) (group-none ρ P ν p z d g y e))) (λ y e. (h y e, k y e))
 
   module _ {xs ys : List Letters} {av cv : List Declaration} (a : Group ρ P ν p z d xs av) (c : Group ρ P ν p z d ys cv) (us : List Letters) (ua : AreUsed av us) (uc : AreUsed cv us)
       (ac : AreUsed av ys) {T : Names} (s : Base ρ P gs T us) where
-    ainit-sees : Sees ρ P gs (shown (variables_of noEnding av) 0 T ρ) (in_use us) (λ (y : Name). or_type (found (variables gs noEnding av) y) (element_type gs y))
+    ainit-sees : Sees ρ P gs (shown (variables_of no_ending av) 0 T ρ) (in_use us) (λ (y : Name). or_type (found (variables gs no_ending av) y) (element_type gs y))
     ainit-sees = again a us ua s
 
-    ainit-left : Base ρ P gs (hidden (variables_of noEnding av) 0 2 (shown (variables_of noEnding av) 0 T ρ) ρ) us
+    ainit-left : Base ρ P gs (hidden (variables_of no_ending av) 0 2 (shown (variables_of no_ending av) 0 T ρ) ρ) us
     ainit-left = leave a us ua ainit-sees (λ y e. (a.away y e).1)
 
-    cinit-sees : Sees ρ P gs (shown (variables_of noEnding cv) 0 (hidden (variables_of noEnding av) 0 2 (shown (variables_of noEnding av) 0 T ρ) ρ) ρ) (in_use us)
-        (λ (y : Name). or_type (found (variables gs noEnding cv) y) (element_type gs y))
+    cinit-sees : Sees ρ P gs (shown (variables_of no_ending cv) 0 (hidden (variables_of no_ending av) 0 2 (shown (variables_of no_ending av) 0 T ρ) ρ) ρ) (in_use us)
+        (λ (y : Name). or_type (found (variables gs no_ending cv) y) (element_type gs y))
     cinit-sees = again c us uc ainit-left
 
-    retrieve-sees : Sees ρ P gs (shown (variables_of noEnding av) 0 (shown (variables_of noEnding cv) 0 (hidden (variables_of noEnding av) 0 2 (shown (variables_of noEnding av) 0 T ρ) ρ) ρ) ρ)
-        (in_use us) (λ (y : Name). or_type (found (variables gs noEnding av) y) (or_type (found (variables gs noEnding cv) y) (element_type gs y)))
+    retrieve-sees : Sees ρ P gs (shown (variables_of no_ending av) 0 (shown (variables_of no_ending cv) 0 (hidden (variables_of no_ending av) 0 2 (shown (variables_of no_ending av) 0 T ρ) ρ) ρ) ρ)
+        (in_use us) (λ (y : Name). or_type (found (variables gs no_ending av) y) (or_type (found (variables gs no_ending cv) y) (element_type gs y)))
     retrieve-sees = again a us ua cinit-sees
 
-    retrieve-left : Base ρ P gs (hidden (variables_of noEnding cv) 0 2
-        (hidden (variables_of noEnding av) 0 2 (shown (variables_of noEnding av) 0 (shown (variables_of noEnding cv) 0 (hidden (variables_of noEnding av) 0 2 (shown (variables_of noEnding av) 0 T ρ) ρ) ρ) ρ) ρ) ρ) us
+    retrieve-left : Base ρ P gs (hidden (variables_of no_ending cv) 0 2
+        (hidden (variables_of no_ending av) 0 2 (shown (variables_of no_ending av) 0 (shown (variables_of no_ending cv) 0 (hidden (variables_of no_ending av) 0 2 (shown (variables_of no_ending av) 0 T ρ) ρ) ρ) ρ) ρ) ρ) us
     retrieve-left =
         leave c us uc
         (leave a us ua retrieve-sees
@@ -106,21 +106,21 @@ module _ (ρ : Numbering) (P : Letters → Type 0) (ν : Numbered ρ P) {gs : Li
 
     pub conditions-least : PredIn P D.ainit → PredIn P D.cinit → PredIn P D.retrieve
         → conditions_key D T ρ z
-        ≡ least_key ((judge_pred D.ainit (scope gs us (variables gs noEnding (declarations D.abstract))) (ainit_at D + 2)).faults
-        ++ ((judge_pred D.cinit (scope gs us (variables gs noEnding (declarations D.concrete))) (cinit_at D + 2)).faults
-        ++ (judge_pred D.retrieve (scope gs us (variables gs noEnding (declarations D.abstract) ++ variables gs noEnding (declarations D.concrete))) (retrieve_at D + 2)).faults))
+        ≡ least_key ((judge_pred D.ainit (scope gs us (variables gs no_ending (declarations D.abstract))) (ainit_at D + 2)).faults
+        ++ ((judge_pred D.cinit (scope gs us (variables gs no_ending (declarations D.concrete))) (cinit_at D + 2)).faults
+        ++ (judge_pred D.retrieve (scope gs us (variables gs no_ending (declarations D.abstract) ++ variables gs no_ending (declarations D.concrete))) (retrieve_at D + 2)).faults))
     unfolding conditions_key cinit_at retrieve_at
     conditions-least pa pc pr =
-        let w = pred-within D.cinit (scope gs us (variables gs noEnding (declarations D.concrete))) (cinit_at D + 2) in
-        let v = pred-within D.retrieve (scope gs us (variables gs noEnding (declarations D.abstract) ++ variables gs noEnding (declarations D.concrete))) (retrieve_at D + 2) in
+        let w = pred-within D.cinit (scope gs us (variables gs no_ending (declarations D.concrete))) (cinit_at D + 2) in
+        let v = pred-within D.retrieve (scope gs us (variables gs no_ending (declarations D.abstract) ++ variables gs no_ending (declarations D.concrete))) (retrieve_at D + 2) in
         let l = where-length D.ainit [] in let m = where-length D.cinit [] in
-        behind {d = retrieve_at D + 2 + wide_pred D.retrieve} _ _ (pred-within D.ainit (scope gs us (variables gs noEnding (declarations D.abstract))) (ainit_at D + 2))
+        behind {d = retrieve_at D + 2 + wide_pred D.retrieve} _ _ (pred-within D.ainit (scope gs us (variables gs no_ending (declarations D.abstract))) (ainit_at D + 2))
         (within-append (wider (cinit_at D + 2) _ w (omega arith) (omega arith)) (wider (cinit_at D + 2) _ v (omega arith) (omega arith))) (omega arith)
-        (judged-pred ρ P ν D.ainit (scope gs us (variables gs noEnding (declarations D.abstract))) _ z
-        (shows ρ P ν p z d (ainit-sees a c us ua uc ac s) us (variables gs noEnding (declarations D.abstract)) t (λ l. refl) (λ y. refl)) pa (ainit_at D + 2)).0
+        (judged-pred ρ P ν D.ainit (scope gs us (variables gs no_ending (declarations D.abstract))) _ z
+        (shows ρ P ν p z d (ainit-sees a c us ua uc ac s) us (variables gs no_ending (declarations D.abstract)) t (λ l. refl) (λ y. refl)) pa (ainit_at D + 2)).0
         (λ e. behind _ _ w v (omega arith)
-        (judged-pred ρ P ν D.cinit (scope gs us (variables gs noEnding (declarations D.concrete))) _ z
-        (shows ρ P ν p z d (cinit-sees a c us ua uc ac s) us (variables gs noEnding (declarations D.concrete)) t (λ l. refl) (λ y. refl)) pc (cinit_at D + 2)).0
-        (λ f. (judged-pred ρ P ν D.retrieve (scope gs us (variables gs noEnding (declarations D.abstract) ++ variables gs noEnding (declarations D.concrete))) _ z
-        (shows ρ P ν p z d (retrieve-sees a c us ua uc ac s) us (variables gs noEnding (declarations D.abstract) ++ variables gs noEnding (declarations D.concrete)) t (λ l. refl)
-        (λ y. sym (found-append (variables gs noEnding (declarations D.abstract)) (variables gs noEnding (declarations D.concrete)) y (element_type gs y)))) pr (retrieve_at D + 2)).0))
+        (judged-pred ρ P ν D.cinit (scope gs us (variables gs no_ending (declarations D.concrete))) _ z
+        (shows ρ P ν p z d (cinit-sees a c us ua uc ac s) us (variables gs no_ending (declarations D.concrete)) t (λ l. refl) (λ y. refl)) pc (cinit_at D + 2)).0
+        (λ f. (judged-pred ρ P ν D.retrieve (scope gs us (variables gs no_ending (declarations D.abstract) ++ variables gs no_ending (declarations D.concrete))) _ z
+        (shows ρ P ν p z d (retrieve-sees a c us ua uc ac s) us (variables gs no_ending (declarations D.abstract) ++ variables gs no_ending (declarations D.concrete)) t (λ l. refl)
+        (λ y. sym (found-append (variables gs no_ending (declarations D.abstract)) (variables gs no_ending (declarations D.concrete)) y (element_type gs y)))) pr (retrieve_at D + 2)).0))

@@ -9,7 +9,7 @@ use lib.ListN.{set}
 use borrow.Author.Tests.{ne_eqb, not-true}
 use Rattle.lexical.specs.Lists.{any, find}
 use Rattle.lexical.specs.Symbols.{Name}
-use Rattle.lexical.specs.Refusals.{Fault, fault, number_of, nameInUse, unless}
+use Rattle.lexical.specs.Refusals.{Fault, fault, number_of, name_in_use, unless}
 use Rattle.form.specs.Tree.{Letters, Given}
 use Rattle.form.specs.Codes.{Numbering, name_number, type_width}
 use Rattle.static_rules.specs.Carriers.{Carrier, Variable, same_name, given_of, carrier_of}
@@ -46,14 +46,14 @@ after (v ∷ vs) r = after vs (reach_of v.called (type_of v.carrier) r)
 unfoldable pub typed_faults : List Given → (Name → Bool) → ℕ → List Typed → List Fault
 typed_faults gs u i [] = []
 typed_faults gs u i (x ∷ xs) =
-    unless (not (u x.called)) (fault i nameInUse) ++ type_faults gs x.type (i + 2) ++ typed_faults gs (use_of x.called u) (i + 3 + type_width x.type) xs
+    unless (not (u x.called)) (fault i name_in_use) ++ type_faults gs x.type (i + 2) ++ typed_faults gs (use_of x.called u) (i + 3 + type_width x.type) xs
 
 unfoldable pub typed_width : List Typed → ℕ
 typed_width [] = 0
 typed_width (x ∷ xs) = 3 + type_width x.type + typed_width xs
 
 head-within : (gs : List Given) (u : Name → Bool) (i : ℕ) (x : Typed)
-    → Within i (i + 3 + type_width x.type) (unless (not (u x.called)) (fault i nameInUse) ++ type_faults gs x.type (i + 2))
+    → Within i (i + 3 + type_width x.type) (unless (not (u x.called)) (fault i name_in_use) ++ type_faults gs x.type (i + 2))
 head-within gs u i x =
     within-append (within-used (not (u x.called)) i (omega arith) (omega arith)) (wider _ _ (type-within gs x.type (i + 2)) (omega arith) (omega arith))
 
@@ -97,10 +97,10 @@ pub clear : {P : Letters → Type 0} (gs : List Given) {xs : List Typed} → Typ
 unfolding typed_faults
 clear gs no_typed u t i e = record { variables = []; carried = no_carried; fresh = no_fresh }
 clear gs (one_typed {x = x} {xs = xs} p q h) u t i e =
-    let a = append_nil-both (unless (not (u x.called)) (fault i nameInUse) ++ type_faults gs x.type (i + 2)) (typed_faults gs (use_of x.called u) (i + 3 + type_width x.type) xs) e in
-    let b = append_nil-both (unless (not (u x.called)) (fault i nameInUse)) (type_faults gs x.type (i + 2)) a.0 in
+    let a = append_nil-both (unless (not (u x.called)) (fault i name_in_use) ++ type_faults gs x.type (i + 2)) (typed_faults gs (use_of x.called u) (i + 3 + type_width x.type) xs) e in
+    let b = append_nil-both (unless (not (u x.called)) (fault i name_in_use)) (type_faults gs x.type (i + 2)) a.0 in
     let c = type-carries gs x.type (i + 2) b.1 in
-    let f = not-true (u x.called) (unless-nil (not (u x.called)) (fault i nameInUse) b.0) in
+    let f = not-true (u x.called) (unless-nil (not (u x.called)) (fault i name_in_use) b.0) in
     let m = clear gs h (use_of x.called u) (λ y py k. t y py (use_false x.called u y k)) (i + 3 + type_width x.type) a.1 in
     record {
       variables = record { called = x.called; carrier = c.carrier } ∷ m.variables;
@@ -199,11 +199,11 @@ module _ (ρ : Numbering) (P : Letters → Type 0) (ν : Numbered ρ P) (gs : Li
   declared-least (one_typed {x = x} {xs = xs} p q h) {T} {u} {r} s i =
       behind _ _ (head-within gs u i x) (typed-within gs (use_of x.called u) (i + 3 + type_width x.type) xs) (omega arith)
       (two-parts (within-small (within-used {a = i} {b = suc i} (not (u x.called)) i (omega arith) (omega arith))) (within-small (type-within gs x.type (i + 2)))
-      (ap (λ (b : Bool). unless_key b (key i 8)) (s.uses x.called p) ∙ unless-least (not (u x.called)) i nameInUse)
+      (ap (λ (b : Bool). unless_key b (key i 8)) (s.uses x.called p) ∙ unless-least (not (u x.called)) i name_in_use)
       (type-least ρ P gs z d T u r s x.type q (i + 2)))
-      (λ e. let b = append_nil-both (unless (not (u x.called)) (fault i nameInUse)) (type_faults gs x.type (i + 2)) e in
+      (λ e. let b = append_nil-both (unless (not (u x.called)) (fault i name_in_use)) (type_faults gs x.type (i + 2)) e in
       let c = type-carries gs x.type (i + 2) b.1 in
-      let f = not-true (u x.called) (unless-nil (not (u x.called)) (fault i nameInUse) b.0) in
+      let f = not-true (u x.called) (unless-nil (not (u x.called)) (fault i name_in_use) b.0) in
       declared-least h (bring s x c.carrier (i + 2) p q b.1 c.carries (unused ρ P ν gs d.few s x.called p f).0) (i + 3 + type_width x.type))
 
   pub shown-sees : {xs : List Typed} {vs : List Variable} → Carried P gs xs vs → {T : Names} {u : Name → Bool} {r : Name → Option Ty} → Sees ρ P gs T u r

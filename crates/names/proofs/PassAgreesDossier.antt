@@ -5,7 +5,7 @@ use Prim.Native.Nat.{ℕ, suc, ◌+◌}
 use native.Mathlib.Omega.{arith}
 use lib.ListN.{length}
 use Rattle.lexical.specs.Lists.{concat}
-use Rattle.lexical.specs.Symbols.{noEnding}
+use Rattle.lexical.specs.Symbols.{no_ending}
 use Rattle.lexical.specs.Refusals.{Fault}
 use Rattle.form.specs.Tree.{Letters, Given, Declaration, declarations, State, Operation, Dossier}
 use Rattle.form.specs.Written.{write_where, write_state}
@@ -81,13 +81,13 @@ module _ (D : Dossier) where
 
 -- ---- a state ----
 
-pub state-length : (s : State) → length (write_state s []) ≡ 2 + typed_width (variables_of noEnding (declarations s)) + wide_pred s.predicate
+pub state-length : (s : State) → length (write_state s []) ≡ 2 + typed_width (variables_of no_ending (declarations s)) + wide_pred s.predicate
 unfolding write_state
 state-length s = omega (arith, declarations-length 0 (declarations s) (write_where s.predicate []), where-length s.predicate [])
 
-pub declarations-within : (gs : List Given) (xs : List Letters) (i : ℕ) (ds : List Declaration) → Within i (i + typed_width (variables_of noEnding ds)) (declaration_faults gs xs i ds)
+pub declarations-within : (gs : List Given) (xs : List Letters) (i : ℕ) (ds : List Declaration) → Within i (i + typed_width (variables_of no_ending ds)) (declaration_faults gs xs i ds)
 declarations-within gs xs i ds =
-    subst (Within i (i + typed_width (variables_of noEnding ds))) (sym (declarations-typed gs xs i ds (in_use xs) (λ l. sym (taken_is xs l)))) (typed-within gs (in_use xs) i (variables_of noEnding ds))
+    subst (Within i (i + typed_width (variables_of no_ending ds))) (sym (declarations-typed gs xs i ds (in_use xs) (λ l. sym (taken_is xs l)))) (typed-within gs (in_use xs) i (variables_of no_ending ds))
 
 pub state-within : (gs : List Given) (xs : List Letters) (Γ : Scope) (i : ℕ) (s : State)
     → Within (suc i) (suc i + length (write_state s [])) (declaration_faults gs xs (suc i) (declarations s) ++ (judge_pred s.predicate Γ (predicate_at i s)).faults)

@@ -7,8 +7,8 @@ use native.Mathlib.Omega.{arith}
 use lib.ListN.{length, set, length-set}
 use borrow.Author.Tests.{ne_eqb}
 use Rattle.lexical.specs.Lists.{any}
-use Rattle.lexical.specs.Symbols.{Name, noEnding}
-use Rattle.lexical.specs.Refusals.{number_of, nameInUse}
+use Rattle.lexical.specs.Symbols.{Name, no_ending}
+use Rattle.lexical.specs.Refusals.{number_of, name_in_use}
 use Rattle.form.specs.Tree.{Letters, Given, elements}
 use Rattle.form.specs.Headings.{given_length}
 use Rattle.form.specs.Codes.{Numbering, number_of_name, name_number}
@@ -107,10 +107,10 @@ marks-given f xs g k m y = on (in_use (elements g) y) (same_name (plain g.title)
     on false false = m y
 
 module _ (ρ : Numbering) (P : Letters → Type 0) (ν : Numbered ρ P) where
-  enter : {T : Names} {f : Name → ℕ} → Holds ρ P T f → (x : Letters) → P x → (k : ℕ) → Holds ρ P (set T (number_of_name ρ x noEnding) k) (entered (plain x) k f)
+  enter : {T : Names} {f : Name → ℕ} → Holds ρ P T f → (x : Letters) → P x → (k : ℕ) → Holds ρ P (set T (number_of_name ρ x no_ending) k) (entered (plain x) k f)
   enter {T} {f} h x px k =
       record {
-        long = omega (arith, length-set T (number_of_name ρ x noEnding) k, h.long);
+        long = omega (arith, length-set T (number_of_name ρ x no_ending) k, h.long);
         are =
             changed ρ P ν [] T h.long (plain x) px k (λ (y : Name) (n : ℕ). n ≡ entered (plain x) k f y)
             (sym (ap (λ (b : Bool). cond b k (f (plain x))) (name-refl (plain x)))) (λ y py e. h.are y py ∙ sym (ap (λ (b : Bool). cond b k (f y)) e));
@@ -138,11 +138,11 @@ module _ (ρ : Numbering) (P : Letters → Type 0) (ν : Numbered ρ P) where
   givens-named (one_given {g = g} p q r) h k = givens-named r (given-named p q h k) (suc k)
 
   new-least : {T : Names} {f : Name → ℕ} → Holds ρ P T f → (xs : List Letters) → Marks f xs → (x : Letters) → P x → (i : ℕ)
-      → unless_key (is_free (entry T (number_of_name ρ x noEnding))) (key i 8) ≡ least_key (new_name xs x i)
+      → unless_key (is_free (entry T (number_of_name ρ x no_ending))) (key i 8) ≡ least_key (new_name xs x i)
   unfolding new_name number_of
   new-least h xs m x px i =
       ap (λ (b : Bool). unless_key b (key i 8)) (ap is_free (h.are (plain x) px) ∙ m (plain x) ∙ sym (ap not (taken_is xs x)))
-      ∙ unless-least (not (is_taken xs x)) i nameInUse
+      ∙ unless-least (not (is_taken xs x)) i name_in_use
 
   elements-least : {es : List Letters} → AllIn P es → {T : Names} {f : Name → ℕ} → Holds ρ P T f → (xs : List Letters) → Marks f xs → (k i : ℕ) → 1 ≤ k
       → elements_key es k T ρ i ≡ least_key (element_faults xs i es)
@@ -162,7 +162,7 @@ module _ (ρ : Numbering) (P : Letters → Type 0) (ν : Numbered ρ P) where
       let w = givens-within (given_names (g ∷ []) ++ xs) (i + given_length g) gs in
       behind {a = i} {b = i + 2} {d = i + given_length g + givens_width gs} _ _ (within_new xs g.title (suc i) (omega arith) (omega arith))
       (within-append (wider (i + 2) _ (elements-within (g.title ∷ xs) (i + 2) (elements g)) (omega arith) (omega arith)) (wider (i + 2) _ w (omega arith) (omega arith)))
-      (omega arith) (ap (λ (j : ℕ). unless_key (is_free (entry T (number_of_name ρ g.title noEnding))) (key j 8)) e ∙ new-least h xs m g.title p (suc i))
+      (omega arith) (ap (λ (j : ℕ). unless_key (is_free (entry T (number_of_name ρ g.title no_ending))) (key j 8)) e ∙ new-least h xs m g.title p (suc i))
       (λ n. behind _ _ (elements-within (g.title ∷ xs) (i + 2) (elements g)) w (omega arith)
       (elements-least q (enter h g.title p (8 + k)) (g.title ∷ xs) (marks-one f xs g.title (8 + k) m (omega arith)) (16 + k) (i + 2) (omega arith))
       (λ o. givens-least r (given-named p q h k) (given_names (g ∷ []) ++ xs) (marks-given f xs g k m) (suc k) (i + given_length g)))

@@ -6,8 +6,8 @@ use Prim.Native.Nat.{ℕ, suc, ◌+◌}
 use native.Mathlib.Omega.{arith}
 use Rattle.lexical.specs.Kinds as kind
 use Rattle.lexical.specs.Lists.{any}
-use Rattle.lexical.specs.Symbols.{noEnding, prime}
-use Rattle.lexical.specs.Refusals.{Fault, number_of, nameInUse}
+use Rattle.lexical.specs.Symbols.{no_ending, prime}
+use Rattle.lexical.specs.Refusals.{Fault, number_of, name_in_use}
 use Rattle.form.specs.Tree.{Letters, Given, Declaration, inward, outward, Parameter, Operation}
 use Rattle.form.specs.Written.{bare, write_pred, write_operations}
 use Rattle.form.specs.Headings.{operation_length}
@@ -38,7 +38,7 @@ use Rattle.names.proofs.PassAgreesReach.{operation-reach, title-named, parameter
 
 -- the scope of an operation's predicate
 abbrev pub reach_in : List Given → List Declaration → List Parameter → List Variable
-reach_in gs ds ps = variables gs noEnding ds ++ variables gs prime ds ++ scopes.parameters_of gs inward ps ++ scopes.parameters_of gs outward ps
+reach_in gs ds ps = variables gs no_ending ds ++ variables gs prime ds ++ scopes.parameters_of gs inward ps ++ scopes.parameters_of gs outward ps
 
 abbrev pub abstract_faults : List Given → List Declaration → List Letters → ℕ → Operation → List Fault
 abstract_faults gs av us i o = (judge_pred o.abstractly (scope gs (o.title ∷ us) (reach_in gs av o.parameters)) (abstractly_at i o)).faults
@@ -147,12 +147,12 @@ module _ (ρ : Numbering) (P : Letters → Type 0) (ν : Numbered ρ P) {gs : Li
         (leaving-sees ρ P ν p z d (o.title ∷ us) w o.parameters k a (more-used av ua)
         (reaching-sees ρ P ν p z d (o.title ∷ us) w o.parameters k a (more-used av ua) (parameters-shown ρ P ν p z d (o.title ∷ us) w o.parameters k)))))
 
-    title-least : unless_key (is_free (entry T (number_of_name ρ o.title noEnding))) (key (i + 1) 8) ≡ least_key (new_name us o.title (suc i))
+    title-least : unless_key (is_free (entry T (number_of_name ρ o.title no_ending))) (key (i + 1) 8) ≡ least_key (new_name us o.title (suc i))
     unfolding new_name number_of
     title-least =
         let e : i + 1 ≡ suc i = omega arith in
         ap₂ (λ (b : Bool) (j : ℕ). unless_key b (key j 8)) (s.uses (plain o.title) po ∙ ap not (sym (taken_is us o.title))) e
-        ∙ unless-least (not (is_taken us o.title)) (suc i) nameInUse
+        ∙ unless-least (not (is_taken us o.title)) (suc i) name_in_use
 
     pub operation-least : PredIn P o.abstractly → PredIn P o.concretely → operation_key o av cv T ρ z i ≡ least_key (text_of gs av cv us i o)
     unfolding operation_key text_of

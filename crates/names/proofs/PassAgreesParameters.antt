@@ -8,8 +8,8 @@ use native.Mathlib.Omega.{arith}
 use lib.ListN.{length, set}
 use Rattle.lexical.specs.Kinds as kind
 use Rattle.lexical.specs.Lists.{any, find, filter}
-use Rattle.lexical.specs.Symbols.{Name, Ending, noEnding, prime, query, shriek}
-use Rattle.lexical.specs.Refusals.{Fault, fault, unless, nameInUse}
+use Rattle.lexical.specs.Symbols.{Name, Ending, no_ending, prime, query, shriek}
+use Rattle.lexical.specs.Refusals.{Fault, fault, unless, name_in_use}
 use Rattle.form.specs.Tree.{Letters, Given, Declaration, Direction, inward, outward, Parameter}
 use Rattle.form.specs.Written.{Written, bare, ending_of, inputs_after, outputs_after, write_parameters}
 use Rattle.form.specs.Codes.{Numbering, number_of_name, type_width}
@@ -107,7 +107,7 @@ prime-used : (x : Letters) (u u' : Name → Bool) → ((l : Letters) → u' (nam
 unfolding same_name
 prime-used x u u' h l = ap (λ (b : Bool). cond (same_name (plain x) (plain l)) true b) (h l)
 
-pub primed : {P : Letters → Type 0} (gs : List Given) (ds : List Declaration) {vs : List Variable} → Carried P gs (variables_of noEnding ds) vs → {u : Name → Bool} → Fresh u vs
+pub primed : {P : Letters → Type 0} (gs : List Given) (ds : List Declaration) {vs : List Variable} → Carried P gs (variables_of no_ending ds) vs → {u : Name → Bool} → Fresh u vs
     → (u' : Name → Bool) → ((l : Letters) → u' (name_of l prime) ≡ u (plain l)) → Primed P gs u' ds
 unfolding variables_of variables same_name
 primed gs [] no_carried no_fresh u' h = record { carried = no_carried; fresh = no_fresh }
@@ -119,19 +119,19 @@ primed {P} gs (d ∷ ds) (one_carried c i p q e f g k) {u} (one_fresh l m) u' h 
       fresh = subst (Fresh u') (sym v) (one_fresh (h d.declared ∙ l) r.fresh);
     }
 
-pub shown-primed : (ds : List Declaration) (T : Names) (ρ : Numbering) → shown (variables_of noEnding ds) 1 T ρ ≡ shown (variables_of prime ds) 0 T ρ
+pub shown-primed : (ds : List Declaration) (T : Names) (ρ : Numbering) → shown (variables_of no_ending ds) 1 T ρ ≡ shown (variables_of prime ds) 0 T ρ
 unfolding shown variables_of number_of_name
 shown-primed [] T ρ = refl
 shown-primed (d ∷ ds) T ρ =
     let e : 4 * ρ d.declared + 0 + 1 ≡ 4 * ρ d.declared + 1 + 0 = omega arith in
-    ap (λ (n : ℕ). shown (variables_of noEnding ds) 1 (set T n (type_kind d.type T ρ)) ρ) e ∙ shown-primed ds _ ρ
+    ap (λ (n : ℕ). shown (variables_of no_ending ds) 1 (set T n (type_kind d.type T ρ)) ρ) e ∙ shown-primed ds _ ρ
 
-pub hidden-primed : (ds : List Declaration) (k : ℕ) (T : Names) (ρ : Numbering) → hidden (variables_of noEnding ds) 1 k T ρ ≡ hidden (variables_of prime ds) 0 k T ρ
+pub hidden-primed : (ds : List Declaration) (k : ℕ) (T : Names) (ρ : Numbering) → hidden (variables_of no_ending ds) 1 k T ρ ≡ hidden (variables_of prime ds) 0 k T ρ
 unfolding hidden variables_of number_of_name
 hidden-primed [] k T ρ = refl
 hidden-primed (d ∷ ds) k T ρ =
     let e : 4 * ρ d.declared + 0 + 1 ≡ 4 * ρ d.declared + 1 + 0 = omega arith in
-    ap (λ (n : ℕ). hidden (variables_of noEnding ds) 1 k (set T n k) ρ) e ∙ hidden-primed ds k _ ρ
+    ap (λ (n : ℕ). hidden (variables_of no_ending ds) 1 k (set T n k) ρ) e ∙ hidden-primed ds k _ ρ
 
 -- ---- parameters ----
 
@@ -140,7 +140,7 @@ pub parameters-typed : (gs : List Given) (xs : List Parameter) (i : ℕ) (ys : L
 unfolding parameter_faults typed_faults parameters_of type_width any
 parameters-typed gs xs i [] u h = refl
 parameters-typed gs xs i (y ∷ ys) u h =
-    ap₂ (λ (b : Bool) (fs : List Fault). unless (not b) (fault i nameInUse) ++ type_faults gs y.declaration.type (i + 2) ++ fs) (sym (h y))
+    ap₂ (λ (b : Bool) (fs : List Fault). unless (not b) (fault i name_in_use) ++ type_faults gs y.declaration.type (i + 2) ++ fs) (sym (h y))
     (parameters-typed gs (y ∷ xs) (i + 3 + type_width y.declaration.type) ys (use_of (parameter_name y) u) (λ n. on n (same_name (parameter_name y) (parameter_name n))))
   where
     on : (n : Parameter) (b : Bool)

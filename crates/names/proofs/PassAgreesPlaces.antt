@@ -4,7 +4,7 @@ use mathlib.Core.List.{List, [], ◌∷◌, ◌++◌}
 use mathlib.Core.Option.{Option, none, some}
 use Prim.Native.Nat.{ℕ, suc, ◌+◌, ◌≤◌, ◌<◌}
 use native.Mathlib.Omega.{arith}
-use Rattle.lexical.specs.Refusals.{Fault, fault, number_of, unless, nameInUse, nameUnknown, typesMisfit, wideType, zeroDivisor}
+use Rattle.lexical.specs.Refusals.{Fault, fault, number_of, unless, name_in_use, name_unknown, types_misfit, wide_type, zero_divisor}
 use Rattle.form.specs.Tree.{Letters, End, Range, given_set, range, Given}
 use Rattle.form.specs.Tree.{Term, number, name, group, prefix, binary, divided, listed, pairs, such, empty_set, empty_pairs, Items, only, also, Pairs, only_pair, also_pair}
 use Rattle.form.specs.Tree.{Pred, truth, falsity, negation, paren, quantified, connected, compared, member, within, related}
@@ -49,28 +49,28 @@ unfolding inside
 within-inside nowhere k = k
 within-inside (at_place l r n h) k = at_place l r n h
 
-in_use : number_of nameInUse < key_room
+in_use : number_of name_in_use < key_room
 unfolding number_of
 in_use = omega arith
 
-unknown : number_of nameUnknown < key_room
+unknown : number_of name_unknown < key_room
 unfolding number_of
 unknown = omega arith
 
-misfit : number_of typesMisfit < key_room
+misfit : number_of types_misfit < key_room
 unfolding number_of
 misfit = omega arith
 
-wide : number_of wideType < key_room
+wide : number_of wide_type < key_room
 unfolding number_of
 wide = omega arith
 
-divisor : number_of zeroDivisor < key_room
+divisor : number_of zero_divisor < key_room
 unfolding number_of
 divisor = omega arith
 
-pub within-used : {a b : ℕ} (ok : Bool) (i : ℕ) → a ≤ i → i < b → Within a b (unless ok (fault i nameInUse))
-within-used ok i l r = within-unless ok (fault i nameInUse) in_use l r
+pub within-used : {a b : ℕ} (ok : Bool) (i : ℕ) → a ≤ i → i < b → Within a b (unless ok (fault i name_in_use))
+within-used ok i l r = within-unless ok (fault i name_in_use) in_use l r
 
 pub within_new : {a b : ℕ} (xs : List Letters) (x : Letters) (i : ℕ) → a ≤ i → i < b → Within a b (new_name xs x i)
 unfolding new_name
@@ -82,13 +82,13 @@ within-known (some g) i l r = nowhere
 
 pub within-range : {a b : ℕ} (r : Range) (i : ℕ) → a ≤ i → i + range_length r ≤ b → Within a b (range_faults r i)
 unfolding range_faults
-within-range r i l h = within-unless _ (fault (i + end_length r.lower) wideType) wide (omega arith) (omega arith)
+within-range r i l h = within-unless _ (fault (i + end_length r.lower) wide_type) wide (omega arith) (omega arith)
 
 pub within-pairs : {a b : ℕ} (g h : Option Given) (i : ℕ) → a ≤ i → i < b → Within a b (pairs_fault g h i)
 unfolding pairs_fault
 within-pairs none h i l r = nowhere
 within-pairs (some g) none i l r = nowhere
-within-pairs (some g) (some h) i l r = within-unless _ (fault i wideType) wide l r
+within-pairs (some g) (some h) i l r = within-unless _ (fault i wide_type) wide l r
 
 sign-short : (b : Bool) → cond b 1 0 < cond b 2 1
 sign-short true = omega arith
@@ -97,7 +97,7 @@ sign-short false = omega arith
 within-divisor : {a b : ℕ} (e : End) (i : ℕ) → a ≤ i → i + end_length e ≤ b → Within a b (divisor_faults e i)
 unfolding divisor_faults
 within-divisor e i l r =
-    within-unless _ (fault (i + cond e.negative 1 0) zeroDivisor) divisor (omega arith) (omega (arith, sign-short e.negative))
+    within-unless _ (fault (i + cond e.negative 1 0) zero_divisor) divisor (omega arith) (omega (arith, sign-short e.negative))
 
 within-over : {a b : ℕ} (gs : List Given) (xs : List Letters) (i : ℕ) → a ≤ i → i < b → Within a b (over_fault gs xs i)
 within-over gs [] i l r = nowhere
@@ -111,7 +111,7 @@ within-cond false xs ys h k = k
 within-whole-pairs : {a b : ℕ} (gs : List Given) (ts : List (Ty × Ty)) (i : ℕ) → a ≤ i → i < b → Within a b (whole_pairs gs ts i)
 unfolding whole_pairs
 within-whole-pairs gs ts i l r =
-    within-cond (pairs_fit ts) (over_fault gs (pairs_type ts).over i) (fault i typesMisfit ∷ []) (within-over gs (pairs_type ts).over i l r)
+    within-cond (pairs_fit ts) (over_fault gs (pairs_type ts).over i) (fault i types_misfit ∷ []) (within-over gs (pairs_type ts).over i l r)
     (at_place l r misfit nowhere)
 
 within-judged-pairs : {a b : ℕ} (gs : List Given) (l : Listing (Ty × Ty)) (i : ℕ) → a ≤ i → i < b → Within a b l.faults → Within a b (judged_pairs gs l i)
@@ -123,7 +123,7 @@ within-judged-pairs {a} {b} gs l i p q h = on l.faults h
     on (x ∷ xs) k = k
 
 within-name : (o : Option Ty) (i : ℕ) → Within i (i + 1) (of_name o i).faults
-within-name none i = at_place {f = fault i nameUnknown} (omega arith) (omega arith) unknown nowhere
+within-name none i = at_place {f = fault i name_unknown} (omega arith) (omega arith) unknown nowhere
 within-name (some t) i = nowhere
 
 within-empty : {a b : ℕ} (g h : Option Given) (i : ℕ) → a ≤ i → i + 3 ≤ b → Within a b (known g (suc i) ++ known h (i + 2) ++ pairs_fault g h i)

@@ -7,7 +7,7 @@ use Prim.Native.Nat.{◌≤◌, ◌<◌}
 use native.Mathlib.Omega.{arith}
 use lib.ListN.{set}
 use Rattle.lexical.specs.Lists.{any}
-use Rattle.lexical.specs.Symbols.{Name, Ending, noEnding, prime, query, shriek}
+use Rattle.lexical.specs.Symbols.{Name, Ending, no_ending, prime, query, shriek}
 use Rattle.form.specs.Tree.{Letters, Given, Declaration, inward, outward, Parameter}
 use Rattle.form.specs.Codes.{Numbering, number_of_name}
 use Rattle.static_rules.specs.Carriers.{Variable, ending_code, same_name, plain, given_of}
@@ -49,37 +49,37 @@ module _ (gs : List Given) (ds : List Declaration) (ps : List Parameter) {P : Le
   parameters-none y h = found_none vs y (sym (carried-names k y) ∙ no_so (has_typed (parameters_of ps) y) (λ e. omega (arith, parameters-ending ps y e)))
 
   at-ending : (l : Letters) (t : Option Ty) (e : Ending)
-      → or_type (found (variables gs prime ds) (name_of l e)) (or_type (found (variables gs noEnding ds) (name_of l e)) (or_type (found vs (name_of l e)) t))
-      ≡ or_type (found (variables gs noEnding ds) (name_of l e)) (or_type (found (variables gs prime ds) (name_of l e))
+      → or_type (found (variables gs prime ds) (name_of l e)) (or_type (found (variables gs no_ending ds) (name_of l e)) (or_type (found vs (name_of l e)) t))
+      ≡ or_type (found (variables gs no_ending ds) (name_of l e)) (or_type (found (variables gs prime ds) (name_of l e))
       (or_type (found (scopes.parameters_of gs inward ps) (name_of l e)) (or_type (found (scopes.parameters_of gs outward ps) (name_of l e)) t)))
   unfolding same_name
-  at-ending l t noEnding =
-      plain-only t (found (variables gs noEnding ds) (name_of l noEnding)) _ _ _ _ (other_none gs prime ds (name_of l noEnding) (λ x. refl)) (parameters-none (name_of l noEnding) (omega arith))
-      (inputs-none gs ps (name_of l noEnding) (λ x. refl)) (outputs_none gs ps (name_of l noEnding) (λ x. refl))
+  at-ending l t no_ending =
+      plain-only t (found (variables gs no_ending ds) (name_of l no_ending)) _ _ _ _ (other_none gs prime ds (name_of l no_ending) (λ x. refl)) (parameters-none (name_of l no_ending) (omega arith))
+      (inputs-none gs ps (name_of l no_ending) (λ x. refl)) (outputs_none gs ps (name_of l no_ending) (λ x. refl))
   at-ending l t prime =
-      prime-only t _ (found (variables gs prime ds) (name_of l prime)) _ _ _ (other_none gs noEnding ds (name_of l prime) (λ x. refl)) (parameters-none (name_of l prime) (omega arith))
+      prime-only t _ (found (variables gs prime ds) (name_of l prime)) _ _ _ (other_none gs no_ending ds (name_of l prime) (λ x. refl)) (parameters-none (name_of l prime) (omega arith))
       (inputs-none gs ps (name_of l prime) (λ x. refl)) (outputs_none gs ps (name_of l prime) (λ x. refl))
   at-ending l t query =
-      input-only t _ _ _ _ _ (other_none gs noEnding ds (name_of l query) (λ x. refl)) (other_none gs prime ds (name_of l query) (λ x. refl))
+      input-only t _ _ _ _ _ (other_none gs no_ending ds (name_of l query) (λ x. refl)) (other_none gs prime ds (name_of l query) (λ x. refl))
       (inputs-found gs l ps k) (outputs_none gs ps (name_of l query) (λ x. refl))
   at-ending l t shriek =
-      output-only t _ _ _ _ _ (other_none gs noEnding ds (name_of l shriek) (λ x. refl)) (other_none gs prime ds (name_of l shriek) (λ x. refl))
+      output-only t _ _ _ _ _ (other_none gs no_ending ds (name_of l shriek) (λ x. refl)) (other_none gs prime ds (name_of l shriek) (λ x. refl))
       (inputs-none gs ps (name_of l shriek) (λ x. refl)) (outputs-found gs l ps k)
 
   lists-in_order : (y : Name) (t : Option Ty)
-      → or_type (found (variables gs prime ds) y) (or_type (found (variables gs noEnding ds) y) (or_type (found vs y) t))
-      ≡ or_type (found (variables gs noEnding ds) y) (or_type (found (variables gs prime ds) y)
+      → or_type (found (variables gs prime ds) y) (or_type (found (variables gs no_ending ds) y) (or_type (found vs y) t))
+      ≡ or_type (found (variables gs no_ending ds) y) (or_type (found (variables gs prime ds) y)
       (or_type (found (scopes.parameters_of gs inward ps) y) (or_type (found (scopes.parameters_of gs outward ps) y) t)))
   lists-in_order y t = at-ending y.letters t y.ending
 
   pub operation-reach : (y : Name) (t : Option Ty)
-      → or_type (found (variables gs prime ds) y) (or_type (found (variables gs noEnding ds) y) (or_type (found vs y) t))
-      ≡ or_type (found (variables gs noEnding ds ++ variables gs prime ds ++ scopes.parameters_of gs inward ps ++ scopes.parameters_of gs outward ps) y) t
+      → or_type (found (variables gs prime ds) y) (or_type (found (variables gs no_ending ds) y) (or_type (found vs y) t))
+      ≡ or_type (found (variables gs no_ending ds ++ variables gs prime ds ++ scopes.parameters_of gs inward ps ++ scopes.parameters_of gs outward ps) y) t
   operation-reach y t =
       lists-in_order y t
-      ∙ sym (found-append (variables gs noEnding ds ++ variables gs prime ds ++ scopes.parameters_of gs inward ps) (scopes.parameters_of gs outward ps) y t
-      ∙ found-append (variables gs noEnding ds ++ variables gs prime ds) (scopes.parameters_of gs inward ps) y (or_type (found (scopes.parameters_of gs outward ps) y) t)
-      ∙ found-append (variables gs noEnding ds) (variables gs prime ds) y (or_type (found (scopes.parameters_of gs inward ps) y) (or_type (found (scopes.parameters_of gs outward ps) y) t)))
+      ∙ sym (found-append (variables gs no_ending ds ++ variables gs prime ds ++ scopes.parameters_of gs inward ps) (scopes.parameters_of gs outward ps) y t
+      ∙ found-append (variables gs no_ending ds ++ variables gs prime ds) (scopes.parameters_of gs inward ps) y (or_type (found (scopes.parameters_of gs outward ps) y) t)
+      ∙ found-append (variables gs no_ending ds) (variables gs prime ds) y (or_type (found (scopes.parameters_of gs inward ps) y) (or_type (found (scopes.parameters_of gs outward ps) y) t)))
 
 -- ---- tables ----
 
@@ -94,7 +94,7 @@ carried-letters {P} (one_carried {x = x} {xs = xs} c i p q e f g h) y k = on (sa
 
 module _ (ρ : Numbering) (P : Letters → Type 0) (ν : Numbered ρ P) {gs : List Given} (p : GivensIn P gs) (z : Sizes) (d : Sized gs z) where
   -- the title of an operation comes into use
-  pub title-named : {T : Names} (us : List Letters) → Base ρ P gs T us → (x : Letters) → P x → in_use us (plain x) ≡ false → Base ρ P gs (set T (number_of_name ρ x noEnding) 2) (x ∷ us)
+  pub title-named : {T : Names} (us : List Letters) → Base ρ P gs T us → (x : Letters) → P x → in_use us (plain x) ≡ false → Base ρ P gs (set T (number_of_name ρ x no_ending) 2) (x ∷ us)
   title-named us s x px e =
       let w = unused ρ P ν gs d.few s (plain x) px e in
       put ρ P ν gs s (plain x) px 2 (in_use (x ∷ us)) (element_type gs) (λ y h. (any-there (λ (n : Letters). same_name (plain n) y) x us h, refl))
@@ -130,14 +130,14 @@ module _ (ρ : Numbering) (P : Letters → Type 0) (ν : Numbered ρ P) {gs : Li
       pub reaching-sees : {X : Names}
           → Sees ρ P gs X (λ (y : Name). cond (has_name c.variables y) true (in_use us y)) (λ (y : Name). or_type (found c.variables y) (element_type gs y))
           → Sees ρ P gs (reaching ds X ρ)
-          (λ (y : Name). cond (has_name (variables gs prime ds) y) true (cond (has_typed (variables_of noEnding ds) y) true (cond (has_name c.variables y) true (in_use us y))))
-          (λ (y : Name). or_type (found (variables gs prime ds) y) (or_type (found (variables gs noEnding ds) y) (or_type (found c.variables y) (element_type gs y))))
+          (λ (y : Name). cond (has_name (variables gs prime ds) y) true (cond (has_typed (variables_of no_ending ds) y) true (cond (has_name c.variables y) true (in_use us y))))
+          (λ (y : Name). or_type (found (variables gs prime ds) y) (or_type (found (variables gs no_ending ds) y) (or_type (found c.variables y) (element_type gs y))))
       unfolding reaching
       reaching-sees {X} w =
-          rw (shown-primed ds (shown (variables_of noEnding ds) 0 X ρ) ρ)
+          rw (shown-primed ds (shown (variables_of no_ending ds) 0 X ρ) ρ)
           (sees-same ρ P ν gs
           (shown-sees ρ P ν gs z d primes.carried
-          (group-shown ρ P ν p z d g w (λ (y : Name). cond (has_typed (variables_of noEnding ds) y) true (cond (has_name c.variables y) true (in_use us y))) (λ y. refl)))
+          (group-shown ρ P ν p z d g w (λ (y : Name). cond (has_typed (variables_of no_ending ds) y) true (cond (has_name c.variables y) true (in_use us y))) (λ y. refl)))
           (λ y. (used-after (variables gs prime ds) _ y, after-found primes.fresh _ y)))
 
       prime-none : (y : Name) → has_typed (variables_of prime ds) y ≡ false → has_name (variables gs prime ds) y ≡ false
@@ -145,20 +145,20 @@ module _ (ρ : Numbering) (P : Letters → Type 0) (ν : Numbered ρ P) {gs : Li
 
       -- the plain names in use are those of before
       pub reaching-uses : (l : Letters)
-          → cond (has_name (variables gs prime ds) (plain l)) true (cond (has_typed (variables_of noEnding ds) (plain l)) true (cond (has_name c.variables (plain l)) true (in_use us (plain l))))
+          → cond (has_name (variables gs prime ds) (plain l)) true (cond (has_typed (variables_of no_ending ds) (plain l)) true (cond (has_name c.variables (plain l)) true (in_use us (plain l))))
           ≡ in_use us (plain l)
       reaching-uses l =
           let m = prime-none (plain l) (no_so (has_typed (variables_of prime ds) (plain l)) (λ h. omega (arith, variables-ending prime ds (plain l) h))) in
           let n : has_name c.variables (plain l) ≡ false
           = sym (carried-names c.carried (plain l)) ∙ no_so (has_typed (parameters_of ps) (plain l)) (λ h. omega (arith, parameters-ending ps (plain l) h)) in
-          ap₂ (λ (x y : Bool). cond x true (cond (has_typed (variables_of noEnding ds) (plain l)) true (cond y true (in_use us (plain l))))) m n
-          ∙ use-same (has_typed (variables_of noEnding ds) (plain l)) (in_use us (plain l)) (used (plain l))
+          ap₂ (λ (x y : Bool). cond x true (cond (has_typed (variables_of no_ending ds) (plain l)) true (cond y true (in_use us (plain l))))) m n
+          ∙ use-same (has_typed (variables_of no_ending ds) (plain l)) (in_use us (plain l)) (used (plain l))
 
-      plain-left : (y : Name) → has_typed (variables_of noEnding ds) y ≡ true
+      plain-left : (y : Name) → has_typed (variables_of no_ending ds) y ≡ true
           → (cond (has_name (variables gs prime ds) y) true (cond (has_name c.variables y) true (in_use us y)) ≡ true)
           × (or_type (found (variables gs prime ds) y) (or_type (found c.variables y) (element_type gs y)) ≡ none)
       plain-left y e =
-          let n = prime-none y (no_so (has_typed (variables_of prime ds) y) (λ h. omega (arith, variables-ending prime ds y h, variables-ending noEnding ds y e))) in
+          let n = prime-none y (no_so (has_typed (variables_of prime ds) y) (λ h. omega (arith, variables-ending prime ds y h, variables-ending no_ending ds y e))) in
           let f = found_none (variables gs prime ds) y n in
           let v = fresh-none c.fresh y (used y e) in
           let w = (g.away y e).1 in (
@@ -178,12 +178,12 @@ module _ (ρ : Numbering) (P : Letters → Type 0) (ν : Numbered ρ P) {gs : Li
       -- and go out of reach
       pub leaving-sees : {X : Names}
           → Sees ρ P gs X
-          (λ (y : Name). cond (has_name (variables gs prime ds) y) true (cond (has_typed (variables_of noEnding ds) y) true (cond (has_name c.variables y) true (in_use us y))))
-          (λ (y : Name). or_type (found (variables gs prime ds) y) (or_type (found (variables gs noEnding ds) y) (or_type (found c.variables y) (element_type gs y))))
+          (λ (y : Name). cond (has_name (variables gs prime ds) y) true (cond (has_typed (variables_of no_ending ds) y) true (cond (has_name c.variables y) true (in_use us y))))
+          (λ (y : Name). or_type (found (variables gs prime ds) y) (or_type (found (variables gs no_ending ds) y) (or_type (found c.variables y) (element_type gs y))))
           → Sees ρ P gs (leaving ds X ρ) (λ (y : Name). cond (has_name c.variables y) true (in_use us y)) (λ (y : Name). or_type (found c.variables y) (element_type gs y))
       unfolding leaving
       leaving-sees {X} w =
-          rw (hidden-primed ds 0 (hidden (variables_of noEnding ds) 0 2 X ρ) ρ)
+          rw (hidden-primed ds 0 (hidden (variables_of no_ending ds) 0 2 X ρ) ρ)
           (hidden-sees ρ P ν gs z d primes.carried 0
           (group-hidden ρ P ν p z d g w (λ (y : Name). cond (has_name (variables gs prime ds) y) true (cond (has_name c.variables y) true (in_use us y)))
           (λ (y : Name). or_type (found (variables gs prime ds) y) (or_type (found c.variables y) (element_type gs y)))

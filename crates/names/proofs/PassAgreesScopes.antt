@@ -7,7 +7,7 @@ use Prim.Native.Nat.{ℕ, zero, suc, ◌+◌, ◌<◌}
 use native.Mathlib.Omega.{arith}
 use lib.ListN.{length, get_or}
 use Rattle.lexical.specs.Lists.{same, any}
-use Rattle.lexical.specs.Symbols.{Name, noEnding}
+use Rattle.lexical.specs.Symbols.{Name, no_ending}
 use Rattle.form.specs.Tree.{Letters, Given, Declaration, declarations, State}
 use Rattle.form.specs.Codes.{Numbering, name_number}
 use Rattle.static_rules.specs.Carriers.{Variable, same_name, plain, given_of}
@@ -111,55 +111,55 @@ module _ (ρ : Numbering) (P : Letters → Type 0) (ν : Numbered ρ P) {gs : Li
 
   -- variables declared without faults, where the names xs are in use
   pub record Group (xs : List Letters) (ds : List Declaration) : Type 0 where
-    pub carried : Carried P gs (variables_of noEnding ds) (variables gs noEnding ds)
-    pub fresh : Fresh (in_use xs) (variables gs noEnding ds)
-    pub away : (y : Name) → has_typed (variables_of noEnding ds) y ≡ true → (given_of gs y ≡ none) × (element_type gs y ≡ none)
+    pub carried : Carried P gs (variables_of no_ending ds) (variables gs no_ending ds)
+    pub fresh : Fresh (in_use xs) (variables gs no_ending ds)
+    pub away : (y : Name) → has_typed (variables_of no_ending ds) y ≡ true → (given_of gs y ≡ none) × (element_type gs y ≡ none)
 
-  pub group : {T : Names} {xs : List Letters} → Base ρ P gs T xs → (ds : List Declaration) → TypedIn P (variables_of noEnding ds) → (i : ℕ) → declaration_faults gs xs i ds ≡ [] → Group xs ds
+  pub group : {T : Names} {xs : List Letters} → Base ρ P gs T xs → (ds : List Declaration) → TypedIn P (variables_of no_ending ds) → (i : ℕ) → declaration_faults gs xs i ds ≡ [] → Group xs ds
   group {T} {xs} s ds q i e =
       let c = clear gs q (in_use xs) (λ y py h. (unused ρ P ν gs d.few s y py h).0) i (sym (declarations-typed gs xs i ds (in_use xs) (λ l. sym (taken_is xs l))) ∙ e) in
-      let v = carried-variables gs noEnding ds c.carried in
+      let v = carried-variables gs no_ending ds c.carried in
       record {
-        carried = subst (Carried P gs (variables_of noEnding ds)) v c.carried;
+        carried = subst (Carried P gs (variables_of no_ending ds)) v c.carried;
         fresh = subst (Fresh (in_use xs)) v c.fresh;
         away = λ y h. unused ρ P ν gs d.few s y (typed-letters q y h) (fresh-unused c.fresh y (sym (carried-names c.carried y) ∙ h));
       }
 
   module _ {xs : List Letters} {ds : List Declaration} (g : Group xs ds) where
-    pub group-names : (y : Name) → has_typed (variables_of noEnding ds) y ≡ has_name (variables gs noEnding ds) y
+    pub group-names : (y : Name) → has_typed (variables_of no_ending ds) y ≡ has_name (variables gs no_ending ds) y
     group-names y = carried-names g.carried y
 
-    pub group-none : (y : Name) → has_typed (variables_of noEnding ds) y ≡ false → found (variables gs noEnding ds) y ≡ none
-    group-none y e = found_none (variables gs noEnding ds) y (sym (group-names y) ∙ e)
+    pub group-none : (y : Name) → has_typed (variables_of no_ending ds) y ≡ false → found (variables gs no_ending ds) y ≡ none
+    group-none y e = found_none (variables gs no_ending ds) y (sym (group-names y) ∙ e)
 
     -- the variables come into reach
     pub group-shown : {T : Names} {u : Name → Bool} {r : Name → Option Ty} → Sees ρ P gs T u r → (u' : Name → Bool)
-        → ((y : Name) → cond (has_typed (variables_of noEnding ds) y) true (u y) ≡ u' y)
-        → Sees ρ P gs (shown (variables_of noEnding ds) 0 T ρ) u' (λ (y : Name). or_type (found (variables gs noEnding ds) y) (r y))
+        → ((y : Name) → cond (has_typed (variables_of no_ending ds) y) true (u y) ≡ u' y)
+        → Sees ρ P gs (shown (variables_of no_ending ds) 0 T ρ) u' (λ (y : Name). or_type (found (variables gs no_ending ds) y) (r y))
     group-shown {T} {u} {r} s u' h =
         sees-same ρ P ν gs (shown-sees ρ P ν gs z d g.carried s)
-        (λ y. (used-after (variables gs noEnding ds) u y ∙ ap (λ (b : Bool). cond b true (u y)) (sym (group-names y)) ∙ h y, after-found g.fresh r y))
+        (λ y. (used-after (variables gs no_ending ds) u y ∙ ap (λ (b : Bool). cond b true (u y)) (sym (group-names y)) ∙ h y, after-found g.fresh r y))
 
     -- they go out of reach, and stay in use
     pub group-hidden : {T : Names} {u' : Name → Bool} {r' : Name → Option Ty} → Sees ρ P gs T u' r' → (u : Name → Bool) (r : Name → Option Ty)
-        → ((y : Name) → has_typed (variables_of noEnding ds) y ≡ false → (u' y ≡ u y) × (r' y ≡ r y))
-        → ((y : Name) → has_typed (variables_of noEnding ds) y ≡ true → (u y ≡ true) × (r y ≡ none)) → Sees ρ P gs (hidden (variables_of noEnding ds) 0 2 T ρ) u r
+        → ((y : Name) → has_typed (variables_of no_ending ds) y ≡ false → (u' y ≡ u y) × (r' y ≡ r y))
+        → ((y : Name) → has_typed (variables_of no_ending ds) y ≡ true → (u y ≡ true) × (r y ≡ none)) → Sees ρ P gs (hidden (variables_of no_ending ds) 0 2 T ρ) u r
     group-hidden s u r h k =
         hidden-sees ρ P ν gs z d g.carried 2 s h (λ y e. used-sits gs u r y (k y e).0 (k y e).1 (g.away y e).0)
 
   -- ---- a state ----
 
   module _ {T : Names} (xs : List Letters) (s : Base ρ P gs T xs) (st : State) where
-    names-join : (y : Name) → cond (has_typed (variables_of noEnding (declarations st)) y) true (in_use xs y) ≡ in_use (state_names st ++ xs) y
+    names-join : (y : Name) → cond (has_typed (variables_of no_ending (declarations st)) y) true (in_use xs y) ≡ in_use (state_names st ++ xs) y
     names-join y =
         ap (λ (b : Bool). cond b true (in_use xs y)) (typed-use (declarations st) y) ∙ sym (any_append (λ (x : Letters). same_name (plain x) y) (state_names st) xs)
 
-    names_in : (y : Name) → has_typed (variables_of noEnding (declarations st)) y ≡ true → in_use (state_names st ++ xs) y ≡ true
+    names_in : (y : Name) → has_typed (variables_of no_ending (declarations st)) y ≡ true → in_use (state_names st ++ xs) y ≡ true
     names_in y e = use-left (state_names st) xs y (sym (typed-use (declarations st) y) ∙ e)
 
     pub state-shown : Group xs (declarations st)
-        → Sees ρ P gs (shown (variables_of noEnding (declarations st)) 0 T ρ) (in_use (state_names st ++ xs))
-        (λ (y : Name). or_type (found (variables gs noEnding (declarations st)) y) (element_type gs y))
+        → Sees ρ P gs (shown (variables_of no_ending (declarations st)) 0 T ρ) (in_use (state_names st ++ xs))
+        (λ (y : Name). or_type (found (variables gs no_ending (declarations st)) y) (element_type gs y))
     state-shown g = group-shown g s (in_use (state_names st ++ xs)) names-join
 
     pub state-named : Group xs (declarations st) → Base ρ P gs (state_named st T ρ) (state_names st ++ xs)
@@ -168,17 +168,17 @@ module _ (ρ : Numbering) (P : Letters → Type 0) (ν : Numbered ρ P) {gs : Li
         group-hidden g (state-shown g) (in_use (state_names st ++ xs)) (element_type gs)
         (λ y e. (refl, ap (λ (o : Option Variable). or_type o (element_type gs y)) (group-none g y e))) (λ y e. (names_in y e, (g.away y e).1))
 
-    pub state-least : TitlesIn gs xs → TypedIn P (variables_of noEnding (declarations st)) → PredIn P st.predicate → (i : ℕ)
+    pub state-least : TitlesIn gs xs → TypedIn P (variables_of no_ending (declarations st)) → PredIn P st.predicate → (i : ℕ)
         → state_key st T ρ z i
         ≡ least_key (declaration_faults gs xs (suc i) (declarations st)
-        ++ (judge_pred st.predicate (scope gs (state_names st ++ xs) (variables gs noEnding (declarations st))) (predicate_at i st)).faults)
+        ++ (judge_pred st.predicate (scope gs (state_names st ++ xs) (variables gs no_ending (declarations st))) (predicate_at i st)).faults)
     unfolding state_key
     state-least t q r i =
         let e = declarations-typed gs xs (suc i) (declarations st) (in_use xs) (λ l. sym (taken_is xs l)) in
-        behind _ _ (subst (Within (suc i) (suc i + typed_width (variables_of noEnding (declarations st)))) (sym e) (typed-within gs (in_use xs) (suc i) (variables_of noEnding (declarations st))))
-        (pred-within st.predicate (scope gs (state_names st ++ xs) (variables gs noEnding (declarations st))) (predicate_at i st))
+        behind _ _ (subst (Within (suc i) (suc i + typed_width (variables_of no_ending (declarations st)))) (sym e) (typed-within gs (in_use xs) (suc i) (variables_of no_ending (declarations st))))
+        (pred-within st.predicate (scope gs (state_names st ++ xs) (variables gs no_ending (declarations st))) (predicate_at i st))
         (omega (arith, declarations-length 0 (declarations st) []))
         (declared-least ρ P ν gs z d q s (suc i) ∙ ap least_key (sym e))
-        (λ n. (judged-pred ρ P ν st.predicate (scope gs (state_names st ++ xs) (variables gs noEnding (declarations st))) _ z
-        (shows (state-shown (group s (declarations st) q (suc i) n)) (state_names st ++ xs) (variables gs noEnding (declarations st)) (titles-more gs (state_names st) xs t)
+        (λ n. (judged-pred ρ P ν st.predicate (scope gs (state_names st ++ xs) (variables gs no_ending (declarations st))) _ z
+        (shows (state-shown (group s (declarations st) q (suc i) n)) (state_names st ++ xs) (variables gs no_ending (declarations st)) (titles-more gs (state_names st) xs t)
         (λ l. refl) (λ y. refl)) r (predicate_at i st)).0)

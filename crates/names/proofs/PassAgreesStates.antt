@@ -8,8 +8,8 @@ use native.Mathlib.Omega.{arith}
 use lib.ListN.{length}
 use Rattle.lexical.specs.Kinds as kind
 use Rattle.lexical.specs.Lists.{same, any, find}
-use Rattle.lexical.specs.Symbols.{Name, Ending, noEnding}
-use Rattle.lexical.specs.Refusals.{Fault, fault, unless, nameInUse}
+use Rattle.lexical.specs.Symbols.{Name, Ending, no_ending}
+use Rattle.lexical.specs.Refusals.{Fault, fault, unless, name_in_use}
 use Rattle.form.specs.Tree.{Letters, Given, Declaration}
 use Rattle.form.specs.Written.{Written, bare, write_declarations}
 use Rattle.form.specs.Codes.{type_width}
@@ -36,14 +36,14 @@ more-taken x xs u h l =
     on false = h l
 
 pub declarations-typed : (gs : List Given) (xs : List Letters) (i : ℕ) (ds : List Declaration) (u : Name → Bool) → ((l : Letters) → u (plain l) ≡ is_taken xs l)
-    → declaration_faults gs xs i ds ≡ typed_faults gs u i (variables_of noEnding ds)
+    → declaration_faults gs xs i ds ≡ typed_faults gs u i (variables_of no_ending ds)
 unfolding declaration_faults typed_faults variables_of new_name type_width
 declarations-typed gs xs i [] u h = refl
 declarations-typed gs xs i (d ∷ ds) u h =
-    ap₂ (λ (b : Bool) (fs : List Fault). unless (not b) (fault i nameInUse) ++ type_faults gs d.type (i + 2) ++ fs) (sym (h d.declared))
+    ap₂ (λ (b : Bool) (fs : List Fault). unless (not b) (fault i name_in_use) ++ type_faults gs d.type (i + 2) ++ fs) (sym (h d.declared))
     (declarations-typed gs (d.declared ∷ xs) (i + 3 + type_width d.type) ds (use_of (plain d.declared) u) (more-taken d.declared xs u h))
 
-pub declarations-length : (n : ℕ) (ds : List Declaration) (w : List Written) → length (write_declarations n ds w) ≡ typed_width (variables_of noEnding ds) + length w
+pub declarations-length : (n : ℕ) (ds : List Declaration) (w : List Written) → length (write_declarations n ds w) ≡ typed_width (variables_of no_ending ds) + length w
 unfolding write_declarations typed_width variables_of
 declarations-length n [] w = omega arith
 declarations-length n (d ∷ ds) w =
@@ -52,7 +52,7 @@ declarations-length n (d ∷ ds) w =
 abbrev pub names_of : List Declaration → List Letters
 names_of ds = map (λ (d : Declaration). d.declared) ds
 
-pub typed-use : (ds : List Declaration) (y : Name) → has_typed (variables_of noEnding ds) y ≡ in_use (names_of ds) y
+pub typed-use : (ds : List Declaration) (y : Name) → has_typed (variables_of no_ending ds) y ≡ in_use (names_of ds) y
 unfolding variables_of any
 typed-use [] y = refl
 typed-use (d ∷ ds) y = ap (λ (b : Bool). elim (same_name (plain d.declared) y) as (λ (c : Bool). Bool) [ true ↦ true | false ↦ b ]) (typed-use ds y)

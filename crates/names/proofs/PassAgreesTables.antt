@@ -10,7 +10,7 @@ use lib.ListN.{length, set, length-set}
 use lib.Seq.{get_or-set_same, get_or-set_other}
 use borrow.Author.Tests.{eqb-true, eq-eqb}
 use Rattle.lexical.specs.Lists.{same}
-use Rattle.lexical.specs.Symbols.{Name, Ending, noEnding, prime, query, shriek}
+use Rattle.lexical.specs.Symbols.{Name, Ending, no_ending, prime, query, shriek}
 use Rattle.lexical.proofs.WordLaws.{same_refl, same_true}
 use Rattle.form.specs.Tree.{Letters, Given}
 use Rattle.form.specs.Codes.{Numbering, ending_number, number_of_name, name_number}
@@ -23,14 +23,14 @@ use Rattle.names.proofs.TypesAgreeTypes.{no-yes, code-positive}
 -- ---- names ----
 
 unended : ℕ → Ending
-unended zero = noEnding
+unended zero = no_ending
 unended (suc zero) = prime
 unended (suc (suc zero)) = query
 unended (suc (suc (suc n))) = shriek
 
 unended-is : (e : Ending) → unended (ending_code e) ≡ e
 unfolding unended
-unended-is noEnding = refl
+unended-is no_ending = refl
 unended-is prime = refl
 unended-is query = refl
 unended-is shriek = refl
@@ -53,7 +53,7 @@ name-refl x =
     ∙ same_refl x.letters
 
 ending-number : (e : Ending) → (ending_number e ≡ ending_code e) × (ending_code e < 4)
-ending-number noEnding = (refl, omega arith)
+ending-number no_ending = (refl, omega arith)
 ending-number prime = (refl, omega arith)
 ending-number query = (refl, omega arith)
 ending-number shriek = (refl, omega arith)

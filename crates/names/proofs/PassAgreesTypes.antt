@@ -7,8 +7,8 @@ use Prim.Native.Nat.{ℕ, suc, ◌+◌, ◌≤◌, ◌<◌}
 use native.Mathlib.Omega.{arith}
 use lib.ListN.{length, get_or}
 use Rattle.lexical.specs.Symbols.{Name}
-use Rattle.lexical.specs.Refusals.{fault, nameUnknown}
-use Rattle.form.specs.Tree.{Letters, Given, Arrow, TypeForm, givenType, powerType, range_type, arrow_type}
+use Rattle.lexical.specs.Refusals.{fault, name_unknown}
+use Rattle.form.specs.Tree.{Letters, Given, Arrow, TypeForm, given_type, power_type, range_type, arrow_type}
 use Rattle.form.specs.Written.{write_type}
 use Rattle.form.specs.Codes.{Numbering, name_number, type_width}
 use Rattle.form.proofs.Lengths.{range_length}
@@ -30,8 +30,8 @@ use Rattle.names.proofs.PassAgreesTables.{Sees}
 
 -- all letters of a declared type are the text's
 abbrev pub TypeIn : (Letters → Type 0) → TypeForm → Type 0
-TypeIn P (givenType g) = P g.letters
-TypeIn P (powerType g) = P g.letters
+TypeIn P (given_type g) = P g.letters
+TypeIn P (power_type g) = P g.letters
 TypeIn P (range_type r) = RangeIn r
 TypeIn P (arrow_type a g h) = P g.letters × P h.letters
 
@@ -39,8 +39,8 @@ TypeIn P (arrow_type a g h) = P g.letters × P h.letters
 
 pub type-within : (gs : List Given) (t : TypeForm) (i : ℕ) → Within i (i + type_width t) (type_faults gs t i)
 unfolding write_type type_width type_faults
-type-within gs (givenType g) i = within-known (given_of gs g) i (omega arith) (omega arith)
-type-within gs (powerType g) i = within-known (given_of gs g) (suc i) (omega arith) (omega arith)
+type-within gs (given_type g) i = within-known (given_of gs g) i (omega arith) (omega arith)
+type-within gs (power_type g) i = within-known (given_of gs g) (suc i) (omega arith) (omega arith)
 type-within gs (range_type r) i = within-range r i (omega arith) (omega (arith, range_length r []))
 type-within gs (arrow_type a g h) i =
     within-append (within-append (within-known (given_of gs g) i (omega arith) (omega arith)) (within-known (given_of gs h) (i + 2) (omega arith) (omega arith)))
@@ -49,11 +49,11 @@ type-within gs (arrow_type a g h) i =
 -- ---- carriers ----
 
 module _ (gs : List Given) where
-  given-carrier : (g : Name) (x : Given) → given_of gs g ≡ some x → carrier_of gs (givenType g) ≡ some (elements_of x)
+  given-carrier : (g : Name) (x : Given) → given_of gs g ≡ some x → carrier_of gs (given_type g) ≡ some (elements_of x)
   unfolding carrier_of
   given-carrier g x e = rw (carrier_of, e)
 
-  power-carrier : (g : Name) (x : Given) → given_of gs g ≡ some x → carrier_of gs (powerType g) ≡ some (subsets_of x)
+  power-carrier : (g : Name) (x : Given) → given_of gs g ≡ some x → carrier_of gs (power_type g) ≡ some (subsets_of x)
   unfolding carrier_of
   power-carrier g x e = rw (carrier_of, e)
 
@@ -67,13 +67,13 @@ module _ (gs : List Given) where
     pub carries : carrier_of gs t ≡ some carrier
 
   known-given : (o : Option Given) (i : ℕ) → known o i ≡ [] → (x : Given) × (o ≡ some x)
-  known-given none i e = not_nil (fault i nameUnknown) [] e
+  known-given none i e = not_nil (fault i name_unknown) [] e
   known-given (some x) i e = (x, refl)
 
   pub type-carries : (t : TypeForm) (i : ℕ) → type_faults gs t i ≡ [] → Carries t
   unfolding type_faults carrier_of
-  type-carries (givenType g) i e = let x = known-given (given_of gs g) i e in record { carrier = elements_of x.0; carries = given-carrier g x.0 x.1 }
-  type-carries (powerType g) i e = let x = known-given (given_of gs g) (suc i) e in record { carrier = subsets_of x.0; carries = power-carrier g x.0 x.1 }
+  type-carries (given_type g) i e = let x = known-given (given_of gs g) i e in record { carrier = elements_of x.0; carries = given-carrier g x.0 x.1 }
+  type-carries (power_type g) i e = let x = known-given (given_of gs g) (suc i) e in record { carrier = subsets_of x.0; carries = power-carrier g x.0 x.1 }
   type-carries (range_type r) i e = record { carrier = range_carrier r; carries = refl }
   type-carries (arrow_type a g h) i e =
       let l = append_nil-both (known (given_of gs g) i ++ known (given_of gs h) (i + 2)) (pairs_fault (given_of gs g) (given_of gs h) (suc i)) e in
@@ -108,8 +108,8 @@ module _ (ρ : Numbering) (P : Letters → Type 0) (gs : List Given) (z : Sizes)
 
   pub type-least : (t : TypeForm) → TypeIn P t → (i : ℕ) → type_key t T ρ z i ≡ least_key (type_faults gs t i)
   unfolding type_key type_faults domain_key
-  type-least (givenType g) h i = known-least gs z i (a-view g h).1
-  type-least (powerType g) h i =
+  type-least (given_type g) h i = known-least gs z i (a-view g h).1
+  type-least (power_type g) h i =
       let e : i + 1 ≡ suc i = omega arith in
       ap (λ (j : ℕ). unless_key (is_given (entry T (name_number ρ g))) (key j 9)) e ∙ known-least gs z (suc i) (a-view g h).1
   type-least (range_type q) h i = range-least q i h
@@ -129,12 +129,12 @@ module _ (ρ : Numbering) (P : Letters → Type 0) (gs : List Given) (z : Sizes)
   -- the number of a declared type, whose given sets there are
   pub type-kind : (t : TypeForm) → TypeIn P t → (i : ℕ) → type_faults gs t i ≡ [] → (c : Carrier) → carrier_of gs t ≡ some c → TypeIs gs (some (type_of c)) (type_kind t T ρ)
   unfolding type_kind type_faults carrier_of
-  type-kind (givenType g) p i e c f =
+  type-kind (given_type g) p i e c f =
       let x = known-given gs (given_of gs g) i e in
-      kind-of (givenType g) (elements_of x.0) c _ (given-carrier gs g x.0 x.1) f (element-type-is gs z i (given-view g x.0 x.1 p) refl)
-  type-kind (powerType g) p i e c f =
+      kind-of (given_type g) (elements_of x.0) c _ (given-carrier gs g x.0 x.1) f (element-type-is gs z i (given-view g x.0 x.1 p) refl)
+  type-kind (power_type g) p i e c f =
       let x = known-given gs (given_of gs g) (suc i) e in
-      kind-of (powerType g) (subsets_of x.0) c _ (power-carrier gs g x.0 x.1) f (set-over gs z d.few i (given-view g x.0 x.1 p) refl)
+      kind-of (power_type g) (subsets_of x.0) c _ (power-carrier gs g x.0 x.1) f (set-over gs z d.few i (given-view g x.0 x.1 p) refl)
   type-kind (range_type q) p i e c f = kind-of (range_type q) (range_carrier q) c _ refl f (refl, known_number)
   type-kind (arrow_type a g h) p i e c f =
       let l = append_nil-both (known (given_of gs g) i ++ known (given_of gs h) (i + 2)) (pairs_fault (given_of gs g) (given_of gs h) (suc i)) e in

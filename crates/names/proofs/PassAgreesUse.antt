@@ -8,7 +8,7 @@ use native.Mathlib.Omega.{arith}
 use borrow.Author.Tests.{not-true}
 use Rattle.lexical.specs.Lists.{same, any, find}
 use Rattle.lexical.specs.Symbols.{Name}
-use Rattle.lexical.specs.Refusals.{fault, nameInUse}
+use Rattle.lexical.specs.Refusals.{fault, name_in_use}
 use Rattle.lexical.proofs.WordLaws.{same_refl, same_true}
 use Rattle.form.specs.Tree.{Letters, Given, elements}
 use Rattle.form.specs.Headings.{given_length}
@@ -73,7 +73,7 @@ use-there x xs y e = on (same_name (plain x) y)
 -- a new name is not in use
 pub new_unused : (xs : List Letters) (x : Letters) (i : ℕ) → new_name xs x i ≡ [] → in_use xs (plain x) ≡ false
 unfolding new_name
-new_unused xs x i e = sym (taken_is xs x) ∙ not-true (is_taken xs x) (unless-nil (not (is_taken xs x)) (fault i nameInUse) e)
+new_unused xs x i e = sym (taken_is xs x) ∙ not-true (is_taken xs x) (unless-nil (not (is_taken xs x)) (fault i name_in_use) e)
 
 new_other : (xs : List Letters) (x : Letters) (i : ℕ) → new_name xs x i ≡ [] → (y : Name) → in_use xs y ≡ true → same_name (plain x) y ≡ false
 new_other xs x i e y h = on (same_name (plain x) y) refl

@@ -7,7 +7,7 @@ use native.Mathlib.Omega.{arith}
 use Rattle.form.specs.Headings.{ainit_at, cinit_at, retrieve_at}
 use lib.ListN.{length, take, drop, get_or, length-drop, length-append}
 use lib.Seq.{get_or-drop, drop-drop, drop_at, take_at, take-length, take_all}
-use Rattle.lexical.specs.Symbols.{noEnding}
+use Rattle.lexical.specs.Symbols.{no_ending}
 use Rattle.form.specs.Tree.{Declaration, declarations, Parameter, Pred, State, Dossier}
 use Rattle.form.specs.Written.{ending_of}
 use Rattle.form.specs.Codes.{Numbering, node, pred_codes, type_width, declaration_codes, parameter_codes, condition_codes, state_codes}
@@ -18,10 +18,10 @@ use Rattle.type_rules.specs.declared.Seen.{Seen}
 use Rattle.declared_names.proofs.DeclarationNodes.{node-a, typed-eight, inside-none, inside-some}
 
 -- the nodes of variables and of parameters are those of their names with their types
-pub variables-codes : (i : ℕ) (ds : List Declaration) (ρ : Numbering) → typed_codes i (variables_of noEnding ds) ρ ≡ declaration_codes i ds ρ
+pub variables-codes : (i : ℕ) (ds : List Declaration) (ρ : Numbering) → typed_codes i (variables_of no_ending ds) ρ ≡ declaration_codes i ds ρ
 unfolding typed_codes variables_of declaration_codes
 variables-codes i [] ρ = refl
-variables-codes i (d ∷ ds) ρ = ap (λ (l : List ℕ). typed_code i (record { called = record { letters = d.declared; ending = noEnding }; type = d.type }) ρ ++ l) (variables-codes (i + 3 + type_width d.type) ds ρ)
+variables-codes i (d ∷ ds) ρ = ap (λ (l : List ℕ). typed_code i (record { called = record { letters = d.declared; ending = no_ending }; type = d.type }) ρ ++ l) (variables-codes (i + 3 + type_width d.type) ds ρ)
 
 pub parameters-codes : (i : ℕ) (xs : List Parameter) (ρ : Numbering) → typed_codes i (parameters_of xs) ρ ≡ parameter_codes i xs ρ
 unfolding typed_codes parameters_of parameter_codes
@@ -164,7 +164,7 @@ unfolding condition_codes
 no-declaration i p ρ e = omega arith
 
 abbrev variables_in : State → List Typed
-variables_in s = variables_of noEnding (declarations s)
+variables_in s = variables_of no_ending (declarations s)
 
 -- the two parts of a state: its variables, and its predicate
 module _ (code rest vs cs : List ℕ) (n : ℕ) (end : DeclaredEnd rest n) (rest-is : rest ≡ drop 4 code) (vs-is : vs ≡ take n rest) (cs-is : cs ≡ drop n rest) where

@@ -8,7 +8,7 @@ use lib.Dec.{eqb}
 use Rattle.form.specs.Headings.{operation_length}
 use lib.ListN.{length, take, drop, get_or, set, length-drop, length-append}
 use lib.Seq.{drop-drop}
-use Rattle.lexical.specs.Symbols.{noEnding}
+use Rattle.lexical.specs.Symbols.{no_ending}
 use Rattle.form.specs.Tree.{Declaration, Pred, Operation}
 use Rattle.form.specs.Codes.{Numbering, node, number_of_name, pred_width, abstractly_at, parameter_codes, condition_codes, operation_codes}
 use Rattle.type_rules.specs.TypesByNumber.{Names, Sizes, entry, is_free, key, unless_key, pred_key, inside_key}
@@ -21,14 +21,14 @@ use Rattle.names.proofs.PassSteps.{variables-codes, parameters-codes, front, bac
 pub reaching-seen : (vs : List ℕ) (T T₁ U : Names) → ShownSeen vs 0 T T₁ → ShownSeen vs 1 T₁ U → ReachingSeen vs T U
 unfolding reaching
 reaching-seen vs T T₁ U a b ds i ρ e =
-    let e' : vs ≡ typed_codes i (variables_of noEnding ds) ρ = e ∙ sym (variables-codes i ds ρ) in
-    b (variables_of noEnding ds) i ρ e' ∙ ap (λ (t : Names). shown (variables_of noEnding ds) 1 t ρ) (a (variables_of noEnding ds) i ρ e')
+    let e' : vs ≡ typed_codes i (variables_of no_ending ds) ρ = e ∙ sym (variables-codes i ds ρ) in
+    b (variables_of no_ending ds) i ρ e' ∙ ap (λ (t : Names). shown (variables_of no_ending ds) 1 t ρ) (a (variables_of no_ending ds) i ρ e')
 
 pub leaving-seen : (vs : List ℕ) (T T₁ U : Names) → HiddenSeen vs 0 2 T T₁ → HiddenSeen vs 1 0 T₁ U → LeavingSeen vs T U
 unfolding leaving
 leaving-seen vs T T₁ U a b ds i ρ e =
-    let e' : vs ≡ typed_codes i (variables_of noEnding ds) ρ = e ∙ sym (variables-codes i ds ρ) in
-    b (variables_of noEnding ds) i ρ e' ∙ ap (λ (t : Names). hidden (variables_of noEnding ds) 1 0 t ρ) (a (variables_of noEnding ds) i ρ e')
+    let e' : vs ≡ typed_codes i (variables_of no_ending ds) ρ = e ∙ sym (variables-codes i ds ρ) in
+    b (variables_of no_ending ds) i ρ e' ∙ ap (λ (t : Names). hidden (variables_of no_ending ds) 1 0 t ρ) (a (variables_of no_ending ds) i ρ e')
 
 pub side-seen : (code vs : List ℕ) (T T₁ T₂ U : Names) (z : Sizes) (r : ℕ) → ReachingSeen vs T T₁ → ConditionSeen code T₁ T₂ z r → LeavingSeen vs T₂ U → SideSeen code vs T U z r
 side-seen code vs T T₁ T₂ U z r a c b =
@@ -109,7 +109,7 @@ operation-end code rest at d p r h rest-is de pe re =
           let l₂ : p ≡ at + 4 + d + length a = pe.right o.abstractly (abstractly_at i o) ρ (c ++ more) e₂ in
           let e₃ : drop p code ≡ c ++ more = ap (λ (n : ℕ). drop n code) l₂ ∙ (sym (drop-drop (length a) (at + 4 + d) code) ∙ back (drop (at + 4 + d) code) (length a) a (c ++ more) e₂ refl) in
           let l₃ : r ≡ p + length c = re.right o.concretely (suc (abstractly_at i o) + pred_width o.abstractly) ρ more e₃ in
-          let n₁ = length-append (node 8 i (number_of_name ρ o.title noEnding) 0) (parameter_codes (i + 2) o.parameters ρ ++ (a ++ c)) in
+          let n₁ = length-append (node 8 i (number_of_name ρ o.title no_ending) 0) (parameter_codes (i + 2) o.parameters ρ ++ (a ++ c)) in
           let n₂ = length-append (parameter_codes (i + 2) o.parameters ρ) (a ++ c) in
           let n₃ = length-append a c in
           let n₄ = ap (λ (l : List ℕ). length l) (parameters-codes (i + 2) o.parameters ρ) in
@@ -123,10 +123,10 @@ operation-end code rest at d p r h rest-is de pe re =
 module _ (code A C : List ℕ) (T : Names) (z : Sizes) (x old w f : ℕ) (x-is : x ≡ get_or code 1 0) (old-is : old ≡ entry T x) (w-is : w ≡ get_or code 2 0)
     (f-is : f ≡ unless_key (eqb old 0) (key (w + 1) 8)) where
   module _ (o : Operation) (i : ℕ) (ρ : Numbering) (e : code ≡ operation_code i o ρ) where
-    title-number : x ≡ number_of_name ρ o.title noEnding
+    title-number : x ≡ number_of_name ρ o.title no_ending
     title-number = x-is ∙ ap (λ (l : List ℕ). get_or l 1 0) e
 
-    title-fault : f ≡ unless_key (is_free (entry T (number_of_name ρ o.title noEnding))) (key (i + 1) 8)
+    title-fault : f ≡ unless_key (is_free (entry T (number_of_name ρ o.title no_ending))) (key (i + 1) 8)
     unfolding is_free
     title-fault =
         f-is
@@ -139,7 +139,7 @@ module _ (code A C : List ℕ) (T : Names) (z : Sizes) (x old w f : ℕ) (x-is :
         right =
             λ o i av cv ρ e v.
             let d = title-fault o i ρ e in
-            d ∙ sym (inside-some (unless_key (is_free (entry T (number_of_name ρ o.title noEnding))) (key (i + 1) 8)) (inside_key (declared_key (parameters_in o) (title_named o T ρ) ρ z (i + 2)) (inside_key (pred_key o.abstractly (reaching av (parameters_shown o T ρ) ρ) ρ z (abstractly_at i o)) (pred_key o.concretely (reaching cv (leaving av (reaching av (parameters_shown o T ρ) ρ) ρ) ρ) ρ z (suc (abstractly_at i o) + pred_width o.abstractly)))) (λ q. not (d ∙ q)));
+            d ∙ sym (inside-some (unless_key (is_free (entry T (number_of_name ρ o.title no_ending))) (key (i + 1) 8)) (inside_key (declared_key (parameters_in o) (title_named o T ρ) ρ z (i + 2)) (inside_key (pred_key o.abstractly (reaching av (parameters_shown o T ρ) ρ) ρ z (abstractly_at i o)) (pred_key o.concretely (reaching cv (leaving av (reaching av (parameters_shown o T ρ) ρ) ρ) ρ) ρ z (suc (abstractly_at i o) + pred_width o.abstractly)))) (λ q. not (d ∙ q)));
         named = λ o i av cv ρ e v q. elim (not q) [ ];
       }
 
@@ -167,7 +167,7 @@ module _ (code A C : List ℕ) (T : Names) (z : Sizes) (x old w f : ℕ) (x-is :
       declared-names : g ≡ 0 → T₂ ≡ parameters_shown o T ρ
       declared-names q = declared.named (parameters_in o) (i + 2) ρ operation-front q ∙ ap (λ (t : Names). shown (parameters_in o) 0 t ρ) named-title
 
-      no-title-fault : unless_key (is_free (entry T (number_of_name ρ o.title noEnding))) (key (i + 1) 8) ≡ 0
+      no-title-fault : unless_key (is_free (entry T (number_of_name ρ o.title no_ending))) (key (i + 1) 8) ≡ 0
       no-title-fault = sym (title-fault o i ρ e) ∙ f-none
 
     abbrev both_keys : Operation → ℕ → List Declaration → List Declaration → Numbering → Names → ℕ
@@ -184,7 +184,7 @@ module _ (code A C : List ℕ) (T : Names) (z : Sizes) (x old w f : ℕ) (x-is :
               let P = both_keys o i av cv ρ (parameters_shown o T ρ) in
               d
               ∙ (sym (inside-some D P (λ q. not (d ∙ q)))
-              ∙ sym (inside-none (unless_key (is_free (entry T (number_of_name ρ o.title noEnding))) (key (i + 1) 8)) (inside_key D P) (no-title-fault o i ρ e)));
+              ∙ sym (inside-none (unless_key (is_free (entry T (number_of_name ρ o.title no_ending))) (key (i + 1) 8)) (inside_key D P) (no-title-fault o i ρ e)));
           named = λ o i av cv ρ e v q. elim (not q) [ ];
         }
 
@@ -199,7 +199,7 @@ module _ (code A C : List ℕ) (T : Names) (z : Sizes) (x old w f : ℕ) (x-is :
               seen.right o.abstractly o.concretely (abstractly_at i o) (suc (abstractly_at i o) + pred_width o.abstractly) av cv ρ (operation-back o i ρ e) v
               ∙ (ap (λ (t : Names). both_keys o i av cv ρ t) (declared-names o i ρ e none)
               ∙ (sym (inside-none D P (sym (declared-fault o i ρ e) ∙ none))
-              ∙ sym (inside-none (unless_key (is_free (entry T (number_of_name ρ o.title noEnding))) (key (i + 1) 8)) (inside_key D P) (no-title-fault o i ρ e))));
+              ∙ sym (inside-none (unless_key (is_free (entry T (number_of_name ρ o.title no_ending))) (key (i + 1) 8)) (inside_key D P) (no-title-fault o i ρ e))));
           named =
               λ o i av cv ρ e v q.
               hid (parameters_in o) (i + 2) ρ (operation-front o i ρ e)
@@ -214,7 +214,7 @@ operation-short code A C T U z r h =
   where
     never : (o : Operation) (i : ℕ) (ρ : Numbering) → code ≡ operation_code i o ρ → ⊥
     never o i ρ e =
-        let l : length code ≡ 4 + length (parameter_codes (i + 2) o.parameters ρ ++ (abstract_codes i o ρ ++ concrete_codes i o ρ)) = ap (λ (c : List ℕ). length c) e ∙ length-append (node 8 i (number_of_name ρ o.title noEnding) 0) (parameter_codes (i + 2) o.parameters ρ ++ (abstract_codes i o ρ ++ concrete_codes i o ρ)) in
+        let l : length code ≡ 4 + length (parameter_codes (i + 2) o.parameters ρ ++ (abstract_codes i o ρ ++ concrete_codes i o ρ)) = ap (λ (c : List ℕ). length c) e ∙ length-append (node 8 i (number_of_name ρ o.title no_ending) 0) (parameter_codes (i + 2) o.parameters ρ ++ (abstract_codes i o ρ ++ concrete_codes i o ρ)) in
         omega arith
 
 four-first : (a b : List ℕ) → length a ≡ 4 → 4 ≤ length (a ++ b)
@@ -238,7 +238,7 @@ onward-start code A C T z os i av cv ρ e v = record { left = os; place = i; her
 first-operation : (o : Operation) (os : List Operation) (i : ℕ) (ρ : Numbering) → operation_codes i (o ∷ os) ρ ≡ operation_code i o ρ ++ operation_codes (i + operation_length o) os ρ
 unfolding operation_codes
 first-operation o os i ρ =
-    let n = node 8 i (number_of_name ρ o.title noEnding) 0 in
+    let n = node 8 i (number_of_name ρ o.title no_ending) 0 in
     let p = parameter_codes (i + 2) o.parameters ρ in
     let a = abstract_codes i o ρ in
     let c = concrete_codes i o ρ in
@@ -305,7 +305,7 @@ onward-end code at U z av cv ρ v h (o ∷ os) j e s = elim (long (length (opera
     all = sym (length-drop at code) ∙ ap (λ (l : List ℕ). length l) (e ∙ first-operation o os j ρ)
 
     more : 4 ≤ length (operation_code j o ρ ++ operation_codes (j + operation_length o) os ρ)
-    more = four-first (node 8 j (number_of_name ρ o.title noEnding) 0) ((parameter_codes (j + 2) o.parameters ρ ++ (abstract_codes j o ρ ++ concrete_codes j o ρ)) ++ operation_codes (j + operation_length o) os ρ) refl
+    more = four-first (node 8 j (number_of_name ρ o.title no_ending) 0) ((parameter_codes (j + 2) o.parameters ρ ++ (abstract_codes j o ρ ++ concrete_codes j o ρ)) ++ operation_codes (j + operation_length o) os ρ) refl
 
 pub operations-on : (code A C part : List ℕ) (at n : ℕ) (T U U' : Names) (z : Sizes) (f : ℕ) → at + 4 ≤ length code → OperationEnd code at n → part ≡ take (n - at) (drop at code)
     → OperationSeen part A C U U' z f → f ≡ 0 → OperationsOn code A C at T U z → OperationsOn code A C n T U' z

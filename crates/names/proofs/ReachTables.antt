@@ -6,7 +6,7 @@ use mathlib.Core.Option.{Option, none, some}
 use Prim.Native.Nat.{ℕ, suc, ◌+◌, ◌*◌, ◌≤◌, ◌<◌}
 use lib.ListN.{length, get_or}
 use Rattle.lexical.specs.Lists.{same, any}
-use Rattle.lexical.specs.Symbols.{Name, noEnding}
+use Rattle.lexical.specs.Symbols.{Name, no_ending}
 use Rattle.form.specs.Tree.{Letters, Given, Range, Domain, given_set, range}
 use Rattle.form.specs.Tree.{Term, number, name, group, prefix, binary, divided, listed, pairs, such, empty_set, empty_pairs, Items, only, also, Pairs, only_pair, also_pair}
 use Rattle.form.specs.Tree.{Pred, truth, falsity, negation, paren, quantified, connected, compared, member, within, related}
@@ -67,7 +67,7 @@ pub record Shows (ρ : Numbering) (P : Letters → Type 0) (Γ : Scope) (T : Nam
   pub sizes : (k : ℕ) → k < length Γ.givens → get_or z k 0 ≡ get_or (map size_of Γ.givens) k 0
   pub spelt : (k : ℕ) → k < length Γ.givens → P (get_or (map (λ (g : Given). g.title) Γ.givens) k [])
   pub titles : (x : Letters) → is_taken Γ.taken x ≡ false → titled Γ.givens x ≡ false
-  pub uses : (x : Letters) → P x → is_free (entry T (number_of_name ρ x noEnding)) ≡ not (is_taken Γ.taken x)
+  pub uses : (x : Letters) → P x → is_free (entry T (number_of_name ρ x no_ending)) ≡ not (is_taken Γ.taken x)
   pub givens : (x : Name) → P x.letters → GivenIs Γ.givens (given_of Γ.givens x) (entry T (name_number ρ x))
   pub typed : (x : Name) → P x.letters → TypeIs Γ.givens (type_of_name Γ x) (entry T (name_number ρ x))
 

@@ -3,7 +3,7 @@
 use mathlib.Core.Path.{◌≡◌}
 use mathlib.Core.List.{[]}
 use Prim.Native.Nat.{ℕ, ◌+◌}
-use Rattle.lexical.specs.Symbols.{noEnding}
+use Rattle.lexical.specs.Symbols.{no_ending}
 use Rattle.form.specs.Tree.{Letters, given_set}
 use Rattle.form.specs.Tree.{Term, number, name, group, prefix, binary, divided, listed, pairs, such, empty_set, empty_pairs, Items, only, also, Pairs, only_pair, also_pair}
 use Rattle.form.specs.Tree.{Pred, truth, falsity, negation, paren, quantified, connected, compared, member, within, related}
@@ -31,7 +31,7 @@ module _ (ρ : Numbering) (P : Letters → Type 0) (ν : Numbered ρ P) (z : Siz
     term-holds (pairs ts) Γ T s h = term.pairs-holds ρ P ν z Γ T s ts (pairs-hold ts Γ T s h)
     term-holds (such x g p) Γ T s h =
         term.such-holds ρ P ν z Γ T s x g p h.0 h.1
-        (λ w. pred-holds p (binding Γ x (domain_carrier Γ (given_set g))) (bound T (number_of_name ρ x noEnding) (domain_kind (given_set g) T ρ)) w h.2)
+        (λ w. pred-holds p (binding Γ x (domain_carrier Γ (given_set g))) (bound T (number_of_name ρ x no_ending) (domain_kind (given_set g) T ρ)) w h.2)
     term-holds (empty_set g) Γ T s h = term.empty-set-holds ρ P ν z Γ T s g h
     term-holds (empty_pairs g k) Γ T s h = term.empty-pairs-holds ρ P ν z Γ T s g k h.0 h.1
 
@@ -51,7 +51,7 @@ module _ (ρ : Numbering) (P : Letters → Type 0) (ν : Numbered ρ P) (z : Siz
     pred-holds (paren p) Γ T s h = pred.paren-holds ρ P ν z Γ T s p (pred-holds p Γ T s h)
     pred-holds (quantified q x t p) Γ T s h =
         pred.quantified-holds ρ P ν z Γ T s q x t p h.0 h.1
-        (λ w. pred-holds p (binding Γ x (domain_carrier Γ t)) (bound T (number_of_name ρ x noEnding) (domain_kind t T ρ)) w h.2)
+        (λ w. pred-holds p (binding Γ x (domain_carrier Γ t)) (bound T (number_of_name ρ x no_ending) (domain_kind t T ρ)) w h.2)
     pred-holds (connected o p q) Γ T s h = pred.connected-holds ρ P ν z Γ T s o p q (pred-holds p Γ T s h.0) (pred-holds q Γ T s h.1)
     pred-holds (compared o t u) Γ T s h = pred.compared-holds ρ P ν z Γ T s o t u (term-holds t Γ T s h.0) (term-holds u Γ T s h.1)
     pred-holds (member o t u) Γ T s h = pred.member-holds ρ P ν z Γ T s o t u (term-holds t Γ T s h.0) (term-holds u Γ T s h.1)

@@ -8,8 +8,8 @@ use native.Mathlib.Omega.{arith}
 use lib.Dec.{leb}
 use lib.IntN.{pos}
 use borrow.Author.Tests.{le-leb, lt-ltb, not-true}
-use Rattle.lexical.specs.Symbols.{Name, noEnding}
-use Rattle.lexical.specs.Refusals.{Fault, fault, number_of, nameInUse, nameUnknown, typesMisfit, wideType}
+use Rattle.lexical.specs.Symbols.{Name, no_ending}
+use Rattle.lexical.specs.Refusals.{Fault, fault, number_of, name_in_use, name_unknown, types_misfit, wide_type}
 use Rattle.form.specs.Tree.{Letters, Given, Domain, given_set, range}
 use Rattle.form.specs.Codes.{Numbering, name_number, number_of_name}
 use Rattle.static_rules.specs.Carriers.{Carrier, elements_of, size_of, plain, given_of}
@@ -51,13 +51,13 @@ module _ (gs : List Given) (z : Sizes) where
   -- 9, at a name that must be a given set's
   pub known-least : {l : Letters} {o : Option Given} {k : ℕ} (i : ℕ) → View gs z l o k → unless_key (is_given k) (key i 9) ≡ least_key (known o i)
   unfolding number_of
-  known-least {k = k} i (no_given h) = ap (λ (b : Bool). unless_key b (key i 9)) h ∙ one-fault i nameUnknown
+  known-least {k = k} i (no_given h) = ap (λ (b : Bool). unless_key b (key i 9)) h ∙ one-fault i name_unknown
   known-least {k = k} i (one_given g c t h s e) = ap (λ (b : Bool). unless_key b (key i 9)) (given_yes k (index_of gs g.title) h e) ∙ sym least-nil
 
   product-least : (g h : Given) (m n i : ℕ) → size_in z m ≡ size_of g → size_in z n ≡ size_of h → unless_key (product_fits z m n) (key i 11) ≡ least_key (pairs_fault (some g) (some h) i)
   unfolding product_fits pairs_fault number_of
   product-least g h m n i p q =
-      ap₂ (λ (a b : ℕ). unless_key (leb (a * b) 16) (key i 11)) p q ∙ unless-least (leb (size_of g * size_of h) 16) i wideType
+      ap₂ (λ (a b : ℕ). unless_key (leb (a * b) 16) (key i 11)) p q ∙ unless-least (leb (size_of g * size_of h) 16) i wide_type
 
   -- 11, of pairs over two names
   pub over-least : {l m : Letters} {o p : Option Given} {j k : ℕ} (i : ℕ) → View gs z l o j → View gs z m p k → over_key z j k i ≡ least_key (pairs_fault o p i)
@@ -100,25 +100,25 @@ module _ (ρ : Numbering) (P : Letters → Type 0) (Γ : Scope) (T : Names) (z :
   domain-type (range r) h i e = (refl, known_number)
 
 module _ (ρ : Numbering) (P : Letters → Type 0) (ν : Numbered ρ P) (Γ : Scope) (T : Names) (z : Sizes) (s : Shows ρ P Γ T z) (x : Letters) (px : P x) (d : Domain) (pd : DomainIn P d) where
-  new-least : (i : ℕ) → unless_key (is_free (entry T (number_of_name ρ x noEnding))) (key i 8) ≡ least_key (new_name Γ.taken x i)
+  new-least : (i : ℕ) → unless_key (is_free (entry T (number_of_name ρ x no_ending))) (key i 8) ≡ least_key (new_name Γ.taken x i)
   unfolding new_name number_of
-  new-least i = ap (λ (b : Bool). unless_key b (key i 8)) (s.uses x px) ∙ unless-least (not (is_taken Γ.taken x)) i nameInUse
+  new-least i = ap (λ (b : Bool). unless_key b (key i 8)) (s.uses x px) ∙ unless-least (not (is_taken Γ.taken x)) i name_in_use
 
   new-free : (i : ℕ) → new_name Γ.taken x i ≡ [] → is_taken Γ.taken x ≡ false
   unfolding new_name
-  new-free i e = not-true (is_taken Γ.taken x) (unless-nil (not (is_taken Γ.taken x)) (fault i nameInUse) e)
+  new-free i e = not-true (is_taken Γ.taken x) (unless-nil (not (is_taken Γ.taken x)) (fault i name_in_use) e)
 
   -- the scope that a binder without faults makes
   pub bound-shows : (i j : ℕ) → (new_name Γ.taken x i ++ domain_faults Γ d j) ≡ []
-      → Shows ρ P (binding Γ x (domain_carrier Γ d)) (bound T (number_of_name ρ x noEnding) (domain_kind d T ρ)) z
+      → Shows ρ P (binding Γ x (domain_carrier Γ d)) (bound T (number_of_name ρ x no_ending) (domain_kind d T ρ)) z
   bound-shows i j e =
       let h = append_nil-both (new_name Γ.taken x i) (domain_faults Γ d j) e in
       binding-shows ρ P ν Γ T z s x px (new-free i h.0) (domain_carrier Γ d) (domain_kind d T ρ) (domain-type ρ P Γ T z s d pd j h.1)
 
   -- a binder, and what stands in its reach
   pub binder-least : (i j : ℕ) (body : List Fault) (n : ℕ)
-      → (Shows ρ P (binding Γ x (domain_carrier Γ d)) (bound T (number_of_name ρ x noEnding) (domain_kind d T ρ)) z → n ≡ least_key body)
-      → inside_key (lesser (unless_key (is_free (entry T (number_of_name ρ x noEnding))) (key i 8)) (domain_key d T ρ j)) n
+      → (Shows ρ P (binding Γ x (domain_carrier Γ d)) (bound T (number_of_name ρ x no_ending) (domain_kind d T ρ)) z → n ≡ least_key body)
+      → inside_key (lesser (unless_key (is_free (entry T (number_of_name ρ x no_ending))) (key i 8)) (domain_key d T ρ j)) n
       ≡ least_key (inside (new_name Γ.taken x i ++ domain_faults Γ d j) body)
   binder-least i j body n f =
       inside-least _ n (new_name Γ.taken x i ++ domain_faults Γ d j) body
@@ -135,9 +135,9 @@ judged-inside gs l i = on l.faults
     on [] = refl
     on (x ∷ xs) = refl
 
-misfit-key : (z : Sizes) (k i : ℕ) → k ≡ 0 → brace_key z k i ≡ least_key (fault i typesMisfit ∷ [])
+misfit-key : (z : Sizes) (k i : ℕ) → k ≡ 0 → brace_key z k i ≡ least_key (fault i types_misfit ∷ [])
 unfolding brace_key is_pairs number_of
-misfit-key z k i e = ap (λ (n : ℕ). brace_key z n i) e ∙ one-fault i typesMisfit
+misfit-key z k i e = ap (λ (n : ℕ). brace_key z n i) e ∙ one-fault i types_misfit
 
 brace-key : (z : Sizes) (k g h i : ℕ) → h < 8 → k ≡ 64 + 8 * g + h → brace_key z k i ≡ unless_key (product_fits z g h) (key i 11)
 unfolding brace_key is_pairs
@@ -167,6 +167,6 @@ module _ (ρ : Numbering) (P : Letters → Type 0) (Γ : Scope) (T : Names) (z :
   unfolding whole_pairs
   brace-least ts k i w = on (pairs_fit ts) refl
     where
-      on : (b : Bool) → pairs_fit ts ≡ b → brace_key z k i ≡ least_key (cond b (over_fault Γ.givens (pairs_type ts).over i) (fault i typesMisfit ∷ []))
+      on : (b : Bool) → pairs_fit ts ≡ b → brace_key z k i ≡ least_key (cond b (over_fault Γ.givens (pairs_type ts).over i) (fault i types_misfit ∷ []))
       on true e = pairs-fit-least ts k i (pairs-type Γ.givens s.few w e)
       on false e = misfit-key z k i (pairs-misfit Γ.givens s.few w e)

@@ -7,7 +7,7 @@ use Prim.Native.Nat.{ℕ, suc, ◌+◌, ◌≤◌}
 use native.Mathlib.Omega.{arith}
 use lib.Dec.{ltb}
 use lib.ListN.{length}
-use Rattle.lexical.specs.Refusals.{fault, number_of, nameUnknown, typesMisfit, zeroDivisor}
+use Rattle.lexical.specs.Refusals.{fault, number_of, name_unknown, types_misfit, zero_divisor}
 use Rattle.form.specs.Tree.{Letters, Given, End, Term, Items, Pairs, Pred}
 use Rattle.form.specs.Codes.{Numbering, sign_of, term_width, pred_width}
 use Rattle.static_rules.specs.Types as ty
@@ -58,7 +58,7 @@ pred-next p Γ i = omega (arith, (pred-steady p Γ i).next, pred-width p)
 pub divisor-least : (e : End) (m n : ℕ) → m ≡ n → unless_key (ltb 0 e.magnitude) (key (n + 1 + sign_of e.negative) 14) ≡ least_key (divisor_faults e (suc m))
 unfolding divisor_faults number_of
 divisor-least e m n h =
-    ap (λ (j : ℕ). unless_key (ltb 0 e.magnitude) (key j 14)) (place e.negative) ∙ unless-least (ltb 0 e.magnitude) (suc m + cond e.negative 1 0) zeroDivisor
+    ap (λ (j : ℕ). unless_key (ltb 0 e.magnitude) (key j 14)) (place e.negative) ∙ unless-least (ltb 0 e.magnitude) (suc m + cond e.negative 1 0) zero_divisor
   where
     place : (b : Bool) → n + 1 + sign_of b ≡ suc m + cond b 1 0
     place true = omega arith
@@ -69,13 +69,13 @@ pub whole-pairs-fit : (gs : List Given) (ts : List (Ty × Ty)) (i : ℕ) → who
 unfolding whole_pairs
 whole-pairs-fit gs ts i e = on (pairs_fit ts) e
   where
-    on : (b : Bool) → cond b (over_fault gs (pairs_type ts).over i) (fault i typesMisfit ∷ []) ≡ [] → b ≡ true
+    on : (b : Bool) → cond b (over_fault gs (pairs_type ts).over i) (fault i types_misfit ∷ []) ≡ [] → b ≡ true
     on true h = refl
-    on false h = not_nil (fault i typesMisfit) [] h
+    on false h = not_nil (fault i types_misfit) [] h
 
 pub name-is : (gs : List Given) → length gs ≤ 8 → (o : Option Ty) (k i : ℕ) → TypeIs gs o k → TermIs gs (of_name o i) k (unless_key (in_reach k) (key i 9))
 unfolding number_of
-name-is gs few none k i w = record { least = ap (λ (b : Bool). unless_key b (key i 9)) w ∙ one-fault i nameUnknown; typed = λ e. not_nil (fault i nameUnknown) [] e }
+name-is gs few none k i w = record { least = ap (λ (b : Bool). unless_key b (key i 9)) w ∙ one-fault i name_unknown; typed = λ e. not_nil (fault i name_unknown) [] e }
 name-is gs few (some t) k i w =
     record { least = ap (λ (b : Bool). unless_key b (key i 9)) (ap in_reach w.0 ∙ code-in-reach gs few w.1) ∙ sym least-nil; typed = λ e. w }
 
@@ -86,14 +86,14 @@ element-sort x = refl
 -- the sets over a given set, and the pairs over two
 pub set-over : (gs : List Given) (z : Sizes) → length gs ≤ 8 → {l : Letters} {o : Option Given} {k : ℕ} (i : ℕ) → View gs z l o k → known o i ≡ []
     → TypeIs gs (some (ty.set_of (type_of (bound_over o)))) (set_of (element_of k))
-set-over gs z few i (no_given h) e = not_nil (fault i nameUnknown) [] e
+set-over gs z few i (no_given h) e = not_nil (fault i name_unknown) [] e
 set-over gs z few {k = k} i (one_given g c t h s q) e =
     let w = set-type gs few (known_element t) (element-sort g.title) in (ap set_of (element-is k (index_of gs g.title) h q) ∙ w.0, w.1)
 
 pub pairs-over : (gs : List Given) (z : Sizes) → length gs ≤ 8 → {l m : Letters} {o p : Option Given} {j k : ℕ} (i n : ℕ) → View gs z l o j → View gs z m p k
     → known o i ≡ [] → known p n ≡ [] → TypeIs gs (some (record { sort = ty.is_pairs; over = l ∷ m ∷ [] })) (pair_of (element_of j) (element_of k))
-pairs-over gs z few i n (no_given h) v d e = not_nil (fault i nameUnknown) [] d
-pairs-over gs z few i n (one_given g c t h s q) (no_given r) d e = not_nil (fault n nameUnknown) [] e
+pairs-over gs z few i n (no_given h) v d e = not_nil (fault i name_unknown) [] d
+pairs-over gs z few i n (one_given g c t h s q) (no_given r) d e = not_nil (fault n name_unknown) [] e
 pairs-over gs z few {j = j} {k = k} i n (one_given g c t h s q) (one_given g' c' t' h' s' q') d e =
     subst₂ (λ (x y : Letters). TypeIs gs (some (record { sort = ty.is_pairs; over = x ∷ y ∷ [] })) (pair_of (element_of j) (element_of k))) c c'
     (ap₂ pair_of (element-is j (index_of gs g.title) h q) (element-is k (index_of gs g'.title) h' q') ∙ pair-of gs few g.title g'.title t t', known_pairs t t')

@@ -3,8 +3,8 @@ use mathlib.Core.Path.{◌≡◌, ap, ap₂, ◌∙◌, sym}
 use mathlib.Core.List.{List, ◌++◌}
 use Prim.Native.Nat.{ℕ, suc, ◌+◌}
 use native.Mathlib.Omega.{arith}
-use Rattle.lexical.specs.Symbols.{noEnding}
-use Rattle.lexical.specs.Refusals.{Fault, number_of, typesMisfit}
+use Rattle.lexical.specs.Symbols.{no_ending}
+use Rattle.lexical.specs.Refusals.{Fault, number_of, types_misfit}
 use Rattle.form.specs.Tree.{Letters, Range, Domain, range, Connective, Quantifier, Comparison, Membership, Term, Pred, truth, falsity, negation, paren, quantified, connected, compared, member, within, related}
 use Rattle.form.specs.Codes.{Numbering, number_of_name, term_width, domain_width}
 use Rattle.static_rules.specs.Types as ty
@@ -66,7 +66,7 @@ module _ (ρ : Numbering) (P : Letters → Type 0) (ν : Numbered ρ P) (z : Siz
       let m : ℕ = suc (judge_term u Γ j).next in
       let xs : List Fault = (judge_term t Γ i).faults ++ (judge_term u Γ j).faults in
       whole-least (inner.related_fits (term_kind t T ρ) (term_kind u T ρ) (term_kind v T ρ)) (ty.related_fits (judge_term t Γ i).type (judge_term u Γ j).type (judge_term v Γ m).type)
-      (suc (i + term_width t) + term_width u) (judge_term u Γ j).next typesMisfit
+      (suc (i + term_width t) + term_width u) (judge_term u Γ j).next types_misfit
       (lesser (lesser (term_key t T ρ z i) (term_key u T ρ z (suc (i + term_width t)))) (term_key v T ρ z (suc (suc (i + term_width t) + term_width u)))) (xs ++ (judge_term v Γ m).faults)
       (two-parts (small-append (term-steady t Γ i).small (term-steady u Γ j).small) (term-steady v Γ m).small (two-least ρ z Γ T t u a b i)
       (ap (λ (n : ℕ). term_key v T ρ z (suc n)) (sym (third_at ρ z Γ T t u i)) ∙ (c m).least))
@@ -76,13 +76,13 @@ module _ (ρ : Numbering) (P : Letters → Type 0) (ν : Numbered ρ P) (z : Siz
       ap₂ (λ (k l : ℕ). inner.related_fits k l (term_kind v T ρ)) d.0 f.0 ∙ ap (inner.related_fits _ _) g.0 ∙ related-fits Γ.givens s.few d.1 f.1 g.1)
 
   pub quantified-holds : (q : Quantifier) (x : Letters) (t : Domain) (p : Pred) → P x → DomainIn P t
-      → (Shows ρ P (binding Γ x (domain_carrier Γ t)) (bound T (number_of_name ρ x noEnding) (domain_kind t T ρ)) z
-      → PredHolds ρ z (binding Γ x (domain_carrier Γ t)) (bound T (number_of_name ρ x noEnding) (domain_kind t T ρ)) p)
+      → (Shows ρ P (binding Γ x (domain_carrier Γ t)) (bound T (number_of_name ρ x no_ending) (domain_kind t T ρ)) z
+      → PredHolds ρ z (binding Γ x (domain_carrier Γ t)) (bound T (number_of_name ρ x no_ending) (domain_kind t T ρ)) p)
       → PredHolds ρ z Γ T (quantified q x t p)
   unfolding judge_pred pred_key
   quantified-holds q x t p px pt f i =
       let j : ℕ = suc (i + 4 + domain_length t) in
       binder-least ρ P ν Γ T z s x px t pt (i + 2) (i + 4) (judge_pred p (binding Γ x (domain_carrier Γ t)) j).faults
-      (pred_key p (bound T (number_of_name ρ x noEnding) (domain_kind t T ρ)) ρ z (i + 5 + domain_width t))
+      (pred_key p (bound T (number_of_name ρ x no_ending) (domain_kind t T ρ)) ρ z (i + 5 + domain_width t))
       (λ w. let e : i + 5 + domain_width t ≡ j = omega (arith, domain-width t) in
-      ap (pred_key p (bound T (number_of_name ρ x noEnding) (domain_kind t T ρ)) ρ z) e ∙ f w j)
+      ap (pred_key p (bound T (number_of_name ρ x no_ending) (domain_kind t T ρ)) ρ z) e ∙ f w j)

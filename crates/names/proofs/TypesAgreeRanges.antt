@@ -12,7 +12,7 @@ use Rattle.form.specs.Codes.{end_number, end_width}
 use Rattle.static_rules.specs.Carriers.{signed, end_value}
 use Rattle.static_rules.specs.Names as names
 use Rattle.static_rules.specs.Names.{range_faults}
-use Rattle.lexical.specs.Refusals.{number_of, wideType}
+use Rattle.lexical.specs.Refusals.{number_of, wide_type}
 use Rattle.type_rules.specs.TypesByNumber.{range_fits, key, unless_key, least_key}
 use Rattle.names.proofs.ReachTables.{RangeIn}
 use Rattle.names.proofs.TypesAgreeLeast.{unless-least}
@@ -61,4 +61,4 @@ pub range-least : (r : Range) (i : ℕ) → RangeIn r → unless_key (range_fits
 unfolding range_faults number_of
 range-least r i h =
     ap (λ (b : Bool). unless_key b (key (i + end_width r.lower) 11)) (fits-stand (end-stands r.lower.negative r.lower.magnitude h.0) (end-stands r.upper.negative r.upper.magnitude h.1))
-    ∙ unless-least (names.range_fits (end_value r.lower) (end_value r.upper)) (i + end_width r.lower) wideType
+    ∙ unless-least (names.range_fits (end_value r.lower) (end_value r.upper)) (i + end_width r.lower) wide_type

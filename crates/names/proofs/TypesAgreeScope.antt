@@ -9,7 +9,7 @@ use lib.ListN.{get_or, set, length-set}
 use lib.Seq.{get_or-set_same, get_or-set_other}
 use borrow.Author.Tests.{ne_eqb}
 use Rattle.lexical.specs.Lists.{same, any, find}
-use Rattle.lexical.specs.Symbols.{Name, Ending, noEnding, prime, query, shriek}
+use Rattle.lexical.specs.Symbols.{Name, Ending, no_ending, prime, query, shriek}
 use Rattle.lexical.proofs.WordLaws.{same_refl, same_true}
 use Rattle.form.specs.Tree.{Letters, Given}
 use Rattle.form.specs.Codes.{Numbering, number_of_name, name_number}
@@ -101,7 +101,7 @@ unfolding same_name
 found gs x g e = on x.ending e
   where
     on : (d : Ending) → given_of gs (record { letters = x.letters; ending = d }) ≡ some g → Found gs (record { letters = x.letters; ending = d }) g
-    on noEnding h = found_plain gs x.letters g h
+    on no_ending h = found_plain gs x.letters g h
     on prime h = none-some (sym (ended gs x.letters prime (λ t. refl)) ∙ h)
     on query h = none-some (sym (ended gs x.letters query (λ t. refl)) ∙ h)
     on shriek h = none-some (sym (ended gs x.letters shriek (λ t. refl)) ∙ h)
@@ -153,46 +153,46 @@ turned x y e = on (same x y) refl
 module _ (ρ : Numbering) (P : Letters → Type 0) (ν : Numbered ρ P) (Γ : Scope) (T : Names) (z : Sizes) (s : Shows ρ P Γ T z)
     (x : Letters) (px : P x) (new : is_taken Γ.taken x ≡ false) (c : Carrier) (k : ℕ) (w : TypeIs Γ.givens (some (type_of c)) k) where
   -- a name other than the bound one
-  other : (y : Name) → (name_number ρ y ≡ number_of_name ρ x noEnding → ⊥) → entry (set T (number_of_name ρ x noEnding) k) (name_number ρ y) ≡ entry T (name_number ρ y)
-  other y h = get_or-set_other T (number_of_name ρ x noEnding) (name_number ρ y) k 0 h
+  other : (y : Name) → (name_number ρ y ≡ number_of_name ρ x no_ending → ⊥) → entry (set T (number_of_name ρ x no_ending) k) (name_number ρ y) ≡ entry T (name_number ρ y)
+  other y h = get_or-set_other T (number_of_name ρ x no_ending) (name_number ρ y) k 0 h
 
-  this : entry (set T (number_of_name ρ x noEnding) k) (number_of_name ρ x noEnding) ≡ k
+  this : entry (set T (number_of_name ρ x no_ending) k) (number_of_name ρ x no_ending) ≡ k
   unfolding number_of_name
-  this = get_or-set_same T (number_of_name ρ x noEnding) k 0 (omega (arith, ν.small x px, s.long))
+  this = get_or-set_same T (number_of_name ρ x no_ending) k 0 (omega (arith, ν.small x px, s.long))
 
   binding-uses : (y : Letters) → P y
-      → is_free (entry (set T (number_of_name ρ x noEnding) k) (number_of_name ρ y noEnding)) ≡ not (is_taken (x ∷ Γ.taken) y)
+      → is_free (entry (set T (number_of_name ρ x no_ending) k) (number_of_name ρ y no_ending)) ≡ not (is_taken (x ∷ Γ.taken) y)
   unfolding is_taken is_free number_of_name
   binding-uses y py = on (same y x) refl
     where
-      on : (b : Bool) → same y x ≡ b → is_free (entry (set T (number_of_name ρ x noEnding) k) (number_of_name ρ y noEnding)) ≡ not (is_taken (x ∷ Γ.taken) y)
+      on : (b : Bool) → same y x ≡ b → is_free (entry (set T (number_of_name ρ x no_ending) k) (number_of_name ρ y no_ending)) ≡ not (is_taken (x ∷ Γ.taken) y)
       on true e =
-          ap (λ (l : Letters). is_free (entry (set T (number_of_name ρ x noEnding) k) (number_of_name ρ l noEnding))) (same_true y x e) ∙ ap is_free this
+          ap (λ (l : Letters). is_free (entry (set T (number_of_name ρ x no_ending) k) (number_of_name ρ l no_ending))) (same_true y x e) ∙ ap is_free this
           ∙ ne_eqb k 0 (omega (arith, code-positive Γ.givens s.few w.1, w.0)) ∙ sym (ap not (any_here (same y) x Γ.taken e))
       on false e =
           ap is_free (other (plain y) (λ q. apart ρ P ν x y px py e (omega arith))) ∙ s.uses y py ∙ sym (ap not (any-there (same y) x Γ.taken e))
 
   -- a name with another number is what it was
-  other-given : (y : Name) → P y.letters → (name_number ρ y ≡ number_of_name ρ x noEnding → ⊥)
-      → GivenIs Γ.givens (given_of Γ.givens y) (entry (set T (number_of_name ρ x noEnding) k) (name_number ρ y))
+  other-given : (y : Name) → P y.letters → (name_number ρ y ≡ number_of_name ρ x no_ending → ⊥)
+      → GivenIs Γ.givens (given_of Γ.givens y) (entry (set T (number_of_name ρ x no_ending) k) (name_number ρ y))
   other-given y py h = subst (GivenIs Γ.givens (given_of Γ.givens y)) (sym (other y h)) (s.givens y py)
 
-  this-given : GivenIs Γ.givens (given_of Γ.givens (plain x)) (entry (set T (number_of_name ρ x noEnding) k) (number_of_name ρ x noEnding))
+  this-given : GivenIs Γ.givens (given_of Γ.givens (plain x)) (entry (set T (number_of_name ρ x no_ending) k) (number_of_name ρ x no_ending))
   this-given =
-      subst (λ (o : Option Given). GivenIs Γ.givens o (entry (set T (number_of_name ρ x noEnding) k) (number_of_name ρ x noEnding)))
+      subst (λ (o : Option Given). GivenIs Γ.givens o (entry (set T (number_of_name ρ x no_ending) k) (number_of_name ρ x no_ending)))
       (sym (untitled Γ.givens x (s.titles x new))) (ap is_given (this ∙ w.0) ∙ code-not-given Γ.givens s.few w.1)
 
-  binding-givens : (y : Name) → P y.letters → GivenIs Γ.givens (given_of Γ.givens y) (entry (set T (number_of_name ρ x noEnding) k) (name_number ρ y))
+  binding-givens : (y : Name) → P y.letters → GivenIs Γ.givens (given_of Γ.givens y) (entry (set T (number_of_name ρ x no_ending) k) (name_number ρ y))
   unfolding number_of_name
   binding-givens y py = on y.ending (same y.letters x) refl
     where
       on : (e : Ending) (b : Bool) → same y.letters x ≡ b
           → GivenIs Γ.givens (given_of Γ.givens (record { letters = y.letters; ending = e }))
-          (entry (set T (number_of_name ρ x noEnding) k) (number_of_name ρ y.letters e))
-      on noEnding true q =
-          subst (λ (l : Letters). GivenIs Γ.givens (given_of Γ.givens (plain l)) (entry (set T (number_of_name ρ x noEnding) k) (number_of_name ρ l noEnding)))
+          (entry (set T (number_of_name ρ x no_ending) k) (number_of_name ρ y.letters e))
+      on no_ending true q =
+          subst (λ (l : Letters). GivenIs Γ.givens (given_of Γ.givens (plain l)) (entry (set T (number_of_name ρ x no_ending) k) (number_of_name ρ l no_ending)))
           (sym (same_true y.letters x q)) this-given
-      on noEnding false q = other-given (plain y.letters) py (λ e. apart ρ P ν x y.letters px py q (omega arith))
+      on no_ending false q = other-given (plain y.letters) py (λ e. apart ρ P ν x y.letters px py q (omega arith))
       on prime b q = other-given (record { letters = y.letters; ending = prime }) py (omega arith)
       on query b q = other-given (record { letters = y.letters; ending = query }) py (omega arith)
       on shriek b q = other-given (record { letters = y.letters; ending = shriek }) py (omega arith)
@@ -208,25 +208,25 @@ module _ (ρ : Numbering) (P : Letters → Type 0) (ν : Numbered ρ P) (Γ : Sc
   unfolding type_of_name variable
   typed-there y e = rw (find-there (λ (v : Variable). same_name v.called y) variable Γ.reach e)
 
-  other-typed : (y : Name) → P y.letters → same_name (plain x) y ≡ false → (name_number ρ y ≡ number_of_name ρ x noEnding → ⊥)
-      → TypeIs Γ.givens (type_of_name (binding Γ x c) y) (entry (set T (number_of_name ρ x noEnding) k) (name_number ρ y))
+  other-typed : (y : Name) → P y.letters → same_name (plain x) y ≡ false → (name_number ρ y ≡ number_of_name ρ x no_ending → ⊥)
+      → TypeIs Γ.givens (type_of_name (binding Γ x c) y) (entry (set T (number_of_name ρ x no_ending) k) (name_number ρ y))
   other-typed y py e h = rw (typed-there y e, other y h) (s.typed y py)
 
-  this-typed : TypeIs Γ.givens (type_of_name (binding Γ x c) (plain x)) (entry (set T (number_of_name ρ x noEnding) k) (number_of_name ρ x noEnding))
+  this-typed : TypeIs Γ.givens (type_of_name (binding Γ x c) (plain x)) (entry (set T (number_of_name ρ x no_ending) k) (number_of_name ρ x no_ending))
   unfolding same_name
   this-typed = rw (typed-here (plain x) (same_refl x), this) w
 
-  binding-typed : (y : Name) → P y.letters → TypeIs Γ.givens (type_of_name (binding Γ x c) y) (entry (set T (number_of_name ρ x noEnding) k) (name_number ρ y))
+  binding-typed : (y : Name) → P y.letters → TypeIs Γ.givens (type_of_name (binding Γ x c) y) (entry (set T (number_of_name ρ x no_ending) k) (name_number ρ y))
   unfolding number_of_name same_name
   binding-typed y py = on y.ending (same y.letters x) refl
     where
       on : (e : Ending) (b : Bool) → same y.letters x ≡ b
           → TypeIs Γ.givens (type_of_name (binding Γ x c) (record { letters = y.letters; ending = e }))
-          (entry (set T (number_of_name ρ x noEnding) k) (number_of_name ρ y.letters e))
-      on noEnding true q =
-          subst (λ (l : Letters). TypeIs Γ.givens (type_of_name (binding Γ x c) (plain l)) (entry (set T (number_of_name ρ x noEnding) k) (number_of_name ρ l noEnding)))
+          (entry (set T (number_of_name ρ x no_ending) k) (number_of_name ρ y.letters e))
+      on no_ending true q =
+          subst (λ (l : Letters). TypeIs Γ.givens (type_of_name (binding Γ x c) (plain l)) (entry (set T (number_of_name ρ x no_ending) k) (number_of_name ρ l no_ending)))
           (sym (same_true y.letters x q)) this-typed
-      on noEnding false q = other-typed (plain y.letters) py (turned x y.letters q) (λ e. apart ρ P ν x y.letters px py q (omega arith))
+      on no_ending false q = other-typed (plain y.letters) py (turned x y.letters q) (λ e. apart ρ P ν x y.letters px py q (omega arith))
       on prime b q = other-typed (record { letters = y.letters; ending = prime }) py refl (omega arith)
       on query b q = other-typed (record { letters = y.letters; ending = query }) py refl (omega arith)
       on shriek b q = other-typed (record { letters = y.letters; ending = shriek }) py refl (omega arith)
@@ -240,10 +240,10 @@ module _ (ρ : Numbering) (P : Letters → Type 0) (ν : Numbered ρ P) (Γ : Sc
       on false e = s.titles y (sym (any-there (same y) x Γ.taken e) ∙ h)
 
   -- the scope inside a binder is shown by the table with the bound name in it
-  pub binding-shows : Shows ρ P (binding Γ x c) (set T (number_of_name ρ x noEnding) k) z
+  pub binding-shows : Shows ρ P (binding Γ x c) (set T (number_of_name ρ x no_ending) k) z
   binding-shows =
       record {
-        long = omega (arith, length-set T (number_of_name ρ x noEnding) k, s.long);
+        long = omega (arith, length-set T (number_of_name ρ x no_ending) k, s.long);
         few = s.few;
         sizes = s.sizes;
         spelt = s.spelt;

@@ -8,8 +8,8 @@ use native.Mathlib.Omega.{arith}
 use native.Mathlib.Numerals.{add-one}
 use lib.Dec.{ltb}
 use lib.ListN.{length}
-use Rattle.lexical.specs.Symbols.{Name, noEnding}
-use Rattle.lexical.specs.Refusals.{Fault, fault, number_of, typesMisfit}
+use Rattle.lexical.specs.Symbols.{Name, no_ending}
+use Rattle.lexical.specs.Refusals.{Fault, fault, number_of, types_misfit}
 use Rattle.form.specs.Tree.{Letters, End, given_set, Prefix, Operator, Division, Term, number, name, group, prefix, binary, divided, listed, pairs, such, empty_set, empty_pairs, Items, only, also, Pairs, only_pair, also_pair, Pred}
 use Rattle.form.specs.Codes.{Numbering, name_number, number_of_name, sign_of, term_width}
 use Rattle.static_rules.specs.Carriers.{given_of}
@@ -44,12 +44,12 @@ module _ (ρ : Numbering) (z : Sizes) (Γ : Scope) (T : Names) where
   pub two-whole : (t u : Term) → TermHolds ρ z Γ T t → TermHolds ρ z Γ T u → (ok : ℕ → ℕ → Bool) (fits : Ty → Ty → Bool)
       → ((v w : Ty) → Known Γ.givens v → Known Γ.givens w → ok (type_code Γ.givens v) (type_code Γ.givens w) ≡ fits v w) → (i : ℕ)
       → judged_key (ok (term_kind t T ρ) (term_kind u T ρ)) (key (i + term_width t) 10) (lesser (term_key t T ρ z i) (term_key u T ρ z (suc (i + term_width t))))
-      ≡ least_key (whole (fits (judge_term t Γ i).type (judge_term u Γ (suc (judge_term t Γ i).next)).type) (fault (judge_term t Γ i).next typesMisfit)
+      ≡ least_key (whole (fits (judge_term t Γ i).type (judge_term u Γ (suc (judge_term t Γ i).next)).type) (fault (judge_term t Γ i).next types_misfit)
       ((judge_term t Γ i).faults ++ (judge_term u Γ (suc (judge_term t Γ i).next)).faults))
   unfolding number_of
   two-whole t u a b ok fits f i =
       whole-least (ok (term_kind t T ρ) (term_kind u T ρ)) (fits (judge_term t Γ i).type (judge_term u Γ (suc (judge_term t Γ i).next)).type) (i + term_width t)
-      (judge_term t Γ i).next typesMisfit (lesser (term_key t T ρ z i) (term_key u T ρ z (suc (i + term_width t))))
+      (judge_term t Γ i).next types_misfit (lesser (term_key t T ρ z i) (term_key u T ρ z (suc (i + term_width t))))
       ((judge_term t Γ i).faults ++ (judge_term u Γ (suc (judge_term t Γ i).next)).faults) (two-least t u a b i) (term-next t Γ i)
       (λ e. let h = append_nil-both (judge_term t Γ i).faults (judge_term u Γ (suc (judge_term t Γ i).next)).faults e in
       let v = (a i).typed h.0 in let w = (b (suc (judge_term t Γ i).next)).typed h.1 in
@@ -59,10 +59,10 @@ module _ (ρ : Numbering) (z : Sizes) (Γ : Scope) (T : Names) where
   pub number-whole : length Γ.givens ≤ 8 → (t : Term) → TermHolds ρ z Γ T t → (i n : ℕ) (fs : List Fault)
       → lesser (term_key t T ρ z i) n ≡ least_key ((judge_term t Γ i).faults ++ fs)
       → judged_key (is_number (term_kind t T ρ)) (key (i + term_width t) 10) (lesser (term_key t T ρ z i) n)
-      ≡ least_key (whole (has (judge_term t Γ i).type ty.is_number) (fault (judge_term t Γ i).next typesMisfit) ((judge_term t Γ i).faults ++ fs))
+      ≡ least_key (whole (has (judge_term t Γ i).type ty.is_number) (fault (judge_term t Γ i).next types_misfit) ((judge_term t Γ i).faults ++ fs))
   unfolding number_of
   number-whole few t a i n fs h =
-      whole-least (is_number (term_kind t T ρ)) (has (judge_term t Γ i).type ty.is_number) (i + term_width t) (judge_term t Γ i).next typesMisfit
+      whole-least (is_number (term_kind t T ρ)) (has (judge_term t Γ i).type ty.is_number) (i + term_width t) (judge_term t Γ i).next types_misfit
       (lesser (term_key t T ρ z i) n) ((judge_term t Γ i).faults ++ fs) h (term-next t Γ i)
       (λ e. let w = (a i).typed (append_nil-both (judge_term t Γ i).faults fs e).0 in ap is_number w.0 ∙ is-number Γ.givens few w.1)
 
@@ -84,10 +84,10 @@ module _ (ρ : Numbering) (P : Letters → Type 0) (ν : Numbered ρ P) (z : Siz
   prefix_holds o t a i =
       record {
         least =
-            whole-least (inner.prefix_fits o (term_kind t T ρ)) (ty.prefix_fits o (judge_term t Γ (suc i)).type) i i typesMisfit (term_key t T ρ z (suc i)) (judge_term t Γ (suc i)).faults
+            whole-least (inner.prefix_fits o (term_kind t T ρ)) (ty.prefix_fits o (judge_term t Γ (suc i)).type) i i types_misfit (term_key t T ρ z (suc i)) (judge_term t Γ (suc i)).faults
             (a (suc i)).least refl (λ e. let w = (a (suc i)).typed e in ap (inner.prefix_fits o) w.0 ∙ prefix-fits Γ.givens s.few o w.1);
         typed =
-            λ e. let h = whole-nil (ty.prefix_fits o (judge_term t Γ (suc i)).type) (fault i typesMisfit) (judge_term t Γ (suc i)).faults e in
+            λ e. let h = whole-nil (ty.prefix_fits o (judge_term t Γ (suc i)).type) (fault i types_misfit) (judge_term t Γ (suc i)).faults e in
             let w = (a (suc i)).typed h.none_in in let v = prefix-type Γ.givens s.few o w.1 h.fit in
             (ap (inner.prefix_type o) w.0 ∙ v.0, v.1);
       }
@@ -99,7 +99,7 @@ module _ (ρ : Numbering) (P : Letters → Type 0) (ν : Numbered ρ P) (z : Siz
         least = two-whole ρ z Γ T t u a b (inner.operator_fits o) (ty.operator_fits o) (λ v w. operator-fits Γ.givens s.few o) i;
         typed =
             λ e. (a i).typed (append_nil-both (judge_term t Γ i).faults (judge_term u Γ (suc (judge_term t Γ i).next)).faults
-            (whole-nil (ty.operator_fits o (judge_term t Γ i).type (judge_term u Γ (suc (judge_term t Γ i).next)).type) (fault (judge_term t Γ i).next typesMisfit)
+            (whole-nil (ty.operator_fits o (judge_term t Γ i).type (judge_term u Γ (suc (judge_term t Γ i).next)).type) (fault (judge_term t Γ i).next types_misfit)
             ((judge_term t Γ i).faults ++ (judge_term u Γ (suc (judge_term t Γ i).next)).faults) e).none_in).0;
       }
 
@@ -161,10 +161,10 @@ module _ (ρ : Numbering) (P : Letters → Type 0) (ν : Numbered ρ P) (z : Siz
       let l : Listing Ty = judge_items ts Γ (suc i) in
       record {
         least =
-            whole-least (is_element (items_kind ts T ρ)) (brace_fits l.types) i i typesMisfit (items_key ts T ρ z (suc i)) l.faults (a (suc i)).least refl
+            whole-least (is_element (items_kind ts T ρ)) (brace_fits l.types) i i types_misfit (items_key ts T ρ z (suc i)) l.faults (a (suc i)).least refl
             (λ e. brace-fits Γ.givens s.few ((a (suc i)).typed e));
         typed =
-            λ e. let h = whole-nil (brace_fits l.types) (fault i typesMisfit) l.faults e in brace-type Γ.givens s.few ((a (suc i)).typed h.none_in) h.fit;
+            λ e. let h = whole-nil (brace_fits l.types) (fault i types_misfit) l.faults e in brace-type Γ.givens s.few ((a (suc i)).typed h.none_in) h.fit;
       }
 
   pairs-typed : (ts : List (Ty × Ty)) (k i : ℕ) → CommonPairs Γ.givens ts k → whole_pairs Γ.givens ts i ≡ [] → TypeIs Γ.givens (some (pairs_type ts)) k
@@ -186,17 +186,17 @@ module _ (ρ : Numbering) (P : Letters → Type 0) (ν : Numbered ρ P) (z : Siz
       }
 
   pub such-holds : (x : Letters) (g : Name) (p : Pred) → P x → P g.letters
-      → (Shows ρ P (binding Γ x (domain_carrier Γ (given_set g))) (bound T (number_of_name ρ x noEnding) (domain_kind (given_set g) T ρ)) z
-      → PredHolds ρ z (binding Γ x (domain_carrier Γ (given_set g))) (bound T (number_of_name ρ x noEnding) (domain_kind (given_set g) T ρ)) p)
+      → (Shows ρ P (binding Γ x (domain_carrier Γ (given_set g))) (bound T (number_of_name ρ x no_ending) (domain_kind (given_set g) T ρ)) z
+      → PredHolds ρ z (binding Γ x (domain_carrier Γ (given_set g))) (bound T (number_of_name ρ x no_ending) (domain_kind (given_set g) T ρ)) p)
       → TermHolds ρ z Γ T (such x g p)
   unfolding judge_term term_kind term_key domain_kind domain_key
   such-holds x g p px pg f i =
       let b : Checked = judge_pred p (binding Γ x (domain_carrier Γ (given_set g))) (i + 5) in
       record {
         least =
-            ap (λ (n : ℕ). inside_key (lesser (unless_key (is_free (entry T (number_of_name ρ x noEnding))) (key n 8)) (domain_key (given_set g) T ρ (i + 3)))
-            (pred_key p (bound T (number_of_name ρ x noEnding) (domain_kind (given_set g) T ρ)) ρ z (i + 5))) (add-one i)
-            ∙ binder-least ρ P ν Γ T z s x px (given_set g) pg (suc i) (i + 3) b.faults (pred_key p (bound T (number_of_name ρ x noEnding) (domain_kind (given_set g) T ρ)) ρ z (i + 5))
+            ap (λ (n : ℕ). inside_key (lesser (unless_key (is_free (entry T (number_of_name ρ x no_ending))) (key n 8)) (domain_key (given_set g) T ρ (i + 3)))
+            (pred_key p (bound T (number_of_name ρ x no_ending) (domain_kind (given_set g) T ρ)) ρ z (i + 5))) (add-one i)
+            ∙ binder-least ρ P ν Γ T z s x px (given_set g) pg (suc i) (i + 3) b.faults (pred_key p (bound T (number_of_name ρ x no_ending) (domain_kind (given_set g) T ρ)) ρ z (i + 5))
             (λ w. f w (i + 5));
         typed =
             λ e. let h = (inside-nil (new_name Γ.taken x (suc i) ++ known (given_of Γ.givens g) (i + 3)) b.faults e).0 in

@@ -7,7 +7,7 @@ use Prim.Native.Nat.{ℕ, suc, ◌+◌, ◌<◌}
 use native.Mathlib.Omega.{arith}
 use lib.ListN.{length}
 use Rattle.lexical.specs.Kinds as kind
-use Rattle.lexical.specs.Refusals.{Fault, fault, number_of, nameInUse, nameUnknown, typesMisfit, wideType, zeroDivisor}
+use Rattle.lexical.specs.Refusals.{Fault, fault, number_of, name_in_use, name_unknown, types_misfit, wide_type, zero_divisor}
 use Rattle.form.specs.Tree.{Letters, End, Range, Domain, given_set, range, Given}
 use Rattle.form.specs.Tree.{Term, number, name, group, prefix, binary, divided, listed, pairs, such, empty_set, empty_pairs, Items, only, also, Pairs, only_pair, also_pair}
 use Rattle.form.specs.Tree.{Pred, truth, falsity, negation, paren, quantified, connected, compared, member, within, related}
@@ -76,13 +76,13 @@ mutual
   term-length : (t : Term) (d k : ℕ) (w : List Written) → length (write_term t d k w) ≡ wide_term t + length w
   term-length (number n) d k w = omega arith
   term-length (name x) d k w = omega arith
-  term-length (group t) d k w = omega (arith, term-length t (suc d) k (bare kind.closeBracket ∷ w))
+  term-length (group t) d k w = omega (arith, term-length t (suc d) k (bare kind.close_bracket ∷ w))
   term-length (prefix o t) d k w = omega (arith, term-length t (suc d) k w)
   term-length (binary o t u) d k w = omega (arith, term-length t d k (bare (operator_kind o) ∷ write_term u d k w), term-length u d k w)
   term-length (divided o t e) d k w = omega (arith, term-length t d k (bare (division_kind o) ∷ write_end e w), end-length e w)
-  term-length (listed ts) d k w = omega (arith, items-length ts (suc d) k (bare kind.closeBrace ∷ w))
-  term-length (pairs ts) d k w = omega (arith, pairs-length ts (suc d) k (bare kind.closeBrace ∷ w))
-  term-length (such x g p) d k w = omega (arith, pred-length p (suc d) (suc k) (bare kind.closeBrace ∷ w))
+  term-length (listed ts) d k w = omega (arith, items-length ts (suc d) k (bare kind.close_brace ∷ w))
+  term-length (pairs ts) d k w = omega (arith, pairs-length ts (suc d) k (bare kind.close_brace ∷ w))
+  term-length (such x g p) d k w = omega (arith, pred-length p (suc d) (suc k) (bare kind.close_brace ∷ w))
   term-length (empty_set g) d k w = omega arith
   term-length (empty_pairs g h) d k w = omega arith
 
@@ -99,9 +99,9 @@ mutual
   pred-length truth d k w = omega arith
   pred-length falsity d k w = omega arith
   pred-length (negation p) d k w = omega (arith, pred-length p (suc d) k w)
-  pred-length (paren p) d k w = omega (arith, pred-length p (suc d) k (bare kind.closeParen ∷ w))
+  pred-length (paren p) d k w = omega (arith, pred-length p (suc d) k (bare kind.close_paren ∷ w))
   pred-length (quantified q x t p) d k w =
-      omega (arith, domain-length t (bare kind.spot ∷ write_pred p (suc d) (suc k) (bare kind.closeParen ∷ w)), pred-length p (suc d) (suc k) (bare kind.closeParen ∷ w))
+      omega (arith, domain-length t (bare kind.spot ∷ write_pred p (suc d) (suc k) (bare kind.close_paren ∷ w)), pred-length p (suc d) (suc k) (bare kind.close_paren ∷ w))
   pred-length (connected o p q) d k w = omega (arith, pred-length p d k (connective o d ∷ write_pred q (right_depth o d) k w), pred-length q (right_depth o d) k w)
   pred-length (compared o t u) d k w = omega (arith, term-length t d k (bare (comparison_kind o) ∷ write_term u d k w), term-length u d k w)
   pred-length (member o t u) d k w = omega (arith, term-length t d k (bare (membership_kind o) ∷ write_term u d k w), term-length u d k w)
@@ -132,23 +132,23 @@ pub record Steady (fs : List Fault) (n m : ℕ) : Type 0 where
   pub next : n ≡ m
   pub small : Small fs
 
-in_use : number_of nameInUse < key_room
+in_use : number_of name_in_use < key_room
 unfolding number_of
 in_use = omega arith
 
-unknown : number_of nameUnknown < key_room
+unknown : number_of name_unknown < key_room
 unfolding number_of
 unknown = omega arith
 
-misfit : number_of typesMisfit < key_room
+misfit : number_of types_misfit < key_room
 unfolding number_of
 misfit = omega arith
 
-wide : number_of wideType < key_room
+wide : number_of wide_type < key_room
 unfolding number_of
 wide = omega arith
 
-divisor : number_of zeroDivisor < key_room
+divisor : number_of zero_divisor < key_room
 unfolding number_of
 divisor = omega arith
 
@@ -192,7 +192,7 @@ small-cond false xs ys h k = k
 
 small-whole-pairs : (gs : List Given) (ts : List (Ty × Ty)) (i : ℕ) → Small (whole_pairs gs ts i)
 unfolding whole_pairs
-small-whole-pairs gs ts i = small-cond (pairs_fit ts) (over_fault gs (pairs_type ts).over i) (fault i typesMisfit ∷ []) (small-over gs (pairs_type ts).over i) (one_more misfit no_fault)
+small-whole-pairs gs ts i = small-cond (pairs_fit ts) (over_fault gs (pairs_type ts).over i) (fault i types_misfit ∷ []) (small-over gs (pairs_type ts).over i) (one_more misfit no_fault)
 
 small-judged-pairs : (gs : List Given) (l : Listing (Ty × Ty)) (i : ℕ) → Small l.faults → Small (judged_pairs gs l i)
 unfolding judged_pairs

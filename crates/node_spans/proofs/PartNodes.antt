@@ -7,7 +7,7 @@ use lib.ListN.{length, take}
 use Rattle.form.specs.Tree.{declarations, State, Operation, Dossier}
 use Rattle.form.specs.Headings.{abstract_at, concrete_at, operations_at, operation_length}
 use Rattle.form.specs.Codes.{node, Numbering, number_of_name, declaration_codes, parameter_codes, condition_codes, state_codes, operation_codes, abstractly_at, pred_width, dossier_codes}
-use Rattle.lexical.specs.Symbols.{noEnding}
+use Rattle.lexical.specs.Symbols.{no_ending}
 use Rattle.parser.specs.Sections.{size_of, size_at, SectionsOf, abstract_from, concrete_from, operations_from}
 use Rattle.parser.specs.declared.sections.Bounds.{Bounds}
 use Rattle.parser.proofs.ItemNodes.{Split, split-next, split-as, split-length, size-here, items-run, declarations-items, parameters-items, condition-above, above, ItemAt, condition-at}
@@ -47,7 +47,7 @@ operations_in {c} n i (o ∷ os) ρ w =
     let b : ℕ = n + 4 + length P in
     let e : ℕ = b + length A in
     let f : ℕ = e + length C in
-    let w₁ : Split c (n + 4) (P ++ (A ++ (C ++ R))) = split-next (node 8 i (number_of_name ρ o.title noEnding) 0) (P ++ (A ++ (C ++ R))) w in
+    let w₁ : Split c (n + 4) (P ++ (A ++ (C ++ R))) = split-next (node 8 i (number_of_name ρ o.title no_ending) 0) (P ++ (A ++ (C ++ R))) w in
     let w₂ : Split c b (A ++ (C ++ R)) = split-next P (A ++ (C ++ R)) w₁ in
     let w₃ : Split c e (C ++ R) = split-next A (C ++ R) w₂ in
     let w₄ : Split c f R = split-next C R w₃ in

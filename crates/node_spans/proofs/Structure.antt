@@ -8,7 +8,7 @@ use lib.Seq.{take-append_seam, drop-append_seam, take-add}
 use Rattle.form.specs.Tree.{Pred, declarations, State, Operation, Dossier}
 use Rattle.form.specs.Headings.{abstract_at, concrete_at, ainit_at, cinit_at, retrieve_at, operations_at, operation_length}
 use Rattle.form.specs.Codes.{node, Numbering, number_of_name, pred_codes, declaration_codes, parameter_codes, condition_codes, state_codes, operation_codes, abstractly_at, pred_width, dossier_codes}
-use Rattle.lexical.specs.Symbols.{noEnding}
+use Rattle.lexical.specs.Symbols.{no_ending}
 use Rattle.parser.specs.Sections.{abstract_from, concrete_from, ainit_from, cinit_from, retrieve_from, operations_from}
 use Rattle.parser.proofs.ItemNodes.{Split, split-first, split-next, split-as, split_at, split-length}
 use Rattle.parser.proofs.PartPlaces.{from_operations, from_retrieve, from_cinit, from_ainit, from_concrete, at-abstract, at-operations}
@@ -79,7 +79,7 @@ pub record OneOperation (c spans : List ℕ) (ρ : Numbering) (n k i : ℕ) (o :
   pub q₁ : List ℕ
   pub q₂ : List ℕ
   pub q₃ : List ℕ
-  pub titled : Split c n (node 8 i (number_of_name ρ o.title noEnding) 0 ++ q₀)
+  pub titled : Split c n (node 8 i (number_of_name ρ o.title no_ending) 0 ++ q₀)
   pub declared : Split c (n + 4) (parameter_codes (i + 2) o.parameters ρ ++ q₁)
   pub abstractly : Split c (n + 4 + length (parameter_codes (i + 2) o.parameters ρ)) (condition_codes (abstractly_at i o) o.abstractly ρ ++ q₂)
   pub concretely : Split c (n + 4 + length (parameter_codes (i + 2) o.parameters ρ) + length (condition_codes (abstractly_at i o) o.abstractly ρ)) (condition_codes (suc (abstractly_at i o) + pred_width o.abstractly) o.concretely ρ ++ q₃)
@@ -106,7 +106,7 @@ each-operation {c} {spans} ρ z y Q start more n k i (o ∷ os) w s =
     let g : (P ++ (A ++ (C ++ R))) ++ z ≡ P ++ (A ++ (C ++ (R ++ z))) =
     append_assoc P (A ++ (C ++ R)) z
     ∙ ap (λ (l : List ℕ). P ++ l) (append_assoc A (C ++ R) z ∙ ap (λ (l : List ℕ). A ++ l) (append_assoc C R z)) in
-    let w₁ : Split c (n + 4) (P ++ (A ++ (C ++ (R ++ z)))) = split-as g (split-next (node 8 i (number_of_name ρ o.title noEnding) 0) ((P ++ (A ++ (C ++ R))) ++ z) w) in
+    let w₁ : Split c (n + 4) (P ++ (A ++ (C ++ (R ++ z)))) = split-as g (split-next (node 8 i (number_of_name ρ o.title no_ending) 0) ((P ++ (A ++ (C ++ R))) ++ z) w) in
     let w₂ : Split c b (A ++ (C ++ (R ++ z))) = split-next P (A ++ (C ++ (R ++ z))) w₁ in
     let w₃ : Split c e (C ++ (R ++ z)) = split-next A (C ++ (R ++ z)) w₂ in
     let w₄ : Split c f (R ++ z) = split-next C (R ++ z) w₃ in

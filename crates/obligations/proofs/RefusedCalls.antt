@@ -6,7 +6,7 @@ use mathlib.Core.Option.{Option, none, some}
 use Prim.Native.Nat.{ℕ}
 use lib.Dec.{eqb, ltb}
 use lib.ListN.{length}
-use Rattle.lexical.specs.Refusals.{advanceRange, shortBytes}
+use Rattle.lexical.specs.Refusals.{advance_range, short_bytes}
 use Rattle.static_rules.specs.Read.{Reading, refusal, reading, read}
 use Rattle.obligations.specs.Subjects.{Subject}
 use Rattle.obligations.specs.Order.{Obligation}
@@ -30,12 +30,12 @@ by-test false x y r rs e f g = f ∙ sym g
 
 advance-exactly : (σ : Subject) (p n : ℕ) → refusal_in (advancing σ p n).reply ≡ first_of (row15 (advance n) ∷ none ∷ [])
 unfolding advancing advanced first_of
-advance-exactly σ p n = by-test (eqb n 0 || ltb 1000000000 n) _ _ (refused advanceRange) (none ∷ []) refl refl refl
+advance-exactly σ p n = by-test (eqb n 0 || ltb 1000000000 n) _ _ (refused advance_range) (none ∷ []) refl refl refl
 
 witness-exactly : (σ : Subject) (p : ℕ) (o : Obligation) (lines lent : List ℕ)
-    → refusal_in (writing σ p o lines lent).reply ≡ first_of (when (ltb (length lent) (length lines)) (refused shortBytes) ∷ [])
+    → refusal_in (writing σ p o lines lent).reply ≡ first_of (when (ltb (length lent) (length lines)) (refused short_bytes) ∷ [])
 unfolding writing first_of
-witness-exactly σ p o lines lent = by-test (ltb (length lent) (length lines)) _ _ (refused shortBytes) [] refl refl refl
+witness-exactly σ p o lines lent = by-test (ltb (length lent) (length lines)) _ _ (refused short_bytes) [] refl refl refl
 
 exactly : (h : Held) (c : Call) → refusal_in (respond h c).reply ≡ expected h c
 unfolding respond first_of

@@ -1,6 +1,6 @@
 -- Document 01, "Calls": load, advance, verdict, witness and drop, as one function from held check and call to reply, held check and lent bytes.
 use Rattle.std.specs.Prelude.{◌≡◌, Bool, true, false, cond, ◌||◌, List, [], ◌∷◌, ◌++◌, ℕ, pred, ◌+◌, eqb, leb, ltb, length, take, drop}
-use Rattle.lexical.specs.Refusals.{Refusal, Fault, advanceRange, shortBytes, nothingHeld, somethingHeld, checkFinished, noCounterexample}
+use Rattle.lexical.specs.Refusals.{Refusal, Fault, advance_range, short_bytes, nothing_held, something_held, check_finished, no_counterexample}
 use Rattle.static_rules.specs.Read.{Reading, refusal, reading, read}
 use Rattle.obligations.specs.Subjects.{Subject, subject_of}
 use Rattle.obligations.specs.Order.{Obligation, obligation_of, checks, total, Look, look}
@@ -57,28 +57,28 @@ advanced σ p l = outcome (looked l.count) (holding σ (p + l.count) (verdict_at
 
 -- 15. "Advance by 0 or over 1,000,000,000."
 unfoldable pub advancing : Subject → (p n : ℕ) → Outcome
-advancing σ p n = cond (eqb n 0 || ltb 1000000000 n) (outcome (refused advanceRange) (holding σ p unfinished) []) (advanced σ p (look σ (take n (drop p (checks σ)))))
+advancing σ p n = cond (eqb n 0 || ltb 1000000000 n) (outcome (refused advance_range) (holding σ p unfinished) []) (advanced σ p (look σ (take n (drop p (checks σ)))))
 
 -- "into lent bytes from their start, returns the length, touches no byte after it"; 16. "Lent bytes shorter than the witness."
 unfoldable pub writing : Subject → (p : ℕ) → Obligation → (lines lent : List ℕ) → Outcome
 writing σ p o lines lent =
-    cond (ltb (length lent) (length lines)) (outcome (refused shortBytes) (holding σ p (refuted o)) lent)
+    cond (ltb (length lent) (length lines)) (outcome (refused short_bytes) (holding σ p (refuted o)) lent)
     (outcome (written (length lines)) (holding σ p (refuted o)) (lines ++ drop (length lines) lent))
 
 -- 21 to 24, "State refusals come before input refusals, in the order above."
 unfoldable pub respond : Held → Call → Outcome
 respond nothing (load text) = loading (read text)
-respond nothing (advance n) = outcome (refused nothingHeld) nothing []
-respond nothing verdict = outcome (refused nothingHeld) nothing []
-respond nothing (witness b) = outcome (refused nothingHeld) nothing b
+respond nothing (advance n) = outcome (refused nothing_held) nothing []
+respond nothing verdict = outcome (refused nothing_held) nothing []
+respond nothing (witness b) = outcome (refused nothing_held) nothing b
 respond nothing release = outcome dropped nothing []
-respond (holding σ p v) (load text) = outcome (refused somethingHeld) (holding σ p v) []
+respond (holding σ p v) (load text) = outcome (refused something_held) (holding σ p v) []
 respond (holding σ p unfinished) (advance n) = advancing σ p n
-respond (holding σ p accepted) (advance n) = outcome (refused checkFinished) (holding σ p accepted) []
-respond (holding σ p (refuted o)) (advance n) = outcome (refused checkFinished) (holding σ p (refuted o)) []
+respond (holding σ p accepted) (advance n) = outcome (refused check_finished) (holding σ p accepted) []
+respond (holding σ p (refuted o)) (advance n) = outcome (refused check_finished) (holding σ p (refuted o)) []
 respond (holding σ p v) verdict = outcome (verdict_is v) (holding σ p v) []
-respond (holding σ p unfinished) (witness b) = outcome (refused noCounterexample) (holding σ p unfinished) b
-respond (holding σ p accepted) (witness b) = outcome (refused noCounterexample) (holding σ p accepted) b
+respond (holding σ p unfinished) (witness b) = outcome (refused no_counterexample) (holding σ p unfinished) b
+respond (holding σ p accepted) (witness b) = outcome (refused no_counterexample) (holding σ p accepted) b
 respond (holding σ p (refuted o)) (witness b) = writing σ p o (witness_lines σ (check_at σ (pred p))) b
 respond (holding σ p v) release = outcome dropped nothing []
 

@@ -1,7 +1,7 @@
 -- Document 01, "Refusals that come from the input" and "from the state": which call is refused with what, a row for each sentence.
 use Rattle.std.specs.Prelude.{Bool, true, false, not, ◌&&◌, ◌||◌, List, [], ◌∷◌, ℕ, pred, eqb, ltb, length}
 use Rattle.std.proofs.Math.Option.{Option, none, some}
-use Rattle.lexical.specs.Refusals.{advanceRange, shortBytes, nothingHeld, somethingHeld, checkFinished, noCounterexample}
+use Rattle.lexical.specs.Refusals.{advance_range, short_bytes, nothing_held, something_held, check_finished, no_counterexample}
 use Rattle.static_rules.specs.Read.{Reading, refusal, reading, read}
 use Rattle.obligations.specs.Report.{check_at, witness_lines}
 use Rattle.obligations.specs.Calls.{unfinished, accepted, refuted, Held, nothing, holding, Call, load, advance, verdict, witness, release, Reply, refused_at, refused, loaded, looked, verdict_is, written, dropped}
@@ -59,19 +59,19 @@ when false r = none
 
 -- 21. "Nothing held: advance, verdict, witness."
 abbrev pub row21 : Held → Call → Option Reply
-row21 h c = when (is_nothing h && (is_advance c || is_verdict c || is_witness c)) (refused nothingHeld)
+row21 h c = when (is_nothing h && (is_advance c || is_verdict c || is_witness c)) (refused nothing_held)
 
 -- 22. "Something held: load."
 abbrev pub row22 : Held → Call → Option Reply
-row22 h c = when (not (is_nothing h) && is_load c) (refused somethingHeld)
+row22 h c = when (not (is_nothing h) && is_load c) (refused something_held)
 
 -- 23. "Check finished: advance."
 abbrev pub row23 : Held → Call → Option Reply
-row23 h c = when (is_finished h && is_advance c) (refused checkFinished)
+row23 h c = when (is_finished h && is_advance c) (refused check_finished)
 
 -- 24. "No counterexample found so far, or accepted: witness."
 abbrev pub row24 : Held → Call → Option Reply
-row24 h c = when (not (is_refuted h) && is_witness c) (refused noCounterexample)
+row24 h c = when (not (is_refuted h) && is_witness c) (refused no_counterexample)
 
 -- 1 to 14, "also the place": the fault of the text that `read` finds
 abbrev pub fault_in : Reading → Option Reply
@@ -94,7 +94,7 @@ stride (witness b) = 0
 stride release = 0
 
 abbrev pub row15 : Call → Option Reply
-row15 c = when (is_advance c && (eqb (stride c) 0 || ltb 1000000000 (stride c))) (refused advanceRange)
+row15 c = when (is_advance c && (eqb (stride c) 0 || ltb 1000000000 (stride c))) (refused advance_range)
 
 -- 16. "Lent bytes shorter than the witness.": the lines of the binding looked at last
 abbrev pub lent_to : Call → List ℕ
@@ -109,7 +109,7 @@ witness_of nothing = []
 witness_of (holding σ p v) = witness_lines σ (check_at σ (pred p))
 
 abbrev pub row16 : Held → Call → Option Reply
-row16 h c = when (is_witness c && ltb (length (lent_to c)) (length (witness_of h))) (refused shortBytes)
+row16 h c = when (is_witness c && ltb (length (lent_to c)) (length (witness_of h))) (refused short_bytes)
 
 -- the first row that refuses
 unfoldable pub first_of : List (Option Reply) → Option Reply

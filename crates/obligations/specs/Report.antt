@@ -1,7 +1,7 @@
 -- Document 01, "Calls": the lines of the witness, and all that the program prints for a text.
 use Rattle.std.specs.Prelude.{true, false, List, [], ◌∷◌, ◌++◌, map, ℕ, zero, suc, pred, ◌+◌, ◌/◌, ◌%◌, ltb, ℤ, pos, negsuc, get_or}
 use Rattle.lexical.specs.Lists.{bytes}
-use Rattle.lexical.specs.Symbols.{Name, Ending, noEnding, prime, query, shriek}
+use Rattle.lexical.specs.Symbols.{Name, Ending, no_ending, prime, query, shriek}
 use Rattle.lexical.specs.Refusals.{Fault, number_of}
 use Rattle.form.specs.Tree.{Letters, Given, elements, Operation, Dossier}
 use Rattle.static_rules.specs.Carriers.{Carrier, elements_of, numbers, subsets_of, pairs_in, Variable, size_of}
@@ -25,7 +25,7 @@ signed_decimal (pos n) = decimal n
 signed_decimal (negsuc n) = bytes "-" ++ decimal (suc n)
 
 abbrev pub ending_bytes : Ending → List ℕ
-ending_bytes noEnding = []
+ending_bytes no_ending = []
 ending_bytes prime = bytes "'"
 ending_bytes query = bytes "?"
 ending_bytes shriek = bytes "!"

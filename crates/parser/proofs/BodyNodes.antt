@@ -6,12 +6,12 @@ use native.Mathlib.Omega.{arith}
 use lib.ListN.{length, take, drop, get_or, length-append, take-append-drop}
 use Rattle.lexical.specs.Kinds.{Kind, code_of}
 use Rattle.lexical.specs.Symbols.{Symbol}
-use Rattle.lexical.specs.Refusals.{noDossier}
+use Rattle.lexical.specs.Refusals.{no_dossier}
 use Rattle.form.specs.Codes.{node}
-use Rattle.form.specs.Machine.{Item, exact, aDossier, ends, step, complete, failed, run}
+use Rattle.form.specs.Machine.{Item, exact, a_dossier, ends, step, complete, failed, run}
 use Rattle.form_nodes.specs.FormPromises.{codes, run_at, after, Reads, Writes, Closes}
 use Rattle.form_nodes.specs.Derivations as part
-use Rattle.form_nodes.specs.Derivations.{Part, Derives, Made, MadeAt, name_code, aPredFrom, aCondition, a_state, aWhere, someGivens, someDeclarations, some_parameters, someOperations, condition, state, where_of, an_operation, dossier}
+use Rattle.form_nodes.specs.Derivations.{Part, Derives, Made, MadeAt, name_code, a_pred_from, a_condition, a_state, a_where, some_givens, some_declarations, some_parameters, some_operations, condition, state, where_of, an_operation, dossier}
 use Rattle.declarations.specs.DossierPromises.{More, MoreAt, Sequence, nothing, behind, SequenceAt, Sequenced, ContentsAt, ContentsMade, When}
 use Rattle.form_nodes.specs.declared.Read.{Read}
 use Rattle.form_nodes.specs.declared.Read.TheVariants.{At, Fault}
@@ -97,11 +97,11 @@ module _ {s ν : List ℕ} where
   contents-known {b} q h = subst (λ (y : Read). ContentsMade s ν b y) q h
 
   -- a predicate, the node in front of it and the word behind it
-  pub condition-made : {word i n e m p r : ℕ} {a b c : List ℕ} (t : Read) → MadeAt s ν (aPredFrom 1) i (n + 4) a b e m → Writes b n (node 7 i p 0) c r → (n + 4) + p ≡ m
-      → n + 4 ≤ length a → m ≤ length b → Closes s e word m t → Made s ν (aCondition word) i n a c t
+  pub condition-made : {word i n e m p r : ℕ} {a b c : List ℕ} (t : Read) → MadeAt s ν (a_pred_from 1) i (n + 4) a b e m → Writes b n (node 7 i p 0) c r → (n + 4) + p ≡ m
+      → n + 4 ≤ length a → m ≤ length b → Closes s e word m t → Made s ν (a_condition word) i n a c t
   condition-made {word} {i} {n} {e} {m} {p} {r} {a} {b} {c} (At f d) h w q l g z =
       let u : p ≡ length h.nodes = let v = long-written (n + 4) m a b h.nodes h.written l g in omega arith in
-      let y : MadeAt s ν (aCondition word) i n a c (e + 1) m =
+      let y : MadeAt s ν (a_condition word) i n a c (e + 1) m =
       record {
         nodes = node 7 i (length h.nodes) 0 ++ h.nodes;
         derives = condition h.derives z.shown.0.1;
@@ -110,13 +110,13 @@ module _ {s ν : List ℕ} where
             ∙ ap (λ (o : ℕ). take n a ++ (node 7 i o 0 ++ h.nodes)) u;
       }
       in
-      subst (λ (o : ℕ). MadeAt s ν (aCondition word) i n a c o d) (sym z.shown.0.0)
-      (subst (λ (o : ℕ). MadeAt s ν (aCondition word) i n a c (e + 1) o) (sym z.shown.1) y)
+      subst (λ (o : ℕ). MadeAt s ν (a_condition word) i n a c o d) (sym z.shown.0.0)
+      (subst (λ (o : ℕ). MadeAt s ν (a_condition word) i n a c (e + 1) o) (sym z.shown.1) y)
   condition-made (Fault f d) h w q l g z = tt
 
   -- the body of a state
   pub state-made : {word i n e x m j k d y : ℕ} {a b c : List ℕ} (g : List ℕ) (t : Read) → ((e ≡ i + 1) × (get_or s i 0 ≡ word)) × (x ≡ n) → Writes a n (node 5 i 0 0) b m → get_or s e 0 ≡ 2
-      → MadeAt s ν someDeclarations e m b c j k → ((d ≡ j + 1) × (get_or s j 0 ≡ 45)) × (y ≡ k) → Made s ν (aCondition 44) d k c g t → Made s ν (a_state word) i n a g t
+      → MadeAt s ν some_declarations e m b c j k → ((d ≡ j + 1) × (get_or s j 0 ≡ 45)) × (y ≡ k) → Made s ν (a_condition 44) d k c g t → Made s ν (a_state word) i n a g t
   state-made {i = i} {n} {m = m} {a = a} {b} g (At f l) p w q h r z =
       record {
         nodes = node 5 i 0 0 ++ (h.nodes ++ z.nodes);
@@ -127,13 +127,13 @@ module _ {s ν : List ℕ} where
 
   -- the body of an operation
   pub operation-made : {i n p m e k d y f l : ℕ} {a b c g : List ℕ} (o : List ℕ) (t : Read) → get_or s i 0 ≡ 43 → get_or s (i + 1) 0 ≡ 2 → p ≡ name_code s ν (i + 1) → Writes a n (node 8 i p 0) b m
-      → MadeAt s ν some_parameters (i + 1 + 1) m b c e k → ((d ≡ e + 1) × (get_or s e 0 ≡ 38)) × (y ≡ k) → MadeAt s ν (aCondition 39) d k c g f l
-      → Made s ν (aCondition 44) f l g o t → More s ν someOperations i n a o t
+      → MadeAt s ν some_parameters (i + 1 + 1) m b c e k → ((d ≡ e + 1) × (get_or s e 0 ≡ 38)) × (y ≡ k) → MadeAt s ν (a_condition 39) d k c g f l
+      → Made s ν (a_condition 44) f l g o t → More s ν some_operations i n a o t
   operation-made {i} {n} {m = m} {k = k} {a = a} {b} {c} end (At u v) p q r w h x y z =
       let first : List ℕ = node 8 i (name_code s ν (i + 1)) 0 in
       record {
         nodes = first ++ (h.nodes ++ (y.nodes ++ z.nodes));
-        more = λ j o g. subst (λ (t : List ℕ). Derives s ν someOperations i j t)
+        more = λ j o g. subst (λ (t : List ℕ). Derives s ν some_operations i j t)
             (ap (λ (b : List ℕ). first ++ (h.nodes ++ b)) (sym (append_assoc y.nodes z.nodes o))
             ∙ ap (λ (b : List ℕ). first ++ b) (sym (append_assoc h.nodes (y.nodes ++ z.nodes) o))
             ∙ sym (append_assoc first (h.nodes ++ (y.nodes ++ z.nodes)) o))
@@ -163,7 +163,7 @@ module _ {s ν : List ℕ} where
 
 -- the body of ainit, cinit or retrieve
 pub where-made : {word e x d y : ℕ} (s ν : List ℕ) (i n : ℕ) (a b : List ℕ) (t : Read) → ((e ≡ i + 1) × (get_or s i 0 ≡ word)) × (x ≡ n) → ((d ≡ e + 1) × (get_or s e 0 ≡ 45)) × (y ≡ n)
-    → Made s ν (aCondition 44) d n a b t → Made s ν (aWhere word) i n a b t
+    → Made s ν (a_condition 44) d n a b t → Made s ν (a_where word) i n a b t
 where-made s ν i n a b (At f l) p q z =
     record {
       nodes = z.nodes;
@@ -180,11 +180,11 @@ sequence-last s ν x i n a b (Fault j m) h = tt
 
 -- a dossier, from its contents and its bodies
 pub dossier-made : {s ν a b c : List ℕ} {e m j l : ℕ} → ContentsAt s ν b e m
-    → SequenceAt s ν (someGivens ∷ a_state 38 ∷ a_state 39 ∷ aWhere 40 ∷ aWhere 41 ∷ aWhere 42 ∷ someOperations ∷ []) e m b c j l → MadeAt s ν part.aDossier 0 0 a c j l
+    → SequenceAt s ν (some_givens ∷ a_state 38 ∷ a_state 39 ∷ a_where 40 ∷ a_where 41 ∷ a_where 42 ∷ some_operations ∷ []) e m b c j l → MadeAt s ν part.a_dossier 0 0 a c j l
 dossier-made {s} {ν} {a} {b} {c} {e} {m} {j} {l} h z = on z.nodes z.parts z.written
   where
-    on : (u : List ℕ) → Sequence s ν (someGivens ∷ a_state 38 ∷ a_state 39 ∷ aWhere 40 ∷ aWhere 41 ∷ aWhere 42 ∷ someOperations ∷ []) e j u → take l c ≡ take m b ++ u
-        → MadeAt s ν part.aDossier 0 0 a c j l
+    on : (u : List ℕ) → Sequence s ν (some_givens ∷ a_state 38 ∷ a_state 39 ∷ a_where 40 ∷ a_where 41 ∷ a_where 42 ∷ some_operations ∷ []) e j u → take l c ≡ take m b ++ u
+        → MadeAt s ν part.a_dossier 0 0 a c j l
     on _ (behind {j = j₁} {m = n₁} d₁ (behind {m = n₂} d₂ (behind {m = n₃} d₃ (behind {m = n₄} d₄ (behind {m = n₅} d₅ (behind {m = n₆} d₆ (behind {m = n₇} d₇ nothing))))))) q =
         record {
           nodes = h.given_nodes ++ (h.operation_nodes ++ (n₁ ++ (n₂ ++ (n₃ ++ (n₄ ++ (n₅ ++ (n₆ ++ n₇)))))));
@@ -198,16 +198,16 @@ dossier-made {s} {ν} {a} {b} {c} {e} {m} {j} {l} h z = on z.nodes z.parts z.wri
         }
 
 -- the machine's run over the whole text
-pub whole_run : {s : List ℕ} {n : ℕ} {ο : List Item} {r : Read} → Reads s 0 n (aDossier ∷ []) ο r → (w : List Symbol) → codes w ≡ s → run w ≡ after r w (ο ++ [])
+pub whole_run : {s : List ℕ} {n : ℕ} {ο : List Item} {r : Read} → Reads s 0 n (a_dossier ∷ []) ο r → (w : List Symbol) → codes w ≡ s → run w ≡ after r w (ο ++ [])
 unfolding run run_at
 whole_run a w q = a.same w q []
 
 -- nothing is expected at the end of the text
-pub text-ends : {s : List ℕ} {n e m : ℕ} → Reads s 0 n (aDossier ∷ []) [] (At e m) → length s ≤ e → (w : List Symbol) → codes w ≡ s → run w ≡ complete
+pub text-ends : {s : List ℕ} {n e m : ℕ} → Reads s 0 n (a_dossier ∷ []) [] (At e m) → length s ≤ e → (w : List Symbol) → codes w ≡ s → run w ≡ complete
 unfolding ends
 text-ends {e = e} a l w q = whole_run a w q ∙ run_end w e [] (let h = as_long w q in omega arith)
 
 -- before it, any symbol is one too many
-pub text-goes-on : {s : List ℕ} {n e m : ℕ} → Reads s 0 n (aDossier ∷ []) [] (At e m) → e < length s → (w : List Symbol) → codes w ≡ s → run w ≡ failed e noDossier
+pub text-goes-on : {s : List ℕ} {n e m : ℕ} → Reads s 0 n (a_dossier ∷ []) [] (At e m) → e < length s → (w : List Symbol) → codes w ≡ s → run w ≡ failed e no_dossier
 unfolding step
 text-goes-on {e = e} a l w q = whole_run a w q ∙ run-at w e [] (let h = as_long w q in omega arith)

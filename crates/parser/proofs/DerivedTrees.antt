@@ -12,12 +12,12 @@ use Rattle.form.specs.Codes.{Numbering, node}
 use Rattle.form.proofs.Table.{by-table, ◌&◌}
 use Rattle.form_nodes.specs.FormPromises.{codes, Classes, operators, connectives, level_of}
 use Rattle.form_nodes.specs.Derivations.{magnitude_code, division_code, EndAt, NoOperator, NoConnective, Derives}
-use Rattle.form_nodes.specs.Derivations.{anOperand, someItems, somePairs, aUnary, anAtom, someRelated, aTermFrom, aTermRest, aPredFrom, a_pred_rest, a_type}
+use Rattle.form_nodes.specs.Derivations.{an_operand, some_items, some_pairs, a_unary, an_atom, some_related, a_term_from, a_term_rest, a_pred_from, a_pred_rest, a_type}
 use Rattle.form_nodes.specs.Derivations.Derives.{leaf, prefixed, bracketed, listed, paired, such, empty_one, empty_two, items_end, more_items, end_of_pairs, pairs_more, term_from, term_stops, divided, operated}
 use Rattle.form_nodes.specs.Derivations.Derives.{pred_from, pred_stops, implied, connected, truth_value, denied, atomic, parenthesised, quantified, compared, belongs, within, mapped, related}
 use Rattle.form_nodes.specs.Derivations.Derives.{over_given, over_range, over_sets, over_pairs, declares, no_entries, an_entry, no_elements, an_element, no_givens, a_given, no_declarations, declares_more, no_parameters, takes_more}
 use Rattle.form_nodes.specs.Derivations.Derives.{condition, state, where_of, no_operations, an_operation, dossier}
-use Rattle.form_nodes.specs.Derivations.{Part, aDeclaration, someElements, someGivens, someDeclarations, some_parameters, someOperations, aDossier, some_entries, aCondition, a_state, aWhere}
+use Rattle.form_nodes.specs.Derivations.{Part, a_declaration, some_elements, some_givens, some_declarations, some_parameters, some_operations, a_dossier, some_entries, a_condition, a_state, a_where}
 use Rattle.parser.proofs.TextDossier.{values, Text}
 use Rattle.form_nodes.proofs.Classes.{level-high}
 use Rattle.form_nodes.proofs.NodesOfParts.{level-two}
@@ -27,12 +27,12 @@ use Rattle.parser.proofs.TermTrees.{ItemsIn, PairsIn, leaf-in, prefixed-in, brac
 use Rattle.parser.proofs.PredTrees.{left_of, right_of, truth-in, denied-in, parenthesised-in, quantified-in, compared-in, belongs-in, within_in, related-in, connected-in}
 
 -- no operator of its level or a higher one stands behind a term, and no such connective behind a predicate
-term-rest-stops : {s ν : List ℕ} {min i j : ℕ} {n : List ℕ} → Derives s ν (aTermRest min) i j n → NoOperator s min j
+term-rest-stops : {s ν : List ℕ} {min i j : ℕ} {n : List ℕ} → Derives s ν (a_term_rest min) i j n → NoOperator s min j
 term-rest-stops (term_stops p) = p
 term-rest-stops (divided c o l e r) = term-rest-stops r
 term-rest-stops (operated c p q l d r) = term-rest-stops r
 
-term-stops : {s ν : List ℕ} {min i j : ℕ} {n : List ℕ} → Derives s ν (aTermFrom min) i j n → NoOperator s min j
+term-stops : {s ν : List ℕ} {min i j : ℕ} {n : List ℕ} → Derives s ν (a_term_from min) i j n → NoOperator s min j
 term-stops (term_from d r) = term-rest-stops r
 
 pred-rest-stops : {s ν : List ℕ} {min i j : ℕ} {n : List ℕ} → Derives s ν (a_pred_rest min) i j n → NoConnective s min j
@@ -40,7 +40,7 @@ pred-rest-stops (pred_stops p) = p
 pred-rest-stops (implied c l d r) = pred-rest-stops r
 pred-rest-stops (connected c p q l d r) = pred-rest-stops r
 
-pred-stops : {s ν : List ℕ} {min i j : ℕ} {n : List ℕ} → Derives s ν (aPredFrom min) i j n → NoConnective s min j
+pred-stops : {s ν : List ℕ} {min i j : ℕ} {n : List ℕ} → Derives s ν (a_pred_from min) i j n → NoConnective s min j
 pred-stops (pred_from d r) = pred-rest-stops r
 
 level-of : (o : ℕ) → o ≤ 2 → level_of o ≡ o
@@ -86,29 +86,29 @@ PredRest w ρ min i j n = (h : ℕ) (m : List ℕ) (a : PredIn w ρ min h i m) �
 
 -- what is shown of a part: of items, pairs and what stands behind a term, for every term before; of parts that are no term and no predicate, nothing
 abbrev TreeOf : (w : List Symbol) (ρ : Numbering) → Part → (i j : ℕ) → List ℕ → Type 0
-TreeOf w ρ anOperand i j n = TermIn w ρ 3 i j n
-TreeOf w ρ someItems i j n = (h : ℕ) (m : List ℕ) → TermIn w ρ 1 h i m → ItemsIn w ρ h j (m ++ n)
-TreeOf w ρ somePairs i j n = (h : ℕ) (m : List ℕ) → TermIn w ρ 1 h i m → PairsIn w ρ h j (m ++ n)
-TreeOf w ρ aUnary i j n = PredIn w ρ 5 i j n
-TreeOf w ρ anAtom i j n = (h : ℕ) (m : List ℕ) → TermIn w ρ 1 h i m → PredIn w ρ 5 h j (m ++ n)
-TreeOf w ρ someRelated i j n =
+TreeOf w ρ an_operand i j n = TermIn w ρ 3 i j n
+TreeOf w ρ some_items i j n = (h : ℕ) (m : List ℕ) → TermIn w ρ 1 h i m → ItemsIn w ρ h j (m ++ n)
+TreeOf w ρ some_pairs i j n = (h : ℕ) (m : List ℕ) → TermIn w ρ 1 h i m → PairsIn w ρ h j (m ++ n)
+TreeOf w ρ a_unary i j n = PredIn w ρ 5 i j n
+TreeOf w ρ an_atom i j n = (h : ℕ) (m : List ℕ) → TermIn w ρ 1 h i m → PredIn w ρ 5 h j (m ++ n)
+TreeOf w ρ some_related i j n =
     (g h : ℕ) (l m : List ℕ) → TermIn w ρ 1 g h l → get_or (codes w) h 0 ≡ 32 → TermIn w ρ 1 (h + 1) i m → PredIn w ρ 5 g j (l ++ (m ++ n))
-TreeOf w ρ (aTermFrom min) i j n = min ≤ 3 → TermIn w ρ min i j n
-TreeOf w ρ (aTermRest min) i j n = TermRest w ρ min i j n
-TreeOf w ρ (aPredFrom min) i j n = min ≤ 5 → PredIn w ρ min i j n
+TreeOf w ρ (a_term_from min) i j n = min ≤ 3 → TermIn w ρ min i j n
+TreeOf w ρ (a_term_rest min) i j n = TermRest w ρ min i j n
+TreeOf w ρ (a_pred_from min) i j n = min ≤ 5 → PredIn w ρ min i j n
 TreeOf w ρ (a_pred_rest min) i j n = PredRest w ρ min i j n
 TreeOf w ρ a_type i j n = Unit {0}
-TreeOf w ρ aDeclaration i j n = Unit {0}
-TreeOf w ρ someElements i j n = Unit {0}
-TreeOf w ρ someGivens i j n = Unit {0}
-TreeOf w ρ someDeclarations i j n = Unit {0}
+TreeOf w ρ a_declaration i j n = Unit {0}
+TreeOf w ρ some_elements i j n = Unit {0}
+TreeOf w ρ some_givens i j n = Unit {0}
+TreeOf w ρ some_declarations i j n = Unit {0}
 TreeOf w ρ some_parameters i j n = Unit {0}
-TreeOf w ρ someOperations i j n = Unit {0}
-TreeOf w ρ aDossier i j n = Unit {0}
+TreeOf w ρ some_operations i j n = Unit {0}
+TreeOf w ρ a_dossier i j n = Unit {0}
 TreeOf w ρ (some_entries word shape) i j n = Unit {0}
-TreeOf w ρ (aCondition word) i j n = Unit {0}
+TreeOf w ρ (a_condition word) i j n = Unit {0}
 TreeOf w ρ (a_state word) i j n = Unit {0}
-TreeOf w ρ (aWhere word) i j n = Unit {0}
+TreeOf w ρ (a_where word) i j n = Unit {0}
 
 module _ {w : List Symbol} {ρ : Numbering} (t : Text w ρ) where
   term-nodes : {min i j : ℕ} {m n : List ℕ} → m ≡ n → TermIn w ρ min i j m → TermIn w ρ min i j n
@@ -263,5 +263,5 @@ module _ {w : List Symbol} {ρ : Numbering} (t : Text w ρ) where
   tree (dossier a b c d e f g h i j k l m n o p) = tt
 
   -- above the level 5 it would be false: a predicate with `not` is of the level 5
-  pub pred-tree : {min i j : ℕ} {n : List ℕ} → Derives (codes w) (values ρ w) (aPredFrom min) i j n → min ≤ 5 → PredIn w ρ min i j n
+  pub pred-tree : {min i j : ℕ} {n : List ℕ} → Derives (codes w) (values ρ w) (a_pred_from min) i j n → min ≤ 5 → PredIn w ρ min i j n
   pred-tree d l = tree d l

@@ -6,7 +6,7 @@ use native.Mathlib.Omega.{arith}
 use lib.ListN.{length, drop, get_or}
 use Rattle.lexical.specs.Kinds as kind
 use Rattle.lexical.specs.Kinds.{Kind, code_of}
-use Rattle.lexical.specs.Symbols.{Ending, noEnding, Symbol, fixed}
+use Rattle.lexical.specs.Symbols.{Ending, no_ending, Symbol, fixed}
 use Rattle.form.specs.Tree.{Pred, Declaration, Direction, Parameter, State, Operation}
 use Rattle.form.specs.Written.{ending_of, write_declarations}
 use Rattle.form.specs.Form.{PredGrouped, OperationsGrouped}
@@ -15,7 +15,7 @@ use Rattle.form.specs.Codes.{node, Numbering, pred_width, type_width, type_codes
 use Rattle.form.specs.Codes.{abstractly_at, operation_codes}
 use Rattle.form.proofs.PlainSymbols.{named, plain_type, plain_pred, plain_declarations, plain_where, plain_state, plain_parameters, plain_operations}
 use Rattle.form_nodes.specs.FormPromises.{codes}
-use Rattle.form_nodes.specs.Derivations.{name_code, aDeclaration, someDeclarations, some_parameters, someOperations, aCondition, a_state, aWhere}
+use Rattle.form_nodes.specs.Derivations.{name_code, a_declaration, some_declarations, some_parameters, some_operations, a_condition, a_state, a_where}
 use Rattle.form_nodes.specs.Derivations.{declares, no_declarations, declares_more, no_parameters, takes_more, condition, state, where_of, no_operations, an_operation}
 use Rattle.parser.proofs.TextDossier.{values, Text}
 use Rattle.parser.proofs.SymbolAt.{NamedAt, ending-as, no-ending, directed, fixed-at, name-at, plain_at}
@@ -73,7 +73,7 @@ pub record OperationsAt (w : List Symbol) (ρ : Numbering) (i j : ℕ) (n : List
   pub nodes : n ≡ operation_codes i tree ρ
 
 module _ {w : List Symbol} {ρ : Numbering} (text : Text w ρ) where
-  declaration-tree : {i j : ℕ} {n : List ℕ} → Derived w ρ aDeclaration i j n → (x : NamedAt w ρ i) × ((e : Ending) → x.name.ending ≡ e → DeclarationAt w ρ e i j n)
+  declaration-tree : {i j : ℕ} {n : List ℕ} → Derived w ρ a_declaration i j n → (x : NamedAt w ρ i) × ((e : Ending) → x.name.ending ≡ e → DeclarationAt w ρ e i j n)
   unfolding code_of
   declaration-tree {i = i} (declares {j = j} a b d c) =
       let x = name-at text a in
@@ -93,18 +93,18 @@ module _ {w : List Symbol} {ρ : Numbering} (text : Text w ρ) where
             },
       )
 
-  declarations-tree : {i j : ℕ} {n : List ℕ} → Derived w ρ someDeclarations i j n → DeclarationsAt w ρ i j n
+  declarations-tree : {i j : ℕ} {n : List ℕ} → Derived w ρ some_declarations i j n → DeclarationsAt w ρ i j n
   unfolding declaration_codes
   declarations-tree {i = i} no_declarations = record { tree = []; symbols = refl; width = omega arith; nodes = refl }
   declarations-tree {i = i} (declares_more {j = j} a d ds) =
       let x = declaration-tree d in
-      let y = x.1 noEnding (no-ending x.0.name.ending (sym x.0.code ∙ a)) in
+      let y = x.1 no_ending (no-ending x.0.name.ending (sym x.0.code ∙ a)) in
       let r = declarations-tree ds in
       let t = y.tree in
       record {
         tree = t ∷ r.tree;
         symbols =
-            y.symbols ∙ ap (λ (u : List Symbol). named t.declared noEnding ∷ fixed kind.colon ∷ plain_type t.type (fixed kind.semicolon ∷ u)) r.symbols;
+            y.symbols ∙ ap (λ (u : List Symbol). named t.declared no_ending ∷ fixed kind.colon ∷ plain_type t.type (fixed kind.semicolon ∷ u)) r.symbols;
         width = let l = y.width in let m = r.width in omega arith;
         nodes =
             ap₂ ◌++◌ y.nodes
@@ -131,7 +131,7 @@ module _ {w : List Symbol} {ρ : Numbering} (text : Text w ρ) where
       let x = declaration-tree d in
       let o = directed x.0.name.ending (let c = x.0.code in omega arith) in parameter-of o.0 (x.1 (ending_of o.0) o.1) (parameters-tree ds)
 
-  condition-tree : (κ : Kind) → 10 ≤ code_of κ → {word i j : ℕ} {n : List ℕ} → word ≡ code_of κ → Derived w ρ (aCondition word) i j n → ConditionAt w ρ κ i j n
+  condition-tree : (κ : Kind) → 10 ≤ code_of κ → {word i j : ℕ} {n : List ℕ} → word ≡ code_of κ → Derived w ρ (a_condition word) i j n → ConditionAt w ρ κ i j n
   unfolding condition_codes
   condition-tree κ l {i = i} q (condition {j = j} d e) =
       let p = pred-tree text d (omega arith) in
@@ -171,7 +171,7 @@ module _ {w : List Symbol} {ρ : Numbering} (text : Text w ρ) where
   unfolding code_of
   state-tree κ l q (state a b ds c d) = state-of κ l (a ∙ q) b (declarations-tree ds) c (condition-tree kind.END (omega arith) refl d)
 
-  pub where-tree : (κ : Kind) → 10 ≤ code_of κ → {word i j : ℕ} {n : List ℕ} → word ≡ code_of κ → Derived w ρ (aWhere word) i j n → WhereAt w ρ κ i j n
+  pub where-tree : (κ : Kind) → 10 ≤ code_of κ → {word i j : ℕ} {n : List ℕ} → word ≡ code_of κ → Derived w ρ (a_where word) i j n → WhereAt w ρ κ i j n
   unfolding code_of
   where-tree κ l {i = i} q (where_of a b d) =
       let c = condition-tree kind.END (omega arith) refl d in
@@ -201,7 +201,7 @@ module _ {w : List Symbol} {ρ : Numbering} (text : Text w ρ) where
             (fixed-at text kind.OP a (omega arith)).steps
             ∙ ap (λ (u : List Symbol). fixed kind.OP ∷ u)
             (t.step.steps
-            ∙ ap (λ (u : List Symbol). named t.letters noEnding ∷ u)
+            ∙ ap (λ (u : List Symbol). named t.letters no_ending ∷ u)
             (xs.symbols
             ∙ ap (plain_parameters xs.tree)
             ((fixed-at text kind.ABSTRACT c (omega arith)).steps
@@ -218,7 +218,7 @@ module _ {w : List Symbol} {ρ : Numbering} (text : Text w ρ) where
             (moved (λ z. operation_codes z r.tree ρ) k (h + operation_length y) r.nodes (let ly = operation-length y in omega arith)))));
       }
 
-  pub operations-tree : {i j : ℕ} {n : List ℕ} → Derived w ρ someOperations i j n → OperationsAt w ρ i j n
+  pub operations-tree : {i j : ℕ} {n : List ℕ} → Derived w ρ some_operations i j n → OperationsAt w ρ i j n
   unfolding operation_codes OperationsGrouped code_of
   operations-tree {i = i} no_operations = record { tree = []; grouped = tt; symbols = refl; width = omega arith; nodes = refl }
   operations-tree (an_operation a b xs c p q r) =

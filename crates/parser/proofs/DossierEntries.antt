@@ -6,13 +6,13 @@ use native.Mathlib.Omega.{arith}
 use lib.ListN.{length, drop, get_or}
 use Rattle.lexical.specs.Kinds as kind
 use Rattle.lexical.specs.Kinds.{Kind, code_of}
-use Rattle.lexical.specs.Symbols.{noEnding, Symbol, fixed}
+use Rattle.lexical.specs.Symbols.{no_ending, Symbol, fixed}
 use Rattle.form.specs.Tree.{Letters, Given}
 use Rattle.form.specs.Headings.{given_length}
 use Rattle.form.specs.Codes.{node, Numbering, entry_codes, element_codes, given_codes}
 use Rattle.form.proofs.PlainSymbols.{named, plain_entries, plain_elements, plain_givens}
 use Rattle.form_nodes.specs.FormPromises.{codes}
-use Rattle.form_nodes.specs.Derivations.{name_code, Part, Derives, some_entries, someElements, someGivens, no_entries, an_entry, no_elements, an_element, no_givens, a_given}
+use Rattle.form_nodes.specs.Derivations.{name_code, Part, Derives, some_entries, some_elements, some_givens, no_entries, an_entry, no_elements, an_element, no_givens, a_given}
 use Rattle.parser.proofs.TextDossier.{values, Text}
 use Rattle.parser.proofs.SymbolAt.{fixed-at, plain_at}
 use Rattle.form.proofs.Lengths.{givens_width, given-length}
@@ -57,12 +57,12 @@ module _ {w : List Symbol} {ρ : Numbering} (text : Text w ρ) where
       record {
         tree = x.letters ∷ r.tree;
         symbols =
-            (fixed-at text κ (a ∙ q) l).steps ∙ ap (λ (u : List Symbol). fixed κ ∷ u) (x.step.steps ∙ ap (λ (u : List Symbol). named x.letters noEnding ∷ u) r.symbols);
+            (fixed-at text κ (a ∙ q) l).steps ∙ ap (λ (u : List Symbol). fixed κ ∷ u) (x.step.steps ∙ ap (λ (u : List Symbol). named x.letters no_ending ∷ u) r.symbols);
         width = let e = r.width in omega arith;
         nodes = headed (omega arith) x.number (moved (λ k. entry_codes shape k r.tree ρ) (i + 1 + 1) (i + 2) r.nodes (omega arith));
       }
 
-  elements-tree : {i j : ℕ} {n : List ℕ} → Derived w ρ someElements i j n → ElementsAt w ρ i j n
+  elements-tree : {i j : ℕ} {n : List ℕ} → Derived w ρ some_elements i j n → ElementsAt w ρ i j n
   unfolding element_codes
   elements-tree {i = i} no_elements = record { tree = []; symbols = refl; width = omega arith; nodes = refl }
   elements-tree {i = i} (an_element a d) =
@@ -70,7 +70,7 @@ module _ {w : List Symbol} {ρ : Numbering} (text : Text w ρ) where
       let r = elements-tree d in
       record {
         tree = x.letters ∷ r.tree;
-        symbols = x.step.steps ∙ ap (λ (u : List Symbol). named x.letters noEnding ∷ u) r.symbols;
+        symbols = x.step.steps ∙ ap (λ (u : List Symbol). named x.letters no_ending ∷ u) r.symbols;
         width = let e = r.width in omega arith;
         nodes = headed refl x.number (moved (λ k. element_codes k r.tree ρ) (i + 1) (suc i) r.nodes (omega arith));
       }
@@ -94,7 +94,7 @@ module _ {w : List Symbol} {ρ : Numbering} (text : Text w ρ) where
                 (fixed-at text kind.GIVEN a (omega arith)).steps
                 ∙ ap (λ (u : List Symbol). fixed kind.GIVEN ∷ u)
                 (x.step.steps
-                ∙ ap (λ (u : List Symbol). named x.letters noEnding ∷ u)
+                ∙ ap (λ (u : List Symbol). named x.letters no_ending ∷ u)
                 (z ∙ ap (plain_elements (y ∷ ys)) ((fixed-at text kind.END d (omega arith)).steps ∙ ap (λ (u : List Symbol). fixed kind.END ∷ u) r.symbols)));
             width = let q = r.width in omega arith;
             nodes =
@@ -103,7 +103,7 @@ module _ {w : List Symbol} {ρ : Numbering} (text : Text w ρ) where
                 (moved (λ k. given_codes k r.tree ρ) (j + 1) (i + given_length g) r.nodes (let q = given-length g in omega arith)));
           }
 
-  pub givens-tree : {i j : ℕ} {n : List ℕ} → Derived w ρ someGivens i j n → GivensAt w ρ i j n
+  pub givens-tree : {i j : ℕ} {n : List ℕ} → Derived w ρ some_givens i j n → GivensAt w ρ i j n
   unfolding given_codes
   givens-tree {i = i} no_givens = record { tree = []; symbols = refl; width = omega arith; nodes = refl }
   givens-tree (a_given a b c d e r) = given-tree a b c (elements-tree d) e (givens-tree r)

@@ -15,7 +15,7 @@ use Rattle.form.specs.Headings.{givens_at, abstract_at, concrete_at, ainit_at, c
 use Rattle.form.specs.Codes.{Numbering, pred_width, entry_codes, given_codes, state_codes, condition_codes, operation_codes, contents_codes, dossier_codes}
 use Rattle.form.proofs.PlainSymbols.{plain_entries, plain_givens, plain_state, plain_where, plain_bodies, bodies_of, dossier-plain}
 use Rattle.form_nodes.specs.FormPromises.{codes}
-use Rattle.form_nodes.specs.Derivations.{Derives, aDossier, dossier}
+use Rattle.form_nodes.specs.Derivations.{Derives, a_dossier, dossier}
 use Rattle.parser.proofs.TextDossier.{values, Text, DossierAt}
 use Rattle.parser.proofs.SymbolAt.{fixed-at}
 use Rattle.form.proofs.Lengths.{givens_width, givens-length}
@@ -150,7 +150,7 @@ module _ {w : List Symbol} {ρ : Numbering} (text : Text w ρ) {a b c d e f g h 
       }
 
 -- up to the symbol i, where the text ends
-dossier-of : {w : List Symbol} {ρ : Numbering} → Text w ρ → {i : ℕ} {n : List ℕ} → Derived w ρ aDossier 0 i n → drop i w ≡ [] → DossierAt w ρ n
+dossier-of : {w : List Symbol} {ρ : Numbering} → Text w ρ → {i : ℕ} {n : List ℕ} → Derived w ρ a_dossier 0 i n → drop i w ≡ [] → DossierAt w ρ n
 unfolding code_of
 dossier-of text (dossier k₀ gs k₁ k₂ k₃ k₄ k₅ os k₆ bs s₁ s₂ w₁ w₂ w₃ ps) z =
     made_at text (entries-tree text kind.GIVEN (omega arith) refl gs) (entries-tree text kind.OP (omega arith) refl os) (givens-tree text bs)
@@ -158,5 +158,5 @@ dossier-of text (dossier k₀ gs k₁ k₂ k₃ k₄ k₅ os k₆ bs s₁ s₂ w
     (where-tree text kind.AINIT (omega arith) refl w₁) (where-tree text kind.CINIT (omega arith) refl w₂)
     (where-tree text kind.RETRIEVE (omega arith) refl w₃) (operations-tree text ps) k₀ k₁ k₂ k₃ k₄ k₅ k₆ z
 
-pub dossier-tree : (w : List Symbol) (ρ : Numbering) → Text w ρ → {n : List ℕ} → Derives (codes w) (values ρ w) aDossier 0 (length w) n → DossierAt w ρ n
+pub dossier-tree : (w : List Symbol) (ρ : Numbering) → Text w ρ → {n : List ℕ} → Derives (codes w) (values ρ w) a_dossier 0 (length w) n → DossierAt w ρ n
 dossier-tree w ρ text d = dossier-of text d (drop-length w)

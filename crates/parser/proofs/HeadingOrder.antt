@@ -7,7 +7,7 @@ use Prim.Native.Nat.{ℕ, ◌≤◌}
 use native.Mathlib.Omega.{arith}
 use borrow.Author.Tests.{le-ltb}
 use lib.Dec.{eqb, ltb}
-use Rattle.lexical.specs.Refusals.{Refusal, Fault, fault, headingDiffers, number_of, before, lesser, least}
+use Rattle.lexical.specs.Refusals.{Refusal, Fault, fault, heading_differs, number_of, before, lesser, least}
 use Rattle.symbols.proofs.BooleanTests.{and-right-false}
 use Rattle.parser.specs.Sections.{Finds}
 use Rattle.parser.specs.declared.headings.Heads.{Heads}
@@ -16,7 +16,7 @@ use Rattle.parser.specs.declared.headings.Heads.TheVariants.{Fit, Differ}
 -- faults of number 7, at i or behind it, in the order of their places
 abbrev pub Rising : ℕ → List Fault → Type 0
 Rising i [] = Unit {0}
-Rising i (f ∷ fs) = (i ≤ f.place) × (f.refusal ≡ headingDiffers) × Rising f.place fs
+Rising i (f ∷ fs) = (i ≤ f.place) × (f.refusal ≡ heading_differs) × Rising f.place fs
 
 pub rising-from : (j i : ℕ) (fs : List Fault) → j ≤ i → Rising i fs → Rising j fs
 rising-from j i [] l h = tt
@@ -26,7 +26,7 @@ head_of : List Fault → Option Fault
 head_of [] = none
 head_of (f ∷ fs) = some f
 
-not-before : (f g : Fault) → f.place ≤ g.place → f.refusal ≡ headingDiffers → g.refusal ≡ headingDiffers → before g f ≡ false
+not-before : (f g : Fault) → f.place ≤ g.place → f.refusal ≡ heading_differs → g.refusal ≡ heading_differs → before g f ≡ false
 unfolding before number_of
 not-before f g l p q =
     ap (λ (b : Bool). b || eqb g.place f.place && ltb (number_of g.refusal) (number_of f.refusal)) (le-ltb g.place f.place l)

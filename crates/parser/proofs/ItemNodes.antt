@@ -5,7 +5,7 @@ use Prim.Native.Nat.{ℕ, suc, ◌+◌, ◌≤◌, ◌<◌}
 use native.Mathlib.Omega.{arith}
 use lib.ListN.{length, get_or, length-append}
 use lib.Seq.{get_or-append-add}
-use Rattle.form.specs.Tree.{Letters, Pred, TypeForm, givenType, powerType, range_type, arrow_type, Declaration, declarations, Parameter, Given, elements, State}
+use Rattle.form.specs.Tree.{Letters, Pred, TypeForm, given_type, power_type, range_type, arrow_type, Declaration, declarations, Parameter, Given, elements, State}
 use Rattle.form.specs.Headings.{given_length}
 use Rattle.form.specs.Written.{write_declarations}
 use Rattle.form.specs.Codes.{node, type_width, Numbering, entry_codes, element_codes, given_codes, type_codes, declaration_codes, parameter_codes, pred_codes, condition_codes, state_codes}
@@ -98,8 +98,8 @@ givens-items i (g ∷ gs) ρ =
     (items-append (items-wide (elements-items (i + 2) (elements g) ρ) (omega arith) (omega arith)) (givens-items (i + given_length g) gs ρ))
 
 type-length : (t : TypeForm) (i : ℕ) (ρ : Numbering) → length (type_codes t i ρ) ≡ 4
-type-length (givenType g) i ρ = refl
-type-length (powerType g) i ρ = refl
+type-length (given_type g) i ρ = refl
+type-length (power_type g) i ρ = refl
 type-length (range_type r) i ρ = refl
 type-length (arrow_type a g h) i ρ = refl
 

@@ -11,7 +11,7 @@ use Rattle.lexical.specs.Kinds as kind
 use Rattle.lexical.specs.Kinds.{Kind, code_of, lookup}
 use Rattle.lexical.specs.Symbols.{Symbol}
 use Rattle.form.specs.Tree.{negate, size, dom, ran, Operator, plus, minus, union, without, times, inter, quotient, remainder}
-use Rattle.form.specs.Tree.{Connective, and, or, implies, iff, forall, exists, exists1, equals, differs, less, at_most, isIn, notIn, relation, partial, total}
+use Rattle.form.specs.Tree.{Connective, and, or, implies, iff, forall, exists, exists1, equals, differs, less, at_most, is_in, not_in, relation, partial, total}
 use Rattle.form.specs.Written.{prefix_kind, operator_kind, division_kind, connective_kind, quantifier_kind, comparison_kind, membership_kind, arrow_kind}
 use Rattle.form.specs.Form.{operator_level, connective_level}
 use Rattle.form.specs.Machine as machine
@@ -127,12 +127,12 @@ module _ {w : List Symbol} {ρ : Numbering} (t : Text w ρ) where
   membership-at {i} m = on (eqb (get_or (codes w) i 0) 56) refl
     where
       on : (b : Bool) → eqb (get_or (codes w) i 0) 56 ≡ b → SortAt membership_kind w i
-      on true q = coded-at t isIn (eqb-true (get_or (codes w) i 0) 56 q) refl
+      on true q = coded-at t is_in (eqb-true (get_or (codes w) i 0) 56 q) refl
       on false q =
           let n : get_or (codes w) i 0 ≡ 56 → ⊥ = eqb-false (get_or (codes w) i 0) 56 q in
           let a = m.low in
           let b = m.high in
-          coded-at t notIn (omega arith) refl
+          coded-at t not_in (omega arith) refl
 
   pub quantifier-at : {i : ℕ} → 53 ≤ get_or (codes w) i 0 → get_or (codes w) i 0 ≤ 55 → SortAt quantifier_kind w i
   unfolding code_of

@@ -6,7 +6,7 @@ use Prim.Native.Nat.{ℕ, ◌≤◌}
 use lib.ListN.{length, take, drop, get_or, length-map}
 use lib.Seq.{length-take-le}
 use Rattle.lexical.specs.Symbols.{Symbol, scan, symbols, place_at}
-use Rattle.lexical.specs.Refusals.{Refusal, Fault, fault, number_of, least, headingDiffers}
+use Rattle.lexical.specs.Refusals.{Refusal, Fault, fault, number_of, least, heading_differs}
 use Rattle.lexical.specs.Promises.{Scans, fault_of}
 use Rattle.lexical.specs.declared.Scanned.{Scanned}
 use Rattle.lexical.specs.declared.Scanned.TheVariants.{Symbols}
@@ -20,7 +20,7 @@ use Rattle.form.specs.Codes.{dossier_codes}
 use Rattle.form.proofs.Table.{AllSpelled}
 use Rattle.form.proofs.FormOf.{form_of}
 use Rattle.form_nodes.specs.FormPromises.{codes, Left, refusal_numbered}
-use Rattle.form_nodes.specs.Derivations.{Derives, aDossier}
+use Rattle.form_nodes.specs.Derivations.{Derives, a_dossier}
 use Rattle.parser.specs.Sections.{Tells, Headed, Finds}
 use Rattle.parser.specs.Promises.{text_symbols, numbering, Answers, AnswersHeadings, Parses}
 use Rattle.declarations.specs.DossierPromises.{Formed}
@@ -60,7 +60,7 @@ module _ {text coded placed valued : List ℕ} {n : ℕ} (left : Left text coded
 
   -- the dossier, where the machine comes to the end
   module _ (made : List ℕ) (m : ℕ) {e : ℕ} {x : List ℕ} (ran : run (text_symbols text) ≡ complete)
-      (derived : Derives (take n coded) (take n valued) aDossier 0 e x) (all : e ≡ length (take n coded)) (written : take m made ≡ x) (room : m ≤ length made) where
+      (derived : Derives (take n coded) (take n valued) a_dossier 0 e x) (all : e ≡ length (take n coded)) (written : take m made ≡ x) (room : m ≤ length made) where
     at-end : length (take n coded) ≡ length (text_symbols text)
     unfolding codes
     at-end = ap length facts.codes_are ∙ length-map (text_symbols text) _
@@ -68,9 +68,9 @@ module _ {text coded placed valued : List ℕ} {n : ℕ} (left : Left text coded
     tree : DossierAt (text_symbols text) (numbering text) x
     tree =
         dossier-tree (text_symbols text) (numbering text) facts.symbols_are
-        (subst (λ (k : ℕ). Derives (codes (text_symbols text)) (values (numbering text) (text_symbols text)) aDossier 0 k x) (all ∙ at-end)
-        (subst (λ (s : List ℕ). Derives s (values (numbering text) (text_symbols text)) aDossier 0 e x) facts.codes_are
-        (subst (λ (ν : List ℕ). Derives (take n coded) ν aDossier 0 e x) facts.values_are derived)))
+        (subst (λ (k : ℕ). Derives (codes (text_symbols text)) (values (numbering text) (text_symbols text)) a_dossier 0 k x) (all ∙ at-end)
+        (subst (λ (s : List ℕ). Derives s (values (numbering text) (text_symbols text)) a_dossier 0 e x) facts.codes_are
+        (subst (λ (ν : List ℕ). Derives (take n coded) ν a_dossier 0 e x) facts.values_are derived)))
 
     abbrev d : Dossier
     d = tree.tree
@@ -96,7 +96,7 @@ module _ {text coded placed valued : List ℕ} {n : ℕ} (left : Left text coded
     pub refuses-heading : (nodes₀ : List ℕ) (r : Parsed) (i : ℕ) → Headed made m n (Differ i) → r ≡ Refused 7 (get_or (take n placed) i (length text))
         → Answers text none nodes₀ nodes₀ r
     unfolding number_of
-    refuses-heading nodes₀ r i f a = answers nodes₀ nodes₀ r (some (fault i headingDiffers)) (decides (Differ i) f) (a ∙ ap (Refused 7) (place_is i), refl)
+    refuses-heading nodes₀ r i f a = answers nodes₀ nodes₀ r (some (fault i heading_differs)) (decides (Differ i) f) (a ∙ ap (Refused 7) (place_is i), refl)
 
     long : length (dossier_codes d (numbering text)) ≡ m
     long = ap length (sym nodes_are) ∙ length-take-le m made room

@@ -68,8 +68,8 @@ module _ {w : List Symbol} {ρ : Numbering} (t : Text w ρ) where
   pub parenthesised-in : {i j : ℕ} {n : List ℕ} → get_or (codes w) i 0 ≡ 15 → PredIn w ρ 1 (i + 1) j n → get_or (codes w) j 0 ≡ 16 → PredIn w ρ 5 i (j + 1) n
   unfolding PredGrouped plain_pred pred_codes code_of
   parenthesised-in {i} p a q =
-      let x = fixed-at t kind.openParen p (omega arith) in
-      let y = fixed-at t kind.closeParen q (omega arith) in
+      let x = fixed-at t kind.open_paren p (omega arith) in
+      let y = fixed-at t kind.close_paren q (omega arith) in
       let e = add-one i in
       record {
         tree = paren a.tree;
@@ -87,13 +87,13 @@ module _ {w : List Symbol} {ρ : Numbering} (t : Text w ρ) where
       ++ node 8 (i + 1) (name_code (codes w) (values ρ w) (i + 1 + 1)) (get_or (codes w) (i + 1) 0))
   unfolding PredGrouped plain_pred pred_codes code_of
   quantified-in {i} {j} {k} {n} o lo hi x c d s a q =
-      let o = fixed-at t kind.openParen o (omega arith) in
+      let o = fixed-at t kind.open_paren o (omega arith) in
       let f = quantifier-at t lo hi in
       let x = plain_at t x in
       let c = fixed-at t kind.colon c (omega arith) in
       let d = domain_in t d in
       let s = fixed-at t kind.spot s (omega arith) in
-      let q = fixed-at t kind.closeParen q (omega arith) in
+      let q = fixed-at t kind.close_paren q (omega arith) in
       let e = add-one i in
       let g : i + 1 + 1 + 1 + 1 ≡ i + 4 = omega arith in
       let h : j + 1 ≡ i + 5 + domain_width d.tree = let y = d.width in omega arith in

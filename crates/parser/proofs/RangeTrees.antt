@@ -10,7 +10,7 @@ use borrow.Author.Tests.{le-ltb, le-leb, lt-leb, eq-eqb, ne_eqb}
 use Rattle.lexical.specs.Kinds as kind
 use Rattle.lexical.specs.Kinds.{code_of}
 use Rattle.lexical.specs.Symbols.{Symbol}
-use Rattle.form.specs.Tree.{End, Range, Domain, given_set, range, Arrow, relation, partial, total, TypeForm, givenType, powerType, range_type, arrow_type}
+use Rattle.form.specs.Tree.{End, Range, Domain, given_set, range, Arrow, relation, partial, total, TypeForm, given_type, power_type, range_type, arrow_type}
 use Rattle.form.specs.Written.{arrow_kind}
 use Rattle.form.specs.Codes.{Numbering, node, end_width, end_number, range_codes, domain_codes, domain_width, type_width, type_codes, arrow_number}
 use Rattle.form.proofs.PlainSymbols.{plain_end, plain_range, plain_domain, plain_type}
@@ -159,14 +159,14 @@ module _ {w : List Symbol} {ρ : Numbering} (t : Text w ρ) where
   unfolding code_of
   type-in (derived.Derives.over_given {i} x) =
       let g = name-at t x in
-      type-of (omega arith) g.step.inside (givenType g.name) g.step.steps (ap (λ (c : ℕ). node 1 i c 0) g.number)
+      type-of (omega arith) g.step.inside (given_type g.name) g.step.steps (ap (λ (c : ℕ). node 1 i c 0) g.number)
   type-in (derived.Derives.over_range x) =
       let r = range-in x in
       type-of r.ahead r.inside (range_type r.tree) r.symbols r.nodes
   type-in (derived.Derives.over_sets {i} p x) =
       let s = fixed-at t kind.POWER p (omega arith) in
       let g = name-at t x in
-      type-of (omega arith) g.step.inside (powerType g.name) (cc) (ap (λ (c : ℕ). node 3 i c 0) g.number)
+      type-of (omega arith) g.step.inside (power_type g.name) (cc) (ap (λ (c : ℕ). node 3 i c 0) g.number)
   type-in (derived.Derives.over_pairs {i} x lo hi y) =
       let g = name-at t x in
       let a = arrow-at t lo hi in

@@ -11,7 +11,7 @@ use lib.Seq.{drop-cons}
 use borrow.Author.Tests.{le-ltb, leb-true, le-leb}
 use Rattle.lexical.specs.Kinds as kind
 use Rattle.lexical.specs.Kinds.{Kind, code_of}
-use Rattle.lexical.specs.Symbols.{Symbol, fixed, numeral, name, Name, Ending, noEnding, prime, query, shriek, kind_of, kind_of_name}
+use Rattle.lexical.specs.Symbols.{Symbol, fixed, numeral, name, Name, Ending, no_ending, prime, query, shriek, kind_of, kind_of_name}
 use Rattle.form.specs.Tree.{Letters, Direction, inward, outward}
 use Rattle.form.specs.Written.{ending_of}
 use Rattle.form.specs.Form.{kind_at}
@@ -71,7 +71,7 @@ number-kind κ f e = true≢false (sym f ∙ ap is_fixed (sym e))
 
 name-kind : (κ : Kind) (e : Ending) → is_fixed κ ≡ true → kind_of_name e ≡ κ → ⊥
 unfolding code_of
-name-kind κ noEnding f e = true≢false (sym f ∙ ap is_fixed (sym e))
+name-kind κ no_ending f e = true≢false (sym f ∙ ap is_fixed (sym e))
 name-kind κ prime f e = true≢false (sym f ∙ ap is_fixed (sym e))
 name-kind κ query f e = true≢false (sym f ∙ ap is_fixed (sym e))
 name-kind κ shriek f e = true≢false (sym f ∙ ap is_fixed (sym e))
@@ -93,7 +93,7 @@ fixed-at {w} t κ {i} q l =
 -- the code of a name is by its ending
 pub ending-code : (e : Ending) → code_of (kind_of_name e) ≡ 2 + ending_number e
 unfolding code_of
-ending-code noEnding = refl
+ending-code no_ending = refl
 ending-code prime = refl
 ending-code query = refl
 ending-code shriek = refl
@@ -164,22 +164,22 @@ ending-as {w} {ρ} {i} n q =
     }
 
 -- the ending of a plain name; that of an input or an output
-pub no-ending : (e : Ending) → code_of (kind_of_name e) ≡ 2 → e ≡ noEnding
+pub no-ending : (e : Ending) → code_of (kind_of_name e) ≡ 2 → e ≡ no_ending
 unfolding code_of
-no-ending noEnding q = refl
+no-ending no_ending q = refl
 no-ending prime q = absurd (omega arith)
 no-ending query q = absurd (omega arith)
 no-ending shriek q = absurd (omega arith)
 
 pub directed : (e : Ending) → 4 ≤ code_of (kind_of_name e) → (d : Direction) × (e ≡ ending_of d)
 unfolding code_of
-directed noEnding q = absurd (omega arith)
+directed no_ending q = absurd (omega arith)
 directed prime q = absurd (omega arith)
 directed query q = (inward, refl)
 directed shriek q = (outward, refl)
 
 -- a name without ending
-pub plain_at : {w : List Symbol} {ρ : Numbering} → Text w ρ → {i : ℕ} → get_or (codes w) i 0 ≡ 2 → NamedAs w ρ noEnding i
+pub plain_at : {w : List Symbol} {ρ : Numbering} → Text w ρ → {i : ℕ} → get_or (codes w) i 0 ≡ 2 → NamedAs w ρ no_ending i
 plain_at t {i} q =
     let n = name-at t {i = i} (record { low = omega arith; high = omega arith }) in ending-as n (no-ending n.name.ending (sym n.code ∙ q))
 

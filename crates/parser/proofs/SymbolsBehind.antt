@@ -4,11 +4,11 @@ use mathlib.Core.Bool.{Bool, true, false}
 use mathlib.Core.List.{List, [], ◌∷◌, ◌++◌}
 use Rattle.lexical.specs.Kinds as kind
 use Rattle.lexical.specs.Symbols as symbol
-use Rattle.lexical.specs.Symbols.{noEnding, Symbol, fixed, numeral}
+use Rattle.lexical.specs.Symbols.{no_ending, Symbol, fixed, numeral}
 use Rattle.form.specs.Tree.{End, Range, Domain, given_set, range}
 use Rattle.form.specs.Tree.{Term, number, name, group, prefix, binary, divided, listed, pairs, such, empty_set, empty_pairs, Items, only, also, Pairs, only_pair, also_pair}
 use Rattle.form.specs.Tree.{Pred, truth, falsity, negation, paren, quantified, connected, compared, member, within, related}
-use Rattle.form.specs.Tree.{TypeForm, givenType, powerType, range_type, arrow_type}
+use Rattle.form.specs.Tree.{TypeForm, given_type, power_type, range_type, arrow_type}
 use Rattle.form.specs.Written.{prefix_kind, operator_kind, division_kind, connective_kind, quantifier_kind, comparison_kind, membership_kind}
 use Rattle.form.specs.Written.{write_domain, write_term, write_pred, write_type}
 use Rattle.form.proofs.PlainSymbols.{named, plain_minus, plain_end, plain_range, plain_domain, plain_term, plain_items, plain_pairs, plain_pred, plain_type}
@@ -32,8 +32,8 @@ domain-behind (given_set g) u v = refl
 domain-behind (range r) u v = range-behind r u v
 
 type-behind : (t : TypeForm) (u v : List Symbol) → plain_type t (u ++ v) ≡ plain_type t u ++ v
-type-behind (givenType g) u v = refl
-type-behind (powerType g) u v = refl
+type-behind (given_type g) u v = refl
+type-behind (power_type g) u v = refl
 type-behind (range_type r) u v = range-behind r u v
 type-behind (arrow_type a g h) u v = refl
 
@@ -43,17 +43,17 @@ mutual
   term-behind : (t : Term) (u v : List Symbol) → plain_term t (u ++ v) ≡ plain_term t u ++ v
   term-behind (number n) u v = refl
   term-behind (name x) u v = refl
-  term-behind (group t) u v = ap (λ (l : List Symbol). fixed kind.openBracket ∷ l) (term-behind t (fixed kind.closeBracket ∷ u) v)
+  term-behind (group t) u v = ap (λ (l : List Symbol). fixed kind.open_bracket ∷ l) (term-behind t (fixed kind.close_bracket ∷ u) v)
   term-behind (prefix o t) u v = ap (λ (l : List Symbol). fixed (prefix_kind o) ∷ l) (term-behind t u v)
   term-behind (binary o s t) u v =
       ap (λ (l : List Symbol). plain_term s (fixed (operator_kind o) ∷ l)) (term-behind t u v) ∙ term-behind s (fixed (operator_kind o) ∷ plain_term t u) v
   term-behind (divided o t e) u v =
       ap (λ (l : List Symbol). plain_term t (fixed (division_kind o) ∷ l)) (end-behind e u v) ∙ term-behind t (fixed (division_kind o) ∷ plain_end e u) v
-  term-behind (listed ts) u v = ap (λ (l : List Symbol). fixed kind.openBrace ∷ l) (items-behind ts (fixed kind.closeBrace ∷ u) v)
-  term-behind (pairs ts) u v = ap (λ (l : List Symbol). fixed kind.openBrace ∷ l) (pairs-behind ts (fixed kind.closeBrace ∷ u) v)
+  term-behind (listed ts) u v = ap (λ (l : List Symbol). fixed kind.open_brace ∷ l) (items-behind ts (fixed kind.close_brace ∷ u) v)
+  term-behind (pairs ts) u v = ap (λ (l : List Symbol). fixed kind.open_brace ∷ l) (pairs-behind ts (fixed kind.close_brace ∷ u) v)
   term-behind (such x g p) u v =
-      ap (λ (l : List Symbol). fixed kind.openBrace ∷ named x noEnding ∷ fixed kind.colon ∷ symbol.name g ∷ fixed kind.bar ∷ l)
-      (pred-behind p (fixed kind.closeBrace ∷ u) v)
+      ap (λ (l : List Symbol). fixed kind.open_brace ∷ named x no_ending ∷ fixed kind.colon ∷ symbol.name g ∷ fixed kind.bar ∷ l)
+      (pred-behind p (fixed kind.close_brace ∷ u) v)
   term-behind (empty_set g) u v = refl
   term-behind (empty_pairs g h) u v = refl
 
@@ -74,11 +74,11 @@ mutual
   pred-behind truth u v = refl
   pred-behind falsity u v = refl
   pred-behind (negation p) u v = ap (λ (l : List Symbol). fixed kind.NOT ∷ l) (pred-behind p u v)
-  pred-behind (paren p) u v = ap (λ (l : List Symbol). fixed kind.openParen ∷ l) (pred-behind p (fixed kind.closeParen ∷ u) v)
+  pred-behind (paren p) u v = ap (λ (l : List Symbol). fixed kind.open_paren ∷ l) (pred-behind p (fixed kind.close_paren ∷ u) v)
   pred-behind (quantified q x t p) u v =
-      ap (λ (l : List Symbol). fixed kind.openParen ∷ fixed (quantifier_kind q) ∷ named x noEnding ∷ fixed kind.colon ∷ l)
-      (ap (λ (l : List Symbol). plain_domain t (fixed kind.spot ∷ l)) (pred-behind p (fixed kind.closeParen ∷ u) v)
-      ∙ domain-behind t (fixed kind.spot ∷ plain_pred p (fixed kind.closeParen ∷ u)) v)
+      ap (λ (l : List Symbol). fixed kind.open_paren ∷ fixed (quantifier_kind q) ∷ named x no_ending ∷ fixed kind.colon ∷ l)
+      (ap (λ (l : List Symbol). plain_domain t (fixed kind.spot ∷ l)) (pred-behind p (fixed kind.close_paren ∷ u) v)
+      ∙ domain-behind t (fixed kind.spot ∷ plain_pred p (fixed kind.close_paren ∷ u)) v)
   pred-behind (connected o p q) u v =
       ap (λ (l : List Symbol). plain_pred p (fixed (connective_kind o) ∷ l)) (pred-behind q u v) ∙ pred-behind p (fixed (connective_kind o) ∷ plain_pred q u) v
   pred-behind (compared o s t) u v =

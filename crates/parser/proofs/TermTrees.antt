@@ -33,7 +33,7 @@ pub record ItemsIn (w : List Symbol) (ρ : Numbering) (i j : ℕ) (n : List ℕ)
   pub grouped : ItemsGrouped tree
   pub ahead : i ≤ j
   pub inside : j ≤ length w
-  pub symbols : drop i w ≡ plain_items tree (fixed kind.closeBrace ∷ drop j w)
+  pub symbols : drop i w ≡ plain_items tree (fixed kind.close_brace ∷ drop j w)
   pub nodes : n ≡ items_codes tree i ρ
 
 pub record PairsIn (w : List Symbol) (ρ : Numbering) (i j : ℕ) (n : List ℕ) : Type 0 where
@@ -41,7 +41,7 @@ pub record PairsIn (w : List Symbol) (ρ : Numbering) (i j : ℕ) (n : List ℕ)
   pub grouped : PairsGrouped tree
   pub ahead : i ≤ j
   pub inside : j ≤ length w
-  pub symbols : drop i w ≡ plain_pairs tree (fixed kind.closeBrace ∷ drop j w)
+  pub symbols : drop i w ≡ plain_pairs tree (fixed kind.close_brace ∷ drop j w)
   pub nodes : n ≡ pairs_codes tree i ρ
 
 division-code : (s : List ℕ) (i : ℕ) (o : Division) (b : Bool) → get_or s i 0 ≡ code_of (division_kind o) → eqb (get_or s (i + 1) 0) 29 ≡ b → division_code s i ≡ sign_of b + division_number o
@@ -98,8 +98,8 @@ module _ {w : List Symbol} {ρ : Numbering} (t : Text w ρ) where
   pub bracketed-in : {i j : ℕ} {n : List ℕ} → get_or (codes w) i 0 ≡ 17 → TermIn w ρ 1 (i + 1) j n → get_or (codes w) j 0 ≡ 18 → TermIn w ρ 3 i (j + 1) n
   unfolding TermGrouped plain_term term_codes code_of
   bracketed-in {i} p a q =
-      let x = fixed-at t kind.openBracket p (omega arith) in
-      let y = fixed-at t kind.closeBracket q (omega arith) in
+      let x = fixed-at t kind.open_bracket p (omega arith) in
+      let y = fixed-at t kind.close_bracket q (omega arith) in
       let e = add-one i in
       record {
         tree = group a.tree;
@@ -114,7 +114,7 @@ module _ {w : List Symbol} {ρ : Numbering} (t : Text w ρ) where
   pub listed_in : {i j : ℕ} {n : List ℕ} → get_or (codes w) i 0 ≡ 19 → ItemsIn w ρ (i + 1) j n → TermIn w ρ 3 i j (n ++ node 7 i 0 0)
   unfolding TermGrouped plain_term term_codes code_of
   listed_in {i} p a =
-      let x = fixed-at t kind.openBrace p (omega arith) in
+      let x = fixed-at t kind.open_brace p (omega arith) in
       let e = add-one i in
       record {
         tree = listed a.tree;
@@ -129,7 +129,7 @@ module _ {w : List Symbol} {ρ : Numbering} (t : Text w ρ) where
   pub paired-in : {i j : ℕ} {n : List ℕ} → get_or (codes w) i 0 ≡ 19 → PairsIn w ρ (i + 1) j n → TermIn w ρ 3 i j (n ++ node 8 i 0 0)
   unfolding TermGrouped plain_term term_codes code_of
   paired-in {i} p a =
-      let x = fixed-at t kind.openBrace p (omega arith) in
+      let x = fixed-at t kind.open_brace p (omega arith) in
       let e = add-one i in
       record {
         tree = pairs a.tree;
@@ -146,12 +146,12 @@ module _ {w : List Symbol} {ρ : Numbering} (t : Text w ρ) where
       → TermIn w ρ 3 i (j + 1) ((n ++ node 1 (i + 1 + 1 + 1) (name_code (codes w) (values ρ w) (i + 1 + 1 + 1)) 0) ++ node 6 i (name_code (codes w) (values ρ w) (i + 1)) 0)
   unfolding TermGrouped plain_term term_codes code_of
   such_in {i} {j} {n} o x c g b a q =
-      let o = fixed-at t kind.openBrace o (omega arith) in
+      let o = fixed-at t kind.open_brace o (omega arith) in
       let x = plain_at t x in
       let c = fixed-at t kind.colon c (omega arith) in
       let g = name-at t g in
       let b = fixed-at t kind.bar b (omega arith) in
-      let q = fixed-at t kind.closeBrace q (omega arith) in
+      let q = fixed-at t kind.close_brace q (omega arith) in
       let e : i + 1 + 1 + 1 ≡ i + 3 = omega arith in
       let f : i + 1 + 1 + 1 + 1 + 1 ≡ i + 5 = omega arith in
       record {
@@ -184,7 +184,7 @@ module _ {w : List Symbol} {ρ : Numbering} (t : Text w ρ) where
   pub items-end : {i j : ℕ} {m : List ℕ} → TermIn w ρ 1 i j m → get_or (codes w) j 0 ≡ 20 → ItemsIn w ρ i (j + 1) (m ++ node 1 0 0 0)
   unfolding TermGrouped plain_term term_codes code_of
   items-end a q =
-      let q = fixed-at t kind.closeBrace q (omega arith) in
+      let q = fixed-at t kind.close_brace q (omega arith) in
       record { tree = only a.tree; grouped = a.grouped; ahead = let l = a.ahead in omega arith; inside = q.inside; symbols = cc; nodes = cc }
 
   pub items_more : {i j k : ℕ} {m n : List ℕ} → TermIn w ρ 1 i j m → get_or (codes w) j 0 ≡ 12 → ItemsIn w ρ (j + 1) k n → ItemsIn w ρ i k (m ++ (n ++ node 2 0 0 0))
@@ -207,7 +207,7 @@ module _ {w : List Symbol} {ρ : Numbering} (t : Text w ρ) where
   unfolding TermGrouped plain_term term_codes code_of
   pairs_end {i} {j} a p b q =
       let p = fixed-at t kind.maplet p (omega arith) in
-      let q = fixed-at t kind.closeBrace q (omega arith) in
+      let q = fixed-at t kind.close_brace q (omega arith) in
       let x = term-width a in
       let e = add-one j in
       record {

@@ -8,8 +8,8 @@ use Rattle.lexical.specs.Kinds as kind
 use Rattle.lexical.specs.Kinds.{Kind, code_of, marks, words}
 use Rattle.lexical.specs.Lists.{bytes, begins, all, any}
 use Rattle.lexical.specs.Promises.{code_in, taken, filled, first_of, fault_of, fault_in, written, has_letters, first_named, value_at, Scans}
-use Rattle.lexical.specs.Refusals.{Fault, fault, least, longText, manySymbols}
-use Rattle.lexical.specs.Symbols.{Class, letter, digit, mark, blank, other, Ending, noEnding, prime, query, shriek, Name, Symbol, fixed, numeral, name, kind_of, Found, gap, unlisted, found}
+use Rattle.lexical.specs.Refusals.{Fault, fault, least, long_text, many_symbols}
+use Rattle.lexical.specs.Symbols.{Class, letter, digit, mark, blank, other, Ending, no_ending, prime, query, shriek, Name, Symbol, fixed, numeral, name, kind_of, Found, gap, unlisted, found}
 use Rattle.lexical.specs.Symbols.{Placed, Scan, done, stopped, next, scanned, scan_from, scan, symbols, length_faults, scan_faults}
 use Rattle.lexical.specs.Symbols.{class_of, is_digit, run, decimal_from, is_number, number_found, reserved, ending_of, ending_length, word_of, longer, longest, by_class, symbol_at}
 use Rattle.lexical.specs.declared.Scanned.TheVariants.{Symbols, LongText, UnlistedSymbol, ManySymbols}
@@ -63,7 +63,7 @@ word_below r e none = on (leb (length r) 16)
     on : (b : Bool) → BelowFound (cond b (found (name (record { letters = r; ending = e })) (length r + ending_length e)) unlisted)
     on true = tt
     on false = tt
-word_below r noEnding (some k) = tt
+word_below r no_ending (some k) = tt
 word_below r prime (some k) = tt
 word_below r query (some k) = tt
 word_below r shriek (some k) = tt
@@ -129,7 +129,7 @@ not-long : (text : List ℕ) → length_faults text ≡ [] → length text ≤ 3
 unfolding length_faults
 not-long text e = on (ltb 32768 (length text)) refl e
   where
-    on : (b : Bool) → ltb 32768 (length text) ≡ b → cond b (fault 32768 longText ∷ []) [] ≡ [] → length text ≤ 32768
+    on : (b : Bool) → ltb 32768 (length text) ≡ b → cond b (fault 32768 long_text ∷ []) [] ≡ [] → length text ≤ 32768
     on true t q = absurd (none-some _ _ q)
     on false t q = ltb-false 32768 (length text) t
 
@@ -139,7 +139,7 @@ not-many done n l e = omega arith
 not-many (stopped p) n l e = absurd (none-some _ _ e)
 not-many (next x s) n l e = on (eqb n 4096) refl e (not-many s (suc n))
   where
-    on : (b : Bool) → eqb n 4096 ≡ b → ◌≡◌ {A = List Fault} (elim b [ true ↦ fault x.place manySymbols ∷ scan_faults (suc n) s | false ↦ scan_faults (suc n) s ]) []
+    on : (b : Bool) → eqb n 4096 ≡ b → ◌≡◌ {A = List Fault} (elim b [ true ↦ fault x.place many_symbols ∷ scan_faults (suc n) s | false ↦ scan_faults (suc n) s ]) []
         → (suc n ≤ 4096 → scan_faults (suc n) s ≡ [] → suc n + length (symbols s) ≤ 4096) → n + suc (length (symbols s)) ≤ 4096
     on true t q r = absurd (none-some _ _ q)
     on false t q r = let d : n ≡ 4096 → ⊥ = eqb-false n 4096 t in let m = r (omega arith) q in omega arith

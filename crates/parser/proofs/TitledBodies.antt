@@ -6,8 +6,8 @@ use native.Mathlib.Omega.{arith}
 use lib.ListN.{length, length-map}
 use Rattle.lexical.specs.Kinds as kind
 use Rattle.lexical.specs.Lists.{same}
-use Rattle.lexical.specs.Refusals.{Fault, fault, headingDiffers, unless}
-use Rattle.lexical.specs.Symbols.{noEnding}
+use Rattle.lexical.specs.Refusals.{Fault, fault, heading_differs, unless}
+use Rattle.lexical.specs.Symbols.{no_ending}
 use Rattle.form.specs.Tree.{Letters, Given, elements, Operation, Dossier}
 use Rattle.form.specs.Written.{Written, bare, write_contents, write_givens, write_state, write_where, write_operations, written, symbols_of}
 use Rattle.form.specs.Headings.{givens_at, abstract_at, concrete_at, ainit_at, cinit_at, retrieve_at, operations_at, given_length, operation_length, given_headings}
@@ -30,15 +30,15 @@ pub givens-codes : (i : ℕ) (gs : List Given) (ρ : Numbering) → given_codes 
 unfolding given_codes
 givens-codes i [] ρ = refl
 givens-codes i (g ∷ gs) ρ =
-    ap (λ (l : List ℕ). node 3 i (number_of_name ρ g.title noEnding) 0 ++ (element_codes (i + 2) (elements g) ρ ++ l)) (givens-codes (i + given_length g) gs ρ)
+    ap (λ (l : List ℕ). node 3 i (number_of_name ρ g.title no_ending) 0 ++ (element_codes (i + 2) (elements g) ρ ++ l)) (givens-codes (i + given_length g) gs ρ)
 
 pub givens-faults : (i : ℕ) (xs : List Letters) (gs : List Given) (ρ : Numbering) → given_headings i xs gs ≡ faults (givens_end i gs) xs (given_bodies i gs ρ)
 unfolding given_headings
 givens-faults i [] [] ρ = refl
-givens-faults i [] (g ∷ gs) ρ = ap (λ (l : List Fault). fault i headingDiffers ∷ l) (givens-faults (i + given_length g) [] gs ρ)
+givens-faults i [] (g ∷ gs) ρ = ap (λ (l : List Fault). fault i heading_differs ∷ l) (givens-faults (i + given_length g) [] gs ρ)
 givens-faults i (x ∷ xs) [] ρ = refl
 givens-faults i (x ∷ xs) (g ∷ gs) ρ =
-    ap (λ (l : List Fault). unless (same x g.title) (fault i headingDiffers) ++ l) (givens-faults (i + given_length g) xs gs ρ)
+    ap (λ (l : List Fault). unless (same x g.title) (fault i heading_differs) ++ l) (givens-faults (i + given_length g) xs gs ρ)
 
 pub givens-risen : (j i : ℕ) (gs : List Given) (ρ : Numbering) → j ≤ i → Risen j (given_bodies i gs ρ) (givens_end i gs)
 givens-risen j i [] ρ l = l
@@ -70,7 +70,7 @@ operations-codes i (o ∷ os) ρ =
     let A : List ℕ = condition_codes (abstractly_at i o) o.abstractly ρ in
     let C : List ℕ = condition_codes (suc (abstractly_at i o) + pred_width o.abstractly) o.concretely ρ in
     let B : List ℕ = body_codes 8 ρ (operation_bodies (i + operation_length o) os ρ) in
-    ap (λ (l : List ℕ). node 8 i (number_of_name ρ o.title noEnding) 0 ++ l)
+    ap (λ (l : List ℕ). node 8 i (number_of_name ρ o.title no_ending) 0 ++ l)
     (ap (λ (l : List ℕ). P ++ (A ++ (C ++ l))) (operations-codes (i + operation_length o) os ρ)
     ∙ ap (λ (l : List ℕ). P ++ l) (sym (append_assoc A C B)) ∙ sym (append_assoc P (A ++ C) B))
 
@@ -78,10 +78,10 @@ pub operations-faults : (i : ℕ) (xs : List Letters) (os : List Operation) (ρ 
     → operation_headings i xs os ≡ faults (operations_end i os) xs (operation_bodies i os ρ)
 unfolding operation_headings
 operations-faults i [] [] ρ = refl
-operations-faults i [] (o ∷ os) ρ = ap (λ (l : List Fault). fault i headingDiffers ∷ l) (operations-faults (i + operation_length o) [] os ρ)
+operations-faults i [] (o ∷ os) ρ = ap (λ (l : List Fault). fault i heading_differs ∷ l) (operations-faults (i + operation_length o) [] os ρ)
 operations-faults i (x ∷ xs) [] ρ = refl
 operations-faults i (x ∷ xs) (o ∷ os) ρ =
-    ap (λ (l : List Fault). unless (same x o.title) (fault i headingDiffers) ++ l) (operations-faults (i + operation_length o) xs os ρ)
+    ap (λ (l : List Fault). unless (same x o.title) (fault i heading_differs) ++ l) (operations-faults (i + operation_length o) xs os ρ)
 
 pub operations-risen : (j i : ℕ) (os : List Operation) (ρ : Numbering) → j ≤ i → Risen j (operation_bodies i os ρ) (operations_end i os)
 operations-risen j i [] ρ l = l

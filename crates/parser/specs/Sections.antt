@@ -3,7 +3,7 @@ use Rattle.std.specs.Prelude.{◌≡◌, Bool, true, false, cond, List, ℕ, ◌
 use Rattle.std.proofs.Math.Option.{none, some}
 use Rattle.lexical.specs.Kinds as kind
 use Rattle.lexical.specs.Symbols.{Name, Symbol, fixed, name}
-use Rattle.lexical.specs.Refusals.{Fault, fault, headingDiffers, least}
+use Rattle.lexical.specs.Refusals.{Fault, fault, heading_differs, least}
 use Rattle.form.specs.Tree.{Dossier}
 use Rattle.form.specs.Written.{symbols_of}
 use Rattle.form.specs.Headings.{heading_faults, givens_at, abstract_at, concrete_at, ainit_at, cinit_at, retrieve_at}
@@ -62,7 +62,7 @@ Tells ρ w =
 -- the least of some faults of number 7
 abbrev pub Finds : List Fault → Heads → Type 0
 Finds f Fit = least f ≡ none
-Finds f (Differ p) = least f ≡ some (fault p headingDiffers)
+Finds f (Differ p) = least f ≡ some (fault p heading_differs)
 
 abbrev pub Headed : List ℕ → (m symbols : ℕ) → Heads → Type 0
 Headed a m symbols r =

@@ -2,10 +2,10 @@
 ghost use Rattle.std.specs.Prelude.{◌≡◌, [], ◌∷◌, ◌++◌, ◌+◌, ◌*◌, ◌≤◌, ◌<◌, length, get_or};
 ghost use Rattle.lexical.specs.Kinds as kind;
 ghost use Rattle.lexical.specs.Kinds.{Kind, code_of};
-ghost use Rattle.form.specs.Machine.{exact, someBodies, someOperations, some_parameters};
+ghost use Rattle.form.specs.Machine.{exact, some_bodies, some_operations, some_parameters};
 ghost use Rattle.form_nodes.specs.FormPromises.{Reads, Room};
 ghost use Rattle.form_nodes.specs.Derivations as part;
-ghost use Rattle.form_nodes.specs.Derivations.{Made, aCondition, a_state, aWhere, someGivens};
+ghost use Rattle.form_nodes.specs.Derivations.{Made, a_condition, a_state, a_where, some_givens};
 ghost use Rattle.declarations.specs.DossierPromises.{a_condition_to, a_state_of, a_where_of, More, Sequenced, two_states, three_conditions, Formed};
 
 use declarations::contents::{contents, declarations, givens, parameters};
@@ -22,7 +22,7 @@ use lexical::refusals::{MANY_DECLARED, NO_DOSSIER};
 // A predicate and the word behind it. The node that counts its numbers is written last, in front of them.
 fn condition(s: &[u8], v: &[u16], at: usize, word: u8, code: &mut [u16], n: usize) -> Read
     requires { Room s.now code.old at (n + 4) }
-    ensures { ((κ : Kind) → (code_of κ ≡ word) → Reads s.now at n (a_condition_to κ) [] result) × Made s.now v.now (aCondition word) at n code.old code.new result }
+    ensures { ((κ : Kind) → (code_of κ ≡ word) → Reads s.now at n (a_condition_to κ) [] result) × Made s.now v.now (a_condition word) at n code.old code.new result }
 {
     match pred(s, v, at, 0, 0, code, n + node::SIZE) {
         Read::At(e, m) => {
@@ -63,7 +63,7 @@ fn state(s: &[u8], v: &[u16], at: usize, word: u8, code: &mut [u16], n: usize) -
 // The body of ainit, cinit or retrieve, by its heading.
 fn where_of(s: &[u8], v: &[u16], at: usize, word: u8, code: &mut [u16], n: usize) -> Read
     requires { Room s.now code.old at n × (1 ≤ word) }
-    ensures { ((κ : Kind) → (code_of κ ≡ word) → Reads s.now at n (a_where_of κ) [] result) × Made s.now v.now (aWhere word) at n code.old code.new result }
+    ensures { ((κ : Kind) → (code_of κ ≡ word) → Reads s.now at n (a_where_of κ) [] result) × Made s.now v.now (a_where word) at n code.old code.new result }
 {
     match close(s, at, word, n) {
         Read::At(a, x) => match close(s, a, codes::WHERE, n) {
@@ -77,7 +77,7 @@ fn where_of(s: &[u8], v: &[u16], at: usize, word: u8, code: &mut [u16], n: usize
 // The body of an operation behind its name.
 fn operation(s: &[u8], v: &[u16], at: usize, code: &mut [u16], n: usize) -> Read
     requires { Room s.now code.old at n × (at + 1 < length s.now) × (get_or s.now at 0 ≡ 43) × (get_or s.now (at + 1) 0 ≡ 2) }
-    ensures { Reads s.now (at + 1 + 1) (n + 4) (some_parameters 0 0 ∷ a_condition_to kind.CONCRETE ++ a_condition_to kind.END) ([]) result × More s.now v.now part.someOperations at n code.old code.new result }
+    ensures { Reads s.now (at + 1 + 1) (n + 4) (some_parameters 0 0 ∷ a_condition_to kind.CONCRETE ++ a_condition_to kind.END) ([]) result × More s.now v.now part.some_operations at n code.old code.new result }
 {
     let x = name_number(s, v, at + 1);
     let m = put(code, n, shapes::OPERATION, at, x, 0);
@@ -96,7 +96,7 @@ fn operation(s: &[u8], v: &[u16], at: usize, code: &mut [u16], n: usize) -> Read
 // The bodies of operations.
 fn operations(s: &[u8], v: &[u16], start: usize, code: &mut [u16], from: usize) -> Read
     requires { Room s.now code.old start from }
-    ensures { Reads s.now start from (someOperations 0 ∷ []) ([]) result × Made s.now v.now part.someOperations start from code.old code.new result }
+    ensures { Reads s.now start from (some_operations 0 ∷ []) ([]) result × Made s.now v.now part.some_operations start from code.old code.new result }
 {
     let mut at = start;
     let mut n = from;
@@ -135,7 +135,7 @@ fn states(s: &[u8], v: &[u16], at: usize, code: &mut [u16], n: usize) -> Read
 // ainit, cinit and retrieve.
 fn conditions(s: &[u8], v: &[u16], at: usize, code: &mut [u16], n: usize) -> Read
     requires { Room s.now code.old at n }
-    ensures { Reads s.now at n three_conditions [] result × Sequenced s.now v.now (aWhere 40 ∷ aWhere 41 ∷ aWhere 42 ∷ []) at n code.old code.new result }
+    ensures { Reads s.now at n three_conditions [] result × Sequenced s.now v.now (a_where 40 ∷ a_where 41 ∷ a_where 42 ∷ []) at n code.old code.new result }
 {
     match where_of(s, v, at, codes::AINIT, code, n) {
         Read::At(a, x) => match where_of(s, v, a, codes::CINIT, code, x) {
@@ -149,7 +149,7 @@ fn conditions(s: &[u8], v: &[u16], at: usize, code: &mut [u16], n: usize) -> Rea
 // All bodies.
 fn bodies(s: &[u8], v: &[u16], at: usize, code: &mut [u16], n: usize) -> Read
     requires { Room s.now code.old at n }
-    ensures { Reads s.now at n (someBodies 0 ∷ []) ([]) result × Sequenced s.now v.now (someGivens ∷ a_state 38 ∷ a_state 39 ∷ aWhere 40 ∷ aWhere 41 ∷ aWhere 42 ∷ part.someOperations ∷ []) at n code.old code.new result }
+    ensures { Reads s.now at n (some_bodies 0 ∷ []) ([]) result × Sequenced s.now v.now (some_givens ∷ a_state 38 ∷ a_state 39 ∷ a_where 40 ∷ a_where 41 ∷ a_where 42 ∷ part.some_operations ∷ []) at n code.old code.new result }
 {
     match givens(s, v, at, code, n) {
         Read::At(a, x) => match states(s, v, a, code, x) {

@@ -11,7 +11,7 @@ use lib.Arith.{digits_lt, digits_div, digits_mod}
 use lib.ListN.{length, get_or}
 use borrow.Author.Tests.{lt-ltb, le-ltb}
 use Rattle.lexical.specs.Lists.{upward}
-use Rattle.lexical.specs.Symbols.{noEnding, prime, Ending}
+use Rattle.lexical.specs.Symbols.{no_ending, prime, Ending}
 use Rattle.form.specs.Tree.{Given, Declaration, declarations, State, Dossier}
 use Rattle.static_rules.specs.Carriers.{Carrier, Variable, count_of, carrier_of}
 use Rattle.static_rules.specs.Limits.{binding_count}
@@ -139,19 +139,19 @@ unfolding variables
 no_variable gs e x ds h = rw (variables, h)
 
 -- a type at fault has no variable in either list
-declared-primes : (gs : List Given) (ds : List Declaration) → Primes (variables gs noEnding ds) (variables gs prime ds)
+declared-primes : (gs : List Given) (ds : List Declaration) → Primes (variables gs no_ending ds) (variables gs prime ds)
 unfolding variables
 declared-primes gs [] = no_primes
 declared-primes gs (x ∷ ds) = go (carrier_of gs x.type) refl (declared-primes gs ds)
   where
-    go : (o : Option Carrier) → carrier_of gs x.type ≡ o → Primes (variables gs noEnding ds) (variables gs prime ds)
-        → Primes (variables gs noEnding (x ∷ ds)) (variables gs prime (x ∷ ds))
+    go : (o : Option Carrier) → carrier_of gs x.type ≡ o → Primes (variables gs no_ending ds) (variables gs prime ds)
+        → Primes (variables gs no_ending (x ∷ ds)) (variables gs prime (x ∷ ds))
     go none e r =
-        subst (λ (v : List Variable). Primes v (variables gs prime (x ∷ ds))) (sym (no_variable gs noEnding x ds e))
-        (subst (λ (v : List Variable). Primes (variables gs noEnding ds) v) (sym (no_variable gs prime x ds e)) r)
+        subst (λ (v : List Variable). Primes v (variables gs prime (x ∷ ds))) (sym (no_variable gs no_ending x ds e))
+        (subst (λ (v : List Variable). Primes (variables gs no_ending ds) v) (sym (no_variable gs prime x ds e)) r)
     go (some c) e r =
-        subst (λ (v : List Variable). Primes v (variables gs prime (x ∷ ds))) (sym (one-variable gs noEnding x ds c e))
-        (subst (λ (v : List Variable). Primes (record { called = record { letters = x.declared; ending = noEnding }; carrier = c } ∷ variables gs noEnding ds) v)
+        subst (λ (v : List Variable). Primes v (variables gs prime (x ∷ ds))) (sym (one-variable gs no_ending x ds c e))
+        (subst (λ (v : List Variable). Primes (record { called = record { letters = x.declared; ending = no_ending }; carrier = c } ∷ variables gs no_ending ds) v)
         (sym (one-variable gs prime x ds c e)) (more_primes r))
 
 pub state-primes : (d : Dossier) (s : State) → Primes (unprimed d s) (primed d s)

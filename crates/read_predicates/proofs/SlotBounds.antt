@@ -6,7 +6,7 @@ use Prim.Native.Nat.{ℕ, zero, suc, ◌+◌, ◌*◌, ◌≤◌}
 use native.Mathlib.Omega.{arith}
 use lib.ListN.{length, get_elem?, length-map}
 use Rattle.lexical.specs.Lists.{filter}
-use Rattle.lexical.specs.Symbols.{noEnding, prime}
+use Rattle.lexical.specs.Symbols.{no_ending, prime}
 use Rattle.form.specs.Tree.{Letters, declarations, inward, outward, Parameter, Operation, Dossier}
 use Rattle.form.specs.Written.{ending_of}
 use Rattle.form.specs.Headings.{operations_at, operation_length}
@@ -41,11 +41,11 @@ entry-below _ (suc n) W (one_below {Ws = Ws} h r) e = entry-below Ws n W r e
 module _ (d : Dossier) (f : Few d) where
   abstract-below : Below 38 (abstract_slots d)
   abstract-below =
-      let l = variables-few d.givens noEnding (declarations d.abstract) in let k = f.abstract in below-slotted 0 (unprimed d d.abstract) (omega arith)
+      let l = variables-few d.givens no_ending (declarations d.abstract) in let k = f.abstract in below-slotted 0 (unprimed d d.abstract) (omega arith)
 
   concrete-below : Below 38 (concrete_slots d)
   concrete-below =
-      let l = variables-few d.givens noEnding (declarations d.concrete) in let k = f.concrete in below-slotted 8 (unprimed d d.concrete) (omega arith)
+      let l = variables-few d.givens no_ending (declarations d.concrete) in let k = f.concrete in below-slotted 8 (unprimed d d.concrete) (omega arith)
 
   abstract-primed-below : Below 38 (slotted 30 (primed d d.abstract))
   abstract-primed-below =

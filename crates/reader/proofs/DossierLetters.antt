@@ -4,11 +4,11 @@ use mathlib.Core.Bool.{Bool, true, false}
 use mathlib.Core.List.{List, [], ◌∷◌}
 use Prim.Native.Nat.{◌≤◌}
 use Rattle.lexical.specs.Kinds.{Kind}
-use Rattle.lexical.specs.Symbols.{noEnding, Symbol, numeral}
+use Rattle.lexical.specs.Symbols.{no_ending, Symbol, numeral}
 use Rattle.form.specs.Tree.{Letters, End, Range, Domain, given_set, range}
 use Rattle.form.specs.Tree.{Term, number, name, group, prefix, binary, divided, listed, pairs, such, empty_set, empty_pairs, Items, only, also, Pairs, only_pair, also_pair}
 use Rattle.form.specs.Tree.{Pred, truth, falsity, negation, paren, quantified, connected, compared, member, within, related}
-use Rattle.form.specs.Tree.{TypeForm, givenType, powerType, range_type, arrow_type, Declaration, declarations, Parameter, Given, Operation, Dossier}
+use Rattle.form.specs.Tree.{TypeForm, given_type, power_type, range_type, arrow_type, Declaration, declarations, Parameter, Given, Operation, Dossier}
 use Rattle.form.specs.Written.{symbols_of}
 use Rattle.form.proofs.PlainSymbols.{plain_minus, plain_end, plain_range, plain_domain, plain_term, plain_items, plain_pairs, plain_pred, plain_type, plain_entries, plain_elements, plain_givens}
 use Rattle.form.proofs.PlainSymbols.{plain_declarations, plain_where, plain_parameters, plain_operations, plain_dossier, dossier-plain}
@@ -83,8 +83,8 @@ module _ (P : Letters → Type 0) where
         let a = term t _ h in let b = term u _ (rest a.1) in let c = term v w (rest b.1) in ((a.0, b.0, c.0), c.1)
 
   type : (t : TypeForm) (w : List Symbol) → AllFit P (plain_type t w) → TypeIn P t × AllFit P w
-  type (givenType g) w h = (first h, rest h)
-  type (powerType g) w h = (first (rest h), rest (rest h))
+  type (given_type g) w h = (first h, rest h)
+  type (power_type g) w h = (first (rest h), rest (rest h))
   type (range_type r) w h = ranged r w h
   type (arrow_type a g f) w h = ((first h, first (rest (rest h))), rest (rest (rest h)))
 
@@ -103,7 +103,7 @@ module _ (P : Letters → Type 0) where
       let b = givens gs w (rest a.1) in
       (one_given (first (rest h)) (one_in (first (rest (rest h))) a.0) b.0, b.1)
 
-  declared : (ds : List Declaration) (w : List Symbol) → AllFit P (plain_declarations ds w) → TypedIn P (variables_of noEnding ds) × AllFit P w
+  declared : (ds : List Declaration) (w : List Symbol) → AllFit P (plain_declarations ds w) → TypedIn P (variables_of no_ending ds) × AllFit P w
   unfolding variables_of
   declared [] w h = (no_typed, h)
   declared (d ∷ ds) w h =

@@ -7,7 +7,7 @@ use Prim.Native.Nat.{ℕ, suc, ◌+◌, ◌-◌, ◌/◌, ◌%◌, ◌<◌}
 use native.Mathlib.Omega.{arith}
 use Rattle.lexical.specs.Lists.{concat}
 use Rattle.lexical.specs.Refusals as faults
-use Rattle.lexical.specs.Refusals.{Fault, fault, number_of, before, least, manyBindings}
+use Rattle.lexical.specs.Refusals.{Fault, fault, number_of, before, least, many_bindings}
 use Rattle.form.specs.Tree.{declarations, Operation, Dossier}
 use Rattle.form.specs.Headings.{givens_at, abstract_at, concrete_at, operations_at, operation_length}
 use Rattle.static_rules.specs.Scope.{Context, given_names, abstract_taken, concrete_taken, contexts}
@@ -80,17 +80,17 @@ names-small d =
     (heads-small d (concrete_taken d) (operations_at d) d.operations)) (contexts-small context_faults predicate-small (contexts d))
 
 -- 12
-twelve : number_of manyBindings < key_room
+twelve : number_of many_bindings < key_room
 unfolding number_of
 twelve = omega arith
 
 operations-small : (d : Dossier) (i : ℕ) (os : List Operation) → Small (operation_bindings d i os)
 unfolding operation_bindings
 operations-small d i [] = no_fault
-operations-small d i (o ∷ os) = small-append (small-unless _ (fault i manyBindings) twelve) (operations-small d (i + operation_length o) os)
+operations-small d i (o ∷ os) = small-append (small-unless _ (fault i many_bindings) twelve) (operations-small d (i + operation_length o) os)
 
 pub bindings-small : (d : Dossier) → Small (binding_faults d)
 unfolding binding_faults
 bindings-small d =
-    small-append (small-append (small-unless _ (fault (abstract_at d) manyBindings) twelve) (small-unless _ (fault (concrete_at d) manyBindings) twelve))
+    small-append (small-append (small-unless _ (fault (abstract_at d) many_bindings) twelve) (small-unless _ (fault (concrete_at d) many_bindings) twelve))
     (operations-small d (operations_at d) d.operations)

@@ -10,7 +10,7 @@ use lib.ListN.{length, drop, get_or}
 use borrow.Author.Tests.{ltb-true, ltb-false, lt-ltb}
 use Rattle.lexical.specs.Kinds.{Kind}
 use Rattle.lexical.specs.Symbols.{Symbol}
-use Rattle.lexical.specs.Refusals.{manyDeclared}
+use Rattle.lexical.specs.Refusals.{many_declared}
 use Rattle.form.specs.Tree.{Letters, Given, Operation, Dossier}
 use Rattle.form.specs.Written.{Mark, unmarked, a_given, an_element, an_operation, Written, write_elements, write_givens, write_operations, written}
 use Rattle.form.specs.Form.{Forms, kind_at, refuse, excess, settled}
@@ -38,20 +38,20 @@ marked (here e) = record { at = 0; inside = omega arith; is = e }
 marked (there h) = let k = marked h in let l = k.inside in record { at = suc k.at; inside = omega arith; is = k.is }
 
 -- a mark over a limit stands at no symbol of a dossier without faults
-pub no_mark : {w : List Symbol} {d : Dossier} → Forms w d → (m : Mark) → ((k s : Kind) (rest : List Symbol) → settled k s rest m ≡ some manyDeclared) → ¬ Has m (written d)
+pub no_mark : {w : List Symbol} {d : Dossier} → Forms w d → (m : Mark) → ((k s : Kind) (rest : List Symbol) → settled k s rest m ≡ some many_declared) → ¬ Has m (written d)
 no_mark {w} {d} f m over h =
     let k = marked h in
-    no-excess f k.at k.inside manyDeclared (ap (settled (kind_at w (pred k.at)) (kind_at w k.at) (drop (suc k.at) w)) k.is ∙ over _ _ _)
+    no-excess f k.at k.inside many_declared (ap (settled (kind_at w (pred k.at)) (kind_at w k.at) (drop (suc k.at) w)) k.is ∙ over _ _ _)
 
-pub refused : (limit n : ℕ) → limit < n → refuse (ltb limit n) manyDeclared ≡ some manyDeclared
+pub refused : (limit n : ℕ) → limit < n → refuse (ltb limit n) many_declared ≡ some many_declared
 unfolding refuse
-refused limit n l = ap (λ (b : Bool). refuse b manyDeclared) (lt-ltb limit n l)
+refused limit n l = ap (λ (b : Bool). refuse b many_declared) (lt-ltb limit n l)
 
-given-over : (n : ℕ) → 9 ≤ n → (k s : Kind) (rest : List Symbol) → settled k s rest (a_given n) ≡ some manyDeclared
+given-over : (n : ℕ) → 9 ≤ n → (k s : Kind) (rest : List Symbol) → settled k s rest (a_given n) ≡ some many_declared
 unfolding settled excess
 given-over n l k s rest = refused 8 n l
 
-element-over : (n : ℕ) → 9 ≤ n → (k s : Kind) (rest : List Symbol) → settled k s rest (an_element n) ≡ some manyDeclared
+element-over : (n : ℕ) → 9 ≤ n → (k s : Kind) (rest : List Symbol) → settled k s rest (an_element n) ≡ some many_declared
 unfolding settled excess
 element-over n l k s rest = refused 8 n l
 
@@ -101,7 +101,7 @@ forms-fewer {w} {d} f =
 
 -- ---- operations ----
 
-operation-over : (n : ℕ) → 17 ≤ n → (k s : Kind) (rest : List Symbol) → settled k s rest (an_operation n) ≡ some manyDeclared
+operation-over : (n : ℕ) → 17 ≤ n → (k s : Kind) (rest : List Symbol) → settled k s rest (an_operation n) ≡ some many_declared
 unfolding settled excess
 operation-over n l k s rest = refused 16 n l
 

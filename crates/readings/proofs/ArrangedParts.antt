@@ -4,8 +4,8 @@ use mathlib.Core.List.{List, [], ◌∷◌, ◌++◌, append-nil}
 use Prim.Native.Nat.{ℕ, suc, ◌+◌, ◌*◌, ◌≤◌}
 use native.Mathlib.Omega.{arith}
 use lib.ListN.{length, length-append}
-use Rattle.form.specs.Tree.{TypeForm, givenType, powerType, range_type, arrow_type, Declaration, declarations, Parameter, State, Operation, Dossier}
-use Rattle.lexical.specs.Symbols.{noEnding, Ending}
+use Rattle.form.specs.Tree.{TypeForm, given_type, power_type, range_type, arrow_type, Declaration, declarations, Parameter, State, Operation, Dossier}
+use Rattle.lexical.specs.Symbols.{no_ending, Ending}
 use Rattle.form.specs.Written.{ending_of}
 use Rattle.form.specs.Headings.{abstract_at, concrete_at, ainit_at, cinit_at, retrieve_at, operations_at, operation_length}
 use Rattle.form.specs.Codes.{Numbering, type_codes, type_width, declaration_code, declaration_codes, parameter_codes, condition_codes, state_codes, operation_codes}
@@ -43,8 +43,8 @@ operations-end (one_left i j a b c e r) = let l = operations-end r in omega arit
 -- ---- lengths
 
 type-four : (t : TypeForm) (i : ℕ) (ρ : Numbering) → length (type_codes t i ρ) ≡ 4
-type-four (givenType g) i ρ = refl
-type-four (powerType g) i ρ = refl
+type-four (given_type g) i ρ = refl
+type-four (power_type g) i ρ = refl
 type-four (range_type r) i ρ = refl
 type-four (arrow_type a g h) i ρ = refl
 
@@ -55,8 +55,8 @@ declarations-long : (i : ℕ) (ds : List Declaration) (ρ : Numbering) → lengt
 unfolding declaration_codes
 declarations-long i [] ρ = refl
 declarations-long i (x ∷ ds) ρ =
-    let a = length-append (declaration_code i noEnding x ρ) (declaration_codes (i + 3 + type_width x.type) ds ρ) in
-    let b = declaration-eight i noEnding x ρ in
+    let a = length-append (declaration_code i no_ending x ρ) (declaration_codes (i + 3 + type_width x.type) ds ρ) in
+    let b = declaration-eight i no_ending x ρ in
     let c = declarations-long (i + 3 + type_width x.type) ds ρ in
     omega arith
 

@@ -9,8 +9,8 @@ use lib.Dec.{leb}
 use lib.ListN.{length, get_elem?, take, drop}
 use lib.Seq.{length-take-le}
 use borrow.Author.Tests.{leb-true}
-use Rattle.lexical.specs.Symbols.{noEnding}
-use Rattle.lexical.specs.Refusals.{fault, unless, manyBindings}
+use Rattle.lexical.specs.Symbols.{no_ending}
+use Rattle.lexical.specs.Refusals.{fault, unless, many_bindings}
 use Rattle.form.specs.Tree.{Given, Declaration, declarations, inward, outward, Parameter, Operation, Dossier}
 use Rattle.form.specs.Written.{ending_of}
 use Rattle.form.specs.Headings.{abstract_at, concrete_at, operations_at, operation_length}
@@ -66,8 +66,8 @@ pub state-bindings : (d : Dossier) → binding_faults d ≡ []
     → (binding_count (unprimed d d.abstract) ≤ 4096) × (binding_count (unprimed d d.concrete) ≤ 4096) × (operation_bindings d (operations_at d) d.operations ≡ [])
 unfolding binding_faults
 state-bindings d e =
-    let k = append_nil-three (unless (leb (binding_count (unprimed d d.abstract)) 4096) (fault (abstract_at d) manyBindings))
-    (unless (leb (binding_count (unprimed d d.concrete)) 4096) (fault (concrete_at d) manyBindings)) (operation_bindings d (operations_at d) d.operations) e in (
+    let k = append_nil-three (unless (leb (binding_count (unprimed d d.abstract)) 4096) (fault (abstract_at d) many_bindings))
+    (unless (leb (binding_count (unprimed d d.concrete)) 4096) (fault (concrete_at d) many_bindings)) (operation_bindings d (operations_at d) d.operations) e in (
       leb-true (binding_count (unprimed d d.abstract)) 4096 (unless-nil _ _ k.0),
       leb-true (binding_count (unprimed d d.concrete)) 4096 (unless-nil _ _ k.1),
       k.2,
@@ -78,11 +78,11 @@ pub operation-bindings : (d : Dossier) (i : ℕ) (os : List Operation) → opera
 unfolding operation_bindings
 operation-bindings d i [] e j o s = absurd (none-ne-some o s)
 operation-bindings d i (p ∷ os) e zero o s =
-    let k = append-nil (unless (leb (binding_count (inputs d p)) 64 && leb (binding_count (outputs d p)) 64) (fault i manyBindings)) (operation_bindings d (i + operation_length p) os) e in
+    let k = append-nil (unless (leb (binding_count (inputs d p)) 64 && leb (binding_count (outputs d p)) 64) (fault i many_bindings)) (operation_bindings d (i + operation_length p) os) e in
     subst (λ (x : Operation). (binding_count (inputs d x) ≤ 64) × (binding_count (outputs d x) ≤ 64)) (some-injective p o s)
     (both-few (binding_count (inputs d p)) (binding_count (outputs d p)) 64 (unless-nil _ _ k.0))
 operation-bindings d i (p ∷ os) e (suc j) o s =
-    let k = append-nil (unless (leb (binding_count (inputs d p)) 64 && leb (binding_count (outputs d p)) 64) (fault i manyBindings)) (operation_bindings d (i + operation_length p) os) e in
+    let k = append-nil (unless (leb (binding_count (inputs d p)) 64 && leb (binding_count (outputs d p)) 64) (fault i many_bindings)) (operation_bindings d (i + operation_length p) os) e in
     operation-bindings d (i + operation_length p) os k.1 j o s
 
 -- ---- the operation at a place
@@ -195,21 +195,21 @@ pub read-reading : (text nodes spans₀ table₀ groups₀ rows₀ firsts₀ spa
 read-reading text nodes spans₀ table₀ groups₀ rows₀ firsts₀ spans table groups rows firsts d m e h u z l k w = record {
   tests = read-tests text nodes spans₀ table₀ groups₀ rows₀ firsts₀ spans table groups rows firsts d m e h u z l k w;
   abstracts =
-      let n = variables-few gs noEnding (declarations d.abstract) in
+      let n = variables-few gs no_ending (declarations d.abstract) in
       let f = given.variables.abstract in
       let i = abstract-inside d ρ A in
       let q = long in
       group_at
-      (state-noded table gs few noEnding (subst (λ (t : List ℕ). TypesAt t gs (span s 0) (declarations d.abstract)) (sym w.table_is) (abstract_types d ρ A table₀ room))
+      (state-noded table gs few no_ending (subst (λ (t : List ℕ). TypesAt t gs (span s 0) (declarations d.abstract)) (sym w.table_is) (abstract_types d ρ A table₀ room))
       fine.abstract numbers.abstract_types (omega arith))
       0 8 places.behind_abstracts places.abstracts 8 4096 (omega arith) counts.0;
   concretes =
-      let n = variables-few gs noEnding (declarations d.concrete) in
+      let n = variables-few gs no_ending (declarations d.concrete) in
       let f = given.variables.concrete in
       let i = concrete-inside d ρ A in
       let q = long in
       group_at
-      (state-noded table gs few noEnding (subst (λ (t : List ℕ). TypesAt t gs (span s 3) (declarations d.concrete)) (sym w.table_is) (concrete_types d ρ A table₀ room))
+      (state-noded table gs few no_ending (subst (λ (t : List ℕ). TypesAt t gs (span s 3) (declarations d.concrete)) (sym w.table_is) (concrete_types d ρ A table₀ room))
       fine.concrete numbers.concrete_types (omega arith))
       9 8 places.behind_concretes places.concretes 8 4096 (omega arith) counts.1;
   operations = given.variables.operations;

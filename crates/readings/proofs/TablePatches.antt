@@ -6,7 +6,7 @@ use Prim.Native.Nat.{ℕ, ◌+◌, ◌-◌, ◌*◌, ◌<◌, ◌≤◌}
 use native.Mathlib.Omega.{arith}
 use lib.ListN.{length, get_or, take, drop, get_or-append}
 use lib.Seq.{length-take-le}
-use Rattle.form.specs.Tree.{Given, TypeForm, givenType, powerType, range_type, arrow_type, Declaration}
+use Rattle.form.specs.Tree.{Given, TypeForm, given_type, power_type, range_type, arrow_type, Declaration}
 use Rattle.form.specs.Codes.{Numbering, condition_codes, pred_codes}
 use Rattle.static_rules.specs.Scope.{Context}
 use Rattle.meaning.proofs.Places.{at-taken, at-dropped, at_right}
@@ -53,8 +53,8 @@ module _ (b : ℕ) (t out : List ℕ) (h : b ≤ length out) where
 
 type-long : (t : TypeForm) (gs : List Given) → length (type_table t gs) ≡ 4
 unfolding type_table
-type-long (givenType g) gs = refl
-type-long (powerType g) gs = refl
+type-long (given_type g) gs = refl
+type-long (power_type g) gs = refl
 type-long (range_type r) gs = refl
 type-long (arrow_type a g h) gs = refl
 

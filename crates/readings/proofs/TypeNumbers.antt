@@ -6,7 +6,7 @@ use Prim.Native.Nat.{ℕ, ◌*◌, ◌≤◌}
 use native.Mathlib.Omega.{arith}
 use lib.ListN.{get_or}
 use Rattle.lexical.specs.Symbols.{Name}
-use Rattle.form.specs.Tree.{Arrow, Range, Given, TypeForm, givenType, powerType, range_type, arrow_type}
+use Rattle.form.specs.Tree.{Arrow, Range, Given, TypeForm, given_type, power_type, range_type, arrow_type}
 use Rattle.static_rules.specs.Carriers.{Carrier, elements_of, subsets_of, pairs_in, range_carrier, size_of, count_of, given_of, carrier_of}
 use Rattle.meaning.specs.Bindings.{Among}
 use Rattle.slot_carriers.specs.TypeNodes.{Stands}
@@ -24,19 +24,19 @@ pub size-known : (gs : List Given) (x : Name) (g : Given) → given_of gs x ≡ 
 unfolding given_size
 size-known gs x g e = rw (given_size, e)
 
-given-none : (gs : List Given) (x : Name) → given_of gs x ≡ none → carrier_of gs (givenType x) ≡ none
+given-none : (gs : List Given) (x : Name) → given_of gs x ≡ none → carrier_of gs (given_type x) ≡ none
 unfolding carrier_of
 given-none gs x e = rw (carrier_of, e)
 
-given-some : (gs : List Given) (x : Name) (g : Given) → given_of gs x ≡ some g → carrier_of gs (givenType x) ≡ some (elements_of g)
+given-some : (gs : List Given) (x : Name) (g : Given) → given_of gs x ≡ some g → carrier_of gs (given_type x) ≡ some (elements_of g)
 unfolding carrier_of
 given-some gs x g e = rw (carrier_of, e)
 
-power-none : (gs : List Given) (x : Name) → given_of gs x ≡ none → carrier_of gs (powerType x) ≡ none
+power-none : (gs : List Given) (x : Name) → given_of gs x ≡ none → carrier_of gs (power_type x) ≡ none
 unfolding carrier_of
 power-none gs x e = rw (carrier_of, e)
 
-power-some : (gs : List Given) (x : Name) (g : Given) → given_of gs x ≡ some g → carrier_of gs (powerType x) ≡ some (subsets_of g)
+power-some : (gs : List Given) (x : Name) (g : Given) → given_of gs x ≡ some g → carrier_of gs (power_type x) ≡ some (subsets_of g)
 unfolding carrier_of
 power-some gs x g e = rw (carrier_of, e)
 
@@ -58,20 +58,20 @@ unfolding carrier_of
 arrow-some gs a x y g h e f = rw (carrier_of, e, f)
 
 -- what holds of each type whose given sets are found, and of its carrier, holds of each type that has a carrier
-pub by-carrier : (gs : List Given) (Q : TypeForm → Carrier → Type 0) → ((x : Name) (g : Given) → given_of gs x ≡ some g → Q (givenType x) (elements_of g))
-    → ((x : Name) (g : Given) → given_of gs x ≡ some g → Q (powerType x) (subsets_of g)) → ((r : Range) → Q (range_type r) (range_carrier r))
+pub by-carrier : (gs : List Given) (Q : TypeForm → Carrier → Type 0) → ((x : Name) (g : Given) → given_of gs x ≡ some g → Q (given_type x) (elements_of g))
+    → ((x : Name) (g : Given) → given_of gs x ≡ some g → Q (power_type x) (subsets_of g)) → ((r : Range) → Q (range_type r) (range_carrier r))
     → ((a : Arrow) (x y : Name) (g h : Given) → given_of gs x ≡ some g → given_of gs y ≡ some h → Q (arrow_type a x y) (pairs_in a g h))
     → (t : TypeForm) (c : Carrier) → carrier_of gs t ≡ some c → Q t c
-by-carrier gs Q given power ranged arrow (givenType x) c e = go (given_of gs x) refl
+by-carrier gs Q given power ranged arrow (given_type x) c e = go (given_of gs x) refl
   where
-    go : (o : Option Given) → given_of gs x ≡ o → Q (givenType x) c
+    go : (o : Option Given) → given_of gs x ≡ o → Q (given_type x) c
     go none k = absurd (none-ne-some c (sym (given-none gs x k) ∙ e))
-    go (some g) k = subst (Q (givenType x)) (some-injective (elements_of g) c (sym (given-some gs x g k) ∙ e)) (given x g k)
-by-carrier gs Q given power ranged arrow (powerType x) c e = go (given_of gs x) refl
+    go (some g) k = subst (Q (given_type x)) (some-injective (elements_of g) c (sym (given-some gs x g k) ∙ e)) (given x g k)
+by-carrier gs Q given power ranged arrow (power_type x) c e = go (given_of gs x) refl
   where
-    go : (o : Option Given) → given_of gs x ≡ o → Q (powerType x) c
+    go : (o : Option Given) → given_of gs x ≡ o → Q (power_type x) c
     go none k = absurd (none-ne-some c (sym (power-none gs x k) ∙ e))
-    go (some g) k = subst (Q (powerType x)) (some-injective (subsets_of g) c (sym (power-some gs x g k) ∙ e)) (power x g k)
+    go (some g) k = subst (Q (power_type x)) (some-injective (subsets_of g) c (sym (power-some gs x g k) ∙ e)) (power x g k)
 by-carrier gs Q given power ranged arrow (range_type r) c e = subst (Q (range_type r)) (some-injective (range_carrier r) c (range-some gs r c e)) (ranged r)
 by-carrier gs Q given power ranged arrow (arrow_type a x y) c e = go (given_of gs x) refl (given_of gs y) refl
   where
@@ -82,11 +82,11 @@ by-carrier gs Q given power ranged arrow (arrow_type a x y) c e = go (given_of g
 
 module _ (gs : List Given) (few : (g : Given) → Among g gs → size_of g ≤ 8) where
   -- a type whose carrier is known
-  elements-stand : (x : Name) (g : Given) → given_size gs x ≡ size_of g → CarrierFits gs (elements_of g) → StandsFor (type_table (givenType x) gs) (elements_of g)
+  elements-stand : (x : Name) (g : Given) → given_size gs x ≡ size_of g → CarrierFits gs (elements_of g) → StandsFor (type_table (given_type x) gs) (elements_of g)
   unfolding type_table CarrierFits Stands
   elements-stand x g e m = let l = few g m in (refl, e, omega arith)
 
-  subsets-stand : (x : Name) (g : Given) → given_size gs x ≡ size_of g → CarrierFits gs (subsets_of g) → StandsFor (type_table (powerType x) gs) (subsets_of g)
+  subsets-stand : (x : Name) (g : Given) → given_size gs x ≡ size_of g → CarrierFits gs (subsets_of g) → StandsFor (type_table (power_type x) gs) (subsets_of g)
   unfolding type_table CarrierFits Stands
   subsets-stand x g e m = let l = few g m in (refl, e, omega arith)
 

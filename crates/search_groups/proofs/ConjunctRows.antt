@@ -5,7 +5,7 @@ use Prim.Native.Nat.{ℕ, ◌+◌}
 use native.Mathlib.Omega.{arith}
 use lib.ListN.{length}
 use Rattle.lexical.specs.Kinds.{code_of}
-use Rattle.form.specs.Tree.{range, and, or, implies, iff, isIn, notIn}
+use Rattle.form.specs.Tree.{range, and, or, implies, iff, is_in, not_in}
 use Rattle.form.specs.Tree.{Pred, truth, falsity, negation, paren, quantified, connected, compared, member, within, related}
 use Rattle.form.specs.Written.{quantifier_kind, comparison_kind, membership_kind}
 use Rattle.form.specs.Codes.{node}
@@ -63,13 +63,13 @@ conjoin_of (member o t u) Γ W q =
     whole (member o t u) Γ W q _ refl (a & term_table u Γ W 38 (q + length a) & other 20 (q + length a) (code_of (membership_kind o)) 0 (λ e. omega arith))
 conjoin_of (within o t r) Γ W q =
     whole (within o t r) Γ W q _ refl (term_table t Γ W 38 q & domain_table (range r) Γ & other 21 0 (code_of (membership_kind o)) 0 (λ e. omega arith))
-conjoin_of (related isIn t u v) Γ W q =
+conjoin_of (related is_in t u v) Γ W q =
     let a : List ℕ = term_table t Γ W 38 q in
     let b : List ℕ = term_table u Γ W 38 (q + length a) in
-    whole (related isIn t u v) Γ W q _ refl
+    whole (related is_in t u v) Γ W q _ refl
     (a & b & term_table v Γ W 38 (q + length a + length b) & other 22 (q + length a) (element_size Γ u) (q + length a + length b) (λ e. omega arith))
-conjoin_of (related notIn t u v) Γ W q =
+conjoin_of (related not_in t u v) Γ W q =
     let a : List ℕ = term_table t Γ W 38 q in
     let b : List ℕ = term_table u Γ W 38 (q + length a) in
-    whole (related notIn t u v) Γ W q _ refl
+    whole (related not_in t u v) Γ W q _ refl
     (a & b & term_table v Γ W 38 (q + length a + length b) & other 23 (q + length a) (element_size Γ u) (q + length a + length b) (λ e. omega arith))

@@ -7,7 +7,7 @@ use Prim.Native.Nat.{ℕ, ◌+◌}
 use lib.Dec.{eqb}
 use lib.ListN.{length}
 use Rattle.lexical.specs.Symbols.{Name}
-use Rattle.form.specs.Tree.{Given, elements, Domain, given_set, range, Membership, isIn, notIn}
+use Rattle.form.specs.Tree.{Given, elements, Domain, given_set, range, Membership, is_in, not_in}
 use Rattle.form.specs.Tree.{Term, number, name, group, prefix, binary, divided, listed, pairs, such, empty_set, empty_pairs, Items, only, also, Pairs, only_pair, also_pair}
 use Rattle.form.specs.Tree.{Pred, truth, falsity, negation, paren, quantified, connected, compared, member, within, related}
 use Rattle.form.specs.Codes.{node}
@@ -69,8 +69,8 @@ domain-holds (given_set g) Γ = none_in refl
 domain-holds (range r) Γ = none_in refl
 
 shape-holds : (o : Membership) {i a b : ℕ} → Holds (node (related_shape o) i a b) []
-shape-holds isIn = none_in refl
-shape-holds notIn = none_in refl
+shape-holds is_in = none_in refl
+shape-holds not_in = none_in refl
 
 mutual
   unfolding term_table used_term

@@ -6,7 +6,7 @@ use Prim.Native.Nat.{ℕ, suc, ◌+◌, ◌-◌, ◌*◌, ◌%◌, ◌≤◌}
 use native.Mathlib.Omega.{arith}
 use lib.ListN.{length, replicate, length-append, length-replicate, get_or-append}
 use Rattle.lexical.specs.Lists.{filter}
-use Rattle.form.specs.Tree.{TypeForm, givenType, powerType, range_type, arrow_type, Declaration, Direction, inward, outward, Parameter, Operation, Dossier}
+use Rattle.form.specs.Tree.{TypeForm, given_type, power_type, range_type, arrow_type, Declaration, Direction, inward, outward, Parameter, Operation, Dossier}
 use Rattle.form.specs.Written.{ending_of}
 use Rattle.form.specs.Headings.{operations_at, operation_length}
 use Rattle.form.specs.Codes.{Numbering, node, number_of_name, type_codes, type_width, declaration_codes, parameter_codes, condition_codes, abstractly_at, pred_width}
@@ -21,9 +21,9 @@ data Four : List ℕ → Type 0 where
   four : (d c j l : ℕ) → Four (d ∷ c ∷ j ∷ l ∷ [])
 
 type-four : (t : TypeForm) (i : ℕ) (ρ : Numbering) → Four (type_codes t i ρ)
-type-four (givenType g) i ρ = four _ _ _ _
+type-four (given_type g) i ρ = four _ _ _ _
 type-four (range_type r) i ρ = four _ _ _ _
-type-four (powerType g) i ρ = four _ _ _ _
+type-four (power_type g) i ρ = four _ _ _ _
 type-four (arrow_type a g h) i ρ = four _ _ _ _
 
 picked : {e q k i a b : ℕ} {z rest qs : List ℕ} → a % 4 ≡ e → Four z → Picks e (q + 8) rest qs → Picks e q (b ∷ a ∷ i ∷ k ∷ (z ++ rest)) (q ∷ qs)

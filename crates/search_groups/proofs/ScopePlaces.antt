@@ -10,8 +10,8 @@ use lib.ListN.{length, set, length-set}
 use lib.Seq.{get_or-set_same, get_or-set_other}
 use borrow.Author.Tests.{ltb-true, lt-ltb, le-ltb}
 use Rattle.lexical.specs.Lists.{same, any, find}
-use Rattle.lexical.specs.Refusals.{fault, nameUnknown}
-use Rattle.lexical.specs.Symbols.{Name, Ending, noEnding, prime, query, shriek}
+use Rattle.lexical.specs.Refusals.{fault, name_unknown}
+use Rattle.lexical.specs.Symbols.{Name, Ending, no_ending, prime, query, shriek}
 use Rattle.lexical.proofs.WordLaws.{same_refl, same_true}
 use Rattle.form.specs.Tree.{Letters, Given, elements, name}
 use Rattle.form.specs.Codes.{Numbering, node, number_of_name, name_number}
@@ -88,7 +88,7 @@ element-placed n k e =
     ap (λ (b : Bool). cond b (node 2 0 n 0) (node 1 0 (n - 64) 0)) (le-ltb n 64 (omega arith)) ∙ ap (λ (m : ℕ). node 1 0 m 0) m
 
 unfound : (o : Option Ty) (i : ℕ) → o ≡ none → {A : Type 0} → (of_name o i).faults ≡ [] → A
-unfound o i e h = not_nil (fault i nameUnknown) [] (sym (ap (λ (p : Option Ty). (of_name p i).faults) e) ∙ h)
+unfound o i e h = not_nil (fault i name_unknown) [] (sym (ap (λ (p : Option Ty). (of_name p i).faults) e) ∙ h)
 
 module _ (ρ : Numbering) (P : Letters → Type 0) (Γ : Scope) (W' : Slots) (W : Places) (w : PlacesShown ρ P Γ W' W) where
   -- a name without a slot that is no element is not in reach
@@ -124,12 +124,12 @@ next_small s = on (ltb s 63) refl
 
 module _ (ρ : Numbering) (P : Letters → Type 0) (ν : Numbered ρ P) (Γ : Scope) (W' : Slots) (W : Places) (w : PlacesShown ρ P Γ W' W)
     (x : Letters) (px : P x) (c : Carrier) (s : ℕ) (small : s ≤ 63) where
-  other : (y : Name) → (name_number ρ y ≡ number_of_name ρ x noEnding → ⊥) → entry (set W (number_of_name ρ x noEnding) s) (name_number ρ y) ≡ entry W (name_number ρ y)
-  other y h = get_or-set_other W (number_of_name ρ x noEnding) (name_number ρ y) s 0 h
+  other : (y : Name) → (name_number ρ y ≡ number_of_name ρ x no_ending → ⊥) → entry (set W (number_of_name ρ x no_ending) s) (name_number ρ y) ≡ entry W (name_number ρ y)
+  other y h = get_or-set_other W (number_of_name ρ x no_ending) (name_number ρ y) s 0 h
 
-  this : entry (set W (number_of_name ρ x noEnding) s) (number_of_name ρ x noEnding) ≡ s
+  this : entry (set W (number_of_name ρ x no_ending) s) (number_of_name ρ x no_ending) ≡ s
   unfolding number_of_name
-  this = get_or-set_same W (number_of_name ρ x noEnding) s 0 (omega (arith, ν.small x px, w.long))
+  this = get_or-set_same W (number_of_name ρ x no_ending) s 0 (omega (arith, ν.small x px, w.long))
 
   -- other letters have another number, whatever their endings
   apart : (y : Letters) → P y → same y x ≡ false → ρ y ≡ ρ x → ⊥
@@ -143,7 +143,7 @@ module _ (ρ : Numbering) (P : Letters → Type 0) (ν : Numbered ρ P) (Γ : Sc
       on false h = refl
 
   PlaceAt : Name → Type 0
-  PlaceAt y = PlaceIs (slot_of ((plain x, s) ∷ W') y) (element_of Γ.givens y) y (entry (set W (number_of_name ρ x noEnding) s) (name_number ρ y))
+  PlaceAt y = PlaceIs (slot_of ((plain x, s) ∷ W') y) (element_of Γ.givens y) y (entry (set W (number_of_name ρ x no_ending) s) (name_number ρ y))
 
   slot-here : (y : Name) → same_name (plain x) y ≡ true → slot_of ((plain x, s) ∷ W') y ≡ some (plain x, s)
   slot-here y e = find-here (λ (v : Name × ℕ). same_name v.0 y) (plain x, s) W' e
@@ -151,7 +151,7 @@ module _ (ρ : Numbering) (P : Letters → Type 0) (ν : Numbered ρ P) (Γ : Sc
   slot-there : (y : Name) → same_name (plain x) y ≡ false → slot_of ((plain x, s) ∷ W') y ≡ slot_of W' y
   slot-there y e = find-there (λ (v : Name × ℕ). same_name v.0 y) (plain x, s) W' e
 
-  other_place : (y : Name) → P y.letters → same_name (plain x) y ≡ false → (name_number ρ y ≡ number_of_name ρ x noEnding → ⊥) → PlaceAt y
+  other_place : (y : Name) → P y.letters → same_name (plain x) y ≡ false → (name_number ρ y ≡ number_of_name ρ x no_ending → ⊥) → PlaceAt y
   unfolding PlaceAt
   other_place y py e h = rw (slot-there y e, other y h) (w.places y py)
 
@@ -164,18 +164,18 @@ module _ (ρ : Numbering) (P : Letters → Type 0) (ν : Numbered ρ P) (Γ : Sc
   bound-place y py = on y.ending (same y.letters x) refl
     where
       on : (e : Ending) (b : Bool) → same y.letters x ≡ b → PlaceAt (record { letters = y.letters; ending = e })
-      on noEnding true q = subst (λ (l : Letters). PlaceAt (plain l)) (sym (same_true y.letters x q)) this_place
-      on noEnding false q = other_place (plain y.letters) py (turned y.letters q) (λ e. apart y.letters py q (omega arith))
+      on no_ending true q = subst (λ (l : Letters). PlaceAt (plain l)) (sym (same_true y.letters x q)) this_place
+      on no_ending false q = other_place (plain y.letters) py (turned y.letters q) (λ e. apart y.letters py q (omega arith))
       on prime b q = other_place (record { letters = y.letters; ending = prime }) py refl (omega arith)
       on query b q = other_place (record { letters = y.letters; ending = query }) py refl (omega arith)
       on shriek b q = other_place (record { letters = y.letters; ending = shriek }) py refl (omega arith)
 
   -- the names in reach inside a binder are shown by the table with the bound name's slot in it
-  pub bound-placed : PlacesShown ρ P (binding Γ x c) ((plain x, s) ∷ W') (set W (number_of_name ρ x noEnding) s)
+  pub bound-placed : PlacesShown ρ P (binding Γ x c) ((plain x, s) ∷ W') (set W (number_of_name ρ x no_ending) s)
   unfolding PlaceAt
   bound-placed =
       record {
-        long = omega (arith, length-set W (number_of_name ρ x noEnding) s, w.long);
+        long = omega (arith, length-set W (number_of_name ρ x no_ending) s, w.long);
         slots = ap (λ (l : List Name). plain x ∷ l) w.slots;
         places = bound-place;
       }

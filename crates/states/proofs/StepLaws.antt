@@ -6,7 +6,7 @@ use mathlib.Core.Option.{Option, none, some, none-ne-some, some-injective}
 use Prim.Native.Nat.{ℕ, zero, suc, ◌+◌, ◌*◌, ◌<◌}
 use native.Mathlib.Omega.{arith}
 use lib.ListN.{get_elem?}
-use Rattle.lexical.specs.Symbols.{Name, Ending, noEnding, prime}
+use Rattle.lexical.specs.Symbols.{Name, Ending, no_ending, prime}
 use Rattle.form.specs.Tree.{Letters, Pred, Given, Declaration, declarations, State, Operation, Dossier}
 use Rattle.form.specs.Headings.{operations_at, operation_length}
 use Rattle.static_rules.specs.Carriers.{Carrier, Variable, carrier_of}
@@ -133,27 +133,27 @@ unfolding variables
 no_variable gs e x ds h = rw (variables, h)
 
 after_one : (gs : List Given) (x : Declaration) (ds : List Declaration) (c : Carrier) (b : Binding)
-    → ((b : Binding) → Over (variables gs noEnding ds) b → Over (variables gs prime ds) (after b))
-    → Over (record { called = record { letters = x.declared; ending = noEnding }; carrier = c } ∷ variables gs noEnding ds) b
+    → ((b : Binding) → Over (variables gs no_ending ds) b → Over (variables gs prime ds) (after b))
+    → Over (record { called = record { letters = x.declared; ending = no_ending }; carrier = c } ∷ variables gs no_ending ds) b
     → Over (record { called = record { letters = x.declared; ending = prime }; carrier = c } ∷ variables gs prime ds) (after b)
 unfolding Over after
 after_one gs x ds c [] r h = absurd h
 after_one gs x ds c (y ∷ b) r h = (ap (λ (n : Name). record { letters = n.letters; ending = prime }) h.0, h.1, r b h.2)
 
-after-over : (gs : List Given) (ds : List Declaration) (b : Binding) → Over (variables gs noEnding ds) b → Over (variables gs prime ds) (after b)
+after-over : (gs : List Given) (ds : List Declaration) (b : Binding) → Over (variables gs no_ending ds) b → Over (variables gs prime ds) (after b)
 unfolding variables Over after
 after-over gs [] [] h = tt
 after-over gs [] (y ∷ b) h = absurd h
 after-over gs (x ∷ ds) b h = go (carrier_of gs x.type) refl (after-over gs ds)
   where
-    go : (o : Option Carrier) → carrier_of gs x.type ≡ o → ((b : Binding) → Over (variables gs noEnding ds) b → Over (variables gs prime ds) (after b))
+    go : (o : Option Carrier) → carrier_of gs x.type ≡ o → ((b : Binding) → Over (variables gs no_ending ds) b → Over (variables gs prime ds) (after b))
         → Over (variables gs prime (x ∷ ds)) (after b)
     go none e r =
         subst (λ (v : List Variable). Over v (after b)) (sym (no_variable gs prime x ds e))
-        (r b (subst (λ (v : List Variable). Over v b) (no_variable gs noEnding x ds e) h))
+        (r b (subst (λ (v : List Variable). Over v b) (no_variable gs no_ending x ds e) h))
     go (some c) e r =
         subst (λ (v : List Variable). Over v (after b)) (sym (one-variable gs prime x ds c e))
-        (after_one gs x ds c b r (subst (λ (v : List Variable). Over v b) (one-variable gs noEnding x ds c e) h))
+        (after_one gs x ds c b r (subst (λ (v : List Variable). Over v b) (one-variable gs no_ending x ds c e) h))
 
 step-placed : {d : Dossier} {s : State} {plain dashed : ℕ} {op : Operation} {b i o b' : Binding} {σ later : Values}
     → StepAt d s plain dashed op b i o b' σ later

@@ -8,7 +8,7 @@ use Prim.Native.String.{String}
 use lib.Dec.{eqb}
 use Rattle.lexical.specs.Lists.{all, bytes}
 use Rattle.lexical.specs.Base.{Parts, dossier_of}
-use Rattle.lexical.specs.Refusals.{Refusal, number_of, noDossier, nameInUse, nameUnknown, typesMisfit, wideType, manyBindings, largeSize, zeroDivisor}
+use Rattle.lexical.specs.Refusals.{Refusal, number_of, no_dossier, name_in_use, name_unknown, types_misfit, wide_type, many_bindings, large_size, zero_divisor}
 use Rattle.static_rules.specs.Read.{Reading, refusal, reading}
 use Rattle.static_rules.specs.Computed.{compute_read}
 
@@ -29,27 +29,27 @@ add = "op add abstract # m' = # m + 1 concrete k' = k + 1 end"
 pub samples : List Sample
 samples =
     fine "{x : SEG | x in m} = {s1} and dom {s1 |-> s2} = ran {s2 |-> s1} and k in 0..63 and 1000 * 1000 * 1000 * 2 < - 7 mod -3"
-    ∷ predicate "{k : SEG | true} = m" 1 nameInUse
-    ∷ predicate "(forall s1 : 0..1 @ true)" 8 nameInUse
-    ∷ predicate "(forall x : 0..1 @ {x : SEG | true} = m)" 20 nameInUse
-    ∷ predicate "k = j" 4 nameUnknown
-    ∷ predicate "k' = 1" 0 nameUnknown
-    ∷ predicate "m = SEG" 4 nameUnknown
-    ∷ predicate "m = k" 2 typesMisfit
-    ∷ predicate "s1 + nobody = k" 5 nameUnknown
-    ∷ predicate "s1 + 1 div 0 = k" 11 zeroDivisor
-    ∷ predicate "{1} = m" 0 typesMisfit
-    ∷ predicate "k in 3..2" 6 wideType
-    ∷ predicate "k in 0..64" 6 wideType
-    ∷ predicate "1000 * 1000 * 1000 * 3 = k" 19 largeSize
-    ∷ predicate "1000 * 1000 * 1000 * # {x : SEG | 1000 * 1000 * 1000 * 3 = 1} = k" 53 largeSize
-    ∷ operation "op add x? : 0..4 ; y? : 0..12 ; abstract true concrete true end" 0 manyBindings
-    ∷ both "1000 * 1000 * 1000 * 3 = k" "op add x? : 0..4 ; y? : 0..12 ; abstract true concrete true end" 258 manyBindings
-    ∷ text "contents abstract concrete ainit  " 34 noDossier
-    ∷ text "contents abstract concrete ainit cinit retrieve end abstract m : 0..1 ; m : 0..2 ; where true end concrete k : 0..1 ; where true end ainit where true end cinit where true end retrieve where true end" 72 nameInUse
-    ∷ operation "op add x? : SEG ; x? : SEG ; abstract true concrete true end" 18 nameInUse
-    ∷ operation "op add x? : SEG ; x! : SEG ; abstract x? = x! concrete k = x? end" 57 typesMisfit
-    ∷ operation "op add abstract k = 0 concrete true end" 16 nameUnknown
+    ∷ predicate "{k : SEG | true} = m" 1 name_in_use
+    ∷ predicate "(forall s1 : 0..1 @ true)" 8 name_in_use
+    ∷ predicate "(forall x : 0..1 @ {x : SEG | true} = m)" 20 name_in_use
+    ∷ predicate "k = j" 4 name_unknown
+    ∷ predicate "k' = 1" 0 name_unknown
+    ∷ predicate "m = SEG" 4 name_unknown
+    ∷ predicate "m = k" 2 types_misfit
+    ∷ predicate "s1 + nobody = k" 5 name_unknown
+    ∷ predicate "s1 + 1 div 0 = k" 11 zero_divisor
+    ∷ predicate "{1} = m" 0 types_misfit
+    ∷ predicate "k in 3..2" 6 wide_type
+    ∷ predicate "k in 0..64" 6 wide_type
+    ∷ predicate "1000 * 1000 * 1000 * 3 = k" 19 large_size
+    ∷ predicate "1000 * 1000 * 1000 * # {x : SEG | 1000 * 1000 * 1000 * 3 = 1} = k" 53 large_size
+    ∷ operation "op add x? : 0..4 ; y? : 0..12 ; abstract true concrete true end" 0 many_bindings
+    ∷ both "1000 * 1000 * 1000 * 3 = k" "op add x? : 0..4 ; y? : 0..12 ; abstract true concrete true end" 258 many_bindings
+    ∷ text "contents abstract concrete ainit  " 34 no_dossier
+    ∷ text "contents abstract concrete ainit cinit retrieve end abstract m : 0..1 ; m : 0..2 ; where true end concrete k : 0..1 ; where true end ainit where true end cinit where true end retrieve where true end" 72 name_in_use
+    ∷ operation "op add x? : SEG ; x? : SEG ; abstract true concrete true end" 18 name_in_use
+    ∷ operation "op add x? : SEG ; x! : SEG ; abstract x? = x! concrete k = x? end" 57 types_misfit
+    ∷ operation "op add abstract k = 0 concrete true end" 16 name_unknown
     ∷ []
 
 abbrev refused_at : ℕ → Refusal → Reading → Bool

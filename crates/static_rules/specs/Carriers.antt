@@ -2,8 +2,8 @@
 use Rattle.std.specs.Prelude.{Bool, true, false, List, ℕ, ◌+◌, ◌*◌, ◌^◌, max, eqb, ℤ, pos, neg_ℤ, ◌-ℤ◌, nat_abs, length}
 use Rattle.std.proofs.Math.Option.{Option, none, some}
 use Rattle.lexical.specs.Lists.{same, find}
-use Rattle.lexical.specs.Symbols.{Name, Ending, noEnding, prime, query, shriek}
-use Rattle.form.specs.Tree.{Letters, End, Range, Arrow, relation, partial, total, Given, elements, TypeForm, givenType, powerType, range_type, arrow_type}
+use Rattle.lexical.specs.Symbols.{Name, Ending, no_ending, prime, query, shriek}
+use Rattle.form.specs.Tree.{Letters, End, Range, Arrow, relation, partial, total, Given, elements, TypeForm, given_type, power_type, range_type, arrow_type}
 
 -- "A given set; a range a..b; P G; relations; partial functions; total functions"
 pub data Carrier : Type 0 where
@@ -51,7 +51,7 @@ largest (pairs_in a g h) = 0
 
 -- two names are one exactly if their letters and endings are equal
 abbrev pub ending_code : Ending → ℕ
-ending_code noEnding = 0
+ending_code no_ending = 0
 ending_code prime = 1
 ending_code query = 2
 ending_code shriek = 3
@@ -60,7 +60,7 @@ unfoldable pub same_name : Name → Name → Bool
 same_name x y = elim (eqb (ending_code x.ending) (ending_code y.ending)) [ true ↦ same x.letters y.letters | false ↦ false ]
 
 abbrev pub plain : Letters → Name
-plain x = record { letters = x; ending = noEnding }
+plain x = record { letters = x; ending = no_ending }
 
 -- the given set of this name
 unfoldable pub given_of : List Given → Name → Option Given
@@ -77,7 +77,7 @@ for_givens f (some g) (some h) = some (f g h)
 
 -- the carrier of a type all of whose given sets are known
 unfoldable pub carrier_of : List Given → TypeForm → Option Carrier
-carrier_of gs (givenType g) = for_given elements_of (given_of gs g)
-carrier_of gs (powerType g) = for_given subsets_of (given_of gs g)
+carrier_of gs (given_type g) = for_given elements_of (given_of gs g)
+carrier_of gs (power_type g) = for_given subsets_of (given_of gs g)
 carrier_of gs (range_type r) = some (range_carrier r)
 carrier_of gs (arrow_type a g h) = for_givens (pairs_in a) (given_of gs g) (given_of gs h)

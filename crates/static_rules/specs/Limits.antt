@@ -3,7 +3,7 @@ use Rattle.std.specs.Prelude.{◌&&◌, List, [], ◌∷◌, ◌++◌, map, ℕ,
 use Rattle.std.proofs.Math.Option.{Option, none, some}
 use Rattle.lexical.specs.Lists.{find, concat}
 use Rattle.lexical.specs.Symbols.{Name}
-use Rattle.lexical.specs.Refusals.{Fault, fault, unless, manyBindings, largeSize}
+use Rattle.lexical.specs.Refusals.{Fault, fault, unless, many_bindings, large_size}
 use Rattle.form.specs.Tree.{End, Domain, given_set, range, Prefix, negate, size, dom, ran, Operator, plus, minus, union, without, times, inter, Division, quotient, remainder}
 use Rattle.form.specs.Tree.{Term, number, name, group, prefix, binary, divided, listed, pairs, such, empty_set, empty_pairs, Items, only, also, Pairs, only_pair, also_pair}
 use Rattle.form.specs.Tree.{Pred, truth, falsity, negation, paren, quantified, connected, compared, member, within, related, Operation, Dossier}
@@ -21,12 +21,12 @@ binding_count (v ∷ vs) = count_of v.carrier * binding_count vs
 unfoldable pub operation_bindings : Dossier → (i : ℕ) → List Operation → List Fault
 operation_bindings d i [] = []
 operation_bindings d i (o ∷ os) =
-    unless (leb (binding_count (inputs d o)) 64 && leb (binding_count (outputs d o)) 64) (fault i manyBindings) ++ operation_bindings d (i + operation_length o) os
+    unless (leb (binding_count (inputs d o)) 64 && leb (binding_count (outputs d o)) 64) (fault i many_bindings) ++ operation_bindings d (i + operation_length o) os
 
 unfoldable pub binding_faults : Dossier → List Fault
 binding_faults d =
-    unless (leb (binding_count (unprimed d d.abstract)) 4096) (fault (abstract_at d) manyBindings)
-    ++ unless (leb (binding_count (unprimed d d.concrete)) 4096) (fault (concrete_at d) manyBindings)
+    unless (leb (binding_count (unprimed d d.abstract)) 4096) (fault (abstract_at d) many_bindings)
+    ++ unless (leb (binding_count (unprimed d d.concrete)) 4096) (fault (concrete_at d) many_bindings)
     ++ operation_bindings d (operations_at d) d.operations
 
 -- a term: its size, all its faults, the number of the symbol behind it. The size of a term that is no number is not looked at
@@ -81,7 +81,7 @@ unfoldable mutual
       let a : Sized = size_term t Γ i in
       let b : Sized = size_term u Γ (suc a.next) in
       let n : ℕ = operator_size o a.bound b.bound in
-      sized n (whole (leb n 2147483647) (fault a.next largeSize) (a.faults ++ b.faults)) b.next
+      sized n (whole (leb n 2147483647) (fault a.next large_size) (a.faults ++ b.faults)) b.next
   size_term (divided o t e) Γ i = let a : Sized = size_term t Γ i in sized (division_size o a.bound e) a.faults (suc a.next + end_length e)
   size_term (listed ts) Γ i = let a : Sized = size_items ts Γ (suc i) in sized 0 a.faults (suc a.next)
   size_term (pairs ts) Γ i = let a : Sized = size_pairs ts Γ (suc i) in sized 0 a.faults (suc a.next)

@@ -4,11 +4,11 @@ use Rattle.std.proofs.Math.Option.{Option, none, some}
 use Rattle.std.specs.Int.Signed.{le_z, lt_z}
 use Rattle.lexical.specs.Lists.{any, concat}
 use Rattle.lexical.specs.Symbols.{Name}
-use Rattle.lexical.specs.Refusals.{Fault, fault, unless, nameInUse, nameUnknown, typesMisfit, wideType, zeroDivisor}
+use Rattle.lexical.specs.Refusals.{Fault, fault, unless, name_in_use, name_unknown, types_misfit, wide_type, zero_divisor}
 use Rattle.form.specs.Tree.{Letters, End, Range, Domain, given_set, range}
 use Rattle.form.specs.Tree.{Term, number, name, group, prefix, binary, divided, listed, pairs, such, empty_set, empty_pairs, Items, only, also, Pairs, only_pair, also_pair}
 use Rattle.form.specs.Tree.{Pred, truth, falsity, negation, paren, quantified, connected, compared, member, within, related}
-use Rattle.form.specs.Tree.{TypeForm, givenType, powerType, range_type, arrow_type, Declaration, declarations, Parameter, Given, elements, Operation, Dossier}
+use Rattle.form.specs.Tree.{TypeForm, given_type, power_type, range_type, arrow_type, Declaration, declarations, Parameter, Given, elements, Operation, Dossier}
 use Rattle.form.specs.Written.{ending_of, write_type}
 use Rattle.form.specs.Headings.{givens_at, given_length, abstract_at, concrete_at, operations_at, operation_length}
 use Rattle.static_rules.specs.Carriers.{Carrier, elements_of, size_of, same_name, plain, given_of, end_value, range_carrier}
@@ -37,11 +37,11 @@ inside (x ∷ binder) body = x ∷ binder
 
 -- 9. "Name unknown or out of reach."
 abbrev pub of_name : Option Ty → ℕ → Judged
-of_name none i = judged ty.number (fault i nameUnknown ∷ []) (suc i)
+of_name none i = judged ty.number (fault i name_unknown ∷ []) (suc i)
 of_name (some t) i = judged t [] (suc i)
 
 abbrev pub known : Option Given → ℕ → List Fault
-known none i = fault i nameUnknown ∷ []
+known none i = fault i name_unknown ∷ []
 known (some g) i = []
 
 -- 11. "a > b or over 64 numbers in a range"; the ..
@@ -55,21 +55,21 @@ unfoldable pub range_fits : ℤ → ℤ → Bool
 range_fits a b = le_z a b && lt_z (b -ℤ a) (pos 64)
 
 unfoldable pub range_faults : Range → ℕ → List Fault
-range_faults r i = unless (range_fits (end_value r.lower) (end_value r.upper)) (fault (i + end_length r.lower) wideType)
+range_faults r i = unless (range_fits (end_value r.lower) (end_value r.upper)) (fault (i + end_length r.lower) wide_type)
 
 -- 11. "or a type of over 16 pairs"
 unfoldable pub pairs_fault : Option Given → Option Given → ℕ → List Fault
 pairs_fault none h i = []
 pairs_fault (some g) none i = []
-pairs_fault (some g) (some h) i = unless (leb (size_of g * size_of h) 16) (fault i wideType)
+pairs_fault (some g) (some h) i = unless (leb (size_of g * size_of h) 16) (fault i wide_type)
 
 -- 14. "Divisor 0 or -0; the 0."
 unfoldable pub divisor_faults : End → ℕ → List Fault
-divisor_faults e i = unless (ltb 0 e.magnitude) (fault (i + cond e.negative 1 0) zeroDivisor)
+divisor_faults e i = unless (ltb 0 e.magnitude) (fault (i + cond e.negative 1 0) zero_divisor)
 
 -- 8. "Name already in use."
 unfoldable pub new_name : List Letters → Letters → ℕ → List Fault
-new_name xs x i = unless (not (is_taken xs x)) (fault i nameInUse)
+new_name xs x i = unless (not (is_taken xs x)) (fault i name_in_use)
 
 -- what a name is bound over
 abbrev or_numbers : Option Given → Carrier
@@ -106,7 +106,7 @@ over_fault gs (g ∷ []) i = []
 over_fault gs (g ∷ h ∷ ks) i = pairs_fault (given_of gs (plain g)) (given_of gs (plain h)) i
 
 unfoldable pub whole_pairs : List Given → List (Ty × Ty) → ℕ → List Fault
-whole_pairs gs ts i = cond (pairs_fit ts) (over_fault gs (pairs_type ts).over i) (fault i typesMisfit ∷ [])
+whole_pairs gs ts i = cond (pairs_fit ts) (over_fault gs (pairs_type ts).over i) (fault i types_misfit ∷ [])
 
 unfoldable pub judged_pairs : List Given → Listing (Ty × Ty) → ℕ → List Fault
 judged_pairs gs l i = elim l.faults [ [] ↦ whole_pairs gs l.types i | x ∷ xs ↦ x ∷ xs ]
@@ -119,17 +119,17 @@ unfoldable mutual
   judge_term (group t) Γ i = let a : Judged = judge_term t Γ (suc i) in judged a.type a.faults (suc a.next)
   judge_term (prefix o t) Γ i =
       let a : Judged = judge_term t Γ (suc i) in
-      judged (prefix_type o a.type) (whole (prefix_fits o a.type) (fault i typesMisfit) a.faults) a.next
+      judged (prefix_type o a.type) (whole (prefix_fits o a.type) (fault i types_misfit) a.faults) a.next
   judge_term (binary o t u) Γ i =
       let a : Judged = judge_term t Γ i in
       let b : Judged = judge_term u Γ (suc a.next) in
-      judged a.type (whole (operator_fits o a.type b.type) (fault a.next typesMisfit) (a.faults ++ b.faults)) b.next
+      judged a.type (whole (operator_fits o a.type b.type) (fault a.next types_misfit) (a.faults ++ b.faults)) b.next
   judge_term (divided o t e) Γ i =
       let a : Judged = judge_term t Γ i in
-      judged ty.number (whole (has a.type is_number) (fault a.next typesMisfit) (a.faults ++ divisor_faults e (suc a.next))) (suc a.next + end_length e)
+      judged ty.number (whole (has a.type is_number) (fault a.next types_misfit) (a.faults ++ divisor_faults e (suc a.next))) (suc a.next + end_length e)
   judge_term (listed ts) Γ i =
       let l : Listing Ty = judge_items ts Γ (suc i) in
-      judged (brace_type l.types) (whole (brace_fits l.types) (fault i typesMisfit) l.faults) (suc l.next)
+      judged (brace_type l.types) (whole (brace_fits l.types) (fault i types_misfit) l.faults) (suc l.next)
   judge_term (pairs ts) Γ i =
       let l : Listing (Ty × Ty) = judge_pairs ts Γ (suc i) in
       judged (pairs_type l.types) (judged_pairs Γ.givens l i) (suc l.next)
@@ -176,24 +176,24 @@ unfoldable mutual
   judge_pred (compared o t u) Γ i =
       let a : Judged = judge_term t Γ i in
       let b : Judged = judge_term u Γ (suc a.next) in
-      record { faults = whole (comparison_fits o a.type b.type) (fault a.next typesMisfit) (a.faults ++ b.faults); next = b.next }
+      record { faults = whole (comparison_fits o a.type b.type) (fault a.next types_misfit) (a.faults ++ b.faults); next = b.next }
   judge_pred (member o t u) Γ i =
       let a : Judged = judge_term t Γ i in
       let b : Judged = judge_term u Γ (suc a.next) in
-      record { faults = whole (member_fits a.type b.type) (fault a.next typesMisfit) (a.faults ++ b.faults); next = b.next }
+      record { faults = whole (member_fits a.type b.type) (fault a.next types_misfit) (a.faults ++ b.faults); next = b.next }
   judge_pred (within o t r) Γ i =
       let a : Judged = judge_term t Γ i in
-      record { faults = whole (has a.type is_number) (fault a.next typesMisfit) (a.faults ++ range_faults r (suc a.next)); next = suc a.next + range_length r }
+      record { faults = whole (has a.type is_number) (fault a.next types_misfit) (a.faults ++ range_faults r (suc a.next)); next = suc a.next + range_length r }
   judge_pred (related o t u v) Γ i =
       let a : Judged = judge_term t Γ i in
       let b : Judged = judge_term u Γ (suc a.next) in
       let c : Judged = judge_term v Γ (suc b.next) in
-      record { faults = whole (related_fits a.type b.type c.type) (fault b.next typesMisfit) (a.faults ++ b.faults ++ c.faults); next = c.next }
+      record { faults = whole (related_fits a.type b.type c.type) (fault b.next types_misfit) (a.faults ++ b.faults ++ c.faults); next = c.next }
 
 -- a declared type that begins at the symbol i
 unfoldable pub type_faults : List Given → TypeForm → (i : ℕ) → List Fault
-type_faults gs (givenType g) i = known (given_of gs g) i
-type_faults gs (powerType g) i = known (given_of gs g) (suc i)
+type_faults gs (given_type g) i = known (given_of gs g) i
+type_faults gs (power_type g) i = known (given_of gs g) (suc i)
 type_faults gs (range_type r) i = range_faults r i
 type_faults gs (arrow_type a g h) i = known (given_of gs g) i ++ known (given_of gs h) (i + 2) ++ pairs_fault (given_of gs g) (given_of gs h) (suc i)
 
@@ -219,7 +219,7 @@ parameter_name x = record { letters = x.declaration.declared; ending = ending_of
 unfoldable pub parameter_faults : List Given → List Parameter → (i : ℕ) → List Parameter → List Fault
 parameter_faults gs xs i [] = []
 parameter_faults gs xs i (y ∷ ys) =
-    unless (not (any (λ (x : Parameter). same_name (parameter_name x) (parameter_name y)) xs)) (fault i nameInUse)
+    unless (not (any (λ (x : Parameter). same_name (parameter_name x) (parameter_name y)) xs)) (fault i name_in_use)
     ++ type_faults gs y.declaration.type (i + 2) ++ parameter_faults gs (y ∷ xs) (i + 3 + length (write_type y.declaration.type [])) ys
 
 unfoldable pub operation_faults : List Given → List Letters → (i : ℕ) → List Operation → List Fault

@@ -2,7 +2,7 @@
 use Rattle.std.specs.Prelude.{Bool, true, false, List, [], ◌∷◌, ◌++◌, map, ℕ, suc, ◌+◌, length}
 use Rattle.std.proofs.Math.Option.{Option, none, some}
 use Rattle.lexical.specs.Lists.{same, any, find, filter}
-use Rattle.lexical.specs.Symbols.{Name, Ending, noEnding, prime}
+use Rattle.lexical.specs.Symbols.{Name, Ending, no_ending, prime}
 use Rattle.form.specs.Tree.{Letters, Pred, Given, elements, Declaration, declarations, Direction, inward, outward, Parameter, State, Operation, Dossier}
 use Rattle.form.specs.Written.{write_declarations, write_parameters, write_pred, ending_of}
 use Rattle.form.specs.Headings.{abstract_at, concrete_at, ainit_at, cinit_at, retrieve_at, operations_at, operation_length}
@@ -73,7 +73,7 @@ parameters_of gs outward xs = variables gs (ending_of outward) (map (λ (x : Par
 
 -- the variables of a state, and the same primed
 abbrev pub unprimed : Dossier → State → List Variable
-unprimed d s = variables d.givens noEnding (declarations s)
+unprimed d s = variables d.givens no_ending (declarations s)
 
 abbrev pub primed : Dossier → State → List Variable
 primed d s = variables d.givens prime (declarations s)

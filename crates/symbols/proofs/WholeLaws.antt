@@ -8,7 +8,7 @@ use lib.Dec.{ltb}
 use borrow.Author.Tests.{le-ltb, lt-ltb}
 use lib.ListN.{length, take, drop, get_or, length-map}
 use lib.Seq.{take_all, take_at, drop_at}
-use Rattle.lexical.specs.Refusals.{fault, lesser, least, longText}
+use Rattle.lexical.specs.Refusals.{fault, lesser, least, long_text}
 use Rattle.lexical.specs.Symbols.{Placed, scan, symbols, scan_faults, length_faults}
 use Rattle.lexical.specs.Promises.{code_in, number_in, value_in, value_at, taken, filled, first_of, written, Scans}
 use Rattle.lexical.specs.SymbolPromises.{filled_numbers, filled_values, Takes, Rows}
@@ -24,7 +24,7 @@ scans-long text codes starts values h =
     let t : ltb 32768 (length text) ≡ true = lt-ltb 32768 (length text) h in
     let w : written text ≡ [] = ap (λ (b : Bool). cond b [] (taken text)) t in
     record {
-      answer = sym (ap (λ (b : Bool). first_of (least (cond b (fault 32768 longText ∷ []) [])) (least (scan_faults 0 (scan text)))) t);
+      answer = sym (ap (λ (b : Bool). first_of (least (cond b (fault 32768 long_text ∷ []) [])) (least (scan_faults 0 (scan text)))) t);
       counted = λ n e. let z : ◌≡◌ {A = ℕ} 0 1 = cc in absurd (omega arith);
       few = λ n e. let z : ◌≡◌ {A = ℕ} 0 1 = cc in absurd (omega arith);
       coded = ap (λ (l : List Placed). filled (λ (x : Placed). code_in x.symbol) l codes) (sym w);
@@ -42,7 +42,7 @@ module _ {text codes₀ starts₀ values₀ codes starts values : List ℕ} {r :
   scans : {values' : List ℕ} → values' ≡ filled (λ (x : Placed). value_at r (symbols (scan text)) x.symbol) (written text) values₀ → Scans text codes₀ starts₀ values₀ codes starts values' r
   unfolding length_faults least
   scans v = record {
-    answer = h.answer ∙ sym (ap (λ (b : Bool). first_of (least (cond b (fault 32768 longText ∷ []) [])) (least (scan_faults 0 (scan text)))) not-long);
+    answer = h.answer ∙ sym (ap (λ (b : Bool). first_of (least (cond b (fault 32768 long_text ∷ []) [])) (least (scan_faults 0 (scan text)))) not-long);
     counted = h.counted;
     few = h.few;
     coded = h.coded ∙ ap (λ (l : List Placed). filled (λ (x : Placed). code_in x.symbol) l codes₀) (sym all-written);

@@ -9,7 +9,7 @@ use lib.ListN.{length, set, length-set}
 use borrow.Author.Tests.{le-leb, lt-leb, lt-ltb, le-ltb, leb-true, ltb-true}
 use Rattle.symbols.proofs.BooleanTests.{and_left, and_right}
 use Rattle.lexical.specs.Kinds.{code_of}
-use Rattle.form.specs.Tree.{Membership, isIn, notIn}
+use Rattle.form.specs.Tree.{Membership, is_in, not_in}
 use Rattle.form.specs.Written.{membership_kind}
 use Rattle.form.specs.Codes.{node}
 use Rattle.type_rules.specs.TypesByNumber.{Sizes, entry, is_given, is_element, is_pairs, range_fits, size_in}
@@ -87,13 +87,13 @@ second_none z k h = sym (ap (λ (t : Bool). cond t (size_in z ((k - 64) % 8)) 0)
 -- memberships, and true and false, by the codes of their symbols
 pub shape-in : (o : ℕ) → o ≡ 56 → (m : Membership) → code_of (membership_kind m) ≡ o → 22 ≡ related_shape m
 unfolding code_of
-shape-in o h isIn e = refl
-shape-in o h notIn e = absurd (omega arith)
+shape-in o h is_in e = refl
+shape-in o h not_in e = absurd (omega arith)
 
 pub shape-notin : (o : ℕ) → (o ≡ 56 → ⊥) → (m : Membership) → code_of (membership_kind m) ≡ o → 23 ≡ related_shape m
 unfolding code_of
-shape-notin o h isIn e = absurd (h (sym e))
-shape-notin o h notIn e = refl
+shape-notin o h is_in e = absurd (h (sym e))
+shape-notin o h not_in e = refl
 
 pub truth-yes : (o : ℕ) → o ≡ 48 → TruthOf o 1
 unfolding code_of

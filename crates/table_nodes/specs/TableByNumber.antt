@@ -3,8 +3,8 @@
 -- and p the place of the tree's first number in the table.
 use Rattle.std.specs.Prelude.{cond, List, ◌++◌, ℕ, ◌+◌, ◌-◌, ◌/◌, ◌%◌, ltb, length, set}
 use Rattle.lexical.specs.Kinds.{code_of}
-use Rattle.lexical.specs.Symbols.{noEnding}
-use Rattle.form.specs.Tree.{Domain, given_set, range, Membership, isIn, notIn}
+use Rattle.lexical.specs.Symbols.{no_ending}
+use Rattle.form.specs.Tree.{Domain, given_set, range, Membership, is_in, not_in}
 use Rattle.form.specs.Tree.{Term, number, name, group, prefix, binary, divided, listed, pairs, such, empty_set, empty_pairs, Items, only, also, Pairs, only_pair, also_pair}
 use Rattle.form.specs.Tree.{Pred, truth, falsity, negation, paren, quantified, connected, compared, member, within, related}
 use Rattle.form.specs.Written.{prefix_kind, operator_kind, connective_kind, quantifier_kind, comparison_kind, membership_kind}
@@ -46,8 +46,8 @@ domain_table (given_set g) T z ρ = node 13 0 1000 (given_size z (entry T (name_
 domain_table (range r) T z ρ = node 13 0 (end_number r.lower) (range_count (end_number r.lower) (end_number r.upper))
 
 abbrev pub related_shape : Membership → ℕ
-related_shape isIn = 22
-related_shape notIn = 23
+related_shape is_in = 22
+related_shape not_in = 23
 
 -- A node with two parts has the end of the first one, of three those of the first and the second. Braces: 7, with its items 9 the last and 10 another one;
 -- 8, with its pairs 11 the last and 12 another one, and how many elements the second side has.
@@ -63,7 +63,7 @@ unfoldable mutual
       let a : List ℕ = term_table t T W z ρ s p in
       a ++ (term_table u T W z ρ s (p + length a) ++ node 5 (p + length a) (code_of (operator_kind o)) 0)
   term_table (such x g q) T W z ρ s p =
-      pred_table q (set T (number_of_name ρ x noEnding) (element_of (entry T (name_number ρ g)))) (set W (number_of_name ρ x noEnding) s) z ρ (next_slot s) p
+      pred_table q (set T (number_of_name ρ x no_ending) (element_of (entry T (name_number ρ g)))) (set W (number_of_name ρ x no_ending) s) z ρ (next_slot s) p
       ++ (domain_table (given_set g) T z ρ ++ node 6 0 s 0)
   term_table (listed ts) T W z ρ s p = items_table ts T W z ρ s p ++ node 7 0 0 0
   term_table (pairs ts) T W z ρ s p = pairs_table ts T W z ρ s p ++ node 8 0 0 0
@@ -105,5 +105,5 @@ unfoldable mutual
       let b : List ℕ = term_table u T W z ρ s (p + length a) in
       a ++ (b ++ (term_table v T W z ρ s (p + length a + length b) ++ node (related_shape o) (p + length a) (element_size z (term_kind u T ρ)) (p + length a + length b)))
   pred_table (quantified q x t r) T W z ρ s p =
-      pred_table r (set T (number_of_name ρ x noEnding) (domain_kind t T ρ)) (set W (number_of_name ρ x noEnding) s) z ρ (next_slot s) p
+      pred_table r (set T (number_of_name ρ x no_ending) (domain_kind t T ρ)) (set W (number_of_name ρ x no_ending) s) z ρ (next_slot s) p
       ++ (domain_table t T z ρ ++ node 24 0 s (code_of (quantifier_kind q)))

@@ -4,7 +4,7 @@ use mathlib.Core.List.{List, [], ◌∷◌, ◌++◌, map}
 use Prim.Native.Nat.{ℕ, suc, ◌+◌, ◌-◌, ◌*◌, ◌≤◌, ◌<◌}
 use native.Mathlib.Omega.{arith}
 use lib.ListN.{length, get_or-append}
-use Rattle.lexical.specs.Symbols.{noEnding}
+use Rattle.lexical.specs.Symbols.{no_ending}
 use Rattle.form.specs.Tree.{Letters, Declaration, declarations, Parameter, State, Operation, Dossier}
 use Rattle.form.specs.Headings.{givens_at, abstract_at, concrete_at, operations_at, operation_length}
 use Rattle.form.specs.Codes.{Numbering, abstractly_at, pred_width, condition_codes, given_codes, declaration_codes, parameter_codes}
@@ -26,8 +26,8 @@ pub places-set : (gs A C : List ℕ) (W W₁ W₂ W₃ W₄ Y : Places) → Elem
     → VariablesSet C 1 22 W₄ Y → PlacesSet gs A C W Y
 unfolding states_placed
 places-set gs A C W W₁ W₂ W₃ W₄ Y es a₀ a₁ c₀ c₁ d i ρ e v =
-    let av : List Typed = variables_of noEnding (declarations d.abstract) in
-    let cv : List Typed = variables_of noEnding (declarations d.concrete) in
+    let av : List Typed = variables_of no_ending (declarations d.abstract) in
+    let cv : List Typed = variables_of no_ending (declarations d.concrete) in
     let a : A ≡ typed_codes v.i av ρ = v.first ∙ sym (variables-codes v.i (declarations d.abstract) ρ) in
     let c : C ≡ typed_codes v.j cv ρ = v.second ∙ sym (variables-codes v.j (declarations d.concrete) ρ) in
     let w₂ : W₂ ≡ placing av 0 0 (givens_placed d.givens W ρ) ρ = a₀ av v.i ρ a ∙ ap (λ (w : Places). placing av 0 0 w ρ) (es d.givens i ρ e) in

@@ -8,7 +8,7 @@ use native.Mathlib.Numerals.{add-one}
 use native.Mathlib.Omega.{arith}
 use lib.Dec.{eqb}
 use lib.ListN.{length, drop, get_or, set, length-drop, length-append}
-use Rattle.lexical.specs.Symbols.{noEnding}
+use Rattle.lexical.specs.Symbols.{no_ending}
 use Rattle.form.specs.Tree.{Letters, Given, elements, Direction, inward, outward, Parameter}
 use Rattle.form.specs.Headings.{given_length}
 use Rattle.form.specs.Written.{ending_of}
@@ -140,21 +140,21 @@ module _ (code : List ℕ) (at j r : ℕ) (W Y : Places) (ρ : Numbering) (v : P
   element-next [] [] p l m e c s = elim (nothing_left code at room e) [ ]
   element-next [] (g ∷ gs) p l m e c s =
       let rest : List ℕ = element_codes (l + 2) (elements g) ρ ++ given_codes (l + given_length g) gs ρ in
-      let t = is.title (node-shape code at 3 l (number_of_name ρ g.title noEnding) 0 rest e) in
+      let t = is.title (node-shape code at 3 l (number_of_name ρ g.title no_ending) 0 rest e) in
       record {
         es = elements g;
         gs = gs;
         p = l + 2;
         l = l + given_length g;
         m = 0;
-        here = behind code at 3 l (number_of_name ρ g.title noEnding) 0 rest e;
+        here = behind code at 3 l (number_of_name ρ g.title no_ending) 0 rest e;
         counted = t.1;
         same = ap (λ (w : Places). givens_placed gs (elements_placed (elements g) 0 w ρ) ρ) t.0 ∙ s;
       }
   element-next (x ∷ es) gs p l m e c s =
       let rest : List ℕ = element_codes (suc p) es ρ ++ given_codes l gs ρ in
-      let t = is.element (element-shape code at p (number_of_name ρ x noEnding) 0 rest e) in
-      let a = node-a code at 4 p (number_of_name ρ x noEnding) 0 rest e in
+      let t = is.element (element-shape code at p (number_of_name ρ x no_ending) 0 rest e) in
+      let a = node-a code at 4 p (number_of_name ρ x no_ending) 0 rest e in
       let one = t.1 in
       record {
         es = es;
@@ -162,7 +162,7 @@ module _ (code : List ℕ) (at j r : ℕ) (W Y : Places) (ρ : Numbering) (v : P
         p = suc p;
         l = l;
         m = suc m;
-        here = behind code at 4 p (number_of_name ρ x noEnding) 0 rest e;
+        here = behind code at 4 p (number_of_name ρ x no_ending) 0 rest e;
         counted = omega arith;
         same = ap (λ (w : Places). givens_placed gs (elements_placed es (suc m) w ρ) ρ) (t.0 ∙ ap₂ (λ (y k : ℕ). set W y k) a c) ∙ s;
       }
@@ -172,9 +172,9 @@ elements-end : (code : List ℕ) (at : ℕ) (W : Places) (ρ : Numbering) (v : P
 unfolding element_codes given_codes elements_placed givens_placed
 elements-end code at W ρ v h [] [] p l m e s = s
 elements-end code at W ρ v h [] (g ∷ gs) p l m e s =
-    elim (something-left code at 3 l (number_of_name ρ g.title noEnding) 0 (element_codes (l + 2) (elements g) ρ ++ given_codes (l + given_length g) gs ρ) h e) [ ]
+    elim (something-left code at 3 l (number_of_name ρ g.title no_ending) 0 (element_codes (l + 2) (elements g) ρ ++ given_codes (l + given_length g) gs ρ) h e) [ ]
 elements-end code at W ρ v h (x ∷ es) gs p l m e s =
-    elim (something-left code at 4 p (number_of_name ρ x noEnding) 0 (element_codes (suc p) es ρ ++ given_codes l gs ρ) h e) [ ]
+    elim (something-left code at 4 p (number_of_name ρ x no_ending) 0 (element_codes (suc p) es ρ ++ given_codes l gs ρ) h e) [ ]
 
 pub elements-on : (code : List ℕ) (at j r : ℕ) (W₀ W Y : Places) → at + 4 ≤ length code → ElementSet code at j W Y r → ElementsOn code at j W₀ W → ElementsOn code (at + 4) r W₀ Y
 elements-on code at j r W₀ W Y room is w gs i ρ e =

@@ -9,10 +9,10 @@ use native.Mathlib.Omega.{arith}
 use lib.Dec.{eqb, ltb}
 use lib.ListN.{length, drop, get_or}
 use borrow.Author.Tests.{ne_eqb, lt-ltb, le-ltb}
-use Rattle.form.specs.Tree.{TypeForm, givenType, powerType, range_type, arrow_type, relation, partial, total, Declaration, declarations, Parameter, Operation}
+use Rattle.form.specs.Tree.{TypeForm, given_type, power_type, range_type, arrow_type, relation, partial, total, Declaration, declarations, Parameter, Operation}
 use Rattle.form.specs.Headings.{abstract_at, concrete_at, operations_at, operation_length}
 use Rattle.form.specs.Codes.{Numbering, node, type_width, declaration_codes, parameter_codes}
-use Rattle.lexical.specs.Symbols.{noEnding}
+use Rattle.lexical.specs.Symbols.{no_ending}
 use Rattle.type_rules.specs.TypesByNumber.{Names, Sizes, entry, is_given}
 use Rattle.declared_names.specs.NamesByNumber.{Typed, typed_codes, variables_of, parameters_of}
 use Rattle.declared_names.specs.PassPromises.{PartOf, typed_code}
@@ -54,9 +54,9 @@ node_by s a b x y z =
 node-by : (t : TypeForm) (T : Names) (z : Sizes) (ρ : Numbering)
     → node_by (shape_of t) (left_of t ρ) (right_of t ρ) (entry T (left_of t ρ)) (entry T (right_of t ρ)) z ≡ type_node t T z ρ
 unfolding node_by type_node
-node-by (givenType g) T z ρ = refl
+node-by (given_type g) T z ρ = refl
 node-by (range_type r) T z ρ = refl
-node-by (powerType g) T z ρ = refl
+node-by (power_type g) T z ρ = refl
 node-by (arrow_type relation g h) T z ρ = refl
 node-by (arrow_type partial g h) T z ρ = refl
 node-by (arrow_type total g h) T z ρ = refl
@@ -112,7 +112,7 @@ types-set nodes from to T z code at q out after p w h xs i ρ s =
     finished (typing T z) code at (from ∷ out) (q ∷ after) after w h (λ j σ. refl) xs i ρ (part-stands nodes from to code (typed_codes i xs ρ) p s)
 
 -- the carriers by declarations and by parameters
-types-variables : (T : Names) (z : Sizes) (ρ : Numbering) (q : ℕ) (ds : List Declaration) (out : List ℕ) → with_types T z ρ q (variables_of noEnding ds) out ≡ with_nodes T z ρ q ds out
+types-variables : (T : Names) (z : Sizes) (ρ : Numbering) (q : ℕ) (ds : List Declaration) (out : List ℕ) → with_types T z ρ q (variables_of no_ending ds) out ≡ with_nodes T z ρ q ds out
 unfolding with_types with_nodes variables_of
 types-variables T z ρ q [] out = refl
 types-variables T z ρ q (d ∷ ds) out = types-variables T z ρ (q + 8) ds (patch (q + 4) (type_node d.type T z ρ) out)
@@ -131,7 +131,7 @@ stands-as e s = record { ordered = s.ordered; inside = s.inside; stands = s.stan
 pub of-declarations : (nodes : List ℕ) (from to i : ℕ) (ds : List Declaration) (T : Names) (z : Sizes) (ρ : Numbering) (out after : List ℕ) → TypesSet nodes from to T z out after
     → Stands nodes from to (declaration_codes i ds ρ) → after ≡ with_nodes T z ρ from ds out
 of-declarations nodes from to i ds T z ρ out after h s =
-    h (variables_of noEnding ds) i ρ (stands-as (sym (variables-codes i ds ρ)) s) ∙ types-variables T z ρ from ds out
+    h (variables_of no_ending ds) i ρ (stands-as (sym (variables-codes i ds ρ)) s) ∙ types-variables T z ρ from ds out
 
 pub of-parameters : (nodes : List ℕ) (from to i : ℕ) (xs : List Parameter) (T : Names) (z : Sizes) (ρ : Numbering) (out after : List ℕ) → TypesSet nodes from to T z out after
     → Stands nodes from to (parameter_codes i xs ρ) → after ≡ with_nodes T z ρ from (declarations_of xs) out

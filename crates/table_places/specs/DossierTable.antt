@@ -3,7 +3,7 @@ use Rattle.std.specs.Prelude.{Bool, true, false, ◌||◌, cond, List, [], ◌�
 use Rattle.std.proofs.Math.Option.{Option, none, some}
 use Rattle.lexical.specs.Lists.{find, filter}
 use Rattle.lexical.specs.Symbols.{Name}
-use Rattle.form.specs.Tree.{Letters, Given, Range, Domain, TypeForm, givenType, powerType, range_type, arrow_type, Declaration, declarations, Parameter, State, Operation, Dossier}
+use Rattle.form.specs.Tree.{Letters, Given, Range, Domain, TypeForm, given_type, power_type, range_type, arrow_type, Declaration, declarations, Parameter, State, Operation, Dossier}
 use Rattle.form.specs.Codes.{Numbering, node, end_number, arrow_number, number_of_name}
 use Rattle.static_rules.specs.Carriers.{Variable, same_name}
 use Rattle.static_rules.specs.Scope.{Scope, Context, place_in, contexts, unprimed, primed, inputs, outputs, is_input, is_output}
@@ -57,9 +57,9 @@ abbrev pub given_place : List Given → Name → ℕ
 given_place gs x = place_in (map (λ (g : Given). g.title) gs) x
 
 unfoldable pub type_table : TypeForm → List Given → List ℕ
-type_table (givenType g) gs = node 1 (given_place gs g) (given_size gs g) 0
+type_table (given_type g) gs = node 1 (given_place gs g) (given_size gs g) 0
 type_table (range_type r) gs = node 2 0 (end_number r.lower) (end_number r.upper + 1 - end_number r.lower)
-type_table (powerType g) gs = node 3 (given_place gs g) (given_size gs g) 0
+type_table (power_type g) gs = node 3 (given_place gs g) (given_size gs g) 0
 type_table (arrow_type a g h) gs = node (arrow_number a) (8 * given_place gs g + given_place gs h) (given_size gs g) (given_size gs h)
 
 -- the carriers of declarations whose nodes begin at q

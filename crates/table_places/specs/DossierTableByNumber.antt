@@ -1,8 +1,8 @@
 -- The table of a whole dossier by numbers: what each name is and where its value is found, in each context, and what is written.
 -- That this is DossierTable.tableOf is tables/proofs/DossierTableAgrees. Nothing here need be believed.
 use Rattle.std.specs.Prelude.{cond, List, [], ◌∷◌, map, ℕ, suc, ◌+◌, ◌-◌, ◌*◌, set}
-use Rattle.lexical.specs.Symbols.{noEnding}
-use Rattle.form.specs.Tree.{Letters, Given, elements, TypeForm, givenType, powerType, range_type, arrow_type, Declaration, declarations, Direction, inward, outward, Parameter, Operation, Dossier}
+use Rattle.lexical.specs.Symbols.{no_ending}
+use Rattle.form.specs.Tree.{Letters, Given, elements, TypeForm, given_type, power_type, range_type, arrow_type, Declaration, declarations, Direction, inward, outward, Parameter, Operation, Dossier}
 use Rattle.form.specs.Codes.{Numbering, node, name_number, number_of_name, end_number, arrow_number}
 use Rattle.static_rules.specs.Scope.{Context, contexts}
 use Rattle.static_rules.specs.Names.{parameter_name}
@@ -23,8 +23,8 @@ operation_kinds d (o ∷ os) T ρ =
 
 unfoldable pub kinds_of : Dossier → Names → Numbering → List Names
 kinds_of d T ρ =
-    let av : List Typed = variables_of noEnding (declarations d.abstract) in
-    let cv : List Typed = variables_of noEnding (declarations d.concrete) in
+    let av : List Typed = variables_of no_ending (declarations d.abstract) in
+    let cv : List Typed = variables_of no_ending (declarations d.concrete) in
     let T₂ : Names = state_named d.abstract T ρ in
     let T₃ : Names = state_named d.concrete T₂ ρ in
     shown av 0 T ρ
@@ -37,7 +37,7 @@ kinds_of d T ρ =
 -- Where values are found. Elements have their places, variables their slots from s on, with `shift` added to their numbers; what is no longer in reach stays
 unfoldable pub elements_placed : List Letters → (j : ℕ) → Places → Numbering → Places
 elements_placed [] j W ρ = W
-elements_placed (e ∷ es) j W ρ = elements_placed es (suc j) (set W (number_of_name ρ e noEnding) (64 + j)) ρ
+elements_placed (e ∷ es) j W ρ = elements_placed es (suc j) (set W (number_of_name ρ e no_ending) (64 + j)) ρ
 
 unfoldable pub givens_placed : List Given → Places → Numbering → Places
 givens_placed [] W ρ = W
@@ -49,8 +49,8 @@ placing (x ∷ xs) k s W ρ = placing xs k (suc s) (set W (name_number ρ x.call
 
 unfoldable pub states_placed : Dossier → Places → Numbering → Places
 states_placed d W ρ =
-    let av : List Typed = variables_of noEnding (declarations d.abstract) in
-    let cv : List Typed = variables_of noEnding (declarations d.concrete) in
+    let av : List Typed = variables_of no_ending (declarations d.abstract) in
+    let cv : List Typed = variables_of no_ending (declarations d.concrete) in
     placing cv 1 22 (placing cv 0 8 (placing av 1 30 (placing av 0 0 (givens_placed d.givens W ρ) ρ) ρ) ρ) ρ
 
 -- the next input has the slot i, the next output the slot o
@@ -91,9 +91,9 @@ unfoldable pub given_index : ℕ → ℕ
 given_index k = cond (is_given k) (k - 8) 0
 
 unfoldable pub type_node : TypeForm → Names → Sizes → Numbering → List ℕ
-type_node (givenType g) T z ρ = node 1 (given_index (entry T (name_number ρ g))) (given_size z (entry T (name_number ρ g))) 0
+type_node (given_type g) T z ρ = node 1 (given_index (entry T (name_number ρ g))) (given_size z (entry T (name_number ρ g))) 0
 type_node (range_type r) T z ρ = node 2 0 (end_number r.lower) (range_count (end_number r.lower) (end_number r.upper))
-type_node (powerType g) T z ρ = node 3 (given_index (entry T (name_number ρ g))) (given_size z (entry T (name_number ρ g))) 0
+type_node (power_type g) T z ρ = node 3 (given_index (entry T (name_number ρ g))) (given_size z (entry T (name_number ρ g))) 0
 type_node (arrow_type a g h) T z ρ =
     node (arrow_number a) (8 * given_index (entry T (name_number ρ g)) + given_index (entry T (name_number ρ h))) (given_size z (entry T (name_number ρ g))) (given_size z (entry T (name_number ρ h)))
 

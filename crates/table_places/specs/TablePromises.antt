@@ -1,7 +1,7 @@
 -- What the functions that write the whole table promise of whatever declarations, predicates and operations the nodes are those of:
 -- T has the names at entry, U at exit; W and Y the places; `out` and `after` the table. Nothing here need be believed.
 use Rattle.std.specs.Prelude.{◌≡◌, List, [], ◌∷◌, ◌++◌, ℕ, suc, ◌+◌, ◌-◌, ◌*◌, ◌≤◌, length, drop, get_or, set, replicate}
-use Rattle.lexical.specs.Symbols.{noEnding}
+use Rattle.lexical.specs.Symbols.{no_ending}
 use Rattle.form.specs.Tree.{Letters, TypeForm, Given, Pred, Declaration, declarations, Parameter, State, Operation, Dossier}
 use Rattle.form.specs.Headings.{givens_at, ainit_at, cinit_at, retrieve_at}
 use Rattle.form.specs.Codes.{Numbering, number_of_name, type_codes, given_codes, declaration_codes, parameter_codes}
@@ -57,7 +57,7 @@ pub record PredicateSet (nodes : List ℕ) (end : ℕ) (T U : Names) (W Y : Plac
 
 -- a state
 abbrev pub with_state : State → Names → Places → Sizes → Numbering → (q : ℕ) → List ℕ → List ℕ
-with_state s T W z ρ q out = written s.predicate (shown (variables_of noEnding (declarations s)) 0 T ρ) W z ρ q out
+with_state s T W z ρ q out = written s.predicate (shown (variables_of no_ending (declarations s)) 0 T ρ) W z ρ q out
 
 pub record StateSet (nodes : List ℕ) (first last end : ℕ) (T U : Names) (W Y : Places) (z : Sizes) (out after : List ℕ) : Type 0 where
   pub places_kept : Y ≡ W
@@ -75,8 +75,8 @@ pub record StatesSet (nodes spans : List ℕ) (T U : Names) (W Y : Places) (z : 
 -- ainit, cinit and retrieve
 unfoldable pub with_conditions : Dossier → Names → Places → Sizes → Numbering → (a b c : ℕ) → List ℕ → List ℕ
 with_conditions d T W z ρ a b c out =
-    let av : List Typed = variables_of noEnding (declarations d.abstract) in
-    let cv : List Typed = variables_of noEnding (declarations d.concrete) in
+    let av : List Typed = variables_of no_ending (declarations d.abstract) in
+    let cv : List Typed = variables_of no_ending (declarations d.concrete) in
     written d.retrieve (shown av 0 (shown cv 0 (hidden av 0 2 (shown av 0 T ρ) ρ) ρ) ρ) W z ρ c
     (written d.cinit (shown cv 0 (hidden av 0 2 (shown av 0 T ρ) ρ) ρ) W z ρ b (written d.ainit (shown av 0 T ρ) W z ρ a out))
 
@@ -114,7 +114,7 @@ pub record OperationStands (nodes : List ℕ) (first last middle end : ℕ) (o :
   pub j : ℕ
   pub k : ℕ
   pub behind : 4 ≤ first
-  pub title : get_or nodes (first - 4 + 1) 0 ≡ number_of_name ρ o.title noEnding
+  pub title : get_or nodes (first - 4 + 1) 0 ≡ number_of_name ρ o.title no_ending
   pub parameters : Stands nodes first last (parameter_codes i o.parameters ρ)
   pub abstractly : PredAt nodes last middle j o.abstractly ρ
   pub concretely : PredAt nodes middle end k o.concretely ρ
@@ -132,7 +132,7 @@ OperationSet nodes abstracts concretes first last middle end T U W Y z out after
 -- the titles of the operations from number k on stand in their headings
 pub data TitlesAt (nodes spans : List ℕ) (ρ : Numbering) : (k : ℕ) → List Operation → Type 0 where
   no_titles : {k : ℕ} → TitlesAt nodes spans ρ k []
-  one_title : {k : ℕ} {o : Operation} {os : List Operation} → get_or nodes (span spans (9 + 4 * k) - 4 + 1) 0 ≡ number_of_name ρ o.title noEnding
+  one_title : {k : ℕ} {o : Operation} {os : List Operation} → get_or nodes (span spans (9 + 4 * k) - 4 + 1) 0 ≡ number_of_name ρ o.title no_ending
       → TitlesAt nodes spans ρ (suc k) os → TitlesAt nodes spans ρ k (o ∷ os)
 
 -- the operations from number k on

@@ -7,7 +7,7 @@ use Prim.Native.Nat.{ℕ, suc, ◌+◌, ◌≤◌}
 use native.Mathlib.Omega.{arith}
 use lib.ListN.{length, set}
 use Rattle.lexical.specs.Lists.{find}
-use Rattle.lexical.specs.Symbols.{Name, Ending, noEnding}
+use Rattle.lexical.specs.Symbols.{Name, Ending, no_ending}
 use Rattle.form.specs.Tree.{Letters, Given, Declaration}
 use Rattle.form.specs.Written.{write_type}
 use Rattle.form.specs.Codes.{Numbering, ending_number, number_of_name, name_number}
@@ -101,13 +101,13 @@ variables-few gs e (d ∷ ds) = on (carrier_of gs d.type) refl (variables-few gs
 -- ---- the table ----
 
 module _ (ρ : Numbering) (P : Letters → Type 0) (ν : Numbered ρ P) (gs : List Given) (e : Ending) where
-  pub placing-holds : {xs : List Letters} (ds : List Declaration) → Declared gs xs ds → TypedIn P (variables_of noEnding ds) → (s : ℕ) {T : Places} {f : Name → ℕ} → Holds ρ P T f
-      → Holds ρ P (placing (variables_of noEnding ds) (ending_number e) s T ρ) (into (slotted s (variables gs e ds)) f)
+  pub placing-holds : {xs : List Letters} (ds : List Declaration) → Declared gs xs ds → TypedIn P (variables_of no_ending ds) → (s : ℕ) {T : Places} {f : Name → ℕ} → Holds ρ P T f
+      → Holds ρ P (placing (variables_of no_ending ds) (ending_number e) s T ρ) (into (slotted s (variables gs e ds)) f)
   unfolding placing variables_of variables slotted into number_of_name
   placing-holds [] none_declared no_typed s h = h
   placing-holds (d ∷ ds) (one_declared c n g k) (one_typed p q t) s {T} {f} h =
       let m : name_number ρ (name_of d.declared e) ≡ name_number ρ (plain d.declared) + ending_number e = omega arith in
-      subst (λ (W : Slots). Holds ρ P (placing (variables_of noEnding (d ∷ ds)) (ending_number e) s T ρ) (into W f)) (sym (group-one gs e s d ds c g))
-      (subst (λ (j : ℕ). Holds ρ P (placing (variables_of noEnding ds) (ending_number e) (suc s) (set T j s) ρ)
+      subst (λ (W : Slots). Holds ρ P (placing (variables_of no_ending (d ∷ ds)) (ending_number e) s T ρ) (into W f)) (sym (group-one gs e s d ds c g))
+      (subst (λ (j : ℕ). Holds ρ P (placing (variables_of no_ending ds) (ending_number e) (suc s) (set T j s) ρ)
       (into (slotted (suc s) (variables gs e ds)) (entered (name_of d.declared e) s f))) m
       (placing-holds ds k t (suc s) (write ρ P ν h (name_of d.declared e) p s)))

@@ -5,7 +5,7 @@ use Prim.Native.Nat.{ℕ, zero, suc, ◌+◌, ◌≤◌, ◌<◌}
 use native.Mathlib.Omega.{arith}
 use lib.ListN.{length, get_or, replicate, length-replicate}
 use Rattle.lexical.specs.Lists.{any, concat}
-use Rattle.lexical.specs.Symbols.{Name, noEnding}
+use Rattle.lexical.specs.Symbols.{Name, no_ending}
 use Rattle.lexical.specs.Refusals.{Fault}
 use Rattle.form.specs.Tree.{Letters, Given, Declaration, declarations, State, Operation, Dossier}
 use Rattle.form.specs.Headings.{givens_at, abstract_at, concrete_at, operations_at, operation_length}
@@ -74,31 +74,31 @@ module _ (d : Dossier) where
 module _ (ρ : Numbering) (P : Letters → Type 0) (ν : Numbered ρ P) {gs : List Given} (p : GivensIn P gs) (z : Sizes) (k : Sized gs z) where
   -- a state's predicate
   module _ {T : Names} (xs : List Letters) (s : Base ρ P gs T xs) (st : State) (t : TitlesIn gs xs) (g : Group ρ P ν p z k xs (declarations st)) where
-    state-shows : Shows ρ P (scope gs (state_names st ++ xs) (variables gs noEnding (declarations st))) (shown (variables_of noEnding (declarations st)) 0 T ρ) z
+    state-shows : Shows ρ P (scope gs (state_names st ++ xs) (variables gs no_ending (declarations st))) (shown (variables_of no_ending (declarations st)) 0 T ρ) z
     state-shows =
-        shows ρ P ν p z k (state-shown ρ P ν p z k xs s st g) (state_names st ++ xs) (variables gs noEnding (declarations st)) (titles-more gs (state_names st) xs t) (λ l. refl) (λ y. refl)
+        shows ρ P ν p z k (state-shown ρ P ν p z k xs s st g) (state_names st ++ xs) (variables gs no_ending (declarations st)) (titles-more gs (state_names st) xs t) (λ l. refl) (λ y. refl)
 
   module _ {xs ys : List Letters} {av cv : List Declaration} (a : Group ρ P ν p z k xs av) (c : Group ρ P ν p z k ys cv) (us : List Letters) (ua : AreUsed av us) (uc : AreUsed cv us)
       (t : TitlesIn gs us) {T : Names} (s : Base ρ P gs T us) where
     -- ainit, cinit, retrieve
-    ainit-sees : Sees ρ P gs (shown (variables_of noEnding av) 0 T ρ) (in_use us) (λ (y : Name). or_type (found (variables gs noEnding av) y) (element_type gs y))
+    ainit-sees : Sees ρ P gs (shown (variables_of no_ending av) 0 T ρ) (in_use us) (λ (y : Name). or_type (found (variables gs no_ending av) y) (element_type gs y))
     ainit-sees = again ρ P ν p z k a us ua s
 
-    cinit-sees : Sees ρ P gs (shown (variables_of noEnding cv) 0 (hidden (variables_of noEnding av) 0 2 (shown (variables_of noEnding av) 0 T ρ) ρ) ρ) (in_use us)
-        (λ (y : Name). or_type (found (variables gs noEnding cv) y) (element_type gs y))
+    cinit-sees : Sees ρ P gs (shown (variables_of no_ending cv) 0 (hidden (variables_of no_ending av) 0 2 (shown (variables_of no_ending av) 0 T ρ) ρ) ρ) (in_use us)
+        (λ (y : Name). or_type (found (variables gs no_ending cv) y) (element_type gs y))
     cinit-sees = again ρ P ν p z k c us uc (leave ρ P ν p z k a us ua ainit-sees (λ y e. (a.away y e).1))
 
-    ainit-shows : Shows ρ P (scope gs us (variables gs noEnding av)) (shown (variables_of noEnding av) 0 T ρ) z
-    ainit-shows = shows ρ P ν p z k ainit-sees us (variables gs noEnding av) t (λ l. refl) (λ y. refl)
+    ainit-shows : Shows ρ P (scope gs us (variables gs no_ending av)) (shown (variables_of no_ending av) 0 T ρ) z
+    ainit-shows = shows ρ P ν p z k ainit-sees us (variables gs no_ending av) t (λ l. refl) (λ y. refl)
 
-    cinit-shows : Shows ρ P (scope gs us (variables gs noEnding cv)) (shown (variables_of noEnding cv) 0 (hidden (variables_of noEnding av) 0 2 (shown (variables_of noEnding av) 0 T ρ) ρ) ρ) z
-    cinit-shows = shows ρ P ν p z k cinit-sees us (variables gs noEnding cv) t (λ l. refl) (λ y. refl)
+    cinit-shows : Shows ρ P (scope gs us (variables gs no_ending cv)) (shown (variables_of no_ending cv) 0 (hidden (variables_of no_ending av) 0 2 (shown (variables_of no_ending av) 0 T ρ) ρ) ρ) z
+    cinit-shows = shows ρ P ν p z k cinit-sees us (variables gs no_ending cv) t (λ l. refl) (λ y. refl)
 
-    retrieve-shows : Shows ρ P (scope gs us (variables gs noEnding av ++ variables gs noEnding cv))
-        (shown (variables_of noEnding av) 0 (shown (variables_of noEnding cv) 0 (hidden (variables_of noEnding av) 0 2 (shown (variables_of noEnding av) 0 T ρ) ρ) ρ) ρ) z
+    retrieve-shows : Shows ρ P (scope gs us (variables gs no_ending av ++ variables gs no_ending cv))
+        (shown (variables_of no_ending av) 0 (shown (variables_of no_ending cv) 0 (hidden (variables_of no_ending av) 0 2 (shown (variables_of no_ending av) 0 T ρ) ρ) ρ) ρ) z
     retrieve-shows =
-        shows ρ P ν p z k (again ρ P ν p z k a us ua cinit-sees) us (variables gs noEnding av ++ variables gs noEnding cv) t (λ l. refl)
-        (λ y. sym (found-append (variables gs noEnding av) (variables gs noEnding cv) y (element_type gs y)))
+        shows ρ P ν p z k (again ρ P ν p z k a us ua cinit-sees) us (variables gs no_ending av ++ variables gs no_ending cv) t (λ l. refl)
+        (λ y. sym (found-append (variables gs no_ending av) (variables gs no_ending cv) y (element_type gs y)))
 
     -- an operation's two predicates
     module _ (i : ℕ) (o : Operation) (po : P o.title) (tp : TypedIn P (parameters_of o.parameters)) (e : new_name us o.title (suc i) ≡ [])

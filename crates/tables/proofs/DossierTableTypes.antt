@@ -7,10 +7,10 @@ use Prim.Native.Nat.{ℕ, suc, ◌+◌, ◌*◌}
 use native.Mathlib.Omega.{arith}
 use lib.ListN.{length}
 use Rattle.lexical.specs.Lists.{any, find}
-use Rattle.lexical.specs.Symbols.{Name, noEnding}
-use Rattle.lexical.specs.Refusals.{Fault, fault, unless, nameInUse, nameUnknown}
+use Rattle.lexical.specs.Symbols.{Name, no_ending}
+use Rattle.lexical.specs.Refusals.{Fault, fault, unless, name_in_use, name_unknown}
 use Rattle.lexical.proofs.WordLaws.{same_refl}
-use Rattle.form.specs.Tree.{Letters, Given, TypeForm, givenType, powerType, range_type, arrow_type, Declaration, declarations, Parameter, Operation, Dossier}
+use Rattle.form.specs.Tree.{Letters, Given, TypeForm, given_type, power_type, range_type, arrow_type, Declaration, declarations, Parameter, Operation, Dossier}
 use Rattle.form.specs.Written.{write_type}
 use Rattle.form.specs.Headings.{abstract_at, concrete_at, operations_at, operation_length}
 use Rattle.form.specs.Codes.{Numbering, node, name_number, end_number, arrow_number}
@@ -75,7 +75,7 @@ module _ (ρ : Numbering) (P : Letters → Type 0) (Γ : Scope) (T : Names) (z :
   given-placed g pg i e = view-index (given-view ρ P Γ T z s g pg) ∙ on (given_of Γ.givens g) refl e
     where
       on : (o : Option Given) → given_of Γ.givens g ≡ o → known o i ≡ [] → index_found Γ.givens o ≡ given_place Γ.givens g
-      on none q k = not_nil (fault i nameUnknown) [] k
+      on none q k = not_nil (fault i name_unknown) [] k
       on (some x) q k = sym (place_found g x Γ.givens q)
 
   given-sized : (g : Name) → P g.letters → table.given_size z (entry T (name_number ρ g)) ≡ resolved.given_size Γ.givens g
@@ -84,8 +84,8 @@ module _ (ρ : Numbering) (P : Letters → Type 0) (Γ : Scope) (T : Names) (z :
 
   pub type-written : (t : TypeForm) → TypeIn P t → (i : ℕ) → type_faults Γ.givens t i ≡ [] → type_node t T z ρ ≡ type_table t Γ.givens
   unfolding type_node type_table type_faults
-  type-written (givenType g) h i e = ap₂ (λ (a b : ℕ). node 1 a b 0) (given-placed g h i e) (given-sized g h)
-  type-written (powerType g) h i e = ap₂ (λ (a b : ℕ). node 3 a b 0) (given-placed g h (suc i) e) (given-sized g h)
+  type-written (given_type g) h i e = ap₂ (λ (a b : ℕ). node 1 a b 0) (given-placed g h i e) (given-sized g h)
+  type-written (power_type g) h i e = ap₂ (λ (a b : ℕ). node 3 a b 0) (given-placed g h (suc i) e) (given-sized g h)
   type-written (range_type r) h i e = ap (λ (n : ℕ). node 2 0 (end_number r.lower) n) (range-counted r i h e)
   type-written (arrow_type a g k) h i e =
       let l = append_nil-both (known (given_of Γ.givens g) i ++ known (given_of Γ.givens k) (i + 2)) _ e in
@@ -101,7 +101,7 @@ data Fitting (P : Letters → Type 0) (gs : List Given) : List Declaration → T
   one_fits : {d : Declaration} {ds : List Declaration} (i : ℕ) → TypeIn P d.type → type_faults gs d.type i ≡ [] → Fitting P gs ds → Fitting P gs (d ∷ ds)
 
 module _ {P : Letters → Type 0} (gs : List Given) where
-  variables-fit : (xs : List Letters) (i : ℕ) (ds : List Declaration) → TypedIn P (variables_of noEnding ds) → declaration_faults gs xs i ds ≡ [] → Fitting P gs ds
+  variables-fit : (xs : List Letters) (i : ℕ) (ds : List Declaration) → TypedIn P (variables_of no_ending ds) → declaration_faults gs xs i ds ≡ [] → Fitting P gs ds
   unfolding variables_of declaration_faults
   variables-fit xs i [] no_typed e = none_fits
   variables-fit xs i (d ∷ ds) (one_typed p q h) e =
@@ -115,7 +115,7 @@ module _ {P : Letters → Type 0} (gs : List Given) where
   unfolding parameters_of parameter_faults
   parameters-fit xs i [] no_typed e = none_fits
   parameters-fit xs i (x ∷ ps) (one_typed p q h) e =
-      let new : List Fault = unless (not (any (λ (y : Parameter). same_name (parameter_name y) (parameter_name x)) xs)) (fault i nameInUse) in
+      let new : List Fault = unless (not (any (λ (y : Parameter). same_name (parameter_name y) (parameter_name x)) xs)) (fault i name_in_use) in
       let j : ℕ = i + 3 + length (write_type x.declaration.type []) in
       let a = append_nil-both (new ++ type_faults gs x.declaration.type (i + 2)) (parameter_faults gs (x ∷ xs) j ps) e in
       let b = append_nil-both new (type_faults gs x.declaration.type (i + 2)) a.0 in

@@ -6,7 +6,7 @@ use mathlib.Core.Option.{Option, none, some}
 use Prim.Native.Nat.{ℕ, suc, ◌+◌}
 use native.Mathlib.Omega.{arith}
 use Rattle.lexical.specs.Lists.{any, find}
-use Rattle.lexical.specs.Symbols.{Name, Ending, noEnding, prime, query, shriek}
+use Rattle.lexical.specs.Symbols.{Name, Ending, no_ending, prime, query, shriek}
 use Rattle.form.specs.Tree.{Letters, Given, elements}
 use Rattle.form.specs.Headings.{given_length}
 use Rattle.form.specs.Codes.{Numbering}
@@ -137,7 +137,7 @@ plain-is : (y : Name) → ending_code y.ending ≡ 0 → y ≡ plain y.letters
 plain-is y e = on y.ending e
   where
     on : (d : Ending) → ending_code d ≡ 0 → name_of y.letters d ≡ plain y.letters
-    on noEnding h = refl
+    on no_ending h = refl
     on prime h = absurd (omega arith)
     on query h = absurd (omega arith)
     on shriek h = absurd (omega arith)

@@ -9,7 +9,7 @@ use lib.ListN.{length, length-map}
 use borrow.Author.Tests.{not-true}
 use Rattle.lexical.specs.Lists.{any, find, filter}
 use Rattle.lexical.specs.Symbols.{Name, query, shriek}
-use Rattle.lexical.specs.Refusals.{fault, unless, nameInUse}
+use Rattle.lexical.specs.Refusals.{fault, unless, name_in_use}
 use Rattle.form.specs.Tree.{Letters, Given, Declaration, Direction, inward, outward, Parameter}
 use Rattle.form.specs.Written.{ending_of, write_type}
 use Rattle.form.specs.Codes.{Numbering}
@@ -61,11 +61,11 @@ unfolding parameter_faults
 parametrised gs xs i [] e = no_parameters
 parametrised gs xs i (y ∷ ys) e =
     let j = i + 3 + length (write_type y.declaration.type []) in
-    let n = unless (not (called xs (parameter_name y))) (fault i nameInUse) in
+    let n = unless (not (called xs (parameter_name y))) (fault i name_in_use) in
     let a = append_nil-both (n ++ type_faults gs y.declaration.type (i + 2)) (parameter_faults gs (y ∷ xs) j ys) e in
     let b = append_nil-both n (type_faults gs y.declaration.type (i + 2)) a.0 in
     let c = type-carries gs y.declaration.type (i + 2) b.1 in
-    one_parameter c.carrier (not-true (called xs (parameter_name y)) (unless-nil (not (called xs (parameter_name y))) (fault i nameInUse) b.0)) c.carries
+    one_parameter c.carrier (not-true (called xs (parameter_name y)) (unless-nil (not (called xs (parameter_name y))) (fault i name_in_use) b.0)) c.carries
     (parametrised gs (y ∷ xs) j ys a.1)
 
 numbered-off : {gs : List Given} {xs ys : List Parameter} → Parametrised gs xs ys → (i o : ℕ) (y : Name) → called xs y ≡ true → slot_of (numbered ys i o) y ≡ none

@@ -5,7 +5,7 @@ use mathlib.Core.List.{List, [], ◌∷◌, ◌++◌, map}
 use Prim.Native.Nat.{ℕ, suc, ◌+◌, ◌≤◌}
 use native.Mathlib.Omega.{arith}
 use lib.ListN.{length}
-use Rattle.lexical.specs.Symbols.{Name, Ending, noEnding, prime}
+use Rattle.lexical.specs.Symbols.{Name, Ending, no_ending, prime}
 use Rattle.form.specs.Tree.{Letters, Given, Declaration, declarations, Parameter, Operation, Dossier}
 use Rattle.form.specs.Headings.{givens_at, abstract_at, concrete_at, operations_at, operation_length}
 use Rattle.form.specs.Codes.{Numbering}
@@ -103,8 +103,8 @@ state_entries d f = into (concrete_primed d) (into (concrete_slots d) (abstract_
 module _ (d : Dossier) (h : Separate d) where
   -- variables of one state, plain and primed, have different endings
   primes-off : {xs : List Letters} {ds : List Declaration} → Declared d.givens xs ds → (s r : ℕ)
-      → Off (slotted s (variables d.givens noEnding ds)) (slotted r (variables d.givens prime ds))
-  primes-off k s r = apart (declared-ended k noEnding s) (declared-ended k prime r) (λ y p q. omega arith)
+      → Off (slotted s (variables d.givens no_ending ds)) (slotted r (variables d.givens prime ds))
+  primes-off k s r = apart (declared-ended k no_ending s) (declared-ended k prime r) (λ y p q. omega arith)
 
   -- and those of the concrete state are new where the abstract ones are in use
   concrete-off : (e g : Ending) (s r : ℕ) → Off (slotted s (variables d.givens e (declarations d.abstract))) (slotted r (variables d.givens g (declarations d.concrete)))
@@ -129,19 +129,19 @@ module _ (d : Dossier) (h : Separate d) where
         abstract_told =
             kept a q (into c (abstract_entries d f))
             (kept a c (abstract_entries d f)
-            (kept a b (into a g) (own a g (declared-once h.abstract_are noEnding 0) (below 0 (unprimed d d.abstract) (omega (arith, m noEnding))))
+            (kept a b (into a g) (own a g (declared-once h.abstract_are no_ending 0) (below 0 (unprimed d d.abstract) (omega (arith, m no_ending))))
             (primes-off h.abstract_are 0 30))
-            (concrete-off noEnding noEnding 0 8))
-            (concrete-off noEnding prime 0 22);
+            (concrete-off no_ending no_ending 0 8))
+            (concrete-off no_ending prime 0 22);
         abstract_primed_lem =
             kept b q (into c (abstract_entries d f))
             (kept b c (abstract_entries d f)
             (own b (into a g) (declared-once h.abstract_are prime 30) (below 30 (primed d d.abstract) (omega (arith, m prime))))
-            (concrete-off prime noEnding 30 8))
+            (concrete-off prime no_ending 30 8))
             (concrete-off prime prime 30 22);
         concrete_told =
             kept c q (into c (abstract_entries d f))
-            (own c (abstract_entries d f) (declared-once h.concrete_are noEnding 8) (below 8 (unprimed d d.concrete) (omega (arith, n noEnding))))
+            (own c (abstract_entries d f) (declared-once h.concrete_are no_ending 8) (below 8 (unprimed d d.concrete) (omega (arith, n no_ending))))
             (primes-off h.concrete_are 8 22);
         concrete_primed_lem =
             own q (into c (abstract_entries d f)) (declared-once h.concrete_are prime 22) (below 22 (primed d d.concrete) (omega (arith, n prime)));
@@ -149,8 +149,8 @@ module _ (d : Dossier) (h : Separate d) where
             elements-kept d.givens q (into c (abstract_entries d f))
             (elements-kept d.givens c (abstract_entries d f)
             (elements-kept d.givens b (into a g)
-            (elements-kept d.givens a g (givens-at [] (givens_at d) d.givens h.givens_are f) (abstract-out noEnding 0)) (abstract-out prime 30))
-            (concrete-out noEnding 8))
+            (elements-kept d.givens a g (givens-at [] (givens_at d) d.givens h.givens_are f) (abstract-out no_ending 0)) (abstract-out prime 30))
+            (concrete-out no_ending 8))
             (concrete-out prime 22);
       }
 
@@ -162,9 +162,9 @@ module _ (d : Dossier) (h : Separate d) where
   pub parameters-told : (f : Name → ℕ) → Told d f → (ps : List Parameter) (i o : ℕ) → Told d (into (numbered ps i o) f)
   parameters-told f t ps i o =
       record {
-        abstract_told = kept (abstract_slots d) (numbered ps i o) f t.abstract_told (parameters-off h.abstract_are noEnding (omega arith) 0 ps i o);
+        abstract_told = kept (abstract_slots d) (numbered ps i o) f t.abstract_told (parameters-off h.abstract_are no_ending (omega arith) 0 ps i o);
         abstract_primed_lem = kept (abstract_primed d) (numbered ps i o) f t.abstract_primed_lem (parameters-off h.abstract_are prime (omega arith) 30 ps i o);
-        concrete_told = kept (concrete_slots d) (numbered ps i o) f t.concrete_told (parameters-off h.concrete_are noEnding (omega arith) 8 ps i o);
+        concrete_told = kept (concrete_slots d) (numbered ps i o) f t.concrete_told (parameters-off h.concrete_are no_ending (omega arith) 8 ps i o);
         concrete_primed_lem = kept (concrete_primed d) (numbered ps i o) f t.concrete_primed_lem (parameters-off h.concrete_are prime (omega arith) 22 ps i o);
         elements_told =
             elements-kept d.givens (numbered ps i o) f t.elements_told
@@ -175,6 +175,6 @@ module _ (d : Dossier) (h : Separate d) where
   unfolding states_placed
   states-hold ρ P ν p w =
       placing-holds ρ P ν d.givens prime (declarations d.concrete) h.concrete_are p.concrete_in 22
-      (placing-holds ρ P ν d.givens noEnding (declarations d.concrete) h.concrete_are p.concrete_in 8
+      (placing-holds ρ P ν d.givens no_ending (declarations d.concrete) h.concrete_are p.concrete_in 8
       (placing-holds ρ P ν d.givens prime (declarations d.abstract) h.abstract_are p.abstract_in 30
-      (placing-holds ρ P ν d.givens noEnding (declarations d.abstract) h.abstract_are p.abstract_in 0 (givens-hold ρ P ν p.givens_in w))))
+      (placing-holds ρ P ν d.givens no_ending (declarations d.abstract) h.abstract_are p.abstract_in 0 (givens-hold ρ P ν p.givens_in w))))

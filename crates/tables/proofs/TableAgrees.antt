@@ -4,7 +4,7 @@ use mathlib.Core.Path.{◌≡◌, refl, ap}
 use mathlib.Core.List.{List, [], ◌∷◌, ◌++◌}
 use Prim.Native.Nat.{ℕ, suc, ◌≤◌}
 use lib.ListN.{set}
-use Rattle.lexical.specs.Symbols.{noEnding}
+use Rattle.lexical.specs.Symbols.{no_ending}
 use Rattle.form.specs.Tree.{Letters, given_set}
 use Rattle.form.specs.Tree.{Term, number, name, group, prefix, binary, divided, listed, pairs, such, empty_set, empty_pairs, Items, only, also, Pairs, only_pair, also_pair}
 use Rattle.form.specs.Tree.{Pred, truth, falsity, negation, paren, quantified, connected, compared, member, within, related}
@@ -39,8 +39,8 @@ module _ (ρ : Numbering) (P : Letters → Type 0) (ν : Numbered ρ P) (z : Siz
     term-resolved (pairs ts) Γ T W' W s v w l h = part.pairs-resolved ρ P ν z Γ T v W' W s ts (pairs-resolved ts Γ T W' W s v w l h)
     term-resolved (such x g p) Γ T W' W s v w l h =
         part.such-resolved ρ P ν z Γ T v W' W s x g p h.0 h.1
-        (λ y. pred_resolved p (binding Γ x (domain_carrier Γ (given_set g))) (bound T (number_of_name ρ x noEnding) (domain_kind (given_set g) T ρ))
-        ((plain x, s) ∷ W') (set W (number_of_name ρ x noEnding) s) (next_slot s) y
+        (λ y. pred_resolved p (binding Γ x (domain_carrier Γ (given_set g))) (bound T (number_of_name ρ x no_ending) (domain_kind (given_set g) T ρ))
+        ((plain x, s) ∷ W') (set W (number_of_name ρ x no_ending) s) (next_slot s) y
         (bound-placed ρ P ν Γ W' W w x h.0 (domain_carrier Γ (given_set g)) s l) (next_small s) h.2)
     term-resolved (empty_set g) Γ T W' W s v w l h = λ i e q. refl
     term-resolved (empty_pairs g k) Γ T W' W s v w l h = λ i e q. refl
@@ -67,8 +67,8 @@ module _ (ρ : Numbering) (P : Letters → Type 0) (ν : Numbered ρ P) (z : Siz
     pred_resolved (paren p) Γ T W' W s v w l h = λ i e q. pred_resolved p Γ T W' W s v w l h (suc i) e q
     pred_resolved (quantified q x t p) Γ T W' W s v w l h =
         part.quantified-resolved ρ P ν z Γ T v W' W s q x t p h.0 h.1
-        (λ y. pred_resolved p (binding Γ x (domain_carrier Γ t)) (bound T (number_of_name ρ x noEnding) (domain_kind t T ρ))
-        ((plain x, s) ∷ W') (set W (number_of_name ρ x noEnding) s) (next_slot s) y
+        (λ y. pred_resolved p (binding Γ x (domain_carrier Γ t)) (bound T (number_of_name ρ x no_ending) (domain_kind t T ρ))
+        ((plain x, s) ∷ W') (set W (number_of_name ρ x no_ending) s) (next_slot s) y
         (bound-placed ρ P ν Γ W' W w x h.0 (domain_carrier Γ t) s l) (next_small s) h.2)
     pred_resolved (connected o p r) Γ T W' W s v w l h =
         part.connected-resolved ρ P ν z Γ T v W' W s o p r (pred_resolved p Γ T W' W s v w l h.0) (pred_resolved r Γ T W' W s v w l h.1)

@@ -6,8 +6,8 @@ use Prim.Native.Nat.{ℕ, suc, ◌+◌}
 use lib.ListN.{length, set}
 use Rattle.lexical.specs.Kinds.{code_of}
 use Rattle.lexical.specs.Lists.{all}
-use Rattle.lexical.specs.Refusals.{Fault, fault, typesMisfit}
-use Rattle.lexical.specs.Symbols.{Name, noEnding}
+use Rattle.lexical.specs.Refusals.{Fault, fault, types_misfit}
+use Rattle.lexical.specs.Symbols.{Name, no_ending}
 use Rattle.form.specs.Tree.{Letters, End, Range, Domain, given_set, range, Prefix, Operator, Division, Connective, Quantifier, Comparison, Membership}
 use Rattle.form.specs.Tree.{Term, prefix, binary, divided, listed, pairs, such, Items, also, Pairs, only_pair, also_pair, Pred, quantified, connected, compared, member, within, related}
 use Rattle.form.specs.Written.{prefix_kind, operator_kind, connective_kind, quantifier_kind, comparison_kind, membership_kind}
@@ -114,7 +114,7 @@ module _ (ρ : Numbering) (P : Letters → Type 0) (ν : Numbered ρ P) (z : Siz
   pub prefix-resolved : (o : Prefix) (t : Term) → TermIn P t → TermResolved ρ z Γ T W' W s t → TermResolved ρ z Γ T W' W s (prefix o t)
   unfolding judge_term table.term_table resolved.term_table
   prefix-resolved o t h a i e q =
-      let n = (whole-nil (ty.prefix_fits o (judge_term t Γ (suc i)).type) (fault i typesMisfit) (judge_term t Γ (suc i)).faults e).none_in in
+      let n = (whole-nil (ty.prefix_fits o (judge_term t Γ (suc i)).type) (fault i types_misfit) (judge_term t Γ (suc i)).faults e).none_in in
       ap₂ (λ (x y : List ℕ). x ++ y) (a (suc i) n q)
       (ap₂ (λ (m n : ℕ). node 3 m (code_of (prefix_kind o)) n) (first-side ρ P Γ T z sh ν t h (suc i) n) (second-side ρ P Γ T z sh ν t h (suc i) n))
 
@@ -122,14 +122,14 @@ module _ (ρ : Numbering) (P : Letters → Type 0) (ν : Numbered ρ P) (z : Siz
   unfolding judge_term table.term_table resolved.term_table
   binary-resolved o t u a b i e q =
       let j : ℕ = suc (judge_term t Γ i).next in
-      let h = two-nil (ty.operator_fits o (judge_term t Γ i).type (judge_term u Γ j).type) (fault (judge_term t Γ i).next typesMisfit)
+      let h = two-nil (ty.operator_fits o (judge_term t Γ i).type (judge_term u Γ j).type) (fault (judge_term t Γ i).next types_misfit)
       (judge_term t Γ i).faults (judge_term u Γ j).faults e in
       two-terms t u a b (λ (n m : ℕ). node 5 n (code_of (operator_kind o)) m) {m = 0} refl i h.0 h.1 q
 
   pub divided-resolved : (o : Division) (t : Term) (d : End) → TermResolved ρ z Γ T W' W s t → TermResolved ρ z Γ T W' W s (divided o t d)
   unfolding judge_term table.term_table resolved.term_table
   divided-resolved o t d a i e q =
-      let h = two-nil (has (judge_term t Γ i).type ty.is_number) (fault (judge_term t Γ i).next typesMisfit)
+      let h = two-nil (has (judge_term t Γ i).type ty.is_number) (fault (judge_term t Γ i).next types_misfit)
       (judge_term t Γ i).faults (divisor_faults d (suc (judge_term t Γ i).next)) e in
       ap (λ (x : List ℕ). x ++ node 4 0 d.magnitude (sign_of d.negative + division_number o)) (a i h.0 q)
 
@@ -137,7 +137,7 @@ module _ (ρ : Numbering) (P : Letters → Type 0) (ν : Numbered ρ P) (z : Siz
   unfolding judge_term table.term_table resolved.term_table
   listed-resolved ts a i e q =
       let l : Listing Ty = judge_items ts Γ (suc i) in
-      let n = (whole-nil (ty.brace_fits l.types) (fault i typesMisfit) l.faults e).none_in in
+      let n = (whole-nil (ty.brace_fits l.types) (fault i types_misfit) l.faults e).none_in in
       ap (λ (x : List ℕ). x ++ node 7 0 0 0) (a (suc i) n q)
 
   pub pairs-resolved : (ts : Pairs) → PairsResolved ρ z Γ T W' W s ts → TermResolved ρ z Γ T W' W s (pairs ts)
@@ -148,9 +148,9 @@ module _ (ρ : Numbering) (P : Letters → Type 0) (ν : Numbered ρ P) (z : Siz
       ap (λ (x : List ℕ). x ++ node 8 0 0 0) (a (suc i) h.0 (fit-elements l.types (whole-pairs-fit Γ.givens l.types i h.1)) q)
 
   pub such-resolved : (x : Letters) (g : Name) (p : Pred) → P x → P g.letters
-      → (Shows ρ P (binding Γ x (domain_carrier Γ (given_set g))) (bound T (number_of_name ρ x noEnding) (domain_kind (given_set g) T ρ)) z
-      → PredResolved ρ z (binding Γ x (domain_carrier Γ (given_set g))) (bound T (number_of_name ρ x noEnding) (domain_kind (given_set g) T ρ))
-      ((plain x, s) ∷ W') (set W (number_of_name ρ x noEnding) s) (next_slot s) p)
+      → (Shows ρ P (binding Γ x (domain_carrier Γ (given_set g))) (bound T (number_of_name ρ x no_ending) (domain_kind (given_set g) T ρ)) z
+      → PredResolved ρ z (binding Γ x (domain_carrier Γ (given_set g))) (bound T (number_of_name ρ x no_ending) (domain_kind (given_set g) T ρ))
+      ((plain x, s) ∷ W') (set W (number_of_name ρ x no_ending) s) (next_slot s) p)
       → TermResolved ρ z Γ T W' W s (such x g p)
   unfolding judge_term table.term_table resolved.term_table domain_kind
   such-resolved x g p px pg f i e q =
@@ -203,7 +203,7 @@ module _ (ρ : Numbering) (P : Letters → Type 0) (ν : Numbered ρ P) (z : Siz
   unfolding judge_pred table.pred_table resolved.pred_table
   compared-resolved o t u a b i e q =
       let j : ℕ = suc (judge_term t Γ i).next in
-      let h = two-nil (ty.comparison_fits o (judge_term t Γ i).type (judge_term u Γ j).type) (fault (judge_term t Γ i).next typesMisfit)
+      let h = two-nil (ty.comparison_fits o (judge_term t Γ i).type (judge_term u Γ j).type) (fault (judge_term t Γ i).next types_misfit)
       (judge_term t Γ i).faults (judge_term u Γ j).faults e in
       two-terms t u a b (λ (n m : ℕ). node 19 n (code_of (comparison_kind o)) m) {m = 0} refl i h.0 h.1 q
 
@@ -211,14 +211,14 @@ module _ (ρ : Numbering) (P : Letters → Type 0) (ν : Numbered ρ P) (z : Siz
   unfolding judge_pred table.pred_table resolved.pred_table
   member-resolved o t u a b i e q =
       let j : ℕ = suc (judge_term t Γ i).next in
-      let h = two-nil (ty.member_fits (judge_term t Γ i).type (judge_term u Γ j).type) (fault (judge_term t Γ i).next typesMisfit)
+      let h = two-nil (ty.member_fits (judge_term t Γ i).type (judge_term u Γ j).type) (fault (judge_term t Γ i).next types_misfit)
       (judge_term t Γ i).faults (judge_term u Γ j).faults e in
       two-terms t u a b (λ (n m : ℕ). node 20 n (code_of (membership_kind o)) m) {m = 0} refl i h.0 h.1 q
 
   pub within-resolved : (o : Membership) (t : Term) (r : Range) → RangeIn r → TermResolved ρ z Γ T W' W s t → PredResolved ρ z Γ T W' W s (within o t r)
   unfolding judge_pred table.pred_table resolved.pred_table
   within-resolved o t r k a i e q =
-      let h = two-nil (has (judge_term t Γ i).type ty.is_number) (fault (judge_term t Γ i).next typesMisfit)
+      let h = two-nil (has (judge_term t Γ i).type ty.is_number) (fault (judge_term t Γ i).next types_misfit)
       (judge_term t Γ i).faults (range_faults r (suc (judge_term t Γ i).next)) e in
       ap₂ (λ (x y : List ℕ). x ++ (y ++ node 21 0 (code_of (membership_kind o)) 0)) (a i h.0 q)
       (domain_resolved ρ P Γ T z sh (range r) k (suc (judge_term t Γ i).next) h.1)
@@ -229,7 +229,7 @@ module _ (ρ : Numbering) (P : Letters → Type 0) (ν : Numbered ρ P) (z : Siz
   related-resolved o t u v k a b c i e q =
       let j : ℕ = suc (judge_term t Γ i).next in
       let l : ℕ = suc (judge_term u Γ j).next in
-      let w = whole-nil (ty.related_fits (judge_term t Γ i).type (judge_term u Γ j).type (judge_term v Γ l).type) (fault (judge_term u Γ j).next typesMisfit)
+      let w = whole-nil (ty.related_fits (judge_term t Γ i).type (judge_term u Γ j).type (judge_term v Γ l).type) (fault (judge_term u Γ j).next types_misfit)
       ((judge_term t Γ i).faults ++ (judge_term u Γ j).faults ++ (judge_term v Γ l).faults) e in
       let h = append_nil-both ((judge_term t Γ i).faults ++ (judge_term u Γ j).faults) (judge_term v Γ l).faults w.none_in in
       let n = append_nil-both (judge_term t Γ i).faults (judge_term u Γ j).faults h.0 in
@@ -241,9 +241,9 @@ module _ (ρ : Numbering) (P : Letters → Type 0) (ν : Numbered ρ P) (z : Siz
       (a i n.0 q) (b j n.1) (c l h.1) (element-side ρ P Γ T z sh ν u k j n.1 d.1)
 
   pub quantified-resolved : (y : Quantifier) (x : Letters) (t : Domain) (p : Pred) → P x → DomainIn P t
-      → (Shows ρ P (binding Γ x (domain_carrier Γ t)) (bound T (number_of_name ρ x noEnding) (domain_kind t T ρ)) z
-      → PredResolved ρ z (binding Γ x (domain_carrier Γ t)) (bound T (number_of_name ρ x noEnding) (domain_kind t T ρ))
-      ((plain x, s) ∷ W') (set W (number_of_name ρ x noEnding) s) (next_slot s) p)
+      → (Shows ρ P (binding Γ x (domain_carrier Γ t)) (bound T (number_of_name ρ x no_ending) (domain_kind t T ρ)) z
+      → PredResolved ρ z (binding Γ x (domain_carrier Γ t)) (bound T (number_of_name ρ x no_ending) (domain_kind t T ρ))
+      ((plain x, s) ∷ W') (set W (number_of_name ρ x no_ending) s) (next_slot s) p)
       → PredResolved ρ z Γ T W' W s (quantified y x t p)
   unfolding judge_pred table.pred_table resolved.pred_table
   quantified-resolved y x t p px pt f i e q =

@@ -7,7 +7,7 @@ use native.Mathlib.Numerals.{add-one}
 use native.Mathlib.Omega.{arith}
 use lib.ListN.{length, take, get_or, set}
 use lib.Seq.{length-take-le}
-use Rattle.lexical.specs.Symbols.{noEnding}
+use Rattle.lexical.specs.Symbols.{no_ending}
 use Rattle.form.specs.Tree.{Letters, Pred, Declaration, declarations, Operation, Dossier}
 use Rattle.form.specs.Headings.{ainit_at, cinit_at, retrieve_at, operation_length}
 use Rattle.form.specs.Codes.{Numbering, number_of_name, abstractly_at, pred_width, declaration_codes, parameter_codes}
@@ -52,7 +52,7 @@ written_as p z ρ q {T} {T'} {W} {W'} {out} {out'} t w o =
 
 -- names shown and hidden, by declarations
 abbrev plain : List Declaration → List Typed
-plain ds = variables_of noEnding ds
+plain ds = variables_of no_ending ds
 
 module _ (vs : List ℕ) (ds : List Declaration) (j : ℕ) (ρ : Numbering) (e : vs ≡ declaration_codes j ds ρ) where
   typed : vs ≡ typed_codes j (plain ds) ρ
@@ -195,7 +195,7 @@ pub record SpansRead (spans : List ℕ) (k first last middle end : ℕ) : Type 0
   pub end_is : end ≡ span spans (9 + 4 * k + 3)
 
 stands_read : (nodes spans : List ℕ) (k i : ℕ) (o : Operation) (ρ : Numbering) (first last middle end : ℕ) → SpansRead spans k first last middle end → OperationAt nodes spans k i o ρ
-    → get_or nodes (span spans (9 + 4 * k) - 4 + 1) 0 ≡ number_of_name ρ o.title noEnding → OperationStands nodes first last middle end o ρ
+    → get_or nodes (span spans (9 + 4 * k) - 4 + 1) 0 ≡ number_of_name ρ o.title no_ending → OperationStands nodes first last middle end o ρ
 stands_read nodes spans k i o ρ first last middle end r h t =
     subst (λ (m : ℕ). OperationStands nodes m last middle end o ρ) (sym r.first_is)
     (subst (λ (m : ℕ). OperationStands nodes (span spans (9 + 4 * k)) m middle end o ρ) (sym r.last_is)

@@ -1,5 +1,4 @@
 // The table that the evaluator runs, from the nodes of a dossier.
 #![tactic(auto)]
 
-
 pub mod passes;

@@ -6,7 +6,7 @@ use native.Mathlib.Omega.{arith}
 use lib.ListN.{length, get_or, set}
 use Rattle.lexical.specs.Kinds as kind
 use Rattle.lexical.specs.Kinds.{code_of}
-use Rattle.lexical.specs.Symbols.{noEnding}
+use Rattle.lexical.specs.Symbols.{no_ending}
 use Rattle.form.specs.Tree.{range}
 use Rattle.form.specs.Written.{connective_kind, comparison_kind, membership_kind, quantifier_kind}
 use Rattle.form.specs.Codes.{number_of_name, term_width, pred_width, domain_width, range_codes, domain_codes, term_codes, pred_codes}
@@ -97,7 +97,7 @@ module _ (code : List ℕ) (e : ℕ) (l : e ≤ length code) (S : Bounds) where
       pred-from code e l S 8 U₃ r (let f = hd.falls in let g = hp.falls in omega arith) (restored S U₁ U₂ U₃ x b old b₁ hp.kept b₃ oq) q
       (λ c y₁ D P i ρ base y.
       let j : ℕ = i + 5 + domain_width D in
-      let h = two-parts code e l base (pred_codes P j ρ) (domain_codes D (i + 4) ρ) 8 (suc i) (number_of_name ρ y₁ noEnding) (code_of (quantifier_kind c)) y in
+      let h = two-parts code e l base (pred_codes P j ρ) (domain_codes D (i + 4) ρ) 8 (suc i) (number_of_name ρ y₁ no_ending) (code_of (quantifier_kind c)) y in
       let sD = hd.right D (i + 4) ρ (base ++ pred_codes P j ρ) h.before in
       let sP = hp.right P j ρ base (middle code (e - 4) d.start (base ++ pred_codes P j ρ) (domain_codes D (i + 4) ρ) h.before hd.falls sD.start_is) in
       record {

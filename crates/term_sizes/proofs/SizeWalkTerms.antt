@@ -7,7 +7,7 @@ use native.Mathlib.Omega.{arith}
 use lib.Dec.{eqb, leb}
 use lib.ListN.{length, take, get_or, set}
 use Rattle.lexical.specs.Kinds.{code_of}
-use Rattle.lexical.specs.Symbols.{noEnding}
+use Rattle.lexical.specs.Symbols.{no_ending}
 use Rattle.form.specs.Tree.{Domain, given_set, range, Items, only, also, Pairs, only_pair, also_pair}
 use Rattle.form.specs.Written.{prefix_kind, operator_kind}
 use Rattle.form.specs.Codes.{node, Numbering, name_number, number_of_name, end_number, end_width, sign_of, division_number, term_width, domain_codes, term_codes, items_codes, pairs_codes, pred_codes}
@@ -146,10 +146,10 @@ module _ (code : List ℕ) (e : ℕ) (l : e ≤ length code) (S : Bounds) where
   term-such U₁ U₂ U₃ n d p r x old hn q hd hp b₁ b₃ xq oq bq fq sq =
       term-from code e l S 6 U₃ r (let f = hd.falls in let g = hp.falls in omega arith) (omega arith) (restored S U₁ U₂ U₃ x 0 old b₁ hp.kept b₃ oq) q
       (λ y₁ g P i ρ base y.
-      let h = two-parts code e l base (pred_codes P (i + 5) ρ) (node 1 (i + 3) (name_number ρ g) 0) 6 i (number_of_name ρ y₁ noEnding) 0 y in
+      let h = two-parts code e l base (pred_codes P (i + 5) ρ) (node 1 (i + 3) (name_number ρ g) 0) 6 i (number_of_name ρ y₁ no_ending) 0 y in
       let sD = hd.right (given_set g) (i + 3) ρ (base ++ pred_codes P (i + 5) ρ) h.before in
       let sP = hp.right P (i + 5) ρ base (middle code (e - 4) d.start (base ++ pred_codes P (i + 5) ρ) (node 1 (i + 3) (name_number ρ g) 0) h.before hd.falls sD.start_is) in
-      let xy : x ≡ number_of_name ρ y₁ noEnding = xq ∙ hn.first_is ∙ h.is_first in
+      let xy : x ≡ number_of_name ρ y₁ no_ending = xq ∙ hn.first_is ∙ h.is_first in
       record {
         fault_is = fq ∙ sP.fault_is ∙ ap (λ (X : Bounds). pred_over P X ρ (i + 5)) (b₁ ∙ ap (λ (k : ℕ). set S k 0) xy);
         bound_is = λ z. bq;

@@ -1,7 +1,7 @@
 -- Sizes by numbers: the size of a term and the least fault of a tree, with the size of each name in a table.
 -- That these are the sizes and faults of static_rules/specs/Limits is limits/proofs/SizesAgree. Nothing here need be believed.
 use Rattle.std.specs.Prelude.{cond, List, ℕ, suc, ◌+◌, ◌-◌, ◌*◌, max, leb, ltb, set}
-use Rattle.lexical.specs.Symbols.{noEnding}
+use Rattle.lexical.specs.Symbols.{no_ending}
 use Rattle.form.specs.Tree.{Prefix, negate, size, dom, ran, Operator, plus, minus, union, without, times, inter, Division, quotient, remainder, Domain, given_set, range}
 use Rattle.form.specs.Tree.{Term, number, name, group, prefix, binary, divided, listed, pairs, such, empty_set, empty_pairs, Items, only, also, Pairs, only_pair, also_pair}
 use Rattle.form.specs.Tree.{Pred, truth, falsity, negation, paren, quantified, connected, compared, member, within, related}
@@ -64,7 +64,7 @@ unfoldable mutual
   term_over (divided o t e) S ρ i = term_over t S ρ i
   term_over (listed ts) S ρ i = items_over ts S ρ (suc i)
   term_over (pairs ts) S ρ i = pairs_over ts S ρ (suc i)
-  term_over (such x g p) S ρ i = pred_over p (set S (number_of_name ρ x noEnding) 0) ρ (i + 5)
+  term_over (such x g p) S ρ i = pred_over p (set S (number_of_name ρ x no_ending) 0) ρ (i + 5)
   term_over (empty_set g) S ρ i = 0
   term_over (empty_pairs g h) S ρ i = 0
 
@@ -88,4 +88,4 @@ unfoldable mutual
   pred_over (within o t r) S ρ i = term_over t S ρ i
   pred_over (related o t u v) S ρ i =
       lesser (lesser (term_over t S ρ i) (term_over u S ρ (suc (i + term_width t)))) (term_over v S ρ (suc (suc (i + term_width t) + term_width u)))
-  pred_over (quantified q x t p) S ρ i = pred_over p (set S (number_of_name ρ x noEnding) (domain_bound t)) ρ (i + 5 + domain_width t)
+  pred_over (quantified q x t p) S ρ i = pred_over p (set S (number_of_name ρ x no_ending) (domain_bound t)) ρ (i + 5 + domain_width t)

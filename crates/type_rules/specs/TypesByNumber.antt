@@ -3,7 +3,7 @@
 use Rattle.std.specs.Prelude.{◌≡◌, Bool, ◌&&◌, ◌||◌, cond, List, ◌++◌, ℕ, suc, ◌+◌, ◌-◌, ◌*◌, ◌/◌, ◌%◌, ◌≤◌, eqb, leb, ltb, length, take, get_or, set}
 use Rattle.std.proofs.Math.Option.{Option, none, some}
 use Rattle.lexical.specs.Kinds.{code_of}
-use Rattle.lexical.specs.Symbols.{noEnding}
+use Rattle.lexical.specs.Symbols.{no_ending}
 use Rattle.lexical.specs.Refusals.{Fault, number_of, least}
 use Rattle.form.specs.Tree.{Prefix, negate, size, dom, ran, Operator, plus, minus, union, without, times, inter, Comparison, equals, differs, less, at_most, Domain, given_set, range}
 use Rattle.form.specs.Tree.{Term, number, name, group, prefix, binary, divided, listed, pairs, such, empty_set, empty_pairs, Items, only, also, Pairs, only_pair, also_pair}
@@ -197,8 +197,8 @@ unfoldable mutual
   term_key (listed ts) T ρ z i = judged_key (is_element (items_kind ts T ρ)) (key i 10) (items_key ts T ρ z (suc i))
   term_key (pairs ts) T ρ z i = inside_key (pairs_key ts T ρ z (suc i)) (brace_key z (pairs_kind ts T ρ) i)
   term_key (such x g p) T ρ z i =
-      inside_key (lesser (unless_key (is_free (entry T (number_of_name ρ x noEnding))) (key (i + 1) 8)) (unless_key (is_given (entry T (name_number ρ g))) (key (i + 3) 9)))
-      (pred_key p (bound T (number_of_name ρ x noEnding) (element_of (entry T (name_number ρ g)))) ρ z (i + 5))
+      inside_key (lesser (unless_key (is_free (entry T (number_of_name ρ x no_ending))) (key (i + 1) 8)) (unless_key (is_given (entry T (name_number ρ g))) (key (i + 3) 9)))
+      (pred_key p (bound T (number_of_name ρ x no_ending) (element_of (entry T (name_number ρ g)))) ρ z (i + 5))
   term_key (empty_set g) T ρ z i = unless_key (is_given (entry T (name_number ρ g))) (key (i + 1) 9)
   term_key (empty_pairs g h) T ρ z i =
       lesser (unless_key (is_given (entry T (name_number ρ g))) (key (i + 1) 9))
@@ -232,8 +232,8 @@ unfoldable mutual
       judged_key (related_fits (term_kind t T ρ) (term_kind u T ρ) (term_kind v T ρ)) (key (suc (i + term_width t) + term_width u) 10)
       (lesser (lesser (term_key t T ρ z i) (term_key u T ρ z (suc (i + term_width t)))) (term_key v T ρ z (suc (suc (i + term_width t) + term_width u))))
   pred_key (quantified q x t p) T ρ z i =
-      inside_key (lesser (unless_key (is_free (entry T (number_of_name ρ x noEnding))) (key (i + 2) 8)) (domain_key t T ρ (i + 4)))
-      (pred_key p (bound T (number_of_name ρ x noEnding) (domain_kind t T ρ)) ρ z (i + 5 + domain_width t))
+      inside_key (lesser (unless_key (is_free (entry T (number_of_name ρ x no_ending))) (key (i + 2) 8)) (domain_key t T ρ (i + 4)))
+      (pred_key p (bound T (number_of_name ρ x no_ending) (domain_kind t T ρ)) ρ z (i + 5 + domain_width t))
 
 -- the code tells prefixes, operators and comparisons by their symbols' codes
 abbrev pub PrefixFits : (o k : ℕ) → Bool → Type 0

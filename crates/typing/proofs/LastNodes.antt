@@ -7,7 +7,7 @@ use lib.ListN.{length, take, get_or, length-append}
 use lib.Seq.{take_at, get_or_at, take-take, get_or-take, length-take-le, get_or-append-add}
 use Rattle.lexical.specs.Kinds as kind
 use Rattle.lexical.specs.Kinds.{code_of}
-use Rattle.lexical.specs.Symbols.{Name, noEnding}
+use Rattle.lexical.specs.Symbols.{Name, no_ending}
 use Rattle.form.specs.Tree.{Letters, End, Range, Domain, given_set, range, Prefix, Operator, Division, Connective, Quantifier, Comparison, Membership}
 use Rattle.form.specs.Tree.{Term, number, name, group, prefix, binary, divided, listed, pairs, such, empty_set, empty_pairs, Items, only, also, Pairs, only_pair, also_pair}
 use Rattle.form.specs.Tree.{Pred, truth, falsity, negation, paren, quantified, connected, compared, member, within, related}
@@ -136,7 +136,7 @@ ends_t (group t) i ρ = ends_t t (suc i) ρ
 ends_t (prefix o t) i ρ = ends-one (term_codes t (suc i) ρ) 3 i (code_of (prefix_kind o)) 0
 ends_t (divided o t e) i ρ = ends-one (term_codes t i ρ) 4 (i + term_width t) e.magnitude (sign_of e.negative + division_number o)
 ends_t (binary o t u) i ρ = ends-two (term_codes t i ρ) (term_codes u (suc (i + term_width t)) ρ) 5 (i + term_width t) (code_of (operator_kind o)) 0
-ends_t (such x g p) i ρ = ends-two (pred_codes p (i + 5) ρ) (node 1 (i + 3) (name_number ρ g) 0) 6 i (number_of_name ρ x noEnding) 0
+ends_t (such x g p) i ρ = ends-two (pred_codes p (i + 5) ρ) (node 1 (i + 3) (name_number ρ g) 0) 6 i (number_of_name ρ x no_ending) 0
 ends_t (listed ts) i ρ = ends-one (items_codes ts (suc i) ρ) 7 i 0 0
 ends_t (pairs ts) i ρ = ends-one (pairs_codes ts (suc i) ρ) 8 i 0 0
 ends_t (empty_set g) i ρ = ends-one [] 9 i (name_number ρ g) 0
@@ -167,7 +167,7 @@ ends_p (related o t u v) i ρ =
     ends-three (term_codes t i ρ) (term_codes u (suc (i + term_width t)) ρ) (term_codes v (suc (suc (i + term_width t) + term_width u)) ρ)
     7 (suc (i + term_width t) + term_width u) (code_of (membership_kind o)) 0
 ends_p (quantified q x d p) i ρ =
-    ends-two (pred_codes p (i + 5 + domain_width d) ρ) (domain_codes d (i + 4) ρ) 8 (suc i) (number_of_name ρ x noEnding) (code_of (quantifier_kind q))
+    ends-two (pred_codes p (i + 5 + domain_width d) ρ) (domain_codes d (i + 4) ρ) 8 (suc i) (number_of_name ρ x no_ending) (code_of (quantifier_kind q))
 
 -- what is to be shown of the trees that end in a node of the shape k: of those of one constructor
 abbrev pub CaseT : ℕ → (Term → ℕ → Type 0) → Type 0

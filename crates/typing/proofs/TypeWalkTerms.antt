@@ -8,7 +8,7 @@ use lib.Dec.{eqb, ltb}
 use lib.ListN.{length, take, get_or, set}
 use lib.Seq.{set-get_or, set-set}
 use Rattle.lexical.specs.Kinds.{code_of}
-use Rattle.lexical.specs.Symbols.{noEnding}
+use Rattle.lexical.specs.Symbols.{no_ending}
 use Rattle.form.specs.Tree.{Domain, given_set, range, Division, quotient, remainder, Items, only, also, Pairs, only_pair, also_pair}
 use Rattle.form.specs.Written.{prefix_kind, operator_kind}
 use Rattle.form.specs.Codes.{node, Numbering, name_number, number_of_name, end_number, end_width, sign_of, division_number, term_width, domain_codes, term_codes, items_codes, pairs_codes, pred_codes}
@@ -190,10 +190,10 @@ module _ (code : List ℕ) (e : ℕ) (l : e ≤ length code) (T : Names) (z : Si
   term-such U₁ U₂ U₃ n d p r x old hn q hd hp b₁ b₃ xq oq kq sq fq =
       term-from code e l T z 6 U₃ r (let f = hd.falls in let g = hp.falls in omega arith) (restored T U₁ U₂ U₃ x d.kind old b₁ hp.kept b₃ oq) q
       (λ y₁ g P i ρ base y.
-      let h = two-parts code e l base (pred_codes P (i + 5) ρ) (node 1 (i + 3) (name_number ρ g) 0) 6 i (number_of_name ρ y₁ noEnding) 0 y in
+      let h = two-parts code e l base (pred_codes P (i + 5) ρ) (node 1 (i + 3) (name_number ρ g) 0) 6 i (number_of_name ρ y₁ no_ending) 0 y in
       let sD = hd.right (given_set g) (i + 3) ρ (base ++ pred_codes P (i + 5) ρ) h.before in
       let sP = hp.right P (i + 5) ρ base (middle code (e - 4) d.start (base ++ pred_codes P (i + 5) ρ) (node 1 (i + 3) (name_number ρ g) 0) h.before hd.falls sD.start_is) in
-      let xy : x ≡ number_of_name ρ y₁ noEnding = xq ∙ hn.first_is ∙ h.is_first in
+      let xy : x ≡ number_of_name ρ y₁ no_ending = xq ∙ hn.first_is ∙ h.is_first in
       record {
         kind_is = kq ∙ ap set_of sD.kind_is;
         fault_is = fq ∙ seen-bound n.place (ap (λ (j : ℕ). j + 1) (hn.place_is ∙ h.is_place)) (oq ∙ ap (entry T) xy) sD.fault_is

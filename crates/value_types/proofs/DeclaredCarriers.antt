@@ -9,8 +9,8 @@ use lib.ListN.{length, get_elem?}
 use borrow.Author.Tests.{leb-true}
 use Rattle.lexical.specs.Lists.{any, filter}
 use Rattle.lexical.specs.Symbols.{Name, Ending}
-use Rattle.lexical.specs.Refusals.{fault, unless, nameInUse}
-use Rattle.form.specs.Tree.{Letters, Arrow, Given, TypeForm, givenType, powerType, range_type, arrow_type}
+use Rattle.lexical.specs.Refusals.{fault, unless, name_in_use}
+use Rattle.form.specs.Tree.{Letters, Arrow, Given, TypeForm, given_type, power_type, range_type, arrow_type}
 use Rattle.form.specs.Tree.{Declaration, Direction, inward, outward, Parameter, Operation}
 use Rattle.form.specs.Written.{ending_of, write_type}
 use Rattle.form.specs.Headings.{operation_length}
@@ -36,11 +36,11 @@ HaveCarriers gs (d ∷ ds) = HasCarrier gs d.type × HaveCarriers gs ds
 
 -- ---- types
 
-given-carrier : (gs : List Given) (x : Name) (g : Given) → given_of gs x ≡ some g → carrier_of gs (givenType x) ≡ some (elements_of g)
+given-carrier : (gs : List Given) (x : Name) (g : Given) → given_of gs x ≡ some g → carrier_of gs (given_type x) ≡ some (elements_of g)
 unfolding carrier_of
 given-carrier gs x g e = rw (carrier_of, e)
 
-power-carrier : (gs : List Given) (x : Name) (g : Given) → given_of gs x ≡ some g → carrier_of gs (powerType x) ≡ some (subsets_of g)
+power-carrier : (gs : List Given) (x : Name) (g : Given) → given_of gs x ≡ some g → carrier_of gs (power_type x) ≡ some (subsets_of g)
 unfolding carrier_of
 power-carrier gs x g e = rw (carrier_of, e)
 
@@ -64,10 +64,10 @@ arrow-parts gs a x y i e = append_nil-three _ _ _ e
 
 pub type-carries : (gs : List Given) (t : TypeForm) (i : ℕ) → type_faults gs t i ≡ [] → HasCarrier gs t
 unfolding type_faults carrier_of CarrierFits
-type-carries gs (givenType x) i e =
+type-carries gs (given_type x) i e =
     let g = given-known (given_of gs x) i e in
     record { carrier = elements_of g.0; is = given-carrier gs x g.0 g.1; fits = λ w. (given_is gs x g.0 g.1).0 }
-type-carries gs (powerType x) i e =
+type-carries gs (power_type x) i e =
     let g = given-known (given_of gs x) (suc i) e in
     record { carrier = subsets_of g.0; is = power-carrier gs x g.0 g.1; fits = λ w. (given_is gs x g.0 g.1).0 }
 type-carries gs (range_type r) i e = record { carrier = range_carrier r; is = refl; fits = λ w. range-fits gs r i e w }
@@ -101,7 +101,7 @@ abbrev pub declarations_of : List Parameter → List Declaration
 declarations_of xs = map (λ (x : Parameter). x.declaration) xs
 
 parameter-parts : (gs : List Given) (xs : List Parameter) (i : ℕ) (y : Parameter) (ys : List Parameter) → parameter_faults gs xs i (y ∷ ys) ≡ []
-    → (unless (not (any (λ (x : Parameter). same_name (parameter_name x) (parameter_name y)) xs)) (fault i nameInUse) ≡ [])
+    → (unless (not (any (λ (x : Parameter). same_name (parameter_name x) (parameter_name y)) xs)) (fault i name_in_use) ≡ [])
     × (type_faults gs y.declaration.type (i + 2) ≡ []) × (parameter_faults gs (y ∷ xs) (i + 3 + length (write_type y.declaration.type [])) ys ≡ [])
 unfolding parameter_faults
 parameter-parts gs xs i y ys e = append_nil-three _ _ _ e

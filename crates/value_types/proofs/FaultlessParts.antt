@@ -7,7 +7,7 @@ use Prim.Native.Nat.{ℕ, suc, ◌+◌, ◌<◌, ◌≤◌}
 use lib.IntN.{pos}
 use borrow.Author.Tests.{ltb-true, leb-true}
 use Rattle.lexical.specs.Symbols.{Name}
-use Rattle.lexical.specs.Refusals.{Fault, fault, unless, typesMisfit}
+use Rattle.lexical.specs.Refusals.{Fault, fault, unless, types_misfit}
 use Rattle.form.specs.Tree.{Letters, End, Range, Domain, given_set, range, Given, Prefix, Operator, Division, Quantifier, Connective, Comparison, Membership}
 use Rattle.form.specs.Tree.{Term, name, group, prefix, binary, divided, listed, pairs, such, empty_set, empty_pairs, Items, only, also, Pairs, only_pair, also_pair}
 use Rattle.form.specs.Tree.{Pred, negation, paren, quantified, connected, compared, member, within, related}
@@ -75,7 +75,7 @@ pub brace-known : (gs : List Given) (ts : List (Ty × Ty)) (i : ℕ) → whole_p
 unfolding whole_pairs
 brace-known gs ts i e = on (pairs_fit ts) e
   where
-    on : (b : Bool) → cond b (over_fault gs (pairs_type ts).over i) (fault i typesMisfit ∷ []) ≡ [] → (b ≡ true) × (over_fault gs (pairs_type ts).over i ≡ [])
+    on : (b : Bool) → cond b (over_fault gs (pairs_type ts).over i) (fault i types_misfit ∷ []) ≡ [] → (b ≡ true) × (over_fault gs (pairs_type ts).over i ≡ [])
     on true h = (refl, h)
     on false h = not_nil _ _ h
 

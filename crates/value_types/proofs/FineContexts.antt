@@ -6,7 +6,7 @@ use mathlib.Core.Option.{some}
 use Prim.Native.Nat.{ℕ, suc, ◌+◌}
 use lib.ListN.{get_elem?}
 use Rattle.lexical.specs.Lists.{concat}
-use Rattle.lexical.specs.Symbols.{noEnding, prime}
+use Rattle.lexical.specs.Symbols.{no_ending, prime}
 use Rattle.lexical.specs.Refusals.{Fault}
 use Rattle.form.specs.Tree.{Letters, Pred, declarations, inward, outward, State, Operation, Dossier}
 use Rattle.form.specs.Headings.{givens_at, abstract_at, concrete_at, operations_at, operation_length}
@@ -90,7 +90,7 @@ module _ (d : Dossier) (f : DossierFaultless d) (g : FewElements d.givens) (w : 
   reach-fit : (s : State) (o : Operation) → HaveCarriers d.givens (declarations s) → DeclarationsWithin (declarations s)
       → HaveCarriers d.givens (declarations_of o.parameters) → ParametersWithin o.parameters → CarriersFit d.givens (operation_reach d s o)
   reach-fit s o h k p q =
-      let u = variables-fit d.givens noEnding (declarations s) h k in
+      let u = variables-fit d.givens no_ending (declarations s) h k in
       let v = variables-fit d.givens prime (declarations s) h k in
       fit_append d.givens (unprimed d s ++ primed d s ++ inputs d o) (outputs d o)
       (fit_append d.givens (unprimed d s ++ primed d s) (inputs d o)
@@ -113,8 +113,8 @@ module _ (d : Dossier) (f : DossierFaultless d) (g : FewElements d.givens) (w : 
   all-ready : AllReady (contexts d)
   unfolding contexts AllReady
   all-ready =
-      let a = variables-fit d.givens noEnding (declarations d.abstract) f.abstract w.abstract_types in
-      let c = variables-fit d.givens noEnding (declarations d.concrete) f.concrete w.concrete_types in
+      let a = variables-fit d.givens no_ending (declarations d.abstract) f.abstract w.abstract_types in
+      let c = variables-fit d.givens no_ending (declarations d.concrete) f.concrete w.concrete_types in
       let both = fit_append d.givens (unprimed d d.abstract) (unprimed d d.concrete) a c in
       ready d.abstract.predicate _ (abstract_taken d) (unprimed d d.abstract) a w.abstract b.abstract
       & ready d.concrete.predicate _ (concrete_taken d) (unprimed d d.concrete) c w.concrete b.concrete

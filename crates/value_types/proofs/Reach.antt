@@ -8,7 +8,7 @@ use Prim.Native.Nat.{ℕ, zero, suc, ◌+◌, ◌*◌, ◌^◌, ◌<◌, ◌≤�
 use native.Mathlib.Omega.{arith}
 use lib.ListN.{length}
 use Rattle.lexical.specs.Lists.{any, find, upward}
-use Rattle.lexical.specs.Symbols.{Name, Ending, noEnding, prime, query, shriek}
+use Rattle.lexical.specs.Symbols.{Name, Ending, no_ending, prime, query, shriek}
 use Rattle.lexical.proofs.WordLaws.{same_true}
 use Rattle.form.specs.Tree.{Letters, Arrow, relation, partial, total, Given, elements}
 use Rattle.static_rules.specs.Carriers.{Carrier, elements_of, numbers, subsets_of, pairs_in, Variable, size_of, largest, same_name, plain, given_of}
@@ -48,7 +48,7 @@ unfolding same_name
 plain-name t y e = on y.letters y.ending e
   where
     on : (l : Letters) (d : Ending) → same_name (plain t) (record { letters = l; ending = d }) ≡ true → plain t ≡ record { letters = l; ending = d }
-    on l noEnding h = ap plain (same_true t l h)
+    on l no_ending h = ap plain (same_true t l h)
     on l prime h = absurd (false≢true h)
     on l query h = absurd (false≢true h)
     on l shriek h = absurd (false≢true h)

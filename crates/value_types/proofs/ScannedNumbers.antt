@@ -10,7 +10,7 @@ use lib.ListN.{length, drop, get_or}
 use borrow.Author.Tests.{leb-true}
 use Rattle.lexical.specs.Lists.{bytes, begins, all}
 use Rattle.lexical.specs.Kinds.{Kind, marks, words}
-use Rattle.lexical.specs.Symbols.{Class, letter, digit, mark, blank, other, Ending, noEnding, prime, query, shriek, fixed, numeral, name, Found, gap, unlisted, found}
+use Rattle.lexical.specs.Symbols.{Class, letter, digit, mark, blank, other, Ending, no_ending, prime, query, shriek, fixed, numeral, name, Found, gap, unlisted, found}
 use Rattle.lexical.specs.Symbols.{class_of, is_digit, run, decimal_from, is_number, number_found, reserved, ending_of, ending_length, word_of, longer, longest, by_class, symbol_at}
 use Rattle.lexical.specs.Symbols.{Placed, scanned, scan_from, scan, symbols}
 use Rattle.symbols.proofs.BooleanTests.{and_right}
@@ -43,7 +43,7 @@ word-within r e none = on (leb (length r) 16)
     on : (b : Bool) → FoundWithin (cond b (found (name (record { letters = r; ending = e })) (length r + ending_length e)) unlisted)
     on true = tt
     on false = tt
-word-within r noEnding (some k) = tt
+word-within r no_ending (some k) = tt
 word-within r prime (some k) = tt
 word-within r query (some k) = tt
 word-within r shriek (some k) = tt

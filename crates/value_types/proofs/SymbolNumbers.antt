@@ -8,7 +8,7 @@ use Rattle.lexical.specs.Symbols.{Symbol, numeral, Placed, scan, symbols}
 use Rattle.form.specs.Tree.{Letters, End, Range, Domain, given_set, range}
 use Rattle.form.specs.Tree.{Term, number, name, group, prefix, binary, divided, listed, pairs, such, empty_set, empty_pairs, Items, only, also, Pairs, only_pair, also_pair}
 use Rattle.form.specs.Tree.{Pred, truth, falsity, negation, paren, quantified, connected, compared, member, within, related}
-use Rattle.form.specs.Tree.{TypeForm, givenType, powerType, range_type, arrow_type, Declaration, declarations, Parameter, Given, Operation, Dossier}
+use Rattle.form.specs.Tree.{TypeForm, given_type, power_type, range_type, arrow_type, Declaration, declarations, Parameter, Given, Operation, Dossier}
 use Rattle.form.specs.Written.{symbols_of}
 use Rattle.form.specs.Form.{Whole}
 use Rattle.form.proofs.PlainSymbols.{plain_minus, plain_end, plain_range, plain_domain, plain_term, plain_items, plain_pairs, plain_pred, plain_type, plain_entries, plain_elements, plain_givens}
@@ -78,8 +78,8 @@ mutual
       let a = term t _ h in let b = term u _ (rest a.1) in let c = term v w (rest b.1) in ((a.0, b.0, c.0), c.1)
 
 type : (t : TypeForm) (w : List Symbol) → AllNumbers (plain_type t w) → TypeWithin t × AllNumbers w
-type (givenType g) w h = (tt, rest h)
-type (powerType g) w h = (tt, rest (rest h))
+type (given_type g) w h = (tt, rest h)
+type (power_type g) w h = (tt, rest (rest h))
 type (range_type r) w h = ranged r w h
 type (arrow_type a g f) w h = (tt, rest (rest (rest h)))
 

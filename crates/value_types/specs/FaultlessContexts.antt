@@ -2,7 +2,7 @@
 -- the theorems of proofs/ prove the one of every dossier without faults that has the other, which is what the passes for symbols and form leave.
 use Rattle.std.specs.Prelude.{◌≡◌, List, [], ◌∷◌, map, ◌≤◌}
 use Rattle.lexical.specs.Symbols.{Symbol, fixed, numeral, name}
-use Rattle.form.specs.Tree.{Given, TypeForm, givenType, powerType, range_type, arrow_type, Declaration, declarations, Parameter, Operation, Dossier}
+use Rattle.form.specs.Tree.{Given, TypeForm, given_type, power_type, range_type, arrow_type, Declaration, declarations, Parameter, Operation, Dossier}
 use Rattle.static_rules.specs.Carriers.{size_of}
 use Rattle.static_rules.specs.Scope.{Context}
 use Rattle.static_rules.specs.Names.{judge_pred}
@@ -25,8 +25,8 @@ FewElements (g ∷ gs) = (size_of g ≤ 8) × FewElements gs
 
 -- "a number's is 0 to 1,000": all numbers of a dossier
 abbrev pub TypeWithin : TypeForm → Type 0
-TypeWithin (givenType g) = Unit {0}
-TypeWithin (powerType g) = Unit {0}
+TypeWithin (given_type g) = Unit {0}
+TypeWithin (power_type g) = Unit {0}
 TypeWithin (range_type r) = RangeWithin r
 TypeWithin (arrow_type a g h) = Unit {0}
 

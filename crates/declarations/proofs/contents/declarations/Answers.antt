@@ -4,11 +4,11 @@ use mathlib.Core.List.{[], ◌∷◌, ◌++◌}
 use Prim.Native.Nat.{◌+◌}
 use native.Mathlib.Omega.{arith}
 use borrow.Author.Rules.{rules}
-use Rattle.form.specs.Written.{aVariable}
-use Rattle.form.specs.Machine.{someDeclarations}
+use Rattle.form.specs.Written.{a_variable}
+use Rattle.form.specs.Machine.{some_declarations}
 use Rattle.form.specs.Computed.{compute_form}
 use Rattle.form_nodes.specs.declared.Read.{Read}
-use Rattle.form_nodes.specs.Derivations.{NameAt, Made, aDeclaration, no_declarations, declares_more}
+use Rattle.form_nodes.specs.Derivations.{NameAt, Made, a_declaration, no_declarations, declares_more}
 use Rattle.declarations.specs.DossierPromises.{a_typed}
 use Rattle.form_nodes.proofs.ReadParts.{only, here, next, taken, stops, likewise, fails, framed, known}
 use Rattle.declarations.proofs.ListItems.{count-well, count-over, variables, crowded, declared-stops, declaration-first, declaration-takes, declarations-behind}
@@ -22,7 +22,7 @@ loop-start-init c = let room = c.requires in (likewise (only _ kind.plain (sym c
 
 pub returns-then-k-ge-VARIABLES : goal.returns-then-k-ge-VARIABLES
 unfolding compute_form
-returns-then-k-ge-VARIABLES c = let room = c.requires in let i = c.loop-start.invariant.0 in let l = c.loop-start.invariant.2 in let z = c.kind_at-in-loop-start.ensures.inside in (next i (crowded (λ γ. a_typed ++ (someDeclarations (c.loop-start.k + 1) ∷ γ)) (aVariable (c.loop-start.k + 1)) (omega arith) (count-over c.args.s.now c.loop-start.at (c.loop-start.k + 1) variables (omega arith)) (only _ kind.plain (sym c.kind_at-in-loop-start.ensures.is ∙ c.loop-start-test.true) (λ γ. declaration-takes c.loop-start.k γ))), tt, tt)
+returns-then-k-ge-VARIABLES c = let room = c.requires in let i = c.loop-start.invariant.0 in let l = c.loop-start.invariant.2 in let z = c.kind_at-in-loop-start.ensures.inside in (next i (crowded (λ γ. a_typed ++ (some_declarations (c.loop-start.k + 1) ∷ γ)) (a_variable (c.loop-start.k + 1)) (omega arith) (count-over c.args.s.now c.loop-start.at (c.loop-start.k + 1) variables (omega arith)) (only _ kind.plain (sym c.kind_at-in-loop-start.ensures.is ∙ c.loop-start-test.true) (λ γ. declaration-takes c.loop-start.k γ))), tt, tt)
 
 pub declaration-requires : goal.declaration-requires
 declaration-requires c = let room = c.requires in let i = c.loop-start.invariant.0 in let l = c.loop-start.invariant.2 in let z = c.kind_at-in-loop-start.ensures.inside in let b : NameAt c.args.s.now c.loop-start.at = record { low = omega (arith, c.kind_at-in-loop-start.ensures.is); high = omega (arith, c.kind_at-in-loop-start.ensures.is) } in search rules
@@ -35,11 +35,11 @@ loop-start-smaller c = let room = c.requires in let i = c.loop-start.invariant.0
 
 pub loop-start-preserved : goal.loop-start-preserved
 unfolding compute_form
-loop-start-preserved c = let room = c.requires in let i = c.loop-start.invariant.0 in let l = c.loop-start.invariant.2 in let z = c.kind_at-in-loop-start.ensures.inside in let h = (known c.in-At.is c.declaration.ensures.0) in (next i (taken {μ = a_typed ++ (someDeclarations (c.loop-start.k + 1) ∷ [])} {m = c.loop-start.n + 4} (aVariable (c.loop-start.k + 1)) (omega arith) (count-well c.args.s.now c.loop-start.at (c.loop-start.k + 1) variables (omega arith)) (only _ kind.plain (sym c.kind_at-in-loop-start.ensures.is ∙ c.loop-start-test.true) (λ γ. declaration-takes c.loop-start.k γ)) (framed (someDeclarations (c.loop-start.k + 1) ∷ []) h) (omega arith)), more-then c.loop-start.invariant.1 (let p = subst (λ (z : Read). Made c.args.s.now c.args.v.now aDeclaration c.loop-start.at c.loop-start.n c.loop-start.code c.declaration.new.code z) c.in-At.is c.declaration.ensures.1 in more-part p (λ j u d. declares_more (sym c.kind_at-in-loop-start.ensures.is ∙ c.loop-start-test.true) p.derives d)), search rules, omega arith)
+loop-start-preserved c = let room = c.requires in let i = c.loop-start.invariant.0 in let l = c.loop-start.invariant.2 in let z = c.kind_at-in-loop-start.ensures.inside in let h = (known c.in-At.is c.declaration.ensures.0) in (next i (taken {μ = a_typed ++ (some_declarations (c.loop-start.k + 1) ∷ [])} {m = c.loop-start.n + 4} (a_variable (c.loop-start.k + 1)) (omega arith) (count-well c.args.s.now c.loop-start.at (c.loop-start.k + 1) variables (omega arith)) (only _ kind.plain (sym c.kind_at-in-loop-start.ensures.is ∙ c.loop-start-test.true) (λ γ. declaration-takes c.loop-start.k γ)) (framed (some_declarations (c.loop-start.k + 1) ∷ []) h) (omega arith)), more-then c.loop-start.invariant.1 (let p = subst (λ (z : Read). Made c.args.s.now c.args.v.now a_declaration c.loop-start.at c.loop-start.n c.loop-start.code c.declaration.new.code z) c.in-At.is c.declaration.ensures.1 in more-part p (λ j u d. declares_more (sym c.kind_at-in-loop-start.ensures.is ∙ c.loop-start-test.true) p.derives d)), search rules, omega arith)
 
 pub returns-in-Fault : goal.returns-in-Fault
 unfolding compute_form
-returns-in-Fault c = let room = c.requires in let i = c.loop-start.invariant.0 in let l = c.loop-start.invariant.2 in let z = c.kind_at-in-loop-start.ensures.inside in (next i (taken {μ = a_typed ++ (someDeclarations (c.loop-start.k + 1) ∷ [])} {m = c.loop-start.n + 4} (aVariable (c.loop-start.k + 1)) (omega arith) (count-well c.args.s.now c.loop-start.at (c.loop-start.k + 1) variables (omega arith)) (only _ kind.plain (sym c.kind_at-in-loop-start.ensures.is ∙ c.loop-start-test.true) (λ γ. declaration-takes c.loop-start.k γ)) (fails (framed (someDeclarations (c.loop-start.k + 1) ∷ []) (known c.in-Fault.is c.declaration.ensures.0))) (omega arith)), tt, tt)
+returns-in-Fault c = let room = c.requires in let i = c.loop-start.invariant.0 in let l = c.loop-start.invariant.2 in let z = c.kind_at-in-loop-start.ensures.inside in (next i (taken {μ = a_typed ++ (some_declarations (c.loop-start.k + 1) ∷ [])} {m = c.loop-start.n + 4} (a_variable (c.loop-start.k + 1)) (omega arith) (count-well c.args.s.now c.loop-start.at (c.loop-start.k + 1) variables (omega arith)) (only _ kind.plain (sym c.kind_at-in-loop-start.ensures.is ∙ c.loop-start-test.true) (λ γ. declaration-takes c.loop-start.k γ)) (fails (framed (some_declarations (c.loop-start.k + 1) ∷ []) (known c.in-Fault.is c.declaration.ensures.0))) (omega arith)), tt, tt)
 
 pub returns-then-kind_at-eq-PLAIN : goal.returns-then-kind_at-eq-PLAIN
 unfolding compute_form
@@ -47,4 +47,4 @@ returns-then-kind_at-eq-PLAIN c = let room = c.requires in let i = c.loop-start.
 
 pub returns : goal.returns
 unfolding compute_form
-returns c = let room = c.requires in (stops (omega arith) (λ κ e γ. declared-stops (aVariable 1) κ _ (λ q. c.if-kind_at-eq-PLAIN.false (c.kind_at.ensures.is ∙ sym e ∙ q))) (λ γ. refl), tt, tt)
+returns c = let room = c.requires in (stops (omega arith) (λ κ e γ. declared-stops (a_variable 1) κ _ (λ q. c.if-kind_at-eq-PLAIN.false (c.kind_at.ensures.is ∙ sym e ∙ q))) (λ γ. refl), tt, tt)

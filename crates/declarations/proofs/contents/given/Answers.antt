@@ -35,7 +35,7 @@ close-requires c = let h = (known c.in-At.is c.elements.ensures.0) in search rul
 
 pub returns-in-At : goal.returns-in-At
 unfolding compute_form
-returns-in-At c = let room = c.requires.0 in let inside = c.requires.1 in let w = c.put-m.ensures.count in (wider (next (known c.in-At.is c.elements.ensures.0) (c.close.ensures.reads kind.END refl)) (omega arith), given-more c.close.result c.requires.2 c.requires.3 (subst (λ (z : Read). When (get_or c.args.s.now (c.args.at + 1 + 1) 0 ≡ 2) z) c.in-At.is c.elements.ensures.2) c.put-m.ensures (ap (λ y. node 3 c.args.at y 0) c.name_number-x.ensures) (subst (λ (z : Read). Made c.args.s.now c.args.v.now part.someElements (c.args.at + 1 + 1) c.put-m.result c.put-m.new.code c.elements.new.code z) c.in-At.is c.elements.ensures.1) c.close.ensures)
+returns-in-At c = let room = c.requires.0 in let inside = c.requires.1 in let w = c.put-m.ensures.count in (wider (next (known c.in-At.is c.elements.ensures.0) (c.close.ensures.reads kind.END refl)) (omega arith), given-more c.close.result c.requires.2 c.requires.3 (subst (λ (z : Read). When (get_or c.args.s.now (c.args.at + 1 + 1) 0 ≡ 2) z) c.in-At.is c.elements.ensures.2) c.put-m.ensures (ap (λ y. node 3 c.args.at y 0) c.name_number-x.ensures) (subst (λ (z : Read). Made c.args.s.now c.args.v.now part.some_elements (c.args.at + 1 + 1) c.put-m.result c.put-m.new.code c.elements.new.code z) c.in-At.is c.elements.ensures.1) c.close.ensures)
 
 pub returns-in-Fault : goal.returns-in-Fault
 unfolding compute_form

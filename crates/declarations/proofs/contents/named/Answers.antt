@@ -4,7 +4,7 @@ use mathlib.Core.List.{[], ◌∷◌}
 use Prim.Native.Nat.{◌+◌}
 use borrow.Author.Rules.{rules}
 use native.Mathlib.Omega.{arith}
-use Rattle.form.specs.Machine.{aName}
+use Rattle.form.specs.Machine.{a_name}
 use Rattle.form.specs.Computed.{compute_form}
 use Rattle.form.specs.Codes.{node}
 use Rattle.form_nodes.specs.Derivations.{over_given, over_pairs}
@@ -41,7 +41,7 @@ overflow_add-result-then-name_of-eq-NONE-2 c = let room = c.requires.0 in let in
 
 pub returns-then-name_of-eq-NONE : goal.returns-then-name_of-eq-NONE
 unfolding compute_form
-returns-then-name_of-eq-NONE c = let room = c.requires.0 in let name = c.requires.1 in let inside = c.requires.2 in let a = c.arrow_of.ensures.low in let b = c.arrow_of.ensures.high in let z = c.kind_at-k.ensures.inside in (takes {μ = aName ∷ []} {m = c.args.n} (omega arith) (λ κ e γ. type-rest-taken κ γ (λ q. c.if-arrow_of-eq-NONE.false (sym (c.arrow_of.ensures.classes.class κ (e ∙ sym c.kind_at-k.ensures.is)) ∙ q))) (stops (omega arith) (λ κ e γ. name-step κ γ ((c.name_of.ensures.classes.class κ (e ∙ sym c.kind_at-j.ensures.is)) ∙ c.if-name_of-eq-NONE.true)) (λ γ. refl)) (omega arith), tt)
+returns-then-name_of-eq-NONE c = let room = c.requires.0 in let name = c.requires.1 in let inside = c.requires.2 in let a = c.arrow_of.ensures.low in let b = c.arrow_of.ensures.high in let z = c.kind_at-k.ensures.inside in (takes {μ = a_name ∷ []} {m = c.args.n} (omega arith) (λ κ e γ. type-rest-taken κ γ (λ q. c.if-arrow_of-eq-NONE.false (sym (c.arrow_of.ensures.classes.class κ (e ∙ sym c.kind_at-k.ensures.is)) ∙ q))) (stops (omega arith) (λ κ e γ. name-step κ γ ((c.name_of.ensures.classes.class κ (e ∙ sym c.kind_at-j.ensures.is)) ∙ c.if-name_of-eq-NONE.true)) (λ γ. refl)) (omega arith), tt)
 
 pub overflow_add-at-4 : goal.overflow_add-at-4
 overflow_add-at-4 c = let room = c.requires.0 in let inside = c.requires.2 in search rules
@@ -66,4 +66,4 @@ overflow_add-result-4 c = let room = c.requires.0 in let inside = c.requires.2 i
 
 pub returns : goal.returns
 unfolding compute_form
-returns c = let room = c.requires.0 in let name = c.requires.1 in let inside = c.requires.2 in let a = c.arrow_of.ensures.low in let b = c.arrow_of.ensures.high in let z = c.kind_at-k.ensures.inside in let y = c.kind_at-j.ensures.inside in let g = c.name_of.ensures in let p = c.put-m-2.ensures.count in (takes {μ = aName ∷ []} {m = c.args.n + 4} (omega arith) (λ κ e γ. type-rest-taken κ γ (λ q. c.if-arrow_of-eq-NONE.false (sym (c.arrow_of.ensures.classes.class κ (e ∙ sym c.kind_at-k.ensures.is)) ∙ q))) (takes {μ = []} {m = c.put-m-2.result} (omega arith) (λ κ e γ. name-taken κ γ (λ q. c.if-name_of-eq-NONE.false (sym (c.name_of.ensures.classes.class κ (e ∙ sym c.kind_at-j.ensures.is)) ∙ q))) (here (omega arith)) (omega arith)) (omega arith), made-node c.put-m-2.ensures (let h = c.name_number-x.ensures in let i = c.name_number-y.ensures in let w = c.wide.ensures in let q = c.kind_at-k.ensures.is in cc) (over_pairs name (omega (arith, c.kind_at-k.ensures.is)) (omega (arith, c.kind_at-k.ensures.is)) (let q = g.name (omega arith) in record { low = omega (arith, c.kind_at-j.ensures.is); high = omega (arith, c.kind_at-j.ensures.is) })))
+returns c = let room = c.requires.0 in let name = c.requires.1 in let inside = c.requires.2 in let a = c.arrow_of.ensures.low in let b = c.arrow_of.ensures.high in let z = c.kind_at-k.ensures.inside in let y = c.kind_at-j.ensures.inside in let g = c.name_of.ensures in let p = c.put-m-2.ensures.count in (takes {μ = a_name ∷ []} {m = c.args.n + 4} (omega arith) (λ κ e γ. type-rest-taken κ γ (λ q. c.if-arrow_of-eq-NONE.false (sym (c.arrow_of.ensures.classes.class κ (e ∙ sym c.kind_at-k.ensures.is)) ∙ q))) (takes {μ = []} {m = c.put-m-2.result} (omega arith) (λ κ e γ. name-taken κ γ (λ q. c.if-name_of-eq-NONE.false (sym (c.name_of.ensures.classes.class κ (e ∙ sym c.kind_at-j.ensures.is)) ∙ q))) (here (omega arith)) (omega arith)) (omega arith), made-node c.put-m-2.ensures (let h = c.name_number-x.ensures in let i = c.name_number-y.ensures in let w = c.wide.ensures in let q = c.kind_at-k.ensures.is in cc) (over_pairs name (omega (arith, c.kind_at-k.ensures.is)) (omega (arith, c.kind_at-k.ensures.is)) (let q = g.name (omega arith) in record { low = omega (arith, c.kind_at-j.ensures.is); high = omega (arith, c.kind_at-j.ensures.is) })))

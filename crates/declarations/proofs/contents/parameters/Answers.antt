@@ -11,7 +11,7 @@ use Rattle.form.specs.Computed.{compute_form}
 use Rattle.form_nodes.specs.FormPromises.{Reads}
 use Rattle.form_nodes.specs.declared.Read.{Read}
 use Rattle.form_nodes.specs.declared.Read.TheVariants.{At}
-use Rattle.form_nodes.specs.Derivations.{NameAt, Made, aDeclaration, no_parameters, takes_more}
+use Rattle.form_nodes.specs.Derivations.{NameAt, Made, a_declaration, no_parameters, takes_more}
 use Rattle.declarations.specs.DossierPromises.{Directs, a_typed, counted_by, inputs_by, outputs_by, mark_by}
 use Rattle.form_nodes.proofs.ReadParts.{here, next, taken, likewise, fails, framed, known}
 use Rattle.declarations.proofs.ListItems.{crowded, parameter-takes, parameters-behind, parameter-well, parameter-over, inputs_few, outputs_few}
@@ -64,7 +64,7 @@ loop-c-smaller c = let room = c.requires in let i = c.loop-c.invariant.0 in let 
 
 pub loop-c-preserved : goal.loop-c-preserved
 unfolding compute_form
-loop-c-preserved c = let room = c.requires in let i = c.loop-c.invariant.0 in let l = c.loop-c.invariant.2 in let d₀ = c.loop-c.invariant.5.low in let d₁ = c.loop-c.invariant.5.high in let z : c.loop-c.at < length c.args.s.now = inside c.args.s.now c.loop-c.at (omega arith) in let h = (known c.in-At.is c.declaration.ensures.0) in (subst (λ x. Reads c.args.s.now c.args.start c.args.from (some_parameters 0 0 ∷ []) (x ∷ []) (At c.in-At.e c.in-At.m)) (let a = c.inputs-i.ensures in let b = c.outputs-o.ensures in cc) (next i (taken {μ = a_typed ++ (some_parameters (inputs_by c.loop-c.c c.loop-c.i) (outputs_by c.loop-c.c c.loop-c.o) ∷ [])} {m = c.loop-c.n + 4} (mark_by c.loop-c.c c.loop-c.i c.loop-c.o) z (parameter-well c.args.s.now c.loop-c.at c.loop-c.c c.loop-c.i c.loop-c.o (leb-false 3 (counted_by c.loop-c.c c.loop-c.i c.loop-c.o) (sym c.full.ensures ∙ c.if-full.false))) (λ κ e γ. parameter-takes c.loop-c.i c.loop-c.o c.loop-c.c κ γ (c.loop-c.invariant.5.classes.class κ e) c.loop-c-test.true) (framed (some_parameters (inputs_by c.loop-c.c c.loop-c.i) (outputs_by c.loop-c.c c.loop-c.o) ∷ []) h) (omega arith))), more-then c.loop-c.invariant.1 (let p = subst (λ (z : Read). Made c.args.s.now c.args.v.now aDeclaration c.loop-c.at c.loop-c.n c.loop-c.code c.declaration.new.code z) c.in-At.is c.declaration.ensures.1 in more-part p (λ j u d. takes_more (omega arith) (omega arith) p.derives d)), search rules, subst (λ x. x ≤ 3) (sym c.inputs-i.ensures) (inputs_few c.loop-c.c c.loop-c.i c.loop-c.o (leb-false 3 (counted_by c.loop-c.c c.loop-c.i c.loop-c.o) (sym c.full.ensures ∙ c.if-full.false)) c.loop-c.invariant.3), subst (λ x. x ≤ 3) (sym c.outputs-o.ensures) (outputs_few c.loop-c.c c.loop-c.i c.loop-c.o (leb-false 3 (counted_by c.loop-c.c c.loop-c.i c.loop-c.o) (sym c.full.ensures ∙ c.if-full.false)) c.loop-c.invariant.4), subst (λ x. Directs x c.direction_of-c-in-At.result) c.kind_at-in-At.ensures.is c.direction_of-c-in-At.ensures)
+loop-c-preserved c = let room = c.requires in let i = c.loop-c.invariant.0 in let l = c.loop-c.invariant.2 in let d₀ = c.loop-c.invariant.5.low in let d₁ = c.loop-c.invariant.5.high in let z : c.loop-c.at < length c.args.s.now = inside c.args.s.now c.loop-c.at (omega arith) in let h = (known c.in-At.is c.declaration.ensures.0) in (subst (λ x. Reads c.args.s.now c.args.start c.args.from (some_parameters 0 0 ∷ []) (x ∷ []) (At c.in-At.e c.in-At.m)) (let a = c.inputs-i.ensures in let b = c.outputs-o.ensures in cc) (next i (taken {μ = a_typed ++ (some_parameters (inputs_by c.loop-c.c c.loop-c.i) (outputs_by c.loop-c.c c.loop-c.o) ∷ [])} {m = c.loop-c.n + 4} (mark_by c.loop-c.c c.loop-c.i c.loop-c.o) z (parameter-well c.args.s.now c.loop-c.at c.loop-c.c c.loop-c.i c.loop-c.o (leb-false 3 (counted_by c.loop-c.c c.loop-c.i c.loop-c.o) (sym c.full.ensures ∙ c.if-full.false))) (λ κ e γ. parameter-takes c.loop-c.i c.loop-c.o c.loop-c.c κ γ (c.loop-c.invariant.5.classes.class κ e) c.loop-c-test.true) (framed (some_parameters (inputs_by c.loop-c.c c.loop-c.i) (outputs_by c.loop-c.c c.loop-c.o) ∷ []) h) (omega arith))), more-then c.loop-c.invariant.1 (let p = subst (λ (z : Read). Made c.args.s.now c.args.v.now a_declaration c.loop-c.at c.loop-c.n c.loop-c.code c.declaration.new.code z) c.in-At.is c.declaration.ensures.1 in more-part p (λ j u d. takes_more (omega arith) (omega arith) p.derives d)), search rules, subst (λ x. x ≤ 3) (sym c.inputs-i.ensures) (inputs_few c.loop-c.c c.loop-c.i c.loop-c.o (leb-false 3 (counted_by c.loop-c.c c.loop-c.i c.loop-c.o) (sym c.full.ensures ∙ c.if-full.false)) c.loop-c.invariant.3), subst (λ x. x ≤ 3) (sym c.outputs-o.ensures) (outputs_few c.loop-c.c c.loop-c.i c.loop-c.o (leb-false 3 (counted_by c.loop-c.c c.loop-c.i c.loop-c.o) (sym c.full.ensures ∙ c.if-full.false)) c.loop-c.invariant.4), subst (λ x. Directs x c.direction_of-c-in-At.result) c.kind_at-in-At.ensures.is c.direction_of-c-in-At.ensures)
 
 pub returns-in-Fault : goal.returns-in-Fault
 unfolding compute_form

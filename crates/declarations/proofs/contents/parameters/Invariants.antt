@@ -5,7 +5,7 @@ use lib.ListN.{length, get_or}
 use Rattle.form.specs.Machine.{some_parameters}
 use Rattle.form_nodes.specs.FormPromises.{Reads}
 use Rattle.form_nodes.specs.declared.Read.TheVariants.{At}
-use Rattle.form_nodes.specs.Derivations.{NameAt, Made, aDeclaration, no_parameters, takes_more}
+use Rattle.form_nodes.specs.Derivations.{NameAt, Made, a_declaration, no_parameters, takes_more}
 use Rattle.declarations.specs.DossierPromises.{MoreAt, Directs}
 use Rattle.form_nodes.specs.Derivations as part
 use Rattle.declarations.proofs.contents.parameters.Given as goal

@@ -4,7 +4,7 @@ use mathlib.Core.List.{[], ◌∷◌}
 use Prim.Native.Nat.{◌+◌}
 use borrow.Author.Rules.{rules}
 use native.Mathlib.Omega.{arith}
-use Rattle.form.specs.Machine.{aName, aTypeRest}
+use Rattle.form.specs.Machine.{a_name, a_type_rest}
 use Rattle.form.specs.Computed.{compute_form}
 use Rattle.form.specs.Codes.{node}
 use Rattle.form_nodes.specs.FormPromises.{Shown}
@@ -25,7 +25,7 @@ overflow_add-result c = let room = c.requires in let z = c.kind_at-k.ensures.ins
 
 pub returns-then-name_of-eq-NONE : goal.returns-then-name_of-eq-NONE
 unfolding compute_form
-returns-then-name_of-eq-NONE c = let room = c.requires in let z = c.kind_at-k.ensures.inside in (takes {μ = aName ∷ []} {m = c.args.n} (omega arith) (only _ kind.POWER (sym c.kind_at-k.ensures.is ∙ c.if-k-eq-POWER.true) (λ γ. refl)) (stops (omega arith) (λ κ e γ. name-step κ γ ((c.name_of.ensures.classes.class κ (e ∙ sym c.kind_at-j.ensures.is)) ∙ c.if-name_of-eq-NONE.true)) (λ γ. refl)) (omega arith), tt)
+returns-then-name_of-eq-NONE c = let room = c.requires in let z = c.kind_at-k.ensures.inside in (takes {μ = a_name ∷ []} {m = c.args.n} (omega arith) (only _ kind.POWER (sym c.kind_at-k.ensures.is ∙ c.if-k-eq-POWER.true) (λ γ. refl)) (stops (omega arith) (λ κ e γ. name-step κ γ ((c.name_of.ensures.classes.class κ (e ∙ sym c.kind_at-j.ensures.is)) ∙ c.if-name_of-eq-NONE.true)) (λ γ. refl)) (omega arith), tt)
 
 pub overflow_add-at-then-k-eq-POWER : goal.overflow_add-at-then-k-eq-POWER
 overflow_add-at-then-k-eq-POWER c = let room = c.requires in let z = c.kind_at-k.ensures.inside in search rules
@@ -41,7 +41,7 @@ overflow_add-result-then-k-eq-POWER-2 c = let room = c.requires in let z = c.kin
 
 pub returns-then-k-eq-POWER : goal.returns-then-k-eq-POWER
 unfolding compute_form
-returns-then-k-eq-POWER c = let room = c.requires in let z = c.kind_at-k.ensures.inside in let y = c.kind_at-j.ensures.inside in let g = c.name_of.ensures in let p = c.put-m.ensures.count in (takes {μ = aName ∷ []} {m = c.args.n} (omega arith) (only _ kind.POWER (sym c.kind_at-k.ensures.is ∙ c.if-k-eq-POWER.true) (λ γ. refl)) (takes {μ = []} {m = c.put-m.result} (omega arith) (λ κ e γ. name-taken κ γ (λ q. c.if-name_of-eq-NONE.false (sym (c.name_of.ensures.classes.class κ (e ∙ sym c.kind_at-j.ensures.is)) ∙ q))) (here (omega arith)) (omega arith)) (omega arith), made-node c.put-m.ensures (ap (λ y. node 3 c.args.at y 0) c.name_number-x.ensures) (over_sets (sym c.kind_at-k.ensures.is ∙ c.if-k-eq-POWER.true) (let q = c.name_of.ensures.name (omega arith) in record { low = omega (arith, c.kind_at-j.ensures.is); high = omega (arith, c.kind_at-j.ensures.is) })))
+returns-then-k-eq-POWER c = let room = c.requires in let z = c.kind_at-k.ensures.inside in let y = c.kind_at-j.ensures.inside in let g = c.name_of.ensures in let p = c.put-m.ensures.count in (takes {μ = a_name ∷ []} {m = c.args.n} (omega arith) (only _ kind.POWER (sym c.kind_at-k.ensures.is ∙ c.if-k-eq-POWER.true) (λ γ. refl)) (takes {μ = []} {m = c.put-m.result} (omega arith) (λ κ e γ. name-taken κ γ (λ q. c.if-name_of-eq-NONE.false (sym (c.name_of.ensures.classes.class κ (e ∙ sym c.kind_at-j.ensures.is)) ∙ q))) (here (omega arith)) (omega arith)) (omega arith), made-node c.put-m.ensures (ap (λ y. node 3 c.args.at y 0) c.name_number-x.ensures) (over_sets (sym c.kind_at-k.ensures.is ∙ c.if-k-eq-POWER.true) (let q = c.name_of.ensures.name (omega arith) in record { low = omega (arith, c.kind_at-j.ensures.is); high = omega (arith, c.kind_at-j.ensures.is) })))
 
 pub put_range-m-requires : goal.put_range-m-requires
 put_range-m-requires c = let room = c.requires in let z = c.kind_at-k.ensures.inside in let h = known c.in-At.is c.range.ensures.0.reads in let i = known-ahead _ c.in-At.is c.range.ensures.0.ahead in search rules
@@ -59,4 +59,4 @@ named-requires c = let room = c.requires in let z = c.kind_at-k.ensures.inside i
 
 pub returns : goal.returns
 unfolding compute_form
-returns c = let room = c.requires in let z = c.kind_at-k.ensures.inside in let g = c.name_of-2.ensures.name (omega arith) in (takes {μ = aTypeRest ∷ []} {m = c.args.n + 4} (omega (arith, c.kind_at-k.ensures.is)) (λ κ e γ. type-name κ γ (λ q. c.if-name_of-eq-NONE-2.false (sym (c.name_of-2.ensures.classes.class κ (e ∙ sym c.kind_at-k.ensures.is)) ∙ q))) c.named.ensures.0 (omega arith), c.named.ensures.1)
+returns c = let room = c.requires in let z = c.kind_at-k.ensures.inside in let g = c.name_of-2.ensures.name (omega arith) in (takes {μ = a_type_rest ∷ []} {m = c.args.n + 4} (omega (arith, c.kind_at-k.ensures.is)) (λ κ e γ. type-name κ γ (λ q. c.if-name_of-eq-NONE-2.false (sym (c.name_of-2.ensures.classes.class κ (e ∙ sym c.kind_at-k.ensures.is)) ∙ q))) c.named.ensures.0 (omega arith), c.named.ensures.1)

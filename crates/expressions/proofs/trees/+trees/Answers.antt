@@ -6,7 +6,7 @@ use native.Mathlib.Omega.{arith}
 use borrow.Author.Rules.{rules}
 use Rattle.lexical.specs.Kinds.{code_of}
 use Rattle.form.specs.Written.{opens, binds}
-use Rattle.form.specs.Machine.{exact, aName, anEmptyRest, anEnd, aDomain, aTerm, anOperand, aTermRest, aRel, aMem, aRight, aBrace, aNamed, aFirst, aList, aPairs, aUnary, aParen, a_pred_rest, a_declared}
+use Rattle.form.specs.Machine.{exact, a_name, an_empty_rest, an_end, a_domain, a_term, an_operand, a_term_rest, a_rel, a_mem, a_right, a_brace, a_named, a_first, a_list, a_pairs, a_unary, a_paren, a_pred_rest, a_declared}
 use Rattle.form_nodes.specs.FormPromises.{Ranged, start_as}
 use Rattle.declarations.proofs.ListNodes.{more-none, more-then, more-made}
 use Rattle.expressions.proofs.Chains.{more-known, chain}
@@ -31,29 +31,29 @@ atom-member-requires t c = let room = c.requires.0 in let i = c.relation_of-c.en
 
 pub atom-returns-then-c-eq-MEMBERSHIP : goal.atom-returns-then-c-eq-MEMBERSHIP
 unfolding compute_form
-atom-returns-then-c-eq-MEMBERSHIP t c = (takes {μ = aRight c.args.d c.args.b ∷ []} (omega arith) (λ κ e γ. rel-step c.args.d c.args.b κ γ ((c.relation_of-c.ensures.classes.class κ (e ∙ sym c.kind_at-k.ensures.is)) ∙ c.if-c-eq-MEMBERSHIP.true)) c.member.ensures.0 (omega arith), c.member.ensures.1)
+atom-returns-then-c-eq-MEMBERSHIP t c = (takes {μ = a_right c.args.d c.args.b ∷ []} (omega arith) (λ κ e γ. rel-step c.args.d c.args.b κ γ ((c.relation_of-c.ensures.classes.class κ (e ∙ sym c.kind_at-k.ensures.is)) ∙ c.if-c-eq-MEMBERSHIP.true)) c.member.ensures.0 (omega arith), c.member.ensures.1)
 
 pub atom-put-h-requires : goal.atom-put-h-requires
 atom-put-h-requires t c = let room = c.requires.0 in let h = (known c.in-At.is c.term.ensures.0) in search rules
 
 pub atom-returns-in-At : goal.atom-returns-in-At
 unfolding compute_form
-atom-returns-in-At t c = (let h = (known c.in-At.is c.term.ensures.0) in takes {μ = aTerm c.args.d c.args.b ∷ []} {m = c.args.n + 4} (omega arith) (λ κ e γ. rel-step c.args.d c.args.b κ γ ((c.relation_of-c.ensures.classes.class κ (e ∙ sym c.kind_at-k.ensures.is)) ∙ c.if-c-eq-COMPARISON.true)) (counted (omega arith) h) (omega arith), let w₁ = (made c.in-At.is c.term.ensures.1) in makes (both (built w₁) (node_of (c.wide.ensures ∙ c.kind_at-k.ensures.is) refl c.put-h.ensures)) (derived.compared (class-at c.kind_at-k.ensures.is c.if-c-eq-COMPARISON.true c.relation_of-c.ensures.classes) w₁.derives))
+atom-returns-in-At t c = (let h = (known c.in-At.is c.term.ensures.0) in takes {μ = a_term c.args.d c.args.b ∷ []} {m = c.args.n + 4} (omega arith) (λ κ e γ. rel-step c.args.d c.args.b κ γ ((c.relation_of-c.ensures.classes.class κ (e ∙ sym c.kind_at-k.ensures.is)) ∙ c.if-c-eq-COMPARISON.true)) (counted (omega arith) h) (omega arith), let w₁ = (made c.in-At.is c.term.ensures.1) in makes (both (built w₁) (node_of (c.wide.ensures ∙ c.kind_at-k.ensures.is) refl c.put-h.ensures)) (derived.compared (class-at c.kind_at-k.ensures.is c.if-c-eq-COMPARISON.true c.relation_of-c.ensures.classes) w₁.derives))
 
 pub atom-returns-in-Fault : goal.atom-returns-in-Fault
 unfolding compute_form
-atom-returns-in-Fault t c = (takes {μ = aTerm c.args.d c.args.b ∷ []} {m = c.args.n} (omega arith) (λ κ e γ. rel-step c.args.d c.args.b κ γ ((c.relation_of-c.ensures.classes.class κ (e ∙ sym c.kind_at-k.ensures.is)) ∙ c.if-c-eq-COMPARISON.true)) (fails (known c.in-Fault.is c.term.ensures.0)) (omega arith), tt)
+atom-returns-in-Fault t c = (takes {μ = a_term c.args.d c.args.b ∷ []} {m = c.args.n} (omega arith) (λ κ e γ. rel-step c.args.d c.args.b κ γ ((c.relation_of-c.ensures.classes.class κ (e ∙ sym c.kind_at-k.ensures.is)) ∙ c.if-c-eq-COMPARISON.true)) (fails (known c.in-Fault.is c.term.ensures.0)) (omega arith), tt)
 
 pub atom-related-requires : goal.atom-related-requires
 atom-related-requires t c = let room = c.requires.0 in let h = (known c.in-At-term.is c.term-2.ensures.0) in search rules
 
 pub atom-returns-in-At-term : goal.atom-returns-in-At-term
 unfolding compute_form
-atom-returns-in-At-term t c = (takes {μ = aTerm c.args.d c.args.b ∷ aMem c.args.d c.args.b ∷ []} {m = c.args.n} (omega arith) (λ κ e γ. rel-pair c.args.d c.args.b c.relation_of-c.result κ γ (c.relation_of-c.ensures.classes.class κ (e ∙ sym c.kind_at-k.ensures.is)) (omega arith)) (next (framed (aMem c.args.d c.args.b ∷ []) (known c.in-At-term.is c.term-2.ensures.0)) c.related.ensures.0) (omega arith), let w₁ = (made c.in-At-term.is c.term-2.ensures.1) in onward _ c.related.result (built w₁) (λ k v x. derived.mapped (sym c.kind_at-k.ensures.is ∙ c.relation_of-c.ensures.maplet (omega arith)) w₁.derives x) c.related.ensures.1)
+atom-returns-in-At-term t c = (takes {μ = a_term c.args.d c.args.b ∷ a_mem c.args.d c.args.b ∷ []} {m = c.args.n} (omega arith) (λ κ e γ. rel-pair c.args.d c.args.b c.relation_of-c.result κ γ (c.relation_of-c.ensures.classes.class κ (e ∙ sym c.kind_at-k.ensures.is)) (omega arith)) (next (framed (a_mem c.args.d c.args.b ∷ []) (known c.in-At-term.is c.term-2.ensures.0)) c.related.ensures.0) (omega arith), let w₁ = (made c.in-At-term.is c.term-2.ensures.1) in onward _ c.related.result (built w₁) (λ k v x. derived.mapped (sym c.kind_at-k.ensures.is ∙ c.relation_of-c.ensures.maplet (omega arith)) w₁.derives x) c.related.ensures.1)
 
 pub atom-returns-in-Fault-term : goal.atom-returns-in-Fault-term
 unfolding compute_form
-atom-returns-in-Fault-term t c = (takes {μ = aTerm c.args.d c.args.b ∷ aMem c.args.d c.args.b ∷ []} {m = c.args.n} (omega arith) (λ κ e γ. rel-pair c.args.d c.args.b c.relation_of-c.result κ γ (c.relation_of-c.ensures.classes.class κ (e ∙ sym c.kind_at-k.ensures.is)) (omega arith)) (fails (framed (aMem c.args.d c.args.b ∷ []) (known c.in-Fault-term.is c.term-2.ensures.0))) (omega arith), tt)
+atom-returns-in-Fault-term t c = (takes {μ = a_term c.args.d c.args.b ∷ a_mem c.args.d c.args.b ∷ []} {m = c.args.n} (omega arith) (λ κ e γ. rel-pair c.args.d c.args.b c.relation_of-c.result κ γ (c.relation_of-c.ensures.classes.class κ (e ∙ sym c.kind_at-k.ensures.is)) (omega arith)) (fails (framed (a_mem c.args.d c.args.b ∷ []) (known c.in-Fault-term.is c.term-2.ensures.0))) (omega arith), tt)
 
 pub brace-returns-then-kind_at-eq-COLON : goal.brace-returns-then-kind_at-eq-COLON
 unfolding compute_form
@@ -69,7 +69,7 @@ brace-returns t c = c.listed-2.ensures
 
 pub items-returns-then-k-eq-CLOSE_BRACE : goal.items-returns-then-k-eq-CLOSE_BRACE
 unfolding compute_form
-items-returns-then-k-eq-CLOSE_BRACE t c = (let room = c.requires.0 in takes {μ = []} (omega arith) (only _ kind.closeBrace (sym c.kind_at-k.ensures.is ∙ c.if-k-eq-CLOSE_BRACE.true) (λ γ. refl)) (here (omega arith)) (omega arith), makes (wrote c.put-c.ensures) (derived.items_end (sym c.kind_at-k.ensures.is ∙ c.if-k-eq-CLOSE_BRACE.true)))
+items-returns-then-k-eq-CLOSE_BRACE t c = (let room = c.requires.0 in takes {μ = []} (omega arith) (only _ kind.close_brace (sym c.kind_at-k.ensures.is ∙ c.if-k-eq-CLOSE_BRACE.true) (λ γ. refl)) (here (omega arith)) (omega arith), makes (wrote c.put-c.ensures) (derived.items_end (sym c.kind_at-k.ensures.is ∙ c.if-k-eq-CLOSE_BRACE.true)))
 
 pub items-items-requires : goal.items-items-requires
 items-items-requires t c = let room = c.requires.0 in let h = (known c.in-At.is c.term.ensures.0) in search rules
@@ -79,15 +79,15 @@ items-put-h-requires t c = let room = c.requires.0 in let h = (known c.in-At.is 
 
 pub items-returns-in-At-items : goal.items-returns-in-At-items
 unfolding compute_form
-items-returns-in-At-items t c = (let room = c.requires.0 in let h = (known c.in-At.is c.term.ensures.0) in let i = (known c.in-At-items.is c.items.ensures.0) in takes {μ = aTerm c.args.d c.args.b ∷ aList c.args.d c.args.b ∷ []} {m = c.args.n + 4} (omega arith) (only _ kind.comma (sym c.kind_at-k.ensures.is ∙ c.if-k-eq-COMMA.true) (λ γ. refl)) (counted (omega arith) (next (framed (aList c.args.d c.args.b ∷ []) h) i)) (omega arith), let w₁ = (made c.in-At.is c.term.ensures.1) in let w₂ = (made c.in-At-items.is c.items.ensures.1) in makes (both (both (built w₁) (built w₂)) (wrote c.put-h.ensures)) (derived.more_items (sym c.kind_at-k.ensures.is ∙ c.if-k-eq-COMMA.true) w₁.derives w₂.derives))
+items-returns-in-At-items t c = (let room = c.requires.0 in let h = (known c.in-At.is c.term.ensures.0) in let i = (known c.in-At-items.is c.items.ensures.0) in takes {μ = a_term c.args.d c.args.b ∷ a_list c.args.d c.args.b ∷ []} {m = c.args.n + 4} (omega arith) (only _ kind.comma (sym c.kind_at-k.ensures.is ∙ c.if-k-eq-COMMA.true) (λ γ. refl)) (counted (omega arith) (next (framed (a_list c.args.d c.args.b ∷ []) h) i)) (omega arith), let w₁ = (made c.in-At.is c.term.ensures.1) in let w₂ = (made c.in-At-items.is c.items.ensures.1) in makes (both (both (built w₁) (built w₂)) (wrote c.put-h.ensures)) (derived.more_items (sym c.kind_at-k.ensures.is ∙ c.if-k-eq-COMMA.true) w₁.derives w₂.derives))
 
 pub items-returns-in-Fault-items : goal.items-returns-in-Fault-items
 unfolding compute_form
-items-returns-in-Fault-items t c = (let room = c.requires.0 in let h = (known c.in-At.is c.term.ensures.0) in takes {μ = aTerm c.args.d c.args.b ∷ aList c.args.d c.args.b ∷ []} {m = c.args.n} (omega arith) (only _ kind.comma (sym c.kind_at-k.ensures.is ∙ c.if-k-eq-COMMA.true) (λ γ. refl)) (fails (next (framed (aList c.args.d c.args.b ∷ []) h) (known c.in-Fault-items.is c.items.ensures.0))) (omega arith), tt)
+items-returns-in-Fault-items t c = (let room = c.requires.0 in let h = (known c.in-At.is c.term.ensures.0) in takes {μ = a_term c.args.d c.args.b ∷ a_list c.args.d c.args.b ∷ []} {m = c.args.n} (omega arith) (only _ kind.comma (sym c.kind_at-k.ensures.is ∙ c.if-k-eq-COMMA.true) (λ γ. refl)) (fails (next (framed (a_list c.args.d c.args.b ∷ []) h) (known c.in-Fault-items.is c.items.ensures.0))) (omega arith), tt)
 
 pub items-returns-in-Fault : goal.items-returns-in-Fault
 unfolding compute_form
-items-returns-in-Fault t c = (let room = c.requires.0 in takes {μ = aTerm c.args.d c.args.b ∷ aList c.args.d c.args.b ∷ []} {m = c.args.n} (omega arith) (only _ kind.comma (sym c.kind_at-k.ensures.is ∙ c.if-k-eq-COMMA.true) (λ γ. refl)) (fails (framed (aList c.args.d c.args.b ∷ []) (known c.in-Fault.is c.term.ensures.0))) (omega arith), tt)
+items-returns-in-Fault t c = (let room = c.requires.0 in takes {μ = a_term c.args.d c.args.b ∷ a_list c.args.d c.args.b ∷ []} {m = c.args.n} (omega arith) (only _ kind.comma (sym c.kind_at-k.ensures.is ∙ c.if-k-eq-COMMA.true) (λ γ. refl)) (fails (framed (a_list c.args.d c.args.b ∷ []) (known c.in-Fault.is c.term.ensures.0))) (omega arith), tt)
 
 pub items-returns : goal.items-returns
 unfolding compute_form
@@ -101,11 +101,11 @@ listed-put-h-requires t c = let room = c.requires.0 in let h = (known c.in-At.is
 
 pub listed-returns-in-At-pairs : goal.listed-returns-in-At-pairs
 unfolding compute_form
-listed-returns-in-At-pairs t c = (let room = c.requires.0 in let h = (known c.in-At.is c.term.ensures.0) in let i = (known c.in-At-pairs.is c.pairs.ensures.0) in counted (omega arith) (alike (as-listed c.args.s.now c.args.at c.args.d c.args.b c.requires.4 c.requires.5) (next (framed (aFirst c.args.d c.args.b ∷ []) h) (likewise (only _ kind.maplet (sym c.kind_at.ensures.is ∙ c.if-kind_at-eq-MAPLET.true) (λ γ. refl)) (λ γ. refl) i))), let w₁ = (made c.in-At.is c.term.ensures.1) in let w₂ = (made c.in-At-pairs.is c.pairs.ensures.1) in makes (both (both (built w₁) (built w₂)) (wrote c.put-h.ensures)) (derived.paired c.requires.4 w₁.derives w₂.derives))
+listed-returns-in-At-pairs t c = (let room = c.requires.0 in let h = (known c.in-At.is c.term.ensures.0) in let i = (known c.in-At-pairs.is c.pairs.ensures.0) in counted (omega arith) (alike (as-listed c.args.s.now c.args.at c.args.d c.args.b c.requires.4 c.requires.5) (next (framed (a_first c.args.d c.args.b ∷ []) h) (likewise (only _ kind.maplet (sym c.kind_at.ensures.is ∙ c.if-kind_at-eq-MAPLET.true) (λ γ. refl)) (λ γ. refl) i))), let w₁ = (made c.in-At.is c.term.ensures.1) in let w₂ = (made c.in-At-pairs.is c.pairs.ensures.1) in makes (both (both (built w₁) (built w₂)) (wrote c.put-h.ensures)) (derived.paired c.requires.4 w₁.derives w₂.derives))
 
 pub listed-returns-in-Fault-pairs : goal.listed-returns-in-Fault-pairs
 unfolding compute_form
-listed-returns-in-Fault-pairs t c = (let room = c.requires.0 in let h = (known c.in-At.is c.term.ensures.0) in wider (alike (as-listed c.args.s.now c.args.at c.args.d c.args.b c.requires.4 c.requires.5) (next (framed (aFirst c.args.d c.args.b ∷ []) h) (likewise (only _ kind.maplet (sym c.kind_at.ensures.is ∙ c.if-kind_at-eq-MAPLET.true) (λ γ. refl)) (λ γ. refl) (known c.in-Fault-pairs.is c.pairs.ensures.0)))) (omega arith), tt)
+listed-returns-in-Fault-pairs t c = (let room = c.requires.0 in let h = (known c.in-At.is c.term.ensures.0) in wider (alike (as-listed c.args.s.now c.args.at c.args.d c.args.b c.requires.4 c.requires.5) (next (framed (a_first c.args.d c.args.b ∷ []) h) (likewise (only _ kind.maplet (sym c.kind_at.ensures.is ∙ c.if-kind_at-eq-MAPLET.true) (λ γ. refl)) (λ γ. refl) (known c.in-Fault-pairs.is c.pairs.ensures.0)))) (omega arith), tt)
 
 pub listed-items-requires : goal.listed-items-requires
 listed-items-requires t c = let room = c.requires.0 in let h = (known c.in-At.is c.term.ensures.0) in search rules
@@ -115,15 +115,15 @@ listed-put-h-requires-in-At-items t c = let room = c.requires.0 in let h = (know
 
 pub listed-returns-in-At-items : goal.listed-returns-in-At-items
 unfolding compute_form
-listed-returns-in-At-items t c = (let room = c.requires.0 in let h = (known c.in-At.is c.term.ensures.0) in let i = (known c.in-At-items.is c.items.ensures.0) in counted (omega arith) (alike (as-listed c.args.s.now c.args.at c.args.d c.args.b c.requires.4 c.requires.5) (next (framed (aFirst c.args.d c.args.b ∷ []) h) (likewise (λ κ e γ. as-list c.args.d c.args.b κ γ (λ q. c.if-kind_at-eq-MAPLET.false (c.kind_at.ensures.is ∙ sym e ∙ q))) (λ γ. refl) i))), let w₁ = (made c.in-At.is c.term.ensures.1) in let w₂ = (made c.in-At-items.is c.items.ensures.1) in makes (both (both (built w₁) (built w₂)) (wrote c.put-h-in-At-items.ensures)) (derived.listed c.requires.4 w₁.derives w₂.derives))
+listed-returns-in-At-items t c = (let room = c.requires.0 in let h = (known c.in-At.is c.term.ensures.0) in let i = (known c.in-At-items.is c.items.ensures.0) in counted (omega arith) (alike (as-listed c.args.s.now c.args.at c.args.d c.args.b c.requires.4 c.requires.5) (next (framed (a_first c.args.d c.args.b ∷ []) h) (likewise (λ κ e γ. as-list c.args.d c.args.b κ γ (λ q. c.if-kind_at-eq-MAPLET.false (c.kind_at.ensures.is ∙ sym e ∙ q))) (λ γ. refl) i))), let w₁ = (made c.in-At.is c.term.ensures.1) in let w₂ = (made c.in-At-items.is c.items.ensures.1) in makes (both (both (built w₁) (built w₂)) (wrote c.put-h-in-At-items.ensures)) (derived.listed c.requires.4 w₁.derives w₂.derives))
 
 pub listed-returns-in-Fault-items : goal.listed-returns-in-Fault-items
 unfolding compute_form
-listed-returns-in-Fault-items t c = (let room = c.requires.0 in let h = (known c.in-At.is c.term.ensures.0) in wider (alike (as-listed c.args.s.now c.args.at c.args.d c.args.b c.requires.4 c.requires.5) (next (framed (aFirst c.args.d c.args.b ∷ []) h) (likewise (λ κ e γ. as-list c.args.d c.args.b κ γ (λ q. c.if-kind_at-eq-MAPLET.false (c.kind_at.ensures.is ∙ sym e ∙ q))) (λ γ. refl) (known c.in-Fault-items.is c.items.ensures.0)))) (omega arith), tt)
+listed-returns-in-Fault-items t c = (let room = c.requires.0 in let h = (known c.in-At.is c.term.ensures.0) in wider (alike (as-listed c.args.s.now c.args.at c.args.d c.args.b c.requires.4 c.requires.5) (next (framed (a_first c.args.d c.args.b ∷ []) h) (likewise (λ κ e γ. as-list c.args.d c.args.b κ γ (λ q. c.if-kind_at-eq-MAPLET.false (c.kind_at.ensures.is ∙ sym e ∙ q))) (λ γ. refl) (known c.in-Fault-items.is c.items.ensures.0)))) (omega arith), tt)
 
 pub listed-returns-in-Fault : goal.listed-returns-in-Fault
 unfolding compute_form
-listed-returns-in-Fault t c = (alike (as-listed c.args.s.now c.args.at c.args.d c.args.b c.requires.4 c.requires.5) (fails (framed (aFirst c.args.d c.args.b ∷ []) (known c.in-Fault.is c.term.ensures.0))), tt)
+listed-returns-in-Fault t c = (alike (as-listed c.args.s.now c.args.at c.args.d c.args.b c.requires.4 c.requires.5) (fails (framed (a_first c.args.d c.args.b ∷ []) (known c.in-Fault.is c.term.ensures.0))), tt)
 
 pub member-put-c-requires : goal.member-put-c-requires
 member-put-c-requires t c = let room = c.requires.0 in let h = known c.in-At.is c.range.ensures.0.reads in let i = known-ahead _ c.in-At.is c.range.ensures.0.ahead in search rules
@@ -161,7 +161,7 @@ operand-put-c-requires t c = let room = c.requires.0 in let h = known-code c.kin
 
 pub operand-returns-then-range_end : goal.operand-returns-then-range_end
 unfolding compute_form
-operand-returns-then-range_end t c = (let room = c.requires.0 in let h = known-code c.kind_at-k.result c.in-Prefix.is c.start_of-start.ensures in let i = c.range_end.ensures.minus c.if-range_end.true in let j = inside c.args.s.now (c.args.at + 1) (omega (arith, i.1)) in taken {μ = anOperand (suc c.args.d) c.args.b ∷ []} {m = c.args.n + 4} (opens (suc c.args.d)) (omega arith) (range-well c.args.s.now c.args.at (suc c.args.d) (c.range_end.ensures.test ∙ c.if-range_end.true)) (λ κ e γ. operand_step c.args.d c.args.b κ γ _ (c.start_of-start.ensures.start κ (e ∙ sym c.kind_at-k.ensures.is) ∙ ap start_as c.in-Prefix.is)) (takes {μ = []} (omega arith) (only _ kind.number i.1 (λ γ. refl)) (here (omega arith)) (omega arith)) (omega arith), makes (both (wrote c.leaf-m-then-range_end.ensures) (node_of (c.wide.ensures ∙ c.kind_at-k.ensures.is) refl c.put-c.ensures)) (derived.prefixed (start-at c.kind_at-k.ensures.is c.in-Prefix.is c.start_of-start.ensures) (derived.leaf (number-start (c.range_end.ensures.minus c.if-range_end.true).1))))
+operand-returns-then-range_end t c = (let room = c.requires.0 in let h = known-code c.kind_at-k.result c.in-Prefix.is c.start_of-start.ensures in let i = c.range_end.ensures.minus c.if-range_end.true in let j = inside c.args.s.now (c.args.at + 1) (omega (arith, i.1)) in taken {μ = an_operand (suc c.args.d) c.args.b ∷ []} {m = c.args.n + 4} (opens (suc c.args.d)) (omega arith) (range-well c.args.s.now c.args.at (suc c.args.d) (c.range_end.ensures.test ∙ c.if-range_end.true)) (λ κ e γ. operand_step c.args.d c.args.b κ γ _ (c.start_of-start.ensures.start κ (e ∙ sym c.kind_at-k.ensures.is) ∙ ap start_as c.in-Prefix.is)) (takes {μ = []} (omega arith) (only _ kind.number i.1 (λ γ. refl)) (here (omega arith)) (omega arith)) (omega arith), makes (both (wrote c.leaf-m-then-range_end.ensures) (node_of (c.wide.ensures ∙ c.kind_at-k.ensures.is) refl c.put-c.ensures)) (derived.prefixed (start-at c.kind_at-k.ensures.is c.in-Prefix.is c.start_of-start.ensures) (derived.leaf (number-start (c.range_end.ensures.minus c.if-range_end.true).1))))
 
 pub operand-returns-then-d-ge-DEPTH : goal.operand-returns-then-d-ge-DEPTH
 unfolding compute_form
@@ -199,27 +199,27 @@ operand-returns-in-Leaf t c = (let room = c.requires.0 in let h = known-code c.k
 
 pub operand-returns-in-At : goal.operand-returns-in-At
 unfolding compute_form
-operand-returns-in-At t c = (let room = c.requires.0 in let h = known-code c.kind_at-k.result c.in-Prefix.is c.start_of-start.ensures in let i = (known c.in-At.is c.operand.ensures.0) in taken {μ = anOperand (suc c.args.d) c.args.b ∷ []} {m = c.args.n + 4} (opens (suc c.args.d)) (omega arith) (open_well c.args.s.now c.args.at (suc c.args.d) (omega arith)) (λ κ e γ. operand_step c.args.d c.args.b κ γ _ (c.start_of-start.ensures.start κ (e ∙ sym c.kind_at-k.ensures.is) ∙ ap start_as c.in-Prefix.is)) (counted {c = c.args.n + 4} (omega arith) (raised (λ x. anOperand x c.args.b ∷ []) c.args.d i)) (omega arith), let w₁ = (made c.in-At.is c.operand.ensures.1) in makes (both (built w₁) (node_of (c.wide-in-At.ensures ∙ c.kind_at-k.ensures.is) refl c.put-c-in-At.ensures)) (derived.prefixed (start-at c.kind_at-k.ensures.is c.in-Prefix.is c.start_of-start.ensures) w₁.derives))
+operand-returns-in-At t c = (let room = c.requires.0 in let h = known-code c.kind_at-k.result c.in-Prefix.is c.start_of-start.ensures in let i = (known c.in-At.is c.operand.ensures.0) in taken {μ = an_operand (suc c.args.d) c.args.b ∷ []} {m = c.args.n + 4} (opens (suc c.args.d)) (omega arith) (open_well c.args.s.now c.args.at (suc c.args.d) (omega arith)) (λ κ e γ. operand_step c.args.d c.args.b κ γ _ (c.start_of-start.ensures.start κ (e ∙ sym c.kind_at-k.ensures.is) ∙ ap start_as c.in-Prefix.is)) (counted {c = c.args.n + 4} (omega arith) (raised (λ x. an_operand x c.args.b ∷ []) c.args.d i)) (omega arith), let w₁ = (made c.in-At.is c.operand.ensures.1) in makes (both (built w₁) (node_of (c.wide-in-At.ensures ∙ c.kind_at-k.ensures.is) refl c.put-c-in-At.ensures)) (derived.prefixed (start-at c.kind_at-k.ensures.is c.in-Prefix.is c.start_of-start.ensures) w₁.derives))
 
 pub operand-returns-in-Fault : goal.operand-returns-in-Fault
 unfolding compute_form
-operand-returns-in-Fault t c = (let room = c.requires.0 in let h = known-code c.kind_at-k.result c.in-Prefix.is c.start_of-start.ensures in taken {μ = anOperand (suc c.args.d) c.args.b ∷ []} {m = c.args.n + 4} (opens (suc c.args.d)) (omega arith) (open_well c.args.s.now c.args.at (suc c.args.d) (omega arith)) (λ κ e γ. operand_step c.args.d c.args.b κ γ _ (c.start_of-start.ensures.start κ (e ∙ sym c.kind_at-k.ensures.is) ∙ ap start_as c.in-Prefix.is)) (fails (raised (λ x. anOperand x c.args.b ∷ []) c.args.d (known c.in-Fault.is c.operand.ensures.0))) (omega arith), tt)
+operand-returns-in-Fault t c = (let room = c.requires.0 in let h = known-code c.kind_at-k.result c.in-Prefix.is c.start_of-start.ensures in taken {μ = an_operand (suc c.args.d) c.args.b ∷ []} {m = c.args.n + 4} (opens (suc c.args.d)) (omega arith) (open_well c.args.s.now c.args.at (suc c.args.d) (omega arith)) (λ κ e γ. operand_step c.args.d c.args.b κ γ _ (c.start_of-start.ensures.start κ (e ∙ sym c.kind_at-k.ensures.is) ∙ ap start_as c.in-Prefix.is)) (fails (raised (λ x. an_operand x c.args.b ∷ []) c.args.d (known c.in-Fault.is c.operand.ensures.0))) (omega arith), tt)
 
 pub operand-returns-in-At-term : goal.operand-returns-in-At-term
 unfolding compute_form
-operand-returns-in-At-term t c = (let room = c.requires.0 in let h = known-code c.kind_at-k.result c.in-Bracket.is c.start_of-start.ensures in taken {μ = aTerm (suc c.args.d) c.args.b ∷ exact kind.closeBracket ∷ []} {m = c.args.n + 4} (opens (suc c.args.d)) (omega arith) (open_well c.args.s.now c.args.at (suc c.args.d) (omega arith)) (λ κ e γ. operand_step c.args.d c.args.b κ γ _ (c.start_of-start.ensures.start κ (e ∙ sym c.kind_at-k.ensures.is) ∙ ap start_as c.in-Bracket.is)) (wider (next (framed (exact kind.closeBracket ∷ []) (raised (λ x. aTerm x c.args.b ∷ []) c.args.d (known c.in-At-term.is c.term.ensures.0))) (c.close.ensures.reads kind.closeBracket refl)) (omega arith)) (omega arith), let w₁ = (made c.in-At-term.is c.term.ensures.1) in let t₁ = known-code c.kind_at-k.result c.in-Bracket.is c.start_of-start.ensures in closing c.close.ensures (λ q. makes (built w₁) (derived.bracketed (sym c.kind_at-k.ensures.is ∙ t₁) w₁.derives q)))
+operand-returns-in-At-term t c = (let room = c.requires.0 in let h = known-code c.kind_at-k.result c.in-Bracket.is c.start_of-start.ensures in taken {μ = a_term (suc c.args.d) c.args.b ∷ exact kind.close_bracket ∷ []} {m = c.args.n + 4} (opens (suc c.args.d)) (omega arith) (open_well c.args.s.now c.args.at (suc c.args.d) (omega arith)) (λ κ e γ. operand_step c.args.d c.args.b κ γ _ (c.start_of-start.ensures.start κ (e ∙ sym c.kind_at-k.ensures.is) ∙ ap start_as c.in-Bracket.is)) (wider (next (framed (exact kind.close_bracket ∷ []) (raised (λ x. a_term x c.args.b ∷ []) c.args.d (known c.in-At-term.is c.term.ensures.0))) (c.close.ensures.reads kind.close_bracket refl)) (omega arith)) (omega arith), let w₁ = (made c.in-At-term.is c.term.ensures.1) in let t₁ = known-code c.kind_at-k.result c.in-Bracket.is c.start_of-start.ensures in closing c.close.ensures (λ q. makes (built w₁) (derived.bracketed (sym c.kind_at-k.ensures.is ∙ t₁) w₁.derives q)))
 
 pub operand-returns-in-Fault-term : goal.operand-returns-in-Fault-term
 unfolding compute_form
-operand-returns-in-Fault-term t c = (let room = c.requires.0 in let h = known-code c.kind_at-k.result c.in-Bracket.is c.start_of-start.ensures in taken {μ = aTerm (suc c.args.d) c.args.b ∷ exact kind.closeBracket ∷ []} {m = c.args.n + 4} (opens (suc c.args.d)) (omega arith) (open_well c.args.s.now c.args.at (suc c.args.d) (omega arith)) (λ κ e γ. operand_step c.args.d c.args.b κ γ _ (c.start_of-start.ensures.start κ (e ∙ sym c.kind_at-k.ensures.is) ∙ ap start_as c.in-Bracket.is)) (fails (framed (exact kind.closeBracket ∷ []) (raised (λ x. aTerm x c.args.b ∷ []) c.args.d (known c.in-Fault-term.is c.term.ensures.0)))) (omega arith), tt)
+operand-returns-in-Fault-term t c = (let room = c.requires.0 in let h = known-code c.kind_at-k.result c.in-Bracket.is c.start_of-start.ensures in taken {μ = a_term (suc c.args.d) c.args.b ∷ exact kind.close_bracket ∷ []} {m = c.args.n + 4} (opens (suc c.args.d)) (omega arith) (open_well c.args.s.now c.args.at (suc c.args.d) (omega arith)) (λ κ e γ. operand_step c.args.d c.args.b κ γ _ (c.start_of-start.ensures.start κ (e ∙ sym c.kind_at-k.ensures.is) ∙ ap start_as c.in-Bracket.is)) (fails (framed (exact kind.close_bracket ∷ []) (raised (λ x. a_term x c.args.b ∷ []) c.args.d (known c.in-Fault-term.is c.term.ensures.0)))) (omega arith), tt)
 
 pub operand-returns-else-d-ge-DEPTH-3 : goal.operand-returns-else-d-ge-DEPTH-3
 unfolding compute_form
-operand-returns-else-d-ge-DEPTH-3 t c = (let room = c.requires.0 in let h = known-code c.kind_at-k.result c.in-Brace.is c.start_of-start.ensures in taken {μ = aBrace (suc c.args.d) c.args.b ∷ []} {m = c.args.n + 4} (opens (suc c.args.d)) (omega arith) (open_well c.args.s.now c.args.at (suc c.args.d) (omega arith)) (λ κ e γ. operand_step c.args.d c.args.b κ γ _ (c.start_of-start.ensures.start κ (e ∙ sym c.kind_at-k.ensures.is) ∙ ap start_as c.in-Brace.is)) (raised (λ x. aBrace x c.args.b ∷ []) c.args.d c.brace.ensures.0) (omega arith), c.brace.ensures.1)
+operand-returns-else-d-ge-DEPTH-3 t c = (let room = c.requires.0 in let h = known-code c.kind_at-k.result c.in-Brace.is c.start_of-start.ensures in taken {μ = a_brace (suc c.args.d) c.args.b ∷ []} {m = c.args.n + 4} (opens (suc c.args.d)) (omega arith) (open_well c.args.s.now c.args.at (suc c.args.d) (omega arith)) (λ κ e γ. operand_step c.args.d c.args.b κ γ _ (c.start_of-start.ensures.start κ (e ∙ sym c.kind_at-k.ensures.is) ∙ ap start_as c.in-Brace.is)) (raised (λ x. a_brace x c.args.b ∷ []) c.args.d c.brace.ensures.0) (omega arith), c.brace.ensures.1)
 
 pub operand-returns-in-Empty : goal.operand-returns-in-Empty
 unfolding compute_form
-operand-returns-in-Empty t c = (let room = c.requires.0 in let h = known-code c.kind_at-k.result c.in-Empty.is c.start_of-start.ensures in takes {μ = aName ∷ anEmptyRest ∷ []} (omega arith) (λ κ e γ. operand_step c.args.d c.args.b κ γ _ (c.start_of-start.ensures.start κ (e ∙ sym c.kind_at-k.ensures.is) ∙ ap start_as c.in-Empty.is)) c.empty.ensures.0 (omega arith), c.empty.ensures.1)
+operand-returns-in-Empty t c = (let room = c.requires.0 in let h = known-code c.kind_at-k.result c.in-Empty.is c.start_of-start.ensures in takes {μ = a_name ∷ an_empty_rest ∷ []} (omega arith) (λ κ e γ. operand_step c.args.d c.args.b κ γ _ (c.start_of-start.ensures.start κ (e ∙ sym c.kind_at-k.ensures.is) ∙ ap start_as c.in-Empty.is)) c.empty.ensures.0 (omega arith), c.empty.ensures.1)
 
 pub operand-returns-in-Nothing : goal.operand-returns-in-Nothing
 unfolding compute_form
@@ -243,7 +243,7 @@ pairs-put-c-requires t c = let room = c.requires.0 in let h = (known c.in-At.is 
 
 pub pairs-returns-then-k-eq-CLOSE_BRACE : goal.pairs-returns-then-k-eq-CLOSE_BRACE
 unfolding compute_form
-pairs-returns-then-k-eq-CLOSE_BRACE t c = (let room = c.requires.0 in let h = (known c.in-At.is (c.close.ensures.reads kind.maplet refl)) in let i = (known c.in-At-term.is c.term.ensures.0) in next (counted {c = c.args.n} {d = c.args.n} (omega arith) (framed (aTerm c.args.d c.args.b ∷ aPairs c.args.d c.args.b ∷ []) h)) (next (framed (aPairs c.args.d c.args.b ∷ []) i) (takes {μ = []} (omega arith) (only _ kind.closeBrace (sym c.kind_at-k.ensures.is ∙ c.if-k-eq-CLOSE_BRACE.true) (λ γ. refl)) (here (omega arith)) (omega arith))), let t₁ = closed c.in-At.is c.close.ensures in let w₁ = (made c.in-At-term.is c.term.ensures.1) in makes (both (built w₁) (wrote c.put-c.ensures)) (derived.end_of_pairs t₁.1 (from t₁.0 w₁.derives) (sym c.kind_at-k.ensures.is ∙ c.if-k-eq-CLOSE_BRACE.true)))
+pairs-returns-then-k-eq-CLOSE_BRACE t c = (let room = c.requires.0 in let h = (known c.in-At.is (c.close.ensures.reads kind.maplet refl)) in let i = (known c.in-At-term.is c.term.ensures.0) in next (counted {c = c.args.n} {d = c.args.n} (omega arith) (framed (a_term c.args.d c.args.b ∷ a_pairs c.args.d c.args.b ∷ []) h)) (next (framed (a_pairs c.args.d c.args.b ∷ []) i) (takes {μ = []} (omega arith) (only _ kind.close_brace (sym c.kind_at-k.ensures.is ∙ c.if-k-eq-CLOSE_BRACE.true) (λ γ. refl)) (here (omega arith)) (omega arith))), let t₁ = closed c.in-At.is c.close.ensures in let w₁ = (made c.in-At-term.is c.term.ensures.1) in makes (both (built w₁) (wrote c.put-c.ensures)) (derived.end_of_pairs t₁.1 (from t₁.0 w₁.derives) (sym c.kind_at-k.ensures.is ∙ c.if-k-eq-CLOSE_BRACE.true)))
 
 pub pairs-term-requires-then-k-eq-COMMA : goal.pairs-term-requires-then-k-eq-COMMA
 unfolding code_of
@@ -259,38 +259,38 @@ pairs-put-i-requires t c = let room = c.requires.0 in let h = (known c.in-At.is 
 
 pub pairs-returns-in-At-pairs : goal.pairs-returns-in-At-pairs
 unfolding compute_form
-pairs-returns-in-At-pairs t c = (let room = c.requires.0 in let h = (known c.in-At.is (c.close.ensures.reads kind.maplet refl)) in let i = (known c.in-At-term.is c.term.ensures.0) in let j = (known c.in-At-term-2.is c.term-then-k-eq-COMMA.ensures.0) in let l = (known c.in-At-pairs.is c.pairs.ensures.0) in next (counted {c = c.args.n} {d = c.args.n} (omega arith) (framed (aTerm c.args.d c.args.b ∷ aPairs c.args.d c.args.b ∷ []) h)) (next (framed (aPairs c.args.d c.args.b ∷ []) i) (takes {μ = aTerm c.args.d c.args.b ∷ exact kind.maplet ∷ aTerm c.args.d c.args.b ∷ aPairs c.args.d c.args.b ∷ []} {m = c.in-At-term.m + 4} (omega arith) (only _ kind.comma (sym c.kind_at-k.ensures.is ∙ c.if-k-eq-COMMA.true) (λ γ. refl)) (counted (omega arith) (next (framed (exact kind.maplet ∷ aTerm c.args.d c.args.b ∷ aPairs c.args.d c.args.b ∷ []) j) l)) (omega arith))), let t₁ = closed c.in-At.is c.close.ensures in let w₁ = (made c.in-At-term.is c.term.ensures.1) in let w₂ = (made c.in-At-term-2.is c.term-then-k-eq-COMMA.ensures.1) in let w₃ = (made c.in-At-pairs.is c.pairs.ensures.1) in makes (both (both (both (built w₁) (built w₂)) (built w₃)) (wrote c.put-i.ensures)) (derived.pairs_more t₁.1 (from t₁.0 w₁.derives) (sym c.kind_at-k.ensures.is ∙ c.if-k-eq-COMMA.true) w₂.derives w₃.derives))
+pairs-returns-in-At-pairs t c = (let room = c.requires.0 in let h = (known c.in-At.is (c.close.ensures.reads kind.maplet refl)) in let i = (known c.in-At-term.is c.term.ensures.0) in let j = (known c.in-At-term-2.is c.term-then-k-eq-COMMA.ensures.0) in let l = (known c.in-At-pairs.is c.pairs.ensures.0) in next (counted {c = c.args.n} {d = c.args.n} (omega arith) (framed (a_term c.args.d c.args.b ∷ a_pairs c.args.d c.args.b ∷ []) h)) (next (framed (a_pairs c.args.d c.args.b ∷ []) i) (takes {μ = a_term c.args.d c.args.b ∷ exact kind.maplet ∷ a_term c.args.d c.args.b ∷ a_pairs c.args.d c.args.b ∷ []} {m = c.in-At-term.m + 4} (omega arith) (only _ kind.comma (sym c.kind_at-k.ensures.is ∙ c.if-k-eq-COMMA.true) (λ γ. refl)) (counted (omega arith) (next (framed (exact kind.maplet ∷ a_term c.args.d c.args.b ∷ a_pairs c.args.d c.args.b ∷ []) j) l)) (omega arith))), let t₁ = closed c.in-At.is c.close.ensures in let w₁ = (made c.in-At-term.is c.term.ensures.1) in let w₂ = (made c.in-At-term-2.is c.term-then-k-eq-COMMA.ensures.1) in let w₃ = (made c.in-At-pairs.is c.pairs.ensures.1) in makes (both (both (both (built w₁) (built w₂)) (built w₃)) (wrote c.put-i.ensures)) (derived.pairs_more t₁.1 (from t₁.0 w₁.derives) (sym c.kind_at-k.ensures.is ∙ c.if-k-eq-COMMA.true) w₂.derives w₃.derives))
 
 pub pairs-returns-in-Fault-pairs : goal.pairs-returns-in-Fault-pairs
 unfolding compute_form
-pairs-returns-in-Fault-pairs t c = (let room = c.requires.0 in let h = (known c.in-At.is (c.close.ensures.reads kind.maplet refl)) in let i = (known c.in-At-term.is c.term.ensures.0) in let j = (known c.in-At-term-2.is c.term-then-k-eq-COMMA.ensures.0) in next (counted {c = c.args.n} {d = c.args.n} (omega arith) (framed (aTerm c.args.d c.args.b ∷ aPairs c.args.d c.args.b ∷ []) h)) (next (framed (aPairs c.args.d c.args.b ∷ []) i) (takes {μ = aTerm c.args.d c.args.b ∷ exact kind.maplet ∷ aTerm c.args.d c.args.b ∷ aPairs c.args.d c.args.b ∷ []} {m = c.in-At-term.m + 4} (omega arith) (only _ kind.comma (sym c.kind_at-k.ensures.is ∙ c.if-k-eq-COMMA.true) (λ γ. refl)) (fails (next (framed (exact kind.maplet ∷ aTerm c.args.d c.args.b ∷ aPairs c.args.d c.args.b ∷ []) j) (known c.in-Fault-pairs.is c.pairs.ensures.0))) (omega arith))), tt)
+pairs-returns-in-Fault-pairs t c = (let room = c.requires.0 in let h = (known c.in-At.is (c.close.ensures.reads kind.maplet refl)) in let i = (known c.in-At-term.is c.term.ensures.0) in let j = (known c.in-At-term-2.is c.term-then-k-eq-COMMA.ensures.0) in next (counted {c = c.args.n} {d = c.args.n} (omega arith) (framed (a_term c.args.d c.args.b ∷ a_pairs c.args.d c.args.b ∷ []) h)) (next (framed (a_pairs c.args.d c.args.b ∷ []) i) (takes {μ = a_term c.args.d c.args.b ∷ exact kind.maplet ∷ a_term c.args.d c.args.b ∷ a_pairs c.args.d c.args.b ∷ []} {m = c.in-At-term.m + 4} (omega arith) (only _ kind.comma (sym c.kind_at-k.ensures.is ∙ c.if-k-eq-COMMA.true) (λ γ. refl)) (fails (next (framed (exact kind.maplet ∷ a_term c.args.d c.args.b ∷ a_pairs c.args.d c.args.b ∷ []) j) (known c.in-Fault-pairs.is c.pairs.ensures.0))) (omega arith))), tt)
 
 pub pairs-returns-in-Fault-term-2 : goal.pairs-returns-in-Fault-term-2
 unfolding compute_form
-pairs-returns-in-Fault-term-2 t c = (let room = c.requires.0 in let h = (known c.in-At.is (c.close.ensures.reads kind.maplet refl)) in let i = (known c.in-At-term.is c.term.ensures.0) in next (counted {c = c.args.n} {d = c.args.n} (omega arith) (framed (aTerm c.args.d c.args.b ∷ aPairs c.args.d c.args.b ∷ []) h)) (next (framed (aPairs c.args.d c.args.b ∷ []) i) (takes {μ = aTerm c.args.d c.args.b ∷ exact kind.maplet ∷ aTerm c.args.d c.args.b ∷ aPairs c.args.d c.args.b ∷ []} {m = c.in-At-term.m + 4} (omega arith) (only _ kind.comma (sym c.kind_at-k.ensures.is ∙ c.if-k-eq-COMMA.true) (λ γ. refl)) (fails (framed (exact kind.maplet ∷ aTerm c.args.d c.args.b ∷ aPairs c.args.d c.args.b ∷ []) (known c.in-Fault-term-2.is c.term-then-k-eq-COMMA.ensures.0))) (omega arith))), tt)
+pairs-returns-in-Fault-term-2 t c = (let room = c.requires.0 in let h = (known c.in-At.is (c.close.ensures.reads kind.maplet refl)) in let i = (known c.in-At-term.is c.term.ensures.0) in next (counted {c = c.args.n} {d = c.args.n} (omega arith) (framed (a_term c.args.d c.args.b ∷ a_pairs c.args.d c.args.b ∷ []) h)) (next (framed (a_pairs c.args.d c.args.b ∷ []) i) (takes {μ = a_term c.args.d c.args.b ∷ exact kind.maplet ∷ a_term c.args.d c.args.b ∷ a_pairs c.args.d c.args.b ∷ []} {m = c.in-At-term.m + 4} (omega arith) (only _ kind.comma (sym c.kind_at-k.ensures.is ∙ c.if-k-eq-COMMA.true) (λ γ. refl)) (fails (framed (exact kind.maplet ∷ a_term c.args.d c.args.b ∷ a_pairs c.args.d c.args.b ∷ []) (known c.in-Fault-term-2.is c.term-then-k-eq-COMMA.ensures.0))) (omega arith))), tt)
 
 pub pairs-returns-else-k-eq-COMMA : goal.pairs-returns-else-k-eq-COMMA
 unfolding compute_form
-pairs-returns-else-k-eq-COMMA t c = (let room = c.requires.0 in let h = (known c.in-At.is (c.close.ensures.reads kind.maplet refl)) in let i = (known c.in-At-term.is c.term.ensures.0) in next (counted {c = c.args.n} {d = c.args.n} (omega arith) (framed (aTerm c.args.d c.args.b ∷ aPairs c.args.d c.args.b ∷ []) h)) (next (framed (aPairs c.args.d c.args.b ∷ []) i) (stops (omega arith) (λ κ e γ. pairs-stop c.args.d c.args.b κ γ (λ q. c.if-k-eq-CLOSE_BRACE.false (c.kind_at-k.ensures.is ∙ sym e ∙ q)) (λ q. c.if-k-eq-COMMA.false (c.kind_at-k.ensures.is ∙ sym e ∙ q))) (λ γ. refl))), tt)
+pairs-returns-else-k-eq-COMMA t c = (let room = c.requires.0 in let h = (known c.in-At.is (c.close.ensures.reads kind.maplet refl)) in let i = (known c.in-At-term.is c.term.ensures.0) in next (counted {c = c.args.n} {d = c.args.n} (omega arith) (framed (a_term c.args.d c.args.b ∷ a_pairs c.args.d c.args.b ∷ []) h)) (next (framed (a_pairs c.args.d c.args.b ∷ []) i) (stops (omega arith) (λ κ e γ. pairs-stop c.args.d c.args.b κ γ (λ q. c.if-k-eq-CLOSE_BRACE.false (c.kind_at-k.ensures.is ∙ sym e ∙ q)) (λ q. c.if-k-eq-COMMA.false (c.kind_at-k.ensures.is ∙ sym e ∙ q))) (λ γ. refl))), tt)
 
 pub pairs-returns-in-Fault-term : goal.pairs-returns-in-Fault-term
 unfolding compute_form
-pairs-returns-in-Fault-term t c = (let room = c.requires.0 in let h = (known c.in-At.is (c.close.ensures.reads kind.maplet refl)) in next (counted {c = c.args.n} {d = c.args.n} (omega arith) (framed (aTerm c.args.d c.args.b ∷ aPairs c.args.d c.args.b ∷ []) h)) (fails (framed (aPairs c.args.d c.args.b ∷ []) (known c.in-Fault-term.is c.term.ensures.0))), tt)
+pairs-returns-in-Fault-term t c = (let room = c.requires.0 in let h = (known c.in-At.is (c.close.ensures.reads kind.maplet refl)) in next (counted {c = c.args.n} {d = c.args.n} (omega arith) (framed (a_term c.args.d c.args.b ∷ a_pairs c.args.d c.args.b ∷ []) h)) (fails (framed (a_pairs c.args.d c.args.b ∷ []) (known c.in-Fault-term.is c.term.ensures.0))), tt)
 
 pub pairs-returns-in-Fault : goal.pairs-returns-in-Fault
 unfolding compute_form
-pairs-returns-in-Fault t c = (let room = c.requires.0 in fails (framed (aTerm c.args.d c.args.b ∷ aPairs c.args.d c.args.b ∷ []) (known c.in-Fault.is (c.close.ensures.reads kind.maplet refl))), tt)
+pairs-returns-in-Fault t c = (let room = c.requires.0 in fails (framed (a_term c.args.d c.args.b ∷ a_pairs c.args.d c.args.b ∷ []) (known c.in-Fault.is (c.close.ensures.reads kind.maplet refl))), tt)
 
 pub paren-close-requires : goal.paren-close-requires
 paren-close-requires t c = let room = c.requires.0 in let h = (known c.in-At.is c.pred.ensures.0) in search rules
 
 pub paren-returns-in-At : goal.paren-returns-in-At
 unfolding compute_form
-paren-returns-in-At t c = (wider (likewise (λ κ e γ. as_pred c.args.d c.args.b κ γ ((c.quantifier_of-c.ensures.classes.class κ (e ∙ sym c.kind_at-k.ensures.is)) ∙ c.if-c-eq-NONE.true)) (λ γ. refl) (next (framed (exact kind.closeParen ∷ []) (known c.in-At.is c.pred.ensures.0)) (c.close.ensures.reads kind.closeParen refl))) (omega arith), let w₁ = (made c.in-At.is c.pred.ensures.1) in closing c.close.ensures (λ q. makes (built w₁) (derived.parenthesised c.requires.4 w₁.derives q)))
+paren-returns-in-At t c = (wider (likewise (λ κ e γ. as_pred c.args.d c.args.b κ γ ((c.quantifier_of-c.ensures.classes.class κ (e ∙ sym c.kind_at-k.ensures.is)) ∙ c.if-c-eq-NONE.true)) (λ γ. refl) (next (framed (exact kind.close_paren ∷ []) (known c.in-At.is c.pred.ensures.0)) (c.close.ensures.reads kind.close_paren refl))) (omega arith), let w₁ = (made c.in-At.is c.pred.ensures.1) in closing c.close.ensures (λ q. makes (built w₁) (derived.parenthesised c.requires.4 w₁.derives q)))
 
 pub paren-returns-in-Fault : goal.paren-returns-in-Fault
 unfolding compute_form
-paren-returns-in-Fault t c = (likewise (λ κ e γ. as_pred c.args.d c.args.b κ γ ((c.quantifier_of-c.ensures.classes.class κ (e ∙ sym c.kind_at-k.ensures.is)) ∙ c.if-c-eq-NONE.true)) (λ γ. refl) (fails (framed (exact kind.closeParen ∷ []) (known c.in-Fault.is c.pred.ensures.0))), tt)
+paren-returns-in-Fault t c = (likewise (λ κ e γ. as_pred c.args.d c.args.b κ γ ((c.quantifier_of-c.ensures.classes.class κ (e ∙ sym c.kind_at-k.ensures.is)) ∙ c.if-c-eq-NONE.true)) (λ γ. refl) (fails (framed (exact kind.close_paren ∷ []) (known c.in-Fault.is c.pred.ensures.0))), tt)
 
 pub paren-returns : goal.paren-returns
 unfolding compute_form
@@ -323,11 +323,11 @@ pred_more-put-c-requires t c = let room = c.requires.0 in let positive = c.requi
 
 pub pred_more-returns-in-At : goal.pred_more-returns-in-At
 unfolding compute_form
-pred_more-returns-in-At t c = let room = c.requires.0 in let positive = c.requires.3 in let ahead = c.requires.4 in let small = c.requires.5.small in let g = (known c.in-At.is (c.pred_from.ensures.0.reads 0 (λ z. absurd (omega arith)))) in let c₁ = c.put-c.ensures.count in (λ base q. let h = (known c.in-At.is (c.pred_from.ensures.0.reads base (λ z. absurd (omega arith)))) in taken {μ = aUnary (suc c.args.d) c.args.b ∷ a_pred_rest base (suc c.args.d) c.args.b ∷ []} {m = c.args.n + 4} (opens (suc c.args.d)) (omega arith) (open_well c.args.s.now c.args.at (suc c.args.d) (omega arith)) (λ κ e γ. pred-rest-step base c.args.d c.args.b κ γ (c.requires.5.class κ e ∙ c.if-l-eq-IMPLIES_LEVEL.true)) (next (counted (omega arith) (raised (λ x. aUnary x c.args.b ∷ a_pred_rest base x c.args.b ∷ []) c.args.d h)) (likewise (λ κ e γ. rest-depth base (c.args.d + 1) c.args.d c.args.b κ γ (known-level c.args.s.now 2 c.in-At.is c.pred_from.ensures.0.stops κ e)) (λ γ. refl) (here (omega arith)))) (omega arith), omega arith, λ min q. let w₁ = (made c.in-At.is c.pred_from.ensures.1) in chain (both (built w₁) (node_of (c.wide.ensures ∙ c.kind_at-k.ensures.is) refl c.put-c.ensures)) (λ k u x. derived.implied (class-at refl c.if-l-eq-IMPLIES_LEVEL.true c.requires.5) (omega arith) w₁.derives x))
+pred_more-returns-in-At t c = let room = c.requires.0 in let positive = c.requires.3 in let ahead = c.requires.4 in let small = c.requires.5.small in let g = (known c.in-At.is (c.pred_from.ensures.0.reads 0 (λ z. absurd (omega arith)))) in let c₁ = c.put-c.ensures.count in (λ base q. let h = (known c.in-At.is (c.pred_from.ensures.0.reads base (λ z. absurd (omega arith)))) in taken {μ = a_unary (suc c.args.d) c.args.b ∷ a_pred_rest base (suc c.args.d) c.args.b ∷ []} {m = c.args.n + 4} (opens (suc c.args.d)) (omega arith) (open_well c.args.s.now c.args.at (suc c.args.d) (omega arith)) (λ κ e γ. pred-rest-step base c.args.d c.args.b κ γ (c.requires.5.class κ e ∙ c.if-l-eq-IMPLIES_LEVEL.true)) (next (counted (omega arith) (raised (λ x. a_unary x c.args.b ∷ a_pred_rest base x c.args.b ∷ []) c.args.d h)) (likewise (λ κ e γ. rest-depth base (c.args.d + 1) c.args.d c.args.b κ γ (known-level c.args.s.now 2 c.in-At.is c.pred_from.ensures.0.stops κ e)) (λ γ. refl) (here (omega arith)))) (omega arith), omega arith, λ min q. let w₁ = (made c.in-At.is c.pred_from.ensures.1) in chain (both (built w₁) (node_of (c.wide.ensures ∙ c.kind_at-k.ensures.is) refl c.put-c.ensures)) (λ k u x. derived.implied (class-at refl c.if-l-eq-IMPLIES_LEVEL.true c.requires.5) (omega arith) w₁.derives x))
 
 pub pred_more-returns-in-Fault : goal.pred_more-returns-in-Fault
 unfolding compute_form
-pred_more-returns-in-Fault t c = let room = c.requires.0 in let positive = c.requires.3 in let ahead = c.requires.4 in let small = c.requires.5.small in (λ base q. taken {μ = aUnary (suc c.args.d) c.args.b ∷ a_pred_rest base (suc c.args.d) c.args.b ∷ []} {m = c.args.n + 4} (opens (suc c.args.d)) (omega arith) (open_well c.args.s.now c.args.at (suc c.args.d) (omega arith)) (λ κ e γ. pred-rest-step base c.args.d c.args.b κ γ (c.requires.5.class κ e ∙ c.if-l-eq-IMPLIES_LEVEL.true)) (fails (raised (λ x. aUnary x c.args.b ∷ a_pred_rest base x c.args.b ∷ []) c.args.d (known c.in-Fault.is (c.pred_from.ensures.0.reads base (λ z. absurd (omega arith)))))) (omega arith), tt, λ min q. tt)
+pred_more-returns-in-Fault t c = let room = c.requires.0 in let positive = c.requires.3 in let ahead = c.requires.4 in let small = c.requires.5.small in (λ base q. taken {μ = a_unary (suc c.args.d) c.args.b ∷ a_pred_rest base (suc c.args.d) c.args.b ∷ []} {m = c.args.n + 4} (opens (suc c.args.d)) (omega arith) (open_well c.args.s.now c.args.at (suc c.args.d) (omega arith)) (λ κ e γ. pred-rest-step base c.args.d c.args.b κ γ (c.requires.5.class κ e ∙ c.if-l-eq-IMPLIES_LEVEL.true)) (fails (raised (λ x. a_unary x c.args.b ∷ a_pred_rest base x c.args.b ∷ []) c.args.d (known c.in-Fault.is (c.pred_from.ensures.0.reads base (λ z. absurd (omega arith)))))) (omega arith), tt, λ min q. tt)
 
 pub pred_more-pred_from-requires-2 : goal.pred_more-pred_from-requires-2
 pred_more-pred_from-requires-2 t c = let room = c.requires.0 in let positive = c.requires.3 in let ahead = c.requires.4 in let small = c.requires.5.small in search rules
@@ -337,11 +337,11 @@ pred_more-put-c-requires-in-At-pred_from t c = let room = c.requires.0 in let po
 
 pub pred_more-returns-in-At-pred_from : goal.pred_more-returns-in-At-pred_from
 unfolding compute_form
-pred_more-returns-in-At-pred_from t c = let room = c.requires.0 in let positive = c.requires.3 in let ahead = c.requires.4 in let small = c.requires.5.small in let g = (known c.in-At-pred_from.is (c.pred_from-2.ensures.0.reads 0 (λ z. absurd (omega arith)))) in let c₁ = c.put-c-in-At-pred_from.ensures.count in (λ base q. let h = (known c.in-At-pred_from.is (c.pred_from-2.ensures.0.reads base (λ z. absurd (omega arith)))) in takes {μ = aUnary c.args.d c.args.b ∷ a_pred_rest base c.args.d c.args.b ∷ []} {m = c.args.n + 4} (omega arith) (λ κ e γ. rest-connective base c.args.d c.args.b c.args.l κ γ (c.requires.5.class κ e) (omega arith) c.if-l-eq-IMPLIES_LEVEL.false q) (counted (omega arith) h) (omega arith), omega arith, λ min q. let w₁ = (made c.in-At-pred_from.is c.pred_from-2.ensures.1) in chain (both (built w₁) (node_of (c.wide-in-At-pred_from.ensures ∙ c.kind_at-k.ensures.is) refl c.put-c-in-At-pred_from.ensures)) (λ k u x. derived.connected c.requires.5 (omega arith) c.if-l-eq-IMPLIES_LEVEL.false (omega arith) w₁.derives x))
+pred_more-returns-in-At-pred_from t c = let room = c.requires.0 in let positive = c.requires.3 in let ahead = c.requires.4 in let small = c.requires.5.small in let g = (known c.in-At-pred_from.is (c.pred_from-2.ensures.0.reads 0 (λ z. absurd (omega arith)))) in let c₁ = c.put-c-in-At-pred_from.ensures.count in (λ base q. let h = (known c.in-At-pred_from.is (c.pred_from-2.ensures.0.reads base (λ z. absurd (omega arith)))) in takes {μ = a_unary c.args.d c.args.b ∷ a_pred_rest base c.args.d c.args.b ∷ []} {m = c.args.n + 4} (omega arith) (λ κ e γ. rest-connective base c.args.d c.args.b c.args.l κ γ (c.requires.5.class κ e) (omega arith) c.if-l-eq-IMPLIES_LEVEL.false q) (counted (omega arith) h) (omega arith), omega arith, λ min q. let w₁ = (made c.in-At-pred_from.is c.pred_from-2.ensures.1) in chain (both (built w₁) (node_of (c.wide-in-At-pred_from.ensures ∙ c.kind_at-k.ensures.is) refl c.put-c-in-At-pred_from.ensures)) (λ k u x. derived.connected c.requires.5 (omega arith) c.if-l-eq-IMPLIES_LEVEL.false (omega arith) w₁.derives x))
 
 pub pred_more-returns-in-Fault-pred_from : goal.pred_more-returns-in-Fault-pred_from
 unfolding compute_form
-pred_more-returns-in-Fault-pred_from t c = let room = c.requires.0 in let positive = c.requires.3 in let ahead = c.requires.4 in let small = c.requires.5.small in (λ base q. takes {μ = aUnary c.args.d c.args.b ∷ a_pred_rest base c.args.d c.args.b ∷ []} {m = c.args.n + 4} (omega arith) (λ κ e γ. rest-connective base c.args.d c.args.b c.args.l κ γ (c.requires.5.class κ e) (omega arith) c.if-l-eq-IMPLIES_LEVEL.false q) (fails (known c.in-Fault-pred_from.is (c.pred_from-2.ensures.0.reads base (λ z. absurd (omega arith))))) (omega arith), tt, λ min q. tt)
+pred_more-returns-in-Fault-pred_from t c = let room = c.requires.0 in let positive = c.requires.3 in let ahead = c.requires.4 in let small = c.requires.5.small in (λ base q. takes {μ = a_unary c.args.d c.args.b ∷ a_pred_rest base c.args.d c.args.b ∷ []} {m = c.args.n + 4} (omega arith) (λ κ e γ. rest-connective base c.args.d c.args.b c.args.l κ γ (c.requires.5.class κ e) (omega arith) c.if-l-eq-IMPLIES_LEVEL.false q) (fails (known c.in-Fault-pred_from.is (c.pred_from-2.ensures.0.reads base (λ z. absurd (omega arith))))) (omega arith), tt, λ min q. tt)
 
 pub pred_rest-loop-l-init : goal.pred_rest-loop-l-init
 pred_rest-loop-l-init t c = let room = c.requires.0 in (λ base q. here (omega arith), more-none _ _ _, refl, c.connective_at-l.ensures.0, c.connective_at-l.ensures.1)
@@ -370,7 +370,7 @@ quantified-kind_at-requires t c = search rules
 
 pub quantified-returns-then-b-ge-BOUND_NAMES : goal.quantified-returns-then-b-ge-BOUND_NAMES
 unfolding compute_form
-quantified-returns-then-b-ge-BOUND_NAMES t c = (let room = c.requires.0 in takes {μ = a_declared (binds (suc c.args.b)) ∷ exact kind.colon ∷ aDomain ∷ exact kind.spot ∷ aUnary c.args.d (suc c.args.b) ∷ a_pred_rest c.args.d c.args.d (suc c.args.b) ∷ exact kind.closeParen ∷ []} {m = c.args.n} (omega arith) (λ κ e γ. quantifier-step c.args.d c.args.b κ γ (quantifier-code κ (omega (arith, c.requires.4)) (omega (arith, c.requires.5)))) (deeper {ρ = λ γ. exact kind.colon ∷ aDomain ∷ exact kind.spot ∷ aUnary c.args.d (suc c.args.b) ∷ a_pred_rest c.args.d c.args.d (suc c.args.b) ∷ exact kind.closeParen ∷ γ} (binds (suc c.args.b)) (omega arith) (bound-elsewhere c.args.s.now (c.args.at + 1) (suc c.args.b) (omega arith) (λ q. absurd (omega (arith, c.requires.4)))) (only _ kind.plain (sym c.kind_at.ensures.is ∙ c.if-kind_at-eq-PLAIN.true) (λ γ. refl))) (omega arith), tt)
+quantified-returns-then-b-ge-BOUND_NAMES t c = (let room = c.requires.0 in takes {μ = a_declared (binds (suc c.args.b)) ∷ exact kind.colon ∷ a_domain ∷ exact kind.spot ∷ a_unary c.args.d (suc c.args.b) ∷ a_pred_rest c.args.d c.args.d (suc c.args.b) ∷ exact kind.close_paren ∷ []} {m = c.args.n} (omega arith) (λ κ e γ. quantifier-step c.args.d c.args.b κ γ (quantifier-code κ (omega (arith, c.requires.4)) (omega (arith, c.requires.5)))) (deeper {ρ = λ γ. exact kind.colon ∷ a_domain ∷ exact kind.spot ∷ a_unary c.args.d (suc c.args.b) ∷ a_pred_rest c.args.d c.args.d (suc c.args.b) ∷ exact kind.close_paren ∷ γ} (binds (suc c.args.b)) (omega arith) (bound-elsewhere c.args.s.now (c.args.at + 1) (suc c.args.b) (omega arith) (λ q. absurd (omega (arith, c.requires.4)))) (only _ kind.plain (sym c.kind_at.ensures.is ∙ c.if-kind_at-eq-PLAIN.true) (λ γ. refl))) (omega arith), tt)
 
 pub quantified-overflow_add-x-then-kind_at-eq-PLAIN : goal.quantified-overflow_add-x-then-kind_at-eq-PLAIN
 quantified-overflow_add-x-then-kind_at-eq-PLAIN t c = let room = c.requires.0 in search rules
@@ -423,27 +423,27 @@ quantified-close-requires-in-At-pred t c = let room = c.requires.0 in let l = (k
 
 pub quantified-returns-in-At-pred : goal.quantified-returns-in-At-pred
 unfolding compute_form
-quantified-returns-in-At-pred t c = (let room = c.requires.0 in let h = (known c.in-At.is (c.close.ensures.reads kind.colon refl)) in let z = known-ahead _ c.in-At.is c.close.ensures.ahead in let i = (known c.in-At-domain.is c.domain.ensures.0) in let j = (known c.in-At-close.is (c.close-in-At-domain.ensures.reads kind.spot refl)) in let y = known-ahead _ c.in-At-close.is c.close-in-At-domain.ensures.ahead in let l = (known c.in-At-pred.is c.pred.ensures.0) in takes {μ = a_declared (binds (suc c.args.b)) ∷ exact kind.colon ∷ aDomain ∷ exact kind.spot ∷ aUnary c.args.d (suc c.args.b) ∷ a_pred_rest c.args.d c.args.d (suc c.args.b) ∷ exact kind.closeParen ∷ []} {m = c.args.n} (omega arith) (λ κ e γ. quantifier-step c.args.d c.args.b κ γ (quantifier-code κ (omega (arith, c.requires.4)) (omega (arith, c.requires.5)))) (taken {μ = exact kind.colon ∷ aDomain ∷ exact kind.spot ∷ aUnary c.args.d (suc c.args.b) ∷ a_pred_rest c.args.d c.args.d (suc c.args.b) ∷ exact kind.closeParen ∷ []} {m = c.args.n} (binds (suc c.args.b)) (omega arith) (bind_well c.args.s.now (c.args.at + 1 + 1) (suc c.args.b) (omega (arith, c.if-b-ge-BOUND_NAMES.false))) (only _ kind.plain (sym c.kind_at.ensures.is ∙ c.if-kind_at-eq-PLAIN.true) (λ γ. refl)) (next (counted {c = c.args.n} {d = c.args.n + 4} (omega arith) (framed (aDomain ∷ exact kind.spot ∷ aUnary c.args.d (suc c.args.b) ∷ a_pred_rest c.args.d c.args.d (suc c.args.b) ∷ exact kind.closeParen ∷ []) h)) (next (counted {c = c.args.n + 4} {d = c.args.n + 4} (omega arith) (framed (exact kind.spot ∷ aUnary c.args.d (suc c.args.b) ∷ a_pred_rest c.args.d c.args.d (suc c.args.b) ∷ exact kind.closeParen ∷ []) i)) (next (counted {c = c.args.n + 4} {d = c.args.n + 8} (omega arith) (framed (aUnary c.args.d (suc c.args.b) ∷ a_pred_rest c.args.d c.args.d (suc c.args.b) ∷ exact kind.closeParen ∷ []) j)) (next (counted {c = c.args.n + 8} (omega arith) (framed (exact kind.closeParen ∷ []) (raised (λ x. aUnary c.args.d x ∷ a_pred_rest c.args.d c.args.d x ∷ []) c.args.b l))) (c.close-in-At-pred.ensures.reads kind.closeParen refl))))) (omega arith)) (omega arith), let t₁ = closed c.in-At.is c.close.ensures in let t₂ = showing (DomainAt c.args.s.now c.in-At.t) _ c.in-At-domain.is c.domain.ensures.1 in let t₃ = closed c.in-At-close.is c.close-in-At-domain.ensures in let w₁ = (made c.in-At-pred.is c.pred.ensures.1) in closing c.close-in-At-pred.ensures (λ q. makes (both (both (built w₁) (wrote c.put_domain-h.ensures)) (node_of c.name_number-i.ensures (c.wide.ensures ∙ c.kind_at-j.ensures.is) c.put-c.ensures)) (ranging c.requires.6 c.requires.4 c.requires.5 (sym c.kind_at.ensures.is ∙ c.if-kind_at-eq-PLAIN.true) t₁ t₂ t₃ w₁.derives q)))
+quantified-returns-in-At-pred t c = (let room = c.requires.0 in let h = (known c.in-At.is (c.close.ensures.reads kind.colon refl)) in let z = known-ahead _ c.in-At.is c.close.ensures.ahead in let i = (known c.in-At-domain.is c.domain.ensures.0) in let j = (known c.in-At-close.is (c.close-in-At-domain.ensures.reads kind.spot refl)) in let y = known-ahead _ c.in-At-close.is c.close-in-At-domain.ensures.ahead in let l = (known c.in-At-pred.is c.pred.ensures.0) in takes {μ = a_declared (binds (suc c.args.b)) ∷ exact kind.colon ∷ a_domain ∷ exact kind.spot ∷ a_unary c.args.d (suc c.args.b) ∷ a_pred_rest c.args.d c.args.d (suc c.args.b) ∷ exact kind.close_paren ∷ []} {m = c.args.n} (omega arith) (λ κ e γ. quantifier-step c.args.d c.args.b κ γ (quantifier-code κ (omega (arith, c.requires.4)) (omega (arith, c.requires.5)))) (taken {μ = exact kind.colon ∷ a_domain ∷ exact kind.spot ∷ a_unary c.args.d (suc c.args.b) ∷ a_pred_rest c.args.d c.args.d (suc c.args.b) ∷ exact kind.close_paren ∷ []} {m = c.args.n} (binds (suc c.args.b)) (omega arith) (bind_well c.args.s.now (c.args.at + 1 + 1) (suc c.args.b) (omega (arith, c.if-b-ge-BOUND_NAMES.false))) (only _ kind.plain (sym c.kind_at.ensures.is ∙ c.if-kind_at-eq-PLAIN.true) (λ γ. refl)) (next (counted {c = c.args.n} {d = c.args.n + 4} (omega arith) (framed (a_domain ∷ exact kind.spot ∷ a_unary c.args.d (suc c.args.b) ∷ a_pred_rest c.args.d c.args.d (suc c.args.b) ∷ exact kind.close_paren ∷ []) h)) (next (counted {c = c.args.n + 4} {d = c.args.n + 4} (omega arith) (framed (exact kind.spot ∷ a_unary c.args.d (suc c.args.b) ∷ a_pred_rest c.args.d c.args.d (suc c.args.b) ∷ exact kind.close_paren ∷ []) i)) (next (counted {c = c.args.n + 4} {d = c.args.n + 8} (omega arith) (framed (a_unary c.args.d (suc c.args.b) ∷ a_pred_rest c.args.d c.args.d (suc c.args.b) ∷ exact kind.close_paren ∷ []) j)) (next (counted {c = c.args.n + 8} (omega arith) (framed (exact kind.close_paren ∷ []) (raised (λ x. a_unary c.args.d x ∷ a_pred_rest c.args.d c.args.d x ∷ []) c.args.b l))) (c.close-in-At-pred.ensures.reads kind.close_paren refl))))) (omega arith)) (omega arith), let t₁ = closed c.in-At.is c.close.ensures in let t₂ = showing (DomainAt c.args.s.now c.in-At.t) _ c.in-At-domain.is c.domain.ensures.1 in let t₃ = closed c.in-At-close.is c.close-in-At-domain.ensures in let w₁ = (made c.in-At-pred.is c.pred.ensures.1) in closing c.close-in-At-pred.ensures (λ q. makes (both (both (built w₁) (wrote c.put_domain-h.ensures)) (node_of c.name_number-i.ensures (c.wide.ensures ∙ c.kind_at-j.ensures.is) c.put-c.ensures)) (ranging c.requires.6 c.requires.4 c.requires.5 (sym c.kind_at.ensures.is ∙ c.if-kind_at-eq-PLAIN.true) t₁ t₂ t₃ w₁.derives q)))
 
 pub quantified-returns-in-Fault-pred : goal.quantified-returns-in-Fault-pred
 unfolding compute_form
-quantified-returns-in-Fault-pred t c = (let room = c.requires.0 in let h = (known c.in-At.is (c.close.ensures.reads kind.colon refl)) in let z = known-ahead _ c.in-At.is c.close.ensures.ahead in let i = (known c.in-At-domain.is c.domain.ensures.0) in let j = (known c.in-At-close.is (c.close-in-At-domain.ensures.reads kind.spot refl)) in let y = known-ahead _ c.in-At-close.is c.close-in-At-domain.ensures.ahead in takes {μ = a_declared (binds (suc c.args.b)) ∷ exact kind.colon ∷ aDomain ∷ exact kind.spot ∷ aUnary c.args.d (suc c.args.b) ∷ a_pred_rest c.args.d c.args.d (suc c.args.b) ∷ exact kind.closeParen ∷ []} {m = c.args.n} (omega arith) (λ κ e γ. quantifier-step c.args.d c.args.b κ γ (quantifier-code κ (omega (arith, c.requires.4)) (omega (arith, c.requires.5)))) (taken {μ = exact kind.colon ∷ aDomain ∷ exact kind.spot ∷ aUnary c.args.d (suc c.args.b) ∷ a_pred_rest c.args.d c.args.d (suc c.args.b) ∷ exact kind.closeParen ∷ []} {m = c.args.n} (binds (suc c.args.b)) (omega arith) (bind_well c.args.s.now (c.args.at + 1 + 1) (suc c.args.b) (omega (arith, c.if-b-ge-BOUND_NAMES.false))) (only _ kind.plain (sym c.kind_at.ensures.is ∙ c.if-kind_at-eq-PLAIN.true) (λ γ. refl)) (next (counted {c = c.args.n} {d = c.args.n + 4} (omega arith) (framed (aDomain ∷ exact kind.spot ∷ aUnary c.args.d (suc c.args.b) ∷ a_pred_rest c.args.d c.args.d (suc c.args.b) ∷ exact kind.closeParen ∷ []) h)) (next (counted {c = c.args.n + 4} {d = c.args.n + 4} (omega arith) (framed (exact kind.spot ∷ aUnary c.args.d (suc c.args.b) ∷ a_pred_rest c.args.d c.args.d (suc c.args.b) ∷ exact kind.closeParen ∷ []) i)) (next (counted {c = c.args.n + 4} {d = c.args.n + 8} (omega arith) (framed (aUnary c.args.d (suc c.args.b) ∷ a_pred_rest c.args.d c.args.d (suc c.args.b) ∷ exact kind.closeParen ∷ []) j)) (fails (framed (exact kind.closeParen ∷ []) (raised (λ x. aUnary c.args.d x ∷ a_pred_rest c.args.d c.args.d x ∷ []) c.args.b (known c.in-Fault-pred.is c.pred.ensures.0))))))) (omega arith)) (omega arith), tt)
+quantified-returns-in-Fault-pred t c = (let room = c.requires.0 in let h = (known c.in-At.is (c.close.ensures.reads kind.colon refl)) in let z = known-ahead _ c.in-At.is c.close.ensures.ahead in let i = (known c.in-At-domain.is c.domain.ensures.0) in let j = (known c.in-At-close.is (c.close-in-At-domain.ensures.reads kind.spot refl)) in let y = known-ahead _ c.in-At-close.is c.close-in-At-domain.ensures.ahead in takes {μ = a_declared (binds (suc c.args.b)) ∷ exact kind.colon ∷ a_domain ∷ exact kind.spot ∷ a_unary c.args.d (suc c.args.b) ∷ a_pred_rest c.args.d c.args.d (suc c.args.b) ∷ exact kind.close_paren ∷ []} {m = c.args.n} (omega arith) (λ κ e γ. quantifier-step c.args.d c.args.b κ γ (quantifier-code κ (omega (arith, c.requires.4)) (omega (arith, c.requires.5)))) (taken {μ = exact kind.colon ∷ a_domain ∷ exact kind.spot ∷ a_unary c.args.d (suc c.args.b) ∷ a_pred_rest c.args.d c.args.d (suc c.args.b) ∷ exact kind.close_paren ∷ []} {m = c.args.n} (binds (suc c.args.b)) (omega arith) (bind_well c.args.s.now (c.args.at + 1 + 1) (suc c.args.b) (omega (arith, c.if-b-ge-BOUND_NAMES.false))) (only _ kind.plain (sym c.kind_at.ensures.is ∙ c.if-kind_at-eq-PLAIN.true) (λ γ. refl)) (next (counted {c = c.args.n} {d = c.args.n + 4} (omega arith) (framed (a_domain ∷ exact kind.spot ∷ a_unary c.args.d (suc c.args.b) ∷ a_pred_rest c.args.d c.args.d (suc c.args.b) ∷ exact kind.close_paren ∷ []) h)) (next (counted {c = c.args.n + 4} {d = c.args.n + 4} (omega arith) (framed (exact kind.spot ∷ a_unary c.args.d (suc c.args.b) ∷ a_pred_rest c.args.d c.args.d (suc c.args.b) ∷ exact kind.close_paren ∷ []) i)) (next (counted {c = c.args.n + 4} {d = c.args.n + 8} (omega arith) (framed (a_unary c.args.d (suc c.args.b) ∷ a_pred_rest c.args.d c.args.d (suc c.args.b) ∷ exact kind.close_paren ∷ []) j)) (fails (framed (exact kind.close_paren ∷ []) (raised (λ x. a_unary c.args.d x ∷ a_pred_rest c.args.d c.args.d x ∷ []) c.args.b (known c.in-Fault-pred.is c.pred.ensures.0))))))) (omega arith)) (omega arith), tt)
 
 pub quantified-returns-in-Fault-close : goal.quantified-returns-in-Fault-close
 unfolding compute_form
-quantified-returns-in-Fault-close t c = (let room = c.requires.0 in let h = (known c.in-At.is (c.close.ensures.reads kind.colon refl)) in let z = known-ahead _ c.in-At.is c.close.ensures.ahead in let i = (known c.in-At-domain.is c.domain.ensures.0) in takes {μ = a_declared (binds (suc c.args.b)) ∷ exact kind.colon ∷ aDomain ∷ exact kind.spot ∷ aUnary c.args.d (suc c.args.b) ∷ a_pred_rest c.args.d c.args.d (suc c.args.b) ∷ exact kind.closeParen ∷ []} {m = c.args.n} (omega arith) (λ κ e γ. quantifier-step c.args.d c.args.b κ γ (quantifier-code κ (omega (arith, c.requires.4)) (omega (arith, c.requires.5)))) (taken {μ = exact kind.colon ∷ aDomain ∷ exact kind.spot ∷ aUnary c.args.d (suc c.args.b) ∷ a_pred_rest c.args.d c.args.d (suc c.args.b) ∷ exact kind.closeParen ∷ []} {m = c.args.n} (binds (suc c.args.b)) (omega arith) (bind_well c.args.s.now (c.args.at + 1 + 1) (suc c.args.b) (omega (arith, c.if-b-ge-BOUND_NAMES.false))) (only _ kind.plain (sym c.kind_at.ensures.is ∙ c.if-kind_at-eq-PLAIN.true) (λ γ. refl)) (next (counted {c = c.args.n} {d = c.args.n + 4} (omega arith) (framed (aDomain ∷ exact kind.spot ∷ aUnary c.args.d (suc c.args.b) ∷ a_pred_rest c.args.d c.args.d (suc c.args.b) ∷ exact kind.closeParen ∷ []) h)) (next (counted {c = c.args.n + 4} {d = c.args.n + 4} (omega arith) (framed (exact kind.spot ∷ aUnary c.args.d (suc c.args.b) ∷ a_pred_rest c.args.d c.args.d (suc c.args.b) ∷ exact kind.closeParen ∷ []) i)) (fails (framed (aUnary c.args.d (suc c.args.b) ∷ a_pred_rest c.args.d c.args.d (suc c.args.b) ∷ exact kind.closeParen ∷ []) (known c.in-Fault-close.is (c.close-in-At-domain.ensures.reads kind.spot refl)))))) (omega arith)) (omega arith), tt)
+quantified-returns-in-Fault-close t c = (let room = c.requires.0 in let h = (known c.in-At.is (c.close.ensures.reads kind.colon refl)) in let z = known-ahead _ c.in-At.is c.close.ensures.ahead in let i = (known c.in-At-domain.is c.domain.ensures.0) in takes {μ = a_declared (binds (suc c.args.b)) ∷ exact kind.colon ∷ a_domain ∷ exact kind.spot ∷ a_unary c.args.d (suc c.args.b) ∷ a_pred_rest c.args.d c.args.d (suc c.args.b) ∷ exact kind.close_paren ∷ []} {m = c.args.n} (omega arith) (λ κ e γ. quantifier-step c.args.d c.args.b κ γ (quantifier-code κ (omega (arith, c.requires.4)) (omega (arith, c.requires.5)))) (taken {μ = exact kind.colon ∷ a_domain ∷ exact kind.spot ∷ a_unary c.args.d (suc c.args.b) ∷ a_pred_rest c.args.d c.args.d (suc c.args.b) ∷ exact kind.close_paren ∷ []} {m = c.args.n} (binds (suc c.args.b)) (omega arith) (bind_well c.args.s.now (c.args.at + 1 + 1) (suc c.args.b) (omega (arith, c.if-b-ge-BOUND_NAMES.false))) (only _ kind.plain (sym c.kind_at.ensures.is ∙ c.if-kind_at-eq-PLAIN.true) (λ γ. refl)) (next (counted {c = c.args.n} {d = c.args.n + 4} (omega arith) (framed (a_domain ∷ exact kind.spot ∷ a_unary c.args.d (suc c.args.b) ∷ a_pred_rest c.args.d c.args.d (suc c.args.b) ∷ exact kind.close_paren ∷ []) h)) (next (counted {c = c.args.n + 4} {d = c.args.n + 4} (omega arith) (framed (exact kind.spot ∷ a_unary c.args.d (suc c.args.b) ∷ a_pred_rest c.args.d c.args.d (suc c.args.b) ∷ exact kind.close_paren ∷ []) i)) (fails (framed (a_unary c.args.d (suc c.args.b) ∷ a_pred_rest c.args.d c.args.d (suc c.args.b) ∷ exact kind.close_paren ∷ []) (known c.in-Fault-close.is (c.close-in-At-domain.ensures.reads kind.spot refl)))))) (omega arith)) (omega arith), tt)
 
 pub quantified-returns-in-Fault-domain : goal.quantified-returns-in-Fault-domain
 unfolding compute_form
-quantified-returns-in-Fault-domain t c = (let room = c.requires.0 in let h = (known c.in-At.is (c.close.ensures.reads kind.colon refl)) in let z = known-ahead _ c.in-At.is c.close.ensures.ahead in takes {μ = a_declared (binds (suc c.args.b)) ∷ exact kind.colon ∷ aDomain ∷ exact kind.spot ∷ aUnary c.args.d (suc c.args.b) ∷ a_pred_rest c.args.d c.args.d (suc c.args.b) ∷ exact kind.closeParen ∷ []} {m = c.args.n} (omega arith) (λ κ e γ. quantifier-step c.args.d c.args.b κ γ (quantifier-code κ (omega (arith, c.requires.4)) (omega (arith, c.requires.5)))) (taken {μ = exact kind.colon ∷ aDomain ∷ exact kind.spot ∷ aUnary c.args.d (suc c.args.b) ∷ a_pred_rest c.args.d c.args.d (suc c.args.b) ∷ exact kind.closeParen ∷ []} {m = c.args.n} (binds (suc c.args.b)) (omega arith) (bind_well c.args.s.now (c.args.at + 1 + 1) (suc c.args.b) (omega (arith, c.if-b-ge-BOUND_NAMES.false))) (only _ kind.plain (sym c.kind_at.ensures.is ∙ c.if-kind_at-eq-PLAIN.true) (λ γ. refl)) (next (counted {c = c.args.n} {d = c.args.n + 4} (omega arith) (framed (aDomain ∷ exact kind.spot ∷ aUnary c.args.d (suc c.args.b) ∷ a_pred_rest c.args.d c.args.d (suc c.args.b) ∷ exact kind.closeParen ∷ []) h)) (fails (framed (exact kind.spot ∷ aUnary c.args.d (suc c.args.b) ∷ a_pred_rest c.args.d c.args.d (suc c.args.b) ∷ exact kind.closeParen ∷ []) (known c.in-Fault-domain.is c.domain.ensures.0)))) (omega arith)) (omega arith), tt)
+quantified-returns-in-Fault-domain t c = (let room = c.requires.0 in let h = (known c.in-At.is (c.close.ensures.reads kind.colon refl)) in let z = known-ahead _ c.in-At.is c.close.ensures.ahead in takes {μ = a_declared (binds (suc c.args.b)) ∷ exact kind.colon ∷ a_domain ∷ exact kind.spot ∷ a_unary c.args.d (suc c.args.b) ∷ a_pred_rest c.args.d c.args.d (suc c.args.b) ∷ exact kind.close_paren ∷ []} {m = c.args.n} (omega arith) (λ κ e γ. quantifier-step c.args.d c.args.b κ γ (quantifier-code κ (omega (arith, c.requires.4)) (omega (arith, c.requires.5)))) (taken {μ = exact kind.colon ∷ a_domain ∷ exact kind.spot ∷ a_unary c.args.d (suc c.args.b) ∷ a_pred_rest c.args.d c.args.d (suc c.args.b) ∷ exact kind.close_paren ∷ []} {m = c.args.n} (binds (suc c.args.b)) (omega arith) (bind_well c.args.s.now (c.args.at + 1 + 1) (suc c.args.b) (omega (arith, c.if-b-ge-BOUND_NAMES.false))) (only _ kind.plain (sym c.kind_at.ensures.is ∙ c.if-kind_at-eq-PLAIN.true) (λ γ. refl)) (next (counted {c = c.args.n} {d = c.args.n + 4} (omega arith) (framed (a_domain ∷ exact kind.spot ∷ a_unary c.args.d (suc c.args.b) ∷ a_pred_rest c.args.d c.args.d (suc c.args.b) ∷ exact kind.close_paren ∷ []) h)) (fails (framed (exact kind.spot ∷ a_unary c.args.d (suc c.args.b) ∷ a_pred_rest c.args.d c.args.d (suc c.args.b) ∷ exact kind.close_paren ∷ []) (known c.in-Fault-domain.is c.domain.ensures.0)))) (omega arith)) (omega arith), tt)
 
 pub quantified-returns-in-Fault : goal.quantified-returns-in-Fault
 unfolding compute_form
-quantified-returns-in-Fault t c = (let room = c.requires.0 in takes {μ = a_declared (binds (suc c.args.b)) ∷ exact kind.colon ∷ aDomain ∷ exact kind.spot ∷ aUnary c.args.d (suc c.args.b) ∷ a_pred_rest c.args.d c.args.d (suc c.args.b) ∷ exact kind.closeParen ∷ []} {m = c.args.n} (omega arith) (λ κ e γ. quantifier-step c.args.d c.args.b κ γ (quantifier-code κ (omega (arith, c.requires.4)) (omega (arith, c.requires.5)))) (taken {μ = exact kind.colon ∷ aDomain ∷ exact kind.spot ∷ aUnary c.args.d (suc c.args.b) ∷ a_pred_rest c.args.d c.args.d (suc c.args.b) ∷ exact kind.closeParen ∷ []} {m = c.args.n} (binds (suc c.args.b)) (omega arith) (bind_well c.args.s.now (c.args.at + 1 + 1) (suc c.args.b) (omega (arith, c.if-b-ge-BOUND_NAMES.false))) (only _ kind.plain (sym c.kind_at.ensures.is ∙ c.if-kind_at-eq-PLAIN.true) (λ γ. refl)) (fails (framed (aDomain ∷ exact kind.spot ∷ aUnary c.args.d (suc c.args.b) ∷ a_pred_rest c.args.d c.args.d (suc c.args.b) ∷ exact kind.closeParen ∷ []) (known c.in-Fault.is (c.close.ensures.reads kind.colon refl)))) (omega arith)) (omega arith), tt)
+quantified-returns-in-Fault t c = (let room = c.requires.0 in takes {μ = a_declared (binds (suc c.args.b)) ∷ exact kind.colon ∷ a_domain ∷ exact kind.spot ∷ a_unary c.args.d (suc c.args.b) ∷ a_pred_rest c.args.d c.args.d (suc c.args.b) ∷ exact kind.close_paren ∷ []} {m = c.args.n} (omega arith) (λ κ e γ. quantifier-step c.args.d c.args.b κ γ (quantifier-code κ (omega (arith, c.requires.4)) (omega (arith, c.requires.5)))) (taken {μ = exact kind.colon ∷ a_domain ∷ exact kind.spot ∷ a_unary c.args.d (suc c.args.b) ∷ a_pred_rest c.args.d c.args.d (suc c.args.b) ∷ exact kind.close_paren ∷ []} {m = c.args.n} (binds (suc c.args.b)) (omega arith) (bind_well c.args.s.now (c.args.at + 1 + 1) (suc c.args.b) (omega (arith, c.if-b-ge-BOUND_NAMES.false))) (only _ kind.plain (sym c.kind_at.ensures.is ∙ c.if-kind_at-eq-PLAIN.true) (λ γ. refl)) (fails (framed (a_domain ∷ exact kind.spot ∷ a_unary c.args.d (suc c.args.b) ∷ a_pred_rest c.args.d c.args.d (suc c.args.b) ∷ exact kind.close_paren ∷ []) (known c.in-Fault.is (c.close.ensures.reads kind.colon refl)))) (omega arith)) (omega arith), tt)
 
 pub quantified-returns : goal.quantified-returns
 unfolding compute_form
-quantified-returns t c = (let room = c.requires.0 in takes {μ = a_declared (binds (suc c.args.b)) ∷ exact kind.colon ∷ aDomain ∷ exact kind.spot ∷ aUnary c.args.d (suc c.args.b) ∷ a_pred_rest c.args.d c.args.d (suc c.args.b) ∷ exact kind.closeParen ∷ []} {m = c.args.n} (omega arith) (λ κ e γ. quantifier-step c.args.d c.args.b κ γ (quantifier-code κ (omega (arith, c.requires.4)) (omega (arith, c.requires.5)))) (stops (omega arith) (λ κ e γ. declared-stops (binds (suc c.args.b)) κ _ (λ q. c.if-kind_at-eq-PLAIN.false (c.kind_at.ensures.is ∙ sym e ∙ q))) (λ γ. refl)) (omega arith), tt)
+quantified-returns t c = (let room = c.requires.0 in takes {μ = a_declared (binds (suc c.args.b)) ∷ exact kind.colon ∷ a_domain ∷ exact kind.spot ∷ a_unary c.args.d (suc c.args.b) ∷ a_pred_rest c.args.d c.args.d (suc c.args.b) ∷ exact kind.close_paren ∷ []} {m = c.args.n} (omega arith) (λ κ e γ. quantifier-step c.args.d c.args.b κ γ (quantifier-code κ (omega (arith, c.requires.4)) (omega (arith, c.requires.5)))) (stops (omega arith) (λ κ e γ. declared-stops (binds (suc c.args.b)) κ _ (λ q. c.if-kind_at-eq-PLAIN.false (c.kind_at.ensures.is ∙ sym e ∙ q))) (λ γ. refl)) (omega arith), tt)
 
 pub related-returns-then-c-eq-NONE : goal.related-returns-then-c-eq-NONE
 unfolding compute_form
@@ -454,15 +454,15 @@ related-put-h-requires t c = let room = c.requires.0 in let h = (known c.in-At.i
 
 pub related-returns-in-At : goal.related-returns-in-At
 unfolding compute_form
-related-returns-in-At t c = (let h = (known c.in-At.is c.term.ensures.0) in takes {μ = aTerm c.args.d c.args.b ∷ []} {m = c.args.n + 4} (omega arith) (λ κ e γ. mem-some c.args.d c.args.b c.membership_of-c.result κ γ (c.membership_of-c.ensures.classes.class κ (e ∙ sym c.kind_at-k.ensures.is)) c.if-c-eq-NONE.false) (counted (omega arith) h) (omega arith), let w₁ = (made c.in-At.is c.term.ensures.1) in makes (both (built w₁) (node_of (c.wide.ensures ∙ c.kind_at-k.ensures.is) refl c.put-h.ensures)) (derived.related (membership-at c.kind_at-k.ensures.is (c.membership_of-c.ensures.member (omega arith))) w₁.derives))
+related-returns-in-At t c = (let h = (known c.in-At.is c.term.ensures.0) in takes {μ = a_term c.args.d c.args.b ∷ []} {m = c.args.n + 4} (omega arith) (λ κ e γ. mem-some c.args.d c.args.b c.membership_of-c.result κ γ (c.membership_of-c.ensures.classes.class κ (e ∙ sym c.kind_at-k.ensures.is)) c.if-c-eq-NONE.false) (counted (omega arith) h) (omega arith), let w₁ = (made c.in-At.is c.term.ensures.1) in makes (both (built w₁) (node_of (c.wide.ensures ∙ c.kind_at-k.ensures.is) refl c.put-h.ensures)) (derived.related (membership-at c.kind_at-k.ensures.is (c.membership_of-c.ensures.member (omega arith))) w₁.derives))
 
 pub related-returns-in-Fault : goal.related-returns-in-Fault
 unfolding compute_form
-related-returns-in-Fault t c = (takes {μ = aTerm c.args.d c.args.b ∷ []} {m = c.args.n} (omega arith) (λ κ e γ. mem-some c.args.d c.args.b c.membership_of-c.result κ γ (c.membership_of-c.ensures.classes.class κ (e ∙ sym c.kind_at-k.ensures.is)) c.if-c-eq-NONE.false) (fails (known c.in-Fault.is c.term.ensures.0)) (omega arith), tt)
+related-returns-in-Fault t c = (takes {μ = a_term c.args.d c.args.b ∷ []} {m = c.args.n} (omega arith) (λ κ e γ. mem-some c.args.d c.args.b c.membership_of-c.result κ γ (c.membership_of-c.ensures.classes.class κ (e ∙ sym c.kind_at-k.ensures.is)) c.if-c-eq-NONE.false) (fails (known c.in-Fault.is c.term.ensures.0)) (omega arith), tt)
 
 pub such-returns-then-b-ge-BOUND_NAMES : goal.such-returns-then-b-ge-BOUND_NAMES
 unfolding compute_form
-such-returns-then-b-ge-BOUND_NAMES t c = (let room = c.requires.0 in deeper {ρ = λ γ. aNamed c.args.d c.args.b ∷ γ} (binds (suc c.args.b)) (omega (arith, inside c.args.s.now (c.args.at + 1) (omega (arith, c.requires.5)))) (bound-deep c.args.s.now c.args.at (suc c.args.b) (omega arith) c.requires.6) (only _ kind.plain c.requires.5 (λ γ. refl)), tt)
+such-returns-then-b-ge-BOUND_NAMES t c = (let room = c.requires.0 in deeper {ρ = λ γ. a_named c.args.d c.args.b ∷ γ} (binds (suc c.args.b)) (omega (arith, inside c.args.s.now (c.args.at + 1) (omega (arith, c.requires.5)))) (bound-deep c.args.s.now c.args.at (suc c.args.b) (omega arith) c.requires.6) (only _ kind.plain c.requires.5 (λ γ. refl)), tt)
 
 pub such-kind_at-k-requires : goal.such-kind_at-k-requires
 unfolding code_of
@@ -474,7 +474,7 @@ such-name_of-requires t c = search rules
 
 pub such-returns-then-name_of-eq-NONE : goal.such-returns-then-name_of-eq-NONE
 unfolding compute_form
-such-returns-then-name_of-eq-NONE t c = (let room = c.requires.0 in let z = inside c.args.s.now (c.args.at + 1 + 1) (omega (arith, c.requires.6)) in taken {μ = aNamed c.args.d c.args.b ∷ []} {m = c.args.n} (binds (suc c.args.b)) (omega (arith, inside c.args.s.now (c.args.at + 1 + 1) (omega (arith, c.requires.6)))) (bind_well c.args.s.now (c.args.at + 1) (suc c.args.b) (omega (arith, c.if-b-ge-BOUND_NAMES.false))) (only _ kind.plain c.requires.5 (λ γ. refl)) (takes {μ = aName ∷ exact kind.bar ∷ aUnary c.args.d (suc c.args.b) ∷ a_pred_rest c.args.d c.args.d (suc c.args.b) ∷ exact kind.closeBrace ∷ []} {m = c.args.n} (inside c.args.s.now (c.args.at + 1 + 1) (omega (arith, c.requires.6))) (only _ kind.colon c.requires.6 (λ γ. refl)) (stops (omega arith) (λ κ e γ. name-step κ _ (c.name_of.ensures.classes.class κ (e ∙ sym c.kind_at-k.ensures.is) ∙ c.if-name_of-eq-NONE.true)) (λ γ. refl)) (omega arith)) (omega arith), tt)
+such-returns-then-name_of-eq-NONE t c = (let room = c.requires.0 in let z = inside c.args.s.now (c.args.at + 1 + 1) (omega (arith, c.requires.6)) in taken {μ = a_named c.args.d c.args.b ∷ []} {m = c.args.n} (binds (suc c.args.b)) (omega (arith, inside c.args.s.now (c.args.at + 1 + 1) (omega (arith, c.requires.6)))) (bind_well c.args.s.now (c.args.at + 1) (suc c.args.b) (omega (arith, c.if-b-ge-BOUND_NAMES.false))) (only _ kind.plain c.requires.5 (λ γ. refl)) (takes {μ = a_name ∷ exact kind.bar ∷ a_unary c.args.d (suc c.args.b) ∷ a_pred_rest c.args.d c.args.d (suc c.args.b) ∷ exact kind.close_brace ∷ []} {m = c.args.n} (inside c.args.s.now (c.args.at + 1 + 1) (omega (arith, c.requires.6))) (only _ kind.colon c.requires.6 (λ γ. refl)) (stops (omega arith) (λ κ e γ. name-step κ _ (c.name_of.ensures.classes.class κ (e ∙ sym c.kind_at-k.ensures.is) ∙ c.if-name_of-eq-NONE.true)) (λ γ. refl)) (omega arith)) (omega arith), tt)
 
 pub such-overflow_add-g-4 : goal.such-overflow_add-g-4
 such-overflow_add-g-4 t c = let room = c.requires.0 in search rules
@@ -512,15 +512,15 @@ such-close-requires-in-At-pred t c = let room = c.requires.0 in let j = (known c
 
 pub such-returns-in-At-pred : goal.such-returns-in-At-pred
 unfolding compute_form
-such-returns-in-At-pred t c = (let room = c.requires.0 in let h = (known c.in-At.is (c.close.ensures.reads kind.bar refl)) in let i = known-ahead _ c.in-At.is c.close.ensures.ahead in let j = (known c.in-At-pred.is c.pred.ensures.0) in taken {μ = aNamed c.args.d c.args.b ∷ []} {m = c.args.n} (binds (suc c.args.b)) (omega (arith, inside c.args.s.now (c.args.at + 1 + 1) (omega (arith, c.requires.6)))) (bind_well c.args.s.now (c.args.at + 1) (suc c.args.b) (omega (arith, c.if-b-ge-BOUND_NAMES.false))) (only _ kind.plain c.requires.5 (λ γ. refl)) (takes {μ = aName ∷ exact kind.bar ∷ aUnary c.args.d (suc c.args.b) ∷ a_pred_rest c.args.d c.args.d (suc c.args.b) ∷ exact kind.closeBrace ∷ []} {m = c.args.n} (inside c.args.s.now (c.args.at + 1 + 1) (omega (arith, c.requires.6))) (only _ kind.colon c.requires.6 (λ γ. refl)) (takes {μ = exact kind.bar ∷ aUnary c.args.d (suc c.args.b) ∷ a_pred_rest c.args.d c.args.d (suc c.args.b) ∷ exact kind.closeBrace ∷ []} {m = c.args.n + 4} (omega arith) (λ κ e γ. name-taken κ _ (λ q. c.if-name_of-eq-NONE.false (sym (c.name_of.ensures.classes.class κ (e ∙ sym c.kind_at-k.ensures.is)) ∙ q))) (next (counted {c = c.args.n + 4} {d = c.args.n + 8} (omega arith) (framed (aUnary c.args.d (suc c.args.b) ∷ a_pred_rest c.args.d c.args.d (suc c.args.b) ∷ exact kind.closeBrace ∷ []) h)) (next (counted {c = c.args.n + 8} (omega arith) (framed (exact kind.closeBrace ∷ []) (raised (λ x. aUnary c.args.d x ∷ a_pred_rest c.args.d c.args.d x ∷ []) c.args.b j))) (c.close-in-At-pred.ensures.reads kind.closeBrace refl))) (omega arith)) (omega arith)) (omega arith), let t₁ = closed c.in-At.is c.close.ensures in let w₁ = (made c.in-At-pred.is c.pred.ensures.1) in closing c.close-in-At-pred.ensures (λ q. makes (both (both (built w₁) (node_of c.name_number-y.ensures refl c.put-h.ensures)) (node_of c.name_number-x.ensures refl c.put-i.ensures)) (derived.such c.requires.4 c.requires.5 c.requires.6 (named-at c.kind_at-k.ensures.is (c.name_of.ensures.name (omega (arith, c.if-name_of-eq-NONE.false)))) t₁.1 (from t₁.0 w₁.derives) q)))
+such-returns-in-At-pred t c = (let room = c.requires.0 in let h = (known c.in-At.is (c.close.ensures.reads kind.bar refl)) in let i = known-ahead _ c.in-At.is c.close.ensures.ahead in let j = (known c.in-At-pred.is c.pred.ensures.0) in taken {μ = a_named c.args.d c.args.b ∷ []} {m = c.args.n} (binds (suc c.args.b)) (omega (arith, inside c.args.s.now (c.args.at + 1 + 1) (omega (arith, c.requires.6)))) (bind_well c.args.s.now (c.args.at + 1) (suc c.args.b) (omega (arith, c.if-b-ge-BOUND_NAMES.false))) (only _ kind.plain c.requires.5 (λ γ. refl)) (takes {μ = a_name ∷ exact kind.bar ∷ a_unary c.args.d (suc c.args.b) ∷ a_pred_rest c.args.d c.args.d (suc c.args.b) ∷ exact kind.close_brace ∷ []} {m = c.args.n} (inside c.args.s.now (c.args.at + 1 + 1) (omega (arith, c.requires.6))) (only _ kind.colon c.requires.6 (λ γ. refl)) (takes {μ = exact kind.bar ∷ a_unary c.args.d (suc c.args.b) ∷ a_pred_rest c.args.d c.args.d (suc c.args.b) ∷ exact kind.close_brace ∷ []} {m = c.args.n + 4} (omega arith) (λ κ e γ. name-taken κ _ (λ q. c.if-name_of-eq-NONE.false (sym (c.name_of.ensures.classes.class κ (e ∙ sym c.kind_at-k.ensures.is)) ∙ q))) (next (counted {c = c.args.n + 4} {d = c.args.n + 8} (omega arith) (framed (a_unary c.args.d (suc c.args.b) ∷ a_pred_rest c.args.d c.args.d (suc c.args.b) ∷ exact kind.close_brace ∷ []) h)) (next (counted {c = c.args.n + 8} (omega arith) (framed (exact kind.close_brace ∷ []) (raised (λ x. a_unary c.args.d x ∷ a_pred_rest c.args.d c.args.d x ∷ []) c.args.b j))) (c.close-in-At-pred.ensures.reads kind.close_brace refl))) (omega arith)) (omega arith)) (omega arith), let t₁ = closed c.in-At.is c.close.ensures in let w₁ = (made c.in-At-pred.is c.pred.ensures.1) in closing c.close-in-At-pred.ensures (λ q. makes (both (both (built w₁) (node_of c.name_number-y.ensures refl c.put-h.ensures)) (node_of c.name_number-x.ensures refl c.put-i.ensures)) (derived.such c.requires.4 c.requires.5 c.requires.6 (named-at c.kind_at-k.ensures.is (c.name_of.ensures.name (omega (arith, c.if-name_of-eq-NONE.false)))) t₁.1 (from t₁.0 w₁.derives) q)))
 
 pub such-returns-in-Fault-pred : goal.such-returns-in-Fault-pred
 unfolding compute_form
-such-returns-in-Fault-pred t c = (let room = c.requires.0 in let h = (known c.in-At.is (c.close.ensures.reads kind.bar refl)) in taken {μ = aNamed c.args.d c.args.b ∷ []} {m = c.args.n} (binds (suc c.args.b)) (omega (arith, inside c.args.s.now (c.args.at + 1 + 1) (omega (arith, c.requires.6)))) (bind_well c.args.s.now (c.args.at + 1) (suc c.args.b) (omega (arith, c.if-b-ge-BOUND_NAMES.false))) (only _ kind.plain c.requires.5 (λ γ. refl)) (takes {μ = aName ∷ exact kind.bar ∷ aUnary c.args.d (suc c.args.b) ∷ a_pred_rest c.args.d c.args.d (suc c.args.b) ∷ exact kind.closeBrace ∷ []} {m = c.args.n} (inside c.args.s.now (c.args.at + 1 + 1) (omega (arith, c.requires.6))) (only _ kind.colon c.requires.6 (λ γ. refl)) (takes {μ = exact kind.bar ∷ aUnary c.args.d (suc c.args.b) ∷ a_pred_rest c.args.d c.args.d (suc c.args.b) ∷ exact kind.closeBrace ∷ []} {m = c.args.n + 4} (omega arith) (λ κ e γ. name-taken κ _ (λ q. c.if-name_of-eq-NONE.false (sym (c.name_of.ensures.classes.class κ (e ∙ sym c.kind_at-k.ensures.is)) ∙ q))) (next (counted {c = c.args.n + 4} {d = c.args.n} (omega arith) (framed (aUnary c.args.d (suc c.args.b) ∷ a_pred_rest c.args.d c.args.d (suc c.args.b) ∷ exact kind.closeBrace ∷ []) h)) (fails (framed (exact kind.closeBrace ∷ []) (raised (λ x. aUnary c.args.d x ∷ a_pred_rest c.args.d c.args.d x ∷ []) c.args.b (known c.in-Fault-pred.is c.pred.ensures.0))))) (omega arith)) (omega arith)) (omega arith), tt)
+such-returns-in-Fault-pred t c = (let room = c.requires.0 in let h = (known c.in-At.is (c.close.ensures.reads kind.bar refl)) in taken {μ = a_named c.args.d c.args.b ∷ []} {m = c.args.n} (binds (suc c.args.b)) (omega (arith, inside c.args.s.now (c.args.at + 1 + 1) (omega (arith, c.requires.6)))) (bind_well c.args.s.now (c.args.at + 1) (suc c.args.b) (omega (arith, c.if-b-ge-BOUND_NAMES.false))) (only _ kind.plain c.requires.5 (λ γ. refl)) (takes {μ = a_name ∷ exact kind.bar ∷ a_unary c.args.d (suc c.args.b) ∷ a_pred_rest c.args.d c.args.d (suc c.args.b) ∷ exact kind.close_brace ∷ []} {m = c.args.n} (inside c.args.s.now (c.args.at + 1 + 1) (omega (arith, c.requires.6))) (only _ kind.colon c.requires.6 (λ γ. refl)) (takes {μ = exact kind.bar ∷ a_unary c.args.d (suc c.args.b) ∷ a_pred_rest c.args.d c.args.d (suc c.args.b) ∷ exact kind.close_brace ∷ []} {m = c.args.n + 4} (omega arith) (λ κ e γ. name-taken κ _ (λ q. c.if-name_of-eq-NONE.false (sym (c.name_of.ensures.classes.class κ (e ∙ sym c.kind_at-k.ensures.is)) ∙ q))) (next (counted {c = c.args.n + 4} {d = c.args.n} (omega arith) (framed (a_unary c.args.d (suc c.args.b) ∷ a_pred_rest c.args.d c.args.d (suc c.args.b) ∷ exact kind.close_brace ∷ []) h)) (fails (framed (exact kind.close_brace ∷ []) (raised (λ x. a_unary c.args.d x ∷ a_pred_rest c.args.d c.args.d x ∷ []) c.args.b (known c.in-Fault-pred.is c.pred.ensures.0))))) (omega arith)) (omega arith)) (omega arith), tt)
 
 pub such-returns-in-Fault : goal.such-returns-in-Fault
 unfolding compute_form
-such-returns-in-Fault t c = (let room = c.requires.0 in taken {μ = aNamed c.args.d c.args.b ∷ []} {m = c.args.n} (binds (suc c.args.b)) (omega (arith, inside c.args.s.now (c.args.at + 1 + 1) (omega (arith, c.requires.6)))) (bind_well c.args.s.now (c.args.at + 1) (suc c.args.b) (omega (arith, c.if-b-ge-BOUND_NAMES.false))) (only _ kind.plain c.requires.5 (λ γ. refl)) (takes {μ = aName ∷ exact kind.bar ∷ aUnary c.args.d (suc c.args.b) ∷ a_pred_rest c.args.d c.args.d (suc c.args.b) ∷ exact kind.closeBrace ∷ []} {m = c.args.n} (inside c.args.s.now (c.args.at + 1 + 1) (omega (arith, c.requires.6))) (only _ kind.colon c.requires.6 (λ γ. refl)) (takes {μ = exact kind.bar ∷ aUnary c.args.d (suc c.args.b) ∷ a_pred_rest c.args.d c.args.d (suc c.args.b) ∷ exact kind.closeBrace ∷ []} {m = c.args.n + 4} (omega arith) (λ κ e γ. name-taken κ _ (λ q. c.if-name_of-eq-NONE.false (sym (c.name_of.ensures.classes.class κ (e ∙ sym c.kind_at-k.ensures.is)) ∙ q))) (fails (framed (aUnary c.args.d (suc c.args.b) ∷ a_pred_rest c.args.d c.args.d (suc c.args.b) ∷ exact kind.closeBrace ∷ []) (known c.in-Fault.is (c.close.ensures.reads kind.bar refl)))) (omega arith)) (omega arith)) (omega arith), tt)
+such-returns-in-Fault t c = (let room = c.requires.0 in taken {μ = a_named c.args.d c.args.b ∷ []} {m = c.args.n} (binds (suc c.args.b)) (omega (arith, inside c.args.s.now (c.args.at + 1 + 1) (omega (arith, c.requires.6)))) (bind_well c.args.s.now (c.args.at + 1) (suc c.args.b) (omega (arith, c.if-b-ge-BOUND_NAMES.false))) (only _ kind.plain c.requires.5 (λ γ. refl)) (takes {μ = a_name ∷ exact kind.bar ∷ a_unary c.args.d (suc c.args.b) ∷ a_pred_rest c.args.d c.args.d (suc c.args.b) ∷ exact kind.close_brace ∷ []} {m = c.args.n} (inside c.args.s.now (c.args.at + 1 + 1) (omega (arith, c.requires.6))) (only _ kind.colon c.requires.6 (λ γ. refl)) (takes {μ = exact kind.bar ∷ a_unary c.args.d (suc c.args.b) ∷ a_pred_rest c.args.d c.args.d (suc c.args.b) ∷ exact kind.close_brace ∷ []} {m = c.args.n + 4} (omega arith) (λ κ e γ. name-taken κ _ (λ q. c.if-name_of-eq-NONE.false (sym (c.name_of.ensures.classes.class κ (e ∙ sym c.kind_at-k.ensures.is)) ∙ q))) (fails (framed (a_unary c.args.d (suc c.args.b) ∷ a_pred_rest c.args.d c.args.d (suc c.args.b) ∷ exact kind.close_brace ∷ []) (known c.in-Fault.is (c.close.ensures.reads kind.bar refl)))) (omega arith)) (omega arith)) (omega arith), tt)
 
 pub term-returns : goal.term-returns
 unfolding compute_form
@@ -531,22 +531,22 @@ term_from-term_rest-requires t c = let room = c.requires.0 in let h = (known c.i
 
 pub term_from-returns-in-At : goal.term_from-returns-in-At
 unfolding compute_form
-term_from-returns-in-At t c = (record { reads = likewise (λ κ e γ. as-operand c.args.d c.args.b κ γ) (λ γ. refl) (next (framed (aTermRest c.args.d c.args.b ∷ []) (known c.in-At.is c.operand.ensures.0)) c.term_rest.ensures.0.reads); stops = c.term_rest.ensures.0.stops }, let w₁ = (made c.in-At.is c.operand.ensures.1) in onward _ c.term_rest.result (built w₁) (λ k v x. derived.term_from w₁.derives x) c.term_rest.ensures.1)
+term_from-returns-in-At t c = (record { reads = likewise (λ κ e γ. as-operand c.args.d c.args.b κ γ) (λ γ. refl) (next (framed (a_term_rest c.args.d c.args.b ∷ []) (known c.in-At.is c.operand.ensures.0)) c.term_rest.ensures.0.reads); stops = c.term_rest.ensures.0.stops }, let w₁ = (made c.in-At.is c.operand.ensures.1) in onward _ c.term_rest.result (built w₁) (λ k v x. derived.term_from w₁.derives x) c.term_rest.ensures.1)
 
 pub term_from-returns-in-Fault : goal.term_from-returns-in-Fault
 unfolding compute_form
-term_from-returns-in-Fault t c = (record { reads = likewise (λ κ e γ. as-operand c.args.d c.args.b κ γ) (λ γ. refl) (fails (framed (aTermRest c.args.d c.args.b ∷ []) (known c.in-Fault.is c.operand.ensures.0))); stops = tt }, tt)
+term_from-returns-in-Fault t c = (record { reads = likewise (λ κ e γ. as-operand c.args.d c.args.b κ γ) (λ γ. refl) (fails (framed (a_term_rest c.args.d c.args.b ∷ []) (known c.in-Fault.is c.operand.ensures.0))); stops = tt }, tt)
 
 pub term_more-put-c-requires : goal.term_more-put-c-requires
 term_more-put-c-requires t c = let room = c.requires.0 in let positive = c.requires.3 in let ahead = c.requires.4 in let small = c.requires.5.small in let h = (known c.in-At.is c.end.ensures.0.reads) in search rules
 
 pub term_more-returns-in-At : goal.term_more-returns-in-At
 unfolding compute_form
-term_more-returns-in-At t c = let room = c.requires.0 in let positive = c.requires.3 in let ahead = c.requires.4 in let small = c.requires.5.small in let h = (known c.in-At.is c.end.ensures.0.reads) in let i = known-ahead _ c.in-At.is c.end.ensures.0.ahead in let c₁ = c.put-c.ensures.count in (takes {μ = anEnd ∷ aTermRest c.args.d c.args.b ∷ []} {m = c.args.n} (omega arith) (λ κ e γ. rest-division c.args.d c.args.b c.args.o κ γ (c.requires.5.class κ e) (omega arith)) (counted {c = c.args.n} (omega arith) (framed (aTermRest c.args.d c.args.b ∷ []) h)) (omega arith), omega arith, λ min q. chain (node_of c.magnitude-x.ensures c.division-y.ensures c.put-c.ensures) (λ k u x. derived.divided c.requires.5 (omega arith) (omega (arith, level-two c.args.o)) (showing (EndAt c.args.s.now (c.args.at + 1)) _ c.in-At.is c.end.ensures.1) x))
+term_more-returns-in-At t c = let room = c.requires.0 in let positive = c.requires.3 in let ahead = c.requires.4 in let small = c.requires.5.small in let h = (known c.in-At.is c.end.ensures.0.reads) in let i = known-ahead _ c.in-At.is c.end.ensures.0.ahead in let c₁ = c.put-c.ensures.count in (takes {μ = an_end ∷ a_term_rest c.args.d c.args.b ∷ []} {m = c.args.n} (omega arith) (λ κ e γ. rest-division c.args.d c.args.b c.args.o κ γ (c.requires.5.class κ e) (omega arith)) (counted {c = c.args.n} (omega arith) (framed (a_term_rest c.args.d c.args.b ∷ []) h)) (omega arith), omega arith, λ min q. chain (node_of c.magnitude-x.ensures c.division-y.ensures c.put-c.ensures) (λ k u x. derived.divided c.requires.5 (omega arith) (omega (arith, level-two c.args.o)) (showing (EndAt c.args.s.now (c.args.at + 1)) _ c.in-At.is c.end.ensures.1) x))
 
 pub term_more-returns-in-Fault : goal.term_more-returns-in-Fault
 unfolding compute_form
-term_more-returns-in-Fault t c = let room = c.requires.0 in let positive = c.requires.3 in let ahead = c.requires.4 in let small = c.requires.5.small in (takes {μ = anEnd ∷ aTermRest c.args.d c.args.b ∷ []} {m = c.args.n} (omega arith) (λ κ e γ. rest-division c.args.d c.args.b c.args.o κ γ (c.requires.5.class κ e) (omega arith)) (fails (framed (aTermRest c.args.d c.args.b ∷ []) (known c.in-Fault.is c.end.ensures.0.reads))) (omega arith), tt, λ min q. tt)
+term_more-returns-in-Fault t c = let room = c.requires.0 in let positive = c.requires.3 in let ahead = c.requires.4 in let small = c.requires.5.small in (takes {μ = an_end ∷ a_term_rest c.args.d c.args.b ∷ []} {m = c.args.n} (omega arith) (λ κ e γ. rest-division c.args.d c.args.b c.args.o κ γ (c.requires.5.class κ e) (omega arith)) (fails (framed (a_term_rest c.args.d c.args.b ∷ []) (known c.in-Fault.is c.end.ensures.0.reads))) (omega arith), tt, λ min q. tt)
 
 pub term_more-term_from-requires : goal.term_more-term_from-requires
 term_more-term_from-requires t c = let room = c.requires.0 in let positive = c.requires.3 in let ahead = c.requires.4 in let small = c.requires.5.small in search rules
@@ -556,11 +556,11 @@ term_more-put-c-requires-in-At-term_from t c = let room = c.requires.0 in let po
 
 pub term_more-returns-in-At-term_from : goal.term_more-returns-in-At-term_from
 unfolding compute_form
-term_more-returns-in-At-term_from t c = let room = c.requires.0 in let positive = c.requires.3 in let ahead = c.requires.4 in let small = c.requires.5.small in let h = (known c.in-At-term_from.is c.term_from.ensures.0.reads) in let c₁ = c.put-c-in-At-term_from.ensures.count in (takes {μ = aTerm c.args.d c.args.b ∷ []} {m = c.args.n + 4} (omega arith) (λ κ e γ. rest-binary c.args.d c.args.b c.args.o κ γ (c.requires.5.class κ e) (omega arith) (omega arith)) (counted {c = c.args.n + 4} (omega arith) h) (omega arith), (let f = h.from in omega arith), λ min q. let w₁ = made c.in-At-term_from.is c.term_from.ensures.1 in chain (both (built w₁) (node_of (c.wide.ensures ∙ c.kind_at-k.ensures.is) refl c.put-c-in-At-term_from.ensures)) (λ k u x. derived.operated c.requires.5 (omega arith) (omega arith) (omega (arith, level-class c.args.o)) w₁.derives x))
+term_more-returns-in-At-term_from t c = let room = c.requires.0 in let positive = c.requires.3 in let ahead = c.requires.4 in let small = c.requires.5.small in let h = (known c.in-At-term_from.is c.term_from.ensures.0.reads) in let c₁ = c.put-c-in-At-term_from.ensures.count in (takes {μ = a_term c.args.d c.args.b ∷ []} {m = c.args.n + 4} (omega arith) (λ κ e γ. rest-binary c.args.d c.args.b c.args.o κ γ (c.requires.5.class κ e) (omega arith) (omega arith)) (counted {c = c.args.n + 4} (omega arith) h) (omega arith), (let f = h.from in omega arith), λ min q. let w₁ = made c.in-At-term_from.is c.term_from.ensures.1 in chain (both (built w₁) (node_of (c.wide.ensures ∙ c.kind_at-k.ensures.is) refl c.put-c-in-At-term_from.ensures)) (λ k u x. derived.operated c.requires.5 (omega arith) (omega arith) (omega (arith, level-class c.args.o)) w₁.derives x))
 
 pub term_more-returns-in-Fault-term_from : goal.term_more-returns-in-Fault-term_from
 unfolding compute_form
-term_more-returns-in-Fault-term_from t c = let room = c.requires.0 in let positive = c.requires.3 in let ahead = c.requires.4 in let small = c.requires.5.small in (takes {μ = aTerm c.args.d c.args.b ∷ []} {m = c.args.n + 4} (omega arith) (λ κ e γ. rest-binary c.args.d c.args.b c.args.o κ γ (c.requires.5.class κ e) (omega arith) (omega arith)) (fails (known c.in-Fault-term_from.is c.term_from.ensures.0.reads)) (omega arith), tt, λ min q. tt)
+term_more-returns-in-Fault-term_from t c = let room = c.requires.0 in let positive = c.requires.3 in let ahead = c.requires.4 in let small = c.requires.5.small in (takes {μ = a_term c.args.d c.args.b ∷ []} {m = c.args.n + 4} (omega arith) (λ κ e γ. rest-binary c.args.d c.args.b c.args.o κ γ (c.requires.5.class κ e) (omega arith) (omega arith)) (fails (known c.in-Fault-term_from.is c.term_from.ensures.0.reads)) (omega arith), tt, λ min q. tt)
 
 pub term_rest-loop-code-init : goal.term_rest-loop-code-init
 term_rest-loop-code-init t c = let room = c.requires.0 in (here (omega arith), more-none _ _ _, refl, c.operator_at-o.ensures.0, c.operator_at-o.ensures.1)
@@ -588,11 +588,11 @@ unary-atom-requires t c = let room = c.requires.0 in let h = (known c.in-At.is c
 
 pub unary-returns-in-At : goal.unary-returns-in-At
 unfolding compute_form
-unary-returns-in-At t c = (likewise (λ κ e γ. as-term c.args.d c.args.b κ γ ((c.pred_start_of-c.ensures.classes.class κ (e ∙ sym c.kind_at-k.ensures.is)) ∙ c.if-c-eq-NONE.true)) (λ γ. refl) (next (framed (aRel c.args.d c.args.b ∷ []) (known c.in-At.is c.term.ensures.0)) c.atom.ensures.0), let w₁ = (made c.in-At.is c.term.ensures.1) in onward _ c.atom.result (built w₁) (λ k v x. derived.atomic w₁.derives x) c.atom.ensures.1)
+unary-returns-in-At t c = (likewise (λ κ e γ. as-term c.args.d c.args.b κ γ ((c.pred_start_of-c.ensures.classes.class κ (e ∙ sym c.kind_at-k.ensures.is)) ∙ c.if-c-eq-NONE.true)) (λ γ. refl) (next (framed (a_rel c.args.d c.args.b ∷ []) (known c.in-At.is c.term.ensures.0)) c.atom.ensures.0), let w₁ = (made c.in-At.is c.term.ensures.1) in onward _ c.atom.result (built w₁) (λ k v x. derived.atomic w₁.derives x) c.atom.ensures.1)
 
 pub unary-returns-in-Fault : goal.unary-returns-in-Fault
 unfolding compute_form
-unary-returns-in-Fault t c = (likewise (λ κ e γ. as-term c.args.d c.args.b κ γ ((c.pred_start_of-c.ensures.classes.class κ (e ∙ sym c.kind_at-k.ensures.is)) ∙ c.if-c-eq-NONE.true)) (λ γ. refl) (fails (framed (aRel c.args.d c.args.b ∷ []) (known c.in-Fault.is c.term.ensures.0))), tt)
+unary-returns-in-Fault t c = (likewise (λ κ e γ. as-term c.args.d c.args.b κ γ ((c.pred_start_of-c.ensures.classes.class κ (e ∙ sym c.kind_at-k.ensures.is)) ∙ c.if-c-eq-NONE.true)) (λ γ. refl) (fails (framed (a_rel c.args.d c.args.b ∷ []) (known c.in-Fault.is c.term.ensures.0))), tt)
 
 pub unary-returns-then-c-eq-TRUTH : goal.unary-returns-then-c-eq-TRUTH
 unfolding compute_form
@@ -607,11 +607,11 @@ unary-put-h-requires t c = let room = c.requires.0 in let h = (known c.in-At-una
 
 pub unary-returns-in-At-unary : goal.unary-returns-in-At-unary
 unfolding compute_form
-unary-returns-in-At-unary t c = (let h = (known c.in-At-unary.is c.unary.ensures.0) in taken {μ = aUnary (suc c.args.d) c.args.b ∷ []} {m = c.args.n + 4} (opens (suc c.args.d)) (omega arith) (open_well c.args.s.now c.args.at (suc c.args.d) (omega arith)) (λ κ e γ. unary-step c.args.d c.args.b κ γ ((c.pred_start_of-c.ensures.classes.class κ (e ∙ sym c.kind_at-k.ensures.is)) ∙ c.if-c-eq-NEGATION.true)) (counted (omega arith) (raised (λ x. aUnary x c.args.b ∷ []) c.args.d h)) (omega arith), let w₁ = (made c.in-At-unary.is c.unary.ensures.1) in makes (both (built w₁) (wrote c.put-h.ensures)) (derived.denied (class-at c.kind_at-k.ensures.is c.if-c-eq-NEGATION.true c.pred_start_of-c.ensures.classes) w₁.derives))
+unary-returns-in-At-unary t c = (let h = (known c.in-At-unary.is c.unary.ensures.0) in taken {μ = a_unary (suc c.args.d) c.args.b ∷ []} {m = c.args.n + 4} (opens (suc c.args.d)) (omega arith) (open_well c.args.s.now c.args.at (suc c.args.d) (omega arith)) (λ κ e γ. unary-step c.args.d c.args.b κ γ ((c.pred_start_of-c.ensures.classes.class κ (e ∙ sym c.kind_at-k.ensures.is)) ∙ c.if-c-eq-NEGATION.true)) (counted (omega arith) (raised (λ x. a_unary x c.args.b ∷ []) c.args.d h)) (omega arith), let w₁ = (made c.in-At-unary.is c.unary.ensures.1) in makes (both (built w₁) (wrote c.put-h.ensures)) (derived.denied (class-at c.kind_at-k.ensures.is c.if-c-eq-NEGATION.true c.pred_start_of-c.ensures.classes) w₁.derives))
 
 pub unary-returns-in-Fault-unary : goal.unary-returns-in-Fault-unary
 unfolding compute_form
-unary-returns-in-Fault-unary t c = (taken {μ = aUnary (suc c.args.d) c.args.b ∷ []} {m = c.args.n + 4} (opens (suc c.args.d)) (omega arith) (open_well c.args.s.now c.args.at (suc c.args.d) (omega arith)) (λ κ e γ. unary-step c.args.d c.args.b κ γ ((c.pred_start_of-c.ensures.classes.class κ (e ∙ sym c.kind_at-k.ensures.is)) ∙ c.if-c-eq-NEGATION.true)) (fails (raised (λ x. aUnary x c.args.b ∷ []) c.args.d (known c.in-Fault-unary.is c.unary.ensures.0))) (omega arith), tt)
+unary-returns-in-Fault-unary t c = (taken {μ = a_unary (suc c.args.d) c.args.b ∷ []} {m = c.args.n + 4} (opens (suc c.args.d)) (omega arith) (open_well c.args.s.now c.args.at (suc c.args.d) (omega arith)) (λ κ e γ. unary-step c.args.d c.args.b κ γ ((c.pred_start_of-c.ensures.classes.class κ (e ∙ sym c.kind_at-k.ensures.is)) ∙ c.if-c-eq-NEGATION.true)) (fails (raised (λ x. a_unary x c.args.b ∷ []) c.args.d (known c.in-Fault-unary.is c.unary.ensures.0))) (omega arith), tt)
 
 pub unary-returns-then-d-ge-DEPTH-2 : goal.unary-returns-then-d-ge-DEPTH-2
 unfolding compute_form
@@ -622,4 +622,4 @@ unary-paren-requires t c = let room = c.requires.0 in let i = c.pred_start_of-c.
 
 pub unary-returns : goal.unary-returns
 unfolding compute_form
-unary-returns t c = (taken {μ = aParen (suc c.args.d) c.args.b ∷ []} (opens (suc c.args.d)) (omega arith) (open_well c.args.s.now c.args.at (suc c.args.d) (omega arith)) (λ κ e γ. paren-opens c.args.d c.args.b c.pred_start_of-c.result κ γ (c.pred_start_of-c.ensures.classes.class κ (e ∙ sym c.kind_at-k.ensures.is)) (omega arith)) (raised (λ x. aParen x c.args.b ∷ []) c.args.d c.paren.ensures.0) (omega arith), c.paren.ensures.1)
+unary-returns t c = (taken {μ = a_paren (suc c.args.d) c.args.b ∷ []} (opens (suc c.args.d)) (omega arith) (open_well c.args.s.now c.args.at (suc c.args.d) (omega arith)) (λ κ e γ. paren-opens c.args.d c.args.b c.pred_start_of-c.result κ γ (c.pred_start_of-c.ensures.classes.class κ (e ∙ sym c.kind_at-k.ensures.is)) (omega arith)) (raised (λ x. a_paren x c.args.b ∷ []) c.args.d c.paren.ensures.0) (omega arith), c.paren.ensures.1)

@@ -2,7 +2,7 @@ use mathlib.Core.List.{[], ◌∷◌}
 use Prim.Native.Nat.{ℕ, ◌+◌, ◌-◌, ◌*◌, ◌≤◌}
 use mathlib.Core.Path.{◌≡◌}
 use lib.ListN.{length, get_or}
-use Rattle.form.specs.Machine.{aTermRest, a_pred_rest}
+use Rattle.form.specs.Machine.{a_term_rest, a_pred_rest}
 use Rattle.form_nodes.specs.FormPromises.{Reads, Classes, operators, connectives}
 use Rattle.form_nodes.specs.declared.Read.TheVariants.{At}
 use Rattle.declarations.specs.DossierPromises.{MoreAt}
@@ -77,7 +77,7 @@ abbrev pub decreases-pred_rest-loop-l : goal.decreases-pred_rest-loop-l
 decreases-pred_rest-loop-l l = length l.s - l.e
 
 abbrev pub invariant-term_rest-loop-code : goal.invariant-term_rest-loop-code
-invariant-term_rest-loop-code l = Reads l.s l.at l.n (aTermRest l.d l.b ∷ []) (aTermRest l.d l.b ∷ []) (At l.e l.m) × MoreAt l.s l.v (derived.aTermRest l.min) l.at l.n l.initial.code l.code l.e l.m × (length l.code ≡ length l.initial.code) × Classes operators (get_or l.s l.e 0) l.o × (l.o ≤ 2295 * (length l.s - l.e))
+invariant-term_rest-loop-code l = Reads l.s l.at l.n (a_term_rest l.d l.b ∷ []) (a_term_rest l.d l.b ∷ []) (At l.e l.m) × MoreAt l.s l.v (derived.a_term_rest l.min) l.at l.n l.initial.code l.code l.e l.m × (length l.code ≡ length l.initial.code) × Classes operators (get_or l.s l.e 0) l.o × (l.o ≤ 2295 * (length l.s - l.e))
 
 abbrev pub decreases-term_rest-loop-code : goal.decreases-term_rest-loop-code
 decreases-term_rest-loop-code l = length l.s - l.e

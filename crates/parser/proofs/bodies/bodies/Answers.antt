@@ -1,7 +1,7 @@
 -- `bodies::bodies` meets its contract.
 use mathlib.Core.List.{[], ◌∷◌, ◌++◌}
 use borrow.Author.Rules.{rules}
-use Rattle.form.specs.Machine.{someOperations}
+use Rattle.form.specs.Machine.{some_operations}
 use Rattle.declarations.specs.DossierPromises.{three_conditions}
 use Rattle.form_nodes.proofs.ReadParts.{next, fails, framed, known}
 use Rattle.declarations.proofs.ListItems.{operations}
@@ -20,13 +20,13 @@ pub operations-requires : goal.operations-requires
 operations-requires c = let room = c.requires in let h = (known c.in-At.is c.givens.ensures.0) in let i = (known c.in-At-states.is c.states.ensures.0) in let j = known c.in-At-conditions.is c.conditions.ensures.0 in search rules
 
 pub returns-in-At-conditions : goal.returns-in-At-conditions
-returns-in-At-conditions c = (next (known c.in-At.is c.givens.ensures.0) (next (framed (three_conditions ++ (someOperations 0 ∷ [])) (known c.in-At-states.is c.states.ensures.0)) (next (framed (someOperations 0 ∷ []) (known c.in-At-conditions.is c.conditions.ensures.0)) c.operations.ensures.0)), sequence-then (part.a_state 38 ∷ part.a_state 39 ∷ part.aWhere 40 ∷ part.aWhere 41 ∷ part.aWhere 42 ∷ part.someOperations ∷ []) c.operations.new.code c.operations.result (made c.in-At.is c.givens.ensures.1) (sequence-onto (part.aWhere 40 ∷ part.aWhere 41 ∷ part.aWhere 42 ∷ part.someOperations ∷ []) c.operations.new.code c.operations.result (sequence-known c.in-At-states.is c.states.ensures.1) (sequence-onto (part.someOperations ∷ []) c.operations.new.code c.operations.result (sequence-known c.in-At-conditions.is c.conditions.ensures.1) (sequence-last c.args.s.now c.args.v.now part.someOperations c.in-At-conditions.c c.in-At-conditions.z c.conditions.new.code c.operations.new.code c.operations.result c.operations.ensures.1))))
+returns-in-At-conditions c = (next (known c.in-At.is c.givens.ensures.0) (next (framed (three_conditions ++ (some_operations 0 ∷ [])) (known c.in-At-states.is c.states.ensures.0)) (next (framed (some_operations 0 ∷ []) (known c.in-At-conditions.is c.conditions.ensures.0)) c.operations.ensures.0)), sequence-then (part.a_state 38 ∷ part.a_state 39 ∷ part.a_where 40 ∷ part.a_where 41 ∷ part.a_where 42 ∷ part.some_operations ∷ []) c.operations.new.code c.operations.result (made c.in-At.is c.givens.ensures.1) (sequence-onto (part.a_where 40 ∷ part.a_where 41 ∷ part.a_where 42 ∷ part.some_operations ∷ []) c.operations.new.code c.operations.result (sequence-known c.in-At-states.is c.states.ensures.1) (sequence-onto (part.some_operations ∷ []) c.operations.new.code c.operations.result (sequence-known c.in-At-conditions.is c.conditions.ensures.1) (sequence-last c.args.s.now c.args.v.now part.some_operations c.in-At-conditions.c c.in-At-conditions.z c.conditions.new.code c.operations.new.code c.operations.result c.operations.ensures.1))))
 
 pub returns-in-Fault-conditions : goal.returns-in-Fault-conditions
-returns-in-Fault-conditions c = (next (known c.in-At.is c.givens.ensures.0) (next (framed (three_conditions ++ (someOperations 0 ∷ [])) (known c.in-At-states.is c.states.ensures.0)) (fails (framed (someOperations 0 ∷ []) (known c.in-Fault-conditions.is c.conditions.ensures.0)))), tt)
+returns-in-Fault-conditions c = (next (known c.in-At.is c.givens.ensures.0) (next (framed (three_conditions ++ (some_operations 0 ∷ [])) (known c.in-At-states.is c.states.ensures.0)) (fails (framed (some_operations 0 ∷ []) (known c.in-Fault-conditions.is c.conditions.ensures.0)))), tt)
 
 pub returns-in-Fault-states : goal.returns-in-Fault-states
-returns-in-Fault-states c = (next (known c.in-At.is c.givens.ensures.0) (fails (framed (three_conditions ++ (someOperations 0 ∷ [])) (known c.in-Fault-states.is c.states.ensures.0))), tt)
+returns-in-Fault-states c = (next (known c.in-At.is c.givens.ensures.0) (fails (framed (three_conditions ++ (some_operations 0 ∷ [])) (known c.in-Fault-states.is c.states.ensures.0))), tt)
 
 pub returns-in-Fault : goal.returns-in-Fault
 returns-in-Fault c = (fails (known c.in-Fault.is c.givens.ensures.0), tt)

@@ -21,7 +21,7 @@ where_of-requires-in-At-where_of c = let room = c.requires in let h = (known c.i
 
 pub returns-in-At-where_of : goal.returns-in-At-where_of
 unfolding code_of
-returns-in-At-where_of c = (next (framed (a_where_of kind.CINIT ++ a_where_of kind.RETRIEVE) (known c.in-At.is (c.where_of.ensures.0 kind.AINIT refl))) (next (framed (a_where_of kind.RETRIEVE) (known c.in-At-where_of.is (c.where_of-in-At.ensures.0 kind.CINIT refl))) (c.where_of-in-At-where_of.ensures.0 kind.RETRIEVE refl)), sequence-then (part.aWhere 41 ∷ part.aWhere 42 ∷ []) c.where_of-in-At-where_of.new.code c.where_of-in-At-where_of.result (made c.in-At.is c.where_of.ensures.1) (sequence-then (part.aWhere 42 ∷ []) c.where_of-in-At-where_of.new.code c.where_of-in-At-where_of.result (made c.in-At-where_of.is c.where_of-in-At.ensures.1) (sequence-last c.args.s.now c.args.v.now (part.aWhere 42) c.in-At-where_of.b c.in-At-where_of.y c.where_of-in-At.new.code c.where_of-in-At-where_of.new.code c.where_of-in-At-where_of.result c.where_of-in-At-where_of.ensures.1)))
+returns-in-At-where_of c = (next (framed (a_where_of kind.CINIT ++ a_where_of kind.RETRIEVE) (known c.in-At.is (c.where_of.ensures.0 kind.AINIT refl))) (next (framed (a_where_of kind.RETRIEVE) (known c.in-At-where_of.is (c.where_of-in-At.ensures.0 kind.CINIT refl))) (c.where_of-in-At-where_of.ensures.0 kind.RETRIEVE refl)), sequence-then (part.a_where 41 ∷ part.a_where 42 ∷ []) c.where_of-in-At-where_of.new.code c.where_of-in-At-where_of.result (made c.in-At.is c.where_of.ensures.1) (sequence-then (part.a_where 42 ∷ []) c.where_of-in-At-where_of.new.code c.where_of-in-At-where_of.result (made c.in-At-where_of.is c.where_of-in-At.ensures.1) (sequence-last c.args.s.now c.args.v.now (part.a_where 42) c.in-At-where_of.b c.in-At-where_of.y c.where_of-in-At.new.code c.where_of-in-At-where_of.new.code c.where_of-in-At-where_of.result c.where_of-in-At-where_of.ensures.1)))
 
 pub returns-in-Fault-where_of : goal.returns-in-Fault-where_of
 unfolding code_of

@@ -5,7 +5,7 @@ use native.Mathlib.Omega.{arith}
 use borrow.Author.Rules.{rules}
 use lib.ListN.{length}
 use Rattle.form.specs.Written.{an_operation}
-use Rattle.form.specs.Machine.{a_declared, someOperations, some_parameters}
+use Rattle.form.specs.Machine.{a_declared, some_operations, some_parameters}
 use Rattle.form.specs.Computed.{compute_form}
 use Rattle.form_nodes.specs.FormPromises.{Reads}
 use Rattle.form_nodes.specs.declared.Read.TheVariants.{At}
@@ -20,7 +20,7 @@ use Rattle.form_nodes.specs.Derivations as part
 use Rattle.parser.proofs.bodies.operations.Given as goal
 
 abbrev pub invariant-loop-start : goal.invariant-loop-start
-invariant-loop-start l = Reads l.s l.start l.from (someOperations 0 ∷ []) (someOperations l.k ∷ []) (At l.at l.n) × MoreAt l.s l.v part.someOperations l.start l.from l.initial.code l.code l.at l.n × (length l.code ≡ length l.initial.code) × (l.k ≤ 16)
+invariant-loop-start l = Reads l.s l.start l.from (some_operations 0 ∷ []) (some_operations l.k ∷ []) (At l.at l.n) × MoreAt l.s l.v part.some_operations l.start l.from l.initial.code l.code l.at l.n × (length l.code ≡ length l.initial.code) × (l.k ≤ 16)
 
 abbrev pub decreases-loop-start : goal.decreases-loop-start
 decreases-loop-start l = length l.s - l.at

@@ -2,10 +2,10 @@
 use Rattle.std.specs.Prelude.{◌≡◌, List, map, ◌++◌, ℕ, length, drop}
 use Rattle.std.proofs.Math.Option.{Option, none, some}
 use Rattle.lexical.specs.Symbols.{Symbol, Placed, scan, symbols, place_at}
-use Rattle.lexical.specs.Refusals.{Refusal, Fault, fault, number_of, least}
+use Rattle.lexical.specs.Refusals.{Fault, fault, number_of, least}
 use Rattle.lexical.specs.Promises.{Scans, fault_of, first_named}
 use Rattle.lexical.specs.declared.Scanned.{Scanned}
-use Rattle.form.specs.Tree.{Letters, Dossier}
+use Rattle.form.specs.Tree.{Dossier}
 use Rattle.form.specs.Form.{Outcome, refused, formed, FormOf}
 use Rattle.form.specs.Headings.{heading_faults}
 use Rattle.form.specs.Codes.{Numbering, dossier_codes}

@@ -1,7 +1,6 @@
 -- `parser::place_at` meets its contract.
 use lib.ListN.{get_or-eq_default, take}
 use lib.Seq.{get_or-take, length-take-le}
-use borrow.Author.Rules.{rules}
 use mathlib.Core.Path.{sym, ◌∙◌}
 use native.Mathlib.Omega.{arith}
 use Rattle.parser.proofs.NumbersInLists.{any-default}

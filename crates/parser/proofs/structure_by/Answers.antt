@@ -1,7 +1,6 @@
 -- `parser::structure_by` meets its contract.
 use mathlib.Core.Path.{ap₂, refl, sym, ap}
 use lib.Seq.{length-take-le}
-use borrow.Author.Rules.{rules}
 use native.Mathlib.Omega.{arith}
 use Rattle.parser.specs.declared.Parsed.TheVariants.{Refused}
 use Rattle.parser.proofs.ParseAnswers.{few-symbols, formed-as, form-fault, heading-fault, whole-structure}

@@ -4,7 +4,6 @@ use borrow.Author.Rules.{rules}
 use Rattle.form.specs.Machine.{some_operations}
 use Rattle.declarations.specs.DossierPromises.{three_conditions}
 use Rattle.form_nodes.proofs.ReadParts.{next, fails, framed, known}
-use Rattle.declarations.proofs.ListItems.{operations}
 use Rattle.form_nodes.proofs.NodesOfParts.{made}
 use Rattle.parser.proofs.BodyNodes.{sequence-known, sequence-last, sequence-then, sequence-onto}
 use Rattle.form_nodes.specs.Derivations as part

@@ -1,7 +1,6 @@
 -- `bodies::dossier` meets its contract.
 use borrow.Author.Rules.{rules}
 use native.Mathlib.Omega.{arith}
-use Rattle.form.specs.Machine.{exact}
 use Rattle.form_nodes.proofs.ReadParts.{next, known}
 use Rattle.parser.proofs.BodyNodes.{sequence-known, contents-known, dossier-made, whole_run, text-ends, text-goes-on}
 use Rattle.parser.proofs.bodies.dossier.Goals as goal

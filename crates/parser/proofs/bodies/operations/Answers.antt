@@ -1,23 +1,19 @@
 -- `bodies::operations` meets its contract.
-use mathlib.Core.Path.{◌≡◌, refl, sym, ◌∙◌}
+use mathlib.Core.Path.{refl, sym, ◌∙◌}
 use mathlib.Core.List.{[], ◌∷◌, ◌++◌}
-use Prim.Native.Nat.{◌+◌, ◌-◌, ◌≤◌}
+use Prim.Native.Nat.{◌+◌}
 use native.Mathlib.Omega.{arith}
 use borrow.Author.Rules.{rules}
-use lib.ListN.{length}
 use Rattle.form.specs.Written.{an_operation}
 use Rattle.form.specs.Machine.{a_declared, some_operations, some_parameters}
 use Rattle.form.specs.Computed.{compute_form}
-use Rattle.form_nodes.specs.FormPromises.{Reads}
-use Rattle.form_nodes.specs.declared.Read.TheVariants.{At}
 use Rattle.form_nodes.specs.Derivations.{no_operations}
-use Rattle.declarations.specs.DossierPromises.{MoreAt, a_condition_to}
+use Rattle.declarations.specs.DossierPromises.{a_condition_to}
 use Rattle.form_nodes.proofs.ReadParts.{only, here, next, takes, taken, stops, likewise, fails, framed, known}
 use Rattle.declarations.proofs.ListItems.{count-well, count-over, operations, crowded, declared-takes, declared-stops, operation-word, operations_behind}
 use Rattle.declarations.proofs.ListNodes.{more-none, more-then, more-made}
 use Rattle.parser.proofs.BodyNodes.{more-known}
 use Rattle.lexical.specs.Kinds as kind
-use Rattle.form_nodes.specs.Derivations as part
 use Rattle.parser.proofs.bodies.operations.Goals as goal
 
 pub loop-start-init : goal.loop-start-init

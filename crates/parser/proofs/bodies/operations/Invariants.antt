@@ -1,21 +1,12 @@
-use mathlib.Core.Path.{◌≡◌, refl, sym, ◌∙◌}
-use mathlib.Core.List.{[], ◌∷◌, ◌++◌}
-use Prim.Native.Nat.{◌+◌, ◌-◌, ◌≤◌}
-use native.Mathlib.Omega.{arith}
-use borrow.Author.Rules.{rules}
+use mathlib.Core.Path.{◌≡◌}
+use mathlib.Core.List.{[], ◌∷◌}
+use Prim.Native.Nat.{◌-◌, ◌≤◌}
 use lib.ListN.{length}
-use Rattle.form.specs.Written.{an_operation}
-use Rattle.form.specs.Machine.{a_declared, some_operations, some_parameters}
-use Rattle.form.specs.Computed.{compute_form}
+use Rattle.form.specs.Machine.{some_operations}
 use Rattle.form_nodes.specs.FormPromises.{Reads}
 use Rattle.form_nodes.specs.declared.Read.TheVariants.{At}
 use Rattle.form_nodes.specs.Derivations.{no_operations}
-use Rattle.declarations.specs.DossierPromises.{MoreAt, a_condition_to}
-use Rattle.form_nodes.proofs.ReadParts.{only, here, next, takes, taken, stops, likewise, fails, framed, known}
-use Rattle.declarations.proofs.ListItems.{count-well, count-over, operations, crowded, declared-takes, declared-stops, operation-word, operations_behind}
-use Rattle.declarations.proofs.ListNodes.{more-none, more-then, more-made}
-use Rattle.parser.proofs.BodyNodes.{more-known}
-use Rattle.lexical.specs.Kinds as kind
+use Rattle.declarations.specs.DossierPromises.{MoreAt}
 use Rattle.form_nodes.specs.Derivations as part
 use Rattle.parser.proofs.bodies.operations.Given as goal
 

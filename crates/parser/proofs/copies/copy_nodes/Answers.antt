@@ -1,11 +1,10 @@
 -- `copies::copy_nodes` meets its contract: up to i the array has the other's numbers, behind that its own.
 use mathlib.Core.List.{List, [], ◌∷◌, ◌++◌}
-use Prim.Native.Nat.{zero, suc, ℕ, ◌-◌, ◌<◌, ◌≤◌}
+use Prim.Native.Nat.{zero, suc, ℕ, ◌<◌}
 use native.Mathlib.Numerals.{add-one}
 use lib.ListN.{take, drop, set, length-set, length, get_or}
 use mathlib.Core.Path.{◌≡◌, refl, sym, ap, ◌∙◌}
 use native.Mathlib.Omega.{arith}
-use borrow.Author.Rules.{rules}
 use Rattle.parser.proofs.copies.copy_nodes.Goals as goal
 
 -- one more number

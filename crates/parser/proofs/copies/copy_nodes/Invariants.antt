@@ -1,10 +1,7 @@
-use mathlib.Core.List.{List, [], ◌∷◌, ◌++◌}
-use Prim.Native.Nat.{zero, suc, ℕ, ◌-◌, ◌<◌, ◌≤◌}
-use native.Mathlib.Numerals.{add-one}
-use lib.ListN.{take, drop, set, length-set, length, get_or}
-use mathlib.Core.Path.{◌≡◌, refl, sym, ap, ◌∙◌}
-use native.Mathlib.Omega.{arith}
-use borrow.Author.Rules.{rules}
+use mathlib.Core.List.{◌++◌}
+use Prim.Native.Nat.{◌-◌, ◌≤◌}
+use lib.ListN.{take, drop, length}
+use mathlib.Core.Path.{◌≡◌}
 use Rattle.parser.proofs.copies.copy_nodes.Given as goal
 
 abbrev pub invariant-loop-i : goal.invariant-loop-i

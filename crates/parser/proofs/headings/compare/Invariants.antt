@@ -1,11 +1,7 @@
 use lib.ListN.{take}
 use Prim.Native.Nat.{◌-◌, ◌≤◌}
-use mathlib.Core.Path.{◌∙◌}
-use native.Mathlib.Omega.{arith}
-use borrow.Author.Rules.{rules}
 use Rattle.parser.specs.Sections.{Compares}
 use Rattle.parser.specs.declared.headings.Heads.{Heads}
-use Rattle.parser.proofs.ItemsPassed.{found-wanting, found-extra, found_all, found-other, found-same}
 use Rattle.parser.proofs.headings.compare.Given as goal
 
 abbrev pub invariant-loop-e : goal.invariant-loop-e

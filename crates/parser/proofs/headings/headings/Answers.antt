@@ -1,5 +1,4 @@
 -- `headings::headings` meets its contract: the faults come in the order of their places, and the first is found.
-use borrow.Author.Rules.{rules}
 use mathlib.Core.Path.{◌∙◌}
 use Rattle.parser.proofs.HeadingAnswers.{wanting-at, first-answer, second-answer, fit-first, differ-first}
 use Rattle.parser.proofs.headings.headings.Goals as goal

@@ -1,5 +1,4 @@
 -- `sections::part` meets its contract.
-use borrow.Author.Rules.{rules}
 use native.Mathlib.Omega.{arith}
 use Rattle.parser.proofs.ItemsPassed.{part_is}
 use Rattle.parser.proofs.sections.part.Goals as goal

@@ -1,9 +1,5 @@
 -- `sections::run` meets its contract.
-use lib.ListN.{take}
-use Prim.Native.Nat.{ℕ, ◌-◌, ◌≤◌}
 use native.Mathlib.Omega.{arith}
-use borrow.Author.Rules.{rules}
-use Rattle.parser.specs.Sections.{Run}
 use Rattle.parser.proofs.ItemsPassed.{run-next, run-stops}
 use Rattle.parser.proofs.sections.run.Goals as goal
 

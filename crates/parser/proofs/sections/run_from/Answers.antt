@@ -1,5 +1,4 @@
 -- `sections::run_from` meets its contract.
-use borrow.Author.Rules.{rules}
 use mathlib.Core.Path.{refl}
 use native.Mathlib.Omega.{arith}
 use Rattle.parser.proofs.sections.run_from.Goals as goal

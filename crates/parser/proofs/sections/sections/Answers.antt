@@ -1,5 +1,4 @@
 -- `sections::sections` meets its contract: each part begins behind those in front of it.
-use borrow.Author.Rules.{rules}
 use mathlib.Core.Path.{refl}
 use native.Mathlib.Omega.{arith}
 use Rattle.parser.proofs.PartPlaces.{laid, run_is, state-from, item-is}

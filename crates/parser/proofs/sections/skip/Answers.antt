@@ -1,5 +1,4 @@
 -- `sections::skip` meets its contract.
-use borrow.Author.Rules.{rules}
 use native.Mathlib.Omega.{arith}
 use Rattle.parser.proofs.ItemsPassed.{skipped}
 use Rattle.parser.proofs.sections.skip.Goals as goal

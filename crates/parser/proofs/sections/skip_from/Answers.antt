@@ -1,5 +1,4 @@
 -- `sections::skip_from` meets its contract.
-use borrow.Author.Rules.{rules}
 use native.Mathlib.Omega.{arith}
 use Rattle.parser.proofs.sections.skip_from.Goals as goal
 

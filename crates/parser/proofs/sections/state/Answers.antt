@@ -1,5 +1,4 @@
 -- `sections::state` meets its contract.
-use borrow.Author.Rules.{rules}
 use native.Mathlib.Omega.{arith}
 use Rattle.parser.proofs.ItemsPassed.{state-is}
 use Rattle.parser.proofs.sections.state.Goals as goal

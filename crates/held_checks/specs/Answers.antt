@@ -1,5 +1,5 @@
 -- For every case of an enum answer of the calls: document 01's number and values.
-use Rattle.std.specs.Prelude.{List, ℕ}
+use Rattle.std.specs.Prelude.{ℕ}
 use Rattle.lexical.specs.Refusals.{number_of}
 use Rattle.obligations.specs.Order as order
 use Rattle.obligations.specs.Calls as calls

@@ -1,5 +1,5 @@
 -- What each of the five calls promises, for every content of the held bytes: its answer, the held bytes after it and the lent bytes after it are those of `respond`.
-use Rattle.std.specs.Prelude.{◌≡◌, List, [], ℕ}
+use Rattle.std.specs.Prelude.{◌≡◌, List, ℕ}
 use Rattle.obligations.specs.Calls.{Held, nothing, holding, Call, load, advance, verdict, witness, release, Reply, refused_at, refused, loaded, looked, verdict_is, written, dropped, respond}
 use Rattle.held_checks.specs.HeldBytes.{bytes_of, none_held, held_text, mark_of, held_by}
 use Rattle.held_checks.specs.Answers.{Answer, answer_to}

@@ -1,9 +1,5 @@
 -- `held_checks::number` meets its contract: the lowest byte, and the number of the rest. Assumes nothing.
-use Prim.Native.Nat.{ℕ, ◌<◌}
-use borrow.Fn.Kinds.{In}
-use borrow.Fn.PlainCycle.{Measures, is, falls, and}
 use native.Mathlib.Omega.{arith}
-use borrow.Author.Rules.{rules}
 use Rattle.held_checks.proofs.ByteSteps.{number-none, number_more, number-room}
 use Rattle.held_checks.proofs.+number.Goals as goal
 

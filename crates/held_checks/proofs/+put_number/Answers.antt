@@ -1,11 +1,7 @@
 -- `held_checks::put_number` meets its contract: the lowest byte, then the rest behind it. Assumes nothing.
-use Prim.Native.Nat.{◌%◌, ℕ, ◌<◌}
+use Prim.Native.Nat.{◌%◌}
 use lib.ListN.{length-set}
-use borrow.Fn.Kinds.{In}
-use borrow.Fn.PlainCycle.{Measures, is, falls, and}
-use mathlib.Core.Path.{◌∙◌}
 use native.Mathlib.Omega.{arith}
-use borrow.Author.Rules.{rules}
 use Rattle.held_checks.proofs.ByteSteps.{put-none, put-more}
 use Rattle.held_checks.proofs.+put_number.Goals as goal
 

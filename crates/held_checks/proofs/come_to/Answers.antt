@@ -1,5 +1,4 @@
 -- `held_checks::come_to` meets its contract: the bytes come to the place, and its distance is the answer. Assumes nothing.
-use borrow.Author.Rules.{rules}
 use native.Mathlib.Omega.{arith}
 use Rattle.held_checks.proofs.StepLaws.{onward, moves}
 use Rattle.held_checks.proofs.come_to.Goals as goal

@@ -1,6 +1,5 @@
 -- `held_checks::counted` meets its contract. Assumes nothing.
 use mathlib.Core.Bool.{Bool, cond}
-use borrow.Author.Rules.{rules}
 use Prim.Native.Nat.{◌+◌}
 use mathlib.Core.Path.{sym, ap}
 use Rattle.held_checks.proofs.counted.Goals as goal

@@ -1,9 +1,7 @@
 -- `held_checks::fill_zero` meets its contract: what was passed is 0. Assumes nothing.
-use lib.ListN.{take, replicate, length-set, length}
-use Prim.Native.Nat.{◌-◌, ◌≤◌}
-use mathlib.Core.Path.{◌≡◌, refl}
+use lib.ListN.{length-set}
+use mathlib.Core.Path.{refl}
 use native.Mathlib.Omega.{arith}
-use borrow.Author.Rules.{rules}
 use Rattle.held_checks.proofs.ByteSteps.{zeros-more, zeros-all}
 use Rattle.held_checks.proofs.fill_zero.Goals as goal
 

@@ -1,9 +1,6 @@
-use lib.ListN.{take, replicate, length-set, length}
+use lib.ListN.{take, replicate, length}
 use Prim.Native.Nat.{◌-◌, ◌≤◌}
-use mathlib.Core.Path.{◌≡◌, refl}
-use native.Mathlib.Omega.{arith}
-use borrow.Author.Rules.{rules}
-use Rattle.held_checks.proofs.ByteSteps.{zeros-more, zeros-all}
+use mathlib.Core.Path.{◌≡◌}
 use Rattle.held_checks.proofs.fill_zero.Given as goal
 
 abbrev pub invariant-loop-k : goal.invariant-loop-k

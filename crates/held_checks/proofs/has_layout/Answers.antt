@@ -1,5 +1,4 @@
 -- `held_checks::has_layout` meets its contract: the first test that fails decides, and else the zeros behind the text. Assumes nothing.
-use borrow.Author.Rules.{rules}
 use mathlib.Core.Path.{◌∙◌}
 use native.Mathlib.Omega.{arith}
 use Rattle.held_checks.proofs.LayoutLaws.{laid-zeros, laid-not_1, laid-not_2, laid-not_3, laid-long}

@@ -1,5 +1,4 @@
 -- `held_checks::mark_after` meets its contract. Assumes nothing.
-use borrow.Author.Rules.{rules}
 use native.Mathlib.Omega.{arith}
 use Rattle.held_checks.proofs.StepLaws.{mark-whole, mark-part}
 use Rattle.held_checks.proofs.mark_after.Goals as goal

@@ -1,5 +1,4 @@
 -- `held_checks::place_in` meets its contract: the place is the number in its bytes. Assumes nothing.
-use borrow.Author.Rules.{rules}
 use Rattle.held_checks.specs.HeldBytes.{held_place}
 use Rattle.held_checks.proofs.place_in.Goals as goal
 

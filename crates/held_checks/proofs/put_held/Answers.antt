@@ -1,7 +1,6 @@
 -- `held_checks::put_held` meets its contract: mark, length and text are written over zeros. Assumes nothing.
 use lib.ListN.{set, length-set, length}
 use mathlib.Core.List.{List}
-use borrow.Author.Rules.{rules}
 use Prim.Native.Nat.{ℕ}
 use mathlib.Core.Path.{ap, ◌∙◌}
 use native.Mathlib.Omega.{arith}

@@ -1,8 +1,5 @@
 -- `held_checks::put_text` meets its contract: so many bytes are written. Assumes nothing.
-use Prim.Native.Nat.{◌-◌}
-use borrow.Author.Rules.{rules}
-use lib.ListN.{length}
-use Rattle.held_checks.proofs.ByteSteps.{Copied, copied-first, copied_next, copied_all}
+use Rattle.held_checks.proofs.ByteSteps.{copied-first, copied_next, copied_all}
 use Rattle.held_checks.proofs.put_text.Goals as goal
 
 pub loop-k-init : goal.loop-k-init

@@ -1,7 +1,6 @@
 use Prim.Native.Nat.{◌-◌}
-use borrow.Author.Rules.{rules}
 use lib.ListN.{length}
-use Rattle.held_checks.proofs.ByteSteps.{Copied, copied-first, copied_next, copied_all}
+use Rattle.held_checks.proofs.ByteSteps.{Copied}
 use Rattle.held_checks.proofs.put_text.Given as goal
 
 abbrev pub invariant-loop-k : goal.invariant-loop-k

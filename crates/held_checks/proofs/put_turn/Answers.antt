@@ -1,7 +1,5 @@
 -- `held_checks::put_turn` meets its contract: the place is written over the old one. Assumes nothing.
 use lib.ListN.{length-set}
-use borrow.Author.Rules.{rules}
-use mathlib.Core.Path.{◌∙◌}
 use native.Mathlib.Omega.{arith}
 use Rattle.held_checks.proofs.LayoutLaws.{turned}
 use Rattle.held_checks.proofs.put_turn.Goals as goal

@@ -1,9 +1,5 @@
 -- `held_checks::zero_from` meets its contract: what was passed is 0. Assumes nothing.
-use lib.ListN.{drop, length}
-use Prim.Native.Nat.{◌-◌}
-use mathlib.Core.Path.{◌≡◌, refl, sym, ◌∙◌}
-use borrow.Author.Rules.{rules}
-use Rattle.held_checks.specs.BytePromises.{all_zero}
+use mathlib.Core.Path.{refl, sym, ◌∙◌}
 use Rattle.held_checks.proofs.ByteSteps.{zero_byte, other_byte, no_byte}
 use Rattle.held_checks.proofs.zero_from.Goals as goal
 

@@ -1,9 +1,7 @@
 use lib.ListN.{drop, length}
 use Prim.Native.Nat.{◌-◌}
-use mathlib.Core.Path.{◌≡◌, refl, sym, ◌∙◌}
-use borrow.Author.Rules.{rules}
+use mathlib.Core.Path.{◌≡◌}
 use Rattle.held_checks.specs.BytePromises.{all_zero}
-use Rattle.held_checks.proofs.ByteSteps.{zero_byte, other_byte, no_byte}
 use Rattle.held_checks.proofs.zero_from.Given as goal
 
 abbrev pub invariant-loop-k : goal.invariant-loop-k

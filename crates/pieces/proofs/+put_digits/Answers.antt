@@ -1,9 +1,6 @@
 -- `pieces::put_digits` meets its contract: the digits of the tenth part, then the last one. Assumes nothing.
-use Prim.Native.Nat.{◌/◌, ℕ, ◌<◌, ◌-◌}
-use borrow.Fn.Kinds.{In}
-use borrow.Fn.PlainCycle.{Measures, is, falls, and}
+use Prim.Native.Nat.{◌/◌, ◌-◌}
 use native.Mathlib.Omega.{arith}
-use borrow.Author.Rules.{rules}
 use Rattle.pieces.proofs.Digits.{tenth, few-digits, digit-written, digits-written}
 use Rattle.pieces.proofs.+put_digits.Goals as goal
 

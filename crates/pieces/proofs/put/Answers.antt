@@ -1,5 +1,4 @@
 -- `pieces::put` meets its contract. Assumes nothing.
-use borrow.Author.Rules.{rules}
 use Rattle.pieces.proofs.WrittenPieces.{byte-written}
 use Rattle.pieces.proofs.put.Goals as goal
 

@@ -1,5 +1,4 @@
 -- `pieces::put_all` meets its contract. Assumes nothing.
-use borrow.Author.Rules.{rules}
 use Rattle.pieces.proofs.WrittenPieces.{all-written}
 use Rattle.pieces.proofs.put_all.Goals as goal
 

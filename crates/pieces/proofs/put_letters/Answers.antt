@@ -1,5 +1,4 @@
 -- `pieces::put_letters` meets its contract. Assumes nothing.
-use borrow.Author.Rules.{rules}
 use native.Mathlib.Omega.{arith}
 use Rattle.pieces.proofs.WrittenPieces.{no_letters, some-letters, letters-inside}
 use Rattle.pieces.proofs.put_letters.Goals as goal

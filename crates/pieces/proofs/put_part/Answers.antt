@@ -1,9 +1,6 @@
 -- `pieces::put_part` meets its contract: each byte is written behind those before it. Assumes nothing.
-use lib.ListN.{take, drop}
-use Prim.Native.Nat.{◌+◌, ◌-◌, ◌≤◌}
+use lib.ListN.{drop}
 use native.Mathlib.Omega.{arith}
-use borrow.Author.Rules.{rules}
-use Rattle.pieces.specs.PiecePromises.{Writes}
 use Rattle.pieces.proofs.WrittenPieces.{part_none, part-written, part-done}
 use Rattle.pieces.proofs.put_part.Goals as goal
 

@@ -1,9 +1,6 @@
 use lib.ListN.{take, drop}
 use Prim.Native.Nat.{◌+◌, ◌-◌, ◌≤◌}
-use native.Mathlib.Omega.{arith}
-use borrow.Author.Rules.{rules}
 use Rattle.pieces.specs.PiecePromises.{Writes}
-use Rattle.pieces.proofs.WrittenPieces.{part_none, part-written, part-done}
 use Rattle.pieces.proofs.put_part.Given as goal
 
 abbrev pub invariant-loop-k : goal.invariant-loop-k

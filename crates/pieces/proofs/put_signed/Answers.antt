@@ -1,5 +1,4 @@
 -- `pieces::put_signed` meets its contract. Assumes nothing.
-use borrow.Author.Rules.{rules}
 use Rattle.pieces.proofs.Signs.{minus-written, natural-written}
 use Rattle.pieces.proofs.put_signed.Goals as goal
 

@@ -1,5 +1,5 @@
 -- The values of a cell that stands for a carrier are the carrier's, in the fixed order; so they rise, and all can be read. Assumes nothing.
-use mathlib.Core.Path.{◌≡◌, refl, sym, ap, ap₂, subst, ◌∙◌}
+use mathlib.Core.Path.{◌≡◌, sym, ap, ap₂, subst, ◌∙◌}
 use mathlib.Core.Bool.{true, false}
 use mathlib.Core.List.{List}
 use Prim.Native.Nat.{ℕ, ◌+◌, ◌<◌, ◌≤◌}
@@ -8,13 +8,13 @@ use lib.Dec.{eqb, ltb}
 use lib.ListN.{get_or}
 use lib.IntN.{ℤ, pos, ◌+ℤ◌, ◌-ℤ◌}
 use lib.Signed.{lt_z}
-use Rattle.form.specs.Tree.{Arrow, relation, partial, total}
-use Rattle.static_rules.specs.Carriers.{Carrier, elements_of, numbers, subsets_of, pairs_in, size_of, count_of}
+use Rattle.form.specs.Tree.{relation, partial, total}
+use Rattle.static_rules.specs.Carriers.{Carrier, elements_of, numbers, subsets_of, pairs_in, count_of}
 use Rattle.meaning.specs.Values.{Value}
 use Rattle.meaning.specs.Bindings.{values_of}
 use Rattle.carriers.specs.ValuesByNumber.{pair_set_at, value_at}
 use Rattle.carriers.proofs.Values.{values-at, values-rise}
-use Rattle.slot_carriers.specs.Cells.{count_in, shape_in, first_in, value_in, Reached, Readable, Found, Listed, PairsCell, Shaped, CellOf}
+use Rattle.slot_carriers.specs.Cells.{count_in, shape_in, first_in, value_in, Reached, Readable, Found, PairsCell, Shaped, CellOf}
 use Rattle.slot_carriers.proofs.Halving.{place-only}
 
 -- a cell's d-th value by its shape, its first number and what its list has

@@ -1,7 +1,7 @@
 -- How many bindings a group has, and the digits of a binding's number, one variable after the other. Assumes nothing.
 use mathlib.Core.Path.{◌≡◌, refl, sym, ap, ap₂, subst, ◌∙◌}
 use mathlib.Core.List.{List, [], ◌∷◌}
-use Prim.Native.Nat.{ℕ, suc, ◌+◌, ◌-◌, ◌*◌, ◌/◌, ◌%◌, ◌<◌, ◌≤◌}
+use Prim.Native.Nat.{zero, ℕ, suc, ◌+◌, ◌-◌, ◌*◌, ◌/◌, ◌%◌, ◌<◌, ◌≤◌}
 use native.Mathlib.Nat.{mod-lt, div-lt_iff_lt-mul, mul-div_cancel, mul_comm}
 use native.Mathlib.Numerals.{add-one}
 use native.Mathlib.Omega.{arith}
@@ -10,7 +10,6 @@ use lib.Seq.{get_or-set_same, get_or-set_other}
 use lib.IntN.{ℤ, pos}
 use Rattle.static_rules.specs.Carriers.{Variable, count_of}
 use Rattle.static_rules.specs.Limits.{binding_count}
-use Rattle.meaning.specs.Meaning.{Binding}
 use Rattle.carriers.specs.ValuesByNumber.{digit, binding_at}
 use Rattle.carriers.proofs.Values.{count-some}
 use Rattle.carriers.proofs.Bindings.{bindings-some, bindings-at, digit-small, digit-below, again_rest}
@@ -31,6 +30,7 @@ same-slot : (cells : List ℕ) (s : ℕ) (vs : List Variable) → CellsOf cells 
 same-slot cells s vs w = subst (λ (k : ℕ). CellsOf cells k vs) (add-one s) w
 
 grows : (a b : ℕ) → 0 < a → b ≤ a * b
+grows zero b h = elim h [ ]
 grows (suc a) b h = omega arith
 
 count-rest : (v : Variable) (vs : List Variable) → binding_count (v ∷ vs) ≤ 4096 → binding_count vs ≤ 4096

@@ -2,12 +2,12 @@
 use mathlib.Core.Path.{◌≡◌, refl, sym, ap, subst, ◌∙◌}
 use mathlib.Core.Logic.{◌⊎◌, inl, inr}
 use mathlib.Core.List.{List, [], ◌∷◌}
-use Prim.Native.Nat.{ℕ, suc, ◌+◌, ◌-◌, ◌*◌, ◌<◌, ◌≤◌}
+use Prim.Native.Nat.{zero, ℕ, suc, ◌+◌, ◌-◌, ◌*◌, ◌<◌, ◌≤◌}
 use native.Mathlib.Numerals.{add-one}
 use native.Mathlib.Omega.{arith}
 use lib.ListN.{get_or, length, set}
 use lib.Seq.{get_or-set_same, get_or-set_other}
-use lib.IntN.{ℤ, pos, ◌-ℤ◌}
+use lib.IntN.{pos, ◌-ℤ◌}
 use Rattle.form.specs.Tree.{relation, partial, total}
 use Rattle.static_rules.specs.Carriers.{Carrier, elements_of, numbers, subsets_of, pairs_in, count_of, Variable}
 use Rattle.static_rules.specs.Limits.{binding_count}
@@ -70,6 +70,8 @@ less_one m n e = omega arith
 
 -- a sum is at most the product and 1
 sum_low : (a b : ℕ) → 0 < a → 0 < b → a + b ≤ a * b + 1
+sum_low zero b h k = elim h [ ]
+sum_low (suc a) zero h k = elim k [ ]
 sum_low (suc a) (suc b) h k = omega arith
 
 count_low : (v : Variable) (vs : List Variable) → count_of v.carrier + binding_count vs ≤ binding_count (v ∷ vs) + 1

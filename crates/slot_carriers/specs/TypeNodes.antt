@@ -1,6 +1,6 @@
 -- The node of a declared type in the reader's table (table_places/specs/DossierTable.typeTable) and the cell that is made of it. Nothing here need be believed.
 use Rattle.std.specs.Prelude.{◌≡◌, List, ℕ, ◌+◌, ◌*◌, ◌^◌, ◌<◌, ◌≤◌, get_or, length, pos, ◌-ℤ◌}
-use Rattle.form.specs.Tree.{relation, partial, total}
+use Rattle.form.specs.Tree.{partial, total}
 use Rattle.form.specs.Codes.{arrow_number}
 use Rattle.static_rules.specs.Carriers.{Carrier, elements_of, numbers, subsets_of, pairs_in, size_of, count_of, arrow_count}
 use Rattle.carriers.specs.ValuesByNumber.{partial_mask, total_mask}

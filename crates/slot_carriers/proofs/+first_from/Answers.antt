@@ -1,13 +1,11 @@
 -- `slot_carriers::first_from` meets its contract: what is left is halved. Assumes nothing.
-use Prim.Native.Nat.{◌/◌, ℕ, ◌<◌, ◌+◌, ◌-◌}
+use Prim.Native.Nat.{◌/◌, ℕ, ◌+◌}
 use mir.Facts.{to_z-of_z}
-use borrow.Fn.Kinds.{In}
-use borrow.Fn.PlainCycle.{Measures, is, falls, and}
 use mathlib.Core.Path.{◌∙◌}
 use native.Mathlib.Omega.{arith}
-use borrow.Author.Rules.{rules}
 use Rattle.slot_carriers.specs.Cells.{count_in, value_in}
 use Rattle.slot_carriers.proofs.Halving.{split-none, step_right, step_left}
+use mir.Syntax.{w64}
 use Rattle.slot_carriers.proofs.+first_from.Goals as goal
 
 pub returns-then-low-high : goal.returns-then-low-high
@@ -20,12 +18,12 @@ pub first_from-requires : goal.first_from-requires
 first_from-requires t c = (omega arith, (c.requires.readable, (omega arith, c.requires.low_le_high.1)))
 
 pub returns-then-value_at-x : goal.returns-then-value_at-x
-returns-then-value_at-x t c = step_right (λ (d : ℕ). value_in c.args.cells.now c.args.slot d) (count_in c.args.cells.now c.args.slot) c.args.x c.requires.readable.rising c.args.low c.args.high ((c.args.low + c.args.high) / 2) c.first_from.result _ _ (to_z-of_z (record { sfits = c.value_at.type-inv }) ∙ c.value_at.ensures) (to_z-of_z c.ranges.x) c.if-value_at-x.true (omega arith) (omega arith)
+returns-then-value_at-x t c = step_right (λ (d : ℕ). value_in c.args.cells.now c.args.slot d) (count_in c.args.cells.now c.args.slot) c.args.x c.requires.readable.rising c.args.low c.args.high ((c.args.low + c.args.high) / 2) c.first_from.result _ _ (to_z-of_z {w = w64} (record { sfits = c.value_at.type_inv }) ∙ c.value_at.ensures) (to_z-of_z c.ranges.x) c.if-value_at-x.true (omega arith) (omega arith)
     c.requires.low_le_high.1 c.first_from.ensures
 
 pub first_from-requires-2 : goal.first_from-requires-2
 first_from-requires-2 t c = (omega arith, (c.requires.readable, (omega arith, omega (arith, c.requires.low_le_high.1))))
 
 pub returns : goal.returns
-returns t c = step_left (λ (d : ℕ). value_in c.args.cells.now c.args.slot d) (count_in c.args.cells.now c.args.slot) c.args.x c.requires.readable.rising c.args.low c.args.high ((c.args.low + c.args.high) / 2) c.first_from-2.result _ _ (to_z-of_z (record { sfits = c.value_at.type-inv }) ∙ c.value_at.ensures) (to_z-of_z c.ranges.x) c.if-value_at-x.false (omega arith)
+returns t c = step_left (λ (d : ℕ). value_in c.args.cells.now c.args.slot d) (count_in c.args.cells.now c.args.slot) c.args.x c.requires.readable.rising c.args.low c.args.high ((c.args.low + c.args.high) / 2) c.first_from-2.result _ _ (to_z-of_z {w = w64} (record { sfits = c.value_at.type_inv }) ∙ c.value_at.ensures) (to_z-of_z c.ranges.x) c.if-value_at-x.false (omega arith)
     c.requires.low_le_high.1 c.first_from-2.ensures

@@ -1,5 +1,4 @@
 -- `slot_carriers::guess` comes to an end; it promises nothing. Assumes nothing.
-use borrow.Author.Rules.{rules}
 use Rattle.slot_carriers.proofs.Guesses.{place-fits, raised-fits}
 use Rattle.slot_carriers.proofs.guess.Goals as goal
 

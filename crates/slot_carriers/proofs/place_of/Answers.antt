@@ -2,10 +2,10 @@
 use mathlib.Core.Path.{subst, ◌∙◌}
 use Prim.Native.Nat.{◌<◌, ℕ}
 use mir.Facts.{to_z-of_z}
-use borrow.Author.Rules.{rules}
 use Rattle.slot_carriers.specs.Cells.{count_in, value_in}
 use Rattle.slot_carriers.proofs.Halving.{place_none, place_here, place-beside}
 use Rattle.slot_carriers.proofs.Guesses.{found-too}
+use mir.Syntax.{w64}
 use Rattle.slot_carriers.proofs.place_of.Goals as goal
 
 pub stands-requires : goal.stands-requires
@@ -21,7 +21,7 @@ pub value_at-requires : goal.value_at-requires
 value_at-requires c = c.requires.reached c.first_from-r.result (subst (λ (k : ℕ). c.first_from-r.result < k) c.count_of-n.ensures c.if-r-n.false)
 
 pub returns-then-value_at-x : goal.returns-then-value_at-x
-returns-then-value_at-x c = place_here (λ (d : ℕ). value_in c.args.cells.now c.args.slot d) (count_in c.args.cells.now c.args.slot) c.args.x c.requires.rising c.count_of-n.result c.first_from-r.result _ _ c.count_of-n.ensures (to_z-of_z c.ranges.x) (to_z-of_z (record { sfits = c.value_at.type-inv }) ∙ c.value_at.ensures) c.if-r-n.false c.if-value_at-x.true c.first_from-r.ensures
+returns-then-value_at-x c = place_here (λ (d : ℕ). value_in c.args.cells.now c.args.slot d) (count_in c.args.cells.now c.args.slot) c.args.x c.requires.rising c.count_of-n.result c.first_from-r.result _ _ c.count_of-n.ensures (to_z-of_z c.ranges.x) (to_z-of_z {w = w64} (record { sfits = c.value_at.type_inv }) ∙ c.value_at.ensures) c.if-r-n.false c.if-value_at-x.true c.first_from-r.ensures
 
 pub returns : goal.returns
-returns c = place-beside (λ (d : ℕ). value_in c.args.cells.now c.args.slot d) (count_in c.args.cells.now c.args.slot) c.args.x c.requires.rising c.count_of-n.result c.first_from-r.result _ _ c.count_of-n.ensures (to_z-of_z c.ranges.x) (to_z-of_z (record { sfits = c.value_at.type-inv }) ∙ c.value_at.ensures) c.if-r-n.false c.if-value_at-x.false c.first_from-r.ensures
+returns c = place-beside (λ (d : ℕ). value_in c.args.cells.now c.args.slot d) (count_in c.args.cells.now c.args.slot) c.args.x c.requires.rising c.count_of-n.result c.first_from-r.result _ _ c.count_of-n.ensures (to_z-of_z c.ranges.x) (to_z-of_z {w = w64} (record { sfits = c.value_at.type_inv }) ∙ c.value_at.ensures) c.if-r-n.false c.if-value_at-x.false c.first_from-r.ensures

@@ -4,7 +4,6 @@ use Prim.Native.Nat.{◌≤◌, ℕ, ◌+◌}
 use lib.IntN.{pos, ◌+ℤ◌, ◌-ℤ◌}
 use mir.Syntax.{w64}
 use mir.Facts.{to_z_pos}
-use borrow.Author.Rules.{rules}
 use native.Mathlib.Omega.{arith}
 use lib.ListN.{get_or}
 use Rattle.slot_carriers.proofs.ShapedValues.{range-value, plain_value, listed-value, begin-fits, number_fits, number-back}

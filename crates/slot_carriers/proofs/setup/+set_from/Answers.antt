@@ -1,10 +1,7 @@
 -- `setup::set_from` meets its contract: the first cell is kept by what the others write. Assumes nothing.
 use mathlib.Core.Path.{subst, sym, ◌∙◌}
-use Prim.Native.Nat.{ℕ, ◌<◌, ◌+◌}
-use borrow.Fn.Kinds.{In}
-use borrow.Fn.PlainCycle.{Measures, is, falls, and}
+use Prim.Native.Nat.{ℕ, ◌+◌}
 use native.Mathlib.Omega.{arith}
-use borrow.Author.Rules.{rules}
 use Rattle.slot_carriers.specs.TypeNodes.{Placed, CellMade}
 use Rattle.slot_carriers.proofs.KeptCells.{first-declared, made_none, made_more}
 use Rattle.slot_carriers.proofs.setup.+set_from.Goals as goal

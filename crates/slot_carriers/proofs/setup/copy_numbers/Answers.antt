@@ -1,6 +1,6 @@
 -- `setup::copy_numbers` meets its contract: what is read is before what is written, so it is as it was. Assumes nothing.
 use mathlib.Core.Path.{subst, ◌≡◌, ◌∙◌}
-use Prim.Native.Nat.{ℕ, ◌+◌, ◌-◌, ◌≤◌}
+use Prim.Native.Nat.{ℕ, ◌+◌}
 use native.Mathlib.Omega.{arith}
 use Rattle.slot_carriers.specs.CellGroups.{Others}
 use Rattle.slot_carriers.specs.DeclaredGroups.{Again}

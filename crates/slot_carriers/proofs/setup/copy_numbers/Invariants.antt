@@ -1,11 +1,6 @@
-use mathlib.Core.Path.{subst, ◌≡◌, ◌∙◌}
-use Prim.Native.Nat.{ℕ, ◌+◌, ◌-◌, ◌≤◌}
-use native.Mathlib.Omega.{arith}
+use Prim.Native.Nat.{◌-◌, ◌≤◌}
 use Rattle.slot_carriers.specs.CellGroups.{Others}
 use Rattle.slot_carriers.specs.DeclaredGroups.{Again}
-use Rattle.slot_carriers.proofs.GroupBindings.{others-none}
-use Rattle.slot_carriers.proofs.TypeCells.{others-next}
-use Rattle.slot_carriers.proofs.KeptCells.{again-next, again-none}
 use Rattle.slot_carriers.proofs.setup.copy_numbers.Given as goal
 
 abbrev pub invariant-loop-k : goal.invariant-loop-k

@@ -1,5 +1,4 @@
 -- `setup::entry` meets its contract. Assumes nothing.
-use borrow.Author.Rules.{rules}
 use mathlib.Core.Path.{refl}
 use native.Mathlib.Omega.{arith}
 use Rattle.slot_carriers.proofs.setup.entry.Goals as goal

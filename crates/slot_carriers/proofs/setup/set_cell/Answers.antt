@@ -1,5 +1,4 @@
 -- `setup::set_cell` meets its contract: what the node stands for, the cell stands for. Assumes nothing.
-use borrow.Author.Rules.{rules}
 use native.Mathlib.Omega.{arith}
 use Rattle.slot_carriers.proofs.MadeCells.{list-room, plain-made, listed-made}
 use Rattle.slot_carriers.proofs.setup.set_cell.Goals as goal

@@ -1,8 +1,7 @@
 -- `setup::set_list` meets its contract: d of the functions are written, and nothing else is. Assumes nothing.
 use mathlib.Core.Path.{subst, ◌≡◌}
-use Prim.Native.Nat.{ℕ, ◌-◌, ◌≤◌}
+use Prim.Native.Nat.{ℕ}
 use native.Mathlib.Omega.{arith}
-use borrow.Author.Rules.{rules}
 use Rattle.slot_carriers.specs.CellGroups.{Others}
 use Rattle.slot_carriers.specs.TypeNodes.{Functions}
 use Rattle.slot_carriers.proofs.GroupBindings.{others-none}

@@ -1,11 +1,6 @@
-use mathlib.Core.Path.{subst, ◌≡◌}
-use Prim.Native.Nat.{ℕ, ◌-◌, ◌≤◌}
-use native.Mathlib.Omega.{arith}
-use borrow.Author.Rules.{rules}
+use Prim.Native.Nat.{◌-◌, ◌≤◌}
 use Rattle.slot_carriers.specs.CellGroups.{Others}
 use Rattle.slot_carriers.specs.TypeNodes.{Functions}
-use Rattle.slot_carriers.proofs.GroupBindings.{others-none}
-use Rattle.slot_carriers.proofs.TypeCells.{others-next, functions-next, functions-none}
 use Rattle.slot_carriers.proofs.setup.set_list.Given as goal
 
 abbrev pub invariant-loop-d : goal.invariant-loop-d

@@ -1,5 +1,4 @@
 -- `setup::type_count` meets its contract. Assumes nothing.
-use borrow.Author.Rules.{rules}
 use native.Mathlib.Omega.{arith}
 use Rattle.slot_carriers.proofs.TypeCells.{product-low, count-subsets, count-relations}
 use Rattle.slot_carriers.proofs.setup.type_count.Goals as goal

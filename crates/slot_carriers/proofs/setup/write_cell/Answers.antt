@@ -1,5 +1,4 @@
 -- `setup::write_cell` meets its contract. Assumes nothing.
-use borrow.Author.Rules.{rules}
 use Rattle.slot_carriers.proofs.MadeCells.{written}
 use Rattle.slot_carriers.proofs.setup.write_cell.Goals as goal
 

@@ -1,12 +1,9 @@
 -- The table of a whole dossier: its predicates, and the carriers of its declared names, at the places of their nodes; the groups of variables.
-use Rattle.std.specs.Prelude.{Bool, true, false, ◌||◌, cond, List, [], ◌∷◌, ◌++◌, map, ℕ, suc, ◌+◌, ◌-◌, ◌*◌, ltb, length, replicate}
-use Rattle.std.proofs.Math.Option.{Option, none, some}
-use Rattle.lexical.specs.Lists.{find, filter}
+use Rattle.std.specs.Prelude.{Bool, cond, List, [], ◌∷◌, ◌++◌, map, ℕ, suc, ◌+◌, ◌-◌, ◌*◌, length, replicate}
 use Rattle.lexical.specs.Symbols.{Name}
-use Rattle.form.specs.Tree.{Letters, Given, Range, Domain, TypeForm, given_type, power_type, range_type, arrow_type, Declaration, declarations, Parameter, State, Operation, Dossier}
-use Rattle.form.specs.Codes.{Numbering, node, end_number, arrow_number, number_of_name}
-use Rattle.static_rules.specs.Carriers.{Variable, same_name}
-use Rattle.static_rules.specs.Scope.{Scope, Context, place_in, contexts, unprimed, primed, inputs, outputs, is_input, is_output}
+use Rattle.form.specs.Tree.{Given, TypeForm, given_type, power_type, range_type, arrow_type, Declaration, declarations, Parameter, Operation, Dossier}
+use Rattle.form.specs.Codes.{Numbering, node, end_number, arrow_number}
+use Rattle.static_rules.specs.Scope.{Context, place_in, contexts, unprimed, primed, inputs, outputs, is_input, is_output}
 use Rattle.node_spans.specs.Spans.{spans_of, span}
 use Rattle.table_places.specs.ResolvedTable.{Slots, slotted, given_size, pred_table}
 use Rattle.table_nodes.specs.TableWalkPromises.{patch}

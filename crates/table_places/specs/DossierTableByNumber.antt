@@ -7,7 +7,7 @@ use Rattle.form.specs.Codes.{Numbering, node, name_number, number_of_name, end_n
 use Rattle.static_rules.specs.Scope.{Context, contexts}
 use Rattle.static_rules.specs.Names.{parameter_name}
 use Rattle.type_rules.specs.TypesByNumber.{Names, Sizes, entry, is_given}
-use Rattle.declared_names.specs.NamesByNumber.{Typed, variables_of, parameters_of, shown, hidden, state_named, reaching, leaving, parameters_shown, operation_named, conditions_named}
+use Rattle.declared_names.specs.NamesByNumber.{Typed, variables_of, shown, hidden, state_named, reaching, leaving, parameters_shown, operation_named, conditions_named}
 use Rattle.node_spans.specs.Spans.{spans_of, span}
 use Rattle.table_nodes.specs.TableByNumber.{Places, given_size, range_count, pred_table}
 use Rattle.table_nodes.specs.TableWalkPromises.{patch}

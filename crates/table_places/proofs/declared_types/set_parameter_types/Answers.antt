@@ -1,0 +1,18 @@
+-- `declared_types::set_parameter_types` meets its contract: the operations that are left make of the table as it is what all of them make of that at entry.
+-- Assumes nothing.
+use mathlib.Core.Path.{refl, ◌∙◌}
+use native.Mathlib.Omega.{arith}
+use Rattle.table_places.proofs.WritingTypes.{carriers-start, carriers-on, carriers-set}
+use Rattle.table_places.proofs.declared_types.set_parameter_types.Goals as goal
+
+pub loop-k-init : goal.loop-k-init
+loop-k-init c = (omega arith, (refl, carriers-start c.args.nodes.now c.args.spans.now c.args.n c.args.names.now c.args.sizes.now c.args.out.now))
+
+pub set_types-requires : goal.set_types-requires
+set_types-requires c = let e = c.loop-k.invariant.1.0 in let p = c.requires.1 in let q = c.requires.2 in (omega arith, omega arith)
+
+pub loop-k-preserved : goal.loop-k-preserved
+loop-k-preserved c = (omega arith, (c.set_types.auto.out ∙ c.loop-k.invariant.1.0, carriers-on c.args.nodes.now c.args.spans.now c.loop-k.k c.args.n c.args.names.now c.args.sizes.now c.args.out.now c.loop-k.out _ _ _ c.loop-k-test.true c.span_at-first.ensures.0 c.span_at-last.ensures.0 c.set_types.ensures c.loop-k.invariant.1.1))
+
+pub returns : goal.returns
+returns c = carriers-set c.args.nodes.now c.args.spans.now c.loop-k.k c.args.n c.args.names.now c.args.sizes.now c.args.out.now c.loop-k.out (omega arith) c.loop-k.invariant.1.1

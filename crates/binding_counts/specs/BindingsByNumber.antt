@@ -1,7 +1,7 @@
 -- Number 12 by numbers: how many bindings a group of declared names has, with what each name is in one table and the sizes of the given sets in another.
 -- That these are the counts and faults of static_rules/specs/Limits is proofs/BindingsAgree. Nothing here need be believed.
 use Rattle.std.specs.Prelude.{◌≡◌, Bool, ◌&&◌, cond, List, [], ◌∷◌, ◌++◌, ℕ, ◌+◌, ◌-◌, ◌*◌, ◌^◌, ◌%◌, ◌≤◌, min, eqb, leb, length, drop}
-use Rattle.std.proofs.Math.Option.{Option, none, some}
+use Rattle.std.proofs.Math.Option.{some}
 use Rattle.lexical.specs.Symbols.{Name, no_ending}
 use Rattle.form.specs.Tree.{relation, partial, total, TypeForm, given_type, power_type, range_type, arrow_type, Given, declarations, State, Operation, Dossier}
 use Rattle.form.specs.Headings.{operation_length}

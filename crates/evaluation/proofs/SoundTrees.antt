@@ -5,7 +5,7 @@ use mathlib.Core.Bool.{Bool, true}
 use mathlib.Core.List.{[]}
 use Prim.Native.Nat.{ℕ, suc, ◌≤◌}
 use Rattle.form.specs.Tree.{Letters, End, Range, Domain, given_set, Prefix, Operator, Division, Connective, Quantifier, Comparison, Membership}
-use Rattle.form.specs.Tree.{Term, number, name, group, prefix, binary, divided, listed, pairs, such, Items, only, also, Pairs, only_pair, also_pair}
+use Rattle.form.specs.Tree.{Term, group, prefix, binary, divided, listed, pairs, such, Items, only, also, Pairs, only_pair, also_pair}
 use Rattle.form.specs.Tree.{Pred, negation, paren, quantified, connected, compared, member, within, related}
 use Rattle.lexical.specs.Symbols.{Name}
 use Rattle.static_rules.specs.Carriers.{end_value}

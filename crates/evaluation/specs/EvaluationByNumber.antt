@@ -1,7 +1,7 @@
 -- The evaluation of a table of nodes (table_places/specs/ResolvedTable) by numbers: what the nodes up to a place are worth with values in slots. Each is a
 -- type: that the nodes up to e give the value v, with all that is met on the way being what the operators take. f bounds how deep the nodes are.
 -- That the tables of the definitions give the values of the definitions is proofs/TablesEvaluate. Nothing here need be believed.
-use Rattle.std.specs.Prelude.{◌≡◌, Bool, true, false, not, List, ℕ, zero, suc, ◌+◌, ◌-◌, ◌<◌, ◌≤◌, eqb, get_or, set, ℤ, pos, ◌+ℤ◌, ◌-ℤ◌}
+use Rattle.std.specs.Prelude.{◌≡◌, Bool, true, false, not, List, ℕ, zero, suc, ◌-◌, ◌<◌, ◌≤◌, eqb, get_or, set, ℤ, pos, ◌+ℤ◌, ◌-ℤ◌}
 use Rattle.sets.specs.Sets as sets
 use Rattle.meaning.specs.Values.{natural}
 use Rattle.evaluation.specs.OperatorsByNumber.{pick, Small, IsPlace, IsBits, prefixed, PrefixTakes, divided, operated, OperatorTakes, compared, connected, asked, in_range}

@@ -11,14 +11,14 @@ use lexical::codes;
 use parser::{Parsed, parse};
 
 // Bytes from `from` up to `to`.
-#[derive(Drop)]
+#[derive(Clone, Copy)]
 pub struct Bytes {
     pub from: usize,
     pub to: usize,
 }
 
 // Symbols from `from` up to `to`, and brackets that are wanting: closed among them and opened before, opened among them and closed behind.
-#[derive(Drop)]
+#[derive(Clone, Copy)]
 struct Stretch {
     from: usize,
     to: usize,

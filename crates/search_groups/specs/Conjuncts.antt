@@ -1,13 +1,12 @@
 -- The conjuncts of each predicate, each with the last variable of every group that it mentions: what a search that prunes by variables needs.
-use Rattle.std.specs.Prelude.{Bool, true, false, ◌&&◌, cond, List, [], ◌∷◌, ◌++◌, ℕ, suc, ◌+◌, ◌-◌, max, leb, ltb, length}
+use Rattle.std.specs.Prelude.{Bool, true, false, ◌&&◌, cond, List, [], ◌∷◌, ◌++◌, ℕ, ◌+◌, ◌-◌, max, leb, ltb, length}
 use Rattle.std.proofs.Math.Option.{Option, none, some}
 use Rattle.lexical.specs.Lists.{find}
 use Rattle.lexical.specs.Symbols.{Name}
-use Rattle.form.specs.Tree.{given_set}
 use Rattle.form.specs.Tree.{Term, number, name, group, prefix, binary, divided, listed, pairs, such, empty_set, empty_pairs, Items, only, also, Pairs, only_pair, also_pair}
 use Rattle.form.specs.Tree.{Pred, truth, falsity, negation, paren, quantified, connected, compared, member, within, related, Connective, and, or, implies, iff}
 use Rattle.static_rules.specs.Carriers.{same_name, plain}
-use Rattle.static_rules.specs.Scope.{Scope, Context, binding}
+use Rattle.static_rules.specs.Scope.{Scope, Context}
 use Rattle.table_nodes.specs.TableByNumber.{next_slot}
 use Rattle.table_places.specs.ResolvedTable.{Slots, pred_table}
 

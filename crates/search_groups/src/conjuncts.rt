@@ -70,7 +70,7 @@ fn rank(k: u16, a: u16, base: u16, n: u16) -> u16
 }
 
 // The last variable of each group that some nodes mention, counted from 1; 0 for none. The last two are those of primed concrete and abstract variables.
-#[derive(Drop)]
+#[derive(Clone, Copy)]
 struct Mentioned {
     abstracts: u16,
     concretes: u16,

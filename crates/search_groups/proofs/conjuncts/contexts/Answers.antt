@@ -1,0 +1,18 @@
+-- `conjuncts::contexts` meets its contract: what is written, and the contexts left, make the whole. Assumes nothing.
+use mathlib.Core.Path.{◌∙◌}
+use native.Mathlib.Omega.{arith}
+use borrow.Author.Rules.{rules}
+use Rattle.search_groups.proofs.ConjunctLists.{ahead-first, ahead-next, ahead-done}
+use Rattle.search_groups.proofs.conjuncts.contexts.Goals as goal
+
+pub loop-k-init : goal.loop-k-init
+loop-k-init c = (omega arith, c.requires.2, c.requires.3, λ rows fs a l. ahead-first _ _ _ rows fs _ _ a)
+
+pub context-n-requires : goal.context-n-requires
+context-n-requires c = let w = c.place.ensures.within (omega arith) in search rules
+
+pub loop-k-preserved : goal.loop-k-preserved
+loop-k-preserved c = (omega arith, c.context-n.ensures.long ∙ c.loop-k.invariant.1, c.context-n.ensures.firsts_long ∙ c.loop-k.invariant.2, λ rows fs a l. ahead-next (c.loop-k.invariant.3 rows fs a l) c.context-n.ensures c.place.ensures.right (omega arith) (omega arith) (omega arith) (omega arith))
+
+pub returns : goal.returns
+returns c = record { right = λ rows fs a l. ahead-done (c.loop-k.invariant.3 rows fs a l) c.short.ensures.0 (omega arith) (omega arith) (omega arith) }

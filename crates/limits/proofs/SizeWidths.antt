@@ -1,6 +1,6 @@
 -- How far the sizes of a tree go: as many symbols as it has. Its faults have numbers below keyRoom.
 use mathlib.Core.Path.{◌≡◌}
-use mathlib.Core.List.{[], ◌∷◌}
+use mathlib.Core.List.{◌∷◌}
 use Prim.Native.Nat.{ℕ, suc, ◌+◌, ◌<◌}
 use native.Mathlib.Omega.{arith}
 use Rattle.lexical.specs.Refusals.{number_of, large_size}

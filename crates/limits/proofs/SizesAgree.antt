@@ -1,7 +1,7 @@
 -- The numbers of term_sizes/specs/SizesByNumber are the sizes and faults of the definitions: where a table of sizes shows the names in reach, the size of a term is the
 -- definition's, with faults or without, and the key of a tree is that of its least fault.
 use mathlib.Core.Path.{◌≡◌, refl, ap, ap₂, ◌∙◌, sym}
-use mathlib.Core.List.{[], ◌∷◌}
+use mathlib.Core.List.{◌∷◌}
 use Prim.Native.Nat.{ℕ, suc, ◌+◌}
 use lib.ListN.{set}
 use Rattle.lexical.specs.Symbols.{no_ending}

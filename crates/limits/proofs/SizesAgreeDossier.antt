@@ -1,5 +1,5 @@
 -- Number 13 over a whole dossier: the least fault by numbers is that of the definitions' list.
-use mathlib.Core.Path.{◌≡◌, refl, ap, ◌∙◌, sym}
+use mathlib.Core.Path.{◌≡◌, ap, ◌∙◌, sym}
 use mathlib.Core.Bool.{Bool, true, false}
 use mathlib.Core.List.{List, [], ◌∷◌, ◌++◌, map}
 use mathlib.Core.Option.{Option, none, some}
@@ -17,7 +17,7 @@ use Rattle.static_rules.specs.Scope as scope
 use Rattle.static_rules.specs.Scope.{Context, variables, contexts, operation_contexts, operation_reach}
 use Rattle.static_rules.specs.Limits.{Sizes, context_sizes, size_faults}
 use Rattle.declared_names.specs.NamesByNumber.{Typed, variables_of, parameters_of}
-use Rattle.type_rules.specs.TypesByNumber.{key_room, least_key}
+use Rattle.type_rules.specs.TypesByNumber.{least_key}
 use Rattle.names.proofs.ReachTables.{Numbered, PredIn}
 use Rattle.names.proofs.TypesAgreeLeast.{Small, no_fault, small-append, two-parts, least-nil}
 use Rattle.names.proofs.TypesAgreeScope.{find-here, find-there}

@@ -105,9 +105,9 @@ module _ (ρ : Numbering) (P : Letters → Type 0) (ν : Numbered ρ P) (gs : Li
       → Holds ρ P (placing (variables_of no_ending ds) (ending_number e) s T ρ) (into (slotted s (variables gs e ds)) f)
   unfolding placing variables_of variables slotted into number_of_name
   placing-holds [] none_declared no_typed s h = h
-  placing-holds (d ∷ ds) (one_declared c n g k) (one_typed p q t) s {T} {f} h =
+  placing-holds {xs = xs} (d ∷ ds) (one_declared c n g k) (one_typed p q t) s {T} {f} h =
       let m : name_number ρ (name_of d.declared e) ≡ name_number ρ (plain d.declared) + ending_number e = omega arith in
       subst (λ (W : Slots). Holds ρ P (placing (variables_of no_ending (d ∷ ds)) (ending_number e) s T ρ) (into W f)) (sym (group-one gs e s d ds c g))
       (subst (λ (j : ℕ). Holds ρ P (placing (variables_of no_ending ds) (ending_number e) (suc s) (set T j s) ρ)
       (into (slotted (suc s) (variables gs e ds)) (entered (name_of d.declared e) s f))) m
-      (placing-holds ds k t (suc s) (write ρ P ν h (name_of d.declared e) p s)))
+      (placing-holds {xs = d.declared ∷ xs} ds k t (suc s) (write ρ P ν h (name_of d.declared e) p s)))

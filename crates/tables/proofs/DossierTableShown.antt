@@ -4,15 +4,14 @@ use mathlib.Core.List.{List, [], ◌∷◌, ◌++◌, map}
 use Prim.Native.Nat.{ℕ, zero, suc, ◌+◌, ◌≤◌, ◌<◌}
 use native.Mathlib.Omega.{arith}
 use lib.ListN.{length, get_or, replicate, length-replicate}
-use Rattle.lexical.specs.Lists.{any, concat}
+use Rattle.lexical.specs.Lists.{any}
 use Rattle.lexical.specs.Symbols.{Name, no_ending}
-use Rattle.lexical.specs.Refusals.{Fault}
 use Rattle.form.specs.Tree.{Letters, Given, Declaration, declarations, State, Operation, Dossier}
 use Rattle.form.specs.Headings.{givens_at, abstract_at, concrete_at, operations_at, operation_length}
 use Rattle.form.specs.Codes.{Numbering}
 use Rattle.static_rules.specs.Carriers.{size_of}
 use Rattle.static_rules.specs.Scope.{Context, variables, given_names, state_names, abstract_taken, concrete_taken, operation_contexts, contexts}
-use Rattle.static_rules.specs.Names.{new_name, given_faults, declaration_faults, parameter_faults, operation_faults, context_faults, name_faults}
+use Rattle.static_rules.specs.Names.{new_name, given_faults, parameter_faults, operation_faults, name_faults}
 use Rattle.type_rules.specs.TypesByNumber.{Names, Sizes, entry}
 use Rattle.declared_names.specs.NamesByNumber.{variables_of, parameters_of, shown, hidden, reaching, leaving, title_named, parameters_shown, givens_named}
 use Rattle.names.proofs.ReachTables.{Numbered, Shows}

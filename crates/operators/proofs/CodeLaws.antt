@@ -1,9 +1,9 @@
 -- Operators by their codes: what the last arm of a match is, and what settles a connective. Assumes nothing.
-use mathlib.Core.Path.{◌≡◌, refl, sym, ap, ap₂, subst, ◌∙◌}
+use mathlib.Core.Path.{◌≡◌, refl, sym, ap, subst, ◌∙◌}
 use mathlib.Core.Bool.{Bool, true, false, not, ◌||◌}
 use Prim.Native.Nat.{ℕ, ◌%◌, ◌<◌, ◌≤◌}
 use native.Mathlib.Omega.{arith}
-use lib.Dec.{eqb, ltb}
+use lib.Dec.{eqb}
 use lib.IntN.{ℤ, pos, neg_ℤ}
 use lib.Signed.{le_z}
 use borrow.Author.Tests.{eq-eqb, ne_eqb, lt-ltb, le-ltb}

@@ -18,7 +18,7 @@ use Rattle.meaning.specs.Values.{natural, same_integer}
 use Rattle.evaluation.specs.OperatorsByNumber.{Small, IsPlace, IsBits, in_range}
 
 pub read : {z : ℤ} → mag z < 2 ^ 63 → to_z w64 (of_z w64 z) ≡ z
-read h = to_z-of_z (record { sfits = h })
+read h = to_z-of_z {w = w64} (record { sfits = h })
 
 -- ---- magnitudes
 

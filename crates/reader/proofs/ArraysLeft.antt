@@ -1,17 +1,15 @@
 -- What is left for the evaluator, where no pass found a fault: the arrays hold what the definitions say of the dossier.
-use mathlib.Core.Path.{◌≡◌, refl, ap, ◌∙◌, sym, subst}
+use mathlib.Core.Path.{◌≡◌, sym, subst}
 use mathlib.Core.List.{List}
 use Prim.Native.Nat.{ℕ, ◌≤◌}
 use native.Mathlib.Omega.{arith}
-use lib.ListN.{length, replicate}
-use Rattle.lexical.specs.Refusals.{least}
+use lib.ListN.{length}
 use Rattle.form.specs.Tree.{Dossier}
 use Rattle.parser.specs.Promises.{numbering}
 use Rattle.parser.specs.Sections.{Sectioned, givens_from, abstract_from}
 use Rattle.parser.specs.declared.sections.Bounds.{Bounds}
 use Rattle.static_rules.specs.Names.{name_faults}
 use Rattle.type_rules.specs.TypesByNumber.{Names, Sizes}
-use Rattle.declared_names.specs.NamesByNumber.{givens_named}
 use Rattle.node_spans.specs.Spans.{Spanned}
 use Rattle.table_places.specs.TablePromises.{Ready, TableWritten}
 use Rattle.search_groups.specs.GroupPromises.{Grouped, Listed}
@@ -19,7 +17,7 @@ use Rattle.tables.proofs.WritingReady.{ready}
 use Rattle.tables.proofs.WritingWhole.{whole-table}
 use Rattle.tables.proofs.StandingWhole.{standing, rows_few}
 use Rattle.reader.specs.Occurrences.{Occurs}
-use Rattle.reader.specs.Promises.{Stands, Tabled, Leaves}
+use Rattle.reader.specs.Promises.{Tabled, Leaves}
 use Rattle.reader.proofs.FewGivens.{forms-fewer, forms-few-operations}
 use Rattle.reader.proofs.FewVariables.{forms-few}
 use Rattle.reader.proofs.LeastNameFault.{letters-numbered, dossier-in}

@@ -1,5 +1,5 @@
 -- The least fault of a pass as a number: it tells the refusal's number and the place, for every list whose refusals have numbers below keyRoom.
-use mathlib.Core.Path.{◌≡◌, refl, ◌∙◌, subst}
+use mathlib.Core.Path.{◌≡◌, refl, subst}
 use mathlib.Core.Bool.{Bool, true, false}
 use mathlib.Core.List.{List, [], ◌∷◌, map}
 use mathlib.Core.Option.{Option, none, some}

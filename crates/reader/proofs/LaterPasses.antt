@@ -4,7 +4,7 @@ use mathlib.Core.List.{List}
 use mathlib.Core.Option.{Option, none, some}
 use Prim.Native.Nat.{ℕ, ◌<◌}
 use native.Mathlib.Omega.{arith}
-use lib.ListN.{length, take, get_or}
+use lib.ListN.{take, get_or}
 use Rattle.lexical.specs.Refusals.{Fault, number_of, least}
 use Rattle.lexical.specs.Promises.{first_of}
 use Rattle.form.specs.Tree.{Dossier}

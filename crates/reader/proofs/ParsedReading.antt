@@ -1,5 +1,5 @@
 -- What the definition reads of a text, from what `parse` answers: its refusal, or the passes over the names of the dossier that stands in the nodes.
-use mathlib.Core.Path.{◌≡◌, refl, ap, ap₂, ◌∙◌, sym, subst}
+use mathlib.Core.Path.{◌≡◌, refl, ap, ◌∙◌, sym, subst}
 use mathlib.Core.List.{List, ◌++◌}
 use mathlib.Core.Option.{Option, none, some}
 use Prim.Native.Nat.{ℕ}
@@ -18,10 +18,10 @@ use Rattle.form.specs.Headings.{heading_faults}
 use Rattle.form.specs.Codes.{dossier_codes}
 use Rattle.form.proofs.ScannedSymbols.{scan-spelled}
 use Rattle.form.proofs.FormOf.{form_of, one-outcome}
-use Rattle.parser.specs.Promises.{text_symbols, numbering, Refuses, Leaves, AnswersHeadings, AnswersForm, Answers, Parses}
+use Rattle.parser.specs.Promises.{text_symbols, numbering, Refuses, AnswersHeadings, AnswersForm, Answers, Parses}
 use Rattle.parser.specs.declared.Parsed.{Parsed}
 use Rattle.parser.specs.declared.Parsed.TheVariants.{Structure, Refused}
-use Rattle.static_rules.specs.Read.{Reading, refusal, reading, pass, located, after_form, names_read, read_headings, read_form, read_symbols, read}
+use Rattle.static_rules.specs.Read.{Reading, refusal, pass, located, after_form, names_read, read_headings, read_form, read_symbols, read}
 use Rattle.reader.specs.Promises.{Stands}
 
 -- the text is refused with this number and place

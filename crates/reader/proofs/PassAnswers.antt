@@ -2,15 +2,12 @@
 use mathlib.Core.Path.{◌≡◌, refl, ap, ap₂, ◌∙◌, sym, subst}
 use mathlib.Core.Bool.{Bool, true, false, cond}
 use mathlib.Core.List.{List}
-use mathlib.Core.Option.{Option, none, some}
-use Prim.Native.Nat.{ℕ, ◌≤◌, ◌<◌, ◌-◌, ◌/◌, ◌%◌}
-use native.Mathlib.Omega.{arith}
+use Prim.Native.Nat.{ℕ, ◌≤◌, ◌-◌, ◌/◌, ◌%◌}
 use lib.Dec.{eqb}
 use lib.ListN.{length, take, get_or, replicate}
 use lib.Seq.{length-take-le}
 use borrow.Author.Tests.{eqb-true}
 use Rattle.lexical.specs.Symbols.{scan, symbols, place_at}
-use Rattle.lexical.specs.Refusals.{Fault, number_of, least}
 use Rattle.form.specs.Tree.{Dossier}
 use Rattle.form.specs.Headings.{givens_at}
 use Rattle.form.specs.Codes.{Numbering, dossier_codes}
@@ -20,21 +17,19 @@ use Rattle.parser.specs.declared.Parsed.{Parsed}
 use Rattle.parser.specs.declared.Parsed.TheVariants as parsed
 use Rattle.parser.specs.declared.sections.Bounds.{Bounds}
 use Rattle.parser.proofs.Texts.{known}
-use Rattle.static_rules.specs.Names.{name_faults}
 use Rattle.static_rules.specs.Read as definition
 use Rattle.static_rules.specs.Read.{reading, pass, located, read}
-use Rattle.type_rules.specs.TypesByNumber.{key_room, Names, Sizes, inside_key, key_of}
+use Rattle.type_rules.specs.TypesByNumber.{key_room, Names, Sizes, inside_key}
 use Rattle.declared_names.specs.NamesByNumber.{givens_key, dossier_key}
 use Rattle.declared_names.specs.PassPromises.{CheckSeen}
-use Rattle.names.proofs.TypesAgreeLeast.{Small}
 use Rattle.reader.specs.Promises.{Written, Kept, ReadIs, Reads, Stands, Named, Refuses, Checks}
 use Rattle.reader.specs.declared.Reading.{Reading}
 use Rattle.reader.specs.declared.Reading.TheVariants.{Read, Refused}
 use Rattle.reader.proofs.FewGivens.{forms-fewer}
 use Rattle.reader.proofs.LeastNameFault.{names-from-free}
-use Rattle.reader.proofs.FaultKeys.{key-number, key-place, least-small}
+use Rattle.reader.proofs.FaultKeys.{key-number, key-place}
 use Rattle.reader.proofs.PartSections.{sectioned-placed}
-use Rattle.reader.proofs.ParsedReading.{Structured, Told, read_is}
+use Rattle.reader.proofs.ParsedReading.{Told, read_is}
 
 -- ---- names ----
 

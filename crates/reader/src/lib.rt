@@ -20,7 +20,7 @@ use tables::passes::write;
 use type_rules::kinds::KEY_ROOM;
 
 // How many symbols and how many numbers of nodes a text has that is a dossier; or the number of its refusal, and the place.
-#[derive(Drop)]
+#[derive(Clone, Copy)]
 pub enum Reading {
     Read(usize, usize),
     Refused(u8, usize),

@@ -17,7 +17,7 @@ use Rattle.evaluator.specs.EvaluationPromises.{TermRuns, TermAnswers, ItemsRun, 
 
 -- a signed number is read back from its bits
 pub read : {z : ℤ} → mag z < 2 ^ 63 → to_z w64 (of_z w64 z) ≡ z
-read h = to_z-of_z (record { sfits = h })
+read h = to_z-of_z {w = w64} (record { sfits = h })
 
 -- numbers that are not the same
 pub unequal : {m n : ℕ} → (m ≡ n → ⊥) → eqb m n ≡ false

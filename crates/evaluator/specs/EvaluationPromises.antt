@@ -1,5 +1,5 @@
 -- What the functions of the evaluator ask and promise, by numbers. Nothing here need be believed.
-use Rattle.std.specs.Prelude.{◌≡◌, Bool, List, ℕ, ◌-◌, ◌≤◌, eqb, ℤ, pos}
+use Rattle.std.specs.Prelude.{◌≡◌, Bool, List, ℕ, ◌-◌, ◌≤◌, eqb, ℤ}
 use Rattle.sets.specs.Sets as sets
 use Rattle.evaluation.specs.OperatorsByNumber.{asked}
 use Rattle.evaluation.specs.EvaluationByNumber.{Values, first_at, low_at, count_at, Bound, TermIs, ItemsIs, TruthIs, SuchNode, QuantifierNode, AskedNode}

@@ -1,0 +1,360 @@
+-- The functions of the evaluator, which call each other, meet their contracts. Assumes nothing.
+use lib.ListN.{set, get_or}
+use mir.Facts.{to_z-of_z}
+use mir.Syntax.{w64}
+use mir.Val.{bool_byte}
+use mathlib.Core.Path.{subst, refl, sym, ap, ◌∙◌}
+use Prim.Native.Nat.{ℕ, ◌+◌, ◌-◌, ◌≤◌}
+use native.Mathlib.Omega.{arith}
+use borrow.Author.Rules.{rules}
+use Rattle.evaluator.proofs.LoopLaws.{SuchSoFar, SomeSoFar, OnceSoFar}
+use Rattle.evaluator.proofs.LoopLaws as loops
+use Rattle.evaluator.proofs.NumberLaws as numbers
+use Rattle.evaluator.proofs.NodeLaws as nodes
+use Rattle.evaluator.proofs.ItemLaws as items-laws
+use Rattle.evaluator.proofs.TruthLaws as truths
+use Rattle.evaluator.proofs.MemberLaws as members
+use mir.Syntax.{w64}
+use Rattle.evaluator.proofs.+evaluation.Goals as goal
+
+pub holds-holds-requires : goal.holds-holds-requires
+holds-holds-requires t c = (omega arith, truths.not-part c.in-17.is c.requires.truth_runs)
+
+pub holds-holds-p-requires : goal.holds-holds-p-requires
+holds-holds-p-requires t c = (let below = truths.connective-before c.in-18.is c.requires.truth_runs in omega arith, truths.connective-left c.in-18.is c.requires.truth_runs)
+
+pub holds-settles-requires : goal.holds-settles-requires
+holds-settles-requires t c = tt
+
+pub holds-connected-requires : goal.holds-connected-requires
+holds-connected-requires t c = tt
+
+pub holds-returns-then-settles : goal.holds-returns-then-settles
+holds-returns-then-settles t c = record { answers = truths.connective-settled c.in-18.is (c.settles.ensures c.if-settles.true) c.connected.ensures c.holds-p.ensures.answers; kept = c.holds-p.ensures.kept }
+
+pub holds-holds-q-requires : goal.holds-holds-q-requires
+holds-holds-q-requires t c = (omega arith, truths.truth-at c.holds-p.ensures.kept (truths.connective-right c.in-18.is c.requires.truth_runs))
+
+pub holds-connected-requires-in-18 : goal.holds-connected-requires-in-18
+holds-connected-requires-in-18 t c = tt
+
+pub holds-part-x-requires : goal.holds-part-x-requires
+holds-part-x-requires t c = (let below = truths.comparison-before c.in-19.is c.requires.truth_runs in omega arith, truths.comparison-left c.in-19.is c.requires.truth_runs)
+
+pub holds-part-y-requires : goal.holds-part-y-requires
+holds-part-y-requires t c = (omega arith, nodes.runs-at c.part-x.ensures.kept (truths.comparison-right c.in-19.is c.requires.truth_runs))
+
+pub holds-compared-requires : goal.holds-compared-requires
+holds-compared-requires t c = tt
+
+pub holds-quantified-requires : goal.holds-quantified-requires
+holds-quantified-requires t c = (omega arith, (c.requires.inside, truths.quantifier-runs c.in-24.is c.requires.truth_runs))
+
+pub holds-member-requires : goal.holds-member-requires
+holds-member-requires t c = (omega arith, (c.requires.inside, truths.asked-runs (nodes.unequal c.in_default.in_default-own.rest.0.0.0.0.1) (nodes.unequal c.in_default.in_default-own.rest.0.0.0.1) (nodes.unequal c.in_default.in_default-own.rest.0.0.1) (nodes.unequal c.in_default.in_default-own.rest.0.1) (nodes.unequal c.in_default.in_default-own.rest.1) c.requires.truth_runs))
+
+pub holds-returns-in-16 : goal.holds-returns-in-16
+holds-returns-in-16 t c = record { answers = truths.truth-answers c.in-16.is; kept = refl }
+
+pub holds-returns-in-17 : goal.holds-returns-in-17
+holds-returns-in-17 t c = record { answers = truths.not-answers c.in-17.is c.holds.ensures.answers; kept = c.holds.ensures.kept }
+
+pub holds-returns-else-settles : goal.holds-returns-else-settles
+holds-returns-else-settles t c = record { answers = truths.connective-answers c.in-18.is c.connected-in-18.ensures c.holds-p.ensures.answers (truths.truth-heard c.holds-p.ensures.kept c.holds-q.ensures.answers); kept = c.holds-q.ensures.kept ∙ c.holds-p.ensures.kept }
+
+pub holds-returns-in-19 : goal.holds-returns-in-19
+holds-returns-in-19 t c = record { answers = truths.comparison-answers c.in-19.is c.compared.ensures (nodes.heard c.part-x.type_inv c.part-x.ensures.answers) (nodes.heard-at c.part-x.ensures.kept c.part-y.type_inv c.part-y.ensures.answers); kept = c.part-y.ensures.kept ∙ c.part-x.ensures.kept }
+
+pub holds-returns-in-24 : goal.holds-returns-in-24
+holds-returns-in-24 t c = record { answers = truths.quantifier-answers c.in-24.is c.quantified.ensures.answers; kept = c.quantified.ensures.kept }
+
+pub holds-returns-in_default : goal.holds-returns-in_default
+holds-returns-in_default t c = record { answers = truths.asked-answers (nodes.unequal c.in_default.in_default-own.rest.0.0.0.0.1) (nodes.unequal c.in_default.in_default-own.rest.0.0.0.1) (nodes.unequal c.in_default.in_default-own.rest.0.0.1) (nodes.unequal c.in_default.in_default-own.rest.0.1) (nodes.unequal c.in_default.in_default-own.rest.1) c.member.ensures.answers; kept = c.member.ensures.kept }
+
+pub items-part-x-requires : goal.items-part-x-requires
+items-part-x-requires t c = (omega arith, items-laws.last-item-part c.in-9.is c.requires.items_run)
+
+pub items-single-requires : goal.items-single-requires
+items-single-requires t c = items-laws.last-item-place c.in-9.is c.requires.items_run (nodes.heard c.part-x.type_inv c.part-x.ensures.answers)
+
+pub items-part-x-requires-in-10 : goal.items-part-x-requires-in-10
+items-part-x-requires-in-10 t c = (let below = items-laws.more-items-before c.in-10.is c.requires.items_run in omega arith, items-laws.more-items-part c.in-10.is c.requires.items_run)
+
+pub items-items-s-requires : goal.items-items-s-requires
+items-items-s-requires t c = (omega arith, items-laws.items_at c.part-x-in-10.ensures.kept (items-laws.more-items-rest c.in-10.is c.requires.items_run))
+
+pub items-single-requires-in-10 : goal.items-single-requires-in-10
+items-single-requires-in-10 t c = items-laws.more-items-place c.in-10.is c.requires.items_run (nodes.heard c.part-x-in-10.type_inv c.part-x-in-10.ensures.answers)
+
+pub items-joined-requires : goal.items-joined-requires
+items-joined-requires t c = (items-laws.single-bits (items-laws.more-items-place c.in-10.is c.requires.items_run (nodes.heard c.part-x-in-10.type_inv c.part-x-in-10.ensures.answers)) (nodes.read c.single-in-10.type_inv ∙ c.single-in-10.ensures), items-laws.items-bits (items-laws.more-items-rest c.in-10.is c.requires.items_run).1 (items-laws.items-heard c.part-x-in-10.ensures.kept c.items-s.type_inv c.items-s.ensures.answers))
+
+pub items-part-x-requires-in-11 : goal.items-part-x-requires-in-11
+items-part-x-requires-in-11 t c = (let below = items-laws.last-pair-before c.in-11.is c.requires.items_run in omega arith, items-laws.last-pair-left c.in-11.is c.requires.items_run)
+
+pub items-part-y-requires : goal.items-part-y-requires
+items-part-y-requires t c = (omega arith, nodes.runs-at c.part-x-in-11.ensures.kept (items-laws.last-pair-right c.in-11.is c.requires.items_run))
+
+pub items-pair-requires : goal.items-pair-requires
+items-pair-requires t c = items-laws.last-pair-takes c.in-11.is c.requires.items_run (nodes.heard c.part-x-in-11.type_inv c.part-x-in-11.ensures.answers) (nodes.heard-at c.part-x-in-11.ensures.kept c.part-y.type_inv c.part-y.ensures.answers)
+
+pub items-single-requires-in-11 : goal.items-single-requires-in-11
+items-single-requires-in-11 t c = items-laws.last-pair-low c.in-11.is (nodes.read c.pair.type_inv ∙ c.pair.ensures) c.requires.items_run (nodes.heard c.part-x-in-11.type_inv c.part-x-in-11.ensures.answers) (nodes.heard-at c.part-x-in-11.ensures.kept c.part-y.type_inv c.part-y.ensures.answers)
+
+pub items-part-x-requires-in_default : goal.items-part-x-requires-in_default
+items-part-x-requires-in_default t c = (let below = items-laws.more-pairs-before (nodes.unequal c.in_default.in_default-own.rest.0.0.1) (nodes.unequal c.in_default.in_default-own.rest.0.1) (nodes.unequal c.in_default.in_default-own.rest.1) c.requires.items_run in omega arith, items-laws.more-pairs-left (nodes.unequal c.in_default.in_default-own.rest.0.0.1) (nodes.unequal c.in_default.in_default-own.rest.0.1) (nodes.unequal c.in_default.in_default-own.rest.1) c.requires.items_run)
+
+pub items-part-y-requires-in_default : goal.items-part-y-requires-in_default
+items-part-y-requires-in_default t c = (let below = items-laws.more-pairs-between (nodes.unequal c.in_default.in_default-own.rest.0.0.1) (nodes.unequal c.in_default.in_default-own.rest.0.1) (nodes.unequal c.in_default.in_default-own.rest.1) c.requires.items_run in omega arith, nodes.runs-at c.part-x-in_default.ensures.kept (items-laws.more-pairs-right (nodes.unequal c.in_default.in_default-own.rest.0.0.1) (nodes.unequal c.in_default.in_default-own.rest.0.1) (nodes.unequal c.in_default.in_default-own.rest.1) c.requires.items_run))
+
+pub items-items-s-requires-in_default : goal.items-items-s-requires-in_default
+items-items-s-requires-in_default t c = (omega arith, items-laws.items_at (c.part-y-in_default.ensures.kept ∙ c.part-x-in_default.ensures.kept) (items-laws.more-pairs-rest (nodes.unequal c.in_default.in_default-own.rest.0.0.1) (nodes.unequal c.in_default.in_default-own.rest.0.1) (nodes.unequal c.in_default.in_default-own.rest.1) c.requires.items_run))
+
+pub items-pair-requires-in_default : goal.items-pair-requires-in_default
+items-pair-requires-in_default t c = items-laws.more-pairs-takes (nodes.unequal c.in_default.in_default-own.rest.0.0.1) (nodes.unequal c.in_default.in_default-own.rest.0.1) (nodes.unequal c.in_default.in_default-own.rest.1) c.requires.items_run (nodes.heard c.part-x-in_default.type_inv c.part-x-in_default.ensures.answers) (nodes.heard-at c.part-x-in_default.ensures.kept c.part-y-in_default.type_inv c.part-y-in_default.ensures.answers)
+
+pub items-single-requires-in_default : goal.items-single-requires-in_default
+items-single-requires-in_default t c = items-laws.more-pairs-low (nodes.unequal c.in_default.in_default-own.rest.0.0.1) (nodes.unequal c.in_default.in_default-own.rest.0.1) (nodes.unequal c.in_default.in_default-own.rest.1) (nodes.read c.pair-in_default.type_inv ∙ c.pair-in_default.ensures) c.requires.items_run (nodes.heard c.part-x-in_default.type_inv c.part-x-in_default.ensures.answers) (nodes.heard-at c.part-x-in_default.ensures.kept c.part-y-in_default.type_inv c.part-y-in_default.ensures.answers)
+
+pub items-joined-requires-in_default : goal.items-joined-requires-in_default
+items-joined-requires-in_default t c = (items-laws.single-bits (items-laws.more-pairs-low (nodes.unequal c.in_default.in_default-own.rest.0.0.1) (nodes.unequal c.in_default.in_default-own.rest.0.1) (nodes.unequal c.in_default.in_default-own.rest.1) (nodes.read c.pair-in_default.type_inv ∙ c.pair-in_default.ensures) c.requires.items_run (nodes.heard c.part-x-in_default.type_inv c.part-x-in_default.ensures.answers) (nodes.heard-at c.part-x-in_default.ensures.kept c.part-y-in_default.type_inv c.part-y-in_default.ensures.answers)) (nodes.read c.single-in_default.type_inv ∙ c.single-in_default.ensures), items-laws.items-bits (items-laws.more-pairs-rest (nodes.unequal c.in_default.in_default-own.rest.0.0.1) (nodes.unequal c.in_default.in_default-own.rest.0.1) (nodes.unequal c.in_default.in_default-own.rest.1) c.requires.items_run).1 (items-laws.items-heard (c.part-y-in_default.ensures.kept ∙ c.part-x-in_default.ensures.kept) c.items-s-in_default.type_inv c.items-s-in_default.ensures.answers))
+
+pub items-returns-in-9 : goal.items-returns-in-9
+items-returns-in-9 t c = record { answers = items-laws.last-item-answers c.in-9.is (nodes.read c.single.type_inv ∙ c.single.ensures) (nodes.heard c.part-x.type_inv c.part-x.ensures.answers); kept = c.part-x.ensures.kept }
+
+pub items-returns-in-10 : goal.items-returns-in-10
+items-returns-in-10 t c = record { answers = items-laws.more-items-answers c.in-10.is (nodes.read c.single-in-10.type_inv ∙ c.single-in-10.ensures) (nodes.read c.joined.type_inv ∙ c.joined.ensures) (nodes.heard c.part-x-in-10.type_inv c.part-x-in-10.ensures.answers) (items-laws.items-heard c.part-x-in-10.ensures.kept c.items-s.type_inv c.items-s.ensures.answers); kept = c.items-s.ensures.kept ∙ c.part-x-in-10.ensures.kept }
+
+pub items-returns-in-11 : goal.items-returns-in-11
+items-returns-in-11 t c = record { answers = items-laws.last-pair-answers c.in-11.is (nodes.read c.pair.type_inv ∙ c.pair.ensures) (nodes.read c.single-in-11.type_inv ∙ c.single-in-11.ensures) (nodes.heard c.part-x-in-11.type_inv c.part-x-in-11.ensures.answers) (nodes.heard-at c.part-x-in-11.ensures.kept c.part-y.type_inv c.part-y.ensures.answers); kept = c.part-y.ensures.kept ∙ c.part-x-in-11.ensures.kept }
+
+pub items-returns-in_default : goal.items-returns-in_default
+items-returns-in_default t c = record { answers = items-laws.more-pairs-answers (nodes.unequal c.in_default.in_default-own.rest.0.0.1) (nodes.unequal c.in_default.in_default-own.rest.0.1) (nodes.unequal c.in_default.in_default-own.rest.1) (nodes.read c.pair-in_default.type_inv ∙ c.pair-in_default.ensures) (nodes.read c.single-in_default.type_inv ∙ c.single-in_default.ensures) (nodes.read c.joined-in_default.type_inv ∙ c.joined-in_default.ensures) (nodes.heard c.part-x-in_default.type_inv c.part-x-in_default.ensures.answers) (nodes.heard-at c.part-x-in_default.ensures.kept c.part-y-in_default.type_inv c.part-y-in_default.ensures.answers) (items-laws.items-heard (c.part-y-in_default.ensures.kept ∙ c.part-x-in_default.ensures.kept) c.items-s-in_default.type_inv c.items-s-in_default.ensures.answers); kept = c.items-s-in_default.ensures.kept ∙ (c.part-y-in_default.ensures.kept ∙ c.part-x-in_default.ensures.kept) }
+
+pub member-part-x-requires : goal.member-part-x-requires
+member-part-x-requires t c = (let below = members.element-before c.in-20.is c.requires.asked_runs in omega arith, members.element-left c.in-20.is c.requires.asked_runs)
+
+pub member-part-s-requires : goal.member-part-s-requires
+member-part-s-requires t c = (omega arith, nodes.runs-at c.part-x.ensures.kept (members.element-right c.in-20.is c.requires.asked_runs))
+
+pub member-has-requires : goal.member-has-requires
+member-has-requires t c = members.element-takes c.in-20.is c.requires.asked_runs (nodes.heard c.part-x.type_inv c.part-x.ensures.answers) (nodes.heard-at c.part-x.ensures.kept c.part-s.type_inv c.part-s.ensures.answers)
+
+pub member-asked-requires : goal.member-asked-requires
+member-asked-requires t c = tt
+
+pub member-overflow_sub-end-in-21 : goal.member-overflow_sub-end-in-21
+member-overflow_sub-end-in-21 t c = members.range-room c.in-21.is c.requires.asked_runs
+
+pub member-part-x-requires-in-21 : goal.member-part-x-requires-in-21
+member-part-x-requires-in-21 t c = (let room = members.range-room c.in-21.is c.requires.asked_runs in omega arith, members.range-part c.in-21.is c.requires.asked_runs)
+
+pub member-overflow_sub-end-in-21-3 : goal.member-overflow_sub-end-in-21-3
+member-overflow_sub-end-in-21-3 t c = let room = members.range-room c.in-21.is c.requires.asked_runs in omega arith
+
+pub member-lowest-requires : goal.member-lowest-requires
+member-lowest-requires t c = tt
+
+pub member-overflow_sub-end-in-21-5 : goal.member-overflow_sub-end-in-21-5
+member-overflow_sub-end-in-21-5 t c = let room = members.range-room c.in-21.is c.requires.asked_runs in omega arith
+
+pub member-in_range-requires : goal.member-in_range-requires
+member-in_range-requires t c = numbers.small-read c.lowest.result c.lowest.type_inv c.lowest.ensures.small
+
+pub member-asked-requires-in-21 : goal.member-asked-requires-in-21
+member-asked-requires-in-21 t c = tt
+
+pub member-part-x-requires-in_default : goal.member-part-x-requires-in_default
+member-part-x-requires-in_default t c = (let below = members.related-before (nodes.unequal c.in_default.in_default-own.rest.0.1) (nodes.unequal c.in_default.in_default-own.rest.1) c.requires.asked_runs in omega arith, members.related-left (nodes.unequal c.in_default.in_default-own.rest.0.1) (nodes.unequal c.in_default.in_default-own.rest.1) c.requires.asked_runs)
+
+pub member-part-y-requires : goal.member-part-y-requires
+member-part-y-requires t c = (let below = members.related-between (nodes.unequal c.in_default.in_default-own.rest.0.1) (nodes.unequal c.in_default.in_default-own.rest.1) c.requires.asked_runs in omega arith, nodes.runs-at c.part-x-in_default.ensures.kept (members.related-middle (nodes.unequal c.in_default.in_default-own.rest.0.1) (nodes.unequal c.in_default.in_default-own.rest.1) c.requires.asked_runs))
+
+pub member-part-s-requires-in_default : goal.member-part-s-requires-in_default
+member-part-s-requires-in_default t c = (omega arith, nodes.runs-at (c.part-y.ensures.kept ∙ c.part-x-in_default.ensures.kept) (members.related-right (nodes.unequal c.in_default.in_default-own.rest.0.1) (nodes.unequal c.in_default.in_default-own.rest.1) c.requires.asked_runs))
+
+pub member-pair-requires : goal.member-pair-requires
+member-pair-requires t c = members.related-takes (nodes.unequal c.in_default.in_default-own.rest.0.1) (nodes.unequal c.in_default.in_default-own.rest.1) c.requires.asked_runs (nodes.heard c.part-x-in_default.type_inv c.part-x-in_default.ensures.answers) (nodes.heard-at c.part-x-in_default.ensures.kept c.part-y.type_inv c.part-y.ensures.answers)
+
+pub member-has-requires-in_default : goal.member-has-requires-in_default
+member-has-requires-in_default t c = members.related-has (nodes.unequal c.in_default.in_default-own.rest.0.1) (nodes.unequal c.in_default.in_default-own.rest.1) (nodes.read c.pair.type_inv ∙ c.pair.ensures) c.requires.asked_runs (nodes.heard c.part-x-in_default.type_inv c.part-x-in_default.ensures.answers) (nodes.heard-at c.part-x-in_default.ensures.kept c.part-y.type_inv c.part-y.ensures.answers) (nodes.heard-at (c.part-y.ensures.kept ∙ c.part-x-in_default.ensures.kept) c.part-s-in_default.type_inv c.part-s-in_default.ensures.answers)
+
+pub member-asked-requires-in_default : goal.member-asked-requires-in_default
+member-asked-requires-in_default t c = tt
+
+pub member-returns-in-20 : goal.member-returns-in-20
+member-returns-in-20 t c = record { answers = members.element-answers c.in-20.is c.has.ensures c.asked.ensures (nodes.heard c.part-x.type_inv c.part-x.ensures.answers) (nodes.heard-at c.part-x.ensures.kept c.part-s.type_inv c.part-s.ensures.answers); kept = c.part-s.ensures.kept ∙ c.part-x.ensures.kept }
+
+pub member-returns-in-21 : goal.member-returns-in-21
+member-returns-in-21 t c = record { answers = members.range-answers c.in-21.is (nodes.read c.lowest.type_inv ∙ c.lowest.ensures.is) c.in_range.ensures c.asked-in-21.ensures (nodes.heard c.part-x-in-21.type_inv c.part-x-in-21.ensures.answers); kept = c.part-x-in-21.ensures.kept }
+
+pub member-returns-in_default : goal.member-returns-in_default
+member-returns-in_default t c = record { answers = members.related-answers (nodes.unequal c.in_default.in_default-own.rest.0.1) (nodes.unequal c.in_default.in_default-own.rest.1) (nodes.read c.pair.type_inv ∙ c.pair.ensures) c.has-in_default.ensures c.asked-in_default.ensures (nodes.heard c.part-x-in_default.type_inv c.part-x-in_default.ensures.answers) (nodes.heard-at c.part-x-in_default.ensures.kept c.part-y.type_inv c.part-y.ensures.answers) (nodes.heard-at (c.part-y.ensures.kept ∙ c.part-x-in_default.ensures.kept) c.part-s-in_default.type_inv c.part-s-in_default.ensures.answers); kept = c.part-s-in_default.ensures.kept ∙ (c.part-y.ensures.kept ∙ c.part-x-in_default.ensures.kept) }
+
+pub once-loop-k-init : goal.once-loop-k-init
+once-loop-k-init t c = (omega arith, (λ v. refl), loops.once-start)
+
+pub once-counted-requires : goal.once-counted-requires
+once-counted-requires t c = tt
+
+pub once-next-k-requires : goal.once-next-k-requires
+once-next-k-requires t c = c.loop-k-test.true
+
+pub once-holds-requires : goal.once-holds-requires
+once-holds-requires t c = (let room : 8 ≤ c.args.end = c.requires.bound_runs.room in omega arith, loops.test-part c.requires.bound_runs c.loop-k-test.true (c.loop-k.invariant.1 _ ∙ ap (set c.args.slots.now (get_or c.args.t.now (c.args.end - 3) 0)) (nodes.read c.counted.type_inv ∙ c.counted.ensures)))
+
+pub once-overflow_add-found : goal.once-overflow_add-found
+once-overflow_add-found t c = let room = c.next-k.type_inv in let counted = loops.counted-small c.loop-k.found c.loop-k.k c.holds.result c.loop-k.invariant.0 in omega arith
+
+pub once-loop-k-preserved : goal.once-loop-k-preserved
+once-loop-k-preserved t c = (let counted = loops.counted-small c.loop-k.found c.loop-k.k c.holds.result c.loop-k.invariant.0 in omega (arith, c.next-k.ensures), loops.still c.loop-k.slots c.args.slots.now (get_or c.args.t.now (c.args.end - 3) 0) _ c.holds.ensures.kept c.loop-k.invariant.1, subst (λ (i : ℕ). OnceSoFar c.args.t.now c.args.end c.args.slots.now i (c.loop-k.found + bool_byte c.holds.result)) (sym c.next-k.ensures) (loops.once-step c.loop-k.invariant.2 c.loop-k-test.true (c.loop-k.invariant.1 _ ∙ ap (set c.args.slots.now (get_or c.args.t.now (c.args.end - 3) 0)) (nodes.read c.counted.type_inv ∙ c.counted.ensures)) c.holds.ensures.answers))
+
+pub once-returns : goal.once-returns
+once-returns t c = record { answers = loops.once-done c.loop-k.invariant.2 c.loop-k-test.false; kept = loops.given_back c.loop-k.slots c.args.slots.now (get_or c.args.t.now (c.args.end - 3) 0) c.loop-k.invariant.1 (to_z-of_z {w = w64} (search rules)) }
+
+pub part-offset_bounds-slots-t : goal.part-offset_bounds-slots-t
+part-offset_bounds-slots-t t c = let low = nodes.slot_low c.if-shape-eq-SLOT.true c.requires.term_runs in omega arith
+
+pub part-bounds-slots-t : goal.part-bounds-slots-t
+part-bounds-slots-t t c = nodes.slot_low c.if-shape-eq-SLOT.true c.requires.term_runs
+
+pub part-returns-then-shape-eq-SLOT : goal.part-returns-then-shape-eq-SLOT
+part-returns-then-shape-eq-SLOT t c = record { answers = nodes.slot-answers c.if-shape-eq-SLOT.true (to_z-of_z {w = w64} (search rules)); kept = refl }
+
+pub part-whole-requires : goal.part-whole-requires
+part-whole-requires t c = tt
+
+pub part-returns-then-shape-eq-VALUE : goal.part-returns-then-shape-eq-VALUE
+part-returns-then-shape-eq-VALUE t c = record { answers = nodes.number-answers c.if-shape-eq-VALUE.true (nodes.read c.whole.type_inv ∙ c.whole.ensures); kept = refl }
+
+pub part-value-requires : goal.part-value-requires
+part-value-requires t c = (omega arith, (c.requires.inside, c.requires.term_runs))
+
+pub part-returns : goal.part-returns
+part-returns t c = record { answers = nodes.heard c.value.type_inv c.value.ensures.answers; kept = c.value.ensures.kept }
+
+pub quantified-some-requires : goal.quantified-some-requires
+quantified-some-requires t c = (omega arith, (c.requires.inside, truths.bound-runs c.requires.quantifier_runs))
+
+pub quantified-some-requires-in-54 : goal.quantified-some-requires-in-54
+quantified-some-requires-in-54 t c = (omega arith, (c.requires.inside, truths.bound-runs c.requires.quantifier_runs))
+
+pub quantified-once-requires : goal.quantified-once-requires
+quantified-once-requires t c = (omega arith, (c.requires.inside, truths.bound-runs c.requires.quantifier_runs))
+
+pub quantified-returns-in-53 : goal.quantified-returns-in-53
+quantified-returns-in-53 t c = record { answers = truths.forall-answers c.in-53.is c.some.ensures.answers; kept = c.some.ensures.kept }
+
+pub quantified-returns-in-54 : goal.quantified-returns-in-54
+quantified-returns-in-54 t c = record { answers = truths.exists-answers c.in-54.is c.some-in-54.ensures.answers; kept = c.some-in-54.ensures.kept }
+
+pub quantified-returns-in_default : goal.quantified-returns-in_default
+quantified-returns-in_default t c = record { answers = truths.once-answers (nodes.unequal c.in_default.in_default-own.rest.0.1) (nodes.unequal c.in_default.in_default-own.rest.1) c.once.ensures.answers; kept = c.once.ensures.kept }
+
+pub some-loop-k-init : goal.some-loop-k-init
+some-loop-k-init t c = (omega arith, (λ v. refl), loops.some-start)
+
+pub some-counted-requires : goal.some-counted-requires
+some-counted-requires t c = tt
+
+pub some-holds-p-requires : goal.some-holds-p-requires
+some-holds-p-requires t c = (let room : 8 ≤ c.args.end = c.requires.bound_runs.room in omega arith, loops.test-part c.requires.bound_runs c.loop-k-test.true (c.loop-k.invariant.1 _ ∙ ap (set c.args.slots.now (get_or c.args.t.now (c.args.end - 3) 0)) (nodes.read c.counted.type_inv ∙ c.counted.ensures)))
+
+pub some-asked-requires : goal.some-asked-requires
+some-asked-requires t c = tt
+
+pub some-returns-then-asked : goal.some-returns-then-asked
+some-returns-then-asked t c = record { answers = loops.some-found c.loop-k.invariant.2 c.loop-k-test.true (c.loop-k.invariant.1 _ ∙ ap (set c.args.slots.now (get_or c.args.t.now (c.args.end - 3) 0)) (nodes.read c.counted.type_inv ∙ c.counted.ensures)) c.holds-p.ensures.answers (sym c.asked.ensures ∙ c.if-asked.true); kept = loops.given_back c.holds-p.new.slots c.args.slots.now (get_or c.args.t.now (c.args.end - 3) 0) (loops.still c.loop-k.slots c.args.slots.now (get_or c.args.t.now (c.args.end - 3) 0) _ c.holds-p.ensures.kept c.loop-k.invariant.1) (to_z-of_z {w = w64} (search rules)) }
+
+pub some-next-k-requires : goal.some-next-k-requires
+some-next-k-requires t c = c.loop-k-test.true
+
+pub some-loop-k-preserved : goal.some-loop-k-preserved
+some-loop-k-preserved t c = (omega (arith, c.next-k.ensures), loops.still c.loop-k.slots c.args.slots.now (get_or c.args.t.now (c.args.end - 3) 0) _ c.holds-p.ensures.kept c.loop-k.invariant.1, subst (λ (i : ℕ). SomeSoFar c.args.t.now c.args.end c.args.slots.now c.args.wanted i) (sym c.next-k.ensures) (loops.some-step c.loop-k.invariant.2 c.loop-k-test.true (c.loop-k.invariant.1 _ ∙ ap (set c.args.slots.now (get_or c.args.t.now (c.args.end - 3) 0)) (nodes.read c.counted.type_inv ∙ c.counted.ensures)) c.holds-p.ensures.answers (sym c.asked.ensures ∙ c.if-asked.false)))
+
+pub some-returns : goal.some-returns
+some-returns t c = record { answers = loops.some-none c.loop-k.invariant.2 c.loop-k-test.false; kept = loops.given_back c.loop-k.slots c.args.slots.now (get_or c.args.t.now (c.args.end - 3) 0) c.loop-k.invariant.1 (to_z-of_z {w = w64} (search rules)) }
+
+pub such-loop-k-init : goal.such-loop-k-init
+such-loop-k-init t c = (omega arith, (λ v. refl), loops.such-start)
+
+pub such-whole-requires : goal.such-whole-requires
+such-whole-requires t c = tt
+
+pub such-overflow_mul-s : goal.such-overflow_mul-s
+such-overflow_mul-s t c = let small = loops.such-small c.requires.such_runs c.loop-k.invariant.2 in omega arith
+
+pub such-holds-requires : goal.such-holds-requires
+such-holds-requires t c = (let room : 8 ≤ c.args.end = c.requires.such_runs.is.room in omega arith, loops.such-part {k = c.loop-k.k} c.requires.such_runs (omega arith) c.loop-k.invariant.0 (c.loop-k.invariant.1 _ ∙ ap (set c.args.slots.now (get_or c.args.t.now (c.args.end - 3) 0)) (nodes.read c.whole.type_inv ∙ c.whole.ensures)))
+
+pub such-overflow_add-s : goal.such-overflow_add-s
+such-overflow_add-s t c = let small = loops.doubled-small c.loop-k.s c.holds.result (loops.such-small c.requires.such_runs c.loop-k.invariant.2) in omega arith
+
+pub such-loop-k-preserved : goal.such-loop-k-preserved
+such-loop-k-preserved t c = (omega arith, loops.still c.loop-k.slots c.args.slots.now (get_or c.args.t.now (c.args.end - 3) 0) _ c.holds.ensures.kept c.loop-k.invariant.1, loops.such-step {k = c.loop-k.k} c.loop-k.invariant.2 (omega arith) c.loop-k.invariant.0 (c.loop-k.invariant.1 _ ∙ ap (set c.args.slots.now (get_or c.args.t.now (c.args.end - 3) 0)) (nodes.read c.whole.type_inv ∙ c.whole.ensures)) c.holds.ensures.answers)
+
+pub such-of_bits-requires : goal.such-of_bits-requires
+such-of_bits-requires t c = tt
+
+pub such-returns : goal.such-returns
+such-returns t c = record { answers = loops.such-done c.loop-k.invariant.2 c.loop-k-test.false (nodes.read c.of_bits.type_inv ∙ c.of_bits.ensures); kept = loops.given_back c.loop-k.slots c.args.slots.now (get_or c.args.t.now (c.args.end - 3) 0) c.loop-k.invariant.1 (to_z-of_z {w = w64} (search rules)) }
+
+pub value-whole-requires : goal.value-whole-requires
+value-whole-requires t c = tt
+
+pub value-overflow_cast-result : goal.value-overflow_cast-result
+value-overflow_cast-result t c = let low = nodes.slot_low c.in-2.is c.requires.term_runs in let inside = c.requires.inside in omega arith
+
+pub value-offset_bounds-slots-first : goal.value-offset_bounds-slots-first
+value-offset_bounds-slots-first t c = let low = nodes.slot_low c.in-2.is c.requires.term_runs in omega arith
+
+pub value-bounds-slots-first : goal.value-bounds-slots-first
+value-bounds-slots-first t c = nodes.slot_low c.in-2.is c.requires.term_runs
+
+pub value-part-x-requires : goal.value-part-x-requires
+value-part-x-requires t c = (omega arith, nodes.prefix-part c.in-3.is c.requires.term_runs)
+
+pub value-prefixed-requires : goal.value-prefixed-requires
+value-prefixed-requires t c = nodes.prefix-takes c.in-3.is c.requires.term_runs (nodes.heard c.part-x.type_inv c.part-x.ensures.answers)
+
+pub value-part-x-requires-in-4 : goal.value-part-x-requires-in-4
+value-part-x-requires-in-4 t c = (omega arith, nodes.division-part c.in-4.is c.requires.term_runs)
+
+pub value-divided-requires : goal.value-divided-requires
+value-divided-requires t c = nodes.division-takes c.in-4.is c.requires.term_runs (nodes.heard c.part-x-in-4.type_inv c.part-x-in-4.ensures.answers)
+
+pub value-part-x-requires-in-5 : goal.value-part-x-requires-in-5
+value-part-x-requires-in-5 t c = (let below = nodes.operator-before c.in-5.is c.requires.term_runs in omega arith, nodes.operator-left c.in-5.is c.requires.term_runs)
+
+pub value-part-y-requires : goal.value-part-y-requires
+value-part-y-requires t c = (omega arith, nodes.runs-at c.part-x-in-5.ensures.kept (nodes.operator-right c.in-5.is c.requires.term_runs))
+
+pub value-operated-requires : goal.value-operated-requires
+value-operated-requires t c = nodes.operator-takes c.in-5.is c.requires.term_runs (nodes.heard c.part-x-in-5.type_inv c.part-x-in-5.ensures.answers) (nodes.heard-at c.part-x-in-5.ensures.kept c.part-y.type_inv c.part-y.ensures.answers)
+
+pub value-such-requires : goal.value-such-requires
+value-such-requires t c = (omega arith, (c.requires.inside, nodes.such-runs c.in-6.is c.requires.term_runs))
+
+pub value-items-requires : goal.value-items-requires
+value-items-requires t c = (omega arith, nodes.brace-part (nodes.unequal c.in_default.in_default-own.rest.0.0.0.0.0.1) (nodes.unequal c.in_default.in_default-own.rest.0.0.0.0.1) (nodes.unequal c.in_default.in_default-own.rest.0.0.0.1) (nodes.unequal c.in_default.in_default-own.rest.0.0.1) (nodes.unequal c.in_default.in_default-own.rest.0.1) (nodes.unequal c.in_default.in_default-own.rest.1) c.requires.term_runs)
+
+pub value-returns-in-1 : goal.value-returns-in-1
+value-returns-in-1 t c = record { answers = nodes.number-answers c.in-1.is (nodes.read c.whole.type_inv ∙ c.whole.ensures); kept = refl }
+
+pub value-returns-in-2 : goal.value-returns-in-2
+value-returns-in-2 t c = record { answers = nodes.slot-answers c.in-2.is (to_z-of_z {w = w64} (search rules)); kept = refl }
+
+pub value-returns-in-3 : goal.value-returns-in-3
+value-returns-in-3 t c = record { answers = nodes.prefix-answers c.in-3.is (nodes.read c.prefixed.type_inv ∙ c.prefixed.ensures) (nodes.heard c.part-x.type_inv c.part-x.ensures.answers); kept = c.part-x.ensures.kept }
+
+pub value-returns-in-4 : goal.value-returns-in-4
+value-returns-in-4 t c = record { answers = nodes.division-answers c.in-4.is (nodes.read c.divided.type_inv ∙ c.divided.ensures) (nodes.heard c.part-x-in-4.type_inv c.part-x-in-4.ensures.answers); kept = c.part-x-in-4.ensures.kept }
+
+pub value-returns-in-5 : goal.value-returns-in-5
+value-returns-in-5 t c = record { answers = nodes.operator-answers c.in-5.is (nodes.read c.operated.type_inv ∙ c.operated.ensures) (nodes.heard c.part-x-in-5.type_inv c.part-x-in-5.ensures.answers) (nodes.heard-at c.part-x-in-5.ensures.kept c.part-y.type_inv c.part-y.ensures.answers); kept = c.part-y.ensures.kept ∙ c.part-x-in-5.ensures.kept }
+
+pub value-returns-in-6 : goal.value-returns-in-6
+value-returns-in-6 t c = record { answers = nodes.such-answers c.in-6.is c.such.type_inv c.such.ensures.answers; kept = c.such.ensures.kept }
+
+pub value-returns-in_default : goal.value-returns-in_default
+value-returns-in_default t c = record { answers = nodes.brace-answers (nodes.unequal c.in_default.in_default-own.rest.0.0.0.0.0.1) (nodes.unequal c.in_default.in_default-own.rest.0.0.0.0.1) (nodes.unequal c.in_default.in_default-own.rest.0.0.0.1) (nodes.unequal c.in_default.in_default-own.rest.0.0.1) (nodes.unequal c.in_default.in_default-own.rest.0.1) (nodes.unequal c.in_default.in_default-own.rest.1) c.items.type_inv c.items.ensures.answers; kept = c.items.ensures.kept }

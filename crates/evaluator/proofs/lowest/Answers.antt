@@ -1,0 +1,9 @@
+-- `evaluator::lowest` meets its contract. Assumes nothing.
+use Rattle.evaluator.proofs.NumberLaws as numbers
+use Rattle.evaluator.proofs.lowest.Goals as goal
+
+pub overflow_sub-result : goal.overflow_sub-result
+overflow_sub-result c = numbers.low_fits c.args.w c.ranges.w
+
+pub returns : goal.returns
+returns c = record { is = numbers.low-back c.args.w c.ranges.w; small = numbers.low_small c.args.w c.ranges.w (numbers.low-back c.args.w c.ranges.w) }

@@ -5,8 +5,7 @@ use mathlib.Core.List.{List}
 use Prim.Native.Nat.{ℕ, zero, suc, ◌+◌, ◌-◌, ◌*◌, ◌<◌, ◌≤◌}
 use native.Mathlib.Omega.{arith}
 use lib.Dec.{eqb}
-use lib.ListN.{get_or, set}
-use lib.IntN.{ℤ, pos, ◌+ℤ◌}
+use lib.IntN.{ℤ, pos}
 use Rattle.sets.specs.Sets as sets
 use Rattle.meaning.specs.Values.{natural}
 use Rattle.evaluation.specs.OperatorsByNumber.{pick, prefixed, divided, operated, compared, connected, asked, in_range}

@@ -1,5 +1,4 @@
 -- From what stands in the table to what the evaluator asks and answers by numbers.
-use mathlib.Core.Path.{◌≡◌, ◌∙◌}
 use mathlib.Core.Bool.{Bool}
 use mathlib.Core.List.{List}
 use Prim.Native.Nat.{ℕ, zero, suc}

@@ -6,7 +6,7 @@ use mathlib.Core.Option.{some, none-ne-some, some-injective}
 use Prim.Native.Nat.{ℕ, zero, suc, ◌+◌, ◌*◌, ◌/◌, ◌<◌, ◌≤◌}
 use native.Mathlib.Omega.{arith}
 use native.Mathlib.Nat.{zero-add, eq-or-lt_of_le}
-use lib.ListN.{length, take, get_or, get_elem?, length-append}
+use lib.ListN.{length, take, get_or, get_elem?}
 use lib.Seq.{length-take-le}
 use Rattle.lexical.specs.Symbols.{no_ending}
 use Rattle.form.specs.Tree.{Letters, Given, elements, Dossier}
@@ -19,8 +19,7 @@ use Rattle.parser.proofs.ItemNodes.{state-above}
 use Rattle.parser.proofs.PartPlaces.{from_abstract, from_concrete, at-givens, item-is, run_is}
 use Rattle.form.specs.Headings.{abstract_at}
 use Rattle.meaning.proofs.Places.{at-taken, entry-below}
-use Rattle.labels.specs.LabelPromises.{name_byte, names_from, Between, Stored, ElementsGathered}
-use Rattle.labels.proofs.LabelStores.{between_none, between_next}
+use Rattle.labels.specs.LabelPromises.{names_from, Between, Stored, ElementsGathered}
 
 -- ---- the nodes
 
@@ -40,7 +39,7 @@ element-named {c} {q} i (y ∷ xs) ρ r s zero x e =
     let z : q + 4 * 0 + 1 ≡ q + 1 = omega arith in
     record { inside = omega arith; number = ap (λ (j : ℕ). get_or c j 0) z ∙ omega arith }
 element-named {c} {q} i (y ∷ xs) ρ r s (suc k) x e =
-    let t = element-named (suc i) xs ρ r (split-next (node 4 i (4 * ρ y + 0) 0) (element_codes (suc i) xs ρ ++ r) s) k x e in
+    let t = element-named {q = q + length (node 4 i (4 * ρ y + 0) 0)} (suc i) xs ρ r (split-next (node 4 i (4 * ρ y + 0) 0) (element_codes (suc i) xs ρ ++ r) s) k x e in
     subst (λ (j : ℕ). NamedAt c ρ j x) (omega arith) t
 
 -- the given sets that are left, from q on; behind them a node of another shape

@@ -1,7 +1,7 @@
 -- What the lines of a witness need of a text: where in it the letters of each name begin, and of each variable its type. Nothing here need be believed.
 -- The labels: from 0 on the first byte of each element, 8 for each given set; from 64 on that of each operation's name; from 80 on four numbers for each of the 160 places of the groups:
 -- the first byte of the variable's name, the shape of its type, its given sets (the second plus 8 times the first of an arrow), how many elements the second one has.
-use Rattle.std.specs.Prelude.{◌≡◌, List, [], ◌∷◌, ℕ, suc, ◌+◌, ◌*◌, ◌/◌, ◌%◌, ◌<◌, ◌≤◌, length, drop, get_or}
+use Rattle.std.specs.Prelude.{◌≡◌, List, [], ◌∷◌, ℕ, suc, ◌+◌, ◌*◌, ◌/◌, ◌%◌, ◌≤◌, length, drop, get_or}
 use Rattle.std.proofs.Math.Option.{some}
 use Rattle.std.proofs.Math.ListN.{get_elem?}
 use Rattle.lexical.specs.Symbols.{run}

@@ -1,0 +1,16 @@
+-- `gather_titles` meets its contract: the labels are stored one behind another.
+use Prim.Native.Nat.{ℕ, ◌-◌}
+use mathlib.Core.Path.{ap, ◌∙◌}
+use native.Mathlib.Omega.{arith}
+use Rattle.labels.specs.LabelPromises.{name_byte}
+use Rattle.labels.proofs.LabelStores.{stored-none, stored_next, titles-gathered}
+use Rattle.labels.proofs.gather_titles.Goals as goal
+
+pub loop-j-init : goal.loop-j-init
+loop-j-init c = (omega arith, stored-none _ _ _)
+
+pub loop-j-preserved : goal.loop-j-preserved
+loop-j-preserved c = (omega arith, stored_next c.loop-j.invariant.1 (omega arith) (c.name_byte.ensures ∙ ap (λ (n : ℕ). name_byte c.args.nodes.now c.args.starts.now n) (c.before-in-loop-j.ensures ∙ ap (λ (n : ℕ). n - 4) (c.index-q.ensures.0 ∙ c.look.ensures))) c.put.ensures)
+
+pub returns : goal.returns
+returns c = titles-gathered (omega arith) c.loop-j.invariant.1

@@ -25,7 +25,7 @@ const NINE: u8 = b'9';
 const TEN: usize = 10;
 
 // A number of the script, and the place behind it.
-#[derive(Drop)]
+#[derive(Clone, Copy)]
 struct Digits {
     value: usize,
     next: usize,

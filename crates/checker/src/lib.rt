@@ -29,7 +29,7 @@ use witnesses::{WITNESS, put_witness};
 const LONGEST: usize = 1000000000;
 
 // What is held: the mark, or 0 for nothing, the place, how many operations and how many places there are.
-#[derive(Drop)]
+#[derive(Clone, Copy)]
 pub struct Opened {
     pub mark: u8,
     pub place: usize,

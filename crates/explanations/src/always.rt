@@ -34,7 +34,7 @@ fn say_bits(page: &mut [usize; PAGE], phrase: usize, j: usize, bits: usize) {
 }
 
 // Those of the group of n variables from a slot on, by the context of one side.
-#[derive(Drop)]
+#[derive(Clone, Copy)]
 struct Omission {
     phrase: usize,
     context: usize,

@@ -8,7 +8,7 @@ use slot_carriers::count_of;
 pub const KEYS: usize = 4096;
 
 // A group of variables: its first slot, how many they are, how many bindings they have, and which are idle, as bits, the first one's lowest.
-#[derive(Drop)]
+#[derive(Clone, Copy)]
 pub struct KeyGroup {
     pub first: usize,
     pub many: usize,

@@ -33,7 +33,7 @@ const NUMBER: u16 = 2;
 const SUBSET: u16 = 3;
 
 // A type, as the labels have it.
-#[derive(Drop)]
+#[derive(Clone, Copy)]
 struct Shape {
     shape: u16,
     sides: usize,
@@ -41,7 +41,7 @@ struct Shape {
 }
 
 // A set: the given sets of its members, how many elements the second of two has (0 for one), its bits.
-#[derive(Drop)]
+#[derive(Clone, Copy)]
 struct Set {
     sides: usize,
     size: usize,
@@ -49,7 +49,7 @@ struct Set {
 }
 
 // A group of variables: its first place among the groups, how many variables it has, the slot of its first value, the ending of its names (0 for none).
-#[derive(Drop)]
+#[derive(Clone, Copy)]
 pub struct Group {
     pub first: usize,
     pub count: usize,

@@ -16,7 +16,7 @@ use nest_steps::{next_input, passes_again, ready};
 use plans::Part;
 
 // Where a search of a part stopped, and whether the binding there fails.
-#[derive(Drop)]
+#[derive(Clone, Copy)]
 pub struct Swept {
     pub at: usize,
     pub failed: bool,

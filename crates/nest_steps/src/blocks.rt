@@ -18,7 +18,7 @@ const PASSES: u16 = 1;
 
 // Which variables do not matter, as bits, the first one's lowest: abstract ones for what is inside the block of a pair of states, and inside that of an abstract state; concrete ones for
 // what is inside the block of a pair.
-#[derive(Drop)]
+#[derive(Clone, Copy)]
 pub struct Masks {
     pub pairs: u64,
     pub wholes: u64,

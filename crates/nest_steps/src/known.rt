@@ -8,7 +8,7 @@ use plans::Part;
 pub const KNOWN: usize = 65536;
 
 // The numbers of a binding's groups: abstract, concrete, inputs, outputs, concrete primed.
-#[derive(Drop)]
+#[derive(Clone, Copy)]
 pub struct Numbers {
     pub a: usize,
     pub c: usize,

@@ -21,7 +21,7 @@ const OPERATION_ROWS: usize = 18;
 const OPERATION_ROW: usize = 8;
 
 // A part, and a place in it.
-#[derive(Drop)]
+#[derive(Clone, Copy)]
 pub struct Found {
     pub part: usize,
     pub at: usize,

@@ -24,7 +24,7 @@ const CONCRETE_ROW: usize = 9;
 const PARAMETER_ROW: usize = 4;
 
 // How many variables the groups of an operation have, and how many bindings.
-#[derive(Drop)]
+#[derive(Clone, Copy)]
 struct Sizes {
     va: usize,
     vc: usize,

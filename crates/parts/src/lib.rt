@@ -21,14 +21,14 @@ const OPENING: usize = 1;
 const OBLIGATIONS: usize = 2;
 
 // What a search came to: the place where it stopped, and whether the binding there fails.
-#[derive(Drop)]
+#[derive(Clone, Copy)]
 pub struct Searched {
     pub at: usize,
     pub failed: bool,
 }
 
 // The same of one part, counted from where it begins, and how many places the part has.
-#[derive(Drop)]
+#[derive(Clone, Copy)]
 pub struct PartLooked {
     pub size: usize,
     pub at: usize,

@@ -12,7 +12,7 @@ use sheets::{SHEET, behind, flow, less, letter, line_start, put, put_number, rep
 pub mod words;
 
 // What is filled into a phrase: its number, two numbers, the operation, how many variables the groups have.
-#[derive(Drop)]
+#[derive(Clone, Copy)]
 pub struct Filling {
     pub phrase: usize,
     pub n: usize,
@@ -85,7 +85,7 @@ const CONCRETE_PRIMED: usize = 22;
 const ABSTRACT_PRIMED: usize = 30;
 
 // A place of the words: what is filled in, of which group, and how far its line goes in.
-#[derive(Drop)]
+#[derive(Clone, Copy)]
 struct Place {
     kind: u8,
     group: u8,

@@ -18,7 +18,7 @@ mod contexts;
 // A part: how many variables its groups have, and how many bindings: abstract, concrete, inputs, outputs, concrete primed; then of the two searches for a step of the abstract operation
 // and for what must be there. `primed`: it goes over the concrete primed variables (correctness). What must be there then does not depend on the concrete state; else it depends on the
 // concrete state and the inputs alone.
-#[derive(Drop)]
+#[derive(Clone, Copy)]
 pub struct Part {
     pub va: usize,
     pub vc: usize,
@@ -39,7 +39,7 @@ pub struct Part {
 
 // A predicate that a search asks: where its rows begin, and how many they are; asked of the state before (0) or after (1); the column of the first group, how many variables that
 // group has, the column of the second.
-#[derive(Drop)]
+#[derive(Clone, Copy)]
 pub struct Asked {
     pub from: usize,
     pub many: usize,

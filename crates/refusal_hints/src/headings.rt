@@ -8,7 +8,7 @@ use symbol_spans::{count_before, is_name, is_same, kind_at, kind_before, start_o
 use text_places::symbol_end;
 
 // Bytes of a text from `from` up to `to`; none where the two are one.
-#[derive(Drop)]
+#[derive(Clone, Copy)]
 pub struct Bytes {
     pub from: usize,
     pub to: usize,

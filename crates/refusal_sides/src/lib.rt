@@ -17,7 +17,7 @@ use text_places::symbol_end;
 pub mod trials;
 
 // What a side is, as a phrase, and the first bytes of the names of the given sets in it, 0 for none.
-#[derive(Drop)]
+#[derive(Clone, Copy)]
 struct Told {
     phrase: usize,
     first: usize,

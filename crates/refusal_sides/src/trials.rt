@@ -26,7 +26,7 @@ const BITS: usize = 31;
 const FIRST_BIT: usize = 1 << 30;
 
 // The bytes of a side, and those of the atom that it stands in.
-#[derive(Drop)]
+#[derive(Clone, Copy)]
 pub struct Side {
     pub from: usize,
     pub to: usize,
@@ -35,7 +35,7 @@ pub struct Side {
 }
 
 // A term of some type, by words of this language and names of the text.
-#[derive(Drop)]
+#[derive(Clone, Copy)]
 pub struct Term {
     pub kind: u8,
     pub first: usize,

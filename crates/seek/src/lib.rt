@@ -17,7 +17,7 @@ use points::slots::{ABSTRACT_PRIMED, AFTER, BEFORE, CONCRETE, CONCRETE_PRIMED};
 use slot_carriers::{count_of, place_of, value_at};
 
 // Bindings of the m variables of the search u from number j on: w in all; those from `from` on are looked at.
-#[derive(Drop)]
+#[derive(Clone, Copy)]
 pub struct Span {
     pub u: usize,
     pub j: usize,
@@ -27,7 +27,7 @@ pub struct Span {
 }
 
 // The variable of a slot, with n values, and the level of the search u whose tests can be asked once it has one.
-#[derive(Drop)]
+#[derive(Clone, Copy)]
 struct Target {
     u: usize,
     l: usize,
@@ -36,14 +36,14 @@ struct Target {
 }
 
 // A test, and where the term ends that it says a variable to be; 0 for no test.
-#[derive(Drop)]
+#[derive(Clone, Copy)]
 struct Told {
     test: usize,
     end: usize,
 }
 
 // The values to look at, from low up to high.
-#[derive(Drop)]
+#[derive(Clone, Copy)]
 struct Bounds {
     low: usize,
     high: usize,

@@ -16,7 +16,7 @@ use placing::{put_parameters, put_states};
 use slot_carriers::{CELLS, SLOTS};
 
 // The numbers of bindings: of the abstract and the concrete state, the inputs, the outputs, the concrete and the abstract state after.
-#[derive(Drop)]
+#[derive(Clone, Copy)]
 pub struct Numbers {
     pub a: usize,
     pub c: usize,
@@ -27,7 +27,7 @@ pub struct Numbers {
 }
 
 // How many variables the groups have: of the abstract and the concrete state, inputs, outputs.
-#[derive(Drop)]
+#[derive(Clone, Copy)]
 pub struct Sizes {
     pub va: usize,
     pub vc: usize,

@@ -32,7 +32,7 @@ const FIRST: usize = 0;
 pub const BEYOND: usize = 4294967296;
 
 // How many bindings the groups of an operation have: abstract states, concrete states, inputs, outputs.
-#[derive(Drop)]
+#[derive(Clone, Copy)]
 pub struct Widths {
     pub na: usize,
     pub nc: usize,
@@ -41,7 +41,7 @@ pub struct Widths {
 }
 
 // An abstract state, a concrete one and inputs.
-#[derive(Drop)]
+#[derive(Clone, Copy)]
 pub struct Place {
     pub found: bool,
     pub a: usize,
@@ -50,7 +50,7 @@ pub struct Place {
 }
 
 // An abstract state and a concrete one.
-#[derive(Drop)]
+#[derive(Clone, Copy)]
 pub struct Pair {
     pub found: bool,
     pub a: usize,
@@ -58,7 +58,7 @@ pub struct Pair {
 }
 
 // A step of both sides: inputs, outputs, the concrete state after it, the abstract state after it.
-#[derive(Drop)]
+#[derive(Clone, Copy)]
 pub struct BothStep {
     pub found: bool,
     pub i: usize,

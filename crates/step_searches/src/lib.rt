@@ -27,7 +27,7 @@ const OPERATION_ROW: usize = 8;
 const CONCRETE_STATE: usize = 1;
 
 // A concrete step beside an abstract state: the abstract state before, inputs, outputs, the concrete state after.
-#[derive(Drop)]
+#[derive(Clone, Copy)]
 pub struct Stepped {
     pub a: usize,
     pub i: usize,

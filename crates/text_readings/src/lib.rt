@@ -13,7 +13,7 @@ use search_groups::conjuncts::FIRSTS;
 use search_groups::groups::GROUPS;
 
 // A refusal by its number and place, or how many operations the dossier has.
-#[derive(Drop)]
+#[derive(Clone, Copy)]
 pub enum TextRead {
     Refused(u8, usize),
     Read(usize),

@@ -16,7 +16,7 @@ use text_readings::{TextRead, read_text};
 pub const TRIAL: usize = 32769;
 
 // The number of the refusal, and its place; 0 and 0 for a text that is read.
-#[derive(Drop)]
+#[derive(Clone, Copy)]
 pub struct Answer {
     pub number: u8,
     pub place: usize,

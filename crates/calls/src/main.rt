@@ -1,8 +1,8 @@
 // Runs a script of calls on one held check, for tests: each line of standard input is a call, each answer goes to standard output. `l LEN` and the text load it, `a N` advances, `v` asks for
-// the verdict, `w LENT` for the witness in LENT lent bytes, `d` drops.
+// the verdict, `w LENT` for the witness in LENT lent bytes, `d` drops. Of a script the first 65,536 bytes are read. A read or a write that fails ends the program with its error.
 #![tactic(auto)]
 
-ghost use Rattle.std.specs.Prelude.{◌≤◌, min};
+ghost use Rattle.std.specs.Prelude.{◌≤◌, length, min, IfOk};
 
 use checker::{advance, drop, load, verdict, witness};
 use held_checks::{
@@ -10,10 +10,11 @@ use held_checks::{
 };
 use lexical::classes::byte_at;
 use reports::{FIRST_LINE, refuted_line};
+use std::io;
+use std::io::{Read, Write};
 
-const STANDARD_INPUT: i32 = 0;
-
-const STANDARD_OUTPUT: i32 = 1;
+// The most bytes of a script.
+const SCRIPT: usize = 65536;
 
 // The most bytes that a witness is lent here.
 const LENT: usize = 65536;
@@ -78,45 +79,43 @@ fn onward(at: usize, n: usize, length: usize) -> usize
     at + n
 }
 
-fn print(text: &[u8]) {
-    io::write_all(STANDARD_OUTPUT, text);
+fn print<W: Write>(output: &mut W, text: &[u8]) -> io::Result<()> {
+    output.write_all(text)
 }
 
-fn print_number(n: usize) {
-    io::print_decimal(STANDARD_OUTPUT, n as u64);
-    print(b"\n");
+fn print_number<W: Write>(output: &mut W, n: usize) -> io::Result<()> {
+    writeln!(output, "{n}")
 }
 
-fn print_refused(n: usize) {
-    print(b"refused ");
-    print_number(n);
+fn print_refused<W: Write>(output: &mut W, n: usize) -> io::Result<()> {
+    writeln!(output, "refused {n}")
 }
 
-fn run_load(script: &[u8], at: usize, held: &mut [u8; HELD]) -> usize {
+fn run_load<W: Write>(
+    output: &mut W,
+    script: &[u8],
+    at: usize,
+    held: &mut [u8; HELD],
+) -> io::Result<usize> {
     let n = number(script, at);
     let from = onward(n.next, 1, script.len());
     let end = onward(from, n.value, script.len());
     let answer = load(&script[from..end], held);
     match answer {
-        LoadReply::Loaded => print(b"ok\n"),
-        LoadReply::Faulty(k, p) => {
-            print(b"refused ");
-            io::print_decimal(STANDARD_OUTPUT, k as u64);
-            print(b" at ");
-            print_number(p);
-        }
-        LoadReply::SomethingHeld => print_refused(22),
+        LoadReply::Loaded => print(output, b"ok\n")?,
+        LoadReply::Faulty(k, p) => writeln!(output, "refused {k} at {p}")?,
+        LoadReply::SomethingHeld => print_refused(output, 22)?,
     }
-    onward(end, 1, script.len())
+    Ok(onward(end, 1, script.len()))
 }
 
-fn run_advance(n: usize, held: &mut [u8; HELD]) {
+fn run_advance<W: Write>(output: &mut W, n: usize, held: &mut [u8; HELD]) -> io::Result<()> {
     let answer = advance(n, held);
     match answer {
-        AdvanceReply::Looked(k) => print_number(k),
-        AdvanceReply::NothingHeld => print_refused(21),
-        AdvanceReply::CheckFinished => print_refused(23),
-        AdvanceReply::OutOfRange => print_refused(15),
+        AdvanceReply::Looked(k) => print_number(output, k),
+        AdvanceReply::NothingHeld => print_refused(output, 21),
+        AdvanceReply::CheckFinished => print_refused(output, 23),
+        AdvanceReply::OutOfRange => print_refused(output, 15),
     }
 }
 
@@ -130,98 +129,119 @@ fn put_line(held: &[u8], n: usize, o: Obligation, line: &mut [u8; FIRST_LINE]) -
 }
 
 // The first n bytes.
-fn print_front(text: &[u8], n: usize) {
+fn print_front<W: Write>(output: &mut W, text: &[u8], n: usize) -> io::Result<()> {
     let start: usize = 0;
     let end = onward(start, n, text.len());
-    print(&text[start..end]);
+    print(output, &text[start..end])
 }
 
-fn print_line(line: &[u8; FIRST_LINE], n: usize) {
-    print_front(line, n);
+fn print_line<W: Write>(output: &mut W, line: &[u8; FIRST_LINE], n: usize) -> io::Result<()> {
+    print_front(output, line, n)
 }
 
-fn print_refuted(held: &[u8; HELD], o: Obligation) {
+fn print_refuted<W: Write>(output: &mut W, held: &[u8; HELD], o: Obligation) -> io::Result<()> {
     let mut line = [0u8; FIRST_LINE];
     let n = put_line(held, length_in(held), o, &mut line);
-    print_line(&line, n);
+    print_line(output, &line, n)
 }
 
-fn print_verdict(held: &[u8; HELD], v: Verdict) {
+fn print_verdict<W: Write>(output: &mut W, held: &[u8; HELD], v: Verdict) -> io::Result<()> {
     match v {
-        Verdict::Unfinished => print(b"unfinished\n"),
-        Verdict::Accepted => print(b"accepted\n"),
-        Verdict::Refuted(o) => print_refuted(held, o),
+        Verdict::Unfinished => print(output, b"unfinished\n"),
+        Verdict::Accepted => print(output, b"accepted\n"),
+        Verdict::Refuted(o) => print_refuted(output, held, o),
     }
 }
 
-fn run_verdict(held: &[u8; HELD]) {
+fn run_verdict<W: Write>(output: &mut W, held: &[u8; HELD]) -> io::Result<()> {
     let answer = verdict(held);
     match answer {
-        VerdictReply::Is(v) => print_verdict(held, v),
-        VerdictReply::NothingHeld => print_refused(21),
+        VerdictReply::Is(v) => print_verdict(output, held, v),
+        VerdictReply::NothingHeld => print_refused(output, 21),
     }
 }
 
 // The witness in the first n of the bytes that there are.
-fn lend(n: usize, held: &[u8; HELD], space: &mut [u8]) {
+fn lend<W: Write>(output: &mut W, n: usize, held: &[u8; HELD], space: &mut [u8]) -> io::Result<()> {
     let start: usize = 0;
     let end = onward(start, n, space.len());
     let answer = witness(held, &mut space[start..end]);
     match answer {
-        WitnessReply::Written(k) => print_number(k),
-        WitnessReply::NothingHeld => print_refused(21),
-        WitnessReply::NoCounterexample => print_refused(24),
-        WitnessReply::ShortBytes => print_refused(16),
+        WitnessReply::Written(k) => print_number(output, k)?,
+        WitnessReply::NothingHeld => print_refused(output, 21)?,
+        WitnessReply::NoCounterexample => print_refused(output, 24)?,
+        WitnessReply::ShortBytes => print_refused(output, 16)?,
     }
-    print_front(space, end);
-    print(b"\n");
+    print_front(output, space, end)?;
+    print(output, b"\n")
 }
 
-fn run_witness(n: usize, held: &[u8; HELD]) {
+fn run_witness<W: Write>(output: &mut W, n: usize, held: &[u8; HELD]) -> io::Result<()> {
     let mut space = [b'_'; LENT];
-    lend(n, held, &mut space);
+    lend(output, n, held, &mut space)
 }
 
 // The call at a place; the place behind it.
-fn run_call(script: &[u8], at: usize, held: &mut [u8; HELD]) -> usize {
+fn run_call<W: Write>(
+    output: &mut W,
+    script: &[u8],
+    at: usize,
+    held: &mut [u8; HELD],
+) -> io::Result<usize> {
     let letter = byte_at(script, at);
     let from = onward(at, 2, script.len());
     if letter == b'l' {
-        return run_load(script, from, held);
+        return run_load(output, script, from, held);
     }
     if letter == b'v' {
-        run_verdict(held);
-        return from;
+        run_verdict(output, held)?;
+        return Ok(from);
     }
     if letter == b'd' {
         drop(held);
-        print(b"ok\n");
-        return from;
+        print(output, b"ok\n")?;
+        return Ok(from);
     }
     let n = number(script, from);
     if letter == b'a' {
-        run_advance(n.value, held);
+        run_advance(output, n.value, held)?;
     }
     if letter == b'w' {
-        run_witness(n.value, held);
+        run_witness(output, n.value, held)?;
     }
-    onward(n.next, 1, script.len())
+    Ok(onward(n.next, 1, script.len()))
 }
 
-fn run(script: &[u8], held: &mut [u8; HELD]) {
+fn run<W: Write>(output: &mut W, script: &[u8], held: &mut [u8; HELD]) -> io::Result<()> {
     let mut at: usize = 0;
     while at < script.len() {
-        let next = run_call(script, at, held);
+        let next = run_call(output, script, at, held)?;
         if next <= at {
-            return;
+            return Ok(());
         }
         at = next;
     }
+    Ok(())
 }
 
-fn main() {
-    let mut script = io::large_buffer();
-    let n = io::read_full(STANDARD_INPUT, &mut script);
+// Reads until the text is full or the input ends; how many bytes of it there are.
+fn read_front<R: Read>(input: &mut R, text: &mut [u8]) -> io::Result<usize>
+    ensures { IfOk result (λ n. n ≤ length text.new) }
+{
+    let mut done: usize = 0;
+    while done < text.len() {
+        let n = input.read(&mut text[done..])?;
+        if n == 0 {
+            return Ok(done);
+        }
+        done += n;
+    }
+    Ok(done)
+}
+
+fn main(rt: HostRuntime) -> io::Result<()> {
+    let mut script = [0u8; SCRIPT];
+    let n = read_front(&mut rt.stdin(), &mut script)?;
     let mut held = [0u8; HELD];
-    run(&script[..n], &mut held);
+    run(&mut rt.stdout(), &script[..n], &mut held)
 }

@@ -1,22 +1,30 @@
 // Reads a dossier on standard input and writes its explanation to standard output. Of a text that is too long only the first 32,769 bytes are read, which is enough to see that it is.
+// A read or a write that fails ends the program with its error.
 #![tactic(auto)]
 
-ghost use Rattle.std.specs.Prelude.{◌≤◌};
+ghost use Rattle.std.specs.Prelude.{◌≤◌, length, IfOk};
 
 use explanations::explain;
 use sheets::SHEET;
-
-const STANDARD_INPUT: i32 = 0;
-
-const STANDARD_OUTPUT: i32 = 1;
+use std::io;
+use std::io::{Read, Write};
 
 // The longest text, and one byte more.
 const INPUT: usize = 32769;
 
-// The input ended there, and did not fail.
-fn is_at_end() -> bool {
-    let mut more = [0u8; 1];
-    libc::read(STANDARD_INPUT, &mut more) == 0
+// Reads until the text is full or the input ends; how many bytes of it there are.
+fn read_front<R: Read>(input: &mut R, text: &mut [u8]) -> io::Result<usize>
+    ensures { IfOk result (λ n. n ≤ length text.new) }
+{
+    let mut done: usize = 0;
+    while done < text.len() {
+        let n = input.read(&mut text[done..])?;
+        if n == 0 {
+            return Ok(done);
+        }
+        done += n;
+    }
+    Ok(done)
 }
 
 fn least(x: usize, y: usize) -> usize
@@ -28,27 +36,21 @@ fn least(x: usize, y: usize) -> usize
     y
 }
 
-// The first n bytes go to standard output.
-fn write_front(text: &[u8], n: usize) {
+// The first n bytes go to the output.
+fn write_front<W: Write>(output: &mut W, text: &[u8], n: usize) -> io::Result<()> {
     let start: usize = 0;
     let end = least(n, text.len());
-    io::write_all(STANDARD_OUTPUT, &text[start..end]);
+    output.write_all(&text[start..end])
 }
 
-fn write_sheet(out: &[u8; SHEET], n: usize) {
-    write_front(out, n);
+fn write_sheet<W: Write>(output: &mut W, out: &[u8; SHEET], n: usize) -> io::Result<()> {
+    write_front(output, out, n)
 }
 
-fn main() {
+fn main(rt: HostRuntime) -> io::Result<()> {
     let mut text = [0u8; INPUT];
-    let n = io::read_full(STANDARD_INPUT, &mut text);
-    if n < INPUT {
-        if !is_at_end() {
-            os::fail(b"standard input");
-            return;
-        }
-    }
+    let n = read_front(&mut rt.stdin(), &mut text)?;
     let mut out = [0u8; SHEET];
     let length = explain(&text[..n], &mut out);
-    write_sheet(&out, length);
+    write_sheet(&mut rt.stdout(), &out, length)
 }

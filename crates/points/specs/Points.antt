@@ -1,5 +1,5 @@
 -- A point has for each slot a number, which of the values of its variable's carrier it has, from 0; the two arrays of slots show it, before and after. Nothing here need be believed.
-use Rattle.std.specs.Prelude.{◌≡◌, cond, ◌⊎◌, List, [], ◌∷◌, ℕ, ◌+◌, ◌*◌, ◌/◌, ◌%◌, ◌<◌, ◌≤◌, eqb, ltb, get_or, length, ℤ, pos}
+use Rattle.std.specs.Prelude.{◌≡◌, cond, List, [], ◌∷◌, ℕ, ◌+◌, ◌*◌, ◌/◌, ◌%◌, ◌<◌, eqb, ltb, get_or, length, ℤ, pos}
 use Rattle.meaning.specs.Bindings.{Among}
 use Rattle.slot_carriers.specs.Cells.{count_in, value_in}
 

@@ -2,7 +2,7 @@
 use Rattle.std.specs.Prelude.{◌≡◌, Bool, true, false, ◌&&◌, cond, List, [], ◌∷◌, ℕ, zero, suc, ◌+◌, ◌-◌, ◌*◌, ◌/◌, ◌%◌, ◌<◌, ◌≤◌, ltb, get_or, length}
 use Rattle.lexical.specs.Lists.{all}
 use Rattle.slot_carriers.specs.Cells.{count_in, Readable}
-use Rattle.points.specs.Points.{Point, moved, span, placed, Tame, Distinct}
+use Rattle.points.specs.Points.{Point, moved, span, Tame, Distinct}
 use Rattle.points.specs.PointTests.{Test}
 
 -- the tests of a level all hold; so do those of n levels more

@@ -1,0 +1,8 @@
+-- `idle_variables::entry` meets its contract. Assumes nothing.
+use borrow.Author.Rules.{rules}
+use mathlib.Core.Path.{refl}
+use native.Mathlib.Omega.{arith}
+use Rattle.idle_variables.proofs.entry.Goals as goal
+
+pub returns : goal.returns
+returns c = (refl, omega (arith, c.type_inv.plan c.args.k))

@@ -1,0 +1,15 @@
+use mathlib.Core.Bool.{false≢true}
+use Prim.Native.Nat.{◌+◌, ◌-◌}
+use mathlib.Core.Path.{◌≡◌, ◌∙◌}
+use native.Mathlib.Omega.{arith}
+use borrow.Author.Rules.{rules}
+use borrow.Author.Tests.{not-false}
+use Rattle.points.specs.Searches.{mark_in}
+use Rattle.idle_variables.proofs.IdleSearches.{TestsPassed, no_test, one-test, level-says, mark-next}
+use Rattle.idle_variables.proofs.idle_level.Given as goal
+
+abbrev pub invariant-loop-k : goal.invariant-loop-k
+invariant-loop-k l = TestsPassed l.t l.plan l.slot (mark_in l.plan l.u l.l) l.k × (l.to ≡ mark_in l.plan l.u (l.l + 1))
+
+abbrev pub decreases-loop-k : goal.decreases-loop-k
+decreases-loop-k l = l.to - l.k

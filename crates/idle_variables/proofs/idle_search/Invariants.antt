@@ -1,0 +1,13 @@
+use mathlib.Core.Bool.{false≢true}
+use Prim.Native.Nat.{◌+◌, ◌-◌}
+use native.Mathlib.Omega.{arith}
+use borrow.Author.Rules.{rules}
+use borrow.Author.Tests.{not-false}
+use Rattle.idle_variables.proofs.IdleSearches.{LevelsPassed, no-level, one-level, search-says}
+use Rattle.idle_variables.proofs.idle_search.Given as goal
+
+abbrev pub invariant-loop-l : goal.invariant-loop-l
+invariant-loop-l l = LevelsPassed l.t l.plan l.u l.slot l.l
+
+abbrev pub decreases-loop-l : goal.decreases-loop-l
+decreases-loop-l l = 12 - l.l

@@ -1,7 +1,7 @@
 -- What the functions that write plans ask and promise. Nothing here need be believed.
 use Rattle.std.specs.Prelude.{◌≡◌, List, ℕ, ◌+◌, ◌*◌, ◌<◌, ◌≤◌, get_or, length}
 use Rattle.points.specs.Searches.{mark_in}
-use Rattle.plans.specs.PlansByNumber.{Asking, search_entries, Rows, no_asking}
+use Rattle.plans.specs.PlansByNumber.{Asking, search_entries, no_asking}
 
 -- a list stands between two places
 pub record Segment (plan : List ℕ) (from to : ℕ) (xs : List ℕ) : Type 0 where

@@ -1,5 +1,5 @@
 -- The conjuncts of a search by level, as numbers: those of each predicate that it asks, by the rows that the reader leaves (search_groups/specs/Conjuncts). Nothing here need be believed.
-use Rattle.std.specs.Prelude.{◌≡◌, true, false, cond, List, [], ◌∷◌, ◌++◌, ℕ, zero, suc, ◌+◌, ◌*◌, ◌<◌, ◌≤◌, eqb, get_or, length}
+use Rattle.std.specs.Prelude.{true, false, List, [], ◌∷◌, ◌++◌, ℕ, zero, suc, ◌+◌, ◌*◌, ◌<◌, ◌≤◌, eqb, get_or}
 
 -- a predicate of a search: n rows from a place on; asked of the state before (0) or after (1); the columns of a first group, which has `count` variables (0: no such group), and of a second
 pub record Asking : Type 0 where

@@ -16,7 +16,7 @@ use Rattle.evaluation.specs.EvaluationByNumber.{Values}
 use Rattle.evaluator.specs.EvaluationPromises.{TruthAnswers}
 use Rattle.truths.specs.Promises.{Asked}
 use Rattle.truths.proofs.TruthLaws.{asked-inside, asked-runs}
-use Rattle.memo.specs.MemoPromises.{Unlisted, Lists, Behind, Keyed, Kept, Memo, Pushed, KeyAnswers, AgainAsked}
+use Rattle.memo.specs.MemoPromises.{Lists, Behind, Keyed, Kept, Memo, Pushed, KeyAnswers, AgainAsked}
 use Rattle.memo.proofs.SameTruths.{SameOrFree, same_truth}
 
 same-raised : {v w : ℤ} {d e : ℕ} → v +ℤ pos 1000 ≡ pos d → w +ℤ pos 1000 ≡ pos e → d ≡ e → v ≡ w

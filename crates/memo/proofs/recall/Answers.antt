@@ -1,0 +1,38 @@
+-- `memo::recall` meets its contract: the truth of the conjunct, by its key where it has one. Assumes nothing.
+use native.Mathlib.Omega.{arith}
+use Rattle.truths.proofs.TruthLaws.{asked-inside, answered}
+use Rattle.memo.proofs.Keys.{again-asked}
+use Rattle.memo.proofs.recall.Goals as goal
+
+pub overflow_sub-end : goal.overflow_sub-end
+overflow_sub-end c = omega (arith, (asked-inside c.requires.asked).some, (asked-inside c.requires.asked).within)
+
+pub truth-requires : goal.truth-requires
+truth-requires c = c.requires.asked
+
+pub returns-then-t-end-ne-QUANTIFIED : goal.returns-then-t-end-ne-QUANTIFIED
+returns-then-t-end-ne-QUANTIFIED c = record { answers = c.truth.ensures.answers; kept = c.truth.ensures.kept; remembers = c.requires.memo }
+
+pub truth-requires-then-end-ne0 : goal.truth-requires-then-end-ne0
+truth-requires-then-end-ne0 c = c.requires.asked
+
+pub returns-then-end-ne0 : goal.returns-then-end-ne0
+returns-then-end-ne0 c = record { answers = c.truth-then-end-ne0.ensures.answers; kept = c.truth-then-end-ne0.ensures.kept; remembers = c.requires.memo }
+
+pub listed-list-requires : goal.listed-list-requires
+listed-list-requires c = (omega (arith, (asked-inside c.requires.asked).some, (asked-inside c.requires.asked).within), c.requires.memo)
+
+pub key-k-requires : goal.key-k-requires
+key-k-requires c = (omega (arith, (asked-inside c.requires.asked).some, (asked-inside c.requires.asked).within), c.requires.asked.held.long)
+
+pub truth-requires-then-k-eq0 : goal.truth-requires-then-k-eq0
+truth-requires-then-k-eq0 c = c.requires.asked
+
+pub returns-then-k-eq0 : goal.returns-then-k-eq0
+returns-then-k-eq0 c = record { answers = c.truth-then-k-eq0.ensures.answers; kept = c.truth-then-k-eq0.ensures.kept; remembers = c.listed-list.ensures.remembers }
+
+pub again-requires : goal.again-requires
+again-requires c = record { again_asked = again-asked c.requires.asked (omega (arith, c.if-end-ne0.false)) c.listed-list.ensures.stands c.key-k.ensures c.if-k-eq0.false; memo = c.listed-list.ensures.remembers }
+
+pub returns : goal.returns
+returns c = record { answers = answered c.again.ensures.answers; kept = c.again.ensures.kept; remembers = c.again.ensures.remembers }

@@ -1,19 +1,18 @@
 -- Free tests: a test whose nodes are free of a slot of the state before does not depend on its variable; one that is asked of the state after never does. Assumes nothing.
 use mathlib.Core.Path.{◌≡◌, refl, sym, ap, ap₂, subst, ◌∙◌}
-use mathlib.Core.Bool.{Bool, true, false, cond}
+use mathlib.Core.Bool.{Bool, cond}
 use mathlib.Core.List.{List, [], ◌∷◌}
 use Prim.Native.Nat.{ℕ, zero, suc, ◌+◌, ◌/◌, ◌%◌, ◌<◌, ◌≤◌}
-use native.Mathlib.Nat.{mod-lt}
 use native.Mathlib.Decide.{dec_lt}
 use native.Mathlib.Omega.{arith}
 use lib.Dec.{ltb}
 use lib.ListN.{get_or, length}
 use lib.IntN.{ℤ, pos}
-use Rattle.slot_carriers.specs.Cells.{count_in, value_in}
-use Rattle.evaluation.specs.EvaluationByNumber.{Values, TruthIs}
+use Rattle.slot_carriers.specs.Cells.{value_in}
+use Rattle.evaluation.specs.EvaluationByNumber.{TruthIs}
 use Rattle.mentions.specs.MentionPromises.{Agree, TruthFree}
 use Rattle.points.specs.Points.{Point, moved, primed_slot, Tame, Shows}
-use Rattle.points.specs.PointTests.{Given, Test}
+use Rattle.points.specs.PointTests.{Test}
 use Rattle.points.proofs.PointNumbers.{moved_other}
 use Rattle.mentions.proofs.OneValue.{one_value}
 use Rattle.idle_variables.specs.KeyedNumbers.{Idle}

@@ -12,7 +12,7 @@ use Rattle.meaning.specs.Bindings.{Among}
 use Rattle.sets.specs.Sets.{has}
 use Rattle.slot_carriers.specs.Cells.{count_in}
 use Rattle.points.specs.Points.{Point, moved, span, placed, Tame, Distinct, more_slots}
-use Rattle.points.proofs.PointNumbers.{Counts, counts-rest, span-some, moved_here, moved_other, placed-other, tame-placed}
+use Rattle.points.proofs.PointNumbers.{Counts, counts-rest, span-some, moved_here, moved_other, tame-placed}
 use Rattle.idle_variables.specs.KeyedNumbers.{keyed, Idle, Ignores, no_variables, more_variables}
 
 -- the digit that a key has

@@ -1,5 +1,5 @@
 -- Keys of bindings: the number of a binding with the digits of the variables that do not matter 0. Nothing here need be believed.
-use Rattle.std.specs.Prelude.{◌≡◌, Bool, true, false, cond, List, [], ◌∷◌, ℕ, ◌+◌, ◌*◌, ◌/◌, ◌%◌, ◌<◌}
+use Rattle.std.specs.Prelude.{◌≡◌, Bool, true, cond, List, [], ◌∷◌, ℕ, ◌+◌, ◌*◌, ◌/◌, ◌%◌, ◌<◌}
 use Rattle.sets.specs.Sets.{has}
 use Rattle.points.specs.Points.{Point, moved, span, Tame}
 use Rattle.slot_carriers.specs.Cells.{count_in}

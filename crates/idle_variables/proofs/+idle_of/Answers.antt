@@ -1,9 +1,5 @@
 -- `idle_variables::idle_of` meets its contract: one variable more in front doubles what is there. Measure: the variables left. Assumes nothing.
-use Prim.Native.Nat.{ℕ, ◌<◌}
-use borrow.Fn.Kinds.{In}
-use borrow.Fn.PlainCycle.{Measures, is, falls, and}
 use native.Mathlib.Omega.{arith}
-use borrow.Author.Rules.{rules}
 use Rattle.idle_variables.proofs.IdleMasks.{no_mask, more-mask, mask-small, byte_low}
 use Rattle.idle_variables.proofs.+idle_of.Goals as goal
 

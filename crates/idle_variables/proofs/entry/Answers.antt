@@ -1,5 +1,4 @@
 -- `idle_variables::entry` meets its contract. Assumes nothing.
-use borrow.Author.Rules.{rules}
 use mathlib.Core.Path.{refl}
 use native.Mathlib.Omega.{arith}
 use Rattle.idle_variables.proofs.entry.Goals as goal

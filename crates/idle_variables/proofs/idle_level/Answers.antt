@@ -1,12 +1,9 @@
 -- `idle_variables::idle_level` meets its contract: the tests before the present place are idle. Assumes nothing.
 use mathlib.Core.Bool.{false≢true}
-use Prim.Native.Nat.{◌+◌, ◌-◌}
-use mathlib.Core.Path.{◌≡◌, ◌∙◌}
+use mathlib.Core.Path.{◌∙◌}
 use native.Mathlib.Omega.{arith}
-use borrow.Author.Rules.{rules}
 use borrow.Author.Tests.{not-false}
-use Rattle.points.specs.Searches.{mark_in}
-use Rattle.idle_variables.proofs.IdleSearches.{TestsPassed, no_test, one-test, level-says, mark-next}
+use Rattle.idle_variables.proofs.IdleSearches.{no_test, one-test, level-says, mark-next}
 use Rattle.idle_variables.proofs.idle_level.Goals as goal
 
 pub overflow_mul-u : goal.overflow_mul-u
@@ -19,7 +16,7 @@ pub overflow_add-u-2 : goal.overflow_add-u-2
 overflow_add-u-2 c = omega (arith, c.requires.0, c.requires.1)
 
 pub entry-to-requires : goal.entry-to-requires
-entry-to-requires c = omega (arith, c.requires.0, c.requires.1, c.entry-arg-1.given.0)
+entry-to-requires c = omega (arith, c.requires.0, c.requires.1, c.entry-arg-1.given)
 
 pub overflow_mul-u-2 : goal.overflow_mul-u-2
 overflow_mul-u-2 c = omega (arith, c.requires.0)
@@ -28,13 +25,13 @@ pub overflow_add-u-3 : goal.overflow_add-u-3
 overflow_add-u-3 c = omega (arith, c.requires.0, c.requires.1)
 
 pub entry-k-requires : goal.entry-k-requires
-entry-k-requires c = omega (arith, c.requires.0, c.requires.1, c.entry-arg-1.given.0)
+entry-k-requires c = omega (arith, c.requires.0, c.requires.1, c.entry-arg-1.given)
 
 pub loop-k-init : goal.loop-k-init
 loop-k-init c = (no_test c.entry-k.ensures.0, c.entry-to.ensures.0 ∙ mark-next c.args.plan.now c.args.u c.args.l)
 
 pub entry-e-requires : goal.entry-e-requires
-entry-e-requires c = omega (arith, c.loop-k-test.true, c.loop-k.invariant.1, c.requires.3, c.entry-arg-1.given.0)
+entry-e-requires c = omega (arith, c.loop-k-test.true, c.loop-k.invariant.1, c.requires.3, c.entry-arg-1.given)
 
 pub idle_test-requires : goal.idle_test-requires
 idle_test-requires c = c.requires.2

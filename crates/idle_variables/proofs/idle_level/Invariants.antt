@@ -1,11 +1,7 @@
-use mathlib.Core.Bool.{false≢true}
 use Prim.Native.Nat.{◌+◌, ◌-◌}
-use mathlib.Core.Path.{◌≡◌, ◌∙◌}
-use native.Mathlib.Omega.{arith}
-use borrow.Author.Rules.{rules}
-use borrow.Author.Tests.{not-false}
+use mathlib.Core.Path.{◌≡◌}
 use Rattle.points.specs.Searches.{mark_in}
-use Rattle.idle_variables.proofs.IdleSearches.{TestsPassed, no_test, one-test, level-says, mark-next}
+use Rattle.idle_variables.proofs.IdleSearches.{TestsPassed}
 use Rattle.idle_variables.proofs.idle_level.Given as goal
 
 abbrev pub invariant-loop-k : goal.invariant-loop-k

@@ -1,10 +1,9 @@
 -- `idle_variables::idle_search` meets its contract: the levels before l are idle. Assumes nothing.
 use mathlib.Core.Bool.{false≢true}
-use Prim.Native.Nat.{◌+◌, ◌-◌}
+use Prim.Native.Nat.{◌+◌}
 use native.Mathlib.Omega.{arith}
-use borrow.Author.Rules.{rules}
 use borrow.Author.Tests.{not-false}
-use Rattle.idle_variables.proofs.IdleSearches.{LevelsPassed, no-level, one-level, search-says}
+use Rattle.idle_variables.proofs.IdleSearches.{no-level, one-level, search-says}
 use Rattle.idle_variables.proofs.idle_search.Goals as goal
 
 pub loop-l-init : goal.loop-l-init

@@ -1,9 +1,5 @@
-use mathlib.Core.Bool.{false≢true}
-use Prim.Native.Nat.{◌+◌, ◌-◌}
-use native.Mathlib.Omega.{arith}
-use borrow.Author.Rules.{rules}
-use borrow.Author.Tests.{not-false}
-use Rattle.idle_variables.proofs.IdleSearches.{LevelsPassed, no-level, one-level, search-says}
+use Prim.Native.Nat.{◌-◌}
+use Rattle.idle_variables.proofs.IdleSearches.{LevelsPassed}
 use Rattle.idle_variables.proofs.idle_search.Given as goal
 
 abbrev pub invariant-loop-l : goal.invariant-loop-l

@@ -1,10 +1,8 @@
 -- `idle_variables::idle_searches` meets its contract: the searches from u on before v are idle. Assumes nothing.
 use mathlib.Core.Bool.{false≢true}
-use Prim.Native.Nat.{◌-◌}
 use native.Mathlib.Omega.{arith}
-use borrow.Author.Rules.{rules}
 use borrow.Author.Tests.{not-false}
-use Rattle.idle_variables.proofs.IdleSearches.{SearchesPassed, no_search, one-search, searches-say}
+use Rattle.idle_variables.proofs.IdleSearches.{no_search, one-search, searches-say}
 use Rattle.idle_variables.proofs.idle_searches.Goals as goal
 
 pub loop-v-init : goal.loop-v-init

@@ -1,5 +1,4 @@
 -- `idle_variables::idle_test` meets its contract: no test of the state after reads a slot of the state before. Assumes nothing.
-use borrow.Author.Rules.{rules}
 use Rattle.idle_variables.proofs.IdleSearches.{after-says, before-says}
 use Rattle.idle_variables.proofs.idle_test.Goals as goal
 

@@ -1,5 +1,4 @@
 -- `keys::make_mark` meets its contract. Assumes nothing.
-use borrow.Author.Rules.{rules}
 use Rattle.idle_variables.specs.KeyPromises.{no_mark, mark_made}
 use Rattle.idle_variables.proofs.KeySteps.{marked-there}
 use Rattle.idle_variables.proofs.keys.make_mark.Goals as goal

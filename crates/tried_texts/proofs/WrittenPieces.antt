@@ -7,8 +7,8 @@ use native.Mathlib.Omega.{arith}
 use native.Mathlib.Numerals.{add-one}
 use lib.Dec.{leb}
 use borrow.Author.Tests.{leb-true, leb-false}
-use lib.ListN.{length, take, drop, get_or, set, length-append, length-take, length-drop, drop_of_length-le}
-use lib.Seq.{take_all, take-take, take-nil, take-append-le, take-suc-set, take-suc, get_or-drop}
+use lib.ListN.{length, take, drop, get_or, set, length-append, length-take, length-drop}
+use lib.Seq.{take_all, take-take, take-append-le, take-suc-set, take-suc, get_or-drop}
 use Rattle.tried_texts.specs.Written.{Goes, Says}
 
 -- what is cut before something is put behind it

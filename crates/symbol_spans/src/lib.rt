@@ -22,7 +22,7 @@ pub const INSIDE: u8 = 4;
 const STOP: usize = 8192;
 
 // The symbols from `from` up to `to`.
-#[derive(Drop)]
+#[derive(Clone, Copy)]
 pub struct Stretch {
     pub from: usize,
     pub to: usize,

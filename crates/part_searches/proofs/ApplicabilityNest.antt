@@ -1,7 +1,7 @@
 -- The nest of an operation's applicability: its searches find the related states at which the abstract precondition holds, and for each a concrete step.
 use mathlib.Core.Path.{◌≡◌, refl, sym, ◌∙◌}
 use mathlib.Core.Bool.{true, false, true≢false}
-use mathlib.Core.List.{List, [], ◌++◌}
+use mathlib.Core.List.{List, []}
 use Prim.Native.Nat.{ℕ}
 use native.Mathlib.Omega.{arith}
 use lib.ListN.{length}
@@ -15,7 +15,6 @@ use Rattle.nest_steps.specs.NestPromises.{Groups, Sized, Nest}
 use Rattle.part_tests.specs.PartGroups.{applicability_groups}
 use Rattle.part_tests.specs.PartsByNumber.{applicability_tests}
 use Rattle.part_searches.proofs.SearchPlans.{none-asked, search_of}
-use Rattle.part_searches.proofs.PointStates.{abstract_group, concrete_group, input_group, output_group, concrete_after_group, abstract_after_group}
 use Rattle.part_searches.proofs.AskingKinds.{Anywhere}
 use Rattle.part_searches.proofs.NestParts.{no_variables, outside-run, outside-append, run-apart, none_apart}
 use Rattle.part_searches.proofs.OperationPremises.{OperationReading, small, states, related, readily, ready, ready_is}

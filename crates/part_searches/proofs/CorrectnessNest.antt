@@ -2,7 +2,7 @@
 -- related state.
 use mathlib.Core.Path.{◌≡◌, refl, sym, ap₂, ◌∙◌}
 use mathlib.Core.Bool.{Bool, true, true≢false}
-use mathlib.Core.List.{List, ◌++◌}
+use mathlib.Core.List.{List}
 use Prim.Native.Nat.{ℕ, ◌+◌, ◌≤◌}
 use native.Mathlib.Omega.{arith}
 use lib.ListN.{length}
@@ -20,7 +20,7 @@ use Rattle.part_tests.specs.PartGroups.{correctness_groups}
 use Rattle.part_tests.specs.PartsByNumber.{abstract_at, match, correctness_tests}
 use Rattle.part_searches.proofs.SearchPlans.{search_of}
 use Rattle.part_searches.proofs.SlotGroups.{filled}
-use Rattle.part_searches.proofs.PointStates.{abstract_group, concrete_group, input_group, output_group, concrete_after_group, abstract_after_group}
+use Rattle.part_searches.proofs.PointStates.{abstract_group, input_group, output_group, concrete_after_group, abstract_after_group}
 use Rattle.part_searches.proofs.StateAskings.{abstract-after-asked, retrieve-after-asked}
 use Rattle.part_searches.proofs.OperationAskings.{abstract-over-asked}
 use Rattle.part_searches.proofs.FoundBindings.{some-group}

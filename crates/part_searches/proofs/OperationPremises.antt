@@ -15,7 +15,7 @@ use Rattle.points.specs.Searches.{SearchOf}
 use Rattle.points.proofs.PointNumbers.{number-apart}
 use Rattle.plans.specs.PlanPromises.{OperationRows, PremisesPlan}
 use Rattle.nest_steps.specs.NestPromises.{some_binding}
-use Rattle.part_tests.specs.PartsByNumber.{abstract_at, concrete_at, output_at, abstract_state, related_to, abstractly, concretely, ready_at}
+use Rattle.part_tests.specs.PartsByNumber.{abstract_at, concrete_at, output_at, abstract_state, related_to, abstractly, ready_at}
 use Rattle.part_searches.specs.PartCells.{OperationCelled}
 use Rattle.readings.specs.Readings.{ReadingOf}
 use Rattle.part_searches.proofs.SearchPlans.{none-asked, search_of}

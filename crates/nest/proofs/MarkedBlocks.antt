@@ -40,7 +40,7 @@ module _ {table plan cells : List ℕ} {p : Part} where
 
     module _ {from end a mask : ℕ} {slots : List (List ℤ)} {b : Bool} (ha : a < p.na) where
       -- the block of a pair, behind its last inputs
-      pub pair-marked : {seen after : List ℕ} {c i mark : ℕ} → PairsSeen table plan cells p m seen → InInputs table plan cells p from end a mask c i slots → p.ni ≤ i → c < p.nc
+      pub pair-marked : {seen : List ℕ} {c i mark : ℕ} {after : List ℕ} → PairsSeen table plan cells p m seen → InInputs table plan cells p from end a mask c i slots → p.ni ≤ i → c < p.nc
           → mark ≡ key_in cells (pair_group p m) a + 1 → Within from end ((a * p.nc + c) * per_concrete p) (per_concrete p) b
           → Marked b (key_in cells (concrete_group p m) c) mark seen after → PairsSeen table plan cells p m after
       pair-marked s l h hc e w no_mark = s

@@ -1,25 +1,10 @@
-use mathlib.Core.List.{◌++◌}
-use native.Mathlib.Nat.{le_of_lt}
 use Prim.Native.Nat.{◌-◌}
-use mathlib.Core.Path.{◌≡◌, refl}
+use mathlib.Core.Path.{◌≡◌}
 use mathlib.Core.Bool.{false}
-use native.Mathlib.Omega.{arith}
-use borrow.Author.Rules.{rules}
-use borrow.Author.Tests.{not-true, not-false}
-use Rattle.nest.proofs.PassedPlaces.{enter-high, enter-last}
 use Rattle.nest.proofs.LoopStates.{InAbstracts, InConcretes, InInputs, InOutputs, InAfters}
-use Rattle.nest.proofs.NextCandidates.{some-input, some-concrete, some-abstract, rise-outputs}
-use Rattle.nest_steps.proofs.KeptGroups.{asked-after}
-use Rattle.nest.proofs.NestedLoops.{start, enter-concretes, enter-inputs, enter-outputs, enter_afters, again-abstracts, again-concretes, again-inputs, again-outputs, binding-here, again-afters, rise_afters, leave-abstracts, leave-last, leave-concretes, leave_afters, leave-fault}
-use Rattle.nest.proofs.Products.{small-input, small-concrete, small-abstract, small-a, small-ac, small-x, small-c, small-xi, small-y, small-yq, small-z, small-zk, start-high}
 use Rattle.memo.specs.MemoPromises.{Memo}
-use Rattle.memo.proofs.Memos.{blank_memo}
 use Rattle.nest_steps.specs.Remembering.{Remembered}
 use Rattle.nest_steps.specs.OpenBlocks.{PairsSeen, WholesSeen}
-use Rattle.nest_steps.proofs.IdleGroups.{pair-asked, concrete-asked, whole-asked}
-use Rattle.nest_steps.proofs.OpenSearches.{no-pair-seen, no-whole-seen}
-use Rattle.nest.proofs.MarkedBlocks.{pair-marked, whole-marked}
-use Rattle.nest_steps.proofs.RememberedConclusions.{none-known}
 use Rattle.nest.proofs.sweep.Given as goal
 
 abbrev pub invariant-loop-k : goal.invariant-loop-k

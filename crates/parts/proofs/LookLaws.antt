@@ -6,7 +6,7 @@ use Prim.Native.Nat.{ℕ, ◌+◌, ◌-◌, ◌*◌, ◌<◌}
 use native.Mathlib.Omega.{arith}
 use lib.ListN.{length, get_elem?}
 use Rattle.form.specs.Tree.{Operation, Dossier}
-use Rattle.static_rules.specs.Scope.{unprimed, inputs, outputs}
+use Rattle.static_rules.specs.Scope.{unprimed}
 use Rattle.static_rules.specs.Limits.{binding_count}
 use Rattle.meaning.proofs.Places.{entry-below, below-entry}
 use Rattle.obligations.specs.Subjects.{subject_of}

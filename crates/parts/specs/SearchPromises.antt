@@ -1,5 +1,5 @@
 -- What the search over all parts promises: for every dossier whose reading the arrays are, it looks at the checks of document 01's order one after the other, up to the first that fails.
-use Rattle.std.specs.Prelude.{◌≡◌, Bool, true, false, cond, List, ℕ, suc, ◌+◌, ◌-◌, ◌*◌, ◌<◌, ◌≤◌, min, length, take, drop}
+use Rattle.std.specs.Prelude.{◌≡◌, Bool, false, cond, List, ℕ, suc, ◌+◌, ◌-◌, ◌*◌, ◌<◌, ◌≤◌, min, length, take, drop}
 use Rattle.form.specs.Tree.{Dossier}
 use Rattle.plans.specs.declared.Part.{Part}
 use Rattle.nest_steps.specs.PartTests.{PartTests, passes_from, Looked}

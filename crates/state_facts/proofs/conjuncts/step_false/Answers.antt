@@ -1,0 +1,32 @@
+-- `conjuncts::step_false` meets its contract: a conjunct that counts does not depend on the outputs and the state after that are chosen. Assumes nothing.
+use mathlib.Core.Path.{refl}
+use native.Mathlib.Omega.{arith}
+use Rattle.state_facts.proofs.GuardLaws.{guard-states, guard-parameters, guard-context, step-first, step-no-concrete, step-no-inputs}
+use Rattle.state_facts.proofs.conjuncts.step_false.Goals as goal
+
+pub returns-then-p-c : goal.returns-then-p-c
+returns-then-p-c c = step-no-concrete c.if-p-c.true
+
+pub returns-then-p-i : goal.returns-then-p-i
+returns-then-p-i c = step-no-inputs c.if-p-i.true
+
+pub put_states-requires : goal.put_states-requires
+put_states-requires c = guard-states c.requires
+
+pub put_parameters-requires : goal.put_parameters-requires
+put_parameters-requires c = guard-parameters c.requires
+
+pub overflow_mul-j : goal.overflow_mul-j
+overflow_mul-j c = omega (arith, c.requires.few)
+
+pub overflow_add-j : goal.overflow_add-j
+overflow_add-j c = omega (arith, c.requires.few)
+
+pub overflow_add-j-2 : goal.overflow_add-j-2
+overflow_add-j-2 c = omega (arith, c.requires.few)
+
+pub first_guard-requires : goal.first_guard-requires
+first_guard-requires c = guard-context c.put_states.ensures c.put_parameters.ensures refl (omega (arith, c.if-p-c.false)) (omega (arith, c.if-p-i.false)) c.requires
+
+pub returns : goal.returns
+returns c = step-first c.put_states.ensures c.put_parameters.ensures refl (omega (arith, c.if-p-c.false)) (omega (arith, c.if-p-i.false)) c.first_guard.ensures

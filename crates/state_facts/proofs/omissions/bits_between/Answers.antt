@@ -1,0 +1,30 @@
+-- `omissions::bits_between` meets its contract: the bit of the slot before goes below those that are there. Assumes nothing.
+use native.Mathlib.Omega.{arith}
+use borrow.Author.Rules.{rules}
+use Rattle.state_facts.specs.Omissions.{BitsSay}
+use Rattle.state_facts.proofs.OmissionLaws.{bits_none, bits_small, bits-more, bits-done}
+use Rattle.state_facts.proofs.omissions.bits_between.Goals as goal
+
+pub loop-k-init : goal.loop-k-init
+loop-k-init c = bits_none
+
+pub overflow_add-slot : goal.overflow_add-slot
+overflow_add-slot c = omega (arith, (bits_small c.loop-k.invariant c.requires.slot_bound.1), c.loop-k.invariant.within, c.requires.slot_bound.1, c.requires.slot_bound.0)
+
+pub bit_of-requires : goal.bit_of-requires
+bit_of-requires c = c.requires.rows_stand
+
+pub overflow_mul-bits : goal.overflow_mul-bits
+overflow_mul-bits c = omega (arith, (bits_small c.loop-k.invariant c.requires.slot_bound.1))
+
+pub overflow_add-bits : goal.overflow_add-bits
+overflow_add-bits c = omega (arith, (bits_small c.loop-k.invariant c.requires.slot_bound.1), c.loop-k.invariant.within, c.requires.slot_bound.1, c.requires.slot_bound.0)
+
+pub loop-k-smaller : goal.loop-k-smaller
+loop-k-smaller c = omega (arith, c.loop-k-test.true)
+
+pub loop-k-preserved : goal.loop-k-preserved
+loop-k-preserved c = bits-more (omega arith) c.loop-k.invariant c.bit_of.ensures
+
+pub returns : goal.returns
+returns c = bits-done c.loop-k.invariant c.loop-k-test.false

@@ -1,0 +1,13 @@
+-- `searches::next_abstract_initial` meets its contract: the part of initialisation has the cells of both states. Assumes nothing.
+use Rattle.parts.proofs.SetupLaws.{blank}
+use Rattle.state_facts.proofs.SearchLaws.{first-part-asked, search-asked, abstract-next}
+use Rattle.state_facts.proofs.searches.next_abstract_initial.Goals as goal
+
+pub part_cells-p-requires : goal.part_cells-p-requires
+part_cells-p-requires c = record { part_asked = first-part-asked c.requires; blank = blank 9216 }
+
+pub seek_initial-requires : goal.seek_initial-requires
+seek_initial-requires c = search-asked c.part_cells-p.ensures c.requires
+
+pub returns : goal.returns
+returns c = abstract-next c.part_cells-p.ensures c.seek_initial.ensures

@@ -1,0 +1,13 @@
+-- `searches::next_lonely_concrete` meets its contract: the part of initialisation has the cells of both states. Assumes nothing.
+use Rattle.parts.proofs.SetupLaws.{blank}
+use Rattle.state_facts.proofs.SearchLaws.{first-part-asked, search-asked, concrete-next}
+use Rattle.state_facts.proofs.searches.next_lonely_concrete.Goals as goal
+
+pub part_cells-p-requires : goal.part_cells-p-requires
+part_cells-p-requires c = record { part_asked = first-part-asked c.requires; blank = blank 9216 }
+
+pub seek_lonely_concrete-requires : goal.seek_lonely_concrete-requires
+seek_lonely_concrete-requires c = search-asked c.part_cells-p.ensures c.requires
+
+pub returns : goal.returns
+returns c = concrete-next c.part_cells-p.ensures c.seek_lonely_concrete.ensures

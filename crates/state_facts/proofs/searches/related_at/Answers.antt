@@ -1,0 +1,12 @@
+-- `searches::related_at` meets its contract. Assumes nothing.
+use Rattle.state_facts.proofs.SearchLaws.{both-sized, related-asked, related-is}
+use Rattle.state_facts.proofs.searches.related_at.Goals as goal
+
+pub bind_pair-requires : goal.bind_pair-requires
+bind_pair-requires c = both-sized c.requires.search_asked
+
+pub related-requires : goal.related-requires
+related-requires c = related-asked c.bind_pair.ensures.values c.bind_pair.ensures.others.same_length c.requires.search_asked c.requires.a_lt_nm.0 c.requires.a_lt_nm.1
+
+pub returns : goal.returns
+returns c = related-is c.bind_pair.ensures.values c.bind_pair.ensures.others.same_length c.requires.a_lt_nm.0 c.requires.a_lt_nm.1 c.related.ensures.answers

@@ -1,0 +1,14 @@
+-- `reports::put_count` meets its contract: the line with a count, piece by piece. Assumes nothing.
+use borrow.Author.Rules.{rules}
+use native.Mathlib.Omega.{arith}
+use Rattle.lexical.specs.Lists.{bytes}
+use Rattle.reports.proofs.LineRooms.{count_room, count-written}
+use Rattle.reports.proofs.put_count.Goals as goal
+
+pub put-requires : goal.put-requires
+unfolding bytes
+put-requires c = count_room c.args.n c.put_all-a.ensures c.put_decimal-b.ensures (omega (arith, c.ranges.n)) c.requires
+
+pub returns : goal.returns
+unfolding bytes
+returns c = count-written c.args.n c.put_all-a.ensures c.put_decimal-b.ensures c.put.ensures

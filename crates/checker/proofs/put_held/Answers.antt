@@ -1,0 +1,21 @@
+-- `checker::put_held` meets its contract: the lines of the binding looked at last.
+use borrow.Author.Rules.{rules}
+use mathlib.Core.Path.{◌≡◌}
+use native.Mathlib.Omega.{arith}
+use lib.ListN.{length}
+use Rattle.held_checks.proofs.HeldBytesLaws.{laid-short}
+use Rattle.checker.proofs.OpenLaws.{text-is}
+use Rattle.checker.proofs.RefutedLaws.{last-place, last_found, last_written}
+use Rattle.checker.proofs.put_held.Goals as goal
+
+pub find-f-requires : goal.find-f-requires
+find-f-requires c = last-place c.requires.last_asked
+
+pub text_in-requires : goal.text_in-requires
+text_in-requires c = let l : length c.args.held.now ≡ 32784 = search rules in omega (arith, l, laid-short c.args.held.now l c.requires.held_value, c.length_in-n.ensures)
+
+pub put_witness-requires : goal.put_witness-requires
+put_witness-requires c = record { at_in_bounds = omega (arith, c.requires.out_len); witness_asked = last_found c.requires.last_asked c.find-f.ensures }
+
+pub returns : goal.returns
+returns c = last_written (text-is c.args.held.now c.text_in.ensures c.length_in-n.ensures) c.find-f.ensures c.put_witness.ensures

@@ -11,8 +11,8 @@ use Rattle.form.specs.Tree.{declarations, Operation}
 use Rattle.form.specs.Headings.{operation_length}
 use Rattle.form.specs.Codes.{Numbering}
 use Rattle.type_rules.specs.TypesByNumber.{Names, Sizes, key_room, key, unless_key, lesser}
-use Rattle.declared_names.specs.NamesByNumber.{Typed, variables_of, parameters_of, typed_codes}
-use Rattle.declared_names.specs.PassPromises.{PartOf}
+use Rattle.names.specs.DeclaredNamesNamesByNumber.{Typed, variables_of, parameters_of, typed_codes}
+use Rattle.names.specs.DeclaredNamesPassPromises.{PartOf}
 use Rattle.names.proofs.TypesAgreeLeast.{lesser-zero, lesser-assoc}
 use Rattle.names.proofs.PassSteps.{variables-codes, parameters-codes}
 use Rattle.node_spans.specs.Spans.{Stands, span, HeadingAt, OperationsAt, one_more}

@@ -23,7 +23,7 @@ use Rattle.static_rules.specs.Scope as scope
 use Rattle.static_rules.specs.Scope.{variables, is_input, is_output, unprimed, inputs, outputs}
 use Rattle.static_rules.specs.Limits.{binding_count, operation_bindings, binding_faults}
 use Rattle.type_rules.specs.TypesByNumber.{Names, Sizes, key, unless_key, lesser, least_key}
-use Rattle.declared_names.specs.NamesByNumber.{Typed, variables_of, parameters_of}
+use Rattle.names.specs.DeclaredNamesNamesByNumber.{Typed, variables_of, parameters_of}
 use Rattle.names.proofs.TypesAgreeLeast.{Small, no_fault, small-append, small-unless, lesser-assoc, least-nil, unless-least, two-parts, unless-nil, not_nil, append_nil-both}
 use Rattle.names.proofs.TypesAgreeTypes.{no-yes}
 use Rattle.binding_counts.specs.DeclaredTypesFit.{TypesFit, no_types, one_type, OperationsFit, no_operations, one_operation, DeclaredFit}

@@ -11,8 +11,8 @@ use borrow.Author.Tests.{leb-true, leb-false, lt-leb, eq-eqb, ne_eqb}
 use Rattle.form.specs.Tree.{TypeForm, given_type, power_type, range_type, arrow_type, relation, partial, total}
 use Rattle.form.specs.Codes.{Numbering, node, name_number, end_number, end_width, arrow_number, type_codes}
 use Rattle.type_rules.specs.TypesByNumber.{Names, Sizes}
-use Rattle.declared_names.specs.NamesByNumber.{Typed}
-use Rattle.declared_names.proofs.DeclarationNodes.{node-a, node-b, node-shape, typed-type, Walked, start, on, finished}
+use Rattle.names.specs.DeclaredNamesNamesByNumber.{Typed}
+use Rattle.names.proofs.DeclaredNamesDeclarationNodes.{node-a, node-b, node-shape, typed-type, Walked, start, on, finished}
 use Rattle.binding_counts.specs.BindingsByNumber.{cap, size_at, counted_by, type_count, typed_factor, typed_count, TypeCounted, FactorCounted, GroupCounted}
 
 -- ---- the limit ----

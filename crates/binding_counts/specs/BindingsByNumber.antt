@@ -9,8 +9,8 @@ use Rattle.form.specs.Codes.{Numbering, name_number, end_number, type_codes}
 use Rattle.static_rules.specs.Carriers.{size_of, given_of}
 use Rattle.static_rules.specs.Limits.{binding_faults}
 use Rattle.type_rules.specs.TypesByNumber.{Names, Sizes, entry, size_in, key, unless_key, lesser, least_key}
-use Rattle.declared_names.specs.NamesByNumber.{Typed, variables_of, parameters_of, typed_codes}
-use Rattle.declared_names.specs.PassPromises.{typed_code}
+use Rattle.names.specs.DeclaredNamesNamesByNumber.{Typed, variables_of, parameters_of, typed_codes}
+use Rattle.names.specs.DeclaredNamesPassPromises.{typed_code}
 use Rattle.node_spans.specs.Spans.{HeadingAt, OperationAt, OperationsAt, StateAt, Structured}
 use Rattle.binding_counts.specs.DeclaredTypesFit.{DeclaredFit}
 

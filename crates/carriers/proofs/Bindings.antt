@@ -7,12 +7,12 @@ use native.Mathlib.Omega.{arith}
 use lib.Arith.{digits_div}
 use lib.ListN.{length, get_or}
 use Rattle.lexical.specs.Lists.{upward}
-use Rattle.static_rules.specs.Carriers.{Variable, count_of}
+use Rattle.meaning.specs.StaticRulesCarriers.{Variable, count_of}
 use Rattle.meaning.specs.Values as val
 use Rattle.meaning.specs.Values.{Value}
 use Rattle.meaning.specs.Meaning.{Binding}
 use Rattle.meaning.specs.Bindings.{bindings, flat}
-use Rattle.static_rules.specs.Limits.{binding_count}
+use Rattle.meaning.specs.StaticRulesLimits.{binding_count}
 use Rattle.carriers.specs.ValuesByNumber.{value_at, digit, binding_at}
 use Rattle.carriers.proofs.Upward.{map-length, map_get, flat-blocks}
 use Rattle.carriers.proofs.Values.{values_are, count-some, values-once}

@@ -11,7 +11,7 @@ use lib.Dec.{eqb, leb}
 use lib.Pow.{pow_pos, pow-lt, pow-add, shr-shr, field, mod-mod-pow}
 use borrow.Author.Tests.{leb-true, eqb-true, le-leb, eq-eqb}
 use Rattle.lexical.specs.Lists.{upward}
-use Rattle.form.specs.Tree.{partial, total}
+use Rattle.meaning.specs.FormTree.{partial, total}
 use Rattle.sets.specs.Sets.{has, pair, some_from, count_from, is_partial, is_total}
 use Rattle.sets.proofs.Members.{count_ones, ones-among}
 use Rattle.meaning.specs.Bindings.{pair_sets}

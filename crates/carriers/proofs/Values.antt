@@ -13,8 +13,8 @@ use lib.Pow.{pow_pos}
 use lib.Signed.{lt_z}
 use borrow.Author.Tests.{ltb-true, ltb-false, lt-ltb, le-ltb}
 use Rattle.lexical.specs.Lists.{upward}
-use Rattle.form.specs.Tree.{relation, partial, total}
-use Rattle.static_rules.specs.Carriers.{Carrier, elements_of, numbers, subsets_of, pairs_in, size_of, count_of, arrow_count}
+use Rattle.meaning.specs.FormTree.{relation, partial, total}
+use Rattle.meaning.specs.StaticRulesCarriers.{Carrier, elements_of, numbers, subsets_of, pairs_in, size_of, count_of, arrow_count}
 use Rattle.meaning.specs.Values as val
 use Rattle.meaning.specs.Values.{Value}
 use Rattle.meaning.specs.Meaning.{element_values, number_values}

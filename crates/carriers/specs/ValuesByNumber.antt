@@ -1,8 +1,8 @@
 -- The k-th value of a carrier and the k-th binding of a group of variables, in the fixed order, by the digits of k.
 use Rattle.std.specs.Prelude.{List, [], ◌∷◌, ℕ, zero, suc, ◌+◌, ◌*◌, ◌/◌, ◌%◌, ◌^◌, ◌≤◌, pos, ◌+ℤ◌}
-use Rattle.form.specs.Tree.{Arrow, relation, partial, total}
-use Rattle.static_rules.specs.Carriers.{Carrier, elements_of, numbers, subsets_of, pairs_in, Variable, size_of, count_of}
-use Rattle.static_rules.specs.Limits.{binding_count}
+use Rattle.meaning.specs.FormTree.{Arrow, relation, partial, total}
+use Rattle.meaning.specs.StaticRulesCarriers.{Carrier, elements_of, numbers, subsets_of, pairs_in, Variable, size_of, count_of}
+use Rattle.meaning.specs.StaticRulesLimits.{binding_count}
 use Rattle.meaning.specs.Values as val
 use Rattle.meaning.specs.Values.{Value}
 use Rattle.meaning.specs.Meaning.{Binding}

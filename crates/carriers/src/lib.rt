@@ -2,8 +2,8 @@
 #![tactic(auto)]
 
 ghost use Rattle.std.specs.Prelude.{◌≡◌, true, false, ◌*◌, ◌^◌, ◌<◌, ◌≤◌, pos, ◌+ℤ◌};
-ghost use Rattle.form.specs.Tree.{partial, total};
-ghost use Rattle.static_rules.specs.Carriers.{arrow_count};
+ghost use Rattle.meaning.specs.FormTree.{partial, total};
+ghost use Rattle.meaning.specs.StaticRulesCarriers.{arrow_count};
 ghost use Rattle.carriers.specs.ValuesByNumber.{Room, choices, mask_at, partial_mask, total_mask, digit};
 
 // The k-th number of a range from a on.

@@ -18,7 +18,7 @@ use Rattle.obligations.specs.Order.{obligation_of, total}
 use Rattle.obligations.specs.Report.{check_at, witness_lines}
 use Rattle.obligations.specs.Calls as calls
 use Rattle.obligations.specs.Calls.{refuted, Held, holding, verdict, witness, outcome, writing, respond}
-use Rattle.part_tests.specs.PartOrder.{part_size, part_begin}
+use Rattle.parts.specs.PartTestsPartOrder.{part_size, part_begin}
 use Rattle.part_places.specs.Places.{GroupsOf, parts, PlaceAsked, PlaceFound}
 use Rattle.part_places.proofs.PlaceObligations.{obligation-opening, obligation-applying, obligation-correcting}
 use Rattle.pieces.specs.PiecePromises.{Writes}

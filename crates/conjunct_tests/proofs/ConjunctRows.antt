@@ -5,14 +5,14 @@ use Prim.Native.Nat.{ℕ, ◌+◌, ◌-◌, ◌≤◌}
 use native.Mathlib.Omega.{arith}
 use lib.ListN.{length}
 use Rattle.lexical.specs.Kinds.{code_of}
-use Rattle.form.specs.Tree.{and, or, implies, iff}
-use Rattle.form.specs.Tree.{Pred, truth, falsity, negation, paren, quantified, connected, compared, member, within, related}
-use Rattle.form.specs.Written.{connective_kind}
-use Rattle.static_rules.specs.Scope.{Scope}
-use Rattle.meaning.specs.Meaning.{Environment, holds}
-use Rattle.meaning.proofs.ConjunctsHold.{conjuncts}
-use Rattle.node_spans.specs.Spans.{Stands}
-use Rattle.table_places.specs.ResolvedTable.{Slots, pred_table}
+use Rattle.search_groups.specs.FormTree.{and, or, implies, iff}
+use Rattle.search_groups.specs.FormTree.{Pred, truth, falsity, negation, paren, quantified, connected, compared, member, within, related}
+use Rattle.search_groups.specs.FormWritten.{connective_kind}
+use Rattle.evaluation.specs.StaticRulesScope.{Scope}
+use Rattle.evaluation.specs.MeaningMeaning.{Environment, holds}
+use Rattle.evaluation.proofs.MeaningConjunctsHold.{conjuncts}
+use Rattle.search_groups.specs.NodeSpansSpans.{Stands}
+use Rattle.evaluation.specs.TablePlacesResolvedTable.{Slots, pred_table}
 use Rattle.search_groups.specs.Conjuncts.{used_pred, conjunct_row, conjunct_rows}
 use Rattle.evaluation.specs.EvaluationByNumber.{Values, TruthIs}
 use Rattle.evaluation.specs.SlotValues.{Held}

@@ -7,7 +7,7 @@ use Prim.Native.Nat.{ℕ, ◌+◌, ◌-◌, ◌≤◌, ◌<◌, max}
 use native.Mathlib.Omega.{arith}
 use lib.Dec.{leb, ltb}
 use borrow.Author.Tests.{le-leb, lt-ltb}
-use Rattle.meaning.specs.Bindings.{Among}
+use Rattle.evaluation.specs.MeaningBindings.{Among}
 use Rattle.search_groups.specs.Conjuncts.{last_in}
 
 max-left : (a b : ℕ) → a ≤ max a b

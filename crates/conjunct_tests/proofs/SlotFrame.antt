@@ -10,21 +10,21 @@ use lib.ListN.{get_or}
 use lib.IntN.{ℤ, pos, ◌+ℤ◌, ◌-ℤ◌, nat_abs}
 use Rattle.lexical.specs.Lists.{find, filter, upward}
 use Rattle.lexical.specs.Symbols.{Name}
-use Rattle.form.specs.Tree.{Letters, Given}
-use Rattle.form.specs.Tree.{Term, number, name, group, prefix, binary, divided, listed, pairs, such, empty_set, empty_pairs, Items, only, also, Pairs, only_pair, also_pair}
-use Rattle.form.specs.Tree.{Pred, truth, falsity, negation, paren, quantified, connected, compared, member, within, related}
-use Rattle.static_rules.specs.Carriers.{Carrier, elements_of, numbers, subsets_of, pairs_in, Variable, size_of, same_name, plain}
-use Rattle.static_rules.specs.Scope.{Scope}
-use Rattle.meaning.specs.Values as val
-use Rattle.meaning.specs.Values.{Value}
-use Rattle.meaning.specs.Meaning.{Binding, Environment, value_of, element_values, number_values, holds}
-use Rattle.meaning.specs.Bindings.{pair_sets, values_of, Among, Over}
-use Rattle.meaning.specs.MentionedNames.{others, term_names, items_names, pairs_names, pred_names}
-use Rattle.meaning.proofs.Members.{among-left, among-right, among-append}
-use Rattle.meaning.proofs.Distinct.{every_map}
-use Rattle.meaning.proofs.Frame.{frame-pred}
-use Rattle.table_nodes.specs.TableByNumber.{next_slot}
-use Rattle.table_places.specs.ResolvedTable.{Slots}
+use Rattle.search_groups.specs.FormTree.{Letters, Given}
+use Rattle.search_groups.specs.FormTree.{Term, number, name, group, prefix, binary, divided, listed, pairs, such, empty_set, empty_pairs, Items, only, also, Pairs, only_pair, also_pair}
+use Rattle.search_groups.specs.FormTree.{Pred, truth, falsity, negation, paren, quantified, connected, compared, member, within, related}
+use Rattle.evaluation.specs.StaticRulesCarriers.{Carrier, elements_of, numbers, subsets_of, pairs_in, Variable, size_of, same_name, plain}
+use Rattle.evaluation.specs.StaticRulesScope.{Scope}
+use Rattle.evaluation.specs.MeaningValues as val
+use Rattle.evaluation.specs.MeaningValues.{Value}
+use Rattle.evaluation.specs.MeaningMeaning.{Binding, Environment, value_of, element_values, number_values, holds}
+use Rattle.evaluation.specs.MeaningBindings.{pair_sets, values_of, Among, Over}
+use Rattle.evaluation.specs.MeaningMentionedNames.{others, term_names, items_names, pairs_names, pred_names}
+use Rattle.evaluation.proofs.MeaningMembers.{among-left, among-right, among-append}
+use Rattle.evaluation.proofs.MeaningDistinct.{every_map}
+use Rattle.evaluation.proofs.MeaningFrame.{frame-pred}
+use Rattle.search_groups.specs.TableNodesTableByNumber.{next_slot}
+use Rattle.evaluation.specs.TablePlacesResolvedTable.{Slots}
 use Rattle.search_groups.specs.Conjuncts.{used_term, used_items, used_pairs, used_pred}
 use Rattle.evaluation.specs.EvaluationByNumber.{Values}
 use Rattle.evaluation.specs.SlotValues.{Slotted, Held}

@@ -1,16 +1,16 @@
 -- The conjuncts of a predicate, as a search tests them: where each one's nodes stand, and which values it depends on. Nothing here need be believed.
 use Rattle.std.specs.Prelude.{◌≡◌, List, [], ◌∷◌, ◌++◌, ℕ, ◌≤◌}
 use Rattle.lexical.specs.Symbols.{Name}
-use Rattle.form.specs.Tree.{Pred}
-use Rattle.static_rules.specs.Scope.{Scope}
-use Rattle.static_rules.specs.Names.{judge_pred}
-use Rattle.static_rules.specs.Limits.{size_pred}
-use Rattle.meaning.specs.Values.{Value}
-use Rattle.meaning.specs.Meaning.{Binding}
-use Rattle.value_types.specs.TypedValues.{PredWithin, sizes_in}
-use Rattle.form.specs.BoundNames.{PredBindsFew}
-use Rattle.node_spans.specs.Spans.{Stands}
-use Rattle.table_places.specs.ResolvedTable.{Slots, pred_table}
+use Rattle.search_groups.specs.FormTree.{Pred}
+use Rattle.evaluation.specs.StaticRulesScope.{Scope}
+use Rattle.evaluation.specs.StaticRulesNames.{judge_pred}
+use Rattle.evaluation.specs.StaticRulesLimits.{size_pred}
+use Rattle.evaluation.specs.MeaningValues.{Value}
+use Rattle.evaluation.specs.MeaningMeaning.{Binding}
+use Rattle.evaluation.specs.ValueTypesTypedValues.{PredWithin, sizes_in}
+use Rattle.search_groups.specs.FormBoundNames.{PredBindsFew}
+use Rattle.search_groups.specs.NodeSpansSpans.{Stands}
+use Rattle.evaluation.specs.TablePlacesResolvedTable.{Slots, pred_table}
 use Rattle.search_groups.specs.Conjuncts.{used_pred, conjunct_row}
 
 -- the nodes of q stand in the table; q has no faults of names and types where it begins at the symbol `at`, nor of number 13's sizes at `sized_at`;

@@ -14,7 +14,7 @@ use Rattle.obligations.specs.Order.{total}
 use Rattle.reader.specs.Gives.{Gives}
 use Rattle.reader.proofs.ReadGives.{read-gives}
 use Rattle.readings.proofs.ReadReadings.{state-bindings, operation-bindings}
-use Rattle.part_tests.proofs.PartSizes.{total-small}
+use Rattle.reports.proofs.PartTestsPartSizes.{total-small}
 
 -- 6 and 12: the check as a whole has fewer than 2^53 places
 pub read-total : (t : List ℕ) (d : Dossier) → read t ≡ reading d → total (subject_of d) < 2 ^ 53

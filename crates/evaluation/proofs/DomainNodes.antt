@@ -9,16 +9,16 @@ use native.Mathlib.Omega.{arith}
 use lib.IntN.{ℤ, pos, ◌+ℤ◌, ◌-ℤ◌}
 use Rattle.lexical.specs.Lists.{upward}
 use Rattle.lexical.specs.Symbols.{Name}
-use Rattle.form.specs.Tree.{Domain, given_set, range, Given}
-use Rattle.form.specs.Codes.{node, end_number}
-use Rattle.static_rules.specs.Carriers.{end_value, given_of}
-use Rattle.static_rules.specs.Scope.{Scope}
-use Rattle.static_rules.specs.Names.{domain_faults}
-use Rattle.meaning.specs.Values as val
-use Rattle.meaning.specs.Values.{Value}
-use Rattle.meaning.specs.Bindings.{Among}
-use Rattle.meaning.specs.Meaning.{Environment, size_of_given, element_values, number_values, domain_values}
-use Rattle.meaning.proofs.Members.{among-map}
+use Rattle.table_places.specs.FormTree.{Domain, given_set, range, Given}
+use Rattle.table_places.specs.FormCodes.{node, end_number}
+use Rattle.value_types.specs.StaticRulesCarriers.{end_value, given_of}
+use Rattle.value_types.specs.StaticRulesScope.{Scope}
+use Rattle.value_types.specs.StaticRulesNames.{domain_faults}
+use Rattle.value_types.specs.MeaningValues as val
+use Rattle.value_types.specs.MeaningValues.{Value}
+use Rattle.value_types.specs.MeaningBindings.{Among}
+use Rattle.value_types.specs.MeaningMeaning.{Environment, size_of_given, element_values, number_values, domain_values}
+use Rattle.value_types.proofs.MeaningMembers.{among-map}
 use Rattle.value_types.specs.TypedValues.{InReach, Carried, DomainWithin}
 use Rattle.value_types.proofs.FaultlessParts.{range-known}
 use Rattle.value_types.proofs.Reach.{size_in, given_is}

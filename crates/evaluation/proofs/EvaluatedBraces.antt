@@ -5,11 +5,11 @@ use Prim.Native.Nat.{ℕ, ◌+◌, ◌-◌, ◌<◌, max}
 use native.Mathlib.Omega.{arith}
 use lib.ListN.{length}
 use lib.IntN.{ℤ, pos}
-use Rattle.form.specs.Tree.{Term, Items, only, also, Pairs, only_pair, also_pair}
+use Rattle.table_places.specs.FormTree.{Term, Items, only, also, Pairs, only_pair, also_pair}
 use Rattle.sets.specs.Sets as sets
 use Rattle.sets.proofs.Members.{set_below}
-use Rattle.meaning.specs.Values.{natural, operator_value, singleton, single_pair, pair_bit}
-use Rattle.meaning.specs.Meaning.{value, items_value, pairs_value}
+use Rattle.value_types.specs.MeaningValues.{natural, operator_value, singleton, single_pair, pair_bit}
+use Rattle.value_types.specs.MeaningMeaning.{value, items_value, pairs_value}
 use Rattle.value_types.proofs.SetBounds.{single-below}
 use Rattle.value_types.proofs.TypedOperations.{pair_typed}
 use Rattle.table_places.specs.ResolvedTable.{type_in, element_size, term_table, items_table, pairs_table}

@@ -6,18 +6,18 @@ use native.Mathlib.Omega.{arith}
 use lib.Dec.{eqb}
 use lib.ListN.{length}
 use Rattle.lexical.specs.Kinds.{code_of}
-use Rattle.form.specs.Tree.{Letters, Range, Domain, Connective, Quantifier, Comparison, Membership, Term}
-use Rattle.form.specs.Tree.{Pred, truth, falsity, negation, paren, quantified, connected, compared, member, within, related}
-use Rattle.form.specs.Written.{connective_kind, quantifier_kind, comparison_kind, membership_kind}
-use Rattle.form.specs.Codes.{node, end_number}
-use Rattle.static_rules.specs.Carriers.{plain}
-use Rattle.static_rules.specs.Scope.{binding}
-use Rattle.static_rules.specs.Names.{domain_carrier}
+use Rattle.table_places.specs.FormTree.{Letters, Range, Domain, Connective, Quantifier, Comparison, Membership, Term}
+use Rattle.table_places.specs.FormTree.{Pred, truth, falsity, negation, paren, quantified, connected, compared, member, within, related}
+use Rattle.table_places.specs.FormWritten.{connective_kind, quantifier_kind, comparison_kind, membership_kind}
+use Rattle.table_places.specs.FormCodes.{node, end_number}
+use Rattle.value_types.specs.StaticRulesCarriers.{plain}
+use Rattle.value_types.specs.StaticRulesScope.{binding}
+use Rattle.value_types.specs.StaticRulesNames.{domain_carrier}
 use Rattle.sets.specs.Sets as sets
-use Rattle.meaning.specs.Values.{Value, natural, pair_bit}
-use Rattle.meaning.specs.Meaning.{with, quantify, is_member, is_pair_of, value, holds}
-use Rattle.node_spans.specs.Spans.{Stands}
-use Rattle.table_nodes.specs.TableByNumber.{next_slot, related_shape}
+use Rattle.value_types.specs.MeaningValues.{Value, natural, pair_bit}
+use Rattle.value_types.specs.MeaningMeaning.{with, quantify, is_member, is_pair_of, value, holds}
+use Rattle.table_places.specs.NodeSpansSpans.{Stands}
+use Rattle.table_places.specs.TableNodesTableByNumber.{next_slot, related_shape}
 use Rattle.table_places.specs.ResolvedTable.{type_in, element_size, domain_table, term_table, pred_table}
 use Rattle.evaluation.specs.OperatorsByNumber as by
 use Rattle.evaluation.specs.EvaluationByNumber.{Pair, pair_code, TermIs, ItemsIs, TruthIs}

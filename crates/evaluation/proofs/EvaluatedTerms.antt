@@ -7,18 +7,18 @@ use lib.ListN.{length}
 use lib.IntN.{pos}
 use Rattle.lexical.specs.Kinds.{code_of}
 use Rattle.lexical.specs.Symbols.{Name}
-use Rattle.form.specs.Tree.{Letters, End, given_set, Prefix, Operator, Division}
-use Rattle.form.specs.Tree.{Term, number, name, group, prefix, binary, divided, listed, pairs, such, empty_set, empty_pairs, Items, Pairs, Pred}
-use Rattle.form.specs.Written.{prefix_kind, operator_kind}
-use Rattle.form.specs.Codes.{node, sign_of, division_number}
-use Rattle.static_rules.specs.Carriers.{plain}
-use Rattle.static_rules.specs.Scope.{binding}
-use Rattle.static_rules.specs.Names.{domain_carrier}
+use Rattle.table_places.specs.FormTree.{Letters, End, given_set, Prefix, Operator, Division}
+use Rattle.table_places.specs.FormTree.{Term, number, name, group, prefix, binary, divided, listed, pairs, such, empty_set, empty_pairs, Items, Pairs, Pred}
+use Rattle.table_places.specs.FormWritten.{prefix_kind, operator_kind}
+use Rattle.table_places.specs.FormCodes.{node, sign_of, division_number}
+use Rattle.value_types.specs.StaticRulesCarriers.{plain}
+use Rattle.value_types.specs.StaticRulesScope.{binding}
+use Rattle.value_types.specs.StaticRulesNames.{domain_carrier}
 use Rattle.sets.specs.Sets as sets
-use Rattle.meaning.specs.Values as val
-use Rattle.meaning.specs.Meaning.{with, size_of_given, value, holds}
-use Rattle.node_spans.specs.Spans.{Stands}
-use Rattle.table_nodes.specs.TableByNumber.{next_slot}
+use Rattle.value_types.specs.MeaningValues as val
+use Rattle.value_types.specs.MeaningMeaning.{with, size_of_given, value, holds}
+use Rattle.table_places.specs.NodeSpansSpans.{Stands}
+use Rattle.table_places.specs.TableNodesTableByNumber.{next_slot}
 use Rattle.table_places.specs.ResolvedTable.{side_size, domain_table, term_table, items_table, pairs_table, pred_table, given_size}
 use Rattle.evaluation.specs.EvaluationByNumber.{TermIs, ItemsIs, TruthIs}
 use Rattle.evaluation.specs.SlotValues.{bound_slot}

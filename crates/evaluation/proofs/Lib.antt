@@ -13,3 +13,8 @@ pub mod EvaluatedTerms
 pub mod EvaluatedBraces
 pub mod EvaluatedPreds
 pub mod TablesEvaluate
+-- what crates above name of crates below
+pub use Rattle.value_types.proofs.MeaningConjunctsHold as MeaningConjunctsHold
+pub use Rattle.value_types.proofs.MeaningDistinct as MeaningDistinct
+pub use Rattle.value_types.proofs.MeaningFrame as MeaningFrame
+pub use Rattle.value_types.proofs.MeaningMembers as MeaningMembers

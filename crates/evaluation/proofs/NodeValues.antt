@@ -8,9 +8,9 @@ use lib.Dec.{eqb}
 use lib.ListN.{get_or}
 use lib.IntN.{ℤ, pos, ◌-ℤ◌}
 use Rattle.sets.specs.Sets as sets
-use Rattle.meaning.specs.Values.{natural}
-use Rattle.form.specs.Tree.{Membership, is_in, not_in}
-use Rattle.table_nodes.specs.TableByNumber.{related_shape}
+use Rattle.value_types.specs.MeaningValues.{natural}
+use Rattle.table_places.specs.FormTree.{Membership, is_in, not_in}
+use Rattle.table_places.specs.TableNodesTableByNumber.{related_shape}
 use Rattle.evaluation.specs.OperatorsByNumber.{Small, IsPlace, IsBits, prefixed, PrefixTakes, divided, operated, OperatorTakes, compared, connected, asked, in_range}
 use Rattle.evaluation.specs.EvaluationByNumber.{Values, second_at, end_at, low_at, count_at, Inside, Terms, Truths, Part, Bound, Pair, pair_code, TermNode, ItemsNode, TruthNode, AskedNode, quantified}
 use Rattle.evaluation.specs.EvaluationByNumber.{RelatedNode}

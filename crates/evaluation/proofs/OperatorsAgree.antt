@@ -8,16 +8,16 @@ use lib.Dec.{eqb}
 use lib.IntN.{ℤ}
 use Rattle.lexical.specs.Kinds.{code_of}
 use Rattle.lexical.specs.Lists.{all, any, count, upward}
-use Rattle.form.specs.Tree.{End, Operator, plus, minus, union, without, times, inter, Division, quotient, remainder, Comparison, equals, differs, less, at_most}
-use Rattle.form.specs.Tree.{Membership, is_in, not_in, Connective, and, or, implies, iff, Quantifier, forall, exists, exists1}
-use Rattle.form.specs.Written.{operator_kind, connective_kind, quantifier_kind, comparison_kind, membership_kind}
-use Rattle.form.specs.Codes.{sign_of, division_number}
-use Rattle.static_rules.specs.Carriers.{end_value}
+use Rattle.table_places.specs.FormTree.{End, Operator, plus, minus, union, without, times, inter, Division, quotient, remainder, Comparison, equals, differs, less, at_most}
+use Rattle.table_places.specs.FormTree.{Membership, is_in, not_in, Connective, and, or, implies, iff, Quantifier, forall, exists, exists1}
+use Rattle.table_places.specs.FormWritten.{operator_kind, connective_kind, quantifier_kind, comparison_kind, membership_kind}
+use Rattle.table_places.specs.FormCodes.{sign_of, division_number}
+use Rattle.value_types.specs.StaticRulesCarriers.{end_value}
 use Rattle.sets.specs.Sets as sets
-use Rattle.meaning.specs.Values as val
-use Rattle.meaning.specs.Values.{Value, operator_value, division_value, compare, connect}
-use Rattle.meaning.specs.Meaning.{quantify}
-use Rattle.table_nodes.specs.TableByNumber.{related_shape}
+use Rattle.value_types.specs.MeaningValues as val
+use Rattle.value_types.specs.MeaningValues.{Value, operator_value, division_value, compare, connect}
+use Rattle.value_types.specs.MeaningMeaning.{quantify}
+use Rattle.table_places.specs.TableNodesTableByNumber.{related_shape}
 use Rattle.evaluation.specs.OperatorsByNumber.{divided, divisor, operated, compared, connected, asked}
 use Rattle.evaluation.specs.EvaluationByNumber.{quantified}
 

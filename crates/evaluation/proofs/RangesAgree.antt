@@ -7,12 +7,12 @@ use lib.Dec.{leb-suc-suc, leb-suc-zero, leb-zero}
 use lib.IntN.{ℤ, pos, negsuc, nat_abs, suc_ℤ, sub_ℕ, ◌+ℤ◌, ◌-ℤ◌}
 use lib.Signed.{le_z, lt_z}
 use borrow.Author.Tests.{leb-true, le-ltb, lt-ltb}
-use Rattle.form.specs.Tree.{End, Range}
-use Rattle.form.specs.Codes.{end_number}
-use Rattle.static_rules.specs.Carriers.{signed, end_value}
-use Rattle.static_rules.specs.Names.{range_fits}
-use Rattle.meaning.specs.Values.{Value}
-use Rattle.meaning.specs.Meaning as mean
+use Rattle.table_places.specs.FormTree.{End, Range}
+use Rattle.table_places.specs.FormCodes.{end_number}
+use Rattle.value_types.specs.StaticRulesCarriers.{signed, end_value}
+use Rattle.value_types.specs.StaticRulesNames.{range_fits}
+use Rattle.value_types.specs.MeaningValues.{Value}
+use Rattle.value_types.specs.MeaningMeaning as mean
 use Rattle.value_types.specs.TypedValues.{RangeWithin}
 use Rattle.evaluation.specs.OperatorsByNumber.{in_range}
 

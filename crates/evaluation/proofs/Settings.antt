@@ -5,20 +5,20 @@ use Prim.Native.Nat.{ℕ, suc, ◌≤◌}
 use native.Mathlib.Omega.{arith}
 use lib.ListN.{set}
 use lib.IntN.{ℤ, pos, ◌-ℤ◌}
-use Rattle.form.specs.Tree.{Letters, Domain, Term, Items, Pairs, Pred}
-use Rattle.static_rules.specs.Carriers.{plain}
-use Rattle.static_rules.specs.Types.{Ty}
-use Rattle.static_rules.specs.Scope.{Scope, binding}
-use Rattle.static_rules.specs.Names.{domain_carrier}
-use Rattle.meaning.specs.Values.{Value}
-use Rattle.meaning.specs.Bindings.{Among}
-use Rattle.meaning.specs.Meaning.{Environment, with, domain_values, value, items_value, pairs_value, holds}
+use Rattle.table_places.specs.FormTree.{Letters, Domain, Term, Items, Pairs, Pred}
+use Rattle.value_types.specs.StaticRulesCarriers.{plain}
+use Rattle.value_types.specs.StaticRulesTypes.{Ty}
+use Rattle.value_types.specs.StaticRulesScope.{Scope, binding}
+use Rattle.value_types.specs.StaticRulesNames.{domain_carrier}
+use Rattle.value_types.specs.MeaningValues.{Value}
+use Rattle.value_types.specs.MeaningBindings.{Among}
+use Rattle.value_types.specs.MeaningMeaning.{Environment, with, domain_values, value, items_value, pairs_value, holds}
 use Rattle.value_types.specs.TypedValues.{HasType}
 use Rattle.value_types.proofs.TypedTerms.{typed-term}
 use Rattle.value_types.proofs.SizedTerms.{small-term}
 use Rattle.value_types.proofs.Binders.{binding-in-reach, binding-carried}
-use Rattle.node_spans.specs.Spans.{Stands}
-use Rattle.table_nodes.specs.TableByNumber.{next_slot}
+use Rattle.table_places.specs.NodeSpansSpans.{Stands}
+use Rattle.table_places.specs.TableNodesTableByNumber.{next_slot}
 use Rattle.table_places.specs.ResolvedTable.{Slots, type_in, term_table, items_table, pairs_table, pred_table}
 use Rattle.evaluation.specs.OperatorsByNumber.{Small}
 use Rattle.evaluation.specs.EvaluationByNumber.{Values, Bound, TermIs, ItemsIs, TruthIs}

@@ -11,14 +11,14 @@ use lib.IntN.{ℤ, pos}
 use borrow.Author.Tests.{lt-ltb}
 use Rattle.lexical.specs.Lists.{find}
 use Rattle.lexical.specs.Symbols.{Name}
-use Rattle.form.specs.Tree.{Letters, Given, elements}
-use Rattle.form.specs.Codes.{node}
-use Rattle.static_rules.specs.Carriers.{Carrier, same_name, plain}
-use Rattle.static_rules.specs.Scope.{Scope, binding, element_of, place_in}
-use Rattle.meaning.specs.Values.{Value}
-use Rattle.meaning.specs.Meaning.{Binding, Environment, value_of, with}
+use Rattle.table_places.specs.FormTree.{Letters, Given, elements}
+use Rattle.table_places.specs.FormCodes.{node}
+use Rattle.value_types.specs.StaticRulesCarriers.{Carrier, same_name, plain}
+use Rattle.value_types.specs.StaticRulesScope.{Scope, binding, element_of, place_in}
+use Rattle.value_types.specs.MeaningValues.{Value}
+use Rattle.value_types.specs.MeaningMeaning.{Binding, Environment, value_of, with}
 use Rattle.value_types.specs.TypedValues.{InReach, Carried}
-use Rattle.table_nodes.specs.TableByNumber.{next_slot}
+use Rattle.table_places.specs.TableNodesTableByNumber.{next_slot}
 use Rattle.table_places.specs.ResolvedTable.{Slots, name_table}
 use Rattle.evaluation.specs.EvaluationByNumber.{Values}
 use Rattle.evaluation.specs.SlotValues.{Slotted, Below, bound_slot, Held}

@@ -4,17 +4,17 @@ use mathlib.Core.Path.{◌≡◌, sym, ap, ap₂, ◌∙◌, subst}
 use mathlib.Core.Bool.{Bool, true}
 use mathlib.Core.List.{[]}
 use Prim.Native.Nat.{ℕ, suc, ◌≤◌}
-use Rattle.form.specs.Tree.{Letters, End, Range, Domain, given_set, Prefix, Operator, Division, Connective, Quantifier, Comparison, Membership}
-use Rattle.form.specs.Tree.{Term, group, prefix, binary, divided, listed, pairs, such, Items, only, also, Pairs, only_pair, also_pair}
-use Rattle.form.specs.Tree.{Pred, negation, paren, quantified, connected, compared, member, within, related}
+use Rattle.table_places.specs.FormTree.{Letters, End, Range, Domain, given_set, Prefix, Operator, Division, Connective, Quantifier, Comparison, Membership}
+use Rattle.table_places.specs.FormTree.{Term, group, prefix, binary, divided, listed, pairs, such, Items, only, also, Pairs, only_pair, also_pair}
+use Rattle.table_places.specs.FormTree.{Pred, negation, paren, quantified, connected, compared, member, within, related}
 use Rattle.lexical.specs.Symbols.{Name}
-use Rattle.static_rules.specs.Carriers.{end_value}
-use Rattle.static_rules.specs.Types.{Ty, has, is_element, prefix_fits, operator_fits, member_fits, related_fits, pairs_of_types}
-use Rattle.static_rules.specs.Scope.{Scope, binding}
-use Rattle.static_rules.specs.Names.{judge_term, judge_items, judge_pairs, judge_pred, domain_carrier, domain_faults, over_fault, range_fits}
-use Rattle.static_rules.specs.Limits.{size_term, size_items, size_pairs, size_pred}
+use Rattle.value_types.specs.StaticRulesCarriers.{end_value}
+use Rattle.value_types.specs.StaticRulesTypes.{Ty, has, is_element, prefix_fits, operator_fits, member_fits, related_fits, pairs_of_types}
+use Rattle.value_types.specs.StaticRulesScope.{Scope, binding}
+use Rattle.value_types.specs.StaticRulesNames.{judge_term, judge_items, judge_pairs, judge_pred, domain_carrier, domain_faults, over_fault, range_fits}
+use Rattle.value_types.specs.StaticRulesLimits.{size_term, size_items, size_pairs, size_pred}
 use Rattle.value_types.specs.TypedValues.{TermWithin, ItemsWithin, PairsWithin, PredWithin, DomainWithin, RangeWithin, sizes_in}
-use Rattle.form.specs.BoundNames.{TermBindsFew, ItemsBindFew, PairsBindFew, PredBindsFew}
+use Rattle.table_places.specs.FormBoundNames.{TermBindsFew, ItemsBindFew, PairsBindFew, PredBindsFew}
 use Rattle.value_types.proofs.FaultlessParts.{group-parts, prefix-parts, binary-parts, divided-parts, listed-parts, pairs-parts, such-parts, only_parts, also-parts, only-pair-parts, also-pair-parts}
 use Rattle.value_types.proofs.FaultlessParts.{negation-parts, paren-parts, quantified-parts, connected-parts, compared-parts, member-parts, within-parts, related-parts}
 use Rattle.value_types.proofs.FaultlessParts.{group-sizes, prefix-sizes, binary-sizes, divided-sizes, listed-sizes, pairs-sizes, such-bound, only-sizes, also-sizes, only-pair-sizes, also-pair-sizes}

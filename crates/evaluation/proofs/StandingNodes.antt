@@ -5,8 +5,8 @@ use Prim.Native.Nat.{ℕ, ◌+◌, ◌-◌, ◌<◌, ◌≤◌}
 use native.Mathlib.Omega.{arith}
 use lib.ListN.{length, take, drop, get_or, length-append, length-drop}
 use lib.Seq.{length-take-le, take-append_seam, drop-append_seam, take-take, take-add, drop-drop, get_or-take, get_or-drop}
-use Rattle.form.specs.Codes.{node}
-use Rattle.node_spans.specs.Spans.{Stands}
+use Rattle.table_places.specs.FormCodes.{node}
+use Rattle.table_places.specs.NodeSpansSpans.{Stands}
 use Rattle.evaluation.specs.EvaluationByNumber.{shape_at, end_at, first_at, second_at}
 
 -- the node that ends at e: what it is, and its three numbers

@@ -3,15 +3,15 @@
 use mathlib.Core.Path.{◌≡◌}
 use mathlib.Core.List.{List, []}
 use Prim.Native.Nat.{ℕ, ◌≤◌}
-use Rattle.form.specs.Tree.{Term, number, name, group, prefix, binary, divided, listed, pairs, such, empty_set, empty_pairs, Items, only, also, Pairs, only_pair, also_pair}
-use Rattle.form.specs.Tree.{Pred, truth, falsity, negation, paren, quantified, connected, compared, member, within, related}
-use Rattle.static_rules.specs.Scope.{Scope}
-use Rattle.static_rules.specs.Names.{judge_term, judge_pred}
-use Rattle.static_rules.specs.Limits.{size_term, size_pred}
-use Rattle.meaning.specs.Meaning.{Environment, value, holds}
+use Rattle.table_places.specs.FormTree.{Term, number, name, group, prefix, binary, divided, listed, pairs, such, empty_set, empty_pairs, Items, only, also, Pairs, only_pair, also_pair}
+use Rattle.table_places.specs.FormTree.{Pred, truth, falsity, negation, paren, quantified, connected, compared, member, within, related}
+use Rattle.value_types.specs.StaticRulesScope.{Scope}
+use Rattle.value_types.specs.StaticRulesNames.{judge_term, judge_pred}
+use Rattle.value_types.specs.StaticRulesLimits.{size_term, size_pred}
+use Rattle.value_types.specs.MeaningMeaning.{Environment, value, holds}
 use Rattle.value_types.specs.TypedValues.{TermWithin, PredWithin, sizes_in}
-use Rattle.form.specs.BoundNames.{TermBindsFew, PredBindsFew}
-use Rattle.node_spans.specs.Spans.{Stands}
+use Rattle.table_places.specs.FormBoundNames.{TermBindsFew, PredBindsFew}
+use Rattle.table_places.specs.NodeSpansSpans.{Stands}
 use Rattle.table_places.specs.ResolvedTable.{Slots, term_table, pred_table}
 use Rattle.evaluation.specs.EvaluationByNumber.{Values, TermIs, TruthIs}
 use Rattle.evaluation.specs.SlotValues.{bound_slot, Held}

@@ -3,10 +3,10 @@ use mathlib.Core.Path.{◌≡◌, refl, ap, ap₂}
 use mathlib.Core.List.{List, [], ◌∷◌}
 use mathlib.Core.Option.{Option, none, some}
 use Prim.Native.Nat.{ℕ, suc}
-use Rattle.form.specs.Tree.{Term, number, name, group, prefix, binary, divided, listed, pairs, such, empty_set, empty_pairs, Items, only, also, Pairs, only_pair, also_pair}
-use Rattle.static_rules.specs.Types.{Ty, prefix_type, brace_type, pairs_type}
-use Rattle.static_rules.specs.Scope.{Scope, type_of_name}
-use Rattle.static_rules.specs.Names.{of_name, judge_term, judge_items, judge_pairs}
+use Rattle.table_places.specs.FormTree.{Term, number, name, group, prefix, binary, divided, listed, pairs, such, empty_set, empty_pairs, Items, only, also, Pairs, only_pair, also_pair}
+use Rattle.value_types.specs.StaticRulesTypes.{Ty, prefix_type, brace_type, pairs_type}
+use Rattle.value_types.specs.StaticRulesScope.{Scope, type_of_name}
+use Rattle.value_types.specs.StaticRulesNames.{of_name, judge_term, judge_items, judge_pairs}
 
 name-type : (o : Option Ty) (i j : ℕ) → (of_name o i).type ≡ (of_name o j).type
 name-type none i j = refl

@@ -8,15 +8,15 @@ use lib.ListN.{get_or}
 use lib.IntN.{ℤ, pos}
 use Rattle.lexical.specs.Kinds.{code_of}
 use Rattle.lexical.specs.Symbols.{Name}
-use Rattle.form.specs.Tree.{Letters, Term, Prefix, negate, size, dom, ran, Operator, plus, minus, union, without, times, inter}
-use Rattle.form.specs.Written.{prefix_kind, operator_kind}
-use Rattle.static_rules.specs.Carriers.{plain}
-use Rattle.static_rules.specs.Types.{is_element, is_pairs, Ty, has, same_type, pairs_of_types, is_any_set, prefix_fits, operator_fits, member_fits, related_fits}
-use Rattle.static_rules.specs.Scope.{Scope}
+use Rattle.table_places.specs.FormTree.{Letters, Term, Prefix, negate, size, dom, ran, Operator, plus, minus, union, without, times, inter}
+use Rattle.table_places.specs.FormWritten.{prefix_kind, operator_kind}
+use Rattle.value_types.specs.StaticRulesCarriers.{plain}
+use Rattle.value_types.specs.StaticRulesTypes.{is_element, is_pairs, Ty, has, same_type, pairs_of_types, is_any_set, prefix_fits, operator_fits, member_fits, related_fits}
+use Rattle.value_types.specs.StaticRulesScope.{Scope}
 use Rattle.sets.specs.Sets as sets
-use Rattle.symbols.proofs.BooleanTests.{and_both, and_left, and_right}
-use Rattle.meaning.specs.Values.{Value, natural, prefix_value, pair_bit}
-use Rattle.meaning.specs.Meaning.{Environment, size_of_given}
+use Rattle.value_types.proofs.SymbolsBooleanTests.{and_both, and_left, and_right}
+use Rattle.value_types.specs.MeaningValues.{Value, natural, prefix_value, pair_bit}
+use Rattle.value_types.specs.MeaningMeaning.{Environment, size_of_given}
 use Rattle.value_types.specs.TypedValues.{IsElementOf, HasType, sizes_over, Carried}
 use Rattle.value_types.proofs.TypeTests.{same-type, type-refl}
 use Rattle.value_types.proofs.Reach.{named-size}

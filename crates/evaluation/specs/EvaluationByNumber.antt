@@ -3,7 +3,7 @@
 -- That the tables of the definitions give the values of the definitions is proofs/TablesEvaluate. Nothing here need be believed.
 use Rattle.std.specs.Prelude.{◌≡◌, Bool, true, false, not, List, ℕ, zero, suc, ◌-◌, ◌<◌, ◌≤◌, eqb, get_or, set, ℤ, pos, ◌+ℤ◌, ◌-ℤ◌}
 use Rattle.sets.specs.Sets as sets
-use Rattle.meaning.specs.Values.{natural}
+use Rattle.value_types.specs.MeaningValues.{natural}
 use Rattle.evaluation.specs.OperatorsByNumber.{pick, Small, IsPlace, IsBits, prefixed, PrefixTakes, divided, operated, OperatorTakes, compared, connected, asked, in_range}
 
 -- the values of the slots

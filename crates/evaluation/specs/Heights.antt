@@ -1,7 +1,7 @@
 -- How deep the nodes of a tree are: brackets leave none. A bound for the evaluation by numbers. Nothing here need be believed.
 use Rattle.std.specs.Prelude.{ℕ, suc, max}
-use Rattle.form.specs.Tree.{Term, number, name, group, prefix, binary, divided, listed, pairs, such, empty_set, empty_pairs, Items, only, also, Pairs, only_pair, also_pair}
-use Rattle.form.specs.Tree.{Pred, truth, falsity, negation, paren, quantified, connected, compared, member, within, related}
+use Rattle.table_places.specs.FormTree.{Term, number, name, group, prefix, binary, divided, listed, pairs, such, empty_set, empty_pairs, Items, only, also, Pairs, only_pair, also_pair}
+use Rattle.table_places.specs.FormTree.{Pred, truth, falsity, negation, paren, quantified, connected, compared, member, within, related}
 
 unfoldable mutual
   pub height_term : Term → ℕ

@@ -2,10 +2,10 @@
 -- That these are the operators of meaning/specs/Values is proofs/OperatorsAgree, of ranges proofs/RangesAgree, of prefixes proofs/TypedCodes. Nothing here need be believed.
 use Rattle.std.specs.Prelude.{◌≡◌, Bool, true, false, not, ◌&&◌, ◌||◌, ℕ, ◌%◌, ◌<◌, eqb, ltb, ℤ, pos, neg_ℤ, nat_abs, ◌+ℤ◌, ◌-ℤ◌, ◌*ℤ◌}
 use Rattle.std.specs.Int.Signed.{le_z, lt_z}
-use Rattle.static_rules.specs.Carriers.{signed}
+use Rattle.value_types.specs.StaticRulesCarriers.{signed}
 use Rattle.sets.specs.Sets as sets
 use Rattle.sets.specs.Division.{floor_div, floor_mod}
-use Rattle.meaning.specs.Values.{natural, same_integer}
+use Rattle.value_types.specs.MeaningValues.{natural, same_integer}
 
 -- one of two types
 abbrev pub pick : Bool → Type 0 → Type 0 → Type 0

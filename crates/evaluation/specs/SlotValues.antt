@@ -1,7 +1,7 @@
 -- Slots stand for names: the slots of the names in reach, and the values of an environment, side by side in order, the innermost first. Nothing here need be believed.
 use Rattle.std.specs.Prelude.{◌≡◌, [], ◌∷◌, ℕ, ◌+◌, ◌<◌, ◌≤◌, get_or, length, pos}
-use Rattle.static_rules.specs.Scope.{Scope}
-use Rattle.meaning.specs.Meaning.{Binding, Environment}
+use Rattle.value_types.specs.StaticRulesScope.{Scope}
+use Rattle.value_types.specs.MeaningMeaning.{Binding, Environment}
 use Rattle.value_types.specs.TypedValues.{InReach, Carried}
 use Rattle.table_places.specs.ResolvedTable.{Slots}
 use Rattle.evaluation.specs.EvaluationByNumber.{Values}

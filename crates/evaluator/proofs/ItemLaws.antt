@@ -10,10 +10,10 @@ use lib.Signed.{mag}
 use mir.Syntax.{w64}
 use mir.Val.{to_z, of_z}
 use Rattle.sets.specs.Sets as sets
-use Rattle.meaning.specs.Values.{natural}
-use Rattle.evaluation.specs.OperatorsByNumber.{IsPlace, IsBits}
-use Rattle.evaluation.specs.EvaluationByNumber.{Values, Terms, Inside, shape_at, end_at, first_at, second_at, TermIs, ItemsIs, Pair, pair_code}
-use Rattle.evaluation.specs.EvaluationByNumber.{LastItem, MoreItems, LastPair, MorePairs, ItemsNode}
+use Rattle.operators.specs.MeaningValues.{natural}
+use Rattle.operators.specs.EvaluationOperatorsByNumber.{IsPlace, IsBits}
+use Rattle.operators.specs.EvaluationEvaluationByNumber.{Values, Terms, Inside, shape_at, end_at, first_at, second_at, TermIs, ItemsIs, Pair, pair_code}
+use Rattle.operators.specs.EvaluationEvaluationByNumber.{LastItem, MoreItems, LastPair, MorePairs, ItemsNode}
 use Rattle.evaluator.specs.EvaluationPromises.{TermRuns, TermAnswers, ItemsRun, ItemsAnswer}
 use Rattle.evaluator.proofs.NodeLaws.{read, term_runs, items-run}
 

@@ -13,8 +13,8 @@ use lib.Seq.{set-set, set-get_or}
 use lib.IntN.{ℤ, pos, ◌+ℤ◌}
 use mir.Val.{bool_byte}
 use Rattle.sets.specs.Sets.{bit, set_from, set_of, some_from, count_from}
-use Rattle.evaluation.specs.OperatorsByNumber.{asked}
-use Rattle.evaluation.specs.EvaluationByNumber.{Values, Inside, first_at, low_at, count_at, Bound, TruthIs}
+use Rattle.operators.specs.EvaluationOperatorsByNumber.{asked}
+use Rattle.operators.specs.EvaluationEvaluationByNumber.{Values, Inside, first_at, low_at, count_at, Bound, TruthIs}
 use Rattle.evaluator.specs.EvaluationPromises.{TruthRuns, TruthAnswers, SuchRuns, SuchAnswers, Tests, BoundRuns, SomeAnswers, OnceAnswers}
 use Rattle.evaluator.proofs.TruthLaws.{truth-at, truth-runs}
 

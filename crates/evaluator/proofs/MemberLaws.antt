@@ -6,10 +6,10 @@ use Prim.Native.Nat.{ℕ, ◌-◌, ◌<◌, ◌≤◌}
 use lib.Dec.{eqb}
 use lib.IntN.{ℤ}
 use Rattle.sets.specs.Sets as sets
-use Rattle.meaning.specs.Values.{natural}
-use Rattle.evaluation.specs.OperatorsByNumber.{IsPlace, IsBits, asked, in_range}
-use Rattle.evaluation.specs.EvaluationByNumber.{Values, Terms, Inside, shape_at, end_at, first_at, second_at, low_at, count_at, TermIs, pair_code}
-use Rattle.evaluation.specs.EvaluationByNumber.{MemberNode, RangeNode, RelatedNode, AskedNode}
+use Rattle.operators.specs.MeaningValues.{natural}
+use Rattle.operators.specs.EvaluationOperatorsByNumber.{IsPlace, IsBits, asked, in_range}
+use Rattle.operators.specs.EvaluationEvaluationByNumber.{Values, Terms, Inside, shape_at, end_at, first_at, second_at, low_at, count_at, TermIs, pair_code}
+use Rattle.operators.specs.EvaluationEvaluationByNumber.{MemberNode, RangeNode, RelatedNode, AskedNode}
 use Rattle.evaluator.specs.EvaluationPromises.{TermRuns, TermAnswers, AskedRuns, AskedAnswers}
 use Rattle.evaluator.proofs.NodeLaws.{term_runs}
 use Rattle.evaluator.proofs.ItemLaws.{same_place, pair-places, pair-low}

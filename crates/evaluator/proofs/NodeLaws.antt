@@ -10,9 +10,9 @@ use lib.Signed.{mag}
 use mir.Syntax.{w64}
 use mir.Val.{to_z, of_z}
 use mir.Facts.{to_z-of_z}
-use Rattle.evaluation.specs.OperatorsByNumber.{Small, prefixed, PrefixTakes, divided, operated, OperatorTakes}
-use Rattle.evaluation.specs.EvaluationByNumber.{Values, Terms, Truths, Inside, shape_at, end_at, first_at, second_at, TermIs, ItemsIs, TruthIs}
-use Rattle.evaluation.specs.EvaluationByNumber.{PrefixNode, DivisionNode, OperatorNode, SuchNode, TermNode}
+use Rattle.operators.specs.EvaluationOperatorsByNumber.{Small, prefixed, PrefixTakes, divided, operated, OperatorTakes}
+use Rattle.operators.specs.EvaluationEvaluationByNumber.{Values, Terms, Truths, Inside, shape_at, end_at, first_at, second_at, TermIs, ItemsIs, TruthIs}
+use Rattle.operators.specs.EvaluationEvaluationByNumber.{PrefixNode, DivisionNode, OperatorNode, SuchNode, TermNode}
 use Rattle.evaluator.specs.EvaluationPromises.{TermRuns, TermAnswers, ItemsRun, ItemsAnswer, SuchRuns, SuchAnswers}
 
 -- a signed number is read back from its bits

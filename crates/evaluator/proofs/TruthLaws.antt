@@ -5,9 +5,9 @@ use mathlib.Core.List.{List}
 use Prim.Native.Nat.{ℕ, zero, suc, ◌-◌, ◌<◌}
 use lib.Dec.{eqb}
 use lib.IntN.{ℤ}
-use Rattle.evaluation.specs.OperatorsByNumber.{compared, connected}
-use Rattle.evaluation.specs.EvaluationByNumber.{Values, Terms, Truths, Inside, shape_at, end_at, first_at, second_at, TermIs, TruthIs, quantified}
-use Rattle.evaluation.specs.EvaluationByNumber.{ConnectiveNode, ComparisonNode, QuantifierNode, AskedNode, TruthNode}
+use Rattle.operators.specs.EvaluationOperatorsByNumber.{compared, connected}
+use Rattle.operators.specs.EvaluationEvaluationByNumber.{Values, Terms, Truths, Inside, shape_at, end_at, first_at, second_at, TermIs, TruthIs, quantified}
+use Rattle.operators.specs.EvaluationEvaluationByNumber.{ConnectiveNode, ComparisonNode, QuantifierNode, AskedNode, TruthNode}
 use Rattle.evaluator.specs.EvaluationPromises.{TermRuns, TermAnswers, TruthRuns, TruthAnswers, AskedRuns, AskedAnswers}
 use Rattle.evaluator.specs.EvaluationPromises.{QuantifierRuns, QuantifierAnswers, BoundRuns, SomeAnswers, OnceAnswers}
 use Rattle.evaluator.proofs.NodeLaws.{term_runs}

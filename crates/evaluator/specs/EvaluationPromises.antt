@@ -1,8 +1,8 @@
 -- What the functions of the evaluator ask and promise, by numbers. Nothing here need be believed.
 use Rattle.std.specs.Prelude.{◌≡◌, Bool, List, ℕ, ◌-◌, ◌≤◌, eqb, ℤ}
 use Rattle.sets.specs.Sets as sets
-use Rattle.evaluation.specs.OperatorsByNumber.{asked}
-use Rattle.evaluation.specs.EvaluationByNumber.{Values, first_at, low_at, count_at, Bound, TermIs, ItemsIs, TruthIs, SuchNode, QuantifierNode, AskedNode}
+use Rattle.operators.specs.EvaluationOperatorsByNumber.{asked}
+use Rattle.operators.specs.EvaluationEvaluationByNumber.{Values, first_at, low_at, count_at, Bound, TermIs, ItemsIs, TruthIs, SuchNode, QuantifierNode, AskedNode}
 
 -- asked: the nodes up to e give some value; promised: the answer is the value that they give
 pub record TermRuns (t : List ℕ) (e : ℕ) (ρ : Values) : Type 0 where

@@ -29,3 +29,5 @@ pub mod FormOf
 pub mod Lengths
 pub mod RelationsBehind
 pub mod FewBoundNames
+-- what crates above name of crates below
+pub use Rattle.symbols.proofs.BooleanTests as SymbolsBooleanTests

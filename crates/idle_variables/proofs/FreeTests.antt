@@ -9,7 +9,7 @@ use lib.Dec.{ltb}
 use lib.ListN.{get_or, length}
 use lib.IntN.{ℤ, pos}
 use Rattle.slot_carriers.specs.Cells.{value_in}
-use Rattle.evaluation.specs.EvaluationByNumber.{TruthIs}
+use Rattle.mentions.specs.EvaluationEvaluationByNumber.{TruthIs}
 use Rattle.mentions.specs.MentionPromises.{Agree, TruthFree}
 use Rattle.points.specs.Points.{Point, moved, primed_slot, Tame, Shows}
 use Rattle.points.specs.PointTests.{Test}

@@ -14,7 +14,7 @@ use Rattle.parser.proofs.ItemNodes.{Split, split-next, split-as, split_at}
 use Rattle.declared_names.specs.NamesByNumber.{variables_of, parameters_of}
 use Rattle.node_spans.proofs.Structure.{split-move}
 use Rattle.value_types.proofs.DeclaredCarriers.{HaveCarriers, HasCarrier, declarations_of, variable_of, variables-one}
-use Rattle.table_places.specs.DossierTable.{type_table, row, state_row, parameter_row}
+use Rattle.readings.specs.TablePlacesDossierTable.{type_table, row, state_row, parameter_row}
 use Rattle.readings.proofs.TablePatches.{TypesAt, no_types, more_types}
 use Rattle.labels.specs.Labels.{SpeltAt, Typed, LabelAt, LabelsFrom}
 use Rattle.labels.specs.LabelPromises.{name_byte, VariableGathered, VariablesGathered}

@@ -16,9 +16,9 @@ use Rattle.names.proofs.PassAgreesOperations.{OperationsIn, no_operations, one_o
 use Rattle.names.proofs.PassAgrees.{DossierIn}
 use Rattle.value_types.specs.FaultlessContexts.{NumberWithin, AllNumbers, no_symbols, one_symbol}
 use Rattle.value_types.proofs.ScannedNumbers.{scanned-numbers}
-use Rattle.reader.specs.Occurrences.{Occurs, Fits, AllFit}
-use Rattle.reader.proofs.TextLetters.{all_fit}
-use Rattle.reader.proofs.DossierLetters.{symbols-in}
+use Rattle.readings.specs.ReaderOccurrences.{Occurs, Fits, AllFit}
+use Rattle.readings.proofs.ReaderTextLetters.{all_fit}
+use Rattle.readings.proofs.ReaderDossierLetters.{symbols-in}
 
 -- ---- the symbols of a text
 

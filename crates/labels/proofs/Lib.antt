@@ -7,3 +7,5 @@ pub mod NamedNodes
 pub mod LabelledGroups
 pub mod SpeltNames
 pub mod ReadLabels
+-- what crates above name of crates below
+pub use Rattle.readings.proofs.ReadReadings as ReadingsReadReadings

@@ -22,12 +22,12 @@ use Rattle.node_spans.specs.Spans.{spans_of, span}
 use Rattle.value_types.proofs.GivenTitles.{few-elements, few-elements-of}
 use Rattle.value_types.proofs.DeclaredCarriers.{declarations_of, parameters-are}
 use Rattle.value_types.proofs.FineContexts.{DossierFaultless, dossier-faultless}
-use Rattle.tables.proofs.DeclaredPlaces.{variables-few}
-use Rattle.reader.specs.Occurrences.{Occurs}
-use Rattle.reader.specs.Promises.{Written}
-use Rattle.reader.specs.Gives.{Gives}
-use Rattle.reader.proofs.ReadGives.{read-gives}
-use Rattle.read_predicates.proofs.SlotBounds.{inputs_few, outputs_few}
+use Rattle.readings.proofs.TablesDeclaredPlaces.{variables-few}
+use Rattle.readings.specs.ReaderOccurrences.{Occurs}
+use Rattle.readings.specs.ReaderPromises.{Written}
+use Rattle.readings.specs.ReaderGives.{Gives}
+use Rattle.readings.proofs.ReaderReadGives.{read-gives}
+use Rattle.readings.proofs.ReadPredicatesSlotBounds.{inputs_few, outputs_few}
 use Rattle.readings.proofs.TablePatches.{TypesAt}
 use Rattle.readings.proofs.ArrangedParts.{Arranged, arranged}
 use Rattle.readings.proofs.DeclaredTypes.{abstract_types, concrete_types, operation-types}

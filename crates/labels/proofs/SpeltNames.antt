@@ -22,7 +22,7 @@ use Rattle.lexical.proofs.WordLaws.{same_refl, same_true}
 use Rattle.form.specs.Tree.{Letters}
 use Rattle.parser.specs.Promises.{numbering}
 use Rattle.parser.proofs.Texts.{known}
-use Rattle.reader.specs.Occurrences.{Occurs}
+use Rattle.readings.specs.ReaderOccurrences.{Occurs}
 use Rattle.labels.specs.Labels.{SpeltAt}
 
 -- a name's letters are the run of letters and digits that the bytes w begin with

@@ -13,7 +13,7 @@ use Rattle.form.specs.Codes.{arrow_number}
 use Rattle.static_rules.specs.Carriers.{Carrier, elements_of, subsets_of, pairs_in, same_name, plain, given_of, carrier_of}
 use Rattle.static_rules.specs.Scope.{place_in}
 use Rattle.meaning.proofs.Places.{entry-below}
-use Rattle.table_places.specs.DossierTable.{given_place, type_table}
+use Rattle.readings.specs.TablePlacesDossierTable.{given_place, type_table}
 use Rattle.readings.proofs.TypeNumbers.{size-known, by-carrier}
 use Rattle.labels.specs.Labels.{Typed}
 

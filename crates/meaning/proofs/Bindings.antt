@@ -3,8 +3,8 @@ use mathlib.Core.Path.{◌≡◌, refl, sym, subst}
 use mathlib.Core.Bool.{Bool, true, false}
 use mathlib.Core.Logic.{inl, inr}
 use mathlib.Core.List.{List, [], ◌∷◌, map}
-use Rattle.lexical.specs.Lists.{any}
-use Rattle.lexical.specs.Symbols.{Name}
+use Rattle.static_rules.specs.LexicalLists.{any}
+use Rattle.static_rules.specs.LexicalSymbols.{Name}
 use Rattle.static_rules.specs.Carriers.{Variable}
 use Rattle.meaning.specs.Values.{Value}
 use Rattle.meaning.specs.Meaning.{Binding}

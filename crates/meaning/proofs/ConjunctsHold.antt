@@ -2,9 +2,9 @@
 use mathlib.Core.Path.{◌≡◌, refl, sym, ap₂, ◌∙◌}
 use mathlib.Core.Bool.{Bool, true, false, ◌&&◌}
 use mathlib.Core.List.{List, [], ◌∷◌, ◌++◌}
-use Rattle.lexical.specs.Lists.{all}
-use Rattle.form.specs.Tree.{and, or, implies, iff}
-use Rattle.form.specs.Tree.{Pred, truth, falsity, negation, paren, quantified, connected, compared, member, within, related}
+use Rattle.static_rules.specs.LexicalLists.{all}
+use Rattle.static_rules.specs.FormTree.{and, or, implies, iff}
+use Rattle.static_rules.specs.FormTree.{Pred, truth, falsity, negation, paren, quantified, connected, compared, member, within, related}
 use Rattle.meaning.specs.Values.{connect}
 use Rattle.meaning.specs.Meaning.{Environment, holds}
 

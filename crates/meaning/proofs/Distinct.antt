@@ -7,7 +7,7 @@ use Prim.Native.Nat.{ℕ, zero, suc, ◌<◌, ◌≤◌}
 use native.Mathlib.Nat.{not-suc-le-zero, le_of_suc-le-suc}
 use native.Mathlib.Omega.{arith}
 use lib.ListN.{length, get_or}
-use Rattle.lexical.specs.Lists.{filter, upward}
+use Rattle.static_rules.specs.LexicalLists.{filter, upward}
 use Rattle.meaning.specs.Bindings.{flat, Among}
 use Rattle.meaning.proofs.Members.{among-append, map-among, flat-among}
 use Rattle.meaning.proofs.Places.{member-at}

@@ -5,11 +5,11 @@ use mathlib.Core.Logic.{inl, inr}
 use mathlib.Core.List.{List, [], ◌∷◌, ◌++◌}
 use mathlib.Core.Option.{Option, some}
 use Prim.Native.Nat.{ℕ}
-use Rattle.lexical.specs.Lists.{any, find, filter}
-use Rattle.lexical.specs.Symbols.{Name}
-use Rattle.form.specs.Tree.{Letters, Domain, given_set, range, Given, union}
-use Rattle.form.specs.Tree.{Term, number, name, group, prefix, binary, divided, listed, pairs, such, empty_set, empty_pairs, Items, only, also, Pairs, only_pair, also_pair}
-use Rattle.form.specs.Tree.{Pred, truth, falsity, negation, paren, quantified, connected, compared, member, within, related}
+use Rattle.static_rules.specs.LexicalLists.{any, find, filter}
+use Rattle.static_rules.specs.LexicalSymbols.{Name}
+use Rattle.static_rules.specs.FormTree.{Letters, Domain, given_set, range, Given, union}
+use Rattle.static_rules.specs.FormTree.{Term, number, name, group, prefix, binary, divided, listed, pairs, such, empty_set, empty_pairs, Items, only, also, Pairs, only_pair, also_pair}
+use Rattle.static_rules.specs.FormTree.{Pred, truth, falsity, negation, paren, quantified, connected, compared, member, within, related}
 use Rattle.static_rules.specs.Carriers.{same_name, plain, end_value}
 use Rattle.sets.specs.Sets as sets
 use Rattle.meaning.specs.Values as val

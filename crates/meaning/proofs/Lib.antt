@@ -7,3 +7,8 @@ pub mod Values
 pub mod Frame
 pub mod ConjunctsHold
 pub mod Samples
+-- what crates above name of crates below
+pub use Rattle.static_rules.proofs.FormPlainSymbols as FormPlainSymbols
+pub use Rattle.static_rules.proofs.FormScannedSymbols as FormScannedSymbols
+pub use Rattle.static_rules.proofs.FormTable as FormTable
+pub use Rattle.static_rules.proofs.SymbolsBooleanTests as SymbolsBooleanTests

@@ -3,7 +3,7 @@ use mathlib.Core.Path.{◌≡◌, refl, sym, ap, ◌∙◌, subst}
 use mathlib.Core.Bool.{Bool, true, false, false≢true, true≢false}
 use mathlib.Core.Logic.{◌⊎◌, inl, inr}
 use mathlib.Core.List.{List, [], ◌∷◌, ◌++◌, map}
-use Rattle.lexical.specs.Lists.{any, all}
+use Rattle.static_rules.specs.LexicalLists.{any, all}
 use Rattle.meaning.specs.Bindings.{flat, Among}
 
 module _ {A : Type 0} where

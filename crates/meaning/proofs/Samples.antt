@@ -6,9 +6,9 @@ use Prim.Native.Nat.{ℕ}
 use Prim.Native.String.{String}
 use lib.IntN.{ℤ, pos}
 use lib.ListN.{length}
-use Rattle.lexical.specs.Lists.{bytes, filter}
-use Rattle.lexical.specs.Symbols.{Name, no_ending, query, shriek, Ending}
-use Rattle.form.specs.Tree.{Operation, Dossier, partial, total, relation}
+use Rattle.static_rules.specs.LexicalLists.{bytes, filter}
+use Rattle.static_rules.specs.LexicalSymbols.{Name, no_ending, query, shriek, Ending}
+use Rattle.static_rules.specs.FormTree.{Operation, Dossier, partial, total, relation}
 use Rattle.static_rules.specs.Read.{Reading, refusal, reading}
 use Rattle.static_rules.specs.Computed.{compute_read}
 use Rattle.meaning.specs.Values.{Value, number}

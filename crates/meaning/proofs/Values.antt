@@ -3,9 +3,9 @@ use mathlib.Core.Path.{◌≡◌, refl, sym, ap, ◌∙◌}
 use mathlib.Core.List.{List, [], ◌∷◌, map, tail, head_d}
 use Prim.Native.Nat.{ℕ, ◌*◌, ◌^◌}
 use lib.IntN.{ℤ, pos, neg_ℤ, ◌+ℤ◌, +ℤ_assoc, +ℤ_invl, +ℤ_idl}
-use Rattle.lexical.specs.Lists.{upward}
-use Rattle.lexical.specs.Symbols.{Name}
-use Rattle.form.specs.Tree.{Arrow, relation, partial, total}
+use Rattle.static_rules.specs.LexicalLists.{upward}
+use Rattle.static_rules.specs.LexicalSymbols.{Name}
+use Rattle.static_rules.specs.FormTree.{Arrow, relation, partial, total}
 use Rattle.static_rules.specs.Carriers.{Carrier, elements_of, numbers, subsets_of, pairs_in, Variable, size_of}
 use Rattle.sets.specs.Sets as sets
 use Rattle.meaning.specs.Values as val

@@ -1,7 +1,7 @@
 -- Document 01, "Order": the values of a carrier, and the bindings of a group of variables, in the fixed order.
 use Rattle.std.specs.Prelude.{◌≡◌, ◌⊎◌, List, [], ◌∷◌, ◌++◌, map, ℕ, ◌*◌, ◌^◌}
-use Rattle.lexical.specs.Lists.{filter, upward}
-use Rattle.form.specs.Tree.{Arrow, relation, partial, total}
+use Rattle.static_rules.specs.LexicalLists.{filter, upward}
+use Rattle.static_rules.specs.FormTree.{Arrow, relation, partial, total}
 use Rattle.static_rules.specs.Carriers.{Carrier, elements_of, numbers, subsets_of, pairs_in, Variable, size_of}
 use Rattle.sets.specs.Sets as sets
 use Rattle.meaning.specs.Values as val

@@ -1,6 +1,6 @@
 -- `holds`, open to computation: to unfold it is to unfold all that its line names. Nothing here need be believed.
 use Rattle.std.specs.Prelude.{Bool}
-use Rattle.form.specs.Tree.{Pred}
+use Rattle.static_rules.specs.FormTree.{Pred}
 use Rattle.static_rules.specs.Computed.{compute_read}
 use Rattle.sets.specs.Computed.{compute_div}
 use Rattle.meaning.specs.Bindings as bindings

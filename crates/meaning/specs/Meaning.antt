@@ -2,11 +2,11 @@
 use Rattle.std.specs.Prelude.{Bool, true, false, not, ◌&&◌, List, ◌∷◌, map, ℕ, ◌+◌, eqb, ℤ, pos, ◌+ℤ◌, ◌-ℤ◌, nat_abs}
 use Rattle.std.proofs.Math.Option.{Option, none, some}
 use Rattle.std.specs.Int.Signed.{le_z}
-use Rattle.lexical.specs.Lists.{all, any, count, find, upward}
-use Rattle.lexical.specs.Symbols.{Name}
-use Rattle.form.specs.Tree.{Letters, Range, Domain, given_set, range, Quantifier, forall, exists, exists1, union}
-use Rattle.form.specs.Tree.{Term, number, name, group, prefix, binary, divided, listed, pairs, such, empty_set, empty_pairs, Items, only, also, Pairs, only_pair, also_pair}
-use Rattle.form.specs.Tree.{Pred, truth, falsity, negation, paren, quantified, connected, compared, member, within, related, Given, elements}
+use Rattle.static_rules.specs.LexicalLists.{all, any, count, find, upward}
+use Rattle.static_rules.specs.LexicalSymbols.{Name}
+use Rattle.static_rules.specs.FormTree.{Letters, Range, Domain, given_set, range, Quantifier, forall, exists, exists1, union}
+use Rattle.static_rules.specs.FormTree.{Term, number, name, group, prefix, binary, divided, listed, pairs, such, empty_set, empty_pairs, Items, only, also, Pairs, only_pair, also_pair}
+use Rattle.static_rules.specs.FormTree.{Pred, truth, falsity, negation, paren, quantified, connected, compared, member, within, related, Given, elements}
 use Rattle.static_rules.specs.Carriers.{size_of, end_value, same_name, plain, given_of}
 use Rattle.static_rules.specs.Scope.{element_of, place_in}
 use Rattle.sets.specs.Sets as sets

@@ -1,11 +1,11 @@
 -- The names that a term or a predicate mentions. "a primed variable that isn't mentioned is free": what holds depends on the values of the names mentioned, and on
 -- no others (proofs/Frame). Nothing here need be believed.
 use Rattle.std.specs.Prelude.{not, List, [], ◌∷◌, ◌++◌}
-use Rattle.lexical.specs.Lists.{filter}
-use Rattle.lexical.specs.Symbols.{Name}
-use Rattle.form.specs.Tree.{Letters}
-use Rattle.form.specs.Tree.{Term, number, name, group, prefix, binary, divided, listed, pairs, such, empty_set, empty_pairs, Items, only, also, Pairs, only_pair, also_pair}
-use Rattle.form.specs.Tree.{Pred, truth, falsity, negation, paren, quantified, connected, compared, member, within, related}
+use Rattle.static_rules.specs.LexicalLists.{filter}
+use Rattle.static_rules.specs.LexicalSymbols.{Name}
+use Rattle.static_rules.specs.FormTree.{Letters}
+use Rattle.static_rules.specs.FormTree.{Term, number, name, group, prefix, binary, divided, listed, pairs, such, empty_set, empty_pairs, Items, only, also, Pairs, only_pair, also_pair}
+use Rattle.static_rules.specs.FormTree.{Pred, truth, falsity, negation, paren, quantified, connected, compared, member, within, related}
 use Rattle.static_rules.specs.Carriers.{same_name, plain}
 
 -- the names that stand free in a tree, in the order of the text: a binder takes its own from those of its predicate

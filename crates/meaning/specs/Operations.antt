@@ -1,8 +1,8 @@
 -- Document 01, "Meaning", after the manual's 5.1 and 5.2: states, initial states, retrieve, operations, preconditions.
 use Rattle.std.specs.Prelude.{Bool, ◌&&◌, List, ◌++◌, map}
-use Rattle.lexical.specs.Lists.{any}
-use Rattle.lexical.specs.Symbols.{Name, prime}
-use Rattle.form.specs.Tree.{Pred, State, Operation, Dossier}
+use Rattle.static_rules.specs.LexicalLists.{any}
+use Rattle.static_rules.specs.LexicalSymbols.{Name, prime}
+use Rattle.static_rules.specs.FormTree.{Pred, State, Operation, Dossier}
 use Rattle.static_rules.specs.Scope.{unprimed, outputs}
 use Rattle.meaning.specs.Values.{Value}
 use Rattle.meaning.specs.Meaning.{Binding, Environment, holds}

@@ -3,8 +3,8 @@ use Rattle.std.specs.Prelude.{Bool, true, false, not, ℕ, eqb, ℤ, pos, negsuc
 use Rattle.std.specs.Int.Signed.{le_z, lt_z}
 use Rattle.sets.specs.Sets as sets
 use Rattle.sets.specs.Division.{floor_div, floor_mod}
-use Rattle.form.specs.Tree.{Prefix, negate, size, dom, ran, Operator, plus, minus, union, without, times, inter, Division, quotient, remainder, Comparison, equals, differs, less, at_most}
-use Rattle.form.specs.Tree.{Membership, is_in, not_in, Connective, and, or, implies, iff}
+use Rattle.static_rules.specs.FormTree.{Prefix, negate, size, dom, ran, Operator, plus, minus, union, without, times, inter, Division, quotient, remainder, Comparison, equals, differs, less, at_most}
+use Rattle.static_rules.specs.FormTree.{Membership, is_in, not_in, Connective, and, or, implies, iff}
 
 -- the number, place or bits; and how many elements the given sets have that it is over: an element's or a set's, the first and the second of a set of pairs
 pub record Value : Type 0 where

@@ -12,7 +12,7 @@ use lib.IntN.{ℤ, pos, ◌+ℤ◌, ◌-ℤ◌, +ℤ-neg_ℤ_cancel}
 use borrow.Author.Tests.{eq-eqb, ne_eqb}
 use mir.Syntax.{w64}
 use mir.Val.{Fits, bool_byte}
-use Rattle.evaluation.specs.EvaluationByNumber.{Values}
+use Rattle.evaluator.specs.EvaluationEvaluationByNumber.{Values}
 use Rattle.evaluator.specs.EvaluationPromises.{TruthAnswers}
 use Rattle.truths.specs.Promises.{Asked}
 use Rattle.truths.proofs.TruthLaws.{asked-inside, asked-runs}

@@ -9,7 +9,7 @@ use native.Mathlib.Omega.{arith}
 use lib.ListN.{get_or, length, set, length-set}
 use lib.Seq.{get_or-set_same, get_or-set_other, set-get_or, ext_get_or}
 use lib.IntN.{pos}
-use Rattle.evaluation.specs.EvaluationByNumber.{Values, TruthIs}
+use Rattle.evaluator.specs.EvaluationEvaluationByNumber.{Values, TruthIs}
 use Rattle.mentions.specs.MentionPromises.{Agree, TruthFree}
 
 -- values in slot s are the same, or do not matter

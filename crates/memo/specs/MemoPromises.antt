@@ -1,6 +1,6 @@
 -- What is remembered of conjuncts, and what the functions promise. Nothing here need be believed.
 use Rattle.std.specs.Prelude.{◌≡◌, ◌⊎◌, List, ℕ, ◌+◌, ◌*◌, ◌/◌, ◌%◌, ◌<◌, ◌≤◌, ◌^◌, eqb, get_or, length, ℤ, pos, ◌+ℤ◌}
-use Rattle.evaluation.specs.EvaluationByNumber.{Values, Inside}
+use Rattle.evaluator.specs.EvaluationEvaluationByNumber.{Values, Inside}
 use Rattle.evaluator.specs.EvaluationPromises.{TruthRuns, TruthAnswers}
 use Rattle.mentions.specs.MentionPromises.{TruthFree}
 

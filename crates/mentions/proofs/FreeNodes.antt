@@ -10,8 +10,8 @@ use borrow.Author.Tests.{eq-eqb}
 use lib.ListN.{get_or, length, set, length-set}
 use lib.Seq.{get_or-set_same, get_or-set_other, ext_get_or}
 use lib.IntN.{ℤ, pos}
-use Rattle.evaluation.specs.EvaluationByNumber.{Values, Truths, shape_at, end_at, first_at, second_at, TermIs, ItemsIs, TruthIs}
-use Rattle.evaluation.specs.EvaluationByNumber.{Bound, TermNode, ItemsNode}
+use Rattle.evaluator.specs.EvaluationEvaluationByNumber.{Values, Truths, shape_at, end_at, first_at, second_at, TermIs, ItemsIs, TruthIs}
+use Rattle.evaluator.specs.EvaluationEvaluationByNumber.{Bound, TermNode, ItemsNode}
 use Rattle.mentions.specs.MentionPromises.{Agree, Frames, TermFree, ItemsFree, TruthFree, Earlier, TermSays}
 
 -- an answer no says nothing

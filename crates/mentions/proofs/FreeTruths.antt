@@ -4,7 +4,7 @@ use mathlib.Core.Bool.{Bool, false}
 use mathlib.Core.List.{List}
 use Prim.Native.Nat.{ℕ, zero, suc, ◌-◌, ◌<◌}
 use lib.Dec.{eqb}
-use Rattle.evaluation.specs.EvaluationByNumber.{Values, shape_at, end_at, first_at, second_at, TermIs, TruthIs, TruthNode, AskedNode}
+use Rattle.evaluator.specs.EvaluationEvaluationByNumber.{Values, shape_at, end_at, first_at, second_at, TermIs, TruthIs, TruthNode, AskedNode}
 use Rattle.mentions.specs.MentionPromises.{Agree, Frames, TermFree, TruthFree, AskedFree, Earlier}
 use Rattle.mentions.proofs.FreeNodes.{frames-bound, bound-own, part-frame}
 

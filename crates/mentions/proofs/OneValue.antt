@@ -7,10 +7,10 @@ use native.Mathlib.Omega.{arith}
 use lib.Dec.{eqb}
 use lib.IntN.{ℤ, pos}
 use Rattle.sets.specs.Sets as sets
-use Rattle.meaning.specs.Values.{natural}
-use Rattle.evaluation.specs.OperatorsByNumber.{pick, prefixed, divided, operated, compared, connected, asked, in_range}
-use Rattle.evaluation.specs.EvaluationByNumber.{Values, Terms, Truths, Bound, pair_code, shape_at, end_at, first_at, second_at, low_at, count_at, quantified}
-use Rattle.evaluation.specs.EvaluationByNumber.{TermNode, ItemsNode, AskedNode, TruthNode, TermIs, ItemsIs, TruthIs}
+use Rattle.evaluator.specs.MeaningValues.{natural}
+use Rattle.evaluator.specs.EvaluationOperatorsByNumber.{pick, prefixed, divided, operated, compared, connected, asked, in_range}
+use Rattle.evaluator.specs.EvaluationEvaluationByNumber.{Values, Terms, Truths, Bound, pair_code, shape_at, end_at, first_at, second_at, low_at, count_at, quantified}
+use Rattle.evaluator.specs.EvaluationEvaluationByNumber.{TermNode, ItemsNode, AskedNode, TruthNode, TermIs, ItemsIs, TruthIs}
 
 -- ---- tests that agree
 

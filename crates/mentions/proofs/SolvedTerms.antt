@@ -6,9 +6,9 @@ use Prim.Native.Nat.{ℕ, ◌-◌}
 use lib.ListN.{get_or}
 use lib.IntN.{ℤ, pos, negsuc}
 use borrow.Author.Tests.{eqb-true}
-use Rattle.meaning.specs.Values.{same_integer}
-use Rattle.evaluation.specs.OperatorsByNumber.{compared}
-use Rattle.evaluation.specs.EvaluationByNumber.{Values, shape_at, end_at, first_at, TermIs, TruthIs, ComparisonNode}
+use Rattle.evaluator.specs.MeaningValues.{same_integer}
+use Rattle.evaluator.specs.EvaluationOperatorsByNumber.{compared}
+use Rattle.evaluator.specs.EvaluationEvaluationByNumber.{Values, shape_at, end_at, first_at, TermIs, TruthIs, ComparisonNode}
 use Rattle.evaluator.proofs.NodeLaws.{term-opened, is-slot}
 use Rattle.evaluator.proofs.TruthLaws.{truth-opened, is-comparison}
 use Rattle.mentions.specs.MentionPromises.{TermFree, Earlier, Tells, Solved, Solves}

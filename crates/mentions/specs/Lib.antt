@@ -1,1 +1,3 @@
 pub mod MentionPromises
+-- what crates above name of crates below
+pub use Rattle.evaluator.specs.EvaluationEvaluationByNumber as EvaluationEvaluationByNumber

@@ -1,6 +1,6 @@
 -- What it is that nodes are free of a slot: they give the same with any value in it. What the functions promise. Nothing here need be believed.
 use Rattle.std.specs.Prelude.{◌≡◌, Bool, true, List, ℕ, ◌<◌, get_or, length, ℤ, pos}
-use Rattle.evaluation.specs.EvaluationByNumber.{Values, TermIs, ItemsIs, TruthIs, AskedNode}
+use Rattle.evaluator.specs.EvaluationEvaluationByNumber.{Values, TermIs, ItemsIs, TruthIs, AskedNode}
 
 -- values in slots that are the same in all slots but s
 pub record Agree (s : ℕ) (ρ τ : Values) : Type 0 where

@@ -5,7 +5,7 @@
 pub mod equations;
 
 ghost use Rattle.std.specs.Prelude.{◌≡◌, ◌-◌, ◌<◌, ◌≤◌, get_or, length};
-ghost use Rattle.evaluation.specs.EvaluationByNumber.{Inside};
+ghost use Rattle.evaluator.specs.EvaluationEvaluationByNumber.{Inside};
 ghost use Rattle.mentions.specs.MentionPromises.{Earlier, TermSays, ItemsSay, TruthSays, AskedSays};
 
 use evaluator::{END_BACK, FIRST_BACK, SECOND_BACK, SHAPE_BACK, TWO_NODES};

@@ -6,8 +6,8 @@ use Rattle.lexical.specs.Lists.{concat}
 use Rattle.lexical.specs.Refusals.{Fault}
 use Rattle.form.specs.Tree.{declarations, Dossier}
 use Rattle.form.specs.Headings.{givens_at, abstract_at, concrete_at, operations_at}
-use Rattle.static_rules.specs.Scope.{given_names, abstract_taken, concrete_taken, contexts}
-use Rattle.static_rules.specs.Names.{declaration_faults, given_faults, operation_faults, context_faults, name_faults}
+use Rattle.declared_names.specs.StaticRulesScope.{given_names, abstract_taken, concrete_taken, contexts}
+use Rattle.declared_names.specs.StaticRulesNames.{declaration_faults, given_faults, operation_faults, context_faults, name_faults}
 use Rattle.names.proofs.TypesAgreeLeast.{append_nil-both}
 
 pub record Faultless (d : Dossier) : Type 0 where

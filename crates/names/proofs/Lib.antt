@@ -31,3 +31,6 @@ pub mod PassAgreesOperations
 pub mod PassAgreesDossier
 pub mod PassAgrees
 pub mod FaultlessParts
+-- what crates above name of crates below
+pub use Rattle.declared_names.proofs.DeclarationNodes as DeclaredNamesDeclarationNodes
+pub use Rattle.declared_names.proofs.GivenSetNodes as DeclaredNamesGivenSetNodes

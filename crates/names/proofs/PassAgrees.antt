@@ -12,9 +12,9 @@ use Rattle.form.specs.Tree.{Letters, declarations, Dossier}
 use Rattle.form.specs.Headings.{givens_at, abstract_at, concrete_at, ainit_at, cinit_at, retrieve_at, operations_at}
 use Rattle.form.specs.Codes.{Numbering}
 use Rattle.form.proofs.Lengths.{givens-length}
-use Rattle.static_rules.specs.Carriers.{Variable, size_of}
-use Rattle.static_rules.specs.Scope.{variables, given_names, state_names, abstract_taken, concrete_taken, contexts}
-use Rattle.static_rules.specs.Names.{given_faults, declaration_faults, context_faults, judge_pred, name_faults}
+use Rattle.declared_names.specs.StaticRulesCarriers.{Variable, size_of}
+use Rattle.declared_names.specs.StaticRulesScope.{variables, given_names, state_names, abstract_taken, concrete_taken, contexts}
+use Rattle.declared_names.specs.StaticRulesNames.{given_faults, declaration_faults, context_faults, judge_pred, name_faults}
 use Rattle.type_rules.specs.TypesByNumber.{Names, Sizes, entry, is_free, least_key}
 use Rattle.declared_names.specs.NamesByNumber.{variables_of, predicate_at, dossier_key}
 use Rattle.names.proofs.ReachTables.{Numbered, PredIn}

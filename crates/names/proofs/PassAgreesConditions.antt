@@ -13,10 +13,10 @@ use Rattle.form.specs.Tree.{Letters, Given, Declaration, declarations, Pred, Dos
 use Rattle.form.specs.Written.{Written, bare, write_where}
 use Rattle.form.specs.Headings.{ainit_at, cinit_at, retrieve_at}
 use Rattle.form.specs.Codes.{Numbering}
-use Rattle.static_rules.specs.Carriers.{Variable, same_name}
-use Rattle.static_rules.specs.Types.{Ty}
-use Rattle.static_rules.specs.Scope.{variables}
-use Rattle.static_rules.specs.Names.{judge_pred}
+use Rattle.declared_names.specs.StaticRulesCarriers.{Variable, same_name}
+use Rattle.declared_names.specs.StaticRulesTypes.{Ty}
+use Rattle.declared_names.specs.StaticRulesScope.{variables}
+use Rattle.declared_names.specs.StaticRulesNames.{judge_pred}
 use Rattle.type_rules.specs.TypesByNumber.{Names, Sizes, least_key}
 use Rattle.declared_names.specs.NamesByNumber.{variables_of, shown, hidden, conditions_key, conditions_named}
 use Rattle.names.proofs.ReachTables.{Numbered, PredIn}

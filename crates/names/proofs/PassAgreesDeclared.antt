@@ -12,9 +12,9 @@ use Rattle.lexical.specs.Symbols.{Name}
 use Rattle.lexical.specs.Refusals.{Fault, fault, number_of, name_in_use, unless}
 use Rattle.form.specs.Tree.{Letters, Given}
 use Rattle.form.specs.Codes.{Numbering, name_number, type_width}
-use Rattle.static_rules.specs.Carriers.{Carrier, Variable, same_name, given_of, carrier_of}
-use Rattle.static_rules.specs.Types.{Ty, type_of}
-use Rattle.static_rules.specs.Names.{type_faults}
+use Rattle.declared_names.specs.StaticRulesCarriers.{Carrier, Variable, same_name, given_of, carrier_of}
+use Rattle.declared_names.specs.StaticRulesTypes.{Ty, type_of}
+use Rattle.declared_names.specs.StaticRulesNames.{type_faults}
 use Rattle.type_rules.specs.TypesByNumber.{Names, Sizes, key, unless_key, is_free, is_given, least_key}
 use Rattle.declared_names.specs.NamesByNumber.{Typed, type_kind, shown, hidden, declared_key}
 use Rattle.names.proofs.ReachTables.{GivenIs, TypeIs, Numbered}

@@ -11,8 +11,8 @@ use Rattle.form.specs.Tree.{Letters, Given, Declaration, declarations, State, Op
 use Rattle.form.specs.Written.{write_where, write_state}
 use Rattle.form.specs.Headings.{operation_length}
 use Rattle.form.specs.Codes.{Numbering, pred_width}
-use Rattle.static_rules.specs.Scope.{Scope, operation_contexts}
-use Rattle.static_rules.specs.Names.{new_name, declaration_faults, parameter_faults, operation_faults, context_faults, judge_pred}
+use Rattle.declared_names.specs.StaticRulesScope.{Scope, operation_contexts}
+use Rattle.declared_names.specs.StaticRulesNames.{new_name, declaration_faults, parameter_faults, operation_faults, context_faults, judge_pred}
 use Rattle.type_rules.specs.TypesByNumber.{Names, Sizes, lesser, least_key}
 use Rattle.declared_names.specs.NamesByNumber.{variables_of, predicate_at, operations_key}
 use Rattle.names.proofs.ReachTables.{Numbered}

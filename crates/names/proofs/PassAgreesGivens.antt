@@ -13,9 +13,9 @@ use Rattle.form.specs.Tree.{Letters, Given, elements}
 use Rattle.form.specs.Headings.{given_length}
 use Rattle.form.specs.Codes.{Numbering, number_of_name, name_number}
 use Rattle.form.proofs.Lengths.{givens_width, given-length}
-use Rattle.static_rules.specs.Carriers.{same_name, plain}
-use Rattle.static_rules.specs.Scope.{is_taken, given_names}
-use Rattle.static_rules.specs.Names.{new_name, element_faults, given_faults}
+use Rattle.declared_names.specs.StaticRulesCarriers.{same_name, plain}
+use Rattle.declared_names.specs.StaticRulesScope.{is_taken, given_names}
+use Rattle.declared_names.specs.StaticRulesNames.{new_name, element_faults, given_faults}
 use Rattle.type_rules.specs.TypesByNumber.{Names, entry, key, unless_key, is_free, least_key}
 use Rattle.declared_names.specs.NamesByNumber.{elements_named, elements_key, given_named, givens_named, givens_key}
 use Rattle.names.proofs.ReachTables.{Numbered}

@@ -14,10 +14,10 @@ use Rattle.lexical.proofs.WordLaws.{same_refl, same_true}
 use Rattle.form.specs.Tree.{Letters, Given, elements}
 use Rattle.form.specs.Headings.{given_length}
 use Rattle.form.specs.Codes.{Numbering, name_number}
-use Rattle.static_rules.specs.Carriers.{elements_of, same_name, plain, given_of}
-use Rattle.static_rules.specs.Types.{Ty, type_of}
-use Rattle.static_rules.specs.Scope.{element_of, given_names, type_of_name}
-use Rattle.static_rules.specs.Names.{given_faults}
+use Rattle.declared_names.specs.StaticRulesCarriers.{elements_of, same_name, plain, given_of}
+use Rattle.declared_names.specs.StaticRulesTypes.{Ty, type_of}
+use Rattle.declared_names.specs.StaticRulesScope.{element_of, given_names, type_of_name}
+use Rattle.declared_names.specs.StaticRulesNames.{given_faults}
 use Rattle.type_rules.specs.TypesByNumber.{Names, entry, is_free, is_number, is_given, in_reach}
 use Rattle.declared_names.specs.NamesByNumber.{givens_named}
 use Rattle.names.proofs.ReachTables.{index_of, titled, known_element, GivenIs, TypeIs, Numbered}

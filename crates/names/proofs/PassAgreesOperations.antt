@@ -12,10 +12,10 @@ use Rattle.form.specs.Tree.{Letters, Given, Declaration, inward, outward, Parame
 use Rattle.form.specs.Written.{bare, write_pred, write_operations}
 use Rattle.form.specs.Headings.{operation_length}
 use Rattle.form.specs.Codes.{Numbering, number_of_name, pred_width, abstractly_at}
-use Rattle.static_rules.specs.Carriers.{Variable, plain}
-use Rattle.static_rules.specs.Scope as scopes
-use Rattle.static_rules.specs.Scope.{is_taken, variables}
-use Rattle.static_rules.specs.Names.{new_name, parameter_faults, judge_pred}
+use Rattle.declared_names.specs.StaticRulesCarriers.{Variable, plain}
+use Rattle.declared_names.specs.StaticRulesScope as scopes
+use Rattle.declared_names.specs.StaticRulesScope.{is_taken, variables}
+use Rattle.declared_names.specs.StaticRulesNames.{new_name, parameter_faults, judge_pred}
 use Rattle.type_rules.specs.TypesByNumber.{Names, Sizes, entry, key, unless_key, is_free, least_key}
 use Rattle.declared_names.specs.NamesByNumber.{parameters_of, title_named, operation_named, operation_key}
 use Rattle.names.proofs.ReachTables.{Numbered, PredIn}

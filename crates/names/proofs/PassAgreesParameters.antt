@@ -14,10 +14,10 @@ use Rattle.form.specs.Tree.{Letters, Given, Declaration, Direction, inward, outw
 use Rattle.form.specs.Written.{Written, bare, ending_of, inputs_after, outputs_after, write_parameters}
 use Rattle.form.specs.Codes.{Numbering, number_of_name, type_width}
 use Rattle.form.proofs.Lengths.{type-length}
-use Rattle.static_rules.specs.Carriers.{Carrier, Variable, ending_code, same_name, plain, carrier_of}
-use Rattle.static_rules.specs.Scope as scopes
-use Rattle.static_rules.specs.Scope.{variables}
-use Rattle.static_rules.specs.Names.{type_faults, parameter_name, parameter_faults}
+use Rattle.declared_names.specs.StaticRulesCarriers.{Carrier, Variable, ending_code, same_name, plain, carrier_of}
+use Rattle.declared_names.specs.StaticRulesScope as scopes
+use Rattle.declared_names.specs.StaticRulesScope.{variables}
+use Rattle.declared_names.specs.StaticRulesNames.{type_faults, parameter_name, parameter_faults}
 use Rattle.type_rules.specs.TypesByNumber.{Names}
 use Rattle.declared_names.specs.NamesByNumber.{variables_of, parameters_of, type_kind, shown, hidden}
 use Rattle.names.proofs.TypesAgreeTypes.{no-yes}

@@ -8,11 +8,11 @@ use Rattle.lexical.specs.Refusals.{Fault, fault, number_of, unless, name_in_use,
 use Rattle.form.specs.Tree.{Letters, End, Range, given_set, range, Given}
 use Rattle.form.specs.Tree.{Term, number, name, group, prefix, binary, divided, listed, pairs, such, empty_set, empty_pairs, Items, only, also, Pairs, only_pair, also_pair}
 use Rattle.form.specs.Tree.{Pred, truth, falsity, negation, paren, quantified, connected, compared, member, within, related}
-use Rattle.static_rules.specs.Carriers.{given_of}
-use Rattle.static_rules.specs.Types.{Ty, pairs_fit, pairs_type}
-use Rattle.static_rules.specs.Scope.{Scope, type_of_name, binding}
-use Rattle.static_rules.specs.Names.{Listing, whole, inside, of_name, known, end_length, range_length, range_faults, pairs_fault, divisor_faults, new_name, domain_carrier}
-use Rattle.static_rules.specs.Names.{over_fault, whole_pairs, judged_pairs, judge_term, judge_items, judge_pairs, judge_pred}
+use Rattle.declared_names.specs.StaticRulesCarriers.{given_of}
+use Rattle.declared_names.specs.StaticRulesTypes.{Ty, pairs_fit, pairs_type}
+use Rattle.declared_names.specs.StaticRulesScope.{Scope, type_of_name, binding}
+use Rattle.declared_names.specs.StaticRulesNames.{Listing, whole, inside, of_name, known, end_length, range_length, range_faults, pairs_fault, divisor_faults, new_name, domain_carrier}
+use Rattle.declared_names.specs.StaticRulesNames.{over_fault, whole_pairs, judged_pairs, judge_term, judge_items, judge_pairs, judge_pred}
 use Rattle.type_rules.specs.TypesByNumber.{key_room}
 use Rattle.names.proofs.TypesAgreeLeast.{Small, no_fault, one_more}
 use Rattle.names.proofs.TypesAgreeWidths.{wide_term, wide_items, wide_pairs, wide_pred, term-steady, pred-steady}

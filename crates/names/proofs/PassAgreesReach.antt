@@ -10,10 +10,10 @@ use Rattle.lexical.specs.Lists.{any}
 use Rattle.lexical.specs.Symbols.{Name, Ending, no_ending, prime, query, shriek}
 use Rattle.form.specs.Tree.{Letters, Given, Declaration, inward, outward, Parameter}
 use Rattle.form.specs.Codes.{Numbering, number_of_name}
-use Rattle.static_rules.specs.Carriers.{Variable, ending_code, same_name, plain, given_of}
-use Rattle.static_rules.specs.Types.{Ty}
-use Rattle.static_rules.specs.Scope as scopes
-use Rattle.static_rules.specs.Scope.{variables}
+use Rattle.declared_names.specs.StaticRulesCarriers.{Variable, ending_code, same_name, plain, given_of}
+use Rattle.declared_names.specs.StaticRulesTypes.{Ty}
+use Rattle.declared_names.specs.StaticRulesScope as scopes
+use Rattle.declared_names.specs.StaticRulesScope.{variables}
 use Rattle.type_rules.specs.TypesByNumber.{Names, Sizes}
 use Rattle.declared_names.specs.NamesByNumber.{Typed, variables_of, parameters_of, shown, hidden, reaching, leaving}
 use Rattle.names.proofs.ReachTables.{Numbered}

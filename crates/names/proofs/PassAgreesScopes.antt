@@ -10,10 +10,10 @@ use Rattle.lexical.specs.Lists.{same, any}
 use Rattle.lexical.specs.Symbols.{Name, no_ending}
 use Rattle.form.specs.Tree.{Letters, Given, Declaration, declarations, State}
 use Rattle.form.specs.Codes.{Numbering, name_number}
-use Rattle.static_rules.specs.Carriers.{Variable, same_name, plain, given_of}
-use Rattle.static_rules.specs.Types.{Ty}
-use Rattle.static_rules.specs.Scope.{is_taken, variables, given_names, state_names}
-use Rattle.static_rules.specs.Names.{declaration_faults, judge_pred}
+use Rattle.declared_names.specs.StaticRulesCarriers.{Variable, same_name, plain, given_of}
+use Rattle.declared_names.specs.StaticRulesTypes.{Ty}
+use Rattle.declared_names.specs.StaticRulesScope.{is_taken, variables, given_names, state_names}
+use Rattle.declared_names.specs.StaticRulesNames.{declaration_faults, judge_pred}
 use Rattle.type_rules.specs.TypesByNumber.{Names, Sizes, entry, is_free, is_number, is_given, in_reach, least_key}
 use Rattle.declared_names.specs.NamesByNumber.{Typed, variables_of, shown, hidden, predicate_at, state_key, state_named}
 use Rattle.names.proofs.ReachTables.{titled, GivenIs, TypeIs, Numbered, Shows, PredIn}

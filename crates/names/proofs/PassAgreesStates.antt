@@ -14,10 +14,10 @@ use Rattle.form.specs.Tree.{Letters, Given, Declaration}
 use Rattle.form.specs.Written.{Written, bare, write_declarations}
 use Rattle.form.specs.Codes.{type_width}
 use Rattle.form.proofs.Lengths.{type-length}
-use Rattle.static_rules.specs.Carriers.{Carrier, Variable, same_name, plain, carrier_of}
-use Rattle.static_rules.specs.Types.{type_of}
-use Rattle.static_rules.specs.Scope.{Scope, is_taken, type_of_name, variables}
-use Rattle.static_rules.specs.Names.{new_name, type_faults, declaration_faults}
+use Rattle.declared_names.specs.StaticRulesCarriers.{Carrier, Variable, same_name, plain, carrier_of}
+use Rattle.declared_names.specs.StaticRulesTypes.{type_of}
+use Rattle.declared_names.specs.StaticRulesScope.{Scope, is_taken, type_of_name, variables}
+use Rattle.declared_names.specs.StaticRulesNames.{new_name, type_faults, declaration_faults}
 use Rattle.declared_names.specs.NamesByNumber.{variables_of}
 use Rattle.names.proofs.PassAgreesDeclared.{use_of, typed_faults, typed_width, Carried, no_carried, one_carried}
 use Rattle.names.proofs.PassAgreesDeclared.{found, or_type, has_typed}

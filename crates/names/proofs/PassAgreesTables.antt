@@ -14,8 +14,8 @@ use Rattle.lexical.specs.Symbols.{Name, Ending, no_ending, prime, query, shriek}
 use Rattle.lexical.proofs.WordLaws.{same_refl, same_true}
 use Rattle.form.specs.Tree.{Letters, Given}
 use Rattle.form.specs.Codes.{Numbering, ending_number, number_of_name, name_number}
-use Rattle.static_rules.specs.Carriers.{ending_code, same_name, given_of}
-use Rattle.static_rules.specs.Types.{Ty}
+use Rattle.declared_names.specs.StaticRulesCarriers.{ending_code, same_name, given_of}
+use Rattle.declared_names.specs.StaticRulesTypes.{Ty}
 use Rattle.type_rules.specs.TypesByNumber.{Names, entry, is_free}
 use Rattle.names.proofs.ReachTables.{GivenIs, TypeIs, Numbered}
 use Rattle.names.proofs.TypesAgreeTypes.{no-yes, code-positive}

@@ -12,9 +12,9 @@ use Rattle.form.specs.Tree.{Letters, Given, Arrow, TypeForm, given_type, power_t
 use Rattle.form.specs.Written.{write_type}
 use Rattle.form.specs.Codes.{Numbering, name_number, type_width}
 use Rattle.form.proofs.Lengths.{range_length}
-use Rattle.static_rules.specs.Carriers.{Carrier, elements_of, subsets_of, pairs_in, range_carrier, size_of, given_of, carrier_of}
-use Rattle.static_rules.specs.Types.{Ty, type_of}
-use Rattle.static_rules.specs.Names.{known, pairs_fault, type_faults}
+use Rattle.declared_names.specs.StaticRulesCarriers.{Carrier, elements_of, subsets_of, pairs_in, range_carrier, size_of, given_of, carrier_of}
+use Rattle.declared_names.specs.StaticRulesTypes.{Ty, type_of}
+use Rattle.declared_names.specs.StaticRulesNames.{known, pairs_fault, type_faults}
 use Rattle.type_rules.specs.TypesByNumber.{Names, Sizes, entry, key, unless_key, is_given, size_in, over_key, domain_key, least_key}
 use Rattle.declared_names.specs.NamesByNumber.{type_kind, type_key}
 use Rattle.names.proofs.ReachTables.{index_of, known_number, GivenIs, TypeIs, RangeIn}

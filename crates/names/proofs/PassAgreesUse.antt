@@ -12,9 +12,9 @@ use Rattle.lexical.specs.Refusals.{fault, name_in_use}
 use Rattle.lexical.proofs.WordLaws.{same_refl, same_true}
 use Rattle.form.specs.Tree.{Letters, Given, elements}
 use Rattle.form.specs.Headings.{given_length}
-use Rattle.static_rules.specs.Carriers.{same_name, plain, given_of}
-use Rattle.static_rules.specs.Scope.{is_taken, element_of, given_names}
-use Rattle.static_rules.specs.Names.{new_name, element_faults, given_faults}
+use Rattle.declared_names.specs.StaticRulesCarriers.{same_name, plain, given_of}
+use Rattle.declared_names.specs.StaticRulesScope.{is_taken, element_of, given_names}
+use Rattle.declared_names.specs.StaticRulesNames.{new_name, element_faults, given_faults}
 use Rattle.names.proofs.ReachTables.{titled}
 use Rattle.names.proofs.TypesAgreeLeast.{unless-nil, append_nil-both}
 use Rattle.names.proofs.TypesAgreeTypes.{no-yes}

@@ -11,10 +11,10 @@ use Rattle.form.specs.Tree.{Letters, Given, Range, Domain, given_set, range}
 use Rattle.form.specs.Tree.{Term, number, name, group, prefix, binary, divided, listed, pairs, such, empty_set, empty_pairs, Items, only, also, Pairs, only_pair, also_pair}
 use Rattle.form.specs.Tree.{Pred, truth, falsity, negation, paren, quantified, connected, compared, member, within, related}
 use Rattle.form.specs.Codes.{Numbering, number_of_name, name_number}
-use Rattle.static_rules.specs.Carriers.{size_of, given_of}
-use Rattle.static_rules.specs.Types as ty
-use Rattle.static_rules.specs.Types.{Ty, Sort}
-use Rattle.static_rules.specs.Scope.{Scope, is_taken, type_of_name}
+use Rattle.declared_names.specs.StaticRulesCarriers.{size_of, given_of}
+use Rattle.declared_names.specs.StaticRulesTypes as ty
+use Rattle.declared_names.specs.StaticRulesTypes.{Ty, Sort}
+use Rattle.declared_names.specs.StaticRulesScope.{Scope, is_taken, type_of_name}
 use Rattle.type_rules.specs.TypesByNumber.{Names, Sizes, entry, is_free, is_given, in_reach}
 
 -- the number of the given set with this title

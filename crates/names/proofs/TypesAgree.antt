@@ -8,8 +8,8 @@ use Rattle.form.specs.Tree.{Letters, given_set}
 use Rattle.form.specs.Tree.{Term, number, name, group, prefix, binary, divided, listed, pairs, such, empty_set, empty_pairs, Items, only, also, Pairs, only_pair, also_pair}
 use Rattle.form.specs.Tree.{Pred, truth, falsity, negation, paren, quantified, connected, compared, member, within, related}
 use Rattle.form.specs.Codes.{Numbering, number_of_name, term_width, pred_width}
-use Rattle.static_rules.specs.Scope.{Scope, binding}
-use Rattle.static_rules.specs.Names.{domain_carrier, judge_term, judge_pred}
+use Rattle.declared_names.specs.StaticRulesScope.{Scope, binding}
+use Rattle.declared_names.specs.StaticRulesNames.{domain_carrier, judge_term, judge_pred}
 use Rattle.type_rules.specs.TypesByNumber.{Names, Sizes, bound, domain_kind, term_kind, term_key, pred_key, least_key}
 use Rattle.names.proofs.ReachTables.{Known, type_code, Numbered, Shows, TermIn, ItemsIn, PairsIn, PredIn}
 use Rattle.names.proofs.TypesAgreeParts.{TermHolds, ItemsHold, PairsHold, PredHolds, term-next, pred-next}

@@ -12,10 +12,10 @@ use Rattle.lexical.specs.Symbols.{Name, no_ending}
 use Rattle.lexical.specs.Refusals.{Fault, fault, number_of, name_in_use, name_unknown, types_misfit, wide_type}
 use Rattle.form.specs.Tree.{Letters, Given, Domain, given_set, range}
 use Rattle.form.specs.Codes.{Numbering, name_number, number_of_name}
-use Rattle.static_rules.specs.Carriers.{Carrier, elements_of, size_of, plain, given_of}
-use Rattle.static_rules.specs.Types.{Ty, type_of, pairs_fit, pairs_type}
-use Rattle.static_rules.specs.Scope.{Scope, is_taken, binding}
-use Rattle.static_rules.specs.Names.{Listing, inside, known, pairs_fault, new_name, domain_carrier, domain_faults, over_fault, whole_pairs, judged_pairs}
+use Rattle.declared_names.specs.StaticRulesCarriers.{Carrier, elements_of, size_of, plain, given_of}
+use Rattle.declared_names.specs.StaticRulesTypes.{Ty, type_of, pairs_fit, pairs_type}
+use Rattle.declared_names.specs.StaticRulesScope.{Scope, is_taken, binding}
+use Rattle.declared_names.specs.StaticRulesNames.{Listing, inside, known, pairs_fault, new_name, domain_carrier, domain_faults, over_fault, whole_pairs, judged_pairs}
 use Rattle.type_rules.specs.TypesByNumber.{Names, Sizes, entry, key, unless_key, inside_key, lesser, is_free, is_given, is_pairs, element_of, size_in, product_fits, over_key, brace_key, domain_kind, domain_key, bound, least_key}
 use Rattle.names.proofs.ReachTables.{index_of, titled, known_number, known_element, GivenIs, TypeIs, Numbered, Shows, DomainIn}
 use Rattle.names.proofs.TypesAgreeLeast.{least-nil, one-fault, unless-least, two-parts, inside-least, append_nil-both, unless-nil, not_nil}

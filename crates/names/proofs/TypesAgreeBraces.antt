@@ -10,8 +10,8 @@ use lib.ListN.{length}
 use borrow.Author.Tests.{ne_eqb}
 use Rattle.lexical.specs.Lists.{same, all}
 use Rattle.form.specs.Tree.{Letters, Given}
-use Rattle.static_rules.specs.Types as ty
-use Rattle.static_rules.specs.Types.{Ty, has, same_over_type, same_type, brace_type, brace_fits, pairs_type, pairs_fit}
+use Rattle.declared_names.specs.StaticRulesTypes as ty
+use Rattle.declared_names.specs.StaticRulesTypes.{Ty, has, same_over_type, same_type, brace_type, brace_fits, pairs_type, pairs_fit}
 use Rattle.type_rules.specs.TypesByNumber.{is_element, set_of, pair_of, shared}
 use Rattle.names.proofs.ReachTables.{index_of, titled, type_code, Known, TypeIs}
 use Rattle.names.proofs.TypesAgreeTypes.{no-yes, and_both, and_true, type-same, ElementType, element_type, element-type, code-positive, is-element, same-types, two-givens, set-type}

@@ -10,10 +10,10 @@ use lib.ListN.{length}
 use Rattle.lexical.specs.Refusals.{fault, number_of, name_unknown, types_misfit, zero_divisor}
 use Rattle.form.specs.Tree.{Letters, Given, End, Term, Items, Pairs, Pred}
 use Rattle.form.specs.Codes.{Numbering, sign_of, term_width, pred_width}
-use Rattle.static_rules.specs.Types as ty
-use Rattle.static_rules.specs.Types.{Ty, has, type_of, pairs_fit, pairs_type}
-use Rattle.static_rules.specs.Scope.{Scope}
-use Rattle.static_rules.specs.Names.{Judged, Listing, of_name, known, divisor_faults, over_fault, whole_pairs, judge_term, judge_items, judge_pairs, judge_pred}
+use Rattle.declared_names.specs.StaticRulesTypes as ty
+use Rattle.declared_names.specs.StaticRulesTypes.{Ty, has, type_of, pairs_fit, pairs_type}
+use Rattle.declared_names.specs.StaticRulesScope.{Scope}
+use Rattle.declared_names.specs.StaticRulesNames.{Judged, Listing, of_name, known, divisor_faults, over_fault, whole_pairs, judge_term, judge_items, judge_pairs, judge_pred}
 use Rattle.type_rules.specs.TypesByNumber.{Names, Sizes, key, unless_key, in_reach, element_of, set_of, pair_of, least_key}
 use Rattle.type_rules.specs.TypesByNumber.{term_kind, items_kind, pairs_kind, term_key, items_key, pairs_key, pred_key}
 use Rattle.names.proofs.ReachTables.{index_of, known_element, known_pairs, TypeIs}

@@ -7,9 +7,9 @@ use Rattle.lexical.specs.Symbols.{no_ending}
 use Rattle.lexical.specs.Refusals.{Fault, number_of, types_misfit}
 use Rattle.form.specs.Tree.{Letters, Range, Domain, range, Connective, Quantifier, Comparison, Membership, Term, Pred, truth, falsity, negation, paren, quantified, connected, compared, member, within, related}
 use Rattle.form.specs.Codes.{Numbering, number_of_name, term_width, domain_width}
-use Rattle.static_rules.specs.Types as ty
-use Rattle.static_rules.specs.Scope.{Scope, binding}
-use Rattle.static_rules.specs.Names.{range_faults, domain_carrier, domain_length, judge_term, judge_pred}
+use Rattle.declared_names.specs.StaticRulesTypes as ty
+use Rattle.declared_names.specs.StaticRulesScope.{Scope, binding}
+use Rattle.declared_names.specs.StaticRulesNames.{range_faults, domain_carrier, domain_length, judge_term, judge_pred}
 use Rattle.type_rules.specs.TypesByNumber as inner
 use Rattle.type_rules.specs.TypesByNumber.{Names, Sizes, lesser, domain_kind, domain_key, bound, term_kind, term_key, pred_key}
 use Rattle.names.proofs.ReachTables.{RangeIn, DomainIn, Numbered, Shows}

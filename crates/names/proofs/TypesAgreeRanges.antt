@@ -9,9 +9,9 @@ use lib.Signed.{lt_z}
 use borrow.Author.Tests.{leb-true, leb-false, le-leb, lt-leb, le-ltb}
 use Rattle.form.specs.Tree.{Range}
 use Rattle.form.specs.Codes.{end_number, end_width}
-use Rattle.static_rules.specs.Carriers.{signed, end_value}
-use Rattle.static_rules.specs.Names as names
-use Rattle.static_rules.specs.Names.{range_faults}
+use Rattle.declared_names.specs.StaticRulesCarriers.{signed, end_value}
+use Rattle.declared_names.specs.StaticRulesNames as names
+use Rattle.declared_names.specs.StaticRulesNames.{range_faults}
 use Rattle.lexical.specs.Refusals.{number_of, wide_type}
 use Rattle.type_rules.specs.TypesByNumber.{range_fits, key, unless_key, least_key}
 use Rattle.names.proofs.ReachTables.{RangeIn}

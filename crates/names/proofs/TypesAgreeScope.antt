@@ -13,9 +13,9 @@ use Rattle.lexical.specs.Symbols.{Name, Ending, no_ending, prime, query, shriek}
 use Rattle.lexical.proofs.WordLaws.{same_refl, same_true}
 use Rattle.form.specs.Tree.{Letters, Given}
 use Rattle.form.specs.Codes.{Numbering, number_of_name, name_number}
-use Rattle.static_rules.specs.Carriers.{Carrier, Variable, size_of, same_name, plain, given_of}
-use Rattle.static_rules.specs.Types.{type_of}
-use Rattle.static_rules.specs.Scope.{Scope, is_taken, type_of_name, binding}
+use Rattle.declared_names.specs.StaticRulesCarriers.{Carrier, Variable, size_of, same_name, plain, given_of}
+use Rattle.declared_names.specs.StaticRulesTypes.{type_of}
+use Rattle.declared_names.specs.StaticRulesScope.{Scope, is_taken, type_of_name, binding}
 use Rattle.type_rules.specs.TypesByNumber.{Names, Sizes, entry, is_free, is_given}
 use Rattle.names.proofs.ReachTables.{index_of, titled, GivenIs, TypeIs, Numbered, Shows}
 use Rattle.names.proofs.TypesAgreeTypes.{no-yes, code-positive, code-not-given}

@@ -12,11 +12,11 @@ use Rattle.lexical.specs.Symbols.{Name, no_ending}
 use Rattle.lexical.specs.Refusals.{Fault, fault, number_of, types_misfit}
 use Rattle.form.specs.Tree.{Letters, End, given_set, Prefix, Operator, Division, Term, number, name, group, prefix, binary, divided, listed, pairs, such, empty_set, empty_pairs, Items, only, also, Pairs, only_pair, also_pair, Pred}
 use Rattle.form.specs.Codes.{Numbering, name_number, number_of_name, sign_of, term_width}
-use Rattle.static_rules.specs.Carriers.{given_of}
-use Rattle.static_rules.specs.Types as ty
-use Rattle.static_rules.specs.Types.{Ty, has, brace_fits, pairs_type}
-use Rattle.static_rules.specs.Scope.{Scope, type_of_name, binding}
-use Rattle.static_rules.specs.Names.{Listing, Checked, whole, known, new_name, divisor_faults, pairs_fault, whole_pairs, domain_carrier, judge_term, judge_items, judge_pairs, judge_pred}
+use Rattle.declared_names.specs.StaticRulesCarriers.{given_of}
+use Rattle.declared_names.specs.StaticRulesTypes as ty
+use Rattle.declared_names.specs.StaticRulesTypes.{Ty, has, brace_fits, pairs_type}
+use Rattle.declared_names.specs.StaticRulesScope.{Scope, type_of_name, binding}
+use Rattle.declared_names.specs.StaticRulesNames.{Listing, Checked, whole, known, new_name, divisor_faults, pairs_fault, whole_pairs, domain_carrier, judge_term, judge_items, judge_pairs, judge_pred}
 use Rattle.type_rules.specs.TypesByNumber as inner
 use Rattle.type_rules.specs.TypesByNumber.{Names, Sizes, entry, key, unless_key, judged_key, inside_key, lesser, is_free, is_given, is_number, is_element, domain_kind, domain_key, over_key, bound, least_key}
 use Rattle.type_rules.specs.TypesByNumber.{term_kind, items_kind, pairs_kind, term_key, items_key, pairs_key, pred_key}

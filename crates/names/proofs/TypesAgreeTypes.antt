@@ -11,8 +11,8 @@ use borrow.Author.Tests.{eqb-true, eqb-false, ne_eqb, eq-eqb, le-leb, lt-leb, lt
 use Rattle.lexical.specs.Lists.{same, any}
 use Rattle.lexical.proofs.WordLaws.{same_refl, same_true}
 use Rattle.form.specs.Tree.{Letters, Given, Prefix, negate, size, dom, ran, Operator, plus, minus, union, without, times, inter, Comparison, equals, differs, less, at_most}
-use Rattle.static_rules.specs.Types as ty
-use Rattle.static_rules.specs.Types.{Ty, Sort, sort_code, has, same_over_type, same_type, is_any_set, are_numbers}
+use Rattle.declared_names.specs.StaticRulesTypes as ty
+use Rattle.declared_names.specs.StaticRulesTypes.{Ty, Sort, sort_code, has, same_over_type, same_type, is_any_set, are_numbers}
 use Rattle.type_rules.specs.TypesByNumber as inner
 use Rattle.type_rules.specs.TypesByNumber.{is_number, is_given, is_element, is_set, is_pairs, in_reach, set_of, pair_of, dom_of, ran_of}
 use Rattle.names.proofs.ReachTables.{index_of, titled, type_code, Known, known_number, known_element, known_set, known_pairs, TypeIs}

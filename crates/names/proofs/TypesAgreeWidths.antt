@@ -15,11 +15,11 @@ use Rattle.form.specs.Written.{Written, bare, write_end, write_range, write_doma
 use Rattle.form.specs.Written.{operator_kind, division_kind, comparison_kind, membership_kind}
 use Rattle.form.specs.Codes.{end_width, term_width, pred_width, domain_width}
 use Rattle.form.proofs.Lengths.{end-length, range_length}
-use Rattle.static_rules.specs.Carriers.{given_of}
-use Rattle.static_rules.specs.Types.{Ty, pairs_fit, pairs_type}
-use Rattle.static_rules.specs.Scope.{Scope, type_of_name, given_in_reach, binding}
-use Rattle.static_rules.specs.Names.{Listing, of_name, known, range_faults, pairs_fault, divisor_faults, new_name, domain_faults, domain_carrier, domain_length}
-use Rattle.static_rules.specs.Names.{over_fault, whole_pairs, judged_pairs, judge_term, judge_items, judge_pairs, judge_pred}
+use Rattle.declared_names.specs.StaticRulesCarriers.{given_of}
+use Rattle.declared_names.specs.StaticRulesTypes.{Ty, pairs_fit, pairs_type}
+use Rattle.declared_names.specs.StaticRulesScope.{Scope, type_of_name, given_in_reach, binding}
+use Rattle.declared_names.specs.StaticRulesNames.{Listing, of_name, known, range_faults, pairs_fault, divisor_faults, new_name, domain_faults, domain_carrier, domain_length}
+use Rattle.declared_names.specs.StaticRulesNames.{over_fault, whole_pairs, judged_pairs, judge_term, judge_items, judge_pairs, judge_pred}
 use Rattle.type_rules.specs.TypesByNumber.{key_room}
 use Rattle.names.proofs.TypesAgreeLeast.{Small, small-append, small-unless, small-whole, small-inside, no_fault, one_more}
 

@@ -11,7 +11,7 @@ use lib.Seq.{drop-drop, length-take-le, ext_get_or, get_or-set_same, get_or-set_
 use Rattle.form.specs.Tree.{declarations, Dossier}
 use Rattle.form.specs.Headings.{givens_at, abstract_at, concrete_at, ainit_at, cinit_at, retrieve_at, operations_at}
 use Rattle.form.specs.Codes.{Numbering, contents_codes, condition_codes, dossier_codes, given_codes, state_codes, operation_codes}
-use Rattle.static_rules.specs.Carriers.{size_of}
+use Rattle.declared_names.specs.StaticRulesCarriers.{size_of}
 use Rattle.type_rules.specs.TypesByNumber.{Names, Sizes, inside_key}
 use Rattle.declared_names.specs.NamesByNumber.{givens_key, givens_named, state_key, state_named, conditions_key, conditions_named, operations_key, dossier_key}
 use Rattle.declared_names.specs.PassPromises.{DeclaredEnd, Fewer, GivenSeen, StateSeen, ConditionsSeen, OperationsSeen, Variables, three_codes, PartOf, VariablesOf, LaterSeen, Placed, CheckSeen}

@@ -6,8 +6,8 @@ use Prim.Native.Nat.{ℕ, ◌+◌, ◌-◌, ◌*◌, ◌/◌, ◌%◌, ◌<◌, 
 use native.Mathlib.Nat.{add_assoc}
 use lib.IntN.{ℤ}
 use Rattle.sets.specs.Sets.{has}
-use Rattle.points.specs.Points.{Point, number_of, Shows, Beside}
-use Rattle.points.specs.Searches.{Sought}
+use Rattle.plans.specs.PointsPoints.{Point, number_of, Shows, Beside}
+use Rattle.plans.specs.PointsSearches.{Sought}
 use Rattle.plans.specs.declared.Part.{Part}
 use Rattle.nest_steps.specs.PartTests.{PartTests, passes_from}
 use Rattle.nest_steps.specs.NestPromises.{Groups, Nest, NestAsked, Stepped}

@@ -6,7 +6,7 @@ use Prim.Native.Nat.{ℕ, ◌+◌, ◌*◌, ◌<◌, ◌≤◌}
 use native.Mathlib.Omega.{arith}
 use lib.ListN.{set, length-set}
 use lib.IntN.{ℤ}
-use Rattle.points.specs.Points.{Point, Tame}
+use Rattle.plans.specs.PointsPoints.{Point, Tame}
 use Rattle.plans.specs.declared.Part.{Part}
 use Rattle.idle_variables.specs.KeyedNumbers.{keyed}
 use Rattle.idle_variables.specs.KeyPromises.{key_in, Marked, no_mark, mark_made, Within}

@@ -6,9 +6,9 @@ use Prim.Native.Nat.{ℕ, ◌+◌, ◌*◌, ◌/◌, ◌%◌, ◌<◌, ◌≤◌
 use native.Mathlib.Nat.{mul-pos, le_trans}
 use native.Mathlib.Omega.{arith}
 use lib.IntN.{ℤ}
-use Rattle.points.specs.Points.{Point, number_of, Beside, Apart}
-use Rattle.points.specs.Searches.{Sought}
-use Rattle.points.proofs.PointNumbers.{number-apart, sought-same}
+use Rattle.plans.specs.PointsPoints.{Point, number_of, Beside, Apart}
+use Rattle.plans.specs.PointsSearches.{Sought}
+use Rattle.plans.proofs.PointsPointNumbers.{number-apart, sought-same}
 use Rattle.plans.specs.declared.Part.{Part}
 use Rattle.idle_variables.specs.KeyPromises.{key_in}
 use Rattle.nest_steps.specs.declared.blocks.Masks.{Masks}

@@ -6,7 +6,7 @@ use native.Mathlib.Nat.{le-div_iff_mul-le, div-lt_iff_lt-mul, div-mul-le_self}
 use native.Mathlib.Decide.{dec_lt}
 use native.Mathlib.Omega.{arith}
 use lib.Arith.{digits_div, digits_mod}
-use Rattle.points.specs.Searches.{Sought}
+use Rattle.plans.specs.PointsSearches.{Sought}
 use Rattle.nest_steps.specs.PartTests.{Looked}
 use Rattle.nest_steps.proofs.PassingBlocks.{div_in}
 

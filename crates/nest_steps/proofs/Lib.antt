@@ -10,3 +10,7 @@ pub mod IdleGroups
 pub mod KeyedTests
 pub mod AlikeBlocks
 pub mod OpenSearches
+-- what crates above name of crates below
+pub use Rattle.points.proofs.PointBindings as PointsPointBindings
+pub use Rattle.points.proofs.PointNumbers as PointsPointNumbers
+pub use Rattle.points.proofs.PointTruths as PointsPointTruths

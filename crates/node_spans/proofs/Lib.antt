@@ -1,3 +1,6 @@
 pub mod Structure
 pub mod SpanWrites
 pub mod PartNodes
+-- what crates above name of crates below
+pub use Rattle.parser.proofs.ItemNodes as ParserItemNodes
+pub use Rattle.parser.proofs.PartPlaces as ParserPartPlaces

@@ -1,2 +1,4 @@
 pub mod Spans
 pub mod SpanPromises
+-- what crates above name of crates below
+pub use Rattle.parser.specs.Sections as ParserSections

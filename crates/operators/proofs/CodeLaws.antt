@@ -9,7 +9,7 @@ use lib.Signed.{le_z}
 use borrow.Author.Tests.{eq-eqb, ne_eqb, lt-ltb, le-ltb}
 use Rattle.sets.specs.Sets as sets
 use Rattle.sets.specs.Division.{floor_div, floor_mod}
-use Rattle.meaning.specs.Values.{natural}
+use Rattle.evaluation.specs.MeaningValues.{natural}
 use Rattle.evaluation.specs.OperatorsByNumber.{pick, Small, IsBits, prefixed, PrefixTakes, divisor, divided, operated, OperatorTakes, compared, connected, asked}
 
 -- ---- a code that no arm names

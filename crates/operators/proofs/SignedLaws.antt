@@ -14,7 +14,7 @@ use mir.Val.{Fits, SFits, of_z, to_z, bits}
 use mir.Facts.{to_z-of_z, to_z_pos}
 use Rattle.sets.specs.Sets as sets
 use Rattle.sets.proofs.Floor.{add-mag}
-use Rattle.meaning.specs.Values.{natural, same_integer}
+use Rattle.evaluation.specs.MeaningValues.{natural, same_integer}
 use Rattle.evaluation.specs.OperatorsByNumber.{Small, IsPlace, IsBits, in_range}
 
 pub read : {z : ℤ} → mag z < 2 ^ 63 → to_z w64 (of_z w64 z) ≡ z

@@ -3,7 +3,7 @@
 
 ghost use Rattle.std.specs.Prelude.{◌≡◌, Bool, true, false, not, ℕ, ◌<◌, ◌≤◌, ℤ, pos, nat_abs, ◌+ℤ◌, ◌-ℤ◌};
 ghost use Rattle.sets.specs.Sets as sets;
-ghost use Rattle.meaning.specs.Values.{natural, same_integer};
+ghost use Rattle.evaluation.specs.MeaningValues.{natural, same_integer};
 ghost use Rattle.evaluation.specs.OperatorsByNumber.{Small, IsPlace, IsBits, PrefixTakes, OperatorTakes};
 ghost use Rattle.evaluation.specs.OperatorsByNumber as numbered;
 

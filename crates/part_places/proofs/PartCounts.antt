@@ -12,8 +12,8 @@ use Rattle.static_rules.specs.Scope.{unprimed, inputs, outputs}
 use Rattle.static_rules.specs.Limits.{binding_count}
 use Rattle.meaning.proofs.Places.{below-entry}
 use Rattle.plans.specs.declared.Part.{Part}
-use Rattle.part_tests.specs.PartGroups.{opening_part, applicability_part, correctness_part}
-use Rattle.part_tests.specs.PartOrder.{part_size}
+use Rattle.part_setup.specs.PartTestsPartGroups.{opening_part, applicability_part, correctness_part}
+use Rattle.part_setup.specs.PartTestsPartOrder.{part_size}
 use Rattle.parts.proofs.PartOrderLaws.{first-size, applicability-size, correctness-size}
 use Rattle.parts.proofs.ReadingSizes.{concretes-count, applicability-counts, correctness-counts}
 use Rattle.part_places.specs.Places.{GroupsOf, parts, PartSet, SizeIs}

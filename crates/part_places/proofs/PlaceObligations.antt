@@ -13,7 +13,7 @@ use Rattle.obligations.specs.Report.{check_at}
 use Rattle.obligations.proofs.Groups.{every-applicability, every-correctness}
 use Rattle.obligations.proofs.Digits.{applicability_size, correctness_size, start_of, length-applicability, length-correctness}
 use Rattle.obligations.proofs.Digits.{initialisation-place, applicability-place, correctness-place}
-use Rattle.part_tests.specs.PartOrder.{part_size, part_begin}
+use Rattle.part_setup.specs.PartTestsPartOrder.{part_size, part_begin}
 use Rattle.parts.proofs.PartOrderLaws.{first-size, first-begin, applicability-size, correctness-size, applicability-begin, correctness-begin}
 
 module _ (d : Dossier) where

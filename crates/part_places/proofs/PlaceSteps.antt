@@ -7,7 +7,7 @@ use lib.ListN.{length}
 use Rattle.form.specs.Tree.{Dossier}
 use Rattle.obligations.specs.Subjects.{subject_of}
 use Rattle.obligations.specs.Order.{total}
-use Rattle.part_tests.specs.PartOrder.{part_size, part_begin}
+use Rattle.part_setup.specs.PartTestsPartOrder.{part_size, part_begin}
 use Rattle.parts.proofs.PartOrderLaws.{first-begin, next-begin, all_end, part-within}
 use Rattle.parts.proofs.ReadingSizes.{groups-small}
 use Rattle.part_places.specs.Places.{GroupsOf, PartAsked, SizeIs, AllAsked, TotalIs, PlaceFound}

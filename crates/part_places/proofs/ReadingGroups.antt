@@ -2,7 +2,7 @@
 use mathlib.Core.List.{List}
 use Prim.Native.Nat.{ℕ}
 use Rattle.form.specs.Tree.{Dossier}
-use Rattle.readings.specs.Readings.{ReadingOf}
+use Rattle.part_setup.specs.ReadingsReadings.{ReadingOf}
 use Rattle.part_places.specs.Places.{GroupsOf}
 
 pub reading-groups : {table rows firsts groups : List ℕ} {d : Dossier} → ReadingOf table rows firsts groups d → GroupsOf table groups d

@@ -7,9 +7,9 @@ use Rattle.static_rules.specs.Scope.{unprimed, inputs, outputs}
 use Rattle.plans.specs.declared.Part.{Part}
 use Rattle.obligations.specs.Subjects.{subject_of}
 use Rattle.obligations.specs.Order.{total}
-use Rattle.part_tests.specs.PartGroups.{StateCells, OperationCells, opening_part, applicability_part, correctness_part}
-use Rattle.part_tests.specs.PartOrder.{part_size, part_begin}
-use Rattle.readings.specs.Readings.{GroupAt}
+use Rattle.part_setup.specs.PartTestsPartGroups.{StateCells, OperationCells, opening_part, applicability_part, correctness_part}
+use Rattle.part_setup.specs.PartTestsPartOrder.{part_size, part_begin}
+use Rattle.part_setup.specs.ReadingsReadings.{GroupAt}
 
 -- the groups of a dossier's variables stand in the table and in the groups
 pub record GroupsOf (table groups : List ℕ) (d : Dossier) : Type 0 where

@@ -7,11 +7,11 @@ use native.Mathlib.Omega.{arith}
 use lib.ListN.{length}
 use Rattle.form.specs.Tree.{Operation, Dossier}
 use Rattle.static_rules.specs.Scope.{unprimed, inputs, outputs}
-use Rattle.points.specs.Points.{Point}
-use Rattle.points.specs.Searches.{SearchOf}
-use Rattle.plans.specs.declared.Part.{Part}
-use Rattle.plans.specs.PlanPromises.{ApplicabilityPlan}
-use Rattle.nest_steps.specs.NestPromises.{Groups, Sized, Nest}
+use Rattle.part_tests.specs.PointsPoints.{Point}
+use Rattle.part_tests.specs.PointsSearches.{SearchOf}
+use Rattle.part_tests.specs.PlansPart.{Part}
+use Rattle.part_tests.specs.PlansPlanPromises.{ApplicabilityPlan}
+use Rattle.part_tests.specs.NestStepsNestPromises.{Groups, Sized, Nest}
 use Rattle.part_tests.specs.PartGroups.{applicability_groups}
 use Rattle.part_tests.specs.PartsByNumber.{applicability_tests}
 use Rattle.part_searches.proofs.SearchPlans.{none-asked, search_of}

@@ -16,17 +16,17 @@ use Rattle.meaning.specs.Meaning.{holds}
 use Rattle.meaning.specs.Bindings.{Among}
 use Rattle.meaning.specs.Operations.{environment}
 use Rattle.value_types.specs.TypedValues.{InReach}
-use Rattle.table_places.specs.ResolvedTable.{Slots}
-use Rattle.search_groups.specs.Conjuncts.{used_pred, last_in}
-use Rattle.evaluation.specs.SlotValues.{Below}
-use Rattle.conjunct_tests.proofs.LastVariables.{not_in}
-use Rattle.read_predicates.specs.PredicateRows.{Columns, RowsAt, no_rows, more_rows, ContextAt, TestsOf}
-use Rattle.read_predicates.proofs.CountedRows.{rows-many}
+use Rattle.readings.specs.TablePlacesResolvedTable.{Slots}
+use Rattle.states.specs.SearchGroupsConjuncts.{used_pred, last_in}
+use Rattle.readings.specs.EvaluationSlotValues.{Below}
+use Rattle.readings.proofs.ConjunctTestsLastVariables.{not_in}
+use Rattle.readings.specs.ReadPredicatesPredicateRows.{Columns, RowsAt, no_rows, more_rows, ContextAt, TestsOf}
+use Rattle.readings.proofs.ReadPredicatesCountedRows.{rows-many}
 use Rattle.states.proofs.StateLaws.{ContextOf}
-use Rattle.points.specs.Points.{Point}
-use Rattle.points.specs.PointTests.{binding_by, truth_at, side_slot, side_of, Celled}
-use Rattle.points.proofs.PointTruths.{Named, celled-named, test_at, truth-same}
-use Rattle.plans.specs.PlansByNumber.{Asking, level_of}
+use Rattle.part_tests.specs.PointsPoints.{Point}
+use Rattle.part_tests.specs.PointsPointTests.{binding_by, truth_at, side_slot, side_of, Celled}
+use Rattle.part_tests.proofs.PointsPointTruths.{Named, celled-named, test_at, truth-same}
+use Rattle.part_tests.specs.PlansPlansByNumber.{Asking, level_of}
 use Rattle.part_searches.proofs.LevelledTests.{Levelled, all_of, by_level, Levelling, Levellings, no_levellings, more_levellings}
 use Rattle.part_searches.proofs.SearchPlans.{RowTests, no_row_tests, more_row_tests, AskedAs}
 use Rattle.part_searches.proofs.UsedSlots.{Passing, pred-pass, last-low}

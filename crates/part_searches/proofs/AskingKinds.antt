@@ -12,14 +12,14 @@ use Rattle.static_rules.specs.Carriers.{Variable}
 use Rattle.meaning.specs.Meaning.{holds}
 use Rattle.meaning.specs.Bindings.{Among}
 use Rattle.meaning.specs.Operations.{environment}
-use Rattle.table_places.specs.ResolvedTable.{Slots}
-use Rattle.search_groups.specs.Conjuncts.{last_in}
-use Rattle.evaluation.specs.SlotValues.{Below}
-use Rattle.read_predicates.specs.PredicateRows.{Columns, TestsOf}
+use Rattle.readings.specs.TablePlacesResolvedTable.{Slots}
+use Rattle.states.specs.SearchGroupsConjuncts.{last_in}
+use Rattle.readings.specs.EvaluationSlotValues.{Below}
+use Rattle.readings.specs.ReadPredicatesPredicateRows.{Columns, TestsOf}
 use Rattle.states.proofs.StateLaws.{ContextOf}
-use Rattle.points.specs.Points.{Point}
-use Rattle.points.specs.PointTests.{binding_by, side_slot, side_of, Celled}
-use Rattle.plans.specs.PlanPromises.{RowsOf, over_asking, after_asking, step_asking}
+use Rattle.part_tests.specs.PointsPoints.{Point}
+use Rattle.part_tests.specs.PointsPointTests.{binding_by, side_slot, side_of, Celled}
+use Rattle.part_tests.specs.PlansPlanPromises.{RowsOf, over_asking, after_asking, step_asking}
 use Rattle.part_searches.proofs.SearchPlans.{AskedAs}
 use Rattle.part_searches.proofs.UsedSlots.{Passing}
 use Rattle.part_searches.proofs.AskedPredicates.{Viewed, no_front, with_front, asked-as}

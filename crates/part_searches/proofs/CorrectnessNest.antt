@@ -10,12 +10,12 @@ use Rattle.lexical.specs.Lists.{any}
 use Rattle.form.specs.Tree.{Operation, Dossier}
 use Rattle.static_rules.specs.Scope.{unprimed, inputs, outputs}
 use Rattle.meaning.specs.Operations.{abstract_bindings}
-use Rattle.points.specs.Points.{Point, number_of, Tame}
-use Rattle.points.specs.Searches.{SearchOf}
-use Rattle.points.proofs.PointNumbers.{number-apart}
-use Rattle.plans.specs.declared.Part.{Part}
-use Rattle.plans.specs.PlanPromises.{CorrectnessPlan}
-use Rattle.nest_steps.specs.NestPromises.{Groups, some_binding, Sized, Nest}
+use Rattle.part_tests.specs.PointsPoints.{Point, number_of, Tame}
+use Rattle.part_tests.specs.PointsSearches.{SearchOf}
+use Rattle.part_tests.proofs.PointsPointNumbers.{number-apart}
+use Rattle.part_tests.specs.PlansPart.{Part}
+use Rattle.part_tests.specs.PlansPlanPromises.{CorrectnessPlan}
+use Rattle.part_tests.specs.NestStepsNestPromises.{Groups, some_binding, Sized, Nest}
 use Rattle.part_tests.specs.PartGroups.{correctness_groups}
 use Rattle.part_tests.specs.PartsByNumber.{abstract_at, match, correctness_tests}
 use Rattle.part_searches.proofs.SearchPlans.{search_of}

@@ -18,10 +18,10 @@ use Rattle.carriers.specs.ValuesByNumber.{binding_at}
 use Rattle.carriers.proofs.Bindings.{bindings-are, bindings-at}
 use Rattle.slot_carriers.specs.Cells.{count_in}
 use Rattle.slot_carriers.specs.CellGroups.{CellsOf}
-use Rattle.points.specs.Points.{Point, span, number_of, placed, Tame, Beside, Distinct}
-use Rattle.points.proofs.PointNumbers.{Counts, number-low, number_append, number-placed, span-append, span-some, tame-placed, beside_placed}
-use Rattle.points.proofs.PointBindings.{span-count}
-use Rattle.nest_steps.specs.NestPromises.{some_binding}
+use Rattle.part_tests.specs.PointsPoints.{Point, span, number_of, placed, Tame, Beside, Distinct}
+use Rattle.part_tests.proofs.PointsPointNumbers.{Counts, number-low, number_append, number-placed, span-append, span-some, tame-placed, beside_placed}
+use Rattle.part_tests.proofs.PointsPointBindings.{span-count}
+use Rattle.part_tests.specs.NestStepsNestPromises.{some_binding}
 use Rattle.part_searches.proofs.SlotGroups.{among-upward, upward-among, distinct-upward, filled}
 
 -- ---- some number

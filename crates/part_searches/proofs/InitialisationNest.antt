@@ -10,12 +10,12 @@ use Rattle.form.specs.Tree.{Dossier}
 use Rattle.static_rules.specs.Scope.{unprimed}
 use Rattle.meaning.specs.Meaning.{holds}
 use Rattle.meaning.specs.Operations.{environment, abstract_bindings, is_state}
-use Rattle.points.specs.Points.{Point, span, number_of, Tame, Apart}
-use Rattle.points.specs.Searches.{SearchOf}
-use Rattle.points.proofs.PointNumbers.{number-apart}
-use Rattle.plans.specs.declared.Part.{Part}
-use Rattle.plans.specs.PlanPromises.{InitialisationPlan}
-use Rattle.nest_steps.specs.NestPromises.{Groups, some_binding, Sized, Nest}
+use Rattle.part_tests.specs.PointsPoints.{Point, span, number_of, Tame, Apart}
+use Rattle.part_tests.specs.PointsSearches.{SearchOf}
+use Rattle.part_tests.proofs.PointsPointNumbers.{number-apart}
+use Rattle.part_tests.specs.PlansPart.{Part}
+use Rattle.part_tests.specs.PlansPlanPromises.{InitialisationPlan}
+use Rattle.part_tests.specs.NestStepsNestPromises.{Groups, some_binding, Sized, Nest}
 use Rattle.part_tests.specs.PartGroups.{opening_groups}
 use Rattle.part_tests.specs.PartsByNumber.{abstract_at, concrete_at, initial, initial_match, initialisation_tests}
 use Rattle.part_searches.specs.PartCells.{StatesCelled}

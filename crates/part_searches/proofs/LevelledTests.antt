@@ -9,9 +9,9 @@ use lib.Dec.{eqb}
 use lib.ListN.{get_or, length}
 use borrow.Author.Tests.{eqb-true, eqb-false, eq-eqb, ne_eqb}
 use Rattle.lexical.specs.Lists.{all}
-use Rattle.points.specs.Points.{Point, moved}
-use Rattle.points.specs.Searches.{level_holds, levels_hold}
-use Rattle.points.proofs.PointNumbers.{moved_other}
+use Rattle.part_tests.specs.PointsPoints.{Point, moved}
+use Rattle.part_tests.specs.PointsSearches.{level_holds, levels_hold}
+use Rattle.part_tests.proofs.PointsPointNumbers.{moved_other}
 
 abbrev pub Levelled : Type 0
 Levelled = ℕ × (Point → Bool)

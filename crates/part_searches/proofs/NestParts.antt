@@ -14,14 +14,14 @@ use Rattle.static_rules.specs.Scope.{outputs}
 use Rattle.meaning.specs.Bindings.{Among}
 use Rattle.meaning.proofs.Members.{among-append}
 use Rattle.meaning.proofs.Places.{entry-below}
-use Rattle.table_places.specs.ResolvedTable.{Slots}
-use Rattle.read_predicates.specs.PredicateRows.{TestsOf}
-use Rattle.read_predicates.proofs.CountedRows.{rows-many, rows-low}
+use Rattle.readings.specs.TablePlacesResolvedTable.{Slots}
+use Rattle.readings.specs.ReadPredicatesPredicateRows.{TestsOf}
+use Rattle.readings.proofs.ReadPredicatesCountedRows.{rows-many, rows-low}
 use Rattle.states.proofs.StateLaws.{ContextOf, abstract-context, concrete-context, ainit-context, cinit-context, retrieve-context}
 use Rattle.states.proofs.StepLaws.{abstract-operation, concrete-operation}
-use Rattle.points.specs.Points.{Point, Tame, Apart, no_slots}
-use Rattle.points.specs.Searches.{SearchOf}
-use Rattle.plans.specs.PlanPromises.{SlotsIn, RowsOf, CommonRows, OperationRows}
+use Rattle.part_tests.specs.PointsPoints.{Point, Tame, Apart, no_slots}
+use Rattle.part_tests.specs.PointsSearches.{SearchOf}
+use Rattle.part_tests.specs.PlansPlanPromises.{SlotsIn, RowsOf, CommonRows, OperationRows}
 use Rattle.part_searches.proofs.SearchPlans.{Searched}
 use Rattle.part_searches.proofs.SlotGroups.{among-upward, Filled, searched}
 

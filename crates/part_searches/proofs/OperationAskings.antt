@@ -14,16 +14,16 @@ use Rattle.meaning.specs.Operations.{environment, is_state, after}
 use Rattle.meaning.specs.Bindings.{Among}
 use Rattle.meaning.proofs.Members.{among-left, among-right}
 use Rattle.slot_carriers.specs.CellGroups.{CellsOf}
-use Rattle.table_places.specs.ResolvedTable.{Slots, slotted}
-use Rattle.table_places.specs.DossierTable.{parameter_slots}
-use Rattle.read_predicates.specs.PredicateRows.{TestsOf}
+use Rattle.readings.specs.TablePlacesResolvedTable.{Slots, slotted}
+use Rattle.readings.specs.TablePlacesDossierTable.{parameter_slots}
+use Rattle.readings.specs.ReadPredicatesPredicateRows.{TestsOf}
 use Rattle.states.proofs.StateLaws.{abstract-context, concrete-context}
 use Rattle.states.proofs.StepLaws.{abstract-operation, concrete-operation}
-use Rattle.points.specs.Points.{Point, primed_slot, number_of}
-use Rattle.points.specs.PointTests.{side_slot, Celled}
-use Rattle.points.proofs.PointBindings.{primed-abstract, primed-concrete, Primes, no_primes, more_primes, state-primes}
-use Rattle.points.proofs.PointTruths.{celled-slots, celled-after-abstract, celled-after-concrete, celled-primes, celled-append}
-use Rattle.plans.specs.PlanPromises.{RowsOf, over_asking, after_asking, step_asking}
+use Rattle.part_tests.specs.PointsPoints.{Point, primed_slot, number_of}
+use Rattle.part_tests.specs.PointsPointTests.{side_slot, Celled}
+use Rattle.part_tests.proofs.PointsPointBindings.{primed-abstract, primed-concrete, Primes, no_primes, more_primes, state-primes}
+use Rattle.part_tests.proofs.PointsPointTruths.{celled-slots, celled-after-abstract, celled-after-concrete, celled-primes, celled-append}
+use Rattle.part_tests.specs.PlansPlanPromises.{RowsOf, over_asking, after_asking, step_asking}
 use Rattle.part_tests.specs.PartsByNumber.{abstract_at, concrete_at, input_at, output_at}
 use Rattle.part_searches.specs.PartCells.{OperationCelled}
 use Rattle.part_searches.proofs.SearchPlans.{AskedAs, asked-same}

@@ -10,11 +10,11 @@ use lib.ListN.{length, get_elem?}
 use Rattle.form.specs.Tree.{Operation, Dossier}
 use Rattle.static_rules.specs.Scope.{unprimed, outputs}
 use Rattle.meaning.specs.Operations.{abstract_bindings, output_bindings, is_state}
-use Rattle.points.specs.Points.{Point, number_of, Tame, Apart}
-use Rattle.points.specs.Searches.{SearchOf}
-use Rattle.points.proofs.PointNumbers.{number-apart}
-use Rattle.plans.specs.PlanPromises.{OperationRows, PremisesPlan}
-use Rattle.nest_steps.specs.NestPromises.{some_binding}
+use Rattle.part_tests.specs.PointsPoints.{Point, number_of, Tame, Apart}
+use Rattle.part_tests.specs.PointsSearches.{SearchOf}
+use Rattle.part_tests.proofs.PointsPointNumbers.{number-apart}
+use Rattle.part_tests.specs.PlansPlanPromises.{OperationRows, PremisesPlan}
+use Rattle.part_tests.specs.NestStepsNestPromises.{some_binding}
 use Rattle.part_tests.specs.PartsByNumber.{abstract_at, concrete_at, output_at, abstract_state, related_to, abstractly, ready_at}
 use Rattle.part_searches.specs.PartCells.{OperationCelled}
 use Rattle.readings.specs.Readings.{ReadingOf}

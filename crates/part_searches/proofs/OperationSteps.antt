@@ -11,11 +11,11 @@ use Rattle.static_rules.specs.Scope.{unprimed, inputs, outputs}
 use Rattle.meaning.specs.Bindings.{Among}
 use Rattle.meaning.specs.Operations.{concrete_bindings, output_bindings, is_state}
 use Rattle.meaning.proofs.Members.{among-append}
-use Rattle.points.specs.Points.{Point, span, number_of, placed, Tame, Apart, Distinct}
-use Rattle.points.specs.Searches.{levels_hold, Planned, SearchOf}
-use Rattle.points.proofs.PointNumbers.{Counts, number-apart, number_append, number-low, number-placed, same_number, tame-placed}
-use Rattle.plans.specs.PlanPromises.{StepsPlan}
-use Rattle.nest_steps.specs.NestPromises.{some_binding}
+use Rattle.part_tests.specs.PointsPoints.{Point, span, number_of, placed, Tame, Apart, Distinct}
+use Rattle.part_tests.specs.PointsSearches.{levels_hold, Planned, SearchOf}
+use Rattle.part_tests.proofs.PointsPointNumbers.{Counts, number-apart, number_append, number-low, number-placed, same_number, tame-placed}
+use Rattle.part_tests.specs.PlansPlanPromises.{StepsPlan}
+use Rattle.part_tests.specs.NestStepsNestPromises.{some_binding}
 use Rattle.part_tests.specs.PartsByNumber.{concrete_at, output_at, concretely, stepping}
 use Rattle.part_searches.proofs.LevelledTests.{Levelled, tests_by_level, levels-steady}
 use Rattle.part_searches.proofs.SearchPlans.{Searched, AskedAs, none-asked, asked_functions, asked-levellings, search-planned, search-whole}
@@ -25,8 +25,8 @@ use Rattle.part_searches.proofs.OperationAskings.{step_groups, OfSteps, concrete
 use Rattle.part_searches.proofs.FoundBindings.{group-counts, counts-append, some-groups}
 use Rattle.part_searches.proofs.NestParts.{and_true, outside-run, outside-append, run-apart}
 use Rattle.part_searches.proofs.OperationPremises.{OperationReading, small, planned-rows}
-use Rattle.plans.specs.PlansByNumber.{no_asking}
-use Rattle.plans.specs.PlanPromises.{after_asking, step_asking}
+use Rattle.part_tests.specs.PlansPlansByNumber.{no_asking}
+use Rattle.part_tests.specs.PlansPlanPromises.{after_asking, step_asking}
 
 module _ {table rows firsts groups cells : List ℕ} {d : Dossier} {op : Operation} {j : ℕ} (X : OperationReading table rows firsts groups cells d op j) where
   abbrev vc : ℕ

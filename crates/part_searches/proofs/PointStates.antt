@@ -9,11 +9,11 @@ use Rattle.static_rules.specs.Carriers.{Variable}
 use Rattle.static_rules.specs.Scope.{unprimed, primed, inputs, outputs, operation_reach}
 use Rattle.meaning.specs.Meaning.{Binding}
 use Rattle.meaning.specs.Operations.{abstract_bindings, concrete_bindings, output_bindings, after}
-use Rattle.table_places.specs.ResolvedTable.{Slots, slotted}
-use Rattle.table_places.specs.DossierTable.{abstract_slots, concrete_slots, parameter_slots}
-use Rattle.points.specs.Points.{Point, number_of, Tame}
-use Rattle.points.specs.PointTests.{binding_by, side_slot, side_of}
-use Rattle.points.proofs.PointBindings.{binding-number, binding-append, binding-side-abstract, binding-side-concrete, binding-primes}
+use Rattle.readings.specs.TablePlacesResolvedTable.{Slots, slotted}
+use Rattle.readings.specs.TablePlacesDossierTable.{abstract_slots, concrete_slots, parameter_slots}
+use Rattle.part_tests.specs.PointsPoints.{Point, number_of, Tame}
+use Rattle.part_tests.specs.PointsPointTests.{binding_by, side_slot, side_of}
+use Rattle.part_tests.proofs.PointsPointBindings.{binding-number, binding-append, binding-side-abstract, binding-side-concrete, binding-primes}
 use Rattle.part_tests.specs.PartsByNumber.{abstract_at, concrete_at, input_at, output_at}
 use Rattle.part_searches.specs.PartCells.{StatesCelled, OperationCelled}
 

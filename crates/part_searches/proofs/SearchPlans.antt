@@ -7,11 +7,11 @@ use native.Mathlib.Omega.{arith}
 use lib.ListN.{get_or, length}
 use borrow.Author.Tests.{eq-eqb, ne_eqb}
 use Rattle.slot_carriers.specs.Cells.{count_in, Readable}
-use Rattle.points.specs.Points.{Point, Tame, Distinct}
-use Rattle.points.specs.PointTests.{Test}
-use Rattle.points.specs.Searches.{levels_hold, mark_in, slot_in, TestsAt, no_tests, more_tests, Planned, SearchOf}
-use Rattle.plans.specs.PlansByNumber.{Asking, level_of, entry_of, entries_from, no_asking}
-use Rattle.plans.specs.PlanPromises.{LevelsIn}
+use Rattle.part_tests.specs.PointsPoints.{Point, Tame, Distinct}
+use Rattle.part_tests.specs.PointsPointTests.{Test}
+use Rattle.part_tests.specs.PointsSearches.{levels_hold, mark_in, slot_in, TestsAt, no_tests, more_tests, Planned, SearchOf}
+use Rattle.part_tests.specs.PlansPlansByNumber.{Asking, level_of, entry_of, entries_from, no_asking}
+use Rattle.part_tests.specs.PlansPlanPromises.{LevelsIn}
 use Rattle.part_searches.proofs.LevelledTests.{Levelled, pick, tests_by_level, all_of, by_level, pick-here, pick-past}
 use Rattle.part_searches.proofs.LevelledTests.{Levellings, no_levellings, levellings-append, pick-append, all-of_append, all-levels, level-free}
 

@@ -17,9 +17,9 @@ use Rattle.carriers.proofs.Values.{count-some}
 use Rattle.slot_carriers.specs.Cells.{count_in, Readable}
 use Rattle.slot_carriers.specs.CellGroups.{CellsOf}
 use Rattle.slot_carriers.proofs.CarrierCells.{readable}
-use Rattle.points.specs.Points.{Distinct, no_slots, more_slots}
-use Rattle.points.specs.Searches.{slot_in}
-use Rattle.plans.specs.PlanPromises.{SlotsIn}
+use Rattle.part_tests.specs.PointsPoints.{Distinct, no_slots, more_slots}
+use Rattle.part_tests.specs.PointsSearches.{slot_in}
+use Rattle.part_tests.specs.PlansPlanPromises.{SlotsIn}
 use Rattle.part_searches.proofs.SearchPlans.{Searched}
 use Rattle.part_searches.proofs.LevelledTests.{by_level}
 

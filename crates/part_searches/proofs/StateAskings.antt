@@ -10,16 +10,16 @@ use Rattle.static_rules.specs.Carriers.{Variable}
 use Rattle.static_rules.specs.Scope.{unprimed}
 use Rattle.meaning.specs.Meaning.{Binding, holds}
 use Rattle.meaning.specs.Operations.{environment, is_state}
-use Rattle.table_places.specs.ResolvedTable.{Slots, slotted}
-use Rattle.table_places.specs.DossierTable.{abstract_slots, concrete_slots}
-use Rattle.evaluation.specs.SlotValues.{Below}
-use Rattle.read_predicates.specs.PredicateRows.{TestsOf}
+use Rattle.readings.specs.TablePlacesResolvedTable.{Slots, slotted}
+use Rattle.readings.specs.TablePlacesDossierTable.{abstract_slots, concrete_slots}
+use Rattle.readings.specs.EvaluationSlotValues.{Below}
+use Rattle.readings.specs.ReadPredicatesPredicateRows.{TestsOf}
 use Rattle.states.proofs.StateLaws.{abstract-context, concrete-context, ainit-context, cinit-context, retrieve-context}
-use Rattle.points.specs.Points.{Point, number_of}
-use Rattle.points.specs.PointTests.{side_slot, Celled}
-use Rattle.points.proofs.PointBindings.{primed-abstract, primed-concrete}
-use Rattle.points.proofs.PointTruths.{celled-slots, celled-after-abstract, celled-after-concrete, celled-append}
-use Rattle.plans.specs.PlanPromises.{RowsOf, over_asking}
+use Rattle.part_tests.specs.PointsPoints.{Point, number_of}
+use Rattle.part_tests.specs.PointsPointTests.{side_slot, Celled}
+use Rattle.part_tests.proofs.PointsPointBindings.{primed-abstract, primed-concrete}
+use Rattle.part_tests.proofs.PointsPointTruths.{celled-slots, celled-after-abstract, celled-after-concrete, celled-append}
+use Rattle.part_tests.specs.PlansPlanPromises.{RowsOf, over_asking}
 use Rattle.part_tests.specs.PartsByNumber.{abstract_at, concrete_at}
 use Rattle.part_searches.specs.PartCells.{StatesCelled}
 use Rattle.part_searches.proofs.SearchPlans.{AskedAs, asked-same}

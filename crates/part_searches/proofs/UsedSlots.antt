@@ -18,8 +18,8 @@ use Rattle.static_rules.specs.Carriers.{Variable, same_name, plain}
 use Rattle.meaning.specs.Bindings.{Among}
 use Rattle.meaning.proofs.Members.{among-append}
 use Rattle.table_nodes.specs.TableByNumber.{next_slot}
-use Rattle.table_places.specs.ResolvedTable.{Slots, slotted}
-use Rattle.search_groups.specs.Conjuncts.{last_in, used_term, used_items, used_pairs, used_pred}
+use Rattle.readings.specs.TablePlacesResolvedTable.{Slots, slotted}
+use Rattle.states.specs.SearchGroupsConjuncts.{last_in, used_term, used_items, used_pairs, used_pred}
 
 -- every slot of these names passes
 abbrev pub Passing : (P : ℕ → Type 0) → Slots → Type 0

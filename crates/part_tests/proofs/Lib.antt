@@ -3,3 +3,7 @@ pub mod PartObligations
 pub mod PartPlaces
 pub mod PartSizes
 pub mod LookedChecks
+-- what crates above name of crates below
+pub use Rattle.nest_steps.proofs.PointsPointBindings as PointsPointBindings
+pub use Rattle.nest_steps.proofs.PointsPointNumbers as PointsPointNumbers
+pub use Rattle.nest_steps.proofs.PointsPointTruths as PointsPointTruths

@@ -4,7 +4,7 @@ use Rattle.lexical.specs.Lists.{upward}
 use Rattle.static_rules.specs.Carriers.{Variable}
 use Rattle.static_rules.specs.Limits.{binding_count}
 use Rattle.slot_carriers.specs.CellGroups.{CellsOf}
-use Rattle.plans.specs.declared.Part.{Part}
+use Rattle.nest_steps.specs.PlansPart.{Part}
 use Rattle.nest_steps.specs.NestPromises.{Groups}
 
 -- the cells of both states, plain and primed

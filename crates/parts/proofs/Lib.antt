@@ -7,3 +7,12 @@ pub mod SetupLaws
 pub mod LookLaws
 pub mod SearchSteps
 pub mod SearchLaws
+-- what crates above name of crates below
+pub use Rattle.part_searches.proofs.CorrectnessNest as PartSearchesCorrectnessNest
+pub use Rattle.part_searches.proofs.FoundBindings as PartSearchesFoundBindings
+pub use Rattle.part_searches.proofs.InitialisationNest as PartSearchesInitialisationNest
+pub use Rattle.part_searches.proofs.NestParts as PartSearchesNestParts
+pub use Rattle.part_searches.proofs.OperationPremises as PartSearchesOperationPremises
+pub use Rattle.part_searches.proofs.OperationSteps as PartSearchesOperationSteps
+pub use Rattle.part_searches.proofs.SlotGroups as PartSearchesSlotGroups
+pub use Rattle.part_setup.proofs.PartTestsPartSizes as PartTestsPartSizes

@@ -13,15 +13,15 @@ use Rattle.obligations.specs.Subjects.{subject_of}
 use Rattle.obligations.proofs.Digits.{concretes, givens, applicability_size, correctness_size, start_of}
 use Rattle.plans.specs.declared.Part.{Part}
 use Rattle.plans.specs.PlanPromises.{InitialisationPlan, ApplicabilityPlan, CorrectnessPlan}
-use Rattle.nest_steps.specs.PartTests.{passes_from}
-use Rattle.part_tests.specs.PartsByNumber.{initialisation_tests, applicability_tests, correctness_tests}
-use Rattle.part_tests.specs.PartGroups as made
-use Rattle.part_tests.specs.PartGroups.{opening_part, applicability_part, correctness_part}
+use Rattle.nest.specs.NestStepsPartTests.{passes_from}
+use Rattle.part_setup.specs.PartTestsPartsByNumber.{initialisation_tests, applicability_tests, correctness_tests}
+use Rattle.part_setup.specs.PartTestsPartGroups as made
+use Rattle.part_setup.specs.PartTestsPartGroups.{opening_part, applicability_part, correctness_part}
 use Rattle.part_searches.specs.PartCells.{StatesCelled}
-use Rattle.part_tests.specs.PartOrder.{part_size, part_begin}
-use Rattle.readings.specs.Readings.{ReadingOf}
-use Rattle.part_tests.proofs.LookedChecks.{passes_place}
-use Rattle.part_tests.proofs.PartPlaces.{initialisation-part, applicability-part, correctness-part}
+use Rattle.part_setup.specs.PartTestsPartOrder.{part_size, part_begin}
+use Rattle.part_setup.specs.ReadingsReadings.{ReadingOf}
+use Rattle.part_setup.proofs.PartTestsLookedChecks.{passes_place}
+use Rattle.part_setup.proofs.PartTestsPartPlaces.{initialisation-part, applicability-part, correctness-part}
 use Rattle.part_searches.proofs.InitialisationNest.{initialisation_groups, initialisation-nest}
 use Rattle.part_searches.proofs.OperationPremises.{OperationReading}
 use Rattle.part_searches.proofs.OperationSteps.{front_at}

@@ -10,13 +10,13 @@ use lib.IntN.{ℤ}
 use Rattle.form.specs.Tree.{Dossier}
 use Rattle.obligations.specs.Subjects.{subject_of}
 use Rattle.plans.specs.declared.Part.{Part}
-use Rattle.nest_steps.specs.PartTests.{PartTests, passes_from, Looked}
-use Rattle.nest_steps.specs.NestPromises.{Groups, Nest, NestAsked}
+use Rattle.nest.specs.NestStepsPartTests.{PartTests, passes_from, Looked}
+use Rattle.nest.specs.NestStepsNestPromises.{Groups, Nest, NestAsked}
 use Rattle.nest.specs.SweepPromises.{SweepAnswers}
 use Rattle.part_setup.specs.SetupPromises.{FirstValues, Filled}
-use Rattle.part_tests.specs.PartOrder.{part_size, part_begin}
-use Rattle.readings.specs.Readings.{ReadingOf}
-use Rattle.part_tests.proofs.LookedChecks.{passes_place}
+use Rattle.part_setup.specs.PartTestsPartOrder.{part_size, part_begin}
+use Rattle.part_setup.specs.ReadingsReadings.{ReadingOf}
+use Rattle.part_setup.proofs.PartTestsLookedChecks.{passes_place}
 use Rattle.parts.specs.SearchPromises.{PartAsked, PartAnswers, LookAnswers}
 
 -- how many places a part has

@@ -9,7 +9,7 @@ use Rattle.meaning.proofs.Places.{entry-below, below-entry}
 use Rattle.obligations.specs.Subjects.{subject_of}
 use Rattle.obligations.specs.Order.{total}
 use Rattle.obligations.proofs.Digits.{concretes, applicability_size, correctness_size, start_of, length-opening, start_first, start-next, total-ends}
-use Rattle.part_tests.specs.PartOrder.{operation_part_size, part_size, part_begin}
+use Rattle.part_setup.specs.PartTestsPartOrder.{operation_part_size, part_size, part_begin}
 
 module _ (d : Dossier) where
   -- initialisation comes first

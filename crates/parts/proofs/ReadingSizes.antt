@@ -13,8 +13,8 @@ use Rattle.carriers.proofs.Bindings.{bindings-count}
 use Rattle.obligations.specs.Subjects.{subject_of}
 use Rattle.obligations.specs.Order.{total}
 use Rattle.obligations.proofs.Digits.{abstracts, concretes, givens, results, applicability_size, correctness_size}
-use Rattle.readings.specs.Readings.{GroupAt, ReadingOf}
-use Rattle.part_tests.proofs.PartSizes.{total-small}
+use Rattle.part_setup.specs.ReadingsReadings.{GroupAt, ReadingOf}
+use Rattle.part_setup.proofs.PartTestsPartSizes.{total-small}
 
 module _ (d : Dossier) where
   -- the bindings of a group are counted by the sizes of its carriers

@@ -9,10 +9,10 @@ use lib.ListN.{length}
 use Rattle.form.specs.Tree.{Dossier}
 use Rattle.obligations.specs.Subjects.{subject_of}
 use Rattle.obligations.specs.Order.{total}
-use Rattle.nest_steps.specs.PartTests.{Looked}
-use Rattle.part_tests.specs.PartOrder.{part_size, part_begin}
-use Rattle.readings.specs.Readings.{ReadingOf}
-use Rattle.part_tests.proofs.LookedChecks.{passes_place, looked-look, looked-none}
+use Rattle.nest.specs.NestStepsPartTests.{Looked}
+use Rattle.part_setup.specs.PartTestsPartOrder.{part_size, part_begin}
+use Rattle.part_setup.specs.ReadingsReadings.{ReadingOf}
+use Rattle.part_setup.proofs.PartTestsLookedChecks.{passes_place, looked-look, looked-none}
 use Rattle.parts.specs.SearchPromises.{LookAsked, LookAnswers, SearchAsked, SearchAnswers}
 use Rattle.parts.proofs.PartOrderLaws.{first-begin, next-begin, all_end, part-within}
 use Rattle.parts.proofs.ReadingSizes.{reading_small}

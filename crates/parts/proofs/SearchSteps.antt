@@ -4,8 +4,8 @@ use mathlib.Core.Bool.{Bool, true, false, true≢false}
 use Prim.Native.Nat.{ℕ, ◌+◌, ◌-◌, ◌<◌, ◌≤◌, min}
 use native.Mathlib.Omega.{arith}
 use native.Mathlib.Decide.{dec_lt}
-use Rattle.nest_steps.specs.PartTests.{Looked}
-use Rattle.part_tests.proofs.LookedChecks.{looked-part, looked-join}
+use Rattle.nest.specs.NestStepsPartTests.{Looked}
+use Rattle.part_setup.proofs.PartTestsLookedChecks.{looked-part, looked-join}
 
 -- from `from` on the search came to `to`, in a part that ends at `last`: it goes on from there, or stops at a failing place
 pub record Continued (g : ℕ → Bool) (from end total last to : ℕ) (failed : Bool) : Type 0 where

@@ -12,8 +12,8 @@ use Rattle.static_rules.specs.Scope.{unprimed, inputs, outputs}
 use Rattle.meaning.proofs.Places.{entry-below, below-entry}
 use Rattle.plans.specs.declared.Part.{Part}
 use Rattle.plans.specs.PlanPromises.{CommonRows, OperationRows}
-use Rattle.part_tests.specs.PartGroups.{applicability_part, correctness_part}
-use Rattle.readings.specs.Readings.{GroupAt, ReadingOf}
+use Rattle.part_setup.specs.PartTestsPartGroups.{applicability_part, correctness_part}
+use Rattle.part_setup.specs.ReadingsReadings.{GroupAt, ReadingOf}
 use Rattle.part_searches.proofs.NestParts.{common-rows, operation-rows}
 use Rattle.part_setup.specs.SetupPromises.{Blank, StatesAsked, StatesSet, OperationAsked, OperationSet, CountedAt, OpeningCounts, OpeningPartAsked}
 use Rattle.part_setup.specs.SetupPromises.{OperationCounts, OperationPartAsked, ApplicabilityPartIs, CorrectnessPartIs}

@@ -13,13 +13,13 @@ use Rattle.static_rules.specs.Scope.{unprimed, inputs, outputs}
 use Rattle.static_rules.specs.Limits.{binding_count}
 use Rattle.carriers.proofs.Bindings.{bindings-some}
 use Rattle.slot_carriers.specs.CellGroups.{CellsOf, Grouped}
-use Rattle.points.specs.Points.{span}
-use Rattle.points.proofs.PointNumbers.{span-append}
-use Rattle.points.proofs.PointBindings.{span-count}
-use Rattle.nest_steps.specs.NestPromises.{Sized}
-use Rattle.part_tests.specs.PartGroups.{opening_part, applicability_part, correctness_part}
+use Rattle.plans.specs.PointsPoints.{span}
+use Rattle.plans.proofs.PointsPointNumbers.{span-append}
+use Rattle.plans.proofs.PointsPointBindings.{span-count}
+use Rattle.nest.specs.NestStepsNestPromises.{Sized}
+use Rattle.part_setup.specs.PartTestsPartGroups.{opening_part, applicability_part, correctness_part}
 use Rattle.part_searches.specs.PartCells.{StatesCelled, OperationCelled}
-use Rattle.readings.specs.Readings.{ReadingOf}
+use Rattle.part_setup.specs.ReadingsReadings.{ReadingOf}
 use Rattle.part_searches.proofs.SlotGroups.{upward-long}
 use Rattle.part_searches.proofs.InitialisationNest.{initialisation_groups}
 use Rattle.part_searches.proofs.ApplicabilityNest.{applicability_of}

@@ -2,13 +2,13 @@
 use Rattle.std.specs.Prelude.{◌≡◌, Bool, false, cond, List, ℕ, suc, ◌+◌, ◌-◌, ◌*◌, ◌<◌, ◌≤◌, min, length, take, drop}
 use Rattle.form.specs.Tree.{Dossier}
 use Rattle.plans.specs.declared.Part.{Part}
-use Rattle.nest_steps.specs.PartTests.{PartTests, passes_from, Looked}
-use Rattle.nest_steps.specs.NestPromises.{Groups, Nest}
+use Rattle.nest.specs.NestStepsPartTests.{PartTests, passes_from, Looked}
+use Rattle.nest.specs.NestStepsNestPromises.{Groups, Nest}
 use Rattle.obligations.specs.Subjects.{subject_of}
 use Rattle.obligations.specs.Order.{passes, checks, total, look}
 use Rattle.obligations.specs.Report.{check_at}
-use Rattle.part_tests.specs.PartOrder.{part_size, part_begin}
-use Rattle.readings.specs.Readings.{ReadingOf}
+use Rattle.part_setup.specs.PartTestsPartOrder.{part_size, part_begin}
+use Rattle.part_setup.specs.ReadingsReadings.{ReadingOf}
 use Rattle.part_setup.specs.SetupPromises.{FirstValues}
 
 -- one part, by its tests

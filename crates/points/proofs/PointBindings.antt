@@ -12,19 +12,19 @@ use lib.ListN.{length, get_or}
 use borrow.Author.Tests.{lt-ltb, le-ltb}
 use Rattle.lexical.specs.Lists.{upward}
 use Rattle.lexical.specs.Symbols.{no_ending, prime, Ending}
-use Rattle.form.specs.Tree.{Given, Declaration, declarations, State, Dossier}
+use Rattle.static_rules.specs.FormTree.{Given, Declaration, declarations, State, Dossier}
 use Rattle.static_rules.specs.Carriers.{Carrier, Variable, count_of, carrier_of}
 use Rattle.static_rules.specs.Limits.{binding_count}
 use Rattle.static_rules.specs.Scope.{variables, unprimed, primed}
 use Rattle.meaning.specs.Meaning.{Binding}
 use Rattle.meaning.specs.Bindings.{bindings}
 use Rattle.meaning.specs.Operations.{after}
-use Rattle.carriers.specs.ValuesByNumber.{value_at, binding_at}
-use Rattle.carriers.proofs.Values.{count-some}
-use Rattle.carriers.proofs.Bindings.{bindings-some, bindings-at, digit-small, again_rest}
+use Rattle.slot_carriers.specs.CarriersValuesByNumber.{value_at, binding_at}
+use Rattle.slot_carriers.proofs.CarriersValues.{count-some}
+use Rattle.slot_carriers.proofs.CarriersBindings.{bindings-some, bindings-at, digit-small, again_rest}
 use Rattle.slot_carriers.specs.Cells.{CellOf}
 use Rattle.slot_carriers.specs.CellGroups.{CellsOf}
-use Rattle.table_places.specs.ResolvedTable.{Slots, slotted}
+use Rattle.truths.specs.TablePlacesResolvedTable.{Slots, slotted}
 use Rattle.points.specs.Points.{Point, primed_slot, span, number_of, Tame}
 use Rattle.points.specs.PointTests.{binding_by, side_slot, side_of}
 

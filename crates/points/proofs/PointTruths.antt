@@ -8,25 +8,25 @@ use lib.Arith.{digits_div, digits_mod}
 use lib.IntN.{ℤ, pos}
 use lib.ListN.{length, get_or}
 use Rattle.lexical.specs.Symbols.{Name}
-use Rattle.form.specs.Tree.{Pred, State, Dossier}
+use Rattle.static_rules.specs.FormTree.{Pred, State, Dossier}
 use Rattle.static_rules.specs.Carriers.{Carrier, Variable, count_of}
 use Rattle.static_rules.specs.Scope.{Scope, unprimed, primed}
 use Rattle.meaning.specs.Bindings.{values_of, Among, Over}
 use Rattle.meaning.specs.Values.{Value}
 use Rattle.meaning.proofs.Places.{member-at}
-use Rattle.carriers.specs.ValuesByNumber.{value_at}
-use Rattle.carriers.proofs.Values.{values-at, values-count}
+use Rattle.slot_carriers.specs.CarriersValuesByNumber.{value_at}
+use Rattle.slot_carriers.proofs.CarriersValues.{values-at, values-count}
 use Rattle.slot_carriers.specs.Cells.{CellOf, value_in}
 use Rattle.slot_carriers.specs.CellGroups.{CellsOf}
 use Rattle.slot_carriers.proofs.CarrierCells.{value_of}
-use Rattle.value_types.specs.TypedValues.{InReach}
-use Rattle.table_places.specs.ResolvedTable.{Slots, slotted}
-use Rattle.search_groups.specs.Conjuncts.{used_pred}
-use Rattle.evaluation.specs.Heights.{height_pred}
-use Rattle.evaluation.specs.SlotValues.{Slotted, Below, Held}
-use Rattle.conjunct_tests.specs.ConjunctTests.{Conjunct, Agree, agree_none, agree_more}
-use Rattle.conjunct_tests.proofs.ConjunctRows.{conjunct-answers}
-use Rattle.conjunct_tests.proofs.SlotFrame.{frame-slots}
+use Rattle.truths.specs.ValueTypesTypedValues.{InReach}
+use Rattle.truths.specs.TablePlacesResolvedTable.{Slots, slotted}
+use Rattle.truths.specs.SearchGroupsConjuncts.{used_pred}
+use Rattle.truths.specs.EvaluationHeights.{height_pred}
+use Rattle.truths.specs.EvaluationSlotValues.{Slotted, Below, Held}
+use Rattle.truths.specs.ConjunctTestsConjunctTests.{Conjunct, Agree, agree_none, agree_more}
+use Rattle.truths.proofs.ConjunctTestsConjunctRows.{conjunct-answers}
+use Rattle.truths.proofs.ConjunctTestsSlotFrame.{frame-slots}
 use Rattle.truths.specs.Promises.{Asked, Answers}
 use Rattle.points.specs.Points.{Point, Tame, Shows}
 use Rattle.points.specs.PointTests.{binding_by, truth_at, side_slot, side_of, Celled, Given, Test}

@@ -1,3 +1,5 @@
 pub mod Points
 pub mod PointTests
 pub mod Searches
+-- what crates above name of crates below
+pub use Rattle.truths.specs.Promises as TruthsPromises

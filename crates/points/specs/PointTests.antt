@@ -1,13 +1,13 @@
 -- The truth of a predicate at a point, and what the evaluator is asked for it. Nothing here need be believed.
 use Rattle.std.specs.Prelude.{◌≡◌, Bool, List, [], ◌∷◌, ℕ, zero, suc, ◌/◌, ◌%◌, get_or, ℤ}
-use Rattle.form.specs.Tree.{Pred}
+use Rattle.static_rules.specs.FormTree.{Pred}
 use Rattle.static_rules.specs.Carriers.{Variable}
 use Rattle.static_rules.specs.Scope.{Scope}
 use Rattle.meaning.specs.Meaning.{Binding, holds}
-use Rattle.carriers.specs.ValuesByNumber.{value_at}
+use Rattle.slot_carriers.specs.CarriersValuesByNumber.{value_at}
 use Rattle.slot_carriers.specs.Cells.{CellOf}
-use Rattle.table_places.specs.ResolvedTable.{Slots}
-use Rattle.evaluation.specs.EvaluationByNumber.{Values, TruthIs}
+use Rattle.truths.specs.TablePlacesResolvedTable.{Slots}
+use Rattle.truths.specs.EvaluationEvaluationByNumber.{Values, TruthIs}
 use Rattle.truths.specs.Promises.{Asked, Answers}
 use Rattle.points.specs.Points.{Point, primed_slot, Shows}
 

@@ -12,7 +12,7 @@ use Rattle.static_rules.specs.Scope.{unprimed}
 use Rattle.meaning.specs.Operations.{abstract_bindings, concrete_bindings}
 use Rattle.carriers.proofs.Bindings.{bindings-some, bindings-count}
 use Rattle.plans.specs.declared.Part.{Part}
-use Rattle.part_tests.specs.PartsByNumber.{abstract_at, initial, initial_match}
+use Rattle.step_searches.specs.PartTestsPartsByNumber.{abstract_at, initial, initial_match}
 use Rattle.step_searches.specs.StepPromises.{OpeningSearches, OpenAsked, Opened, InitialStateFound, InitialMatchFound}
 use Rattle.reached_pairs.specs.Reached.{layer_of, layer_in}
 use Rattle.reached_pairs.specs.ReachedByNumber.{many_abstract, many_concrete, many_pairs, abstract_of, concrete_of, Begins, Hits, Marked, Cleared}

@@ -8,7 +8,7 @@ use native.Mathlib.Decide.{dec_lt}
 use lib.ListN.{length, length-append}
 use Rattle.form.specs.Tree.{Dossier}
 use Rattle.obligations.specs.Machines.{Machine, abstract_side}
-use Rattle.part_tests.specs.PartsByNumber.{abstract_at, concrete_at}
+use Rattle.step_searches.specs.PartTestsPartsByNumber.{abstract_at, concrete_at}
 use Rattle.reached_pairs.specs.Reached.{Reached, pair_before, entry_of, mark_in, layer_in, entry_at, spelled, PairsReached}
 use Rattle.reached_pairs.specs.ReachedByNumber.{abstract_of, concrete_of, Goes, Chain, begun, gone, Layered}
 use Rattle.reached_pairs.proofs.ReachedPairs.{pair_of, begins-reached, goes-reached, reached-chain, at-digits}

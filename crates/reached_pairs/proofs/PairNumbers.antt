@@ -12,7 +12,7 @@ use Rattle.meaning.proofs.Bindings.{over-listed, listed-over}
 use Rattle.meaning.proofs.Places.{member-at, place-of}
 use Rattle.meaning.proofs.Distinct.{distinct-places}
 use Rattle.meaning.proofs.Values.{distinct-bindings}
-use Rattle.part_tests.specs.PartsByNumber.{nth}
+use Rattle.step_searches.specs.PartTestsPartsByNumber.{nth}
 
 -- a pair's number has two digits
 pub high_digit : (q m n : ℕ) → q < m * n → q / n < m

@@ -17,7 +17,7 @@ use Rattle.meaning.specs.Operations.{abstract_initial, concrete_initial, related
 use Rattle.meaning.proofs.Places.{entry-below, below-entry}
 use Rattle.obligations.specs.Machines.{Machine, parameters, steps, abstract_side, concrete_side}
 use Rattle.obligations.specs.Runs.{Entry, IsEntry, Entries, Outcome, Initial, Step, Path, last, Related, Alike}
-use Rattle.part_tests.specs.PartsByNumber.{nth, abstract_at, concrete_at, input_at, output_at, initial, initial_match, concretely, match}
+use Rattle.step_searches.specs.PartTestsPartsByNumber.{nth, abstract_at, concrete_at, input_at, output_at, initial, initial_match, concretely, match}
 use Rattle.reached_pairs.specs.Reached.{Reached}
 use Rattle.reached_pairs.specs.ReachedByNumber.{many_abstract, many_concrete, many_pairs, abstract_of, concrete_of, Begins, Leads, Goes, Chain, begun, gone}
 use Rattle.reached_pairs.proofs.JoinedRuns.{path-more, last_more, alike-more, entries-more, related-last}

@@ -13,7 +13,7 @@ use Rattle.static_rules.specs.Scope.{inputs}
 use Rattle.meaning.specs.Bindings.{bindings}
 use Rattle.meaning.proofs.Places.{below-entry}
 use Rattle.plans.specs.declared.Part.{Part}
-use Rattle.readings.specs.Readings.{ReadingOf}
+use Rattle.step_searches.specs.ReadingsReadings.{ReadingOf}
 use Rattle.step_searches.specs.StepPromises.{StepSearches, PrepareAsked, Prepared}
 use Rattle.reached_pairs.specs.Reached.{layer_of, pair_before, entry_of, mark_in, layer_in}
 use Rattle.reached_pairs.specs.ReachedByNumber.{many_pairs, Goes, Leads, Layered, Grown, Hits, MarkFrom, MayFrom, MustFrom, MustBelow, LayerCounted}

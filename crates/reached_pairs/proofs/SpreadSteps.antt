@@ -14,7 +14,7 @@ use Rattle.meaning.specs.Operations.{abstract_bindings, concrete_bindings, outpu
 use Rattle.carriers.proofs.Bindings.{bindings-count}
 use Rattle.plans.specs.declared.Part.{Part}
 use Rattle.points.specs.Searches.{Sought}
-use Rattle.part_tests.specs.PartsByNumber.{abstract_at, concrete_at, output_at, concretely, match}
+use Rattle.step_searches.specs.PartTestsPartsByNumber.{abstract_at, concrete_at, output_at, concretely, match}
 use Rattle.step_searches.specs.declared.Stepped.{Stepped}
 use Rattle.step_searches.specs.StepPromises.{StepSearches, MatchFound, ConcreteStepFound, Below}
 use Rattle.reached_pairs.specs.ReachedByNumber.{many_abstract, many_concrete, many_pairs, abstract_of, concrete_of, Leads, Hits, Marked, MarkFrom}

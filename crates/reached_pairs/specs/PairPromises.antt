@@ -5,8 +5,8 @@ use Rattle.form.specs.Tree.{Operation, Dossier}
 use Rattle.static_rules.specs.Scope.{inputs}
 use Rattle.meaning.specs.Bindings.{bindings}
 use Rattle.plans.specs.declared.Part.{Part}
-use Rattle.readings.specs.Readings.{ReadingOf}
-use Rattle.part_tests.specs.PartsByNumber.{abstract_at, concrete_at, output_at, initial, initial_match, concretely, match}
+use Rattle.step_searches.specs.ReadingsReadings.{ReadingOf}
+use Rattle.step_searches.specs.PartTestsPartsByNumber.{abstract_at, concrete_at, output_at, initial, initial_match, concretely, match}
 use Rattle.step_searches.specs.declared.Stepped.{Stepped}
 use Rattle.step_searches.specs.StepPromises.{StepsAsked, ForSteps, OpeningAsked, ForOpening}
 use Rattle.reached_pairs.specs.Reached.{layer_in, PairsReached}

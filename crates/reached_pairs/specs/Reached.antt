@@ -6,7 +6,7 @@ use Rattle.meaning.specs.Bindings.{bindings}
 use Rattle.meaning.specs.Operations.{abstract_bindings, concrete_bindings, related}
 use Rattle.obligations.specs.Machines.{Machine, Relation, abstract_side, concrete_side}
 use Rattle.obligations.specs.Runs.{Entry, Entries, Outcome, Run, Beside, last}
-use Rattle.part_tests.specs.PartsByNumber.{nth, abstract_at, concrete_at}
+use Rattle.step_searches.specs.PartTestsPartsByNumber.{nth, abstract_at, concrete_at}
 
 -- "Two runs on one list stand beside each other": an abstract and a concrete run on the list, beside each other, end in these two states
 pub record ReachedBy (A C : Machine) (R : Relation) (es : List Entry) (a c : Binding) : Type 0 where

@@ -7,7 +7,7 @@ use Rattle.form.specs.Tree.{Operation, Dossier}
 use Rattle.static_rules.specs.Scope.{inputs}
 use Rattle.meaning.specs.Bindings.{bindings}
 use Rattle.meaning.specs.Operations.{abstract_bindings, concrete_bindings, output_bindings}
-use Rattle.part_tests.specs.PartsByNumber.{abstract_at, concrete_at, output_at, initial, initial_match, concretely, match}
+use Rattle.step_searches.specs.PartTestsPartsByNumber.{abstract_at, concrete_at, output_at, initial, initial_match, concretely, match}
 use Rattle.reached_pairs.specs.Reached.{layer_of, pair_before, entry_of, mark_in, layer_in}
 
 module _ (d : Dossier) where

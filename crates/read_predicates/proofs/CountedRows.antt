@@ -6,7 +6,7 @@ use native.Mathlib.Omega.{arith}
 use lib.ListN.{length, get_or}
 use Rattle.form.specs.Tree.{Pred}
 use Rattle.static_rules.specs.Scope.{Scope}
-use Rattle.table_places.specs.ResolvedTable.{Slots}
+use Rattle.conjunct_tests.specs.TablePlacesResolvedTable.{Slots}
 use Rattle.read_predicates.specs.PredicateRows.{RowsAt, no_rows, more_rows}
 
 module _ {table rows : List ℕ} {Γ : Scope} {W : Slots} {to : ℕ} where

@@ -7,7 +7,7 @@ use native.Mathlib.Omega.{arith}
 use lib.ListN.{length, take}
 use Rattle.form.specs.Tree.{Dossier}
 use Rattle.form.specs.Codes.{dossier_codes}
-use Rattle.parser.specs.Promises.{numbering}
+use Rattle.reader.specs.ParserPromises.{numbering}
 use Rattle.static_rules.specs.Scope.{Context, contexts}
 use Rattle.static_rules.specs.Read.{reading, read}
 use Rattle.meaning.specs.Bindings.{Among}
@@ -15,10 +15,10 @@ use Rattle.value_types.specs.FaultlessContexts.{ContextFine}
 use Rattle.value_types.proofs.GivenTitles.{few-elements-of}
 use Rattle.value_types.proofs.SymbolNumbers.{text-numbers}
 use Rattle.value_types.proofs.FineContexts.{contexts-fine}
-use Rattle.table_places.specs.ResolvedTable.{Slots}
-use Rattle.table_places.specs.DossierTable.{slots_of, starts_of, table_of}
-use Rattle.search_groups.specs.GroupPromises.{Standing, none_stands, one_stands}
-use Rattle.tables.proofs.StandingWhole.{standing}
+use Rattle.conjunct_tests.specs.TablePlacesResolvedTable.{Slots}
+use Rattle.conjunct_tests.specs.TablePlacesDossierTable.{slots_of, starts_of, table_of}
+use Rattle.conjunct_tests.specs.SearchGroupsGroupPromises.{Standing, none_stands, one_stands}
+use Rattle.reader.proofs.TablesStandingWhole.{standing}
 use Rattle.reader.specs.Gives.{Gives}
 use Rattle.reader.proofs.ReadGives.{read-gives}
 use Rattle.read_predicates.specs.TestedPredicates.{Tested, none_tested, one_tested}

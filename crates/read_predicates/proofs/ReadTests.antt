@@ -7,17 +7,17 @@ use native.Mathlib.Omega.{arith}
 use lib.ListN.{length, get_or, get_elem?, take, drop, length-append, get_or-append}
 use Rattle.form.specs.Tree.{Pred, Dossier}
 use Rattle.form.specs.Codes.{dossier_codes}
-use Rattle.parser.specs.Promises.{numbering}
+use Rattle.reader.specs.ParserPromises.{numbering}
 use Rattle.static_rules.specs.Scope.{Scope, Context, contexts}
 use Rattle.static_rules.specs.Read.{reading, read}
 use Rattle.meaning.proofs.ConjunctsHold.{conjuncts, conjuncts-hold}
 use Rattle.meaning.proofs.Places.{entry-below, at_right}
 use Rattle.value_types.specs.FaultlessContexts.{ContextFine}
 use Rattle.table_nodes.specs.TableWalkPromises.{patch}
-use Rattle.table_places.specs.ResolvedTable.{Slots, pred_table}
-use Rattle.table_places.specs.DossierTable.{slots_of, starts_of}
-use Rattle.search_groups.specs.Conjuncts.{used_pred, conjunct_row, conjunct_rows, context_rows, context_firsts}
-use Rattle.tables.proofs.StandingWhole.{rows_few}
+use Rattle.conjunct_tests.specs.TablePlacesResolvedTable.{Slots, pred_table}
+use Rattle.conjunct_tests.specs.TablePlacesDossierTable.{slots_of, starts_of}
+use Rattle.conjunct_tests.specs.SearchGroupsConjuncts.{used_pred, conjunct_row, conjunct_rows, context_rows, context_firsts}
+use Rattle.reader.proofs.TablesStandingWhole.{rows_few}
 use Rattle.reader.specs.Promises.{Written}
 use Rattle.reader.specs.Gives.{Gives}
 use Rattle.reader.proofs.ReadGives.{read-gives}

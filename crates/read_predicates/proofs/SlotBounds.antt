@@ -12,11 +12,11 @@ use Rattle.form.specs.Written.{ending_of}
 use Rattle.form.specs.Headings.{operations_at, operation_length}
 use Rattle.static_rules.specs.Carriers.{Variable}
 use Rattle.static_rules.specs.Scope.{is_input, is_output, parameters_of, unprimed, primed, inputs, outputs, concrete_taken, operation_contexts, contexts}
-use Rattle.table_places.specs.ResolvedTable.{Slots, slotted}
-use Rattle.table_places.specs.DossierTable.{slots_of, operation_slots, abstract_slots, concrete_slots, parameter_slots}
-use Rattle.search_groups.specs.GroupPromises.{FewParameters, FewEach, few_none, few_more, Few}
-use Rattle.tables.proofs.DeclaredPlaces.{variables-few}
-use Rattle.evaluation.specs.SlotValues.{Below}
+use Rattle.conjunct_tests.specs.TablePlacesResolvedTable.{Slots, slotted}
+use Rattle.conjunct_tests.specs.TablePlacesDossierTable.{slots_of, operation_slots, abstract_slots, concrete_slots, parameter_slots}
+use Rattle.conjunct_tests.specs.SearchGroupsGroupPromises.{FewParameters, FewEach, few_none, few_more, Few}
+use Rattle.reader.proofs.TablesDeclaredPlaces.{variables-few}
+use Rattle.conjunct_tests.specs.EvaluationSlotValues.{Below}
 
 below-slotted : (s : ℕ) (vs : List Variable) → s + length vs ≤ 38 → Below 38 (slotted s vs)
 unfolding Below slotted

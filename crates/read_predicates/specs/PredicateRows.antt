@@ -7,10 +7,10 @@ use Rattle.form.specs.Tree.{Pred, Dossier}
 use Rattle.static_rules.specs.Scope.{Scope, Context, contexts}
 use Rattle.meaning.specs.Meaning.{Environment, holds}
 use Rattle.value_types.specs.TypedValues.{InReach}
-use Rattle.table_places.specs.ResolvedTable.{Slots}
-use Rattle.table_places.specs.DossierTable.{slots_of}
-use Rattle.search_groups.specs.Conjuncts.{used_pred, last_in}
-use Rattle.evaluation.specs.SlotValues.{Below}
+use Rattle.conjunct_tests.specs.TablePlacesResolvedTable.{Slots}
+use Rattle.conjunct_tests.specs.TablePlacesDossierTable.{slots_of}
+use Rattle.conjunct_tests.specs.SearchGroupsConjuncts.{used_pred, last_in}
+use Rattle.conjunct_tests.specs.EvaluationSlotValues.{Below}
 use Rattle.conjunct_tests.specs.ConjunctTests.{Conjunct}
 
 -- the columns of the row at `at`, of a conjunct that mentions the slots ss: the last variable of each group, counted from 1, or 0 for none

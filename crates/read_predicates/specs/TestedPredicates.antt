@@ -2,7 +2,7 @@
 use Rattle.std.specs.Prelude.{List, [], ◌∷◌, ℕ, ◌+◌, length}
 use Rattle.static_rules.specs.Scope.{Context}
 use Rattle.value_types.specs.FaultlessContexts.{ContextFine}
-use Rattle.table_places.specs.ResolvedTable.{Slots, pred_table}
+use Rattle.conjunct_tests.specs.TablePlacesResolvedTable.{Slots, pred_table}
 use Rattle.conjunct_tests.specs.ConjunctTests.{Conjunct}
 
 -- the predicate of each context, with its slots and the place where its table begins

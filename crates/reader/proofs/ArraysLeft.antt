@@ -11,7 +11,7 @@ use Rattle.parser.specs.declared.sections.Bounds.{Bounds}
 use Rattle.static_rules.specs.Names.{name_faults}
 use Rattle.type_rules.specs.TypesByNumber.{Names, Sizes}
 use Rattle.node_spans.specs.Spans.{Spanned}
-use Rattle.table_places.specs.TablePromises.{Ready, TableWritten}
+use Rattle.search_groups.specs.TablePlacesTablePromises.{Ready, TableWritten}
 use Rattle.search_groups.specs.GroupPromises.{Grouped, Listed}
 use Rattle.tables.proofs.WritingReady.{ready}
 use Rattle.tables.proofs.WritingWhole.{whole-table}

@@ -20,7 +20,7 @@ use Rattle.type_rules.specs.TypesByNumber.{Names, Sizes, key_room, key, key_of}
 use Rattle.declared_names.specs.NamesByNumber.{givens_named}
 use Rattle.node_spans.specs.Spans.{spans_of}
 use Rattle.table_nodes.specs.TableWalkPromises.{patch}
-use Rattle.table_places.specs.DossierTable.{slots_of, starts_of, table_of, groups_of}
+use Rattle.search_groups.specs.TablePlacesDossierTable.{slots_of, starts_of, table_of, groups_of}
 use Rattle.search_groups.specs.Conjuncts.{context_rows, context_firsts}
 use Rattle.reader.specs.declared.Reading.{Reading}
 use Rattle.reader.specs.declared.Reading.TheVariants.{Read, Refused}

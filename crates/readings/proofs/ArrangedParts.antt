@@ -10,11 +10,11 @@ use Rattle.form.specs.Written.{ending_of}
 use Rattle.form.specs.Headings.{abstract_at, concrete_at, ainit_at, cinit_at, retrieve_at, operations_at, operation_length}
 use Rattle.form.specs.Codes.{Numbering, type_codes, type_width, declaration_code, declaration_codes, parameter_codes, condition_codes, state_codes, operation_codes}
 use Rattle.form.specs.Codes.{abstractly_at, pred_width, dossier_codes}
-use Rattle.parser.specs.Sections.{abstract_from, concrete_from, ainit_from, cinit_from, retrieve_from, operations_from}
-use Rattle.parser.proofs.ItemNodes.{Split, split-first, split-next, split_at, split-length}
-use Rattle.parser.proofs.PartPlaces.{at-operations}
-use Rattle.node_spans.specs.Spans.{operation_spans, spans_of, span, predicate_at}
-use Rattle.node_spans.proofs.Structure.{split-move}
+use Rattle.read_predicates.specs.ParserSections.{abstract_from, concrete_from, ainit_from, cinit_from, retrieve_from, operations_from}
+use Rattle.read_predicates.proofs.ParserItemNodes.{Split, split-first, split-next, split_at, split-length}
+use Rattle.read_predicates.proofs.ParserPartPlaces.{at-operations}
+use Rattle.read_predicates.specs.NodeSpansSpans.{operation_spans, spans_of, span, predicate_at}
+use Rattle.read_predicates.proofs.NodeSpansStructure.{split-move}
 
 -- the operations from number k on: the first one's heading stands at n
 pub data OperationsFrom (spans : List ℕ) (ρ : Numbering) (end : ℕ) : (n k : ℕ) → List Operation → Type 0 where

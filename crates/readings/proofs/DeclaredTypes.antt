@@ -10,9 +10,9 @@ use Rattle.form.specs.Tree.{Letters, Given, Declaration, declarations, Parameter
 use Rattle.form.specs.Headings.{abstract_at, concrete_at, ainit_at, cinit_at, retrieve_at, operations_at, operation_length}
 use Rattle.form.specs.Codes.{Numbering}
 use Rattle.static_rules.specs.Scope.{contexts, operation_contexts, concrete_taken}
-use Rattle.node_spans.specs.Spans.{spans_of, span, predicate_at}
+use Rattle.read_predicates.specs.NodeSpansSpans.{spans_of, span, predicate_at}
 use Rattle.value_types.proofs.DeclaredCarriers.{declarations_of}
-use Rattle.table_places.specs.DossierTable.{slots_of, operation_slots, starts_of, operation_starts, with_carriers, with_parameters, declared, table_of}
+use Rattle.read_predicates.specs.TablePlacesDossierTable.{slots_of, operation_slots, starts_of, operation_starts, with_carriers, with_parameters, declared, table_of}
 use Rattle.readings.proofs.TablePatches.{TypesAt, carriers_grow, carriers_off, types-kept, types-here, Apart, apart_none, predicates-off, apart}
 use Rattle.readings.proofs.ArrangedParts.{OperationsFrom, none_left, one_left, operations-end, Arranged}
 

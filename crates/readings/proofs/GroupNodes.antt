@@ -12,13 +12,13 @@ use Rattle.static_rules.specs.Carriers.{Carrier, Variable, size_of}
 use Rattle.static_rules.specs.Scope.{variables}
 use Rattle.static_rules.specs.Limits.{binding_count}
 use Rattle.meaning.specs.Bindings.{Among}
-use Rattle.parser.proofs.ItemNodes.{Split, split-next, split-as, split_at}
-use Rattle.node_spans.proofs.Structure.{split-move}
+use Rattle.read_predicates.proofs.ParserItemNodes.{Split, split-next, split-as, split_at}
+use Rattle.read_predicates.proofs.NodeSpansStructure.{split-move}
 use Rattle.slot_carriers.specs.TypeNodes.{Stands, TypeNode}
 use Rattle.slot_carriers.specs.DeclaredGroups.{NodesOf}
 use Rattle.value_types.specs.FaultlessContexts.{DeclarationsWithin}
 use Rattle.value_types.proofs.DeclaredCarriers.{HaveCarriers, HasCarrier, declarations_of, variable_of, variables-one}
-use Rattle.table_places.specs.DossierTable.{type_table, row, state_row, parameter_row}
+use Rattle.read_predicates.specs.TablePlacesDossierTable.{type_table, row, state_row, parameter_row}
 use Rattle.readings.specs.Readings.{GroupAt}
 use Rattle.readings.proofs.TypeNumbers.{StandsFor, type-stands}
 use Rattle.readings.proofs.TablePatches.{TypesAt, no_types, more_types}

@@ -15,16 +15,16 @@ use Rattle.form.specs.Tree.{Given, Declaration, declarations, inward, outward, P
 use Rattle.form.specs.Written.{ending_of}
 use Rattle.form.specs.Headings.{abstract_at, concrete_at, operations_at, operation_length}
 use Rattle.form.specs.Codes.{dossier_codes, Numbering}
-use Rattle.parser.specs.Promises.{numbering}
-use Rattle.parser.proofs.ItemNodes.{Split, split-next, split-as}
+use Rattle.read_predicates.specs.ParserPromises.{numbering}
+use Rattle.read_predicates.proofs.ParserItemNodes.{Split, split-next, split-as}
 use Rattle.static_rules.specs.Carriers.{Variable, size_of}
 use Rattle.static_rules.specs.Scope.{is_input, is_output, unprimed, inputs, outputs}
 use Rattle.static_rules.specs.Limits.{binding_count, operation_bindings, binding_faults}
 use Rattle.static_rules.specs.Read.{reading, read}
 use Rattle.meaning.specs.Bindings.{Among}
 use Rattle.meaning.proofs.Places.{entry-member}
-use Rattle.node_spans.specs.Spans.{spans_of, span}
-use Rattle.node_spans.proofs.Structure.{split-move}
+use Rattle.read_predicates.specs.NodeSpansSpans.{spans_of, span}
+use Rattle.read_predicates.proofs.NodeSpansStructure.{split-move}
 use Rattle.value_types.specs.FaultlessContexts.{ParametersWithin, OperationsWithin, NumbersWithin}
 use Rattle.value_types.proofs.FaultlessParts.{unless-nil, append-nil, append_nil-three}
 use Rattle.value_types.proofs.GivenTitles.{few-elements, few-elements-of}
@@ -32,13 +32,13 @@ use Rattle.value_types.proofs.DeclaredCarriers.{declarations_of, parameters-are}
 use Rattle.value_types.proofs.SymbolNumbers.{text-numbers}
 use Rattle.value_types.proofs.FineContexts.{DossierFaultless, dossier-faultless}
 use Rattle.table_nodes.specs.TableWalkPromises.{patch}
-use Rattle.table_places.specs.DossierTable.{row, state_row, parameter_row, operation_rows, groups_of}
-use Rattle.search_groups.specs.GroupPromises.{FewParameters, FewEach, few_none, few_more}
-use Rattle.search_groups.proofs.GroupPicks.{parameter-count, row-length}
-use Rattle.tables.proofs.DeclaredPlaces.{variables-few}
-use Rattle.reader.specs.Promises.{Written}
-use Rattle.reader.specs.Gives.{Gives}
-use Rattle.reader.proofs.ReadGives.{read-gives}
+use Rattle.read_predicates.specs.TablePlacesDossierTable.{row, state_row, parameter_row, operation_rows, groups_of}
+use Rattle.read_predicates.specs.SearchGroupsGroupPromises.{FewParameters, FewEach, few_none, few_more}
+use Rattle.read_predicates.proofs.SearchGroupsGroupPicks.{parameter-count, row-length}
+use Rattle.read_predicates.proofs.TablesDeclaredPlaces.{variables-few}
+use Rattle.read_predicates.specs.ReaderPromises.{Written}
+use Rattle.read_predicates.specs.ReaderGives.{Gives}
+use Rattle.read_predicates.proofs.ReaderReadGives.{read-gives}
 use Rattle.read_predicates.proofs.SlotBounds.{inputs_few, outputs_few}
 use Rattle.read_predicates.proofs.ReadTests.{read-tests}
 use Rattle.readings.specs.Readings.{GroupAt, ReadingOf}

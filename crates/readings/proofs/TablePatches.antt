@@ -11,10 +11,10 @@ use Rattle.form.specs.Codes.{Numbering, condition_codes, pred_codes}
 use Rattle.static_rules.specs.Scope.{Context}
 use Rattle.meaning.proofs.Places.{at-taken, at-dropped, at_right}
 use Rattle.table_nodes.specs.TableWalkPromises.{patch}
-use Rattle.table_places.specs.ResolvedTable.{Slots, pred_table}
-use Rattle.table_places.specs.DossierTable.{with_predicates, type_table, with_carriers}
-use Rattle.search_groups.proofs.TableLength.{pred-length}
-use Rattle.tables.proofs.StandingPieces.{patch-grows}
+use Rattle.read_predicates.specs.TablePlacesResolvedTable.{Slots, pred_table}
+use Rattle.read_predicates.specs.TablePlacesDossierTable.{with_predicates, type_table, with_carriers}
+use Rattle.read_predicates.proofs.SearchGroupsTableLength.{pred-length}
+use Rattle.read_predicates.proofs.TablesStandingPieces.{patch-grows}
 
 -- ---- one piece
 

@@ -12,9 +12,9 @@ use Rattle.meaning.specs.Bindings.{Among}
 use Rattle.slot_carriers.specs.TypeNodes.{Stands}
 use Rattle.value_types.specs.TypedValues.{CarrierFits}
 use Rattle.value_types.specs.FaultlessContexts.{TypeWithin}
-use Rattle.table_places.specs.ResolvedTable.{given_size}
-use Rattle.table_places.specs.DossierTable.{type_table}
-use Rattle.evaluation.proofs.RangesAgree.{low_end, range-count}
+use Rattle.read_predicates.specs.TablePlacesResolvedTable.{given_size}
+use Rattle.read_predicates.specs.TablePlacesDossierTable.{type_table}
+use Rattle.read_predicates.proofs.EvaluationRangesAgree.{low_end, range-count}
 
 -- the last, the second and the first number of the node
 abbrev pub StandsFor : (piece : List ℕ) → Carrier → Type 0

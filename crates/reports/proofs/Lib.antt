@@ -4,3 +4,5 @@ pub mod LineLaws
 pub mod VerdictLines
 pub mod VerdictLaws
 pub mod ReportAnswers
+-- what crates above name of crates below
+pub use Rattle.parts.proofs.PartTestsPartSizes as PartTestsPartSizes

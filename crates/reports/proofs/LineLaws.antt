@@ -13,7 +13,7 @@ use Rattle.obligations.specs.Report.{titles, refuted_line}
 use Rattle.pieces.specs.PiecePromises.{Writes, letters_at}
 use Rattle.pieces.proofs.WrittenPieces.{both-written, letters-length}
 use Rattle.labels.specs.Labels.{LabelsOf}
-use Rattle.lines.proofs.LabelledLines.{spelt-letters}
+use Rattle.witnesses.proofs.LinesLabelledLines.{spelt-letters}
 use Rattle.reports.specs.ReportPromises.{LineWritten}
 
 -- the name of the operation at a place

@@ -13,8 +13,8 @@ use Rattle.form.specs.Tree.{Dossier}
 use Rattle.obligations.specs.Subjects.{subject_of}
 use Rattle.obligations.specs.Order.{Obligation, obligation_of, checks, total, look}
 use Rattle.obligations.specs.Report.{decimal, check_at, witness_lines, refuted_line, count_line, verdict_lines}
-use Rattle.part_tests.specs.PartOrder.{part_size, part_begin}
-use Rattle.readings.specs.Readings.{ReadingOf}
+use Rattle.parts.specs.PartTestsPartOrder.{part_size, part_begin}
+use Rattle.labels.specs.ReadingsReadings.{ReadingOf}
 use Rattle.parts.specs.SearchPromises.{SearchAsked, SearchAnswers}
 use Rattle.parts.proofs.ReadingSizes.{reading_small}
 use Rattle.pieces.specs.PiecePromises.{Writes}

@@ -12,7 +12,7 @@ use Rattle.obligations.specs.Subjects.{subject_of}
 use Rattle.obligations.specs.Order.{Check, initialises, obligation_of, checks, total, Look, look}
 use Rattle.obligations.specs.Report.{check_at, witness_lines, refuted_line, count_line, verdict_lines}
 use Rattle.obligations.proofs.Looks.{First, look-first, look-whole}
-use Rattle.readings.specs.Readings.{ReadingOf}
+use Rattle.labels.specs.ReadingsReadings.{ReadingOf}
 use Rattle.parts.specs.SearchPromises.{SearchAnswers}
 
 abbrev pub came : (at : ℕ) (failed : Bool) → Look

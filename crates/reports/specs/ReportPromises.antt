@@ -6,7 +6,7 @@ use Rattle.static_rules.specs.Read.{reading, read}
 use Rattle.obligations.specs.Subjects.{subject_of}
 use Rattle.obligations.specs.Order.{Obligation, initialisation, applicability, correctness, checks, look}
 use Rattle.obligations.specs.Report.{decimal, refuted_line, verdict_lines, report}
-use Rattle.readings.specs.Readings.{ReadingOf}
+use Rattle.labels.specs.ReadingsReadings.{ReadingOf}
 use Rattle.held_checks.specs.declared.Obligation as code
 use Rattle.held_checks.specs.Answers.{obligation_is}
 use Rattle.pieces.specs.PiecePromises.{Writes}

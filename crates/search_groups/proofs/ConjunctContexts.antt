@@ -10,7 +10,7 @@ use borrow.Author.Tests.{ne_eqb, le-ltb, lt-ltb}
 use Rattle.form.specs.Tree.{Letters, Pred, Operation, Dossier}
 use Rattle.form.specs.Headings.{operation_length}
 use Rattle.form.specs.Codes.{Numbering, pred_codes}
-use Rattle.static_rules.specs.Scope.{Context, contexts, operation_contexts}
+use Rattle.table_places.specs.StaticRulesScope.{Context, contexts, operation_contexts}
 use Rattle.node_spans.specs.Spans.{Stands, PredAt, span, spans_of, OperationsAt, no_more, one_more, Structured}
 use Rattle.table_places.specs.ResolvedTable.{Slots, pred_table}
 use Rattle.table_places.specs.DossierTable.{operation_slots, slots_of, operation_starts, starts_of}

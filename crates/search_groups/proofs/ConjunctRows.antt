@@ -9,9 +9,9 @@ use Rattle.form.specs.Tree.{range, and, or, implies, iff, is_in, not_in}
 use Rattle.form.specs.Tree.{Pred, truth, falsity, negation, paren, quantified, connected, compared, member, within, related}
 use Rattle.form.specs.Written.{quantifier_kind, comparison_kind, membership_kind}
 use Rattle.form.specs.Codes.{node}
-use Rattle.static_rules.specs.Carriers.{plain}
-use Rattle.static_rules.specs.Scope.{Scope, binding}
-use Rattle.static_rules.specs.Names.{domain_carrier}
+use Rattle.table_places.specs.StaticRulesCarriers.{plain}
+use Rattle.table_places.specs.StaticRulesScope.{Scope, binding}
+use Rattle.table_places.specs.StaticRulesNames.{domain_carrier}
 use Rattle.table_nodes.specs.TableByNumber.{next_slot}
 use Rattle.table_places.specs.ResolvedTable.{Slots, element_size, domain_table, term_table, pred_table}
 use Rattle.search_groups.specs.Conjuncts.{conjunct_row, conjunct_rows, used_pred}

@@ -11,9 +11,9 @@ use Rattle.form.specs.Tree.{Given, elements, Domain, given_set, range, Membershi
 use Rattle.form.specs.Tree.{Term, number, name, group, prefix, binary, divided, listed, pairs, such, empty_set, empty_pairs, Items, only, also, Pairs, only_pair, also_pair}
 use Rattle.form.specs.Tree.{Pred, truth, falsity, negation, paren, quantified, connected, compared, member, within, related}
 use Rattle.form.specs.Codes.{node}
-use Rattle.static_rules.specs.Carriers.{plain}
-use Rattle.static_rules.specs.Scope.{Scope, binding, element_of, place_in}
-use Rattle.static_rules.specs.Names.{domain_carrier}
+use Rattle.table_places.specs.StaticRulesCarriers.{plain}
+use Rattle.table_places.specs.StaticRulesScope.{Scope, binding, element_of, place_in}
+use Rattle.table_places.specs.StaticRulesNames.{domain_carrier}
 use Rattle.table_nodes.specs.TableByNumber.{next_slot, related_shape}
 use Rattle.table_places.specs.ResolvedTable.{Slots, name_table, domain_table, term_table, items_table, pairs_table, pred_table}
 use Rattle.search_groups.specs.Conjuncts.{used_term, used_items, used_pairs, used_pred}

@@ -10,8 +10,8 @@ use Rattle.form.specs.Tree.{TypeForm, given_type, power_type, range_type, arrow_
 use Rattle.form.specs.Written.{ending_of}
 use Rattle.form.specs.Headings.{operations_at, operation_length}
 use Rattle.form.specs.Codes.{Numbering, node, number_of_name, type_codes, type_width, declaration_codes, parameter_codes, condition_codes, abstractly_at, pred_width}
-use Rattle.static_rules.specs.Scope.{is_input, is_output}
-use Rattle.parser.specs.Sections.{operations_from}
+use Rattle.table_places.specs.StaticRulesScope.{is_input, is_output}
+use Rattle.node_spans.specs.ParserSections.{operations_from}
 use Rattle.node_spans.specs.Spans.{span, spans_of, operation_spans}
 use Rattle.table_places.specs.DossierTable.{row, state_row, parameter_row, operation_rows}
 use Rattle.search_groups.specs.GroupPromises.{Picks, no_pick, pick, pass}

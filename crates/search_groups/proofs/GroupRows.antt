@@ -7,7 +7,7 @@ use lib.ListN.{length, length-append, get_or-append}
 use Rattle.form.specs.Tree.{declarations, Parameter, State, Operation, Dossier}
 use Rattle.form.specs.Headings.{operations_at, operation_length}
 use Rattle.form.specs.Codes.{Numbering, declaration_codes, parameter_codes}
-use Rattle.static_rules.specs.Scope.{is_input, is_output}
+use Rattle.table_places.specs.StaticRulesScope.{is_input, is_output}
 use Rattle.node_spans.specs.Spans.{Stands, span, spans_of, StateAt, OperationAt, OperationsAt, no_more, one_more}
 use Rattle.table_nodes.specs.TableWalkPromises.{patch}
 use Rattle.table_places.specs.DossierTable.{row, state_row, parameter_row, operation_rows, groups_of}

@@ -15,15 +15,15 @@ use Rattle.lexical.specs.Symbols.{Name, Ending, no_ending, prime, query, shriek}
 use Rattle.lexical.proofs.WordLaws.{same_refl, same_true}
 use Rattle.form.specs.Tree.{Letters, Given, elements, name}
 use Rattle.form.specs.Codes.{Numbering, node, number_of_name, name_number}
-use Rattle.static_rules.specs.Carriers.{Carrier, Variable, same_name, plain}
-use Rattle.static_rules.specs.Types.{Ty}
-use Rattle.static_rules.specs.Scope.{Scope, binding, type_of_name, element_of, place_in}
-use Rattle.static_rules.specs.Names.{of_name, judge_term}
+use Rattle.table_places.specs.StaticRulesCarriers.{Carrier, Variable, same_name, plain}
+use Rattle.table_places.specs.StaticRulesTypes.{Ty}
+use Rattle.table_places.specs.StaticRulesScope.{Scope, binding, type_of_name, element_of, place_in}
+use Rattle.table_places.specs.StaticRulesNames.{of_name, judge_term}
 use Rattle.type_rules.specs.TypesByNumber.{entry}
-use Rattle.names.proofs.ReachTables.{Numbered}
-use Rattle.names.proofs.TypesAgreeLeast.{not_nil}
-use Rattle.names.proofs.TypesAgreeTypes.{no-yes}
-use Rattle.names.proofs.TypesAgreeScope.{any-there, find-here, find-there}
+use Rattle.table_places.proofs.NamesReachTables.{Numbered}
+use Rattle.table_places.proofs.NamesTypesAgreeLeast.{not_nil}
+use Rattle.table_places.proofs.NamesTypesAgreeTypes.{no-yes}
+use Rattle.table_places.proofs.NamesTypesAgreeScope.{any-there, find-here, find-there}
 use Rattle.table_nodes.specs.TableByNumber as table
 use Rattle.table_nodes.specs.TableByNumber.{Places, next_slot}
 use Rattle.table_places.specs.ResolvedTable as resolved

@@ -9,9 +9,9 @@ use Rattle.form.specs.Tree.{Given, elements, Domain, given_set, range}
 use Rattle.form.specs.Tree.{Term, number, name, group, prefix, binary, divided, listed, pairs, such, empty_set, empty_pairs, Items, only, also, Pairs, only_pair, also_pair}
 use Rattle.form.specs.Tree.{Pred, truth, falsity, negation, paren, quantified, connected, compared, member, within, related}
 use Rattle.form.specs.Codes.{Numbering, node, name_number, term_width, pred_width, domain_width, domain_codes, term_codes, items_codes, pairs_codes, pred_codes}
-use Rattle.static_rules.specs.Carriers.{plain}
-use Rattle.static_rules.specs.Scope.{Scope, binding, element_of, place_in}
-use Rattle.static_rules.specs.Names.{domain_carrier}
+use Rattle.table_places.specs.StaticRulesCarriers.{plain}
+use Rattle.table_places.specs.StaticRulesScope.{Scope, binding, element_of, place_in}
+use Rattle.table_places.specs.StaticRulesNames.{domain_carrier}
 use Rattle.table_nodes.specs.TableByNumber.{next_slot}
 use Rattle.table_places.specs.ResolvedTable.{Slots, name_table, domain_table, term_table, items_table, pairs_table, pred_table}
 use Rattle.search_groups.proofs.ScopePlaces.{slot_of}

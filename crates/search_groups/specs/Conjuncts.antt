@@ -5,8 +5,8 @@ use Rattle.lexical.specs.Lists.{find}
 use Rattle.lexical.specs.Symbols.{Name}
 use Rattle.form.specs.Tree.{Term, number, name, group, prefix, binary, divided, listed, pairs, such, empty_set, empty_pairs, Items, only, also, Pairs, only_pair, also_pair}
 use Rattle.form.specs.Tree.{Pred, truth, falsity, negation, paren, quantified, connected, compared, member, within, related, Connective, and, or, implies, iff}
-use Rattle.static_rules.specs.Carriers.{same_name, plain}
-use Rattle.static_rules.specs.Scope.{Scope, Context}
+use Rattle.table_places.specs.StaticRulesCarriers.{same_name, plain}
+use Rattle.table_places.specs.StaticRulesScope.{Scope, Context}
 use Rattle.table_nodes.specs.TableByNumber.{next_slot}
 use Rattle.table_places.specs.ResolvedTable.{Slots, pred_table}
 

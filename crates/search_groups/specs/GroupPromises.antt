@@ -3,7 +3,7 @@ use Rattle.std.specs.Prelude.{◌≡◌, cond, List, [], ◌∷◌, ◌++◌, �
 use Rattle.lexical.specs.Lists.{filter}
 use Rattle.form.specs.Tree.{declarations, Parameter, Operation, Dossier}
 use Rattle.form.specs.Codes.{Numbering, node}
-use Rattle.static_rules.specs.Scope.{Context, contexts, is_input, is_output}
+use Rattle.table_places.specs.StaticRulesScope.{Context, contexts, is_input, is_output}
 use Rattle.node_spans.specs.Spans.{Stands, Structured, OperationsAt, span, spans_of}
 use Rattle.table_nodes.specs.TableWalkPromises.{patch}
 use Rattle.table_places.specs.ResolvedTable.{Slots, pred_table}

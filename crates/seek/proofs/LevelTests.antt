@@ -7,7 +7,7 @@ use mathlib.Core.List.{List, []}
 use lib.ListN.{get_or}
 use lib.IntN.{ℤ}
 use Rattle.lexical.specs.Lists.{all}
-use Rattle.truths.specs.Promises.{Asked, Answers}
+use Rattle.points.specs.TruthsPromises.{Asked, Answers}
 use Rattle.points.specs.Points.{Point, Shows}
 use Rattle.points.specs.Searches.{level_holds, mark_in, TestsAt, no_tests, more_tests}
 use Rattle.seek.specs.SeekPromises.{LevelAsked, LevelAnswers}

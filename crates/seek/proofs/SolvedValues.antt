@@ -13,7 +13,7 @@ use lib.Signed.{lt_z}
 use Rattle.lexical.specs.Lists.{all}
 use Rattle.slot_carriers.specs.Cells.{count_in, value_in, Found}
 use Rattle.slot_carriers.proofs.Halving.{either, less_self}
-use Rattle.evaluation.specs.EvaluationByNumber.{Values, Inside}
+use Rattle.evaluator.specs.EvaluationEvaluationByNumber.{Values, Inside}
 use Rattle.evaluator.specs.EvaluationPromises.{TermRuns, TermAnswers}
 use Rattle.evaluator.proofs.NodeLaws.{term_runs}
 use Rattle.mentions.specs.MentionPromises.{Agree}

@@ -9,9 +9,9 @@ use lib.ListN.{get_or}
 use lib.IntN.{ℤ, pos, ◌+ℤ◌, ◌-ℤ◌}
 use lib.Signed.{lt_z}
 use Rattle.form.specs.Tree.{relation, partial, total}
-use Rattle.static_rules.specs.Carriers.{Carrier, elements_of, numbers, subsets_of, pairs_in, count_of}
-use Rattle.meaning.specs.Values.{Value}
-use Rattle.meaning.specs.Bindings.{values_of}
+use Rattle.carriers.specs.StaticRulesCarriers.{Carrier, elements_of, numbers, subsets_of, pairs_in, count_of}
+use Rattle.carriers.specs.MeaningValues.{Value}
+use Rattle.carriers.specs.MeaningBindings.{values_of}
 use Rattle.carriers.specs.ValuesByNumber.{pair_set_at, value_at}
 use Rattle.carriers.proofs.Values.{values-at, values-rise}
 use Rattle.slot_carriers.specs.Cells.{count_in, shape_in, first_in, value_in, Reached, Readable, Found, PairsCell, Shaped, CellOf}

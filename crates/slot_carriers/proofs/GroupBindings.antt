@@ -8,8 +8,8 @@ use native.Mathlib.Omega.{arith}
 use lib.ListN.{get_or, length, set, length-set}
 use lib.Seq.{get_or-set_same, get_or-set_other}
 use lib.IntN.{ℤ, pos}
-use Rattle.static_rules.specs.Carriers.{Variable, count_of}
-use Rattle.static_rules.specs.Limits.{binding_count}
+use Rattle.carriers.specs.StaticRulesCarriers.{Variable, count_of}
+use Rattle.carriers.specs.StaticRulesLimits.{binding_count}
 use Rattle.carriers.specs.ValuesByNumber.{digit, binding_at}
 use Rattle.carriers.proofs.Values.{count-some}
 use Rattle.carriers.proofs.Bindings.{bindings-some, bindings-at, digit-small, digit-below, again_rest}

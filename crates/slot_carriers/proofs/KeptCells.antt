@@ -9,8 +9,8 @@ use lib.ListN.{get_or, length, set}
 use lib.Seq.{get_or-set_same, get_or-set_other}
 use lib.IntN.{pos, ◌-ℤ◌}
 use Rattle.form.specs.Tree.{relation, partial, total}
-use Rattle.static_rules.specs.Carriers.{Carrier, elements_of, numbers, subsets_of, pairs_in, count_of, Variable}
-use Rattle.static_rules.specs.Limits.{binding_count}
+use Rattle.carriers.specs.StaticRulesCarriers.{Carrier, elements_of, numbers, subsets_of, pairs_in, count_of, Variable}
+use Rattle.carriers.specs.StaticRulesLimits.{binding_count}
 use Rattle.carriers.proofs.Values.{count-some}
 use Rattle.carriers.proofs.Bindings.{bindings-some}
 use Rattle.slot_carriers.specs.Cells.{count_in, shape_in, first_in, Listed, PairsCell, Shaped, CellOf}

@@ -7,3 +7,6 @@ pub mod GroupBindings
 pub mod TypeCells
 pub mod MadeCells
 pub mod KeptCells
+-- what crates above name of crates below
+pub use Rattle.carriers.proofs.Bindings as CarriersBindings
+pub use Rattle.carriers.proofs.Values as CarriersValues

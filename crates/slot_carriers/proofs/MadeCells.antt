@@ -8,7 +8,7 @@ use lib.Seq.{get_or-set_same, get_or-set_other}
 use lib.Pow.{pow_mono}
 use lib.IntN.{pos, ◌-ℤ◌}
 use Rattle.form.specs.Tree.{relation, partial, total}
-use Rattle.static_rules.specs.Carriers.{Carrier, elements_of, numbers, subsets_of, pairs_in, size_of, count_of, arrow_count}
+use Rattle.carriers.specs.StaticRulesCarriers.{Carrier, elements_of, numbers, subsets_of, pairs_in, size_of, count_of, arrow_count}
 use Rattle.carriers.specs.ValuesByNumber.{pair_set_at, partial_mask, total_mask}
 use Rattle.slot_carriers.specs.Cells.{count_in, shape_in, first_in, Listed, PairsCell, Shaped}
 use Rattle.slot_carriers.specs.CellGroups.{Others}

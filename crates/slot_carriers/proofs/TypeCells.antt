@@ -8,7 +8,7 @@ use native.Mathlib.Omega.{arith}
 use lib.ListN.{get_or, length, set, length-set}
 use lib.Seq.{get_or-set_same, get_or-set_other}
 use Rattle.form.specs.Tree.{partial}
-use Rattle.static_rules.specs.Carriers.{arrow_count}
+use Rattle.carriers.specs.StaticRulesCarriers.{arrow_count}
 use Rattle.slot_carriers.specs.CellGroups.{Others}
 use Rattle.slot_carriers.specs.TypeNodes.{CountIs, FunctionIs, Functions}
 use Rattle.slot_carriers.proofs.Halving.{either}

@@ -1,9 +1,9 @@
 -- The cells of a group of variables, one behind the other, and the slots that have the values of one of its bindings. Nothing here need be believed.
 use Rattle.std.specs.Prelude.{◌≡◌, List, [], ◌∷◌, ℕ, suc, ◌+◌, ◌<◌, ◌≤◌, get_or, length, ℤ, pos}
-use Rattle.static_rules.specs.Carriers.{Variable}
-use Rattle.static_rules.specs.Limits.{binding_count}
-use Rattle.meaning.specs.Meaning.{Binding}
-use Rattle.meaning.specs.Bindings.{bindings}
+use Rattle.carriers.specs.StaticRulesCarriers.{Variable}
+use Rattle.carriers.specs.StaticRulesLimits.{binding_count}
+use Rattle.carriers.specs.MeaningMeaning.{Binding}
+use Rattle.carriers.specs.MeaningBindings.{bindings}
 use Rattle.carriers.specs.ValuesByNumber.{binding_at}
 use Rattle.slot_carriers.specs.Cells.{CellOf}
 

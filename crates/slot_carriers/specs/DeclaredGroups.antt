@@ -1,7 +1,7 @@
 -- The cells of a group of declared variables, made of the nodes of their types one behind the other. Nothing here need be believed.
 use Rattle.std.specs.Prelude.{◌≡◌, List, [], ◌∷◌, ℕ, suc, ◌+◌, ◌*◌, ◌<◌, ◌≤◌, get_or, length}
-use Rattle.static_rules.specs.Carriers.{Variable}
-use Rattle.static_rules.specs.Limits.{binding_count}
+use Rattle.carriers.specs.StaticRulesCarriers.{Variable}
+use Rattle.carriers.specs.StaticRulesLimits.{binding_count}
 use Rattle.slot_carriers.specs.CellGroups.{CellsOf, Others}
 use Rattle.slot_carriers.specs.TypeNodes.{TypeNode, ListBetween}
 

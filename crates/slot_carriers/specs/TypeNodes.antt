@@ -2,7 +2,7 @@
 use Rattle.std.specs.Prelude.{◌≡◌, List, ℕ, ◌+◌, ◌*◌, ◌^◌, ◌<◌, ◌≤◌, get_or, length, pos, ◌-ℤ◌}
 use Rattle.form.specs.Tree.{partial, total}
 use Rattle.form.specs.Codes.{arrow_number}
-use Rattle.static_rules.specs.Carriers.{Carrier, elements_of, numbers, subsets_of, pairs_in, size_of, count_of, arrow_count}
+use Rattle.carriers.specs.StaticRulesCarriers.{Carrier, elements_of, numbers, subsets_of, pairs_in, size_of, count_of, arrow_count}
 use Rattle.carriers.specs.ValuesByNumber.{partial_mask, total_mask}
 use Rattle.slot_carriers.specs.Cells.{count_in, shape_in, first_in, CellOf}
 

@@ -18,13 +18,13 @@ use Rattle.table_places.specs.DossierTable.{slots_of, abstract_slots, concrete_s
 use Rattle.evaluation.specs.EvaluationByNumber.{Values}
 use Rattle.evaluation.specs.SlotValues.{Slotted, Held}
 use Rattle.truths.specs.Promises.{Asked, Answers}
-use Rattle.read_predicates.specs.PredicateRows.{RowsAt, no_rows, more_rows, ContextAt}
+use Rattle.states.specs.ReadPredicatesPredicateRows.{RowsAt, no_rows, more_rows, ContextAt}
 use Rattle.states.specs.StateTests.{Placed}
 use Rattle.states.specs.Promises.{ContextAsked, AbstractIn, ConcreteIn}
 use Rattle.states.proofs.StateLaws.{ContextOf, retrieve-context, asked-at, over-append, slotted-append}
-use Rattle.readings.specs.Readings.{ReadingOf}
+use Rattle.part_places.specs.ReadingsReadings.{ReadingOf}
 use Rattle.plans.specs.declared.Part.{Part}
-use Rattle.part_tests.specs.PartsByNumber.{abstract_at, concrete_at}
+use Rattle.part_places.specs.PartTestsPartsByNumber.{abstract_at, concrete_at}
 use Rattle.part_places.specs.Places.{PartSet}
 use Rattle.state_facts.specs.Placings.{PairBound}
 use Rattle.state_facts.specs.Reads.{abstract_count, concrete_count, StatesRead, SearchAsked}

@@ -27,16 +27,16 @@ use Rattle.conjunct_tests.proofs.SlotFrame.{frame-slots}
 use Rattle.conjunct_tests.proofs.LastVariables.{not_in}
 use Rattle.mentions.proofs.FreeNodes.{refused}
 use Rattle.truths.specs.Promises.{Asked, Answers}
-use Rattle.read_predicates.specs.PredicateRows.{Columns, RowsAt, no_rows, more_rows, ContextAt}
+use Rattle.states.specs.ReadPredicatesPredicateRows.{Columns, RowsAt, no_rows, more_rows, ContextAt}
 use Rattle.states.specs.StateTests.{Placed}
 use Rattle.states.specs.Promises.{RowsAsked, ContextAsked}
 use Rattle.states.proofs.RowLaws.{row_inside, first-asked}
 use Rattle.states.proofs.StateLaws.{ContextOf, asked-at, over-append, slotted-append}
 use Rattle.states.proofs.StepLaws.{concrete-operation}
-use Rattle.readings.specs.Readings.{ReadingOf}
+use Rattle.part_places.specs.ReadingsReadings.{ReadingOf}
 use Rattle.points.proofs.PointBindings.{Primes, no_primes, more_primes, state-primes}
 use Rattle.plans.specs.declared.Part.{Part}
-use Rattle.part_tests.specs.PartsByNumber.{concrete_at, input_at, output_at}
+use Rattle.part_places.specs.PartTestsPartsByNumber.{concrete_at, input_at, output_at}
 use Rattle.part_places.specs.Places.{PartAsked, PartSet}
 use Rattle.part_places.proofs.ReadingGroups.{reading-groups}
 use Rattle.state_facts.specs.declared.Numbers.{Numbers}

@@ -15,7 +15,7 @@ use Rattle.meaning.proofs.Places.{member-at, place-of}
 use Rattle.meaning.proofs.Members.{any-put, none_any}
 use Rattle.carriers.proofs.Bindings.{bindings-count}
 use Rattle.plans.specs.declared.Part.{Part}
-use Rattle.part_tests.specs.PartsByNumber.{abstract_at, concrete_at}
+use Rattle.part_places.specs.PartTestsPartsByNumber.{abstract_at, concrete_at}
 use Rattle.state_facts.specs.Reads.{abstract_count, concrete_count, abstract_state_at, concrete_state_at, related_at, unrelated_concrete, unrelated_abstract, lonely_concrete, lonely_abstract}
 use Rattle.state_facts.specs.Reads.{StatesRead, TestIs, PairIs}
 use Rattle.state_facts.proofs.SearchLaws.{Walked}

@@ -19,7 +19,7 @@ use Rattle.meaning.proofs.Places.{below-entry}
 use Rattle.table_places.specs.ResolvedTable.{Slots}
 use Rattle.mentions.specs.MentionPromises.{TruthFree, TruthSays}
 use Rattle.mentions.proofs.FreeNodes.{refused}
-use Rattle.read_predicates.specs.PredicateRows.{RowsAt, no_rows, more_rows, ContextAt, TestsOf}
+use Rattle.states.specs.ReadPredicatesPredicateRows.{RowsAt, no_rows, more_rows, ContextAt, TestsOf}
 use Rattle.states.proofs.StateLaws.{ContextOf, abstract-context, concrete-context, ainit-context, cinit-context, retrieve-context}
 use Rattle.states.proofs.StepLaws.{abstract-operation, concrete-operation}
 use Rattle.state_facts.specs.Reads.{ReadAsked}

@@ -22,10 +22,10 @@ use Rattle.evaluation.specs.SlotValues.{Slotted}
 use Rattle.states.specs.StateTests.{Placed}
 use Rattle.states.specs.Promises.{ContextAsked, ContextAnswers, AbstractIn, ConcreteIn, AbstractInitialAsked, AbstractInitialAnswers, RelatedAsked, RelatedAnswers}
 use Rattle.states.proofs.StateLaws.{abstract-context, concrete-context, asked-at, answer_at}
-use Rattle.readings.specs.Readings.{ReadingOf}
+use Rattle.part_places.specs.ReadingsReadings.{ReadingOf}
 use Rattle.points.specs.Searches.{Sought}
 use Rattle.plans.specs.declared.Part.{Part}
-use Rattle.part_tests.specs.PartsByNumber.{abstract_at, concrete_at}
+use Rattle.part_places.specs.PartTestsPartsByNumber.{abstract_at, concrete_at}
 use Rattle.part_places.specs.Places.{GroupsOf, PartAsked, PartSet}
 use Rattle.part_places.proofs.ReadingGroups.{reading-groups}
 use Rattle.state_facts.specs.Placings.{StatesAre, StatesSized, PairBound}

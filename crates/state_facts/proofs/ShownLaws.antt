@@ -16,7 +16,7 @@ use Rattle.meaning.specs.Operations.{abstract_bindings, concrete_bindings, outpu
 use Rattle.meaning.proofs.Places.{entry-below, below-entry}
 use Rattle.slot_carriers.specs.CellGroups.{CellsOf}
 use Rattle.plans.specs.declared.Part.{Part}
-use Rattle.part_tests.specs.PartGroups.{StateCells, OperationCells, opening_part, correctness_part}
+use Rattle.part_places.specs.PartTestsPartGroups.{StateCells, OperationCells, opening_part, correctness_part}
 use Rattle.part_places.specs.Places.{GroupsOf, AllAsked, PartAsked, PartSet}
 use Rattle.state_facts.specs.declared.Numbers.{Numbers}
 use Rattle.state_facts.specs.declared.Sizes.{Sizes}

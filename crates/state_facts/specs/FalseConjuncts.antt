@@ -12,10 +12,10 @@ use Rattle.table_places.specs.DossierTable.{slots_of}
 use Rattle.evaluation.specs.EvaluationByNumber.{Values}
 use Rattle.evaluation.specs.SlotValues.{Held}
 use Rattle.truths.specs.Promises.{Asked, Answers}
-use Rattle.read_predicates.specs.PredicateRows.{RowsAt, ContextAt, TestsOf}
-use Rattle.readings.specs.Readings.{ReadingOf}
+use Rattle.states.specs.ReadPredicatesPredicateRows.{RowsAt, ContextAt, TestsOf}
+use Rattle.part_places.specs.ReadingsReadings.{ReadingOf}
 use Rattle.plans.specs.declared.Part.{Part}
-use Rattle.part_tests.specs.PartsByNumber.{abstract_at, concrete_at, input_at}
+use Rattle.part_places.specs.PartTestsPartsByNumber.{abstract_at, concrete_at, input_at}
 use Rattle.state_facts.specs.Placings.{StatesAre, ParametersAre}
 use Rattle.state_facts.specs.Reads.{abstract_count, concrete_count, StatesRead}
 

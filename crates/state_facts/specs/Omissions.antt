@@ -5,7 +5,7 @@ use Rattle.form.specs.Tree.{Pred}
 use Rattle.static_rules.specs.Scope.{Scope, Context}
 use Rattle.table_places.specs.ResolvedTable.{Slots}
 use Rattle.mentions.specs.MentionPromises.{TruthFree}
-use Rattle.read_predicates.specs.PredicateRows.{RowsAt, ContextAt}
+use Rattle.states.specs.ReadPredicatesPredicateRows.{RowsAt, ContextAt}
 
 -- asked: rows of conjuncts stand between two places
 pub record RowsStand (table rows : List ℕ) (from to : ℕ) : Type 0 where

@@ -5,11 +5,11 @@ use Rattle.form.specs.Tree.{Dossier}
 use Rattle.static_rules.specs.Scope.{unprimed}
 use Rattle.meaning.specs.Meaning.{Binding}
 use Rattle.meaning.specs.Operations.{abstract_bindings, concrete_bindings, is_state, abstract_initial, related}
-use Rattle.read_predicates.specs.PredicateRows.{TestsOf}
-use Rattle.readings.specs.Readings.{ReadingOf}
+use Rattle.states.specs.ReadPredicatesPredicateRows.{TestsOf}
+use Rattle.part_places.specs.ReadingsReadings.{ReadingOf}
 use Rattle.points.specs.Searches.{Sought}
 use Rattle.plans.specs.declared.Part.{Part}
-use Rattle.part_tests.specs.PartsByNumber.{abstract_at, concrete_at}
+use Rattle.part_places.specs.PartTestsPartsByNumber.{abstract_at, concrete_at}
 use Rattle.state_facts.specs.Placings.{StatesAre}
 
 -- asked: the arrays are the reading of some dossier, which has so many operations

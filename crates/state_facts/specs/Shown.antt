@@ -5,7 +5,7 @@ use Rattle.std.proofs.Math.ListN.{get_elem?}
 use Rattle.form.specs.Tree.{Operation, Dossier}
 use Rattle.static_rules.specs.Scope.{unprimed, inputs, outputs}
 use Rattle.slot_carriers.specs.CellGroups.{Holding}
-use Rattle.part_tests.specs.PartsByNumber.{abstract_at, concrete_at, input_at, output_at}
+use Rattle.part_places.specs.PartTestsPartsByNumber.{abstract_at, concrete_at, input_at, output_at}
 use Rattle.part_places.specs.Places.{GroupsOf}
 use Rattle.state_facts.specs.declared.Numbers.{Numbers}
 use Rattle.state_facts.specs.declared.Sizes.{Sizes}

@@ -9,9 +9,9 @@ use Rattle.lexical.specs.Lists.{all}
 use Rattle.form.specs.Tree.{Pred}
 use Rattle.static_rules.specs.Scope.{Scope}
 use Rattle.meaning.specs.Meaning.{Environment, holds}
-use Rattle.table_places.specs.ResolvedTable.{Slots}
-use Rattle.evaluation.specs.EvaluationByNumber.{Values}
-use Rattle.evaluation.specs.SlotValues.{Held}
+use Rattle.search_groups.specs.TablePlacesResolvedTable.{Slots}
+use Rattle.evaluator.specs.EvaluationEvaluationByNumber.{Values}
+use Rattle.evaluator.specs.EvaluationSlotValues.{Held}
 use Rattle.truths.specs.Promises.{Asked, Answers}
 use Rattle.read_predicates.specs.PredicateRows.{RowsAt, no_rows, more_rows}
 use Rattle.states.specs.Promises.{RowsAsked, RowsAnswer, ContextAsked, ContextAnswers}

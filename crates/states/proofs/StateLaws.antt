@@ -12,10 +12,10 @@ use Rattle.static_rules.specs.Scope.{Context, contexts, unprimed}
 use Rattle.meaning.specs.Meaning.{Binding, holds}
 use Rattle.meaning.specs.Bindings.{Over}
 use Rattle.meaning.specs.Operations.{environment, is_state, abstract_initial, concrete_initial, related}
-use Rattle.table_places.specs.ResolvedTable.{Slots}
-use Rattle.table_places.specs.DossierTable.{slots_of, abstract_slots, concrete_slots}
-use Rattle.evaluation.specs.EvaluationByNumber.{Values}
-use Rattle.evaluation.specs.SlotValues.{Slotted, Held}
+use Rattle.search_groups.specs.TablePlacesResolvedTable.{Slots}
+use Rattle.search_groups.specs.TablePlacesDossierTable.{slots_of, abstract_slots, concrete_slots}
+use Rattle.evaluator.specs.EvaluationEvaluationByNumber.{Values}
+use Rattle.evaluator.specs.EvaluationSlotValues.{Slotted, Held}
 use Rattle.read_predicates.specs.PredicateRows.{TestsOf}
 use Rattle.states.specs.StateTests.{Placed}
 use Rattle.states.specs.Promises.{ContextAsked, ContextAnswers, AbstractIn, ConcreteIn}

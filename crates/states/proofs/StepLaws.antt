@@ -14,10 +14,10 @@ use Rattle.static_rules.specs.Scope.{Context, contexts, variables, unprimed, pri
 use Rattle.meaning.specs.Meaning.{Binding, holds}
 use Rattle.meaning.specs.Bindings.{Over}
 use Rattle.meaning.specs.Operations.{environment, is_state, after, allows, abstract_step, concrete_step}
-use Rattle.table_places.specs.ResolvedTable.{Slots, slotted}
-use Rattle.table_places.specs.DossierTable.{slots_of, operation_slots, abstract_slots, concrete_slots, parameter_slots}
-use Rattle.evaluation.specs.EvaluationByNumber.{Values}
-use Rattle.evaluation.specs.SlotValues.{Slotted}
+use Rattle.search_groups.specs.TablePlacesResolvedTable.{Slots, slotted}
+use Rattle.search_groups.specs.TablePlacesDossierTable.{slots_of, operation_slots, abstract_slots, concrete_slots, parameter_slots}
+use Rattle.evaluator.specs.EvaluationEvaluationByNumber.{Values}
+use Rattle.evaluator.specs.EvaluationSlotValues.{Slotted}
 use Rattle.states.specs.StateTests.{Placed, StepAt}
 use Rattle.states.specs.Promises.{ContextAsked, ContextAnswers}
 use Rattle.states.specs.Promises.{AbstractStepAsked, AbstractStepAnswers, ConcreteStepAsked, ConcreteStepAnswers}

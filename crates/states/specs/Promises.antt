@@ -8,10 +8,10 @@ use Rattle.form.specs.Tree.{Pred, Operation, Dossier}
 use Rattle.static_rules.specs.Scope.{Scope, Context, unprimed}
 use Rattle.meaning.specs.Meaning.{Binding, Environment, holds}
 use Rattle.meaning.specs.Operations.{abstract_initial, concrete_initial, related, abstract_step, concrete_step}
-use Rattle.table_places.specs.ResolvedTable.{Slots}
-use Rattle.table_places.specs.DossierTable.{abstract_slots, concrete_slots}
-use Rattle.evaluation.specs.EvaluationByNumber.{Values}
-use Rattle.evaluation.specs.SlotValues.{Held}
+use Rattle.search_groups.specs.TablePlacesResolvedTable.{Slots}
+use Rattle.search_groups.specs.TablePlacesDossierTable.{abstract_slots, concrete_slots}
+use Rattle.evaluator.specs.EvaluationEvaluationByNumber.{Values}
+use Rattle.evaluator.specs.EvaluationSlotValues.{Held}
 use Rattle.read_predicates.specs.PredicateRows.{RowsAt, ContextAt, TestsOf}
 use Rattle.states.specs.StateTests.{Placed, StepAt}
 

@@ -6,9 +6,9 @@ use Rattle.static_rules.specs.Scope.{unprimed, primed, inputs, outputs}
 use Rattle.meaning.specs.Meaning.{Binding}
 use Rattle.meaning.specs.Bindings.{Over}
 use Rattle.meaning.specs.Operations.{after}
-use Rattle.table_places.specs.ResolvedTable.{Slots, slotted}
-use Rattle.evaluation.specs.EvaluationByNumber.{Values}
-use Rattle.evaluation.specs.SlotValues.{Slotted}
+use Rattle.search_groups.specs.TablePlacesResolvedTable.{Slots, slotted}
+use Rattle.evaluator.specs.EvaluationEvaluationByNumber.{Values}
+use Rattle.evaluator.specs.EvaluationSlotValues.{Slotted}
 
 -- a binding of variables over their carriers, whose values stand in these slots
 pub record Placed (vs : List Variable) (W : Slots) (b : Binding) (σ : Values) : Type 0 where

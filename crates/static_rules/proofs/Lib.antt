@@ -1,2 +1,7 @@
 -- Reading computed on changed parts of BASE.
 pub mod Samples
+-- what crates above name of crates below
+pub use Rattle.form.proofs.PlainSymbols as FormPlainSymbols
+pub use Rattle.form.proofs.ScannedSymbols as FormScannedSymbols
+pub use Rattle.form.proofs.Table as FormTable
+pub use Rattle.form.proofs.SymbolsBooleanTests as SymbolsBooleanTests

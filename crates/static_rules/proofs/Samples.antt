@@ -6,9 +6,9 @@ use mathlib.Core.List.{List, [], ◌∷◌}
 use Prim.Native.Nat.{ℕ, ◌+◌}
 use Prim.Native.String.{String}
 use lib.Dec.{eqb}
-use Rattle.lexical.specs.Lists.{all, bytes}
-use Rattle.lexical.specs.Base.{Parts, dossier_of}
-use Rattle.lexical.specs.Refusals.{Refusal, number_of, no_dossier, name_in_use, name_unknown, types_misfit, wide_type, many_bindings, large_size, zero_divisor}
+use Rattle.form.specs.LexicalLists.{all, bytes}
+use Rattle.form.specs.LexicalBase.{Parts, dossier_of}
+use Rattle.form.specs.LexicalRefusals.{Refusal, number_of, no_dossier, name_in_use, name_unknown, types_misfit, wide_type, many_bindings, large_size, zero_divisor}
 use Rattle.static_rules.specs.Read.{Reading, refusal, reading}
 use Rattle.static_rules.specs.Computed.{compute_read}
 

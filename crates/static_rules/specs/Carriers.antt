@@ -1,8 +1,8 @@
 -- Document 01, "Types": what a declared type stands for once its given sets are known.
 use Rattle.std.specs.Prelude.{Bool, true, false, List, ℕ, ◌+◌, ◌*◌, ◌^◌, max, eqb, ℤ, pos, neg_ℤ, ◌-ℤ◌, nat_abs, length}
 use Rattle.std.proofs.Math.Option.{Option, none, some}
-use Rattle.lexical.specs.Lists.{same, find}
-use Rattle.lexical.specs.Symbols.{Name, Ending, no_ending, prime, query, shriek}
+use Rattle.form.specs.LexicalLists.{same, find}
+use Rattle.form.specs.LexicalSymbols.{Name, Ending, no_ending, prime, query, shriek}
 use Rattle.form.specs.Tree.{Letters, End, Range, Arrow, relation, partial, total, Given, elements, TypeForm, given_type, power_type, range_type, arrow_type}
 
 -- "A given set; a range a..b; P G; relations; partial functions; total functions"

@@ -1,9 +1,9 @@
 -- Document 01, numbers 12 and 13: bindings of carriers, and sizes of numbers.
 use Rattle.std.specs.Prelude.{◌&&◌, List, [], ◌∷◌, ◌++◌, map, ℕ, suc, ◌+◌, ◌*◌, leb}
 use Rattle.std.proofs.Math.Option.{Option, none, some}
-use Rattle.lexical.specs.Lists.{find, concat}
-use Rattle.lexical.specs.Symbols.{Name}
-use Rattle.lexical.specs.Refusals.{Fault, fault, unless, many_bindings, large_size}
+use Rattle.form.specs.LexicalLists.{find, concat}
+use Rattle.form.specs.LexicalSymbols.{Name}
+use Rattle.form.specs.LexicalRefusals.{Fault, fault, unless, many_bindings, large_size}
 use Rattle.form.specs.Tree.{End, Domain, given_set, range, Prefix, negate, size, dom, ran, Operator, plus, minus, union, without, times, inter, Division, quotient, remainder}
 use Rattle.form.specs.Tree.{Term, number, name, group, prefix, binary, divided, listed, pairs, such, empty_set, empty_pairs, Items, only, also, Pairs, only_pair, also_pair}
 use Rattle.form.specs.Tree.{Pred, truth, falsity, negation, paren, quantified, connected, compared, member, within, related, Operation, Dossier}

@@ -2,9 +2,9 @@
 use Rattle.std.specs.Prelude.{Bool, not, ◌&&◌, cond, List, [], ◌∷◌, ◌++◌, map, ℕ, suc, ◌+◌, ◌*◌, leb, ltb, ℤ, pos, ◌-ℤ◌, length}
 use Rattle.std.proofs.Math.Option.{Option, none, some}
 use Rattle.std.specs.Int.Signed.{le_z, lt_z}
-use Rattle.lexical.specs.Lists.{any, concat}
-use Rattle.lexical.specs.Symbols.{Name}
-use Rattle.lexical.specs.Refusals.{Fault, fault, unless, name_in_use, name_unknown, types_misfit, wide_type, zero_divisor}
+use Rattle.form.specs.LexicalLists.{any, concat}
+use Rattle.form.specs.LexicalSymbols.{Name}
+use Rattle.form.specs.LexicalRefusals.{Fault, fault, unless, name_in_use, name_unknown, types_misfit, wide_type, zero_divisor}
 use Rattle.form.specs.Tree.{Letters, End, Range, Domain, given_set, range}
 use Rattle.form.specs.Tree.{Term, number, name, group, prefix, binary, divided, listed, pairs, such, empty_set, empty_pairs, Items, only, also, Pairs, only_pair, also_pair}
 use Rattle.form.specs.Tree.{Pred, truth, falsity, negation, paren, quantified, connected, compared, member, within, related}

@@ -1,8 +1,8 @@
 -- Document 01: a text is refused with its number and place, or has one reading.
 use Rattle.std.specs.Prelude.{List, map, ℕ}
 use Rattle.std.proofs.Math.Option.{Option, none, some}
-use Rattle.lexical.specs.Symbols.{Placed, scan, symbols, place_at, length_faults, scan_faults}
-use Rattle.lexical.specs.Refusals.{Fault, fault, least}
+use Rattle.form.specs.LexicalSymbols.{Placed, scan, symbols, place_at, length_faults, scan_faults}
+use Rattle.form.specs.LexicalRefusals.{Fault, fault, least}
 use Rattle.form.specs.Tree.{Dossier}
 use Rattle.form.specs.Form.{Outcome, refused, formed}
 use Rattle.form.specs.Parse.{form}

@@ -1,8 +1,8 @@
 -- Document 01, "Names in reach": the predicates of a dossier, each with the symbol that it begins at and the names in its reach.
 use Rattle.std.specs.Prelude.{Bool, true, false, List, [], ◌∷◌, ◌++◌, map, ℕ, suc, ◌+◌, length}
 use Rattle.std.proofs.Math.Option.{Option, none, some}
-use Rattle.lexical.specs.Lists.{same, any, find, filter}
-use Rattle.lexical.specs.Symbols.{Name, Ending, no_ending, prime}
+use Rattle.form.specs.LexicalLists.{same, any, find, filter}
+use Rattle.form.specs.LexicalSymbols.{Name, Ending, no_ending, prime}
 use Rattle.form.specs.Tree.{Letters, Pred, Given, elements, Declaration, declarations, Direction, inward, outward, Parameter, State, Operation, Dossier}
 use Rattle.form.specs.Written.{write_declarations, write_parameters, write_pred, ending_of}
 use Rattle.form.specs.Headings.{abstract_at, concrete_at, ainit_at, cinit_at, retrieve_at, operations_at, operation_length}

@@ -1,6 +1,6 @@
 -- Document 01, "Types fit".
 use Rattle.std.specs.Prelude.{Bool, true, false, ◌&&◌, ◌||◌, List, [], ◌∷◌, ◌++◌, ℕ, eqb, take, drop}
-use Rattle.lexical.specs.Lists.{same, all}
+use Rattle.form.specs.LexicalLists.{same, all}
 use Rattle.form.specs.Tree.{Letters, Prefix, negate, size, dom, ran, Operator, plus, minus, union, without, times, inter, Comparison, equals, differs, less, at_most}
 use Rattle.static_rules.specs.Carriers.{Carrier, elements_of, numbers, subsets_of, pairs_in}
 

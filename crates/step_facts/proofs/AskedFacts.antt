@@ -16,9 +16,9 @@ use Rattle.meaning.proofs.Places.{entry-below, below-entry}
 use Rattle.carriers.proofs.Bindings.{bindings-count}
 use Rattle.points.specs.Searches.{Sought}
 use Rattle.plans.specs.declared.Part.{Part}
-use Rattle.readings.specs.Readings.{ReadingOf}
-use Rattle.part_tests.specs.PartGroups.{correctness_part, opening_part}
-use Rattle.part_tests.specs.PartsByNumber.{abstract_at, output_at, abstractly, initial, initial_match}
+use Rattle.state_facts.specs.ReadingsReadings.{ReadingOf}
+use Rattle.state_facts.specs.PartTestsPartGroups.{correctness_part, opening_part}
+use Rattle.state_facts.specs.PartTestsPartsByNumber.{abstract_at, output_at, abstractly, initial, initial_match}
 use Rattle.step_searches.specs.StepPromises.{StepSearches, StepsAsked, ForSteps, PrepareAsked, Prepared, AbstractStepFound}
 use Rattle.step_searches.specs.StepPromises.{OpeningSearches, OpeningAsked, OpenAsked, Opened, InitialStateFound, InitialMatchFound}
 use Rattle.step_searches.proofs.FoundSteps as steps

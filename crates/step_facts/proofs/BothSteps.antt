@@ -10,7 +10,7 @@ use borrow.Author.Tests.{ltb-true}
 use Rattle.form.specs.Tree.{Operation, Dossier}
 use Rattle.points.specs.Searches.{Sought}
 use Rattle.plans.specs.declared.Part.{Part}
-use Rattle.part_tests.specs.PartsByNumber.{abstract_at, concrete_at, output_at, concretely, ready_at, match}
+use Rattle.state_facts.specs.PartTestsPartsByNumber.{abstract_at, concrete_at, output_at, concretely, ready_at, match}
 use Rattle.step_searches.specs.StepPromises.{StepSearches, StepsAsked, ForSteps, Prepared, ConcreteStepFound, MatchFound, Below}
 use Rattle.step_searches.specs.declared.Stepped.{Stepped}
 use Rattle.step_facts.specs.declared.BothStep.{BothStep}

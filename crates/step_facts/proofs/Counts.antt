@@ -10,7 +10,7 @@ use mir.Val.{bool_byte}
 use Rattle.form.specs.Tree.{Operation, Dossier}
 use Rattle.points.specs.Searches.{Sought}
 use Rattle.plans.specs.declared.Part.{Part}
-use Rattle.part_tests.specs.PartsByNumber.{abstract_state, related_to, ready_at}
+use Rattle.state_facts.specs.PartTestsPartsByNumber.{abstract_state, related_to, ready_at}
 use Rattle.step_searches.specs.StepPromises.{StepSearches, StepsAsked, ForSteps, Prepared, AbstractStateFound, RelatedStateFound}
 use Rattle.step_facts.specs.FactPromises.{if_so, weight, tally, Summed, one, state_test, related_test, ready_test, related_below, ready_below, AbleIs}
 use Rattle.step_facts.specs.FactPromises.{abstract_count, concrete_count, input_count, StatesCounted, PairsCounted, PromisesCounted}

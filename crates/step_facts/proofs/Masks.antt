@@ -23,7 +23,7 @@ use Rattle.sets.specs.Sets.{has, bit, set_from, set_of}
 use Rattle.sets.proofs.Members.{from-below, has-set}
 use Rattle.points.specs.Searches.{Sought}
 use Rattle.plans.specs.declared.Part.{Part}
-use Rattle.part_tests.specs.PartsByNumber.{nth, abstract_at, concrete_at, output_at, abstractly, concretely, ready_at, stepping}
+use Rattle.state_facts.specs.PartTestsPartsByNumber.{nth, abstract_at, concrete_at, output_at, abstractly, concretely, ready_at, stepping}
 use Rattle.step_searches.specs.StepPromises.{StepSearches, StepsAsked, ForSteps, AbstractStepFound, ConcreteStepFound}
 use Rattle.step_facts.specs.FactPromises.{able_at, states_of, AbleIs, BitsAre, MasksAre}
 use Rattle.step_facts.proofs.AskedFacts.{na-is, nc-is, nq-is, nr-is, sizes-of}

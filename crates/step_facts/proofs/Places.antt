@@ -14,7 +14,7 @@ use Rattle.sets.specs.Sets.{has}
 use Rattle.points.specs.Searches.{Sought}
 use Rattle.points.proofs.PointNumbers.{sought-same}
 use Rattle.plans.specs.declared.Part.{Part}
-use Rattle.part_tests.specs.PartsByNumber.{abstract_state, related_to, ready_at, stepping}
+use Rattle.state_facts.specs.PartTestsPartsByNumber.{abstract_state, related_to, ready_at, stepping}
 use Rattle.step_searches.specs.StepPromises.{StepSearches, StepsAsked, ForSteps, Prepared, AbstractStateFound, RelatedStateFound}
 use Rattle.step_facts.specs.declared.Place.{Place}
 use Rattle.step_facts.specs.FactPromises.{ForOperation, input_count, BitsAre, MasksAre, more, more_by, FirstMore, differs, differs_related, differs_at, FirstRelated, FirstPlace, PlaceFrom, PlaceAmong, Within, PlaceIs}

@@ -10,8 +10,8 @@ use Rattle.meaning.specs.Bindings.{bindings}
 use Rattle.meaning.specs.Operations.{abstract_bindings, concrete_bindings, output_bindings}
 use Rattle.points.specs.Searches.{Sought}
 use Rattle.plans.specs.declared.Part.{Part}
-use Rattle.readings.specs.Readings.{ReadingOf}
-use Rattle.part_tests.specs.PartsByNumber.{abstract_at, concrete_at, output_at, initial, initial_match, abstract_state, related_to, abstractly, concretely, ready_at, stepping, match}
+use Rattle.state_facts.specs.ReadingsReadings.{ReadingOf}
+use Rattle.state_facts.specs.PartTestsPartsByNumber.{abstract_at, concrete_at, output_at, initial, initial_match, abstract_state, related_to, abstractly, concretely, ready_at, stepping, match}
 use Rattle.step_searches.specs.StepPromises.{ForSteps}
 use Rattle.state_facts.specs.Reads.{ReadAsked}
 use Rattle.step_facts.specs.declared.Widths.{Widths}

@@ -27,8 +27,8 @@ use Rattle.states.proofs.StateLaws.{concrete-context, asked-at, answer_at}
 use Rattle.points.specs.Points.{span}
 use Rattle.points.proofs.PointBindings.{span-count}
 use Rattle.plans.specs.declared.Part.{Part}
-use Rattle.part_tests.specs.PartsByNumber.{concrete_at}
-use Rattle.readings.specs.Readings.{ReadingOf}
+use Rattle.part_setup.specs.PartTestsPartsByNumber.{concrete_at}
+use Rattle.part_setup.specs.ReadingsReadings.{ReadingOf}
 use Rattle.lexical.specs.Lists.{upward}
 use Rattle.step_searches.specs.StepPromises.{StepSearches, OpeningSearches, ConcreteStates, ConcreteAsked, StateAnswers, ConcreteStateFound}
 

@@ -18,9 +18,9 @@ use Rattle.points.proofs.PointNumbers.{number-apart, number-placed, beside_place
 use Rattle.points.proofs.PointBindings.{span-count}
 use Rattle.points.proofs.SearchLevels.{search-finds}
 use Rattle.seek.specs.SeekPromises.{SeekAsked, SeekAnswers}
-use Rattle.part_searches.proofs.SlotGroups.{upward-long, distinct-upward, Filled, filled}
-use Rattle.part_searches.proofs.FoundBindings.{group-counts}
-use Rattle.part_searches.proofs.NestParts.{outside-run, run-apart}
+use Rattle.parts.proofs.PartSearchesSlotGroups.{upward-long, distinct-upward, Filled, filled}
+use Rattle.parts.proofs.PartSearchesFoundBindings.{group-counts}
+use Rattle.parts.proofs.PartSearchesNestParts.{outside-run, run-apart}
 use Rattle.step_searches.specs.StepPromises.{PutAsked}
 
 -- every variable has its first value

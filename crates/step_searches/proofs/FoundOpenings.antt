@@ -14,9 +14,9 @@ use Rattle.points.specs.Points.{Point, number_of, placed, Shows}
 use Rattle.points.specs.Searches.{Sought}
 use Rattle.seek.specs.SeekPromises.{SeekAsked, SeekAnswers}
 use Rattle.plans.specs.declared.Part.{Part}
-use Rattle.part_tests.specs.PartGroups.{opening_part}
-use Rattle.part_tests.specs.PartsByNumber.{abstract_at, initial, initial_match}
-use Rattle.part_searches.proofs.SlotGroups.{upward-long}
+use Rattle.part_setup.specs.PartTestsPartGroups.{opening_part}
+use Rattle.part_setup.specs.PartTestsPartsByNumber.{abstract_at, initial, initial_match}
+use Rattle.parts.proofs.PartSearchesSlotGroups.{upward-long}
 use Rattle.step_searches.specs.StepPromises.{PutAsked, OpeningSearches, abstract_group, concrete_group}
 use Rattle.step_searches.proofs.FoundNumbers.{origin, asks, finds, Group, group-span, put-asked, has, kept_above}
 use Rattle.step_searches.proofs.FoundSteps.{low-enough, from_concrete}

@@ -16,9 +16,9 @@ use Rattle.points.specs.Points.{Point, number_of, placed, Shows}
 use Rattle.points.specs.Searches.{Sought}
 use Rattle.seek.specs.SeekPromises.{SeekAsked, SeekAnswers}
 use Rattle.plans.specs.declared.Part.{Part}
-use Rattle.part_tests.specs.PartGroups.{correctness_part}
-use Rattle.part_tests.specs.PartsByNumber.{abstract_at, concrete_at, output_at, abstract_state, related_to, abstractly, concretely, match}
-use Rattle.part_searches.proofs.SlotGroups.{upward-long}
+use Rattle.part_setup.specs.PartTestsPartGroups.{correctness_part}
+use Rattle.part_setup.specs.PartTestsPartsByNumber.{abstract_at, concrete_at, output_at, abstract_state, related_to, abstractly, concretely, match}
+use Rattle.parts.proofs.PartSearchesSlotGroups.{upward-long}
 use Rattle.step_searches.specs.StepPromises.{PutAsked, StepSearches}
 use Rattle.step_searches.specs.StepPromises.{abstract_group, concrete_group, concrete_after_group, abstract_after_group, input_group, output_group}
 use Rattle.step_searches.proofs.FoundNumbers.{origin, asks, finds, Group, group-span, put-asked, has, kept-below}

@@ -5,3 +5,5 @@ pub mod FoundSteps
 pub mod FoundOpenings
 pub mod PreparedSearches
 pub mod ConcreteStates
+-- what crates above name of crates below
+pub use Rattle.parts.proofs.SetupLaws as PartsSetupLaws

@@ -11,14 +11,14 @@ use Rattle.static_rules.specs.Scope.{unprimed, inputs, outputs}
 use Rattle.meaning.proofs.Places.{below-entry}
 use Rattle.plans.specs.declared.Part.{Part}
 use Rattle.plans.specs.PlanPromises.{InitialisationPlan, CorrectnessPlan}
-use Rattle.readings.specs.Readings.{ReadingOf}
-use Rattle.part_tests.specs.PartGroups.{StateCells}
-use Rattle.part_searches.specs.PartCells.{StatesCelled}
-use Rattle.part_searches.proofs.OperationPremises as premises
-use Rattle.part_searches.proofs.OperationPremises.{OperationReading}
-use Rattle.part_searches.proofs.OperationSteps.{steps_search}
-use Rattle.part_searches.proofs.CorrectnessNest as correctness
-use Rattle.part_searches.proofs.InitialisationNest as initialisation
+use Rattle.part_setup.specs.ReadingsReadings.{ReadingOf}
+use Rattle.part_setup.specs.PartTestsPartGroups.{StateCells}
+use Rattle.parts.specs.PartSearchesPartCells.{StatesCelled}
+use Rattle.parts.proofs.PartSearchesOperationPremises as premises
+use Rattle.parts.proofs.PartSearchesOperationPremises.{OperationReading}
+use Rattle.parts.proofs.PartSearchesOperationSteps.{steps_search}
+use Rattle.parts.proofs.PartSearchesCorrectnessNest as correctness
+use Rattle.parts.proofs.PartSearchesInitialisationNest as initialisation
 use Rattle.part_setup.specs.SetupPromises.{StatesSet, OperationSet, OpeningPartIs, CorrectnessPartIs}
 use Rattle.parts.specs.SearchPromises.{LookAsked}
 use Rattle.parts.proofs.SetupLaws.{opening-counts, OperationLook, operation-counts, correctness-is}

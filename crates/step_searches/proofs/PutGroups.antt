@@ -11,7 +11,7 @@ use Rattle.slot_carriers.specs.Cells.{count_in}
 use Rattle.points.specs.Points.{moved, span, placed, Shows}
 use Rattle.points.proofs.PointNumbers.{Counts, span-some}
 use Rattle.seek.specs.SeekPromises.{StoreAsked, StoreAnswers}
-use Rattle.part_searches.proofs.SlotGroups.{among-upward}
+use Rattle.parts.proofs.PartSearchesSlotGroups.{among-upward}
 use Rattle.step_searches.specs.StepPromises.{PutAsked, PutAnswers}
 
 one_less : (n : ℕ) → n ≡ suc n - 1

@@ -9,14 +9,14 @@ use Rattle.static_rules.specs.Limits.{binding_count}
 use Rattle.meaning.specs.Operations.{is_state}
 use Rattle.slot_carriers.specs.Cells.{count_in, Readable}
 use Rattle.slot_carriers.specs.CellGroups.{CellsOf}
-use Rattle.read_predicates.specs.PredicateRows.{TestsOf}
+use Rattle.states.specs.ReadPredicatesPredicateRows.{TestsOf}
 use Rattle.points.specs.Points.{Point, span, number_of, placed, Shows}
 use Rattle.points.specs.Searches.{Sought, SearchOf}
 use Rattle.plans.specs.declared.Part.{Part}
-use Rattle.readings.specs.Readings.{ReadingOf}
-use Rattle.part_tests.specs.PartGroups.{opening_part, correctness_part}
-use Rattle.part_tests.specs.PartsByNumber.{abstract_at, concrete_at, output_at, initial, initial_match, abstract_state, related_to, abstractly, concretely, match}
-use Rattle.part_searches.specs.PartCells.{StatesCelled, OperationCelled}
+use Rattle.part_setup.specs.ReadingsReadings.{ReadingOf}
+use Rattle.part_setup.specs.PartTestsPartGroups.{opening_part, correctness_part}
+use Rattle.part_setup.specs.PartTestsPartsByNumber.{abstract_at, concrete_at, output_at, initial, initial_match, abstract_state, related_to, abstractly, concretely, match}
+use Rattle.parts.specs.PartSearchesPartCells.{StatesCelled, OperationCelled}
 use Rattle.part_setup.specs.SetupPromises.{FirstValues}
 use Rattle.step_searches.specs.declared.Stepped.{Stepped}
 

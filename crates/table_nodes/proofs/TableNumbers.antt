@@ -7,7 +7,7 @@ use native.Mathlib.Omega.{arith}
 use lib.Dec.{leb, ltb}
 use lib.ListN.{length, set, length-set}
 use borrow.Author.Tests.{le-leb, lt-leb, lt-ltb, le-ltb, leb-true, ltb-true}
-use Rattle.symbols.proofs.BooleanTests.{and_left, and_right}
+use Rattle.form.proofs.SymbolsBooleanTests.{and_left, and_right}
 use Rattle.lexical.specs.Kinds.{code_of}
 use Rattle.form.specs.Tree.{Membership, is_in, not_in}
 use Rattle.form.specs.Written.{membership_kind}

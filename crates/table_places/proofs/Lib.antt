@@ -4,5 +4,10 @@
 pub mod WritingPlaces
 pub mod WritingTypes
 pub mod WritingAll
-
 -- Each predicate of a dossier at its place in the whole table, and the rows of all conjuncts.
+
+-- what crates above name of crates below
+pub use Rattle.names.proofs.ReachTables as NamesReachTables
+pub use Rattle.names.proofs.TypesAgreeLeast as NamesTypesAgreeLeast
+pub use Rattle.names.proofs.TypesAgreeScope as NamesTypesAgreeScope
+pub use Rattle.names.proofs.TypesAgreeTypes as NamesTypesAgreeTypes

@@ -8,12 +8,12 @@ use Rattle.lexical.specs.Symbols.{no_ending}
 use Rattle.form.specs.Tree.{Letters, Declaration, declarations, Parameter, State, Operation, Dossier}
 use Rattle.form.specs.Headings.{givens_at, abstract_at, concrete_at, operations_at, operation_length}
 use Rattle.form.specs.Codes.{Numbering, abstractly_at, pred_width, condition_codes, given_codes, declaration_codes, parameter_codes}
-use Rattle.static_rules.specs.Scope.{contexts, concrete_taken}
+use Rattle.names.specs.StaticRulesScope.{contexts, concrete_taken}
 use Rattle.type_rules.specs.TypesByNumber.{Names, Sizes}
-use Rattle.declared_names.specs.NamesByNumber.{Typed, typed_codes, variables_of, state_named, conditions_named}
-use Rattle.declared_names.specs.PassPromises.{PartOf, Variables}
+use Rattle.names.specs.DeclaredNamesNamesByNumber.{Typed, typed_codes, variables_of, state_named, conditions_named}
+use Rattle.names.specs.DeclaredNamesPassPromises.{PartOf, Variables}
 use Rattle.names.proofs.PassSteps.{variables-codes}
-use Rattle.parser.specs.Sections.{operations_from}
+use Rattle.node_spans.specs.ParserSections.{operations_from}
 use Rattle.node_spans.specs.Spans.{operation_spans, spans_of, span, Structured}
 use Rattle.table_nodes.specs.TableByNumber.{Places}
 use Rattle.table_places.specs.DossierTable.{operation_starts, starts_of}

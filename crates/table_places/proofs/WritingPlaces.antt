@@ -14,10 +14,10 @@ use Rattle.form.specs.Headings.{given_length}
 use Rattle.form.specs.Written.{ending_of}
 use Rattle.form.specs.Codes.{Numbering, node, name_number, number_of_name, ending_number, type_codes, type_width, element_codes, given_codes}
 use Rattle.type_rules.specs.TypesByNumber.{Names}
-use Rattle.declared_names.specs.NamesByNumber.{Typed, parameters_of}
-use Rattle.declared_names.specs.PassPromises.{typed_code}
-use Rattle.declared_names.proofs.DeclarationNodes.{node-a, node-shape, Walked, finished}
-use Rattle.declared_names.proofs.GivenSetNodes.{element-shape, behind, nothing_left}
+use Rattle.names.specs.DeclaredNamesNamesByNumber.{Typed, parameters_of}
+use Rattle.names.specs.DeclaredNamesPassPromises.{typed_code}
+use Rattle.names.proofs.DeclaredNamesDeclarationNodes.{node-a, node-shape, Walked, finished}
+use Rattle.names.proofs.DeclaredNamesGivenSetNodes.{element-shape, behind, nothing_left}
 use Rattle.names.proofs.PassSteps.{parameters-codes}
 use Rattle.table_nodes.specs.TableByNumber.{Places}
 use Rattle.table_places.specs.DossierTableByNumber.{elements_placed, givens_placed, placing, parameter_slot, next_input, next_output, parameters_placed}

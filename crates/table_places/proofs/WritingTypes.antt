@@ -14,9 +14,9 @@ use Rattle.form.specs.Headings.{abstract_at, concrete_at, operations_at, operati
 use Rattle.form.specs.Codes.{Numbering, node, type_width, declaration_codes, parameter_codes}
 use Rattle.lexical.specs.Symbols.{no_ending}
 use Rattle.type_rules.specs.TypesByNumber.{Names, Sizes, entry, is_given}
-use Rattle.declared_names.specs.NamesByNumber.{Typed, typed_codes, variables_of, parameters_of}
-use Rattle.declared_names.specs.PassPromises.{PartOf, typed_code}
-use Rattle.declared_names.proofs.DeclarationNodes.{node-a, node-b, node-shape, shape_of, place_of, left_of, right_of, as-node, typed-type, Walked, finished}
+use Rattle.names.specs.DeclaredNamesNamesByNumber.{Typed, typed_codes, variables_of, parameters_of}
+use Rattle.names.specs.DeclaredNamesPassPromises.{PartOf, typed_code}
+use Rattle.names.proofs.DeclaredNamesDeclarationNodes.{node-a, node-b, node-shape, shape_of, place_of, left_of, right_of, as-node, typed-type, Walked, finished}
 use Rattle.type_rules.proofs.TypeNumbers.{cond_yes, cond_no, given-bounds}
 use Rattle.names.proofs.PassSteps.{variables-codes, parameters-codes}
 use Rattle.node_spans.specs.Spans.{span, Stands, OperationsAt, no_more, one_more}

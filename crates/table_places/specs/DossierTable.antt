@@ -3,7 +3,7 @@ use Rattle.std.specs.Prelude.{Bool, cond, List, [], ◌∷◌, ◌++◌, map, �
 use Rattle.lexical.specs.Symbols.{Name}
 use Rattle.form.specs.Tree.{Given, TypeForm, given_type, power_type, range_type, arrow_type, Declaration, declarations, Parameter, Operation, Dossier}
 use Rattle.form.specs.Codes.{Numbering, node, end_number, arrow_number}
-use Rattle.static_rules.specs.Scope.{Context, place_in, contexts, unprimed, primed, inputs, outputs, is_input, is_output}
+use Rattle.names.specs.StaticRulesScope.{Context, place_in, contexts, unprimed, primed, inputs, outputs, is_input, is_output}
 use Rattle.node_spans.specs.Spans.{spans_of, span}
 use Rattle.table_places.specs.ResolvedTable.{Slots, slotted, given_size, pred_table}
 use Rattle.table_nodes.specs.TableWalkPromises.{patch}

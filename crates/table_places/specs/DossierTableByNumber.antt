@@ -4,10 +4,10 @@ use Rattle.std.specs.Prelude.{cond, List, [], ◌∷◌, map, ℕ, suc, ◌+◌,
 use Rattle.lexical.specs.Symbols.{no_ending}
 use Rattle.form.specs.Tree.{Letters, Given, elements, TypeForm, given_type, power_type, range_type, arrow_type, Declaration, declarations, Direction, inward, outward, Parameter, Operation, Dossier}
 use Rattle.form.specs.Codes.{Numbering, node, name_number, number_of_name, end_number, arrow_number}
-use Rattle.static_rules.specs.Scope.{Context, contexts}
-use Rattle.static_rules.specs.Names.{parameter_name}
+use Rattle.names.specs.StaticRulesScope.{Context, contexts}
+use Rattle.names.specs.StaticRulesNames.{parameter_name}
 use Rattle.type_rules.specs.TypesByNumber.{Names, Sizes, entry, is_given}
-use Rattle.declared_names.specs.NamesByNumber.{Typed, variables_of, shown, hidden, state_named, reaching, leaving, parameters_shown, operation_named, conditions_named}
+use Rattle.names.specs.DeclaredNamesNamesByNumber.{Typed, variables_of, shown, hidden, state_named, reaching, leaving, parameters_shown, operation_named, conditions_named}
 use Rattle.node_spans.specs.Spans.{spans_of, span}
 use Rattle.table_nodes.specs.TableByNumber.{Places, given_size, range_count, pred_table}
 use Rattle.table_nodes.specs.TableWalkPromises.{patch}

@@ -11,10 +11,10 @@ use Rattle.form.specs.Tree.{Term, number, name, group, prefix, binary, divided, 
 use Rattle.form.specs.Tree.{Pred, truth, falsity, negation, paren, quantified, connected, compared, member, within, related}
 use Rattle.form.specs.Written.{prefix_kind, operator_kind, connective_kind, quantifier_kind, comparison_kind, membership_kind}
 use Rattle.form.specs.Codes.{node, end_number, sign_of, division_number}
-use Rattle.static_rules.specs.Carriers.{Variable, size_of, same_name, plain, given_of}
-use Rattle.static_rules.specs.Types.{Ty, has, is_pairs}
-use Rattle.static_rules.specs.Scope.{Scope, given_in_reach, binding, element_of, place_in}
-use Rattle.static_rules.specs.Names.{judge_term, domain_carrier}
+use Rattle.names.specs.StaticRulesCarriers.{Variable, size_of, same_name, plain, given_of}
+use Rattle.names.specs.StaticRulesTypes.{Ty, has, is_pairs}
+use Rattle.names.specs.StaticRulesScope.{Scope, given_in_reach, binding, element_of, place_in}
+use Rattle.names.specs.StaticRulesNames.{judge_term, domain_carrier}
 use Rattle.table_nodes.specs.TableByNumber.{next_slot, related_shape}
 
 -- the slot of each name in reach, the innermost first

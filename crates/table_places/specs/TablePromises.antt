@@ -5,10 +5,10 @@ use Rattle.lexical.specs.Symbols.{no_ending}
 use Rattle.form.specs.Tree.{Letters, TypeForm, Given, Pred, Declaration, declarations, Parameter, State, Operation, Dossier}
 use Rattle.form.specs.Headings.{givens_at, ainit_at, cinit_at, retrieve_at}
 use Rattle.form.specs.Codes.{Numbering, number_of_name, type_codes, given_codes, declaration_codes, parameter_codes}
-use Rattle.static_rules.specs.Scope.{operation_contexts, contexts}
+use Rattle.names.specs.StaticRulesScope.{operation_contexts, contexts}
 use Rattle.type_rules.specs.TypesByNumber.{Names, Sizes}
-use Rattle.declared_names.specs.NamesByNumber.{Typed, typed_codes, variables_of, shown, hidden, state_named, reaching, leaving, parameters_shown, operation_named, conditions_named}
-use Rattle.declared_names.specs.PassPromises.{Variables}
+use Rattle.names.specs.DeclaredNamesNamesByNumber.{Typed, typed_codes, variables_of, shown, hidden, state_named, reaching, leaving, parameters_shown, operation_named, conditions_named}
+use Rattle.names.specs.DeclaredNamesPassPromises.{Variables}
 use Rattle.node_spans.specs.Spans.{spans_of, span, Stands, PredAt, OperationsAt, Structured}
 use Rattle.table_nodes.specs.TableByNumber.{Places, pred_table}
 use Rattle.table_nodes.specs.TableWalkPromises.{patch}

@@ -10,9 +10,9 @@ use Rattle.form.specs.Tree.{Letters, Given, Declaration, declarations, Parameter
 use Rattle.form.specs.Headings.{abstract_at, concrete_at, ainit_at, cinit_at, retrieve_at, operations_at, operation_length}
 use Rattle.form.specs.Codes.{Numbering, declaration_codes, parameter_codes, condition_codes, state_codes, operation_codes, abstractly_at, pred_width, dossier_codes}
 use Rattle.static_rules.specs.Scope.{contexts, operation_contexts}
-use Rattle.parser.specs.Sections.{abstract_from, concrete_from, ainit_from, cinit_from, retrieve_from, operations_from}
-use Rattle.parser.proofs.ItemNodes.{Split, split-first, split-next, split_at, split-length}
-use Rattle.parser.proofs.PartPlaces.{at-operations}
+use Rattle.node_spans.specs.ParserSections.{abstract_from, concrete_from, ainit_from, cinit_from, retrieve_from, operations_from}
+use Rattle.node_spans.proofs.ParserItemNodes.{Split, split-first, split-next, split_at, split-length}
+use Rattle.node_spans.proofs.ParserPartPlaces.{at-operations}
 use Rattle.node_spans.specs.Spans.{operation_spans, spans_of, span, predicate_at}
 use Rattle.node_spans.proofs.Structure.{split-move}
 use Rattle.table_nodes.specs.TableWalkPromises.{patch}

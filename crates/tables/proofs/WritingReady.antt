@@ -7,9 +7,9 @@ use lib.ListN.{length, take, drop, get_or, take-append-drop}
 use Rattle.form.specs.Tree.{Operation, Dossier}
 use Rattle.form.specs.Headings.{givens_at, operations_at}
 use Rattle.form.specs.Codes.{Numbering, given_codes, operation_codes, dossier_codes}
-use Rattle.parser.specs.Sections.{givens_from, abstract_from, operations_from}
-use Rattle.parser.proofs.ItemNodes.{Split, split-first, split-as, split_at}
-use Rattle.parser.proofs.PartPlaces.{from_abstract, at-givens, at-operations}
+use Rattle.node_spans.specs.ParserSections.{givens_from, abstract_from, operations_from}
+use Rattle.node_spans.proofs.ParserItemNodes.{Split, split-first, split-as, split_at}
+use Rattle.node_spans.proofs.ParserPartPlaces.{from_abstract, at-givens, at-operations}
 use Rattle.node_spans.specs.Spans.{operation_spans, spans_of, span}
 use Rattle.node_spans.proofs.Structure.{split-longer, stand, each-operation, structured}
 use Rattle.table_places.specs.TablePromises.{TitlesAt, no_titles, one_title, Ready}

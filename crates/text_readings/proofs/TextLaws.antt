@@ -20,7 +20,7 @@ use Rattle.reader.specs.declared.Reading.{Reading}
 use Rattle.reader.specs.declared.Reading.TheVariants as reader
 use Rattle.reader.proofs.ParsedReading.{Told, read_is}
 use Rattle.reader.proofs.ReadGives.{read-gives}
-use Rattle.readings.proofs.ReadReadings.{read-reading}
+use Rattle.labels.proofs.ReadingsReadReadings.{read-reading}
 use Rattle.labels.proofs.ReadLabels.{read-labels}
 use Rattle.labels.proofs.SpeltNames.{spelt}
 use Rattle.text_readings.specs.TextPromises.{Held, ReadAs, ReadsText, Counted, Gathered}

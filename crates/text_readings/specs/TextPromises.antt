@@ -5,7 +5,7 @@ use Rattle.form.specs.Tree.{Dossier}
 use Rattle.form.specs.Codes.{Numbering, dossier_codes}
 use Rattle.static_rules.specs.Read as definition
 use Rattle.static_rules.specs.Read.{refusal, reading, read}
-use Rattle.readings.specs.Readings.{ReadingOf}
+use Rattle.labels.specs.ReadingsReadings.{ReadingOf}
 use Rattle.labels.specs.Labels.{LabelsOf}
 use Rattle.labels.specs.LabelPromises.{ElementsGathered, TitlesGathered, VariablesGathered}
 use Rattle.text_readings.specs.declared.TextRead.{TextRead}

@@ -2,10 +2,10 @@
 use mathlib.Core.Bool.{Bool}
 use mathlib.Core.List.{List}
 use Prim.Native.Nat.{ℕ, zero, suc}
-use Rattle.evaluation.specs.EvaluationByNumber.{Values, Inside, TruthIs}
-use Rattle.evaluation.specs.Heights.{height_pred}
+use Rattle.conjunct_tests.specs.EvaluationEvaluationByNumber.{Values, Inside, TruthIs}
+use Rattle.conjunct_tests.specs.EvaluationHeights.{height_pred}
 use Rattle.evaluator.specs.EvaluationPromises.{TruthRuns, TruthAnswers}
-use Rattle.meaning.specs.Meaning.{holds}
+use Rattle.evaluator.specs.MeaningMeaning.{holds}
 use Rattle.conjunct_tests.proofs.ConjunctRows.{conjunct-answers}
 use Rattle.truths.specs.Promises.{Asked, Answers}
 

@@ -2,11 +2,11 @@
 -- names gives, the answer is whether the predicate holds there.
 use Rattle.std.specs.Prelude.{◌≡◌, Bool, List, ℕ}
 use Rattle.form.specs.Tree.{Pred}
-use Rattle.static_rules.specs.Scope.{Scope}
-use Rattle.meaning.specs.Meaning.{Environment, holds}
-use Rattle.table_places.specs.ResolvedTable.{Slots}
-use Rattle.evaluation.specs.EvaluationByNumber.{Values}
-use Rattle.evaluation.specs.SlotValues.{Held}
+use Rattle.evaluator.specs.StaticRulesScope.{Scope}
+use Rattle.evaluator.specs.MeaningMeaning.{Environment, holds}
+use Rattle.evaluator.specs.TablePlacesResolvedTable.{Slots}
+use Rattle.conjunct_tests.specs.EvaluationEvaluationByNumber.{Values}
+use Rattle.conjunct_tests.specs.EvaluationSlotValues.{Held}
 use Rattle.conjunct_tests.specs.ConjunctTests.{Conjunct}
 
 -- some predicate stands there, without faults in its scope, and the slots hold the values of its names

@@ -10,10 +10,10 @@ use native.Mathlib.Omega.{arith}
 use lib.IntN.{nat_abs}
 use Rattle.lexical.specs.Lists.{upward}
 use Rattle.lexical.specs.Symbols.{Name}
-use Rattle.form.specs.Tree.{Letters, End, Range, Domain, given_set, range, Given}
-use Rattle.static_rules.specs.Carriers.{signed, end_value, range_carrier, given_of}
-use Rattle.static_rules.specs.Scope.{Scope, binding}
-use Rattle.static_rules.specs.Names.{known, range_faults, domain_carrier, domain_faults}
+use Rattle.meaning.specs.FormTree.{Letters, End, Range, Domain, given_set, range, Given}
+use Rattle.meaning.specs.StaticRulesCarriers.{signed, end_value, range_carrier, given_of}
+use Rattle.meaning.specs.StaticRulesScope.{Scope, binding}
+use Rattle.meaning.specs.StaticRulesNames.{known, range_faults, domain_carrier, domain_faults}
 use Rattle.meaning.specs.Values as val
 use Rattle.meaning.specs.Values.{Value}
 use Rattle.meaning.specs.Meaning.{Environment, with, size_of_given, element_values, domain_values}

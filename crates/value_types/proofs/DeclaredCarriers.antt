@@ -10,13 +10,13 @@ use borrow.Author.Tests.{leb-true}
 use Rattle.lexical.specs.Lists.{any, filter}
 use Rattle.lexical.specs.Symbols.{Name, Ending}
 use Rattle.lexical.specs.Refusals.{fault, unless, name_in_use}
-use Rattle.form.specs.Tree.{Letters, Arrow, Given, TypeForm, given_type, power_type, range_type, arrow_type}
-use Rattle.form.specs.Tree.{Declaration, Direction, inward, outward, Parameter, Operation}
-use Rattle.form.specs.Written.{ending_of, write_type}
-use Rattle.form.specs.Headings.{operation_length}
-use Rattle.static_rules.specs.Carriers.{Carrier, elements_of, subsets_of, pairs_in, Variable, range_carrier, size_of, same_name, given_of, carrier_of}
-use Rattle.static_rules.specs.Scope.{variables, is_input, is_output, parameters_of}
-use Rattle.static_rules.specs.Names.{known, pairs_fault, new_name, type_faults, declaration_faults, parameter_name, parameter_faults, operation_faults}
+use Rattle.meaning.specs.FormTree.{Letters, Arrow, Given, TypeForm, given_type, power_type, range_type, arrow_type}
+use Rattle.meaning.specs.FormTree.{Declaration, Direction, inward, outward, Parameter, Operation}
+use Rattle.meaning.specs.FormWritten.{ending_of, write_type}
+use Rattle.meaning.specs.FormHeadings.{operation_length}
+use Rattle.meaning.specs.StaticRulesCarriers.{Carrier, elements_of, subsets_of, pairs_in, Variable, range_carrier, size_of, same_name, given_of, carrier_of}
+use Rattle.meaning.specs.StaticRulesScope.{variables, is_input, is_output, parameters_of}
+use Rattle.meaning.specs.StaticRulesNames.{known, pairs_fault, new_name, type_faults, declaration_faults, parameter_name, parameter_faults, operation_faults}
 use Rattle.meaning.specs.Bindings.{Among}
 use Rattle.value_types.specs.TypedValues.{CarrierFits, CarriersFit}
 use Rattle.value_types.specs.FaultlessContexts.{TypeWithin, DeclarationsWithin, ParametersWithin}

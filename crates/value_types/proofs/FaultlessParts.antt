@@ -8,15 +8,15 @@ use lib.IntN.{pos}
 use borrow.Author.Tests.{ltb-true, leb-true}
 use Rattle.lexical.specs.Symbols.{Name}
 use Rattle.lexical.specs.Refusals.{Fault, fault, unless, types_misfit}
-use Rattle.form.specs.Tree.{Letters, End, Range, Domain, given_set, range, Given, Prefix, Operator, Division, Quantifier, Connective, Comparison, Membership}
-use Rattle.form.specs.Tree.{Term, name, group, prefix, binary, divided, listed, pairs, such, empty_set, empty_pairs, Items, only, also, Pairs, only_pair, also_pair}
-use Rattle.form.specs.Tree.{Pred, negation, paren, quantified, connected, compared, member, within, related}
-use Rattle.static_rules.specs.Carriers.{Carrier, elements_of, largest, plain, end_value, given_of}
-use Rattle.static_rules.specs.Types.{Ty, has, is_number, prefix_fits, operator_fits, comparison_fits, member_fits, related_fits, brace_fits, pairs_type, pairs_fit}
-use Rattle.static_rules.specs.Scope.{Scope, type_of_name, binding}
-use Rattle.static_rules.specs.Names.{Listing, whole, inside, of_name, known, range_fits, range_faults, pairs_fault, divisor_faults, new_name, domain_carrier, domain_faults, domain_length, over_fault, whole_pairs, judged_pairs}
-use Rattle.static_rules.specs.Names.{judge_term, judge_items, judge_pairs, judge_pred}
-use Rattle.static_rules.specs.Limits.{Sizes, operator_size, size_term, size_items, size_pairs, size_pred, domain_size}
+use Rattle.meaning.specs.FormTree.{Letters, End, Range, Domain, given_set, range, Given, Prefix, Operator, Division, Quantifier, Connective, Comparison, Membership}
+use Rattle.meaning.specs.FormTree.{Term, name, group, prefix, binary, divided, listed, pairs, such, empty_set, empty_pairs, Items, only, also, Pairs, only_pair, also_pair}
+use Rattle.meaning.specs.FormTree.{Pred, negation, paren, quantified, connected, compared, member, within, related}
+use Rattle.meaning.specs.StaticRulesCarriers.{Carrier, elements_of, largest, plain, end_value, given_of}
+use Rattle.meaning.specs.StaticRulesTypes.{Ty, has, is_number, prefix_fits, operator_fits, comparison_fits, member_fits, related_fits, brace_fits, pairs_type, pairs_fit}
+use Rattle.meaning.specs.StaticRulesScope.{Scope, type_of_name, binding}
+use Rattle.meaning.specs.StaticRulesNames.{Listing, whole, inside, of_name, known, range_fits, range_faults, pairs_fault, divisor_faults, new_name, domain_carrier, domain_faults, domain_length, over_fault, whole_pairs, judged_pairs}
+use Rattle.meaning.specs.StaticRulesNames.{judge_term, judge_items, judge_pairs, judge_pred}
+use Rattle.meaning.specs.StaticRulesLimits.{Sizes, operator_size, size_term, size_items, size_pairs, size_pred, domain_size}
 use Rattle.value_types.specs.TypedValues.{sizes_in}
 
 -- ---- lists of faults

@@ -8,18 +8,18 @@ use lib.ListN.{get_elem?}
 use Rattle.lexical.specs.Lists.{concat}
 use Rattle.lexical.specs.Symbols.{no_ending, prime}
 use Rattle.lexical.specs.Refusals.{Fault}
-use Rattle.form.specs.Tree.{Letters, Pred, declarations, inward, outward, State, Operation, Dossier}
-use Rattle.form.specs.Headings.{givens_at, abstract_at, concrete_at, operations_at, operation_length}
-use Rattle.form.proofs.Table.{◌&◌}
-use Rattle.static_rules.specs.Carriers.{Variable}
-use Rattle.static_rules.specs.Scope.{Context, unprimed, primed, inputs, outputs, given_names, abstract_taken, concrete_taken}
-use Rattle.static_rules.specs.Scope.{operation_reach, operation_contexts, contexts}
-use Rattle.static_rules.specs.Names.{declaration_faults, given_faults, operation_faults, context_faults, name_faults}
-use Rattle.static_rules.specs.Limits.{context_sizes, size_faults}
+use Rattle.meaning.specs.FormTree.{Letters, Pred, declarations, inward, outward, State, Operation, Dossier}
+use Rattle.meaning.specs.FormHeadings.{givens_at, abstract_at, concrete_at, operations_at, operation_length}
+use Rattle.meaning.proofs.FormTable.{◌&◌}
+use Rattle.meaning.specs.StaticRulesCarriers.{Variable}
+use Rattle.meaning.specs.StaticRulesScope.{Context, unprimed, primed, inputs, outputs, given_names, abstract_taken, concrete_taken}
+use Rattle.meaning.specs.StaticRulesScope.{operation_reach, operation_contexts, contexts}
+use Rattle.meaning.specs.StaticRulesNames.{declaration_faults, given_faults, operation_faults, context_faults, name_faults}
+use Rattle.meaning.specs.StaticRulesLimits.{context_sizes, size_faults}
 use Rattle.meaning.specs.Bindings.{Among}
 use Rattle.meaning.proofs.Places.{entry-member}
 use Rattle.value_types.specs.TypedValues.{CarriersFit, InReach, PredWithin}
-use Rattle.form.specs.BoundNames.{PredBindsFew, OperationsBindFew, BindsFew}
+use Rattle.meaning.specs.FormBoundNames.{PredBindsFew, OperationsBindFew, BindsFew}
 use Rattle.value_types.specs.FaultlessContexts.{ContextFine, FewElements, DeclarationsWithin, ParametersWithin, OperationsWithin, NumbersWithin}
 use Rattle.value_types.proofs.FaultlessParts.{append-nil}
 use Rattle.value_types.proofs.GivenTitles.{few-elements, title-finds}

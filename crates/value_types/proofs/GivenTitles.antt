@@ -9,11 +9,11 @@ use lib.ListN.{get_or}
 use borrow.Author.Tests.{not-true}
 use Rattle.lexical.specs.Lists.{same, find}
 use Rattle.lexical.proofs.WordLaws.{same_refl, same_true}
-use Rattle.form.specs.Tree.{Letters, Given, elements}
-use Rattle.form.specs.Headings.{given_length}
-use Rattle.static_rules.specs.Carriers.{size_of, same_name, plain, given_of}
-use Rattle.static_rules.specs.Scope.{is_taken, given_names}
-use Rattle.static_rules.specs.Names.{new_name, element_faults, given_faults}
+use Rattle.meaning.specs.FormTree.{Letters, Given, elements}
+use Rattle.meaning.specs.FormHeadings.{given_length}
+use Rattle.meaning.specs.StaticRulesCarriers.{size_of, same_name, plain, given_of}
+use Rattle.meaning.specs.StaticRulesScope.{is_taken, given_names}
+use Rattle.meaning.specs.StaticRulesNames.{new_name, element_faults, given_faults}
 use Rattle.meaning.specs.Bindings.{Among}
 use Rattle.meaning.proofs.Members.{any_none, among-right}
 use Rattle.value_types.specs.FaultlessContexts.{FewElements}

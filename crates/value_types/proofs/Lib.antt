@@ -13,3 +13,9 @@ pub mod DeclaredCarriers
 pub mod FineContexts
 pub mod ScannedNumbers
 pub mod SymbolNumbers
+-- what crates above name of crates below
+pub use Rattle.meaning.proofs.ConjunctsHold as MeaningConjunctsHold
+pub use Rattle.meaning.proofs.Distinct as MeaningDistinct
+pub use Rattle.meaning.proofs.Frame as MeaningFrame
+pub use Rattle.meaning.proofs.Members as MeaningMembers
+pub use Rattle.meaning.proofs.SymbolsBooleanTests as SymbolsBooleanTests

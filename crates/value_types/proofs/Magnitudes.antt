@@ -10,8 +10,8 @@ use lib.Signed.{le_z, lt_z}
 use borrow.Author.Tests.{ltb-true, ltb-false, leb-true, lt-ltb}
 use Rattle.sets.specs.Division.{floor_div, floor_mod}
 use Rattle.sets.proofs.Divides.{divides}
-use Rattle.symbols.proofs.BooleanTests.{and_left}
-use Rattle.static_rules.specs.Names.{range_fits}
+use Rattle.meaning.proofs.SymbolsBooleanTests.{and_left}
+use Rattle.meaning.specs.StaticRulesNames.{range_fits}
 
 neg_abs : (n : ℕ) → nat_abs (neg_ℤ (pos n)) ≡ n
 neg_abs zero = refl

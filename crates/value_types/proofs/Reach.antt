@@ -10,10 +10,10 @@ use lib.ListN.{length}
 use Rattle.lexical.specs.Lists.{any, find, upward}
 use Rattle.lexical.specs.Symbols.{Name, Ending, no_ending, prime, query, shriek}
 use Rattle.lexical.proofs.WordLaws.{same_true}
-use Rattle.form.specs.Tree.{Letters, Arrow, relation, partial, total, Given, elements}
-use Rattle.static_rules.specs.Carriers.{Carrier, elements_of, numbers, subsets_of, pairs_in, Variable, size_of, largest, same_name, plain, given_of}
-use Rattle.static_rules.specs.Types.{type_of}
-use Rattle.static_rules.specs.Scope.{Scope, element_of, place_in}
+use Rattle.meaning.specs.FormTree.{Letters, Arrow, relation, partial, total, Given, elements}
+use Rattle.meaning.specs.StaticRulesCarriers.{Carrier, elements_of, numbers, subsets_of, pairs_in, Variable, size_of, largest, same_name, plain, given_of}
+use Rattle.meaning.specs.StaticRulesTypes.{type_of}
+use Rattle.meaning.specs.StaticRulesScope.{Scope, element_of, place_in}
 use Rattle.sets.specs.Sets as sets
 use Rattle.meaning.specs.Values as val
 use Rattle.meaning.specs.Values.{Value}

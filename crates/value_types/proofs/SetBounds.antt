@@ -8,7 +8,7 @@ use native.Mathlib.Omega.{arith}
 use lib.Count.{ones_in}
 use lib.IntN.{pos}
 use lib.Pow.{pow_mono, pow-lt}
-use Rattle.form.specs.Tree.{dom, ran}
+use Rattle.meaning.specs.FormTree.{dom, ran}
 use Rattle.sets.specs.Sets as sets
 use Rattle.sets.specs.Sets.{has, set_of, pair, single}
 use Rattle.sets.proofs.Members.{has-past, has-set, has-set-past, set_below, same-members}

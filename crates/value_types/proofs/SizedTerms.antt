@@ -11,14 +11,14 @@ use lib.IntN.{ℤ, pos, ◌+ℤ◌, ◌-ℤ◌, nat_abs}
 use lib.Pow.{pow_mono}
 use Rattle.lexical.specs.Lists.{find, upward}
 use Rattle.lexical.specs.Symbols.{Name}
-use Rattle.form.specs.Tree.{End, Given, Prefix, negate, size, dom, ran, Operator, plus, minus, union, without, times, inter, Division, quotient, remainder}
-use Rattle.form.specs.Tree.{Term, number, name, group, prefix, binary, divided, listed, pairs, such, empty_set, empty_pairs}
-use Rattle.static_rules.specs.Carriers.{Carrier, elements_of, numbers, subsets_of, pairs_in, Variable, largest, end_value, same_name, plain}
-use Rattle.static_rules.specs.Types.{Sort, is_number, is_element, is_set, is_pairs, Ty, type_of, has, same_type, is_any_set, are_numbers, prefix_fits, prefix_type, operator_fits, brace_type, brace_fits, pairs_type, pairs_fit}
-use Rattle.static_rules.specs.Scope.{Scope, element_of, type_of_name}
-use Rattle.static_rules.specs.Names.{judge_term, judge_items, judge_pairs}
-use Rattle.static_rules.specs.Limits.{operator_size, prefix_size, division_size, size_term}
-use Rattle.symbols.proofs.BooleanTests.{and_left, and_right}
+use Rattle.meaning.specs.FormTree.{End, Given, Prefix, negate, size, dom, ran, Operator, plus, minus, union, without, times, inter, Division, quotient, remainder}
+use Rattle.meaning.specs.FormTree.{Term, number, name, group, prefix, binary, divided, listed, pairs, such, empty_set, empty_pairs}
+use Rattle.meaning.specs.StaticRulesCarriers.{Carrier, elements_of, numbers, subsets_of, pairs_in, Variable, largest, end_value, same_name, plain}
+use Rattle.meaning.specs.StaticRulesTypes.{Sort, is_number, is_element, is_set, is_pairs, Ty, type_of, has, same_type, is_any_set, are_numbers, prefix_fits, prefix_type, operator_fits, brace_type, brace_fits, pairs_type, pairs_fit}
+use Rattle.meaning.specs.StaticRulesScope.{Scope, element_of, type_of_name}
+use Rattle.meaning.specs.StaticRulesNames.{judge_term, judge_items, judge_pairs}
+use Rattle.meaning.specs.StaticRulesLimits.{operator_size, prefix_size, division_size, size_term}
+use Rattle.meaning.proofs.SymbolsBooleanTests.{and_left, and_right}
 use Rattle.meaning.specs.Values as val
 use Rattle.meaning.specs.Values.{Value, bits, prefix_value, operator_value, division_value}
 use Rattle.meaning.specs.Meaning.{Environment, element_value, value_of, size_of_given, number_values, value}

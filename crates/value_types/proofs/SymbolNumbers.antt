@@ -5,14 +5,14 @@ use mathlib.Core.List.{List, [], ◌∷◌, map}
 use Prim.Native.Nat.{ℕ, ◌≤◌}
 use Rattle.lexical.specs.Kinds.{Kind}
 use Rattle.lexical.specs.Symbols.{Symbol, numeral, Placed, scan, symbols}
-use Rattle.form.specs.Tree.{Letters, End, Range, Domain, given_set, range}
-use Rattle.form.specs.Tree.{Term, number, name, group, prefix, binary, divided, listed, pairs, such, empty_set, empty_pairs, Items, only, also, Pairs, only_pair, also_pair}
-use Rattle.form.specs.Tree.{Pred, truth, falsity, negation, paren, quantified, connected, compared, member, within, related}
-use Rattle.form.specs.Tree.{TypeForm, given_type, power_type, range_type, arrow_type, Declaration, declarations, Parameter, Given, Operation, Dossier}
-use Rattle.form.specs.Written.{symbols_of}
-use Rattle.form.specs.Form.{Whole}
-use Rattle.form.proofs.PlainSymbols.{plain_minus, plain_end, plain_range, plain_domain, plain_term, plain_items, plain_pairs, plain_pred, plain_type, plain_entries, plain_elements, plain_givens}
-use Rattle.form.proofs.PlainSymbols.{plain_declarations, plain_where, plain_parameters, plain_operations, plain_dossier, dossier-plain}
+use Rattle.meaning.specs.FormTree.{Letters, End, Range, Domain, given_set, range}
+use Rattle.meaning.specs.FormTree.{Term, number, name, group, prefix, binary, divided, listed, pairs, such, empty_set, empty_pairs, Items, only, also, Pairs, only_pair, also_pair}
+use Rattle.meaning.specs.FormTree.{Pred, truth, falsity, negation, paren, quantified, connected, compared, member, within, related}
+use Rattle.meaning.specs.FormTree.{TypeForm, given_type, power_type, range_type, arrow_type, Declaration, declarations, Parameter, Given, Operation, Dossier}
+use Rattle.meaning.specs.FormWritten.{symbols_of}
+use Rattle.meaning.specs.FormForm.{Whole}
+use Rattle.meaning.proofs.FormPlainSymbols.{plain_minus, plain_end, plain_range, plain_domain, plain_term, plain_items, plain_pairs, plain_pred, plain_type, plain_entries, plain_elements, plain_givens}
+use Rattle.meaning.proofs.FormPlainSymbols.{plain_declarations, plain_where, plain_parameters, plain_operations, plain_dossier, dossier-plain}
 use Rattle.value_types.specs.TypedValues.{RangeWithin, DomainWithin, TermWithin, ItemsWithin, PairsWithin, PredWithin}
 use Rattle.value_types.specs.FaultlessContexts.{TypeWithin, DeclarationsWithin, ParametersWithin, OperationsWithin, NumbersWithin, NumberWithin, AllNumbers, one_symbol}
 use Rattle.value_types.proofs.ScannedNumbers.{scanned-numbers}

@@ -7,13 +7,13 @@ use Prim.Native.Nat.{ℕ, ◌*◌, ◌^◌, ◌<◌, ◌≤◌}
 use native.Mathlib.Omega.{arith}
 use lib.ListN.{take, drop}
 use borrow.Author.Tests.{leb-true}
-use Rattle.form.specs.Tree.{Letters, Given, Prefix, negate, size, dom, ran, Operator, plus, minus, union, without, times, inter}
-use Rattle.static_rules.specs.Carriers.{size_of, plain, given_of}
-use Rattle.static_rules.specs.Types.{Sort, is_number, is_element, is_set, is_pairs, Ty, has, same_type, set_of, pairs_of_types, is_any_set, are_numbers, prefix_fits, prefix_type, operator_fits}
-use Rattle.static_rules.specs.Scope.{Scope}
-use Rattle.static_rules.specs.Names.{pairs_fault, over_fault}
+use Rattle.meaning.specs.FormTree.{Letters, Given, Prefix, negate, size, dom, ran, Operator, plus, minus, union, without, times, inter}
+use Rattle.meaning.specs.StaticRulesCarriers.{size_of, plain, given_of}
+use Rattle.meaning.specs.StaticRulesTypes.{Sort, is_number, is_element, is_set, is_pairs, Ty, has, same_type, set_of, pairs_of_types, is_any_set, are_numbers, prefix_fits, prefix_type, operator_fits}
+use Rattle.meaning.specs.StaticRulesScope.{Scope}
+use Rattle.meaning.specs.StaticRulesNames.{pairs_fault, over_fault}
 use Rattle.sets.specs.Sets as sets
-use Rattle.symbols.proofs.BooleanTests.{and_left, and_right}
+use Rattle.meaning.proofs.SymbolsBooleanTests.{and_left, and_right}
 use Rattle.meaning.specs.Values.{Value, bits, with_bits, prefix_value, operator_value, singleton, single_pair}
 use Rattle.meaning.specs.Meaning.{Environment, size_of_given}
 use Rattle.value_types.specs.TypedValues.{OfSort, HasType, Carried}

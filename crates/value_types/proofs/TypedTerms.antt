@@ -7,13 +7,13 @@ use Prim.Native.Nat.{ℕ, suc, ◌+◌, ◌*◌, ◌^◌, ◌<◌, ◌≤◌}
 use lib.Pow.{pow_pos}
 use Rattle.lexical.specs.Lists.{find}
 use Rattle.lexical.specs.Symbols.{Name}
-use Rattle.form.specs.Tree.{Letters, Given, elements, union, relation}
-use Rattle.form.specs.Tree.{Term, number, name, group, prefix, binary, divided, listed, pairs, such, empty_set, empty_pairs, Items, only, also, Pairs, only_pair, also_pair}
-use Rattle.static_rules.specs.Carriers.{Variable, elements_of, size_of, same_name, given_of}
-use Rattle.static_rules.specs.Types.{Ty, is_pairs, type_of, set_of, pairs_of_types, is_any_set, has, brace_type, brace_fits, pairs_type, pairs_fit}
-use Rattle.static_rules.specs.Scope.{Scope, element_of, place_in, type_of_name}
-use Rattle.static_rules.specs.Names.{known, over_fault, judge_term, judge_items, judge_pairs}
-use Rattle.symbols.proofs.BooleanTests.{and_both}
+use Rattle.meaning.specs.FormTree.{Letters, Given, elements, union, relation}
+use Rattle.meaning.specs.FormTree.{Term, number, name, group, prefix, binary, divided, listed, pairs, such, empty_set, empty_pairs, Items, only, also, Pairs, only_pair, also_pair}
+use Rattle.meaning.specs.StaticRulesCarriers.{Variable, elements_of, size_of, same_name, given_of}
+use Rattle.meaning.specs.StaticRulesTypes.{Ty, is_pairs, type_of, set_of, pairs_of_types, is_any_set, has, brace_type, brace_fits, pairs_type, pairs_fit}
+use Rattle.meaning.specs.StaticRulesScope.{Scope, element_of, place_in, type_of_name}
+use Rattle.meaning.specs.StaticRulesNames.{known, over_fault, judge_term, judge_items, judge_pairs}
+use Rattle.meaning.proofs.SymbolsBooleanTests.{and_both}
 use Rattle.sets.proofs.Members.{set_below}
 use Rattle.sets.specs.Sets as sets
 use Rattle.meaning.specs.Values as val

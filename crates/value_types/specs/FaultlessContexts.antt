@@ -2,13 +2,13 @@
 -- the theorems of proofs/ prove the one of every dossier without faults that has the other, which is what the passes for symbols and form leave.
 use Rattle.std.specs.Prelude.{◌≡◌, List, [], ◌∷◌, map, ◌≤◌}
 use Rattle.lexical.specs.Symbols.{Symbol, fixed, numeral, name}
-use Rattle.form.specs.Tree.{Given, TypeForm, given_type, power_type, range_type, arrow_type, Declaration, declarations, Parameter, Operation, Dossier}
-use Rattle.static_rules.specs.Carriers.{size_of}
-use Rattle.static_rules.specs.Scope.{Context}
-use Rattle.static_rules.specs.Names.{judge_pred}
-use Rattle.static_rules.specs.Limits.{size_pred}
+use Rattle.meaning.specs.FormTree.{Given, TypeForm, given_type, power_type, range_type, arrow_type, Declaration, declarations, Parameter, Operation, Dossier}
+use Rattle.meaning.specs.StaticRulesCarriers.{size_of}
+use Rattle.meaning.specs.StaticRulesScope.{Context}
+use Rattle.meaning.specs.StaticRulesNames.{judge_pred}
+use Rattle.meaning.specs.StaticRulesLimits.{size_pred}
 use Rattle.value_types.specs.TypedValues.{InReach, RangeWithin, PredWithin, sizes_in}
-use Rattle.form.specs.BoundNames.{PredBindsFew}
+use Rattle.meaning.specs.FormBoundNames.{PredBindsFew}
 
 -- a predicate with the names in its reach: no fault of names and types, no size over 2,147,483,647, numbers of at most 1,000, at most three bound names
 pub record ContextFine (c : Context) : Type 0 where

@@ -2,14 +2,14 @@
 -- the theorems of proofs/ say that values have their types and sizes, so that the evaluator's numbers hold them.
 use Rattle.std.specs.Prelude.{◌≡◌, true, List, [], ◌∷◌, map, ℕ, ◌*◌, ◌^◌, ◌<◌, ◌≤◌, pos, nat_abs}
 use Rattle.std.proofs.Math.Option.{some}
-use Rattle.form.specs.Tree.{Letters, Range, Domain, given_set, range, Given}
-use Rattle.form.specs.Tree.{Term, number, name, group, prefix, binary, divided, listed, pairs, such, empty_set, empty_pairs, Items, only, also, Pairs, only_pair, also_pair}
-use Rattle.form.specs.Tree.{Pred, truth, falsity, negation, paren, quantified, connected, compared, member, within, related}
-use Rattle.static_rules.specs.Carriers.{Carrier, elements_of, numbers, subsets_of, pairs_in, Variable, size_of, largest, plain, given_of}
-use Rattle.static_rules.specs.Types.{Sort, is_number, is_element, is_set, is_pairs, Ty}
-use Rattle.static_rules.specs.Scope.{Scope}
-use Rattle.static_rules.specs.Names.{range_fits}
-use Rattle.static_rules.specs.Limits.{Sizes}
+use Rattle.meaning.specs.FormTree.{Letters, Range, Domain, given_set, range, Given}
+use Rattle.meaning.specs.FormTree.{Term, number, name, group, prefix, binary, divided, listed, pairs, such, empty_set, empty_pairs, Items, only, also, Pairs, only_pair, also_pair}
+use Rattle.meaning.specs.FormTree.{Pred, truth, falsity, negation, paren, quantified, connected, compared, member, within, related}
+use Rattle.meaning.specs.StaticRulesCarriers.{Carrier, elements_of, numbers, subsets_of, pairs_in, Variable, size_of, largest, plain, given_of}
+use Rattle.meaning.specs.StaticRulesTypes.{Sort, is_number, is_element, is_set, is_pairs, Ty}
+use Rattle.meaning.specs.StaticRulesScope.{Scope}
+use Rattle.meaning.specs.StaticRulesNames.{range_fits}
+use Rattle.meaning.specs.StaticRulesLimits.{Sizes}
 use Rattle.meaning.specs.Values.{Value}
 use Rattle.meaning.specs.Meaning.{Environment, size_of_given}
 use Rattle.meaning.specs.Bindings.{Among, Over}

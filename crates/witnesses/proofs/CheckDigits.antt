@@ -19,9 +19,9 @@ use Rattle.obligations.specs.Order.{Check, initialises, applies, corrects, appli
 use Rattle.obligations.specs.Report.{check_at}
 use Rattle.obligations.proofs.Digits.{nth, concretes, givens, results}
 use Rattle.obligations.proofs.Digits.{applicability-digits, correctness-digits, initialisation-place, applicability-place, correctness-place}
-use Rattle.part_tests.specs.PartOrder.{part_begin}
-use Rattle.parts.proofs.ReadingSizes.{abstracts-count, concretes-count, givens-count, results-count, applicability-counts, correctness-counts}
-use Rattle.parts.proofs.PartOrderLaws.{first-begin, applicability-begin, correctness-begin}
+use Rattle.part_places.specs.PartTestsPartOrder.{part_begin}
+use Rattle.part_places.proofs.PartsReadingSizes.{abstracts-count, concretes-count, givens-count, results-count, applicability-counts, correctness-counts}
+use Rattle.part_places.proofs.PartsPartOrderLaws.{first-begin, applicability-begin, correctness-begin}
 
 -- a group's digit, and what is before it
 pub digit-in : (vs : List Variable) (q : ℕ) → q % binding_count vs < binding_count vs

@@ -14,8 +14,8 @@ use Rattle.static_rules.specs.Limits.{binding_count}
 use Rattle.meaning.proofs.Places.{below-entry}
 use Rattle.slot_carriers.specs.CellGroups.{CellsOf}
 use Rattle.plans.specs.declared.Part.{Part}
-use Rattle.part_tests.specs.PartGroups.{StateCells, OperationCells, opening_part, applicability_part, correctness_part}
-use Rattle.readings.specs.Readings.{GroupAt}
+use Rattle.part_places.specs.PartTestsPartGroups.{StateCells, OperationCells, opening_part, applicability_part, correctness_part}
+use Rattle.labels.specs.ReadingsReadings.{GroupAt}
 use Rattle.pieces.specs.PiecePromises.{Writes}
 use Rattle.pieces.proofs.WrittenPieces.{both-written}
 use Rattle.lines.specs.LinesByNumber.{group_piece}

@@ -24,10 +24,10 @@ use Rattle.obligations.specs.Order.{variables_of, binding_of, applies}
 use Rattle.obligations.specs.Report.{name_bytes, value_bytes, binding_lines, witness_lines, check_at}
 use Rattle.obligations.proofs.Digits.{nth}
 use Rattle.plans.specs.declared.Part.{Part}
-use Rattle.part_tests.specs.PartGroups.{StateCells, OperationCells, opening_part, applicability_part, correctness_part}
-use Rattle.part_tests.specs.PartOrder.{part_size, part_begin}
-use Rattle.parts.proofs.ReadingSizes.{concretes-count, applicability-counts, correctness-counts}
-use Rattle.parts.proofs.PartOrderLaws.{first-size, applicability-size, correctness-size}
+use Rattle.part_places.specs.PartTestsPartGroups.{StateCells, OperationCells, opening_part, applicability_part, correctness_part}
+use Rattle.part_places.specs.PartTestsPartOrder.{part_size, part_begin}
+use Rattle.part_places.proofs.PartsReadingSizes.{concretes-count, applicability-counts, correctness-counts}
+use Rattle.part_places.proofs.PartsPartOrderLaws.{first-size, applicability-size, correctness-size}
 use Rattle.pieces.specs.PiecePromises.{Writes}
 use Rattle.labels.specs.Labels.{LabelsFrom, LabelsOf}
 use Rattle.lines.specs.LinesByNumber.{group_piece}

@@ -3,7 +3,7 @@ use Rattle.std.specs.Prelude.{◌≡◌, List, ℕ, ◌+◌, ◌<◌, ◌≤◌,
 use Rattle.form.specs.Tree.{Dossier}
 use Rattle.obligations.specs.Subjects.{subject_of}
 use Rattle.obligations.specs.Report.{check_at, witness_lines}
-use Rattle.part_tests.specs.PartOrder.{part_size, part_begin}
+use Rattle.part_places.specs.PartTestsPartOrder.{part_size, part_begin}
 use Rattle.pieces.specs.PiecePromises.{Writes}
 use Rattle.labels.specs.Labels.{LabelsOf}
 use Rattle.part_places.specs.Places.{GroupsOf, parts}

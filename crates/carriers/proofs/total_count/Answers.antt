@@ -1,6 +1,6 @@
 -- `carriers::total_count` meets its contract: rows with at least one pair. Assumes nothing.
 use native.Mathlib.Omega.{arith}
-use Rattle.static_rules.specs.Carriers.{arrow_count}
+use Rattle.meaning.specs.StaticRulesCarriers.{arrow_count}
 use Rattle.carriers.specs.ValuesByNumber.{choices}
 use Rattle.carriers.proofs.total_count.Goals as goal
 

@@ -3,7 +3,7 @@ use mathlib.Core.Bool.{not}
 use lib.Signed.{le_z, lt_z}
 use Prim.Native.Nat.{ℕ}
 use mathlib.Core.Path.{sym, ap, ◌∙◌}
-use Rattle.meaning.specs.Values.{same_integer}
+use Rattle.evaluation.specs.MeaningValues.{same_integer}
 use Rattle.evaluation.specs.OperatorsByNumber.{compared}
 use Rattle.operators.proofs.SignedLaws.{both}
 use Rattle.operators.proofs.CodeLaws.{comparison-last}

@@ -3,7 +3,7 @@ use borrow.Author.Rules.{rules}
 use mathlib.Core.Path.{refl}
 use native.Mathlib.Omega.{arith}
 use Rattle.memo.proofs.Memos.{blank_memo}
-use Rattle.parts.proofs.SetupLaws.{blank}
+use Rattle.step_searches.proofs.PartsSetupLaws.{blank}
 use Rattle.reached_pairs.proofs.BegunPairs.{begun-none, begun_all, open-small}
 use Rattle.reached_pairs.proofs.begin.Goals as goal
 

@@ -1,7 +1,7 @@
 -- `spread` meets its contract. Assumes nothing.
 use mathlib.Core.Path.{refl}
 use Rattle.memo.proofs.Memos.{blank_memo}
-use Rattle.parts.proofs.SetupLaws.{blank}
+use Rattle.step_searches.proofs.PartsSetupLaws.{blank}
 use Rattle.reached_pairs.proofs.SpreadLayers.{operation-spread, pairs-asked, operation-few}
 use Rattle.reached_pairs.proofs.spread.Goals as goal
 

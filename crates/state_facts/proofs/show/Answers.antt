@@ -1,5 +1,5 @@
 -- `show` meets its contract: the part that is set up has the groups of the operation, or those of both states alone. Assumes nothing.
-use Rattle.parts.proofs.SetupLaws.{blank}
+use Rattle.part_places.proofs.PartsSetupLaws.{blank}
 use Rattle.state_facts.proofs.ShownLaws.{part-asked, few-operations, shown-states-sized, shown-parameters-sized, shown}
 use Rattle.state_facts.proofs.show.Goals as goal
 

@@ -3,7 +3,7 @@
 use mathlib.Core.Path.{refl}
 use native.Mathlib.Omega.{arith}
 use Rattle.step_facts.proofs.AskedFacts.{prepare-asked, steps-asked, nr-is, step-unlisted, state-beyond, input-beyond, start-beyond, step-found}
-use Rattle.parts.proofs.SetupLaws.{blank}
+use Rattle.step_searches.proofs.PartsSetupLaws.{blank}
 use Rattle.memo.proofs.Memos.{blank_memo}
 use Rattle.step_facts.proofs.abstract_step.Statement.{statement}
 use Rattle.step_facts.proofs.abstract_step.Tie as tie

@@ -3,7 +3,7 @@
 use mathlib.Core.Path.{refl}
 use native.Mathlib.Omega.{arith}
 use Rattle.step_facts.proofs.AskedFacts.{open-asked, opening-asked, no_beginning, beginning}
-use Rattle.parts.proofs.SetupLaws.{blank}
+use Rattle.step_searches.proofs.PartsSetupLaws.{blank}
 use Rattle.memo.proofs.Memos.{blank_memo}
 use Rattle.step_facts.proofs.begin.Statement.{statement}
 use Rattle.step_facts.proofs.begin.Tie as tie

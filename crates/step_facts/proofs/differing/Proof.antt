@@ -7,7 +7,7 @@ use mathlib.Core.Path.{refl}
 use native.Mathlib.Omega.{arith}
 use Rattle.step_facts.proofs.AskedFacts.{prepare-asked, steps-asked}
 use Rattle.step_facts.proofs.Places.{place-unlisted, place_is}
-use Rattle.parts.proofs.SetupLaws.{blank}
+use Rattle.step_searches.proofs.PartsSetupLaws.{blank}
 use Rattle.memo.proofs.Memos.{blank_memo}
 use Rattle.step_facts.proofs.differing.Statement.{statement}
 use Rattle.step_facts.proofs.differing.Tie as tie

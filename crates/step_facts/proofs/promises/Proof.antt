@@ -4,7 +4,7 @@ use mathlib.Core.Path.{refl}
 use native.Mathlib.Omega.{arith}
 use Rattle.step_facts.proofs.AskedFacts.{prepare-asked, steps-asked}
 use Rattle.step_facts.proofs.Counts.{no_promises, promises-counted}
-use Rattle.parts.proofs.SetupLaws.{blank}
+use Rattle.step_searches.proofs.PartsSetupLaws.{blank}
 use Rattle.memo.proofs.Memos.{blank_memo}
 use Rattle.step_facts.proofs.promises.Statement.{statement}
 use Rattle.step_facts.proofs.promises.Tie as tie

@@ -2,7 +2,7 @@
 -- `step_facts::spans` meets its contract: the sizes of the part that is made are those of the groups. Assumes nothing.
 use native.Mathlib.Omega.{arith}
 use Rattle.step_facts.proofs.AskedFacts.{prepare-asked, operation-spans, open-asked, opening-spans}
-use Rattle.parts.proofs.SetupLaws.{blank}
+use Rattle.step_searches.proofs.PartsSetupLaws.{blank}
 use Rattle.step_facts.proofs.spans.Statement.{statement}
 use Rattle.step_facts.proofs.spans.Tie as tie
 

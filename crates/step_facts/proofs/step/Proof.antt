@@ -5,7 +5,7 @@ use mathlib.Core.Path.{refl}
 use native.Mathlib.Omega.{arith}
 use Rattle.step_facts.proofs.AskedFacts.{prepare-asked, steps-asked}
 use Rattle.step_facts.proofs.BothSteps.{lost-is, step_is}
-use Rattle.parts.proofs.SetupLaws.{blank}
+use Rattle.step_searches.proofs.PartsSetupLaws.{blank}
 use Rattle.memo.proofs.Memos.{blank_memo}
 use Rattle.step_facts.proofs.step.Statement.{statement}
 use Rattle.step_facts.proofs.step.Tie as tie

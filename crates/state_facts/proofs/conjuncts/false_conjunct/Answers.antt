@@ -1,5 +1,5 @@
 -- `conjuncts::false_conjunct` meets its contract: the part of initialisation has the cells of both states. Assumes nothing.
-use Rattle.parts.proofs.SetupLaws.{blank}
+use Rattle.part_places.proofs.PartsSetupLaws.{blank}
 use Rattle.state_facts.proofs.SearchLaws.{first-part-asked, search-asked}
 use Rattle.state_facts.proofs.ConjunctLaws.{false_conjunct-is}
 use Rattle.state_facts.proofs.conjuncts.false_conjunct.Goals as goal

@@ -1,6 +1,6 @@
 -- `conjuncts::false_guard` meets its contract: the part of the operation's correctness has the cells of all its groups. Assumes nothing.
 use native.Mathlib.Omega.{arith}
-use Rattle.parts.proofs.SetupLaws.{blank}
+use Rattle.part_places.proofs.PartsSetupLaws.{blank}
 use Rattle.state_facts.proofs.GuardLaws.{own-part-asked, own-low, guard-asked, false_guard-is, guard_no-operation}
 use Rattle.state_facts.proofs.conjuncts.false_guard.Goals as goal
 

@@ -1,5 +1,5 @@
 -- `searches::next_concrete_state` meets its contract: the part of initialisation has the cells of both states. Assumes nothing.
-use Rattle.parts.proofs.SetupLaws.{blank}
+use Rattle.part_places.proofs.PartsSetupLaws.{blank}
 use Rattle.state_facts.proofs.SearchLaws.{first-part-asked, search-asked, concrete-next}
 use Rattle.state_facts.proofs.searches.next_concrete_state.Goals as goal
 

@@ -3,7 +3,7 @@ use mathlib.Core.List.{◌∷◌}
 use Prim.Native.Nat.{◌+◌}
 use mathlib.Core.Path.{refl, ◌∙◌}
 use native.Mathlib.Omega.{arith}
-use Rattle.declared_names.proofs.DeclarationNodes.{on}
+use Rattle.names.proofs.DeclaredNamesDeclarationNodes.{on}
 use Rattle.table_places.proofs.WritingTypes.{typing, typing-start, typing-on, types-set}
 use Rattle.table_places.proofs.declared_types.set_types.Goals as goal
 

@@ -4,7 +4,7 @@ use mathlib.Core.List.{◌∷◌}
 use Prim.Native.Nat.{◌+◌}
 use mathlib.Core.Path.{refl, ◌∙◌}
 use native.Mathlib.Omega.{arith}
-use Rattle.declared_names.proofs.DeclarationNodes.{start, on}
+use Rattle.names.proofs.DeclaredNamesDeclarationNodes.{start, on}
 use Rattle.table_places.proofs.WritingPlaces.{parametering, parameter-on, parameters-set, chosen-below}
 use Rattle.table_places.proofs.places.place_parameters.Goals as goal
 

@@ -2,7 +2,7 @@ use mathlib.Core.List.{◌∷◌}
 use Prim.Native.Nat.{◌+◌, ◌-◌, ◌≤◌}
 use mathlib.Core.Path.{◌≡◌}
 use lib.ListN.{length}
-use Rattle.declared_names.proofs.DeclarationNodes.{Walked}
+use Rattle.names.proofs.DeclaredNamesDeclarationNodes.{Walked}
 use Rattle.table_places.proofs.WritingPlaces.{parametering}
 use Rattle.table_places.proofs.places.place_parameters.Given as goal
 

@@ -3,7 +3,7 @@
 use mathlib.Core.List.{◌∷◌}
 use mathlib.Core.Path.{refl, ◌∙◌}
 use native.Mathlib.Omega.{arith}
-use Rattle.declared_names.proofs.DeclarationNodes.{start, on}
+use Rattle.names.proofs.DeclaredNamesDeclarationNodes.{start, on}
 use Rattle.table_places.proofs.WritingPlaces.{slotting, slot-on, variables-set}
 use Rattle.table_places.proofs.places.place_variables.Goals as goal
 

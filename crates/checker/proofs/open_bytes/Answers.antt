@@ -15,10 +15,10 @@ pub total-all-requires : goal.total-all-requires
 total-all-requires c = all_asked (text-held c.open_text-answer.ensures c.in-Read.is)
 
 pub returns-then-not-fits : goal.returns-then-not-fits
-returns-then-not-fits c = opens_misfit c.args.held.now (sym c.laid.ensures ∙ not-false _ c.if-not-laid.false-raw) (text-held c.open_text-answer.ensures c.in-Read.is) c.total-all.ensures c.before.before.before.before.IsPlace-in.result c.before.before.before.before.IsPlace-in.ensures (sym c.before.before.fits2.ensures ∙ not-true _ c.if-not-fits.true-raw) c.nothing-then-not-fits.ensures
+returns-then-not-fits c = opens_misfit c.args.held.now (sym c.laid.ensures ∙ not-false _ c.if-not-laid.false-raw) (text-held c.open_text-answer.ensures c.in-Read.is) c.total-all.ensures c.place_in-place.result c.place_in-place.ensures (sym c.fits.ensures ∙ not-true _ c.if-not-fits.true-raw) c.nothing-then-not-fits.ensures
 
 pub returns-in-Refused : goal.returns-in-Refused
 returns-in-Refused c = opens-faulty c.nothing-in-Refused.ensures (sym c.laid.ensures ∙ not-false _ c.if-not-laid.false-raw) (text-faulty c.open_text-answer.ensures c.in-Refused.is)
 
 pub returns-else-not-fits : goal.returns-else-not-fits
-returns-else-not-fits c = opens-held c.args.held.now (sym c.laid.ensures ∙ not-false _ c.if-not-laid.false-raw) (text-held c.open_text-answer.ensures c.in-Read.is) c.total-all.ensures c.before.before.before.IsPlace-in.result c.before.before.before.IsPlace-in.ensures (sym c.before.fits2.ensures ∙ not-false _ c.if-not-fits.false-raw)
+returns-else-not-fits c = opens-held c.args.held.now (sym c.laid.ensures ∙ not-false _ c.if-not-laid.false-raw) (text-held c.open_text-answer.ensures c.in-Read.is) c.total-all.ensures c.place_in-place.result c.place_in-place.ensures (sym c.fits.ensures ∙ not-false _ c.if-not-fits.false-raw)

@@ -2,7 +2,6 @@
 sources that is."""
 import hashlib, pathlib, shutil, subprocess, sys
 
-sys.dont_write_bytecode = True
 root = pathlib.Path(__file__).resolve().parent.parent
 
 
@@ -57,6 +56,16 @@ def prover(verb, crate, folder, libraries, *more):
     words += ['--antt-project', f'{kit}/rattle/logic/antt-project.json', '--logic-built', f'{kit}/logic_built', *more]
     ran = subprocess.run(words, cwd=folder, stdin=subprocess.DEVNULL, stdout=subprocess.PIPE, stderr=subprocess.STDOUT, text=True, errors='replace')
     return ran.returncode, ran.stdout
+
+
+BIN = root / 'target/bin'
+
+
+def programs(*paths):
+    """has those of these programs that lie in target/bin stand there, built of the sources as they are (tests/programs)"""
+    names = [p.name for p in map(pathlib.Path.resolve, paths) if p.parent == BIN]
+    if names and subprocess.run([root / 'tests/programs', *names]).returncode:
+        sys.exit(1)
 
 
 # `.ci/run` notes here, right behind rt ci, of which sources what rt ci left in crates/*/out is.

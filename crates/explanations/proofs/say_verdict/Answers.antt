@@ -1,0 +1,14 @@
+-- `explanations::say_verdict` meets its contract: the arrays are asked as the search over all places asks them. Assumes nothing.
+use borrow.Author.Rules.{rules}
+use native.Mathlib.Omega.{arith}
+use Rattle.explanations.proofs.VerdictSearch.{all_asked, all_small, search-asked, place-asked}
+use Rattle.explanations.proofs.say_verdict.Goals as goal
+
+pub total-all-requires : goal.total-all-requires
+total-all-requires c = all_asked c.requires
+
+pub search-w-requires : goal.search-w-requires
+search-w-requires c = record { from_le_end = (omega arith, omega (arith, all_small c.requires c.total-all.ensures)); search_asked = search-asked c.requires c.total-all.ensures }
+
+pub find-f-requires : goal.find-f-requires
+find-f-requires c = place-asked c.requires c.total-all.ensures c.search-w.ensures c.if-w.true

@@ -25,14 +25,11 @@ never : (n m : ℕ) → n ≤ m → m < n → ⊥
 never n m h k = omega arith
 
 module _ (nodes : List ℕ) (from : ℕ) (ok : Bool) where
-  pub heading-fine : ok ≡ true → HeadingFaulted nodes from ok 0
-  heading-fine e i h = sym (ap (λ (b : Bool). unless_key b (key i 12)) e)
-
   pub heading-short : from < 4 → HeadingFaulted nodes from ok 0
   heading-short l i h = absurd (never 4 from h.behind l)
 
-  pub heading-over : (w l r : ℕ) → ok ≡ false → w ≡ l → l ≡ get_or nodes (from - 4 + 2) 0 → r ≡ w * key_room + 13 → HeadingFaulted nodes from ok r
-  heading-over w l r e p q s i h = let place : w ≡ i = p ∙ (q ∙ h.place) in let sum : r ≡ key i 12 = omega (arith, s, place) in sum ∙ sym (ap (λ (b : Bool). unless_key b (key i 12)) e)
+  pub heading-over : (w l r : ℕ) → w ≡ l → l ≡ get_or nodes (from - 4 + 2) 0 → r ≡ unless_key ok (key w 12) → HeadingFaulted nodes from ok r
+  heading-over w l r p q s i h = s ∙ ap (λ (j : ℕ). unless_key ok (key j 12)) (p ∙ (q ∙ h.place))
 
 -- ---- a group ----
 

@@ -1,17 +1,18 @@
 // Number 12: how many bindings the variables of a state have, and the inputs and the outputs of an operation.
 ghost use Rattle.std.specs.Prelude.{◌≡◌, ◌&&◌, ◌+◌, ◌-◌, ◌*◌, ◌^◌, ◌≤◌, ◌<◌, leb, length};
+ghost use Rattle.type_rules.specs.TypesByNumber.{fault_key};
 ghost use Rattle.binding_counts.specs.BindingsByNumber.{cap, size_at, TypeCounted, FactorCounted, GroupCounted, HeadingFaulted, StateBound, OperationBound, OperationsBound, BindingsSeen};
 
 use form::name_endings::{INPUT, OUTPUT, PLAIN};
 use form::{node, shapes};
 use lexical::bounds::{PARAMETER_BINDINGS, STATE_BINDINGS};
 use lexical::endings;
+use lexical::refusals::{Fault, Refusal};
 use names::SIZES;
 use names::passes::part;
 use node_spans::span;
 use type_rules::entries::FIRST_GIVEN;
-use type_rules::faults;
-use type_rules::kinds::{KEY_ROOM, index, lesser_of, look, size_in, wide};
+use type_rules::kinds::{lesser_of, look, size_in, unless};
 
 // A product of counts; the limit and one for all above it.
 fn product(limit: u32, n: u32, m: u32) -> u32
@@ -31,10 +32,8 @@ fn power(limit: u32, b: u32, k: u32) -> u32
     ensures { (result ≡ cap limit (b ^ k)) × (result ≤ limit + 1) }
 {
     let mut n: u32 = 1;
-    let mut i: u32 = 0;
-    while i < k {
+    for i in 0..k {
         n = product(limit, n, b);
-        i += 1;
     }
     n
 }
@@ -43,7 +42,7 @@ fn power(limit: u32, b: u32, k: u32) -> u32
 fn size_of(names: &[u16], sizes: &[u16], x: u16) -> u32
     ensures { (result ≡ size_at names.now sizes.now x) × (result < 65536) }
 {
-    let k = index(look(names, index(x)));
+    let k = usize::from(look(names, usize::from(x)));
     if k < FIRST_GIVEN {
         return size_in(sizes, 0);
     }
@@ -55,7 +54,7 @@ fn width(a: u16, b: u16) -> u32
     ensures { (result ≡ b - a + 1) × (result ≤ 65536) }
 {
     if a <= b {
-        return wide(b) - wide(a) + 1;
+        return u32::from(b) - u32::from(a) + 1;
     }
     1
 }
@@ -108,29 +107,24 @@ fn group(code: &[u16], ending: u16, limit: u32, names: &[u16], sizes: &[u16]) ->
     n
 }
 
-// The key of too many bindings at the text's first symbol.
-const MANY: u32 = faults::MANY_BINDINGS + 1;
-
 // The fault at the heading in front of `from`, unless all is well.
-fn heading_fault(nodes: &[u16], from: usize, ok: bool) -> u32
-    ensures { HeadingFaulted nodes.now from ok result }
+fn heading_fault(nodes: &[u16], from: usize, ok: bool) -> Option<Fault>
+    ensures { HeadingFaulted nodes.now from ok (fault_key result) }
 {
-    if ok {
-        return 0;
-    }
     if from < node::SIZE {
-        return 0;
+        return None;
     }
-    wide(look(nodes, from - node::SIZE + node::PLACE)) * KEY_ROOM + MANY
+    let i = usize::from(look(nodes, from - node::SIZE + node::PLACE));
+    unless(ok, i, Refusal::ManyBindings)
 }
 
 // The state whose variables stand from the span k on.
-fn state(nodes: &[u16], spans: &[u16], k: usize, names: &[u16], sizes: &[u16]) -> u32
+fn state(nodes: &[u16], spans: &[u16], k: usize, names: &[u16], sizes: &[u16]) -> Option<Fault>
     requires { k < 65536 }
-    ensures { StateBound nodes.now spans.now k names.now sizes.now result }
+    ensures { StateBound nodes.now spans.now k names.now sizes.now (fault_key result) }
 {
-    let from = index(look(spans, k));
-    let to = index(look(spans, k + span::LAST));
+    let from = usize::from(look(spans, k));
+    let to = usize::from(look(spans, k + span::LAST));
     let n = group(part(nodes, from, to), PLAIN, STATE_BINDINGS, names, sizes);
     heading_fault(nodes, from, n <= STATE_BINDINGS)
 }
@@ -142,12 +136,12 @@ fn both_few(n: u32, m: u32) -> bool
 }
 
 // The operation k.
-fn operation(nodes: &[u16], spans: &[u16], k: usize, names: &[u16], sizes: &[u16]) -> u32
+fn operation(nodes: &[u16], spans: &[u16], k: usize, names: &[u16], sizes: &[u16]) -> Option<Fault>
     requires { k < 65536 }
-    ensures { OperationBound nodes.now spans.now k names.now sizes.now result }
+    ensures { OperationBound nodes.now spans.now k names.now sizes.now (fault_key result) }
 {
-    let from = index(look(spans, span::OPERATIONS + span::OPERATION * k));
-    let to = index(look(spans, span::OPERATIONS + span::OPERATION * k + span::LAST));
+    let from = usize::from(look(spans, span::OPERATIONS + span::OPERATION * k));
+    let to = usize::from(look(spans, span::OPERATIONS + span::OPERATION * k + span::LAST));
     let code = part(nodes, from, to);
     let inputs = group(code, INPUT, PARAMETER_BINDINGS, names, sizes);
     let outputs = group(code, OUTPUT, PARAMETER_BINDINGS, names, sizes);
@@ -155,24 +149,28 @@ fn operation(nodes: &[u16], spans: &[u16], k: usize, names: &[u16], sizes: &[u16
 }
 
 // The first n operations, as many as the spans have room for.
-fn all_operations(nodes: &[u16], spans: &[u16], n: usize, names: &[u16], sizes: &[u16]) -> u32
+fn all_operations(
+    nodes: &[u16],
+    spans: &[u16],
+    n: usize,
+    names: &[u16],
+    sizes: &[u16],
+) -> Option<Fault>
     requires { length spans.now ≡ 80 }
-    ensures { OperationsBound nodes.now spans.now n names.now sizes.now result }
+    ensures { OperationsBound nodes.now spans.now n names.now sizes.now (fault_key result) }
 {
-    let mut f: u32 = 0;
-    let mut k: usize = 0;
-    while k < n {
+    let mut f = None;
+    for k in 0..n {
         if span::ROOM <= k {
             return f;
         }
         let g = operation(nodes, spans, k, names, sizes);
         f = lesser_of(f, g);
-        k += 1;
     }
     f
 }
 
-// The least fault (place * KEY_ROOM + number + 1, places by symbols), or 0. The spans say where the parts of a dossier stand among its nodes,
+// The least fault, with its place by symbols. The spans say where the parts of a dossier stand among its nodes,
 // the names what each name is, by its number, the sizes how many elements each given set has.
 pub fn bindings(
     nodes: &[u16],
@@ -180,8 +178,8 @@ pub fn bindings(
     operations: usize,
     names: &[u16],
     sizes: &[u16; SIZES],
-) -> u32
-    ensures { BindingsSeen nodes.now spans.now operations names.now sizes.now result }
+) -> Option<Fault>
+    ensures { BindingsSeen nodes.now spans.now operations names.now sizes.now (fault_key result) }
 {
     let a = state(nodes, spans, span::ABSTRACT_FIRST, names, sizes);
     let c = state(nodes, spans, span::CONCRETE_FIRST, names, sizes);

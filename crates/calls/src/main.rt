@@ -5,10 +5,9 @@
 ghost use Rattle.std.specs.Prelude.{◌≤◌, length, min, IfOk};
 
 use checker::{advance, drop, load, verdict, witness};
-use held_checks::{
-    AdvanceReply, HELD, LoadReply, Obligation, TEXT, Verdict, VerdictReply, WitnessReply, length_in,
-};
+use held_checks::{HELD, LoadRefusal, Obligation, TEXT, Verdict, length_in};
 use lexical::classes::byte_at;
+use lexical::refusals::Refusal;
 use reports::{FIRST_LINE, refuted_line};
 use std::io;
 use std::io::{Read, Write};
@@ -87,7 +86,8 @@ fn print_number<W: Write>(output: &mut W, n: usize) -> io::Result<()> {
     writeln!(output, "{n}")
 }
 
-fn print_refused<W: Write>(output: &mut W, n: usize) -> io::Result<()> {
+fn print_refused<W: Write>(output: &mut W, refusal: Refusal) -> io::Result<()> {
+    let n = refusal.number();
     writeln!(output, "refused {n}")
 }
 
@@ -102,9 +102,13 @@ fn run_load<W: Write>(
     let end = onward(from, n.value, script.len());
     let answer = load(&script[from..end], held);
     match answer {
-        LoadReply::Loaded => print(output, b"ok\n")?,
-        LoadReply::Faulty(k, p) => writeln!(output, "refused {k} at {p}")?,
-        LoadReply::SomethingHeld => print_refused(output, 22)?,
+        Ok(()) => print(output, b"ok\n")?,
+        Err(LoadRefusal::Faulty(fault)) => {
+            let k = fault.refusal.number();
+            let p = fault.place;
+            writeln!(output, "refused {k} at {p}")?
+        }
+        Err(LoadRefusal::SomethingHeld) => print_refused(output, Refusal::SomethingHeld)?,
     }
     Ok(onward(end, 1, script.len()))
 }
@@ -112,10 +116,8 @@ fn run_load<W: Write>(
 fn run_advance<W: Write>(output: &mut W, n: usize, held: &mut [u8; HELD]) -> io::Result<()> {
     let answer = advance(n, held);
     match answer {
-        AdvanceReply::Looked(k) => print_number(output, k),
-        AdvanceReply::NothingHeld => print_refused(output, 21),
-        AdvanceReply::CheckFinished => print_refused(output, 23),
-        AdvanceReply::OutOfRange => print_refused(output, 15),
+        Ok(k) => print_number(output, k),
+        Err(refusal) => print_refused(output, refusal),
     }
 }
 
@@ -156,8 +158,8 @@ fn print_verdict<W: Write>(output: &mut W, held: &[u8; HELD], v: Verdict) -> io:
 fn run_verdict<W: Write>(output: &mut W, held: &[u8; HELD]) -> io::Result<()> {
     let answer = verdict(held);
     match answer {
-        VerdictReply::Is(v) => print_verdict(output, held, v),
-        VerdictReply::NothingHeld => print_refused(output, 21),
+        Ok(v) => print_verdict(output, held, v),
+        Err(refusal) => print_refused(output, refusal),
     }
 }
 
@@ -167,10 +169,8 @@ fn lend<W: Write>(output: &mut W, n: usize, held: &[u8; HELD], space: &mut [u8])
     let end = onward(start, n, space.len());
     let answer = witness(held, &mut space[start..end]);
     match answer {
-        WitnessReply::Written(k) => print_number(output, k)?,
-        WitnessReply::NothingHeld => print_refused(output, 21)?,
-        WitnessReply::NoCounterexample => print_refused(output, 24)?,
-        WitnessReply::ShortBytes => print_refused(output, 16)?,
+        Ok(k) => print_number(output, k)?,
+        Err(refusal) => print_refused(output, refusal)?,
     }
     print_front(output, space, end)?;
     print(output, b"\n")
@@ -224,7 +224,7 @@ fn run<W: Write>(output: &mut W, script: &[u8], held: &mut [u8; HELD]) -> io::Re
     Ok(())
 }
 
-// Reads until the text is full or the input ends; how many bytes of it there are.
+// Reads until the text is full or the input ends; how many bytes of it there are. The same as of `dossier`: the libraries read no input.
 fn read_front<R: Read>(input: &mut R, text: &mut [u8]) -> io::Result<usize>
     ensures { IfOk result (λ n. n ≤ length text.new) }
 {

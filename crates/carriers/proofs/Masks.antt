@@ -112,11 +112,10 @@ module _ (least n m k : ℕ) (hl : least ≤ 1) (hm : least ≤ m) (hn : n * m �
 -- ---- how many there are
 
 -- as many as there are sets of so many bits, at most
-pub count_small : (least m n i : ℕ) → i < n → n * m ≤ 16 → (m + 1 - least) ^ suc i ≤ 65536
-count_small least m n i h u =
-    let a : suc i * m ≤ n * m = mul-le-mul_right m h in
+pub count_small : (least m n : ℕ) → n * m ≤ 16 → (m + 1 - least) ^ n ≤ 65536
+count_small least m n u =
     let b : m + 1 - least ≤ 2 ^ m = omega (arith, under-power m) in
-    le_trans (pow-le-pow_left b (suc i)) (subst (λ (x : ℕ). x ≤ 65536) (sym (pow_rows m (suc i))) (pow_mono {i = suc i * m} {j = 16} (omega arith)))
+    le_trans (pow-le-pow_left b n) (subst (λ (x : ℕ). x ≤ 65536) (sym (pow_rows m n)) (pow_mono {i = n * m} {j = 16} u))
 
 pub counted : (least m n r : ℕ) → least ≤ 1 → r ≡ (m + 1 - least) ^ n → r ≡ choices least m ^ n
 counted least m n r h e = e ∙ ap (λ (x : ℕ). x ^ n) (base-is least m h)

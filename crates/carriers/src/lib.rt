@@ -48,15 +48,13 @@ fn mask_at(least: u32, n: u32, m: u32, k: u32) -> u16
     let mut rest = k;
     let mut from: u32 = 0;
     let mut r: u16 = 0;
-    let mut i: u32 = 0;
-    while i < n {
+    for i in 0..n {
         let d = rest % base + least;
         if d != 0 {
             r += sets::single(from + d - 1);
         }
         rest = rest / base;
         from += m;
-        i += 1;
     }
     r
 }
@@ -83,13 +81,7 @@ fn count_at(least: u32, n: u32, m: u32) -> u32
         return 1;
     }
     let base = m + 1 - least;
-    let mut r: u32 = 1;
-    let mut i: u32 = 0;
-    while i < n {
-        r = r * base;
-        i += 1;
-    }
-    r
+    base.pow(n)
 }
 
 // How many partial functions there are from n elements to m; where a set cannot hold the pairs, the empty one alone.

@@ -1,5 +1,6 @@
 -- Advance: what is asked of the search, and what its answer says of the call. Assumes nothing.
 use mathlib.Core.Path.{◌≡◌, refl, sym, ap, ap₂, ◌∙◌, subst}
+use Rattle.std.specs.Prelude.{Option, None, Some, is_some, unwrap_or, min}
 use mathlib.Core.Bool.{Bool, true, false, cond, ◌||◌}
 use mathlib.Core.List.{List, []}
 use Prim.Native.Nat.{ℕ, suc, ◌+◌, ◌-◌, ◌<◌, ◌≤◌, ◌^◌}
@@ -14,13 +15,14 @@ use Rattle.obligations.specs.Calls as calls
 use Rattle.obligations.specs.Calls.{unfinished, Held, holding, advance, outcome, verdict_at, advanced, advancing, respond}
 use Rattle.obligations.proofs.Looks.{look-whole, look-first}
 use Rattle.obligations.proofs.Advances.{next-length}
-use Rattle.parts.specs.SearchPromises.{SearchAsked, SearchAnswers}
+use Rattle.parts.specs.SearchPromises.{came_to, SearchAsked, SearchAnswers}
+use Rattle.parts.proofs.Stops.{looks-at, stops_low}
 use Rattle.parts.proofs.ReadingSizes.{reading_small}
 use Rattle.held_checks.specs.HeldBytes.{bytes_of, held_text, held_by}
-use Rattle.held_checks.specs.declared.AdvanceReply.{AdvanceReply}
-use Rattle.held_checks.specs.Answers.{refused, advance_answer}
+use Rattle.held_checks.specs.Answers.{refused, looked}
 use Rattle.held_checks.specs.CallPromises.{Responds}
-use Rattle.held_checks.specs.StepPromises.{place_after, Moves}
+use Rattle.held_checks.specs.StepPromises.{place_after, mark_after}
+use Rattle.held_checks.specs.BytePromises.{Turned}
 use Rattle.checker.specs.OpenPromises.{Opened}
 use Rattle.checker.proofs.MarkLaws.{fits-unfinished, marked-unfinished, mark-is}
 use Rattle.checker.proofs.CallLaws.{responds, refuses, held-as}
@@ -39,6 +41,15 @@ in-range n z h = ap₂ ◌||◌ (ne_eqb n 0 z) (le-ltb 1000000000 n h)
 
 over-range : (n : ℕ) → 1000000000 < n → (eqb n 0 || ltb 1000000000 n) ≡ true
 over-range n h = ap₂ ◌||◌ (ne_eqb n 0 (λ e. absurd (omega arith))) (lt-ltb 1000000000 n h)
+
+-- a look from one place to another
+abbrev look-to : (p at : ℕ) → Bool → Look
+look-to p at failed = record { count = cond failed (suc (at - p)) (at - p); failed = failed }
+
+-- where a search stops, in the words of the code
+pub stop-is : (end all : ℕ) (failing : Option ℕ) {at m : ℕ} → at ≡ unwrap_or failing m → m ≡ min end all → at ≡ came_to end all failing
+stop-is end all None e f = e ∙ f
+stop-is end all (Some x) e f = e
 
 -- how many were looked at, from the place that the search came to
 count_is : (p at : ℕ) (failed : Bool) → p ≤ at → p + cond failed (suc (at - p)) (at - p) ≡ place_after failed at
@@ -73,14 +84,13 @@ module _ {b table rows firsts groups labels : List ℕ} {mark place operations a
   unfolding respond
   is-advancing n = ap (λ (h : Held). respond h (advance n)) (held-as o (marked-unfinished σ place one))
 
-  out_of_range : (n : ℕ) → (eqb n 0 || ltb 1000000000 n) ≡ true → Responds b (advance n) b [] (refused 15)
-  unfolding number_of
+  out_of_range : (n : ℕ) → (eqb n 0 || ltb 1000000000 n) ≡ true → Responds b (advance n) b [] (refused (number_of advance_range))
   out_of_range n e = refuses advance_range (holding σ place unfinished) (is-advancing n ∙ advancing-not σ place n e) refl refl
 
-  pub advance-none : (n : ℕ) → n ≡ 0 → Responds b (advance n) b [] (refused 15)
+  pub advance-none : (n : ℕ) → n ≡ 0 → Responds b (advance n) b [] (refused (number_of advance_range))
   advance-none n e = out_of_range n (ap (λ (k : ℕ). eqb k 0 || ltb 1000000000 k) e)
 
-  pub advance-over : (n : ℕ) → 1000000000 < n → Responds b (advance n) b [] (refused 15)
+  pub advance-over : (n : ℕ) → 1000000000 < n → Responds b (advance n) b [] (refused (number_of advance_range))
   advance-over n h = out_of_range n (over-range n h)
 
   place-low : place < total σ
@@ -93,11 +103,16 @@ module _ {b table rows firsts groups labels : List ℕ} {mark place operations a
   pub place-small : place < 2 ^ 53
   place-small = omega (arith, place-low, reading_small o.arrays)
 
-  module _ {n at end : ℕ} {failed : Bool} (positive : n ≡ 0 → ⊥) (low : n ≤ 1000000000) (is : end ≡ place + n) (w : SearchAnswers table rows firsts groups operations place end at failed) where
+  module _ {n at end : ℕ} {failing : Option ℕ} {failed : Bool} (positive : n ≡ 0 → ⊥) (low : n ≤ 1000000000) (is : end ≡ place + n) (w : SearchAnswers table rows firsts groups operations place end failing)
+      (stop : at ≡ came_to end all failing) (came : is_some failing ≡ failed) where
+    -- the search stops no earlier than where it began
+    pub looked-least : place ≤ at
+    looked-least = stops_low failing w (omega arith) (omega (arith, o.all_is, place-low)) stop
+
     looks : look σ (take n (drop place (checks σ))) ≡ record { count = cond failed (suc (at - place)) (at - place); failed = failed }
     looks =
         let s : end - place ≡ n = omega arith in
-        ap (λ (k : ℕ). look σ (take k (drop place (checks σ)))) (sym s) ∙ w.looks o.dossier o.arrays o.many (omega (arith, place-low))
+        ap (λ (k : ℕ). look σ (take k (drop place (checks σ)))) (sym s) ∙ looks-at w o.dossier o.arrays o.many (omega (arith, place-low)) o.all_is stop ∙ ap (look-to place at) came
 
     -- the search stops no later than asked
     pub looked-most : at ≤ place + n
@@ -107,11 +122,12 @@ module _ {b table rows firsts groups labels : List ℕ} {mark place operations a
         let m : at - place ≤ n = least-of (at - place) n failed s in
         omega (arith, m)
 
-    pub advance-looked : {after : List ℕ} {r : AdvanceReply} → Moves b place all failed at after r → Responds b (advance n) after [] (advance_answer r)
-    advance-looked m =
+    pub advance-looked : {after : List ℕ} {r : ℕ} → Turned b (place_after failed at) (mark_after failed all (place_after failed at)) after → r ≡ place_after failed at - place
+        → Responds b (advance n) after [] (looked r)
+    advance-looked m e =
         let next : ℕ = place_after failed at in
         responds (outcome (calls.looked (next - place)) (holding σ next (verdict_at σ next failed)) [])
-        (is-advancing n ∙ advancing-by σ place n (in-range n positive low) ∙ ap (advanced σ place) looks ∙ advanced-is σ place at next failed w.low refl)
-        m.answer
-        (m.bytes.is (held_text b) place mark o.short o.bytes ∙ ap (bytes_of (held_text b) next) (mark-is σ next o.all_is failed))
+        (is-advancing n ∙ advancing-by σ place n (in-range n positive low) ∙ ap (advanced σ place) looks ∙ advanced-is σ place at next failed looked-least refl)
+        (ap looked e)
+        (m.is (held_text b) place mark o.short o.bytes ∙ ap (bytes_of (held_text b) next) (mark-is σ next o.all_is failed))
         refl

@@ -1,6 +1,6 @@
 -- What a mark that fits its place says, and the verdict that it stands for. Assumes nothing.
 use mathlib.Core.Path.{◌≡◌, refl, sym, ap, ap₂, ◌∙◌}
-use mathlib.Core.Bool.{Bool, true, false, cond, ◌&&◌, ◌||◌, or-false}
+use mathlib.Core.Bool.{Bool, true, false, cond, not, ◌&&◌, ◌||◌, or-false, false≢true}
 use Prim.Native.Nat.{ℕ, pred, ◌<◌, ◌≤◌}
 use native.Mathlib.Omega.{arith}
 use lib.Dec.{eqb, ltb, leb}
@@ -11,7 +11,11 @@ use Rattle.obligations.specs.Order.{obligation_of, total}
 use Rattle.obligations.specs.Report.{check_at}
 use Rattle.obligations.specs.Calls.{unfinished, accepted, refuted, verdict_at}
 use Rattle.held_checks.specs.HeldBytes.{mark_of, fitting, verdict_marked}
-use Rattle.held_checks.specs.StepPromises.{mark_after}
+use Rattle.held_checks.specs.StepPromises.{mark_after, mark_byte}
+use denote.Enum.Bare.{sameb}
+use Rattle.held_checks.specs.contracts.Mark as contract
+use Rattle.held_checks.specs.declared.Mark.{Mark}
+use Rattle.held_checks.specs.declared.Mark.TheVariants.{Unfinished, Accepted, Refuted}
 
 module _ (all place mark : ℕ) (f : fitting all place mark ≡ true) where
   -- "unfinished only before the last place"
@@ -40,8 +44,32 @@ module _ (all place mark : ℕ) (f : fitting all place mark ≡ true) where
       on true q = eqb-true mark 2 q
       on false q = absurd (m (fits-refuted n (eqb-false mark 2 q)).0)
 
-pub above : {m : ℕ} → (m ≡ 0 → ⊥) → 0 < m
-above {m} e = let n : m ≡ 0 → ⊥ = e in omega arith
+-- no other byte is one of a mark
+pub fits-none : (n p m : ℕ) → (m ≡ 1 → ⊥) → (m ≡ 2 → ⊥) → (m ≡ 3 → ⊥) → false ≡ fitting n p m
+unfolding fitting
+fits-none n p m a b c = rw (fitting, ne_eqb m 1 a, ne_eqb m 2 b, ne_eqb m 3 c) refl
+
+-- a mark compared with one of them
+module _ {r : Bool} where
+  pub not-unfinished : (k : Mark) → r ≡ not (sameb contract.the_type k Unfinished) → r ≡ true → mark_byte k ≡ 1 → ⊥
+  not-unfinished Unfinished e f h = absurd (false≢true (sym e ∙ f))
+  not-unfinished Accepted e f h = omega arith
+  not-unfinished Refuted e f h = omega arith
+
+  pub is-unfinished : (k : Mark) → r ≡ not (sameb contract.the_type k Unfinished) → r ≡ false → mark_byte k ≡ 1
+  is-unfinished Unfinished e f = refl
+  is-unfinished Accepted e f = absurd (false≢true (sym f ∙ e))
+  is-unfinished Refuted e f = absurd (false≢true (sym f ∙ e))
+
+  pub not-refuted : (k : Mark) → r ≡ not (sameb contract.the_type k Refuted) → r ≡ true → mark_byte k ≡ 3 → ⊥
+  not-refuted Unfinished e f h = omega arith
+  not-refuted Accepted e f h = omega arith
+  not-refuted Refuted e f h = absurd (false≢true (sym e ∙ f))
+
+  pub is-refuted : (k : Mark) → r ≡ not (sameb contract.the_type k Refuted) → r ≡ false → mark_byte k ≡ 3
+  is-refuted Unfinished e f = absurd (false≢true (sym f ∙ e))
+  is-refuted Accepted e f = absurd (false≢true (sym f ∙ e))
+  is-refuted Refuted e f = refl
 
 pub not-one : {m : ℕ} → m ≡ 3 → m ≡ 1 → ⊥
 not-one e f = omega arith

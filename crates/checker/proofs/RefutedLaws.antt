@@ -1,5 +1,5 @@
 -- Of a refuted check: the obligation and the lines of the binding looked at last. Assumes nothing.
-use mathlib.Core.Path.{◌≡◌, refl, sym, ap, ◌∙◌, subst}
+use mathlib.Core.Path.{◌≡◌, refl, sym, ap, ap₂, ◌∙◌, subst}
 use mathlib.Core.Bool.{Bool, cond}
 use mathlib.Core.List.{List, [], ◌++◌}
 use Prim.Native.Nat.{ℕ, zero, suc, pred, ◌+◌, ◌-◌, ◌*◌, ◌/◌, ◌%◌, ◌<◌, ◌≤◌}
@@ -95,10 +95,10 @@ last-lines {before = before} {after} {place = place} {part} {at} {n} f w = recor
   short = omega (arith, w.short);
 }
 
-pub last_written : {t text labels table groups before after : List ℕ} {operations place part at n : ℕ} → t ≡ text → PlaceFound table groups operations (place - 1) part at
-    → WitnessWritten t labels table groups part at 0 before after n → LastWritten text labels table groups operations place after n
-last_written {labels = labels} {table} {groups} {after = after} {operations} {place} {n = n} e f w =
-    subst (λ (s : List ℕ). LastWritten s labels table groups operations place after n) e (last-lines f w)
+pub last_written : {t text labels table groups before after out : List ℕ} {operations place part at n : ℕ} → t ≡ text → PlaceFound table groups operations (place - 1) part at
+    → WitnessWritten t labels table groups part at 0 before after n → after ≡ out → LastWritten text labels table groups operations place out n
+last_written {text = text} {labels} {table} {groups} {after = after} {operations = operations} {place} {n = n} e f w q =
+    subst (λ (o : List ℕ). LastWritten text labels table groups operations place o n) q (subst (λ (s : List ℕ). LastWritten s labels table groups operations place after n) e (last-lines f w))
 
 -- "into lent bytes from their start, returns the length, touches no byte after it"
 writing-short : (σ : Subject) (p : ℕ) (o : order.Obligation) (lines lent : List ℕ) → length lent < length lines
@@ -148,14 +148,12 @@ module _ {b table rows firsts groups labels : List ℕ} {mark place operations a
     lines_are : (take n out ≡ lines) × (n ≡ length lines)
     lines_are = w.lines o.dossier o.groups_are o.labelled o.many positive inside
 
-    pub witness-short : {l : List ℕ} → length l < n → Responds b (witness l) b l (refused 16)
-    unfolding number_of
+    pub witness-short : {l : List ℕ} → length l < n → Responds b (witness l) b l (refused (number_of short_bytes))
     witness-short {l} h = refuses short_bytes (holding σ place (refuted told)) (is-writing l ∙ writing-short σ place told lines l (omega (arith, lines_are.1))) refl refl
 
-    pub witness-written : {l after : List ℕ} {r : ℕ} → n ≤ length l → Writes 0 (take n (drop 0 out)) l after r → Responds b (witness l) b after (written n)
-    unfolding patch
-    witness-written {l} h v =
+    pub witness-written : {l after : List ℕ} → n ≤ length l → after ≡ take n out → Responds b (witness l) b (after ++ drop n l) (written n)
+    witness-written {l} h e =
         responds (outcome (calls.written (length lines)) (holding σ place (refuted told)) (lines ++ drop (length lines) l))
         (is-writing l ∙ writing-all σ place told lines l (omega (arith, lines_are.1)))
         (ap written lines_are.1) refl
-        (v.written ∙ ap (λ (t : List ℕ). t ++ drop (0 + length t) l) lines_are.0 ∙ ap (λ (k : ℕ). lines ++ drop k l) (zero-add (length lines)))
+        (ap₂ (λ (t : List ℕ) (k : ℕ). t ++ drop k l) (e ∙ lines_are.0) lines_are.1)

@@ -1,5 +1,5 @@
 -- What opening the held bytes leaves: nothing held, or the held check with the arrays of its text; and what the steps of the calls promise each other. Nothing here need be believed.
-use Rattle.std.specs.Prelude.{◌≡◌, true, List, ℕ, pred, ◌<◌, ◌≤◌, length, take}
+use Rattle.std.specs.Prelude.{◌≡◌, true, List, ℕ, pred, ◌<◌, ◌≤◌, length, take, Option, Some, None}
 use Rattle.form.specs.Tree.{Dossier}
 use Rattle.obligations.specs.Subjects.{subject_of}
 use Rattle.obligations.specs.Order.{total}
@@ -8,6 +8,8 @@ use Rattle.obligations.specs.Calls.{nothing, holding}
 use Rattle.readings.specs.Readings.{ReadingOf}
 use Rattle.labels.specs.Labels.{LabelsOf}
 use Rattle.part_places.specs.Places.{GroupsOf}
+use Rattle.held_checks.specs.StepPromises.{mark_byte}
+use Rattle.checker.specs.declared.Opened as code
 use Rattle.held_checks.specs.HeldBytes.{bytes_of, held_text, is_laid, verdict_marked, fitting, held_by}
 
 -- something is held: the text's dossier, the place and the mark
@@ -24,10 +26,9 @@ pub record Opened (b table rows firsts groups labels : List ℕ) (mark place ope
   pub short : length (held_text b) ≤ 32768
   pub holds : held_by b ≡ holding (subject_of dossier) place (verdict_marked (subject_of dossier) place mark)
 
--- the mark is 0 where nothing is held
-pub record Opens (b table rows firsts groups labels : List ℕ) (mark place operations all : ℕ) : Type 0 where
-  pub none : mark ≡ 0 → held_by b ≡ nothing
-  pub some : 0 < mark → Opened b table rows firsts groups labels mark place operations all
+pub record Opens (b table rows firsts groups labels : List ℕ) (r : Option code.Opened) : Type 0 where
+  pub none : r ≡ None → held_by b ≡ nothing
+  pub some : (o : code.Opened) → r ≡ Some o → Opened b table rows firsts groups labels (mark_byte o.mark) o.place o.operations o.all
 
 -- asked of a refuted check: the binding looked at last
 pub record LastAsked (text labels table groups : List ℕ) (operations place : ℕ) : Type 0 where

@@ -13,39 +13,30 @@ ghost use Rattle.checker.specs.OpenPromises.{Opens, LastAsked, LastWritten};
 
 use form::node::NUMBERS;
 use held_checks::{
-    AdvanceReply, HELD, LoadReply, MARK, NOTHING, REFUTED, TEXT, UNFINISHED, Verdict, VerdictReply,
-    WitnessReply, clear, come_to, fits, laid, lay, length_in, obligation_of, place_in, told,
+    HELD, LoadRefusal, Mark, TEXT, Verdict, clear, come_to, fits, laid, lay, length_in, mark_in,
+    obligation_of, place_in, told,
 };
-use labels::LABELS;
+use labels::{LABELS, Names};
+use lexical::refusals::{Fault, Refusal};
 use part_places::{find, total};
 use parts::search;
-use pieces::put_part;
+use pieces::Writer;
+use search_groups::Dossier;
 use search_groups::conjuncts::FIRSTS;
 use search_groups::groups::GROUPS;
-use text_readings::{TextRead, read_text};
+use text_readings::read_text;
 use witnesses::{WITNESS, put_witness};
 
 // Number 15: the longest advance.
 const LONGEST: usize = 1000000000;
 
-// What is held: the mark, or 0 for nothing, the place, how many operations and how many places there are.
+// What is held: the mark, the place, how many operations and how many places there are.
 #[derive(Clone, Copy)]
 pub struct Opened {
-    pub mark: u8,
+    pub mark: Mark,
     pub place: usize,
     pub operations: usize,
     pub all: usize,
-}
-
-fn nothing() -> Opened
-    ensures { result.mark ≡ 0 }
-{
-    Opened {
-        mark: NOTHING,
-        place: 0,
-        operations: 0,
-        all: 0,
-    }
 }
 
 // The bytes of a text of length n.
@@ -65,7 +56,7 @@ fn open_text(
     firsts: &mut [u16; FIRSTS],
     groups: &mut [u16; GROUPS],
     labels: &mut [u16; LABELS],
-) -> TextRead
+) -> Result<usize, Fault>
     requires { is_laid held.now ≡ true }
     ensures { ReadsText (held_text held.now) table.new rows.new firsts.new groups.new labels.new result }
 {
@@ -81,34 +72,35 @@ fn open_bytes(
     firsts: &mut [u16; FIRSTS],
     groups: &mut [u16; GROUPS],
     labels: &mut [u16; LABELS],
-) -> Opened
-    ensures { Opens held.now table.new rows.new firsts.new groups.new labels.new result.mark result.place result.operations result.all }
+) -> Option<Opened>
+    ensures { Opens held.now table.new rows.new firsts.new groups.new labels.new result }
 {
     if !laid(held) {
-        return nothing();
+        return None;
     }
-    let answer = open_text(held, table, rows, firsts, groups, labels);
-    match answer {
-        TextRead::Refused(_, _) => nothing(),
-        TextRead::Read(operations) => {
-            let all = total(table, groups, operations);
-            let place = place_in(held);
-            let mark = held[MARK];
-            if !fits(all, place, mark) {
-                return nothing();
-            }
-            Opened {
-                mark,
-                place,
-                operations,
-                all,
-            }
-        }
+    let operations = open_text(held, table, rows, firsts, groups, labels).ok()?;
+    let all = total(&Dossier {
+        table,
+        rows,
+        firsts,
+        groups,
+        operations,
+    });
+    let place = place_in(held);
+    let mark = mark_in(held)?;
+    if !fits(all, place, mark) {
+        return None;
     }
+    Some(Opened {
+        mark,
+        place,
+        operations,
+        all,
+    })
 }
 
 // Load a text.
-pub fn load(text: &[u8], held: &mut [u8; HELD]) -> LoadReply
+pub fn load(text: &[u8], held: &mut [u8; HELD]) -> Result<(), LoadRefusal>
     ensures { Responds held.old (call.load text.now) held.new [] (load_answer result) }
 {
     let mut table = [0u16; NUMBERS];
@@ -124,25 +116,23 @@ pub fn load(text: &[u8], held: &mut [u8; HELD]) -> LoadReply
         &mut groups,
         &mut labels,
     );
-    if o.mark != NOTHING {
-        return LoadReply::SomethingHeld;
+    if o.is_some() {
+        return Err(LoadRefusal::SomethingHeld);
     }
-    let answer = read_text(
+    read_text(
         text,
         &mut table,
         &mut rows,
         &mut firsts,
         &mut groups,
         &mut labels,
-    );
-    match answer {
-        TextRead::Refused(n, p) => LoadReply::Faulty(n, p),
-        TextRead::Read(_) => lay(text, held),
-    }
+    )?;
+    lay(text, held);
+    Ok(())
 }
 
 // Advance by n.
-pub fn advance(n: usize, held: &mut [u8; HELD]) -> AdvanceReply
+pub fn advance(n: usize, held: &mut [u8; HELD]) -> Result<usize, Refusal>
     ensures { Responds held.old (call.advance n) held.new [] (advance_answer result) }
 {
     let mut table = [0u16; NUMBERS];
@@ -158,32 +148,33 @@ pub fn advance(n: usize, held: &mut [u8; HELD]) -> AdvanceReply
         &mut groups,
         &mut labels,
     );
-    if o.mark == NOTHING {
-        return AdvanceReply::NothingHeld;
-    }
-    if o.mark != UNFINISHED {
-        return AdvanceReply::CheckFinished;
+    let Some(o) = o else {
+        return Err(Refusal::NothingHeld);
+    };
+    if o.mark != Mark::Unfinished {
+        return Err(Refusal::CheckFinished);
     }
     if n == 0 {
-        return AdvanceReply::OutOfRange;
+        return Err(Refusal::AdvanceRange);
     }
     if n > LONGEST {
-        return AdvanceReply::OutOfRange;
+        return Err(Refusal::AdvanceRange);
     }
-    let w = search(
-        &table,
-        &rows,
-        &firsts,
-        &groups,
-        o.operations,
-        o.place,
-        o.place + n,
-    );
-    come_to(held, o.place, o.all, w.failed, w.at)
+    let d = Dossier {
+        table: &table,
+        rows: &rows,
+        firsts: &firsts,
+        groups: &groups,
+        operations: o.operations,
+    };
+    let end = o.place + n;
+    let failing = search(&d, o.place, end);
+    let at = failing.unwrap_or(end.min(o.all));
+    Ok(come_to(held, o.place, o.all, failing.is_some(), at))
 }
 
 // The verdict so far.
-pub fn verdict(held: &[u8; HELD]) -> VerdictReply
+pub fn verdict(held: &[u8; HELD]) -> Result<Verdict, Refusal>
     ensures { Responds held.now call.verdict held.now [] (verdict_answer result) }
 {
     let mut table = [0u16; NUMBERS];
@@ -199,34 +190,49 @@ pub fn verdict(held: &[u8; HELD]) -> VerdictReply
         &mut groups,
         &mut labels,
     );
-    if o.mark != REFUTED {
-        return told(o.mark);
+    let Some(o) = o else {
+        return Err(Refusal::NothingHeld);
+    };
+    if let Some(v) = told(o.mark) {
+        return Ok(v);
     }
-    let f = find(&table, &groups, o.operations, o.place - 1);
-    VerdictReply::Is(Verdict::Refuted(obligation_of(f.part)))
+    let d = Dossier {
+        table: &table,
+        rows: &rows,
+        firsts: &firsts,
+        groups: &groups,
+        operations: o.operations,
+    };
+    let f = find(&d, o.place - 1);
+    Ok(Verdict::Refuted(obligation_of(f.part)))
 }
 
-// The witness of a held text, in bytes of its own.
+// The lines of the binding before a place of a held text, in bytes of their own.
 fn put_held(
     held: &[u8; HELD],
     labels: &[u16; LABELS],
-    table: &[u16; NUMBERS],
-    groups: &[u16; GROUPS],
-    o: Opened,
+    d: &Dossier<'_>,
+    place: usize,
     out: &mut [u8],
 ) -> usize
     requires out_len { length out.old ≡ 19350 }
     requires held_value { is_laid held.now ≡ true }
-    requires last_asked { LastAsked (held_text held.now) labels.now table.now groups.now o.operations o.place }
-    ensures { LastWritten (held_text held.now) labels.now table.now groups.now o.operations o.place out.new result }
+    requires last_asked { LastAsked (held_text held.now) labels.now d.now.table.now d.now.groups.now d.now.operations place }
+    ensures { LastWritten (held_text held.now) labels.now d.now.table.now d.now.groups.now d.now.operations place out.new result }
 {
-    let f = find(table, groups, o.operations, o.place - 1);
+    let f = find(d, place - 1);
     let n = length_in(held);
-    put_witness(text_in(held, n), labels, table, groups, f, out, 0)
+    let names = Names {
+        text: text_in(held, n),
+        labels,
+    };
+    let mut w = Writer { out, at: 0 };
+    put_witness(&names, d, f, &mut w);
+    w.at
 }
 
 // The binding that a refuted check has found, in lent bytes.
-pub fn witness(held: &[u8; HELD], lent: &mut [u8]) -> WitnessReply
+pub fn witness(held: &[u8; HELD], lent: &mut [u8]) -> Result<usize, Refusal>
     ensures { Responds held.now (call.witness lent.old) held.now lent.new (witness_answer result) }
 {
     let mut table = [0u16; NUMBERS];
@@ -242,19 +248,26 @@ pub fn witness(held: &[u8; HELD], lent: &mut [u8]) -> WitnessReply
         &mut groups,
         &mut labels,
     );
-    if o.mark == NOTHING {
-        return WitnessReply::NothingHeld;
+    let Some(o) = o else {
+        return Err(Refusal::NothingHeld);
+    };
+    if o.mark != Mark::Refuted {
+        return Err(Refusal::NoCounterexample);
     }
-    if o.mark != REFUTED {
-        return WitnessReply::NoCounterexample;
-    }
+    let d = Dossier {
+        table: &table,
+        rows: &rows,
+        firsts: &firsts,
+        groups: &groups,
+        operations: o.operations,
+    };
     let mut out = [0u8; WITNESS];
-    let n = put_held(held, &labels, &table, &groups, o, &mut out);
+    let n = put_held(held, &labels, &d, o.place, &mut out);
     if lent.len() < n {
-        return WitnessReply::ShortBytes;
+        return Err(Refusal::ShortBytes);
     }
-    put_part(&out, 0, n, lent, 0);
-    WitnessReply::Written(n)
+    lent[..n].copy_from_slice(&out[..n]);
+    Ok(n)
 }
 
 // Nothing is held any more.

@@ -2,305 +2,160 @@
 // proved of the conjunct's table.
 #![tactic(auto)]
 
-ghost use Rattle.std.specs.Prelude.{◌≤◌};
-
 use form::node;
 use form::node::NUMBERS;
 use lexical::bounds::SYMBOLS;
 use lexical::codes;
-use parser::{Parsed, parse};
+use parser::parse;
+use symbol_spans::{Bracket, Symbols, bracket_of};
+use text_places::{Span, is_blank, part};
 
-// Bytes from `from` up to `to`.
+// The first and the last symbol of some nodes.
 #[derive(Clone, Copy)]
-pub struct Bytes {
-    pub from: usize,
-    pub to: usize,
+struct Ends {
+    first: usize,
+    last: usize,
 }
 
-// Symbols from `from` up to `to`, and brackets that are wanting: closed among them and opened before, opened among them and closed behind.
+// Brackets that are wanting: closed among some symbols and opened before, opened among them and closed behind.
 #[derive(Clone, Copy)]
-struct Stretch {
-    from: usize,
-    to: usize,
+struct Wanting {
     before: usize,
     behind: usize,
 }
 
-// A number of an array, 0 behind its end.
-fn number(numbers: &[u16], k: usize) -> u16 {
-    if k < numbers.len() {
-        return numbers[k];
-    }
-    0
-}
-
-// The byte that a symbol begins with.
-fn first_byte(text: &[u8], starts: &[u16; SYMBOLS], s: usize) -> u8 {
-    let at = number(starts, s) as usize;
-    if at < text.len() {
-        return text[at];
-    }
-    0
-}
-
-fn is_opening(b: u8) -> bool {
-    match b {
-        b'(' => true,
-        b'[' => true,
-        b'{' => true,
-        _ => false,
-    }
-}
-
-fn is_closing(b: u8) -> bool {
-    match b {
-        b')' => true,
-        b']' => true,
-        b'}' => true,
-        _ => false,
-    }
-}
-
-// The symbol of the node at a place of the nodes.
-fn symbol_of(nodes: &[u16; NUMBERS], k: usize) -> usize {
-    if k < NUMBERS - node::SIZE {
-        return number(nodes, k + node::PLACE) as usize;
-    }
-    0
-}
-
-// With one more symbol, none for 0.
-fn widened(s: Stretch, symbol: usize) -> Stretch {
-    if symbol == 0 {
-        return s;
-    }
-    Stretch {
-        from: least(s.from, symbol),
-        to: larger(s.to, symbol),
-        before: s.before,
-        behind: s.behind,
-    }
-}
-
-fn least(x: usize, y: usize) -> usize
-    ensures { (result ≤ x) × (result ≤ y) }
-{
-    if x < y {
-        return x;
-    }
-    y
-}
-
-fn larger(x: usize, y: usize) -> usize {
-    if x < y {
-        return y;
-    }
-    x
-}
-
-// The symbols of the nodes between two places.
-fn symbols_of(nodes: &[u16; NUMBERS], from: usize, end: usize) -> Stretch {
-    let mut s = Stretch {
-        from: SYMBOLS,
-        to: 0,
-        before: 0,
-        behind: 0,
-    };
-    let mut k = from;
-    while k < NUMBERS {
-        if end <= k {
-            return s;
-        }
-        s = widened(s, symbol_of(nodes, k));
-        k += node::SIZE;
-    }
-    s
-}
-
-// With a bracket that opens or closes.
-fn bracketed(s: Stretch, b: u8) -> Stretch {
-    if is_opening(b) {
-        return Stretch {
-            from: s.from,
-            to: s.to,
-            before: s.before,
-            behind: more(s.behind),
-        };
-    }
-    if !is_closing(b) {
-        return s;
-    }
-    if s.behind == 0 {
-        return Stretch {
-            from: s.from,
-            to: s.to,
-            before: more(s.before),
-            behind: 0,
-        };
-    }
-    Stretch {
-        from: s.from,
-        to: s.to,
-        before: s.before,
-        behind: s.behind - 1,
-    }
-}
-
-// One more, as far as there are symbols.
-fn more(n: usize) -> usize {
-    if n < SYMBOLS {
-        return n + 1;
-    }
-    n
-}
-
-// The brackets that are wanting.
-fn counted(text: &[u8], starts: &[u16; SYMBOLS], t: Stretch) -> Stretch {
-    let mut s = t;
-    let mut k = t.from;
-    while k < SYMBOLS {
-        if t.to < k {
-            return s;
-        }
-        s = bracketed(s, first_byte(text, starts, k));
-        k += 1;
-    }
-    s
-}
-
-// Back to the brackets that open.
-fn opened(text: &[u8], starts: &[u16; SYMBOLS], t: Stretch) -> usize {
-    let mut left = t.before;
-    let mut k = t.from;
-    while 0 < k {
-        if left == 0 {
-            return k;
-        }
-        k -= 1;
-        if is_opening(first_byte(text, starts, k)) {
-            left -= 1;
+// The ends of the symbols of some nodes, none where they have no symbol.
+fn ends_of(nodes: &[u16]) -> Option<Ends> {
+    let mut ends: Option<Ends> = None;
+    for n in nodes.chunks_exact(node::SIZE) {
+        let symbol = usize::from(n.get(node::PLACE).copied().unwrap_or(0));
+        if symbol != 0 {
+            ends = match ends {
+                Some(e) => Some(Ends {
+                    first: e.first.min(symbol),
+                    last: e.last.max(symbol),
+                }),
+                None => Some(Ends {
+                    first: symbol,
+                    last: symbol,
+                }),
+            };
         }
     }
-    k
-}
-
-// On to the brackets that close.
-fn closed(text: &[u8], starts: &[u16; SYMBOLS], t: Stretch) -> usize {
-    let mut left = t.behind;
-    let mut k = t.to;
-    while k < SYMBOLS {
-        if left == 0 {
-            return k;
-        }
-        k += 1;
-        if is_closing(first_byte(text, starts, k)) {
-            left -= 1;
-        }
-    }
-    k
-}
-
-fn is_blank(b: u8) -> bool {
-    match b {
-        b' ' => true,
-        b'\n' => true,
-        _ => false,
-    }
-}
-
-// The bytes up to a place without the blanks before it.
-fn trimmed(text: &[u8], from: usize, to: usize) -> usize {
-    let mut k = least(to, text.len());
-    while from < k {
-        if !is_blank(text[k - 1]) {
-            return k;
-        }
-        k -= 1;
-    }
-    k
+    ends
 }
 
 // Does a conjunct go on with such a symbol behind its last node: the number behind div, mod or .., the sets behind `empty`?
-fn goes_on(code: u8) -> bool {
-    match code {
-        codes::NUMBER => true,
-        codes::PLAIN => true,
-        codes::DASH => true,
-        codes::UP_TO => true,
+fn goes_on(kind: u8) -> bool {
+    match kind {
+        codes::NUMBER | codes::PLAIN | codes::DASH | codes::UP_TO => true,
         _ => false,
     }
 }
 
-// The kind of a symbol, 0 behind the last one.
-fn kind(kinds: &[u8], s: usize) -> u8 {
-    if s < kinds.len() {
-        return kinds[s];
+// On over the symbols that have no node.
+fn whole(y: &Symbols<'_>, s: usize) -> usize {
+    for k in s..SYMBOLS {
+        if !goes_on(y.kind(k + 1)) {
+            return k;
+        }
+    }
+    s.max(SYMBOLS)
+}
+
+// The brackets that are wanting.
+fn brackets_wanting(y: &Symbols<'_>, e: Ends) -> Wanting {
+    let mut w = Wanting {
+        before: 0,
+        behind: 0,
+    };
+    for k in e.first..e.last.saturating_add(1) {
+        match bracket_of(y.kind(k)) {
+            Some(Bracket::Open) => w.behind = w.behind.saturating_add(1),
+            Some(Bracket::Close) => match w.behind.checked_sub(1) {
+                Some(n) => w.behind = n,
+                None => w.before = w.before.saturating_add(1),
+            },
+            None => (),
+        }
+    }
+    w
+}
+
+// Back to the n-th bracket that opens.
+fn opened(y: &Symbols<'_>, first: usize, n: usize) -> usize {
+    let mut left = n;
+    for k in (0..first).rev() {
+        if left == 0 {
+            return k + 1;
+        }
+        if bracket_of(y.kind(k)) == Some(Bracket::Open) {
+            left -= 1;
+        }
     }
     0
 }
 
-// On over the symbols that have no node.
-fn whole(kinds: &[u8; SYMBOLS], s: usize) -> usize {
-    let mut k = s;
-    while k < SYMBOLS {
-        if !goes_on(kind(kinds, k + 1)) {
+// On to the n-th bracket that closes.
+fn closed(y: &Symbols<'_>, last: usize, n: usize) -> usize {
+    let mut left = n;
+    for k in last..SYMBOLS {
+        if left == 0 {
             return k;
         }
-        k += 1;
+        if bracket_of(y.kind(k + 1)) == Some(Bracket::Close) {
+            left -= 1;
+        }
     }
-    k
+    last.max(SYMBOLS)
 }
 
-// Where the symbol behind s begins; the text's end where there is none.
-fn end_of(text: &[u8], starts: &[u16; SYMBOLS], s: usize, many: usize) -> usize {
-    if SYMBOLS <= s {
-        return text.len();
-    }
-    if many <= s + 1 {
-        return text.len();
-    }
-    number(starts, s + 1) as usize
-}
-
-// Up to another last symbol.
-fn longer(s: Stretch, to: usize) -> Stretch {
-    Stretch {
+// The bytes of a span without the blanks at its end.
+fn trimmed(text: &[u8], s: Span) -> Span {
+    let end = match part(text, s).iter().rposition(|b| !is_blank(*b)) {
+        Some(k) => s.from.saturating_add(k).saturating_add(1),
+        None => s.from,
+    };
+    Span {
         from: s.from,
-        to,
-        before: s.before,
-        behind: s.behind,
+        to: end,
     }
 }
 
-// The bytes of the conjunct whose nodes stand between two places.
-fn bytes_between(
-    text: &[u8],
-    kinds: &[u8; SYMBOLS],
-    starts: &[u16; SYMBOLS],
-    nodes: &[u16; NUMBERS],
-    many: usize,
-    from: usize,
-    end: usize,
-) -> Bytes {
-    let s = symbols_of(nodes, from, end);
-    let t = counted(text, starts, longer(s, whole(kinds, s.to)));
-    let first = opened(text, starts, t);
-    let last = closed(text, starts, t);
-    let begin = number(starts, first) as usize;
-    Bytes {
-        from: begin,
-        to: trimmed(text, begin, end_of(text, starts, last, many)),
+// Where the symbol behind s begins, of so many; the text's end where there is none.
+fn end_of(y: &Symbols<'_>, s: usize, many: usize) -> usize {
+    if s < SYMBOLS && s + 1 < many {
+        return y.start(s + 1);
     }
+    let text = y.text;
+    text.len()
 }
 
-// The same of a text.
-pub fn bytes_of(text: &[u8], from: usize, end: usize) -> Bytes {
+// The bytes of the conjunct of some nodes, in a text of so many symbols.
+fn bytes_of_nodes(y: &Symbols<'_>, many: usize, nodes: &[u16]) -> Option<Span> {
+    let nearest = ends_of(nodes)?;
+    let ends = Ends {
+        first: nearest.first,
+        last: whole(y, nearest.last),
+    };
+    let w = brackets_wanting(y, ends);
+    let from = y.start(opened(y, ends.first, w.before));
+    let to = end_of(y, closed(y, ends.last, w.behind), many);
+    Some(trimmed(y.text, Span { from, to }))
+}
+
+// The bytes of the conjunct whose nodes stand between two places; none for a text that is refused, and where there are no such nodes.
+pub fn bytes_of(text: &[u8], from: usize, end: usize) -> Option<Span> {
     let mut kinds = [0u8; SYMBOLS];
     let mut starts = [0u16; SYMBOLS];
     let mut values = [0u16; SYMBOLS];
     let mut nodes = [0u16; NUMBERS];
-    match parse(text, &mut kinds, &mut starts, &mut values, &mut nodes) {
-        Parsed::Structure(many, _) => bytes_between(text, &kinds, &starts, &nodes, many, from, end),
-        Parsed::Refused(_, _) => Bytes { from: 0, to: 0 },
-    }
+    let structure = parse(text, &mut kinds, &mut starts, &mut values, &mut nodes).ok()?;
+    let y = Symbols {
+        text,
+        kinds: &kinds,
+        starts: &starts,
+        values: &values,
+    };
+    bytes_of_nodes(&y, structure.symbols, nodes.get(from..end)?)
 }

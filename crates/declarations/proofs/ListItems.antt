@@ -19,7 +19,8 @@ use Rattle.form.specs.Machine.{Item, exact, a_name, an_end, a_type, a_type_rest,
 use Rattle.form.specs.Machine.{Act, take, skip, stuck, then, act, on_name, go, halt, does, step, ends, unless_over}
 use Rattle.form_nodes.specs.FormPromises.{run_at, Reads, names}
 use Rattle.declarations.specs.DossierPromises.{EntriesOf, of_givens, of_operations, a_typed, a_condition_to, two_states, three_conditions, arrows, directions, counted_by, inputs_by, outputs_by, mark_by}
-use Rattle.form_nodes.specs.declared.Read.TheVariants.{Fault}
+use Rattle.std.specs.Prelude.{Err}
+use Rattle.lexical.specs.declared.refusals.Refusal.TheVariants.{ManyDeclared}
 use Rattle.form_nodes.proofs.Classes.{lookup-miss, by-table-or}
 use Rattle.form_nodes.proofs.ReadParts.{only, Within, step-at}
 use Rattle.form_nodes.proofs.ItemSteps.{by-act, exact-takes, exact-stops, lookup-mapped, either, naming, either-some}
@@ -68,7 +69,7 @@ entry-counts of_operations = operations
 -- a symbol is one too many
 pub crowded : {s : List ℕ} {at n : ℕ} {ι ο : List Item} (ρ : List Item → List Item) (x : Mark) → at < length s
     → Within s at (λ k j v. settled k j v x ≡ some many_declared)
-    → ((κ : Kind) → code_of κ ≡ get_or s at 0 → (γ : List Item) → step (ι ++ γ) κ ≡ go x (ρ γ)) → Reads s at n ι ο (Fault at 6)
+    → ((κ : Kind) → code_of κ ≡ get_or s at 0 → (γ : List Item) → step (ι ++ γ) κ ≡ go x (ρ γ)) → Reads s at n ι ο (Err (record { place = at; refusal = ManyDeclared }))
 crowded {s} {at} {ι = ι} ρ x l f h =
     record {
       from = omega arith;

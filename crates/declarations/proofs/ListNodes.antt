@@ -7,8 +7,9 @@ use Rattle.form.specs.Codes.{node}
 use Rattle.form_nodes.specs.FormPromises.{Writes, Closes, Shown}
 use Rattle.form_nodes.specs.Derivations.{Part, Derives, Made, MadeAt, NameAt, name_code, some_entries, a_type, a_declaration, some_elements, some_givens, declares, a_given}
 use Rattle.declarations.specs.DossierPromises.{WordsAt, ContentsMade, More, MoreAt}
+use Rattle.std.specs.Prelude.{Ok, Err}
 use Rattle.form_nodes.specs.declared.Read.{Read}
-use Rattle.form_nodes.specs.declared.Read.TheVariants.{At, Fault}
+use Rattle.form_nodes.specs.FormPromises.{Answer}
 use Rattle.form_nodes.proofs.NodesOfParts.{from}
 
 -- what is written behind something written
@@ -43,17 +44,17 @@ module _ {s ν : List ℕ} {x : Part} where
   made-node {n = n} {a = a} {z = z} p e d = record { nodes = z; derives = d; written = p.nodes ∙ ap (λ (l : List ℕ). take n a ++ l) e }
 
 -- one symbol that was read
-pub closed : {s : List ℕ} {at k n e m : ℕ} {r : Read} → r ≡ At e m → Closes s at k n r → ((e ≡ at + 1) × (get_or s at 0 ≡ k)) × (m ≡ n)
-closed {s} {at} {k} {n} q h = subst (λ (z : Read). Shown (λ (e : ℕ). (e ≡ at + 1) × (get_or s at 0 ≡ k)) n z) q h.shown
+pub closed : {s : List ℕ} {at k n : ℕ} {e : Read} {r : Answer} → r ≡ Ok e → Closes s at k n r → ((e.at ≡ at + 1) × (get_or s at 0 ≡ k)) × (e.count ≡ n)
+closed {s} {at} {k} {n} q h = subst (λ (z : Answer). Shown (λ (e : ℕ). (e ≡ at + 1) × (get_or s at 0 ≡ k)) n z) q h.shown
 
 -- a part that ends at a place known by other words
 to-place : {s ν : List ℕ} {x : Part} {i j k : ℕ} {u : List ℕ} → j ≡ k → Derives s ν x i j u → Derives s ν x i k u
 to-place {s} {ν} {x} {i} {u = u} q d = subst (λ (z : ℕ). Derives s ν x i z u) q d
 
 -- a declared name, : type ;
-pub declaration-made : {s ν a b c y : List ℕ} {at i n m e o : ℕ} (r : Read) → NameAt s at → i ≡ at + 1 + 1 → get_or s (at + 1) 0 ≡ 10 → Writes a n y b m
+pub declaration-made : {s ν a b c y : List ℕ} {at i n m e o : ℕ} (r : Answer) → NameAt s at → i ≡ at + 1 + 1 → get_or s (at + 1) 0 ≡ 10 → Writes a n y b m
     → y ≡ node 6 at (name_code s ν at) 0 → MadeAt s ν a_type i m b c e o → Closes s e 11 o r → Made s ν a_declaration at n a c r
-declaration-made {s} {ν} {a} {b} {c} {y} {at} {i} {n} {m} {e} {o} (At f q) g h t w z p x =
+declaration-made {s} {ν} {a} {b} {c} {y} {at} {i} {n} {m} {e} {o} (Ok f) g h t w z p x =
     record {
       nodes = node 6 at (name_code s ν at) 0 ++ p.nodes;
       derives = to-place (sym x.shown.0.0) (declares g t (from h p.derives) x.shown.0.1);
@@ -61,7 +62,7 @@ declaration-made {s} {ν} {a} {b} {c} {y} {at} {i} {n} {m} {e} {o} (At f q) g h 
           ap (λ (k : ℕ). take k c) x.shown.1
           ∙ then-written (take n a) (node 6 at (name_code s ν at) 0) p.nodes (w.nodes ∙ ap (λ (l : List ℕ). take n a ++ l) z) p.written;
     }
-declaration-made (Fault f q) g h t w z p x = tt
+declaration-made (Err f) g h t w z p x = tt
 
 -- one more of a list, from the nodes of a part
 pub more-part : {s ν : List ℕ} {x y : Part} {i j n m : ℕ} {a b : List ℕ} (p : MadeAt s ν y i n a b j m)
@@ -69,9 +70,9 @@ pub more-part : {s ν : List ℕ} {x y : Part} {i j n m : ℕ} {a b : List ℕ} 
 more-part p f = record { nodes = p.nodes; more = f; written = p.written }
 
 -- a given set's body
-pub given-more : {s ν a b c y : List ℕ} {at n m e o : ℕ} (r : Read) → get_or s at 0 ≡ 37 → get_or s (at + 1) 0 ≡ 2 → get_or s (at + 1 + 1) 0 ≡ 2 → Writes a n y b m
+pub given-more : {s ν a b c y : List ℕ} {at n m e o : ℕ} (r : Answer) → get_or s at 0 ≡ 37 → get_or s (at + 1) 0 ≡ 2 → get_or s (at + 1 + 1) 0 ≡ 2 → Writes a n y b m
     → y ≡ node 3 at (name_code s ν (at + 1)) 0 → MadeAt s ν some_elements (at + 1 + 1) m b c e o → Closes s e 44 o r → More s ν some_givens at n a c r
-given-more {s} {ν} {a} {b} {c} {y} {at} {n} {m} {e} {o} (At f q) g h t w z p x =
+given-more {s} {ν} {a} {b} {c} {y} {at} {n} {m} {e} {o} (Ok f) g h t w z p x =
     record {
       nodes = node 3 at (name_code s ν (at + 1)) 0 ++ p.nodes;
       more = λ k u d.
@@ -81,16 +82,16 @@ given-more {s} {ν} {a} {b} {c} {y} {at} {n} {m} {e} {o} (At f q) g h t w z p x 
           ap (λ (k : ℕ). take k c) x.shown.1
           ∙ then-written (take n a) (node 3 at (name_code s ν (at + 1)) 0) p.nodes (w.nodes ∙ ap (λ (l : List ℕ). take n a ++ l) z) p.written;
     }
-given-more (Fault f q) g h t w z p x = tt
+given-more (Err f) g h t w z p x = tt
 
 -- the same number of numbers, under another name
 pub renumber : {a y b : List ℕ} {n m k : ℕ} → k ≡ m → Writes a n y b m → Writes a n y b k
 renumber {a} {y} {b} {n} q w = subst (λ (z : ℕ). Writes a n y b z) (sym q) w
 
 -- the words between the entries
-pub words-shown : {s : List ℕ} (i : ℕ) {b c d e n m x y z : ℕ} (r : Read) → ((b ≡ i + 1) × (get_or s i 0 ≡ 38)) × (m ≡ n) → ((c ≡ b + 1) × (get_or s b 0 ≡ 39)) × (x ≡ m)
+pub words-shown : {s : List ℕ} (i : ℕ) {b c d e n m x y z : ℕ} (r : Answer) → ((b ≡ i + 1) × (get_or s i 0 ≡ 38)) × (m ≡ n) → ((c ≡ b + 1) × (get_or s b 0 ≡ 39)) × (x ≡ m)
     → ((d ≡ c + 1) × (get_or s c 0 ≡ 40)) × (y ≡ x) → ((e ≡ d + 1) × (get_or s d 0 ≡ 41)) × (z ≡ y) → Closes s e 42 z r → Shown (WordsAt s i) n r
-words-shown {s} i {b} {c} {d} {e} (At f o) p q t u h =
+words-shown {s} i {b} {c} {d} {e} (Ok f) p q t u h =
     let b₁ : b ≡ i + 1 = p.0.0 in
     let c₁ : c ≡ i + 1 + 1 = q.0.0 ∙ ap (λ (z : ℕ). z + 1) b₁ in
     let d₁ : d ≡ i + 1 + 1 + 1 = t.0.0 ∙ ap (λ (z : ℕ). z + 1) c₁ in
@@ -105,12 +106,12 @@ words-shown {s} i {b} {c} {d} {e} (At f o) p q t u h =
       },
       h.shown.1 ∙ u.1 ∙ t.1 ∙ q.1 ∙ p.1,
     )
-words-shown i (Fault f o) p q t u h = tt
+words-shown i (Err f) p q t u h = tt
 
 -- the contents
-pub contents-made : {s ν a b c : List ℕ} {i j k e m x y z : ℕ} (r : Read) → ((i ≡ 0 + 1) × (get_or s 0 0 ≡ 36)) × (m ≡ 0) → MadeAt s ν (some_entries 37 1) i m a b j x
+pub contents-made : {s ν a b c : List ℕ} {i j k e m x y z : ℕ} (r : Answer) → ((i ≡ 0 + 1) × (get_or s 0 0 ≡ 36)) × (m ≡ 0) → MadeAt s ν (some_entries 37 1) i m a b j x
     → WordsAt s j k × (y ≡ x) → MadeAt s ν (some_entries 43 2) k y b c e z → Closes s e 44 z r → ContentsMade s ν c r
-contents-made {s} {ν} {a} {b} {c} {i} {j} {k} {e} {m} {x} {y} {z} (At f o) p g w h q =
+contents-made {s} {ν} {a} {b} {c} {i} {j} {k} {e} {m} {x} {y} {z} (Ok f) p g w h q =
     record {
       words = j;
       last = e;
@@ -133,4 +134,4 @@ contents-made {s} {ν} {a} {b} {c} {i} {j} {k} {e} {m} {x} {y} {z} (At f o) p g 
           ap (λ (l : ℕ). take l c) q.shown.1 ∙ h.written
           ∙ ap (λ (l : List ℕ). l ++ h.nodes) (ap (λ (l : ℕ). take l b) w.1 ∙ g.written ∙ ap (λ (l : ℕ). take l a ++ g.nodes) p.1);
     }
-contents-made (Fault f o) p g w h q = tt
+contents-made (Err f) p g w h q = tt

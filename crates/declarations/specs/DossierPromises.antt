@@ -1,15 +1,14 @@
 -- What the functions that read contents, bodies and declarations promise each other, and what a dossier that was read is. Nothing here need be believed.
-use Rattle.std.specs.Prelude.{◌≡◌, List, [], ◌∷◌, ◌++◌, ℕ, zero, suc, ◌+◌, ◌-◌, ◌*◌, ◌≤◌, length, take, get_or}
+use Rattle.std.specs.Prelude.{◌≡◌, List, [], ◌∷◌, ◌++◌, ℕ, zero, suc, ◌+◌, ◌-◌, ◌*◌, ◌≤◌, length, take, get_or, Ok, Err}
 use Rattle.lexical.specs.Kinds as kind
 use Rattle.lexical.specs.Kinds.{Kind, code_of}
 use Rattle.lexical.specs.Symbols.{Symbol}
 use Rattle.form.specs.Written.{Mark, a_given, a_variable, an_input, an_output, an_operation}
 use Rattle.form.specs.Machine.{Item, exact, a_declared, a_type, a_unary, a_pred_rest, some_entries, some_op_entries, some_bodies, some_declarations, Run, complete, failed, run}
-use Rattle.form_nodes.specs.FormPromises.{codes, refusal_numbered, Reads, Classes}
+use Rattle.form_nodes.specs.FormPromises.{codes, Answer, Reads, Classes}
 use Rattle.form_nodes.specs.Derivations as part
 use Rattle.form_nodes.specs.Derivations.{Part, Derives, Made}
-use Rattle.form_nodes.specs.declared.Read.{Read}
-use Rattle.form_nodes.specs.declared.Read.TheVariants.{At, Fault}
+use Rattle.lexical.specs.RefusalNames.{refusal_is}
 
 -- the five words of the contents
 abbrev pub five_words : List Item
@@ -41,13 +40,13 @@ pub data EntriesOf : (word limit : ℕ) → (ℕ → Item) → List Item → (�
   of_givens : EntriesOf 37 8 some_entries (five_words ++ (some_op_entries 0 ∷ [])) a_given
   of_operations : EntriesOf 43 16 some_op_entries (exact kind.END ∷ some_bodies 0 ∷ []) an_operation
 
-abbrev pub EntriesRead : (s : List ℕ) (at n word limit : ℕ) → Read → Type 0
+abbrev pub EntriesRead : (s : List ℕ) (at n word limit : ℕ) → Answer → Type 0
 EntriesRead s at n word limit r = (f : ℕ → Item) (ο : List Item) (x : ℕ → Mark) → EntriesOf word limit f ο x → Reads s at n (f 0 ∷ []) ο r
 
 -- where something was read, this holds
-abbrev pub When : Type 0 → Read → Type 0
-When P (At e m) = P
-When P (Fault e f) = Unit {0}
+abbrev pub When : Type 0 → Answer → Type 0
+When P (Ok e) = P
+When P (Err f) = Unit {0}
 
 -- the words between the entries
 pub record WordsAt (s : List ℕ) (i j : ℕ) : Type 0 where
@@ -72,9 +71,9 @@ pub record ContentsAt (s ν code : List ℕ) (e m : ℕ) : Type 0 where
   pub place : e ≡ last + 1
   pub written : take m code ≡ given_nodes ++ operation_nodes
 
-abbrev pub ContentsMade : (s ν code : List ℕ) → Read → Type 0
-ContentsMade s ν code (At e m) = ContentsAt s ν code e m
-ContentsMade s ν code (Fault p q) = Unit {0}
+abbrev pub ContentsMade : (s ν code : List ℕ) → Answer → Type 0
+ContentsMade s ν code (Ok e) = ContentsAt s ν code e.at e.count
+ContentsMade s ν code (Err f) = Unit {0}
 
 -- some first ones of a list, up to the symbol j: what stands there from j on stands from i on with their nodes in front
 pub record MoreAt (s ν : List ℕ) (x : Part) (i n : ℕ) (a b : List ℕ) (j m : ℕ) : Type 0 where
@@ -82,9 +81,9 @@ pub record MoreAt (s ν : List ℕ) (x : Part) (i n : ℕ) (a b : List ℕ) (j m
   pub more : (k : ℕ) (u : List ℕ) → Derives s ν x j k u → Derives s ν x i k (nodes ++ u)
   pub written : take m b ≡ take n a ++ nodes
 
-abbrev pub More : (s ν : List ℕ) → Part → (i n : ℕ) → (a b : List ℕ) → Read → Type 0
-More s ν x i n a b (At j m) = MoreAt s ν x i n a b j m
-More s ν x i n a b (Fault p q) = Unit {0}
+abbrev pub More : (s ν : List ℕ) → Part → (i n : ℕ) → (a b : List ℕ) → Answer → Type 0
+More s ν x i n a b (Ok e) = MoreAt s ν x i n a b e.at e.count
+More s ν x i n a b (Err f) = Unit {0}
 
 -- parts one behind another
 pub data Sequence (s ν : List ℕ) : List Part → ℕ → ℕ → List ℕ → Type 0 where
@@ -96,9 +95,9 @@ pub record SequenceAt (s ν : List ℕ) (xs : List Part) (i n : ℕ) (a b : List
   pub parts : Sequence s ν xs i j nodes
   pub written : take m b ≡ take n a ++ nodes
 
-abbrev pub Sequenced : (s ν : List ℕ) → List Part → (i n : ℕ) → (a b : List ℕ) → Read → Type 0
-Sequenced s ν xs i n a b (At j m) = SequenceAt s ν xs i n a b j m
-Sequenced s ν xs i n a b (Fault p q) = Unit {0}
+abbrev pub Sequenced : (s ν : List ℕ) → List Part → (i n : ℕ) → (a b : List ℕ) → Answer → Type 0
+Sequenced s ν xs i n a b (Ok e) = SequenceAt s ν xs i n a b e.at e.count
+Sequenced s ν xs i n a b (Err f) = Unit {0}
 
 -- the arrows between given sets
 abbrev pub arrows : List (Kind × ℕ)
@@ -120,15 +119,15 @@ pub record Directs (k r : ℕ) : Type 0 where
   pub small : r ≤ 2
 
 -- a dossier is read to the text's end, and its nodes stand in front; or the machine stops at the fault
-abbrev pub Ended : (length : ℕ) → Read → Type 0
-Ended l (At e m) = (e ≡ l) × (m ≤ 4 * l)
-Ended l (Fault e f) = e ≤ l
+abbrev pub Ended : (length : ℕ) → Answer → Type 0
+Ended l (Ok e) = (e.at ≡ l) × (e.count ≤ 4 * l)
+Ended l (Err f) = f.place ≤ l
 
-abbrev pub outcome : Read → Run
-outcome (At e m) = complete
-outcome (Fault e f) = failed e (refusal_numbered f)
+abbrev pub outcome : Answer → Run
+outcome (Ok e) = complete
+outcome (Err f) = failed f.place (refusal_is f.refusal)
 
-pub record Formed (s ν a b : List ℕ) (r : Read) : Type 0 where
+pub record Formed (s ν a b : List ℕ) (r : Answer) : Type 0 where
   pub exact : (w : List Symbol) → codes w ≡ s → run w ≡ outcome r
   pub ended : Ended (length s) r
   pub made : Made s ν part.a_dossier 0 0 a b r

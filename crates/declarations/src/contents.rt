@@ -13,7 +13,7 @@ use form_nodes::Read;
 use form_nodes::kinds::{NONE, SOME, kind_at, name_of, wide};
 use form_nodes::nodes::{name_number, put, put_range};
 use form_nodes::ranges::{close, range};
-use lexical::refusals::{MANY_DECLARED, NO_DOSSIER};
+use lexical::refusals::{Fault, Refusal};
 use lexical::{bounds, codes};
 
 // `word NAME` again and again, at most as many as the limit; a node of the shape for each.
@@ -26,7 +26,7 @@ fn entries(
     limit: u8,
     code: &mut [u16],
     from: usize,
-) -> Read
+) -> Result<Read, Fault>
     requires { Room s.now code.old start from × (1 ≤ word) }
     ensures { EntriesRead s.now start from word limit result × Made s.now v.now (part.some_entries word shape) start from code.old code.new result }
 {
@@ -36,78 +36,68 @@ fn entries(
     while kind_at(s, at) == word {
         if kind_at(s, at + 1) == codes::PLAIN {
             if limit <= k {
-                return Read::Fault(at + 1, MANY_DECLARED);
+                return Err(Fault {
+                    place: at + 1,
+                    refusal: Refusal::ManyDeclared,
+                });
             }
             let x = name_number(s, v, at + 1);
             n = put(code, n, shape, at + 1, x, 0);
             at = at + 1 + 1;
             k += 1;
         } else {
-            return Read::Fault(at + 1, NO_DOSSIER);
+            return Err(Fault {
+                place: at + 1,
+                refusal: Refusal::NoDossier,
+            });
         }
     }
-    Read::At(at, n)
+    Ok(Read { at, count: n })
 }
 
 // The five words between the entries.
-fn words(s: &[u8], at: usize, n: usize) -> Read
+fn words(s: &[u8], at: usize, n: usize) -> Result<Read, Fault>
     requires { at ≤ length s.now }
     ensures { Reads s.now at n five_words [] result × Shown (WordsAt s.now at) n result }
 {
-    match close(s, at, codes::ABSTRACT, n) {
-        Read::At(b, m) => match close(s, b, codes::CONCRETE, m) {
-            Read::At(c, x) => match close(s, c, codes::AINIT, x) {
-                Read::At(d, y) => match close(s, d, codes::CINIT, y) {
-                    Read::At(e, z) => close(s, e, codes::RETRIEVE, z),
-                    Read::Fault(p, q) => Read::Fault(p, q),
-                },
-                Read::Fault(p, q) => Read::Fault(p, q),
-            },
-            Read::Fault(p, q) => Read::Fault(p, q),
-        },
-        Read::Fault(p, q) => Read::Fault(p, q),
-    }
+    let abstracts = close(s, at, codes::ABSTRACT, n)?;
+    let concretes = close(s, abstracts.at, codes::CONCRETE, abstracts.count)?;
+    let ainit = close(s, concretes.at, codes::AINIT, concretes.count)?;
+    let cinit = close(s, ainit.at, codes::CINIT, ainit.count)?;
+    close(s, cinit.at, codes::RETRIEVE, cinit.count)
 }
 
-pub fn contents(s: &[u8], v: &[u16], code: &mut [u16]) -> Read
+pub fn contents(s: &[u8], v: &[u16], code: &mut [u16]) -> Result<Read, Fault>
     requires { (length s.now ≤ 4096) × (4 * length s.now ≤ length code.old) }
     ensures { Reads s.now 0 0 (a_dossier ∷ []) (some_bodies 0 ∷ []) result × ContentsMade s.now v.now code.new result }
 {
-    match close(s, 0, codes::CONTENTS, 0) {
-        Read::At(a, m) => match entries(
-            s,
-            v,
-            a,
-            codes::GIVEN,
-            shapes::GIVEN_ENTRY,
-            bounds::GIVEN_SETS,
-            code,
-            m,
-        ) {
-            Read::At(b, x) => match words(s, b, x) {
-                Read::At(c, y) => match entries(
-                    s,
-                    v,
-                    c,
-                    codes::OP,
-                    shapes::OPERATION_ENTRY,
-                    bounds::OPERATIONS,
-                    code,
-                    y,
-                ) {
-                    Read::At(d, z) => close(s, d, codes::END, z),
-                    Read::Fault(p, q) => Read::Fault(p, q),
-                },
-                Read::Fault(p, q) => Read::Fault(p, q),
-            },
-            Read::Fault(p, q) => Read::Fault(p, q),
-        },
-        Read::Fault(p, q) => Read::Fault(p, q),
-    }
+    let word = close(s, 0, codes::CONTENTS, 0)?;
+    let sets = entries(
+        s,
+        v,
+        word.at,
+        codes::GIVEN,
+        shapes::GIVEN_ENTRY,
+        bounds::GIVEN_SETS,
+        code,
+        word.count,
+    )?;
+    let five = words(s, sets.at, sets.count)?;
+    let operations = entries(
+        s,
+        v,
+        five.at,
+        codes::OP,
+        shapes::OPERATION_ENTRY,
+        bounds::OPERATIONS,
+        code,
+        five.count,
+    )?;
+    close(s, operations.at, codes::END, operations.count)
 }
 
 // The elements of a given set, one or more, up to its `end`.
-fn elements(s: &[u8], v: &[u16], start: usize, code: &mut [u16], from: usize) -> Read
+fn elements(s: &[u8], v: &[u16], start: usize, code: &mut [u16], from: usize) -> Result<Read, Fault>
     requires { Room s.now code.old start from }
     ensures { Reads s.now start from (a_declared (an_element 1) ∷ some_elements 1 ∷ []) (exact kind.END ∷ []) result × Made s.now v.now part.some_elements start from code.old code.new result × When (get_or s.now start 0 ≡ 2) result }
 {
@@ -117,33 +107,43 @@ fn elements(s: &[u8], v: &[u16], start: usize, code: &mut [u16], from: usize) ->
         let mut k: u8 = 0;
         while kind_at(s, at) == codes::PLAIN {
             if bounds::ELEMENTS <= k {
-                return Read::Fault(at, MANY_DECLARED);
+                return Err(Fault {
+                    place: at,
+                    refusal: Refusal::ManyDeclared,
+                });
             }
             let x = name_number(s, v, at);
             n = put(code, n, shapes::ELEMENT, at, x, 0);
             at += 1;
             k += 1;
         }
-        return Read::At(at, n);
+        return Ok(Read { at, count: n });
     }
-    Read::Fault(start, NO_DOSSIER)
+    Err(Fault {
+        place: start,
+        refusal: Refusal::NoDossier,
+    })
 }
 
 // The body of a given set behind its name, with the `end`.
-fn given(s: &[u8], v: &[u16], at: usize, code: &mut [u16], n: usize) -> Read
+fn given(s: &[u8], v: &[u16], at: usize, code: &mut [u16], n: usize) -> Result<Read, Fault>
     requires { Room s.now code.old at n × (at + 1 < length s.now) × (get_or s.now at 0 ≡ 37) × (get_or s.now (at + 1) 0 ≡ 2) }
     ensures { Reads s.now (at + 1 + 1) (n + 4) (a_declared (an_element 1) ∷ some_elements 1 ∷ []) ([]) result × More s.now v.now some_givens at n code.old code.new result }
 {
     let x = name_number(s, v, at + 1);
     let m = put(code, n, shapes::GIVEN, at, x, 0);
-    match elements(s, v, at + 1 + 1, code, m) {
-        Read::At(e, c) => close(s, e, codes::END, c),
-        Read::Fault(p, q) => Read::Fault(p, q),
-    }
+    let body = elements(s, v, at + 1 + 1, code, m)?;
+    close(s, body.at, codes::END, body.count)
 }
 
 // The bodies of given sets.
-pub fn givens(s: &[u8], v: &[u16], start: usize, code: &mut [u16], from: usize) -> Read
+pub fn givens(
+    s: &[u8],
+    v: &[u16],
+    start: usize,
+    code: &mut [u16],
+    from: usize,
+) -> Result<Read, Fault>
     requires { Room s.now code.old start from }
     ensures { Reads s.now start from (some_bodies 0 ∷ []) (two_states ++ (three_conditions ++ (some_operations 0 ∷ []))) result × Made s.now v.now some_givens start from code.old code.new result }
 {
@@ -153,21 +153,23 @@ pub fn givens(s: &[u8], v: &[u16], start: usize, code: &mut [u16], from: usize) 
     while kind_at(s, at) == codes::GIVEN {
         if kind_at(s, at + 1) == codes::PLAIN {
             if bounds::GIVEN_SETS <= k {
-                return Read::Fault(at + 1, MANY_DECLARED);
+                return Err(Fault {
+                    place: at + 1,
+                    refusal: Refusal::ManyDeclared,
+                });
             }
-            match given(s, v, at, code, n) {
-                Read::At(e, m) => {
-                    at = e;
-                    n = m;
-                    k += 1;
-                }
-                Read::Fault(p, q) => return Read::Fault(p, q),
-            }
+            let read = given(s, v, at, code, n)?;
+            at = read.at;
+            n = read.count;
+            k += 1;
         } else {
-            return Read::Fault(at + 1, NO_DOSSIER);
+            return Err(Fault {
+                place: at + 1,
+                refusal: Refusal::NoDossier,
+            });
         }
     }
-    Read::At(at, n)
+    Ok(Read { at, count: n })
 }
 
 // The shape of an arrow type is its symbol's code less this.
@@ -184,26 +186,30 @@ fn arrow_of(k: u8) -> u8
 }
 
 // A type that begins with a name: a given set, or an arrow between two.
-fn named(s: &[u8], v: &[u16], at: usize, code: &mut [u16], n: usize) -> Read
+fn named(s: &[u8], v: &[u16], at: usize, code: &mut [u16], n: usize) -> Result<Read, Fault>
     requires { Room s.now code.old at n × NameAt s.now at × (at < length s.now) }
     ensures { Reads s.now (at + 1) (n + 4) (a_type_rest ∷ []) ([]) result × Made s.now v.now part.a_type at n code.old code.new result }
 {
     let x = name_number(s, v, at);
     let k = kind_at(s, at + 1);
     if arrow_of(k) == NONE {
-        let m = put(code, n, shapes::SET, at, x, 0);
-        return Read::At(at + 1, m);
+        let count = put(code, n, shapes::SET, at, x, 0);
+        return Ok(Read { at: at + 1, count });
     }
     let j = kind_at(s, at + 1 + 1);
     if name_of(j) == NONE {
-        return Read::Fault(at + 1 + 1, NO_DOSSIER);
+        return Err(Fault {
+            place: at + 1 + 1,
+            refusal: Refusal::NoDossier,
+        });
     }
     let y = name_number(s, v, at + 1 + 1);
-    let m = put(code, n, wide(k) - ARROW_CODE, at, x, y);
-    Read::At(at + 1 + 1 + 1, m)
+    let count = put(code, n, wide(k) - ARROW_CODE, at, x, y);
+    let at = at + 1 + 1 + 1;
+    Ok(Read { at, count })
 }
 
-fn type_form(s: &[u8], v: &[u16], at: usize, code: &mut [u16], n: usize) -> Read
+fn type_form(s: &[u8], v: &[u16], at: usize, code: &mut [u16], n: usize) -> Result<Read, Fault>
     requires { Room s.now code.old at n }
     ensures { Reads s.now at n (a_type ∷ []) ([]) result × Made s.now v.now part.a_type at n code.old code.new result }
 {
@@ -211,42 +217,44 @@ fn type_form(s: &[u8], v: &[u16], at: usize, code: &mut [u16], n: usize) -> Read
     if k == codes::POWER {
         let j = kind_at(s, at + 1);
         if name_of(j) == NONE {
-            return Read::Fault(at + 1, NO_DOSSIER);
+            return Err(Fault {
+                place: at + 1,
+                refusal: Refusal::NoDossier,
+            });
         }
         let x = name_number(s, v, at + 1);
-        let m = put(code, n, shapes::POWER, at, x, 0);
-        return Read::At(at + 1 + 1, m);
+        let count = put(code, n, shapes::POWER, at, x, 0);
+        let at = at + 1 + 1;
+        return Ok(Read { at, count });
     }
     if name_of(k) == NONE {
-        return match range(s, at, n) {
-            Read::At(e, z) => {
-                let m = put_range(s, v, at, code, n);
-                Read::At(e, m)
-            }
-            Read::Fault(p, q) => Read::Fault(p, q),
-        };
+        let ends = range(s, at, n)?;
+        let count = put_range(s, v, at, code, n);
+        return Ok(Read { count, ..ends });
     }
     named(s, v, at, code, n)
 }
 
 // Behind a declared name: its node, and : type ;
-fn declaration(s: &[u8], v: &[u16], at: usize, code: &mut [u16], n: usize) -> Read
+fn declaration(s: &[u8], v: &[u16], at: usize, code: &mut [u16], n: usize) -> Result<Read, Fault>
     requires { Room s.now code.old at n × NameAt s.now at × (at < length s.now) }
     ensures { Reads s.now (at + 1) (n + 4) a_typed [] result × Made s.now v.now a_declaration at n code.old code.new result }
 {
     let x = name_number(s, v, at);
     let m = put(code, n, shapes::DECLARED, at, x, 0);
-    match close(s, at + 1, codes::COLON, m) {
-        Read::At(a, c) => match type_form(s, v, a, code, c) {
-            Read::At(b, d) => close(s, b, codes::SEMICOLON, d),
-            Read::Fault(p, q) => Read::Fault(p, q),
-        },
-        Read::Fault(p, q) => Read::Fault(p, q),
-    }
+    let colon = close(s, at + 1, codes::COLON, m)?;
+    let typed = type_form(s, v, colon.at, code, colon.count)?;
+    close(s, typed.at, codes::SEMICOLON, typed.count)
 }
 
 // The declarations of a state, one or more, up to its `where`.
-pub fn declarations(s: &[u8], v: &[u16], start: usize, code: &mut [u16], from: usize) -> Read
+pub fn declarations(
+    s: &[u8],
+    v: &[u16],
+    start: usize,
+    code: &mut [u16],
+    from: usize,
+) -> Result<Read, Fault>
     requires { Room s.now code.old start from }
     ensures { Reads s.now start from (a_declared (a_variable 1) ∷ a_typed ++ (some_declarations 1 ∷ [])) (exact kind.WHERE ∷ []) result × Made s.now v.now part.some_declarations start from code.old code.new result × When (get_or s.now start 0 ≡ 2) result }
 {
@@ -256,20 +264,22 @@ pub fn declarations(s: &[u8], v: &[u16], start: usize, code: &mut [u16], from: u
         let mut k: u8 = 0;
         while kind_at(s, at) == codes::PLAIN {
             if bounds::VARIABLES <= k {
-                return Read::Fault(at, MANY_DECLARED);
+                return Err(Fault {
+                    place: at,
+                    refusal: Refusal::ManyDeclared,
+                });
             }
-            match declaration(s, v, at, code, n) {
-                Read::At(e, m) => {
-                    at = e;
-                    n = m;
-                    k += 1;
-                }
-                Read::Fault(p, q) => return Read::Fault(p, q),
-            }
+            let read = declaration(s, v, at, code, n)?;
+            at = read.at;
+            n = read.count;
+            k += 1;
         }
-        return Read::At(at, n);
+        return Ok(Read { at, count: n });
     }
-    Read::Fault(start, NO_DOSSIER)
+    Err(Fault {
+        place: start,
+        refusal: Refusal::NoDossier,
+    })
 }
 
 // The direction of a parameter.
@@ -320,7 +330,13 @@ fn outputs(c: u8, o: u8) -> u8
 }
 
 // The parameters of an operation, up to its `abstract`.
-pub fn parameters(s: &[u8], v: &[u16], start: usize, code: &mut [u16], from: usize) -> Read
+pub fn parameters(
+    s: &[u8],
+    v: &[u16],
+    start: usize,
+    code: &mut [u16],
+    from: usize,
+) -> Result<Read, Fault>
     requires { Room s.now code.old start from }
     ensures { Reads s.now start from (some_parameters 0 0 ∷ []) (exact kind.ABSTRACT ∷ []) result × Made s.now v.now part.some_parameters start from code.old code.new result }
 {
@@ -331,18 +347,17 @@ pub fn parameters(s: &[u8], v: &[u16], start: usize, code: &mut [u16], from: usi
     let mut c = direction_of(kind_at(s, start));
     while c != NONE {
         if full(c, i, o) {
-            return Read::Fault(at, MANY_DECLARED);
+            return Err(Fault {
+                place: at,
+                refusal: Refusal::ManyDeclared,
+            });
         }
-        match declaration(s, v, at, code, n) {
-            Read::At(e, m) => {
-                at = e;
-                n = m;
-                i = inputs(c, i);
-                o = outputs(c, o);
-                c = direction_of(kind_at(s, e));
-            }
-            Read::Fault(p, q) => return Read::Fault(p, q),
-        }
+        let read = declaration(s, v, at, code, n)?;
+        at = read.at;
+        n = read.count;
+        i = inputs(c, i);
+        o = outputs(c, o);
+        c = direction_of(kind_at(s, at));
     }
-    Read::At(at, n)
+    Ok(Read { at, count: n })
 }

@@ -1,103 +1,84 @@
 // Declarations: names that come into use with their types, and names in reach of a predicate.
 ghost use Rattle.std.specs.Prelude.{◌≡◌, ◌+◌, ◌≤◌, ◌<◌, length};
-ghost use Rattle.type_rules.specs.TypesByNumber.{over_key};
+ghost use Rattle.type_rules.specs.Passes.{refused_key};
+ghost use Rattle.type_rules.specs.TypesByNumber.{fault_key};
 ghost use Rattle.declared_names.specs.PassPromises.{TypeKinded, TypeFaulted, pairs_key_at, DeclarationFaulted, Reached, DeclaredSeen, ShownSeen, HiddenSeen, Counted, GivenFaulted, GivenKind, SizeCounted, GivenSeen};
 
 use form::name_endings::PLAIN;
 use form::{node, shapes};
 use lexical::bounds;
+use lexical::refusals::{Fault, Refusal};
+use type_rules::entries;
 use type_rules::kinds::{
-    element_of, index, is_given, lesser_of, look, pair_of, product_fits, put, range_fits, set_of,
-    unless, wide,
+    all_well, element_of, is_given, lesser_of, look, over_fault, pair_of, put, range_fits, set_of,
+    unless,
 };
-use type_rules::{entries, faults};
 
 // What a name of a declared type is: the type's node begins at `at`.
 pub fn type_kind(code: &[u16], at: usize, names: &[u16]) -> u16
     requires { at + 4 ≤ length code.now }
     ensures { TypeKinded code.now at names.now result }
 {
-    let g = element_of(look(names, index(code[at + node::A])));
+    let g = element_of(look(names, usize::from(code[at + node::A])));
     match code[at + node::SHAPE] {
         shapes::SET => g,
         shapes::RANGE => entries::NUMBER,
         shapes::POWER => set_of(g),
-        _ => pair_of(g, element_of(look(names, index(code[at])))),
+        _ => pair_of(g, element_of(look(names, usize::from(code[at])))),
     }
 }
 
 // The first fault of a declared type.
-pub fn type_fault(code: &[u16], at: usize, names: &[u16], sizes: &[u16]) -> u32
+pub fn type_fault(code: &[u16], at: usize, names: &[u16], sizes: &[u16]) -> Option<Fault>
     requires { at + 4 ≤ length code.now }
-    ensures { TypeFaulted code.now at names.now sizes.now result }
+    ensures { TypeFaulted code.now at names.now sizes.now (fault_key result) }
 {
     let a = code[at + node::A];
     let b = code[at];
-    let i = wide(code[at + node::PLACE]);
+    let i = usize::from(code[at + node::PLACE]);
+    let g = look(names, usize::from(a));
     match code[at + node::SHAPE] {
-        shapes::SET => unless(is_given(look(names, index(a))), i, faults::NAME_UNKNOWN),
-        shapes::RANGE => unless(range_fits(a, b), i, faults::WIDE_TYPE),
-        shapes::POWER => unless(is_given(look(names, index(a))), i + 1, faults::NAME_UNKNOWN),
-        _ => pairs_fault(i, look(names, index(a)), look(names, index(b)), sizes),
+        shapes::SET => unless(is_given(g), i, Refusal::NameUnknown),
+        shapes::RANGE => unless(range_fits(a, b), i, Refusal::WideType),
+        shapes::POWER => unless(is_given(g), i + 1, Refusal::NameUnknown),
+        _ => pairs_fault(i, g, look(names, usize::from(b)), sizes),
     }
 }
 
 // The first fault of a type of pairs, by what its two names are.
-fn pairs_fault(i: u32, g: u16, h: u16, sizes: &[u16]) -> u32
+fn pairs_fault(i: usize, g: u16, h: u16, sizes: &[u16]) -> Option<Fault>
     requires { i < 65536 }
-    ensures { result ≡ pairs_key_at i g h sizes.now }
+    ensures { fault_key result ≡ pairs_key_at i g h sizes.now }
 {
-    let first = unless(is_given(g), i, faults::NAME_UNKNOWN);
-    let second = unless(is_given(h), i + 2, faults::NAME_UNKNOWN);
-    let over = over_arrow(sizes, g, h, i + 1);
+    let first = unless(is_given(g), i, Refusal::NameUnknown);
+    let second = unless(is_given(h), i + 2, Refusal::NameUnknown);
+    let over = over_fault(sizes, g, h, i + 1);
     lesser_of(first, lesser_of(second, over))
 }
 
-// The fault of pairs over two names, at a place that need not be below 65,536.
-fn over_arrow(sizes: &[u16], k: u16, l: u16, i: u32) -> u32
-    requires { i < 262144 }
-    ensures { result ≡ over_key sizes.now k l i }
-{
-    if is_given(k) {
-        if is_given(l) {
-            let fits = product_fits(
-                sizes,
-                index(k) - entries::FIRST_GIVEN,
-                index(l) - entries::FIRST_GIVEN,
-            );
-            return unless(fits, i, faults::WIDE_TYPE);
-        }
-        return 0;
-    }
-    0
-}
-
 // Declarations, each of which brings its name into reach: the first fault.
-pub fn declare(code: &[u16], names: &mut [u16], sizes: &[u16]) -> u32
-    ensures { DeclaredSeen code.now names.old names.new sizes.now result }
+pub fn declare(code: &[u16], names: &mut [u16], sizes: &[u16]) -> Result<(), Fault>
+    ensures { DeclaredSeen code.now names.old names.new sizes.now (refused_key result) }
 {
     let mut at: usize = 0;
     while node::DECLARATION <= code.len() - at {
-        let f = declaration_fault(code, at, names, sizes);
-        if f != 0 {
-            return f;
-        }
+        all_well(declaration_fault(code, at, names, sizes))?;
         reach(code, at, PLAIN, names);
         at += node::DECLARATION;
     }
-    0
+    Ok(())
 }
 
 // The first fault of the declaration whose node begins at `at`.
-fn declaration_fault(code: &[u16], at: usize, names: &[u16], sizes: &[u16]) -> u32
+fn declaration_fault(code: &[u16], at: usize, names: &[u16], sizes: &[u16]) -> Option<Fault>
     requires { at + 8 ≤ length code.now }
-    ensures { DeclarationFaulted code.now at names.now sizes.now result }
+    ensures { DeclarationFaulted code.now at names.now sizes.now (fault_key result) }
 {
-    let old = look(names, index(code[at + node::A]));
+    let old = look(names, usize::from(code[at + node::A]));
     let here = unless(
         old == entries::FREE,
-        wide(code[at + node::PLACE]),
-        faults::NAME_IN_USE,
+        usize::from(code[at + node::PLACE]),
+        Refusal::NameInUse,
     );
     let of_type = type_fault(code, at + node::SIZE, names, sizes);
     lesser_of(here, of_type)
@@ -109,7 +90,11 @@ fn reach(code: &[u16], at: usize, shift: u16, names: &mut [u16])
     ensures { Reached code.now at shift names.old names.new }
 {
     let k = type_kind(code, at + node::SIZE, names);
-    put(names, index(code[at + node::A]) + shift as usize, k);
+    put(
+        names,
+        usize::from(code[at + node::A]) + usize::from(shift),
+        k,
+    );
 }
 
 // Declared names come into reach.
@@ -129,30 +114,31 @@ pub fn hide(code: &[u16], shift: u16, k: u16, names: &mut [u16])
 {
     let mut at: usize = 0;
     while node::DECLARATION <= code.len() - at {
-        put(names, index(code[at + node::A]) + shift as usize, k);
+        put(
+            names,
+            usize::from(code[at + node::A]) + usize::from(shift),
+            k,
+        );
         at += node::DECLARATION;
     }
 }
 
 // The given sets, and how many elements each has: the first fault.
-pub fn give(code: &[u16], names: &mut [u16], sizes: &mut [u16]) -> u32
+pub fn give(code: &[u16], names: &mut [u16], sizes: &mut [u16]) -> Result<(), Fault>
     requires { 8 ≤ length sizes.old }
-    ensures { GivenSeen code.now names.old names.new sizes.new result }
+    ensures { GivenSeen code.now names.old names.new sizes.new (refused_key result) }
 {
     let mut at: usize = 0;
     let mut g: u16 = 0;
     while node::SIZE <= code.len() - at {
-        let f = given_fault(code, at, names);
-        if f != 0 {
-            return f;
-        }
+        all_well(given_fault(code, at, names))?;
         g = counted(code, at, g);
         let k = given_kind(code, at, g);
-        put(names, index(code[at + node::A]), k);
+        put(names, usize::from(code[at + node::A]), k);
         count_given(code, at, g, sizes);
         at += node::SIZE;
     }
-    0
+    Ok(())
 }
 
 // How many given sets there are at most, and how many elements each has.
@@ -175,16 +161,16 @@ fn counted(code: &[u16], at: usize, g: u16) -> u16
 }
 
 // A title stands behind its heading, an element at its own place.
-fn given_fault(code: &[u16], at: usize, names: &[u16]) -> u32
+fn given_fault(code: &[u16], at: usize, names: &[u16]) -> Option<Fault>
     requires { at + 4 ≤ length code.now }
-    ensures { GivenFaulted code.now at names.now result }
+    ensures { GivenFaulted code.now at names.now (fault_key result) }
 {
-    let old = look(names, index(code[at + node::A]));
-    let i = wide(code[at + node::PLACE]);
+    let old = look(names, usize::from(code[at + node::A]));
+    let i = usize::from(code[at + node::PLACE]);
     if code[at + node::SHAPE] == shapes::GIVEN {
-        return unless(old == entries::FREE, i + 1, faults::NAME_IN_USE);
+        return unless(old == entries::FREE, i + 1, Refusal::NameInUse);
     }
-    unless(old == entries::FREE, i, faults::NAME_IN_USE)
+    unless(old == entries::FREE, i, Refusal::NameInUse)
 }
 
 // The given sets and their elements are counted from 1.
@@ -211,7 +197,7 @@ fn count_given(code: &[u16], at: usize, g: u16, sizes: &mut [u16])
     if g == 0 {
         return;
     }
-    let x = index(g) - 1;
+    let x = usize::from(g) - 1;
     if code[at + node::SHAPE] == shapes::GIVEN {
         put(sizes, x, 0);
         return;

@@ -11,7 +11,7 @@ use std::io::{Read, Write};
 // The longest text, and one byte more.
 const INPUT: usize = 32769;
 
-// Reads until the text is full or the input ends; how many bytes of it there are.
+// Reads until the text is full or the input ends; how many bytes of it there are. The same as of `calls`: the libraries read no input.
 fn read_front<R: Read>(input: &mut R, text: &mut [u8]) -> io::Result<usize>
     ensures { IfOk result (λ n. n ≤ length text.new) }
 {
@@ -26,20 +26,9 @@ fn read_front<R: Read>(input: &mut R, text: &mut [u8]) -> io::Result<usize>
     Ok(done)
 }
 
-fn least(x: usize, y: usize) -> usize
-    ensures { (0 ≤ result) × (result ≤ y) }
-{
-    if x < y {
-        return x;
-    }
-    y
-}
-
 // The first n bytes go to the output.
 fn write_front<W: Write>(output: &mut W, text: &[u8], n: usize) -> io::Result<()> {
-    let start: usize = 0;
-    let end = least(n, text.len());
-    output.write_all(&text[start..end])
+    output.write_all(&text[..n.min(text.len())])
 }
 
 fn write_report<W: Write>(output: &mut W, out: &[u8; REPORT], n: usize) -> io::Result<()> {

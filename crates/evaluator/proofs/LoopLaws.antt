@@ -11,7 +11,7 @@ use lib.ListN.{get_or, set}
 use lib.Pow.{pow_mono}
 use lib.Seq.{set-set, set-get_or}
 use lib.IntN.{ℤ, pos, ◌+ℤ◌}
-use mir.Val.{bool_byte}
+use Rattle.std.specs.Int.{from_bool}
 use Rattle.sets.specs.Sets.{bit, set_from, set_of, some_from, count_from}
 use Rattle.operators.specs.EvaluationOperatorsByNumber.{asked}
 use Rattle.operators.specs.EvaluationEvaluationByNumber.{Values, Inside, first_at, low_at, count_at, Bound, TruthIs}
@@ -29,11 +29,11 @@ given_back l l₀ s {z} same old = same z ∙ ap (set l₀ s) old ∙ set-get_or
 
 -- ---- sums over numbers
 
-byte-bit : (b : Bool) → bool_byte b ≡ bit b
+byte-bit : (b : Bool) → from_bool b ≡ bit b
 byte-bit true = refl
 byte-bit false = refl
 
-byte_small : (b : Bool) → bool_byte b ≤ 1
+byte_small : (b : Bool) → from_bool b ≤ 1
 byte_small true = omega arith
 byte_small false = omega arith
 
@@ -49,15 +49,15 @@ set_below g k (suc n) = rw pow-suc (lemma (g k) (set_below g (suc k) n))
     lemma true h = omega arith
     lemma false h = omega arith
 
-set-step : (g : ℕ → Bool) (n k s : ℕ) (b : Bool) → s ≡ set_from g k (n - k) → 0 < k → k ≤ n → b ≡ g (k - 1)
-    → 2 * s + bool_byte b ≡ set_from g (k - 1) (n - (k - 1))
+set-step : (g : ℕ → Bool) (n k s r : ℕ) (b : Bool) → r ≡ from_bool b → s ≡ set_from g k (n - k) → 0 < k → k ≤ n → b ≡ g (k - 1)
+    → 2 * s + r ≡ set_from g (k - 1) (n - (k - 1))
 unfolding set_from
-set-step g n k s b e h l said =
+set-step g n k s r b q e h l said =
     let up : suc (k - 1) ≡ k = omega arith in
     let more : n - (k - 1) ≡ suc (n - k) = omega arith in
     let z : set_from g (k - 1) (n - (k - 1)) ≡ bit (g (k - 1)) + 2 * set_from g (suc (k - 1)) (n - k) = ap (set_from g (k - 1)) more in
     let y : s ≡ set_from g (suc (k - 1)) (n - k) = e ∙ ap (λ (j : ℕ). set_from g j (n - k)) (sym up) in
-    let w : bool_byte b ≡ bit (g (k - 1)) = byte-bit b ∙ ap bit said in
+    let w : r ≡ bit (g (k - 1)) = q ∙ byte-bit b ∙ ap bit said in
     omega arith
 
 set-end : (g : ℕ → Bool) (n k : ℕ) → k ≤ 0 → set_from g k (n - k) ≡ set_from g 0 n
@@ -75,13 +75,13 @@ some_end : (g : ℕ → Bool) (n k : ℕ) → n ≤ k → false ≡ some_from g 
 unfolding some_from
 some_end g n k h = let z : 0 ≡ n - k = omega arith in ap (some_from g k) z
 
-count-step : (g : ℕ → Bool) (n k m X : ℕ) (b : Bool) → m + count_from g k (n - k) ≡ X → k < n → b ≡ g k
-    → m + bool_byte b + count_from g (k + 1) (n - (k + 1)) ≡ X
+count-step : (g : ℕ → Bool) (n k m X r : ℕ) (b : Bool) → r ≡ from_bool b → m + count_from g k (n - k) ≡ X → k < n → b ≡ g k
+    → m + r + count_from g (k + 1) (n - (k + 1)) ≡ X
 unfolding count_from
-count-step g n k m X b e h said =
+count-step g n k m X r b q e h said =
     let z : count_from g k (n - k) ≡ bit (g k) + count_from g (suc k) (n - (k + 1)) = ap (count_from g k) (unfold-one n k h) in
     let y : count_from g (k + 1) (n - (k + 1)) ≡ count_from g (suc k) (n - (k + 1)) = ap (λ (j : ℕ). count_from g j (n - (k + 1))) (add-one k) in
-    let w : bool_byte b ≡ bit (g k) = byte-bit b ∙ ap bit said in
+    let w : r ≡ bit (g k) = q ∙ byte-bit b ∙ ap bit said in
     omega arith
 
 count-end : (g : ℕ → Bool) (n k m X : ℕ) → m + count_from g k (n - k) ≡ X → n ≤ k → m ≡ X
@@ -131,10 +131,10 @@ module _ {t : List ℕ} {e : ℕ} {ρ : Values} where
       subst (λ (x : ℕ). x < 65536) (sym (S.is r.fuel r.is.test r.is.bound))
       (lt_of_lt_of_le (set_below r.is.test k (count_at t (e - 4) - k)) (pow_mono {i = count_at t (e - 4) - k} {j = 16} (omega arith)))
 
-  pub such-step : {σ : Values} {k s : ℕ} {b : Bool} → SuchSoFar t e ρ k s → 0 < k → k ≤ count_at t (e - 4) → σ ≡ set ρ (first_at t e) (pos (k - 1))
-      → TruthAnswers t (e - 8) σ b → SuchSoFar t e ρ (k - 1) (2 * s + bool_byte b)
-  such-step {k = k} {s} {b} S h l q a = record {
-    is = λ f g B. set-step g (count_at t (e - 4)) k s b (S.is f g B) h l
+  pub such-step : {σ : Values} {k s r : ℕ} {b : Bool} → r ≡ from_bool b → SuchSoFar t e ρ k s → 0 < k → k ≤ count_at t (e - 4) → σ ≡ set ρ (first_at t e) (pos (k - 1))
+      → TruthAnswers t (e - 8) σ b → SuchSoFar t e ρ (k - 1) (2 * s + r)
+  such-step {k = k} {s} {r} {b} i S h l q a = record {
+    is = λ f g B. set-step g (count_at t (e - 4)) k s r b i (S.is f g B) h l
         (bound-says f t (k - 1) B (below-before (count_at t (e - 4)) k h l) (from_zero ρ (first_at t e) (k - 1) q) a);
   }
 
@@ -184,10 +184,10 @@ module _ {t : List ℕ} {e : ℕ} {ρ : Values} where
   pub once-start : OnceSoFar t e ρ 0 0
   once-start = record { is = λ f g B. count-start g (count_at t (e - 4)) }
 
-  pub once-step : {σ : Values} {k found : ℕ} {b : Bool} → OnceSoFar t e ρ k found → k < count_at t (e - 4)
-      → σ ≡ set ρ (first_at t e) (low_at t (e - 4) +ℤ pos k) → TruthAnswers t (e - 8) σ b → OnceSoFar t e ρ (k + 1) (found + bool_byte b)
-  once-step {k = k} {found} {b} S h q a = record {
-    is = λ f g B. count-step g (count_at t (e - 4)) k found (count_from g 0 (count_at t (e - 4))) b (S.is f g B) h (bound-says f t k B h q a);
+  pub once-step : {σ : Values} {k found r : ℕ} {b : Bool} → r ≡ from_bool b → OnceSoFar t e ρ k found → k < count_at t (e - 4)
+      → σ ≡ set ρ (first_at t e) (low_at t (e - 4) +ℤ pos k) → TruthAnswers t (e - 8) σ b → OnceSoFar t e ρ (k + 1) (found + r)
+  once-step {k = k} {found} {r} {b} i S h q a = record {
+    is = λ f g B. count-step g (count_at t (e - 4)) k found (count_from g 0 (count_at t (e - 4))) r b i (S.is f g B) h (bound-says f t k B h q a);
   }
 
   pub once-done : {k found : ℕ} → OnceSoFar t e ρ k found → count_at t (e - 4) ≤ k → OnceAnswers t e ρ (eqb found 1)
@@ -196,8 +196,8 @@ module _ {t : List ℕ} {e : ℕ} {ρ : Values} where
   }
 
 -- one more is counted, at most
-pub counted-small : (found k : ℕ) (b : Bool) → found ≤ k → found + bool_byte b ≤ k + 1
-counted-small found k b h = let z : bool_byte b ≤ 1 = byte_small b in omega arith
+pub counted-small : {r : ℕ} (found k : ℕ) (b : Bool) → r ≡ from_bool b → found ≤ k → found + r ≤ k + 1
+counted-small found k b q h = let z : from_bool b ≤ 1 = byte_small b in omega arith
 
-pub doubled-small : (s : ℕ) (b : Bool) → s < 65536 → 2 * s + bool_byte b < 4294967296
-doubled-small s b h = let z : bool_byte b ≤ 1 = byte_small b in omega arith
+pub doubled-small : {r : ℕ} (s : ℕ) (b : Bool) → r ≡ from_bool b → s < 65536 → 2 * s + r < 4294967296
+doubled-small s b q h = let z : from_bool b ≤ 1 = byte_small b in omega arith

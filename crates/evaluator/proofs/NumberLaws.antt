@@ -6,7 +6,7 @@ use native.Mathlib.Omega.{arith}
 use lib.Dec.{lit<, lit≤}
 use lib.IntN.{ℤ, pos, negsuc, nat_abs, ◌+ℤ◌, ◌-ℤ◌}
 use lib.Signed.{mag}
-use mir.Syntax.{w16, w32, w64}
+use mir.Syntax.{w16, w64}
 use mir.Val.{Fits, SFits, of_z, to_z}
 use mir.Facts.{to_z-of_z, to_z_pos}
 use Rattle.sets.proofs.Floor.{add-mag}
@@ -15,16 +15,13 @@ abs_mag : (z : ℤ) → nat_abs z ≤ suc (mag z)
 abs_mag (pos a) = omega arith
 abs_mag (negsuc a) = omega arith
 
-pub bits_back : (w : ℕ) → Fits w32 w → to_z w64 w ≡ pos w
-bits_back w f = to_z_pos w64 {n = w} (lt_of_lt_of_le f.fits (lit≤ tt))
-
 pub small-read : (x : ℤ) → mag x < 2 ^ 63 → nat_abs x < 131072 → nat_abs (to_z w64 (of_z w64 x)) < 131072
 small-read x f h = rw (to_z-of_z {w = w64} {z = x} (record { sfits = f })) h
 
-module _ (w : ℕ) (f : Fits w16 w) where
-  pub whole_back : to_z w64 w ≡ pos w
-  whole_back = to_z_pos w64 {n = w} (lt_of_lt_of_le f.fits (lit≤ tt))
+widened : (n : ℕ) {z : ℤ} → Fits w16 n → z ≡ pos n → to_z w64 (of_z w64 z) ≡ pos n
+widened n f e = ap (λ (v : ℤ). to_z w64 (of_z w64 v)) e ∙ to_z_pos w64 {n = n} (lt_of_lt_of_le f.fits (lit≤ tt))
 
+module _ (w : ℕ) (f : Fits w16 w) where
   low-mag : mag (pos w -ℤ pos 1000) < 66536
   low-mag = add-mag (pos w) (negsuc 999) 65536 1000 f.fits (lit< tt)
 
@@ -33,20 +30,19 @@ module _ (w : ℕ) (f : Fits w16 w) where
       subst (λ (z : ℤ). nat_abs z < 131072) (sym q)
       (let m : mag (pos w -ℤ pos 1000) < 66536 = low-mag in let a = abs_mag (pos w -ℤ pos 1000) in lt_of_le_of_lt a (omega arith))
 
-  pub low_fits : SFits w64 (to_z w64 w -ℤ pos 1000)
-  low_fits = rw whole_back (record { sfits = lt_of_lt_of_le low-mag (lit≤ tt) })
+  -- the number as the machine has it
+  module _ {z : ℤ} (e : z ≡ pos w) where
+    pub low_fits : SFits w64 (to_z w64 (of_z w64 z) -ℤ pos 1000)
+    low_fits = rw (widened w f e) (record { sfits = lt_of_lt_of_le low-mag (lit≤ tt) })
 
-  pub low-back : to_z w64 (of_z w64 (to_z w64 w -ℤ pos 1000)) ≡ pos w -ℤ pos 1000
-  low-back = to_z-of_z low_fits ∙ ap (λ (z : ℤ). z -ℤ pos 1000) whole_back
+    pub low-back : to_z w64 (of_z w64 (to_z w64 (of_z w64 z) -ℤ pos 1000)) ≡ pos w -ℤ pos 1000
+    low-back = to_z-of_z low_fits ∙ ap (λ (v : ℤ). v -ℤ pos 1000) (widened w f e)
 
-  module _ (k : ℕ) (g : Fits w16 k) where
-    steps : to_z w64 k ≡ pos k
-    steps = to_z_pos w64 {n = k} (lt_of_lt_of_le g.fits (lit≤ tt))
+    module _ (k : ℕ) (g : Fits w16 k) {y : ℤ} (i : y ≡ pos k) where
+      pub nth-fits : SFits w64 (to_z w64 (of_z w64 (to_z w64 (of_z w64 z) -ℤ pos 1000)) +ℤ to_z w64 (of_z w64 y))
+      nth-fits =
+          rw (low-back, widened k g i)
+          (record { sfits = lt_of_lt_of_le (add-mag (pos w -ℤ pos 1000) (pos k) 66536 65536 low-mag g.fits) (lit≤ tt) })
 
-    pub nth-fits : SFits w64 (to_z w64 (of_z w64 (to_z w64 w -ℤ pos 1000)) +ℤ to_z w64 k)
-    nth-fits =
-        rw (low-back, steps)
-        (record { sfits = lt_of_lt_of_le (add-mag (pos w -ℤ pos 1000) (pos k) 66536 65536 low-mag g.fits) (lit≤ tt) })
-
-    pub nth-back : to_z w64 (of_z w64 (to_z w64 (of_z w64 (to_z w64 w -ℤ pos 1000)) +ℤ to_z w64 k)) ≡ (pos w -ℤ pos 1000) +ℤ pos k
-    nth-back = to_z-of_z nth-fits ∙ ap₂ ◌+ℤ◌ low-back steps
+      pub nth-back : to_z w64 (of_z w64 (to_z w64 (of_z w64 (to_z w64 (of_z w64 z) -ℤ pos 1000)) +ℤ to_z w64 (of_z w64 y))) ≡ (pos w -ℤ pos 1000) +ℤ pos k
+      nth-back = to_z-of_z nth-fits ∙ ap₂ ◌+ℤ◌ low-back (widened k g i)

@@ -1,9 +1,9 @@
 // The evaluator: values of terms and predicates over the table that the reader leaves (table_places/specs/ResolvedTable). A node is four numbers, second, first,
 // end, shape, and stands behind its parts; `end` is the place behind a node, its last part ends where the node begins, an earlier one where the node says.
-// A slot has the value of a variable or of a bound name; every function leaves the slots as they were.
+// A slot has the value of a variable or of a bound name; every function leaves the slots as they were. The caller lends the table: shapes and codes are numbers in it.
 #![tactic(auto)]
 
-ghost use Rattle.std.specs.Prelude.{◌≡◌, ℕ, ◌+◌, ◌<◌, ◌≤◌, ℤ, pos, nat_abs, ◌+ℤ◌, ◌-ℤ◌};
+ghost use Rattle.std.specs.Prelude.{◌≡◌, ℕ, ◌<◌, ◌≤◌, ℤ, pos, nat_abs, ◌+ℤ◌, ◌-ℤ◌};
 ghost use Rattle.operators.specs.EvaluationEvaluationByNumber.{Inside};
 ghost use Rattle.evaluator.specs.EvaluationPromises.{TermRuns, TermAnswers, ItemsRun, ItemsAnswer, TruthRuns, TruthAnswers};
 ghost use Rattle.evaluator.specs.EvaluationPromises.{SuchRuns, SuchAnswers, AskedRuns, AskedAnswers, QuantifierRuns, QuantifierAnswers, BoundRuns, SomeAnswers, OnceAnswers};
@@ -41,39 +41,18 @@ const RAISED: i64 = bounds::LARGEST_NUMBER as i64;
 
 const HOLDS: u16 = 1;
 
-// A number of a node, and a set's bits, as a value.
-fn whole(w: u16) -> i64
-    ensures { result ≡ pos w }
-{
-    w as i64
-}
-
-fn of_bits(s: u32) -> i64
-    ensures { result ≡ pos s }
-{
-    s as i64
-}
-
 // The first number of a domain, of which its node has RAISED more, and the k-th one from there on.
 fn lowest(w: u16) -> i64
     ensures is { result ≡ pos w -ℤ pos 1000 }
     ensures small { nat_abs result < 131072 }
 {
-    w as i64 - RAISED
+    i64::from(w) - RAISED
 }
 
 fn counted(w: u16, k: u16) -> i64
     ensures { result ≡ (pos w -ℤ pos 1000) +ℤ pos k }
 {
-    w as i64 - RAISED + k as i64
-}
-
-// The place behind k, which is one of n.
-fn next(k: u16, n: u16) -> u16
-    requires { k < n }
-    ensures { result ≡ k + 1 }
-{
-    k + 1
+    i64::from(w) - RAISED + i64::from(k)
 }
 
 // The same as `value`: variables and numbers, which most parts are, without a call.
@@ -89,7 +68,7 @@ fn part(t: &[u16; node::NUMBERS], end: usize, slots: &mut [i64; SLOTS]) -> i64
         return slots[t[end - FIRST_BACK] as usize];
     }
     if shape == table_shapes::VALUE {
-        return whole(t[end - FIRST_BACK]);
+        return i64::from(t[end - FIRST_BACK]);
     }
     value(t, end, slots)
 }
@@ -105,7 +84,7 @@ pub fn value(t: &[u16; node::NUMBERS], end: usize, slots: &mut [i64; SLOTS]) -> 
     let first = t[end - FIRST_BACK];
     let shape = t[end - SHAPE_BACK];
     match shape {
-        table_shapes::VALUE => whole(first),
+        table_shapes::VALUE => i64::from(first),
         table_shapes::SLOT => slots[first as usize],
         table_shapes::PREFIX => {
             let x = part(t, end - node::SIZE, slots);
@@ -169,15 +148,14 @@ fn such(t: &[u16; node::NUMBERS], end: usize, slots: &mut [i64; SLOTS]) -> i64
 {
     let slot = t[end - FIRST_BACK] as usize;
     let old = slots[slot];
+    let n = t[end - node::SIZE - SECOND_BACK];
     let mut s: u32 = 0;
-    let mut k = t[end - node::SIZE - SECOND_BACK];
-    while 0 < k {
-        k -= 1;
-        slots[slot] = whole(k);
-        s = 2 * s + (holds(t, end - TWO_NODES, slots) as u32);
+    for k in (0..n).rev() {
+        slots[slot] = i64::from(k);
+        s = 2 * s + u32::from(holds(t, end - TWO_NODES, slots));
     }
     slots[slot] = old;
-    of_bits(s)
+    i64::from(s)
 }
 
 // Whether the predicate whose nodes end at `end` holds.
@@ -275,15 +253,13 @@ fn some(t: &[u16; node::NUMBERS], end: usize, wanted: bool, slots: &mut [i64; SL
     let low = t[end - node::SIZE - FIRST_BACK];
     let n = t[end - node::SIZE - SECOND_BACK];
     let old = slots[slot];
-    let mut k: u16 = 0;
-    while k < n {
+    for k in 0..n {
         slots[slot] = counted(low, k);
         let p = holds(t, end - TWO_NODES, slots);
         if asked(wanted, p) {
             slots[slot] = old;
             return true;
         }
-        k = next(k, n);
     }
     slots[slot] = old;
     false
@@ -302,11 +278,9 @@ fn once(t: &[u16; node::NUMBERS], end: usize, slots: &mut [i64; SLOTS]) -> bool
     let n = t[end - node::SIZE - SECOND_BACK];
     let old = slots[slot];
     let mut found: u32 = 0;
-    let mut k: u16 = 0;
-    while k < n {
+    for k in 0..n {
         slots[slot] = counted(low, k);
-        k = next(k, n);
-        found += holds(t, end - TWO_NODES, slots) as u32;
+        found += u32::from(holds(t, end - TWO_NODES, slots));
     }
     slots[slot] = old;
     found == 1

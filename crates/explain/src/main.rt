@@ -27,30 +27,10 @@ fn read_front<R: Read>(input: &mut R, text: &mut [u8]) -> io::Result<usize>
     Ok(done)
 }
 
-fn least(x: usize, y: usize) -> usize
-    ensures { (0 ≤ result) × (result ≤ y) }
-{
-    if x < y {
-        return x;
-    }
-    y
-}
-
-// The first n bytes go to the output.
-fn write_front<W: Write>(output: &mut W, text: &[u8], n: usize) -> io::Result<()> {
-    let start: usize = 0;
-    let end = least(n, text.len());
-    output.write_all(&text[start..end])
-}
-
-fn write_sheet<W: Write>(output: &mut W, out: &[u8; SHEET], n: usize) -> io::Result<()> {
-    write_front(output, out, n)
-}
-
 fn main(rt: HostRuntime) -> io::Result<()> {
     let mut text = [0u8; INPUT];
     let n = read_front(&mut rt.stdin(), &mut text)?;
     let mut out = [0u8; SHEET];
     let length = explain(&text[..n], &mut out);
-    write_sheet(&mut rt.stdout(), &out, length)
+    rt.stdout().write_all(&out[..length])
 }

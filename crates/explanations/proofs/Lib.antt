@@ -1,3 +1,2 @@
--- Explanations: products that are bounded, what the search for a verdict is asked.
-pub mod BoundedProducts
+-- Explanations: what the search for a verdict is asked.
 pub mod VerdictSearch

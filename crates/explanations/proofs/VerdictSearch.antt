@@ -1,22 +1,22 @@
 -- What is asked where the search goes over all places of a dossier that is read, and where the place is found at which it failed. Assumes nothing.
-use mathlib.Core.Path.{◌≡◌, subst}
-use mathlib.Core.Bool.{Bool, true}
+use Rattle.std.specs.Prelude.{Option, Some, Result, Ok}
+use mathlib.Core.Path.{◌≡◌}
 use mathlib.Core.List.{List}
 use Prim.Native.Nat.{ℕ, ◌^◌, ◌<◌}
 use native.Mathlib.Omega.{arith}
 use lib.ListN.{length}
 use Rattle.form.specs.Tree.{Dossier}
 use Rattle.obligations.specs.Subjects.{subject_of}
-use Rattle.obligations.specs.Order.{checks, total, look}
+use Rattle.obligations.specs.Order.{total}
 use Rattle.parts.specs.SearchPromises.{SearchAsked, SearchAnswers}
 use Rattle.parts.proofs.ReadingSizes.{reading_small}
 use Rattle.part_places.specs.Places.{AllAsked, TotalIs, PlaceAsked}
 use Rattle.part_places.proofs.ReadingGroups.{reading-groups}
-use Rattle.reports.proofs.VerdictLines.{came, whole-look, failed-inside}
+use Rattle.reports.proofs.VerdictLines.{whole-look, failed-inside}
+use Rattle.reports.proofs.VerdictLaws.{found-at}
 use Rattle.state_facts.specs.Reads.{ReadAsked}
 use Rattle.text_readings.specs.TextPromises.{ReadsText}
-use Rattle.text_readings.specs.declared.TextRead.{TextRead}
-use Rattle.text_readings.specs.declared.TextRead.TheVariants.{Read}
+use Rattle.lexical.specs.declared.refusals.Fault.{Fault}
 use Rattle.reports.specs.ReportPromises.{VerdictAsked}
 use Rattle.reports.proofs.ReportAnswers.{verdict-asked}
 
@@ -31,18 +31,17 @@ module _ {table rows firsts groups : List ℕ} {operations : ℕ} (k : ReadAsked
     pub search-asked : SearchAsked table rows firsts groups operations 0
     search-asked = record { dossier = k.dossier; reading = k.reading; many = k.many; inside = omega arith }
 
-    module _ {at : ℕ} {failed : Bool} (s : SearchAnswers table rows firsts groups operations 0 all at failed) (f : failed ≡ true) where
+    module _ {at : ℕ} {failing : Option ℕ} (s : SearchAnswers table rows firsts groups operations 0 all failing) (f : failing ≡ Some at) where
       at-inside : at < total (subject_of k.dossier)
       at-inside =
           failed-inside k.dossier at
-          (subst (λ (b : Bool). look (subject_of k.dossier) (checks (subject_of k.dossier)) ≡ came at b) f
-          (whole-look k.dossier s k.reading k.many (t.is k.dossier (reading-groups k.reading) k.many)))
+          (whole-look (Some at) k.dossier (found-at f s) k.reading k.many (t.is k.dossier (reading-groups k.reading) k.many))
 
       pub place-asked : PlaceAsked table groups operations at
       unfolding all_asked
       place-asked = record { all = all_asked; inside = at-inside }
 
 -- what is read of a text is asked so
-pub read_asked : {text table rows firsts groups labels : List ℕ} {r : TextRead} {operations : ℕ} → ReadsText text table rows firsts groups labels r → r ≡ Read operations
+pub read_asked : {text table rows firsts groups labels : List ℕ} {r : Result ℕ Fault} {operations : ℕ} → ReadsText text table rows firsts groups labels r → r ≡ Ok operations
     → ReadAsked table rows firsts groups operations
 read_asked w e = let v = verdict-asked w e in record { dossier = v.dossier; reading = v.arrays; many = v.many }

@@ -1,12 +1,14 @@
 // What is told of every dossier: what predicates leave out, and preconditions that differ.
 ghost use Rattle.std.specs.Prelude.{◌≤◌};
-ghost use Rattle.state_facts.specs.Reads.{ReadAsked};
+ghost use Rattle.explanations.specs.Asked.{IsRead};
 
 use crate::bounds::is_short;
-use crate::items::{before, say_at, sizes_of};
-use pages::{PAGE, count, say, say_of};
+use crate::items::{NONE, say_at, say_for, sizes_of};
+use pages::Page;
 use phrases::words;
 use points::slots;
+use search_groups::Dossier;
+use state_facts::Numbers;
 use state_facts::omissions::left_out;
 use step_facts::{Place, narrowed, spans, widened};
 
@@ -15,25 +17,15 @@ const OPERATIONS: usize = 5;
 
 const SIDES: usize = 2;
 
+const MOST_OPERATIONS: usize = 16;
+
 fn context_of(j: usize) -> usize
     ensures { result ≤ 37 }
 {
-    if MOST_OPERATIONS < j {
-        return OPERATIONS;
-    }
-    OPERATIONS + SIDES * j
+    OPERATIONS + SIDES * j.min(MOST_OPERATIONS)
 }
 
-const MOST_OPERATIONS: usize = 16;
-
-// Some variables that a predicate leaves out, as bits.
-fn say_bits(page: &mut [usize; PAGE], phrase: usize, j: usize, bits: usize) {
-    if bits != 0 {
-        say_of(page, phrase, j, bits, 0);
-    }
-}
-
-// Those of the group of n variables from a slot on, by the context of one side.
+// The variables of a group of n from a slot on that a predicate leaves out, by its context.
 #[derive(Clone, Copy)]
 struct Omission {
     phrase: usize,
@@ -42,159 +34,106 @@ struct Omission {
     n: usize,
 }
 
-fn say_omission(
-    t: &[u16; 16384],
-    rows: &[u16; 16384],
-    firsts: &[u16; 40],
-    groups: &[u16; 160],
-    operations: usize,
-    j: usize,
-    o: Omission,
-    page: &mut [usize; PAGE],
-)
-    requires { ReadAsked t.now rows.now firsts.now groups.now operations }
+fn say_omission(d: &Dossier<'_>, j: usize, o: Omission, page: &mut Page)
+    requires { IsRead d.now }
 {
-    let bits = left_out(t, rows, firsts, groups, operations, o.context, o.slot, o.n);
-    say_bits(page, o.phrase, j, bits);
+    let bits = left_out(d, o.context, o.slot, o.n);
+    if bits != 0 {
+        page.say_of(o.phrase, j, bits, 0);
+    }
 }
 
-fn say_left_out(
-    t: &[u16; 16384],
-    rows: &[u16; 16384],
-    firsts: &[u16; 40],
-    groups: &[u16; 160],
-    operations: usize,
-    j: usize,
-    page: &mut [usize; PAGE],
-)
-    requires { ReadAsked t.now rows.now firsts.now groups.now operations }
+// What the predicates of an operation leave out.
+fn say_left_out(d: &Dossier<'_>, j: usize, page: &mut Page)
+    requires { IsRead d.now }
 {
-    let s = sizes_of(t, rows, firsts, groups, operations, j);
+    let s = sizes_of(d, j);
     let context = context_of(j);
-    let primed = Omission {
-        phrase: words::ABSTRACT_PRIMED_VARIABLES,
-        context,
-        slot: slots::ABSTRACT_PRIMED,
-        n: s.va,
-    };
-    say_omission(t, rows, firsts, groups, operations, j, primed, page);
-    let outputs = Omission {
-        phrase: words::OUTPUTS_OF_THE_ABSTRACT_SIDE,
-        context,
-        slot: slots::OUTPUTS,
-        n: s.vo,
-    };
-    say_omission(t, rows, firsts, groups, operations, j, outputs, page);
-    say_left_out_concretely(t, rows, firsts, groups, operations, j, page);
-}
-
-fn say_left_out_concretely(
-    t: &[u16; 16384],
-    rows: &[u16; 16384],
-    firsts: &[u16; 40],
-    groups: &[u16; 160],
-    operations: usize,
-    j: usize,
-    page: &mut [usize; PAGE],
-)
-    requires { ReadAsked t.now rows.now firsts.now groups.now operations }
-{
-    let s = sizes_of(t, rows, firsts, groups, operations, j);
-    let context = context_of(j) + 1;
-    let primed = Omission {
-        phrase: words::CONCRETE_PRIMED_VARIABLES,
-        context,
-        slot: slots::CONCRETE_PRIMED,
-        n: s.vc,
-    };
-    say_omission(t, rows, firsts, groups, operations, j, primed, page);
-    let outputs = Omission {
-        phrase: words::OUTPUTS_OF_THE_CONCRETE_SIDE,
-        context,
-        slot: slots::OUTPUTS,
-        n: s.vo,
-    };
-    say_omission(t, rows, firsts, groups, operations, j, outputs, page);
+    let omissions = [
+        Omission {
+            phrase: words::ABSTRACT_PRIMED_VARIABLES,
+            context,
+            slot: slots::ABSTRACT_PRIMED,
+            n: s.va,
+        },
+        Omission {
+            phrase: words::OUTPUTS_OF_THE_ABSTRACT_SIDE,
+            context,
+            slot: slots::OUTPUTS,
+            n: s.vo,
+        },
+        Omission {
+            phrase: words::CONCRETE_PRIMED_VARIABLES,
+            context: context + 1,
+            slot: slots::CONCRETE_PRIMED,
+            n: s.vc,
+        },
+        Omission {
+            phrase: words::OUTPUTS_OF_THE_CONCRETE_SIDE,
+            context: context + 1,
+            slot: slots::OUTPUTS,
+            n: s.vo,
+        },
+    ];
+    for o in &omissions {
+        say_omission(d, j, *o, page);
+    }
 }
 
 // What the predicates of all operations leave out. What is listed is left out; that what is not listed is mentioned rests on `mentions::free_pred`, whose promise is one-sided.
-pub fn say_omissions(
-    t: &[u16; 16384],
-    rows: &[u16; 16384],
-    firsts: &[u16; 40],
-    groups: &[u16; 160],
-    operations: usize,
-    page: &mut [usize; PAGE],
-)
-    requires { ReadAsked t.now rows.now firsts.now groups.now operations }
+pub fn say_omissions(d: &Dossier<'_>, page: &mut Page)
+    requires { IsRead d.now }
 {
-    say(page, words::WHAT_PREDICATES_LEAVE_OUT);
-    let told = count(page);
-    let mut j: usize = 0;
-    while j < operations {
-        say_left_out(t, rows, firsts, groups, operations, j, page);
-        j += 1;
+    page.say(words::WHAT_PREDICATES_LEAVE_OUT);
+    let told = page.items().len();
+    for j in 0..d.operations {
+        say_left_out(d, j, page);
     }
-    if count(page) == told {
-        say(page, words::NOTHING_LEFT_OUT);
+    if page.items().len() == told {
+        page.say(words::NOTHING_LEFT_OUT);
     }
 }
 
 // ---- preconditions
 
 // A place where the preconditions differ; says whether there is one.
-fn say_place(page: &mut [usize; PAGE], phrase: usize, j: usize, p: Place) -> bool {
-    if p.found {
-        say_at(page, phrase, j, before(p.a, p.c, p.i));
-        return true;
-    }
-    false
+fn say_place(page: &mut Page, phrase: usize, j: usize, place: Option<Place>) -> bool {
+    let Some(p) = place else {
+        return false;
+    };
+    let before = Numbers {
+        a: p.a,
+        c: p.c,
+        i: p.i,
+        ..NONE
+    };
+    say_at(page, phrase, j, before);
+    true
 }
 
-fn say_precondition(
-    t: &[u16; 16384],
-    rows: &[u16; 16384],
-    firsts: &[u16; 40],
-    groups: &[u16; 160],
-    operations: usize,
-    j: usize,
-    page: &mut [usize; PAGE],
-)
-    requires { ReadAsked t.now rows.now firsts.now groups.now operations }
+fn say_precondition(d: &Dossier<'_>, j: usize, page: &mut Page)
+    requires { IsRead d.now }
 {
-    let s = spans(t, rows, firsts, groups, operations, j);
+    let s = spans(d, j);
     if !is_short(s) {
-        say_of(page, words::NOT_COMPARED, j, 0, 0);
+        say_for(page, words::NOT_COMPARED, j);
         return;
     }
-    let n = narrowed(t, rows, firsts, groups, operations, j);
+    let n = narrowed(d, j);
     let is_narrowed = say_place(page, words::NARROWED, j, n);
-    let w = widened(t, rows, firsts, groups, operations, j);
+    let w = widened(d, j);
     let is_widened = say_place(page, words::WIDENED, j, w);
-    if is_narrowed {
-        return;
+    if !is_narrowed && !is_widened {
+        say_for(page, words::NEITHER, j);
     }
-    if is_widened {
-        return;
-    }
-    say_of(page, words::NEITHER, j, 0, 0);
 }
 
 // The preconditions of all operations.
-pub fn say_preconditions(
-    t: &[u16; 16384],
-    rows: &[u16; 16384],
-    firsts: &[u16; 40],
-    groups: &[u16; 160],
-    operations: usize,
-    page: &mut [usize; PAGE],
-)
-    requires { ReadAsked t.now rows.now firsts.now groups.now operations }
+pub fn say_preconditions(d: &Dossier<'_>, page: &mut Page)
+    requires { IsRead d.now }
 {
-    say(page, words::PRECONDITIONS);
-    let mut j: usize = 0;
-    while j < operations {
-        say_precondition(t, rows, firsts, groups, operations, j, page);
-        j += 1;
+    page.say(words::PRECONDITIONS);
+    for j in 0..d.operations {
+        say_precondition(d, j, page);
     }
 }

@@ -1,26 +1,26 @@
 // What is explained of a text: the items of a page, from facts that are proved, and the page written in words.
 #![tactic(auto)]
 
-ghost use Rattle.std.specs.Prelude.{◌<◌};
-ghost use Rattle.state_facts.specs.Reads.{ReadAsked};
-ghost use Rattle.part_places.specs.Places.{AllAsked};
+ghost use Rattle.std.specs.Prelude.{◌≤◌};
+ghost use Rattle.explanations.specs.Asked.{IsRead, IsPlaced};
 
 use crate::accepted::say_accepted;
 use crate::always::{say_omissions, say_preconditions};
 use crate::refuted::{say_applicability, say_correctness, say_initialisation};
-use evaluator::SLOTS;
 use form::node::NUMBERS;
 use labels::LABELS;
-use pages::{Item, PAGE, count, item_at};
+use lexical::refusals::Fault;
+use pages::{Item, Page};
 use part_places::{Found, find, total};
 use parts::search;
-use phrases::{Filling, put_phrase};
-use refusal_pages::refusal_page;
+use phrases::{Filling, SLOTS, Source, put_phrase};
+use refusal_pages::say_refusal;
+use search_groups::Dossier;
 use search_groups::conjuncts::FIRSTS;
 use search_groups::groups::GROUPS;
-use sheets::SHEET;
-use state_facts::{Numbers, show};
-use text_readings::{TextRead, read_text};
+use sheets::{SHEET, Sheet};
+use state_facts::{Numbers, Sizes, show};
+use text_readings::read_text;
 
 mod accepted;
 mod always;
@@ -34,86 +34,76 @@ const OPENING: usize = 1;
 
 const OBLIGATIONS: usize = 2;
 
-fn say_refuted(
-    text: &[u8],
-    t: &[u16; 16384],
-    rows: &[u16; 16384],
-    firsts: &[u16; 40],
-    groups: &[u16; 160],
-    operations: usize,
-    f: Found,
-    page: &mut [usize; PAGE],
-)
-    requires { ReadAsked t.now rows.now firsts.now groups.now operations }
+fn say_refuted(text: &[u8], d: &Dossier<'_>, f: Found, page: &mut Page)
+    requires { IsRead d.now }
 {
     if f.part < OPENING {
-        say_initialisation(text, t, rows, firsts, groups, operations, f.at, page);
+        say_initialisation(text, d, f.at, page);
         return;
     }
     let k = f.part - OPENING;
     let j = k / OBLIGATIONS;
     if k % OBLIGATIONS == 0 {
-        say_applicability(text, t, rows, firsts, groups, operations, j, f.at, page);
-        return;
+        say_applicability(text, d, j, f.at, page);
+    } else {
+        say_correctness(text, d, j, f.at, page);
     }
-    say_correctness(text, t, rows, firsts, groups, operations, j, f.at, page);
 }
 
 // The verdict, and what is behind it.
-fn say_verdict(
-    text: &[u8],
-    t: &[u16; 16384],
-    rows: &[u16; 16384],
-    firsts: &[u16; 40],
-    groups: &[u16; 160],
-    operations: usize,
-    page: &mut [usize; PAGE],
-)
-    requires { ReadAsked t.now rows.now firsts.now groups.now operations }
+fn say_verdict(text: &[u8], d: &Dossier<'_>, page: &mut Page)
+    requires { IsRead d.now }
 {
-    let all = total(t, groups, operations);
-    let w = search(t, rows, firsts, groups, operations, 0, all);
-    if w.failed {
-        let f = find(t, groups, operations, w.at);
-        say_refuted(text, t, rows, firsts, groups, operations, f, page);
-        return;
+    let all = total(d);
+    let found = search(d, 0, all);
+    match found {
+        Some(place) => {
+            let f = find(d, place);
+            say_refuted(text, d, f, page);
+        }
+        None => say_accepted(d, page),
     }
-    say_accepted(t, rows, firsts, groups, operations, page);
 }
 
 // All that is said of a dossier.
-fn say_all(
-    text: &[u8],
-    t: &[u16; 16384],
-    rows: &[u16; 16384],
-    firsts: &[u16; 40],
-    groups: &[u16; 160],
-    operations: usize,
-    page: &mut [usize; PAGE],
-)
-    requires { ReadAsked t.now rows.now firsts.now groups.now operations }
+fn say_all(text: &[u8], d: &Dossier<'_>, page: &mut Page)
+    requires { IsRead d.now }
 {
-    say_verdict(text, t, rows, firsts, groups, operations, page);
-    if 0 < operations {
-        say_omissions(t, rows, firsts, groups, operations, page);
-        say_preconditions(t, rows, firsts, groups, operations, page);
+    say_verdict(text, d, page);
+    if 0 < d.operations {
+        say_omissions(d, page);
+        say_preconditions(d, page);
     }
 }
 
 // An item in words, with the values of its bindings.
-fn put_item(
-    text: &[u8],
-    labels: &[u16; LABELS],
-    t: &[u16; 16384],
-    groups: &[u16; 160],
-    operations: usize,
-    e: Item,
-    out: &mut [u8; SHEET],
-    at: usize,
-) -> usize
-    requires { AllAsked t.now groups.now operations }
+fn put_item(e: &Item, sizes: Sizes, s: &Source<'_>, sheet: &mut Sheet) {
+    let f = Filling {
+        phrase: e.phrase,
+        n: e.n,
+        m: e.m,
+        operation: e.operation,
+        va: sizes.va,
+        vc: sizes.vc,
+        vi: sizes.vi,
+        vo: sizes.vo,
+    };
+    put_phrase(&f, s, sheet);
+}
+
+// A sheet goes to lent bytes; how many bytes it has.
+fn copy_sheet(sheet: &Sheet, out: &mut [u8; SHEET]) -> usize
+    ensures { result ≤ 65536 }
 {
-    let mut values = [0i64; SLOTS];
+    let text = sheet.as_slice();
+    out[..text.len()].copy_from_slice(text);
+    text.len()
+}
+
+// The values of an item's bindings go to their slots; how many variables the groups have.
+fn show_item(d: &Dossier<'_>, e: &Item, slots: &mut [i64; SLOTS]) -> Sizes
+    requires { IsPlaced d.now }
+{
     let x = Numbers {
         a: e.a,
         c: e.c,
@@ -122,109 +112,63 @@ fn put_item(
         k: e.k,
         b: e.b,
     };
-    let s = show(t, groups, operations, e.operation, x, &mut values);
-    let f = Filling {
-        phrase: e.phrase,
-        n: e.n,
-        m: e.m,
-        operation: e.operation,
-        va: s.va,
-        vc: s.vc,
-        vi: s.vi,
-        vo: s.vo,
-    };
-    put_phrase(f, text, labels, &values, out, at)
-}
-
-// All items of a page.
-fn put_page(
-    text: &[u8],
-    labels: &[u16; LABELS],
-    t: &[u16; 16384],
-    groups: &[u16; 160],
-    operations: usize,
-    page: &[usize; PAGE],
-    out: &mut [u8; SHEET],
-) -> usize
-    requires { AllAsked t.now groups.now operations }
-{
-    let many = count(page);
-    let mut at: usize = 0;
-    let mut k: usize = 0;
-    while k < many {
-        let e = item_at(page, k);
-        at = put_item(text, labels, t, groups, operations, e, out, at);
-        k += 1;
-    }
-    at
+    show(d, e.operation, x, slots)
 }
 
 // The explanation of a dossier that is read.
 fn explain_dossier(
     text: &[u8],
     labels: &[u16; LABELS],
-    t: &[u16; 16384],
-    rows: &[u16; 16384],
-    firsts: &[u16; 40],
-    groups: &[u16; 160],
-    operations: usize,
+    d: &Dossier<'_>,
     out: &mut [u8; SHEET],
 ) -> usize
-    requires { ReadAsked t.now rows.now firsts.now groups.now operations }
+    requires { IsRead d.now }
+    ensures { result ≤ 65536 }
 {
-    let mut page = [0usize; PAGE];
-    say_all(text, t, rows, firsts, groups, operations, &mut page);
-    put_page(text, labels, t, groups, operations, &page, out)
-}
-
-// The items of a page that speaks of no dossier.
-fn put_plain_page(
-    text: &[u8],
-    labels: &[u16; LABELS],
-    page: &[usize; PAGE],
-    out: &mut [u8; SHEET],
-) -> usize {
-    let values = [0i64; SLOTS];
-    let many = count(page);
-    let mut at: usize = 0;
-    let mut k: usize = 0;
-    while k < many {
-        let e = item_at(page, k);
-        at = put_phrase(plain(e), text, labels, &values, out, at);
-        k += 1;
+    let mut page = Page::new();
+    say_all(text, d, &mut page);
+    let mut sheet = Sheet::new();
+    for e in page.items() {
+        let mut slots = [0i64; SLOTS];
+        let sizes = show_item(d, e, &mut slots);
+        let s = Source {
+            text,
+            labels,
+            slots: &slots,
+        };
+        put_item(e, sizes, &s, &mut sheet);
     }
-    at
+    copy_sheet(&sheet, out)
 }
 
-// What is filled into a phrase that speaks of no dossier.
-fn plain(e: Item) -> Filling {
-    Filling {
-        phrase: e.phrase,
-        n: e.n,
-        m: e.m,
-        operation: e.operation,
+// The explanation of a refused text: it speaks of no bindings.
+fn explain_refusal(text: &[u8], labels: &[u16; LABELS], f: Fault, out: &mut [u8; SHEET]) -> usize
+    ensures { result ≤ 65536 }
+{
+    let mut page = Page::new();
+    say_refusal(text, f, &mut page);
+    let mut sheet = Sheet::new();
+    let none = Sizes {
         va: 0,
         vc: 0,
         vi: 0,
         vo: 0,
+    };
+    let s = Source {
+        text,
+        labels,
+        slots: &[0; SLOTS],
+    };
+    for e in page.items() {
+        put_item(e, none, &s, &mut sheet);
     }
-}
-
-// The explanation of a refused text.
-fn explain_refusal(
-    text: &[u8],
-    labels: &[u16; LABELS],
-    number: u8,
-    place: usize,
-    out: &mut [u8; SHEET],
-) -> usize {
-    let mut page = [0usize; PAGE];
-    refusal_page(text, number, place, &mut page);
-    put_plain_page(text, labels, &page, out)
+    copy_sheet(&sheet, out)
 }
 
 // The explanation of a text on a sheet, and where it ends.
-pub fn explain(text: &[u8], out: &mut [u8; SHEET]) -> usize {
+pub fn explain(text: &[u8], out: &mut [u8; SHEET]) -> usize
+    ensures { result ≤ 65536 }
+{
     let mut table = [0u16; NUMBERS];
     let mut rows = [0u16; NUMBERS];
     let mut firsts = [0u16; FIRSTS];
@@ -239,9 +183,16 @@ pub fn explain(text: &[u8], out: &mut [u8; SHEET]) -> usize {
         &mut labels,
     );
     match answer {
-        TextRead::Refused(n, p) => explain_refusal(text, &labels, n, p, out),
-        TextRead::Read(operations) => explain_dossier(
-            text, &labels, &table, &rows, &firsts, &groups, operations, out,
-        ),
+        Err(f) => explain_refusal(text, &labels, f, out),
+        Ok(operations) => {
+            let d = Dossier {
+                table: &table,
+                rows: &rows,
+                firsts: &firsts,
+                groups: &groups,
+                operations,
+            };
+            explain_dossier(text, &labels, &d, out)
+        }
     }
 }

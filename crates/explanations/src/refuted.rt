@@ -1,12 +1,12 @@
 // A counterexample: the binding, what holds there, and what fails.
-ghost use Rattle.state_facts.specs.Reads.{ReadAsked};
+ghost use Rattle.explanations.specs.Asked.{IsRead};
 
 use crate::bounds::product;
-use crate::items::{before, say_at, say_conjunct, states, stepping};
+use crate::items::{NONE, say_at, say_conjunct, say_for, states};
 use crate::reached::say_reached;
-use pages::{PAGE, say, say_of};
+use pages::Page;
 use phrases::words;
-use sheets::{behind, less};
+use search_groups::Dossier;
 use state_facts::Numbers;
 use state_facts::conjuncts::{false_conjunct, false_guard};
 use state_facts::searches::next_abstract_initial;
@@ -17,108 +17,91 @@ const SHOWN: usize = 4;
 
 // x / y, and what is left; 0 where y is 0.
 fn quotient(x: usize, y: usize) -> usize {
-    if y == 0 {
-        return 0;
-    }
-    x / y
+    x.checked_div(y).unwrap_or(0)
 }
 
 fn rest(x: usize, y: usize) -> usize {
-    if y == 0 {
-        return 0;
-    }
-    x % y
+    x.checked_rem(y).unwrap_or(0)
+}
+
+// The states of an item, and why they are not related.
+fn say_unrelated(
+    text: &[u8],
+    d: &Dossier<'_>,
+    phrase: usize,
+    j: usize,
+    x: Numbers,
+    pair: (usize, usize),
+    page: &mut Page,
+)
+    requires { IsRead d.now }
+{
+    say_at(page, phrase, j, x);
+    let row = false_conjunct(d, pair.0, pair.1);
+    say_conjunct(
+        text,
+        d.rows,
+        row,
+        words::WHY_TWO_STATES_ARE_NOT_RELATED,
+        page,
+    );
 }
 
 // ---- initialisation
 
-// The a-th abstract initial state, and why it is not related.
-fn say_initial(
-    text: &[u8],
-    t: &[u16; 16384],
-    rows: &[u16; 16384],
-    firsts: &[u16; 40],
-    groups: &[u16; 160],
-    operations: usize,
-    x: Numbers,
-    page: &mut [usize; PAGE],
-)
-    requires { ReadAsked t.now rows.now firsts.now groups.now operations }
+// The abstract initial states from a on, as many as are shown, each with why it is not related; `and more` where there are others.
+fn say_initials(text: &[u8], d: &Dossier<'_>, first: usize, c: usize, page: &mut Page)
+    requires { IsRead d.now }
 {
-    say_at(page, words::AN_ABSTRACT_STATE, 0, x);
-    let row = false_conjunct(t, rows, firsts, groups, operations, x.a, x.c);
-    say_conjunct(text, rows, row, words::WHY_TWO_STATES_ARE_NOT_RELATED, page);
-}
-
-// The abstract initial states from the one in x on, as many as are shown; `and more` where there are others.
-fn say_initials(
-    text: &[u8],
-    t: &[u16; 16384],
-    rows: &[u16; 16384],
-    firsts: &[u16; 40],
-    groups: &[u16; 160],
-    operations: usize,
-    x: Numbers,
-    page: &mut [usize; PAGE],
-)
-    requires { ReadAsked t.now rows.now firsts.now groups.now operations }
-{
-    let s = spans(t, rows, firsts, groups, operations, operations);
-    let mut a = x.a;
-    let mut shown: usize = 0;
-    while shown < SHOWN {
-        if s.na <= a {
+    let mut next = Some(first);
+    for _ in 0..SHOWN {
+        let Some(a) = next else {
             return;
-        }
-        say_initial(
+        };
+        say_unrelated(
             text,
-            t,
-            rows,
-            firsts,
-            groups,
-            operations,
-            states(a, x.c),
+            d,
+            words::AN_ABSTRACT_STATE,
+            0,
+            states(a, c),
+            (a, c),
             page,
         );
-        a = next_abstract_initial(t, rows, firsts, groups, operations, behind(a, 1));
-        shown += 1;
+        next = next_abstract_initial(d, a.saturating_add(1));
     }
-    if a < s.na {
-        say(page, words::AND_MORE);
+    if next.is_some() {
+        page.say(words::AND_MORE);
     }
 }
 
-pub fn say_initialisation(
-    text: &[u8],
-    t: &[u16; 16384],
-    rows: &[u16; 16384],
-    firsts: &[u16; 40],
-    groups: &[u16; 160],
-    operations: usize,
-    c: usize,
-    page: &mut [usize; PAGE],
-)
-    requires { ReadAsked t.now rows.now firsts.now groups.now operations }
+pub fn say_initialisation(text: &[u8], d: &Dossier<'_>, c: usize, page: &mut Page)
+    requires { IsRead d.now }
 {
-    say(page, words::REFUTED_INITIALISATION);
+    page.say(words::REFUTED_INITIALISATION);
     say_at(page, words::THE_BINDING_OF_INITIALISATION, 0, states(0, c));
-    let s = spans(t, rows, firsts, groups, operations, operations);
-    let a = next_abstract_initial(t, rows, firsts, groups, operations, 0);
-    if s.na <= a {
-        say(page, words::NO_INITIAL_STATE);
+    let Some(a) = next_abstract_initial(d, 0) else {
+        page.say(words::NO_INITIAL_STATE);
         return;
+    };
+    page.say(words::NO_RELATED_INITIAL_STATE);
+    say_initials(text, d, a, c, page);
+}
+
+// ---- operations
+
+// A binding with the outputs and the abstract state after of a step by its number, where there are na abstract states.
+fn stepped(x: Numbers, step: usize, na: usize) -> Numbers {
+    Numbers {
+        o: quotient(step, na),
+        b: rest(step, na),
+        ..x
     }
-    say(page, words::NO_RELATED_INITIAL_STATE);
-    say_initials(
-        text,
-        t,
-        rows,
-        firsts,
-        groups,
-        operations,
-        states(a, c),
-        page,
-    );
+}
+
+// What is refuted of an operation, and its binding.
+fn say_binding(phrase: usize, j: usize, x: Numbers, page: &mut Page) {
+    say_for(page, phrase, j);
+    say_at(page, words::THE_BINDING_OF_AN_OPERATION, j, x);
 }
 
 // ---- applicability
@@ -126,56 +109,37 @@ pub fn say_initialisation(
 // The numbers of a place of applicability.
 fn applied(place: usize, s: Widths) -> Numbers {
     let x = quotient(place, s.ni);
-    before(quotient(x, s.nc), rest(x, s.nc), rest(place, s.ni))
-}
-
-fn say_applied(
-    text: &[u8],
-    t: &[u16; 16384],
-    rows: &[u16; 16384],
-    firsts: &[u16; 40],
-    groups: &[u16; 160],
-    operations: usize,
-    j: usize,
-    x: Numbers,
-    page: &mut [usize; PAGE],
-)
-    requires { ReadAsked t.now rows.now firsts.now groups.now operations }
-{
-    let s = spans(t, rows, firsts, groups, operations, j);
-    let r = abstract_step(t, rows, firsts, groups, operations, j, x.a, x.i, 0);
-    say_at(
-        page,
-        words::WHAT_HOLDS_OF_APPLICABILITY,
-        j,
-        stepping(x, quotient(r, s.na), rest(r, s.na)),
-    );
-    say_of(page, words::WHAT_FAILS_OF_APPLICABILITY, j, 0, 0);
-    let row = false_guard(t, rows, firsts, groups, operations, j, x.c, x.i);
-    if !say_conjunct(text, rows, row, words::A_CONDITION_THAT_IS_FALSE, page) {
-        say(page, words::NO_SINGLE_CONDITION);
+    Numbers {
+        a: quotient(x, s.nc),
+        c: rest(x, s.nc),
+        i: rest(place, s.ni),
+        ..NONE
     }
 }
 
-pub fn say_applicability(
-    text: &[u8],
-    t: &[u16; 16384],
-    rows: &[u16; 16384],
-    firsts: &[u16; 40],
-    groups: &[u16; 160],
-    operations: usize,
-    j: usize,
-    place: usize,
-    page: &mut [usize; PAGE],
-)
-    requires { ReadAsked t.now rows.now firsts.now groups.now operations }
+pub fn say_applicability(text: &[u8], d: &Dossier<'_>, j: usize, place: usize, page: &mut Page)
+    requires { IsRead d.now }
 {
-    let s = spans(t, rows, firsts, groups, operations, j);
+    let s = spans(d, j);
     let x = applied(place, s);
-    say_of(page, words::REFUTED_APPLICABILITY, j, 0, 0);
-    say_at(page, words::THE_BINDING_OF_AN_OPERATION, j, x);
-    say_applied(text, t, rows, firsts, groups, operations, j, x, page);
-    say_reached(t, rows, firsts, groups, operations, x.a, x.c, page);
+    say_binding(words::REFUTED_APPLICABILITY, j, x, page);
+    if let Some(r) = abstract_step(d, j, x.a, x.i, 0).number() {
+        let holds = stepped(x, r, s.na);
+        say_at(page, words::WHAT_HOLDS_OF_APPLICABILITY, j, holds);
+    }
+    say_for(page, words::WHAT_FAILS_OF_APPLICABILITY, j);
+    say_guard(text, d, j, x, page);
+    say_reached(d, x.a, x.c, page);
+}
+
+// Which condition of the concrete guard is false.
+fn say_guard(text: &[u8], d: &Dossier<'_>, j: usize, x: Numbers, page: &mut Page)
+    requires { IsRead d.now }
+{
+    let row = false_guard(d, j, x.c, x.i);
+    if !say_conjunct(text, d.rows, row, words::A_CONDITION_THAT_IS_FALSE, page) {
+        page.say(words::NO_SINGLE_CONDITION);
+    }
 }
 
 // ---- correctness
@@ -195,128 +159,74 @@ fn corrected(place: usize, s: Widths) -> Numbers {
     }
 }
 
-// An abstract step, and why it does not do.
-fn say_step(
-    text: &[u8],
-    t: &[u16; 16384],
-    rows: &[u16; 16384],
-    firsts: &[u16; 40],
-    groups: &[u16; 160],
-    operations: usize,
-    j: usize,
-    x: Numbers,
-    page: &mut [usize; PAGE],
-)
-    requires { ReadAsked t.now rows.now firsts.now groups.now operations }
-{
-    say_at(page, words::AN_ABSTRACT_AFTER_STATE, j, x);
-    let row = false_conjunct(t, rows, firsts, groups, operations, x.b, x.k);
-    say_conjunct(text, rows, row, words::WHY_TWO_STATES_ARE_NOT_RELATED, page);
+// A step by its number, if it is one before `end`.
+fn first_of(step: Option<usize>, end: usize) -> Option<usize> {
+    step.filter(|r| *r < end)
 }
 
-// The abstract steps with the inputs and outputs of the binding, as many as are shown; `and more` where there are others.
+// The abstract steps with the inputs and outputs of the binding from r on, as many as are shown, each with why it does not do; `and more` where there are others.
 fn say_steps(
     text: &[u8],
-    t: &[u16; 16384],
-    rows: &[u16; 16384],
-    firsts: &[u16; 40],
-    groups: &[u16; 160],
-    operations: usize,
+    d: &Dossier<'_>,
     j: usize,
     x: Numbers,
-    page: &mut [usize; PAGE],
+    first: Option<usize>,
+    page: &mut Page,
 )
-    requires { ReadAsked t.now rows.now firsts.now groups.now operations }
+    requires { IsRead d.now }
 {
-    let s = spans(t, rows, firsts, groups, operations, j);
+    let s = spans(d, j);
     let from = product(x.o, s.na);
-    let end = product(behind(x.o, 1), s.na);
-    let mut r = abstract_step(t, rows, firsts, groups, operations, j, x.a, x.i, from);
-    let mut shown: usize = 0;
-    while shown < SHOWN {
-        if end <= r {
+    let end = product(x.o.saturating_add(1), s.na);
+    let mut next = first_of(first, end);
+    for _ in 0..SHOWN {
+        let Some(r) = next else {
             return;
-        }
-        say_step(
+        };
+        let b = r.saturating_sub(from);
+        say_unrelated(
             text,
-            t,
-            rows,
-            firsts,
-            groups,
-            operations,
+            d,
+            words::AN_ABSTRACT_AFTER_STATE,
             j,
-            stepping(x, x.o, less(r, from)),
+            Numbers { b, ..x },
+            (b, x.k),
             page,
         );
-        r = abstract_step(
-            t,
-            rows,
-            firsts,
-            groups,
-            operations,
-            j,
-            x.a,
-            x.i,
-            behind(r, 1),
-        );
-        shown += 1;
+        let step = abstract_step(d, j, x.a, x.i, r.saturating_add(1));
+        next = first_of(step.number(), end);
     }
-    if r < end {
-        say(page, words::AND_MORE);
+    if next.is_some() {
+        page.say(words::AND_MORE);
     }
 }
 
 // Which abstract steps there are with these outputs, or one with others.
-fn say_corrected(
-    text: &[u8],
-    t: &[u16; 16384],
-    rows: &[u16; 16384],
-    firsts: &[u16; 40],
-    groups: &[u16; 160],
-    operations: usize,
-    j: usize,
-    x: Numbers,
-    page: &mut [usize; PAGE],
-)
-    requires { ReadAsked t.now rows.now firsts.now groups.now operations }
+fn say_corrected(text: &[u8], d: &Dossier<'_>, j: usize, x: Numbers, page: &mut Page)
+    requires { IsRead d.now }
 {
-    let s = spans(t, rows, firsts, groups, operations, j);
-    let from = product(x.o, s.na);
-    let r = abstract_step(t, rows, firsts, groups, operations, j, x.a, x.i, from);
-    if r < product(behind(x.o, 1), s.na) {
-        say(page, words::ABSTRACT_STEPS);
-        say_steps(text, t, rows, firsts, groups, operations, j, x, page);
+    let s = spans(d, j);
+    let first = abstract_step(d, j, x.a, x.i, product(x.o, s.na)).number();
+    if first_of(first, product(x.o.saturating_add(1), s.na)).is_some() {
+        page.say(words::ABSTRACT_STEPS);
+        say_steps(text, d, j, x, first, page);
         return;
     }
-    let q = abstract_step(t, rows, firsts, groups, operations, j, x.a, x.i, 0);
-    say_at(
-        page,
-        words::NO_ABSTRACT_STEP_WITH_THESE_OUTPUTS,
-        j,
-        stepping(x, quotient(q, s.na), rest(q, s.na)),
-    );
+    if let Some(q) = abstract_step(d, j, x.a, x.i, 0).number() {
+        let other = stepped(x, q, s.na);
+        say_at(page, words::NO_ABSTRACT_STEP_WITH_THESE_OUTPUTS, j, other);
+    }
 }
 
-pub fn say_correctness(
-    text: &[u8],
-    t: &[u16; 16384],
-    rows: &[u16; 16384],
-    firsts: &[u16; 40],
-    groups: &[u16; 160],
-    operations: usize,
-    j: usize,
-    place: usize,
-    page: &mut [usize; PAGE],
-)
-    requires { ReadAsked t.now rows.now firsts.now groups.now operations }
+pub fn say_correctness(text: &[u8], d: &Dossier<'_>, j: usize, place: usize, page: &mut Page)
+    requires { IsRead d.now }
 {
-    let s = spans(t, rows, firsts, groups, operations, j);
+    let s = spans(d, j);
     let x = corrected(place, s);
-    say_of(page, words::REFUTED_CORRECTNESS, j, 0, 0);
-    say_at(page, words::THE_BINDING_OF_AN_OPERATION, j, x);
+    say_binding(words::REFUTED_CORRECTNESS, j, x, page);
     say_at(page, words::THE_CONCRETE_STEP_OF_A_BINDING, j, x);
-    say_of(page, words::WHAT_HOLDS_OF_CORRECTNESS, j, 0, 0);
-    say_of(page, words::WHAT_FAILS_OF_CORRECTNESS, j, 0, 0);
-    say_corrected(text, t, rows, firsts, groups, operations, j, x, page);
-    say_reached(t, rows, firsts, groups, operations, x.a, x.c, page);
+    say_for(page, words::WHAT_HOLDS_OF_CORRECTNESS, j);
+    say_for(page, words::WHAT_FAILS_OF_CORRECTNESS, j);
+    say_corrected(text, d, j, x, page);
+    say_reached(d, x.a, x.c, page);
 }

@@ -8,8 +8,9 @@ use Rattle.lexical.specs.Kinds.{Kind, code_of, lookup, is}
 use Rattle.form.specs.Codes.{node}
 use Rattle.form_nodes.specs.FormPromises.{Writes, Closes, Shown, Starts, Classes, level_of}
 use Rattle.form_nodes.specs.Derivations.{Part, a_pred_from, a_unary, Derives, quantified, MadeAt, Made, NameAt, MemberAt, DomainAt, domain_node, name_code}
+use Rattle.std.specs.Prelude.{Ok, Err}
 use Rattle.form_nodes.specs.declared.Read.{Read}
-use Rattle.form_nodes.specs.declared.Read.TheVariants.{At, Fault}
+use Rattle.form_nodes.specs.FormPromises.{Answer}
 use Rattle.form_nodes.specs.declared.kinds.Start.{Start}
 use Rattle.form_nodes.specs.declared.kinds.Start.TheVariants.{Leaf}
 use Rattle.form_nodes.proofs.Classes.{started}
@@ -32,8 +33,8 @@ node_of {n} {r} {k} {p} {x} {y} {u} {v} {a} {b} e f w =
 
 module _ {s ν : List ℕ} where
   -- a result that is known
-  pub made : {x : Part} {i n : ℕ} {a b : List ℕ} {r : Read} {j m : ℕ} → r ≡ At j m → Made s ν x i n a b r → MadeAt s ν x i n a b j m
-  made {x} {i} {n} {a} {b} q h = subst (λ (y : Read). Made s ν x i n a b y) q h
+  pub made : {x : Part} {i n : ℕ} {a b : List ℕ} {r : Answer} {e : Read} → r ≡ Ok e → Made s ν x i n a b r → MadeAt s ν x i n a b e.at e.count
+  made {x} {i} {n} {a} {b} q h = subst (λ (y : Answer). Made s ν x i n a b y) q h
 
   pub built : {x : Part} {i n j m : ℕ} {a b : List ℕ} (h : MadeAt s ν x i n a b j m) → Built n a h.nodes m b
   built h = record { is = h.written }
@@ -46,18 +47,18 @@ module _ {s ν : List ℕ} where
   nothing {n = n} {a = a} d = record { nodes = []; derives = d; written = sym (append-nil (take n a)) }
 
   -- the last part of a part, whatever its result
-  pub onward : {x y : Part} {i n j m : ℕ} {a b u : List ℕ} (c : List ℕ) (r : Read) → Built n a u m b
+  pub onward : {x y : Part} {i n j m : ℕ} {a b u : List ℕ} (c : List ℕ) (r : Answer) → Built n a u m b
       → ((k : ℕ) (v : List ℕ) → Derives s ν x j k v → Derives s ν y i k (u ++ v)) → Made s ν x j m b c r → Made s ν y i n a c r
-  onward c (At k l) p f h = makes (both p (built h)) (f k h.nodes h.derives)
-  onward c (Fault k l) p f h = tt
+  onward c (Ok e) p f h = makes (both p (built h)) (f e.at h.nodes h.derives)
+  onward c (Err g) p f h = tt
 
   -- a symbol that is the last of a part
-  pub closing : {x : Part} {i n e k m : ℕ} {a b : List ℕ} {r : Read} → Closes s e k m r → (get_or s e 0 ≡ k → MadeAt s ν x i n a b (e + 1) m)
+  pub closing : {x : Part} {i n e k m : ℕ} {a b : List ℕ} {r : Answer} → Closes s e k m r → (get_or s e 0 ≡ k → MadeAt s ν x i n a b (e + 1) m)
       → Made s ν x i n a b r
-  closing {x} {i} {n} {e} {k} {m} {a} {b} {r = At j l} h f =
-      subst (λ (z : ℕ). MadeAt s ν x i n a b z l) (sym h.shown.0.0)
+  closing {x} {i} {n} {e} {k} {m} {a} {b} {r = Ok j} h f =
+      subst (λ (z : ℕ). MadeAt s ν x i n a b z j.count) (sym h.shown.0.0)
       (subst (λ (z : ℕ). MadeAt s ν x i n a b (e + 1) z) (sym h.shown.1) (f h.shown.0.1))
-  closing {r = Fault j l} h f = tt
+  closing {r = Err g} h f = tt
 
   -- a part that begins at a place known by other words
   pub from : {x : Part} {i j k : ℕ} {n : List ℕ} → i ≡ j → Derives s ν x i k n → Derives s ν x j k n
@@ -75,11 +76,11 @@ module _ {s ν : List ℕ} where
       o
 
 -- what a symbol shows whose result is known
-pub closed : {s : List ℕ} {i k n j m : ℕ} {r : Read} → r ≡ At j m → Closes s i k n r → (j ≡ i + 1) × (get_or s i 0 ≡ k)
-closed {s} {i} {k} {n} q h = (subst (λ (x : Read). Shown (λ (e : ℕ). (e ≡ i + 1) × (get_or s i 0 ≡ k)) n x) q h.shown).0
+pub closed : {s : List ℕ} {i k n : ℕ} {j : Read} {r : Answer} → r ≡ Ok j → Closes s i k n r → (j.at ≡ i + 1) × (get_or s i 0 ≡ k)
+closed {s} {i} {k} {n} q h = (subst (λ (x : Answer). Shown (λ (e : ℕ). (e ≡ i + 1) × (get_or s i 0 ≡ k)) n x) q h.shown).0
 
-pub showing : {j m : ℕ} {r : Read} (P : ℕ → Type 0) (n : ℕ) → r ≡ At j m → Shown P n r → P j
-showing P n q h = (subst (λ (x : Read). Shown P n x) q h).0
+pub showing : {j : Read} {r : Answer} (P : ℕ → Type 0) (n : ℕ) → r ≡ Ok j → Shown P n r → P j.at
+showing P n q h = (subst (λ (x : Answer). Shown P n x) q h).0
 
 -- classes of the symbol at a place
 pub start-at : {k g : ℕ} {r v : Start} → k ≡ g → r ≡ v → Starts k r → Starts g v

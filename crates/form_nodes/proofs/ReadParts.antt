@@ -19,9 +19,21 @@ use Rattle.form.specs.Form.{kind_at, settled}
 use Rattle.form.specs.Machine.{Item, Next, go, halt, step, ends, complete, failed, unless_over, onward, run_from}
 use Rattle.form_nodes.specs.FormPromises.{codes, run_at, after, Counted, Reads, Ahead}
 use Rattle.form.specs.Machine.{kind_before}
+use Rattle.std.specs.Prelude.{Result, Ok, Err, IsErrAnd}
+use Rattle.std.proofs.lemmas.Result.{err_from_is_err_and}
 use Rattle.form_nodes.specs.declared.Read.{Read}
-use Rattle.form_nodes.specs.declared.Read.TheVariants.{At, Fault}
+use Rattle.form_nodes.specs.FormPromises.{Answer}
+use Rattle.lexical.specs.declared.refusals.Fault.{Fault}
+use Rattle.lexical.specs.declared.refusals.Refusal.TheVariants.{NoDossier, Deep}
 use Rattle.form.proofs.Table.{kinds, kind_in, kind-back}
+
+-- what a `?` returns where a part is at fault
+pub exits : {T E : Type 0} {e : E} (r : Result T E) → IsErrAnd r (λ x. x ≡ e) → r ≡ Err e
+exits r h = let p = err_from_is_err_and r h in p.1 ∙ ap Err p.2
+
+-- what was read up to a symbol, with so many numbers written
+abbrev pub read : (at count : ℕ) → Answer
+read i n = Ok (record { at = i; count = n })
 
 -- what holds of the kind j holds of every kind with its code: where a symbol's kind is known, its step alone is asked for
 pub only : (P : Kind → Type 0) {k : ℕ} (j : Kind) → k ≡ code_of j → P j → (κ : Kind) → code_of κ ≡ k → P κ
@@ -48,9 +60,9 @@ pub run_end : (w : List Symbol) (at : ℕ) (γ : List Item) → length w ≤ at 
 unfolding run_at run_from
 run_end w at γ l = ap (λ (v : List Symbol). run_from v (kind_before kind.END w at) at γ) (drop_of_length-le w l)
 
-count-step : (at n m : ℕ) (r : Read) → m ≤ n + 4 → Counted (at + 1) m r → Counted at n r
-count-step at n m (At e c) l h = omega arith
-count-step at n m (Fault e f) l h = tt
+count-step : (at n m : ℕ) (r : Answer) → m ≤ n + 4 → Counted (at + 1) m r → Counted at n r
+count-step at n m (Ok e) l h = omega arith
+count-step at n m (Err f) l h = tt
 
 -- at a symbol that is inside, whatever the text
 abbrev pub Within : List ℕ → ℕ → (Kind → Kind → List Symbol → Type 0) → Type 0
@@ -67,7 +79,7 @@ step-at s at ι w q l x h γ =
 
 module _ {s : List ℕ} {at n : ℕ} {ι ο : List Item} where
   -- a symbol is taken, and its mark does not count
-  pub taken : {μ : List Item} {r : Read} {m : ℕ} (x : Mark) → at < length s → Within s at (λ k j v. settled k j v x ≡ none)
+  pub taken : {μ : List Item} {r : Answer} {m : ℕ} (x : Mark) → at < length s → Within s at (λ k j v. settled k j v x ≡ none)
       → ((κ : Kind) → code_of κ ≡ get_or s at 0 → (γ : List Item) → step (ι ++ γ) κ ≡ go x (μ ++ γ)) → Reads s (at + 1) m μ ο r → m ≤ n + 4 → Reads s at n ι ο r
   taken {μ} {r} {m} x l f h a c =
       record {
@@ -80,14 +92,14 @@ module _ {s : List ℕ} {at n : ℕ} {ι ο : List Item} where
             ∙ ap (λ (y : ℕ). run_at w y (μ ++ γ)) (sym (add-one at)) ∙ a.same w q γ;
       }
 
-  pub takes : {μ : List Item} {r : Read} {m : ℕ} → at < length s
+  pub takes : {μ : List Item} {r : Answer} {m : ℕ} → at < length s
       → ((κ : Kind) → code_of κ ≡ get_or s at 0 → (γ : List Item) → step (ι ++ γ) κ ≡ go unmarked (μ ++ γ)) → Reads s (at + 1) m μ ο r → m ≤ n + 4 → Reads s at n ι ο r
   unfolding settled
   takes l h a c = taken unmarked l (λ w q. refl) h a c
 
   -- a symbol's mark counts too much
   pub deeper : {ρ : List Item → List Item} (x : Mark) → at < length s → Within s at (λ k j v. settled k j v x ≡ some deep)
-      → ((κ : Kind) → code_of κ ≡ get_or s at 0 → (γ : List Item) → step (ι ++ γ) κ ≡ go x (ρ γ)) → Reads s at n ι ο (Fault at 5)
+      → ((κ : Kind) → code_of κ ≡ get_or s at 0 → (γ : List Item) → step (ι ++ γ) κ ≡ go x (ρ γ)) → Reads s at n ι ο (Err (record { place = at; refusal = Deep }))
   deeper {ρ} x l f h =
       record {
         from = omega arith;
@@ -98,7 +110,7 @@ module _ {s : List ℕ} {at n : ℕ} {ι ο : List Item} where
 
   -- a symbol, or the end, fits nothing
   pub stops : at ≤ length s → ((κ : Kind) → code_of κ ≡ get_or s at 0 → (γ : List Item) → step (ι ++ γ) κ ≡ halt) → ((γ : List Item) → ends (ι ++ γ) ≡ false)
-      → Reads s at n ι ο (Fault at 4)
+      → Reads s at n ι ο (Err (record { place = at; refusal = NoDossier }))
   stops l h e = record { from = omega arith; within = l; count = tt; same = λ w q γ. on w q γ (ltb at (length s)) refl }
     where
       on : (w : List Symbol) → codes w ≡ s → (γ : List Item) (b : Bool) → ltb at (length s) ≡ b → run_at w at (ι ++ γ) ≡ failed at no_dossier
@@ -108,7 +120,7 @@ module _ {s : List ℕ} {at n : ℕ} {ι ο : List Item} where
           run_end w at (ι ++ γ) lw ∙ ap (λ (y : Bool). cond y complete (failed at no_dossier)) (e γ)
 
   -- two states that do the same at a symbol and at the end
-  pub likewise : {μ : List Item} {r : Read} → ((κ : Kind) → code_of κ ≡ get_or s at 0 → (γ : List Item) → step (ι ++ γ) κ ≡ step (μ ++ γ) κ)
+  pub likewise : {μ : List Item} {r : Answer} → ((κ : Kind) → code_of κ ≡ get_or s at 0 → (γ : List Item) → step (ι ++ γ) κ ≡ step (μ ++ γ) κ)
       → ((γ : List Item) → ends (ι ++ γ) ≡ ends (μ ++ γ)) → Reads s at n μ ο r → Reads s at n ι ο r
   likewise {μ} {r} h e a =
       record { from = a.from; within = a.within; count = a.count; same = λ w q γ. on w q γ (ltb at (length w)) refl ∙ a.same w q γ }
@@ -125,11 +137,11 @@ module _ {s : List ℕ} {at n : ℕ} {ι ο : List Item} where
           run_end w at (ι ++ γ) lw ∙ ap (λ (y : Bool). cond y complete (failed at no_dossier)) (e γ) ∙ sym (run_end w at (μ ++ γ) lw)
 
   -- a part at fault
-  pub fails : {μ : List Item} {e f m : ℕ} → Reads s at m ι μ (Fault e f) → Reads s at n ι ο (Fault e f)
+  pub fails : {μ : List Item} {f : Fault} {m : ℕ} → Reads s at m ι μ (Err f) → Reads s at n ι ο (Err f)
   fails a = record { from = a.from; within = a.within; count = tt; same = λ w q γ. a.same w q γ }
 
   -- with more expected behind it
-  pub framed : {r : Read} (ρ : List Item) → Reads s at n ι ο r → Reads s at n (ι ++ ρ) (ο ++ ρ) r
+  pub framed : {r : Answer} (ρ : List Item) → Reads s at n ι ο r → Reads s at n (ι ++ ρ) (ο ++ ρ) r
   framed {r} ρ a =
       record {
         from = a.from;
@@ -139,39 +151,39 @@ module _ {s : List ℕ} {at n : ℕ} {ι ο : List Item} where
       }
 
   -- a result that is known to be r
-  pub known : {r t : Read} → r ≡ t → Reads s at n ι ο r → Reads s at n ι ο t
-  known q a = subst (λ (x : Read). Reads s at n ι ο x) q a
+  pub known : {r t : Answer} → r ≡ t → Reads s at n ι ο r → Reads s at n ι ο t
+  known q a = subst (λ (x : Answer). Reads s at n ι ο x) q a
 
   -- other numbers are written
-  pub counted : {e m : ℕ} {c d : ℕ} → d + 4 * at ≤ c + 4 * e → Reads s at n ι ο (At e m) → Reads s at c ι ο (At e d)
+  pub counted : {e : Read} {c d : ℕ} → d + 4 * at ≤ c + 4 * e.at → Reads s at n ι ο (Ok e) → Reads s at c ι ο (Ok (record { at = e.at; count = d }))
   counted l a = record { from = a.from; within = a.within; count = l; same = a.same }
 
 -- nothing more is read
-pub here : {s : List ℕ} {at n : ℕ} {ο : List Item} → at ≤ length s → Reads s at n ο ο (At at n)
+pub here : {s : List ℕ} {at n : ℕ} {ο : List Item} → at ≤ length s → Reads s at n ο ο (Ok (record { at = at; count = n }))
 here l = record { from = omega arith; within = l; count = omega arith; same = λ w q γ. refl }
 
-count_next : (at n e m : ℕ) (r : Read) → m + 4 * at ≤ n + 4 * e → Counted e m r → Counted at n r
-count_next at n e m (At f c) l h = omega arith
-count_next at n e m (Fault f c) l h = tt
+count_next : (at n e m : ℕ) (r : Answer) → m + 4 * at ≤ n + 4 * e → Counted e m r → Counted at n r
+count_next at n e m (Ok f) l h = omega arith
+count_next at n e m (Err f) l h = tt
 
 -- one part behind another
-pub next : {s : List ℕ} {at n e m : ℕ} {ι μ ο : List Item} {r : Read} → Reads s at n ι μ (At e m) → Reads s e m μ ο r → Reads s at n ι ο r
-next {at = at} {n} {e} {m} {r = r} a b =
+pub next : {s : List ℕ} {at n : ℕ} {e : Read} {ι μ ο : List Item} {r : Answer} → Reads s at n ι μ (Ok e) → Reads s e.at e.count μ ο r → Reads s at n ι ο r
+next {at = at} {n} {e} {r = r} a b =
     record {
       from = let f = a.from in let g = b.from in omega arith;
       within = b.within;
-      count = count_next at n e m r a.count b.count;
+      count = count_next at n e.at e.count r a.count b.count;
       same = λ w q γ. a.same w q γ ∙ b.same w q γ;
     }
 
 -- two states from which the same is read to the same place
-pub joined : {s : List ℕ} {at n m e c d : ℕ} {ι μ ρ ο : List Item} {r : Read} → Reads s at m ι ρ (At e c) → Reads s at m μ ρ (At e d) → Reads s at n μ ο r → Reads s at n ι ο r
+pub joined : {s : List ℕ} {at n m e c d : ℕ} {ι μ ρ ο : List Item} {r : Answer} → Reads s at m ι ρ (Ok (record { at = e; count = c })) → Reads s at m μ ρ (Ok (record { at = e; count = d })) → Reads s at n μ ο r → Reads s at n ι ο r
 joined a b h = record { from = h.from; within = h.within; count = h.count; same = λ w q γ. a.same w q γ ∙ sym (b.same w q γ) ∙ h.same w q γ }
 
 -- strictly ahead of a place is ahead of those before it
-pub ahead-from : (at e : ℕ) (r : Read) → at ≤ e → Ahead e r → Ahead at r
-ahead-from at e (At f m) l h = omega arith
-ahead-from at e (Fault f m) l h = tt
+pub ahead-from : (at e : ℕ) (r : Answer) → at ≤ e → Ahead e r → Ahead at r
+ahead-from at e (Ok f) l h = omega arith
+ahead-from at e (Err f) l h = tt
 
 -- two states from which the machine does the same, whatever is expected behind them
 abbrev pub Alike : List ℕ → ℕ → (ι μ : List Item) → Type 0
@@ -207,21 +219,21 @@ alike_then s at ι μ ι' μ' x y l h g f a w q γ =
     on none = ap (λ (j : ℕ). run_at w j (ι' ++ γ)) (sym (add-one at)) ∙ a w q γ ∙ ap (λ (j : ℕ). run_at w j (μ' ++ γ)) (add-one at)
     on (some r) = refl
 
-pub alike : {s : List ℕ} {at n : ℕ} {ι μ ο : List Item} {r : Read} → Alike s at ι μ → Reads s at n μ ο r → Reads s at n ι ο r
+pub alike : {s : List ℕ} {at n : ℕ} {ι μ ο : List Item} {r : Answer} → Alike s at ι μ → Reads s at n μ ο r → Reads s at n ι ο r
 alike h a = record { from = a.from; within = a.within; count = a.count; same = λ w q γ. h w q γ ∙ a.same w q γ }
 
 -- a larger number was written before
-pub wider : {s : List ℕ} {at n m : ℕ} {ι ο : List Item} {r : Read} → Reads s at n ι ο r → n ≤ m → Reads s at m ι ο r
+pub wider : {s : List ℕ} {at n m : ℕ} {ι ο : List Item} {r : Answer} → Reads s at n ι ο r → n ≤ m → Reads s at m ι ο r
 wider {at = at} {n} {m} {r = r} a l = record { from = a.from; within = a.within; count = on r a.count; same = a.same }
   where
-    on : (r : Read) → Counted at n r → Counted at m r
-    on (At e c) h = omega arith
-    on (Fault e f) h = tt
+    on : (r : Answer) → Counted at n r → Counted at m r
+    on (Ok e) h = omega arith
+    on (Err f) h = tt
 
 -- the machine's successor for the code's sum
-pub raised : {s : List ℕ} {at n : ℕ} {ο : List Item} {r : Read} (f : ℕ → List Item) (d : ℕ) → Reads s at n (f (d + 1)) ο r → Reads s at n (f (suc d)) ο r
+pub raised : {s : List ℕ} {at n : ℕ} {ο : List Item} {r : Answer} (f : ℕ → List Item) (d : ℕ) → Reads s at n (f (d + 1)) ο r → Reads s at n (f (suc d)) ο r
 raised {s} {at} {n} {ο} {r} f d h = subst (λ (x : ℕ). Reads s at n (f x) ο r) (add-one d) h
 
 -- what a result that is known says
-pub known-ahead : (at : ℕ) {e m : ℕ} {r : Read} → r ≡ At e m → Ahead at r → at < e
-known-ahead at q h = subst (λ (x : Read). Ahead at x) q h
+pub known-ahead : (at : ℕ) {e : Read} {r : Answer} → r ≡ Ok e → Ahead at r → at < e.at
+known-ahead at q h = subst (λ (x : Answer). Ahead at x) q h

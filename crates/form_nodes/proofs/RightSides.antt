@@ -14,7 +14,7 @@ use Rattle.form.specs.Machine.{Item, exact, an_end, a_term, an_operand, a_term_r
 use Rattle.form.specs.Machine.{Act, take, skip, then, nothing, starts, start_term, operate, act, does, step}
 use Rattle.form_nodes.specs.FormPromises.{Reads, Ranged, positive, negative, unranged, range_end_at}
 use Rattle.form.specs.Computed.{compute_form}
-use Rattle.form_nodes.specs.declared.Read.{Read}
+use Rattle.form_nodes.specs.FormPromises.{Answer}
 use Rattle.form_nodes.proofs.Classes.{lookup-miss}
 use Rattle.form_nodes.proofs.ReadParts.{only, here, takes, taken, joined, Alike, alike, alike-now, alike_then}
 use Rattle.form_nodes.proofs.RangeEnds.{is-end, range-well, used-well}
@@ -105,11 +105,11 @@ as-right s at d b f g = on (eqb (get_or s at 0) 1) refl (eqb (get_or s at 0) 29)
         alike-now s at (a_right d b ∷ []) (a_term d b ∷ [])
         (λ κ h γ. otherwise d b κ γ (λ c. eqb-false (get_or s at 0) 1 q (sym h ∙ c)) (λ c. eqb-false (get_or s at 0) 29 e (sym h ∙ c))) (λ γ. refl)
 
-pub right-term : {s : List ℕ} {at n d b : ℕ} {ο : List Item} {r : Read} → Ranged s at false → Reads s at n (a_term d b ∷ []) ο r → Reads s at n (a_right d b ∷ []) ο r
+pub right-term : {s : List ℕ} {at n d b : ℕ} {ο : List Item} {r : Answer} → Ranged s at false → Reads s at n (a_term d b ∷ []) ο r → Reads s at n (a_right d b ∷ []) ο r
 right-term {s} {at} {d = d} {b} (unranged f g) a = alike (as-right s at d b f g) a
 
 -- a range behind the in or notin at p
-pub right-range : {s : List ℕ} (p : ℕ) {n d b : ℕ} {ο : List Item} {r : Read} → 56 ≤ get_or s p 0 → get_or s p 0 ≤ 57 → Ranged s (p + 1) true
+pub right-range : {s : List ℕ} (p : ℕ) {n d b : ℕ} {ο : List Item} {r : Answer} → 56 ≤ get_or s p 0 → get_or s p 0 ≤ 57 → Ranged s (p + 1) true
     → Reads s (p + 1) n (an_end ∷ exact kind.up_to ∷ an_end ∷ []) ο r → Reads s (p + 1) n (a_right d b ∷ []) ο r
 unfolding compute_form
 right-range {s} p {n} {d} {b} lo hi (positive x y) a =

@@ -12,8 +12,9 @@ use Rattle.form.specs.Machine.{Act, take, skip, stuck, then, Start, leaf, prefix
 use Rattle.form_nodes.specs.FormPromises.{operators, connectives, pred_starts, relations, memberships, quantifiers, level_of, Starts, StartCode, Reads, TermReads, TermStops, PredReads, PredStops}
 use Rattle.form.specs.Computed.{compute_form}
 use Rattle.form_nodes.specs.declared.kinds.Start as declared
+use Rattle.std.specs.Prelude.{Ok, Err}
 use Rattle.form_nodes.specs.declared.Read.{Read}
-use Rattle.form_nodes.specs.declared.Read.TheVariants.{At, Fault}
+use Rattle.form_nodes.specs.FormPromises.{Answer}
 use Rattle.form_nodes.proofs.Classes.{lookup-miss, by-table-or, spanned}
 use Rattle.form.proofs.Table.{◌&◌}
 use Rattle.form_nodes.proofs.ReadParts.{here, next, likewise, fails}
@@ -141,26 +142,26 @@ no-level (suc zero) h = absurd (omega arith)
 no-level (suc (suc c)) h = absurd (omega arith)
 
 -- a whole term
-pub whole-term : {s : List ℕ} {at n d b : ℕ} {ι : List Item} {r : Read} → TermReads s at n d b 1 ι r → Reads s at n ι [] r
+pub whole-term : {s : List ℕ} {at n d b : ℕ} {ι : List Item} {r : Answer} → TermReads s at n d b 1 ι r → Reads s at n ι [] r
 unfolding compute_form
 whole-term {s} {at} {n} {d} {b} {ι} {r} h = on r h.reads h.stops
   where
-    on : (r : Read) → Reads s at n ι (a_term_rest d b ∷ []) r → TermStops s 1 r → Reads s at n ι [] r
-    on (At e m) a g = next a (likewise (λ κ q γ. rest-step d b κ γ (no-level (lookup operators 0 κ) (g κ q))) (λ γ. refl) (here a.within))
-    on (Fault e f) a g = fails a
+    on : (r : Answer) → Reads s at n ι (a_term_rest d b ∷ []) r → TermStops s 1 r → Reads s at n ι [] r
+    on (Ok e) a g = next a (likewise (λ κ q γ. rest-step d b κ γ (no-level (lookup operators 0 κ) (g κ q))) (λ γ. refl) (here a.within))
+    on (Err f) a g = fails a
 
 -- a whole predicate
-pub whole-pred : {s : List ℕ} {at n d b : ℕ} {r : Read} → PredReads s at n d b 1 (a_unary d b ∷ []) r → Reads s at n (a_unary d b ∷ a_pred_rest d d b ∷ []) [] r
+pub whole-pred : {s : List ℕ} {at n d b : ℕ} {r : Answer} → PredReads s at n d b 1 (a_unary d b ∷ []) r → Reads s at n (a_unary d b ∷ a_pred_rest d d b ∷ []) [] r
 unfolding compute_form
 whole-pred {s} {at} {n} {d} {b} {r} h = on r (h.reads d (λ q. refl)) h.stops
   where
-    on : (r : Read) → Reads s at n (a_unary d b ∷ a_pred_rest d d b ∷ []) (a_pred_rest d d b ∷ []) r → PredStops s 1 r → Reads s at n (a_unary d b ∷ a_pred_rest d d b ∷ []) [] r
-    on (At e m) a g = next a (likewise (λ κ q γ. pred-rest-step d d b κ γ {c = 0} (let l : lookup connectives 0 κ < 1 = g κ q in omega arith)) (λ γ. refl) (here a.within))
-    on (Fault e f) a g = fails a
+    on : (r : Answer) → Reads s at n (a_unary d b ∷ a_pred_rest d d b ∷ []) (a_pred_rest d d b ∷ []) r → PredStops s 1 r → Reads s at n (a_unary d b ∷ a_pred_rest d d b ∷ []) [] r
+    on (Ok e) a g = next a (likewise (λ κ q γ. pred-rest-step d d b κ γ {c = 0} (let l : lookup connectives 0 κ < 1 = g κ q in omega arith)) (λ γ. refl) (here a.within))
+    on (Err f) a g = fails a
 
 -- what a result that is known says of the symbol behind
-pub known-level : (s : List ℕ) (min : ℕ) {e m : ℕ} {r : Read} → r ≡ At e m → PredStops s min r → (κ : Kind) → code_of κ ≡ get_or s e 0 → lookup connectives 0 κ < min
-known-level s min q h = subst (λ (x : Read). PredStops s min x) q h
+pub known-level : (s : List ℕ) (min : ℕ) {e : Read} {r : Answer} → r ≡ Ok e → PredStops s min r → (κ : Kind) → code_of κ ≡ get_or s e.at 0 → lookup connectives 0 κ < min
+known-level s min q h = subst (λ (x : Answer). PredStops s min x) q h
 
 pub below-level : (c o l min : ℕ) → c ≡ o → l ≡ level_of o → l < min → level_of c < min
 below-level c o l min e f h = subst (λ (x : ℕ). level_of x < min) (sym e) (subst (λ (x : ℕ). x < min) f h)

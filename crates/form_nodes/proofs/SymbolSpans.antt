@@ -7,31 +7,32 @@ use lib.ListN.{get_or}
 use Rattle.form.specs.Codes.{node}
 use Rattle.form_nodes.specs.FormPromises.{Shown, Named, Writes}
 use Rattle.form_nodes.specs.Derivations.{name_code, NameAt, EndAt, positive, negative, RangeAt, ranges, Part, an_operand, Derives, empty_one, empty_two, MadeAt}
+use Rattle.std.specs.Prelude.{Ok, Err}
 use Rattle.form_nodes.specs.declared.Read.{Read}
-use Rattle.form_nodes.specs.declared.Read.TheVariants.{At, Fault}
+use Rattle.form_nodes.specs.FormPromises.{Answer}
 
 -- the symbol of the code k, at a place
 abbrev pub OneOf : List ℕ → (at k : ℕ) → ℕ → Type 0
 OneOf s at k e = (e ≡ at + 1) × (get_or s at 0 ≡ k)
 
-pub shown-as : (P Q : ℕ → Type 0) (n : ℕ) (r : Read) → ((e : ℕ) → P e → Q e) → Shown P n r → Shown Q n r
-shown-as P Q n (At e m) f h = (f e h.0, h.1)
-shown-as P Q n (Fault e q) f h = tt
+pub shown-as : (P Q : ℕ → Type 0) (n : ℕ) (r : Answer) → ((e : ℕ) → P e → Q e) → Shown P n r → Shown Q n r
+shown-as P Q n (Ok e) f h = (f e.at h.0, h.1)
+shown-as P Q n (Err e) f h = tt
 
 -- a result that is known to be t
-pub known-shown : (P : ℕ → Type 0) (n : ℕ) {r t : Read} → r ≡ t → Shown P n r → Shown P n t
-known-shown P n q h = subst (λ (x : Read). Shown P n x) q h
+pub known-shown : (P : ℕ → Type 0) (n : ℕ) {r t : Answer} → r ≡ t → Shown P n r → Shown P n t
+known-shown P n q h = subst (λ (x : Answer). Shown P n x) q h
 
-pub positive-end : (s : List ℕ) (at n : ℕ) (r : Read) → Shown (OneOf s at 1) n r → Shown (EndAt s at) n r
+pub positive-end : (s : List ℕ) (at n : ℕ) (r : Answer) → Shown (OneOf s at 1) n r → Shown (EndAt s at) n r
 positive-end s at n r h = shown-as (OneOf s at 1) (EndAt s at) n r (λ e x. subst (EndAt s at) (sym x.0) (positive x.1)) h
 
-pub negative-end : (s : List ℕ) (at n : ℕ) (r : Read) → get_or s at 0 ≡ 29 → Shown (OneOf s (at + 1) 1) n r → Shown (EndAt s at) n r
+pub negative-end : (s : List ℕ) (at n : ℕ) (r : Answer) → get_or s at 0 ≡ 29 → Shown (OneOf s (at + 1) 1) n r → Shown (EndAt s at) n r
 negative-end s at n r q h = shown-as (OneOf s (at + 1) 1) (EndAt s at) n r (λ e x. subst (EndAt s at) (sym x.0) (negative q x.1)) h
 
-pub whole-range : (s : List ℕ) (at e f n m c : ℕ) (r : Read) → Shown (EndAt s at) n (At e m) → Shown (OneOf s e 21) m (At f c) → Shown (EndAt s f) c r
+pub whole-range : (s : List ℕ) (at n : ℕ) (e f : Read) (r : Answer) → Shown (EndAt s at) n (Ok e) → Shown (OneOf s e.at 21) e.count (Ok f) → Shown (EndAt s f.at) f.count r
     → Shown (RangeAt s at) n r
-whole-range s at e f n m c (At g d) a b h = (ranges a.0 b.0.1 (subst (λ (i : ℕ). EndAt s i g) b.0.0 h.0), h.1 ∙ b.1 ∙ a.1)
-whole-range s at e f n m c (Fault g d) a b h = tt
+whole-range s at n e f (Ok g) a b h = (ranges a.0 b.0.1 (subst (λ (i : ℕ). EndAt s i g.at) b.0.0 h.0), h.1 ∙ b.1 ∙ a.1)
+whole-range s at n e f (Err g) a b h = tt
 
 pub name-at : {s : List ℕ} {i k r : ℕ} → k ≡ get_or s i 0 → Named k r → (r ≡ 0 → ⊥) → NameAt s i
 name-at {r = r} q h f = let l : (2 ≤ _) × (_ ≤ 5) = h.name (omega arith) in record { low = omega arith; high = omega arith }

@@ -1,11 +1,9 @@
 -- What the form pass reads, by the codes s and the values ν of the symbols, and the nodes that it leaves of it. The trees that these are the nodes of are parser/proofs/DerivedTrees.
 -- Nothing here need be believed.
-use Rattle.std.specs.Prelude.{◌≡◌, Bool, false, cond, List, [], ◌++◌, ℕ, ◌+◌, ◌-◌, ◌*◌, ◌≤◌, ◌<◌, eqb, ltb, leb, length, take, get_or}
+use Rattle.std.specs.Prelude.{◌≡◌, Bool, false, cond, List, [], ◌++◌, ℕ, ◌+◌, ◌-◌, ◌*◌, ◌≤◌, ◌<◌, eqb, ltb, leb, length, take, get_or, Ok, Err}
 use Rattle.lexical.specs.Kinds.{Kind, code_of, lookup}
 use Rattle.form.specs.Codes.{node}
-use Rattle.form_nodes.specs.FormPromises.{Classes, Starts, operators, connectives, pred_starts, relations, level_of}
-use Rattle.form_nodes.specs.declared.Read.{Read}
-use Rattle.form_nodes.specs.declared.Read.TheVariants.{At, Fault}
+use Rattle.form_nodes.specs.FormPromises.{Answer, Classes, Starts, operators, connectives, pred_starts, relations, level_of}
 use Rattle.form_nodes.specs.declared.kinds.Start.TheVariants.{Leaf, Prefix}
 
 -- the number of the name at a symbol; 0 where none can stand
@@ -166,6 +164,6 @@ pub record MadeAt (s ν : List ℕ) (x : Part) (i n : ℕ) (a b : List ℕ) (j m
   pub derives : Derives s ν x i j nodes
   pub written : take m b ≡ take n a ++ nodes
 
-abbrev pub Made : (s ν : List ℕ) → Part → (i n : ℕ) → (a b : List ℕ) → Read → Type 0
-Made s ν x i n a b (At j m) = MadeAt s ν x i n a b j m
-Made s ν x i n a b (Fault p q) = Unit {0}
+abbrev pub Made : (s ν : List ℕ) → Part → (i n : ℕ) → (a b : List ℕ) → Answer → Type 0
+Made s ν x i n a b (Ok e) = MadeAt s ν x i n a b e.at e.count
+Made s ν x i n a b (Err f) = Unit {0}

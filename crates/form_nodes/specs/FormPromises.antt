@@ -1,17 +1,16 @@
 -- What the functions of the form pass promise each other, against the machine and the nodes of a tree. Nothing here need be believed.
-use Rattle.std.specs.Prelude.{◌≡◌, Bool, true, false, cond, ◌&&◌, List, [], ◌∷◌, ◌++◌, map, ℕ, zero, suc, ◌+◌, ◌-◌, ◌*◌, ◌≤◌, ◌<◌, eqb, leb, length, take, drop, get_or}
+use Rattle.std.specs.Prelude.{◌≡◌, Bool, true, false, ◌&&◌, List, [], ◌∷◌, ◌++◌, map, ℕ, zero, suc, ◌+◌, ◌-◌, ◌*◌, ◌≤◌, ◌<◌, eqb, leb, length, take, drop, get_or, Result, Ok, Err}
 use Rattle.lexical.specs.Kinds as kind
 use Rattle.lexical.specs.Kinds.{Kind, code_of, lookup}
 use Rattle.lexical.specs.Symbols.{Symbol, kind_of}
-use Rattle.lexical.specs.Refusals.{Refusal, no_dossier, deep, many_declared}
 use Rattle.lexical.specs.Promises.{Scans}
-use Rattle.lexical.specs.declared.Scanned.TheVariants.{Symbols}
 use Rattle.form.specs.Machine as machine
 use Rattle.form.specs.Machine.{kind_before, Item, a_term_rest, a_pred_rest, Run, failed, run_from, starts}
 use Rattle.form_nodes.specs.declared.kinds.Start.{Start}
 use Rattle.form_nodes.specs.declared.kinds.Start.TheVariants.{Leaf, Prefix, Bracket, Brace, Empty, Nothing}
 use Rattle.form_nodes.specs.declared.Read.{Read}
-use Rattle.form_nodes.specs.declared.Read.TheVariants.{At, Fault}
+use Rattle.lexical.specs.declared.refusals.Fault.{Fault}
+use Rattle.lexical.specs.RefusalNames.{refusal_is}
 
 -- the kinds' numbers, which the code reads
 unfoldable pub codes : List Symbol → List ℕ
@@ -21,27 +20,27 @@ codes w = map (λ (x : Symbol). code_of (kind_of x)) w
 unfoldable pub run_at : List Symbol → (at : ℕ) → List Item → Run
 run_at w at γ = run_from (drop at w) (kind_before kind.END w at) at γ
 
--- the code's numbers of refusals
-abbrev pub refusal_numbered : ℕ → Refusal
-refusal_numbered n = cond (eqb n 4) no_dossier (cond (eqb n 5) deep many_declared)
+-- what a function answers: what was read, or a fault
+abbrev pub Answer : Type 0
+Answer = Result Read Fault
 
 -- how the machine ends, where a part was read and γ is expected behind it
-abbrev pub after : Read → List Symbol → List Item → Run
-after (At e m) w γ = run_at w e γ
-after (Fault e f) w γ = failed e (refusal_numbered f)
+abbrev pub after : Answer → List Symbol → List Item → Run
+after (Ok e) w γ = run_at w e.at γ
+after (Err f) w γ = failed f.place (refusal_is f.refusal)
 
-abbrev pub place_of : Read → ℕ
-place_of (At e m) = e
-place_of (Fault e f) = e
+abbrev pub place_of : Answer → ℕ
+place_of (Ok e) = e.at
+place_of (Err f) = f.place
 
 -- at most four numbers are written for each symbol read
-abbrev pub Counted : (at n : ℕ) → Read → Type 0
-Counted at n (At e m) = m + 4 * at ≤ n + 4 * e
-Counted at n (Fault e f) = Unit {0}
+abbrev pub Counted : (at n : ℕ) → Answer → Type 0
+Counted at n (Ok e) = e.count + 4 * at ≤ n + 4 * e.at
+Counted at n (Err f) = Unit {0}
 
 -- Faults are exact: where ι is expected at the symbol at, and n numbers are written, the machine goes on behind the part that was read, where ο is expected,
 -- or stops at the fault.
-pub record Reads (s : List ℕ) (at n : ℕ) (ι ο : List Item) (r : Read) : Type 0 where
+pub record Reads (s : List ℕ) (at n : ℕ) (ι ο : List Item) (r : Answer) : Type 0 where
   pub from : at ≤ place_of r
   pub within : place_of r ≤ length s
   pub count : Counted at n r
@@ -115,22 +114,22 @@ quantifiers = (kind.FORALL, 1) ∷ (kind.EXISTS, 1) ∷ (kind.EXISTS1, 1) ∷ []
 abbrev pub names : List (Kind × ℕ)
 names = (kind.plain, 1) ∷ (kind.primed, 1) ∷ (kind.input, 1) ∷ (kind.output, 1) ∷ []
 
-abbrev pub Ahead : ℕ → Read → Type 0
-Ahead at (At e m) = at < e
-Ahead at (Fault e f) = Unit {0}
+abbrev pub Ahead : ℕ → Answer → Type 0
+Ahead at (Ok e) = at < e.at
+Ahead at (Err f) = Unit {0}
 
 -- at least one symbol is read
-pub record Advances (s : List ℕ) (at n : ℕ) (ι ο : List Item) (r : Read) : Type 0 where
+pub record Advances (s : List ℕ) (at n : ℕ) (ι ο : List Item) (r : Answer) : Type 0 where
   pub reads : Reads s at n ι ο r
   pub ahead : Ahead at r
 
 -- what was read up to a place without writing
-abbrev pub Shown : (ℕ → Type 0) → ℕ → Read → Type 0
-Shown P n (At e m) = P e × (m ≡ n)
-Shown P n (Fault e f) = Unit {0}
+abbrev pub Shown : (ℕ → Type 0) → ℕ → Answer → Type 0
+Shown P n (Ok e) = P e.at × (e.count ≡ n)
+Shown P n (Err f) = Unit {0}
 
 -- one symbol of the kind κ
-pub record Closes (s : List ℕ) (at k n : ℕ) (r : Read) : Type 0 where
+pub record Closes (s : List ℕ) (at k n : ℕ) (r : Answer) : Type 0 where
   pub ahead : Ahead at r
   pub shown : Shown (λ (e : ℕ). (e ≡ at + 1) × (get_or s at 0 ≡ k)) n r
   pub reads : (κ : Kind) → code_of κ ≡ k → Reads s at n (machine.exact κ ∷ []) [] r
@@ -158,20 +157,20 @@ pub record RangeEnd (s : List ℕ) (at : ℕ) (r : Bool) : Type 0 where
   pub minus : r ≡ true → (get_or s at 0 ≡ 29) × (get_or s (at + 1) 0 ≡ 1)
 
 -- behind a term that was read stands no operator of the level min or a higher one
-abbrev pub TermStops : List ℕ → ℕ → Read → Type 0
-TermStops s min (At e m) = (κ : Kind) → code_of κ ≡ get_or s e 0 → level_of (lookup operators 0 κ) < min
-TermStops s min (Fault e f) = Unit {0}
+abbrev pub TermStops : List ℕ → ℕ → Answer → Type 0
+TermStops s min (Ok e) = (κ : Kind) → code_of κ ≡ get_or s e.at 0 → level_of (lookup operators 0 κ) < min
+TermStops s min (Err f) = Unit {0}
 
-pub record TermReads (s : List ℕ) (at n d b min : ℕ) (ι : List Item) (r : Read) : Type 0 where
+pub record TermReads (s : List ℕ) (at n d b min : ℕ) (ι : List Item) (r : Answer) : Type 0 where
   pub reads : Reads s at n ι (a_term_rest d b ∷ []) r
   pub stops : TermStops s min r
 
-abbrev pub PredStops : List ℕ → ℕ → Read → Type 0
-PredStops s min (At e m) = (κ : Kind) → code_of κ ≡ get_or s e 0 → lookup connectives 0 κ < min
-PredStops s min (Fault e f) = Unit {0}
+abbrev pub PredStops : List ℕ → ℕ → Answer → Type 0
+PredStops s min (Ok e) = (κ : Kind) → code_of κ ≡ get_or s e.at 0 → lookup connectives 0 κ < min
+PredStops s min (Err f) = Unit {0}
 
 -- a predicate at depth d, or its rest, inside one that began at the depth base; only <=> goes back there
-pub record PredReads (s : List ℕ) (at n d b min : ℕ) (ι : List Item) (r : Read) : Type 0 where
+pub record PredReads (s : List ℕ) (at n d b min : ℕ) (ι : List Item) (r : Answer) : Type 0 where
   pub reads : (base : ℕ) → (min ≡ 1 → base ≡ d) → Reads s at n (ι ++ (a_pred_rest base d b ∷ [])) (a_pred_rest base d b ∷ []) r
   pub stops : PredStops s min r
 
@@ -203,4 +202,4 @@ pub record Left (text coded placed valued : List ℕ) (n : ℕ) : Type 0 where
   pub codes₀ : List ℕ
   pub starts₀ : List ℕ
   pub values₀ : List ℕ
-  pub scans : Scans text codes₀ starts₀ values₀ coded placed valued (Symbols n)
+  pub scans : Scans text codes₀ starts₀ values₀ coded placed valued (Ok n)

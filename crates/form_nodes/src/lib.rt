@@ -5,9 +5,9 @@ pub mod kinds;
 pub mod nodes;
 pub mod ranges;
 
-// The place behind what was read, and how many numbers are written; or the place of a fault, and the refusal's number.
-#[derive(Drop)]
-pub enum Read {
-    At(usize, usize),
-    Fault(usize, u8),
+// What was read: the number of the symbol behind it, and how many numbers are written. The place of a fault in the form is the number of a symbol too.
+#[derive(Clone, Copy)]
+pub struct Read {
+    pub at: usize,
+    pub count: usize,
 }

@@ -9,7 +9,7 @@ use crate::Read;
 use crate::kinds::{NONE, kind_at, name_of, value_at, wide};
 use form::{node, shapes};
 use lexical::bounds::{LARGEST_NUMBER, SYMBOLS};
-use lexical::refusals::NO_DOSSIER;
+use lexical::refusals::{Fault, Refusal};
 use lexical::{codes, endings};
 
 // The last number of a symbol; and of a plain name the code, which its ending is added to.
@@ -130,21 +130,30 @@ pub fn put_domain(s: &[u8], v: &[u16], at: usize, code: &mut [u16], n: usize) ->
 }
 
 // One name or two behind an `empty`.
-pub fn empty(s: &[u8], v: &[u16], at: usize, code: &mut [u16], n: usize) -> Read
+pub fn empty(s: &[u8], v: &[u16], at: usize, code: &mut [u16], n: usize) -> Result<Read, Fault>
     requires { Room s.now code.old at n × (at < length s.now) × (get_or s.now at 0 ≡ 47) }
     ensures { Reads s.now (at + 1) (n + 4) (a_name ∷ an_empty_rest ∷ []) [] result × Made s.now v.now an_operand at n code.old code.new result }
 {
     let k = kind_at(s, at + 1);
     if name_of(k) == NONE {
-        return Read::Fault(at + 1, NO_DOSSIER);
+        return Err(Fault {
+            place: at + 1,
+            refusal: Refusal::NoDossier,
+        });
     }
     let x = name_number(s, v, at + 1);
     let j = kind_at(s, at + 1 + 1);
     if name_of(j) == NONE {
         let m = put(code, n, shapes::EMPTY_SET, at, x, 0);
-        return Read::At(at + 1 + 1, m);
+        return Ok(Read {
+            at: at + 1 + 1,
+            count: m,
+        });
     }
     let y = name_number(s, v, at + 1 + 1);
     let m = put(code, n, shapes::EMPTY_PAIRS, at, x, y);
-    Read::At(at + 1 + 1 + 1, m)
+    Ok(Read {
+        at: at + 1 + 1 + 1,
+        count: m,
+    })
 }

@@ -8,24 +8,33 @@ ghost use Rattle.form_nodes.specs.Derivations.{EndAt, RangeAt, DomainAt};
 use crate::Read;
 use crate::kinds::{NONE, kind_at, name_of};
 use lexical::codes;
-use lexical::refusals::NO_DOSSIER;
+use lexical::refusals::{Fault, Refusal};
 
 // A symbol of the kind with the code k.
-pub fn close(s: &[u8], at: usize, k: u8, n: usize) -> Read
+pub fn close(s: &[u8], at: usize, k: u8, n: usize) -> Result<Read, Fault>
     requires { at ≤ length s.now }
     ensures { Closes s.now at k n result }
 {
     if s.len() <= at {
-        return Read::Fault(at, NO_DOSSIER);
+        return Err(Fault {
+            place: at,
+            refusal: Refusal::NoDossier,
+        });
     }
     if s[at] == k {
-        return Read::At(at + 1, n);
+        return Ok(Read {
+            at: at + 1,
+            count: n,
+        });
     }
-    Read::Fault(at, NO_DOSSIER)
+    Err(Fault {
+        place: at,
+        refusal: Refusal::NoDossier,
+    })
 }
 
 // A number, which may carry -.
-pub fn end(s: &[u8], at: usize, n: usize) -> Read
+pub fn end(s: &[u8], at: usize, n: usize) -> Result<Read, Fault>
     requires { (at ≤ length s.now) × (length s.now ≤ 4096) }
     ensures { Advances s.now at n (an_end ∷ []) [] result × Shown (EndAt s.now at) n result }
 {
@@ -87,21 +96,17 @@ pub fn is_range(s: &[u8], at: usize) -> bool
 }
 
 // a..b
-pub fn range(s: &[u8], at: usize, n: usize) -> Read
+pub fn range(s: &[u8], at: usize, n: usize) -> Result<Read, Fault>
     requires { (at ≤ length s.now) × (length s.now ≤ 4096) }
     ensures { Advances s.now at n (an_end ∷ exact kind.up_to ∷ an_end ∷ []) [] result × Shown (RangeAt s.now at) n result }
 {
-    match end(s, at, n) {
-        Read::At(e, m) => match close(s, e, codes::UP_TO, m) {
-            Read::At(f, c) => end(s, f, c),
-            Read::Fault(p, q) => Read::Fault(p, q),
-        },
-        Read::Fault(p, q) => Read::Fault(p, q),
-    }
+    let first = end(s, at, n)?;
+    let dots = close(s, first.at, codes::UP_TO, first.count)?;
+    end(s, dots.at, dots.count)
 }
 
 // What a bound name ranges over.
-pub fn domain(s: &[u8], at: usize, n: usize) -> Read
+pub fn domain(s: &[u8], at: usize, n: usize) -> Result<Read, Fault>
     requires { (at ≤ length s.now) × (length s.now ≤ 4096) }
     ensures { Reads s.now at n (a_domain ∷ []) [] result × Shown (DomainAt s.now at) n result }
 {
@@ -109,5 +114,8 @@ pub fn domain(s: &[u8], at: usize, n: usize) -> Read
     if name_of(k) == NONE {
         return range(s, at, n);
     }
-    Read::At(at + 1, n)
+    Ok(Read {
+        at: at + 1,
+        count: n,
+    })
 }

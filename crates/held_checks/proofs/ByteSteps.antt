@@ -1,18 +1,19 @@
 -- What the functions that read and write the held bytes count on: numbers byte by byte, zeros, a text copied, a mark that fits.
 use mathlib.Core.Path.{◌≡◌, refl, sym, ap, ap₂, ◌∙◌, subst}
 use mathlib.Core.Bool.{Bool, true, false, ◌&&◌, ◌||◌}
-use mathlib.Core.List.{List, [], ◌∷◌, ◌++◌, append_assoc}
+use mathlib.Core.List.{List, [], ◌∷◌, ◌++◌}
 use Prim.Native.Nat.{ℕ, zero, suc, ◌+◌, ◌-◌, ◌*◌, ◌/◌, ◌%◌, ◌^◌, ◌≤◌, ◌<◌}
 use native.Mathlib.Omega.{arith}
 use native.Mathlib.Nat.{pow-suc, pow-le-pow_right}
 use lib.Dec.{eqb, leb, ltb}
-use borrow.Author.Tests.{eq-eqb, ne_eqb, lt-ltb}
-use lib.ListN.{length, take, drop, get_or, set, replicate, take-append-drop, replicate-append-replicate, drop_of_length-le}
-use lib.Seq.{drop-cons, set_split, take-suc-set, take_all, paste, paste-zero, paste-suc, length-paste}
+use borrow.Author.Tests.{lt-ltb}
+use lib.ListN.{length, length-drop, take, drop, get_or, set, take-append-drop}
+use lib.Seq.{drop-cons, drop-drop, set_split, take_all}
+use borrow.Rule.Slice.PartMut.{put_mid}
 use Rattle.table_nodes.specs.TableWalkPromises.{patch}
 use Rattle.table_nodes.proofs.Pieces.{patch-behind}
-use Rattle.held_checks.specs.HeldBytes.{little_endian, from_bytes, none_held, fitting}
-use Rattle.held_checks.specs.BytePromises.{NumberAt, all_zero}
+use Rattle.held_checks.specs.HeldBytes.{little_endian, from_bytes, fitting}
+use Rattle.held_checks.specs.BytePromises.{NumberAt}
 
 -- a number, its lowest byte first
 pub number-none : (b : List ℕ) (at n : ℕ) → n ≡ 0 → NumberAt b at n 0
@@ -59,57 +60,16 @@ put-more b after at (suc n) x ne h s =
     s ∙ ap₂ (λ (k : ℕ) (w : List ℕ). patch (at + 1) (little_endian k (x / 256)) w) e one
     ∙ patch-behind at (at + 1) ((x % 256) ∷ []) (little_endian n (x / 256)) b refl (omega arith)
 
--- zeros are passed one by one
-pub zero_byte : (b : List ℕ) (k : ℕ) → k < length b → get_or b k 0 ≡ 0 → all_zero (drop k b) ≡ all_zero (drop (k + 1) b)
-unfolding all_zero
-zero_byte b k h z =
-    let e : suc k ≡ k + 1 = omega arith in
-    ap all_zero (drop-cons b k 0 h) ∙ ap (λ (x : Bool). elim x [ true ↦ all_zero (drop (suc k) b) | false ↦ false ]) (eq-eqb (get_or b k 0) 0 z)
-    ∙ ap (λ (j : ℕ). all_zero (drop j b)) e
+-- the bytes from a place on
+pub rest-is : (b : List ℕ) (k : ℕ) → take (length b - k) (drop k b) ≡ drop k b
+rest-is b k = take_all (length b - k) (drop k b) (omega (arith, length-drop k b))
 
-pub other_byte : (b : List ℕ) (k : ℕ) → k < length b → (get_or b k 0 ≡ 0 → ⊥) → all_zero (drop k b) ≡ false
-unfolding all_zero
-other_byte b k h ne =
-    ap all_zero (drop-cons b k 0 h) ∙ ap (λ (x : Bool). elim x [ true ↦ all_zero (drop (suc k) b) | false ↦ false ]) (ne_eqb (get_or b k 0) 0 ne)
-
-pub no_byte : (b : List ℕ) (k : ℕ) → length b ≤ k → all_zero (drop k b) ≡ true
-unfolding all_zero
-no_byte b k h = ap all_zero (drop_of_length-le b h)
-
--- one byte more is 0; all are
-pub zeros-more : (b : List ℕ) (k : ℕ) → k < length b → take k b ≡ replicate k 0 → take (k + 1) (set b k 0) ≡ replicate (k + 1) 0
-zeros-more b k h e =
-    let f : k + 1 ≡ suc k = omega arith in
-    ap (λ (j : ℕ). take j (set b k 0)) f ∙ take-suc-set b k 0 h ∙ ap (λ (w : List ℕ). w ++ (0 ∷ [])) e ∙ replicate-append-replicate k 1 0
-
-pub zeros-all : (b : List ℕ) (k : ℕ) → length b ≡ 32784 → length b ≤ k → k ≤ length b → take k b ≡ replicate k 0 → b ≡ none_held
-unfolding none_held
-zeros-all b k h l m e = let f : k ≡ 32784 = omega arith in sym (take_all k b l) ∙ e ∙ ap (λ (n : ℕ). replicate {A = ℕ} n 0) f
-
--- so many bytes of a text are written
-pub record Copied (text before now : List ℕ) (k : ℕ) : Type 0 where
-  pub is : now ≡ paste before 16 text k
-  pub room : 16 + length text ≤ length before
-  pub inside : k ≤ length text
-  pub long : length now ≡ length before
-
-pub copied-first : (text b : List ℕ) → 16 + length text ≤ length b → Copied text b b 0
-copied-first text b h = record { is = paste-zero b 16 text; room = h; inside = omega arith; long = refl }
-
-pub copied_next : (text b now : List ℕ) (k : ℕ) → k < length text → Copied text b now k → Copied text b (set now (16 + k) (get_or text k 0)) (k + 1)
-copied_next text b now k h c =
-    let r = c.room in
-    let f : suc k ≡ k + 1 = omega arith in
-    let e : set now (16 + k) (get_or text k 0) ≡ paste b 16 text (k + 1) =
-    ap (λ (w : List ℕ). set w (16 + k) (get_or text k 0)) c.is ∙ paste-suc b 16 text k 0 (omega arith) h ∙ ap (λ (j : ℕ). paste b 16 text j) f in
-    record { is = e; room = r; inside = omega arith; long = ap length e ∙ length-paste b 16 text (k + 1) (omega arith) (omega arith) }
-
-pub copied_all : (text b now : List ℕ) (k : ℕ) → length text ≤ k → Copied text b now k → now ≡ patch 16 text b
+-- a text is copied
+pub copied : (text b : List ℕ) {w : List ℕ} → w ≡ text → put_mid 16 (16 + length text - 16) b w ≡ patch 16 text b
 unfolding patch
-copied_all text b now k h c =
-    let i = c.inside in
-    let e : k ≡ length text = omega arith in
-    c.is ∙ ap₂ (λ (w : List ℕ) (j : ℕ). take 16 b ++ w ++ drop (16 + j) b) (take_all k text h) e ∙ append_assoc (take 16 b) text (drop (16 + length text) b)
+copied text b e =
+    let f : 16 + length text - 16 ≡ length text = omega arith in
+    ap₂ (λ (v u : List ℕ). take 16 b ++ (v ++ u)) e (drop-drop (16 + length text - 16) 16 b ∙ ap (λ (n : ℕ). drop (16 + n) b) f)
 
 -- a mark that fits, by the mark
 or-false : (b : Bool) → (b || false) ≡ b
@@ -124,14 +84,10 @@ pub fits-accepted : (n p m : ℕ) → m ≡ 2 → eqb p n ≡ fitting n p m
 unfolding fitting
 fits-accepted n p m e = sym (ap (fitting n p) e ∙ or-false (eqb p n))
 
-pub fits-first : (n p m : ℕ) → m ≡ 3 → p ≡ 0 → false ≡ fitting n p m
+pub fits-first : (n p m : ℕ) → m ≡ 3 → p ≡ 0 → ltb 0 p ≡ fitting n p m
 unfolding fitting
-fits-first n p m e z = sym (ap₂ (λ (q k : ℕ). fitting n q k) z e)
+fits-first n p m e z = ap (ltb 0) z ∙ sym (ap₂ (λ (q k : ℕ). fitting n q k) z e)
 
 pub fits-refuted : (n p m : ℕ) → m ≡ 3 → (p ≡ 0 → ⊥) → leb p n ≡ fitting n p m
 unfolding fitting
 fits-refuted n p m e ne = sym (ap (fitting n p) e ∙ ap (λ (b : Bool). b && leb p n) (lt-ltb 0 p (omega arith)))
-
-pub fits-none : (n p m : ℕ) → (m ≡ 1 → ⊥) → (m ≡ 2 → ⊥) → (m ≡ 3 → ⊥) → false ≡ fitting n p m
-unfolding fitting
-fits-none n p m a b c = rw (fitting, ne_eqb m 1 a, ne_eqb m 2 b, ne_eqb m 3 c) refl

@@ -1,6 +1,6 @@
 -- When bytes have the layout, and what the calls that write leave: the bytes of a text laid anew, and of the same text at another place.
 use mathlib.Core.Path.{◌≡◌, refl, sym, ap, ap₂, ◌∙◌}
-use mathlib.Core.Bool.{Bool, true, false, true≢false}
+use mathlib.Core.Bool.{Bool, true, false, true≢false, ◌&&◌}
 use mathlib.Core.List.{List, [], ◌∷◌, ◌++◌}
 use Prim.Native.Nat.{ℕ, zero, suc, ◌+◌, ◌-◌, ◌*◌, ◌/◌, ◌%◌, ◌≤◌, ◌<◌}
 use native.Mathlib.Omega.{arith}
@@ -37,17 +37,15 @@ number-part n at w h f =
 
 -- zeros only
 zeros-are : (w : List ℕ) → all_zero w ≡ true → w ≡ replicate (length w) 0
-unfolding all_zero
 zeros-are [] h = refl
 zeros-are (b ∷ w) h = on (eqb b 0) refl h (zeros-are w)
   where
-    on : (x : Bool) → eqb b 0 ≡ x → ◌≡◌ {A = Bool} (elim x [ true ↦ all_zero w | false ↦ false ]) true → (all_zero w ≡ true → w ≡ replicate (length w) 0)
+    on : (x : Bool) → eqb b 0 ≡ x → (x && all_zero w) ≡ true → (all_zero w ≡ true → w ≡ replicate (length w) 0)
         → b ∷ w ≡ 0 ∷ replicate (length w) 0
     on true e z r = ap₂ (λ (x : ℕ) (v : List ℕ). x ∷ v) (eqb-true b 0 e) (r z)
     on false e z r = absurd (true≢false (sym z))
 
 zeros_zero : (n : ℕ) → all_zero (replicate n 0) ≡ true
-unfolding all_zero
 zeros_zero zero = refl
 zeros_zero (suc n) = zeros_zero n
 

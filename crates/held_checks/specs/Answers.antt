@@ -1,20 +1,16 @@
 -- For every case of an enum answer of the calls: document 01's number and values.
-use Rattle.std.specs.Prelude.{ℕ}
-use Rattle.lexical.specs.Refusals.{number_of}
+use Rattle.std.specs.Prelude.{ℕ, Result, Ok, Err}
+use Rattle.lexical.specs.Refusals.{number_of, something_held}
+use Rattle.lexical.specs.RefusalNames.{refusal_is, fault_is}
+use Rattle.lexical.specs.declared.refusals.Refusal.{Refusal}
 use Rattle.obligations.specs.Order as order
 use Rattle.obligations.specs.Calls as calls
 use Rattle.held_checks.specs.declared.Obligation as obligation
 use Rattle.held_checks.specs.declared.Obligation.TheVariants.{Initialisation, Applicability, Correctness}
 use Rattle.held_checks.specs.declared.Verdict as verdict
 use Rattle.held_checks.specs.declared.Verdict.TheVariants.{Unfinished, Accepted, Refuted}
-use Rattle.held_checks.specs.declared.LoadReply.{LoadReply}
-use Rattle.held_checks.specs.declared.LoadReply.TheVariants as load
-use Rattle.held_checks.specs.declared.AdvanceReply.{AdvanceReply}
-use Rattle.held_checks.specs.declared.AdvanceReply.TheVariants as advance
-use Rattle.held_checks.specs.declared.VerdictReply.{VerdictReply}
-use Rattle.held_checks.specs.declared.VerdictReply.TheVariants as telling
-use Rattle.held_checks.specs.declared.WitnessReply.{WitnessReply}
-use Rattle.held_checks.specs.declared.WitnessReply.TheVariants as witness
+use Rattle.held_checks.specs.declared.LoadRefusal.{LoadRefusal}
+use Rattle.held_checks.specs.declared.LoadRefusal.TheVariants.{Faulty, SomethingHeld}
 
 -- an answer: "Each returns its number, 1 to 14 also the place"; or what the call returns
 pub data Answer : Type 0 where
@@ -46,23 +42,23 @@ verdict_of Unfinished = calls.unfinished
 verdict_of Accepted = calls.accepted
 verdict_of (Refuted o) = calls.refuted (obligation_is o)
 
-abbrev pub load_answer : LoadReply → Answer
-load_answer load.Loaded = loaded
-load_answer (load.Faulty n p) = refused_at n p
-load_answer load.SomethingHeld = refused 22
+-- a refused call
+abbrev pub refusal_answer : Refusal → Answer
+refusal_answer r = refused (number_of (refusal_is r))
 
-abbrev pub advance_answer : AdvanceReply → Answer
-advance_answer (advance.Looked n) = looked n
-advance_answer advance.NothingHeld = refused 21
-advance_answer advance.CheckFinished = refused 23
-advance_answer advance.OutOfRange = refused 15
+abbrev pub load_answer : Result (Unit {0}) LoadRefusal → Answer
+load_answer (Ok u) = loaded
+load_answer (Err (Faulty f)) = refused_at (number_of (fault_is f).refusal) (fault_is f).place
+load_answer (Err SomethingHeld) = refused (number_of something_held)
 
-abbrev pub verdict_answer : VerdictReply → Answer
-verdict_answer (telling.Is v) = verdict_is (verdict_of v)
-verdict_answer telling.NothingHeld = refused 21
+abbrev pub advance_answer : Result ℕ Refusal → Answer
+advance_answer (Ok n) = looked n
+advance_answer (Err r) = refusal_answer r
 
-abbrev pub witness_answer : WitnessReply → Answer
-witness_answer (witness.Written n) = written n
-witness_answer witness.NothingHeld = refused 21
-witness_answer witness.NoCounterexample = refused 24
-witness_answer witness.ShortBytes = refused 16
+abbrev pub verdict_answer : Result verdict.Verdict Refusal → Answer
+verdict_answer (Ok v) = verdict_is (verdict_of v)
+verdict_answer (Err r) = refusal_answer r
+
+abbrev pub witness_answer : Result ℕ Refusal → Answer
+witness_answer (Ok n) = written n
+witness_answer (Err r) = refusal_answer r

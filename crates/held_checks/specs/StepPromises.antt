@@ -1,18 +1,28 @@
 -- What the steps of the calls that need no text promise: a text laid, the place and the mark after a search, what verdict answers by a mark, the obligation of a part. Nothing here need be believed.
-use Rattle.std.specs.Prelude.{◌≡◌, Bool, cond, List, ℕ, ◌+◌, ◌-◌, ◌*◌, eqb, leb}
+use Rattle.std.specs.Prelude.{◌≡◌, Bool, cond, ℕ, ◌+◌, ◌*◌, leb, Option, Some, None}
 use Rattle.obligations.specs.Order.{initialisation, applicability, correctness}
 use Rattle.obligations.specs.Calls.{unfinished, accepted}
 use Rattle.held_checks.specs.declared.Obligation.{Obligation}
-use Rattle.held_checks.specs.declared.LoadReply.{LoadReply}
-use Rattle.held_checks.specs.declared.AdvanceReply.{AdvanceReply}
-use Rattle.held_checks.specs.HeldBytes.{bytes_of}
-use Rattle.held_checks.specs.Answers.{Answer, refused, loaded, looked, verdict_is, obligation_is, load_answer, advance_answer}
-use Rattle.held_checks.specs.BytePromises.{Turned}
+use Rattle.held_checks.specs.declared.Verdict.{Verdict}
+use Rattle.held_checks.specs.declared.Mark.{Mark}
+use Rattle.held_checks.specs.declared.Mark.TheVariants.{Unfinished, Accepted, Refuted}
+use Rattle.held_checks.specs.Answers.{obligation_is, verdict_of}
 
--- a text is held at the beginning of its order, and load says so
-pub record Lays (text after : List ℕ) (r : LoadReply) : Type 0 where
-  pub bytes : after ≡ bytes_of text 0 1
-  pub answer : load_answer r ≡ loaded
+-- the byte of a mark
+abbrev pub mark_byte : Mark → ℕ
+mark_byte Unfinished = 1
+mark_byte Accepted = 2
+mark_byte Refuted = 3
+
+-- the mark of a byte; any other byte is of none
+pub record NoMark (byte : ℕ) : Type 0 where
+  pub not_one : byte ≡ 1 → ⊥
+  pub not_two : byte ≡ 2 → ⊥
+  pub not_three : byte ≡ 3 → ⊥
+
+abbrev pub Marks : (byte : ℕ) → Option Mark → Type 0
+Marks byte (Some m) = byte ≡ mark_byte m
+Marks byte None = NoMark byte
 
 -- the place after a search that stopped at one: behind the binding that failed, if one did
 abbrev pub place_after : (failed : Bool) (at : ℕ) → ℕ
@@ -22,14 +32,10 @@ place_after failed at = cond failed (at + 1) at
 abbrev pub mark_after : (failed : Bool) (all place : ℕ) → ℕ
 mark_after failed all place = cond failed 3 (cond (leb all place) 2 1)
 
--- the bytes at that place, and how many bindings were looked at
-pub record Moves (before : List ℕ) (from all : ℕ) (failed : Bool) (at : ℕ) (after : List ℕ) (r : AdvanceReply) : Type 0 where
-  pub bytes : Turned before (place_after failed at) (mark_after failed all (place_after failed at)) after
-  pub answer : advance_answer r ≡ looked (place_after failed at - from)
-
--- what verdict answers by a mark but 3
-abbrev pub told_by : (mark : ℕ) → Answer
-told_by m = cond (eqb m 0) (refused 21) (cond (eqb m 1) (verdict_is unfinished) (verdict_is accepted))
+-- the verdict of a mark; that of 3 speaks of an obligation
+abbrev pub Tells : (mark : ℕ) → Option Verdict → Type 0
+Tells m (Some v) = (m ≡ 1 → verdict_of v ≡ unfinished) × (m ≡ 2 → verdict_of v ≡ accepted) × (m ≡ 3 → ⊥)
+Tells m None = m ≡ 3
 
 -- the obligation of a part by its number
 pub record PartTold (part : ℕ) (r : Obligation) : Type 0 where

@@ -2,16 +2,17 @@
 // place, numbers with the lowest byte first, from 16 on the text, and zeros behind it. All zero is nothing held.
 #![tactic(auto)]
 
-ghost use Rattle.std.specs.Prelude.{◌≡◌, ◌+◌, ◌^◌, ◌<◌, ◌≤◌, length, take, drop};
+ghost use Rattle.std.specs.Prelude.{◌≡◌, ◌+◌, ◌-◌, ◌^◌, ◌<◌, ◌≤◌, length, take, drop};
 ghost use Rattle.table_nodes.specs.TableWalkPromises.{patch};
-ghost use Rattle.held_checks.specs.HeldBytes.{little_endian, from_bytes, bytes_of, none_held, is_laid, held_place, fitting};
+ghost use Rattle.held_checks.specs.HeldBytes.{little_endian, from_bytes, bytes_of, none_held, is_laid, held_mark, held_place, fitting};
 ghost use Rattle.held_checks.specs.BytePromises.{NumberAt, all_zero, Turned};
-ghost use Rattle.held_checks.specs.Answers.{verdict_answer};
-ghost use Rattle.held_checks.specs.StepPromises.{Lays, place_after, mark_after, Moves, PartTold, told_by};
+ghost use Rattle.held_checks.specs.declared.LoadRefusal.TheVariants.{Faulty};
+ghost use Rattle.held_checks.specs.StepPromises.{Marks, mark_byte, Tells, place_after, mark_after, PartTold};
 
 use lexical::bounds::TEXT_BYTES;
+use lexical::refusals::Fault;
 
-pub const MARK: usize = 0;
+const MARK: usize = 0;
 
 const PROFILE: usize = 1;
 
@@ -35,65 +36,71 @@ pub const HELD: usize = 32784;
 // How many values a byte has.
 const BYTE: usize = 256;
 
-// The marks; 0 where nothing is held.
-pub const NOTHING: u8 = 0;
-
-pub const UNFINISHED: u8 = 1;
-
-pub const ACCEPTED: u8 = 2;
-
-pub const REFUTED: u8 = 3;
-
 // The parts of a check: one of the initialisation, then two of each operation.
 const OPENING: usize = 1;
 
 const OBLIGATIONS: usize = 2;
 
 // An obligation, the last two with the operation's index.
-#[derive(Drop)]
+#[derive(Clone, Copy)]
 pub enum Obligation {
     Initialisation,
     Applicability(usize),
     Correctness(usize),
 }
 
-#[derive(Drop)]
+#[derive(Clone, Copy)]
 pub enum Verdict {
     Unfinished,
     Accepted,
     Refuted(Obligation),
 }
 
-// What load answers: a fault has its number and its place.
-#[derive(Drop)]
-pub enum LoadReply {
-    Loaded,
-    Faulty(u8, usize),
+// Why load takes no text: its fault, or that a check is held.
+#[derive(Clone, Copy)]
+pub enum LoadRefusal {
+    Faulty(Fault),
     SomethingHeld,
 }
 
-// What advance answers: how many bindings were looked at.
-#[derive(Drop)]
-pub enum AdvanceReply {
-    Looked(usize),
-    NothingHeld,
-    CheckFinished,
-    OutOfRange,
+impl From<Fault> for LoadRefusal {
+    ghost from_gives = { λ fault refusal. refusal ≡ Faulty fault };
+
+    fn from(fault: Fault) -> LoadRefusal {
+        LoadRefusal::Faulty(fault)
+    }
 }
 
-#[derive(Drop)]
-pub enum VerdictReply {
-    Is(Verdict),
-    NothingHeld,
+// How far a held check is; each has a byte, and where nothing is held that byte is 0.
+#[derive(Clone, Copy, PartialEq, Eq)]
+pub enum Mark {
+    Unfinished,
+    Accepted,
+    Refuted,
 }
 
-// What witness answers: how many bytes were written.
-#[derive(Drop)]
-pub enum WitnessReply {
-    Written(usize),
-    NothingHeld,
-    NoCounterexample,
-    ShortBytes,
+impl Mark {
+    fn byte(self) -> u8
+        ensures { result ≡ mark_byte self }
+    {
+        match self {
+            Mark::Unfinished => 1,
+            Mark::Accepted => 2,
+            Mark::Refuted => 3,
+        }
+    }
+
+    // The mark whose byte this is.
+    fn from_byte(byte: u8) -> Option<Mark>
+        ensures { Marks byte result }
+    {
+        match byte {
+            1 => Some(Mark::Unfinished),
+            2 => Some(Mark::Accepted),
+            3 => Some(Mark::Refuted),
+            _ => None,
+        }
+    }
 }
 
 // The number in n bytes.
@@ -119,18 +126,11 @@ fn put_number(held: &mut [u8], at: usize, n: usize, x: usize)
     put_number(held, at + 1, n - 1, x / BYTE)
 }
 
-// All bytes from a place on are 0.
-fn zero_from(held: &[u8], from: usize) -> bool
-    ensures { result ≡ all_zero (drop from held.now) }
+// All bytes are 0.
+fn are_zero(bytes: &[u8]) -> bool
+    ensures { result ≡ all_zero bytes.now }
 {
-    let mut k = from;
-    while k < held.len() {
-        if held[k] != 0 {
-            return false;
-        }
-        k += 1;
-    }
-    true
+    bytes.iter().all(|b| *b == 0)
 }
 
 // The length of the text that the bytes have, and the place.
@@ -164,7 +164,7 @@ fn has_layout(held: &[u8]) -> bool
     if n > TEXT_BYTES {
         return false;
     }
-    zero_from(held, TEXT + n)
+    are_zero(&held[TEXT + n..])
 }
 
 pub fn laid(held: &[u8; HELD]) -> bool
@@ -173,23 +173,22 @@ pub fn laid(held: &[u8; HELD]) -> bool
     has_layout(held)
 }
 
-// A mark fits a place of an order of so many places.
-pub fn fits(all: usize, place: usize, mark: u8) -> bool
-    ensures { result ≡ fitting all place mark }
+// The mark of the bytes.
+pub fn mark_in(held: &[u8; HELD]) -> Option<Mark>
+    ensures { Marks (held_mark held.now) result }
 {
-    if mark == UNFINISHED {
-        return place < all;
+    Mark::from_byte(held[MARK])
+}
+
+// A mark fits a place of an order of so many places.
+pub fn fits(all: usize, place: usize, mark: Mark) -> bool
+    ensures { result ≡ fitting all place (mark_byte mark) }
+{
+    match mark {
+        Mark::Unfinished => place < all,
+        Mark::Accepted => place == all,
+        Mark::Refuted => 0 < place && place <= all,
     }
-    if mark == ACCEPTED {
-        return place == all;
-    }
-    if mark == REFUTED {
-        if place == 0 {
-            return false;
-        }
-        return place <= all;
-    }
-    false
 }
 
 // All bytes become 0.
@@ -197,11 +196,7 @@ fn fill_zero(held: &mut [u8])
     requires { length held.old ≡ 32784 }
     ensures { held.new ≡ none_held }
 {
-    let mut k: usize = 0;
-    while k < held.len() {
-        held[k] = 0;
-        k += 1;
-    }
+    held.fill(0);
 }
 
 // Nothing is held.
@@ -216,11 +211,7 @@ fn put_text(text: &[u8], held: &mut [u8])
     requires { 16 + length text.now ≤ length held.old }
     ensures { held.new ≡ patch 16 text.now held.old }
 {
-    let mut k: usize = 0;
-    while k < text.len() {
-        held[TEXT + k] = text[k];
-        k += 1;
-    }
+    held[TEXT..TEXT + text.len()].copy_from_slice(text);
 }
 
 // All the bytes of a held text, at the beginning of its order.
@@ -229,32 +220,31 @@ fn put_held(text: &[u8], held: &mut [u8])
     ensures { held.new ≡ bytes_of text.now 0 1 }
 {
     fill_zero(held);
-    held[MARK] = UNFINISHED;
+    held[MARK] = Mark::Unfinished.byte();
     put_number(held, LENGTH, LENGTH_BYTES, text.len());
     put_text(text, held);
 }
 
-// A text is held, at the beginning of its order: what load answers of a text that is read.
-pub fn lay(text: &[u8], held: &mut [u8; HELD]) -> LoadReply
+// A text is held, at the beginning of its order.
+pub fn lay(text: &[u8], held: &mut [u8; HELD])
     requires { length text.now ≤ 32768 }
-    ensures { Lays text.now held.new result }
+    ensures { held.new ≡ bytes_of text.now 0 1 }
 {
     put_held(text, held);
-    LoadReply::Loaded
 }
 
 // The place and the mark.
-fn put_turn(held: &mut [u8], place: usize, mark: u8)
+fn put_turn(held: &mut [u8], place: usize, mark: Mark)
     requires { length held.old ≡ 32784 }
-    ensures { Turned held.old place mark held.new }
+    ensures { Turned held.old place (mark_byte mark) held.new }
 {
-    held[MARK] = mark;
+    held[MARK] = mark.byte();
     put_number(held, PLACE, PLACE_BYTES, place);
 }
 
 // The held check comes to a place, with a mark.
-fn turn(held: &mut [u8; HELD], place: usize, mark: u8)
-    ensures { Turned held.old place mark held.new }
+fn turn(held: &mut [u8; HELD], place: usize, mark: Mark)
+    ensures { Turned held.old place (mark_byte mark) held.new }
 {
     put_turn(held, place, mark);
 }
@@ -264,52 +254,42 @@ pub fn counted(failed: bool, at: usize) -> usize
     requires { at < 2 ^ 62 }
     ensures { result ≡ place_after failed at }
 {
-    if failed {
-        return at + 1;
-    }
-    at
+    at + usize::from(failed)
 }
 
 // The mark after a search that came to a place.
-fn mark_after(failed: bool, all: usize, place: usize) -> u8
-    ensures { result ≡ mark_after failed all place }
+fn mark_after(failed: bool, all: usize, place: usize) -> Mark
+    ensures { mark_byte result ≡ mark_after failed all place }
 {
     if failed {
-        return REFUTED;
+        Mark::Refuted
+    } else if all <= place {
+        Mark::Accepted
+    } else {
+        Mark::Unfinished
     }
-    if all <= place {
-        return ACCEPTED;
-    }
-    UNFINISHED
 }
 
-// A search from a place on stopped at another, of so many in all: the held check comes there. What advance answers.
-pub fn come_to(
-    held: &mut [u8; HELD],
-    from: usize,
-    all: usize,
-    failed: bool,
-    at: usize,
-) -> AdvanceReply
+// A search from a place on stopped at another, of so many in all: the held check comes there. How many bindings were looked at.
+pub fn come_to(held: &mut [u8; HELD], from: usize, all: usize, failed: bool, at: usize) -> usize
     requires { (from ≤ at) × (at < 2 ^ 62) }
-    ensures { Moves held.old from all failed at held.new result }
+    ensures moved { Turned held.old (place_after failed at) (mark_after failed all (place_after failed at)) held.new }
+    ensures looked { result ≡ place_after failed at - from }
 {
     let place = counted(failed, at);
     turn(held, place, mark_after(failed, all, place));
-    AdvanceReply::Looked(place - from)
+    place - from
 }
 
-// What verdict answers by a mark, where that is not the mark of a refuted check.
-pub fn told(mark: u8) -> VerdictReply
-    ensures { verdict_answer result ≡ told_by mark }
+// The verdict of a mark, where it speaks of no obligation.
+pub fn told(mark: Mark) -> Option<Verdict>
+    ensures { Tells (mark_byte mark) result }
 {
-    if mark == NOTHING {
-        return VerdictReply::NothingHeld;
+    match mark {
+        Mark::Unfinished => Some(Verdict::Unfinished),
+        Mark::Accepted => Some(Verdict::Accepted),
+        Mark::Refuted => None,
     }
-    if mark == UNFINISHED {
-        return VerdictReply::Is(Verdict::Unfinished);
-    }
-    VerdictReply::Is(Verdict::Accepted)
 }
 
 // The obligation of a part.

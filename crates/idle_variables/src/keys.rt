@@ -49,10 +49,7 @@ pub fn is_marked(cells: &[u32; 9216], g: KeyGroup, x: usize, mark: u16, marks: &
     requires marks_len { length marks.now ≡ 4096 }
     ensures { MarkSays cells.now g x mark marks.now result }
 {
-    if g.count <= x {
-        return false;
-    }
-    marks[key_at(cells, g, x)] == mark
+    x < g.count && marks[key_at(cells, g, x)] == mark
 }
 
 // Makes the mark there, if it may be made.
@@ -78,11 +75,5 @@ pub fn make_mark(
 pub fn is_within(from: usize, end: usize, first: usize, size: usize) -> bool
     ensures { Within from end first size result }
 {
-    if first < from {
-        return false;
-    }
-    if end < first {
-        return false;
-    }
-    size <= end - first
+    from <= first && first <= end && size <= end - first
 }

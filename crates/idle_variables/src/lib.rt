@@ -3,24 +3,17 @@
 
 pub mod keys;
 
-ghost use Rattle.std.specs.Prelude.{◌≡◌, ◌+◌, ◌<◌, ◌≤◌, get_or, length};
+ghost use Rattle.std.specs.Prelude.{◌≡◌, ◌+◌, ◌<◌, ◌≤◌};
 ghost use Rattle.points.specs.Searches.{mark_in};
 ghost use Rattle.idle_variables.specs.IdlePromises.{TestSays, LevelSays, SearchSays, SearchesSay, PlanAsked, MaskSays};
 
 use mentions::free_pred;
+use plans::PartSearch;
 use points::plan::{HEAD, LEVELS};
 use points::slots::AFTER;
 
 // How many searches a plan has.
 const SEARCHES: usize = 5;
-
-// A number of the plan.
-fn entry(plan: &[u16], k: usize) -> usize
-    requires { k < length plan.now }
-    ensures { (result ≡ get_or plan.now k 0) × (result < 65536) }
-{
-    plan[k] as usize
-}
 
 // Does a test not depend on the variable of a slot?
 fn idle_test(t: &[u16; 16384], e: usize, slot: usize) -> bool
@@ -34,63 +27,57 @@ fn idle_test(t: &[u16; 16384], e: usize, slot: usize) -> bool
 }
 
 // Does no test of a level?
-fn idle_level(t: &[u16; 16384], plan: &[u16; 20560], u: usize, l: usize, slot: usize) -> bool
-    requires { (u < 5) × (l < 12) × (slot < 22) × (mark_in plan.now u (l + 1) ≤ 20560) }
-    ensures { LevelSays t.now plan.now u l slot result }
+fn idle_level(s: &PartSearch<'_>, u: usize, l: usize, slot: usize) -> bool
+    requires { (u < 5) × (l < 12) × (slot < 22) × (mark_in s.now.plan.now u (l + 1) ≤ 20560) }
+    ensures { LevelSays s.now.table.now s.now.plan.now u l slot result }
 {
-    let to = entry(plan, HEAD * u + l + 1);
-    let mut k = entry(plan, HEAD * u + l);
-    while k < to {
-        let e = entry(plan, k);
-        if !idle_test(t, e, slot) {
+    let to = usize::from(s.plan[HEAD * u + l + 1]);
+    for k in usize::from(s.plan[HEAD * u + l])..to {
+        let e = usize::from(s.plan[k]);
+        if !idle_test(s.table, e, slot) {
             return false;
         }
-        k += 1;
     }
     true
 }
 
 // Does no test of the search u?
-fn idle_search(t: &[u16; 16384], plan: &[u16; 20560], u: usize, slot: usize) -> bool
+fn idle_search(s: &PartSearch<'_>, u: usize, slot: usize) -> bool
     requires u_bound { (u < 5) × (slot < 22) }
-    requires plan_asked { PlanAsked plan.now }
-    ensures { SearchSays t.now plan.now u slot result }
+    requires plan_asked { PlanAsked s.now.plan.now }
+    ensures { SearchSays s.now.table.now s.now.plan.now u slot result }
 {
-    let mut l = 0;
-    while l < LEVELS {
-        if !idle_level(t, plan, u, l, slot) {
+    for l in 0..LEVELS {
+        if !idle_level(s, u, l, slot) {
             return false;
         }
-        l += 1;
     }
     true
 }
 
 // Does no test of the searches from u on?
-fn idle_searches(t: &[u16; 16384], plan: &[u16; 20560], u: usize, slot: usize) -> bool
+fn idle_searches(s: &PartSearch<'_>, u: usize, slot: usize) -> bool
     requires slot_bound { slot < 22 }
-    requires plan_asked { PlanAsked plan.now }
-    ensures { SearchesSay t.now plan.now u slot result }
+    requires plan_asked { PlanAsked s.now.plan.now }
+    ensures { SearchesSay s.now.table.now s.now.plan.now u slot result }
 {
-    let mut v = u;
-    while v < SEARCHES {
-        if !idle_search(t, plan, v, slot) {
+    for v in u..SEARCHES {
+        if !idle_search(s, v, slot) {
             return false;
         }
-        v += 1;
     }
     true
 }
 
-// The m variables from the slot s on as bits, the first one's lowest: set where no test of the searches from u on depends on the variable.
-pub fn idle_of(t: &[u16; 16384], plan: &[u16; 20560], u: usize, s: usize, m: usize) -> u64
-    requires m_bound { s + m ≤ 22 }
-    requires plan_asked { PlanAsked plan.now }
-    ensures { MaskSays t.now plan.now u s m result }
+// The m variables from the slot `first` on as bits, the first one's lowest: set where no test of the searches from u on depends on the variable.
+pub fn idle_of(s: &PartSearch<'_>, u: usize, first: usize, m: usize) -> u64
+    requires m_bound { first + m ≤ 22 }
+    requires plan_asked { PlanAsked s.now.plan.now }
+    ensures { MaskSays s.now.table.now s.now.plan.now u first m result }
 {
     if m == 0 {
         return 0;
     }
-    let rest = idle_of(t, plan, u, s + 1, m - 1);
-    2 * rest + (idle_searches(t, plan, u, s) as u64)
+    let rest = idle_of(s, u, first + 1, m - 1);
+    2 * rest + u64::from(idle_searches(s, u, first))
 }

@@ -17,7 +17,7 @@ use Rattle.lexical.specs.Symbols.{Class, letter, digit, mark, blank, other, Endi
 use Rattle.lexical.specs.Symbols.{Placed, scanned, scan_from, scan, symbols}
 use Rattle.lexical.specs.Symbols.{class_of, run, decimal_from, is_number, number_found, reserved, ending_of, ending_length, word_of, longer, longest, by_class, symbol_at}
 use Rattle.lexical.specs.Promises.{has_letters, first_named, Scans}
-use Rattle.lexical.specs.declared.Scanned.TheVariants.{Symbols}
+use Rattle.std.specs.Prelude.{Ok}
 use Rattle.lexical.proofs.WordLaws.{same_refl, same_true}
 use Rattle.form.specs.Tree.{Letters}
 use Rattle.parser.specs.Promises.{numbering}
@@ -136,7 +136,7 @@ text-begin : (text : List ℕ) → AllBegin text (symbols (scan text))
 unfolding scan
 text-begin text = scanned-begin text text 0 0 refl
 
-pub spelt : {text codes₀ starts₀ values₀ codes starts values : List ℕ} {n : ℕ} → Scans text codes₀ starts₀ values₀ codes starts values (Symbols n)
+pub spelt : {text codes₀ starts₀ values₀ codes starts values : List ℕ} {n : ℕ} → Scans text codes₀ starts₀ values₀ codes starts values (Ok n)
     → {x : Letters} → Occurs text x → SpeltAt text (get_or starts (numbering text x) 0) x
 spelt {text} {starts = starts} {n = n} s {x} o =
     let k = known s in

@@ -34,6 +34,23 @@ const TYPE_SIDES: usize = 6;
 
 const TYPE_SHAPE: usize = 7;
 
+// A text, and the labels of its names.
+#[derive(Clone, Copy)]
+pub struct Names<'a> {
+    pub text: &'a [u8],
+    pub labels: &'a [u16; LABELS],
+}
+
+impl Names<'_> {
+    // The k-th label, 0 past their end.
+    pub fn label(&self, k: usize) -> u16
+        ensures { result ≡ get_or self.now.labels.now k 0 }
+    {
+        let labels = self.labels;
+        look(labels, k)
+    }
+}
+
 // The first byte of the name whose node stands at q.
 fn name_byte(nodes: &[u16], starts: &[u16], q: usize) -> u16
     requires { q < 65536 }
@@ -47,10 +64,8 @@ fn gather_set(nodes: &[u16], starts: &[u16], q: usize, at: usize, labels: &mut [
     requires { (q ≤ 16384) × (at ≤ 64) × (length labels.old ≡ 720) }
     ensures { Stored 8 at (names_from nodes.now starts.now q) labels.old labels.new }
 {
-    let mut k: usize = 0;
-    while k < ELEMENTS {
+    for k in 0..ELEMENTS {
         put(labels, at + k, name_byte(nodes, starts, q + node::SIZE * k));
-        k += 1;
     }
 }
 
@@ -60,12 +75,10 @@ pub fn gather_elements(nodes: &[u16], starts: &[u16], m: usize, labels: &mut [u1
     ensures { ElementsGathered nodes.now starts.now m labels.old labels.new }
 {
     let mut q = sections(nodes, m).givens;
-    let mut g: usize = 0;
-    while g < GIVEN_SETS {
+    for g in 0..GIVEN_SETS {
         let from = skip_from(nodes, q, m);
         gather_set(nodes, starts, from, ELEMENTS * g, labels);
         q = run_from(nodes, from, m, shapes::ELEMENT, shapes::ELEMENT);
-        g += 1;
     }
 }
 
@@ -74,22 +87,14 @@ pub fn gather_titles(nodes: &[u16], starts: &[u16], spans: &[u16], labels: &mut 
     requires { length labels.old ≡ 720 }
     ensures { TitlesGathered nodes.now starts.now spans.now labels.old labels.new }
 {
-    let mut j: usize = 0;
-    while j < span::MOST {
+    for j in 0..span::MOST {
         let q = index(look(spans, span::OPERATIONS + span::OPERATION * j));
-        put(labels, TITLES + j, name_byte(nodes, starts, before(q)));
-        j += 1;
+        put(
+            labels,
+            TITLES + j,
+            name_byte(nodes, starts, q.saturating_sub(node::SIZE)),
+        );
     }
-}
-
-// The place of the node in front of a place.
-fn before(q: usize) -> usize
-    ensures { result ≡ q - 4 }
-{
-    if q < node::SIZE {
-        return 0;
-    }
-    q - node::SIZE
 }
 
 // The four labels of a place of the groups.
@@ -121,10 +126,8 @@ pub fn gather_variables(
     requires { length labels.old ≡ 720 }
     ensures { VariablesGathered nodes.now starts.now table.now groups.now labels.old labels.new }
 {
-    let mut i: usize = 0;
-    while i < GROUPS {
+    for i in 0..GROUPS {
         let q = index(look(groups, i));
         gather_variable(nodes, starts, table, q, VARIABLES + VARIABLE * i, labels);
-        i += 1;
     }
 }

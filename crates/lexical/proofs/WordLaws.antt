@@ -8,14 +8,18 @@ use Prim.Native.String.{String}
 use native.Mathlib.Omega.{arith}
 use native.Mathlib.Nat.{add-zero}
 use lib.Dec.{eqb, ltb}
+use Rattle.std.specs.Prelude as prelude
+use Rattle.std.specs.Prelude.{Some, None}
 use borrow.Author.Tests.{ltb-true, ltb-false, eqb-true, eq-eqb, ne_eqb, le-leb, lt-leb}
 use lib.ListN.{length, take, drop, get_or}
 use lib.Seq.{get_or-drop, drop-drop}
-use mathlib.Core.Logic.{⊎_elim}
+use mathlib.Core.Logic.{◌⊎◌, ⊎_elim}
+use Rattle.lexical.specs.declared.Ending as ending
+use Rattle.lexical.specs.declared.Ending.TheVariants.{Plain, Prime, Query, Shriek}
 use Rattle.lexical.specs.Lists.{bytes, same, any}
-use Rattle.lexical.specs.Kinds.{Kind, words, code_of, number, plain, primed, input, output, colon, semicolon, comma, bar, spot, open_paren, close_paren, open_bracket, close_bracket, open_brace, close_brace, up_to, equals, differs, less, at_most, implies, iff, plus, minus, times, size, maplet, relation, partial, total, CONTENTS, GIVEN, ABSTRACT, CONCRETE, AINIT, CINIT, RETRIEVE, OP, END, WHERE, POWER, EMPTY, TRUE, FALSE, NOT, AND, OR, FORALL, EXISTS, EXISTS1, IN, NOTIN, UNION, MINUS, INTER, DIV, MOD, DOM, RAN}
+use Rattle.lexical.specs.Kinds.{Kind, words, code_of}
 use Rattle.lexical.specs.Symbols.{letter, other, class_of, in_run, run, reserved, word_of, ending_of, ending_length, kind_of_name, name, found, unlisted, Ending, no_ending, prime, query, shriek, by_class, between}
-use Rattle.lexical.specs.SymbolPromises.{token_of, packed, keyed, word_code, ending_code}
+use Rattle.lexical.specs.SymbolPromises.{token_of, packed, keyed, word_code, ending_is}
 use Rattle.lexical.specs.declared.Token.{Token}
 use Rattle.lexical.specs.declared.Token.TheVariants.{Unlisted, Listed}
 use Rattle.lexical.proofs.ByteLaws.{others}
@@ -106,10 +110,10 @@ keyed-reserved [] r h f = refl
 keyed-reserved (e ∷ t) r h f = on (same (bytes e.0) r) refl (keyed-reserved t r h.1 f)
   where
     on : (x : Bool) → same (bytes e.0) r ≡ x → keyed t (packed 8 r) ≡ word_code (reserved t r)
-        → elim (eqb (packed 8 r) (packed 8 (bytes e.0))) [ true ↦ code_of e.1 | false ↦ keyed t (packed 8 r) ] ≡ word_code (elim x [ true ↦ some e.1 | false ↦ reserved t r ])
-    on true q i = ap (λ (x : Bool). elim x [ true ↦ code_of e.1 | false ↦ keyed t (packed 8 r) ]) (eq-eqb (packed 8 r) (packed 8 (bytes e.0)) (ap (packed 8) (sym (same_true (bytes e.0) r q))))
+        → elim (eqb (packed 8 r) (packed 8 (bytes e.0))) [ true ↦ Some (code_of e.1) | false ↦ keyed t (packed 8 r) ] ≡ word_code (elim x [ true ↦ some e.1 | false ↦ reserved t r ])
+    on true q i = ap (λ (x : Bool). elim x [ true ↦ Some (code_of e.1) | false ↦ keyed t (packed 8 r) ]) (eq-eqb (packed 8 r) (packed 8 (bytes e.0)) (ap (packed 8) (sym (same_true (bytes e.0) r q))))
     on false q i =
-        ap (λ (x : Bool). elim x [ true ↦ code_of e.1 | false ↦ keyed t (packed 8 r) ])
+        ap (λ (x : Bool). elim x [ true ↦ Some (code_of e.1) | false ↦ keyed t (packed 8 r) ])
         (ne_eqb (packed 8 r) (packed 8 (bytes e.0)) (λ k. let s : same (bytes e.0) r ≡ true = ap (λ (l : List ℕ). same l r) (packed-one 8 (bytes e.0) r (fits 8 (bytes e.0) h.0) f (sym k)) ∙ same_refl r in
         let z : ◌≡◌ {A = ℕ} 0 1 = cc in omega arith)) ∙ i
 
@@ -170,7 +174,7 @@ run_length (b ∷ w) = on (in_run (class_of b)) (run_length w)
     on false r = omega arith
 
 -- the reserved word from a place on
-pub reserved-key : (s : List ℕ) (at n : ℕ) {k c : ℕ} → n ≡ length (run (drop at s)) → n ≤ 8 → k ≡ packed 8 (take ((at + n) - at) (drop at s)) → c ≡ keyed words k
+pub reserved-key : (s : List ℕ) (at n : ℕ) {k : ℕ} {c : prelude.Option ℕ} → n ≡ length (run (drop at s)) → n ≤ 8 → k ≡ packed 8 (take ((at + n) - at) (drop at s)) → c ≡ keyed words k
     → c ≡ word_code (reserved words (run (drop at s)))
 reserved-key s at n {k} {c} l h p q =
     let r : List ℕ = run (drop at s) in
@@ -179,158 +183,83 @@ reserved-key s at n {k} {c} l h p q =
     q ∙ ap (keyed words) (p ∙ ap (λ (i : ℕ). packed 8 (take i (drop at s))) m ∙ ap (packed 8) (run_take (drop at s)))
     ∙ keyed-reserved words r words-fit (run_fits 8 (drop at s) j)
 
-pub reserved-none : (s : List ℕ) (at n : ℕ) → n ≡ length (run (drop at s)) → 8 < n → 0 ≡ word_code (reserved words (run (drop at s)))
+pub reserved-none : (s : List ℕ) (at n : ℕ) → n ≡ length (run (drop at s)) → 8 < n → None ≡ word_code (reserved words (run (drop at s)))
 reserved-none s at n l h = let j : 8 < length (run (drop at s)) = omega arith in sym (ap word_code (reserved-long words (run (drop at s)) words-fit j))
 
 abbrev Misses : ℕ → List (String × Kind) → Type 0
 Misses k [] = Unit {0}
 Misses k (e ∷ t) = (k ≡ packed 8 (bytes e.0) → ⊥) × Misses k t
 
-keyed-none : (t : List (String × Kind)) (k : ℕ) → Misses k t → 0 ≡ keyed t k
+keyed-none : (t : List (String × Kind)) (k : ℕ) → Misses k t → None ≡ keyed t k
 unfolding keyed
 keyed-none [] k h = refl
-keyed-none (e ∷ t) k h = keyed-none t k h.1 ∙ sym (ap (λ (x : Bool). elim x [ true ↦ code_of e.1 | false ↦ keyed t k ]) (ne_eqb k (packed 8 (bytes e.0)) h.0))
+keyed-none (e ∷ t) k h = keyed-none t k h.1 ∙ sym (ap (λ (x : Bool). elim x [ true ↦ Some (code_of e.1) | false ↦ keyed t k ]) (ne_eqb k (packed 8 (bytes e.0)) h.0))
 
-pub no_word : (k : ℕ) → (k ≡ 8319395793684295523 → ⊥) → (k ≡ 474148661607 → ⊥) → (k ≡ 8386654075301880417 → ⊥) → (k ≡ 7310579637098016611 → ⊥) → (k ≡ 499985049953 → ⊥) → (k ≡ 499985049955 → ⊥) → (k ≡ 7311142548648781170 → ⊥) → (k ≡ 28783 → ⊥) → (k ≡ 6581861 → ⊥) → (k ≡ 435710945399 → ⊥) → (k ≡ 80 → ⊥) → (k ≡ 521644567909 → ⊥) → (k ≡ 1702195828 → ⊥) → (k ≡ 6581857 → ⊥) → (k ≡ 29295 → ⊥) → (k ≡ 7630702 → ⊥) → (k ≡ 435728179558 → ⊥) → (k ≡ 119212747157350 → ⊥) → (k ≡ 126943989692517 → ⊥) → (k ≡ 13919217848514661 → ⊥) → (k ≡ 28265 → ⊥) → (k ≡ 474215640942 → ⊥) → (k ≡ 474315583093 → ⊥) → (k ≡ 495891409261 → ⊥) → (k ≡ 491328401001 → ⊥) → (k ≡ 7760228 → ⊥) → (k ≡ 6582125 → ⊥) → (k ≡ 7171940 → ⊥) → (k ≡ 7233906 → ⊥) → 0 ≡ keyed words k
+pub no_word : (k : ℕ) → (k ≡ 8319395793684295523 → ⊥) → (k ≡ 474148661607 → ⊥) → (k ≡ 8386654075301880417 → ⊥) → (k ≡ 7310579637098016611 → ⊥) → (k ≡ 499985049953 → ⊥) → (k ≡ 499985049955 → ⊥) → (k ≡ 7311142548648781170 → ⊥) → (k ≡ 28783 → ⊥) → (k ≡ 6581861 → ⊥) → (k ≡ 435710945399 → ⊥) → (k ≡ 80 → ⊥) → (k ≡ 521644567909 → ⊥) → (k ≡ 1702195828 → ⊥) → (k ≡ 6581857 → ⊥) → (k ≡ 29295 → ⊥) → (k ≡ 7630702 → ⊥) → (k ≡ 435728179558 → ⊥) → (k ≡ 119212747157350 → ⊥) → (k ≡ 126943989692517 → ⊥) → (k ≡ 13919217848514661 → ⊥) → (k ≡ 28265 → ⊥) → (k ≡ 474215640942 → ⊥) → (k ≡ 474315583093 → ⊥) → (k ≡ 495891409261 → ⊥) → (k ≡ 491328401001 → ⊥) → (k ≡ 7760228 → ⊥) → (k ≡ 6582125 → ⊥) → (k ≡ 7171940 → ⊥) → (k ≡ 7233906 → ⊥) → None ≡ keyed words k
 unfolding packed bytes
 no_word k n0 n1 n2 n3 n4 n5 n6 n7 n8 n9 n10 n11 n12 n13 n14 n15 n16 n17 n18 n19 n20 n21 n22 n23 n24 n25 n26 n27 n28 = keyed-none words k (n0, (n1, (n2, (n3, (n4, (n5, (n6, (n7, (n8, (n9, (n10, (n11, (n12, (n13, (n14, (n15, (n16, (n17, (n18, (n19, (n20, (n21, (n22, (n23, (n24, (n25, (n26, (n27, (n28, tt)))))))))))))))))))))))))))))
-
-pub code-some : (k : Kind) → 0 < code_of k
-unfolding code_of
-code-some number = omega arith
-code-some plain = omega arith
-code-some primed = omega arith
-code-some input = omega arith
-code-some output = omega arith
-code-some colon = omega arith
-code-some semicolon = omega arith
-code-some comma = omega arith
-code-some bar = omega arith
-code-some spot = omega arith
-code-some open_paren = omega arith
-code-some close_paren = omega arith
-code-some open_bracket = omega arith
-code-some close_bracket = omega arith
-code-some open_brace = omega arith
-code-some close_brace = omega arith
-code-some up_to = omega arith
-code-some equals = omega arith
-code-some differs = omega arith
-code-some less = omega arith
-code-some at_most = omega arith
-code-some implies = omega arith
-code-some iff = omega arith
-code-some plus = omega arith
-code-some minus = omega arith
-code-some times = omega arith
-code-some size = omega arith
-code-some maplet = omega arith
-code-some relation = omega arith
-code-some partial = omega arith
-code-some total = omega arith
-code-some CONTENTS = omega arith
-code-some GIVEN = omega arith
-code-some ABSTRACT = omega arith
-code-some CONCRETE = omega arith
-code-some AINIT = omega arith
-code-some CINIT = omega arith
-code-some RETRIEVE = omega arith
-code-some OP = omega arith
-code-some END = omega arith
-code-some WHERE = omega arith
-code-some POWER = omega arith
-code-some EMPTY = omega arith
-code-some TRUE = omega arith
-code-some FALSE = omega arith
-code-some NOT = omega arith
-code-some AND = omega arith
-code-some OR = omega arith
-code-some FORALL = omega arith
-code-some EXISTS = omega arith
-code-some EXISTS1 = omega arith
-code-some IN = omega arith
-code-some NOTIN = omega arith
-code-some UNION = omega arith
-code-some MINUS = omega arith
-code-some INTER = omega arith
-code-some DIV = omega arith
-code-some MOD = omega arith
-code-some DOM = omega arith
-code-some RAN = omega arith
 
 pub ending-first : (w : List ℕ) → ending_of (get_or w 0 0 ∷ []) ≡ ending_of w
 unfolding ending_of
 ending-first [] = refl
 ending-first (b ∷ w) = refl
 
-module _ (r : List ℕ) (e : Ending) (o : Option Kind) {n ending word : ℕ} (l : n ≡ length r) (p : ending ≡ ending_code e) (q : word ≡ word_code o) where
-  on_none : (x : Option Kind) → word ≡ word_code x → word ≡ 0 → x ≡ none
-  on_none none h z = refl
-  on_none (some k) h z = let c = code-some k in absurd (omega arith)
-
-  no-ending : (x : Ending) → ending ≡ ending_code x → ending ≡ 0 → x ≡ no_ending
-  no-ending no_ending h z = refl
-  no-ending prime h z = absurd (omega arith)
-  no-ending query h z = absurd (omega arith)
-  no-ending shriek h z = absurd (omega arith)
-
-  pub word-plain : (word ≡ 0 → ⊥) → ending ≡ 0 → Listed word n 0 ≡ token_of (word_of r e o)
+module _ (r : List ℕ) (e : Ending) (o : Option Kind) {n : ℕ} (l : n ≡ length r) where
+  pub word-plain : {word : ℕ} → Some word ≡ word_code o → e ≡ no_ending → Listed word n 0 ≡ token_of (word_of r e o)
   unfolding word_of
-  word-plain f z = on o q ∙ ap (λ (x : Ending). token_of (word_of r x o)) (sym (no-ending e p z))
+  word-plain {word} q z = on o q ∙ ap (λ (x : Ending). token_of (word_of r x o)) (sym z)
     where
-      on : (x : Option Kind) → word ≡ word_code x → Listed word n 0 ≡ token_of (word_of r no_ending x)
-      on none h = absurd (f h)
-      on (some k) h = ap₂ (λ (a b : ℕ). Listed a b 0) h l
+      on : (x : Option Kind) → Some word ≡ word_code x → Listed word n 0 ≡ token_of (word_of r no_ending x)
+      on none h = absurd (cc)
+      on (some k) h = let f : word ≡ code_of k = cc in ap₂ (λ (a b : ℕ). Listed a b 0) f l
 
-  pub word-ended : (word ≡ 0 → ⊥) → (ending ≡ 0 → ⊥) → Unlisted ≡ token_of (word_of r e o)
+  pub word-ended : {word : ℕ} → Some word ≡ word_code o → (e ≡ no_ending → ⊥) → Unlisted ≡ token_of (word_of r e o)
   unfolding word_of
-  word-ended f g = on o q e p
+  word-ended {word} q g = on o q e g
     where
-      on : (x : Option Kind) → word ≡ word_code x → (y : Ending) → ending ≡ ending_code y → Unlisted ≡ token_of (word_of r y x)
-      on none h y i = absurd (f h)
-      on (some k) h no_ending i = absurd (g i)
+      on : (x : Option Kind) → Some word ≡ word_code x → (y : Ending) → (y ≡ no_ending → ⊥) → Unlisted ≡ token_of (word_of r y x)
+      on none h y i = absurd (cc)
+      on (some k) h no_ending i = absurd (i refl)
       on (some k) h prime i = refl
       on (some k) h query i = refl
       on (some k) h shriek i = refl
 
-  pub name-long : word ≡ 0 → 16 < n → Unlisted ≡ token_of (word_of r e o)
+  on_none : (x : Option Kind) → None ≡ word_code x → x ≡ none
+  on_none none h = refl
+  on_none (some k) h = absurd (cc)
+
+  pub name-long : None ≡ word_code o → 16 < n → Unlisted ≡ token_of (word_of r e o)
   unfolding word_of
-  name-long z h = let j : 16 < length r = omega arith in
-      sym (ap (λ (x : Option Kind). token_of (word_of r e x)) (on_none o q z) ∙ ap (λ (b : Bool). token_of (cond b (found (name (record { letters = r; ending = e })) (length r + ending_length e)) unlisted)) (lt-leb (length r) 16 j))
+  name-long q h = let j : 16 < length r = omega arith in
+      sym (ap (λ (x : Option Kind). token_of (word_of r e x)) (on_none o q) ∙ ap (λ (b : Bool). token_of (cond b (found (name (record { letters = r; ending = e })) (length r + ending_length e)) unlisted)) (lt-leb (length r) 16 j))
 
-  name-short : word ≡ 0 → n ≤ 16 → Listed (code_of (kind_of_name e)) (length r + ending_length e) 0 ≡ token_of (word_of r e o)
+  -- a name by its ending
+  pub name-short : None ≡ word_code o → n ≤ 16 → Listed (code_of (kind_of_name e)) (n + ending_length e) 0 ≡ token_of (word_of r e o)
   unfolding word_of
-  name-short z h = let j : length r ≤ 16 = omega arith in
-      sym (ap (λ (x : Option Kind). token_of (word_of r e x)) (on_none o q z) ∙ ap (λ (b : Bool). token_of (cond b (found (name (record { letters = r; ending = e })) (length r + ending_length e)) unlisted)) (le-leb (length r) 16 j))
+  name-short q h = let j : length r ≤ 16 = omega arith in
+      ap (λ (i : ℕ). Listed (code_of (kind_of_name e)) (i + ending_length e) 0) l
+      ∙ sym (ap (λ (x : Option Kind). token_of (word_of r e x)) (on_none o q) ∙ ap (λ (b : Bool). token_of (cond b (found (name (record { letters = r; ending = e })) (length r + ending_length e)) unlisted)) (le-leb (length r) 16 j))
 
-  pub name-plain : word ≡ 0 → n ≤ 16 → ending ≡ 0 → Listed 2 n 0 ≡ token_of (word_of r e o)
-  unfolding code_of
-  name-plain z h y =
-      let m : n ≡ length r + 0 = omega arith in
-      ap (λ (i : ℕ). Listed 2 i 0) m ∙ ap (λ (x : Ending). Listed (code_of (kind_of_name x)) (length r + ending_length x) 0) (sym (no-ending e p y)) ∙ name-short z h
-
-  pub name-ended : word ≡ 0 → n ≤ 16 → (ending ≡ 0 → ⊥) → Listed (2 + ending) (n + 1) 0 ≡ token_of (word_of r e o)
-  unfolding code_of
-  name-ended z h g = on e p ∙ name-short z h
-    where
-      on : (y : Ending) → ending ≡ ending_code y → Listed (2 + ending) (n + 1) 0 ≡ Listed (code_of (kind_of_name y)) (length r + ending_length y) 0
-      on no_ending i = absurd (g i)
-      on prime i = ap₂ (λ (a b : ℕ). Listed a b 0) (ap (λ (j : ℕ). 2 + j) i) (ap (λ (j : ℕ). j + 1) l)
-      on query i = ap₂ (λ (a b : ℕ). Listed a b 0) (ap (λ (j : ℕ). 2 + j) i) (ap (λ (j : ℕ). j + 1) l)
-      on shriek i = ap₂ (λ (a b : ℕ). Listed a b 0) (ap (λ (j : ℕ). 2 + j) i) (ap (λ (j : ℕ). j + 1) l)
+-- an ending that is one of the three
+pub ended : {x : ending.Ending} → (x ≡ Prime) ⊎ ((x ≡ Query) ⊎ (x ≡ Shriek)) → ending_is x ≡ no_ending → ⊥
+ended {x = Plain} h z = ⊎_elim (λ e. cc) (⊎_elim (λ e. cc) (λ e. cc)) h
+ended {x = Prime} h z = cc
+ended {x = Query} h z = cc
+ended {x = Shriek} h z = cc
 
 -- the name or reserved word from a place on
-pub word-here : (s : List ℕ) (at : ℕ) {n b ending word : ℕ} {t : Token} → n ≡ length (run (drop at s)) → b ≡ get_or s (at + n) 0 → ending ≡ ending_code (ending_of (b ∷ []))
+pub word-here : (s : List ℕ) (at : ℕ) {n b : ℕ} {e : Ending} {word : prelude.Option ℕ} {t : Token} → n ≡ length (run (drop at s)) → b ≡ get_or s (at + n) 0 → e ≡ ending_of (b ∷ [])
     → word ≡ word_code (reserved words (run (drop at s)))
-    → ((r : List ℕ) (e : Ending) (o : Option Kind) → n ≡ length r → ending ≡ ending_code e → word ≡ word_code o → t ≡ token_of (word_of r e o))
+    → ((r : List ℕ) (o : Option Kind) → n ≡ length r → word ≡ word_code o → t ≡ token_of (word_of r e o))
     → t ≡ token_of (by_class letter (drop at s))
 unfolding by_class
-word-here s at {n} {b} {ending} {word} l p q r h =
-    h (run (drop at s)) (ending_of (drop (length (run (drop at s))) (drop at s))) (reserved words (run (drop at s))) l
-    (q ∙ ap ending_code (ap (λ (x : ℕ). ending_of (x ∷ []))
+word-here s at {n} {b} {e} {word} {t} l p q r h =
+    h (run (drop at s)) (reserved words (run (drop at s))) l r
+    ∙ ap (λ (x : Ending). token_of (word_of (run (drop at s)) x (reserved words (run (drop at s)))))
+    (q ∙ ap (λ (x : ℕ). ending_of (x ∷ []))
     (p ∙ ap (λ (i : ℕ). get_or s i 0) (sym (add-zero (at + n))) ∙ sym (get_or-drop (at + n) s 0 0)) ∙ ending-first (drop (at + n) s)
-    ∙ ap ending_of (sym (drop-drop n at s) ∙ ap (λ (i : ℕ). drop i (drop at s)) l))) r
+    ∙ ap ending_of (sym (drop-drop n at s) ∙ ap (λ (i : ℕ). drop i (drop at s)) l))
 
-pub ending-none : (b : ℕ) → (b ≡ 39 → ⊥) → (b ≡ 63 → ⊥) → (b ≡ 33 → ⊥) → 0 ≡ ending_code (ending_of (b ∷ []))
+pub ending-none : (b : ℕ) → (b ≡ 39 → ⊥) → (b ≡ 63 → ⊥) → (b ≡ 33 → ⊥) → no_ending ≡ ending_of (b ∷ [])
 unfolding ending_of
 ending-none b f g h = sym (simp (ne_eqb b 39 f, ne_eqb b 63 g, ne_eqb b 33 h))

@@ -1,5 +1,6 @@
 pub mod Lists
 pub mod Refusals
+pub mod RefusalNames
 pub mod Kinds
 pub mod Symbols
 pub mod Base

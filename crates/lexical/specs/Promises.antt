@@ -1,15 +1,16 @@
 -- What `scan` promises: its answer, as a refusal by name and place, and what it leaves in the lent arrays.
-use Rattle.std.specs.Prelude.{◌≡◌, List, [], ◌∷◌, ◌++◌, map, Bool, true, false, cond, ℕ, suc, ◌≤◌, ltb, length, take, drop}
+use Rattle.std.specs.Prelude.{◌≡◌, List, [], ◌∷◌, ◌++◌, map, Bool, true, false, cond, ℕ, suc, ◌≤◌, ltb, length, take, drop, Ok, Err}
+use Rattle.std.specs.Prelude as prelude
 use Rattle.std.proofs.Math.Option.{Option, none, some}
 use Rattle.lexical.specs.Lists.{same}
 use Rattle.lexical.specs.Kinds.{code_of}
-use Rattle.lexical.specs.Refusals.{Fault, fault, least, long_text, unlisted_symbol, many_symbols}
+use Rattle.lexical.specs.Refusals.{Fault, least}
 use Rattle.lexical.specs.Symbols.{Class, letter, digit, mark, blank, other, Symbol, fixed, numeral, name, kind_of}
 use Rattle.lexical.specs.Symbols.{Placed, scan, symbols, scan_faults, length_faults}
 use Rattle.lexical.specs.declared.Class as byteClass
 use Rattle.lexical.specs.declared.Class.TheVariants.{Letter, Digit, Mark, Blank, Other}
-use Rattle.lexical.specs.declared.Scanned.{Scanned}
-use Rattle.lexical.specs.declared.Scanned.TheVariants.{Symbols, LongText, UnlistedSymbol, ManySymbols}
+use Rattle.lexical.specs.declared.refusals.Fault as refusals
+use Rattle.lexical.specs.RefusalNames.{fault_is}
 
 -- the class that the code's class is
 abbrev pub class_is : byteClass.Class → Class
@@ -28,12 +29,14 @@ number_in (name x) = 0
 abbrev pub code_in : Symbol → ℕ
 code_in s = code_of (kind_of s)
 
+-- a scan's answer: the count of the symbols, or a fault
+abbrev pub Scanned : Type 0
+Scanned = prelude.Result ℕ refusals.Fault
+
 -- the refusal that an answer is, by its name and place
 abbrev pub fault_of : Scanned → Option Fault
-fault_of (Symbols n) = none
-fault_of LongText = some (fault 32768 long_text)
-fault_of (UnlistedSymbol p) = some (fault p unlisted_symbol)
-fault_of (ManySymbols p) = some (fault p many_symbols)
+fault_of (Ok n) = none
+fault_of (Err f) = some (fault_is f)
 
 -- the symbols that there is room for
 abbrev pub taken : List ℕ → List Placed
@@ -74,16 +77,14 @@ value_in l (name x) = first_named x.letters l
 
 -- the values: of a text with a fault the numbers alone
 abbrev pub value_at : Scanned → List Placed → Symbol → ℕ
-value_at (Symbols n) l y = value_in l y
-value_at LongText l y = number_in y
-value_at (UnlistedSymbol p) l y = number_in y
-value_at (ManySymbols p) l y = number_in y
+value_at (Ok n) l y = value_in l y
+value_at (Err f) l y = number_in y
 
 -- what a scan answers, of any text, and what it leaves in the three arrays
 pub record Scans (text codes₀ starts₀ values₀ codes starts values : List ℕ) (r : Scanned) : Type 0 where
   pub answer : fault_of r ≡ fault_in text
-  pub counted : (n : ℕ) → r ≡ Symbols n → n ≡ length (symbols (scan text))
-  pub few : (n : ℕ) → r ≡ Symbols n → n ≤ 4096
+  pub counted : (n : ℕ) → r ≡ Ok n → n ≡ length (symbols (scan text))
+  pub few : (n : ℕ) → r ≡ Ok n → n ≤ 4096
   pub coded : codes ≡ filled (λ (x : Placed). code_in x.symbol) (written text) codes₀
   pub placed : starts ≡ filled (λ (x : Placed). x.place) (written text) starts₀
   pub valued : values ≡ filled (λ (x : Placed). value_at r (symbols (scan text)) x.symbol) (written text) values₀

@@ -1,19 +1,21 @@
 -- What the functions below `scan` promise each other. Nothing here need be believed: `Promises.Scans` names none of it.
-use Rattle.std.specs.Prelude.{◌≡◌, List, [], ◌∷◌, map, Bool, true, false, cond, ◌&&◌, ℕ, zero, suc, ◌+◌, ◌*◌, ◌-◌, ◌/◌, ◌%◌, ◌≤◌, ◌<◌, eqb, leb, length, take, drop, get_or}
+use Rattle.std.specs.Prelude.{◌≡◌, List, [], ◌∷◌, map, Bool, true, false, cond, ◌&&◌, ℕ, zero, suc, ◌+◌, ◌*◌, ◌-◌, ◌/◌, ◌%◌, ◌≤◌, ◌<◌, eqb, leb, length, take, drop, get_or, Some, None, Ok}
+use Rattle.std.specs.Prelude as prelude
 use Rattle.std.proofs.Math.Option.{Option, none, some}
 use Prim.Native.String.{String}
 use Rattle.lexical.specs.Lists.{bytes}
 use Rattle.lexical.specs.Kinds.{Kind, code_of}
 use Rattle.lexical.specs.Refusals.{least}
-use Rattle.lexical.specs.Symbols.{Symbol, fixed, numeral, name}
+use Rattle.lexical.specs.Symbols.{Symbol, fixed, numeral}
+use Rattle.lexical.specs.Symbols as symbol
 use Rattle.lexical.specs.Symbols.{Found, gap, unlisted, found, Placed, scan, symbols, scan_faults, Ending, no_ending, prime, query, shriek, class_of, is_digit}
-use Rattle.lexical.specs.declared.Scanned.{Scanned}
-use Rattle.lexical.specs.declared.Scanned.TheVariants.{Symbols}
+use Rattle.lexical.specs.declared.Ending as name
+use Rattle.lexical.specs.declared.Ending.TheVariants.{Plain, Prime, Query, Shriek}
 use Rattle.lexical.specs.declared.Stop.{Stop}
 use Rattle.lexical.specs.declared.Stop.TheVariants.{At, Free, Deep}
 use Rattle.lexical.specs.declared.Token.{Token}
 use Rattle.lexical.specs.declared.Token.TheVariants.{Gap, Unlisted, Listed}
-use Rattle.lexical.specs.Promises.{number_in, code_in, fault_of, taken, filled, value_in}
+use Rattle.lexical.specs.Promises.{number_in, code_in, Scanned, fault_of, taken, filled, value_in}
 
 -- what the code says of what was found
 abbrev pub token_of : Found → Token
@@ -28,33 +30,35 @@ packed (suc k) [] = 0
 packed (suc k) (b ∷ w) = b + 256 * packed k w
 
 -- the code of the word of a table whose packed bytes are the key, or 0
-unfoldable pub keyed : List (String × Kind) → ℕ → ℕ
-keyed [] key = 0
-keyed (e ∷ t) key = elim (eqb key (packed 8 (bytes e.0))) [ true ↦ code_of e.1 | false ↦ keyed t key ]
+unfoldable pub keyed : List (String × Kind) → ℕ → prelude.Option ℕ
+keyed [] key = None
+keyed (e ∷ t) key = elim (eqb key (packed 8 (bytes e.0))) [ true ↦ Some (code_of e.1) | false ↦ keyed t key ]
 
-abbrev pub word_code : Option Kind → ℕ
-word_code none = 0
-word_code (some k) = code_of k
+abbrev pub word_code : Option Kind → prelude.Option ℕ
+word_code none = None
+word_code (some k) = Some (code_of k)
 
-abbrev pub ending_code : Ending → ℕ
-ending_code no_ending = 0
-ending_code prime = 1
-ending_code query = 2
-ending_code shriek = 3
+-- the ending that the code's ending is
+abbrev pub ending_is : name.Ending → Ending
+ending_is Plain = no_ending
+ending_is Prime = prime
+ending_is Query = query
+ending_is Shriek = shriek
 
--- what one more digit makes of a number, or 1,001 where there is none or the number is over 1,000
-unfoldable pub more_of : ℕ → ℕ → ℕ
-more_of v b = cond (is_digit (class_of b)) (cond (leb (v * 10 + (b - 48)) 1000) (v * 10 + (b - 48)) 1001) 1001
+-- what one more digit makes of a number that is at most 1,000 then
+unfoldable pub more_of : ℕ → ℕ → prelude.Option ℕ
+more_of v b = cond (is_digit (class_of b)) (cond (leb (v * 10 + (b - 48)) 1000) (Some (v * 10 + (b - 48))) None) None
 
-unfoldable pub decimal_or : ℕ → List ℕ → ℕ
-decimal_or v [] = v
-decimal_or v (b ∷ w) = elim (leb (more_of v b) 1000) [ true ↦ decimal_or (more_of v b) w | false ↦ 1001 ]
+-- what the digits w make of a number
+unfoldable pub decimal_after : ℕ → List ℕ → prelude.Option ℕ
+decimal_after v [] = Some v
+decimal_after v (b ∷ w) = elim (more_of v b) [ Some m ↦ decimal_after m w | None ↦ None ]
 
 -- what a scan answers, of a text that is not too long, and what it leaves in the three arrays
 pub record Takes (text codes₀ starts₀ values₀ codes starts values : List ℕ) (r : Scanned) : Type 0 where
   pub answer : fault_of r ≡ least (scan_faults 0 (scan text))
-  pub counted : (n : ℕ) → r ≡ Symbols n → n ≡ length (symbols (scan text))
-  pub few : (n : ℕ) → r ≡ Symbols n → n ≤ 4096
+  pub counted : (n : ℕ) → r ≡ Ok n → n ≡ length (symbols (scan text))
+  pub few : (n : ℕ) → r ≡ Ok n → n ≤ 4096
   pub coded : codes ≡ filled (λ (x : Placed). code_in x.symbol) (taken text) codes₀
   pub placed : starts ≡ filled (λ (x : Placed). x.place) (taken text) starts₀
   pub valued : values ≡ filled (λ (x : Placed). number_in x.symbol) (taken text) values₀
@@ -67,12 +71,12 @@ is_name c = leb 2 c && leb c 5
 abbrev pub low_in : Symbol → ℕ
 low_in (fixed k) = 0
 low_in (numeral n) = 0
-low_in (name x) = packed 8 x.letters
+low_in (symbol.name x) = packed 8 x.letters
 
 abbrev pub high_in : Symbol → ℕ
 high_in (fixed k) = 0
 high_in (numeral n) = 0
-high_in (name x) = packed 8 (drop 8 x.letters)
+high_in (symbol.name x) = packed 8 (drop 8 x.letters)
 
 abbrev pub filled_low : List ℕ → List ℕ → List ℕ
 filled_low s old = filled (λ (x : Placed). low_in x.symbol) (symbols (scan s)) old

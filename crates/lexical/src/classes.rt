@@ -22,13 +22,9 @@ pub fn class_of(b: u8) -> Class
 pub fn in_run(b: u8) -> bool
     ensures { result ≡ in_run (class_of b) }
 {
-    let c = class_of(b);
-    match c {
-        Class::Letter => true,
-        Class::Digit => true,
-        Class::Mark => false,
-        Class::Blank => false,
-        Class::Other => false,
+    match class_of(b) {
+        Class::Letter | Class::Digit => true,
+        Class::Mark | Class::Blank | Class::Other => false,
     }
 }
 
@@ -36,22 +32,17 @@ pub fn in_run(b: u8) -> bool
 pub fn run_from(s: &[u8], at: usize) -> usize
     ensures { result ≡ length (run (drop at s.now)) }
 {
-    let mut i = at;
-    while i < s.len() {
+    for i in at..s.len() {
         if !in_run(s[i]) {
             return i - at;
         }
-        i += 1;
     }
-    i - at
+    s.len().saturating_sub(at)
 }
 
 // The byte at a place, or 0 past the end.
 pub fn byte_at(s: &[u8], at: usize) -> u8
     ensures { result ≡ get_or s.now at 0 }
 {
-    if at < s.len() {
-        return s[at];
-    }
-    0
+    s.get(at).copied().unwrap_or(0)
 }

@@ -11,7 +11,7 @@ pub mod refusals;
 pub mod words;
 
 // The class of a byte.
-#[derive(Drop)]
+#[derive(Clone, Copy, PartialEq, Eq)]
 pub enum Class {
     Letter,
     Digit,
@@ -21,24 +21,24 @@ pub enum Class {
 }
 
 // What stands at a place: a blank; nothing that is listed; or a symbol, by its code, its length and the value of a number.
-#[derive(Drop)]
+#[derive(Clone, Copy)]
 pub enum Token {
     Gap,
     Unlisted,
     Listed(u8, usize, u16),
 }
 
-// The count of the symbols, or number 1, 2 or 3 and its place.
-#[derive(Drop)]
-pub enum Scanned {
-    Symbols(usize),
-    LongText,
-    UnlistedSymbol(usize),
-    ManySymbols(usize),
+// What ends a name: nothing, ', ? or !.
+#[derive(Clone, Copy, PartialEq, Eq)]
+pub enum Ending {
+    Plain,
+    Prime,
+    Query,
+    Shriek,
 }
 
 // Where a walk down the tree ends: at a node, at a free slot, or at the deepest level.
-#[derive(Drop)]
+#[derive(Clone, Copy)]
 pub enum Stop {
     At(usize),
     Free(usize),

@@ -1,48 +1,37 @@
 // Runs that start with a digit: numbers.
 ghost use Rattle.std.specs.Prelude.{◌≡◌, ◌-◌, ◌≤◌, ◌<◌, length, take, drop, get_or};
 ghost use Rattle.lexical.specs.Symbols.{class_of, by_class, digit};
-ghost use Rattle.lexical.specs.SymbolPromises.{token_of, more_of, decimal_or};
+ghost use Rattle.lexical.specs.SymbolPromises.{token_of, more_of, decimal_after};
 
 use crate::bounds::LARGEST_NUMBER;
 use crate::classes::run_from;
 use crate::{Token, codes};
 
-// One more than the largest number: the answer where there is no number.
-const NO_NUMBER: u16 = LARGEST_NUMBER + 1;
-
 // The number that one more digit makes of v; none where b is no digit or the number is over 1,000.
-pub fn more(v: u16, b: u8) -> u16
+pub fn more(v: u16, b: u8) -> Option<u16>
     requires { v ≤ 1000 }
     ensures { result ≡ more_of v b }
 {
-    if b < b'0' {
-        return NO_NUMBER;
+    if b < b'0' || b'9' < b {
+        return None;
     }
-    if b'9' < b {
-        return NO_NUMBER;
-    }
-    let m = v * 10 + (b - b'0') as u16;
+    let m = v * 10 + u16::from(b - b'0');
     if LARGEST_NUMBER < m {
-        return NO_NUMBER;
+        return None;
     }
-    m
+    Some(m)
 }
 
 // The number that the bytes from `at` to `e` write; none where they are not digits or it is over 1,000.
-pub fn decimal(s: &[u8], at: usize, e: usize) -> u16
+pub fn decimal(s: &[u8], at: usize, e: usize) -> Option<u16>
     requires { (at ≤ e) × (e ≤ length s.now) }
-    ensures { result ≡ decimal_or 0 (take (e - at) (drop at s.now)) }
+    ensures { result ≡ decimal_after 0 (take (e - at) (drop at s.now)) }
 {
     let mut v: u16 = 0;
-    let mut i = at;
-    while i < e {
-        v = more(v, s[i]);
-        if LARGEST_NUMBER < v {
-            return NO_NUMBER;
-        }
-        i += 1;
+    for b in &s[at..e] {
+        v = more(v, *b)?;
     }
-    v
+    Some(v)
 }
 
 // The number from `at` on, which has no leading zero.
@@ -51,14 +40,11 @@ pub fn number_at(s: &[u8], at: usize) -> Token
     ensures { result ≡ token_of (by_class digit (drop at s.now)) }
 {
     let n = run_from(s, at);
-    if n != 1 {
-        if s[at] == b'0' {
-            return Token::Unlisted;
-        }
-    }
-    let v = decimal(s, at, at + n);
-    if LARGEST_NUMBER < v {
+    if n != 1 && s[at] == b'0' {
         return Token::Unlisted;
     }
-    Token::Listed(codes::NUMBER, n, v)
+    match decimal(s, at, at + n) {
+        Some(v) => Token::Listed(codes::NUMBER, n, v),
+        None => Token::Unlisted,
+    }
 }

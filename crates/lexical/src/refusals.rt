@@ -1,28 +1,65 @@
-// The numbers of the refusals of document 01: `number_of` of specs/Refusals.antt.
-pub const LONG_TEXT: u8 = 1;
+// The refusals of document 01: `Refusal` of specs/Refusals.antt, each under the same name (`refusal_is` of specs/RefusalNames.antt).
+ghost use Rattle.std.specs.Prelude.{◌≡◌};
+ghost use Rattle.lexical.specs.Refusals.{number_of};
+ghost use Rattle.lexical.specs.RefusalNames.{refusal_is};
 
-pub const UNLISTED_SYMBOL: u8 = 2;
+#[derive(Clone, Copy, Debug, PartialEq, Eq, PartialOrd, Ord)]
+pub enum Refusal {
+    LongText,
+    UnlistedSymbol,
+    ManySymbols,
+    NoDossier,
+    Deep,
+    ManyDeclared,
+    HeadingDiffers,
+    NameInUse,
+    NameUnknown,
+    TypesMisfit,
+    WideType,
+    ManyBindings,
+    LargeSize,
+    ZeroDivisor,
+    AdvanceRange,
+    ShortBytes,
+    NothingHeld,
+    SomethingHeld,
+    CheckFinished,
+    NoCounterexample,
+}
 
-pub const MANY_SYMBOLS: u8 = 3;
+impl Refusal {
+    // The number that document 01 gives it.
+    pub fn number(self) -> u8
+        ensures { result ≡ number_of (refusal_is self) }
+    {
+        match self {
+            Refusal::LongText => 1,
+            Refusal::UnlistedSymbol => 2,
+            Refusal::ManySymbols => 3,
+            Refusal::NoDossier => 4,
+            Refusal::Deep => 5,
+            Refusal::ManyDeclared => 6,
+            Refusal::HeadingDiffers => 7,
+            Refusal::NameInUse => 8,
+            Refusal::NameUnknown => 9,
+            Refusal::TypesMisfit => 10,
+            Refusal::WideType => 11,
+            Refusal::ManyBindings => 12,
+            Refusal::LargeSize => 13,
+            Refusal::ZeroDivisor => 14,
+            Refusal::AdvanceRange => 15,
+            Refusal::ShortBytes => 16,
+            Refusal::NothingHeld => 21,
+            Refusal::SomethingHeld => 22,
+            Refusal::CheckFinished => 23,
+            Refusal::NoCounterexample => 24,
+        }
+    }
+}
 
-pub const NO_DOSSIER: u8 = 4;
-
-pub const DEEP: u8 = 5;
-
-pub const MANY_DECLARED: u8 = 6;
-
-pub const HEADING_DIFFERS: u8 = 7;
-
-pub const NAME_IN_USE: u8 = 8;
-
-pub const NAME_UNKNOWN: u8 = 9;
-
-pub const TYPES_MISFIT: u8 = 10;
-
-pub const WIDE_TYPE: u8 = 11;
-
-pub const MANY_BINDINGS: u8 = 12;
-
-pub const LARGE_SIZE: u8 = 13;
-
-pub const ZERO_DIVISOR: u8 = 14;
+// A refusal that comes from a text, and its place there. Of two the one with the lesser place stands first, and at one place the one with the lesser number.
+#[derive(Clone, Copy, Debug, PartialEq, Eq, PartialOrd, Ord)]
+pub struct Fault {
+    pub place: usize,
+    pub refusal: Refusal,
+}

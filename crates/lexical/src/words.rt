@@ -2,53 +2,51 @@
 ghost use Rattle.std.specs.Prelude.{◌≡◌, List, [], ◌∷◌, ℕ, ◌+◌, ◌-◌, ◌≤◌, ◌<◌, length, take, drop, get_or};
 ghost use Rattle.std.proofs.Math.Option.{Option};
 ghost use Rattle.lexical.specs.Kinds.{Kind, words};
-ghost use Rattle.lexical.specs.Symbols.{Ending, ending_of, run, reserved, word_of, by_class, letter};
-ghost use Rattle.lexical.specs.SymbolPromises.{token_of, packed, keyed, word_code, ending_code};
+ghost use Rattle.lexical.specs.Symbols.{ending_of, run, reserved, word_of, by_class, letter};
+ghost use Rattle.lexical.specs.SymbolPromises.{token_of, packed, keyed, word_code, ending_is};
 
 use crate::bounds::NAME_LETTERS;
 use crate::classes::{byte_at, run_from};
-use crate::{Token, codes, endings};
+use crate::{Ending, Token, codes};
 
-// The code of no reserved word, and how many bytes the longest one has.
-const NO_WORD: u8 = 0;
-
+// How many bytes the longest reserved word has.
 const LONGEST_WORD: usize = 8;
 
-// The reserved word whose bytes are packed in `key`, the first one lowest; 0 for none.
-pub fn word_code(key: u64) -> u8
+// The reserved word whose bytes are packed in `key`, the first one lowest.
+pub fn word_code(key: u64) -> Option<u8>
     ensures { result ≡ keyed words key }
 {
     match key {
-        0x73746e65746e6f63 => codes::CONTENTS, // contents
-        0x6e65766967 => codes::GIVEN, // given
-        0x7463617274736261 => codes::ABSTRACT, // abstract
-        0x65746572636e6f63 => codes::CONCRETE, // concrete
-        0x74696e6961 => codes::AINIT, // ainit
-        0x74696e6963 => codes::CINIT, // cinit
-        0x6576656972746572 => codes::RETRIEVE, // retrieve
-        0x706f => codes::OP, // op
-        0x646e65 => codes::END, // end
-        0x6572656877 => codes::WHERE, // where
-        0x50 => codes::POWER, // P
-        0x7974706d65 => codes::EMPTY, // empty
-        0x65757274 => codes::TRUE, // true
-        0x646e61 => codes::AND, // and
-        0x726f => codes::OR, // or
-        0x746f6e => codes::NOT, // not
-        0x65736c6166 => codes::FALSE, // false
-        0x6c6c61726f66 => codes::FORALL, // forall
-        0x737473697865 => codes::EXISTS, // exists
-        0x31737473697865 => codes::EXISTS1, // exists1
-        0x6e69 => codes::IN, // in
-        0x6e69746f6e => codes::NOTIN, // notin
-        0x6e6f696e75 => codes::UNION, // union
-        0x73756e696d => codes::MINUS, // minus
-        0x7265746e69 => codes::INTER, // inter
-        0x766964 => codes::DIV, // div
-        0x646f6d => codes::MOD, // mod
-        0x6d6f64 => codes::DOM, // dom
-        0x6e6172 => codes::RAN, // ran
-        _ => NO_WORD,
+        0x73746e65746e6f63 => Some(codes::CONTENTS), // contents
+        0x6e65766967 => Some(codes::GIVEN), // given
+        0x7463617274736261 => Some(codes::ABSTRACT), // abstract
+        0x65746572636e6f63 => Some(codes::CONCRETE), // concrete
+        0x74696e6961 => Some(codes::AINIT), // ainit
+        0x74696e6963 => Some(codes::CINIT), // cinit
+        0x6576656972746572 => Some(codes::RETRIEVE), // retrieve
+        0x706f => Some(codes::OP), // op
+        0x646e65 => Some(codes::END), // end
+        0x6572656877 => Some(codes::WHERE), // where
+        0x50 => Some(codes::POWER), // P
+        0x7974706d65 => Some(codes::EMPTY), // empty
+        0x65757274 => Some(codes::TRUE), // true
+        0x646e61 => Some(codes::AND), // and
+        0x726f => Some(codes::OR), // or
+        0x746f6e => Some(codes::NOT), // not
+        0x65736c6166 => Some(codes::FALSE), // false
+        0x6c6c61726f66 => Some(codes::FORALL), // forall
+        0x737473697865 => Some(codes::EXISTS), // exists
+        0x31737473697865 => Some(codes::EXISTS1), // exists1
+        0x6e69 => Some(codes::IN), // in
+        0x6e69746f6e => Some(codes::NOTIN), // notin
+        0x6e6f696e75 => Some(codes::UNION), // union
+        0x73756e696d => Some(codes::MINUS), // minus
+        0x7265746e69 => Some(codes::INTER), // inter
+        0x766964 => Some(codes::DIV), // div
+        0x646f6d => Some(codes::MOD), // mod
+        0x6d6f64 => Some(codes::DOM), // dom
+        0x6e6172 => Some(codes::RAN), // ran
+        _ => None,
     }
 }
 
@@ -80,48 +78,49 @@ pub fn eight(s: &[u8], at: usize, e: usize) -> u64
     a + 256 * (b + 256 * (c + 256 * (d + 256 * (f + 256 * (g + 256 * (h + 256 * i))))))
 }
 
-// What ends a name: 0 for nothing, 1 for ', 2 for ?, 3 for !.
-pub fn ending_of(b: u8) -> u8
-    ensures { (result ≡ ending_code (ending_of (b ∷ []))) × (result ≤ 3) }
+// What ends a name.
+pub fn ending_of(b: u8) -> Ending
+    ensures { ending_is result ≡ ending_of (b ∷ []) }
 {
     match b {
-        b'\'' => endings::PRIME,
-        b'?' => endings::QUERY,
-        b'!' => endings::SHRIEK,
-        _ => endings::NONE,
+        b'\'' => Ending::Prime,
+        b'?' => Ending::Query,
+        b'!' => Ending::Shriek,
+        _ => Ending::Plain,
     }
 }
 
-// The reserved word that the run of n bytes from `at` on is, or 0: none is longer than eight bytes.
-pub fn reserved_at(s: &[u8], at: usize, n: usize) -> u8
+// The reserved word that the run of n bytes from `at` on is: none is longer than eight bytes.
+pub fn reserved_at(s: &[u8], at: usize, n: usize) -> Option<u8>
     requires { (at ≤ length s.now) × (length s.now ≤ 32768) × (n ≡ length (run (drop at s.now))) }
     ensures { result ≡ word_code (reserved words (run (drop at s.now))) }
 {
     if LONGEST_WORD < n {
-        return NO_WORD;
+        return None;
     }
-    let key = eight(s, at, at + n);
-    word_code(key)
+    word_code(eight(s, at, at + n))
 }
 
 // The name of n letters with that ending, or the reserved word, which takes no ending.
-pub fn word_of(n: usize, ending: u8, word: u8) -> Token
-    requires { (n ≤ 32768) × (ending ≤ 3) }
-    ensures { (r : List ℕ) (e : Ending) (o : Option Kind) → n ≡ length r → ending ≡ ending_code e → word ≡ word_code o → result ≡ token_of (word_of r e o) }
+pub fn word_of(n: usize, ending: Ending, word: Option<u8>) -> Token
+    requires { n ≤ 32768 }
+    ensures { (r : List ℕ) (o : Option Kind) → n ≡ length r → word ≡ word_code o → result ≡ token_of (word_of r (ending_is ending) o) }
 {
-    if word != NO_WORD {
-        if ending == endings::NONE {
-            return Token::Listed(word, n, 0);
-        }
-        return Token::Unlisted;
+    if let Some(code) = word {
+        return match ending {
+            Ending::Plain => Token::Listed(code, n, 0),
+            Ending::Prime | Ending::Query | Ending::Shriek => Token::Unlisted,
+        };
     }
     if NAME_LETTERS < n {
         return Token::Unlisted;
     }
-    if ending == endings::NONE {
-        return Token::Listed(codes::PLAIN, n, 0);
+    match ending {
+        Ending::Plain => Token::Listed(codes::PLAIN, n, 0),
+        Ending::Prime => Token::Listed(codes::PRIMED, n + 1, 0),
+        Ending::Query => Token::Listed(codes::INPUT, n + 1, 0),
+        Ending::Shriek => Token::Listed(codes::OUTPUT, n + 1, 0),
     }
-    Token::Listed(codes::PLAIN + ending, n + 1, 0)
 }
 
 // The name or reserved word from `at` on.

@@ -10,7 +10,7 @@ use Rattle.form.specs.Tree.{Pred, Given, Declaration, declarations, Parameter, S
 use Rattle.form.specs.Codes.{Numbering, declaration_codes, parameter_codes}
 use Rattle.static_rules.specs.Carriers.{Variable}
 use Rattle.static_rules.specs.Scope.{variables, unprimed, primed, inputs, outputs, operation_reach}
-use Rattle.type_rules.specs.TypesByNumber.{lesser}
+use Rattle.type_rules.specs.TypesByNumber.{fault_key, lesser}
 use Rattle.declared_names.specs.PassPromises.{PartOf}
 use Rattle.node_spans.specs.Spans.{Stands, PredAt, span}
 use Rattle.term_sizes.specs.declared.Sized.{Sized}
@@ -32,7 +32,7 @@ context-none nodes a b s c end S U h u =
 
 -- the table with marks is M, and N behind the walk
 pub context-seen : (nodes a b : List ℕ) (s : ℕ) (c : List ℕ) (end : ℕ) (S M N U : Bounds) (w : Sized) → M ≡ marked true a b s c S → PredSized nodes end M N w
-    → U ≡ marked false a b s c N → ContextSeen nodes a b s c end S U w.fault
+    → U ≡ marked false a b s c N → ContextSeen nodes a b s c end S U (fault_key w.fault)
 context-seen nodes a b s c end S M N U w m p u =
     record {
       kept = λ h. u ∙ ap (λ (T : Bounds). marked false a b s c T) (p.kept ∙ m) ∙ restored a b s c S h;

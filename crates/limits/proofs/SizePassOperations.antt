@@ -156,18 +156,16 @@ all-contexts : (d : Dossier) (ρ : Numbering) (N : ℕ) → lesser (states_over 
 unfolding states_over conditions_over contexts least_over context_over
 all-contexts d ρ N = lesser-assoc _ _ _ ∙ ap (lesser _) (ap (lesser _) (lesser-assoc _ _ _ ∙ ap (lesser _) (lesser-assoc _ _ _)))
 
-clear-again : (S U : Bounds) → U ≡ replicate (length S) 0 → Clear U × (length U ≡ length S)
-clear-again S U e =
-    let l : length U ≡ length S = ap length e ∙ length-replicate (length S) 0 in
-    (e ∙ ap (λ (n : ℕ). replicate n 0) (sym l), l)
+clear-again : (N : ℕ) (U : Bounds) → U ≡ replicate N 0 → Clear U × (length U ≡ N)
+clear-again N U e = let l : length U ≡ N = ap length e ∙ length-replicate N 0 in (e ∙ ap (λ (n : ℕ). replicate n 0) (sym l), l)
 
-pub measures-seen : (nodes spans a c : List ℕ) (n x₁ y₁ x₂ y₂ : ℕ) (S S₁ S₂ S₃ S₄ : Bounds) (f g h r : ℕ) → S₁ ≡ replicate (length S) 0
+pub measures-seen : (nodes spans a c : List ℕ) (n x₁ y₁ x₂ y₂ N : ℕ) (S₁ S₂ S₃ S₄ : Bounds) (f g h r : ℕ) → S₁ ≡ replicate N 0
     → x₁ ≡ span spans 0 → y₁ ≡ span spans 1 → PartOf nodes x₁ y₁ a → x₂ ≡ span spans 3 → y₂ ≡ span spans 4 → PartOf nodes x₂ y₂ c
     → PartSeen nodes spans n a c states_over S₁ S₂ f → PartSeen nodes spans n a c conditions_over S₂ S₃ g → PartSeen nodes spans n a c operations_over S₃ S₄ h → r ≡ lesser f (lesser g h)
-    → MeasuresSeen nodes spans n (length S) r
-measures-seen nodes spans a c n x₁ y₁ x₂ y₂ S S₁ S₂ S₃ S₄ f g h r z p₁ q₁ w₁ p₂ q₂ w₂ A B C e d ρ s t u =
-    let l₁ = (clear-again S S₁ z).0 in
-    let m₁ = (clear-again S S₁ z).1 in
+    → MeasuresSeen nodes spans n N r
+measures-seen nodes spans a c n x₁ y₁ x₂ y₂ N S₁ S₂ S₃ S₄ f g h r z p₁ q₁ w₁ p₂ q₂ w₂ A B C e d ρ s t u =
+    let l₁ = (clear-again N S₁ z).0 in
+    let m₁ = (clear-again N S₁ z).1 in
     let k₂ : S₂ ≡ S₁ = A.kept l₁ in
     let l₂ = clear-on S₁ S₂ k₂ l₁ in
     let k₃ : S₃ ≡ S₁ = B.kept l₂ ∙ k₂ in
@@ -182,5 +180,5 @@ measures-seen nodes spans a c n x₁ y₁ x₂ y₂ S S₁ S₂ S₃ S₄ f g h 
     } in
     e
     ∙ ap₂ lesser (A.right d ρ l₁ y ∙ ap (states_over d ρ) m₁)
-    (ap₂ lesser (B.right d ρ l₂ y ∙ ap (conditions_over d ρ) (ap length k₂ ∙ m₁)) (C.right d ρ l₃ y ∙ ap (λ (N : ℕ). operations_over d ρ N) (ap length k₃ ∙ m₁)))
-    ∙ all-contexts d ρ (length S)
+    (ap₂ lesser (B.right d ρ l₂ y ∙ ap (conditions_over d ρ) (ap length k₂ ∙ m₁)) (C.right d ρ l₃ y ∙ ap (λ (j : ℕ). operations_over d ρ j) (ap length k₃ ∙ m₁)))
+    ∙ all-contexts d ρ N

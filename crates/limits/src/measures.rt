@@ -1,13 +1,16 @@
 // The pass for number 13 over a whole dossier: every predicate with the sizes of the variables in its reach in a table.
 ghost use Rattle.std.specs.Prelude.{◌≡◌, ℕ, ◌+◌, ◌≤◌, length, get_or, set};
+ghost use Rattle.type_rules.specs.TypesByNumber.{fault_key};
 ghost use Rattle.node_spans.specs.Spans.{span};
 ghost use Rattle.limits.specs.DossierSizesByNumber.{entry_size, marks, marked, ContextSeen, PartSeen, states_over, conditions_over, operations_over, OperationSeen, MeasuresSeen};
 
 use form::{name_endings, node, shapes};
-use names::passes::{clear, part};
+use lexical::refusals::Fault;
+use names::NAMES;
+use names::passes::part;
 use node_spans::span;
-use term_sizes::sizes::{absolute_of, greater_of, pred};
-use type_rules::kinds::{index, lesser_of, look, put};
+use term_sizes::sizes::{absolute_of, pred};
+use type_rules::kinds::{lesser_of, look, put};
 
 // What is added to the number of a plain name, for itself and for the primed one.
 const PLAIN: usize = name_endings::PLAIN as usize;
@@ -18,7 +21,7 @@ const PRIMED: usize = name_endings::PRIMED as usize;
 fn place(spans: &[u16], k: usize) -> usize
     ensures { result ≡ span spans.now k }
 {
-    index(look(spans, k))
+    usize::from(look(spans, k))
 }
 
 // The size of a variable by its type's node, which begins at `at`: only a range has one.
@@ -32,7 +35,7 @@ fn size_at(code: &[u16], at: usize, on: bool) -> u16
     if code[at + node::SHAPE] != shapes::RANGE {
         return 0;
     }
-    greater_of(absolute_of(code[at + node::A]), absolute_of(code[at])) as u16
+    absolute_of(code[at + node::A]).max(absolute_of(code[at])) as u16
 }
 
 // The declaration that begins at `at`.
@@ -41,7 +44,7 @@ fn mark_one(code: &[u16], at: usize, shift: usize, on: bool, bounds: &mut [u16])
     ensures { bounds.new ≡ set bounds.old (get_or code.now (at + 1) 0 + shift) (entry_size on code.now (at + 4)) }
 {
     let n = size_at(code, at + node::SIZE, on);
-    put(bounds, index(code[at + node::A]) + shift, n);
+    put(bounds, usize::from(code[at + node::A]) + shift, n);
 }
 
 // The sizes of declared variables, from the last to the first: of two with one name the first decides. `on` is false to take them away.
@@ -82,12 +85,12 @@ fn context(
     third: &[u16],
     end: usize,
     bounds: &mut [u16],
-) -> u32
+) -> Option<Fault>
     requires { shift ≤ 1 }
-    ensures { ContextSeen nodes.now first.now second.now shift third.now end bounds.old bounds.new result }
+    ensures { ContextSeen nodes.now first.now second.now shift third.now end bounds.old bounds.new (fault_key result) }
 {
     if nodes.len() < end {
-        return 0;
+        return None;
     }
     mark_all(first, second, shift, third, true, bounds);
     let p = pred(nodes, end, bounds);
@@ -96,8 +99,8 @@ fn context(
 }
 
 // The predicates of the two states, whose variables are a and c.
-fn states(nodes: &[u16], spans: &[u16], a: &[u16], c: &[u16], bounds: &mut [u16]) -> u32
-    ensures { (m : ℕ) → PartSeen nodes.now spans.now m a.now c.now states_over bounds.old bounds.new result }
+fn states(nodes: &[u16], spans: &[u16], a: &[u16], c: &[u16], bounds: &mut [u16]) -> Option<Fault>
+    ensures { (m : ℕ) → PartSeen nodes.now spans.now m a.now c.now states_over bounds.old bounds.new (fault_key result) }
 {
     let none = part(nodes, 0, 0);
     let f = context(
@@ -122,8 +125,14 @@ fn states(nodes: &[u16], spans: &[u16], a: &[u16], c: &[u16], bounds: &mut [u16]
 }
 
 // ainit, cinit and retrieve.
-fn conditions(nodes: &[u16], spans: &[u16], a: &[u16], c: &[u16], bounds: &mut [u16]) -> u32
-    ensures { (m : ℕ) → PartSeen nodes.now spans.now m a.now c.now conditions_over bounds.old bounds.new result }
+fn conditions(
+    nodes: &[u16],
+    spans: &[u16],
+    a: &[u16],
+    c: &[u16],
+    bounds: &mut [u16],
+) -> Option<Fault>
+    ensures { (m : ℕ) → PartSeen nodes.now spans.now m a.now c.now conditions_over bounds.old bounds.new (fault_key result) }
 {
     let none = part(nodes, 0, 0);
     let f = context(
@@ -164,9 +173,9 @@ fn operation(
     a: &[u16],
     c: &[u16],
     bounds: &mut [u16],
-) -> u32
+) -> Option<Fault>
     requires { k ≤ 18 }
-    ensures { OperationSeen nodes.now spans.now k a.now c.now bounds.old bounds.new result }
+    ensures { OperationSeen nodes.now spans.now k a.now c.now bounds.old bounds.new (fault_key result) }
 {
     let at = span::OPERATIONS + span::OPERATION * k;
     let p = part(nodes, place(spans, at), place(spans, at + span::LAST));
@@ -191,29 +200,27 @@ fn operations(
     a: &[u16],
     c: &[u16],
     bounds: &mut [u16],
-) -> u32
+) -> Option<Fault>
     requires { (n ≤ 18) × (length spans.now ≡ 80) }
-    ensures { PartSeen nodes.now spans.now n a.now c.now operations_over bounds.old bounds.new result }
+    ensures { PartSeen nodes.now spans.now n a.now c.now operations_over bounds.old bounds.new (fault_key result) }
 {
-    let mut f: u32 = 0;
-    let mut k: usize = 0;
-    while k < n {
+    let mut f = None;
+    for k in 0..n {
         let g = operation(nodes, spans, k, a, c, bounds);
         f = lesser_of(f, g);
-        k += 1;
     }
     f
 }
 
 // The least fault of number 13, with a table for the sizes of names.
-fn measure(nodes: &[u16], spans: &[u16], n: usize, bounds: &mut [u16]) -> u32
+fn measure(nodes: &[u16], spans: &[u16], n: usize) -> Option<Fault>
     requires { length spans.now ≡ 80 }
-    ensures { MeasuresSeen nodes.now spans.now n (length bounds.old) result }
+    ensures { MeasuresSeen nodes.now spans.now n 16384 (fault_key result) }
 {
     if span::ROOM < n {
-        return 0;
+        return None;
     }
-    clear(bounds);
+    let mut bounds = [0u16; NAMES];
     let a = part(
         nodes,
         place(spans, span::ABSTRACT_FIRST),
@@ -224,21 +231,15 @@ fn measure(nodes: &[u16], spans: &[u16], n: usize, bounds: &mut [u16]) -> u32
         place(spans, span::CONCRETE_FIRST),
         place(spans, span::CONCRETE_LAST),
     );
-    let f = states(nodes, spans, a, c, bounds);
-    let g = conditions(nodes, spans, a, c, bounds);
-    let h = operations(nodes, spans, n, a, c, bounds);
+    let f = states(nodes, spans, a, c, &mut bounds);
+    let g = conditions(nodes, spans, a, c, &mut bounds);
+    let h = operations(nodes, spans, n, a, c, &mut bounds);
     lesser_of(f, lesser_of(g, h))
 }
 
-// The least fault of number 13 (place * KEY_ROOM + number + 1, places by symbols), or 0. The spans say where the parts of the dossier stand among the nodes.
-// `bounds` may hold anything. What it holds afterwards is left open: `reader::sizes_key`, the one caller, makes it for this call.
-pub fn measures(
-    nodes: &[u16],
-    spans: &[u16; span::COUNT],
-    operations: usize,
-    bounds: &mut [u16],
-) -> u32
-    ensures { MeasuresSeen nodes.now spans.now operations (length bounds.old) result }
+// The least fault of number 13, with its place by symbols. The spans say where the parts of the dossier stand among the nodes.
+pub fn measures(nodes: &[u16], spans: &[u16; span::COUNT], operations: usize) -> Option<Fault>
+    ensures { MeasuresSeen nodes.now spans.now operations 16384 (fault_key result) }
 {
-    measure(nodes, spans, operations, bounds)
+    measure(nodes, spans, operations)
 }

@@ -6,12 +6,12 @@ ghost use Rattle.sets.specs.Sets.{members};
 ghost use Rattle.meaning.specs.Values.{natural};
 ghost use Rattle.obligations.specs.Report.{braced};
 ghost use Rattle.labels.specs.Labels.{label_of};
-ghost use Rattle.pieces.specs.PiecePromises.{Writes};
+ghost use Rattle.pieces.specs.PiecePromises.{Adds};
 ghost use Rattle.lines.specs.LinesByNumber.{element_piece, pair_piece, member_piece, value_piece, line_piece, group_piece};
 ghost use Rattle.lines.specs.MembersByNumber.{comma_piece, spared, members_piece};
 
-use labels::{LABELS, VARIABLE, VARIABLES};
-use pieces::{put, put_all, put_letters, put_signed};
+use labels::{Names, VARIABLE, VARIABLES};
+use pieces::Writer;
 use sets::has;
 
 // The greatest length of a line: a name and its ending, " = ", a value of at most 16 pairs, a newline.
@@ -57,26 +57,16 @@ pub struct Group {
     pub ending: u8,
 }
 
-// A label, 0 past their end.
-fn label(labels: &[u16], k: usize) -> u16
-    ensures { result ≡ get_or labels.now k 0 }
-{
-    if k < labels.len() {
-        return labels[k];
-    }
-    0
-}
-
 // The type of the variable at a place of the groups.
-fn shape_of(labels: &[u16; LABELS], i: usize) -> Shape
+fn shape_of(names: &Names<'_>, i: usize) -> Shape
     requires { i < 160 }
-    ensures { (result.shape ≡ label_of labels.now i 1) × (result.sides ≡ label_of labels.now i 2) × (result.size ≡ label_of labels.now i 3) × (result.sides < 65536) }
+    ensures { (result.shape ≡ label_of names.now.labels.now i 1) × (result.sides ≡ label_of names.now.labels.now i 2) × (result.size ≡ label_of names.now.labels.now i 3) × (result.sides < 65536) }
 {
     let first = VARIABLES + VARIABLE * i;
     Shape {
-        shape: label(labels, first + 1),
-        sides: label(labels, first + 2) as usize,
-        size: label(labels, first + 3) as usize,
+        shape: names.label(first + 1),
+        sides: usize::from(names.label(first + 2)),
+        size: usize::from(names.label(first + 3)),
     }
 }
 
@@ -98,120 +88,88 @@ fn bits_of(x: i64) -> u16
 }
 
 // Element k of the given set g.
-fn put_element(
-    text: &[u8],
-    labels: &[u16; LABELS],
-    g: usize,
-    k: usize,
-    out: &mut [u8],
-    at: usize,
-) -> usize
-    requires { (g < 65536) × (k < 2 ^ 63) × (at + 16 ≤ length out.old) }
-    ensures { Writes at (element_piece text.now labels.now g k) out.old out.new result }
+fn put_element(names: &Names<'_>, g: usize, k: usize, w: &mut Writer<'_>)
+    requires { (g < 65536) × (k < 2 ^ 63) × (w.old.at + 16 ≤ length w.old.out.now) }
+    ensures same_bytes { w.new.out.ghost_name ≡ w.old.out.ghost_name }
+    ensures written { Adds (element_piece names.now.text.now names.now.labels.now g k) w.old w.new }
 {
-    let from = label(labels, ELEMENTS * g + k) as usize;
-    put_letters(text, from, out, at)
+    w.put_letters(names.text, usize::from(names.label(ELEMENTS * g + k)));
 }
 
 // Pair k of two given sets, the second of which has m elements.
-fn put_pair(
-    text: &[u8],
-    labels: &[u16; LABELS],
-    sides: usize,
-    m: usize,
-    k: usize,
-    out: &mut [u8],
-    at: usize,
-) -> usize
-    requires { (1 ≤ m) × (sides < 65536) × (k < 16) × (at + 37 ≤ length out.old) }
-    ensures { Writes at (pair_piece text.now labels.now sides m k) out.old out.new result }
+fn put_pair(names: &Names<'_>, sides: usize, m: usize, k: usize, w: &mut Writer<'_>)
+    requires { (1 ≤ m) × (sides < 65536) × (k < 16) × (w.old.at + 37 ≤ length w.old.out.now) }
+    ensures same_bytes { w.new.out.ghost_name ≡ w.old.out.ghost_name }
+    ensures written { Adds (pair_piece names.now.text.now names.now.labels.now sides m k) w.old w.new }
 {
-    let a = put_element(text, labels, sides / ELEMENTS, k / m, out, at);
-    let b = put_all(b" |-> ", out, a);
-    put_element(text, labels, sides % ELEMENTS, k % m, out, b)
+    put_element(names, sides / ELEMENTS, k / m, w);
+    w.put_all(b" |-> ");
+    put_element(names, sides % ELEMENTS, k % m, w);
 }
 
 // A member of a set: an element (m is 0) or a pair.
-fn put_member(
-    text: &[u8],
-    labels: &[u16; LABELS],
-    sides: usize,
-    m: usize,
-    k: usize,
-    out: &mut [u8],
-    at: usize,
-) -> usize
-    requires { (sides < 65536) × (k < 16) × (at + 37 ≤ length out.old) }
-    ensures { Writes at (member_piece text.now labels.now sides m k) out.old out.new result }
+fn put_member(names: &Names<'_>, sides: usize, m: usize, k: usize, w: &mut Writer<'_>)
+    requires { (sides < 65536) × (k < 16) × (w.old.at + 37 ≤ length w.old.out.now) }
+    ensures same_bytes { w.new.out.ghost_name ≡ w.old.out.ghost_name }
+    ensures written { Adds (member_piece names.now.text.now names.now.labels.now sides m k) w.old w.new }
 {
     if m == 0 {
-        return put_element(text, labels, sides, k, out, at);
+        return put_element(names, sides, k, w);
     }
-    put_pair(text, labels, sides, m, k, out, at)
+    put_pair(names, sides, m, k, w);
 }
 
 // A comma, behind other members.
-fn put_comma(is_first: bool, out: &mut [u8], at: usize) -> usize
-    requires { at + 2 ≤ length out.old }
-    ensures { Writes at (comma_piece is_first) out.old out.new result }
+fn put_comma(is_first: bool, w: &mut Writer<'_>)
+    requires { w.old.at + 2 ≤ length w.old.out.now }
+    ensures same_bytes { w.new.out.ghost_name ≡ w.old.out.ghost_name }
+    ensures written { Adds (comma_piece is_first) w.old w.new }
 {
     if is_first {
-        return at;
+        return;
     }
-    put_all(b", ", out, at)
+    w.put_all(b", ");
 }
 
 // The members from bit k on, lowest bit first.
-fn put_members(
-    text: &[u8],
-    labels: &[u16; LABELS],
-    t: Set,
-    k: usize,
-    is_first: bool,
-    out: &mut [u8],
-    at: usize,
-) -> usize
-    requires { (t.sides < 65536) × (k ≤ 16) × (at + 39 * (16 - k) ≤ length out.old + spared is_first) }
-    ensures { Writes at (members_piece (member_piece text.now labels.now t.sides t.size) t.bits k (16 - k) is_first) out.old out.new result }
+fn put_members(names: &Names<'_>, t: Set, k: usize, is_first: bool, w: &mut Writer<'_>)
+    requires { (t.sides < 65536) × (k ≤ 16) × (w.old.at + 39 * (16 - k) ≤ length w.old.out.now + spared is_first) }
+    ensures same_bytes { w.new.out.ghost_name ≡ w.old.out.ghost_name }
+    ensures written { Adds (members_piece (member_piece names.now.text.now names.now.labels.now t.sides t.size) t.bits k (16 - k) is_first) w.old w.new }
 {
     if k >= BITS {
-        return at;
+        return;
     }
     if !has(t.bits, k as u64) {
-        return put_members(text, labels, t, k + 1, is_first, out, at);
+        return put_members(names, t, k + 1, is_first, w);
     }
-    let a = put_comma(is_first, out, at);
-    let b = put_member(text, labels, t.sides, t.size, k, out, a);
-    put_members(text, labels, t, k + 1, false, out, b)
+    put_comma(is_first, w);
+    put_member(names, t.sides, t.size, k, w);
+    put_members(names, t, k + 1, false, w);
 }
 
 // A set in braces.
-fn put_set(text: &[u8], labels: &[u16; LABELS], t: Set, out: &mut [u8], at: usize) -> usize
-    requires { (t.sides < 65536) × (at + 624 ≤ length out.old) }
-    ensures { Writes at (braced (map (member_piece text.now labels.now t.sides t.size) (members t.bits))) out.old out.new result }
+fn put_set(names: &Names<'_>, t: Set, w: &mut Writer<'_>)
+    requires { (t.sides < 65536) × (w.old.at + 624 ≤ length w.old.out.now) }
+    ensures same_bytes { w.new.out.ghost_name ≡ w.old.out.ghost_name }
+    ensures written { Adds (braced (map (member_piece names.now.text.now names.now.labels.now t.sides t.size) (members t.bits))) w.old w.new }
 {
-    let a = put(out, at, b'{');
-    let b = put_members(text, labels, t, 0, true, out, a);
-    put(out, b, b'}')
+    w.put(b'{');
+    put_members(names, t, 0, true, w);
+    w.put(b'}');
 }
 
 // A value of a type.
-fn put_value(
-    text: &[u8],
-    labels: &[u16; LABELS],
-    t: Shape,
-    x: i64,
-    out: &mut [u8],
-    at: usize,
-) -> usize
-    requires { (t.sides < 65536) × (at + 624 ≤ length out.old) }
-    ensures { Writes at (value_piece text.now labels.now t.shape t.sides t.size x) out.old out.new result }
+fn put_value(names: &Names<'_>, t: Shape, x: i64, w: &mut Writer<'_>)
+    requires { (t.sides < 65536) × (w.old.at + 624 ≤ length w.old.out.now) }
+    ensures same_bytes { w.new.out.ghost_name ≡ w.old.out.ghost_name }
+    ensures written { Adds (value_piece names.now.text.now names.now.labels.now t.shape t.sides t.size x) w.old w.new }
 {
     if t.shape == ELEMENT {
-        return put_element(text, labels, t.sides, natural_of(x), out, at);
+        return put_element(names, t.sides, natural_of(x), w);
     }
     if t.shape == NUMBER {
-        return put_signed(x, out, at);
+        return w.put_signed(x);
     }
     let bits = bits_of(x);
     if t.shape == SUBSET {
@@ -220,47 +178,43 @@ fn put_value(
             size: 0,
             bits,
         };
-        return put_set(text, labels, s, out, at);
+        return put_set(names, s, w);
     }
     let s = Set {
         sides: t.sides,
         size: t.size,
         bits,
     };
-    put_set(text, labels, s, out, at)
+    put_set(names, s, w);
 }
 
 // The ending of a name.
-fn put_ending(ending: u8, out: &mut [u8], at: usize) -> usize
-    requires { at < length out.old }
-    ensures { Writes at (cond (eqb ending 0) [] (ending ∷ [])) out.old out.new result }
+fn put_ending(ending: u8, w: &mut Writer<'_>)
+    requires { w.old.at < length w.old.out.now }
+    ensures same_bytes { w.new.out.ghost_name ≡ w.old.out.ghost_name }
+    ensures written { Adds (cond (eqb ending 0) [] (ending ∷ [])) w.old w.new }
 {
     if ending == 0 {
-        return at;
+        return;
     }
-    put(out, at, ending)
+    w.put(ending);
 }
 
 // A line: name, ending, value.
-fn put_line(
-    text: &[u8],
-    labels: &[u16; LABELS],
-    i: usize,
-    ending: u8,
-    x: i64,
-    out: &mut [u8],
-    at: usize,
-) -> usize
-    requires { (i < 160) × (at + 645 ≤ length out.old) }
-    ensures { Writes at (line_piece text.now labels.now i ending x) out.old out.new result }
+fn put_line(names: &Names<'_>, i: usize, ending: u8, x: i64, w: &mut Writer<'_>)
+    requires { (i < 160) × (w.old.at + 645 ≤ length w.old.out.now) }
+    ensures same_bytes { w.new.out.ghost_name ≡ w.old.out.ghost_name }
+    ensures written { Adds (line_piece names.now.text.now names.now.labels.now i ending x) w.old w.new }
 {
-    let t = shape_of(labels, i);
-    let from = label(labels, VARIABLES + VARIABLE * i) as usize;
-    let a = put_letters(text, from, out, at);
-    let b = put_ending(ending, out, a);
-    let c = put_all(b" = ", out, b);
-    let d = put_value(text, labels, t, x, out, c);
-    put(out, d, b'\n')
+    let t = shape_of(names, i);
+    w.put_letters(
+        names.text,
+        usize::from(names.label(VARIABLES + VARIABLE * i)),
+    );
+    put_ending(ending, w);
+    w.put_all(b" = ");
+    put_value(names, t, x, w);
+    w.put(b'\n');
 }
 
 // A value in a slot.
@@ -285,22 +239,16 @@ fn rest_of(g: Group) -> Group
 }
 
 // The lines of a group.
-pub fn put_group(
-    text: &[u8],
-    labels: &[u16; LABELS],
-    slots: &[i64; 64],
-    g: Group,
-    out: &mut [u8],
-    at: usize,
-) -> usize
-    requires { (g.first + g.count ≤ 160) × (g.slot + g.count ≤ 64) × (at + 645 * g.count ≤ length out.old) }
-    ensures lines { Writes at (group_piece text.now labels.now g.first g.count g.slot g.ending slots.now) out.old out.new result }
-    ensures short { result ≤ at + 645 * g.count }
+pub fn put_group(names: &Names<'_>, slots: &[i64; 64], g: Group, w: &mut Writer<'_>)
+    requires { (g.first + g.count ≤ 160) × (g.slot + g.count ≤ 64) × (w.old.at + 645 * g.count ≤ length w.old.out.now) }
+    ensures same_bytes { w.new.out.ghost_name ≡ w.old.out.ghost_name }
+    ensures lines { Adds (group_piece names.now.text.now names.now.labels.now g.first g.count g.slot g.ending slots.now) w.old w.new }
+    ensures short { w.new.at ≤ w.old.at + 645 * g.count }
 {
     if g.count == 0 {
-        return at;
+        return;
     }
     let x = slot(slots, g.slot);
-    let a = put_line(text, labels, g.first, g.ending, x, out, at);
-    put_group(text, labels, slots, rest_of(g), out, a)
+    put_line(names, g.first, g.ending, x, w);
+    put_group(names, slots, rest_of(g), w);
 }

@@ -4,6 +4,7 @@ use mathlib.Core.List.{List, [], ◌++◌}
 use Prim.Native.Nat.{ℕ, ◌+◌, ◌-◌, ◌≤◌, ◌<◌}
 use native.Mathlib.Omega.{arith}
 use lib.ListN.{length, take, get_or}
+use Rattle.std.specs.Prelude.{None}
 use Rattle.form.specs.Tree.{Term, Pred}
 use Rattle.form.specs.Codes.{Numbering, term_codes, pred_codes}
 use Rattle.type_rules.specs.declared.Seen.{Seen}
@@ -26,7 +27,7 @@ RightP code e s T W z out after r p i =
 
 -- no tree ends in a node of another shape: the pass over names and types would see two kinds of it
 a_kind : ℕ → Seen
-a_kind k = record { kind = k; fault = 0; start = 0 }
+a_kind k = record { kind = k; fault = None; start = 0 }
 
 no-term : (code : List ℕ) (e : ℕ) (l : e ≤ length code) → (1 ≤ get_or code (e - 4 + 3) 0 → get_or code (e - 4 + 3) 0 ≤ 10 → ⊥)
     → (t : Term) (i : ℕ) (ρ : Numbering) (base : List ℕ) → take e code ≡ base ++ term_codes t i ρ → ⊥

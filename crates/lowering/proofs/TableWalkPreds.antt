@@ -1,6 +1,7 @@
 -- What the walk made that met the last node of a domain or a predicate: one law for each shape, from what its callees promise and the node that it wrote last.
 use mathlib.Core.Path.{◌≡◌, refl, sym, ap, ap₂, ◌∙◌}
 use mathlib.Core.List.{List, ◌++◌}
+use mathlib.Core.Logic.{◌⊎◌, inl, inr}
 use Prim.Native.Nat.{ℕ, suc, ◌+◌, ◌-◌, ◌≤◌}
 use native.Mathlib.Omega.{arith}
 use lib.ListN.{length, take, get_or, set}
@@ -96,7 +97,7 @@ module _ (code : List ℕ) (e s : ℕ) (l : e ≤ length code) (far : 4 ≤ e) (
       two_made e out far room r 0 (length base) (λ b. pred_table p₂ T W z ρ s b) (λ b. node 18 b (code_of (connective_kind o)) 0) u v _ _ _ _ o₁ o₂ _ after s₂ s₁ n
       (node-is 18 mq (aq ∙ h.is_first) refl) kq sq)
 
-  pub pred-compared : (U U' : Names) (Y Y' : Places) (o₁ o₂ after : List ℕ) (u v r : Made) (m a : ℕ) → get_or code (e - 4 + 3) 0 ≡ 4
+  pred-compared : (U U' : Names) (Y Y' : Places) (o₁ o₂ after : List ℕ) (u v r : Made) (m a : ℕ) → get_or code (e - 4 + 3) 0 ≡ 4
       → TermMade code (e - 4) s T U W Y z out o₁ u → TermMade code u.start s U U' Y Y' z o₁ o₂ v → m ≡ u.start → a ≡ get_or code (e - 4 + 1) 0
       → after ≡ patch (e - 4) (node 19 m a 0) o₂ → r.kind ≡ 0 → r.start ≡ v.start → PredMade code e s T U' W Y' z out after r
   unfolding term_codes term_table
@@ -114,7 +115,7 @@ module _ (code : List ℕ) (e s : ℕ) (l : e ≤ length code) (far : 4 ≤ e) (
       (node-is 19 mq (aq ∙ h.is_first) refl) kq sq)
 
   -- t in u, t in a..b, t |-> u in v
-  pub pred-member : (U U' : Names) (Y Y' : Places) (o₁ o₂ after : List ℕ) (u v r : Made) (m a : ℕ) → get_or code (e - 4 + 3) 0 ≡ 5
+  pred-member : (U U' : Names) (Y Y' : Places) (o₁ o₂ after : List ℕ) (u v r : Made) (m a : ℕ) → get_or code (e - 4 + 3) 0 ≡ 5
       → TermMade code (e - 4) s T U W Y z out o₁ u → TermMade code u.start s U U' Y Y' z o₁ o₂ v → m ≡ u.start → a ≡ get_or code (e - 4 + 1) 0
       → after ≡ patch (e - 4) (node 20 m a 0) o₂ → r.kind ≡ 0 → r.start ≡ v.start → PredMade code e s T U' W Y' z out after r
   unfolding term_codes term_table
@@ -130,6 +131,15 @@ module _ (code : List ℕ) (e s : ℕ) (l : e ≤ length code) (far : 4 ≤ e) (
       let s₁ = hv.right t₁ i ρ base (middle code (e - 4) u.start (base ++ term_codes t₁ i ρ) (term_codes t₂ j ρ) h.before hu.walked.falls s₂.start_is) in
       two_made e out far room r 0 (length base) (λ b. term_table t₂ T W z ρ s b) (λ b. node 20 b (code_of (membership_kind o)) 0) u v _ _ _ _ o₁ o₂ _ after s₂ s₁ n
       (node-is 20 mq (aq ∙ h.is_first) refl) kq sq)
+
+  -- a comparison or a membership, by the shape of its node
+  pub pred-sides : (U U' : Names) (Y Y' : Places) (o₁ o₂ after : List ℕ) (u v r : Made) (m a g : ℕ) → ((get_or code (e - 4 + 3) 0 ≡ 4) × (g ≡ 19)) ⊎ ((get_or code (e - 4 + 3) 0 ≡ 5) × (g ≡ 20))
+      → TermMade code (e - 4) s T U W Y z out o₁ u → TermMade code u.start s U U' Y Y' z o₁ o₂ v → m ≡ u.start → a ≡ get_or code (e - 4 + 1) 0
+      → after ≡ patch (e - 4) (node g m a 0) o₂ → r.kind ≡ 0 → r.start ≡ v.start → PredMade code e s T U' W Y' z out after r
+  pred-sides U U' Y Y' o₁ o₂ after u v r m a g (inl (q, f)) hu hv mq aq p kq sq =
+      pred-compared U U' Y Y' o₁ o₂ after u v r m a q hu hv mq aq (p ∙ ap (λ (x : ℕ). patch (e - 4) (node x m a 0) o₂) f) kq sq
+  pred-sides U U' Y Y' o₁ o₂ after u v r m a g (inr (q, f)) hu hv mq aq p kq sq =
+      pred-member U U' Y Y' o₁ o₂ after u v r m a q hu hv mq aq (p ∙ ap (λ (x : ℕ). patch (e - 4) (node x m a 0) o₂) f) kq sq
 
   pub pred-within : (U : Names) (Y : Places) (o₁ o₂ after : List ℕ) (d v r : Made) (a : ℕ) → get_or code (e - 4 + 3) 0 ≡ 6
       → DomainMade code (e - 4) T z out o₁ d → TermMade code d.start s T U W Y z o₁ o₂ v → a ≡ get_or code (e - 4 + 1) 0

@@ -1,5 +1,5 @@
 -- Keys: the same key is that of the same conjunct, with the same values in the slots of its list; so it has the same truth. Assumes nothing.
-use mathlib.Core.Path.{◌≡◌, refl, sym, ap, subst, ◌∙◌}
+use mathlib.Core.Path.{◌≡◌, sym, ap, subst, ◌∙◌}
 use mathlib.Core.Bool.{Bool, true, false}
 use mathlib.Core.Logic.{◌⊎◌, inl, inr}
 use mathlib.Core.List.{List}
@@ -16,7 +16,7 @@ use Rattle.evaluator.specs.EvaluationEvaluationByNumber.{Values}
 use Rattle.evaluator.specs.EvaluationPromises.{TruthAnswers}
 use Rattle.truths.specs.Promises.{Asked}
 use Rattle.truths.proofs.TruthLaws.{asked-inside, asked-runs}
-use Rattle.memo.specs.MemoPromises.{Lists, Behind, Keyed, Kept, Memo, Pushed, KeyAnswers, AgainAsked}
+use Rattle.memo.specs.MemoPromises.{Lists, Behind, Keyed, Kept, Memo, KeyOf, AgainAsked}
 use Rattle.memo.proofs.SameTruths.{SameOrFree, same_truth}
 
 same-raised : {v w : ℤ} {d e : ℕ} → v +ℤ pos 1000 ≡ pos d → w +ℤ pos 1000 ≡ pos e → d ≡ e → v ≡ w
@@ -70,30 +70,20 @@ module _ {list n m : ℕ} {σ τ : Values} {key : ℕ} (a : Keyed list n σ key)
       at q h = subst (λ (k : ℕ). get_or σ k (pos 0) ≡ get_or τ k (pos 0)) (sym q) h
 
 -- a value that was handed over, as it stands in its slot
-pub value_of : {k r : ℕ} {v w : ℤ} → v ≡ w → Pushed k v r → Pushed k w r
-value_of {k} {r} q a = subst (λ (z : ℤ). Pushed k z r) q a
+pub value_of : {k r : ℕ} {v w : ℤ} → v ≡ w → Behind k v r → Behind k w r
+value_of {k} {r} q a = subst (λ (z : ℤ). Behind k z r) q a
 
 -- four values, one behind the other
-pub key-answered : {list node one two three r : ℕ} {σ : Values} → 16777216 ≤ list → node < 4097 → Pushed node (get_or σ (list / 262144 % 64) (pos 0)) one
-    → Pushed one (get_or σ (list / 4096 % 64) (pos 0)) two → Pushed two (get_or σ (list / 64 % 64) (pos 0)) three → Pushed three (get_or σ (list % 64) (pos 0)) r
-    → KeyAnswers list node σ r
-key-answered {one = one} {two = two} {three = three} made low a b c d =
+pub key-answered : {list node one two three r : ℕ} {σ : Values} → 16777216 ≤ list → 0 < node → node < 4097 → Behind node (get_or σ (list / 262144 % 64) (pos 0)) one
+    → Behind one (get_or σ (list / 4096 % 64) (pos 0)) two → Behind two (get_or σ (list / 64 % 64) (pos 0)) three → Behind three (get_or σ (list % 64) (pos 0)) r
+    → KeyOf list node σ r
+key-answered {one = one} {two = two} {three = three} made some low a b c d =
     record {
-      near = omega (arith, low, a.near, b.near, c.near, d.near);
-      made = λ n. made;
-      some = λ n. record {
-        one = one;
-        two = two;
-        three = three;
-        first = a.some (b.front (c.front (d.front n)));
-        second = b.some (c.front (d.front n));
-        third = c.some (d.front n);
-        fourth = d.some n;
-      };
+      made = made;
+      keyed = record { one = one; two = two; three = three; first = a; second = b; third = c; fourth = d };
+      near = omega (arith, low, a.is, a.low, b.is, b.low, c.is, c.low, d.is, d.low);
+      some = λ n. (let f : ⊥ = omega (arith, n, some, a.is, b.is, c.is, d.is) in f);
     }
-
-pub no_key : {list node : ℕ} {σ : Values} → KeyAnswers list node σ 0
-no_key = record { near = omega arith; made = λ n. absurd (n refl); some = λ n. absurd (n refl) }
 
 -- a cell with the key of a conjunct says its truth
 pub found : {table memo : List ℕ} {node cell key : ℕ} {σ : Values} → Memo table memo → node < 4097 → length σ ≡ 64 → Keyed (get_or memo node 0) node σ key → cell / 2 ≡ key
@@ -108,9 +98,9 @@ found {table} {memo} {node} {cell} {key} {σ} m low long a q w =
 
 -- ---- a conjunct that is asked by its key
 
-pub cell-fits : {k : ℕ} (b : Bool) → k < 2 ^ 62 → Fits w64 (2 * k + bool_byte b)
-cell-fits true h = record { fits = omega arith }
-cell-fits false h = record { fits = omega arith }
+pub cell-fits : {k d : ℕ} (b : Bool) → d ≡ bool_byte b → k < 2 ^ 62 → Fits w64 (2 * k + d)
+cell-fits true e h = record { fits = omega arith }
+cell-fits false e h = record { fits = omega arith }
 
 module _ {table memo : List ℕ} {e k : ℕ} {σ : Values} (q : AgainAsked table memo e k σ) where
   -- its cell has its key
@@ -121,14 +111,14 @@ module _ {table memo : List ℕ} {e k : ℕ} {σ : Values} (q : AgainAsked table
       go (inl z) = absurd (q.some (let n : k ≡ 0 = omega (arith, is, z) in n))
       go (inr w) = subst (λ (x : ℕ). TruthAnswers table x σ (eqb (get_or memo i 0 % 2) 1)) (sym q.at) (found m q.low q.long q.keyed is w)
 
-  bit-back : (b : Bool) (c : ℕ) → c ≡ 2 * k + bool_byte b → (c / 2 ≡ k) × (eqb (c % 2) 1 ≡ b)
-  bit-back true c is = (omega arith, eq-eqb (c % 2) 1 (omega arith))
-  bit-back false c is = (omega arith, ne_eqb (c % 2) 1 (λ f. (let z : c % 2 ≡ 0 = omega (arith, is) in let n : ⊥ = omega (arith, z, f) in n)))
+  bit-back : (b : Bool) (d : ℕ) → d ≡ bool_byte b → ((2 * k + d) / 2 ≡ k) × (eqb ((2 * k + d) % 2) 1 ≡ b)
+  bit-back true d is = (omega arith, eq-eqb ((2 * k + d) % 2) 1 (omega arith))
+  bit-back false d is = (omega arith, ne_eqb ((2 * k + d) % 2) 1 (λ f. (let z : (2 * k + d) % 2 ≡ 0 = omega (arith, is) in let n : ⊥ = omega (arith, z, f) in n)))
 
   -- what it came to is kept
-  pub kept-now : {b : Bool} {c : ℕ} → TruthAnswers table e σ b → c ≡ 2 * k + bool_byte b → Kept table memo c
-  kept-now {b} {c} a is =
-      let back = bit-back b c is in
+  pub kept-now : {b : Bool} {d : ℕ} → TruthAnswers table e σ b → d ≡ bool_byte b → Kept table memo (2 * k + d)
+  kept-now {b} {d} a is =
+      let back = bit-back b d is in
       record {
         node = q.node;
         low = q.low;
@@ -136,13 +126,12 @@ module _ {table memo : List ℕ} {e k : ℕ} {σ : Values} (q : AgainAsked table
         values = σ;
         long = q.long;
         keyed = subst (λ (x : ℕ). Keyed (get_or memo q.node 0) q.node σ x) (sym back.0) q.keyed;
-        says = subst (λ (x : ℕ). TruthAnswers table x σ (eqb (c % 2) 1)) q.at (subst (λ (x : Bool). TruthAnswers table e σ x) (sym back.1) a);
+        says = subst (λ (x : ℕ). TruthAnswers table x σ (eqb ((2 * k + d) % 2) 1)) q.at (subst (λ (x : Bool). TruthAnswers table e σ x) (sym back.1) a);
       }
 
 -- the conjunct up to e, whose list stands, by its key
-pub again-asked : {table memo : List ℕ} {e list k : ℕ} {σ : Values} → Asked table e σ → e % 4 ≡ 0 → list ≡ get_or memo (e / 4) 0 → KeyAnswers list (e / 4) σ k → (k ≡ 0 → ⊥)
-    → AgainAsked table memo e k σ
-again-asked {memo = memo} {e = e} {k = k} {σ = σ} q even is a n =
+pub again-asked : {table memo : List ℕ} {e list k : ℕ} {σ : Values} → Asked table e σ → e % 4 ≡ 0 → list ≡ get_or memo (e / 4) 0 → KeyOf list (e / 4) σ k → AgainAsked table memo e k σ
+again-asked {memo = memo} {e = e} {k = k} {σ = σ} q even is a =
     let inside = asked-inside q in
     record {
       inside = inside;
@@ -151,8 +140,8 @@ again-asked {memo = memo} {e = e} {k = k} {σ = σ} q even is a n =
       node = e / 4;
       at = omega (arith, even);
       low = omega (arith, inside.within);
-      made = subst (λ (d : ℕ). 16777216 ≤ d) is (a.made n);
-      keyed = subst (λ (d : ℕ). Keyed d (e / 4) σ k) is (a.some n);
+      made = subst (λ (d : ℕ). 16777216 ≤ d) is a.made;
+      keyed = subst (λ (d : ℕ). Keyed d (e / 4) σ k) is a.keyed;
       near = a.near;
-      some = n;
+      some = a.some;
     }

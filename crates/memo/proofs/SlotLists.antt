@@ -4,6 +4,8 @@ use mathlib.Core.List.{List}
 use Prim.Native.Nat.{ℕ, ◌+◌, ◌-◌, ◌*◌, ◌/◌, ◌%◌, ◌<◌, ◌≤◌}
 use native.Mathlib.Decide.{ℕ_discrete}
 use native.Mathlib.Omega.{arith}
+use Rattle.std.specs.Prelude.{Option, Some, None, IfSome}
+use Rattle.std.specs.Option.{unwrap_or}
 use Rattle.mentions.specs.MentionPromises.{TruthFree}
 use Rattle.memo.specs.MemoPromises.{Unlisted, Lists}
 
@@ -60,3 +62,8 @@ module _ {table : List ℕ} {e : ℕ} where
 
   pub lists-all : {s list : ℕ} → s ≤ 0 → Lists table e s list → Lists table e 0 list
   lists-all {s} {list} h w = subst (λ (j : ℕ). Lists table e j list) (let q : s ≡ 0 = omega arith in q) w
+
+  -- a list, or what stands for none
+  pub lists-or : (o : Option ℕ) {r : ℕ} → IfSome o (λ (list : ℕ). Lists table e 0 list) → r ≡ unwrap_or o 1 → Lists table e 0 r
+  lists-or (Some list) w q = subst (λ (j : ℕ). Lists table e 0 j) (sym q) w
+  lists-or None {r} w q = unmade r (let l : r < 16777216 = omega arith in l)

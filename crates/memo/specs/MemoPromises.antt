@@ -50,16 +50,12 @@ pub record Memo (table memo : List ℕ) : Type 0 where
 
 -- ---- what the functions promise
 
--- where there is a key, there was one, and it has the value behind it; it is not far behind what it was made from
-pub record Pushed (k : ℕ) (v : ℤ) (r : ℕ) : Type 0 where
-  pub near : r ≤ 4096 * k + 4095
-  pub front : (r ≡ 0 → ⊥) → k ≡ 0 → ⊥
-  pub some : (r ≡ 0 → ⊥) → Behind k v r
-
-pub record KeyAnswers (list node : ℕ) (σ : Values) (r : ℕ) : Type 0 where
-  pub near : r < 2 ^ 62
-  pub made : (r ≡ 0 → ⊥) → 16777216 ≤ list
-  pub some : (r ≡ 0 → ⊥) → Keyed list node σ r
+-- a key of the conjunct with these values, by a list that is made; it is not 0, which is nothing among the cells, and there is room for one bit more
+pub record KeyOf (list node : ℕ) (σ : Values) (key : ℕ) : Type 0 where
+  pub made : 16777216 ≤ list
+  pub keyed : Keyed list node σ key
+  pub near : key < 2 ^ 62
+  pub some : key ≡ 0 → ⊥
 
 -- the conjunct up to e has the key k with these values, by the list that stands
 pub record AgainAsked (table memo : List ℕ) (e k : ℕ) (σ : Values) : Type 0 where

@@ -1,12 +1,13 @@
 // Truths that are remembered: what a conjunct whose last node is a quantifier comes to, by the conjunct and by the values of the at most four slots that it mentions.
-// `memo` has for each place where a conjunct can end the list of its slots; behind these the cells, each twice a whole key, and 1 more where the conjunct is true. 0 is nothing.
+// `memo` has for each place where a conjunct can end the list of its slots; behind these the cells, each twice a whole key, and 1 more where the conjunct is true. 0 is nothing:
+// the caller lends the numbers, and they are all 0 at first.
 #![tactic(auto)]
 
-ghost use Rattle.std.specs.Prelude.{◌≡◌, ◌+◌, ◌<◌, ◌^◌, get_or, length};
+ghost use Rattle.std.specs.Prelude.{◌≡◌, ◌+◌, ◌<◌, ◌^◌, IfSome, get_or, length};
 ghost use Rattle.evaluator.specs.EvaluationPromises.{TruthAnswers};
 ghost use Rattle.mentions.specs.MentionPromises.{TruthFree};
 ghost use Rattle.truths.specs.Promises.{Asked, Answers};
-ghost use Rattle.memo.specs.MemoPromises.{Memo, Lists, Pushed, KeyAnswers, AgainAsked};
+ghost use Rattle.memo.specs.MemoPromises.{Memo, Lists, Behind, KeyOf, AgainAsked};
 
 use evaluator::{SHAPE_BACK, SLOTS, holds};
 use form::node;
@@ -46,34 +47,32 @@ const RAISED: i64 = 1000;
 
 const LARGEST: i64 = 3095;
 
-// The list with a slot more, if the conjunct mentions it.
-fn with_slot(t: &[u16; node::NUMBERS], end: usize, s: usize, list: u64) -> u64
+// The list with a slot more, if the conjunct mentions it; none where there is no room for it.
+fn with_slot(t: &[u16; node::NUMBERS], end: usize, s: usize, list: u64) -> Option<u64>
     requires { (s < 63) × TruthFree t.now end 63 × Lists t.now end (s + 1) list }
-    ensures { Lists t.now end s result }
+    ensures { IfSome result (λ r. Lists t.now end s r) }
 {
     if free_pred(t, end, s) {
-        return list;
+        return Some(list);
     }
     if list / THREE_SLOTS != ROOM {
-        return TOO_MANY;
+        return None;
     }
-    list % THREE_SLOTS * SLOT + s as u64 + MADE
+    Some(list % THREE_SLOTS * SLOT + s as u64 + MADE)
 }
 
-// The slots that the conjunct mentions.
-fn described(t: &[u16; node::NUMBERS], end: usize) -> u64
-    ensures { Lists t.now end 0 result }
+// The slots that the conjunct mentions, if they are at most four.
+fn described(t: &[u16; node::NUMBERS], end: usize) -> Option<u64>
+    ensures { IfSome result (λ list. Lists t.now end 0 list) }
 {
     if !free_pred(t, end, BLANK) {
-        return TOO_MANY;
+        return None;
     }
     let mut list = ALL_BLANK;
-    let mut s = BLANK;
-    while 0 < s {
-        s -= 1;
-        list = with_slot(t, end, s, list);
+    for s in (0..BLANK).rev() {
+        list = with_slot(t, end, s, list)?;
     }
-    list
+    Some(list)
 }
 
 // The list of the conjunct whose last node has this number, made where there is none.
@@ -85,40 +84,37 @@ fn listed(t: &[u16; node::NUMBERS], number: usize, memo: &mut [u64; NUMBERS]) ->
     if memo[number] != 0 {
         return memo[number];
     }
-    let list = described(t, node::SIZE * number);
+    let list = described(t, node::SIZE * number).unwrap_or(TOO_MANY);
     memo[number] = list;
     list
 }
 
-// A key with one more value behind it; 0 where there is no key, or no room for the value.
-fn pushed(k: u64, v: i64) -> u64
+// A key with one more value behind it, if there is room for the value.
+fn pushed(k: u64, v: i64) -> Option<u64>
     requires { k < 2 ^ 52 }
-    ensures { Pushed k v result }
+    ensures { IfSome result (λ r. Behind k v r) }
 {
-    if k == 0 {
-        return 0;
-    }
     if LARGEST < v {
-        return 0;
+        return None;
     }
     let x = v + RAISED;
     if x < 0 {
-        return 0;
+        return None;
     }
-    DIGIT * k + x as u64
+    Some(DIGIT * k + x as u64)
 }
 
-// The key of a conjunct with the values in the slots of its list; 0 where it has none.
-fn key(list: u64, number: usize, slots: &[i64; SLOTS]) -> u64
-    requires { (number < 4097) × (length slots.now ≡ 64) }
-    ensures { KeyAnswers list number slots.now result }
+// The key of a conjunct with the values in the slots of its list; none where it has no list, or a value has no room.
+fn key(list: u64, number: usize, slots: &[i64; SLOTS]) -> Option<u64>
+    requires { (0 < number) × (number < 4097) × (length slots.now ≡ 64) }
+    ensures { IfSome result (λ k. KeyOf list number slots.now k) }
 {
     if list < MADE {
-        return 0;
+        return None;
     }
-    let one = pushed(number as u64, slots[(list / THREE_SLOTS % SLOT) as usize]);
-    let two = pushed(one, slots[(list / TWO_SLOTS % SLOT) as usize]);
-    let three = pushed(two, slots[(list / SLOT % SLOT) as usize]);
+    let one = pushed(number as u64, slots[(list / THREE_SLOTS % SLOT) as usize])?;
+    let two = pushed(one, slots[(list / TWO_SLOTS % SLOT) as usize])?;
+    let three = pushed(two, slots[(list / SLOT % SLOT) as usize])?;
     pushed(three, slots[(list % SLOT) as usize])
 }
 
@@ -141,7 +137,7 @@ fn again(
         return memo[at] % 2 == 1;
     }
     let r = holds(t, end, slots);
-    memo[at] = 2 * k + r as u64;
+    memo[at] = 2 * k + u64::from(r);
     r
 }
 
@@ -166,9 +162,8 @@ pub fn recall(
     }
     let number = end / node::SIZE;
     let list = listed(t, number, memo);
-    let k = key(list, number, slots);
-    if k == 0 {
+    let Some(k) = key(list, number, slots) else {
         return truth(t, end, slots);
-    }
+    };
     again(t, end, k, slots, memo)
 }

@@ -43,6 +43,15 @@ pub record Earlier (e p r : ℕ) : Type 0 where
   pub before : r < e
   pub is : p < e → r ≡ p
 
+-- that part, a term, is free of s; an answer yes says so
+pub record PartFree (t : List ℕ) (e p s : ℕ) : Type 0 where
+  pub end : ℕ
+  pub earlier : Earlier e p end
+  pub free : TermFree t end s
+
+pub record PartSays (t : List ℕ) (e p s : ℕ) (r : Bool) : Type 0 where
+  pub means : r ≡ true → PartFree t e p s
+
 -- the term up to `own` is the variable of the slot s, that up to `other` is free of it
 pub record Tells (t : List ℕ) (own other s : ℕ) : Type 0 where
   pub own_is : (f : ℕ) (ρ : Values) (v : ℤ) → TermIs f t own ρ v → v ≡ get_or ρ s (pos 0)

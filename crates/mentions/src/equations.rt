@@ -2,7 +2,7 @@
 ghost use Rattle.std.specs.Prelude.{◌≤◌};
 ghost use Rattle.mentions.specs.MentionPromises.{TellsSlot, Solving};
 
-use crate::{earlier, free_term, number};
+use crate::{earlier, free_term};
 use evaluator::{END_BACK, FIRST_BACK, SHAPE_BACK};
 use form::node;
 use lexical::codes;
@@ -23,7 +23,7 @@ fn tells(t: &[u16; node::NUMBERS], own: usize, other: usize, slot: usize) -> boo
     if t[own - SHAPE_BACK] != table_shapes::SLOT {
         return false;
     }
-    if number(t, own - FIRST_BACK) != slot {
+    if usize::from(t[own - FIRST_BACK]) != slot {
         return false;
     }
     free_term(t, other, slot)
@@ -45,7 +45,9 @@ pub fn solving(t: &[u16; node::NUMBERS], end: usize, slot: usize) -> usize
     if t[end - FIRST_BACK] != EQUALS {
         return 0;
     }
-    let left = earlier(t, end, END_BACK);
+    let Some(left) = earlier(t, end, END_BACK) else {
+        return 0;
+    };
     let right = end - node::SIZE;
     if tells(t, left, right, slot) {
         return right;

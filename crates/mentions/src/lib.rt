@@ -4,32 +4,33 @@
 
 pub mod equations;
 
-ghost use Rattle.std.specs.Prelude.{◌≡◌, ◌-◌, ◌<◌, ◌≤◌, get_or, length};
+ghost use Rattle.std.specs.Prelude.{◌-◌, ◌<◌, ◌≤◌, IfSome, get_or};
 ghost use Rattle.evaluator.specs.EvaluationEvaluationByNumber.{Inside};
-ghost use Rattle.mentions.specs.MentionPromises.{Earlier, TermSays, ItemsSay, TruthSays, AskedSays};
+ghost use Rattle.mentions.specs.MentionPromises.{Earlier, PartSays, TermSays, ItemsSay, TruthSays, AskedSays};
 
 use evaluator::{END_BACK, FIRST_BACK, SECOND_BACK, SHAPE_BACK, TWO_NODES};
 use form::node;
 use table_nodes::table_shapes;
 
-// A number of the table.
-fn number(t: &[u16], k: usize) -> usize
-    requires { k < length t.now }
-    ensures { result ≡ get_or t.now k 0 }
+// Where an earlier part of a node ends, as the number so far before the node's end says; none if that is not before it.
+fn earlier(t: &[u16; node::NUMBERS], end: usize, back: usize) -> Option<usize>
+    requires { Inside end × (0 < back) × (back ≤ 4) }
+    ensures { IfSome result (λ p. Earlier end (get_or t.now (end - back) 0) p) }
 {
-    t[k] as usize
+    let p = usize::from(t[end - back]);
+    if p < end { Some(p) } else { None }
 }
 
-// Where an earlier part of a node ends, as the number so far before the node's end says: 0, where no node ends, if that is not before it.
-fn earlier(t: &[u16; node::NUMBERS], end: usize, back: usize) -> usize
+// Is an earlier part of a node, which is a term?
+#[cycle(free)]
+fn free_part(t: &[u16; node::NUMBERS], end: usize, back: usize, slot: usize) -> bool
     requires { Inside end × (0 < back) × (back ≤ 4) }
-    ensures { Earlier end (get_or t.now (end - back) 0) result }
+    ensures { PartSays t.now end (get_or t.now (end - back) 0) slot result }
 {
-    let p = number(t, end - back);
-    if p < end {
-        return p;
+    match earlier(t, end, back) {
+        Some(p) => free_term(t, p, slot),
+        None => false,
     }
-    0
 }
 
 // Is the term whose nodes end at `end` free of the slot?
@@ -46,17 +47,14 @@ pub fn free_term(t: &[u16; node::NUMBERS], end: usize, slot: usize) -> bool
     let shape = t[end - SHAPE_BACK];
     match shape {
         table_shapes::VALUE => true,
-        table_shapes::SLOT => number(t, end - FIRST_BACK) != slot,
+        table_shapes::SLOT => usize::from(t[end - FIRST_BACK]) != slot,
         table_shapes::PREFIX => free_term(t, end - node::SIZE, slot),
         table_shapes::DIVIDED => free_term(t, end - node::SIZE, slot),
         table_shapes::BINARY => {
-            if !free_term(t, earlier(t, end, END_BACK), slot) {
-                return false;
-            }
-            free_term(t, end - node::SIZE, slot)
+            free_part(t, end, END_BACK, slot) && free_term(t, end - node::SIZE, slot)
         }
         table_shapes::SUCH => {
-            if number(t, end - FIRST_BACK) == slot {
+            if usize::from(t[end - FIRST_BACK]) == slot {
                 return true;
             }
             if end < TWO_NODES {
@@ -83,18 +81,13 @@ fn free_items(t: &[u16; node::NUMBERS], end: usize, slot: usize) -> bool
     if shape == table_shapes::LAST_ITEM {
         return free_term(t, end - node::SIZE, slot);
     }
-    if !free_term(t, earlier(t, end, END_BACK), slot) {
+    if !free_part(t, end, END_BACK, slot) {
         return false;
     }
     match shape {
         table_shapes::ALSO_ITEM => free_items(t, end - node::SIZE, slot),
         table_shapes::LAST_PAIR => free_term(t, end - node::SIZE, slot),
-        _ => {
-            if !free_term(t, earlier(t, end, SECOND_BACK), slot) {
-                return false;
-            }
-            free_items(t, end - node::SIZE, slot)
-        }
+        _ => free_part(t, end, SECOND_BACK, slot) && free_items(t, end - node::SIZE, slot),
     }
 }
 
@@ -114,19 +107,16 @@ pub fn free_pred(t: &[u16; node::NUMBERS], end: usize, slot: usize) -> bool
         table_shapes::TRUTH => true,
         table_shapes::NEGATION => free_pred(t, end - node::SIZE, slot),
         table_shapes::CONNECTED => {
-            if !free_pred(t, earlier(t, end, END_BACK), slot) {
+            let Some(left) = earlier(t, end, END_BACK) else {
                 return false;
-            }
-            free_pred(t, end - node::SIZE, slot)
+            };
+            free_pred(t, left, slot) && free_pred(t, end - node::SIZE, slot)
         }
         table_shapes::COMPARED => {
-            if !free_term(t, earlier(t, end, END_BACK), slot) {
-                return false;
-            }
-            free_term(t, end - node::SIZE, slot)
+            free_part(t, end, END_BACK, slot) && free_term(t, end - node::SIZE, slot)
         }
         table_shapes::QUANTIFIED => {
-            if number(t, end - FIRST_BACK) == slot {
+            if usize::from(t[end - FIRST_BACK]) == slot {
                 return true;
             }
             if end < TWO_NODES {
@@ -147,10 +137,7 @@ fn free_asked(t: &[u16; node::NUMBERS], end: usize, slot: usize) -> bool
     let shape = t[end - SHAPE_BACK];
     match shape {
         table_shapes::MEMBER => {
-            if !free_term(t, earlier(t, end, END_BACK), slot) {
-                return false;
-            }
-            free_term(t, end - node::SIZE, slot)
+            free_part(t, end, END_BACK, slot) && free_term(t, end - node::SIZE, slot)
         }
         table_shapes::WITHIN => {
             if end < TWO_NODES {
@@ -159,13 +146,10 @@ fn free_asked(t: &[u16; node::NUMBERS], end: usize, slot: usize) -> bool
             free_term(t, end - TWO_NODES, slot)
         }
         _ => {
-            if !free_term(t, earlier(t, end, END_BACK), slot) {
+            if !free_part(t, end, END_BACK, slot) {
                 return false;
             }
-            if !free_term(t, earlier(t, end, SECOND_BACK), slot) {
-                return false;
-            }
-            free_term(t, end - node::SIZE, slot)
+            free_part(t, end, SECOND_BACK, slot) && free_term(t, end - node::SIZE, slot)
         }
     }
 }

@@ -17,12 +17,12 @@ use Rattle.lexical.specs.Kinds.{Kind, marks, words}
 use Rattle.lexical.specs.Refusals.{Fault, fault, before, lesser, least, number_of, many_symbols}
 use Rattle.lexical.specs.Symbols.{Class, letter, digit, mark, blank, other, class_of, in_run, run, Symbol, fixed, numeral, name, Found, gap, unlisted, found, Ending, no_ending, prime, query, shriek, ending_of, ending_length}
 use Rattle.lexical.specs.Symbols.{reserved, word_of, is_number, number_found, decimal_from, longer, longest, by_class, symbol_at, Placed, Scan, done, stopped, next, scanned, scan_from, scan, symbols, scan_faults}
-use Rattle.lexical.specs.Promises.{code_in, number_in, fault_of, taken, filled}
+use Rattle.lexical.specs.Promises.{code_in, number_in, Scanned, fault_of, taken, filled}
 use Rattle.lexical.specs.SymbolPromises.{token_of, Takes}
 use Rattle.lexical.specs.declared.Token.{Token}
 use Rattle.lexical.specs.declared.Token.TheVariants.{Gap, Unlisted, Listed}
-use Rattle.lexical.specs.declared.Scanned.{Scanned}
-use Rattle.lexical.specs.declared.Scanned.TheVariants.{Symbols, UnlistedSymbol, ManySymbols}
+use Rattle.std.specs.Prelude.{Ok, Err}
+use Rattle.lexical.specs.declared.refusals.Refusal.TheVariants.{UnlistedSymbol, ManySymbols}
 use Rattle.lexical.proofs.WordLaws.{run_length}
 
 -- what stands at a place, by the class of its byte
@@ -272,7 +272,7 @@ module _ {s codes₀ starts₀ values₀ codes starts values : List ℕ} {at n :
       let e : 0 + length h.done ≡ n = omega arith in
       ap (scan_faults 0) (h.rest ∙ ap (joined h.done) q) ∙ faults-after 0 h.done r (omega arith) ∙ ap (λ (j : ℕ). scan_faults j r) e
 
-  leaves : (r : Scanned) → taken s ≡ h.done → fault_of r ≡ least (scan_faults 0 (scan s)) → ((m : ℕ) → r ≡ Symbols m → (m ≡ length (symbols (scan s))) × (m ≤ 4096)) → Takes s codes₀ starts₀ values₀ codes starts values r
+  leaves : (r : Scanned) → taken s ≡ h.done → fault_of r ≡ least (scan_faults 0 (scan s)) → ((m : ℕ) → r ≡ Ok m → (m ≡ length (symbols (scan s))) × (m ≤ 4096)) → Takes s codes₀ starts₀ values₀ codes starts values r
   leaves r t a c = record {
     answer = a;
     counted = λ m e. (c m e).0;
@@ -286,9 +286,9 @@ module _ {s codes₀ starts₀ values₀ codes starts values : List ℕ} {at n :
   all_done l e = let k = h.count in let i = h.room in
       ap (take 4096) (e ∙ append-nil h.done) ∙ take_all 4096 h.done (omega arith)
 
-  pub scanned-all : length s ≤ at → Takes s codes₀ starts₀ values₀ codes starts values (Symbols n)
+  pub scanned-all : length s ≤ at → Takes s codes₀ starts₀ values₀ codes starts values (Ok n)
   unfolding symbols scan_faults least
-  scanned-all l = leaves (Symbols n) (ends done (step_end s at l) (all_done (h.done ++ []) refl)) (sym (ap least (faults done (step_end s at l))))
+  scanned-all l = leaves (Ok n) (ends done (step_end s at l) (all_done (h.done ++ []) refl)) (sym (ap least (faults done (step_end s at l))))
       (λ m q. let e : n ≡ m = cc in let i = h.room in
       (sym e ∙ sym h.count ∙ sym (ap length (ap symbols (h.rest ∙ ap (joined h.done) (step_end s at l)) ∙ symbols-joined h.done done ∙ append-nil h.done)), omega arith))
 
@@ -304,11 +304,11 @@ module _ {s codes₀ starts₀ values₀ codes starts values : List ℕ} {at n :
       valued = h.valued;
     }
 
-    pub scanned-unlisted : t ≡ Unlisted → Takes s codes₀ starts₀ values₀ codes starts values (UnlistedSymbol at)
+    pub scanned-unlisted : t ≡ Unlisted → Takes s codes₀ starts₀ values₀ codes starts values (Err (record { place = at; refusal = UnlistedSymbol }))
     unfolding symbols scan_faults least lesser
     scanned-unlisted q =
         let u : scan_from (drop at s) 0 at ≡ stopped at = step-unlisted s at lt refl (is-unlisted (symbol_at (drop at s)) p q) in
-        leaves (UnlistedSymbol at) (ends (stopped at) u (all_done (h.done ++ []) refl)) (sym (ap least (faults (stopped at) u)))
+        leaves (Err (record { place = at; refusal = UnlistedSymbol })) (ends (stopped at) u (all_done (h.done ++ []) refl)) (sym (ap least (faults (stopped at) u)))
         (λ m e. let z : ◌≡◌ {A = ℕ} 0 1 = cc in absurd (omega arith))
 
     module _ {c m v : ℕ} (q : t ≡ Listed c m v) where
@@ -335,13 +335,13 @@ module _ {s codes₀ starts₀ values₀ codes starts values : List ℕ} {at n :
         valued = ap (λ (l : List ℕ). set l n v) h.valued ∙ filled_more (λ (x : Placed). number_in x.symbol) h.done new values₀ v n h.count (omega arith) what.value;
       }
 
-      pub scanned-many : 4096 ≤ n → Takes s codes₀ starts₀ values₀ codes starts values (ManySymbols at)
+      pub scanned-many : 4096 ≤ n → Takes s codes₀ starts₀ values₀ codes starts values (Err (record { place = at; refusal = ManySymbols }))
       unfolding new
       scanned-many l =
           let i = h.room in let k = h.count in
           let e : n ≡ 4096 = omega arith in
           let j = token-small s at lt p q in
-          leaves (ManySymbols at) (ends (next new (scan_from (drop (at + m) s) 0 (at + m))) goes (take_at h.done (symbols (next new (scan_from (drop (at + m) s) 0 (at + m)))) 4096 (k ∙ e)))
+          leaves (Err (record { place = at; refusal = ManySymbols })) (ends (next new (scan_from (drop (at + m) s) 0 (at + m))) goes (take_at h.done (symbols (next new (scan_from (drop (at + m) s) 0 (at + m)))) 4096 (k ∙ e)))
           (sym (ap least (faults (next new (scan_from (drop (at + m) s) 0 (at + m))) goes ∙ ap (λ (x : ℕ). scan_faults x (next new (scan_from (drop (at + m) s) 0 (at + m)))) e)
           ∙ many-least new (drop (at + m) s) (at + m) (let j₀ = j.0 in omega arith)))
           (λ m e. let z : ◌≡◌ {A = ℕ} 0 1 = cc in absurd (omega arith))

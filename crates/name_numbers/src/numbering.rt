@@ -34,10 +34,7 @@ const RECENT: usize = LETTERS as usize;
 pub fn is_name(code: u8) -> bool
     ensures { result ≡ is_name code }
 {
-    match code {
-        codes::PLAIN..=codes::OUTPUT => true,
-        _ => false,
-    }
+    matches!(code, codes::PLAIN..=codes::OUTPUT)
 }
 
 // How many letters a name has that begins at `at`; 0 for another symbol.
@@ -78,14 +75,12 @@ pub fn pack_names(
     requires { Rows s.now codes.now starts.now n × (length codes.now ≡ 4096) × (length starts.now ≡ 4096) × (length low.old ≡ 4096) × (length high.old ≡ 4096) }
     ensures { (low.new ≡ filled_low s.now low.old) × (high.new ≡ filled_high s.now high.old) }
 {
-    let mut i = 0;
-    while i < n {
+    for i in 0..n {
         let code = codes[i];
         let at = starts[i] as usize;
         let letters = name_letters(s, code, at);
         low[i] = letters_at(s, at, letters, 0);
         high[i] = letters_at(s, at, letters, PACKED);
-        i += 1;
     }
 }
 
@@ -94,10 +89,7 @@ pub fn same_letters(low: &[u64], high: &[u64], m: usize, a: u64, b: u64) -> bool
     requires { (m < length low.now) × (m < length high.now) }
     ensures { result ≡ (eqb (get_or low.now m 0) a && eqb (get_or high.now m 0) b) }
 {
-    if low[m] == a {
-        return high[m] == b;
-    }
-    false
+    low[m] == a && high[m] == b
 }
 
 // The walk by the letters of symbol i.
@@ -110,8 +102,7 @@ pub fn walk(low: &[u64], high: &[u64], tree: &[u16], i: usize) -> Stop
     let mut p = a;
     let mut q = b;
     let mut slot: usize = ROOT;
-    let mut d: usize = 0;
-    while d < DEEPEST {
+    for d in 0..DEEPEST {
         let t = tree[slot] as usize;
         if t == 0 {
             return Stop::Free(slot);
@@ -123,7 +114,6 @@ pub fn walk(low: &[u64], high: &[u64], tree: &[u16], i: usize) -> Stop
         slot = 2 * m + (p % 2) as usize;
         p = p / 2 + (q % 2) * HIGHEST_BIT;
         q = q / 2;
-        d += 1;
     }
     Stop::Deep
 }
@@ -135,14 +125,12 @@ pub fn first_like(low: &[u64], high: &[u64], i: usize) -> usize
 {
     let a = low[i];
     let b = high[i];
-    let mut m = 0;
-    while m < i {
+    for m in 0..i {
         if same_letters(low, high, m, a, b) {
             return m;
         }
-        m += 1;
     }
-    m
+    i
 }
 
 // The value of symbol i: of a name the number of the first one with its letters, which is put into the tree if it is i; of another symbol `old`.
@@ -216,10 +204,8 @@ pub fn number_names(s: &[u8], codes: &[u8], starts: &[u16], values: &mut [u16], 
     pack_names(s, codes, starts, n, &mut low, &mut high);
     let mut tree = [0u16; SLOTS];
     let mut recent = [0u16; RECENT];
-    let mut i = 0;
-    while i < n {
+    for i in 0..n {
         let old = values[i];
         values[i] = numbered(&low, &high, &mut tree, &mut recent, i, old);
-        i += 1;
     }
 }

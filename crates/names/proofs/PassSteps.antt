@@ -11,7 +11,7 @@ use Rattle.lexical.specs.Symbols.{no_ending}
 use Rattle.form.specs.Tree.{Declaration, declarations, Parameter, Pred, State, Dossier}
 use Rattle.form.specs.Written.{ending_of}
 use Rattle.form.specs.Codes.{Numbering, node, pred_codes, type_width, declaration_codes, parameter_codes, condition_codes, state_codes}
-use Rattle.type_rules.specs.TypesByNumber.{Names, Sizes, pred_key, inside_key, PredSeen}
+use Rattle.type_rules.specs.TypesByNumber.{Names, Sizes, fault_key, pred_key, inside_key, PredSeen}
 use Rattle.declared_names.specs.NamesByNumber.{Typed, typed_codes, variables_of, parameters_of, shown, hidden, declared_key, predicate_at, state_key, state_named, conditions_key, conditions_named}
 use Rattle.declared_names.specs.PassPromises.{typed_code, DeclaredEnd, PredicateEnd, ConditionSeen, DeclaredSeen, ShownSeen, HiddenSeen, StateSeen, Variables, three_codes, ConditionsSeen}
 use Rattle.type_rules.specs.declared.Seen.{Seen}
@@ -139,7 +139,7 @@ condition-over code at n q h k =
       right = λ p i ρ rest e. let s = condition-length code at p i ρ rest e in let t = condition-room code at p i ρ rest e in omega arith;
     }
 
-pub condition-seen : (code : List ℕ) (T U : Names) (z : Sizes) (r : Seen) → PredSeen code (length code) T U z r → ConditionSeen code T U z r.fault
+pub condition-seen : (code : List ℕ) (T U : Names) (z : Sizes) (r : Seen) → PredSeen code (length code) T U z r → ConditionSeen code T U z (fault_key r.fault)
 unfolding condition_codes
 condition-seen code T U z r s =
     record {

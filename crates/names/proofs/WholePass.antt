@@ -30,22 +30,6 @@ part_none nodes from to h =
     let l = length-take-le 0 nodes (omega arith) in
     record { fits = λ q. absurd (omega arith); part = λ p q. absurd (h p q); none = λ u. refl }
 
-pub zeros-at : (n k : ℕ) → ◌≡◌ {A = ℕ} (get_or (replicate n 0) k 0) 0
-zeros-at zero k = refl
-zeros-at (suc n) zero = refl
-zeros-at (suc n) (suc k) = zeros-at n k
-
--- a list all of whose numbers are 0
-pub all-zeros : (a : List ℕ) (n : ℕ) → length a ≡ n → ((k : ℕ) → k < length a → get_or a k 0 ≡ 0) → a ≡ replicate n 0
-all-zeros a n l h = ext_get_or 0 a (replicate n 0) (l ∙ sym (length-replicate n 0)) (λ k b. h k b ∙ sym (zeros-at n k))
-
-pub one_more : (a : List ℕ) (i : ℕ) → i < length a → ((k : ℕ) → k < i → get_or a k 0 ≡ 0) → (k : ℕ) → k < i + 1 → get_or (set a i 0) k 0 ≡ 0
-one_more a i b h k l = go (eqb k i) refl
-  where
-    go : (t : Bool) → eqb k i ≡ t → get_or (set a i 0) k 0 ≡ 0
-    go true e = ap (λ (n : ℕ). get_or (set a i 0) n 0) (eqb-true k i e) ∙ get_or-set_same a i 0 0 b
-    go false e = let n : k ≡ i → ⊥ = eqb-false k i e in get_or-set_other a i k 0 0 n ∙ h k (omega arith)
-
 -- the variables of a state
 pub variables-short : (code r : List ℕ) → length code < 4 → VariablesOf code r
 variables-short code r h s i ρ e = elim (never-state code h s i ρ e) [ ]

@@ -2,10 +2,12 @@
 #![tactic(auto)]
 
 ghost use Rattle.std.specs.Prelude.{length, replicate};
+ghost use Rattle.type_rules.specs.Passes.{refused_key};
 ghost use Rattle.declared_names.specs.PassPromises.{GivenSeen, CheckSeen};
 
-use crate::passes::{check, clear};
+use crate::passes::check;
 use declared_names::declared::give;
+use lexical::refusals::Fault;
 use lexical::{bounds, endings};
 
 pub mod passes;
@@ -15,9 +17,9 @@ pub const NAMES: usize = bounds::SYMBOLS * endings::COUNT as usize;
 
 pub const SIZES: usize = bounds::GIVEN_SETS as usize;
 
-// The least fault of the pass (place * KEY_ROOM + number + 1, places by symbols), or 0. The nodes are a dossier's, up to m; the places are where its parts begin.
-// `names` and `sizes` may hold anything. Left open: what `names` holds afterwards, the sizes where the given sets have a fault, and those behind the last
-// given set's. `reader::names_key`, the one caller, makes `names` for this call, and nothing is looked up by the number of a given set that there is not.
+// The least fault of the pass, with its place by symbols. The nodes are a dossier's, up to m; the places are where its parts begin.
+// `sizes` may hold anything. Left open: the sizes where the given sets have a fault, and those behind the last given set's, since nothing is looked up by
+// the number of a given set that there is not.
 pub fn least_fault(
     nodes: &[u16],
     m: usize,
@@ -26,23 +28,20 @@ pub fn least_fault(
     concretes: usize,
     ainit: usize,
     after: usize,
-    names: &mut [u16],
     sizes: &mut [u16; SIZES],
-) -> u32
-    ensures { CheckSeen nodes.now m givens abstracts concretes ainit after (length names.old) sizes.new result }
+) -> Result<(), Fault>
+    ensures { CheckSeen nodes.now m givens abstracts concretes ainit after 16384 sizes.new (refused_key result) }
 {
-    check(
-        nodes, m, givens, abstracts, concretes, ainit, after, names, sizes,
-    )
+    check(nodes, m, givens, abstracts, concretes, ainit, after, sizes)
 }
 
-// The given sets by name, and how many elements each has, from the nodes of their bodies: the first fault of number 8 among them, or 0.
+// The given sets by name, and how many elements each has, from the nodes of their bodies: the first fault of number 8 among them.
 // `names` and `sizes` may hold anything. Left open: both where there is a fault, since the passes that take them come behind that for names; and the sizes
 // behind the last given set's, since nothing is looked up by the number of a given set that there is not.
-pub fn given_sets(code: &[u16], names: &mut [u16], sizes: &mut [u16; SIZES]) -> u32
-    ensures { GivenSeen code.now (replicate (length names.old) 0) names.new sizes.new result }
+pub fn given_sets(code: &[u16], names: &mut [u16], sizes: &mut [u16; SIZES]) -> Result<(), Fault>
+    ensures { GivenSeen code.now (replicate (length names.old) 0) names.new sizes.new (refused_key result) }
 {
-    clear(names);
-    clear(sizes);
+    names.fill(0);
+    sizes.fill(0);
     give(code, names, sizes)
 }

@@ -1,12 +1,15 @@
 // The pass over a whole dossier, in the order of the text: the first fault is the least.
-ghost use Rattle.std.specs.Prelude.{◌≡◌, ◌+◌, ◌≤◌, length, replicate};
+ghost use Rattle.std.specs.Prelude.{◌≡◌, ◌+◌, ◌≤◌, length};
+ghost use Rattle.type_rules.specs.Passes.{refused_key};
 ghost use Rattle.declared_names.specs.PassPromises.{DeclaredEnd, PredicateEnd, OperationEnd, ConditionSeen, StateSeen, ReachingSeen, LeavingSeen, SideSeen, SidesSeen, OperationSeen, OperationsSeen, ConditionsSeen, PartOf, VariablesOf, LaterSeen, CheckSeen};
 
+use crate::NAMES;
 use declared_names::declared::{declare, give, hide, show};
 use form::name_endings::{PLAIN, PRIMED};
 use form::{node, shapes};
-use type_rules::kinds::{index, look, put, unless, wide};
-use type_rules::{entries, faults};
+use lexical::refusals::{Fault, Refusal};
+use type_rules::entries;
+use type_rules::kinds::{all_well, look, put, unless};
 use typing::types::pred;
 
 // How many numbers declarations have at the beginning of some nodes.
@@ -31,7 +34,7 @@ fn predicate_end(code: &[u16], at: usize) -> usize
     if code.len() - at < node::SIZE {
         return code.len();
     }
-    let n = index(code[at + node::A]);
+    let n = usize::from(code[at + node::A]);
     if n <= code.len() - at - node::SIZE {
         return at + node::SIZE + n;
     }
@@ -39,27 +42,23 @@ fn predicate_end(code: &[u16], at: usize) -> usize
 }
 
 // A predicate with its node in front.
-fn condition(code: &[u16], names: &mut [u16], sizes: &[u16]) -> u32
-    ensures { ConditionSeen code.now names.old names.new sizes.now result }
+fn condition(code: &[u16], names: &mut [u16], sizes: &[u16]) -> Result<(), Fault>
+    ensures { ConditionSeen code.now names.old names.new sizes.now (refused_key result) }
 {
-    let p = pred(code, code.len(), names, sizes);
-    p.fault
+    all_well(pred(code, code.len(), names, sizes).fault)
 }
 
 // A state, from its heading on: its variables are in use behind it.
-fn state(code: &[u16], names: &mut [u16], sizes: &[u16]) -> u32
-    ensures { StateSeen code.now names.old names.new sizes.now result }
+fn state(code: &[u16], names: &mut [u16], sizes: &[u16]) -> Result<(), Fault>
+    ensures { StateSeen code.now names.old names.new sizes.now (refused_key result) }
 {
     if code.len() < node::SIZE {
-        return 0;
+        return Ok(());
     }
     let rest = &code[node::SIZE..];
     let e = declared_end(rest);
     let variables = &rest[..e];
-    let f = declare(variables, names, sizes);
-    if f != 0 {
-        return f;
-    }
+    declare(variables, names, sizes)?;
     let g = condition(&rest[e..], names, sizes);
     hide(variables, PLAIN, entries::USED, names);
     g
@@ -82,8 +81,8 @@ fn leave_all(variables: &[u16], names: &mut [u16])
 }
 
 // A predicate of an operation, with the variables of its state.
-fn side(code: &[u16], variables: &[u16], names: &mut [u16], sizes: &[u16]) -> u32
-    ensures { SideSeen code.now variables.now names.old names.new sizes.now result }
+fn side(code: &[u16], variables: &[u16], names: &mut [u16], sizes: &[u16]) -> Result<(), Fault>
+    ensures { SideSeen code.now variables.now names.old names.new sizes.now (refused_key result) }
 {
     reach_all(variables, names);
     let f = condition(code, names, sizes);
@@ -98,14 +97,11 @@ fn sides(
     concretes: &[u16],
     names: &mut [u16],
     sizes: &[u16],
-) -> u32
-    ensures { SidesSeen code.now abstracts.now concretes.now names.old names.new sizes.now result }
+) -> Result<(), Fault>
+    ensures { SidesSeen code.now abstracts.now concretes.now names.old names.new sizes.now (refused_key result) }
 {
     let e = predicate_end(code, 0);
-    let f = side(&code[..e], abstracts, names, sizes);
-    if f != 0 {
-        return f;
-    }
+    side(&code[..e], abstracts, names, sizes)?;
     side(&code[e..], concretes, names, sizes)
 }
 
@@ -116,30 +112,25 @@ fn operation(
     concretes: &[u16],
     names: &mut [u16],
     sizes: &[u16],
-) -> u32
-    ensures { OperationSeen code.now abstracts.now concretes.now names.old names.new sizes.now result }
+) -> Result<(), Fault>
+    ensures { OperationSeen code.now abstracts.now concretes.now names.old names.new sizes.now (refused_key result) }
 {
     if code.len() < node::SIZE {
-        return 0;
+        return Ok(());
     }
-    let x = index(code[node::A]);
+    let x = usize::from(code[node::A]);
     let old = look(names, x);
-    let f = unless(
+    let titled = unless(
         old == entries::FREE,
-        wide(code[node::PLACE]) + 1,
-        faults::NAME_IN_USE,
+        usize::from(code[node::PLACE]) + 1,
+        Refusal::NameInUse,
     );
-    if f != 0 {
-        return f;
-    }
+    all_well(titled)?;
     put(names, x, entries::USED);
     let rest = &code[node::SIZE..];
     let e = declared_end(rest);
     let parameters = &rest[..e];
-    let g = declare(parameters, names, sizes);
-    if g != 0 {
-        return g;
-    }
+    declare(parameters, names, sizes)?;
     let h = sides(&rest[e..], abstracts, concretes, names, sizes);
     hide(parameters, PLAIN, entries::FREE, names);
     h
@@ -163,19 +154,16 @@ fn operations(
     concretes: &[u16],
     names: &mut [u16],
     sizes: &[u16],
-) -> u32
-    ensures { OperationsSeen code.now abstracts.now concretes.now names.old sizes.now result }
+) -> Result<(), Fault>
+    ensures { OperationsSeen code.now abstracts.now concretes.now names.old sizes.now (refused_key result) }
 {
     let mut at: usize = 0;
     while node::SIZE <= code.len() - at {
         let e = operation_end(code, at);
-        let f = operation(&code[at..e], abstracts, concretes, names, sizes);
-        if f != 0 {
-            return f;
-        }
+        operation(&code[at..e], abstracts, concretes, names, sizes)?;
         at = e;
     }
-    0
+    Ok(())
 }
 
 // ainit, cinit, retrieve.
@@ -185,38 +173,21 @@ fn conditions(
     concretes: &[u16],
     names: &mut [u16],
     sizes: &[u16],
-) -> u32
-    ensures { ConditionsSeen code.now abstracts.now concretes.now names.old names.new sizes.now result }
+) -> Result<(), Fault>
+    ensures { ConditionsSeen code.now abstracts.now concretes.now names.old names.new sizes.now (refused_key result) }
 {
     let p = predicate_end(code, 0);
     let q = predicate_end(code, p);
     show(abstracts, PLAIN, names);
-    let f = condition(&code[..p], names, sizes);
-    if f != 0 {
-        return f;
-    }
+    condition(&code[..p], names, sizes)?;
     hide(abstracts, PLAIN, entries::USED, names);
     show(concretes, PLAIN, names);
-    let g = condition(&code[p..q], names, sizes);
-    if g != 0 {
-        return g;
-    }
+    condition(&code[p..q], names, sizes)?;
     show(abstracts, PLAIN, names);
     let h = condition(&code[q..], names, sizes);
     hide(abstracts, PLAIN, entries::USED, names);
     hide(concretes, PLAIN, entries::USED, names);
     h
-}
-
-// All numbers become 0.
-pub fn clear(a: &mut [u16])
-    ensures { a.new ≡ replicate (length a.old) 0 }
-{
-    let mut i: usize = 0;
-    while i < a.len() {
-        a[i] = 0;
-        i += 1;
-    }
 }
 
 // The nodes from one place to another; none where the places are not in order.
@@ -251,19 +222,16 @@ fn later(
     concretes: &[u16],
     names: &mut [u16],
     sizes: &[u16],
-) -> u32
-    ensures { LaterSeen three.now last.now abstracts.now concretes.now names.old sizes.now result }
+) -> Result<(), Fault>
+    ensures { LaterSeen three.now last.now abstracts.now concretes.now names.old sizes.now (refused_key result) }
 {
     let av = variables_of(abstracts);
     let cv = variables_of(concretes);
-    let f = conditions(three, av, cv, names, sizes);
-    if f != 0 {
-        return f;
-    }
+    conditions(three, av, cv, names, sizes)?;
     operations(last, av, cv, names, sizes)
 }
 
-// The least fault of the pass (place * KEY_ROOM + number + 1, places by symbols), or 0. The nodes are a dossier's, up to m; the places are where its parts begin.
+// The least fault of the pass, with its place by symbols. The nodes are a dossier's, up to m; the places are where its parts begin.
 pub(crate) fn check(
     nodes: &[u16],
     m: usize,
@@ -272,30 +240,20 @@ pub(crate) fn check(
     concretes: usize,
     ainit: usize,
     after: usize,
-    names: &mut [u16],
     sizes: &mut [u16],
-) -> u32
+) -> Result<(), Fault>
     requires { 8 ≤ length sizes.old }
-    ensures { CheckSeen nodes.now m givens abstracts concretes ainit after (length names.old) sizes.new result }
+    ensures { CheckSeen nodes.now m givens abstracts concretes ainit after 16384 sizes.new (refused_key result) }
 {
-    clear(names);
-    clear(sizes);
+    let mut names = [0u16; NAMES];
+    sizes.fill(0);
     let first = part(nodes, givens, abstracts);
-    let f = give(first, names, sizes);
-    if f != 0 {
-        return f;
-    }
+    give(first, &mut names, sizes)?;
     let one = part(nodes, abstracts, concretes);
-    let a = state(one, names, sizes);
-    if a != 0 {
-        return a;
-    }
+    state(one, &mut names, sizes)?;
     let two = part(nodes, concretes, ainit);
-    let c = state(two, names, sizes);
-    if c != 0 {
-        return c;
-    }
+    state(two, &mut names, sizes)?;
     let three = part(nodes, ainit, after);
     let last = part(nodes, after, m);
-    later(three, last, one, two, names, sizes)
+    later(three, last, one, two, &mut names, sizes)
 }

@@ -1,4 +1,5 @@
 -- The loops of the nest one inside the other: how each is entered, goes on when the one inside it is through, and is left. Assumes nothing.
+use Rattle.std.specs.Prelude.{Option, None, Some}
 use mathlib.Core.Path.{◌≡◌, sym, ap, subst, ◌∙◌}
 use mathlib.Core.Bool.{Bool, true, false}
 use mathlib.Core.List.{List, ◌++◌}
@@ -9,7 +10,7 @@ use lib.IntN.{ℤ}
 use Rattle.plans.specs.declared.Part.{Part}
 use Rattle.idle_variables.specs.KeyPromises.{key_in}
 use Rattle.nest_steps.specs.declared.blocks.Masks.{Masks}
-use Rattle.nest_steps.specs.PartTests.{PartTests, Looked}
+use Rattle.nest_steps.specs.PartTests.{PartTests}
 use Rattle.nest_steps.specs.NestPromises.{Groups, Nest, NestAsked, ReadyAnswers, InputAnswers, OutputAnswers, AfterAnswers}
 use Rattle.nest.specs.SweepPromises.{SweepAnswers}
 use Rattle.nest_steps.specs.OpenBlocks.{pair_group, OpenConcrete, OpenAbstract}
@@ -220,22 +221,19 @@ module _ {table plan cells : List ℕ} {p : Part} {from end : ℕ} where
 
   -- ---- out of the nest
 
-  answered : {x at : ℕ} {failed : Bool} → from ≤ end → end ≤ x → at ≡ end → failed ≡ false
-      → ((G : Groups) (T : PartTests) → Nest table plan cells p G T → Past (passing p T) from end x) → SweepAnswers table plan cells p from end at failed
-  answered {x} {at} {failed} h g e f w =
-      record {
-        looked = λ G T N. subst (λ (t : ℕ). Looked (passing p T) from end t failed) (sym e)
-            (subst (λ (b : Bool). Looked (passing p T) from end end b) (sym f) (looked-all x h g (w G T N)));
-      }
+  answered : {x : ℕ} {failing : Option ℕ} → from ≤ end → end ≤ x → failing ≡ None
+      → ((G : Groups) (T : PartTests) → Nest table plan cells p G T → Past (passing p T) from end x) → SweepAnswers table plan cells p from end failing
+  answered {x} {failing} h g e w =
+      subst (λ (r : Option ℕ). SweepAnswers table plan cells p from end r) (sym e) (record { looked = λ G T N. looked-all x h g (w G T N) })
 
-  pub leave-abstracts : {a at : ℕ} {failed : Bool} {s : List (List ℤ)} → from ≤ end → InAbstracts table plan cells p from end a s → end ≤ a * per_abstract p → at ≡ end → failed ≡ false
-      → SweepAnswers table plan cells p from end at failed
-  leave-abstracts {a} h l g e f =
-      answered h g e f (λ G T N. past_same (ap (λ (t : ℕ). t * per_abstract p) (no_outer p.na a)) (l.each G T N).stands.past)
+  pub leave-abstracts : {a : ℕ} {failing : Option ℕ} {s : List (List ℤ)} → from ≤ end → InAbstracts table plan cells p from end a s → end ≤ a * per_abstract p → failing ≡ None
+      → SweepAnswers table plan cells p from end failing
+  leave-abstracts {a} h l g e =
+      answered h g e (λ G T N. past_same (ap (λ (t : ℕ). t * per_abstract p) (no_outer p.na a)) (l.each G T N).stands.past)
 
-  pub leave-last : {a at : ℕ} {failed : Bool} {s : List (List ℤ)} → from ≤ end → InAbstracts table plan cells p from end a s → p.na ≤ a
-      → end ≤ p.na * p.nc * p.ni * p.nq * p.nk → at ≡ end → failed ≡ false → SweepAnswers table plan cells p from end at failed
-  leave-last {a} h l g m e f = leave-abstracts h l (reached p.na p.nc p.ni p.nq p.nk a g m) e f
+  pub leave-last : {a : ℕ} {failing : Option ℕ} {s : List (List ℤ)} → from ≤ end → InAbstracts table plan cells p from end a s → p.na ≤ a
+      → end ≤ p.na * p.nc * p.ni * p.nq * p.nk → failing ≡ None → SweepAnswers table plan cells p from end failing
+  leave-last {a} h l g m e = leave-abstracts h l (reached p.na p.nc p.ni p.nq p.nk a g m) e
     where
       reached : (na nc ni nq nk a : ℕ) → na ≤ a → end ≤ na * nc * ni * nq * nk → end ≤ a * (nc * (ni * (nq * nk)))
       reached na nc ni nq nk a g m =
@@ -246,16 +244,16 @@ module _ {table plan cells : List ℕ} {p : Part} {from end : ℕ} where
           regroup : (a b c d e : ℕ) → a * b * c * d * e ≡ a * (b * (c * (d * e)))
           regroup a b c d e = omega arith
 
-  pub leave-concretes : {a mask c at : ℕ} {failed : Bool} {s : List (List ℤ)} → from ≤ end → InConcretes table plan cells p from end a mask c s
-      → end ≤ (a * p.nc + c) * per_concrete p → at ≡ end → failed ≡ false → SweepAnswers table plan cells p from end at failed
-  leave-concretes h l g e f = answered h g e f (λ G T N. (l.each G T N).stands.past)
+  pub leave-concretes : {a mask c : ℕ} {failing : Option ℕ} {s : List (List ℤ)} → from ≤ end → InConcretes table plan cells p from end a mask c s
+      → end ≤ (a * p.nc + c) * per_concrete p → failing ≡ None → SweepAnswers table plan cells p from end failing
+  leave-concretes h l g e = answered h g e (λ G T N. (l.each G T N).stands.past)
 
-  pub leave_afters : {a mask c i o k at : ℕ} {failed : Bool} {s : List (List ℤ)} → from ≤ end → InAfters table plan cells p from end a mask c i o k s
-      → end ≤ (((a * p.nc + c) * p.ni + i) * p.nq + o) * p.nk + k → at ≡ end → failed ≡ false → SweepAnswers table plan cells p from end at failed
-  leave_afters h l g e f = answered h g e f (λ G T N. past_same (mul-one _) (l.each G T N).stands.past)
+  pub leave_afters : {a mask c i o k : ℕ} {failing : Option ℕ} {s : List (List ℤ)} → from ≤ end → InAfters table plan cells p from end a mask c i o k s
+      → end ≤ (((a * p.nc + c) * p.ni + i) * p.nq + o) * p.nk + k → failing ≡ None → SweepAnswers table plan cells p from end failing
+  leave_afters h l g e = answered h g e (λ G T N. past_same (mul-one _) (l.each G T N).stands.past)
 
   pub leave-fault : {a mask c i o k : ℕ} {s₀ s₁ : List (List ℤ)} {known : List ℕ} {b : Bool} → InAfters table plan cells p from end a mask c i o k s₀ → k < p.nk
       → (((a * p.nc + c) * p.ni + i) * p.nq + o) * p.nk + k < end → AgainAnswers table plan cells p (numbered a c i o k) s₀ s₁ known b → b ≡ false
-      → SweepAnswers table plan cells p from end ((((a * p.nc + c) * p.ni + i) * p.nq + o) * p.nk + k) true
+      → SweepAnswers table plan cells p from end (Some ((((a * p.nc + c) * p.ni + i) * p.nq + o) * p.nk + k))
   leave-fault l h g y e =
       record { looked = λ G T N. looked-fault _ l.low g (met-here l h y G T N ∙ e) (past_same (mul-one _) (l.each G T N).stands.past) }

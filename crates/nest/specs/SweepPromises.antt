@@ -1,9 +1,10 @@
 -- What the search of a part promises. Nothing here need be believed.
-use Rattle.std.specs.Prelude.{Bool, List, ℕ}
+use Rattle.std.specs.Prelude.{Option, is_some, List, ℕ}
 use Rattle.plans.specs.declared.Part.{Part}
-use Rattle.nest_steps.specs.PartTests.{PartTests, passes_from, Looked}
+use Rattle.nest_steps.specs.PartTests.{PartTests, passes_from, stopped_at, Looked}
 use Rattle.nest_steps.specs.NestPromises.{Groups, Nest}
 
--- the whole part
-pub record SweepAnswers (table plan cells : List ℕ) (p : Part) (from end at : ℕ) (failed : Bool) : Type 0 where
-  pub looked : (G : Groups) (T : PartTests) → Nest table plan cells p G T → Looked (passes_from T p.nc p.ni p.nq p.nk) from end at failed
+-- the whole part: the first place that fails, if one does
+pub record SweepAnswers (table plan cells : List ℕ) (p : Part) (from end : ℕ) (failing : Option ℕ) : Type 0 where
+  pub looked : (G : Groups) (T : PartTests) → Nest table plan cells p G T
+      → Looked (passes_from T p.nc p.ni p.nq p.nk) from end (stopped_at end failing) (is_some failing)

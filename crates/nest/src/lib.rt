@@ -2,176 +2,93 @@
 // it lies in a block that passes as one did that was looked at whole. Places are counted by arithmetic.
 #![tactic(auto)]
 
-ghost use Rattle.std.specs.Prelude.{◌≡◌, ◌-◌, ◌*◌, ◌≤◌};
+ghost use Rattle.std.specs.Prelude.{◌≡◌, ◌*◌, ◌≤◌};
 ghost use Rattle.nest_steps.specs.NestPromises.{NestAsked};
 ghost use Rattle.nest.specs.SweepPromises.{SweepAnswers};
 
-use idle_variables::keys::{KEYS, is_within};
+use idle_variables::keys::{KEYS, is_within, make_mark};
 use nest_steps::blocks::{
-    masks_of, next_open_abstract, next_open_concrete, pair_mark, remember_pair, remember_whole,
+    PASSES, concrete_group, masks_of, next_open_abstract, next_open_concrete, pair_mark,
+    whole_group,
 };
 use nest_steps::candidates::{next_after, next_output};
 use nest_steps::known::{KNOWN, Numbers};
 use nest_steps::{next_input, passes_again, ready};
-use plans::Part;
+use plans::PartSearch;
 
-// Where a search of a part stopped, and whether the binding there fails.
-#[derive(Clone, Copy)]
-pub struct Swept {
-    pub at: usize,
-    pub failed: bool,
-}
-
-// How far x is behind y.
-fn behind(x: usize, y: usize) -> usize
-    ensures { result ≡ x - y }
-{
-    if x < y {
-        return 0;
-    }
-    x - y
-}
-
-// Looks at the bindings of a part from the place `from` up to the place `end`, and stops at the first that fails.
+// Looks at the bindings of a part from the place `from` up to the place `end`, and stops at the first that fails: its place.
 pub fn sweep(
-    t: &[u16; 16384],
-    plan: &[u16; 20560],
-    cells: &[u32; 9216],
-    p: Part,
+    s: &PartSearch<'_>,
     from: usize,
     end: usize,
     slots: &mut [[i64; 64]; 2],
-) -> Swept
-    requires from_le_end { (from ≤ end) × (end ≤ p.na * p.nc * p.ni * p.nq * p.nk) }
-    requires nest_asked { NestAsked t.now plan.now cells.now p slots.old }
-    ensures { SweepAnswers t.now plan.now cells.now p from end result.at result.failed }
+) -> Option<usize>
+    requires from_le_end { (from ≤ end) × (end ≤ s.now.part.na * s.now.part.nc * s.now.part.ni * s.now.part.nq * s.now.part.nk) }
+    requires nest_asked { NestAsked s.now.table.now s.now.plan.now s.now.cells.now s.now.part slots.old }
+    ensures { SweepAnswers s.now.table.now s.now.plan.now s.now.cells.now s.now.part from end result }
 {
+    let p = &s.part;
     // How many places a binding of each group has: of outputs nk, of inputs by_input, ..
     let by_input = p.nq * p.nk;
     let by_concrete = p.ni * by_input;
     let by_abstract = p.nc * by_concrete;
     let mut known = [0u16; KNOWN];
     let mut memo = [0u64; memo::NUMBERS];
-    let masks = masks_of(t, plan, p);
+    let masks = masks_of(s);
+    let wholes = whole_group(p, masks);
+    let concretes = concrete_group(p, masks);
     let mut done = [0u16; KEYS];
     let mut seen = [0u16; KEYS];
-    let mut at = end;
-    let mut failed = false;
-    let mut a = next_open_abstract(
-        t,
-        plan,
-        cells,
-        p,
-        from / by_abstract,
-        masks,
-        slots,
-        &mut memo,
-        &done,
-    );
+    let mut failing = None;
+    let mut a = next_open_abstract(s, from / by_abstract, masks, slots, &mut memo, &done);
     'abstracts: while a < p.na {
         let first = a * by_abstract;
         if end <= first {
             break 'abstracts;
         }
-        let mark = pair_mark(cells, p, masks, a);
-        let mask = ready(t, plan, cells, p, slots, &mut memo);
-        let mut c = next_open_concrete(
-            t,
-            plan,
-            cells,
-            p,
-            behind(from / by_concrete, a * p.nc),
-            masks,
-            mark,
-            slots,
-            &mut memo,
-            &seen,
-        );
+        let mark = pair_mark(s, masks, a);
+        let mask = ready(s, slots, &mut memo);
+        let start = (from / by_concrete).saturating_sub(a * p.nc);
+        let mut c = next_open_concrete(s, start, masks, mark, slots, &mut memo, &seen);
         while c < p.nc {
             let x = a * p.nc + c;
             let within = x * by_concrete;
             if end <= within {
                 break 'abstracts;
             }
-            let mut i = next_input(cells, p, mask, behind(from / by_input, x * p.ni), slots);
+            let start = (from / by_input).saturating_sub(x * p.ni);
+            let mut i = next_input(s, mask, start, slots);
             while i < p.ni {
                 let y = x * p.ni + i;
-                let mut o = next_output(
-                    t,
-                    plan,
-                    cells,
-                    p,
-                    behind(from / p.nk, y * p.nq),
-                    slots,
-                    &mut memo,
-                );
+                let start = (from / p.nk).saturating_sub(y * p.nq);
+                let mut o = next_output(s, start, slots, &mut memo);
                 while o < p.nq {
                     let z = y * p.nq + o;
-                    let mut k = next_after(
-                        t,
-                        plan,
-                        cells,
-                        p,
-                        behind(from, z * p.nk),
-                        slots,
-                        &mut memo,
-                    );
+                    let start = from.saturating_sub(z * p.nk);
+                    let mut k = next_after(s, start, slots, &mut memo);
                     while k < p.nk {
                         let place = z * p.nk + k;
                         if end <= place {
                             break 'abstracts;
                         }
-                        if !passes_again(
-                            t,
-                            plan,
-                            cells,
-                            p,
-                            Numbers { a, c, i, o, k },
-                            slots,
-                            &mut known,
-                            &mut memo,
-                        ) {
-                            at = place;
-                            failed = true;
+                        let b = Numbers { a, c, i, o, k };
+                        if !passes_again(s, b, slots, &mut known, &mut memo) {
+                            failing = Some(place);
                             break 'abstracts;
                         }
-                        k = next_after(t, plan, cells, p, k + 1, slots, &mut memo);
+                        k = next_after(s, k + 1, slots, &mut memo);
                     }
-                    o = next_output(t, plan, cells, p, o + 1, slots, &mut memo);
+                    o = next_output(s, o + 1, slots, &mut memo);
                 }
-                i = next_input(cells, p, mask, i + 1, slots);
+                i = next_input(s, mask, i + 1, slots);
             }
-            remember_pair(
-                cells,
-                p,
-                c,
-                masks,
-                mark,
-                is_within(from, end, within, by_concrete),
-                &mut seen,
-            );
-            c = next_open_concrete(
-                t,
-                plan,
-                cells,
-                p,
-                c + 1,
-                masks,
-                mark,
-                slots,
-                &mut memo,
-                &seen,
-            );
+            let whole = is_within(from, end, within, by_concrete);
+            make_mark(s.cells, concretes, c, mark, whole, &mut seen);
+            c = next_open_concrete(s, c + 1, masks, mark, slots, &mut memo, &seen);
         }
-        remember_whole(
-            cells,
-            p,
-            a,
-            masks,
-            is_within(from, end, first, by_abstract),
-            &mut done,
-        );
-        a = next_open_abstract(t, plan, cells, p, a + 1, masks, slots, &mut memo, &done);
+        let whole = is_within(from, end, first, by_abstract);
+        make_mark(s.cells, wholes, a, PASSES, whole, &mut done);
+        a = next_open_abstract(s, a + 1, masks, slots, &mut memo, &done);
     }
-    Swept { at, failed }
+    failing
 }

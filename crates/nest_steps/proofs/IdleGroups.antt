@@ -13,7 +13,8 @@ use Rattle.points.proofs.SearchLevels.{planned-counts}
 use Rattle.plans.specs.declared.Part.{Part}
 use Rattle.idle_variables.specs.KeyedNumbers.{Idle, Ignores}
 use Rattle.idle_variables.specs.IdlePromises.{SearchesIdle, PlanAsked, MaskSays}
-use Rattle.idle_variables.specs.KeyPromises.{KeyAsked}
+use Rattle.idle_variables.specs.declared.keys.KeyGroup.{KeyGroup}
+use Rattle.idle_variables.specs.KeyPromises.{key_in, KeyAsked, MarkSays, Marked}
 use Rattle.idle_variables.proofs.KeyedPoints.{moved-placed}
 use Rattle.idle_variables.proofs.IdleSearches.{idle_by, search_idle}
 use Rattle.idle_variables.proofs.IdleMasks.{mask_ignores}
@@ -145,3 +146,15 @@ masks-found a b c =
       };
       wholes = λ cells G T N. record { related = related-by N b (omega arith); ready = ready_by N b (omega arith); met = met_by N b (omega arith) };
     }
+
+-- ---- a group of keys that is equal to another
+
+pub asked-in : {cells : List ℕ} {g h : KeyGroup} → g ≡ h → KeyAsked cells h → KeyAsked cells g
+asked-in {cells} e w = subst (λ (k : KeyGroup). KeyAsked cells k) (sym e) w
+
+pub says-in : {cells : List ℕ} {g h : KeyGroup} {x mark : ℕ} {marks : List ℕ} {r : Bool} → g ≡ h → MarkSays cells g x mark marks r → MarkSays cells h x mark marks r
+says-in {cells} {g} {h} {x} {mark} {marks} {r} e w = subst (λ (k : KeyGroup). MarkSays cells k x mark marks r) e w
+
+pub marked-in : (cells : List ℕ) (x : ℕ) {g h : KeyGroup} {may : Bool} {mark : ℕ} {before after : List ℕ} → g ≡ h → Marked may (key_in cells g x) mark before after
+    → Marked may (key_in cells h x) mark before after
+marked-in cells x {g} {h} {may} {mark} {before} {after} e w = subst (λ (k : KeyGroup). Marked may (key_in cells k x) mark before after) e w

@@ -1,5 +1,5 @@
 -- The tests of a part by the numbers of its groups' bindings: abstract, concrete, inputs, outputs, concrete primed. Nothing here need be believed.
-use Rattle.std.specs.Prelude.{◌≡◌, Bool, true, false, not, ◌&&◌, ◌||◌, ℕ, ◌/◌, ◌%◌, ◌<◌, ◌≤◌}
+use Rattle.std.specs.Prelude.{◌≡◌, Option, None, Some, Bool, true, false, not, ◌&&◌, ◌||◌, ℕ, ◌/◌, ◌%◌, ◌<◌, ◌≤◌}
 
 -- the premises one after the other, and what must be there where they hold; `front`: no test without a primed variable excludes these outputs
 pub record PartTests : Type 0 where
@@ -18,6 +18,11 @@ passes_at T a c i o k = not (T.state a && T.related a c && T.ready a i && T.step
 unfoldable pub passes_from : PartTests → (nc ni nq nk : ℕ) → (place : ℕ) → Bool
 passes_from T nc ni nq nk place =
     passes_at T (place / nk / nq / ni / nc) (place / nk / nq / ni % nc) (place / nk / nq % ni) (place / nk % nq) (place % nk)
+
+-- where a search up to an end stopped that found the first failing place, or none
+abbrev pub stopped_at : (end : ℕ) → Option ℕ → ℕ
+stopped_at end None = end
+stopped_at end (Some at) = at
 
 -- from a place up to an end: all before `at` pass; it failed there, or it came to the end
 pub record Looked (f : ℕ → Bool) (from end at : ℕ) (failed : Bool) : Type 0 where

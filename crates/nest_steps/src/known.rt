@@ -18,9 +18,9 @@ pub struct Numbers {
 }
 
 // Where a conclusion has its mark: by what it depends on but for the abstract state.
-pub(crate) fn key_of(p: Part, b: Numbers) -> usize
-    requires { Inside p b }
-    ensures { result ≡ key_of p b }
+pub(crate) fn key_of(p: &Part, b: Numbers) -> usize
+    requires { Inside p.now b }
+    ensures { result ≡ key_of p.now b }
 {
     if p.primed {
         return (b.i * p.nq + b.o) * p.nk + b.k;
@@ -29,9 +29,9 @@ pub(crate) fn key_of(p: Part, b: Numbers) -> usize
 }
 
 // The mark: the abstract state, where the conclusion depends on it. 0 is the mark of nothing.
-pub(crate) fn mark_of(p: Part, b: Numbers) -> u16
-    requires { Inside p b }
-    ensures { result ≡ mark_of p b }
+pub(crate) fn mark_of(p: &Part, b: Numbers) -> u16
+    requires { Inside p.now b }
+    ensures { result ≡ mark_of p.now b }
 {
     if p.primed {
         return (b.a + 1) as u16;
@@ -44,18 +44,14 @@ pub(crate) fn is_known(known: &[u16], key: usize, mark: u16) -> bool
     requires { length known.now ≡ 65536 }
     ensures { result ≡ true → get_or known.now key 0 ≡ mark }
 {
-    if KNOWN <= key {
-        return false;
-    }
-    known[key] == mark
+    key < KNOWN && known[key] == mark
 }
 
 pub(crate) fn remember(known: &mut [u16], key: usize, mark: u16)
     requires { length known.old ≡ 65536 }
     ensures { Noted key mark known.old known.new }
 {
-    if KNOWN <= key {
-        return;
+    if key < KNOWN {
+        known[key] = mark;
     }
-    known[key] = mark;
 }

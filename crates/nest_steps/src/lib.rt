@@ -10,7 +10,7 @@ ghost use Rattle.nest_steps.specs.NestPromises.{NestAsked, AbstractPreAnswers, P
 ghost use Rattle.nest_steps.specs.Remembering.{Remembered, BindingAsked, AgainAnswers};
 
 use crate::known::{Numbers, is_known, key_of, mark_of, remember};
-use plans::Part;
+use plans::PartSearch;
 use points::plan::{MET, READY};
 use points::slots::{BEFORE, INPUTS};
 use seek::{Span, seek};
@@ -20,89 +20,64 @@ pub mod blocks;
 pub mod candidates;
 pub mod known;
 
-// Does the abstract precondition hold at this abstract state and these inputs?
+// Does the abstract precondition hold at this abstract state and these inputs? This and `passes` are each one call of `seek`, as the functions of `candidates`, with a promise of its own.
 fn abstract_pre(
-    t: &[u16; 16384],
-    plan: &[u16; 20560],
-    cells: &[u32; 9216],
-    p: Part,
+    s: &PartSearch<'_>,
     slots: &mut [[i64; 64]; 2],
     memo: &mut [u64; memo::NUMBERS],
 ) -> bool
-    requires nest_asked { NestAsked t.now plan.now cells.now p slots.old }
-    requires memo { Memo t.now memo.old }
-    ensures answers { AbstractPreAnswers t.now plan.now cells.now p slots.old slots.new result }
-    ensures remembers { Memo t.now memo.new }
+    requires nest_asked { NestAsked s.now.table.now s.now.plan.now s.now.cells.now s.now.part slots.old }
+    requires memo { Memo s.now.table.now memo.old }
+    ensures answers { AbstractPreAnswers s.now.table.now s.now.plan.now s.now.cells.now s.now.part slots.old slots.new result }
+    ensures remembers { Memo s.now.table.now memo.new }
 {
-    seek(
-        t,
-        plan,
-        cells,
-        Span {
-            u: READY,
-            j: 0,
-            m: p.vr,
-            w: p.nr,
-            from: 0,
-        },
-        slots,
-        memo,
-    ) < p.nr
+    let span = Span {
+        u: READY,
+        j: 0,
+        m: s.part.vr,
+        w: s.part.nr,
+        from: 0,
+    };
+    seek(s, span, slots, memo) < s.part.nr
 }
 
 // Does a binding pass whose premises hold?
-fn passes(
-    t: &[u16; 16384],
-    plan: &[u16; 20560],
-    cells: &[u32; 9216],
-    p: Part,
-    slots: &mut [[i64; 64]; 2],
-    memo: &mut [u64; memo::NUMBERS],
-) -> bool
-    requires nest_asked { NestAsked t.now plan.now cells.now p slots.old }
-    requires memo { Memo t.now memo.old }
-    ensures answers { MetAnswers t.now plan.now cells.now p slots.old slots.new result }
-    ensures remembers { Memo t.now memo.new }
+fn passes(s: &PartSearch<'_>, slots: &mut [[i64; 64]; 2], memo: &mut [u64; memo::NUMBERS]) -> bool
+    requires nest_asked { NestAsked s.now.table.now s.now.plan.now s.now.cells.now s.now.part slots.old }
+    requires memo { Memo s.now.table.now memo.old }
+    ensures answers { MetAnswers s.now.table.now s.now.plan.now s.now.cells.now s.now.part slots.old slots.new result }
+    ensures remembers { Memo s.now.table.now memo.new }
 {
-    seek(
-        t,
-        plan,
-        cells,
-        Span {
-            u: MET,
-            j: 0,
-            m: p.vm,
-            w: p.nm,
-            from: 0,
-        },
-        slots,
-        memo,
-    ) < p.nm
+    let span = Span {
+        u: MET,
+        j: 0,
+        m: s.part.vm,
+        w: s.part.nm,
+        from: 0,
+    };
+    seek(s, span, slots, memo) < s.part.nm
 }
 
 // The same of the binding that the slots have; not searched for where it is known.
 pub fn passes_again(
-    t: &[u16; 16384],
-    plan: &[u16; 20560],
-    cells: &[u32; 9216],
-    p: Part,
+    s: &PartSearch<'_>,
     b: Numbers,
     slots: &mut [[i64; 64]; 2],
     known: &mut [u16],
     memo: &mut [u64; memo::NUMBERS],
 ) -> bool
-    requires binding_asked { BindingAsked t.now plan.now cells.now p b slots.old }
-    requires remembered { Remembered t.now plan.now cells.now p known.old }
-    requires memo { Memo t.now memo.old }
-    ensures answers { AgainAnswers t.now plan.now cells.now p b slots.old slots.new known.new result }
-    ensures remembers { Memo t.now memo.new }
+    requires binding_asked { BindingAsked s.now.table.now s.now.plan.now s.now.cells.now s.now.part b slots.old }
+    requires remembered { Remembered s.now.table.now s.now.plan.now s.now.cells.now s.now.part known.old }
+    requires memo { Memo s.now.table.now memo.old }
+    ensures answers { AgainAnswers s.now.table.now s.now.plan.now s.now.cells.now s.now.part b slots.old slots.new known.new result }
+    ensures remembers { Memo s.now.table.now memo.new }
 {
-    let key = key_of(p, b);
-    let mark = mark_of(p, b);
+    let key = key_of(&s.part, b);
+    let mark = mark_of(&s.part, b);
     if is_known(known, key, mark) {
         return true;
     }
-    if !passes(t, plan, cells, p, slots, memo) {
+    if !passes(s, slots, memo) {
         return false;
     }
     remember(known, key, mark);
@@ -111,45 +86,33 @@ pub fn passes_again(
 
 // The abstract precondition at the i-th inputs.
 fn pre_at(
-    t: &[u16; 16384],
-    plan: &[u16; 20560],
-    cells: &[u32; 9216],
-    p: Part,
+    s: &PartSearch<'_>,
     i: usize,
     slots: &mut [[i64; 64]; 2],
     memo: &mut [u64; memo::NUMBERS],
 ) -> bool
-    requires i_lt_ni { i < p.ni }
-    requires nest_asked { NestAsked t.now plan.now cells.now p slots.old }
-    requires memo { Memo t.now memo.old }
-    ensures answers { PreAnswers t.now plan.now cells.now p i slots.old slots.new result }
-    ensures remembers { Memo t.now memo.new }
+    requires i_lt_ni { i < s.now.part.ni }
+    requires nest_asked { NestAsked s.now.table.now s.now.plan.now s.now.cells.now s.now.part slots.old }
+    requires memo { Memo s.now.table.now memo.old }
+    ensures answers { PreAnswers s.now.table.now s.now.plan.now s.now.cells.now s.now.part i slots.old slots.new result }
+    ensures remembers { Memo s.now.table.now memo.new }
 {
-    bind(cells, INPUTS, p.vi, p.ni, i, &mut slots[BEFORE]);
-    abstract_pre(t, plan, cells, p, slots, memo)
+    bind(s.cells, INPUTS, s.part.vi, s.part.ni, i, &mut slots[BEFORE]);
+    abstract_pre(s, slots, memo)
 }
 
 // The inputs at which the abstract precondition holds at this abstract state, as bits; the last one's first, so that each one doubles what is there.
-pub fn ready(
-    t: &[u16; 16384],
-    plan: &[u16; 20560],
-    cells: &[u32; 9216],
-    p: Part,
-    slots: &mut [[i64; 64]; 2],
-    memo: &mut [u64; memo::NUMBERS],
-) -> u64
-    requires nest_asked { NestAsked t.now plan.now cells.now p slots.old }
-    requires memo { Memo t.now memo.old }
-    ensures answers { ReadyAnswers t.now plan.now cells.now p slots.old slots.new result }
-    ensures remembers { Memo t.now memo.new }
+pub fn ready(s: &PartSearch<'_>, slots: &mut [[i64; 64]; 2], memo: &mut [u64; memo::NUMBERS]) -> u64
+    requires nest_asked { NestAsked s.now.table.now s.now.plan.now s.now.cells.now s.now.part slots.old }
+    requires memo { Memo s.now.table.now memo.old }
+    ensures answers { ReadyAnswers s.now.table.now s.now.plan.now s.now.cells.now s.now.part slots.old slots.new result }
+    ensures remembers { Memo s.now.table.now memo.new }
 {
-    let mut s: u64 = 0;
-    let mut i = p.ni;
-    while 0 < i {
-        i -= 1;
-        s = 2 * s + (pre_at(t, plan, cells, p, i, slots, memo) as u64);
+    let mut mask: u64 = 0;
+    for i in (0..s.part.ni).rev() {
+        mask = 2 * mask + u64::from(pre_at(s, i, slots, memo));
     }
-    s
+    mask
 }
 
 // The next one of these inputs from `from` on.
@@ -157,31 +120,23 @@ fn next_bit(mask: u64, from: usize, n: usize) -> usize
     requires { (from ≤ n) × (n ≤ 64) }
     ensures { Sought (has mask) from n result }
 {
-    let mut i = from;
-    while i < n {
+    for i in from..n {
         if (mask >> i) % 2 == 1 {
             return i;
         }
-        i += 1;
     }
     n
 }
 
 // The inputs have its values then.
-pub fn next_input(
-    cells: &[u32; 9216],
-    p: Part,
-    mask: u64,
-    from: usize,
-    slots: &mut [[i64; 64]; 2],
-) -> usize
-    requires from_le_ni { from ≤ p.ni }
-    requires input_asked { InputAsked cells.now p slots.old }
-    ensures { InputAnswers cells.now p mask from slots.old slots.new result }
+pub fn next_input(s: &PartSearch<'_>, mask: u64, from: usize, slots: &mut [[i64; 64]; 2]) -> usize
+    requires from_le_ni { from ≤ s.now.part.ni }
+    requires input_asked { InputAsked s.now.cells.now s.now.part slots.old }
+    ensures { InputAnswers s.now.cells.now s.now.part mask from slots.old slots.new result }
 {
-    let i = next_bit(mask, from, p.ni);
-    if i < p.ni {
-        bind(cells, INPUTS, p.vi, p.ni, i, &mut slots[BEFORE]);
+    let i = next_bit(mask, from, s.part.ni);
+    if i < s.part.ni {
+        bind(s.cells, INPUTS, s.part.vi, s.part.ni, i, &mut slots[BEFORE]);
     }
     i
 }

@@ -1,7 +1,7 @@
 // Where the declarations and the predicates of a dossier stand among its nodes.
 #![tactic(auto)]
 
-ghost use Rattle.std.specs.Prelude.{◌≡◌, ◌+◌, ◌≤◌, ◌<◌, length, take};
+ghost use Rattle.std.specs.Prelude.{◌+◌, ◌≤◌, ◌<◌, length, take};
 ghost use Rattle.node_spans.specs.Spans.{Spanned};
 ghost use Rattle.node_spans.specs.SpanPromises.{Puts, Three, StatePut, OperationPut, OperationsPut};
 
@@ -13,22 +13,12 @@ pub mod span;
 // The largest number of 16 bits.
 pub const LARGEST: usize = 65535;
 
-// A place as a number of 16 bits; 0 where it is none.
-pub fn short(x: usize) -> u16
-    ensures { (x ≤ 65535 → result ≡ x) × (65535 < x → result ≡ 0) }
-{
-    if LARGEST < x {
-        return 0;
-    }
-    x as u16
-}
-
-// A number behind the first n of the spans.
+// A number behind the first n of the spans. In the lent array 0 stands for a place that is no number of 16 bits: the nodes of a dossier have none.
 fn put(spans: &mut [u16], n: usize, x: usize)
     requires { n < length spans.old }
     ensures { Puts n x spans.old spans.new }
 {
-    spans[n] = short(x);
+    spans[n] = u16::try_from(x).unwrap_or(0);
 }
 
 fn three(spans: &mut [u16], n: usize, x: usize, y: usize, z: usize)
@@ -65,24 +55,21 @@ fn operation(nodes: &[u16], m: usize, from: usize, spans: &mut [u16], n: usize) 
 }
 
 // The operations from a place up to the end, 16 at the most, and how many they are.
-fn operations(nodes: &[u16], m: usize, from: usize, spans: &mut [u16]) -> usize
-    requires { length spans.old ≡ 80 }
+fn operations(nodes: &[u16], m: usize, from: usize, spans: &mut [u16; span::COUNT]) -> usize
     ensures { OperationsPut (take m nodes.now) m from spans.old spans.new result }
 {
     let mut at = from;
-    let mut k: usize = 0;
-    while k < span::MOST {
+    for k in 0..span::MOST {
         if m <= at {
             return k;
         }
         at = operation(nodes, m, at, spans, span::OPERATIONS + span::OPERATION * k);
-        k += 1;
     }
-    k
+    span::MOST
 }
 
-fn fill(nodes: &[u16], m: usize, spans: &mut [u16]) -> usize
-    requires { length spans.old ≡ 80 }
+// The numbers of a dossier's spans, in front of the lent array; how many operations it has.
+pub fn spans(nodes: &[u16], m: usize, spans: &mut [u16; span::COUNT]) -> usize
     ensures { Spanned nodes.now m spans.old spans.new result }
 {
     let s = sections(nodes, m);
@@ -97,11 +84,4 @@ fn fill(nodes: &[u16], m: usize, spans: &mut [u16]) -> usize
     state(nodes, m, s.concretes, s.ainit, spans, span::CONCRETE_FIRST);
     three(spans, span::AINIT_END, s.cinit, s.retrieve, s.operations);
     operations(nodes, m, s.operations, spans)
-}
-
-// The numbers of a dossier's spans, in front of the lent array; how many operations it has.
-pub fn spans(nodes: &[u16], m: usize, spans: &mut [u16; span::COUNT]) -> usize
-    ensures { Spanned nodes.now m spans.old spans.new result }
-{
-    fill(nodes, m, spans)
 }

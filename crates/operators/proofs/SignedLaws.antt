@@ -146,6 +146,9 @@ module _ (x : ℤ) (f : SFits w64 x) (a : Small x) where
 pub of_16 : (n : ℕ) → Fits w16 n → to_z w64 n ≡ pos n
 of_16 n f = to_z_pos w64 {n = n} (lt_of_lt_of_le f.fits (lit≤ tt))
 
+widened : (n : ℕ) {z : ℤ} → Fits w16 n → z ≡ pos n → to_z w64 (of_z w64 z) ≡ pos n
+widened n f e = ap (λ (v : ℤ). to_z w64 (of_z w64 v)) e ∙ of_16 n f
+
 pub of_16_in_32 : (n : ℕ) → Fits w16 n → to_z w32 n ≡ pos n
 of_16_in_32 n f = to_z_pos w32 {n = n} (lt_of_lt_of_le f.fits (lit≤ tt))
 
@@ -161,12 +164,12 @@ module _ (n : ℕ) (f : Fits w16 n) where
 
 -- ---- the bit of a pair
 
-module _ (m : ℕ) (x y : ℤ) (l : Fits w16 m) (f : SFits w64 x) (g : SFits w64 y) (p : IsPlace x) (q : IsPlace y) where
+module _ (m : ℕ) (x y : ℤ) {z : ℤ} (l : Fits w16 m) (e : z ≡ pos m) (f : SFits w64 x) (g : SFits w64 y) (p : IsPlace x) (q : IsPlace y) where
   abbrev Row : ℤ
-  Row = to_z w64 (of_z w64 x) *ℤ to_z w64 m
+  Row = to_z w64 (of_z w64 x) *ℤ to_z w64 (of_z w64 z)
 
   row : Row ≡ pos (natural x * m)
-  row = ap₂ ◌*ℤ◌ (to_z-of_z f ∙ p.natural_is) (of_16 m l)
+  row = ap₂ ◌*ℤ◌ (to_z-of_z f ∙ p.natural_is) (widened m l e)
 
   few : natural x * m ≤ 16 * 2 ^ 16
   few = mul-le-mul (le_of_lt p.low) (le_of_lt l.fits)
@@ -190,22 +193,24 @@ module _ (m : ℕ) (x y : ℤ) (l : Fits w16 m) (f : SFits w64 x) (g : SFits w64
 -- ---- one of the n numbers from a low one on
 
 module _ (low : ℤ) (n : ℕ) (x : ℤ) (f : SFits w64 low) (l : Fits w16 n) (g : SFits w64 x) (a : nat_abs low < 131072) where
-  abbrev End : ℤ
-  End = to_z w64 (of_z w64 low) +ℤ to_z w64 n
-
-  end : End ≡ low +ℤ pos n
-  end = ap₂ ◌+ℤ◌ (to_z-of_z f) (of_16 n l)
-
-  pub end_fits : SFits w64 End
-  end_fits = rw end (record { sfits = lt_of_lt_of_le (add-mag low (pos n) 131072 (2 ^ 16) (lt_of_le_of_lt (mag_abs low) a) l.fits) (lit≤ tt) })
-
   test : {t : Bool} → le_z (to_z w64 (of_z w64 low)) (to_z w64 (of_z w64 x)) ≡ t → t ≡ le_z low x
   test e = sym e ∙ ap₂ le_z (to_z-of_z f) (to_z-of_z g)
-
-  pub from_low : le_z (to_z w64 (of_z w64 low)) (to_z w64 (of_z w64 x)) ≡ true → lt_z (to_z w64 (of_z w64 x)) (to_z w64 (of_z w64 End)) ≡ in_range low n x
-  unfolding in_range
-  from_low e = ap₂ lt_z (to_z-of_z g) (to_z-of_z end_fits ∙ end) ∙ ap (λ (t : Bool). t && lt_z x (low +ℤ pos n)) (test e)
 
   pub before-low : le_z (to_z w64 (of_z w64 low)) (to_z w64 (of_z w64 x)) ≡ false → false ≡ in_range low n x
   unfolding in_range
   before-low e = ap (λ (t : Bool). t && lt_z x (low +ℤ pos n)) (test e)
+
+  -- the end, from how many they are as the machine has it
+  module _ {z : ℤ} (h : z ≡ pos n) where
+    abbrev End : ℤ
+    End = to_z w64 (of_z w64 low) +ℤ to_z w64 (of_z w64 z)
+
+    end : End ≡ low +ℤ pos n
+    end = ap₂ ◌+ℤ◌ (to_z-of_z f) (widened n l h)
+
+    pub end_fits : SFits w64 End
+    end_fits = rw end (record { sfits = lt_of_lt_of_le (add-mag low (pos n) 131072 (2 ^ 16) (lt_of_le_of_lt (mag_abs low) a) l.fits) (lit≤ tt) })
+
+    pub from_low : le_z (to_z w64 (of_z w64 low)) (to_z w64 (of_z w64 x)) ≡ true → lt_z (to_z w64 (of_z w64 x)) (to_z w64 (of_z w64 End)) ≡ in_range low n x
+    unfolding in_range
+    from_low e = ap₂ lt_z (to_z-of_z g) (to_z-of_z end_fits ∙ end) ∙ ap (λ (t : Bool). t && lt_z x (low +ℤ pos n)) (test e)

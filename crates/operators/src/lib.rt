@@ -1,4 +1,5 @@
-// What operators do to values: a number is itself, an element its place, a set its bits. An operator is told by its symbol's code.
+// What operators do to values: a number is itself, an element its place, a set its bits. An operator is told by its symbol's code:
+// the table that the caller lends has it as a number.
 #![tactic(auto)]
 
 ghost use Rattle.std.specs.Prelude.{◌≡◌, Bool, true, false, not, ℕ, ◌<◌, ◌≤◌, ℤ, pos, nat_abs, ◌+ℤ◌, ◌-ℤ◌};
@@ -35,18 +36,12 @@ const OR: u16 = codes::OR as u16;
 
 const IMPLIES: u16 = codes::IMPLIES as u16;
 
-// A set's bits, of a value that is one, and back.
+// A set's bits, of a value that is one.
 fn bits(x: i64) -> u16
     requires { IsBits x }
     ensures { result ≡ natural x }
 {
     x as u16
-}
-
-fn of_bits(s: u16) -> i64
-    ensures { result ≡ pos s }
-{
-    s as i64
 }
 
 // A prefix at a value; the sides of a set of pairs have n and m elements.
@@ -56,9 +51,9 @@ pub fn prefixed(code: u16, n: u16, m: u16, x: i64) -> i64
 {
     match code {
         DASH => -x,
-        SIZE => sets::size(bits(x)) as i64,
-        DOM => of_bits(sets::dom(n as u32, m as u32, bits(x))),
-        _ => of_bits(sets::ran(n as u32, m as u32, bits(x))),
+        SIZE => i64::from(sets::size(bits(x))),
+        DOM => i64::from(sets::dom(u32::from(n), u32::from(m), bits(x))),
+        _ => i64::from(sets::ran(u32::from(n), u32::from(m), bits(x))),
     }
 }
 
@@ -91,9 +86,9 @@ pub fn operated(code: u16, x: i64, y: i64) -> i64
         PLUS => x + y,
         DASH => x - y,
         TIMES => x * y,
-        UNION => of_bits(sets::union(bits(x), bits(y))),
-        MINUS => of_bits(sets::without(bits(x), bits(y))),
-        _ => of_bits(sets::inter(bits(x), bits(y))),
+        UNION => i64::from(sets::union(bits(x), bits(y))),
+        MINUS => i64::from(sets::without(bits(x), bits(y))),
+        _ => i64::from(sets::inter(bits(x), bits(y))),
     }
 }
 
@@ -102,7 +97,7 @@ pub fn single(x: i64) -> i64
     requires { IsPlace x }
     ensures { result ≡ pos (sets.single (natural x)) }
 {
-    of_bits(sets::single(x as u32))
+    i64::from(sets::single(x as u32))
 }
 
 // The bit of the pair (x, y), where the second side has m elements.
@@ -110,7 +105,7 @@ pub fn pair(m: u16, x: i64, y: i64) -> i64
     requires { IsPlace x × IsPlace y }
     ensures { result ≡ pos (sets.pair m (natural x) (natural y)) }
 {
-    x * (m as i64) + y
+    x * i64::from(m) + y
 }
 
 // One set with another.
@@ -118,7 +113,7 @@ pub fn joined(s: i64, t: i64) -> i64
     requires { IsBits s × IsBits t }
     ensures { result ≡ pos (sets.union (natural s) (natural t)) }
 {
-    of_bits(sets::union(bits(s), bits(t)))
+    i64::from(sets::union(bits(s), bits(t)))
 }
 
 // Is the element at place k, or the pair at the bit k, in the set s?
@@ -134,24 +129,15 @@ pub fn in_range(low: i64, n: u16, x: i64) -> bool
     requires { nat_abs low < 131072 }
     ensures { result ≡ numbered.in_range low n x }
 {
-    if low <= x {
-        return x < low + n as i64;
-    }
-    false
-}
-
-fn same(x: i64, y: i64) -> bool
-    ensures { result ≡ same_integer x y }
-{
-    x == y
+    low <= x && x < low + i64::from(n)
 }
 
 pub fn compared(code: u16, x: i64, y: i64) -> bool
     ensures { result ≡ numbered.compared code x y }
 {
     match code {
-        EQUALS => same(x, y),
-        DIFFERS => !same(x, y),
+        EQUALS => x == y,
+        DIFFERS => x != y,
         LESS => x < y,
         _ => x <= y,
     }
@@ -184,8 +170,5 @@ pub fn connected(code: u16, p: bool, q: bool) -> bool
 pub fn asked(yes: bool, b: bool) -> bool
     ensures { result ≡ numbered.asked yes b }
 {
-    if yes {
-        return b;
-    }
-    !b
+    yes == b
 }

@@ -1,36 +1,16 @@
 // A page: the items of an explanation one behind the other, each a phrase and the numbers that are filled into it. An item for which there is no room is left out.
 #![tactic(auto)]
 
-ghost use Rattle.std.specs.Prelude.{◌≤◌};
+ghost use Rattle.std.specs.Prelude.{◌≡◌, []};
+ghost use Rattle.pages.specs.PagePromises.{with_item, plain};
 
-// How many numbers an item has, how many items there may be, and how many numbers a page has: how many items there are, then these.
-const ITEM: usize = 10;
+use std::marker::Model;
 
+// How many items there may be.
 const ITEMS: usize = 400;
 
-pub const PAGE: usize = 1 + ITEM * ITEMS;
-
-// Where an item's numbers stand.
-const OPERATION: usize = 1;
-
-const N: usize = 2;
-
-const M: usize = 3;
-
-const ABSTRACT: usize = 4;
-
-const CONCRETE: usize = 5;
-
-const INPUTS: usize = 6;
-
-const OUTPUTS: usize = 7;
-
-const CONCRETE_AFTER: usize = 8;
-
-const ABSTRACT_AFTER: usize = 9;
-
 // A phrase, an operation, two numbers, and numbers of bindings: the abstract and the concrete state, inputs, outputs, the concrete and the abstract state after.
-#[derive(Drop)]
+#[derive(Clone, Copy)]
 pub struct Item {
     pub phrase: usize,
     pub operation: usize,
@@ -44,95 +24,79 @@ pub struct Item {
     pub b: usize,
 }
 
-fn number(page: &[usize; PAGE], k: usize) -> usize {
-    if k < PAGE {
-        return page[k];
-    }
-    0
-}
-
-fn put(page: &mut [usize; PAGE], k: usize, x: usize) {
-    if k < PAGE {
-        page[k] = x;
-    }
-}
-
-// How many items there are.
-pub fn count(page: &[usize; PAGE]) -> usize
-    ensures { result ≤ 400 }
+// A phrase with an operation and two numbers, and no binding.
+pub fn plain(phrase: usize, operation: usize, n: usize, m: usize) -> Item
+    ensures { result ≡ plain phrase operation n m }
 {
-    let n = number(page, 0);
-    if ITEMS < n {
-        return ITEMS;
-    }
-    n
-}
-
-// Where the k-th item begins; behind the page where there is none.
-fn place_of(k: usize) -> usize
-    ensures { result ≤ 4001 }
-{
-    if k < ITEMS {
-        return 1 + ITEM * k;
-    }
-    PAGE
-}
-
-pub fn add(page: &mut [usize; PAGE], e: Item) {
-    let k = count(page);
-    if k < ITEMS {
-        let at = place_of(k);
-        put(page, at, e.phrase);
-        put(page, at + OPERATION, e.operation);
-        put(page, at + N, e.n);
-        put(page, at + M, e.m);
-        put(page, at + ABSTRACT, e.a);
-        put(page, at + CONCRETE, e.c);
-        put(page, at + INPUTS, e.i);
-        put(page, at + OUTPUTS, e.o);
-        put(page, at + CONCRETE_AFTER, e.k);
-        put(page, at + ABSTRACT_AFTER, e.b);
-        put(page, 0, k + 1);
-    }
-}
-
-// The k-th item.
-pub fn item_at(page: &[usize; PAGE], k: usize) -> Item {
-    let at = place_of(k);
     Item {
-        phrase: number(page, at),
-        operation: number(page, at + OPERATION),
-        n: number(page, at + N),
-        m: number(page, at + M),
-        a: number(page, at + ABSTRACT),
-        c: number(page, at + CONCRETE),
-        i: number(page, at + INPUTS),
-        o: number(page, at + OUTPUTS),
-        k: number(page, at + CONCRETE_AFTER),
-        b: number(page, at + ABSTRACT_AFTER),
+        phrase,
+        operation,
+        n,
+        m,
+        a: 0,
+        c: 0,
+        i: 0,
+        o: 0,
+        k: 0,
+        b: 0,
     }
 }
 
-// A phrase alone.
-pub fn say(page: &mut [usize; PAGE], phrase: usize) {
-    say_of(page, phrase, 0, 0, 0);
+// The first `count` items are those that are said.
+#[derive(Drop)]
+pub struct Page {
+    items: [Item; ITEMS],
+    count: usize,
 }
 
-// A phrase with an operation and two numbers.
-pub fn say_of(page: &mut [usize; PAGE], phrase: usize, operation: usize, n: usize, m: usize) {
-    add(
-        page,
-        Item {
-            phrase,
-            operation,
-            n,
-            m,
-            a: 0,
-            c: 0,
-            i: 0,
-            o: 0,
-            k: 0,
-            b: 0,
-        },
-    );
+impl Model for Page {
+    ghost use Rattle.std.specs.Prelude.{List, take, ◌≤◌};
+    ghost use Rattle.pages.specs.declared.Item.{Item};
+
+    ghost Value = { List Item };
+
+    ghost view = { λ p. take p.count p.items };
+
+    ghost invariant = { λ p. p.count ≤ 400 };
+}
+
+impl Page {
+    pub fn new() -> Page
+        ensures { result ≡ [] }
+    {
+        Page {
+            items: [plain(0, 0, 0, 0); ITEMS],
+            count: 0,
+        }
+    }
+
+    // The items that are said, the first one first.
+    pub fn items(&self) -> &[Item]
+        ensures { result.now ≡ self.now }
+    {
+        &self.items[..self.count]
+    }
+
+    pub fn add(&mut self, e: Item)
+        ensures { self.new ≡ with_item self.old e }
+    {
+        if self.count < ITEMS {
+            self.items[self.count] = e;
+            self.count += 1;
+        }
+    }
+
+    // A phrase alone.
+    pub fn say(&mut self, phrase: usize)
+        ensures { self.new ≡ with_item self.old (plain phrase 0 0 0) }
+    {
+        self.say_of(phrase, 0, 0, 0);
+    }
+
+    // A phrase with an operation and two numbers.
+    pub fn say_of(&mut self, phrase: usize, operation: usize, n: usize, m: usize)
+        ensures { self.new ≡ with_item self.old (plain phrase operation n m) }
+    {
+        self.add(plain(phrase, operation, n, m));
+    }
 }

@@ -1,4 +1,5 @@
 -- Entries of the contents against bodies, given sets and operations alike: what the code compares, and the faults.
+use Rattle.std.specs.Prelude.{Some}
 use mathlib.Core.Path.{◌≡◌, refl, sym, ap, ◌∙◌, subst}
 use mathlib.Core.Bool.{Bool, true, false}
 use mathlib.Core.List.{List, [], ◌∷◌, ◌++◌, append_assoc}
@@ -14,7 +15,6 @@ use Rattle.lexical.proofs.WordLaws.{same_refl, same_true}
 use Rattle.form.specs.Tree.{Letters}
 use Rattle.form.specs.Codes.{node, Numbering, number_of_name, entry_codes}
 use Rattle.parser.specs.Sections.{Tells, size_of, size_at, Run, Compares, fits, extra, wants, differs, agrees}
-use Rattle.parser.specs.declared.headings.Heads.TheVariants.{Differ}
 use Rattle.parser.proofs.ItemNodes.{Split, split-next, split-as, split_at, split-length, size-here, Items, Outside, items-run}
 use Rattle.parser.proofs.HeadingOrder.{Rising, rising-from, headed}
 
@@ -115,7 +115,7 @@ module _ (c : List ℕ) (w : List Symbol) (ρ : Numbering) (s k low high to last
       let j : true ≡ false = sym (same_refl x) ∙ ap (same x) a ∙ y in
       let z : ◌≡◌ {A = ℕ} 0 1 = cc j in
       omega arith in
-      subst (λ (y : ℕ). Compares c (length c) low high to last z e h (Differ y)) n₃ (differs {e = e} {h = h} lu lv (omega arith) (omega arith) apart)
+      subst (λ (y : ℕ). Compares c (length c) low high to last z e h (Some y)) n₃ (differs {e = e} {h = h} lu lv (omega arith) (omega arith) apart)
 
 -- What the comparison finds is the first fault, or none.
 module _ (c : List ℕ) (w : List Symbol) (ρ : Numbering) (s k low high to last z : ℕ) (tells : Tells ρ w) (four₁ : (a : ℕ) → 4 ≡ size_of s a) (four₂ : (a : ℕ) → 4 ≡ size_of k a)
@@ -127,7 +127,7 @@ module _ (c : List ℕ) (w : List Symbol) (ρ : Numbering) (s k low high to last
   compares i e h [] [] u lu v lv is f g = fits {e = e} {h = h} (omega arith) (omega arith)
   compares i e h [] (b ∷ bs) u lu v lv is f g =
       let l = split-length v in
-      subst (λ (y : ℕ). Compares c (length c) low high to last z e h (Differ y)) (split_at v 2) (extra {e = e} {h = h} (omega arith) (omega arith) (omega arith))
+      subst (λ (y : ℕ). Compares c (length c) low high to last z e h (Some y)) (split_at v 2) (extra {e = e} {h = h} (omega arith) (omega arith) (omega arith))
   compares i e h (x ∷ xs) [] u lu v lv is f g = wants {e = e} {h = h} (omega arith) (omega arith)
   compares i e h (x ∷ xs) (b ∷ bs) u lu v lv is f g =
       let v₁ : Split c (h + 4) (b.inner ++ (body_codes k ρ bs ++ q₂)) =

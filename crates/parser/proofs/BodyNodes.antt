@@ -13,8 +13,9 @@ use Rattle.form_nodes.specs.FormPromises.{codes, run_at, after, Reads, Writes, C
 use Rattle.form_nodes.specs.Derivations as part
 use Rattle.form_nodes.specs.Derivations.{Part, Derives, Made, MadeAt, name_code, a_pred_from, a_condition, a_state, a_where, some_givens, some_declarations, some_parameters, some_operations, condition, state, where_of, an_operation, dossier}
 use Rattle.declarations.specs.DossierPromises.{More, MoreAt, Sequence, nothing, behind, SequenceAt, Sequenced, ContentsAt, ContentsMade, When}
+use Rattle.std.specs.Prelude.{Ok, Err}
 use Rattle.form_nodes.specs.declared.Read.{Read}
-use Rattle.form_nodes.specs.declared.Read.TheVariants.{At, Fault}
+use Rattle.form_nodes.specs.FormPromises.{Answer}
 use Rattle.form_nodes.proofs.ReadParts.{as_long, run-at, run_end, next}
 use Rattle.form_nodes.proofs.NodesOfParts.{from}
 use Rattle.declarations.proofs.ListNodes.{then-written}
@@ -68,9 +69,9 @@ in-front {n} {r} {b} {c} {x} m a y w e h l g =
     ∙ ap (λ (z : List ℕ). (take n a ++ x) ++ z) q ∙ append_assoc (take n a) x y
 
 -- a symbol closes what was read, with room left for one more node
-pub then-closes : {s : List ℕ} {at n e m k : ℕ} {ι : List Item} (κ : Kind) (r : Read) → code_of κ ≡ k → Reads s at (n + 4) ι (exact κ ∷ []) (At e m) → Closes s e k m r → Reads s at n ι [] r
-then-closes {s} {at} {n} {e} {m} κ (At f c) q a b =
-    let h : Reads s e m (exact κ ∷ []) [] (At f c) = b.reads κ q in
+pub then-closes : {s : List ℕ} {at n k : ℕ} {e : Read} {ι : List Item} (κ : Kind) (r : Answer) → code_of κ ≡ k → Reads s at (n + 4) ι (exact κ ∷ []) (Ok e) → Closes s e.at k e.count r → Reads s at n ι [] r
+then-closes {s} {at} {n} {e = e} κ (Ok f) q a b =
+    let h : Reads s e.at e.count (exact κ ∷ []) [] (Ok f) = b.reads κ q in
     let i = next a h in
     record {
       from = i.from;
@@ -78,28 +79,28 @@ then-closes {s} {at} {n} {e} {m} κ (At f c) q a b =
       count = let u = b.shown.0.0 in let v = b.shown.1 in let w = a.count in omega arith;
       same = i.same;
     }
-then-closes {s} {at} {n} {e} {m} κ (Fault f c) q a b =
+then-closes {s} {at} {n} {e = e} κ (Err f) q a b =
     let i = next a (b.reads κ q) in
     record { from = i.from; within = i.within; count = tt; same = i.same }
 
-pub when-known : (P : Type 0) {r : Read} {j m : ℕ} → r ≡ At j m → When P r → P
-when-known P q h = subst (λ (y : Read). When P y) q h
+pub when-known : (P : Type 0) {r : Answer} {j : Read} → r ≡ Ok j → When P r → P
+when-known P q h = subst (λ (y : Answer). When P y) q h
 
 module _ {s ν : List ℕ} where
   -- results that are known
-  pub more-known : {x : Part} {i n : ℕ} {a b : List ℕ} {r : Read} {j m : ℕ} → r ≡ At j m → More s ν x i n a b r → MoreAt s ν x i n a b j m
-  more-known {x} {i} {n} {a} {b} q h = subst (λ (y : Read). More s ν x i n a b y) q h
+  pub more-known : {x : Part} {i n : ℕ} {a b : List ℕ} {r : Answer} {j : Read} → r ≡ Ok j → More s ν x i n a b r → MoreAt s ν x i n a b j.at j.count
+  more-known {x} {i} {n} {a} {b} q h = subst (λ (y : Answer). More s ν x i n a b y) q h
 
-  pub sequence-known : {xs : List Part} {i n : ℕ} {a b : List ℕ} {r : Read} {j m : ℕ} → r ≡ At j m → Sequenced s ν xs i n a b r → SequenceAt s ν xs i n a b j m
-  sequence-known {xs} {i} {n} {a} {b} q h = subst (λ (y : Read). Sequenced s ν xs i n a b y) q h
+  pub sequence-known : {xs : List Part} {i n : ℕ} {a b : List ℕ} {r : Answer} {j : Read} → r ≡ Ok j → Sequenced s ν xs i n a b r → SequenceAt s ν xs i n a b j.at j.count
+  sequence-known {xs} {i} {n} {a} {b} q h = subst (λ (y : Answer). Sequenced s ν xs i n a b y) q h
 
-  pub contents-known : {b : List ℕ} {r : Read} {j m : ℕ} → r ≡ At j m → ContentsMade s ν b r → ContentsAt s ν b j m
-  contents-known {b} q h = subst (λ (y : Read). ContentsMade s ν b y) q h
+  pub contents-known : {b : List ℕ} {r : Answer} {j : Read} → r ≡ Ok j → ContentsMade s ν b r → ContentsAt s ν b j.at j.count
+  contents-known {b} q h = subst (λ (y : Answer). ContentsMade s ν b y) q h
 
   -- a predicate, the node in front of it and the word behind it
-  pub condition-made : {word i n e m p r : ℕ} {a b c : List ℕ} (t : Read) → MadeAt s ν (a_pred_from 1) i (n + 4) a b e m → Writes b n (node 7 i p 0) c r → (n + 4) + p ≡ m
+  pub condition-made : {word i n e m p r : ℕ} {a b c : List ℕ} (t : Answer) → MadeAt s ν (a_pred_from 1) i (n + 4) a b e m → Writes b n (node 7 i p 0) c r → (n + 4) + p ≡ m
       → n + 4 ≤ length a → m ≤ length b → Closes s e word m t → Made s ν (a_condition word) i n a c t
-  condition-made {word} {i} {n} {e} {m} {p} {r} {a} {b} {c} (At f d) h w q l g z =
+  condition-made {word} {i} {n} {e} {m} {p} {r} {a} {b} {c} (Ok f) h w q l g z =
       let u : p ≡ length h.nodes = let v = long-written (n + 4) m a b h.nodes h.written l g in omega arith in
       let y : MadeAt s ν (a_condition word) i n a c (e + 1) m =
       record {
@@ -110,26 +111,26 @@ module _ {s ν : List ℕ} where
             ∙ ap (λ (o : ℕ). take n a ++ (node 7 i o 0 ++ h.nodes)) u;
       }
       in
-      subst (λ (o : ℕ). MadeAt s ν (a_condition word) i n a c o d) (sym z.shown.0.0)
+      subst (λ (o : ℕ). MadeAt s ν (a_condition word) i n a c o f.count) (sym z.shown.0.0)
       (subst (λ (o : ℕ). MadeAt s ν (a_condition word) i n a c (e + 1) o) (sym z.shown.1) y)
-  condition-made (Fault f d) h w q l g z = tt
+  condition-made (Err f) h w q l g z = tt
 
   -- the body of a state
-  pub state-made : {word i n e x m j k d y : ℕ} {a b c : List ℕ} (g : List ℕ) (t : Read) → ((e ≡ i + 1) × (get_or s i 0 ≡ word)) × (x ≡ n) → Writes a n (node 5 i 0 0) b m → get_or s e 0 ≡ 2
+  pub state-made : {word i n e x m j k d y : ℕ} {a b c : List ℕ} (g : List ℕ) (t : Answer) → ((e ≡ i + 1) × (get_or s i 0 ≡ word)) × (x ≡ n) → Writes a n (node 5 i 0 0) b m → get_or s e 0 ≡ 2
       → MadeAt s ν some_declarations e m b c j k → ((d ≡ j + 1) × (get_or s j 0 ≡ 45)) × (y ≡ k) → Made s ν (a_condition 44) d k c g t → Made s ν (a_state word) i n a g t
-  state-made {i = i} {n} {m = m} {a = a} {b} g (At f l) p w q h r z =
+  state-made {i = i} {n} {m = m} {a = a} {b} g (Ok f) p w q h r z =
       record {
         nodes = node 5 i 0 0 ++ (h.nodes ++ z.nodes);
         derives = state p.0.1 (ap (λ (o : ℕ). get_or s o 0) (sym p.0.0) ∙ q) (from p.0.0 h.derives) r.0.1 (from r.0.0 z.derives);
         written = then-written (take n a) (node 5 i 0 0) (h.nodes ++ z.nodes) w.nodes (then-written (take m b) h.nodes z.nodes h.written z.written);
       }
-  state-made g (Fault f l) p w q h r z = tt
+  state-made g (Err f) p w q h r z = tt
 
   -- the body of an operation
-  pub operation-made : {i n p m e k d y f l : ℕ} {a b c g : List ℕ} (o : List ℕ) (t : Read) → get_or s i 0 ≡ 43 → get_or s (i + 1) 0 ≡ 2 → p ≡ name_code s ν (i + 1) → Writes a n (node 8 i p 0) b m
+  pub operation-made : {i n p m e k d y f l : ℕ} {a b c g : List ℕ} (o : List ℕ) (t : Answer) → get_or s i 0 ≡ 43 → get_or s (i + 1) 0 ≡ 2 → p ≡ name_code s ν (i + 1) → Writes a n (node 8 i p 0) b m
       → MadeAt s ν some_parameters (i + 1 + 1) m b c e k → ((d ≡ e + 1) × (get_or s e 0 ≡ 38)) × (y ≡ k) → MadeAt s ν (a_condition 39) d k c g f l
       → Made s ν (a_condition 44) f l g o t → More s ν some_operations i n a o t
-  operation-made {i} {n} {m = m} {k = k} {a = a} {b} {c} end (At u v) p q r w h x y z =
+  operation-made {i} {n} {m = m} {k = k} {a = a} {b} {c} end (Ok u) p q r w h x y z =
       let first : List ℕ = node 8 i (name_code s ν (i + 1)) 0 in
       record {
         nodes = first ++ (h.nodes ++ (y.nodes ++ z.nodes));
@@ -141,42 +142,42 @@ module _ {s ν : List ℕ} where
         written = then-written (take n a) first (h.nodes ++ (y.nodes ++ z.nodes)) (w.nodes ∙ ap (λ (b : ℕ). take n a ++ node 8 i b 0) r)
             (then-written (take m b) h.nodes (y.nodes ++ z.nodes) h.written (then-written (take k c) y.nodes z.nodes y.written z.written));
       }
-  operation-made end (Fault u v) p q r w h x y z = tt
+  operation-made end (Err u) p q r w h x y z = tt
 
   -- parts one behind another
-  pub sequence-then : {x : Part} {i n j m : ℕ} {a b : List ℕ} (xs : List Part) (c : List ℕ) (t : Read) → MadeAt s ν x i n a b j m → Sequenced s ν xs j m b c t
+  pub sequence-then : {x : Part} {i n j m : ℕ} {a b : List ℕ} (xs : List Part) (c : List ℕ) (t : Answer) → MadeAt s ν x i n a b j m → Sequenced s ν xs j m b c t
       → Sequenced s ν (x ∷ xs) i n a c t
-  sequence-then {n = n} {a = a} xs c (At k l) h z =
+  sequence-then {n = n} {a = a} xs c (Ok k) h z =
       record { nodes = h.nodes ++ z.nodes; parts = behind h.derives z.parts; written = then-written (take n a) h.nodes z.nodes h.written z.written }
-  sequence-then xs c (Fault k l) h z = tt
+  sequence-then xs c (Err k) h z = tt
 
   sequence-both : {xs ys : List Part} {i j k : ℕ} {m n : List ℕ} → Sequence s ν xs i j m → Sequence s ν ys j k n → Sequence s ν (xs ++ ys) i k (m ++ n)
   sequence-both nothing q = q
   sequence-both {xs = x ∷ xs} {ys} {i} {k = k} {n = n} (behind {m = u} {n = v} d p) q =
       subst (λ (z : List ℕ). Sequence s ν (x ∷ (xs ++ ys)) i k z) (sym (append_assoc u v n)) (behind d (sequence-both p q))
 
-  pub sequence-onto : {xs : List Part} {i n j m : ℕ} {a b : List ℕ} (ys : List Part) (c : List ℕ) (t : Read) → SequenceAt s ν xs i n a b j m → Sequenced s ν ys j m b c t
+  pub sequence-onto : {xs : List Part} {i n j m : ℕ} {a b : List ℕ} (ys : List Part) (c : List ℕ) (t : Answer) → SequenceAt s ν xs i n a b j m → Sequenced s ν ys j m b c t
       → Sequenced s ν (xs ++ ys) i n a c t
-  sequence-onto {n = n} {a = a} ys c (At k l) h z =
+  sequence-onto {n = n} {a = a} ys c (Ok k) h z =
       record { nodes = h.nodes ++ z.nodes; parts = sequence-both h.parts z.parts; written = then-written (take n a) h.nodes z.nodes h.written z.written }
-  sequence-onto ys c (Fault k l) h z = tt
+  sequence-onto ys c (Err k) h z = tt
 
 -- the body of ainit, cinit or retrieve
-pub where-made : {word e x d y : ℕ} (s ν : List ℕ) (i n : ℕ) (a b : List ℕ) (t : Read) → ((e ≡ i + 1) × (get_or s i 0 ≡ word)) × (x ≡ n) → ((d ≡ e + 1) × (get_or s e 0 ≡ 45)) × (y ≡ n)
+pub where-made : {word e x d y : ℕ} (s ν : List ℕ) (i n : ℕ) (a b : List ℕ) (t : Answer) → ((e ≡ i + 1) × (get_or s i 0 ≡ word)) × (x ≡ n) → ((d ≡ e + 1) × (get_or s e 0 ≡ 45)) × (y ≡ n)
     → Made s ν (a_condition 44) d n a b t → Made s ν (a_where word) i n a b t
-where-made s ν i n a b (At f l) p q z =
+where-made s ν i n a b (Ok f) p q z =
     record {
       nodes = z.nodes;
       derives = where_of p.0.1 (ap (λ (o : ℕ). get_or s o 0) (sym p.0.0) ∙ q.0.1) (from (q.0.0 ∙ ap (λ (o : ℕ). o + 1) p.0.0) z.derives);
       written = z.written;
     }
-where-made s ν i n a b (Fault f l) p q z = tt
+where-made s ν i n a b (Err f) p q z = tt
 
 -- a part that is the last
-pub sequence-last : (s ν : List ℕ) (x : Part) (i n : ℕ) (a b : List ℕ) (t : Read) → Made s ν x i n a b t → Sequenced s ν (x ∷ []) i n a b t
-sequence-last s ν x i n a b (At j m) h =
+pub sequence-last : (s ν : List ℕ) (x : Part) (i n : ℕ) (a b : List ℕ) (t : Answer) → Made s ν x i n a b t → Sequenced s ν (x ∷ []) i n a b t
+sequence-last s ν x i n a b (Ok j) h =
     record { nodes = h.nodes ++ []; parts = behind h.derives nothing; written = h.written ∙ ap (λ (z : List ℕ). take n a ++ z) (sym (append-nil h.nodes)) }
-sequence-last s ν x i n a b (Fault j m) h = tt
+sequence-last s ν x i n a b (Err j) h = tt
 
 -- a dossier, from its contents and its bodies
 pub dossier-made : {s ν a b c : List ℕ} {e m j l : ℕ} → ContentsAt s ν b e m
@@ -198,16 +199,16 @@ dossier-made {s} {ν} {a} {b} {c} {e} {m} {j} {l} h z = on z.nodes z.parts z.wri
         }
 
 -- the machine's run over the whole text
-pub whole_run : {s : List ℕ} {n : ℕ} {ο : List Item} {r : Read} → Reads s 0 n (a_dossier ∷ []) ο r → (w : List Symbol) → codes w ≡ s → run w ≡ after r w (ο ++ [])
+pub whole_run : {s : List ℕ} {n : ℕ} {ο : List Item} {r : Answer} → Reads s 0 n (a_dossier ∷ []) ο r → (w : List Symbol) → codes w ≡ s → run w ≡ after r w (ο ++ [])
 unfolding run run_at
 whole_run a w q = a.same w q []
 
 -- nothing is expected at the end of the text
-pub text-ends : {s : List ℕ} {n e m : ℕ} → Reads s 0 n (a_dossier ∷ []) [] (At e m) → length s ≤ e → (w : List Symbol) → codes w ≡ s → run w ≡ complete
+pub text-ends : {s : List ℕ} {n : ℕ} {e : Read} → Reads s 0 n (a_dossier ∷ []) [] (Ok e) → length s ≤ e.at → (w : List Symbol) → codes w ≡ s → run w ≡ complete
 unfolding ends
-text-ends {e = e} a l w q = whole_run a w q ∙ run_end w e [] (let h = as_long w q in omega arith)
+text-ends {e = e} a l w q = whole_run a w q ∙ run_end w e.at [] (let h = as_long w q in omega arith)
 
 -- before it, any symbol is one too many
-pub text-goes-on : {s : List ℕ} {n e m : ℕ} → Reads s 0 n (a_dossier ∷ []) [] (At e m) → e < length s → (w : List Symbol) → codes w ≡ s → run w ≡ failed e no_dossier
+pub text-goes-on : {s : List ℕ} {n : ℕ} {e : Read} → Reads s 0 n (a_dossier ∷ []) [] (Ok e) → e.at < length s → (w : List Symbol) → codes w ≡ s → run w ≡ failed e.at no_dossier
 unfolding step
-text-goes-on {e = e} a l w q = whole_run a w q ∙ run-at w e [] (let h = as_long w q in omega arith)
+text-goes-on {e = e} a l w q = whole_run a w q ∙ run-at w e.at [] (let h = as_long w q in omega arith)

@@ -1,4 +1,6 @@
 -- The pass over the headings answers with the least fault of number 7.
+use Rattle.std.specs.Prelude.{Some, None}
+use Rattle.std.specs.Prelude as prelude
 use mathlib.Core.Path.{◌≡◌, refl, sym, ap, ◌∙◌, subst, subst₂}
 use mathlib.Core.List.{List, [], ◌++◌, append-nil}
 use Prim.Native.Nat.{ℕ, ◌+◌, ◌≤◌}
@@ -10,8 +12,6 @@ use Rattle.form.specs.Written.{symbols_of}
 use Rattle.form.specs.Headings.{givens_at, abstract_at, operations_at, given_headings, operation_headings, heading_faults}
 use Rattle.form.specs.Codes.{Numbering, state_codes, dossier_codes}
 use Rattle.parser.specs.Sections.{Tells, Finds, size_of, Compares, Compared, entries_from, givens_from, abstract_from, operations_from}
-use Rattle.parser.specs.declared.headings.Heads.{Heads}
-use Rattle.parser.specs.declared.headings.Heads.TheVariants.{Fit, Differ}
 use Rattle.parser.proofs.ItemNodes.{Split, split-as, split_at, split-length, above, state-above}
 use Rattle.parser.proofs.PartPlaces.{from_abstract, from_concrete, from_givens, given_part, operation_part, entries_at, one, two, at-start, at-entries, at-givens}
 use Rattle.parser.proofs.PartPlaces.{at-abstract, at-operations, givens-from, laid, of_array}
@@ -94,7 +94,7 @@ module _ (d : Dossier) (ρ : Numbering) where
       subst (λ (x : List Fault). Rising (givens_at d) (x ++ operation_faults)) (sym (givens-faults (givens_at d) d.given_entries d.givens ρ))
       (faults-rise (givens_at d) z d.given_entries given_sets operation_faults (givens-risen (givens_at d) (givens_at d) d.givens ρ (omega arith)) s)
 
-  pub finds : (r : Heads) → headed (given_faults ++ operation_faults) ≡ r → Finds (heading_faults d) r
+  pub finds : (r : prelude.Option ℕ) → headed (given_faults ++ operation_faults) ≡ r → Finds (heading_faults d) r
   unfolding heading_faults
   finds r e = subst (Finds (heading_faults d)) e (finds-first (givens_at d) (given_faults ++ operation_faults) rising)
 
@@ -104,7 +104,7 @@ module _ (d : Dossier) (ρ : Numbering) where
   abstract-place = split_at (at-abstract d ρ) 2
 
 -- what is compared, at equal places
-at_places : (a : List ℕ) (m : ℕ) {low high to last wanting from head to' last' wanting' from' head' : ℕ} {r : Heads}
+at_places : (a : List ℕ) (m : ℕ) {low high to last wanting from head to' last' wanting' from' head' : ℕ} {r : prelude.Option ℕ}
     → to ≡ to' → last ≡ last' → wanting ≡ wanting' → from ≡ from' → head ≡ head'
     → Compared a m low high to last wanting from head r → Compared a m low high to' last' wanting' from' head' r
 at_places a m {low} {high} {r = r} p q s t u f = subst (λ (X : Type 0). X) (λ i. Compared a m low high (p i) (q i) (s i) (t i) (u i) r) f
@@ -116,22 +116,22 @@ module _ (d : Dossier) (ρ : Numbering) (a : List ℕ) (m : ℕ) (l : m ≤ leng
       f (omega arith) ∙ ap (λ (i : ℕ). get_or (take m a) (i + 2) 0) p
       ∙ of_array (λ (c : List ℕ) (n : ℕ). get_or c (abstract_from d ρ + 2) 0 ≡ abstract_at d) a m (dossier_codes d ρ) l e (abstract-place d ρ)
 
-  pub first-answer : {entries givens abstracts wanting : ℕ} {r : Heads} → entries ≡ entries_from d ρ → givens ≡ givens_from d ρ → abstracts ≡ abstract_from d ρ → wanting ≡ abstract_at d
+  pub first-answer : {entries givens abstracts wanting : ℕ} {r : prelude.Option ℕ} → entries ≡ entries_from d ρ → givens ≡ givens_from d ρ → abstracts ≡ abstract_from d ρ → wanting ≡ abstract_at d
       → Compared a m 4 4 entries abstracts wanting 0 givens r → r ≡ headed (given_faults d ρ)
   first-answer p q s u f =
       at_places a m p s u refl q f (headed (given_faults d ρ))
       (of_array (λ (c : List ℕ) (n : ℕ). Compares c n 4 4 (entries_from d ρ) (abstract_from d ρ) (abstract_at d) 0 (givens_from d ρ) (headed (given_faults d ρ)))
       a m (dossier_codes d ρ) l e (first-compares d ρ t))
 
-  pub second-answer : {entries givens operations symbols : ℕ} {r : Heads} → entries ≡ entries_from d ρ → givens ≡ givens_from d ρ → operations ≡ operations_from d ρ → symbols ≡ length (symbols_of d)
+  pub second-answer : {entries givens operations symbols : ℕ} {r : prelude.Option ℕ} → entries ≡ entries_from d ρ → givens ≡ givens_from d ρ → operations ≡ operations_from d ρ → symbols ≡ length (symbols_of d)
       → Compared a m 6 7 givens m symbols entries operations r → r ≡ headed (operation_faults d ρ)
   second-answer p q s u f =
       at_places a m q refl u p s f (headed (operation_faults d ρ))
       (of_array (λ (c : List ℕ) (n : ℕ). Compares c n 6 7 (givens_from d ρ) n (length (symbols_of d)) (entries_from d ρ) (operations_from d ρ) (headed (operation_faults d ρ)))
       a m (dossier_codes d ρ) l e (second-compares d ρ t))
 
-  pub fit-first : {r q : Heads} → r ≡ headed (given_faults d ρ) → q ≡ headed (operation_faults d ρ) → r ≡ Fit → Finds (heading_faults d) q
+  pub fit-first : {r q : prelude.Option ℕ} → r ≡ headed (given_faults d ρ) → q ≡ headed (operation_faults d ρ) → r ≡ None → Finds (heading_faults d) q
   fit-first {r} {q} p s u = finds d ρ q (others-first (given_faults d ρ) (operation_faults d ρ) (sym p ∙ u) ∙ sym s)
 
-  pub differ-first : {r : Heads} {p : ℕ} → r ≡ headed (given_faults d ρ) → r ≡ Differ p → Finds (heading_faults d) (Differ p)
-  differ-first {r} {p} s u = finds d ρ (Differ p) (one-first (given_faults d ρ) (operation_faults d ρ) p (sym s ∙ u))
+  pub differ-first : {r : prelude.Option ℕ} {p : ℕ} → r ≡ headed (given_faults d ρ) → r ≡ Some p → Finds (heading_faults d) (Some p)
+  differ-first {r} {p} s u = finds d ρ (Some p) (one-first (given_faults d ρ) (operation_faults d ρ) p (sym s ∙ u))

@@ -1,4 +1,6 @@
 -- The faults of number 7 come in the order of their places: the first is the least.
+use Rattle.std.specs.Prelude.{Some, None}
+use Rattle.std.specs.Prelude as prelude
 use mathlib.Core.Path.{◌≡◌, refl, ap, ◌∙◌}
 use mathlib.Core.Bool.{Bool, true, false, ◌&&◌, ◌||◌}
 use mathlib.Core.List.{List, [], ◌∷◌, ◌++◌}
@@ -10,8 +12,6 @@ use lib.Dec.{eqb, ltb}
 use Rattle.lexical.specs.Refusals.{Refusal, Fault, fault, heading_differs, number_of, before, lesser, least}
 use Rattle.symbols.proofs.BooleanTests.{and-right-false}
 use Rattle.parser.specs.Sections.{Finds}
-use Rattle.parser.specs.declared.headings.Heads.{Heads}
-use Rattle.parser.specs.declared.headings.Heads.TheVariants.{Fit, Differ}
 
 -- faults of number 7, at i or behind it, in the order of their places
 abbrev pub Rising : ℕ → List Fault → Type 0
@@ -42,9 +42,9 @@ least_first i (f ∷ g ∷ fs) h =
     ∙ ap (λ (b : Bool). some (elim b as (λ (x : Bool). Fault) [ true ↦ g | false ↦ f ])) (not-before f g h.2.0 h.1 h.2.1)
 
 -- the answer of the code: the place of the first fault
-abbrev pub headed : List Fault → Heads
-headed [] = Fit
-headed (f ∷ fs) = Differ f.place
+abbrev pub headed : List Fault → prelude.Option ℕ
+headed [] = None
+headed (f ∷ fs) = Some f.place
 
 pub finds-first : (i : ℕ) (fs : List Fault) → Rising i fs → Finds fs (headed fs)
 unfolding head_of
@@ -52,10 +52,10 @@ finds-first i [] h = least_first i [] h
 finds-first i (f ∷ fs) h = least_first i (f ∷ fs) h ∙ ap (λ (r : Refusal). some (fault f.place r)) h.1
 
 -- where the first faults are none, the others decide
-pub others-first : (fs gs : List Fault) → headed fs ≡ Fit → headed (fs ++ gs) ≡ headed gs
+pub others-first : (fs gs : List Fault) → headed fs ≡ None → headed (fs ++ gs) ≡ headed gs
 others-first [] gs e = refl
 others-first (f ∷ fs) gs e = let z : ◌≡◌ {A = ℕ} 0 1 = cc in absurd (omega arith)
 
-pub one-first : (fs gs : List Fault) (p : ℕ) → headed fs ≡ Differ p → headed (fs ++ gs) ≡ Differ p
+pub one-first : (fs gs : List Fault) (p : ℕ) → headed fs ≡ Some p → headed (fs ++ gs) ≡ Some p
 one-first [] gs p e = let z : ◌≡◌ {A = ℕ} 0 1 = cc in absurd (omega arith)
 one-first (f ∷ fs) gs p e = e

@@ -1,4 +1,6 @@
 -- Items of a dossier's nodes are passed over, one by one, by the code.
+use Rattle.std.specs.Prelude.{Some, None}
+use Rattle.std.specs.Prelude as prelude
 use mathlib.Core.Path.{◌≡◌, refl, sym, ap, ◌∙◌, subst, subst₂}
 use mathlib.Core.List.{List}
 use Prim.Native.Nat.{ℕ, ◌+◌, ◌≤◌, ◌<◌}
@@ -9,8 +11,6 @@ use lib.ListN.{take, get_or}
 use lib.Seq.{get_or-take}
 use Rattle.parser.specs.Sections.{Part, size_of, size_at, In, Inside, Run, stops, passes, StateAt}
 use Rattle.parser.specs.Sections.{Compares, fits, extra, wants, differs, agrees}
-use Rattle.parser.specs.declared.headings.Heads.{Heads}
-use Rattle.parser.specs.declared.headings.Heads.TheVariants.{Fit, Differ}
 
 pub part_is : (a : List ℕ) (at m k r : ℕ) → k ≤ 3 → r ≡ get_or a (at + k) 0 → Part a at m k r
 part_is a at m k r h e l = e ∙ sym (get_or-take m a (at + k) 0 (omega arith))
@@ -61,21 +61,21 @@ state-is {t} {m} {i} {e} {first} {last} {r} s f g h =
     h (omega arith) (omega arith) ∙ q
 
 -- The comparison of entries with bodies, by what the code finds at an entry and a body
-pub found-wanting : {t : List ℕ} {m low high to last wanting e h : ℕ} {q : Heads} → Compares t m low high to last wanting e h q → e < to → last ≤ h → Differ wanting ≡ q
+pub found-wanting : {t : List ℕ} {m low high to last wanting e h : ℕ} {q : prelude.Option ℕ} → Compares t m low high to last wanting e h q → e < to → last ≤ h → Some wanting ≡ q
 found-wanting (fits a b) x y = absurd (omega arith)
 found-wanting (extra a b c) x y = absurd (omega arith)
 found-wanting (wants a b) x y = refl
 found-wanting (differs a b c d f) x y = absurd (omega arith)
 found-wanting (agrees a b c d f g i j k) x y = absurd (omega arith)
 
-pub found-extra : {t : List ℕ} {m low high to last wanting e h : ℕ} {q : Heads} {p : ℕ} → Compares t m low high to last wanting e h q → to ≤ e → h < last → (h + 4 ≤ m → p ≡ get_or t (h + 2) 0) → Differ p ≡ q
+pub found-extra : {t : List ℕ} {m low high to last wanting e h : ℕ} {q : prelude.Option ℕ} {p : ℕ} → Compares t m low high to last wanting e h q → to ≤ e → h < last → (h + 4 ≤ m → p ≡ get_or t (h + 2) 0) → Some p ≡ q
 found-extra (fits a b) x y z = absurd (omega arith)
-found-extra (extra a b c) x y z = ap Differ (z c)
+found-extra (extra a b c) x y z = ap Some (z c)
 found-extra (wants a b) x y z = absurd (omega arith)
 found-extra (differs a b c d f) x y z = absurd (omega arith)
 found-extra (agrees a b c d f g i j k) x y z = absurd (omega arith)
 
-pub found_all : {t : List ℕ} {m low high to last wanting e h : ℕ} {q : Heads} → Compares t m low high to last wanting e h q → to ≤ e → last ≤ h → Fit ≡ q
+pub found_all : {t : List ℕ} {m low high to last wanting e h : ℕ} {q : prelude.Option ℕ} → Compares t m low high to last wanting e h q → to ≤ e → last ≤ h → None ≡ q
 found_all (fits a b) x y = refl
 found_all (extra a b c) x y = absurd (omega arith)
 found_all (wants a b) x y = absurd (omega arith)
@@ -89,14 +89,14 @@ pub record Both (t : List ℕ) (m to last e h u v : ℕ) : Type 0 where
   pub first : e + 4 ≤ m → u ≡ get_or t (e + 1) 0
   pub second : h + 4 ≤ m → v ≡ get_or t (h + 1) 0
 
-pub found-other : {t : List ℕ} {m low high to last wanting e h : ℕ} {q : Heads} {u v p : ℕ} → Compares t m low high to last wanting e h q → Both t m to last e h u v → (u ≡ v → ⊥) → (h + 4 ≤ m → p ≡ get_or t (h + 2) 0) → Differ p ≡ q
+pub found-other : {t : List ℕ} {m low high to last wanting e h : ℕ} {q : prelude.Option ℕ} {u v p : ℕ} → Compares t m low high to last wanting e h q → Both t m to last e h u v → (u ≡ v → ⊥) → (h + 4 ≤ m → p ≡ get_or t (h + 2) 0) → Some p ≡ q
 found-other (fits a b) x n z = absurd (omega arith)
 found-other (extra a b c) x n z = absurd (omega arith)
 found-other (wants a b) x n z = absurd (omega arith)
-found-other (differs a b c d f) x n z = ap Differ (z d)
+found-other (differs a b c d f) x n z = ap Some (z d)
 found-other (agrees a b c d f g i j k) x n z = absurd (n (x.first c ∙ f ∙ sym (x.second d)))
 
-pub found-same : {t : List ℕ} {m low high to last wanting e h : ℕ} {q : Heads} {u v i j k : ℕ} → Compares t m low high to last wanting e h q → Both t m to last e h u v → u ≡ v → (e + 4 ≤ m → e + size_at t e ≤ m → i ≡ e + size_at t e)
+pub found-same : {t : List ℕ} {m low high to last wanting e h : ℕ} {q : prelude.Option ℕ} {u v i j k : ℕ} → Compares t m low high to last wanting e h q → Both t m to last e h u v → u ≡ v → (e + 4 ≤ m → e + size_at t e ≤ m → i ≡ e + size_at t e)
     → (h + 4 ≤ m → h + size_at t h ≤ m → j ≡ h + size_at t h) → ((z : ℕ) → Run t m low high j z → k ≡ z) → Compares t m low high to last wanting i k q
 found-same (fits a b) x n p r s = absurd (omega arith)
 found-same (extra a b c) x n p r s = absurd (omega arith)

@@ -1,4 +1,6 @@
 -- What the parts of the form pass have found is what `parse` answers.
+use Rattle.std.specs.Prelude.{Some, None, Ok, Err}
+use Rattle.std.specs.Prelude as prelude
 use mathlib.Core.Path.{◌≡◌, refl, ap, ap₂, ◌∙◌, sym, subst}
 use mathlib.Core.List.{List, ◌++◌}
 use mathlib.Core.Option.{Option, none, some}
@@ -6,10 +8,8 @@ use Prim.Native.Nat.{ℕ, ◌≤◌}
 use lib.ListN.{length, take, drop, get_or, length-map}
 use lib.Seq.{length-take-le}
 use Rattle.lexical.specs.Symbols.{Symbol, scan, symbols, place_at}
-use Rattle.lexical.specs.Refusals.{Refusal, Fault, fault, number_of, least, heading_differs}
-use Rattle.lexical.specs.Promises.{Scans, fault_of}
-use Rattle.lexical.specs.declared.Scanned.{Scanned}
-use Rattle.lexical.specs.declared.Scanned.TheVariants.{Symbols}
+use Rattle.lexical.specs.Refusals.{Refusal, Fault, fault, least, heading_differs}
+use Rattle.lexical.specs.Promises.{Scanned, Scans, fault_of}
 use Rattle.form.specs.Tree.{Dossier}
 use Rattle.form.specs.Written.{symbols_of}
 use Rattle.form.specs.Form.{refused, formed, FormOf, Forms}
@@ -19,17 +19,15 @@ use Rattle.form.specs.Headings.{heading_faults}
 use Rattle.form.specs.Codes.{dossier_codes}
 use Rattle.form.proofs.Table.{AllSpelled}
 use Rattle.form.proofs.FormOf.{form_of}
-use Rattle.form_nodes.specs.FormPromises.{codes, Left, refusal_numbered}
+use Rattle.form_nodes.specs.FormPromises.{codes, Answer, Left}
 use Rattle.form_nodes.specs.Derivations.{Derives, a_dossier}
 use Rattle.parser.specs.Sections.{Tells, Headed, Finds}
-use Rattle.parser.specs.Promises.{text_symbols, numbering, Answers, AnswersHeadings, Parses}
+use Rattle.parser.specs.Promises.{text_symbols, numbering, Answers, AnswersHeadings, Parsed, Parses}
 use Rattle.declarations.specs.DossierPromises.{Formed}
 use Rattle.form_nodes.specs.declared.Read.{Read}
-use Rattle.form_nodes.specs.declared.Read.TheVariants as read
-use Rattle.parser.specs.declared.Parsed.{Parsed}
-use Rattle.parser.specs.declared.Parsed.TheVariants.{Structure, Refused}
-use Rattle.parser.specs.declared.headings.Heads.{Heads}
-use Rattle.parser.specs.declared.headings.Heads.TheVariants.{Fit, Differ}
+use Rattle.lexical.specs.declared.refusals.Fault as refusals
+use Rattle.lexical.specs.declared.refusals.Refusal.TheVariants.{HeadingDiffers}
+use Rattle.lexical.specs.RefusalNames.{refusal_is}
 use Rattle.parser.proofs.TextDossier.{values, DossierAt}
 use Rattle.parser.proofs.Dossiers.{dossier-tree}
 use Rattle.parser.proofs.Texts.{Known, known}
@@ -43,6 +41,10 @@ completes : (w : List Symbol) → AllSpelled w → run w ≡ complete → FormOf
 unfolding form
 completes w z e = subst (FormOf w) (ap (outcome_of w) e) (form_of w z)
 
+-- a structure of so many symbols and numbers
+abbrev whole : (symbols numbers : ℕ) → Parsed
+whole i j = Ok (record { symbols = i; numbers = j })
+
 module _ {text coded placed valued : List ℕ} {n : ℕ} (left : Left text coded placed valued n) where
   facts : Known text coded placed valued n
   facts = known left.scans
@@ -53,10 +55,10 @@ module _ {text coded placed valued : List ℕ} {n : ℕ} (left : Left text coded
   place_is i = ap (λ (l : List ℕ). get_or l i (length text)) facts.starts_are
 
   -- 4, 5 and 6
-  pub refuses-form : (nodes₀ : List ℕ) (r : Parsed) (i : ℕ) (q : Refusal) → run (text_symbols text) ≡ failed i q
-      → r ≡ Refused (number_of q) (get_or (take n placed) i (length text)) → Answers text none nodes₀ nodes₀ r
-  refuses-form nodes₀ r i q e a =
-      (refused i q, (fails (text_symbols text) i q facts.symbols_are.spelled e, (a ∙ ap (Refused (number_of q)) (place_is i), refl)))
+  pub refuses-form : (nodes₀ : List ℕ) (g : refusals.Fault) (i : ℕ) → run (text_symbols text) ≡ failed i (refusal_is g.refusal)
+      → g.place ≡ get_or (take n placed) i (length text) → Answers text none nodes₀ nodes₀ (Err g)
+  refuses-form nodes₀ g i e a =
+      (refused i (refusal_is g.refusal), (fails (text_symbols text) i (refusal_is g.refusal) facts.symbols_are.spelled e, (ap (λ (p : ℕ). fault p (refusal_is g.refusal)) (a ∙ place_is i), refl)))
 
   -- the dossier, where the machine comes to the end
   module _ (made : List ℕ) (m : ℕ) {e : ℕ} {x : List ℕ} (ran : run (text_symbols text) ≡ complete)
@@ -84,7 +86,7 @@ module _ {text coded placed valued : List ℕ} {n : ℕ} (left : Left text coded
     symbols_are : text_symbols text ≡ symbols_of d
     symbols_are = sym tree.whole.symbols
 
-    decides : (h : Heads) → Headed made m n h → Finds (heading_faults d) h
+    decides : (h : prelude.Option ℕ) → Headed made m n h → Finds (heading_faults d) h
     decides h f =
         f d (numbering text) room nodes_are (sym facts.count ∙ ap length symbols_are)
         (subst (λ (w : List Symbol). Tells (numbering text) w) symbols_are facts.tells)
@@ -93,19 +95,18 @@ module _ {text coded placed valued : List ℕ} {n : ℕ} (left : Left text coded
     answers nodes₀ nodes r f e a = (formed d, (forms, subst (λ (g : Option Fault). AnswersHeadings text d g nodes₀ nodes r) (sym e) a))
 
     -- 7
-    pub refuses-heading : (nodes₀ : List ℕ) (r : Parsed) (i : ℕ) → Headed made m n (Differ i) → r ≡ Refused 7 (get_or (take n placed) i (length text))
-        → Answers text none nodes₀ nodes₀ r
-    unfolding number_of
-    refuses-heading nodes₀ r i f a = answers nodes₀ nodes₀ r (some (fault i heading_differs)) (decides (Differ i) f) (a ∙ ap (Refused 7) (place_is i), refl)
+    pub refuses-heading : (nodes₀ : List ℕ) (i p : ℕ) → Headed made m n (Some i) → p ≡ get_or (take n placed) i (length text)
+        → Answers text none nodes₀ nodes₀ (Err (record { place = p; refusal = HeadingDiffers }))
+    refuses-heading nodes₀ i p f a = answers nodes₀ nodes₀ (Err (record { place = p; refusal = HeadingDiffers })) (some (fault i heading_differs)) (decides (Some i) f) (ap (λ (k : ℕ). fault k heading_differs) (a ∙ place_is i), refl)
 
     long : length (dossier_codes d (numbering text)) ≡ m
     long = ap length (sym nodes_are) ∙ length-take-le m made room
 
     -- the structure
-    pub leaves : (nodes₀ nodes : List ℕ) (r : Parsed) → Headed made m n Fit → nodes ≡ take m made ++ drop m nodes₀ → r ≡ Structure n m → Answers text none nodes₀ nodes r
-    leaves nodes₀ nodes r f b a =
-        answers nodes₀ nodes r none (decides Fit f) (
-          a ∙ ap₂ Structure (sym facts.count ∙ length-map (symbols (scan text)) _) (sym long),
+    pub leaves : (nodes₀ nodes : List ℕ) → Headed made m n None → nodes ≡ take m made ++ drop m nodes₀ → Answers text none nodes₀ nodes (Ok (record { symbols = n; numbers = m }))
+    leaves nodes₀ nodes f b =
+        answers nodes₀ nodes (Ok (record { symbols = n; numbers = m })) none (decides None f) (
+          ap₂ (λ (i j : ℕ). whole i j) (sym facts.count ∙ length-map (symbols (scan text)) _) (sym long),
           b ∙ ap₂ (λ (x : List ℕ) (k : ℕ). x ++ drop k nodes₀) nodes_are (sym long),
         )
 
@@ -113,30 +114,28 @@ module _ {text coded placed valued : List ℕ} {n : ℕ} (left : Left text coded
 pub few-symbols : {text coded placed valued : List ℕ} {n : ℕ} → Left text coded placed valued n → n ≤ 4096
 few-symbols left = (known left.scans).few
 
-pub formed-as : {s ν a b : List ℕ} {r t : Read} → r ≡ t → Formed s ν a b r → Formed s ν a b t
-formed-as {s} {ν} {a} {b} q f = subst (λ (x : Read). Formed s ν a b x) q f
+pub formed-as : {s ν a b : List ℕ} {r t : Answer} → r ≡ t → Formed s ν a b r → Formed s ν a b t
+formed-as {s} {ν} {a} {b} q f = subst (λ (x : Answer). Formed s ν a b x) q f
 
 module _ {text coded placed valued : List ℕ} {n : ℕ} (left : Left text coded placed valued n) {a made : List ℕ} where
-  pub form-fault : {i f : ℕ} → Formed (take n coded) (take n valued) a made (read.Fault i f) → (nodes₀ : List ℕ) (r : Parsed)
-      → r ≡ Refused (number_of (refusal_numbered f)) (get_or (take n placed) i (length text)) → Answers text none nodes₀ nodes₀ r
-  form-fault {i} {f} g nodes₀ r = refuses-form left nodes₀ r i (refusal_numbered f) (g.exact (text_symbols text) (sym (known left.scans).codes_are))
+  pub form-fault : {f : refusals.Fault} {p : ℕ} → Formed (take n coded) (take n valued) a made (Err f) → (nodes₀ : List ℕ)
+      → p ≡ get_or (take n placed) f.place (length text) → Answers text none nodes₀ nodes₀ (Err (record { place = p; refusal = f.refusal }))
+  form-fault {f} {p} g nodes₀ q = refuses-form left nodes₀ (record { place = p; refusal = f.refusal }) f.place (g.exact (text_symbols text) (sym (known left.scans).codes_are)) q
 
-  pub heading-fault : {e m i : ℕ} → Formed (take n coded) (take n valued) a made (read.At e m) → m ≤ length made → (h : Heads) → Headed made m n h → h ≡ Differ i
-      → (nodes₀ : List ℕ) (r : Parsed)
-      → r ≡ Refused 7 (get_or (take n placed) i (length text)) → Answers text none nodes₀ nodes₀ r
-  heading-fault {e} {m} {i} g room h f q nodes₀ r =
-      refuses-heading left made m (g.exact (text_symbols text) (sym (known left.scans).codes_are)) g.made.derives g.ended.0 g.made.written room nodes₀ r i
-      (subst (λ (x : Heads). Headed made m n x) q f)
+  pub heading-fault : {e : Read} {i p : ℕ} → Formed (take n coded) (take n valued) a made (Ok e) → e.count ≤ length made → (h : prelude.Option ℕ) → Headed made e.count n h → h ≡ Some i
+      → (nodes₀ : List ℕ) → p ≡ get_or (take n placed) i (length text) → Answers text none nodes₀ nodes₀ (Err (record { place = p; refusal = HeadingDiffers }))
+  heading-fault {e} {i} {p} g room h f q nodes₀ =
+      refuses-heading left made e.count (g.exact (text_symbols text) (sym (known left.scans).codes_are)) g.made.derives g.ended.0 g.made.written room nodes₀ i p
+      (subst (λ (x : prelude.Option ℕ). Headed made e.count n x) q f)
 
-  pub whole-structure : {e m : ℕ} → Formed (take n coded) (take n valued) a made (read.At e m) → m ≤ length made → (h : Heads) → Headed made m n h → h ≡ Fit
-      → (nodes₀ nodes : List ℕ) (r : Parsed)
-      → nodes ≡ take m made ++ drop m nodes₀ → r ≡ Structure n m → Answers text none nodes₀ nodes r
-  whole-structure {e} {m} g room h f q nodes₀ nodes r =
-      leaves left made m (g.exact (text_symbols text) (sym (known left.scans).codes_are)) g.made.derives g.ended.0 g.made.written room nodes₀ nodes r
-      (subst (λ (x : Heads). Headed made m n x) q f)
+  pub whole-structure : {e : Read} → Formed (take n coded) (take n valued) a made (Ok e) → e.count ≤ length made → (h : prelude.Option ℕ) → Headed made e.count n h → h ≡ None
+      → (nodes₀ nodes : List ℕ)
+      → nodes ≡ take e.count made ++ drop e.count nodes₀ → Answers text none nodes₀ nodes (Ok (record { symbols = n; numbers = e.count }))
+  whole-structure {e} g room h f q nodes₀ nodes =
+      leaves left made e.count (g.exact (text_symbols text) (sym (known left.scans).codes_are)) g.made.derives g.ended.0 g.made.written room nodes₀ nodes
+      (subst (λ (x : prelude.Option ℕ). Headed made e.count n x) q f)
 
--- what `scan` left is what `structure` counts on; its answer, and that of `structure`, are the answer of `parse`
-pub left-of : {text codes₀ starts₀ values₀ coded starts valued : List ℕ} {r : Scanned} {n : ℕ} → Scans text codes₀ starts₀ values₀ coded starts valued r → r ≡ Symbols n
+pub left-of : {text codes₀ starts₀ values₀ coded starts valued : List ℕ} {r : Scanned} {n : ℕ} → Scans text codes₀ starts₀ values₀ coded starts valued r → r ≡ Ok n
     → Left text coded starts valued n
 left-of {text} {codes₀} {starts₀} {values₀} {coded} {starts} {valued} h q =
     record { codes₀ = codes₀; starts₀ = starts₀; values₀ = values₀; scans = subst (λ (x : Scanned). Scans text codes₀ starts₀ values₀ coded starts valued x) q h }

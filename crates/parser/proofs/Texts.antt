@@ -7,13 +7,12 @@ use Rattle.lexical.proofs.WordLaws.{same_refl}
 use Rattle.lexical.specs.Kinds as kind
 use Rattle.lexical.specs.Kinds.{Kind, code_of, marks, words}
 use Rattle.lexical.specs.Lists.{bytes, begins, all, any}
-use Rattle.lexical.specs.Promises.{code_in, taken, filled, first_of, fault_of, fault_in, written, has_letters, first_named, value_at, Scans}
+use Rattle.lexical.specs.Promises.{Scanned, code_in, taken, filled, first_of, fault_of, fault_in, written, has_letters, first_named, value_at, Scans}
 use Rattle.lexical.specs.Refusals.{Fault, fault, least, long_text, many_symbols}
 use Rattle.lexical.specs.Symbols.{Class, letter, digit, mark, blank, other, Ending, no_ending, prime, query, shriek, Name, Symbol, fixed, numeral, name, kind_of, Found, gap, unlisted, found}
 use Rattle.lexical.specs.Symbols.{Placed, Scan, done, stopped, next, scanned, scan_from, scan, symbols, length_faults, scan_faults}
 use Rattle.lexical.specs.Symbols.{class_of, is_digit, run, decimal_from, is_number, number_found, reserved, ending_of, ending_length, word_of, longer, longest, by_class, symbol_at}
-use Rattle.lexical.specs.declared.Scanned.TheVariants.{Symbols, LongText, UnlistedSymbol, ManySymbols}
-use Rattle.lexical.specs.declared.Scanned.{Scanned}
+use Rattle.std.specs.Prelude.{Ok, Err}
 use Rattle.parser.proofs.TextDossier.{value_by, values, Small, Text}
 use Rattle.parser.specs.Promises.{text_symbols, numbering}
 use Rattle.parser.specs.Sections.{Tells}
@@ -217,12 +216,10 @@ map-symbols g f h (x ∷ l) = ap₂ (λ (n : ℕ) (r : List ℕ). n ∷ r) (h x)
 
 -- the values are by the numbering, where no fault was found
 value-by : (l : List Placed) (r : Scanned) → fault_of r ≡ none → (s : Symbol) → value_at r l s ≡ value_by (λ a. first_named a l) s
-value-by l (Symbols n) e (fixed k) = refl
-value-by l (Symbols n) e (numeral m) = refl
-value-by l (Symbols n) e (name x) = refl
-value-by l LongText e s = let z : ◌≡◌ {A = ℕ} 0 1 = cc in absurd (omega arith)
-value-by l (UnlistedSymbol p) e s = let z : ◌≡◌ {A = ℕ} 0 1 = cc in absurd (omega arith)
-value-by l (ManySymbols p) e s = let z : ◌≡◌ {A = ℕ} 0 1 = cc in absurd (omega arith)
+value-by l (Ok n) e (fixed k) = refl
+value-by l (Ok n) e (numeral m) = refl
+value-by l (Ok n) e (name x) = refl
+value-by l (Err f) e s = let z : ◌≡◌ {A = ℕ} 0 1 = cc in absurd (omega arith)
 
 -- the codes and the values of the symbols stand in front of the arrays
 module _ {text codes₀ starts₀ values₀ coded starts valued : List ℕ} {r : Scanned} (h : Scans text codes₀ starts₀ values₀ coded starts valued r)
@@ -252,7 +249,7 @@ pub record Known (text coded starts valued : List ℕ) (n : ℕ) : Type 0 where
   pub symbols_are : Text (text_symbols text) (numbering text)
   pub tells : Tells (numbering text) (text_symbols text)
 
-pub known : {text codes₀ starts₀ values₀ coded starts valued : List ℕ} {n : ℕ} → Scans text codes₀ starts₀ values₀ coded starts valued (Symbols n)
+pub known : {text codes₀ starts₀ values₀ coded starts valued : List ℕ} {n : ℕ} → Scans text codes₀ starts₀ values₀ coded starts valued (Ok n)
     → Known text coded starts valued n
 known {text} {coded = coded} {starts = starts} {valued = valued} {n = n} h =
     let e : fault_in text ≡ none = sym h.answer in

@@ -1,16 +1,16 @@
 -- What `parse` promises: its answer, by the conditions of numbers 1 to 7, and what it leaves in the lent arrays.
-use Rattle.std.specs.Prelude.{◌≡◌, List, map, ◌++◌, ℕ, length, drop}
+use Rattle.std.specs.Prelude.{◌≡◌, List, map, ◌++◌, ℕ, length, drop, Result, Ok, Err}
 use Rattle.std.proofs.Math.Option.{Option, none, some}
 use Rattle.lexical.specs.Symbols.{Symbol, Placed, scan, symbols, place_at}
-use Rattle.lexical.specs.Refusals.{Fault, fault, number_of, least}
-use Rattle.lexical.specs.Promises.{Scans, fault_of, first_named}
-use Rattle.lexical.specs.declared.Scanned.{Scanned}
+use Rattle.lexical.specs.Refusals.{Fault, fault, least}
+use Rattle.lexical.specs.Promises.{Scanned, Scans, fault_of, first_named}
 use Rattle.form.specs.Tree.{Dossier}
 use Rattle.form.specs.Form.{Outcome, refused, formed, FormOf}
 use Rattle.form.specs.Headings.{heading_faults}
 use Rattle.form.specs.Codes.{Numbering, dossier_codes}
-use Rattle.parser.specs.declared.Parsed.{Parsed}
-use Rattle.parser.specs.declared.Parsed.TheVariants.{Structure, Refused}
+use Rattle.lexical.specs.declared.refusals.Fault as refusals
+use Rattle.lexical.specs.RefusalNames.{fault_is}
+use Rattle.parser.specs.declared.Structure.{Structure}
 
 abbrev pub text_symbols : List ℕ → List Symbol
 text_symbols text = map (λ (x : Placed). x.symbol) (symbols (scan text))
@@ -19,14 +19,19 @@ text_symbols text = map (λ (x : Placed). x.symbol) (symbols (scan text))
 abbrev pub numbering : List ℕ → Numbering
 numbering text a = first_named a (symbols (scan text))
 
--- a refusal, by its number and place, leaves the nodes as they were
+-- what `parse` answers: a structure, or a fault
+abbrev pub Parsed : Type 0
+Parsed = Result Structure refusals.Fault
+
+-- a refusal, by its name and place, leaves the nodes as they were
 abbrev pub Refuses : Fault → (nodes₀ nodes : List ℕ) → Parsed → Type 0
-Refuses f nodes₀ nodes r = (r ≡ Refused (number_of f.refusal) f.place) × (nodes ≡ nodes₀)
+Refuses f nodes₀ nodes (Ok s) = ⊥
+Refuses f nodes₀ nodes (Err g) = (fault_is g ≡ f) × (nodes ≡ nodes₀)
 
 -- how many symbols there are, and how many numbers the nodes have; the nodes of the dossier stand in front
 abbrev pub Leaves : List ℕ → Dossier → (nodes₀ nodes : List ℕ) → Parsed → Type 0
 Leaves text d nodes₀ nodes r =
-    (r ≡ Structure (length (symbols (scan text))) (length (dossier_codes d (numbering text))))
+    (r ≡ Ok (record { symbols = length (symbols (scan text)); numbers = length (dossier_codes d (numbering text)) }))
     × (nodes ≡ dossier_codes d (numbering text) ++ drop (length (dossier_codes d (numbering text))) nodes₀)
 
 -- 7, where 4, 5 and 6 found no fault

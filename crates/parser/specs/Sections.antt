@@ -1,4 +1,6 @@
 -- Where the parts of a dossier begin among its nodes, and number 7 over them: what the pass over the headings promises.
+use Rattle.std.specs.Prelude.{Some, None}
+use Rattle.std.specs.Prelude as prelude
 use Rattle.std.specs.Prelude.{◌≡◌, Bool, true, false, cond, List, ℕ, ◌+◌, ◌≤◌, ◌<◌, eqb, length, take, get_or}
 use Rattle.std.proofs.Math.Option.{none, some}
 use Rattle.lexical.specs.Kinds as kind
@@ -9,8 +11,6 @@ use Rattle.form.specs.Written.{symbols_of}
 use Rattle.form.specs.Headings.{heading_faults, givens_at, abstract_at, concrete_at, ainit_at, cinit_at, retrieve_at}
 use Rattle.form.specs.Codes.{Numbering, entry_codes, contents_codes, given_codes, state_codes, condition_codes, dossier_codes}
 use Rattle.parser.specs.declared.sections.Bounds.{Bounds}
-use Rattle.parser.specs.declared.headings.Heads.{Heads}
-use Rattle.parser.specs.declared.headings.Heads.TheVariants.{Fit, Differ}
 
 -- The numbers in front of each part: the entries of operations, given sets, states, conditions, operations
 unfoldable pub entries_from : Dossier → Numbering → ℕ
@@ -60,11 +60,11 @@ Tells ρ w =
     (x y : Name) (i j : ℕ) → get_or w i (fixed kind.END) ≡ name x → get_or w j (fixed kind.END) ≡ name y → ρ x.letters ≡ ρ y.letters → x.letters ≡ y.letters
 
 -- the least of some faults of number 7
-abbrev pub Finds : List Fault → Heads → Type 0
-Finds f Fit = least f ≡ none
-Finds f (Differ p) = least f ≡ some (fault p heading_differs)
+abbrev pub Finds : List Fault → prelude.Option ℕ → Type 0
+Finds f None = least f ≡ none
+Finds f (Some p) = least f ≡ some (fault p heading_differs)
 
-abbrev pub Headed : List ℕ → (m symbols : ℕ) → Heads → Type 0
+abbrev pub Headed : List ℕ → (m symbols : ℕ) → prelude.Option ℕ → Type 0
 Headed a m symbols r =
     (d : Dossier) (ρ : Numbering) → m ≤ length a → take m a ≡ dossier_codes d ρ → symbols ≡ length (symbols_of d) → Tells ρ (symbols_of d) → Finds (heading_faults d) r
 
@@ -122,14 +122,14 @@ pub record Behind (a : List ℕ) (m at r : ℕ) : Type 0 where
   pub exact : (e : ℕ) → StateAt (take m a) m at e → r ≡ e
 
 -- entries from e up to `to` against bodies from h up to `last`
-pub data Compares (t : List ℕ) (m low high to last wanting : ℕ) : ℕ → ℕ → Heads → Type 0 where
-  fits : {e h : ℕ} → to ≤ e → last ≤ h → Compares t m low high to last wanting e h Fit
-  extra : {e h : ℕ} → to ≤ e → h < last → h + 4 ≤ m → Compares t m low high to last wanting e h (Differ (get_or t (h + 2) 0))
-  wants : {e h : ℕ} → e < to → last ≤ h → Compares t m low high to last wanting e h (Differ wanting)
+pub data Compares (t : List ℕ) (m low high to last wanting : ℕ) : ℕ → ℕ → prelude.Option ℕ → Type 0 where
+  fits : {e h : ℕ} → to ≤ e → last ≤ h → Compares t m low high to last wanting e h None
+  extra : {e h : ℕ} → to ≤ e → h < last → h + 4 ≤ m → Compares t m low high to last wanting e h (Some (get_or t (h + 2) 0))
+  wants : {e h : ℕ} → e < to → last ≤ h → Compares t m low high to last wanting e h (Some wanting)
   differs : {e h : ℕ} → e < to → h < last → e + 4 ≤ m → h + 4 ≤ m → (get_or t (e + 1) 0 ≡ get_or t (h + 1) 0 → ⊥)
-      → Compares t m low high to last wanting e h (Differ (get_or t (h + 2) 0))
-  agrees : {e h k : ℕ} {r : Heads} → e < to → h < last → e + 4 ≤ m → h + 4 ≤ m → get_or t (e + 1) 0 ≡ get_or t (h + 1) 0 → e + size_at t e ≤ m → h + size_at t h ≤ m
+      → Compares t m low high to last wanting e h (Some (get_or t (h + 2) 0))
+  agrees : {e h k : ℕ} {r : prelude.Option ℕ} → e < to → h < last → e + 4 ≤ m → h + 4 ≤ m → get_or t (e + 1) 0 ≡ get_or t (h + 1) 0 → e + size_at t e ≤ m → h + size_at t h ≤ m
       → Run t m low high (h + size_at t h) k → Compares t m low high to last wanting (e + size_at t e) k r → Compares t m low high to last wanting e h r
 
-abbrev pub Compared : List ℕ → (m low high to last wanting from head : ℕ) → Heads → Type 0
-Compared a m low high to last wanting from head r = (q : Heads) → Compares (take m a) m low high to last wanting from head q → r ≡ q
+abbrev pub Compared : List ℕ → (m low high to last wanting from head : ℕ) → prelude.Option ℕ → Type 0
+Compared a m low high to last wanting from head r = (q : prelude.Option ℕ) → Compares (take m a) m low high to last wanting from head q → r ≡ q

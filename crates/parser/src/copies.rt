@@ -6,9 +6,7 @@ pub(crate) fn copy_nodes(from: &[u16], to: &mut [u16], n: usize)
     requires { (n ≤ length from.now) × (n ≤ length to.old) }
     ensures { to.new ≡ take n from.now ++ drop n to.old }
 {
-    let mut i = 0;
-    while i < n {
+    for i in 0..n {
         to[i] = from[i];
-        i += 1;
     }
 }

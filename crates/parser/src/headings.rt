@@ -6,15 +6,8 @@ use crate::sections::{part, run, sections, skip, wide};
 use form::node;
 use form::shapes::{DECLARED, ELEMENT, PREDICATE};
 
-// No heading differs from the contents; or the number of the symbol of the first one that differs, is extra or is wanting.
-#[derive(Drop)]
-pub enum Heads {
-    Fit,
-    Differ(usize),
-}
-
 // The entries from `from` up to `to` against the bodies from `head` up to `last`, in order. What belongs to a body has the shapes low to high.
-// A wanting body is at the symbol `wanting`.
+// A wanting body is at the symbol `wanting`. The number of the symbol of the first heading that differs, is extra or is wanting.
 fn compare(
     nodes: &[u16],
     m: usize,
@@ -25,7 +18,7 @@ fn compare(
     low: u16,
     high: u16,
     wanting: usize,
-) -> Heads
+) -> Option<usize>
     requires { (from ≤ m) × (to ≤ m) × (head ≤ m) × (last ≤ m) }
     ensures { Compared nodes.now m low high to last wanting from head result }
 {
@@ -33,24 +26,25 @@ fn compare(
     let mut h = head;
     while e < to {
         if last <= h {
-            return Heads::Differ(wanting);
+            return Some(wanting);
         }
         let x = part(nodes, e, m, node::A);
         let y = part(nodes, h, m, node::A);
         if x != y {
-            return Heads::Differ(wide(part(nodes, h, m, node::PLACE)));
+            return Some(wide(part(nodes, h, m, node::PLACE)));
         }
         e = skip(nodes, e, m);
         let body = skip(nodes, h, m);
         h = run(nodes, body, m, low, high);
     }
     if h < last {
-        return Heads::Differ(wide(part(nodes, h, m, node::PLACE)));
+        return Some(wide(part(nodes, h, m, node::PLACE)));
     }
-    Heads::Fit
+    None
 }
 
-pub fn headings(nodes: &[u16], m: usize, symbols: usize) -> Heads
+// The number of the symbol of the first heading that differs from the contents.
+pub fn headings(nodes: &[u16], m: usize, symbols: usize) -> Option<usize>
     ensures { Headed nodes.now m symbols result }
 {
     let s = sections(nodes, m);
@@ -63,9 +57,9 @@ pub fn headings(nodes: &[u16], m: usize, symbols: usize) -> Heads
         nodes, m, 0, entries, givens, abstracts, ELEMENT, ELEMENT, wanting,
     );
     match first {
-        Heads::Fit => compare(
+        Some(i) => Some(i),
+        None => compare(
             nodes, m, entries, givens, operations, m, DECLARED, PREDICATE, symbols,
         ),
-        Heads::Differ(p) => Heads::Differ(p),
     }
 }

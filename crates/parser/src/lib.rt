@@ -3,18 +3,16 @@
 
 ghost use Rattle.std.specs.Prelude.{◌≡◌, ◌≤◌, length, take, get_or};
 ghost use Rattle.std.proofs.Math.Option.{none};
-ghost use Rattle.lexical.specs.Refusals.{number_of};
-ghost use Rattle.form_nodes.specs.FormPromises.{Left, refusal_numbered};
+ghost use Rattle.form_nodes.specs.FormPromises.{Left};
 ghost use Rattle.parser.specs.Promises.{Answers, Parses};
 
 use crate::bodies::dossier;
 use crate::copies::copy_nodes;
-use crate::headings::{Heads, headings};
+use crate::headings::headings;
 use crate::sections::wide;
 use form::node::NUMBERS;
-use form_nodes::Read;
-use lexical::bounds::{SYMBOLS, TEXT_BYTES};
-use lexical::{Scanned, refusals};
+use lexical::bounds::SYMBOLS;
+use lexical::refusals::{Fault, Refusal};
 use symbols::scan;
 
 mod bodies;
@@ -22,11 +20,11 @@ mod copies;
 mod headings;
 pub mod sections;
 
-// How many symbols and how many numbers of nodes a text has; or the number of its refusal, and the place.
-#[derive(Drop)]
-pub enum Parsed {
-    Structure(usize, usize),
-    Refused(u8, usize),
+// How many symbols a text has, and how many numbers the nodes of its dossier have.
+#[derive(Clone, Copy)]
+pub struct Structure {
+    pub symbols: usize,
+    pub numbers: usize,
 }
 
 // The structure of a text: its symbols, and the nodes of the dossier that it is.
@@ -36,26 +34,22 @@ pub fn parse(
     starts: &mut [u16; SYMBOLS],
     values: &mut [u16; SYMBOLS],
     nodes: &mut [u16; NUMBERS],
-) -> Parsed
+) -> Result<Structure, Fault>
     ensures { Parses text.now codes.old starts.old values.old nodes.old codes.new starts.new values.new nodes.new result }
 {
-    match scan(text, codes, starts, values) {
-        Scanned::Symbols(n) => structure(text, codes, starts, values, n, nodes),
-        Scanned::LongText => Parsed::Refused(refusals::LONG_TEXT, TEXT_BYTES),
-        Scanned::UnlistedSymbol(p) => Parsed::Refused(refusals::UNLISTED_SYMBOL, p),
-        Scanned::ManySymbols(p) => Parsed::Refused(refusals::MANY_SYMBOLS, p),
-    }
+    let n = scan(text, codes, starts, values)?;
+    structure_of(text, codes, starts, values, n, nodes)
 }
 
 // The structure of the n symbols of a text. The nodes are made in an array of their own, so that a refusal leaves the lent one as it was.
-fn structure(
+fn structure_of(
     text: &[u8],
     codes: &[u8],
     starts: &[u16],
     values: &[u16],
     n: usize,
     nodes: &mut [u16],
-) -> Parsed
+) -> Result<Structure, Fault>
     requires { Left text.now codes.now starts.now values.now n × (length codes.now ≡ 4096) × (length starts.now ≡ 4096) × (length values.now ≡ 4096) × (length nodes.old ≡ 16384) }
     ensures { Answers text.now none nodes.old nodes.new result }
 {
@@ -72,22 +66,28 @@ fn structure_by(
     n: usize,
     made: &mut [u16],
     nodes: &mut [u16],
-) -> Parsed
+) -> Result<Structure, Fault>
     requires { Left text.now codes.now starts.now values.now n × (length codes.now ≡ 4096) × (length starts.now ≡ 4096) × (length values.now ≡ 4096) × (length made.old ≡ 16384) × (length nodes.old ≡ 16384) }
     ensures { Answers text.now none nodes.old nodes.new result }
 {
     match dossier(&codes[..n], &values[..n], made) {
-        Read::At(e, m) => match headings(made, m, n) {
-            Heads::Fit => {
-                copy_nodes(made, nodes, m);
-                Parsed::Structure(n, m)
+        Ok(read) => match headings(made, read.count, n) {
+            None => {
+                copy_nodes(made, nodes, read.count);
+                Ok(Structure {
+                    symbols: n,
+                    numbers: read.count,
+                })
             }
-            Heads::Differ(i) => Parsed::Refused(
-                refusals::HEADING_DIFFERS,
-                place_at(starts, n, i, text.len()),
-            ),
+            Some(i) => Err(Fault {
+                place: place_at(starts, n, i, text.len()),
+                refusal: Refusal::HeadingDiffers,
+            }),
         },
-        Read::Fault(i, f) => Parsed::Refused(number_of(f), place_at(starts, n, i, text.len())),
+        Err(f) => Err(Fault {
+            place: place_at(starts, n, f.place, text.len()),
+            ..f
+        }),
     }
 }
 
@@ -100,14 +100,4 @@ pub fn place_at(starts: &[u16], n: usize, i: usize, end: usize) -> usize
         return wide(starts[i]);
     }
     end
-}
-
-fn number_of(f: u8) -> u8
-    ensures { result ≡ number_of (refusal_numbered f) }
-{
-    match f {
-        refusals::NO_DOSSIER => refusals::NO_DOSSIER,
-        refusals::DEEP => refusals::DEEP,
-        _ => refusals::MANY_DECLARED,
-    }
 }

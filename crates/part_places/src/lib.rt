@@ -5,20 +5,13 @@ ghost use Rattle.std.specs.Prelude.{◌≡◌, ◌+◌, ◌*◌, ◌<◌, ◌≤
 ghost use Rattle.part_setup.specs.SetupPromises.{Blank};
 ghost use Rattle.part_places.specs.Places.{PartAsked, PartSet, SizeIs, AllAsked, TotalIs, PlaceAsked, PlaceFound};
 
+pub use part_setup::{OBLIGATIONS, OPENING};
 use part_setup::{
-    applicability_part, correctness_part, opening_cells, opening_part, operation_cells,
+    OPERATION_ROW, OPERATION_ROWS, applicability_part, correctness_part, opening_cells,
+    opening_part, operation_cells,
 };
 use plans::Part;
-
-// How many opening obligations there are, and how many an operation has.
-pub const OPENING: usize = 1;
-
-pub const OBLIGATIONS: usize = 2;
-
-// The first row of the groups that is an operation's, and how many numbers an operation has there.
-const OPERATION_ROWS: usize = 18;
-
-const OPERATION_ROW: usize = 8;
+use search_groups::Dossier;
 
 // A part, and a place in it.
 #[derive(Clone, Copy)]
@@ -61,35 +54,31 @@ fn part_size(table: &[u16; 16384], groups: &[u16; 160], k: usize) -> usize
 }
 
 // How many places all parts have.
-pub fn total(table: &[u16; 16384], groups: &[u16; 160], operations: usize) -> usize
-    requires { AllAsked table.now groups.now operations }
-    ensures { TotalIs table.now groups.now operations result }
+pub fn total(d: &Dossier<'_>) -> usize
+    requires { AllAsked d.now.table.now d.now.groups.now d.now.operations }
+    ensures { TotalIs d.now.table.now d.now.groups.now d.now.operations result }
 {
-    let parts = OPENING + OBLIGATIONS * operations;
+    let parts = OPENING + OBLIGATIONS * d.operations;
     let mut all: usize = 0;
-    let mut k: usize = 0;
-    while k < parts {
-        all += part_size(table, groups, k);
-        k += 1;
+    for k in 0..parts {
+        all += part_size(d.table, d.groups, k);
     }
     all
 }
 
 // The part of a place, and its place there.
-pub fn find(table: &[u16; 16384], groups: &[u16; 160], operations: usize, place: usize) -> Found
-    requires { PlaceAsked table.now groups.now operations place }
-    ensures { PlaceFound table.now groups.now operations place result.part result.at }
+pub fn find(d: &Dossier<'_>, place: usize) -> Found
+    requires { PlaceAsked d.now.table.now d.now.groups.now d.now.operations place }
+    ensures { PlaceFound d.now.table.now d.now.groups.now d.now.operations place result.part result.at }
 {
-    let parts = OPENING + OBLIGATIONS * operations;
+    let parts = OPENING + OBLIGATIONS * d.operations;
     let mut at = place;
-    let mut k: usize = 0;
-    while k < parts {
-        let size = part_size(table, groups, k);
+    for part in 0..parts {
+        let size = part_size(d.table, d.groups, part);
         if at < size {
-            return Found { part: k, at };
+            return Found { part, at };
         }
         at -= size;
-        k += 1;
     }
-    Found { part: k, at }
+    Found { part: parts, at }
 }

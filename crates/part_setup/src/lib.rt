@@ -1,7 +1,7 @@
 // What a part of the check starts from: the cells of its variables' carriers, the sizes of its groups, and every variable's first value in the slots.
 #![tactic(auto)]
 
-ghost use Rattle.std.specs.Prelude.{◌≡◌, ◌<◌, get_or, length};
+ghost use Rattle.std.specs.Prelude.{◌≡◌, ◌<◌, length};
 ghost use Rattle.points.specs.Points.{primed_slot};
 ghost use Rattle.part_setup.specs.SetupPromises.{Blank, FirstValues, StatesAsked, StatesSet, OperationAsked, OperationSet, OpeningPartAsked, OpeningPartIs};
 ghost use Rattle.part_setup.specs.SetupPromises.{OperationPartAsked, ApplicabilityPartIs, CorrectnessPartIs, Filled};
@@ -23,6 +23,16 @@ const CONCRETE_ROW: usize = 9;
 
 const PARAMETER_ROW: usize = 4;
 
+// The first row that is an operation's, and how many numbers an operation has there.
+pub const OPERATION_ROWS: usize = 18;
+
+pub const OPERATION_ROW: usize = 8;
+
+// How many opening obligations a check has, and how many an operation has: each is a part.
+pub const OPENING: usize = 1;
+
+pub const OBLIGATIONS: usize = 2;
+
 // How many variables the groups of an operation have, and how many bindings.
 #[derive(Clone, Copy)]
 struct Sizes {
@@ -36,14 +46,6 @@ struct Sizes {
     nq: usize,
 }
 
-// A number of the groups.
-fn group(groups: &[u16], row: usize) -> usize
-    requires { row < length groups.now }
-    ensures { (result ≡ get_or groups.now row 0) × (result < 65536) }
-{
-    groups[row] as usize
-}
-
 // The cells of both states, plain and primed; the place behind their lists.
 fn set_states(table: &[u16; 16384], groups: &[u16; 160], cells: &mut [u32; 9216]) -> usize
     requires states_asked { StatesAsked table.now groups.now }
@@ -53,13 +55,13 @@ fn set_states(table: &[u16; 16384], groups: &[u16; 160], cells: &mut [u32; 9216]
     let at = set_cells(table, groups, ABSTRACT_ROW, slots::ABSTRACT, LISTS, cells);
     let end = set_cells(table, groups, CONCRETE_ROW, slots::CONCRETE, at, cells);
     copy_cells(
-        group(groups, ABSTRACT_ROW),
+        usize::from(groups[ABSTRACT_ROW]),
         slots::ABSTRACT,
         slots::ABSTRACT_PRIMED,
         cells,
     );
     copy_cells(
-        group(groups, CONCRETE_ROW),
+        usize::from(groups[CONCRETE_ROW]),
         slots::CONCRETE,
         slots::CONCRETE_PRIMED,
         cells,
@@ -104,8 +106,8 @@ pub fn opening_part(groups: &[u16; 160], cells: &[u32; 9216]) -> Part
     requires { OpeningPartAsked groups.now cells.now }
     ensures { OpeningPartIs groups.now cells.now result }
 {
-    let va = group(groups, ABSTRACT_ROW);
-    let vc = group(groups, CONCRETE_ROW);
+    let va = usize::from(groups[ABSTRACT_ROW]);
+    let vc = usize::from(groups[CONCRETE_ROW]);
     let na = binding_count(cells, slots::ABSTRACT, va);
     let nc = binding_count(cells, slots::CONCRETE, vc);
     Part {
@@ -132,10 +134,10 @@ fn group_sizes(groups: &[u16; 160], cells: &[u32; 9216], row: usize) -> Sizes
     requires { OperationPartAsked groups.now row cells.now }
     ensures { SizesAre groups.now row cells.now result }
 {
-    let va = group(groups, ABSTRACT_ROW);
-    let vc = group(groups, CONCRETE_ROW);
-    let vi = group(groups, row);
-    let vo = group(groups, row + PARAMETER_ROW);
+    let va = usize::from(groups[ABSTRACT_ROW]);
+    let vc = usize::from(groups[CONCRETE_ROW]);
+    let vi = usize::from(groups[row]);
+    let vo = usize::from(groups[row + PARAMETER_ROW]);
     let na = binding_count(cells, slots::ABSTRACT, va);
     let nc = binding_count(cells, slots::CONCRETE, vc);
     let ni = binding_count(cells, slots::INPUTS, vi);
@@ -213,16 +215,15 @@ fn primed_slot(s: usize) -> usize
     s + slots::CONCRETE_PRIMED - slots::CONCRETE
 }
 
-// Every variable gets its first value; the primed ones under the plain slots in another array.
+// Every variable gets its first value; the primed ones under the plain slots in another array. One loop over both would be handed a function from slots to slots and clauses on what it gives,
+// which is longer than the loop.
 fn fill_before(cells: &[u32; 9216], a: &mut [i64])
     requires first_values { FirstValues cells.now }
     requires a_len { length a.old ≡ 64 }
     ensures { FirstsIn cells.now (λ s. s) 38 a.new }
 {
-    let mut s: usize = 0;
-    while s < slots::COUNT {
+    for s in 0..slots::COUNT {
         a[s] = value_at(cells, s, 0);
-        s += 1;
     }
 }
 
@@ -231,10 +232,8 @@ fn fill_after(cells: &[u32; 9216], a: &mut [i64])
     requires a_len { length a.old ≡ 64 }
     ensures { FirstsIn cells.now primed_slot 16 a.new }
 {
-    let mut s: usize = 0;
-    while s < slots::INPUTS {
+    for s in 0..slots::INPUTS {
         a[s] = value_at(cells, primed_slot(s), 0);
-        s += 1;
     }
 }
 

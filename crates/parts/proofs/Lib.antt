@@ -7,6 +7,7 @@ pub mod SetupLaws
 pub mod LookLaws
 pub mod SearchSteps
 pub mod SearchLaws
+pub mod Stops
 -- what crates above name of crates below
 pub use Rattle.part_searches.proofs.CorrectnessNest as PartSearchesCorrectnessNest
 pub use Rattle.part_searches.proofs.FoundBindings as PartSearchesFoundBindings

@@ -1,6 +1,7 @@
 -- One part: its sizes fit, it is passed over or gone through, and what its places come to is what the checks of a dossier come to. Assumes nothing.
+use Rattle.std.specs.Prelude.{Option, None, is_some}
 use mathlib.Core.Path.{◌≡◌, refl, sym, ◌∙◌, subst}
-use mathlib.Core.Bool.{Bool, false}
+use mathlib.Core.Bool.{Bool}
 use mathlib.Core.List.{List}
 use Prim.Native.Nat.{ℕ, ◌+◌, ◌*◌, ◌<◌, ◌≤◌, min}
 use native.Mathlib.Nat.{mul-le-mul}
@@ -10,7 +11,7 @@ use lib.IntN.{ℤ}
 use Rattle.form.specs.Tree.{Dossier}
 use Rattle.obligations.specs.Subjects.{subject_of}
 use Rattle.plans.specs.declared.Part.{Part}
-use Rattle.nest.specs.NestStepsPartTests.{PartTests, passes_from, Looked}
+use Rattle.nest.specs.NestStepsPartTests.{PartTests, passes_from, stopped_at, Looked}
 use Rattle.nest.specs.NestStepsNestPromises.{Groups, Nest, NestAsked}
 use Rattle.nest.specs.SweepPromises.{SweepAnswers}
 use Rattle.part_setup.specs.SetupPromises.{FirstValues, Filled}
@@ -43,16 +44,16 @@ module _ {table plan cells : List ℕ} {p : Part} where
   nest-asked a f = record { groups = a.groups; tests = a.tests; point = λ s. 0; nest = a.nest; shows = f.shows }
 
   -- a part that ends before the places asked for
-  pub part-passed : {from end : ℕ} → places p ≤ from → PartAnswers table plan cells p from end (places p) from false
-  part-passed h = record { size_is = refl; past = λ l. (refl, refl); looked = λ l G T n. absurd (omega arith) }
+  pub part-passed : {from end : ℕ} → places p ≤ from → PartAnswers table plan cells p from end (places p) None
+  part-passed h = record { size_is = refl; past = λ l. refl; looked = λ l G T n. absurd (omega arith) }
 
   -- one that does not
-  pub part-swept : {from end to at : ℕ} {failed : Bool} → from < places p → to ≡ min end (places p) → SweepAnswers table plan cells p from to at failed
-      → PartAnswers table plan cells p from end (places p) at failed
-  part-swept {from} {end} {to} {at} {failed} h e w = record {
+  pub part-swept : {from end to : ℕ} {failing : Option ℕ} → from < places p → to ≡ min end (places p) → SweepAnswers table plan cells p from to failing
+      → PartAnswers table plan cells p from end (places p) failing
+  part-swept {from} {end} {to} {failing} h e w = record {
     size_is = refl;
     past = λ l. absurd (omega arith);
-    looked = λ l G T n. subst (λ (m : ℕ). Looked (passes_from T p.nc p.ni p.nq p.nk) from m at failed) e (w.looked G T n);
+    looked = λ l G T n. subst (λ (m : ℕ). Looked (passes_from T p.nc p.ni p.nq p.nk) from m (stopped_at m failing) (is_some failing)) e (w.looked G T n);
   }
 
 -- the k-th part of a dossier's check, as the nest goes through it
@@ -77,15 +78,15 @@ pub for-asked : {table plan cells : List ℕ} {p : Part} {k : ℕ} {d : Dossier}
 for-asked x f = record { groups = x.groups; tests = x.tests; nest = x.nest; first_values = f }
 
 module _ {table rows firsts groups plan cells : List ℕ} {p : Part} {k : ℕ} where
-  pub part-answers : {from end size at : ℕ} {failed : Bool}
+  pub part-answers : {from end size : ℕ} {failing : Option ℕ}
       → ((d : Dossier) → ReadingOf table rows firsts groups d → k < 1 + 2 * length d.operations → PartFor table plan cells p d k)
-      → PartAnswers table plan cells p from end size at failed → LookAnswers table rows firsts groups k from end size at failed
-  part-answers {from} {end} {size} {at} {failed} x w = record {
+      → PartAnswers table plan cells p from end size failing → LookAnswers table rows firsts groups k from end size failing
+  part-answers {from} {end} {size} {failing} x w = record {
     size_is = λ d R h. w.size_is ∙ (x d R h).many;
     past = w.past;
     looked = λ d R h l.
         let y = x d R h in
         let e : size ≡ part_size d k = w.size_is ∙ y.many in
-        looked-same (passes_from y.tests p.nc p.ni p.nq p.nk) (λ (q : ℕ). passes_place (subject_of d) (part_begin d k + q)) from (min end size) at failed
+        looked-same (passes_from y.tests p.nc p.ni p.nq p.nk) (λ (q : ℕ). passes_place (subject_of d) (part_begin d k + q)) from (min end size) (stopped_at (min end size) failing) (is_some failing)
         (λ q m. y.same q (omega arith)) (w.looked (omega arith) y.groups y.tests y.nest);
   }

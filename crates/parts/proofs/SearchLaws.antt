@@ -1,15 +1,16 @@
 -- The loop over the parts of a check: where it stands, how it goes on, and what it has found where it ends. Assumes nothing.
-use mathlib.Core.Path.{◌≡◌, sym, ap, ap₂, ◌∙◌, subst}
-use mathlib.Core.Bool.{Bool, true, false}
+use Rattle.std.specs.Prelude.{Option, None, Some, is_some}
+use mathlib.Core.Path.{◌≡◌, refl, sym, ap, ap₂, ◌∙◌, subst}
+use mathlib.Core.Bool.{true, false}
 use mathlib.Core.List.{List}
-use Prim.Native.Nat.{ℕ, ◌+◌, ◌-◌, ◌*◌, ◌<◌, ◌≤◌, ◌^◌, min}
+use Prim.Native.Nat.{ℕ, ◌+◌, ◌-◌, ◌*◌, ◌<◌, ◌≤◌, ◌^◌, min, max}
 use native.Mathlib.Omega.{arith}
 use native.Mathlib.Decide.{dec_lt}
 use lib.ListN.{length}
 use Rattle.form.specs.Tree.{Dossier}
 use Rattle.obligations.specs.Subjects.{subject_of}
 use Rattle.obligations.specs.Order.{total}
-use Rattle.nest.specs.NestStepsPartTests.{Looked}
+use Rattle.nest.specs.NestStepsPartTests.{stopped_at, Looked}
 use Rattle.part_setup.specs.PartTestsPartOrder.{part_size, part_begin}
 use Rattle.part_setup.specs.ReadingsReadings.{ReadingOf}
 use Rattle.part_setup.proofs.PartTestsLookedChecks.{passes_place, looked-look, looked-none}
@@ -42,9 +43,21 @@ pub unfinished : {table rows firsts groups : List ℕ} {operations from end k be
     → at < end
 unfinished {end = end} {at = at} i e = let n : at ≡ end → ⊥ = e in omega (arith, i.high)
 
-pub not-failed : {table rows firsts groups : List ℕ} {operations from end at : ℕ} {failed : Bool} → failed ≡ false → SearchAnswers table rows firsts groups operations from end at false
-    → SearchAnswers table rows firsts groups operations from end at failed
-not-failed {table} {rows} {firsts} {groups} {operations} {from} {end} {at} e w = subst (SearchAnswers table rows firsts groups operations from end at) (sym e) w
+pub not-failed : {table rows firsts groups : List ℕ} {operations from end : ℕ} {failing : Option ℕ} → failing ≡ None → SearchAnswers table rows firsts groups operations from end None
+    → SearchAnswers table rows firsts groups operations from end failing
+not-failed {table} {rows} {firsts} {groups} {operations} {from} {end} e w = subst (SearchAnswers table rows firsts groups operations from end) (sym e) w
+
+-- where the search of one part came to that went up to n: at m or n where all passed, else at the failing place
+abbrev come_to : (m n : ℕ) → Option ℕ → ℕ
+come_to m n None = max m n
+come_to m n (Some q) = q
+
+come-past : (m n : ℕ) {failing : Option ℕ} → n ≤ m → failing ≡ None → (come_to m n failing ≡ m) × (is_some failing ≡ false)
+come-past m n h e = subst (λ (r : Option ℕ). (come_to m n r ≡ m) × (is_some r ≡ false)) (sym e) (omega arith, refl)
+
+come-through : (m n : ℕ) → m ≤ n → (failing : Option ℕ) → stopped_at n failing ≡ come_to m n failing
+come-through m n h None = omega arith
+come-through m n h (Some q) = refl
 
 module _ {table rows firsts groups : List ℕ} {operations from end : ℕ} where
   pub gone-start : {k begin at : ℕ} → from ≤ end → k ≡ 0 → begin ≡ 0 → at ≡ from → Gone table rows firsts groups operations from end k begin at
@@ -58,26 +71,34 @@ module _ {table rows firsts groups : List ℕ} {operations from end : ℕ} where
     passed = λ d g m l. subst (λ (n : ℕ). Looked (passes_place (subject_of d)) from n n false) (sym ea) (looked-none (passes_place (subject_of d)) from);
   }
 
-  module _ {k begin at size r : ℕ} {failed : Bool} (i : Gone table rows firsts groups operations from end k begin at)
-      (w : LookAnswers table rows firsts groups k (at - begin) (end - begin) size r failed) (lk : k < 1 + 2 * operations) (le : at < end) where
+  module _ {k begin at size : ℕ} {failing : Option ℕ} (i : Gone table rows firsts groups operations from end k begin at)
+      (w : LookAnswers table rows firsts groups k (at - begin) (end - begin) size failing) (lk : k < 1 + 2 * operations) (le : at < end) where
+    -- where this part's search stopped, counted from where the part begins
+    abbrev r : ℕ
+    r = come_to (at - begin) (min (end - begin) size) failing
+
     -- what the part comes to, for a dossier
     step : (d : Dossier) → ReadingOf table rows firsts groups d → operations ≡ length d.operations → from ≤ total (subject_of d)
-        → Continued (passes_place (subject_of d)) from end (total (subject_of d)) (begin + size) (begin + r) failed
+        → Continued (passes_place (subject_of d)) from end (total (subject_of d)) (begin + size) (begin + r) (is_some failing)
     step d g m l =
         let part : k < 1 + 2 * length d.operations = omega arith in
         let b : begin ≡ part_begin d k = i.begins d g m in
         let s : size ≡ part_size d k = w.size_is d g part in
         continued (passes_place (subject_of d)) from end (total (subject_of d)) begin size at r (i.passed d g m l) (i.behind le) le
-        (omega (arith, b, s, part-within d k part)) (i.inside d g m l) failed w.past
-        (λ h. subst (λ (n : ℕ). Looked (λ (q : ℕ). passes_place (subject_of d) (n + q)) (at - begin) (min (end - begin) size) r failed) (sym b) (w.looked d g part h))
+        (omega (arith, b, s, part-within d k part)) (i.inside d g m l) (is_some failing)
+        (λ h. come-past (at - begin) (min (end - begin) size) (omega arith) (w.past h))
+        (λ h. subst (λ (n : ℕ). Looked (λ (q : ℕ). passes_place (subject_of d) (begin + q)) (at - begin) (min (end - begin) size) n (is_some failing))
+        (come-through (at - begin) (min (end - begin) size) (omega arith) failing)
+        (subst (λ (n : ℕ). Looked (λ (q : ℕ). passes_place (subject_of d) (n + q)) (at - begin) (min (end - begin) size) (stopped_at (min (end - begin) size) failing) (is_some failing)) (sym b)
+        (w.looked d g part h)))
 
     module _ (a : SearchAsked table rows firsts groups operations from) where
-      first : Continued (passes_place (subject_of a.dossier)) from end (total (subject_of a.dossier)) (begin + size) (begin + r) failed
+      first : Continued (passes_place (subject_of a.dossier)) from end (total (subject_of a.dossier)) (begin + size) (begin + r) (is_some failing)
       first = step a.dossier a.reading a.many a.inside
 
-      -- where it stopped stands before the end of the search, and the part ends among the places of the check
-      pub step-high : begin + r ≤ end
-      step-high = first.high
+      -- a failing place stands before the end of the search, and the part ends among the places of the check
+      pub step-high : {place : ℕ} → failing ≡ Some place → begin + place ≤ end
+      step-high {place} e = subst (λ (r : Option ℕ). begin + come_to (at - begin) (min (end - begin) size) r ≤ end) e first.high
 
       pub step_small : begin + size < 2 ^ 53
       step_small =
@@ -89,42 +110,57 @@ module _ {table rows firsts groups : List ℕ} {operations from end : ℕ} where
             reading_small a.reading,
           )
 
-      pub gone-on : {next : ℕ} → failed ≡ false → next ≡ k + 1 → Gone table rows firsts groups operations from end next (begin + size) (begin + r)
-      gone-on f e = record {
-        within = omega arith;
-        low = first.low;
-        high = first.high;
-        behind = first.behind f;
-        begins = λ d g m. ap₂ ◌+◌ (i.begins d g m) (w.size_is d g (omega (arith, m))) ∙ sym (next-begin d k) ∙ ap (part_begin d) (sym e);
-        inside = λ d g m l. (step d g m l).inside;
-        passed = λ d g m l. (step d g m l).onward f;
-      }
+      pub gone-on : {next to : ℕ} → failing ≡ None → next ≡ k + 1 → to ≡ max at (min end (begin + size))
+          → Gone table rows firsts groups operations from end next (begin + size) to
+      gone-on {next} {to} f e u = subst (Gone table rows firsts groups operations from end next (begin + size)) s onward
+        where
+          passed : is_some failing ≡ false
+          passed = ap is_some f
+
+          s : begin + r ≡ to
+          s = ap (λ (r : Option ℕ). begin + come_to (at - begin) (min (end - begin) size) r) f ∙ (let lb : begin ≤ at = i.behind le in omega arith)
+
+          onward : Gone table rows firsts groups operations from end next (begin + size) (begin + r)
+          onward = record {
+            within = omega arith;
+            low = first.low;
+            high = first.high;
+            behind = first.behind passed;
+            begins = λ d g m. ap₂ ◌+◌ (i.begins d g m) (w.size_is d g (omega (arith, m))) ∙ sym (next-begin d k) ∙ ap (part_begin d) (sym e);
+            inside = λ d g m l. (step d g m l).inside;
+            passed = λ d g m l. (step d g m l).onward passed;
+          }
 
       -- a binding fails
-      pub gone-failed : failed ≡ true → SearchAnswers table rows firsts groups operations from end (begin + r) true
-      gone-failed f = record {
-        low = first.low;
-        looks = λ d g m l. looked-look (subject_of d) from (end - from) (min end (total (subject_of d))) (begin + r) true l (omega (arith, i.low, i.high)) ((step d g m l).stopped f);
+      pub gone-failed : {place : ℕ} → failing ≡ Some place → SearchAnswers table rows firsts groups operations from end (Some (begin + place))
+      gone-failed {place} f = record {
+        low = subst (λ (n : ℕ). from ≤ n) s first.low;
+        looks = λ d g m l. looked-look (subject_of d) from (end - from) (min end (total (subject_of d))) (begin + place) true l (omega (arith, i.low, i.high))
+            (subst (λ (n : ℕ). Looked (passes_place (subject_of d)) from (min end (total (subject_of d))) n true) s ((step d g m l).stopped (ap is_some f)));
       }
+        where
+          s : begin + r ≡ begin + place
+          s = ap (λ (r : Option ℕ). begin + come_to (at - begin) (min (end - begin) size) r) f
 
   -- the search came to its end
   passed-all : (at : ℕ) → from ≤ at → at ≤ end
       → ((d : Dossier) → ReadingOf table rows firsts groups d → operations ≡ length d.operations → from ≤ total (subject_of d) → at ≡ min end (total (subject_of d)))
       → ((d : Dossier) → ReadingOf table rows firsts groups d → operations ≡ length d.operations → from ≤ total (subject_of d) → Looked (passes_place (subject_of d)) from at at false)
-      → SearchAnswers table rows firsts groups operations from end at false
+      → SearchAnswers table rows firsts groups operations from end None
   passed-all at low high ends passed = record {
-    low = low;
+    low = tt;
     looks = λ d g m l.
         let e : at ≡ min end (total (subject_of d)) = ends d g m l in
-        looked-look (subject_of d) from (end - from) at at false l (omega arith) (passed d g m l);
+        looked-look (subject_of d) from (end - from) (min end (total (subject_of d))) (min end (total (subject_of d))) false l (omega arith)
+        (subst (λ (n : ℕ). Looked (passes_place (subject_of d)) from n n false) e (passed d g m l));
   }
 
-  pub gone-end : {k begin at : ℕ} → Gone table rows firsts groups operations from end k begin at → at ≡ end → SearchAnswers table rows firsts groups operations from end at false
+  pub gone-end : {k begin at : ℕ} → Gone table rows firsts groups operations from end k begin at → at ≡ end → SearchAnswers table rows firsts groups operations from end None
   gone-end {at = at} i e = passed-all at i.low i.high (λ d g m l. omega (arith, i.inside d g m l)) i.passed
 
   -- or to that of the check
   pub gone_whole : {k begin at : ℕ} → Gone table rows firsts groups operations from end k begin at → 1 + 2 * operations ≤ k
-      → SearchAnswers table rows firsts groups operations from end at false
+      → SearchAnswers table rows firsts groups operations from end None
   gone_whole {k} {begin} {at} i h =
       passed-all at i.low i.high
       (λ d g m l.

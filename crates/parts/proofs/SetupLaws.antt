@@ -1,4 +1,5 @@
 -- What is asked where a part of a dossier's check is set up: the cells of its variables, the sizes of its groups, the rows of its predicates. Assumes nothing.
+use Rattle.std.specs.Prelude.{Option}
 use mathlib.Core.Path.{◌≡◌, refl, sym, subst}
 use mathlib.Core.Bool.{Bool}
 use mathlib.Core.List.{List}
@@ -33,9 +34,9 @@ module _ {table rows firsts groups : List ℕ} {k m : ℕ} where
   pub asked-as : LookAsked table rows firsts groups k → k ≡ m → LookAsked table rows firsts groups m
   asked-as a e = subst (LookAsked table rows firsts groups) e a
 
-  pub answers-as : {from end size at : ℕ} {failed : Bool} → LookAnswers table rows firsts groups k from end size at failed → k ≡ m
-      → LookAnswers table rows firsts groups m from end size at failed
-  answers-as {from} {end} {size} {at} {failed} w e = subst (λ (n : ℕ). LookAnswers table rows firsts groups n from end size at failed) e w
+  pub answers-as : {from end size : ℕ} {failing : Option ℕ} → LookAnswers table rows firsts groups k from end size failing → k ≡ m
+      → LookAnswers table rows firsts groups m from end size failing
+  answers-as {from} {end} {size} {failing} w e = subst (λ (n : ℕ). LookAnswers table rows firsts groups n from end size failing) e w
 
 pub counted : {table groups : List ℕ} {row : ℕ} {vs : List Variable} {many few : ℕ} → GroupAt table groups row vs many few → CountedAt groups row vs few
 counted g = record { count = g.count; bindings = g.bindings }

@@ -1,8 +1,8 @@
 -- What the search over all parts promises: for every dossier whose reading the arrays are, it looks at the checks of document 01's order one after the other, up to the first that fails.
-use Rattle.std.specs.Prelude.{◌≡◌, Bool, false, cond, List, ℕ, suc, ◌+◌, ◌-◌, ◌*◌, ◌<◌, ◌≤◌, min, length, take, drop}
+use Rattle.std.specs.Prelude.{◌≡◌, Bool, cond, Option, None, IfSome, is_some, List, ℕ, suc, ◌+◌, ◌-◌, ◌*◌, ◌<◌, ◌≤◌, min, length, take, drop}
 use Rattle.form.specs.Tree.{Dossier}
 use Rattle.plans.specs.declared.Part.{Part}
-use Rattle.nest.specs.NestStepsPartTests.{PartTests, passes_from, Looked}
+use Rattle.nest.specs.NestStepsPartTests.{PartTests, passes_from, stopped_at, Looked}
 use Rattle.nest.specs.NestStepsNestPromises.{Groups, Nest}
 use Rattle.obligations.specs.Subjects.{subject_of}
 use Rattle.obligations.specs.Order.{passes, checks, total, look}
@@ -11,6 +11,14 @@ use Rattle.part_setup.specs.PartTestsPartOrder.{part_size, part_begin}
 use Rattle.part_setup.specs.ReadingsReadings.{ReadingOf}
 use Rattle.part_setup.specs.SetupPromises.{FirstValues}
 
+-- how many places from `from` on were looked at, up to `at`; a failing one there too
+abbrev pub counted : (from at : ℕ) → Bool → ℕ
+counted from at failed = cond failed (suc (at - from)) (at - from)
+
+-- where a search up to `end` stops, of so many places in all
+abbrev pub came_to : (end all : ℕ) → Option ℕ → ℕ
+came_to end all failing = stopped_at (min end all) failing
+
 -- one part, by its tests
 pub record PartAsked (table plan cells : List ℕ) (p : Part) : Type 0 where
   pub groups : Groups
@@ -18,11 +26,11 @@ pub record PartAsked (table plan cells : List ℕ) (p : Part) : Type 0 where
   pub nest : Nest table plan cells p groups tests
   pub first_values : FirstValues cells
 
-pub record PartAnswers (table plan cells : List ℕ) (p : Part) (from end size at : ℕ) (failed : Bool) : Type 0 where
+pub record PartAnswers (table plan cells : List ℕ) (p : Part) (from end size : ℕ) (failing : Option ℕ) : Type 0 where
   pub size_is : size ≡ p.na * p.nc * p.ni * p.nq * p.nk
-  pub past : size ≤ from → (at ≡ from) × (failed ≡ false)
+  pub past : size ≤ from → failing ≡ None
   pub looked : from < size → (G : Groups) (T : PartTests) → Nest table plan cells p G T
-      → Looked (passes_from T p.nc p.ni p.nq p.nk) from (min end size) at failed
+      → Looked (passes_from T p.nc p.ni p.nq p.nk) from (min end size) (stopped_at (min end size) failing) (is_some failing)
 
 -- the k-th part of a check, counted from where it begins
 pub record LookAsked (table rows firsts groups : List ℕ) (k : ℕ) : Type 0 where
@@ -30,11 +38,11 @@ pub record LookAsked (table rows firsts groups : List ℕ) (k : ℕ) : Type 0 wh
   pub reading : ReadingOf table rows firsts groups dossier
   pub part : k < 1 + 2 * length dossier.operations
 
-pub record LookAnswers (table rows firsts groups : List ℕ) (k from end size at : ℕ) (failed : Bool) : Type 0 where
+pub record LookAnswers (table rows firsts groups : List ℕ) (k from end size : ℕ) (failing : Option ℕ) : Type 0 where
   pub size_is : (d : Dossier) → ReadingOf table rows firsts groups d → k < 1 + 2 * length d.operations → size ≡ part_size d k
-  pub past : size ≤ from → (at ≡ from) × (failed ≡ false)
+  pub past : size ≤ from → failing ≡ None
   pub looked : (d : Dossier) → ReadingOf table rows firsts groups d → k < 1 + 2 * length d.operations → from < size
-      → Looked (λ (q : ℕ). passes (subject_of d) (check_at (subject_of d) (part_begin d k + q))) from (min end size) at failed
+      → Looked (λ (q : ℕ). passes (subject_of d) (check_at (subject_of d) (part_begin d k + q))) from (min end size) (stopped_at (min end size) failing) (is_some failing)
 
 -- all of them
 pub record SearchAsked (table rows firsts groups : List ℕ) (operations from : ℕ) : Type 0 where
@@ -43,9 +51,10 @@ pub record SearchAsked (table rows firsts groups : List ℕ) (operations from : 
   pub many : operations ≡ length dossier.operations
   pub inside : from ≤ total (subject_of dossier)
 
--- "Advance by n looks at the next n bindings": how many were looked at from `from` on, and whether the last one failed; `at` is the place where the search stopped, that of the failing
--- binding if there is one
-pub record SearchAnswers (table rows firsts groups : List ℕ) (operations from end at : ℕ) (failed : Bool) : Type 0 where
-  pub low : from ≤ at
+-- "Advance by n looks at the next n bindings": how many were looked at from `from` on, and whether the last one failed. The search stops at the failing binding if there is one, else at
+-- its end or at that of the check
+pub record SearchAnswers (table rows firsts groups : List ℕ) (operations from end : ℕ) (failing : Option ℕ) : Type 0 where
+  pub low : IfSome failing (λ (at : ℕ). from ≤ at)
   pub looks : (d : Dossier) → ReadingOf table rows firsts groups d → operations ≡ length d.operations → from ≤ total (subject_of d)
-      → look (subject_of d) (take (end - from) (drop from (checks (subject_of d)))) ≡ record { count = cond failed (suc (at - from)) (at - from); failed = failed }
+      → look (subject_of d) (take (end - from) (drop from (checks (subject_of d))))
+      ≡ record { count = counted from (stopped_at (min end (total (subject_of d))) failing) (is_some failing); failed = is_some failing }

@@ -1,202 +1,143 @@
 // The parts of a check one after the other, initialisation, then for each operation applicability and correctness: the search from one place up to another.
 #![tactic(auto)]
 
-ghost use Rattle.std.specs.Prelude.{◌≡◌, ◌+◌, ◌*◌, ◌^◌, ◌<◌, ◌≤◌, min};
+ghost use Rattle.std.specs.Prelude.{◌≡◌, ◌+◌, ◌*◌, ◌^◌, ◌<◌, ◌≤◌};
 ghost use Rattle.parts.specs.SearchPromises.{PartAsked, PartAnswers, LookAsked, LookAnswers, SearchAsked, SearchAnswers};
 
 use nest::sweep;
 use part_setup::{
-    applicability_part, correctness_part, fill, opening_cells, opening_part, operation_cells,
+    OBLIGATIONS, OPENING, OPERATION_ROW, OPERATION_ROWS, applicability_part, correctness_part,
+    fill, opening_cells, opening_part, operation_cells,
 };
-use plans::{Part, plan_applicability, plan_correctness, plan_initialisation};
+use plans::{PartSearch, plan_applicability, plan_correctness, plan_initialisation};
+use search_groups::Dossier;
 
-// The first row of the groups that is an operation's, and how many numbers an operation has there.
-const OPERATION_ROWS: usize = 18;
-
-const OPERATION_ROW: usize = 8;
-
-// How many opening obligations there are, and how many an operation has.
-const OPENING: usize = 1;
-
-const OBLIGATIONS: usize = 2;
-
-// What a search came to: the place where it stopped, and whether the binding there fails.
-#[derive(Clone, Copy)]
-pub struct Searched {
-    pub at: usize,
-    pub failed: bool,
-}
-
-// The same of one part, counted from where it begins, and how many places the part has.
+// What a search of one part came to: how many places the part has, and the first that fails, counted from where the part begins.
 #[derive(Clone, Copy)]
 pub struct PartLooked {
     pub size: usize,
-    pub at: usize,
-    pub failed: bool,
-}
-
-fn least(x: usize, y: usize) -> usize
-    ensures { result ≡ min x y }
-{
-    if x < y {
-        return x;
-    }
-    y
+    pub failing: Option<usize>,
 }
 
 // The places of a part from `from` up to `end`, or to its last.
-fn sweep_part(
-    t: &[u16; 16384],
-    plan: &[u16; 20560],
-    cells: &[u32; 9216],
-    p: Part,
-    from: usize,
-    end: usize,
-) -> PartLooked
+fn sweep_part(s: &PartSearch<'_>, from: usize, end: usize) -> PartLooked
     requires from_le_end { from ≤ end }
-    requires part_asked { PartAsked t.now plan.now cells.now p }
-    ensures { PartAnswers t.now plan.now cells.now p from end result.size result.at result.failed }
+    requires part_asked { PartAsked s.now.table.now s.now.plan.now s.now.cells.now s.now.part }
+    ensures { PartAnswers s.now.table.now s.now.plan.now s.now.cells.now s.now.part from end result.size result.failing }
 {
+    let p = &s.part;
     let size = p.na * p.nc * p.ni * p.nq * p.nk;
     if size <= from {
         return PartLooked {
             size,
-            at: from,
-            failed: false,
+            failing: None,
         };
     }
     let mut arrays = [[0i64; 64]; 2];
-    fill(cells, &mut arrays);
-    let w = sweep(t, plan, cells, p, from, least(end, size), &mut arrays);
-    PartLooked {
-        size,
-        at: w.at,
-        failed: w.failed,
-    }
+    fill(s.cells, &mut arrays);
+    let failing = sweep(s, from, end.min(size), &mut arrays);
+    PartLooked { size, failing }
 }
 
 // Initialisation.
-fn look_opening(
-    t: &[u16; 16384],
-    rows: &[u16; 16384],
-    firsts: &[u16; 40],
-    groups: &[u16; 160],
-    from: usize,
-    end: usize,
-) -> PartLooked
+fn look_opening(d: &Dossier<'_>, from: usize, end: usize) -> PartLooked
     requires from_le_end { from ≤ end }
-    requires look_asked { LookAsked t.now rows.now firsts.now groups.now 0 }
-    ensures { LookAnswers t.now rows.now firsts.now groups.now 0 from end result.size result.at result.failed }
+    requires look_asked { LookAsked d.now.table.now d.now.rows.now d.now.firsts.now d.now.groups.now 0 }
+    ensures { LookAnswers d.now.table.now d.now.rows.now d.now.firsts.now d.now.groups.now 0 from end result.size result.failing }
 {
     let mut cells = [0u32; 9216];
     let mut plan = [0u16; 20560];
-    opening_cells(t, groups, &mut cells);
-    plan_initialisation(rows, firsts, &mut plan);
-    let p = opening_part(groups, &cells);
-    sweep_part(t, &plan, &cells, p, from, end)
+    opening_cells(d.table, d.groups, &mut cells);
+    plan_initialisation(d.rows, d.firsts, &mut plan);
+    let part = opening_part(d.groups, &cells);
+    let s = PartSearch {
+        table: d.table,
+        plan: &plan,
+        cells: &cells,
+        part,
+    };
+    sweep_part(&s, from, end)
 }
 
-// Applicability of operation j.
-fn look_applicability(
-    t: &[u16; 16384],
-    rows: &[u16; 16384],
-    firsts: &[u16; 40],
-    groups: &[u16; 160],
-    j: usize,
-    from: usize,
-    end: usize,
-) -> PartLooked
+// Applicability of operation j. It and correctness differ in their sizes, their plans and their numbers: one function over both would be handed each of these, and be no shorter.
+fn look_applicability(d: &Dossier<'_>, j: usize, from: usize, end: usize) -> PartLooked
     requires from_le_end { from ≤ end }
-    requires look_asked { LookAsked t.now rows.now firsts.now groups.now (1 + 2 * j) }
-    ensures { LookAnswers t.now rows.now firsts.now groups.now (1 + 2 * j) from end result.size result.at result.failed }
+    requires look_asked { LookAsked d.now.table.now d.now.rows.now d.now.firsts.now d.now.groups.now (1 + 2 * j) }
+    ensures { LookAnswers d.now.table.now d.now.rows.now d.now.firsts.now d.now.groups.now (1 + 2 * j) from end result.size result.failing }
 {
     let mut cells = [0u32; 9216];
     let mut plan = [0u16; 20560];
     let row = OPERATION_ROWS + OPERATION_ROW * j;
-    operation_cells(t, groups, row, &mut cells);
-    let p = applicability_part(groups, row, &cells);
-    plan_applicability(rows, firsts, j, p.vr - p.va, &mut plan);
-    sweep_part(t, &plan, &cells, p, from, end)
+    operation_cells(d.table, d.groups, row, &mut cells);
+    let part = applicability_part(d.groups, row, &cells);
+    plan_applicability(d.rows, d.firsts, j, part.vr - part.va, &mut plan);
+    let s = PartSearch {
+        table: d.table,
+        plan: &plan,
+        cells: &cells,
+        part,
+    };
+    sweep_part(&s, from, end)
 }
 
 // Correctness of operation j.
-fn look_correctness(
-    t: &[u16; 16384],
-    rows: &[u16; 16384],
-    firsts: &[u16; 40],
-    groups: &[u16; 160],
-    j: usize,
-    from: usize,
-    end: usize,
-) -> PartLooked
+fn look_correctness(d: &Dossier<'_>, j: usize, from: usize, end: usize) -> PartLooked
     requires from_le_end { from ≤ end }
-    requires look_asked { LookAsked t.now rows.now firsts.now groups.now (2 + 2 * j) }
-    ensures { LookAnswers t.now rows.now firsts.now groups.now (2 + 2 * j) from end result.size result.at result.failed }
+    requires look_asked { LookAsked d.now.table.now d.now.rows.now d.now.firsts.now d.now.groups.now (2 + 2 * j) }
+    ensures { LookAnswers d.now.table.now d.now.rows.now d.now.firsts.now d.now.groups.now (2 + 2 * j) from end result.size result.failing }
 {
     let mut cells = [0u32; 9216];
     let mut plan = [0u16; 20560];
     let row = OPERATION_ROWS + OPERATION_ROW * j;
-    operation_cells(t, groups, row, &mut cells);
-    let p = correctness_part(groups, row, &cells);
-    plan_correctness(rows, firsts, j, p.vo, &mut plan);
-    sweep_part(t, &plan, &cells, p, from, end)
+    operation_cells(d.table, d.groups, row, &mut cells);
+    let part = correctness_part(d.groups, row, &cells);
+    plan_correctness(d.rows, d.firsts, j, part.vo, &mut plan);
+    let s = PartSearch {
+        table: d.table,
+        plan: &plan,
+        cells: &cells,
+        part,
+    };
+    sweep_part(&s, from, end)
 }
 
 // The k-th part: the opening obligations first, then two for each operation.
-fn look(
-    t: &[u16; 16384],
-    rows: &[u16; 16384],
-    firsts: &[u16; 40],
-    groups: &[u16; 160],
-    k: usize,
-    from: usize,
-    end: usize,
-) -> PartLooked
+fn look(d: &Dossier<'_>, k: usize, from: usize, end: usize) -> PartLooked
     requires from_le_end { from ≤ end }
-    requires look_asked { LookAsked t.now rows.now firsts.now groups.now k }
-    ensures { LookAnswers t.now rows.now firsts.now groups.now k from end result.size result.at result.failed }
+    requires look_asked { LookAsked d.now.table.now d.now.rows.now d.now.firsts.now d.now.groups.now k }
+    ensures { LookAnswers d.now.table.now d.now.rows.now d.now.firsts.now d.now.groups.now k from end result.size result.failing }
 {
     if k < OPENING {
-        return look_opening(t, rows, firsts, groups, from, end);
+        return look_opening(d, from, end);
     }
     let j = (k - OPENING) / OBLIGATIONS;
     if (k - OPENING) % OBLIGATIONS == 0 {
-        return look_applicability(t, rows, firsts, groups, j, from, end);
+        return look_applicability(d, j, from, end);
     }
-    look_correctness(t, rows, firsts, groups, j, from, end)
+    look_correctness(d, j, from, end)
 }
 
-// The parts one after the other, from the place `from` up to `end`.
-pub fn search(
-    t: &[u16; 16384],
-    rows: &[u16; 16384],
-    firsts: &[u16; 40],
-    groups: &[u16; 160],
-    operations: usize,
-    from: usize,
-    end: usize,
-) -> Searched
+// The parts one after the other, from the place `from` up to `end`, or to the last of the check: the first place that fails.
+pub fn search(d: &Dossier<'_>, from: usize, end: usize) -> Option<usize>
     requires from_le_end { (from ≤ end) × (end < 2 ^ 62) }
-    requires search_asked { SearchAsked t.now rows.now firsts.now groups.now operations from }
-    ensures { SearchAnswers t.now rows.now firsts.now groups.now operations from end result.at result.failed }
+    requires search_asked { SearchAsked d.now.table.now d.now.rows.now d.now.firsts.now d.now.groups.now d.now.operations from }
+    ensures { SearchAnswers d.now.table.now d.now.rows.now d.now.firsts.now d.now.groups.now d.now.operations from end result }
 {
-    let parts = OPENING + OBLIGATIONS * operations;
+    let parts = OPENING + OBLIGATIONS * d.operations;
     let mut at = from;
-    let mut failed = false;
+    let mut failing = None;
     let mut begin: usize = 0;
-    let mut k: usize = 0;
-    'parts: while k < parts {
+    'parts: for k in 0..parts {
         if at == end {
             break 'parts;
         }
-        let w = look(t, rows, firsts, groups, k, at - begin, end - begin);
-        at = begin + w.at;
-        if w.failed {
-            failed = true;
+        let w = look(d, k, at - begin, end - begin);
+        if let Some(place) = w.failing {
+            failing = Some(begin + place);
             break 'parts;
         }
         begin += w.size;
-        k += 1;
+        at = at.max(end.min(begin));
     }
-    Searched { at, failed }
+    failing
 }

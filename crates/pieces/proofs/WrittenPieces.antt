@@ -2,18 +2,20 @@
 use mathlib.Core.Path.{◌≡◌, refl, sym, ap, ap₂, ◌∙◌, subst}
 use mathlib.Core.Bool.{Bool, true, false}
 use mathlib.Core.List.{List, [], ◌∷◌, ◌++◌}
-use Prim.Native.Nat.{ℕ, ◌+◌, ◌≤◌, ◌<◌}
+use Prim.Native.Nat.{ℕ, ◌+◌, ◌-◌, ◌≤◌, ◌<◌}
 use native.Mathlib.Omega.{arith}
 use native.Mathlib.Nat.{add-zero}
 use native.Mathlib.Numerals.{add-one}
 use lib.Dec.{leb}
+use Rattle.std.specs.Prelude.{min}
 use borrow.Author.Tests.{leb-true, leb-false}
-use lib.ListN.{length, take, drop, get_or, set, length-set, length-take, length-drop, length-append, take-append-drop}
-use lib.Seq.{take_all, take-take, take-suc, set_split, get_or-drop}
+use lib.ListN.{length, take, drop, set, length-set, length-take, length-drop, length-append, take-append-drop}
+use lib.Seq.{take_all, drop-drop, take-take, set_split}
+use borrow.Rule.Slice.PartMut.{put_mid}
 use Rattle.lexical.specs.Symbols.{run}
 use Rattle.lexical.proofs.WordLaws.{run_take, run_length}
 use Rattle.table_nodes.specs.TableWalkPromises.{patch}
-use Rattle.table_nodes.proofs.Pieces.{patch-behind}
+use Rattle.table_nodes.proofs.Pieces.{patch-behind, patch-length}
 use Rattle.pieces.specs.PiecePromises.{Writes, letters_at}
 
 patch-none : (at : ℕ) (a : List ℕ) → patch at [] a ≡ a
@@ -63,26 +65,14 @@ both-written {at} {m} {r} {p} {q} {a} {b} {c} v w = on p v (leb m (length a)) re
     on (y ∷ s) x false e =
         absurd (too_long at (y ∷ s) a (omega arith) (let n = leb-false m (length a) e in omega (arith, x.end)) (sym (ap (λ (l : List ℕ). length l) x.written) ∙ x.long))
 
--- the bytes of a text from a place on, one behind the other
-pub part_none : (at : ℕ) (w a : List ℕ) → Writes at (take 0 w) a a (at + 0)
-part_none at w a = subst (λ (n : ℕ). Writes at [] a a n) (sym (add-zero at)) (nothing_written at a)
-
-pub part-done : (w : List ℕ) (k n : ℕ) {at : ℕ} {a b : List ℕ} → k ≤ n → n ≤ k → Writes at (take k w) a b (at + k) → Writes at (take n w) a b (at + n)
-part-done w k n {at} {a} {b} h l v = let e : k ≡ n = omega arith in subst (λ (i : ℕ). Writes at (take i w) a b (at + i)) e v
-
--- the whole text
-pub all-written : (w : List ℕ) {at r : ℕ} {a b : List ℕ} → Writes at (take (length w) (drop 0 w)) a b r → Writes at w a b r
-all-written w {at} {r} {a} {b} v = subst (λ (p : List ℕ). Writes at p a b r) (take_all (length w) w (omega arith)) v
-
-pub part-written : (text : List ℕ) (from k : ℕ) {at : ℕ} {a b c : List ℕ} → from + k < length text → Writes at (take k (drop from text)) a b (at + k)
-    → {r : ℕ} → Writes (at + k) (get_or text (from + k) 0 ∷ []) b c r → Writes at (take (k + 1) (drop from text)) a c (at + (k + 1))
-part-written text from k {at} {a} {b} {c} h v {r} w =
-    let l = length-drop from text in
-    let e : take (k + 1) (drop from text) ≡ take k (drop from text) ++ (get_or text (from + k) 0 ∷ []) =
-    ap (λ (n : ℕ). take n (drop from text)) (add-one k) ∙ take-suc (drop from text) k 0 (omega arith)
-    ∙ ap (λ (x : ℕ). take k (drop from text) ++ (x ∷ [])) (get_or-drop from text k 0) in
-    let z : r ≡ at + (k + 1) = omega (arith, w.end) in
-    subst (λ (n : ℕ). Writes at (take (k + 1) (drop from text)) a c n) z (subst (λ (p : List ℕ). Writes at p a c r) (sym e) (both-written v w))
+-- a text copied over as many bytes
+pub text-written : (out text bytes : List ℕ) (at k r : ℕ) → k ≡ length text → bytes ≡ text → r ≡ at + length text → at + length text ≤ length out
+    → Writes at text out (put_mid at k out bytes) r
+unfolding patch
+text-written out text bytes at k r e f g h =
+    let is : put_mid at k out bytes ≡ patch at text out =
+    ap₂ (λ (w v : List ℕ). take at out ++ (w ++ v)) f (drop-drop k at out ∙ ap (λ (n : ℕ). drop (at + n) out) e) in
+    record { written = is; end = g; long = ap length is ∙ patch-length at text out h }
 
 -- the letters and digits from a place on, as many as a name has
 pub letters-are : (text : List ℕ) (p n : ℕ) → n ≤ length (run (drop p text)) → n ≤ 16 → (n < 16 → n ≡ length (run (drop p text)))
@@ -104,17 +94,20 @@ pub letters-length : (text : List ℕ) (p : ℕ) → length (letters_at text p) 
 unfolding letters_at
 letters-length text p = let t = length-take 16 (run (drop p text)) in omega arith
 
--- n of the l letters and digits that stand from p on are written, as many as a name has
-module _ (text : List ℕ) (p : ℕ) {l n : ℕ} (is : l ≡ length (run (drop p text))) where
-  pub letters-inside : n ≤ l → (n ≡ 0 → ⊥) → p + n ≤ length text
-  letters-inside h k = omega (arith, is, run_length (drop p text), length-drop p text, k)
+-- of the l letters and digits that stand from p on as many are written as a name has
+module _ (text : List ℕ) (p : ℕ) {l n : ℕ} (is : l ≡ length (run (drop p text))) (least : n ≡ min l 16) where
+  pub letters-inside : 0 < n → p + n ≤ length text
+  letters-inside k = omega (arith, is, least, run_length (drop p text), length-drop p text, k)
 
-  pub no_letters : (n < 16 → n ≡ l) → n ≡ 0 → {at : ℕ} {a : List ℕ} → Writes at (letters_at text p) a a at
-  no_letters f e {at} {a} =
-      let z : 0 ≡ l = sym e ∙ f (omega arith) in
-      subst (λ (w : List ℕ). Writes at w a a at) (letters-are text p 0 (omega arith) (omega arith) (λ _. z ∙ is)) (nothing_written at a)
+  letters-same : take n (drop p text) ≡ letters_at text p
+  letters-same = letters-are text p n (omega (arith, is, least)) (omega (arith, least)) (λ g. omega (arith, is, least, g))
 
-  pub some-letters : n ≤ l → n ≤ 16 → (n < 16 → n ≡ l) → {at r : ℕ} {a b : List ℕ} → Writes at (take n (drop p text)) a b r
-      → Writes at (letters_at text p) a b r
-  some-letters h k f {at} {r} {a} {b} v =
-      subst (λ (w : List ℕ). Writes at w a b r) (letters-are text p n (omega (arith, is)) k (λ g. f g ∙ is)) v
+  pub no_letters : n ≤ 0 → {at : ℕ} {a : List ℕ} → Writes at (letters_at text p) a a at
+  no_letters e {at} {a} =
+      let z : n ≡ 0 = omega arith in
+      subst (λ (w : List ℕ). Writes at w a a at) (ap (λ (k : ℕ). take k (drop p text)) (sym z) ∙ letters-same) (nothing_written at a)
+
+  pub some-letters : {at r : ℕ} {a b : List ℕ} → Writes at (take (p + n - p) (drop p text)) a b r → Writes at (letters_at text p) a b r
+  some-letters {at} {r} {a} {b} v =
+      let z : p + n - p ≡ n = omega arith in
+      subst (λ (w : List ℕ). Writes at w a b r) (ap (λ (k : ℕ). take k (drop p text)) z ∙ letters-same) v

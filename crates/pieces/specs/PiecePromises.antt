@@ -2,11 +2,16 @@
 use Rattle.std.specs.Prelude.{◌≡◌, List, ℕ, ◌+◌, length, take, drop}
 use Rattle.lexical.specs.Symbols.{run}
 use Rattle.table_nodes.specs.TableWalkPromises.{patch}
+use Rattle.pieces.specs.declared.Writer.{Writer}
 
 pub record Writes (at : ℕ) (piece before after : List ℕ) (r : ℕ) : Type 0 where
   pub written : after ≡ patch at piece before
   pub end : r ≡ at + length piece
   pub long : length after ≡ length before
+
+-- a writer put a piece behind what stood there
+abbrev pub Adds : (piece : List ℕ) (old new : Writer) → Type 0
+Adds piece v w = Writes v.at piece v.out.now w.out.now w.at
 
 -- the letters and digits from a place of the text on, as many as a name has
 unfoldable pub letters_at : (text : List ℕ) (p : ℕ) → List ℕ

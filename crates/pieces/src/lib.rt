@@ -1,9 +1,9 @@
-// Pieces of text in lent bytes: each function writes from the place `at` on, touches no other byte, and answers the place behind what it wrote.
+// Pieces of text in lent bytes, one behind the other.
 #![tactic(auto)]
 
-ghost use Rattle.std.specs.Prelude.{◌≡◌, [], ◌∷◌, ◌+◌, ◌^◌, ◌≤◌, ◌<◌, length, take, drop, nat_abs};
+ghost use Rattle.std.specs.Prelude.{◌≡◌, [], ◌∷◌, ◌+◌, ◌^◌, ◌≤◌, ◌<◌, length, take, drop};
 ghost use Rattle.obligations.specs.Report.{decimal, signed_decimal};
-ghost use Rattle.pieces.specs.PiecePromises.{Writes, letters_at};
+ghost use Rattle.pieces.specs.PiecePromises.{Adds, letters_at};
 
 use lexical::bounds::NAME_LETTERS;
 use lexical::classes::run_from;
@@ -17,95 +17,77 @@ const ZERO: u8 = b'0';
 
 const MINUS: u8 = b'-';
 
-// One byte.
-pub fn put(out: &mut [u8], at: usize, b: u8) -> usize
-    requires { at < length out.old }
-    ensures { Writes at (b ∷ []) out.old out.new result }
-{
-    out[at] = b;
-    at + 1
+// Lent bytes, and the place behind what stands in them: each method writes from there on and touches no other byte.
+#[derive(Drop)]
+pub struct Writer<'a> {
+    pub out: &'a mut [u8],
+    pub at: usize,
 }
 
-// The n bytes of a text from a place on.
-pub fn put_part(text: &[u8], from: usize, n: usize, out: &mut [u8], at: usize) -> usize
-    requires { (from + n ≤ length text.now) × (at + n ≤ length out.old) }
-    ensures { Writes at (take n (drop from text.now)) out.old out.new result }
-{
-    let mut k: usize = 0;
-    while k < n {
-        put(out, at + k, text[from + k]);
-        k += 1;
+impl<'a> Writer<'a> {
+    // One byte.
+    pub fn put(&mut self, b: u8)
+        requires { self.old.at < length self.old.out.now }
+        ensures same_bytes { self.new.out.ghost_name ≡ self.old.out.ghost_name }
+        ensures written { Adds (b ∷ []) self.old self.new }
+    {
+        self.out[self.at] = b;
+        self.at += 1;
     }
-    at + n
-}
 
-// All bytes of a text.
-pub fn put_all(text: &[u8], out: &mut [u8], at: usize) -> usize
-    requires { at + length text.now ≤ length out.old }
-    ensures { Writes at text.now out.old out.new result }
-{
-    put_part(text, 0, text.len(), out, at)
-}
-
-fn least(x: usize, y: usize) -> usize
-    ensures { (result ≤ x) × (result ≤ y) × (result < y → result ≡ x) }
-{
-    if x < y {
-        return x;
+    // All bytes of a text.
+    pub fn put_all(&mut self, text: &[u8])
+        requires { self.old.at + length text.now ≤ length self.old.out.now }
+        ensures same_bytes { self.new.out.ghost_name ≡ self.old.out.ghost_name }
+        ensures written { Adds text.now self.old self.new }
+    {
+        let end = self.at + text.len();
+        self.out[self.at..end].copy_from_slice(text);
+        self.at = end;
     }
-    y
-}
 
-// The letters and digits that stand from a place of the text on, as many as a name has.
-pub fn put_letters(text: &[u8], from: usize, out: &mut [u8], at: usize) -> usize
-    requires { at + 16 ≤ length out.old }
-    ensures { Writes at (letters_at text.now from) out.old out.new result }
-{
-    let n = least(run_from(text, from), NAME_LETTERS);
-    if n == 0 {
-        return at;
+    // The letters and digits that stand from a place of the text on, as many as a name has.
+    pub fn put_letters(&mut self, text: &[u8], from: usize)
+        requires { self.old.at + 16 ≤ length self.old.out.now }
+        ensures same_bytes { self.new.out.ghost_name ≡ self.old.out.ghost_name }
+        ensures written { Adds (letters_at text.now from) self.old self.new }
+    {
+        let n = run_from(text, from).min(NAME_LETTERS);
+        if n > 0 {
+            self.put_all(&text[from..from + n]);
+        }
     }
-    put_part(text, from, n, out, at)
-}
 
-// The number n, of at most d digits.
-fn put_digits(n: u64, d: usize, out: &mut [u8], at: usize) -> usize
-    requires { (n < 10 ^ d) × (1 ≤ d) × (at + d ≤ length out.old) }
-    ensures { Writes at (decimal n) out.old out.new result }
-{
-    if n < TEN {
-        return put(out, at, n as u8 + ZERO);
+    // The number n, of at most d digits: std prints into what may fail.
+    fn put_digits(&mut self, n: u64, d: usize)
+        requires { (n < 10 ^ d) × (1 ≤ d) × (self.old.at + d ≤ length self.old.out.now) }
+        ensures same_bytes { self.new.out.ghost_name ≡ self.old.out.ghost_name }
+        ensures written { Adds (decimal n) self.old self.new }
+    {
+        if n >= TEN {
+            self.put_digits(n / TEN, d - 1);
+        }
+        self.put((n % TEN) as u8 + ZERO);
     }
-    let k = put_digits(n / TEN, d - 1, out, at);
-    put(out, k, (n % TEN) as u8 + ZERO)
-}
 
-// A number in decimal.
-pub fn put_decimal(n: u64, out: &mut [u8], at: usize) -> usize
-    requires { at + 20 ≤ length out.old }
-    ensures { Writes at (decimal n) out.old out.new result }
-{
-    put_digits(n, DIGITS, out, at)
-}
-
-// A number without its sign; the least one has no opposite of 64 bits.
-fn magnitude(x: i64) -> u64
-    ensures { result ≡ nat_abs x }
-{
-    if x < 0 {
-        return (-(x + 1)) as u64 + 1;
+    // A number in decimal.
+    pub fn put_decimal(&mut self, n: u64)
+        requires { self.old.at + 20 ≤ length self.old.out.now }
+        ensures same_bytes { self.new.out.ghost_name ≡ self.old.out.ghost_name }
+        ensures written { Adds (decimal n) self.old self.new }
+    {
+        self.put_digits(n, DIGITS);
     }
-    x as u64
-}
 
-// A number that may be below 0.
-pub fn put_signed(x: i64, out: &mut [u8], at: usize) -> usize
-    requires { at + 21 ≤ length out.old }
-    ensures { Writes at (signed_decimal x) out.old out.new result }
-{
-    if x < 0 {
-        let k = put(out, at, MINUS);
-        return put_decimal(magnitude(x), out, k);
+    // A number that may be below 0.
+    pub fn put_signed(&mut self, x: i64)
+        requires { self.old.at + 21 ≤ length self.old.out.now }
+        ensures same_bytes { self.new.out.ghost_name ≡ self.old.out.ghost_name }
+        ensures written { Adds (signed_decimal x) self.old self.new }
+    {
+        if x < 0 {
+            self.put(MINUS);
+        }
+        self.put_decimal(x.unsigned_abs());
     }
-    put_decimal(magnitude(x), out, at)
 }

@@ -3,7 +3,7 @@
 // asked of the after state.
 #![tactic(auto)]
 
-ghost use Rattle.std.specs.Prelude.{◌≡◌, ◌+◌, ◌<◌, ◌≤◌, get_or, length, set};
+ghost use Rattle.std.specs.Prelude.{◌≡◌, ◌+◌, ◌<◌, ◌≤◌, length};
 ghost use Rattle.plans.specs.PlansByNumber.{level_of, entries_from, entries_of, search_entries, Rows, no_asking};
 ghost use Rattle.plans.specs.PlanPromises.{RowsOf, CommonRows, OperationRows, InitialisationPlan, ApplicabilityPlan, CorrectnessPlan};
 ghost use Rattle.plans.specs.PlanWriting.{asking, RowIn, Appended, Room, Laying, Headed, Searched, Between, many_by, over_by, after_by, step_by, Premises};
@@ -37,6 +37,15 @@ pub struct Part {
     pub primed: bool,
 }
 
+// What the searches of a part go over: the reader's table, the plans of the searches, the cells of the variables, and the part's sizes.
+#[derive(Clone, Copy)]
+pub struct PartSearch<'a> {
+    pub table: &'a [u16; 16384],
+    pub plan: &'a [u16; 20560],
+    pub cells: &'a [u32; 9216],
+    pub part: Part,
+}
+
 // A predicate that a search asks: where its rows begin, and how many they are; asked of the state before (0) or after (1); the column of the first group, how many variables that
 // group has, the column of the second.
 #[derive(Clone, Copy)]
@@ -49,35 +58,19 @@ pub struct Asked {
     pub second: usize,
 }
 
-// A number of the rows or of the firsts.
-fn number(numbers: &[u16], k: usize) -> usize
-    requires { k < length numbers.now }
-    ensures { (result ≡ get_or numbers.now k 0) × (result < 65536) }
-{
-    numbers[k] as usize
-}
-
-// A number of the plan is written.
-fn put(plan: &mut [u16], k: usize, x: usize)
-    requires { (k < length plan.old) × (x < 65536) }
-    ensures { plan.new ≡ set plan.old k x }
-{
-    plan[k] = x as u16;
-}
-
 // The level of the conjunct whose row begins at r.
 fn level_of(rows: &[u16; 16384], r: usize, p: Asked) -> usize
     requires { RowIn rows.now (asking p) r }
     ensures { result ≡ level_of rows.now (asking p) r }
 {
-    let last = number(rows, r + p.second);
+    let last = usize::from(rows[r + p.second]);
     if last != 0 {
         return p.count + last;
     }
     if p.first == columns::NO_COLUMN {
         return 0;
     }
-    number(rows, r + p.first)
+    usize::from(rows[r + p.first])
 }
 
 // Appends the conjunct whose row begins at r, if it has the level l; the place behind it.
@@ -96,7 +89,7 @@ fn append_row(
     if level_of(rows, r, p) != l {
         return at;
     }
-    put(plan, at, 2 * number(rows, r + columns::END) + p.side);
+    plan[at] = (2 * usize::from(rows[r + columns::END]) + p.side) as u16;
     at + 1
 }
 
@@ -107,10 +100,8 @@ fn append(rows: &[u16; 16384], p: Asked, l: usize, plan: &mut [u16], at: usize) 
     ensures { Appended (entries_of rows.now (asking p) l) at plan.old plan.new result }
 {
     let mut k = at;
-    let mut i: usize = 0;
-    while i < p.many {
+    for i in 0..p.many {
         k = append_row(rows, p.from + columns::ROW * i, p, l, plan, k);
-        i += 1;
     }
     k
 }
@@ -149,12 +140,10 @@ fn plan_search(
     ensures { Laying rows.now u (asking p) (asking q) (asking r) at plan.old plan.new result }
 {
     let mut k = at;
-    put(plan, plan::HEAD * u, k);
-    let mut l: usize = 0;
-    while l < plan::LEVELS {
+    plan[plan::HEAD * u] = k as u16;
+    for l in 0..plan::LEVELS {
         k = append_level(rows, p, q, r, l, plan, k);
-        l += 1;
-        put(plan, plan::HEAD * u + l, k);
+        plan[plan::HEAD * u + (l + 1)] = k as u16;
     }
     k
 }
@@ -164,9 +153,9 @@ fn head(plan: &mut [u16], u: usize, first: usize, n: usize, second: usize)
     requires { (u < 5) × (first < 64) × (n < 64) × (second < 64) × (length plan.old ≡ 20560) }
     ensures { Headed u first n second plan.old plan.new }
 {
-    put(plan, plan::HEAD * u + plan::FIRST_SLOT, first);
-    put(plan, plan::HEAD * u + plan::FIRST_COUNT, n);
-    put(plan, plan::HEAD * u + plan::SECOND_SLOT, second);
+    plan[plan::HEAD * u + plan::FIRST_SLOT] = first as u16;
+    plan[plan::HEAD * u + plan::FIRST_COUNT] = n as u16;
+    plan[plan::HEAD * u + plan::SECOND_SLOT] = second as u16;
 }
 
 // How many rows a context has.
@@ -174,7 +163,7 @@ fn rows_of(firsts: &[u16; 40], c: usize) -> usize
     requires { Between firsts.now c }
     ensures { result ≡ many_by firsts.now c }
 {
-    (number(firsts, c + 1) - number(firsts, c)) / columns::ROW
+    usize::from(firsts[c + 1] - firsts[c]) / columns::ROW
 }
 
 // No predicate.
@@ -197,41 +186,34 @@ fn over(firsts: &[u16; 40], c: usize, side: usize, second: usize) -> Asked
     ensures { asking result ≡ over_by firsts.now c side second }
 {
     Asked {
-        from: number(firsts, c),
+        from: usize::from(firsts[c]),
         many: rows_of(firsts, c),
         side,
-        first: columns::NO_COLUMN,
-        count: 0,
         second,
+        ..none()
     }
 }
 
-// The predicate of the state after, behind n outputs; an operation's predicate, over n outputs and a group of primed variables.
+// The predicate of the state after, behind n outputs.
 fn after(firsts: &[u16; 40], c: usize, n: usize, second: usize) -> Asked
     requires { Between firsts.now c }
     ensures { asking result ≡ after_by firsts.now c n second }
 {
     Asked {
-        from: number(firsts, c),
-        many: rows_of(firsts, c),
-        side: 1,
-        first: columns::NO_COLUMN,
         count: n,
-        second,
+        ..over(firsts, c, 1, second)
     }
 }
 
+// An operation's predicate, over n outputs and a group of primed variables.
 fn step(firsts: &[u16; 40], c: usize, n: usize, second: usize) -> Asked
     requires { Between firsts.now c }
     ensures { asking result ≡ step_by firsts.now c n second }
 {
     Asked {
-        from: number(firsts, c),
-        many: rows_of(firsts, c),
-        side: 0,
         first: columns::OUTPUTS,
         count: n,
-        second,
+        ..over(firsts, c, 0, second)
     }
 }
 

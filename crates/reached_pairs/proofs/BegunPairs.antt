@@ -7,16 +7,19 @@ use native.Mathlib.Nat.{div-add-mod', mul-le-mul}
 use native.Mathlib.Omega.{arith}
 use lib.Arith.{digits_div, digits_mod}
 use lib.ListN.{length}
+use borrow.Author.Rules.{rules}
+use Rattle.std.specs.Prelude.{Option, Some, None, IfSome}
 use Rattle.form.specs.Tree.{Dossier}
 use Rattle.static_rules.specs.Scope.{unprimed}
 use Rattle.meaning.specs.Operations.{abstract_bindings, concrete_bindings}
 use Rattle.carriers.proofs.Bindings.{bindings-some, bindings-count}
 use Rattle.plans.specs.declared.Part.{Part}
+use Rattle.step_searches.specs.ReadingsReadings.{ReadingOf}
 use Rattle.step_searches.specs.PartTestsPartsByNumber.{abstract_at, initial, initial_match}
-use Rattle.step_searches.specs.StepPromises.{OpeningSearches, OpenAsked, Opened, InitialStateFound, InitialMatchFound}
+use Rattle.step_searches.specs.StepPromises.{OpeningSearches, Opened, InitialStateFound, InitialMatchFound}
 use Rattle.reached_pairs.specs.Reached.{layer_of, layer_in}
-use Rattle.reached_pairs.specs.ReachedByNumber.{many_abstract, many_concrete, many_pairs, abstract_of, concrete_of, Begins, Hits, Marked, Cleared}
-use Rattle.reached_pairs.specs.PairPromises.{open_test, BegunWith, MatchesBegun, MatchesBeginning, StatesBegun, StatesBeginning, Begun, Layers, ReachAnswers}
+use Rattle.reached_pairs.specs.ReachedByNumber.{many_abstract, many_concrete, many_pairs, abstract_of, concrete_of, MayBegin, Begins, Grown, Hits, Marked, Cleared}
+use Rattle.reached_pairs.specs.PairPromises.{PairsAre, open_test, BegunWith, MatchesBegun, MatchesBeginning, StatesBegun, StatesBeginning, Begun, Layers, ReachAnswers}
 use Rattle.reached_pairs.proofs.PairNumbers.{high_digit, low_digit, pair_inside}
 use Rattle.reached_pairs.proofs.GrownMarks.{grown_wider, scan-start, scan-next, scan-done}
 use Rattle.reached_pairs.proofs.NextLayer.{layered-first}
@@ -45,9 +48,6 @@ module _ {table plan cells : List ℕ} {p : Part} {d : Dossier} (S : OpeningSear
 
   pub open-small : p.nm * p.nc ≤ 16777216
   open-small = mul-le-mul {n₂ = 4096} {m₂ = 4096} few_a.1 few_c.1
-
-  pub open-some : 0 < p.nm * p.nc
-  open-some = mul-le-mul {n₁ = 1} {m₁ = 1} few_a.0 few_c.0
 
 -- ---- abstract initial states
 
@@ -140,27 +140,35 @@ module _ {table plan cells : List ℕ} {p : Part} where
 
 -- ---- the first layer
 
-module _ {table rows firsts groups : List ℕ} where
-  pub begun-none : (a : List ℕ) → Begun table rows firsts groups a a 0
-  begun-none a = record { long = refl; none = λ e. refl; pairs = λ h. absurd (omega arith); each = λ h. absurd (omega arith) }
+some_none : {n : ℕ} → Some n ≡ None → ⊥
+some_none e = search (e, rules)
 
-  pub begun_all : {plan cells : List ℕ} {p : Part} {a b : List ℕ} → OpenAsked table rows firsts groups → Opened table rows firsts groups plan cells p → p.nm * p.nc ≤ 262144
-      → StatesBegun table plan cells p a b → Begun table rows firsts groups a b (p.nm * p.nc)
-  begun_all q f l w = record {
+module _ {table rows firsts groups : List ℕ} where
+  pub begun-none : (a : List ℕ) → Begun table rows firsts groups a a None
+  begun-none a = record { long = refl; none = λ e. refl; pairs = tt; each = tt }
+
+  pub begun_all : {plan cells : List ℕ} {p : Part} {a b : List ℕ} → Opened table rows firsts groups plan cells p → p.nm * p.nc ≤ 262144
+      → StatesBegun table plan cells p a b → Begun table rows firsts groups a b (Some (p.nm * p.nc))
+  begun_all f l w = record {
     long = w.long;
-    none = λ e. absurd (omega (arith, e, open-some (f.searches q.dossier q.reading)));
-    pairs = λ h. record { room = l; are = λ d R. open-pairs (f.searches d R) };
-    each = λ h d R. w.each d (f.searches d R);
+    none = λ e. absurd (some_none e);
+    pairs = record { room = l; are = λ d R. open-pairs (f.searches d R) };
+    each = λ d R. w.each d (f.searches d R);
   }
 
-  pub begun-layers : {operations r : ℕ} {a b c : List ℕ} → length a ≡ 262144 → Cleared a b → Begun table rows firsts groups b c r → 0 < r → Layers table rows firsts groups operations 1 c
-  begun-layers {b = b} {c = c} l k w h = record {
+  pub begun-pairs : {r : Option ℕ} {n : ℕ} {b c : List ℕ} → Begun table rows firsts groups b c r → r ≡ Some n → PairsAre table rows firsts groups n
+  begun-pairs w e = subst (λ (o : Option ℕ). IfSome o (PairsAre table rows firsts groups)) e w.pairs
+
+  pub begun-layers : {operations n : ℕ} {r : Option ℕ} {a b c : List ℕ} → length a ≡ 262144 → Cleared a b → Begun table rows firsts groups b c r → r ≡ Some n
+      → Layers table rows firsts groups operations 1 c
+  begun-layers {n = n} {b = b} {c = c} l k w e = record {
     long = w.long ∙ k.long ∙ l;
-    each = λ d R e. layered-first d b c k.each (w.each h d R);
+    each = λ d R h. layered-first d b c k.each
+        (subst (λ (o : Option ℕ). IfSome o (λ (n : ℕ). (d : Dossier) → ReadingOf table rows firsts groups d → Grown (MayBegin d) (Begins d) b c)) e w.each d R);
   }
 
   -- without a mark nothing is said
-  pub begun-blank : {operations r : ℕ} {a b c : List ℕ} → Cleared a b → Begun table rows firsts groups b c r → r ≡ 0 → ReachAnswers table rows firsts groups operations c false
+  pub begun-blank : {operations : ℕ} {r : Option ℕ} {a b c : List ℕ} → Cleared a b → Begun table rows firsts groups b c r → r ≡ None → ReachAnswers table rows firsts groups operations c false
   begun-blank {b = b} {c = c} k w e = record {
     each = λ d R h. record {
       reached = λ x z n lx lz m. absurd (omega (arith, m, blank (x * many_concrete d + z)));

@@ -14,10 +14,10 @@ use Rattle.meaning.specs.Bindings.{bindings}
 use Rattle.meaning.proofs.Places.{below-entry}
 use Rattle.plans.specs.declared.Part.{Part}
 use Rattle.step_searches.specs.ReadingsReadings.{ReadingOf}
-use Rattle.step_searches.specs.StepPromises.{StepSearches, PrepareAsked, Prepared}
+use Rattle.step_searches.specs.StepPromises.{StepSearches, PrepareAsked, Prepared, ReadAsked}
 use Rattle.reached_pairs.specs.Reached.{layer_of, pair_before, entry_of, mark_in, layer_in}
 use Rattle.reached_pairs.specs.ReachedByNumber.{many_pairs, Goes, Leads, Layered, Grown, Hits, MarkFrom, MayFrom, MustFrom, MustBelow, LayerCounted}
-use Rattle.reached_pairs.specs.PairPromises.{PairMay, PairTo, PairsAsked, InputsSpread, PairSpread, PairsSpread, PairsAre, OperationSpread, LayerSpread, Layers, ReachAsked, ReachAnswers}
+use Rattle.reached_pairs.specs.PairPromises.{PairMay, PairTo, PairsAsked, InputsSpread, PairSpread, PairsSpread, PairsAre, OperationSpread, LayerSpread, Layers, ReachAnswers}
 use Rattle.reached_pairs.proofs.GrownMarks.{grown_stays, grown-none, grown_join, grown_wider, scan-next, scan-done, sought-each}
 use Rattle.reached_pairs.proofs.NextLayer.{layered-next}
 use Rattle.reached_pairs.proofs.Layers.{layered-reached}
@@ -151,7 +151,7 @@ pub operation-few : {table rows firsts groups : List ℕ} {j : ℕ} → PrepareA
 operation-few q = omega (arith, q.listed, q.reading.operations)
 
 -- operations below the last one are listed
-pub layer_prepare : {table rows firsts groups : List ℕ} {operations j : ℕ} → ReachAsked table rows firsts groups operations → j < operations → PrepareAsked table rows firsts groups j
+pub layer_prepare : {table rows firsts groups : List ℕ} {operations j : ℕ} → ReadAsked table rows firsts groups operations → j < operations → PrepareAsked table rows firsts groups j
 layer_prepare q h = record { dossier = q.dossier; reading = q.reading; listed = omega (arith, q.many, h) }
 
 -- ---- layers

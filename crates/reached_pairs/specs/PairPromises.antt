@@ -1,6 +1,5 @@
 -- What each function of the search for reached pairs asks and promises: which pairs may get which marks, and which must have one then. Nothing here need be believed.
-use Rattle.std.specs.Prelude.{◌≡◌, Bool, true, List, ℕ, ◌+◌, ◌*◌, ◌/◌, ◌%◌, ◌<◌, ◌≤◌, length}
-use Rattle.std.proofs.Math.Option.{some}
+use Rattle.std.specs.Prelude.{◌≡◌, Bool, true, Option, None, IfSome, List, ℕ, ◌+◌, ◌*◌, ◌/◌, ◌%◌, ◌<◌, ◌≤◌, length}
 use Rattle.form.specs.Tree.{Operation, Dossier}
 use Rattle.static_rules.specs.Scope.{inputs}
 use Rattle.meaning.specs.Bindings.{bindings}
@@ -86,7 +85,7 @@ pub record PairsAsked (table plan cells : List ℕ) (p : Part) (marks : List ℕ
   pub long : length marks ≡ 262144
 
 module _ (table plan cells : List ℕ) (p : Part) where
-  -- spread_matches(t, plan, cells, p, b, m, memo, marks)
+  -- spread_matches(s, b, m, memo, marks)
   pub record MatchesSpread (b : Stepped) (m : ℕ) (before after : List ℕ) : Type 0 where
     pub long : length after ≡ length before
     pub each : ForSteps table plan cells p (λ (d : Dossier) (op : Operation). Grown (MatchMay d op b m) (MatchedBy d op b) before after)
@@ -96,7 +95,7 @@ module _ (table plan cells : List ℕ) (p : Part) where
     pub found : ForSteps table plan cells p (λ (d : Dossier) (op : Operation). x < p.na → match_test d op b x ≡ true)
     pub each : ForSteps table plan cells p (λ (d : Dossier) (op : Operation). MatchGrown d op p.nc b m x before after)
 
-  -- spread_steps(t, plan, cells, p, x, i, m, memo, marks)
+  -- spread_steps(s, x, i, m, memo, marks)
   pub record StepsSpread (x i m : ℕ) (before after : List ℕ) : Type 0 where
     pub long : length after ≡ length before
     pub each : ForSteps table plan cells p (λ (d : Dossier) (op : Operation). Grown (LeadMay d op i x m) (Leads d op i x) before after)
@@ -106,40 +105,34 @@ module _ (table plan cells : List ℕ) (p : Part) where
     pub found : ForSteps table plan cells p (λ (d : Dossier) (op : Operation). r < p.nq * p.nc → step_test d op p.nc (x % p.nc) i r ≡ true)
     pub each : ForSteps table plan cells p (λ (d : Dossier) (op : Operation). StepGrown d op p.nc i x m r before after)
 
-  -- spread_inputs(t, plan, cells, p, x, j, n, memo, marks); the inputs below i
+  -- spread_inputs(s, x, j, n, memo, marks); the inputs below i
   pub record InputsSpread (x j n i : ℕ) (before after : List ℕ) : Type 0 where
     pub long : length after ≡ length before
     pub each : ForSteps table plan cells p (λ (d : Dossier) (op : Operation). InputGrown d op j n x i before after)
 
-  -- spread_pair(t, plan, cells, p, x, j, n, memo, marks)
+  -- spread_pair(s, x, j, n, memo, marks)
   pub record PairSpread (x j n : ℕ) (before after : List ℕ) : Type 0 where
     pub long : length after ≡ length before
     pub each : ForSteps table plan cells p (λ (d : Dossier) (op : Operation). Grown (PairMay d op j n before) (PairTo d op n p.ni before x) before after)
 
-  -- spread_pairs(t, plan, cells, p, j, n, memo, marks); the pairs below x
+  -- spread_pairs(s, j, n, memo, marks); the pairs below x
   pub record PairsSpread (j n x : ℕ) (before after : List ℕ) : Type 0 where
     pub long : length after ≡ length before
     pub each : ForSteps table plan cells p (λ (d : Dossier) (op : Operation). PairGrown d op j n p.ni x before after)
 
 -- ---- a layer
 
--- what is asked of the arrays: the reading of some dossier
-pub record ReachAsked (table rows firsts groups : List ℕ) (operations : ℕ) : Type 0 where
-  pub dossier : Dossier
-  pub reading : ReadingOf table rows firsts groups dossier
-  pub many : operations ≡ length dossier.operations
-
 -- its pairs have room
 pub record PairsAre (table rows firsts groups : List ℕ) (pairs : ℕ) : Type 0 where
   pub room : pairs ≤ 262144
   pub are : (d : Dossier) → ReadingOf table rows firsts groups d → pairs ≡ many_pairs d
 
--- spread(t, rows, firsts, groups, j, n, marks)
+-- spread(d, j, n, marks)
 pub record OperationSpread (table rows firsts groups : List ℕ) (j n : ℕ) (before after : List ℕ) : Type 0 where
   pub long : length after ≡ length before
   pub each : (d : Dossier) → ReadingOf table rows firsts groups d → j < length d.operations → Grown (MayFrom d n before) (MustFrom d j n before) before after
 
--- spread_layer(t, rows, firsts, groups, operations, n, marks); the operations below j
+-- spread_layer(d, n, marks); the operations below j
 pub record LayerSpread (table rows firsts groups : List ℕ) (j n : ℕ) (before after : List ℕ) : Type 0 where
   pub long : length after ≡ length before
   pub each : (d : Dossier) → ReadingOf table rows firsts groups d → j ≤ length d.operations → Grown (MayFrom d n before) (MustBelow d j n before) before after
@@ -177,7 +170,7 @@ pub record OpenPairsAsked (table plan cells : List ℕ) (p : Part) (marks : List
   pub long : length marks ≡ 262144
 
 module _ (table plan cells : List ℕ) (p : Part) where
-  -- begin_with(t, plan, cells, p, c, memo, marks)
+  -- begin_with(s, c, memo, marks)
   pub record MatchesBegun (c m : ℕ) (before after : List ℕ) : Type 0 where
     pub long : length after ≡ length before
     pub each : ForOpening table plan cells p (λ (d : Dossier). Grown (BegunMay d c m) (BegunWith d c) before after)
@@ -187,7 +180,7 @@ module _ (table plan cells : List ℕ) (p : Part) where
     pub found : ForOpening table plan cells p (λ (d : Dossier). x < p.nm → open_test d c x ≡ true)
     pub each : ForOpening table plan cells p (λ (d : Dossier). OpenGrown d p.nc c m x before after)
 
-  -- begin_all(t, plan, cells, p, memo, marks)
+  -- begin_all(s, memo, marks)
   pub record StatesBegun (before after : List ℕ) : Type 0 where
     pub long : length after ≡ length before
     pub each : ForOpening table plan cells p (λ (d : Dossier). Grown (MayBegin d) (Begins d) before after)
@@ -197,12 +190,12 @@ module _ (table plan cells : List ℕ) (p : Part) where
     pub found : ForOpening table plan cells p (λ (d : Dossier). c < p.nc → initial d c ≡ true)
     pub each : ForOpening table plan cells p (λ (d : Dossier). StatesGrown d c before after)
 
--- begin(t, rows, firsts, groups, marks): how many pairs there are, or 0 where there is no room for them
-pub record Begun (table rows firsts groups : List ℕ) (before after : List ℕ) (r : ℕ) : Type 0 where
+-- begin(d, marks): how many pairs there are, or none where there is no room for them
+pub record Begun (table rows firsts groups : List ℕ) (before after : List ℕ) (r : Option ℕ) : Type 0 where
   pub long : length after ≡ length before
-  pub none : r ≡ 0 → after ≡ before
-  pub pairs : 0 < r → PairsAre table rows firsts groups r
-  pub each : 0 < r → (d : Dossier) → ReadingOf table rows firsts groups d → Grown (MayBegin d) (Begins d) before after
+  pub none : r ≡ None → after ≡ before
+  pub pairs : IfSome r (PairsAre table rows firsts groups)
+  pub each : IfSome r (λ (n : ℕ). (d : Dossier) → ReadingOf table rows firsts groups d → Grown (MayBegin d) (Begins d) before after)
 
 -- ---- the whole search
 

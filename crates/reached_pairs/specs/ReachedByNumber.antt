@@ -1,6 +1,6 @@
 -- The pairs of states that are reached, by numbers: how they begin, which entry leads from one to another, and what the marks say while the search goes on. That the numbers are the
 -- pairs of document 01 is proofs/ReachedPairs. Nothing here need be believed.
-use Rattle.std.specs.Prelude.{◌≡◌, Bool, true, ◌⊎◌, List, ℕ, suc, ◌+◌, ◌*◌, ◌/◌, ◌%◌, ◌<◌, ◌≤◌, length}
+use Rattle.std.specs.Prelude.{◌≡◌, Bool, true, ◌⊎◌, List, ℕ, suc, ◌*◌, ◌/◌, ◌%◌, ◌<◌, ◌≤◌, length}
 use Rattle.std.proofs.Math.Option.{some}
 use Rattle.std.proofs.Math.ListN.{get_elem?}
 use Rattle.form.specs.Tree.{Operation, Dossier}

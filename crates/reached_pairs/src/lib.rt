@@ -4,13 +4,14 @@
 
 ghost use Rattle.std.specs.Prelude.{◌≡◌, ◌*◌, ◌<◌, ◌≤◌, length};
 ghost use Rattle.memo.specs.MemoPromises.{Memo};
-ghost use Rattle.step_searches.specs.StepPromises.{Below, PrepareAsked, OpenAsked};
+ghost use Rattle.step_searches.specs.StepPromises.{Below, PrepareAsked, OpenAsked, ReadAsked};
 ghost use Rattle.reached_pairs.specs.Reached.{layer_of};
 ghost use Rattle.reached_pairs.specs.PairPromises.{PairsAsked, MatchesSpread, StepsSpread, InputsSpread, PairSpread, PairsSpread, OperationSpread, LayerSpread, Layers, PairsAre};
-ghost use Rattle.reached_pairs.specs.PairPromises.{OpenPairsAsked, MatchesBegun, StatesBegun, Begun, ReachAsked, ReachAnswers};
+ghost use Rattle.reached_pairs.specs.PairPromises.{OpenPairsAsked, MatchesBegun, StatesBegun, Begun, ReachAnswers};
 
-use crate::marks::{PAIRS, clear, count_layer, is_of, mark, mark_from};
-use plans::Part;
+use crate::marks::{PAIRS, count_layer, is_of, mark, mark_from};
+use plans::PartSearch;
+use search_groups::Dossier;
 use step_searches::{
     Stepped, next_concrete_step, next_initial_match, next_initial_state, next_matching_state,
     prepare, prepare_opening,
@@ -26,201 +27,157 @@ const INITIAL: u64 = 1;
 
 // Beside a concrete step: the abstract states after that match it.
 fn spread_matches(
-    t: &[u16; 16384],
-    plan: &[u16; 20560],
-    cells: &[u32; 9216],
-    p: Part,
+    s: &PartSearch<'_>,
     b: Stepped,
     m: u64,
     memo: &mut [u64; memo::NUMBERS],
     marks: &mut [u64],
 )
-    requires below { Below p b × (0 < layer_of m) }
-    requires pairs_asked { PairsAsked t.now plan.now cells.now p marks.old }
-    requires memo { Memo t.now memo.old }
-    ensures grown { MatchesSpread t.now plan.now cells.now p b m marks.old marks.new }
-    ensures remembers { Memo t.now memo.new }
+    requires below { Below s.now.part b × (0 < layer_of m) }
+    requires pairs_asked { PairsAsked s.now.table.now s.now.plan.now s.now.cells.now s.now.part marks.old }
+    requires memo { Memo s.now.table.now memo.old }
+    ensures grown { MatchesSpread s.now.table.now s.now.plan.now s.now.cells.now s.now.part b m marks.old marks.new }
+    ensures remembers { Memo s.now.table.now memo.new }
 {
-    let mut x = next_matching_state(t, plan, cells, p, b, 0, memo);
-    while x < p.na {
-        mark(marks, x * p.nc + b.k, m);
-        x = next_matching_state(t, plan, cells, p, b, x + 1, memo);
+    let mut next = next_matching_state(s, b, 0, memo);
+    while let Some(x) = next {
+        mark(marks, x * s.part.nc + b.k, m);
+        next = next_matching_state(s, b, x + 1, memo);
     }
 }
 
 // From the pair x with the i-th inputs: the concrete steps.
 fn spread_steps(
-    t: &[u16; 16384],
-    plan: &[u16; 20560],
-    cells: &[u32; 9216],
-    p: Part,
+    s: &PartSearch<'_>,
     x: usize,
     i: usize,
     m: u64,
     memo: &mut [u64; memo::NUMBERS],
     marks: &mut [u64],
 )
-    requires x_bound { (x < p.na * p.nc) × (i < p.ni) × (0 < layer_of m) }
-    requires pairs_asked { PairsAsked t.now plan.now cells.now p marks.old }
-    requires memo { Memo t.now memo.old }
-    ensures grown { StepsSpread t.now plan.now cells.now p x i m marks.old marks.new }
-    ensures remembers { Memo t.now memo.new }
+    requires x_bound { (x < s.now.part.na * s.now.part.nc) × (i < s.now.part.ni) × (0 < layer_of m) }
+    requires pairs_asked { PairsAsked s.now.table.now s.now.plan.now s.now.cells.now s.now.part marks.old }
+    requires memo { Memo s.now.table.now memo.old }
+    ensures grown { StepsSpread s.now.table.now s.now.plan.now s.now.cells.now s.now.part x i m marks.old marks.new }
+    ensures remembers { Memo s.now.table.now memo.new }
 {
-    let a = x / p.nc;
-    let c = x % p.nc;
-    let end = p.nq * p.nc;
-    let mut r = next_concrete_step(t, plan, cells, p, c, i, 0, memo);
-    while r < end {
+    let a = x / s.part.nc;
+    let c = x % s.part.nc;
+    let mut next = next_concrete_step(s, c, i, 0, memo);
+    while let Some(r) = next {
         let b = Stepped {
             a,
             i,
-            o: r / p.nc,
-            k: r % p.nc,
+            o: r / s.part.nc,
+            k: r % s.part.nc,
         };
-        spread_matches(t, plan, cells, p, b, m, memo, marks);
-        r = next_concrete_step(t, plan, cells, p, c, i, r + 1, memo);
+        spread_matches(s, b, m, memo, marks);
+        next = next_concrete_step(s, c, i, r + 1, memo);
     }
 }
 
 // From the pair x of layer n: all inputs of operation j.
 fn spread_inputs(
-    t: &[u16; 16384],
-    plan: &[u16; 20560],
-    cells: &[u32; 9216],
-    p: Part,
+    s: &PartSearch<'_>,
     x: usize,
     j: usize,
     n: u64,
     memo: &mut [u64; memo::NUMBERS],
     marks: &mut [u64],
 )
-    requires x_bound { (x < p.na * p.nc) × (j < 16) × (n < 4096) }
-    requires pairs_asked { PairsAsked t.now plan.now cells.now p marks.old }
-    requires memo { Memo t.now memo.old }
-    ensures grown { InputsSpread t.now plan.now cells.now p x j n p.ni marks.old marks.new }
-    ensures remembers { Memo t.now memo.new }
+    requires x_bound { (x < s.now.part.na * s.now.part.nc) × (j < 16) × (n < 4096) }
+    requires pairs_asked { PairsAsked s.now.table.now s.now.plan.now s.now.cells.now s.now.part marks.old }
+    requires memo { Memo s.now.table.now memo.old }
+    ensures grown { InputsSpread s.now.table.now s.now.plan.now s.now.cells.now s.now.part x j n s.now.part.ni marks.old marks.new }
+    ensures remembers { Memo s.now.table.now memo.new }
 {
-    let mut i: usize = 0;
-    while i < p.ni {
+    for i in 0..s.part.ni {
         let m = mark_from(x, j, i, n);
-        spread_steps(t, plan, cells, p, x, i, m, memo, marks);
-        i += 1;
+        spread_steps(s, x, i, m, memo, marks);
     }
 }
 
 // The pair x, if it is of layer n.
 fn spread_pair(
-    t: &[u16; 16384],
-    plan: &[u16; 20560],
-    cells: &[u32; 9216],
-    p: Part,
+    s: &PartSearch<'_>,
     x: usize,
     j: usize,
     n: u64,
     memo: &mut [u64; memo::NUMBERS],
     marks: &mut [u64],
 )
-    requires x_bound { (x < p.na * p.nc) × (j < 16) × (n < 4096) }
-    requires pairs_asked { PairsAsked t.now plan.now cells.now p marks.old }
-    requires memo { Memo t.now memo.old }
-    ensures grown { PairSpread t.now plan.now cells.now p x j n marks.old marks.new }
-    ensures remembers { Memo t.now memo.new }
+    requires x_bound { (x < s.now.part.na * s.now.part.nc) × (j < 16) × (n < 4096) }
+    requires pairs_asked { PairsAsked s.now.table.now s.now.plan.now s.now.cells.now s.now.part marks.old }
+    requires memo { Memo s.now.table.now memo.old }
+    ensures grown { PairSpread s.now.table.now s.now.plan.now s.now.cells.now s.now.part x j n marks.old marks.new }
+    ensures remembers { Memo s.now.table.now memo.new }
 {
     if !is_of(marks, x, n) {
         return;
     }
-    spread_inputs(t, plan, cells, p, x, j, n, memo, marks)
+    spread_inputs(s, x, j, n, memo, marks)
 }
 
 // All pairs of layer n.
 fn spread_pairs(
-    t: &[u16; 16384],
-    plan: &[u16; 20560],
-    cells: &[u32; 9216],
-    p: Part,
+    s: &PartSearch<'_>,
     j: usize,
     n: u64,
     memo: &mut [u64; memo::NUMBERS],
     marks: &mut [u64],
 )
     requires j_bound { (j < 16) × (0 < n) × (n < 4096) }
-    requires pairs_asked { PairsAsked t.now plan.now cells.now p marks.old }
-    requires memo { Memo t.now memo.old }
-    ensures { PairsSpread t.now plan.now cells.now p j n (p.na * p.nc) marks.old marks.new }
+    requires pairs_asked { PairsAsked s.now.table.now s.now.plan.now s.now.cells.now s.now.part marks.old }
+    requires memo { Memo s.now.table.now memo.old }
+    ensures { PairsSpread s.now.table.now s.now.plan.now s.now.cells.now s.now.part j n (s.now.part.na * s.now.part.nc) marks.old marks.new }
 {
-    let pairs = p.na * p.nc;
-    let mut x: usize = 0;
-    while x < pairs {
-        spread_pair(t, plan, cells, p, x, j, n, memo, marks);
-        x += 1;
+    let pairs = s.part.na * s.part.nc;
+    for x in 0..pairs {
+        spread_pair(s, x, j, n, memo, marks);
     }
 }
 
 // What operation j leads to from the pairs of layer n.
-fn spread(
-    t: &[u16; 16384],
-    rows: &[u16; 16384],
-    firsts: &[u16; 40],
-    groups: &[u16; 160],
-    j: usize,
-    n: u64,
-    pairs: usize,
-    marks: &mut [u64],
-)
+fn spread(d: &Dossier<'_>, j: usize, n: u64, pairs: usize, marks: &mut [u64])
     requires n_nonzero { (0 < n) × (n < 4096) × (length marks.old ≡ 262144) }
-    requires prepare_asked { PrepareAsked t.now rows.now firsts.now groups.now j }
-    requires pairs_are { PairsAre t.now rows.now firsts.now groups.now pairs }
-    ensures { OperationSpread t.now rows.now firsts.now groups.now j n marks.old marks.new }
+    requires prepare_asked { PrepareAsked d.now.table.now d.now.rows.now d.now.firsts.now d.now.groups.now j }
+    requires pairs_are { PairsAre d.now.table.now d.now.rows.now d.now.firsts.now d.now.groups.now pairs }
+    ensures { OperationSpread d.now.table.now d.now.rows.now d.now.firsts.now d.now.groups.now j n marks.old marks.new }
 {
     let mut cells = [0u32; 9216];
     let mut plan = [0u16; 20560];
     let mut memo = [0u64; memo::NUMBERS];
-    let p = prepare(t, rows, firsts, groups, j, &mut cells, &mut plan);
-    spread_pairs(t, &plan, &cells, p, j, n, &mut memo, marks)
+    let part = prepare(d, j, &mut cells, &mut plan);
+    let s = PartSearch {
+        table: d.table,
+        plan: &plan,
+        cells: &cells,
+        part,
+    };
+    spread_pairs(&s, j, n, &mut memo, marks)
 }
 
 // What all operations lead to from there.
-fn spread_layer(
-    t: &[u16; 16384],
-    rows: &[u16; 16384],
-    firsts: &[u16; 40],
-    groups: &[u16; 160],
-    operations: usize,
-    n: u64,
-    pairs: usize,
-    marks: &mut [u64],
-)
+fn spread_layer(d: &Dossier<'_>, n: u64, pairs: usize, marks: &mut [u64])
     requires n_nonzero { (0 < n) × (n < 4096) × (length marks.old ≡ 262144) }
-    requires reach_asked { ReachAsked t.now rows.now firsts.now groups.now operations }
-    requires pairs_are { PairsAre t.now rows.now firsts.now groups.now pairs }
-    ensures { LayerSpread t.now rows.now firsts.now groups.now operations n marks.old marks.new }
+    requires reach_asked { ReadAsked d.now.table.now d.now.rows.now d.now.firsts.now d.now.groups.now d.now.operations }
+    requires pairs_are { PairsAre d.now.table.now d.now.rows.now d.now.firsts.now d.now.groups.now pairs }
+    ensures { LayerSpread d.now.table.now d.now.rows.now d.now.firsts.now d.now.groups.now d.now.operations n marks.old marks.new }
 {
-    let mut j: usize = 0;
-    while j < operations {
-        spread(t, rows, firsts, groups, j, n, pairs, marks);
-        j += 1;
+    for j in 0..d.operations {
+        spread(d, j, n, pairs, marks);
     }
 }
 
 // One layer after the other. The whole search is done where a layer is empty; it is given up where the layers or the budget, a number of pairs, do not suffice.
-fn spread_all(
-    t: &[u16; 16384],
-    rows: &[u16; 16384],
-    firsts: &[u16; 40],
-    groups: &[u16; 160],
-    operations: usize,
-    budget: usize,
-    pairs: usize,
-    marks: &mut [u64],
-) -> bool
-    requires reach_asked { ReachAsked t.now rows.now firsts.now groups.now operations }
-    requires pairs_are { PairsAre t.now rows.now firsts.now groups.now pairs }
-    requires layers { Layers t.now rows.now firsts.now groups.now operations 1 marks.old }
-    ensures { ReachAnswers t.now rows.now firsts.now groups.now operations marks.new result }
+fn spread_all(d: &Dossier<'_>, budget: usize, pairs: usize, marks: &mut [u64]) -> bool
+    requires reach_asked { ReadAsked d.now.table.now d.now.rows.now d.now.firsts.now d.now.groups.now d.now.operations }
+    requires pairs_are { PairsAre d.now.table.now d.now.rows.now d.now.firsts.now d.now.groups.now pairs }
+    requires layers { Layers d.now.table.now d.now.rows.now d.now.firsts.now d.now.groups.now d.now.operations 1 marks.old }
+    ensures { ReachAnswers d.now.table.now d.now.rows.now d.now.firsts.now d.now.groups.now d.now.operations marks.new result }
 {
     let mut left = budget;
-    let mut n: u64 = 1;
-    while n < LAYERS {
+    for n in 1..LAYERS {
         let many = count_layer(marks, pairs, n);
         if many == 0 {
             return true;
@@ -229,113 +186,80 @@ fn spread_all(
             return false;
         }
         left -= many;
-        spread_layer(t, rows, firsts, groups, operations, n, pairs, marks);
-        n += 1;
+        spread_layer(d, n, pairs, marks);
     }
     false
 }
 
 // With the concrete initial state c: the abstract initial states that are related to it.
-fn begin_with(
-    t: &[u16; 16384],
-    plan: &[u16; 20560],
-    cells: &[u32; 9216],
-    p: Part,
-    c: usize,
-    memo: &mut [u64; memo::NUMBERS],
-    marks: &mut [u64],
-)
-    requires c_lt_nc { c < p.nc }
-    requires open_pairs_asked { OpenPairsAsked t.now plan.now cells.now p marks.old }
-    requires memo { Memo t.now memo.old }
-    ensures grown { MatchesBegun t.now plan.now cells.now p c 1 marks.old marks.new }
-    ensures remembers { Memo t.now memo.new }
+fn begin_with(s: &PartSearch<'_>, c: usize, memo: &mut [u64; memo::NUMBERS], marks: &mut [u64])
+    requires c_lt_nc { c < s.now.part.nc }
+    requires open_pairs_asked { OpenPairsAsked s.now.table.now s.now.plan.now s.now.cells.now s.now.part marks.old }
+    requires memo { Memo s.now.table.now memo.old }
+    ensures grown { MatchesBegun s.now.table.now s.now.plan.now s.now.cells.now s.now.part c 1 marks.old marks.new }
+    ensures remembers { Memo s.now.table.now memo.new }
 {
-    let mut a = next_initial_match(t, plan, cells, p, c, 0, memo);
-    while a < p.nm {
-        mark(marks, a * p.nc + c, INITIAL);
-        a = next_initial_match(t, plan, cells, p, c, a + 1, memo);
+    let mut next = next_initial_match(s, c, 0, memo);
+    while let Some(a) = next {
+        mark(marks, a * s.part.nc + c, INITIAL);
+        next = next_initial_match(s, c, a + 1, memo);
     }
 }
 
 // All pairs of initial states.
-fn begin_all(
-    t: &[u16; 16384],
-    plan: &[u16; 20560],
-    cells: &[u32; 9216],
-    p: Part,
-    memo: &mut [u64; memo::NUMBERS],
-    marks: &mut [u64],
-)
-    requires open_pairs_asked { OpenPairsAsked t.now plan.now cells.now p marks.old }
-    requires memo { Memo t.now memo.old }
-    ensures { StatesBegun t.now plan.now cells.now p marks.old marks.new }
+fn begin_all(s: &PartSearch<'_>, memo: &mut [u64; memo::NUMBERS], marks: &mut [u64])
+    requires open_pairs_asked { OpenPairsAsked s.now.table.now s.now.plan.now s.now.cells.now s.now.part marks.old }
+    requires memo { Memo s.now.table.now memo.old }
+    ensures { StatesBegun s.now.table.now s.now.plan.now s.now.cells.now s.now.part marks.old marks.new }
 {
-    let mut c = next_initial_state(t, plan, cells, p, 0, memo);
-    while c < p.nc {
-        begin_with(t, plan, cells, p, c, memo, marks);
-        c = next_initial_state(t, plan, cells, p, c + 1, memo);
+    let mut next = next_initial_state(s, 0, memo);
+    while let Some(c) = next {
+        begin_with(s, c, memo, marks);
+        next = next_initial_state(s, c + 1, memo);
     }
 }
 
-// The first layer; how many pairs there are, or 0 where there is no room for them.
-fn begin(
-    t: &[u16; 16384],
-    rows: &[u16; 16384],
-    firsts: &[u16; 40],
-    groups: &[u16; 160],
-    marks: &mut [u64],
-) -> usize
+// The first layer; how many pairs there are, or none where there is no room for them.
+fn begin(d: &Dossier<'_>, marks: &mut [u64]) -> Option<usize>
     requires marks_len { length marks.old ≡ 262144 }
-    requires open_asked { OpenAsked t.now rows.now firsts.now groups.now }
-    ensures { Begun t.now rows.now firsts.now groups.now marks.old marks.new result }
+    requires open_asked { OpenAsked d.now.table.now d.now.rows.now d.now.firsts.now d.now.groups.now }
+    ensures { Begun d.now.table.now d.now.rows.now d.now.firsts.now d.now.groups.now marks.old marks.new result }
 {
     let mut cells = [0u32; 9216];
     let mut plan = [0u16; 20560];
     let mut memo = [0u64; memo::NUMBERS];
-    let p = prepare_opening(t, rows, firsts, groups, &mut cells, &mut plan);
-    let pairs = p.nm * p.nc;
+    let part = prepare_opening(d, &mut cells, &mut plan);
+    let s = PartSearch {
+        table: d.table,
+        plan: &plan,
+        cells: &cells,
+        part,
+    };
+    let pairs = part.nm * part.nc;
     if PAIRS < pairs {
-        return 0;
+        return None;
     }
-    begin_all(t, &plan, &cells, p, &mut memo, marks);
-    pairs
+    begin_all(&s, &mut memo, marks);
+    Some(pairs)
 }
 
 // Every pair that is reached gets its mark; says whether the search was whole. Not where there are more pairs or more layers than there is room for, or more pairs to go on from than the
 // budget: then a pair without a mark may be reached too.
-pub fn reach(
-    t: &[u16; 16384],
-    rows: &[u16; 16384],
-    firsts: &[u16; 40],
-    groups: &[u16; 160],
-    operations: usize,
-    budget: usize,
-    marks: &mut [u64; PAIRS],
-) -> bool
-    requires { ReachAsked t.now rows.now firsts.now groups.now operations }
-    ensures { ReachAnswers t.now rows.now firsts.now groups.now operations marks.new result }
+pub fn reach(d: &Dossier<'_>, budget: usize, marks: &mut [u64; PAIRS]) -> bool
+    requires { ReadAsked d.now.table.now d.now.rows.now d.now.firsts.now d.now.groups.now d.now.operations }
+    ensures { ReachAnswers d.now.table.now d.now.rows.now d.now.firsts.now d.now.groups.now d.now.operations marks.new result }
 {
-    reach_in(t, rows, firsts, groups, operations, budget, marks)
+    reach_in(d, budget, marks)
 }
 
-fn reach_in(
-    t: &[u16; 16384],
-    rows: &[u16; 16384],
-    firsts: &[u16; 40],
-    groups: &[u16; 160],
-    operations: usize,
-    budget: usize,
-    marks: &mut [u64],
-) -> bool
+fn reach_in(d: &Dossier<'_>, budget: usize, marks: &mut [u64]) -> bool
     requires marks_len { length marks.old ≡ 262144 }
-    requires reach_asked { ReachAsked t.now rows.now firsts.now groups.now operations }
-    ensures { ReachAnswers t.now rows.now firsts.now groups.now operations marks.new result }
+    requires reach_asked { ReadAsked d.now.table.now d.now.rows.now d.now.firsts.now d.now.groups.now d.now.operations }
+    ensures { ReachAnswers d.now.table.now d.now.rows.now d.now.firsts.now d.now.groups.now d.now.operations marks.new result }
 {
-    clear(marks);
-    let pairs = begin(t, rows, firsts, groups, marks);
-    if pairs == 0 {
+    marks.fill(0);
+    let Some(pairs) = begin(d, marks) else {
         return false;
-    }
-    spread_all(t, rows, firsts, groups, operations, budget, pairs, marks)
+    };
+    spread_all(d, budget, pairs, marks)
 }

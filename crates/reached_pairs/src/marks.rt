@@ -2,7 +2,7 @@
 // which it was reached. An entry is one number too: the operation and the number of its inputs.
 ghost use Rattle.std.specs.Prelude.{◌≡◌, ◌+◌, ◌<◌, ◌≤◌, true, false, length};
 ghost use Rattle.reached_pairs.specs.Reached.{layer_of, pair_before, entry_of, layer_in};
-ghost use Rattle.reached_pairs.specs.ReachedByNumber.{Marked, MarkFrom, Cleared, LayerCounted};
+ghost use Rattle.reached_pairs.specs.ReachedByNumber.{Marked, MarkFrom, LayerCounted};
 
 // How many pairs there is room for.
 pub const PAIRS: usize = 262144;
@@ -66,21 +66,8 @@ pub fn count_layer(marks: &[u64], pairs: usize, n: u64) -> usize
     ensures { LayerCounted marks.now pairs n result }
 {
     let mut many: usize = 0;
-    let mut y: usize = 0;
-    while y < pairs {
-        many += is_of(marks, y, n) as usize;
-        y += 1;
+    for y in 0..pairs {
+        many += usize::from(is_of(marks, y, n));
     }
     many
-}
-
-// No pair has a mark.
-pub fn clear(marks: &mut [u64])
-    ensures { Cleared marks.old marks.new }
-{
-    let mut y: usize = 0;
-    while y < marks.len() {
-        marks[y] = 0;
-        y += 1;
-    }
 }

@@ -1,24 +1,28 @@
 -- The passes for names, bindings and sizes one behind the other: the first fault, and what is answered.
-use mathlib.Core.Path.{◌≡◌, refl, ap, ◌∙◌, sym, subst}
+use mathlib.Core.Path.{◌≡◌, refl, ap, ap₂, ◌∙◌, sym, subst}
 use mathlib.Core.List.{List}
 use mathlib.Core.Option.{Option, none, some}
 use Prim.Native.Nat.{ℕ, ◌<◌}
 use native.Mathlib.Omega.{arith}
 use lib.ListN.{take, get_or}
-use Rattle.lexical.specs.Refusals.{Fault, number_of, least}
+use Rattle.std.specs.Prelude as rust
+use Rattle.std.specs.Prelude.{Ok, Err}
+use Rattle.lexical.specs.Symbols.{place_at}
+use Rattle.lexical.specs.Refusals.{Fault, fault, least}
+use Rattle.lexical.specs.RefusalNames.{refusal_is, fault_is}
+use Rattle.lexical.specs.declared.refusals.Fault as refusals
+use Rattle.parser.specs.Promises.{Parsed}
+use Rattle.parser.specs.declared.Structure.{Structure}
 use Rattle.lexical.specs.Promises.{first_of}
 use Rattle.form.specs.Tree.{Dossier}
 use Rattle.static_rules.specs.Names.{name_faults}
 use Rattle.static_rules.specs.Limits.{binding_faults, size_faults}
 use Rattle.static_rules.specs.Read as definition
 use Rattle.static_rules.specs.Read.{reading, pass, located, read_sizes, read_bindings, names_read}
-use Rattle.type_rules.specs.TypesByNumber.{key_room, Sizes, key_of}
-use Rattle.reader.specs.Promises.{ReadIs, Stands, Named, Finds, first_fault, Faults, Refuses, Checks}
-use Rattle.reader.specs.declared.Reading.{Reading}
-use Rattle.reader.specs.declared.Reading.TheVariants.{Read, Refused}
-use Rattle.reader.proofs.FaultKeys.{key-none, least-small, names-small, bindings-small}
+use Rattle.type_rules.specs.TypesByNumber.{key_of, fault_key}
+use Rattle.type_rules.proofs.FaultOrder.{no-zero, key-decides}
+use Rattle.reader.specs.Promises.{ReadIs, Stands, Named, Finds, first_fault, Faults, Checks}
 use Rattle.reader.proofs.PassAnswers.{place_is, all-passed}
-use Rattle.reader.proofs.LimitPasses.{sizes-small}
 
 -- ---- the first fault ----
 
@@ -32,17 +36,6 @@ read_names : (text : List ℕ) (d : Dossier) → names_read text d ≡ pass (loc
 unfolding names_read read_bindings read_sizes
 read_names text d = first_passes text (least (name_faults d)) (least (binding_faults d)) (least (size_faults d)) (reading d)
 
-one_of : (P : Fault → Type 0) (a b c : Option Fault) → ((f : Fault) → a ≡ some f → P f) → ((f : Fault) → b ≡ some f → P f) → ((f : Fault) → c ≡ some f → P f)
-    → (f : Fault) → first_of a (first_of b c) ≡ some f → P f
-one_of P (some g) b c p q r f e = p f e
-one_of P none (some g) c p q r f e = q f e
-one_of P none none c p q r f e = r f e
-
-first_small : (d : Dossier) (f : Fault) → first_fault d ≡ some f → number_of f.refusal < key_room
-first_small d f e =
-    one_of (λ (g : Fault). number_of g.refusal < key_room) (least (name_faults d)) (least (binding_faults d)) (least (size_faults d)) (least-small (names-small d))
-    (least-small (bindings-small d)) (least-small (sizes-small d)) f e
-
 first-none : (a b : Option Fault) → first_of a b ≡ none → a ≡ none
 first-none none b e = refl
 first-none (some f) b e = let z : key_of (some f) ≡ 0 = ap key_of e in absurd (omega arith)
@@ -55,47 +48,54 @@ passed : (a b : Option Fault) (k l : ℕ) → k ≡ key_of a → k ≡ 0 → l �
 passed none b k l e z h = h
 passed (some f) b k l e z h = let w : key_of (some f) ≡ 0 = sym e ∙ z in absurd (omega arith)
 
-module _ (nodes : List ℕ) (m : ℕ) (z : Sizes) (k : ℕ) (named : Named nodes m z k) where
+module _ (nodes : List ℕ) (m k : ℕ) (named : Named nodes m k) where
   -- 8 to 11 and 14
   pub names-decide : (k ≡ 0 → ⊥) → Faults nodes m k
-  names-decide h text starts n d st = decides (least (name_faults d)) _ k (named.least text starts n d st) h
+  names-decide h text starts n d st = decides (least (name_faults d)) _ k (named text starts n d st) h
 
   module _ (no_name : k ≡ 0) (l : ℕ) (bound : Finds binding_faults nodes m l) where
     names-right : (text starts : List ℕ) (n : ℕ) (d : Dossier) → Stands text starts nodes n m d → least (name_faults d) ≡ none
-    names-right text starts n d st = key-none (least (name_faults d)) (sym (named.least text starts n d st) ∙ no_name)
+    names-right text starts n d st = key-decides (least (name_faults d)) none (sym (named text starts n d st) ∙ no_name)
 
     -- 12
     pub bindings-decide : (l ≡ 0 → ⊥) → Faults nodes m l
     bindings-decide h text starts n d st =
-        passed (least (name_faults d)) _ k l (named.least text starts n d st) no_name
+        passed (least (name_faults d)) _ k l (named text starts n d st) no_name
         (decides (least (binding_faults d)) (least (size_faults d)) l (bound text starts n d st (names-right text starts n d st)) h)
 
     -- 13
     pub sizes-decide : l ≡ 0 → (j : ℕ) → Finds size_faults nodes m j → Faults nodes m j
     sizes-decide no-binding j measured text starts n d st =
         let right = names-right text starts n d st in
-        passed (least (name_faults d)) _ k j (named.least text starts n d st) no_name
+        passed (least (name_faults d)) _ k j (named text starts n d st) no_name
         (passed (least (binding_faults d)) (least (size_faults d)) l j (bound text starts n d st right) no-binding (measured text starts n d st right))
 
 -- ---- the answer ----
 
-module _ (K : Type 0) (W : List ℕ → Dossier → Type 0) (starts : List ℕ) (n end : ℕ) (nodes : List ℕ) (m k : ℕ) (faults : Faults nodes m k) (r : Reading) where
-  pub refuses : (k ≡ 0 → ⊥) → Refuses k starts n end r → K → Checks K W starts n end nodes m r
-  refuses some-fault apart kept text d st at-end = subst (λ (x : definition.Reading). ReadIs K (W text) text x r) (sym (read_names text d)) (on (first_fault d) refl)
-    where
-      on : (o : Option Fault) → first_fault d ≡ o → ReadIs K (W text) text (pass (located text o) (reading d)) r
-      on none e = absurd (some-fault (faults text starts n d st ∙ ap key_of e))
-      on (some f) e = (
-        apart f.place (number_of f.refusal) (first_small d f e) (faults text starts n d st ∙ ap key_of e)
-            ∙ ap (Refused (number_of f.refusal)) (ap (get_or (take n starts) f.place) at-end ∙ place_is st f.place),
-        kept,
-      )
+same-fault : (f g : Fault) → some f ≡ some g → f ≡ g
+same-fault f g e = cc
 
-  pub all_pass : k ≡ 0 → r ≡ Read n m
+module _ (K : Type 0) (W : List ℕ → Dossier → Type 0) (starts : List ℕ) (n end : ℕ) (nodes : List ℕ) (m k : ℕ) (faults : Faults nodes m k) where
+  -- g is the fault by its symbol, h by its byte
+  pub refuses : (g h : refusals.Fault) → k ≡ fault_key (rust.Some g) → h.place ≡ get_or (take n starts) g.place end → h.refusal ≡ g.refusal → K
+      → Checks K W starts n end nodes m (Err h)
+  refuses g h p q s kept text d st at-end = subst (λ (x : definition.Reading). ReadIs K (W text) text x (Err h)) (sym (read_names text d)) (on (first_fault d) refl)
+    where
+      on : (o : Option Fault) → first_fault d ≡ o → ReadIs K (W text) text (pass (located text o) (reading d)) (Err h)
+      on none e = absurd (no-zero g (sym p ∙ faults text starts n d st ∙ ap key_of e))
+      on (some f) e =
+          let is : fault_is g ≡ f = same-fault (fault_is g) f (key-decides (some (fault_is g)) (some f) (sym p ∙ faults text starts n d st ∙ ap key_of e)) in (
+            ap₂ fault
+                (q ∙ ap (get_or (take n starts) g.place) at-end ∙ place_is st g.place ∙ ap (λ (x : Fault). place_at text x.place) is)
+                (ap refusal_is s ∙ ap (λ (x : Fault). x.refusal) is),
+            kept,
+          )
+
+  pub all_pass : k ≡ 0 → (r : Parsed) (s : Structure) → s.symbols ≡ n → s.numbers ≡ m → r ≡ Ok s
       → ((text starts : List ℕ) (n : ℕ) (d : Dossier) → Stands text starts nodes n m d → least (name_faults d) ≡ none → W text d)
       → Checks K W starts n end nodes m r
-  all_pass no_fault is left text d st at-end = subst (λ (x : definition.Reading). ReadIs K (W text) text x r) (sym (read_names text d)) (on (first_fault d) refl)
+  all_pass no_fault r s a b is left text d st at-end = subst (λ (x : definition.Reading). ReadIs K (W text) text x r) (sym (read_names text d)) (on (first_fault d) refl)
     where
       on : (o : Option Fault) → first_fault d ≡ o → ReadIs K (W text) text (pass (located text o) (reading d)) r
-      on none e = (all-passed st r is, left text starts n d st (first-none (least (name_faults d)) _ e))
+      on none e = (all-passed st r s a b is, left text starts n d st (first-none (least (name_faults d)) _ e))
       on (some f) e = let z : key_of (some f) ≡ 0 = sym (faults text starts n d st ∙ ap key_of e) ∙ no_fault in absurd (omega arith)

@@ -8,7 +8,7 @@ use lib.Dec.{eqb}
 use lib.ListN.{length, get_or, replicate, length-replicate}
 use borrow.Author.Tests.{eqb-true, eqb-false}
 use Rattle.lexical.specs.Promises.{Scans}
-use Rattle.lexical.specs.declared.Scanned.TheVariants.{Symbols}
+use Rattle.std.specs.Prelude.{Ok}
 use Rattle.form.specs.Tree.{Dossier}
 use Rattle.form.specs.Form.{Forms}
 use Rattle.form.specs.Headings.{givens_at}
@@ -47,7 +47,7 @@ fault-first : (d : Dossier) (T : Names) (z z' : Sizes) (text : List ℕ) → (gi
 unfolding dossier_key
 fault-first d T z z' text h = sizeless (givens_key d.givens 0 T (numbering text) (givens_at d)) _ _ h
 
-module _ (text : List ℕ) {codes₀ starts₀ values₀ coded starts valued : List ℕ} {n : ℕ} (scans : Scans text codes₀ starts₀ values₀ coded starts valued (Symbols n)) where
+module _ (text : List ℕ) {codes₀ starts₀ values₀ coded starts valued : List ℕ} {n : ℕ} (scans : Scans text codes₀ starts₀ values₀ coded starts valued (Ok n)) where
   -- the letters that occur in a text have numbers of their own
   pub letters-numbered : Numbered (numbering text) (Occurs text)
   letters-numbered = occurs-numbered text (known scans).symbols_are (known scans).tells

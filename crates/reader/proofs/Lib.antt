@@ -4,7 +4,6 @@ pub mod FewGivens
 pub mod FewVariables
 pub mod DossierLetters
 pub mod LeastNameFault
-pub mod FaultKeys
 pub mod PartSections
 pub mod ParsedReading
 pub mod PassAnswers

@@ -19,20 +19,17 @@ use Rattle.static_rules.specs.Limits.{binding_faults, context_sizes, size_faults
 use Rattle.type_rules.specs.TypesByNumber.{Names, Sizes, key_of}
 use Rattle.declared_names.specs.NamesByNumber.{givens_key, givens_named}
 use Rattle.declared_names.specs.PassPromises.{PartOf, GivenSeen}
-use Rattle.names.proofs.TypesAgreeLeast.{Small}
 use Rattle.node_spans.specs.Spans.{Spanned, Structured}
 use Rattle.node_spans.proofs.Structure.{structured}
 use Rattle.binding_counts.specs.BindingsByNumber.{BindingsSeen}
 use Rattle.limits.specs.DossierSizesByNumber.{MeasuresSeen}
 use Rattle.limits.proofs.TypesFit.{declared-fit}
 use Rattle.limits.proofs.GivenSizes.{givens-shown}
-use Rattle.limits.proofs.SizeWidths.{pred-steady}
 use Rattle.limits.proofs.SizesAgreeDossier.{dossier-near, measures-least}
 use Rattle.reader.specs.Occurrences.{Occurs}
 use Rattle.reader.specs.Promises.{Stands, Tabled, Finds}
 use Rattle.reader.proofs.FewGivens.{forms-fewer, forms-few-operations}
 use Rattle.reader.proofs.LeastNameFault.{letters-numbered, dossier-in, names-from-free}
-use Rattle.reader.proofs.FaultKeys.{contexts-small}
 use Rattle.reader.proofs.PartSections.{sectioned-placed}
 use Rattle.reader.proofs.PassAnswers.{givens-none}
 
@@ -40,15 +37,6 @@ pub none-least : (fs : List Fault) → least fs ≡ none → fs ≡ []
 unfolding least
 none-least [] e = refl
 none-least (f ∷ fs) e = let z : ◌≡◌ {A = ℕ} 0 1 = cc in absurd (omega arith)
-
--- the faults of number 13 have numbers below 16
-context-small : (c : Context) → Small (context_sizes c)
-unfolding context_sizes
-context-small c = (pred-steady c.predicate (map (λ (v : Variable). (v.called, largest v.carrier)) c.scope.reach) c.at).small
-
-pub sizes-small : (d : Dossier) → Small (size_faults d)
-unfolding size_faults
-sizes-small d = contexts-small context_sizes context-small (contexts d)
 
 module _ {text starts nodes : List ℕ} {n m : ℕ} {d : Dossier} (st : Stands text starts nodes n m d) where
   -- the spans say where the parts of the dossier stand

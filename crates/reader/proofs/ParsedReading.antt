@@ -7,10 +7,11 @@ use native.Mathlib.Omega.{arith}
 use lib.ListN.{length, take, drop, length-append}
 use lib.Seq.{take_at}
 use Rattle.lexical.specs.Symbols.{scan, symbols, length_faults, scan_faults}
-use Rattle.lexical.specs.Refusals.{Fault, number_of, least}
-use Rattle.lexical.specs.Promises.{Scans, fault_of, first_of}
-use Rattle.lexical.specs.declared.Scanned.{Scanned}
-use Rattle.lexical.specs.declared.Scanned.TheVariants.{Symbols, LongText, UnlistedSymbol, ManySymbols}
+use Rattle.lexical.specs.Refusals.{Fault, least}
+use Rattle.lexical.specs.Promises.{Scanned, Scans, fault_of, first_of}
+use Rattle.std.specs.Prelude.{Ok, Err}
+use Rattle.lexical.specs.declared.refusals.Fault as refusals
+use Rattle.lexical.specs.RefusalNames.{fault_is}
 use Rattle.form.specs.Tree.{Dossier}
 use Rattle.form.specs.Form.{Outcome, refused, formed, FormOf, Forms}
 use Rattle.form.specs.Parse.{form}
@@ -18,18 +19,13 @@ use Rattle.form.specs.Headings.{heading_faults}
 use Rattle.form.specs.Codes.{dossier_codes}
 use Rattle.form.proofs.ScannedSymbols.{scan-spelled}
 use Rattle.form.proofs.FormOf.{form_of, one-outcome}
-use Rattle.parser.specs.Promises.{text_symbols, numbering, Refuses, AnswersHeadings, AnswersForm, Answers, Parses}
-use Rattle.parser.specs.declared.Parsed.{Parsed}
-use Rattle.parser.specs.declared.Parsed.TheVariants.{Structure, Refused}
+use Rattle.parser.specs.Promises.{text_symbols, numbering, Refuses, AnswersHeadings, AnswersForm, Answers, Parsed, Parses}
 use Rattle.static_rules.specs.Read.{Reading, refusal, pass, located, after_form, names_read, read_headings, read_form, read_symbols, read}
 use Rattle.reader.specs.Promises.{Stands}
 
--- the text is refused with this number and place
-pub record RefusedAs (text : List ℕ) (k p : ℕ) : Type 0 where
-  pub fault : Fault
-  pub reads : read text ≡ refusal fault
-  pub number : number_of fault.refusal ≡ k
-  pub place : fault.place ≡ p
+-- the text is refused with this fault
+pub record RefusedAs (text : List ℕ) (f : refusals.Fault) : Type 0 where
+  pub reads : read text ≡ refusal (fault_is f)
 
 -- the text is a dossier by form: the passes behind number 7 decide
 pub record Structured (text starts nodes : List ℕ) (n m : ℕ) : Type 0 where
@@ -40,8 +36,8 @@ pub record Structured (text starts nodes : List ℕ) (n m : ℕ) : Type 0 where
   pub size : m ≡ length (dossier_codes dossier (numbering text))
 
 abbrev pub Told : (text starts nodes : List ℕ) → Parsed → Type 0
-Told text starts nodes (Structure n m) = Structured text starts nodes n m
-Told text starts nodes (Refused k p) = RefusedAs text k p
+Told text starts nodes (Ok s) = Structured text starts nodes s.symbols s.numbers
+Told text starts nodes (Err f) = RefusedAs text f
 
 -- two passes one behind the other
 two-passes : (a b : Option Fault) (x : Reading) → pass a (pass b x) ≡ pass (first_of a b) x
@@ -50,16 +46,15 @@ two-passes (some f) b x = refl
 
 -- how many symbols a scan without a fault answers
 symbols-scanned : {text codes₀ starts₀ values₀ codes starts values : List ℕ} (s : Scanned) → Scans text codes₀ starts₀ values₀ codes starts values s → fault_of s ≡ none
-    → Scans text codes₀ starts₀ values₀ codes starts values (Symbols (length (symbols (scan text))))
-symbols-scanned {text} {codes₀} {starts₀} {values₀} {codes} {starts} {values} (Symbols n) h e =
-    subst (λ (k : ℕ). Scans text codes₀ starts₀ values₀ codes starts values (Symbols k)) (h.counted n refl) h
-symbols-scanned LongText h e = let z : ◌≡◌ {A = ℕ} 0 1 = cc in absurd (omega arith)
-symbols-scanned (UnlistedSymbol p) h e = let z : ◌≡◌ {A = ℕ} 0 1 = cc in absurd (omega arith)
-symbols-scanned (ManySymbols p) h e = let z : ◌≡◌ {A = ℕ} 0 1 = cc in absurd (omega arith)
+    → Scans text codes₀ starts₀ values₀ codes starts values (Ok (length (symbols (scan text))))
+symbols-scanned {text} {codes₀} {starts₀} {values₀} {codes} {starts} {values} (Ok n) h e =
+    subst (λ (k : ℕ). Scans text codes₀ starts₀ values₀ codes starts values (Ok k)) (h.counted n refl) h
+symbols-scanned (Err f) h e = absurd (cc)
 
 -- a refusal of `parse`
 refuses_as : (text starts nodes : List ℕ) (f : Fault) (nodes₀ : List ℕ) (q : Parsed) → read text ≡ refusal f → Refuses f nodes₀ nodes q → Told text starts nodes q
-refuses_as text starts nodes f nodes₀ q e a = subst (Told text starts nodes) (sym a.0) (record { fault = f; reads = e; number = refl; place = refl })
+refuses_as text starts nodes f nodes₀ (Ok s) e a = absurd a
+refuses_as text starts nodes f nodes₀ (Err g) e a = record { reads = e ∙ ap refusal (sym a.0) }
 
 module _ (nodes₀ nodes : List ℕ) {text codes₀ starts₀ values₀ codes starts values : List ℕ} {s : Scanned} (h : Scans text codes₀ starts₀ values₀ codes starts values s) where
   -- 1, 2 and 3

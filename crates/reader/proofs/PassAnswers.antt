@@ -11,23 +11,21 @@ use Rattle.lexical.specs.Symbols.{scan, symbols, place_at}
 use Rattle.form.specs.Tree.{Dossier}
 use Rattle.form.specs.Headings.{givens_at}
 use Rattle.form.specs.Codes.{Numbering, dossier_codes}
-use Rattle.parser.specs.Promises.{numbering, Parses}
+use Rattle.parser.specs.Promises.{numbering, Parsed, Parses}
 use Rattle.parser.specs.Sections.{Sectioned}
-use Rattle.parser.specs.declared.Parsed.{Parsed}
-use Rattle.parser.specs.declared.Parsed.TheVariants as parsed
+use Rattle.parser.specs.declared.Structure.{Structure}
+use Rattle.std.specs.Prelude.{Ok, Err}
+use Rattle.lexical.specs.declared.refusals.Fault.{Fault}
 use Rattle.parser.specs.declared.sections.Bounds.{Bounds}
 use Rattle.parser.proofs.Texts.{known}
 use Rattle.static_rules.specs.Read as definition
 use Rattle.static_rules.specs.Read.{reading, pass, located, read}
-use Rattle.type_rules.specs.TypesByNumber.{key_room, Names, Sizes, inside_key}
+use Rattle.type_rules.specs.TypesByNumber.{Names, Sizes, inside_key}
 use Rattle.declared_names.specs.NamesByNumber.{givens_key, dossier_key}
 use Rattle.declared_names.specs.PassPromises.{CheckSeen}
-use Rattle.reader.specs.Promises.{Written, Kept, ReadIs, Reads, Stands, Named, Refuses, Checks}
-use Rattle.reader.specs.declared.Reading.{Reading}
-use Rattle.reader.specs.declared.Reading.TheVariants.{Read, Refused}
+use Rattle.reader.specs.Promises.{Written, Kept, ReadIs, Reads, Stands, Named, Checks}
 use Rattle.reader.proofs.FewGivens.{forms-fewer}
 use Rattle.reader.proofs.LeastNameFault.{names-from-free}
-use Rattle.reader.proofs.FaultKeys.{key-number, key-place}
 use Rattle.reader.proofs.PartSections.{sectioned-placed}
 use Rattle.reader.proofs.ParsedReading.{Told, read_is}
 
@@ -47,26 +45,12 @@ givens-none d T ρ z e = inside-zero (givens_key d.givens 0 T ρ (givens_at d)) 
 
 -- the pass over the parts between the sections
 pub named-all : (nodes : List ℕ) (m : ℕ) (b : Bounds) (l : ℕ) (z : Sizes) (r : ℕ) → Sectioned nodes m b
-    → CheckSeen nodes m b.givens b.abstracts b.concretes b.ainit b.operations l z r → 16384 ≤ l → Named nodes m z r
-named-all nodes m b l z r s c long =
-    record {
-      least = λ text starts n d st.
-          let at = sectioned-placed nodes m d (numbering text) st.inside st.nodes_are b s in
-          c.right d (numbering text) at (forms-fewer st.forms)
-          ∙ names-from-free text st.scans st.forms l long z (c.sized d (numbering text) at (forms-fewer st.forms));
-      sized = λ text starts n d st e.
-          let at = sectioned-placed nodes m d (numbering text) st.inside st.nodes_are b s in
-          c.sized d (numbering text) at (forms-fewer st.forms)
-          (givens-none d (replicate l 0) (numbering text) z (sym (c.right d (numbering text) at (forms-fewer st.forms)) ∙ e));
-    }
+    → CheckSeen nodes m b.givens b.abstracts b.concretes b.ainit b.operations l z r → 16384 ≤ l → Named nodes m r
+named-all nodes m b l z r s c long text starts n d st =
+    let at = sectioned-placed nodes m d (numbering text) st.inside st.nodes_are b s in
+    c.right d (numbering text) at (forms-fewer st.forms) ∙ names-from-free text st.scans st.forms l long z (c.sized d (numbering text) at (forms-fewer st.forms))
 
 -- ---- one pass ----
-
--- a number taken apart
-pub apart : (k : ℕ) (starts : List ℕ) (n end : ℕ) (r : Reading) (q p : ℕ) → r ≡ Refused q p → q ≡ (k - 1) % key_room → p ≡ get_or (take n starts) ((k - 1) / key_room) end
-    → Refuses k starts n end r
-apart k starts n end r q p e f g i c l h =
-    e ∙ ap₂ Refused (f ∙ key-number k i c l h) (g ∙ ap (λ (x : ℕ). get_or (take n starts) x end) (key-place k i c l h))
 
 module _ {text starts nodes : List ℕ} {n m : ℕ} {d : Dossier} (st : Stands text starts nodes n m d) where
   pub place_is : (i : ℕ) → get_or (take n starts) i (length text) ≡ place_at text i
@@ -74,9 +58,12 @@ module _ {text starts nodes : List ℕ} {n m : ℕ} {d : Dossier} (st : Stands t
   place_is i = ap (λ (l : List ℕ). get_or l i (length text)) (known st.scans).starts_are
 
   -- the last pass is past
-  pub all-passed : (r : Reading) → r ≡ Read n m → r ≡ Read (length (symbols (scan text))) (length (dossier_codes d (numbering text)))
-  all-passed r e =
-      e ∙ ap₂ Read (st.scans.counted n refl) (sym (length-take-le m nodes st.inside) ∙ ap (length {A = ℕ}) st.nodes_are)
+  pub all-passed : (r : Parsed) (s : Structure) → s.symbols ≡ n → s.numbers ≡ m → r ≡ Ok s
+      → r ≡ Ok (record { symbols = length (symbols (scan text)); numbers = length (dossier_codes d (numbering text)) })
+  all-passed r s a b e =
+      e
+      ∙ ap₂ (λ (x y : ℕ). Ok (record { symbols = x; numbers = y }))
+      (a ∙ st.scans.counted n refl) (b ∙ sym (length-take-le m nodes st.inside) ∙ ap (length {A = ℕ}) st.nodes_are)
 
 -- ---- the text ----
 
@@ -84,16 +71,16 @@ module _ {text codes₀ starts₀ values₀ nodes₀ codes starts values nodes :
   told : (t : Parsed) → q ≡ t → Told text starts nodes t
   told t e = subst (Told text starts nodes) e (read_is p)
 
-  pub few-symbols : {n m : ℕ} → length nodes ≡ 16384 → q ≡ parsed.Structure n m → n ≤ 4096
-  few-symbols {n} {m} room e = (known ((told (parsed.Structure n m) e).stands room).scans).few
+  pub few-symbols : {s : Structure} → length nodes ≡ 16384 → q ≡ Ok s → s.symbols ≤ 4096
+  few-symbols {s} room e = (known ((told (Ok s) e).stands room).scans).few
 
   module _ {spans₀ table₀ groups₀ rows₀ firsts₀ spans table groups rows firsts : List ℕ} where
-    pub reads-structure : {n m : ℕ} → length nodes ≡ 16384 → q ≡ parsed.Structure n m → (r : Reading)
+    pub reads-structure : {s : Structure} → length nodes ≡ 16384 → q ≡ Ok s → (r : Parsed)
         → Checks (Kept spans₀ table₀ groups₀ rows₀ firsts₀ spans table groups rows firsts)
-        (λ (w : List ℕ) (d : Dossier). Written w d spans₀ table₀ groups₀ rows₀ firsts₀ spans table groups rows firsts) starts n (length text) nodes m r
+        (λ (w : List ℕ) (d : Dossier). Written w d spans₀ table₀ groups₀ rows₀ firsts₀ spans table groups rows firsts) starts s.symbols (length text) nodes s.numbers r
         → Reads text codes₀ starts₀ values₀ nodes₀ codes starts values nodes spans₀ table₀ groups₀ rows₀ firsts₀ spans table groups rows firsts r
-    reads-structure {n} {m} room e r checks =
-        let t = told (parsed.Structure n m) e in
+    reads-structure {s} room e r checks =
+        let t = told (Ok s) e in
         let st = t.stands room in
         record {
           parsed = q;
@@ -103,17 +90,16 @@ module _ {text codes₀ starts₀ values₀ nodes₀ codes starts values nodes :
               (λ (d : Dossier). Written text d spans₀ table₀ groups₀ rows₀ firsts₀ spans table groups rows firsts) text x r) (sym t.reads) (checks text t.dossier st refl);
         }
 
-    pub reads-refusal : {k i : ℕ} → q ≡ parsed.Refused k i → (r : Reading) → r ≡ Refused k i → Kept spans₀ table₀ groups₀ rows₀ firsts₀ spans table groups rows firsts
-        → Reads text codes₀ starts₀ values₀ nodes₀ codes starts values nodes spans₀ table₀ groups₀ rows₀ firsts₀ spans table groups rows firsts r
-    reads-refusal {k} {i} e r is kept =
-        let t = told (parsed.Refused k i) e in
+    pub reads-refusal : {f : Fault} → q ≡ Err f → Kept spans₀ table₀ groups₀ rows₀ firsts₀ spans table groups rows firsts
+        → Reads text codes₀ starts₀ values₀ nodes₀ codes starts values nodes spans₀ table₀ groups₀ rows₀ firsts₀ spans table groups rows firsts (Err f)
+    reads-refusal {f} e kept =
+        let t = told (Err f) e in
         record {
           parsed = q;
           parses = p;
           answers =
               subst (λ (x : definition.Reading). ReadIs (Kept spans₀ table₀ groups₀ rows₀ firsts₀ spans table groups rows firsts)
-              (λ (d : Dossier). Written text d spans₀ table₀ groups₀ rows₀ firsts₀ spans table groups rows firsts) text x r) (sym t.reads)
-              (is ∙ sym (ap₂ Refused t.number t.place), kept);
+              (λ (d : Dossier). Written text d spans₀ table₀ groups₀ rows₀ firsts₀ spans table groups rows firsts) text x (Err f)) (sym t.reads) (refl, kept);
         }
 
 -- nothing is written

@@ -3,37 +3,25 @@ use crate::reaches::is_declared;
 use lexical::bounds::SYMBOLS;
 use lexical::codes;
 use phrases::words;
-use sheets::{behind, less};
-use symbol_spans::{count_before, is_name, is_same, kind_at, kind_before, start_of};
-use text_places::symbol_end;
-
-// Bytes of a text from `from` up to `to`; none where the two are one.
-#[derive(Clone, Copy)]
-pub struct Bytes {
-    pub from: usize,
-    pub to: usize,
-}
+use symbol_spans::{Symbols, is_name};
+use text_places::{Span, before};
 
 // Number 6: the phrase of the count that the name at symbol s passes.
-pub fn passed(kinds: &[u8], s: usize) -> usize {
-    match kind_at(kinds, s) {
+pub fn passed(y: &Symbols<'_>, s: usize) -> usize {
+    match y.kind(s) {
         codes::INPUT => words::TOO_MANY_INPUTS,
         codes::OUTPUT => words::TOO_MANY_OUTPUTS,
-        _ => passed_behind(kind_before(kinds, s)),
+        _ => passed_behind(y.kind_before(s)),
     }
 }
 
 fn passed_behind(kind: u8) -> usize {
-    if kind == codes::GIVEN {
-        return words::TOO_MANY_GIVEN_SETS;
+    match kind {
+        codes::GIVEN => words::TOO_MANY_GIVEN_SETS,
+        codes::OP => words::TOO_MANY_OPERATIONS,
+        _ if is_name(kind) => words::TOO_MANY_ELEMENTS,
+        _ => words::TOO_MANY_VARIABLES,
     }
-    if kind == codes::OP {
-        return words::TOO_MANY_OPERATIONS;
-    }
-    if is_name(kind) {
-        return words::TOO_MANY_ELEMENTS;
-    }
-    words::TOO_MANY_VARIABLES
 }
 
 // Does a heading begin with a symbol of this kind?
@@ -45,102 +33,66 @@ fn begins(kind: u8) -> bool {
 }
 
 fn has_name(kind: u8) -> bool {
-    if kind == codes::GIVEN {
-        return true;
-    }
-    kind == codes::OP
+    kind == codes::GIVEN || kind == codes::OP
 }
 
-// The symbol that begins the n-th entry of the contents, or that ends the contents.
-fn entry(kinds: &[u8], n: usize) -> usize {
+// The symbol that begins the n-th entry of the contents.
+fn entry(y: &Symbols<'_>, n: usize) -> Option<usize> {
     let mut left = n;
-    let mut s: usize = 0;
-    while s < SYMBOLS {
-        if kind_at(kinds, s) == codes::END {
-            return s;
+    for s in 0..SYMBOLS {
+        let kind = y.kind(s);
+        if kind == codes::END {
+            return None;
         }
-        if begins(kind_at(kinds, s)) {
+        if begins(kind) {
             if left == 0 {
-                return s;
+                return Some(s);
             }
-            left = less(left, 1);
+            left -= 1;
         }
-        s += 1;
     }
-    s
+    None
 }
 
 // Number 7: the entry of the contents that the heading at symbol s should be, by the number of bodies before it.
-pub fn wanted(text: &[u8], kinds: &[u8], starts: &[u16], s: usize) -> Bytes {
-    let e = entry(kinds, less(count_before(kinds, codes::END, s), 1));
-    let from = start_of(starts, e);
-    let kind = kind_at(kinds, e);
-    if !begins(kind) {
-        return Bytes { from, to: from };
-    }
-    if has_name(kind) {
-        return Bytes {
-            from,
-            to: symbol_end(text, start_of(starts, behind(e, 1))),
-        };
-    }
-    Bytes {
-        from,
-        to: symbol_end(text, from),
+pub fn wanted(y: &Symbols<'_>, s: usize) -> Option<Span> {
+    let e = entry(y, y.count_before(codes::END, s).saturating_sub(1))?;
+    let last = if has_name(y.kind(e)) {
+        e.saturating_add(1)
+    } else {
+        e
+    };
+    Some(Span {
+        from: y.start(e),
+        to: y.end(last),
+    })
+}
+
+// Where the names begin that the name at symbol s must differ from: inputs and outputs differ within their operation, the others in the bodies.
+fn names_from(y: &Symbols<'_>, s: usize) -> usize {
+    let kinds = y.kinds;
+    match y.kind(s) {
+        codes::INPUT | codes::OUTPUT => before(kinds, s)
+            .iter()
+            .rposition(|k| *k == codes::OP)
+            .unwrap_or(0),
+        _ => kinds
+            .iter()
+            .position(|k| *k == codes::END)
+            .unwrap_or(SYMBOLS),
     }
 }
 
-// Where the names begin that the name at symbol s must differ from: inputs and outputs differ within their operation.
-fn names_from(kinds: &[u8], s: usize) -> usize {
-    let first = last_of(kinds, codes::OP, s);
-    match kind_at(kinds, s) {
-        codes::INPUT => first,
-        codes::OUTPUT => first,
-        _ => contents_end(kinds),
-    }
+fn declares(y: &Symbols<'_>, k: usize) -> bool {
+    y.kind_before(k) == codes::OP || is_declared(y, k)
 }
 
-// The last symbol of a kind before symbol s, or the first symbol.
-fn last_of(kinds: &[u8], kind: u8, s: usize) -> usize {
-    let mut k = s;
-    while 0 < k {
-        if kind_at(kinds, k) == kind {
-            return k;
+// Number 8: the first symbol in the bodies that declares the name at symbol s, before it.
+pub fn first_declared(y: &Symbols<'_>, s: usize) -> Option<usize> {
+    for k in names_from(y, s)..s {
+        if y.is_same(k, s) && declares(y, k) {
+            return Some(k);
         }
-        k -= 1;
     }
-    k
-}
-
-// The symbol that ends the contents.
-fn contents_end(kinds: &[u8]) -> usize {
-    let mut s: usize = 0;
-    while s < SYMBOLS {
-        if kind_at(kinds, s) == codes::END {
-            return s;
-        }
-        s += 1;
-    }
-    s
-}
-
-fn declares(kinds: &[u8], k: usize) -> bool {
-    if kind_before(kinds, k) == codes::OP {
-        return true;
-    }
-    is_declared(kinds, k)
-}
-
-// Number 8: the first symbol in the bodies that declares the name at symbol s; s where there is none before it.
-pub fn first_declared(kinds: &[u8], values: &[u16], s: usize) -> usize {
-    let mut k = names_from(kinds, s);
-    while k < s {
-        if is_same(kinds, values, k, s) {
-            if declares(kinds, k) {
-                return k;
-            }
-        }
-        k += 1;
-    }
-    s
+    None
 }

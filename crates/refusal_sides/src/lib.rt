@@ -5,291 +5,170 @@
 use crate::trials::{Side, Term, fits, size_of};
 use lexical::bounds::SYMBOLS;
 use lexical::codes;
-use pages::{PAGE, say, say_of};
+use pages::Page;
 use phrases::words;
-use sheets::{behind, less};
-use symbol_spans::{
-    INSIDE, SUM, Stretch, atom, count_before, is_name, is_prefix, kind_at, kind_before, left_from,
-    right_to, start_of, tightness,
-};
-use text_places::symbol_end;
+use symbol_spans::{Symbols, Tightness, is_name, tightness_of};
+use text_places::{Span, symbol_end};
 
 pub mod trials;
 
-// What a side is, as a phrase, and the first bytes of the names of the given sets in it, 0 for none.
-#[derive(Clone, Copy)]
-struct Told {
-    phrase: usize,
-    first: usize,
-    second: usize,
+// What is said of the sides of an operator.
+#[derive(Clone, Copy, PartialEq, Eq)]
+pub enum Told {
+    Types,
+    Sizes,
 }
 
-// Behind the last byte of the symbol before s.
-fn end_before(text: &[u8], starts: &[u16], s: usize) -> usize {
-    symbol_end(text, start_of(starts, less(s, 1)))
-}
-
-fn side_of(text: &[u8], starts: &[u16], t: Stretch, whole: Stretch) -> Side {
-    Side {
-        from: start_of(starts, t.from),
-        to: end_before(text, starts, t.to),
-        outer: start_of(starts, whole.from),
-        end: end_before(text, starts, whole.to),
+// The bytes of some symbols.
+fn bytes_of(y: &Symbols<'_>, s: Span) -> Span {
+    Span {
+        from: y.start(s.from),
+        to: y.end(s.to.saturating_sub(1)),
     }
 }
 
 // Does the body of a given set begin at symbol s? An entry of the contents has no element.
-fn is_set(kinds: &[u8], s: usize) -> bool {
-    if kind_at(kinds, s) != codes::GIVEN {
-        return false;
-    }
-    is_name(kind_at(kinds, behind(s, 2)))
+fn is_set(y: &Symbols<'_>, s: usize) -> bool {
+    y.kind(s) == codes::GIVEN && is_name(y.kind(s.saturating_add(2)))
 }
 
-fn fits_by(text: &[u8], x: Side, kind: u8, first: usize, second: usize) -> bool {
-    fits(
-        text,
-        x,
-        Term {
-            kind,
-            first,
-            second,
-        },
-    )
-}
-
-// Where the name stands of the given set that the second parts of the side's pairs are of, where the first are of that at `first`; 0 for none.
-fn second_set(text: &[u8], kinds: &[u8], starts: &[u16], x: Side, first: usize) -> usize {
-    let mut s: usize = 0;
-    while s < SYMBOLS {
-        if is_set(kinds, s) {
-            let second = start_of(starts, s + 1);
-            if fits_by(text, x, trials::PAIRS, first, second) {
-                return second;
+// The sets of pairs that the side is of, where their first parts are of the given set whose name stands at a byte.
+fn pairs_from(y: &Symbols<'_>, x: Side, first: usize) -> Option<Term> {
+    for s in 0..SYMBOLS {
+        if is_set(y, s) {
+            let pairs = Term::Pairs(first, y.start(s + 1));
+            if fits(y.text, x, pairs) {
+                return Some(pairs);
             }
         }
-        s += 1;
     }
-    0
+    None
 }
 
-// What the side is, where it is of a type of the given set at symbol s; else of no type.
-fn told_by(text: &[u8], kinds: &[u8], starts: &[u16], x: Side, s: usize) -> Told {
-    let first = start_of(starts, behind(s, 1));
-    if fits_by(text, x, trials::ELEMENT, start_of(starts, behind(s, 2)), 0) {
-        return Told {
-            phrase: words::AN_ELEMENT,
-            first,
-            second: 0,
-        };
+// The type of the given set at symbol s that the side is of.
+fn type_by(y: &Symbols<'_>, x: Side, s: usize) -> Option<Term> {
+    let name = y.start(s.saturating_add(1));
+    let element = Term::Element(name, y.start(s.saturating_add(2)));
+    if fits(y.text, x, element) {
+        return Some(element);
     }
-    if fits_by(text, x, trials::SET, first, 0) {
-        return Told {
-            phrase: words::A_SET_OF_ELEMENTS,
-            first,
-            second: 0,
-        };
+    let set = Term::Set(name);
+    if fits(y.text, x, set) {
+        return Some(set);
     }
-    let second = second_set(text, kinds, starts, x, first);
-    if second == 0 {
-        return Told {
-            phrase: words::OF_NO_TYPE,
-            first: 0,
-            second: 0,
-        };
-    }
-    Told {
-        phrase: words::A_SET_OF_PAIRS,
-        first,
-        second,
-    }
+    pairs_from(y, x, name)
 }
 
-// What the side is by the given sets.
-fn told_by_sets(text: &[u8], kinds: &[u8], starts: &[u16], x: Side) -> Told {
-    let mut s: usize = 0;
-    while s < SYMBOLS {
-        if is_set(kinds, s) {
-            let t = told_by(text, kinds, starts, x, s);
-            if t.first != 0 {
+// The type that the side is of.
+fn type_of(y: &Symbols<'_>, x: Side) -> Option<Term> {
+    if fits(y.text, x, Term::Number) {
+        return Some(Term::Number);
+    }
+    for s in 0..SYMBOLS {
+        if is_set(y, s) {
+            let t = type_by(y, x, s);
+            if t.is_some() {
                 return t;
             }
         }
-        s += 1;
     }
-    Told {
-        phrase: words::OF_NO_TYPE,
-        first: 0,
-        second: 0,
-    }
+    None
 }
 
-// What the side is.
-fn type_of(text: &[u8], kinds: &[u8], starts: &[u16], x: Side) -> Told {
-    if fits_by(text, x, trials::NUMBER, 0, 0) {
-        return Told {
-            phrase: words::A_NUMBER,
-            first: 0,
-            second: 0,
-        };
-    }
-    told_by_sets(text, kinds, starts, x)
+// A phrase with the name that stands at a byte of the text.
+fn say_with_name(text: &[u8], phrase: usize, name: usize, page: &mut Page) {
+    page.say_of(phrase, 0, name, symbol_end(text, name));
 }
 
 // The type of a side on the page.
-fn put_told(text: &[u8], t: Told, page: &mut [usize; PAGE]) {
-    say_of(page, t.phrase, 0, t.first, symbol_end(text, t.first));
-    if t.second != 0 {
-        say_of(
-            page,
-            words::THE_SECOND_SET,
-            0,
-            t.second,
-            symbol_end(text, t.second),
-        );
+fn say_type(text: &[u8], t: Option<Term>, page: &mut Page) {
+    match t {
+        Some(Term::Number) => page.say(words::A_NUMBER),
+        Some(Term::Element(set, _)) => say_with_name(text, words::AN_ELEMENT, set, page),
+        Some(Term::Set(set)) => say_with_name(text, words::A_SET_OF_ELEMENTS, set, page),
+        Some(Term::Pairs(first, second)) => {
+            say_with_name(text, words::A_SET_OF_PAIRS, first, page);
+            say_with_name(text, words::THE_SECOND_SET, second, page);
+        }
+        None => page.say(words::OF_NO_TYPE),
     }
 }
 
 // The symbols of a side on the page: their bytes, and their size or type.
-fn put_side(
-    text: &[u8],
-    kinds: &[u8],
-    starts: &[u16],
-    side: Stretch,
-    whole: Stretch,
-    title: usize,
-    sizes: bool,
-    page: &mut [usize; PAGE],
-) {
-    let x = side_of(text, starts, side, whole);
-    say_of(page, title, 0, x.from, x.to);
-    if sizes {
-        say_of(page, words::A_SIZE, 0, size_of(text, x), 0);
-        return;
+fn say_side(y: &Symbols<'_>, side: Span, whole: Span, title: usize, told: Told, page: &mut Page) {
+    let x = Side {
+        own: bytes_of(y, side),
+        atom: bytes_of(y, whole),
+    };
+    page.say_of(title, 0, x.own.from, x.own.to);
+    match told {
+        Told::Sizes => page.say_of(words::A_SIZE, 0, size_of(y.text, x), 0),
+        Told::Types => say_type(y.text, type_of(y, x), page),
     }
-    let t = type_of(text, kinds, starts, x);
-    put_told(text, t, page);
-}
-
-// How tight must bind what belongs to the left side? Comparisons are not repeated.
-fn left_tightness(kind: u8) -> u8 {
-    let t = tightness(kind);
-    if t < SUM {
-        return SUM;
-    }
-    t
 }
 
 // How tight must bind what belongs to the right side?
-fn right_tightness(kinds: &[u8], s: usize) -> u8 {
-    if is_prefix(kinds, s) {
-        return INSIDE;
+fn right_tightness(y: &Symbols<'_>, s: usize) -> Tightness {
+    if y.is_prefix(s) {
+        return Tightness::Inside;
     }
-    let t = tightness(kind_at(kinds, s));
-    if INSIDE <= t {
-        return INSIDE;
+    match tightness_of(y.kind(s)) {
+        Tightness::Loose => Tightness::Comparison,
+        Tightness::Comparison => Tightness::Sum,
+        Tightness::Sum => Tightness::Product,
+        Tightness::Product | Tightness::Inside => Tightness::Inside,
     }
-    t + 1
 }
 
-// The side before symbol s.
-fn left_of(kinds: &[u8], s: usize) -> Stretch {
-    Stretch {
-        from: left_from(kinds, s, left_tightness(kind_at(kinds, s))),
+// The side before symbol s: comparisons are not repeated.
+fn left_of(y: &Symbols<'_>, s: usize) -> Span {
+    let least = tightness_of(y.kind(s)).max(Tightness::Sum);
+    Span {
+        from: y.left_from(s, least),
         to: s,
     }
 }
 
 // The side behind symbol s.
-fn right_of(kinds: &[u8], s: usize) -> Stretch {
-    Stretch {
-        from: behind(s, 1),
-        to: right_to(kinds, behind(s, 1), right_tightness(kinds, s)),
+fn right_of(y: &Symbols<'_>, s: usize) -> Span {
+    let from = s.saturating_add(1);
+    Span {
+        from,
+        to: y.right_to(from, right_tightness(y, s)),
     }
 }
 
 // Is it a range, which has no type?
-fn is_range(kinds: &[u8], t: Stretch) -> bool {
-    let all = count_before(kinds, codes::UP_TO, t.to);
-    count_before(kinds, codes::UP_TO, t.from) < all
+fn is_range(y: &Symbols<'_>, t: Span) -> bool {
+    y.count_before(codes::UP_TO, t.from) < y.count_before(codes::UP_TO, t.to)
 }
 
 // The left side of the operator at symbol s; of a pair before it both parts.
-fn put_left(
-    text: &[u8],
-    kinds: &[u8],
-    starts: &[u16],
-    s: usize,
-    sizes: bool,
-    page: &mut [usize; PAGE],
-) {
-    let whole = atom(kinds, s);
-    let side = left_of(kinds, s);
-    if kind_before(kinds, side.from) == codes::MAPLET {
-        let first = left_of(kinds, less(side.from, 1));
-        put_side(
-            text,
-            kinds,
-            starts,
-            first,
-            whole,
-            words::THE_LEFT_SIDE,
-            sizes,
-            page,
-        );
+fn say_left(y: &Symbols<'_>, s: usize, told: Told, page: &mut Page) {
+    let whole = y.atom(s);
+    let side = left_of(y, s);
+    if y.kind_before(side.from) == codes::MAPLET {
+        let first = left_of(y, side.from.saturating_sub(1));
+        say_side(y, first, whole, words::THE_LEFT_SIDE, told, page);
     }
-    put_side(
-        text,
-        kinds,
-        starts,
-        side,
-        whole,
-        words::THE_LEFT_SIDE,
-        sizes,
-        page,
-    );
+    say_side(y, side, whole, words::THE_LEFT_SIDE, told, page);
 }
 
-fn put_right(
-    text: &[u8],
-    kinds: &[u8],
-    starts: &[u16],
-    s: usize,
-    sizes: bool,
-    page: &mut [usize; PAGE],
-) {
-    let whole = atom(kinds, s);
-    let side = right_of(kinds, s);
-    if is_range(kinds, side) {
-        return;
+fn say_right(y: &Symbols<'_>, s: usize, told: Told, page: &mut Page) {
+    let side = right_of(y, s);
+    if !is_range(y, side) {
+        say_side(y, side, y.atom(s), words::THE_RIGHT_SIDE, told, page);
     }
-    put_side(
-        text,
-        kinds,
-        starts,
-        side,
-        whole,
-        words::THE_RIGHT_SIDE,
-        sizes,
-        page,
-    );
 }
 
 // Both sides of the operator at symbol s, with their sizes or their types.
-pub fn put_sides(
-    text: &[u8],
-    kinds: &[u8],
-    starts: &[u16],
-    s: usize,
-    sizes: bool,
-    page: &mut [usize; PAGE],
-) {
-    if kind_at(kinds, s) == codes::OPEN_BRACE {
-        say(page, words::A_BRACE_OF_SEVERAL_TYPES);
+pub fn say_sides(y: &Symbols<'_>, s: usize, told: Told, page: &mut Page) {
+    if y.kind(s) == codes::OPEN_BRACE {
+        page.say(words::A_BRACE_OF_SEVERAL_TYPES);
         return;
     }
-    if !is_prefix(kinds, s) {
-        put_left(text, kinds, starts, s, sizes, page);
+    if !y.is_prefix(s) {
+        say_left(y, s, told, page);
     }
-    put_right(text, kinds, starts, s, sizes, page);
+    say_right(y, s, told, page);
 }

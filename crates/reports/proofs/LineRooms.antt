@@ -1,5 +1,5 @@
 -- Room for the lines of a report, and the lines piece by piece: the line with the count, the line of a refusal.
-use mathlib.Core.Path.{◌≡◌, sym, ap}
+use mathlib.Core.Path.{◌≡◌, sym, ap, subst}
 use mathlib.Core.Bool.{Bool, cond}
 use mathlib.Core.List.{List, [], ◌∷◌, ◌++◌}
 use Prim.Native.Nat.{ℕ, ◌+◌, ◌*◌, ◌<◌, ◌≤◌}
@@ -12,7 +12,7 @@ use Rattle.obligations.specs.Report.{decimal, count_line}
 use Rattle.pieces.specs.PiecePromises.{Writes, letters_at}
 use Rattle.pieces.proofs.WrittenPieces.{both-written, letters-length}
 use Rattle.pieces.proofs.Digits.{few-digits}
-use Rattle.reports.specs.ReportPromises.{refusal_piece, operation_part}
+use Rattle.reports.specs.ReportPromises.{refusal_piece, operation_part, LineWritten, VerdictWritten}
 
 pub digits-short : (n : ℕ) → n < 18446744073709551616 → length (decimal n) ≤ 20
 digits-short n h = few-digits 20 n (omega arith) (omega arith)
@@ -65,3 +65,15 @@ part_none which k h = sym (ap (λ (t : Bool). cond t (1 + 2 * k + which) 33) (le
 
 pub part-some : (which k : ℕ) → k < 16 → 1 + 2 * k + which ≡ operation_part which k
 part-some which k h = sym (ap (λ (t : Bool). cond t (1 + 2 * k + which) 33) (lt-ltb k 16 h))
+
+-- what was written through the lent bytes stands in them
+pub refusal_in : (p : ℕ) {n k r : ℕ} {a b c : List ℕ} → n ≡ k → Writes 0 (refusal_piece n p) a b r → b ≡ c → Writes 0 (refusal_piece k p) a c r
+refusal_in p {k = k} {r} {a} {b} f w e = subst (λ (l : List ℕ). Writes 0 (refusal_piece k p) a l r) e (subst (λ (n : ℕ). Writes 0 (refusal_piece n p) a b r) f w)
+
+pub line_in : {text labels before after out : List ℕ} {part r : ℕ} → LineWritten text labels part 0 before after r → after ≡ out → LineWritten text labels part 0 before out r
+line_in {text} {labels} {before} {part = part} {r} w e = subst (λ (l : List ℕ). LineWritten text labels part 0 before l r) e w
+
+pub verdict_in : {text labels table rows firsts groups before after out : List ℕ} {operations r : ℕ} → VerdictWritten text labels table rows firsts groups operations before after r → after ≡ out
+    → VerdictWritten text labels table rows firsts groups operations before out r
+verdict_in {text} {labels} {table} {rows} {firsts} {groups} {before} {operations = operations} {r} w e =
+    subst (λ (l : List ℕ). VerdictWritten text labels table rows firsts groups operations before l r) e w

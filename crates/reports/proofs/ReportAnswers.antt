@@ -5,7 +5,11 @@ use Prim.Native.Nat.{ℕ, ◌<◌, ◌≤◌, ◌+◌}
 use native.Mathlib.Nat.{zero-add}
 use native.Mathlib.Omega.{arith}
 use lib.ListN.{length, take, drop}
-use Rattle.lexical.specs.Refusals.{Fault, number_of}
+use Rattle.std.specs.Prelude.{Result, Ok, Err}
+use Rattle.lexical.specs.Refusals as refusals
+use Rattle.lexical.specs.Refusals.{number_of}
+use Rattle.lexical.specs.RefusalNames.{fault_is}
+use Rattle.lexical.specs.declared.refusals.Fault.{Fault}
 use Rattle.form.specs.Tree.{Dossier}
 use Rattle.static_rules.specs.Read.{Reading, refusal, reading, read}
 use Rattle.obligations.specs.Subjects.{subject_of}
@@ -17,8 +21,6 @@ use Rattle.labels.specs.Labels.{LabelsOf}
 use Rattle.table_nodes.specs.TableWalkPromises.{patch}
 use Rattle.pieces.specs.PiecePromises.{Writes}
 use Rattle.text_readings.specs.TextPromises.{Held, ReadAs, ReadsText}
-use Rattle.text_readings.specs.declared.TextRead.{TextRead}
-use Rattle.text_readings.specs.declared.TextRead.TheVariants.{Read, Refused}
 use Rattle.reports.specs.ReportPromises.{Reported, ObligationIn, RefutedLine, part_of, refusal_piece, LineWritten, VerdictAsked, VerdictWritten}
 use Rattle.reports.proofs.LineRooms.{part-some}
 
@@ -33,18 +35,19 @@ is-reported {text} {before} w h = record {
   short = let e = w.end in omega arith;
 }
 
--- which of the two it is
-abbrev IsRefused : TextRead → Type 0
-IsRefused (Refused n p) = Unit {0}
-IsRefused (Read k) = ⊥
+abbrev many_in : Result ℕ Fault → ℕ
+many_in (Ok k) = k
+many_in (Err f) = 0
 
-abbrev number_in : TextRead → ℕ
-number_in (Refused n p) = n
-number_in (Read k) = k
+abbrev IsErr : Result ℕ Fault → Type 0
+IsErr (Ok k) = ⊥
+IsErr (Err f) = Unit {0}
 
-abbrev place_in : TextRead → ℕ
-place_in (Refused n p) = p
-place_in (Read k) = 0
+not-ok : {f : Fault} {k : ℕ} → ◌≡◌ {A = Result ℕ Fault} (Err f) (Ok k) → ⊥
+not-ok e = subst IsErr e tt
+
+abbrev line_for : Fault → List ℕ
+line_for f = refusal_piece (number_of (fault_is f).refusal) (fault_is f).place
 
 -- the part of an obligation that the dossier has, and its line
 inside : (d : Dossier) (o : Obligation) → length d.operations ≤ 16 → ObligationIn d o → part_of o < 33
@@ -59,73 +62,73 @@ line_of d (applicability j) l h i g w = w.applying d l j i (let e = part-some 0 
 line_of d (correctness j) l h i g w = w.correcting d l j i (let e = part-some 1 j (omega arith) in omega arith)
 
 module _ {text table rows firsts groups labels : List ℕ} where
-  -- the text is refused with this number and place
-  pub refused-report : {n p : ℕ} → ReadsText text table rows firsts groups labels (Refused n p) → report text ≡ refusal_piece n p
+  -- the text is refused with this fault
+  pub refused-report : {x : Fault} → ReadsText text table rows firsts groups labels (Err x) → report text ≡ line_for x
   unfolding ReadAs report refused_line
-  refused-report {n} {p} w = go (read text) w.answer
+  refused-report {x} w = go (read text) w.answer
     where
-      go : (q : Reading) → ReadAs text table rows firsts groups labels q (Refused n p) → reported q ≡ refusal_piece n p
-      go (refusal f) e = λ i. refusal_piece (ap number_in (sym e) i) (ap place_in (sym e) i)
-      go (reading d) e = absurd (subst IsRefused e.0 tt)
+      go : (q : Reading) → ReadAs text table rows firsts groups labels q (Err x) → reported q ≡ line_for x
+      go (refusal f) e = ap (λ (g : refusals.Fault). refusal_piece (number_of g.refusal) g.place) (sym e)
+      go (reading d) e = absurd (not-ok e.0)
 
   -- the text is read: what the search and the lines ask for, and its report
-  pub read-asks : {k : ℕ} → ReadsText text table rows firsts groups labels (Read k) → VerdictAsked text labels table rows firsts groups k
+  pub read-asks : {k : ℕ} → ReadsText text table rows firsts groups labels (Ok k) → VerdictAsked text labels table rows firsts groups k
   unfolding ReadAs
   read-asks {k} w = go (read text) w.answer
     where
-      go : (q : Reading) → ReadAs text table rows firsts groups labels q (Read k) → VerdictAsked text labels table rows firsts groups k
-      go (refusal f) e = absurd (subst IsRefused (sym e) tt)
-      go (reading d) e = record { dossier = d; arrays = e.1.arrays; labelled = e.1.labelled; many = ap number_in e.0 }
+      go : (q : Reading) → ReadAs text table rows firsts groups labels q (Ok k) → VerdictAsked text labels table rows firsts groups k
+      go (refusal f) e = absurd e
+      go (reading d) e = record { dossier = d; arrays = e.1.arrays; labelled = e.1.labelled; many = ap many_in e.0 }
 
-  pub read-report : {k r : ℕ} {before after : List ℕ} → ReadsText text table rows firsts groups labels (Read k)
+  pub read-report : {k r : ℕ} {before after : List ℕ} → ReadsText text table rows firsts groups labels (Ok k)
       → VerdictWritten text labels table rows firsts groups k before after r → Reported text before after r
   unfolding ReadAs report
   read-report {k} {r} {before} {after} w v = is-reported (go (read text) refl w.answer) v.short
     where
-      go : (q : Reading) → read text ≡ q → ReadAs text table rows firsts groups labels q (Read k) → Writes 0 (report text) before after r
-      go (refusal f) s e = absurd (subst IsRefused (sym e) tt)
+      go : (q : Reading) → read text ≡ q → ReadAs text table rows firsts groups labels q (Ok k) → Writes 0 (report text) before after r
+      go (refusal f) s e = absurd e
       go (reading d) s e =
-          subst (λ (l : List ℕ). Writes 0 l before after r) (sym (ap reported s)) (v.lines d e.1.arrays e.1.labelled (ap number_in e.0))
+          subst (λ (l : List ℕ). Writes 0 l before after r) (sym (ap reported s)) (v.lines d e.1.arrays e.1.labelled (ap many_in e.0))
 
   -- by what the reading answered
-  pub refusal-reported : {t : TextRead} {n p r : ℕ} {before after : List ℕ} → ReadsText text table rows firsts groups labels t → t ≡ Refused n p
-      → Writes 0 (refusal_piece n p) before after r → r ≤ 53 → Reported text before after r
+  pub refusal-reported : {t : Result ℕ Fault} {x : Fault} {r : ℕ} {before after : List ℕ} → ReadsText text table rows firsts groups labels t → t ≡ Err x
+      → Writes 0 (line_for x) before after r → r ≤ 53 → Reported text before after r
   refusal-reported {r = r} {before} {after} w e v h =
       is-reported
       (subst (λ (l : List ℕ). Writes 0 l before after r) (sym (refused-report (subst (ReadsText text table rows firsts groups labels) e w))) v)
       (omega arith)
 
-  pub verdict-asked : {t : TextRead} {k : ℕ} → ReadsText text table rows firsts groups labels t → t ≡ Read k → VerdictAsked text labels table rows firsts groups k
+  pub verdict-asked : {t : Result ℕ Fault} {k : ℕ} → ReadsText text table rows firsts groups labels t → t ≡ Ok k → VerdictAsked text labels table rows firsts groups k
   verdict-asked w e = read-asks (subst (ReadsText text table rows firsts groups labels) e w)
 
-  pub verdict-reported : {t : TextRead} {k r : ℕ} {before after : List ℕ} → ReadsText text table rows firsts groups labels t → t ≡ Read k
+  pub verdict-reported : {t : Result ℕ Fault} {k r : ℕ} {before after : List ℕ} → ReadsText text table rows firsts groups labels t → t ≡ Ok k
       → VerdictWritten text labels table rows firsts groups k before after r → Reported text before after r
   verdict-reported w e v = read-report (subst (ReadsText text table rows firsts groups labels) e w) v
 
   -- the first line alone: nothing of a text that is refused, or for an operation that the dossier has not
-  pub refused-line : {t : TextRead} {n p : ℕ} (o : code.Obligation) (before : List ℕ) → ReadsText text table rows firsts groups labels t → t ≡ Refused n p
+  pub refused-line : {t : Result ℕ Fault} {x : Fault} (o : code.Obligation) (before : List ℕ) → ReadsText text table rows firsts groups labels t → t ≡ Err x
       → RefutedLine text o before before 0
   unfolding ReadAs
-  refused-line {n = n} {p} o before w e = record { bytes = λ d s i. absurd (go d s (subst (ReadAs text table rows firsts groups labels (read text)) e w.answer)); short = omega arith }
+  refused-line {x = x} o before w e = record { bytes = λ d s i. absurd (go d s (subst (ReadAs text table rows firsts groups labels (read text)) e w.answer)); short = omega arith }
     where
-      go : (d : Dossier) → read text ≡ reading d → ReadAs text table rows firsts groups labels (read text) (Refused n p) → ⊥
-      go d s h = subst IsRefused (subst (λ (q : Reading). ReadAs text table rows firsts groups labels q (Refused n p)) s h).0 tt
+      go : (d : Dossier) → read text ≡ reading d → ReadAs text table rows firsts groups labels (read text) (Err x) → ⊥
+      go d s h = not-ok (subst (λ (q : Reading). ReadAs text table rows firsts groups labels q (Err x)) s h).0
 
-  few : {t : TextRead} {k : ℕ} → ReadsText text table rows firsts groups labels t → t ≡ Read k → (d : Dossier) → read text ≡ reading d
+  few : {t : Result ℕ Fault} {k : ℕ} → ReadsText text table rows firsts groups labels t → t ≡ Ok k → (d : Dossier) → read text ≡ reading d
       → LabelsOf text labels d × (length d.operations ≤ 16)
   unfolding ReadAs
   few {t} {k} w e d s =
       let h : ReadAs text table rows firsts groups labels (reading d) t = subst (λ (q : Reading). ReadAs text table rows firsts groups labels q t) s w.answer in
       (h.1.labelled, h.1.arrays.operations)
 
-  pub no_line : {t : TextRead} {k part : ℕ} (o : code.Obligation) (before : List ℕ) → ReadsText text table rows firsts groups labels t → t ≡ Read k
+  pub no_line : {t : Result ℕ Fault} {k part : ℕ} (o : code.Obligation) (before : List ℕ) → ReadsText text table rows firsts groups labels t → t ≡ Ok k
       → part ≡ part_of (obligation_is o) → 33 ≤ part → RefutedLine text o before before 0
   no_line {part = part} o before w e g h = record {
     bytes = λ d s i. absurd (let f = inside d (obligation_is o) (few w e d s).1 i in omega arith);
     short = omega arith;
   }
 
-  pub line-written : {t : TextRead} {k part r : ℕ} {before after : List ℕ} (o : code.Obligation) → ReadsText text table rows firsts groups labels t → t ≡ Read k
+  pub line-written : {t : Result ℕ Fault} {k part r : ℕ} {before after : List ℕ} (o : code.Obligation) → ReadsText text table rows firsts groups labels t → t ≡ Ok k
       → part ≡ part_of (obligation_is o) → LineWritten text labels part 0 before after r → RefutedLine text o before after r
   line-written o w e g v = record {
     bytes = λ d s i. let f = few w e d s in line_of d (obligation_is o) f.0 f.1 i g v;

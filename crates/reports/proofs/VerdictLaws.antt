@@ -1,9 +1,10 @@
 -- The lines of a verdict from what the search came to: those of a refuted check at the place where it failed, those of an accepted one.
 use mathlib.Core.Path.{◌≡◌, refl, sym, ap, subst, ◌∙◌}
+use Rattle.std.specs.Prelude.{Option, None, Some}
 use mathlib.Core.Bool.{Bool, true, false}
 use mathlib.Core.List.{List, [], ◌∷◌, ◌++◌}
 use mathlib.Core.Logic.{◌⊎◌, inl, inr}
-use Prim.Native.Nat.{ℕ, suc, ◌+◌, ◌-◌, ◌*◌, ◌/◌, ◌%◌, ◌^◌, ◌<◌, ◌≤◌}
+use Prim.Native.Nat.{ℕ, suc, min, ◌+◌, ◌-◌, ◌*◌, ◌/◌, ◌%◌, ◌^◌, ◌<◌, ◌≤◌}
 use native.Mathlib.Omega.{arith}
 use lib.Dec.{eqb}
 use borrow.Author.Tests.{eqb-true, eqb-false}
@@ -23,11 +24,10 @@ use Rattle.labels.specs.Labels.{LabelsOf}
 use Rattle.part_places.specs.Places.{GroupsOf, parts, AllAsked, TotalIs, PlaceAsked, PlaceFound}
 use Rattle.part_places.proofs.PlaceObligations.{obligation-opening, obligation-applying, obligation-correcting}
 use Rattle.part_places.proofs.ReadingGroups.{reading-groups}
-use Rattle.held_checks.specs.StepPromises.{place_after}
 use Rattle.witnesses.specs.WitnessPromises.{WitnessAsked, WitnessWritten}
 use Rattle.reports.specs.ReportPromises.{LineWritten, VerdictAsked, VerdictWritten}
 use Rattle.reports.proofs.LineRooms.{digits-short}
-use Rattle.reports.proofs.VerdictLines.{came, whole-look, failed-inside, accepted-whole, refuted-lines, accepted-lines}
+use Rattle.reports.proofs.VerdictLines.{came, whole-look, failed-inside, refuted-lines, accepted-lines}
 
 module _ {text labels table rows firsts groups : List ℕ} {operations : ℕ} (k : VerdictAsked text labels table rows firsts groups operations) where
   -- what the callees ask
@@ -44,12 +44,15 @@ module _ {text labels table rows firsts groups : List ℕ} {operations : ℕ} (k
     pub search-asked : SearchAsked table rows firsts groups operations 0
     search-asked = record { dossier = k.dossier; reading = k.arrays; many = k.many; inside = omega arith }
 
-    module _ {at : ℕ} {failed : Bool} (s : SearchAnswers table rows firsts groups operations 0 all at failed) (f : failed ≡ true) where
+    module _ {at : ℕ} (s : SearchAnswers table rows firsts groups operations 0 all (Some at)) where
       looked : (d : Dossier) → ReadingOf table rows firsts groups d → operations ≡ length d.operations → look (subject_of d) (checks (subject_of d)) ≡ came at true
-      looked d r m = subst (λ (b : Bool). look (subject_of d) (checks (subject_of d)) ≡ came at b) f (whole-look d s r m (t.is d (reading-groups r) m))
+      looked d r m = whole-look (Some at) d s r m (t.is d (reading-groups r) m)
 
       at-inside : at < total (subject_of k.dossier)
       at-inside = failed-inside k.dossier at (looked k.dossier k.arrays k.many)
+
+      pub place_small : at < 2 ^ 53
+      place_small = let i = at-inside in let z = reading_small k.arrays in omega arith
 
       pub place-asked : PlaceAsked table groups operations at
       unfolding all_asked
@@ -70,20 +73,9 @@ module _ {text labels table rows firsts groups : List ℕ} {operations : ℕ} (k
             let o = k.arrays.operations in
             omega arith
 
--- where a search over all places stops, no place is too great to count
-module _ {text labels table rows firsts groups : List ℕ} {operations : ℕ} (k : VerdictAsked text labels table rows firsts groups operations) {all at : ℕ} {failed : Bool}
-    (t : TotalIs table groups operations all) (s : SearchAnswers table rows firsts groups operations 0 all at failed) where
-  came-whole : failed ≡ false → at ≡ total (subject_of k.dossier)
-  came-whole f =
-      accepted-whole k.dossier at (subst (λ (b : Bool). look (subject_of k.dossier) (checks (subject_of k.dossier)) ≡ came at b) f
-      (whole-look k.dossier s k.arrays k.many (t.is k.dossier (reading-groups k.arrays) k.many)))
-
-  pub at_small : at < 2 ^ 62
-  at_small = on failed refl
-    where
-      on : (b : Bool) → failed ≡ b → at < 2 ^ 62
-      on true f = let i = at-inside k t s f in let z = reading_small k.arrays in omega arith
-      on false f = let i = came-whole f in let z = reading_small k.arrays in omega arith
+pub found-at : {table rows firsts groups : List ℕ} {operations all : ℕ} {f g : Option ℕ} → f ≡ g → SearchAnswers table rows firsts groups operations 0 all f
+    → SearchAnswers table rows firsts groups operations 0 all g
+found-at {table} {rows} {firsts} {groups} {operations} {all} e s = subst (λ (x : Option ℕ). SearchAnswers table rows firsts groups operations 0 all x) e s
 
 -- the first line of the obligation at a place of a part
 module _ {text labels before after : List ℕ} {part q x : ℕ} (d : Dossier) (l : LabelsOf text labels d) (h : part < parts d) (low : q < part_size d part)
@@ -109,6 +101,9 @@ module _ {text labels before after : List ℕ} {part q x : ℕ} (d : Dossier) (l
           let s = eqb-true part 0 e in subst (λ (o : Obligation). Writes 0 (refuted_line d o) before after x) (sym (obligation-opening d part q low s)) (w.opening d l s)
       on false e = even (eqb ((part - 1) % 2) 0) refl (eqb-false part 0 e)
 
+least-self : (n : ℕ) → min n n ≡ n
+least-self n = omega arith
+
 accepted-long : length (bytes "accepted\n") ≡ 9
 unfolding bytes
 accepted-long = refl
@@ -122,47 +117,36 @@ count-short n h =
     let t = length-append (bytes "bindings ") (decimal n) in
     omega arith
 
--- how many bindings were looked at
-count-failed : (failed : Bool) (at : ℕ) {n : ℕ} → failed ≡ true → n ≡ place_after failed at → n ≡ suc at
-count-failed failed at f e = let q : at + 1 ≡ suc at = omega arith in e ∙ ap (λ (b : Bool). place_after b at) f ∙ q
-
-count-whole : (failed : Bool) (at : ℕ) {n : ℕ} → failed ≡ false → n ≡ place_after failed at → n ≡ at
-count-whole failed at f e = e ∙ ap (λ (b : Bool). place_after b at) f
-
-module _ {text labels table rows firsts groups : List ℕ} {operations : ℕ} (k : VerdictAsked text labels table rows firsts groups operations) {all at : ℕ} {failed : Bool}
-    (t : TotalIs table groups operations all) (s : SearchAnswers table rows firsts groups operations 0 all at failed) {before after : List ℕ} {r : ℕ} where
-  pub refuted-written : {part q x y n : ℕ} {a b : List ℕ} → failed ≡ true → PlaceFound table groups operations at part q → LineWritten text labels part 0 before a x
-      → WitnessWritten text labels table groups part q x a b y → n ≡ place_after failed at → Writes y (count_line n) b after r → VerdictWritten text labels table rows firsts groups operations before after r
-  refuted-written {part} {q} {x} {y} {n} {a} {b} f p line lines looks count = record {
+module _ {text labels table rows firsts groups : List ℕ} {operations : ℕ} (k : VerdictAsked text labels table rows firsts groups operations) {all : ℕ}
+    (t : TotalIs table groups operations all) {before after : List ℕ} {r : ℕ} where
+  pub refuted-written : {at part q x y n : ℕ} {a b : List ℕ} → SearchAnswers table rows firsts groups operations 0 all (Some at) → PlaceFound table groups operations at part q
+      → LineWritten text labels part 0 before a x → WitnessWritten text labels table groups part q x a b y → n ≡ suc at → Writes y (count_line n) b after r
+      → VerdictWritten text labels table rows firsts groups operations before after r
+  refuted-written {at} {part} {q} {x} {y} {n} {a} {b} s p line lines looks count = record {
     lines = λ d g l m.
-        let e = looked k t s f d g m in
+        let e = looked k t s d g m in
         let i = failed-inside d at e in
         let o = reading-groups g in
         let h : at ≡ part_begin d part + q = p.is d o m i in
         let w = first-line d l (p.within d o m i) (p.low d o m i) line in
         let v = lines.lines d o l (p.within d o m i) (p.low d o m i) in
-        let u : Writes y (count_line (suc at)) b after r = subst (λ (c : ℕ). Writes y (count_line c) b after r) (count-failed failed at f looks) count in
+        let u : Writes y (count_line (suc at)) b after r = subst (λ (c : ℕ). Writes y (count_line c) b after r) looks count in
         subst (λ (z : List ℕ). Writes 0 z before after r) (sym (refuted-lines d at e))
         (subst (λ (c : ℕ). Writes 0 (refuted_line d (obligation_of (check_at (subject_of d) c)) ++ witness_lines (subject_of d) (check_at (subject_of d) c) ++ count_line (suc at)) before after r)
         (sym h) (both-written (both-written w v) u));
     short =
-        let i = at-inside k t s f in
-        let z = reading_small k.arrays in
-        let e = count-failed failed at f looks in
+        let i = place_small k t s in
         let c = count-short n (omega arith) in
         omega (arith, line.short, lines.short, count.end);
   }
 
-  pub accepted-written : {x n : ℕ} {a : List ℕ} → failed ≡ false → Writes 0 (bytes "accepted\n") before a x → n ≡ place_after failed at → Writes x (count_line n) a after r
+  pub accepted-written : {x : ℕ} {a : List ℕ} → SearchAnswers table rows firsts groups operations 0 all None → Writes 0 (bytes "accepted\n") before a x → Writes x (count_line all) a after r
       → VerdictWritten text labels table rows firsts groups operations before after r
-  accepted-written {x} {n} {a} f word looks count = record {
+  accepted-written {x} {a} s word count = record {
     lines = λ d g l m.
-        let e = subst (λ (b : Bool). look (subject_of d) (checks (subject_of d)) ≡ came at b) f (whole-look d s g m (t.is d (reading-groups g) m)) in
-        let u : Writes x (count_line at) a after r = subst (λ (c : ℕ). Writes x (count_line c) a after r) (count-whole failed at f looks) count in
-        subst (λ (z : List ℕ). Writes 0 z before after r) (sym (accepted-lines d at e)) (both-written word u);
+        let e : look (subject_of d) (checks (subject_of d)) ≡ came all false = whole-look None d s g m (t.is d (reading-groups g) m) ∙ ap (λ (n : ℕ). came n false) (least-self all) in
+        subst (λ (z : List ℕ). Writes 0 z before after r) (sym (accepted-lines d all e)) (both-written word count);
     short =
-        let e = count-whole failed at f looks in
-        let i = came-whole k t s f in
-        let z = reading_small k.arrays in
-        omega (arith, accepted-long, word.end, count-short n (omega arith), count.end);
+        let z = all_small k t in
+        omega (arith, accepted-long, word.end, count-short all (omega arith), count.end);
   }

@@ -1,5 +1,6 @@
 -- What a search over all places says of the report's lines.
 use mathlib.Core.Path.{◌≡◌, refl, sym, ap, subst, ◌∙◌}
+use Rattle.std.specs.Prelude.{Option, is_some}
 use mathlib.Core.Bool.{Bool, true, false, cond}
 use mathlib.Core.List.{List, [], ◌++◌}
 use Prim.Native.Nat.{ℕ, suc, ◌<◌, ◌≤◌, ◌-◌}
@@ -13,7 +14,8 @@ use Rattle.obligations.specs.Order.{Check, initialises, obligation_of, checks, t
 use Rattle.obligations.specs.Report.{check_at, witness_lines, refuted_line, count_line, verdict_lines}
 use Rattle.obligations.proofs.Looks.{First, look-first, look-whole}
 use Rattle.labels.specs.ReadingsReadings.{ReadingOf}
-use Rattle.parts.specs.SearchPromises.{SearchAnswers}
+use Rattle.parts.specs.SearchPromises.{came_to, SearchAnswers}
+use Rattle.parts.proofs.Stops.{looks-at}
 
 abbrev pub came : (at : ℕ) (failed : Bool) → Look
 came at failed = record { count = cond failed (suc at) at; failed = failed }
@@ -26,11 +28,11 @@ all-checks d all e = take_all (all - 0) (checks (subject_of d)) (let f : length 
 less_zero : (n : ℕ) → n - 0 ≡ n
 less_zero n = omega arith
 
-pub whole-look : {table rows firsts groups : List ℕ} {operations all at : ℕ} {failed : Bool} (d : Dossier)
-    → SearchAnswers table rows firsts groups operations 0 all at failed → ReadingOf table rows firsts groups d → operations ≡ length d.operations → all ≡ total (subject_of d)
-    → look (subject_of d) (checks (subject_of d)) ≡ came at failed
-whole-look {all = all} {at = at} {failed = failed} d w r m e =
-    ap (look (subject_of d)) (sym (all-checks d all e)) ∙ w.looks d r m (omega arith) ∙ ap (λ (n : ℕ). came n failed) (less_zero at)
+pub whole-look : {table rows firsts groups : List ℕ} {operations all : ℕ} (failing : Option ℕ) (d : Dossier)
+    → SearchAnswers table rows firsts groups operations 0 all failing → ReadingOf table rows firsts groups d → operations ≡ length d.operations → all ≡ total (subject_of d)
+    → look (subject_of d) (checks (subject_of d)) ≡ came (came_to all all failing) (is_some failing)
+whole-look {all = all} failing d w r m e =
+    ap (look (subject_of d)) (sym (all-checks d all e)) ∙ looks-at w d r m (omega arith) e refl ∙ ap (λ (n : ℕ). came n (is_some failing)) (less_zero (came_to all all failing))
 
 -- where it failed, the place is one of the order
 pub failed-inside : (d : Dossier) (at : ℕ) → look (subject_of d) (checks (subject_of d)) ≡ came at true → at < total (subject_of d)

@@ -2,20 +2,24 @@
 #![tactic(auto)]
 
 ghost use Rattle.std.specs.Prelude.{◌≡◌, ◌+◌, ◌≤◌, ◌<◌, length, get_or};
+ghost use Rattle.lexical.specs.Refusals.{number_of};
+ghost use Rattle.lexical.specs.RefusalNames.{refusal_is};
 ghost use Rattle.obligations.specs.Report.{count_line};
-ghost use Rattle.pieces.specs.PiecePromises.{Writes, letters_at};
+ghost use Rattle.pieces.specs.PiecePromises.{Writes, Adds, letters_at};
 ghost use Rattle.reports.specs.ReportPromises.{Reported, RefutedLine, LineWritten, VerdictAsked, VerdictWritten, refusal_piece, operation_part, part_of};
 ghost use Rattle.held_checks.specs.Answers.{obligation_is};
 
 use form::node::NUMBERS;
-use held_checks::{Obligation, counted};
-use labels::{LABELS, TITLES};
+use held_checks::Obligation;
+use labels::{LABELS, Names, TITLES};
+use lexical::refusals::Refusal;
 use part_places::{OBLIGATIONS, OPENING, find, total};
 use parts::search;
-use pieces::{put, put_all, put_decimal, put_letters};
+use pieces::Writer;
+use search_groups::Dossier;
 use search_groups::conjuncts::FIRSTS;
 use search_groups::groups::GROUPS;
-use text_readings::{TextRead, read_text};
+use text_readings::read_text;
 use witnesses::put_witness;
 
 // The greatest length of a report: a first line of 39 bytes, a witness, a line with the count of 30.
@@ -29,94 +33,79 @@ const PARTS: usize = 33;
 
 const OPERATIONS: usize = 16;
 
-// A label.
-fn label(labels: &[u16], k: usize) -> usize
-    requires { k < length labels.now }
-    ensures { result ≡ get_or labels.now k 0 }
-{
-    labels[k] as usize
-}
-
 // The name of the k-th operation.
-fn put_title(text: &[u8], labels: &[u16; LABELS], k: usize, out: &mut [u8], at: usize) -> usize
-    requires { (k < 16) × (at + 16 ≤ length out.old) }
-    ensures { Writes at (letters_at text.now (get_or labels.now (64 + k) 0)) out.old out.new result }
+fn put_title(names: &Names<'_>, k: usize, w: &mut Writer<'_>)
+    requires { (k < 16) × (w.old.at + 16 ≤ length w.old.out.now) }
+    ensures same_bytes { w.new.out.ghost_name ≡ w.old.out.ghost_name }
+    ensures written { Adds (letters_at names.now.text.now (get_or names.now.labels.now (64 + k) 0)) w.old w.new }
 {
-    put_letters(text, label(labels, TITLES + k), out, at)
+    w.put_letters(names.text, usize::from(names.label(TITLES + k)));
 }
 
 // The first line of a refuted check.
-pub fn put_refuted(
-    text: &[u8],
-    labels: &[u16; LABELS],
-    part: usize,
-    out: &mut [u8],
-    at: usize,
-) -> usize
-    requires { (part < 33) × (at + 39 ≤ length out.old) }
-    ensures { LineWritten text.now labels.now part at out.old out.new result }
+pub fn put_refuted(names: &Names<'_>, part: usize, w: &mut Writer<'_>)
+    requires { (part < 33) × (w.old.at + 39 ≤ length w.old.out.now) }
+    ensures same_bytes { w.new.out.ghost_name ≡ w.old.out.ghost_name }
+    ensures written { LineWritten names.now.text.now names.now.labels.now part w.old.at w.old.out.now w.new.out.now w.new.at }
 {
     if part < OPENING {
-        return put_all(b"refuted initialisation\n", out, at);
+        return w.put_all(b"refuted initialisation\n");
     }
     let k = (part - OPENING) / OBLIGATIONS;
     if (part - OPENING) % OBLIGATIONS == 0 {
-        let a = put_all(b"refuted applicability ", out, at);
-        let b = put_title(text, labels, k, out, a);
-        return put(out, b, b'\n');
+        w.put_all(b"refuted applicability ");
+        put_title(names, k, w);
+        return w.put(b'\n');
     }
-    let a = put_all(b"refuted correctness ", out, at);
-    let b = put_title(text, labels, k, out, a);
-    put(out, b, b'\n')
+    w.put_all(b"refuted correctness ");
+    put_title(names, k, w);
+    w.put(b'\n');
 }
 
 // The line with the count.
-fn put_count(n: usize, out: &mut [u8], at: usize) -> usize
-    requires { at + 30 ≤ length out.old }
-    ensures { Writes at (count_line n) out.old out.new result }
+fn put_count(n: usize, w: &mut Writer<'_>)
+    requires { w.old.at + 30 ≤ length w.old.out.now }
+    ensures same_bytes { w.new.out.ghost_name ≡ w.old.out.ghost_name }
+    ensures written { Adds (count_line n) w.old w.new }
 {
-    let a = put_all(b"bindings ", out, at);
-    let b = put_decimal(n as u64, out, a);
-    put(out, b, b'\n')
+    w.put_all(b"bindings ");
+    w.put_decimal(n as u64);
+    w.put(b'\n');
 }
 
 // The line of a refusal.
-fn put_refusal(n: u8, p: usize, out: &mut [u8]) -> usize
+fn put_refusal(refusal: Refusal, place: usize, out: &mut [u8]) -> usize
     requires { 53 ≤ length out.old }
-    ensures { Writes 0 (refusal_piece n p) out.old out.new result × (result ≤ 53) }
+    ensures { Writes 0 (refusal_piece (number_of (refusal_is refusal)) place) out.old out.new result × (result ≤ 53) }
 {
-    let a = put_all(b"refused ", out, 0);
-    let b = put_decimal(n as u64, out, a);
-    let c = put_all(b" at ", out, b);
-    let d = put_decimal(p as u64, out, c);
-    put(out, d, b'\n')
+    let mut w = Writer { out, at: 0 };
+    w.put_all(b"refused ");
+    w.put_decimal(u64::from(refusal.number()));
+    w.put_all(b" at ");
+    w.put_decimal(place as u64);
+    w.put(b'\n');
+    w.at
 }
 
 // The lines of a verdict.
-fn put_verdict(
-    text: &[u8],
-    labels: &[u16; LABELS],
-    table: &[u16; NUMBERS],
-    rows: &[u16; NUMBERS],
-    firsts: &[u16; FIRSTS],
-    groups: &[u16; GROUPS],
-    operations: usize,
-    out: &mut [u8; REPORT],
-) -> usize
-    requires { VerdictAsked text.now labels.now table.now rows.now firsts.now groups.now operations }
-    ensures { VerdictWritten text.now labels.now table.now rows.now firsts.now groups.now operations out.old out.new result }
+fn put_verdict(names: &Names<'_>, d: &Dossier<'_>, out: &mut [u8]) -> usize
+    requires room { 19419 ≤ length out.old }
+    requires asked { VerdictAsked names.now.text.now names.now.labels.now d.now.table.now d.now.rows.now d.now.firsts.now d.now.groups.now d.now.operations }
+    ensures { VerdictWritten names.now.text.now names.now.labels.now d.now.table.now d.now.rows.now d.now.firsts.now d.now.groups.now d.now.operations out.old out.new result }
 {
-    let all = total(table, groups, operations);
-    let w = search(table, rows, firsts, groups, operations, 0, all);
-    let n = counted(w.failed, w.at);
-    if w.failed {
-        let f = find(table, groups, operations, w.at);
-        let a = put_refuted(text, labels, f.part, out, 0);
-        let b = put_witness(text, labels, table, groups, f, out, a);
-        return put_count(n, out, b);
-    }
-    let a = put_all(b"accepted\n", out, 0);
-    put_count(n, out, a)
+    let all = total(d);
+    let mut w = Writer { out, at: 0 };
+    let found = search(d, 0, all);
+    let Some(place) = found else {
+        w.put_all(b"accepted\n");
+        put_count(all, &mut w);
+        return w.at;
+    };
+    let f = find(d, place);
+    put_refuted(names, f.part, &mut w);
+    put_witness(names, d, f, &mut w);
+    put_count(place + 1, &mut w);
+    w.at
 }
 
 // The report of a text in front of the lent bytes, and its length. 1,536 KiB of stack are enough for every text, as for the calls (crates/checker).
@@ -137,11 +126,20 @@ pub fn report(text: &[u8], out: &mut [u8; REPORT]) -> usize
         &mut labels,
     );
     match answer {
-        TextRead::Refused(n, p) => put_refusal(n, p, out),
-        TextRead::Read(operations) => {
-            put_verdict(
-                text, &labels, &table, &rows, &firsts, &groups, operations, out,
-            )
+        Err(fault) => put_refusal(fault.refusal, fault.place, out),
+        Ok(operations) => {
+            let names = Names {
+                text,
+                labels: &labels,
+            };
+            let d = Dossier {
+                table: &table,
+                rows: &rows,
+                firsts: &firsts,
+                groups: &groups,
+                operations,
+            };
+            put_verdict(&names, &d, out)
         }
     }
 }
@@ -168,6 +166,16 @@ fn part_of(o: Obligation) -> usize
     }
 }
 
+// The first line of a refuted check, in front of the lent bytes.
+fn put_first_line(names: &Names<'_>, part: usize, out: &mut [u8]) -> usize
+    requires { (part < 33) × (39 ≤ length out.old) }
+    ensures { LineWritten names.now.text.now names.now.labels.now part 0 out.old out.new result }
+{
+    let mut w = Writer { out, at: 0 };
+    put_refuted(names, part, &mut w);
+    w.at
+}
+
 // The first line of the report of a text that is refuted with an obligation.
 pub fn refuted_line(text: &[u8], o: Obligation, out: &mut [u8; FIRST_LINE]) -> usize
     ensures { RefutedLine text.now o out.old out.new result }
@@ -186,13 +194,17 @@ pub fn refuted_line(text: &[u8], o: Obligation, out: &mut [u8; FIRST_LINE]) -> u
         &mut labels,
     );
     match answer {
-        TextRead::Refused(_, _) => 0,
-        TextRead::Read(_) => {
+        Err(_) => 0,
+        Ok(_) => {
             let part = part_of(o);
             if part >= PARTS {
                 return 0;
             }
-            put_refuted(text, &labels, part, out, 0)
+            let names = Names {
+                text,
+                labels: &labels,
+            };
+            put_first_line(&names, part, out)
         }
     }
 }

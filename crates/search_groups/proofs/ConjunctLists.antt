@@ -3,25 +3,25 @@ use mathlib.Core.Path.{◌≡◌, refl, sym, ap, ◌∙◌, subst}
 use mathlib.Core.List.{List, [], ◌∷◌, ◌++◌, append_assoc, append-nil}
 use Prim.Native.Nat.{ℕ, suc, ◌+◌, ◌*◌, ◌≤◌, ◌<◌}
 use native.Mathlib.Omega.{arith}
-use lib.ListN.{length, set, length-set, length-append}
+use lib.ListN.{length, set, length-append}
 use Rattle.table_places.specs.StaticRulesScope.{contexts}
 use Rattle.node_spans.specs.Spans.{Stands, span}
 use Rattle.table_nodes.specs.TableWalkPromises.{patch}
 use Rattle.table_places.specs.DossierTable.{slots_of, starts_of}
 use Rattle.search_groups.specs.Conjuncts.{context_rows, context_firsts}
-use Rattle.search_groups.specs.GroupPromises.{Conjoin, Conjoined, Wrote, place_of, RowsAt, no_rows, more_rows, ContextPut, ContextsAhead, ListPut, Standing, Listed}
+use Rattle.search_groups.specs.GroupPromises.{Conjoin, Conjoined, Wrote, place_of, RowsAt, no_rows, more_rows, Marked, ContextPut, ContextsAhead, ListPut, Standing, Listed}
 use Rattle.table_nodes.proofs.Pieces.{patch-length, patch-behind}
 use Rattle.search_groups.proofs.GroupPlaces.{patch-none, patch-more}
 use Rattle.search_groups.proofs.ConjunctContexts.{twice, twice-is, starts_by, starts_are, dossier-rows}
 
 -- one context
-pub context-put : {table spans : List ℕ} {j n k v from end r : ℕ} {out after firsts : List ℕ} → (n ≤ 65535 → v ≡ n) → from ≡ span spans j → end ≡ span spans (j + 1)
-    → end < 65536 → Conjoined table (from + 4) end n out after r → length out ≤ 65535 → ContextPut table spans j n k out after firsts (set firsts k v) r
-context-put {table} {spans} {j} {n} {k} {v} {from} {end} {r} {out} {after} {firsts} m e f l c o =
+pub context-put : {table spans : List ℕ} {j n k from end r : ℕ} {out after firsts marked : List ℕ} → Marked k n firsts marked → from ≡ span spans j → end ≡ span spans (j + 1)
+    → end < 65536 → Conjoined table (from + 4) end n out after r → length out ≤ 65535 → ContextPut table spans j n k out after firsts marked r
+context-put {table} {spans} {j} {n} {k} {from} {end} {r} {out} {after} {firsts} {marked} m e f l c o =
     record {
       long = c.long;
-      firsts_long = length-set firsts k v;
-      marks = λ h. ap (set firsts k) (m h);
+      firsts_long = m.long;
+      marks = m.marks;
       right =
           λ codes rows p s h.
           let p₂ : Conjoin (from + 4) codes rows = subst (λ (x : ℕ). Conjoin (x + 4) codes rows) (sym e) p in
@@ -91,20 +91,20 @@ ahead-next {table} {spans} {j} {k} {n} {count} {r} {rows} {fs} {out} {now} {afte
           marks = g ∙ ap (λ (i : List ℕ). set i k n) x.marks ∙ patch-more 0 k n x.before firsts (omega arith) q;
         }
 
-pub ahead-done : {table spans : List ℕ} {k n v count : ℕ} {rows fs out after firsts marks : List ℕ} → ContextsAhead table spans k n count rows fs out after firsts marks
-    → (n ≤ 65535 → v ≡ n) → count ≤ k → length rows ≤ 65535 → k < length firsts → (after ≡ patch 0 rows out) × (set marks k v ≡ patch 0 fs firsts)
-ahead-done {table} {spans} {k} {n} {v} {count} {rows} {fs} {out} {after} {firsts} {marks} x m h l q =
+pub ahead-done : {table spans : List ℕ} {k n count : ℕ} {rows fs out after firsts marks marked : List ℕ} → ContextsAhead table spans k n count rows fs out after firsts marks
+    → Marked count n marks marked → count ≡ k → length rows ≤ 65535 → k < length firsts → (after ≡ patch 0 rows out) × (marked ≡ patch 0 fs firsts)
+ahead-done {table} {spans} {k} {n} {count} {rows} {fs} {out} {after} {firsts} {marks} {marked} x m h l q =
     go x.left x.more x.others x.rest x.whole x.firsts_whole x.sum
   where
     go : (m : ℕ) (more others : List ℕ) → RowsAt table spans k m n more others → rows ≡ x.front ++ more → fs ≡ x.before ++ others → count ≡ k + m
-        → (after ≡ patch 0 rows out) × (set marks k v ≡ patch 0 fs firsts)
+        → (after ≡ patch 0 rows out) × (marked ≡ patch 0 fs firsts)
     go _ _ _ no_rows w f s =
         let e : x.front ≡ rows = sym (w ∙ append-nil x.front) in
         let le = ap length e in
         let pl = x.place in
         let nb = x.number in (
           x.written ∙ ap (λ (i : List ℕ). patch 0 i out) e,
-          ap (set marks k) (m (omega arith)) ∙ ap (λ (i : List ℕ). set i k n) x.marks ∙ patch-more 0 k n x.before firsts (omega arith) q
+          m.marks (omega arith) ∙ ap (λ (i : ℕ). set marks i n) h ∙ ap (λ (i : List ℕ). set i k n) x.marks ∙ patch-more 0 k n x.before firsts (omega arith) q
               ∙ ap (λ (i : List ℕ). patch 0 i firsts) (sym f),
         )
     go _ _ _ (more_rows a b c d t) w f s = absurd (omega arith)

@@ -109,21 +109,17 @@ noted-none k a l h =
     one : (base n v : ℕ) → v ≡ max v (last_in base n (slot_here k a))
     one base n v = sym (max-zero v) ∙ ap (max v) (no_slot k a base n h)
 
-pub lasts-start : (whole : List ℕ)
-    → LastsAhead whole whole (record { abstracts = 0; concretes = 0; inputs = 0; outputs = 0; cprimed = 0; aprimed = 0 })
-lasts-start whole =
-    record {
-      abstracts = zero-max _;
-      concretes = zero-max _;
-      inputs = zero-max _;
-      outputs = zero-max _;
-      cprimed = zero-max _;
-      aprimed = zero-max _;
-    }
+pub lasts-start : (t : List ℕ) (i from end : ℕ) → i ≡ from
+    → LastsAhead (slots_at (piece t i end)) (slots_at (piece t from end)) (record { abstracts = 0; concretes = 0; inputs = 0; outputs = 0; cprimed = 0; aprimed = 0 })
+lasts-start t i from end e =
+    record { abstracts = one 0 8; concretes = one 8 8; inputs = one 16 3; outputs = one 19 3; cprimed = one 22 8; aprimed = one 30 8 }
+  where
+    one : (base n : ℕ) → max 0 (last_in base n (slots_at (piece t i end))) ≡ last_in base n (slots_at (piece t from end))
+    one base n = zero-max _ ∙ ap (λ (j : ℕ). last_in base n (slots_at (piece t j end))) e
 
-pub lasts-step : (t : List ℕ) (i end : ℕ) (whole : List ℕ) (l r : Mentioned) → Noted (get_or t (i + 3) 0) (get_or t (i + 1) 0) l r
-    → LastsAhead (slots_at (piece t i end)) whole l → i + 4 ≤ end → end ≤ length t → LastsAhead (slots_at (piece t (i + 4) end)) whole r
-lasts-step t i end whole l r m g h k =
+pub lasts-step : (t : List ℕ) (i j end : ℕ) (whole : List ℕ) (l r : Mentioned) → Noted (get_or t (i + 3) 0) (get_or t (i + 1) 0) l r
+    → LastsAhead (slots_at (piece t i end)) whole l → j ≡ i + 4 → i + 4 ≤ end → end ≤ length t → LastsAhead (slots_at (piece t j end)) whole r
+lasts-step t i j end whole l r m g q h k =
     record {
       abstracts = one 0 8 l.abstracts r.abstracts m.abstracts g.abstracts;
       concretes = one 8 8 l.concretes r.concretes m.concretes g.concretes;
@@ -134,8 +130,8 @@ lasts-step t i end whole l r m g h k =
     }
   where
     one : (base n v w : ℕ) → w ≡ max v (last_in base n (slot_here (get_or t (i + 3) 0) (get_or t (i + 1) 0)))
-        → max v (last_in base n (slots_at (piece t i end))) ≡ last_in base n whole → max w (last_in base n (slots_at (piece t (i + 4) end))) ≡ last_in base n whole
-    one base n v w e f = scan_step t i end base n v _ w _ refl e f h k
+        → max v (last_in base n (slots_at (piece t i end))) ≡ last_in base n whole → max w (last_in base n (slots_at (piece t j end))) ≡ last_in base n whole
+    one base n v w e f = ap (λ (x : ℕ). max w (last_in base n (slots_at (piece t x end)))) q ∙ scan_step t i end base n v _ w _ refl e f h k
 
 pub lasts-done : (t : List ℕ) (i end : ℕ) (whole : List ℕ) (l : Mentioned) → LastsAhead (slots_at (piece t i end)) whole l → end < i + 4 → end ≤ length t → LastsOf whole l
 lasts-done t i end whole l g h k =

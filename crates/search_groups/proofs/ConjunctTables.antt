@@ -5,6 +5,7 @@ use Prim.Native.Nat.{ℕ, ◌+◌, ◌-◌, ◌≤◌, ◌<◌}
 use native.Mathlib.Omega.{arith}
 use lib.ListN.{length, take, drop, get_or, length-append, length-drop}
 use lib.Seq.{length-take-le, take-take, take-append_seam, take-add, drop_at, drop-drop, get_or-append-add, get_or-take, get_or-drop}
+use Rattle.std.proofs.Common.{Option, Some, None}
 use Rattle.form.specs.Codes.{node}
 use Rattle.node_spans.specs.Spans.{Stands}
 use Rattle.table_nodes.specs.TableWalkPromises.{patch}
@@ -92,22 +93,29 @@ last-of-two {t} {from} {end} x y k i a b s =
 
 -- no `and` is here, or the first part ends at m
 pub middle-none : (t : List ℕ) (from end : ℕ)
-    → ((n m : ℕ) → Last t from end n 18 (from + m) 51 → m ≤ n → ⊥) → Middle t from end end
+    → ((n m : ℕ) → Last t from end n 18 (from + m) 51 → m ≤ n → ⊥) → Middle t from end None
 middle-none t from end h =
     record {
-      within = λ l. absurd (omega arith);
-      none = λ front k i a b s n. omega arith;
+      within = tt;
+      none = λ front k i a b s n. refl;
       found = λ x y s. absurd (h (length x + length y) (length x) (last-of-two x y 18 (from + length x) 51 0 s) (omega arith));
     }
 
 pub middle-found : (t : List ℕ) (from end m : ℕ) → get_or t (end - 1) 0 ≡ 18 → get_or t (end - 3) 0 ≡ 51 → m ≡ get_or t (end - 2) 0 → from ≤ m → m + 4 ≤ end
-    → Middle t from end m
+    → Middle t from end (Some m)
 middle-found t from end m e f g h l =
     record {
-      within = λ z. (h, l);
+      within = (h, l);
       none = λ front k i a b s n. let w = last-node front k i a b s in absurd (n (sym w.shape ∙ e) (sym w.first ∙ f));
-      found = λ x y s. g ∙ (last-of-two x y 18 (from + length x) 51 0 s).place;
+      found = λ x y s. ap (λ (i : ℕ). Some i) (g ∙ (last-of-two x y 18 (from + length x) 51 0 s).place);
     }
+
+-- what was found is inside
+pub middle-some : {t : List ℕ} {from end m : ℕ} {r : Option ℕ} → Middle t from end r → r ≡ Some m → Middle t from end (Some m)
+middle-some {t} {from} {end} w e = subst (λ (o : Option ℕ). Middle t from end o) e w
+
+pub middle-within : {t : List ℕ} {from end m : ℕ} {r : Option ℕ} → Middle t from end r → r ≡ Some m → (from ≤ m) × (m + 4 ≤ end)
+middle-within w e = (middle-some w e).within
 
 -- the rows of the two parts, one behind the other
 wrote-both : (n k r : ℕ) (u v out mid after : List ℕ) → Wrote n u out mid k → Wrote k v mid after r → n + length (u ++ v) ≤ length out → Wrote n (u ++ v) out after r
@@ -120,15 +128,16 @@ wrote-both n k r u v out mid after p q h =
       behind = omega arith;
     }
 
-pub conjoined-both : {t : List ℕ} {from end m n k r : ℕ} {out mid after : List ℕ} → Middle t from end m → m < end
+pub conjoined-both : {t : List ℕ} {from end m n k r : ℕ} {out mid after : List ℕ} → Middle t from end (Some m)
     → Conjoined t from m n out mid k → Conjoined t m (end - 4) k mid after r → Conjoined t from end n out after r
-conjoined-both {t} {from} {end} {m} {n} {k} {r} {out} {mid} {after} w l p q =
+conjoined-both {t} {from} {end} {m} {n} {k} {r} {out} {mid} {after} w p q =
     record { long = q.long ∙ p.long; right = λ codes rows c s g o h. go codes rows c s g o h }
   where
     go : (codes rows : List ℕ) → Conjoin from codes rows → Stands t from end codes → end ≤ 65535 → length out ≤ 65535 → n + length rows ≤ length out → Wrote n rows out after r
-    go _ _ (alone front x i a b z₀) s g g₂ h = absurd (let e = w.none front x i a b s z₀ in omega arith)
+    go _ _ (alone front x i a b z₀) s g g₂ h = absurd (let e : ◌≡◌ {A = Option ℕ} (Some m) None = w.none front x i a b s z₀ in cc)
     go _ _ (both {x = x} {y = y} {u = u} {v = v} c d) s g g₂ h =
-        let e : m ≡ from + length x = w.found x y s in
+        let e₀ : ◌≡◌ {A = Option ℕ} (Some m) (Some (from + length x)) = w.found x y s in
+        let e : m ≡ from + length x = cc in
         let z : List ℕ = node 18 (from + length x) 51 0 in
         let f : Last t from end (length x + length y) 18 (from + length x) 51 = last-of-two x y 18 (from + length x) 51 0 s in
         let o = f.long in
@@ -140,14 +149,15 @@ conjoined-both {t} {from} {end} {m} {n} {k} {r} {out} {mid} {after} w l p q =
         q.right y v (subst (λ (j : ℕ). Conjoin j y v) (sym e) d) (stands-left y z (end - 4) (stands-right x (y ++ z) m s e) (omega arith)) (omega arith) (omega arith) (omega arith) in
         wrote-both n k r u v out mid after a b h
 
--- the row of one conjunct, in two halves
-pub row-halves : (t : List ℕ) (from end n : ℕ) (out mid after : List ℕ) (f e a b c d g h : ℕ) → (s : List ℕ) → f ≡ from → e ≡ end → a ≡ last_in 0 8 s → b ≡ last_in 8 8 s
-    → c ≡ last_in 16 3 s → d ≡ last_in 19 3 s → g ≡ last_in 22 8 s → h ≡ last_in 30 8 s → mid ≡ patch n (node b a e f) out → after ≡ patch (n + 4) (node h g d c) mid
-    → n + 8 ≤ length out → after ≡ patch n (conjunct_row from end s) out
+-- the row of one conjunct, by its numbers
+pub row-is : (from end a b c d g h : ℕ) (s : List ℕ) → a ≡ last_in 0 8 s → b ≡ last_in 8 8 s → c ≡ last_in 16 3 s → d ≡ last_in 19 3 s → g ≡ last_in 22 8 s
+    → h ≡ last_in 30 8 s → ◌≡◌ {A = List ℕ} (from ∷ end ∷ a ∷ b ∷ c ∷ d ∷ g ∷ h ∷ []) (conjunct_row from end s)
 unfolding conjunct_row
-row-halves t from end n out mid after f e a b c d g h s p₁ p₂ p₃ p₄ p₅ p₆ p₇ p₈ x y l =
-    y ∙ ap (patch (n + 4) (node h g d c)) x ∙ patch-behind n (n + 4) (node b a e f) (node h g d c) out refl (omega arith)
-    ∙ ap (λ (z : List ℕ). patch n z out) (λ i. p₁ i ∷ p₂ i ∷ p₃ i ∷ p₄ i ∷ p₅ i ∷ p₆ i ∷ p₇ i ∷ p₈ i ∷ [])
+row-is from end a b c d g h s p₃ p₄ p₅ p₆ p₇ p₈ = λ i. from ∷ end ∷ p₃ i ∷ p₄ i ∷ p₅ i ∷ p₆ i ∷ p₇ i ∷ p₈ i ∷ []
+
+pub row-long : (from end : ℕ) (s : List ℕ) → length (conjunct_row from end s) ≡ 8
+unfolding conjunct_row
+row-long from end s = refl
 
 pub row_put : (t : List ℕ) (from end n : ℕ) (out after : List ℕ) → after ≡ patch n (conjunct_row from end (slots_at (piece t from end))) out → n + 8 ≤ length out
     → RowPut t from end n out after (n + 8)
@@ -162,16 +172,14 @@ pub row-none : (t : List ℕ) (from end n : ℕ) (out : List ℕ) → (from ≤ 
     → RowPut t from end n out out n
 row-none t from end n out h = record { long = refl; right = λ a b c d e. absurd (h a b c d e) }
 
-pub conjoined-one : {t : List ℕ} {from end m n r : ℕ} {out after : List ℕ} → Middle t from end m → end ≤ m → RowPut t from end n out after r → Conjoined t from end n out after r
+pub conjoined-one : {t : List ℕ} {from end n r : ℕ} {out after : List ℕ} → Middle t from end None → RowPut t from end n out after r → Conjoined t from end n out after r
 unfolding conjunct_row
-conjoined-one {t} {from} {end} {m} {n} {r} {out} {after} w l p =
+conjoined-one {t} {from} {end} {n} {r} {out} {after} w p =
     record { long = p.long; right = λ codes rows c s g o h. go codes rows c s g o h }
   where
     go : (codes rows : List ℕ) → Conjoin from codes rows → Stands t from end codes → end ≤ 65535 → length out ≤ 65535 → n + length rows ≤ length out → Wrote n rows out after r
     go _ _ (both {x = x} {y = y} c d) s g g₂ h =
-        let f = (last-of-two x y 18 (from + length x) 51 0 s).long in
-        let e = w.found x y s in
-        absurd (omega arith)
+        let e : ◌≡◌ {A = Option ℕ} None (Some (from + length x)) = w.found x y s in absurd (cc)
     go _ _ (alone front x i a b z₀) s g g₂ h =
         let z : List ℕ = front ++ node x i a b in
         subst (λ (rows : List ℕ). Wrote n rows out after r) (ap₂ (λ (e : ℕ) (y : List ℕ). conjunct_row from e (slots_at y)) (stands-length s) s.stands)

@@ -3,7 +3,7 @@ use mathlib.Core.Path.{◌≡◌, refl, sym, ap, ◌∙◌, subst}
 use mathlib.Core.List.{List, [], ◌∷◌, ◌++◌, append_assoc, append-nil}
 use Prim.Native.Nat.{ℕ, suc, ◌+◌, ◌-◌, ◌%◌, ◌≤◌, ◌<◌}
 use native.Mathlib.Omega.{arith}
-use lib.ListN.{length, take, drop, get_or, set, replicate, length-set, length-append, length-replicate, take-append-drop, replicate-append-replicate}
+use lib.ListN.{length, take, drop, get_or, set, replicate, length-set, length-append, length-replicate, take-append-drop}
 use lib.Seq.{set_split}
 use Rattle.node_spans.specs.Spans.{Stands, span}
 use Rattle.table_nodes.specs.TableWalkPromises.{patch}
@@ -28,20 +28,6 @@ patch-more n m v x out e h =
     let l = patch-length n x out (omega arith) in
     patch-set m v (patch n x out) (omega arith) ∙ patch-behind n m x (v ∷ []) out e (omega arith)
 
--- zeros
-pub zeros-first : (from : ℕ) (out : List ℕ) → out ≡ patch from (replicate (from - from) 0) out
-zeros-first from out =
-    let e : from - from ≡ 0 = omega arith in
-    sym (patch-none from out) ∙ ap (λ (k : ℕ). patch from (replicate k 0) out) (sym e)
-
-pub zeros-next : (from i : ℕ) (out now : List ℕ) → now ≡ patch from (replicate (i - from) 0) out → from ≤ i → i < length out
-    → set now i 0 ≡ patch from (replicate (i + 1 - from) 0) out
-zeros-next from i out now e h l =
-    let n = length-replicate {A = ℕ} (i - from) 0 in
-    let k : i - from + 1 ≡ i + 1 - from = omega arith in
-    ap (λ (x : List ℕ). set x i 0) e ∙ patch-more from i 0 (replicate (i - from) 0) out (omega arith) l
-    ∙ ap (λ (x : List ℕ). patch from x out) (replicate-append-replicate (i - from) 1 0 ∙ ap (λ (j : ℕ). replicate j 0) k)
-
 -- behind c picked ones: all come of those written and of those still to be read
 pub record Left (nodes : List ℕ) (to e at n : ℕ) (qs out after : List ℕ) (c : ℕ) : Type 0 where
   pub codes : List ℕ
@@ -53,13 +39,15 @@ pub record Left (nodes : List ℕ) (to e at n : ℕ) (qs out after : List ℕ) (
   pub count : c ≡ length front
   pub written : after ≡ patch n front out
 
-pub left-first : (nodes : List ℕ) (to e from n : ℕ) (codes qs out : List ℕ) → Stands nodes from to codes → Picks e from codes qs → Left nodes to e from n qs out out 0
-left-first nodes to e from n codes qs out s p =
-    record { codes = codes; more = qs; front = []; stand = s; picks = p; whole = refl; count = refl; written = sym (patch-none n out) }
+pub left-first : (nodes : List ℕ) (to e from at n : ℕ) (codes qs out : List ℕ) → at ≡ from → Stands nodes from to codes → Picks e from codes qs → Left nodes to e at n qs out out 0
+left-first nodes to e from at n codes qs out a s p =
+    subst (λ (i : ℕ). Left nodes to e i n qs out out 0) (sym a)
+    (record { codes = codes; more = qs; front = []; stand = s; picks = p; whole = refl; count = refl; written = sym (patch-none n out) })
 
-pub left-next : {nodes : List ℕ} {to e at n c r width : ℕ} {qs out now after : List ℕ} → Left nodes to e at n qs out now c → Picked nodes at e width c n now after r
-    → at + 8 ≤ to → length qs ≤ width → n + width ≤ length out → Left nodes to e (at + 8) n qs out after r
-left-next {nodes} {to} {e} {at} {n} {c} {r} {width} {qs} {out} {now} {after} x p h l m = go x.codes x.more x.stand x.whole x.picks
+pub left-next : {nodes : List ℕ} {to e at next n c r width : ℕ} {qs out now after : List ℕ} → Left nodes to e at n qs out now c → Picked nodes at e width c n now after r
+    → next ≡ at + 8 → at + 8 ≤ to → length qs ≤ width → n + width ≤ length out → Left nodes to e next n qs out after r
+left-next {nodes} {to} {e} {at} {next} {n} {c} {r} {width} {qs} {out} {now} {after} x p f h l m =
+    subst (λ (i : ℕ). Left nodes to e i n qs out after r) (sym f) (go x.codes x.more x.stand x.whole x.picks)
   where
     go : (codes more : List ℕ) → Stands nodes at to codes → qs ≡ x.front ++ more → Picks e at codes more → Left nodes to e (at + 8) n qs out after r
     go _ _ s w no_pick = absurd (let z = stands-length s in omega arith)
@@ -147,6 +135,3 @@ operation-put {nodes} {spans} {j} {n} {from} {to} {out} {mid} {after} e f p q h 
           let l = row-length 3 ins g in
           b ∙ ap (patch (n + 4) (row 3 outs)) a ∙ patch-behind n (n + 4) (row 3 ins) (row 3 outs) out (omega arith) (omega arith);
     }
-
-pub zeros-done : (from i to : ℕ) (out now : List ℕ) → now ≡ patch from (replicate (i - from) 0) out → i ≤ to → to ≤ i → now ≡ patch from (replicate (to - from) 0) out
-zeros-done from i to out now e h l = let k : i ≡ to = omega arith in e ∙ ap (λ (j : ℕ). patch from (replicate (j - from) 0) out) k

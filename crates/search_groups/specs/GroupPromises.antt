@@ -1,5 +1,5 @@
 -- What the functions promise that list the conjuncts and the groups of variables. Nothing here need be believed.
-use Rattle.std.specs.Prelude.{◌≡◌, cond, List, [], ◌∷◌, ◌++◌, ℕ, suc, ◌+◌, ◌-◌, ◌*◌, ◌/◌, ◌%◌, ◌≤◌, ◌<◌, max, eqb, ltb, length, take, drop, get_or, set}
+use Rattle.std.specs.Prelude.{◌≡◌, cond, List, [], ◌∷◌, ◌++◌, ℕ, suc, ◌+◌, ◌-◌, ◌*◌, ◌/◌, ◌%◌, ◌≤◌, ◌<◌, max, eqb, ltb, length, take, drop, get_or, set, Option, Some, None, IfSome}
 use Rattle.lexical.specs.Lists.{filter}
 use Rattle.form.specs.Tree.{declarations, Parameter, Operation, Dossier}
 use Rattle.form.specs.Codes.{Numbering, node}
@@ -51,11 +51,11 @@ pub data Conjoin : (q : ℕ) → (codes rows : List ℕ) → Type 0 where
       → Conjoin q (front ++ node k i a b) (conjunct_row q (q + length (front ++ node k i a b)) (slots_at (front ++ node k i a b)))
   both : {q : ℕ} {x y u v : List ℕ} → Conjoin q x u → Conjoin (q + length x) y v → Conjoin q (x ++ (y ++ node 18 (q + length x) 51 0)) (u ++ v)
 
--- where the left part of an `and` ends; `end` where there is none
-pub record Middle (table : List ℕ) (from end r : ℕ) : Type 0 where
-  pub within : r < end → (from ≤ r) × (r + 4 ≤ end)
-  pub none : (front : List ℕ) (k i a b : ℕ) → Stands table from end (front ++ node k i a b) → (k ≡ 18 → a ≡ 51 → ⊥) → end ≤ r
-  pub found : (x y : List ℕ) → Stands table from end (x ++ (y ++ node 18 (from + length x) 51 0)) → r ≡ from + length x
+-- where the left part of an `and` ends; none where the last node is no `and`
+pub record Middle (table : List ℕ) (from end : ℕ) (r : Option ℕ) : Type 0 where
+  pub within : IfSome r (λ (m : ℕ). (from ≤ m) × (m + 4 ≤ end))
+  pub none : (front : List ℕ) (k i a b : ℕ) → Stands table from end (front ++ node k i a b) → (k ≡ 18 → a ≡ 51 → ⊥) → r ≡ None
+  pub found : (x y : List ℕ) → Stands table from end (x ++ (y ++ node 18 (from + length x) 51 0)) → r ≡ Some (from + length x)
 
 -- the rows are written from n on, and r is the place behind them
 pub record Wrote (n : ℕ) (rows out after : List ℕ) (r : ℕ) : Type 0 where
@@ -153,6 +153,11 @@ pub data RowsAt (table spans : List ℕ) : (k m n : ℕ) → (rows firsts : List
   no_rows : {k n : ℕ} → RowsAt table spans k 0 n [] (n ∷ [])
   more_rows : {k m n from end : ℕ} {codes u v fs : List ℕ} → from ≡ span spans (place_of k) + 4 → end ≡ span spans (place_of k + 1) → Conjoin from codes u
       → Stands table from end codes → RowsAt table spans (suc k) m (n + length u) v fs → RowsAt table spans k (suc m) n (u ++ v) (n ∷ fs)
+
+-- how many numbers stand before a context's rows
+pub record Marked (k n : ℕ) (firsts marked : List ℕ) : Type 0 where
+  pub long : length marked ≡ length firsts
+  pub marks : n ≤ 65535 → marked ≡ set firsts k n
 
 pub record ContextPut (table spans : List ℕ) (j n k : ℕ) (out after firsts marked : List ℕ) (r : ℕ) : Type 0 where
   pub long : length after ≡ length out

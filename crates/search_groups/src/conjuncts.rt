@@ -1,14 +1,13 @@
 // The conjuncts of each predicate, read off the table: where each one's nodes are, and the last variable of every group that it mentions.
-ghost use Rattle.std.specs.Prelude.{◌≡◌, ◌+◌, ◌≤◌, ◌<◌, max, length};
-ghost use Rattle.form.specs.Codes.{node};
+ghost use Rattle.std.specs.Prelude.{◌≡◌, ◌+◌, ◌≤◌, ◌<◌, length};
 ghost use Rattle.table_nodes.specs.TableWalkPromises.{patch};
 ghost use Rattle.search_groups.specs.Conjuncts.{last_in, conjunct_row};
-ghost use Rattle.search_groups.specs.GroupPromises.{slot_here, slots_at, piece, Noted, LastsOf, Middle, RowPut, Conjoined};
+ghost use Rattle.search_groups.specs.GroupPromises.{slot_here, slots_at, piece, Noted, LastsOf, Middle, RowPut, Conjoined, Marked};
 ghost use Rattle.search_groups.specs.GroupPromises.{Place, ContextPut, ListPut, Listed};
 
 use form::node;
 use lexical::{bounds, codes};
-use node_spans::{LARGEST, short, span};
+use node_spans::{LARGEST, span};
 use table_nodes::{slots, table_shapes};
 use type_rules::kinds::index;
 
@@ -19,10 +18,8 @@ const INPUTS: u16 = bounds::INPUTS as u16;
 
 const OUTPUTS: u16 = bounds::OUTPUTS as u16;
 
-// The row of a conjunct, and its first half: where its nodes begin and end, and the last variables of the first two groups.
+// The row of a conjunct: where its nodes begin and end, and the last variable of each group.
 pub const ROW: usize = 8;
-
-const HALF_ROW: usize = 4;
 
 // How far before its end a node's numbers stand; the code of `and`.
 const SHAPE_BACK: usize = 1;
@@ -43,16 +40,8 @@ const PARAMETERS_LAST: usize = span::OPERATIONS + span::LAST;
 // A number for each predicate and one behind them, with room to spare.
 pub const FIRSTS: usize = 40;
 
-fn larger(a: u16, b: u16) -> u16
-    ensures { result ≡ max a b }
-{
-    if a < b {
-        return b;
-    }
-    a
-}
-
 // The place in the group of n slots from `base` on of the slot that a node has, from 1; 0 where it has none of them.
+// A number and no Option: rows have it so, and `max` with 0 leaves what was found before.
 fn rank(k: u16, a: u16, base: u16, n: u16) -> u16
     requires { base + n ≤ 64 }
     ensures { result ≡ last_in base n (slot_here k a) }
@@ -88,12 +77,12 @@ fn noted(l: Mentioned, k: u16, a: u16) -> Mentioned
         return l;
     }
     Mentioned {
-        abstracts: larger(l.abstracts, rank(k, a, slots::ABSTRACT, VARIABLES)),
-        concretes: larger(l.concretes, rank(k, a, slots::CONCRETE, VARIABLES)),
-        inputs: larger(l.inputs, rank(k, a, slots::INPUTS, INPUTS)),
-        outputs: larger(l.outputs, rank(k, a, slots::OUTPUTS, OUTPUTS)),
-        cprimed: larger(l.cprimed, rank(k, a, slots::CONCRETE_PRIMED, VARIABLES)),
-        aprimed: larger(l.aprimed, rank(k, a, slots::ABSTRACT_PRIMED, VARIABLES)),
+        abstracts: l.abstracts.max(rank(k, a, slots::ABSTRACT, VARIABLES)),
+        concretes: l.concretes.max(rank(k, a, slots::CONCRETE, VARIABLES)),
+        inputs: l.inputs.max(rank(k, a, slots::INPUTS, INPUTS)),
+        outputs: l.outputs.max(rank(k, a, slots::OUTPUTS, OUTPUTS)),
+        cprimed: l.cprimed.max(rank(k, a, slots::CONCRETE_PRIMED, VARIABLES)),
+        aprimed: l.aprimed.max(rank(k, a, slots::ABSTRACT_PRIMED, VARIABLES)),
     }
 }
 
@@ -110,23 +99,11 @@ fn lasts(table: &[u16], from: usize, end: usize) -> Mentioned
         cprimed: 0,
         aprimed: 0,
     };
-    let mut i = from;
-    while i + node::SIZE <= end {
-        best = noted(best, table[i + node::SHAPE], table[i + node::A]);
-        i += node::SIZE;
+    for k in 0..(end - from) / node::SIZE {
+        let at = from + node::SIZE * k;
+        best = noted(best, table[at + node::SHAPE], table[at + node::A]);
     }
     best
-}
-
-// Four numbers, from the place `at` on.
-fn four(out: &mut [u16], at: usize, b: u16, a: u16, i: u16, k: u16)
-    requires { (at + 4 ≤ length out.old) × (length out.old ≤ 65535) }
-    ensures { out.new ≡ patch at (node k i a b) out.old }
-{
-    out[at] = b;
-    out[at + 1] = a;
-    out[at + 2] = i;
-    out[at + 3] = k;
 }
 
 // The row of one conjunct.
@@ -135,8 +112,16 @@ fn write(table: &[u16], from: usize, end: usize, out: &mut [u16], n: usize)
     ensures { out.new ≡ patch n (conjunct_row from end (slots_at (piece table.now from end))) out.old }
 {
     let l = lasts(table, from, end);
-    four(out, n, from as u16, end as u16, l.abstracts, l.concretes);
-    four(out, n + HALF_ROW, l.inputs, l.outputs, l.cprimed, l.aprimed);
+    out[n..n + ROW].copy_from_slice(&[
+        from as u16,
+        end as u16,
+        l.abstracts,
+        l.concretes,
+        l.inputs,
+        l.outputs,
+        l.cprimed,
+        l.aprimed,
+    ]);
 }
 
 // The same where there is room for it: the place behind it.
@@ -165,38 +150,37 @@ fn row(table: &[u16], from: usize, end: usize, out: &mut [u16], n: usize) -> usi
     n + ROW
 }
 
-// Where the left part of an `and` ends; `end` where the last node is none.
-fn middle(table: &[u16], from: usize, end: usize) -> usize
+// Where the left part of an `and` ends; none where the last node is no `and`.
+fn middle(table: &[u16], from: usize, end: usize) -> Option<usize>
     ensures { Middle table.now from end result }
 {
     if table.len() < end {
-        return end;
+        return None;
     }
     if end < node::SIZE {
-        return end;
+        return None;
     }
     if table[end - SHAPE_BACK] != table_shapes::CONNECTED {
-        return end;
+        return None;
     }
     if table[end - A_BACK] != AND {
-        return end;
+        return None;
     }
     let m = index(table[end - PLACE_BACK]);
     if m < from {
-        return end;
+        return None;
     }
     if end - node::SIZE < m {
-        return end;
+        return None;
     }
-    m
+    Some(m)
 }
 
 // The rows of the conjuncts of the predicate whose nodes stand between two places, from n on: the place behind them.
 fn conjoin(table: &[u16], from: usize, end: usize, out: &mut [u16], n: usize) -> usize
     ensures { Conjoined table.now from end n out.old out.new result }
 {
-    let m = middle(table, from, end);
-    if m < end {
+    if let Some(m) = middle(table, from, end) {
         let k = conjoin(table, from, m, out, n);
         return conjoin(table, m, end - node::SIZE, out, k);
     }
@@ -217,46 +201,48 @@ fn place(k: usize) -> usize
     PARAMETERS_LAST + span::OPERATION * ((k - CONDITIONS) / SIDES) + (k - CONDITIONS) % SIDES
 }
 
+// How many numbers stand before a predicate's rows. In the lent array 0 stands for what is no number of 16 bits: the rows of a dossier are never as many.
+fn mark(firsts: &mut [u16], k: usize, n: usize)
+    requires { k < length firsts.old }
+    ensures { Marked k n firsts.old firsts.new }
+{
+    firsts[k] = u16::try_from(n).unwrap_or(0);
+}
+
 // One context: how many numbers stand before its rows, and then these.
 fn context(
     table: &[u16],
-    spans: &[u16],
+    spans: &[u16; span::COUNT],
     j: usize,
-    out: &mut [u16],
+    out: &mut [u16; node::NUMBERS],
     n: usize,
-    firsts: &mut [u16],
+    firsts: &mut [u16; FIRSTS],
     k: usize,
 ) -> usize
-    requires { (j + 2 ≤ 80) × (length spans.now ≡ 80) × (length out.old ≡ 16384) × (k < 40) × (length firsts.old ≡ 40) }
+    requires { (j + 2 ≤ 80) × (k < 40) }
     ensures { ContextPut table.now spans.now j n k out.old out.new firsts.old firsts.new result }
 {
-    firsts[k] = short(n);
+    mark(firsts, k, n);
     let from = index(spans[j]);
     let end = index(spans[j + 1]);
     conjoin(table, from + node::SIZE, end, out, n)
 }
 
-fn contexts(table: &[u16], spans: &[u16], count: usize, out: &mut [u16], firsts: &mut [u16])
-    requires { (count ≤ 37) × (length spans.now ≡ 80) × (length out.old ≡ 16384) × (length firsts.old ≡ 40) }
+fn contexts(
+    table: &[u16],
+    spans: &[u16; span::COUNT],
+    count: usize,
+    out: &mut [u16; node::NUMBERS],
+    firsts: &mut [u16; FIRSTS],
+)
+    requires { count ≤ 37 }
     ensures { ListPut table.now spans.now count out.old out.new firsts.old firsts.new }
 {
     let mut n: usize = 0;
-    let mut k: usize = 0;
-    while k < count {
+    for k in 0..count {
         n = context(table, spans, place(k), out, n, firsts, k);
-        k += 1;
     }
-    firsts[k] = short(n);
-}
-
-fn fill(table: &[u16], spans: &[u16], operations: usize, out: &mut [u16], firsts: &mut [u16])
-    requires { (length spans.now ≡ 80) × (length out.old ≡ 16384) × (length firsts.old ≡ 40) }
-    ensures { Listed table.now spans.now operations out.old out.new firsts.old firsts.new }
-{
-    if span::MOST < operations {
-        return;
-    }
-    contexts(table, spans, CONDITIONS + SIDES * operations, out, firsts);
+    mark(firsts, count, n);
 }
 
 // The rows of the conjuncts of a dossier's predicates, in front of the lent array, and how many numbers stand before each predicate's.
@@ -269,5 +255,8 @@ pub fn conjuncts(
 )
     ensures { Listed table.now spans.now operations out.old out.new firsts.old firsts.new }
 {
-    fill(table, spans, operations, out, firsts);
+    if span::MOST < operations {
+        return;
+    }
+    contexts(table, spans, CONDITIONS + SIDES * operations, out, firsts);
 }

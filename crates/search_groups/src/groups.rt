@@ -66,10 +66,16 @@ fn picked(
         return 0;
     }
     let mut c: usize = 0;
-    let mut at = from;
-    while at + node::DECLARATION <= to {
-        c = pick(nodes, at, ending, width, c, out, n);
-        at += node::DECLARATION;
+    for k in 0..to.saturating_sub(from) / node::DECLARATION {
+        c = pick(
+            nodes,
+            from + node::DECLARATION * k,
+            ending,
+            width,
+            c,
+            out,
+            n,
+        );
     }
     c
 }
@@ -78,11 +84,7 @@ fn zeros(out: &mut [u16], from: usize, to: usize)
     requires { (from ≤ to) × (to ≤ length out.old) × (length out.old ≤ 65535) }
     ensures { out.new ≡ patch from (replicate (to - from) 0) out.old }
 {
-    let mut i = from;
-    while i < to {
-        out[i] = 0;
-        i += 1;
-    }
+    out[from..to].fill(0);
 }
 
 // A row: how many, their places, and zeros behind them.
@@ -104,8 +106,8 @@ fn group(
 }
 
 // The inputs of an operation, and its outputs.
-fn operation(nodes: &[u16], spans: &[u16], j: usize, out: &mut [u16], n: usize)
-    requires { (j + 2 ≤ length spans.now) × (length spans.now ≡ 80) × (n + 8 ≤ length out.old) × (length out.old ≤ 65535) }
+fn operation(nodes: &[u16], spans: &[u16; span::COUNT], j: usize, out: &mut [u16; GROUPS], n: usize)
+    requires { (j + 2 ≤ 80) × (n + 8 ≤ 160) }
     ensures { OperationPut nodes.now spans.now j n out.old out.new }
 {
     let from = index(spans[j]);
@@ -114,12 +116,15 @@ fn operation(nodes: &[u16], spans: &[u16], j: usize, out: &mut [u16], n: usize)
     group(nodes, from, to, OUTPUT, OUTPUTS, out, n + INPUTS_ROW);
 }
 
-fn operation_rows(nodes: &[u16], spans: &[u16], operations: usize, out: &mut [u16])
-    requires { (length spans.now ≡ 80) × (length out.old ≡ 160) }
+fn operation_rows(
+    nodes: &[u16],
+    spans: &[u16; span::COUNT],
+    operations: usize,
+    out: &mut [u16; GROUPS],
+)
     ensures { RowsPut nodes.now spans.now operations out.old out.new }
 {
-    let mut k: usize = 0;
-    while k < span::MOST {
+    for k in 0..span::MOST {
         if operations <= k {
             return;
         }
@@ -130,12 +135,11 @@ fn operation_rows(nodes: &[u16], spans: &[u16], operations: usize, out: &mut [u1
             out,
             STATES_ROWS + OPERATION_ROWS * k,
         );
-        k += 1;
     }
 }
 
-fn fill(nodes: &[u16], spans: &[u16], operations: usize, out: &mut [u16])
-    requires { (length spans.now ≡ 80) × (length out.old ≡ 160) }
+// The groups of a dossier, in front of the lent array.
+pub fn groups(nodes: &[u16], spans: &[u16; span::COUNT], operations: usize, out: &mut [u16; GROUPS])
     ensures { Grouped nodes.now spans.now operations out.old out.new }
 {
     let a = index(spans[span::ABSTRACT_FIRST]);
@@ -145,11 +149,4 @@ fn fill(nodes: &[u16], spans: &[u16], operations: usize, out: &mut [u16])
     group(nodes, a, b, PLAIN, VARIABLES, out, 0);
     group(nodes, c, d, PLAIN, VARIABLES, out, STATE_ROW);
     operation_rows(nodes, spans, operations, out);
-}
-
-// The groups of a dossier, in front of the lent array.
-pub fn groups(nodes: &[u16], spans: &[u16; span::COUNT], operations: usize, out: &mut [u16; GROUPS])
-    ensures { Grouped nodes.now spans.now operations out.old out.new }
-{
-    fill(nodes, spans, operations, out);
 }

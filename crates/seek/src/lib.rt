@@ -2,16 +2,17 @@
 // before and the primed ones; those of the after state under the plain slots.
 #![tactic(auto)]
 
-ghost use Rattle.std.specs.Prelude.{◌≡◌, ◌+◌, ◌<◌, ◌≤◌, max, get_or, length};
+ghost use Rattle.std.specs.Prelude.{◌≡◌, ◌+◌, ◌<◌, ◌≤◌, MatchOption};
 ghost use Rattle.memo.specs.MemoPromises.{Memo};
 ghost use Rattle.points.specs.Points.{primed_slot};
 ghost use Rattle.points.specs.Searches.{slot_in, mark_in};
-ghost use Rattle.seek.specs.AimPromises.{SolvedAnswers, EquationAnswers, AimAsked, AimAnswers};
+ghost use Rattle.seek.specs.AimPromises.{ReadAnswers, SolvedAnswers, EquationAnswers, AimAsked, AimAnswers};
 ghost use Rattle.seek.specs.SeekPromises.{StoreAsked, StoreAnswers, LevelAsked, LevelAnswers, SeekAsked, SeekAnswers};
 
 use evaluator::value;
 use memo::recall;
 use mentions::equations::solving;
+use plans::PartSearch;
 use points::plan::{FIRST_COUNT, FIRST_SLOT, HEAD, SECOND_SLOT};
 use points::slots::{ABSTRACT_PRIMED, AFTER, BEFORE, CONCRETE, CONCRETE_PRIMED};
 use slot_carriers::{count_of, place_of, value_at};
@@ -35,7 +36,7 @@ struct Target {
     n: usize,
 }
 
-// A test, and where the term ends that it says a variable to be; 0 for no test.
+// A test, and where the term ends that it says a variable to be.
 #[derive(Clone, Copy)]
 struct Told {
     test: usize,
@@ -49,35 +50,30 @@ struct Bounds {
     high: usize,
 }
 
-// A number of the plan.
-fn entry(plan: &[u16], k: usize) -> usize
-    requires { k < length plan.now }
-    ensures { (result ≡ get_or plan.now k 0) × (result < 65536) }
-{
-    plan[k] as usize
-}
-
 // The slot of variable j of the search u.
 fn slot_of(plan: &[u16; 20560], u: usize, j: usize) -> usize
     requires { (u < 5) × (j < 16) }
     ensures { result ≡ slot_in plan.now u j }
 {
-    let n = entry(plan, HEAD * u + FIRST_COUNT);
+    let n = usize::from(plan[HEAD * u + FIRST_COUNT]);
     if j < n {
-        return entry(plan, HEAD * u + FIRST_SLOT) + j;
+        return usize::from(plan[HEAD * u + FIRST_SLOT]) + j;
     }
-    entry(plan, HEAD * u + SECOND_SLOT) + (j - n)
+    usize::from(plan[HEAD * u + SECOND_SLOT]) + (j - n)
 }
 
-// The plain slot of a primed variable.
-fn plain_slot(slot: usize) -> usize
-    requires { (22 ≤ slot) × (slot < 38) }
-    ensures { (result < 16) × (primed_slot result ≡ slot) }
+// The plain slot of a primed variable; none of another.
+fn plain_slot(slot: usize) -> Option<usize>
+    requires { slot < 38 }
+    ensures { MatchOption result (slot < 22) (λ plain. (plain < 16) × (primed_slot plain ≡ slot) × (22 ≤ slot)) }
 {
-    if slot < ABSTRACT_PRIMED {
-        return slot - CONCRETE_PRIMED + CONCRETE;
+    if slot < CONCRETE_PRIMED {
+        return None;
     }
-    slot - ABSTRACT_PRIMED
+    if slot < ABSTRACT_PRIMED {
+        return Some(slot - CONCRETE_PRIMED + CONCRETE);
+    }
+    Some(slot - ABSTRACT_PRIMED)
 }
 
 // Gives the variable of a slot its x-th value, a primed one in both arrays.
@@ -87,88 +83,85 @@ pub fn store(cells: &[u32; 9216], slot: usize, x: usize, slots: &mut [[i64; 64];
 {
     let v = value_at(cells, slot, x);
     slots[BEFORE][slot] = v;
-    if CONCRETE_PRIMED <= slot {
-        slots[AFTER][plain_slot(slot)] = v;
+    if let Some(plain) = plain_slot(slot) {
+        slots[AFTER][plain] = v;
     }
 }
 
 // Do the tests of a level hold? The first that does not decides.
 fn level(
-    t: &[u16; 16384],
-    plan: &[u16; 20560],
+    s: &PartSearch<'_>,
     u: usize,
     l: usize,
     slots: &mut [[i64; 64]; 2],
     memo: &mut [u64; memo::NUMBERS],
 ) -> bool
-    requires level_asked { LevelAsked t.now plan.now u l slots.old }
-    requires memo { Memo t.now memo.old }
-    ensures answers { LevelAnswers t.now plan.now u l slots.old result }
+    requires level_asked { LevelAsked s.now.table.now s.now.plan.now u l slots.old }
+    requires memo { Memo s.now.table.now memo.old }
+    ensures answers { LevelAnswers s.now.table.now s.now.plan.now u l slots.old result }
     ensures kept { slots.new ≡ slots.old }
-    ensures remembers { Memo t.now memo.new }
+    ensures remembers { Memo s.now.table.now memo.new }
 {
-    let to = entry(plan, HEAD * u + l + 1);
-    let mut k = entry(plan, HEAD * u + l);
-    while k < to {
-        let e = entry(plan, k);
-        if !recall(t, e / 2, &mut slots[e % 2], memo) {
+    let to = usize::from(s.plan[HEAD * u + l + 1]);
+    for k in usize::from(s.plan[HEAD * u + l])..to {
+        let e = usize::from(s.plan[k]);
+        if !recall(s.table, e / 2, &mut slots[e % 2], memo) {
             return false;
         }
-        k += 1;
     }
     true
 }
 
-// Where the term ends that a test says the variable of a slot to be, or 0. Of the state after the values stand under the plain slots.
-fn solved(t: &[u16; 16384], e: usize, slot: usize) -> usize
+// The slot under which a test reads the variable of a slot; none if it does not. Of the state after the values stand under the plain slots.
+fn read_slot(e: usize, slot: usize) -> Option<usize>
+    requires { slot < 38 }
+    ensures { ReadAnswers e slot result }
+{
+    if e % 2 == BEFORE {
+        return Some(slot);
+    }
+    plain_slot(slot)
+}
+
+// Where the term ends that a test says the variable of a slot to be, if it does.
+fn solved(t: &[u16; 16384], e: usize, slot: usize) -> Option<usize>
     requires { slot < 38 }
     ensures { SolvedAnswers t.now e slot result }
 {
-    if e % 2 == BEFORE {
-        return solving(t, e / 2, slot);
+    let own = read_slot(e, slot)?;
+    let end = solving(t, e / 2, own);
+    if end == 0 {
+        return None;
     }
-    if slot < CONCRETE_PRIMED {
-        return 0;
-    }
-    solving(t, e / 2, plain_slot(slot))
+    Some(end)
 }
 
 // The first test of a level that says the variable of a slot to be some term.
-fn equation(t: &[u16; 16384], plan: &[u16; 20560], u: usize, l: usize, slot: usize) -> Told
-    requires { (u < 5) × (l ≤ 11) × (slot < 38) × (mark_in plan.now u (l + 1) ≤ 20560) }
-    ensures { EquationAnswers t.now plan.now u l slot result.test result.end }
+fn equation(s: &PartSearch<'_>, u: usize, l: usize, slot: usize) -> Option<Told>
+    requires { (u < 5) × (l ≤ 11) × (slot < 38) × (mark_in s.now.plan.now u (l + 1) ≤ 20560) }
+    ensures { EquationAnswers s.now.table.now s.now.plan.now u l slot result }
 {
-    let to = entry(plan, HEAD * u + l + 1);
-    let mut k = entry(plan, HEAD * u + l);
-    while k < to {
-        let e = entry(plan, k);
-        let q = solved(t, e, slot);
-        if q != 0 {
-            return Told { test: e, end: q };
+    let to = usize::from(s.plan[HEAD * u + l + 1]);
+    for k in usize::from(s.plan[HEAD * u + l])..to {
+        let test = usize::from(s.plan[k]);
+        if let Some(end) = solved(s.table, test, slot) {
+            return Some(Told { test, end });
         }
-        k += 1;
     }
-    Told { test: 0, end: 0 }
+    None
 }
 
 // Which of the variable's values to look at: all, or where a test says which it is, that one alone, if it is one of them. At all others that test fails.
-fn aim(
-    t: &[u16; 16384],
-    plan: &[u16; 20560],
-    cells: &[u32; 9216],
-    g: Target,
-    slots: &mut [[i64; 64]; 2],
-) -> Bounds
-    requires { AimAsked t.now plan.now cells.now g.u g.l g.slot g.n slots.old }
-    ensures answers { AimAnswers t.now plan.now cells.now g.u g.l g.slot g.n slots.old result.low result.high }
+fn aim(s: &PartSearch<'_>, g: Target, slots: &mut [[i64; 64]; 2]) -> Bounds
+    requires { AimAsked s.now.table.now s.now.plan.now s.now.cells.now g.u g.l g.slot g.n slots.old }
+    ensures answers { AimAnswers s.now.table.now s.now.plan.now s.now.cells.now g.u g.l g.slot g.n slots.old result.low result.high }
     ensures kept { slots.new ≡ slots.old }
 {
-    let q = equation(t, plan, g.u, g.l, g.slot);
-    if q.end == 0 {
+    let Some(q) = equation(s, g.u, g.l, g.slot) else {
         return Bounds { low: 0, high: g.n };
-    }
-    let y = value(t, q.end, &mut slots[q.test % 2]);
-    let d = place_of(cells, g.slot, y);
+    };
+    let y = value(s.table, q.end, &mut slots[q.test % 2]);
+    let d = place_of(s.cells, g.slot, y);
     if d < g.n {
         return Bounds {
             low: d,
@@ -178,67 +171,54 @@ fn aim(
     Bounds { low: d, high: d }
 }
 
-// The later of two places.
-fn later(a: usize, b: usize) -> usize
-    ensures { result ≡ max a b }
-{
-    if a < b {
-        return b;
-    }
-    a
-}
-
-// The search among the bindings of a span: s.w where there is none. What it finds stays in the slots.
+// The search among the bindings of a span. What it finds stays in the slots. Where there is none the answer is span.w, the number behind the last: at all numbers before the answer some test
+// fails, whether a binding is found or not, and the loops that go from one to the next need that one fact.
 pub fn seek(
-    t: &[u16; 16384],
-    plan: &[u16; 20560],
-    cells: &[u32; 9216],
-    s: Span,
+    s: &PartSearch<'_>,
+    span: Span,
     slots: &mut [[i64; 64]; 2],
     memo: &mut [u64; memo::NUMBERS],
 ) -> usize
-    requires seek_asked { SeekAsked t.now plan.now cells.now s.u s.j s.m s.w s.from slots.old }
-    requires memo { Memo t.now memo.old }
-    ensures answers { SeekAnswers t.now plan.now cells.now s.u s.j s.m s.w s.from slots.old slots.new result }
-    ensures remembers { Memo t.now memo.new }
+    requires seek_asked { SeekAsked s.now.table.now s.now.plan.now s.now.cells.now span.u span.j span.m span.w span.from slots.old }
+    requires memo { Memo s.now.table.now memo.old }
+    ensures answers { SeekAnswers s.now.table.now s.now.plan.now s.now.cells.now span.u span.j span.m span.w span.from slots.old slots.new result }
+    ensures remembers { Memo s.now.table.now memo.new }
 {
-    if s.from == s.w {
-        return s.w;
+    if span.from == span.w {
+        return span.w;
     }
-    if !level(t, plan, s.u, s.j, slots, memo) {
-        return s.w;
+    if !level(s, span.u, span.j, slots, memo) {
+        return span.w;
     }
-    if s.m == 0 {
-        return s.from;
+    if span.m == 0 {
+        return span.from;
     }
-    let slot = slot_of(plan, s.u, s.j);
-    let n = count_of(cells, slot);
-    let v = s.w / n;
+    let slot = slot_of(s.plan, span.u, span.j);
+    let n = count_of(s.cells, slot);
+    let v = span.w / n;
     let target = Target {
-        u: s.u,
-        l: s.j + 1,
+        u: span.u,
+        l: span.j + 1,
         slot,
         n,
     };
-    let b = aim(t, plan, cells, target, slots);
-    let first = later(s.from, b.low * v);
-    let mut x = first / v;
+    let b = aim(s, target, slots);
+    let first = span.from.max(b.low * v);
     let mut r = first % v;
-    while x < b.high {
-        store(cells, slot, x, slots);
+    for x in first / v..b.high {
+        store(s.cells, slot, x, slots);
         let rest = Span {
-            u: s.u,
-            j: s.j + 1,
-            m: s.m - 1,
+            u: span.u,
+            j: span.j + 1,
+            m: span.m - 1,
             w: v,
             from: r,
         };
-        let k = seek(t, plan, cells, rest, slots, memo);
+        let k = seek(s, rest, slots, memo);
         if k < v {
             return x * v + k;
         }
-        x += 1;
         r = 0;
     }
-    s.w
+    span.w
 }

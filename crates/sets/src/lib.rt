@@ -76,28 +76,16 @@ pub fn row(s: u16, from: u64, m: u32) -> u16
     t % (1 << m)
 }
 
-// As many rows as the word has bits are enough: the others are empty.
-fn rows(n: u32) -> u32
-    ensures { (result ≤ 16) × (n ≤ 16 → result ≡ n) × (16 < n → result ≡ 16) }
-{
-    if n < BITS {
-        return n;
-    }
-    BITS
-}
-
-// The first sides of a set of pairs between sets of n and of m elements.
+// The first sides of a set of pairs between sets of n and of m elements. As many rows as the word has bits are enough: the others are empty.
 pub fn dom(n: u32, m: u32, s: u16) -> u16
     ensures { result ≡ dom n m s }
 {
-    let top = rows(n);
+    let top = n.min(BITS);
     let mut r: u16 = 0;
-    let mut i: u32 = 0;
-    while i < top {
+    for i in 0..top {
         if row(s, pair(m, i, 0), m) != 0 {
             r += 1 << i;
         }
-        i += 1;
     }
     r
 }
@@ -106,12 +94,10 @@ pub fn dom(n: u32, m: u32, s: u16) -> u16
 pub fn ran(n: u32, m: u32, s: u16) -> u16
     ensures { result ≡ ran n m s }
 {
-    let top = rows(n);
+    let top = n.min(BITS);
     let mut r: u16 = 0;
-    let mut i: u32 = 0;
-    while i < top {
+    for i in 0..top {
         r |= row(s, pair(m, i, 0), m);
-        i += 1;
     }
     r
 }

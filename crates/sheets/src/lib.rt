@@ -1,10 +1,13 @@
-// A sheet: lent bytes that are written from a place on, in lines of at most 100 columns. What has no room is left out, so that nobody need count; each function answers the place behind
-// what it wrote. What is written has no promise: an explanation's words are read through, and its facts are proved before they are written.
+// A sheet: a text that is written in lines of at most 100 columns. What has no room is left out, so that nobody need count. What is written has no promise beyond that it stays on the sheet:
+// an explanation's words are read through, and its facts are proved before they are written.
 #![tactic(auto)]
 
-ghost use Rattle.std.specs.Prelude.{◌≤◌};
+ghost use Rattle.std.specs.Prelude.{◌≡◌, ℕ, [], ◌∷◌, ◌++◌, ◌-◌, ◌<◌, ◌≤◌, length, take, replicate, IfSome};
+ghost use Rattle.text_places.specs.PlacePromises.{LineStart};
 
-use pieces::put_decimal;
+use bounded_texts::BoundedText;
+use pieces::{DIGITS, Writer};
+use text_places::{before, is_blank, line_start};
 
 // How many bytes a sheet has.
 pub const SHEET: usize = 65536;
@@ -16,192 +19,127 @@ const SPACE: u8 = b' ';
 
 const NEWLINE: u8 = b'\n';
 
-// The most digits of a number.
-const DIGITS: usize = 20;
-
-// No place, and no number that is counted on, is larger.
-const LONG: usize = 4294967295;
-
-// x without y, 0 where y is larger.
-pub fn less(x: usize, y: usize) -> usize
-    ensures { result ≤ x }
-{
-    if x < y {
-        return 0;
-    }
-    x - y
+#[derive(Drop)]
+pub struct Sheet {
+    text: BoundedText<SHEET>,
 }
 
-// The place n behind x, or x where that is no place.
-pub fn behind(x: usize, n: usize) -> usize
-    ensures { x ≤ result }
-{
-    if LONG < x {
-        return x;
-    }
-    if LONG < n {
-        return x;
-    }
-    x + n
-}
-
-// One byte.
-fn byte(b: u8, out: &mut [u8; SHEET], at: usize) -> usize {
-    if at < SHEET {
-        out[at] = b;
-        return at + 1;
-    }
-    at
-}
-
-// The byte of a place; a newline behind the last.
-pub fn letter(text: &[u8], k: usize) -> u8 {
-    if k < text.len() {
-        return text[k];
-    }
-    NEWLINE
-}
-
-// The byte before a place; a newline before the first.
-fn letter_before(text: &[u8], k: usize) -> u8 {
-    if k == 0 {
-        return NEWLINE;
-    }
-    letter(text, k - 1)
-}
-
-// Where the line begins that the place stands in.
-pub fn line_start(text: &[u8], at: usize) -> usize {
-    let mut k = at;
-    while 0 < k {
-        if letter_before(text, k) == NEWLINE {
-            return k;
+impl Sheet {
+    pub fn new() -> Sheet
+        ensures { result.text ≡ [] }
+    {
+        Sheet {
+            text: BoundedText::new(),
         }
-        k -= 1;
     }
-    k
-}
 
-// How many columns the line has so far.
-fn column(out: &[u8], at: usize) -> usize {
-    less(at, line_start(out, at))
-}
+    // What is written.
+    pub fn as_slice(&self) -> &[u8]
+        ensures value { result.now ≡ self.now.text }
+        ensures within { length result.now ≤ 65536 }
+    {
+        self.text.as_slice()
+    }
 
-// The place of the last space between two places, the second where there is none.
-fn last_space(out: &[u8], from: usize, at: usize) -> usize {
-    let mut k = at;
-    while from < k {
-        if letter_before(out, k) == SPACE {
-            return k - 1;
+    // How many columns the line has so far.
+    fn column(&self) -> usize
+        ensures { (r : ℕ) → LineStart self.now.text (length self.now.text) r → result ≡ length self.now.text - r }
+    {
+        let text = self.as_slice();
+        text.len() - line_start(text, text.len())
+    }
+
+    // The place of the last space of the line behind its indentation.
+    fn last_space(&self, indent: usize) -> Option<usize>
+        ensures { IfSome result (λ k. (k < length self.now.text) × (k < 65536)) }
+    {
+        let text = self.as_slice();
+        let from = line_start(text, text.len())
+            .saturating_add(indent)
+            .min(text.len());
+        let k = text[from..].iter().rposition(|b| *b == SPACE)?;
+        Some(from + k)
+    }
+
+    // n times the same byte.
+    pub fn repeat(&mut self, b: u8, n: usize)
+        ensures { self.new.text ≡ take 65536 (self.old.text ++ replicate n b) }
+    {
+        self.text.repeat(b, n);
+    }
+
+    // To the next line, which is indented.
+    fn next_line(&mut self, indent: usize) {
+        self.text.put(NEWLINE);
+        self.text.repeat(SPACE, indent);
+    }
+
+    // The last word of a full line goes to the next one, which is indented.
+    fn wrap(&mut self, indent: usize) {
+        match self.last_space(indent) {
+            Some(k) => {
+                self.text.set(k, NEWLINE);
+                self.text.insert(k + 1, SPACE, indent);
+            }
+            None => self.next_line(indent),
         }
-        k -= 1;
     }
-    at
-}
 
-// n times the same byte.
-pub fn repeat(b: u8, n: usize, out: &mut [u8; SHEET], at: usize) -> usize {
-    let mut a = at;
-    let mut k: usize = 0;
-    while k < n {
-        a = byte(b, out, a);
-        k += 1;
+    // One byte, on the next line where there is no room for it, as long as the words there let that be.
+    pub fn put(&mut self, b: u8, indent: usize)
+        ensures newline { b ≡ 10 → self.new.text ≡ take 65536 (self.old.text ++ b ∷ []) }
+        ensures inside { (r : ℕ) → LineStart self.old.text (length self.old.text) r → length self.old.text - r < 100 → self.new.text ≡ take 65536 (self.old.text ++ b ∷ []) }
+    {
+        if b == NEWLINE || self.column() < COLUMNS {
+            self.text.put(b);
+            return;
+        }
+        if b == SPACE {
+            self.next_line(indent);
+            return;
+        }
+        self.wrap(indent);
+        self.text.put(b);
     }
-    a
-}
 
-fn spaces(n: usize, out: &mut [u8; SHEET], at: usize) -> usize {
-    repeat(SPACE, n, out, at)
-}
+    // Is there a blank before what is written next? A sheet begins as a line does.
+    fn ends_blank(&self) -> bool {
+        match self.as_slice().last() {
+            Some(b) => is_blank(*b),
+            None => true,
+        }
+    }
 
-// The bytes between two places go n places on; the last one first.
-fn shift(from: usize, to: usize, n: usize, out: &mut [u8; SHEET]) {
-    let mut k = to;
-    while from < k {
-        k -= 1;
-        byte(letter(out, k), out, behind(k, n));
+    // The bytes of a text, in lines; its blanks become single spaces.
+    pub fn flow(&mut self, text: &[u8], indent: usize) {
+        for b in text {
+            if !is_blank(*b) {
+                self.put(*b, indent);
+            } else if !self.ends_blank() {
+                self.put(SPACE, indent);
+            }
+        }
     }
-}
 
-// The last word of a full line goes to the next one, which is indented.
-fn wrap(indent: usize, out: &mut [u8; SHEET], at: usize) -> usize {
-    let start = line_start(out, at);
-    let b = last_space(out, behind(start, indent), at);
-    if at <= b {
-        let a = byte(NEWLINE, out, at);
-        return spaces(indent, out, a);
+    // A number.
+    pub fn put_number(&mut self, n: usize, indent: usize) {
+        let mut digits = [0u8; DIGITS];
+        let mut w = Writer {
+            out: &mut digits,
+            at: 0,
+        };
+        w.put_decimal(n as u64);
+        let end = w.at;
+        self.flow(before(&digits, end), indent);
     }
-    shift(behind(b, 1), at, indent, out);
-    let a = byte(NEWLINE, out, b);
-    let c = spaces(indent, out, a);
-    behind(c, less(at, behind(b, 1)))
-}
 
-// One byte, on the next line where there is no room for it, as long as the words there let that be.
-pub fn put(b: u8, indent: usize, out: &mut [u8; SHEET], at: usize) -> usize {
-    if b == NEWLINE {
-        return byte(b, out, at);
+    // Spaces up to a column, on the next line where this one is past it.
+    pub fn tab(&mut self, to: usize) {
+        let column = self.column();
+        if column < to {
+            self.text.repeat(SPACE, to - column);
+        } else {
+            self.next_line(to);
+        }
     }
-    if column(out, at) < COLUMNS {
-        return byte(b, out, at);
-    }
-    if b == SPACE {
-        let a = byte(NEWLINE, out, at);
-        return spaces(indent, out, a);
-    }
-    let a = wrap(indent, out, at);
-    byte(b, out, a)
-}
-
-fn is_blank(b: u8) -> bool {
-    if b == SPACE {
-        return true;
-    }
-    b == NEWLINE
-}
-
-// One byte of a text whose blanks become single spaces.
-fn put_flowing(b: u8, indent: usize, out: &mut [u8; SHEET], at: usize) -> usize {
-    if !is_blank(b) {
-        return put(b, indent, out, at);
-    }
-    if is_blank(letter_before(out, at)) {
-        return at;
-    }
-    put(SPACE, indent, out, at)
-}
-
-// The bytes of a text from `from` up to `to`, in lines.
-pub fn flow(
-    text: &[u8],
-    from: usize,
-    to: usize,
-    indent: usize,
-    out: &mut [u8; SHEET],
-    at: usize,
-) -> usize {
-    let mut a = at;
-    let mut k = from;
-    while k < to {
-        a = put_flowing(letter(text, k), indent, out, a);
-        k += 1;
-    }
-    a
-}
-
-// A number.
-pub fn put_number(n: usize, indent: usize, out: &mut [u8; SHEET], at: usize) -> usize {
-    let mut digits = [0u8; DIGITS];
-    let end = put_decimal(n as u64, &mut digits, 0);
-    flow(&digits, 0, end, indent, out, at)
-}
-
-// Spaces up to a column, on the next line where this one is past it.
-pub fn tab(to: usize, out: &mut [u8; SHEET], at: usize) -> usize {
-    let c = column(out, at);
-    if c < to {
-        return spaces(less(to, c), out, at);
-    }
-    let a = byte(NEWLINE, out, at);
-    spaces(to, out, a)
 }

@@ -5,9 +5,9 @@ use mathlib.Core.List.{List, [], ◌∷◌}
 use Prim.Native.Nat.{zero, ℕ, suc, ◌+◌, ◌-◌, ◌*◌, ◌<◌, ◌≤◌}
 use native.Mathlib.Numerals.{add-one}
 use native.Mathlib.Omega.{arith}
-use lib.ListN.{get_or, length, set}
-use lib.Seq.{get_or-set_same, get_or-set_other}
+use lib.ListN.{get_or, length}
 use lib.IntN.{pos, ◌-ℤ◌}
+use Rattle.std.specs.List.{CopiedTo, SameBelow, SameFrom}
 use Rattle.form.specs.Tree.{relation, partial, total}
 use Rattle.carriers.specs.StaticRulesCarriers.{Carrier, elements_of, numbers, subsets_of, pairs_in, count_of, Variable}
 use Rattle.carriers.specs.StaticRulesLimits.{binding_count}
@@ -16,7 +16,7 @@ use Rattle.carriers.proofs.Bindings.{bindings-some}
 use Rattle.slot_carriers.specs.Cells.{count_in, shape_in, first_in, Listed, PairsCell, Shaped, CellOf}
 use Rattle.slot_carriers.specs.CellGroups.{CellsOf}
 use Rattle.slot_carriers.specs.TypeNodes.{TypeNode, Placed, ListBetween, CellMade}
-use Rattle.slot_carriers.specs.DeclaredGroups.{NodesOf, Declared, CellsMade, Again, Copied}
+use Rattle.slot_carriers.specs.DeclaredGroups.{NodesOf, Declared, CellsMade, Copied}
 use Rattle.slot_carriers.proofs.Halving.{either}
 
 -- the numbers of the slot s are at t, and what is between two places is as it was
@@ -180,22 +180,18 @@ module _ (table groups : List ℕ) (p n slot at next r : ℕ) (old mid new : Lis
         same_length = m.same_length ∙ c.same_length;
       }
 
--- ---- numbers that are written again
+-- ---- the cells of slots that are copied
 
-pub again-next : (from to n x : ℕ) (l m r : List ℕ) → to + n < length m → Again from to n l m → r ≡ set m (to + n) x → x ≡ get_or l (from + n) 0 → Again from to (n + 1) l r
-again-next from to n x l m r low a e f k h = go (either k n)
+pub copied : (n base to : ℕ) (old new : List ℕ) → length new ≡ length old → CopiedTo old new (4 * base) (4 * to) (4 * (base + n) - 4 * base) → SameBelow old new (4 * to)
+    → SameFrom old new (4 * to + (4 * (base + n) - 4 * base)) → Copied n base to old new
+copied n base to old new long moved below above =
+    record {
+      each = λ k h. moved (4 * to + k) 0 (omega arith) (omega arith) ∙ ap (λ (j : ℕ). get_or old j 0) (back k);
+      others = record { below = λ i h. below i 0 h; above = λ i h. above i 0 (omega arith); same_length = long };
+    }
   where
-    apart : k < n → to + k ≡ to + n → ⊥
-    apart g q = omega arith
-
-    go : (k < n) ⊎ (n ≤ k) → get_or r (to + k) 0 ≡ get_or l (from + k) 0
-    go (inl g) = ap (λ (z : List ℕ). get_or z (to + k) 0) e ∙ get_or-set_other m (to + n) (to + k) x 0 (apart g) ∙ a k g
-    go (inr g) =
-        let q : n ≡ k = omega arith in
-        subst (λ (i : ℕ). get_or r (to + i) 0 ≡ get_or l (from + i) 0) q (ap (λ (z : List ℕ). get_or z (to + n) 0) e ∙ get_or-set_same m (to + n) x 0 low ∙ f)
-
-pub again-none : (from to : ℕ) (l : List ℕ) → Again from to 0 l l
-again-none from to l k h = absurd (omega arith)
+    back : (k : ℕ) → 4 * base + (4 * to + k - 4 * to) ≡ 4 * base + k
+    back k = omega arith
 
 -- ---- a group whose cells are again at some slot
 

@@ -1,7 +1,8 @@
--- A search in values that rise, and a place that was guessed; that a cell's values are those of its carrier; the bindings of a group; cells made of types' nodes, kept and copied.
+-- Values that rise, and the place of a number among them; that a cell's values are those of its carrier; the bindings of a group; cells made of types' nodes, kept and copied.
 pub mod ShapedValues
 pub mod Halving
-pub mod Guesses
+pub mod Places
+pub mod CellLists
 pub mod CarrierCells
 pub mod GroupBindings
 pub mod TypeCells

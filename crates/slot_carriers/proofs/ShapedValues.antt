@@ -48,3 +48,11 @@ module _ (a d : ℕ) (l : a < 4294967296) (h : d ≤ 65536) where
 
   pub number-back : to_z w64 (of_z w64 (to_z w64 (of_z w64 (to_z w64 a -ℤ pos 1000)) +ℤ to_z w64 d)) ≡ pos a -ℤ pos 1000 +ℤ pos d
   number-back = to_z-of_z number_fits ∙ sum
+
+-- the first of them, as the machine has it
+module _ (a : ℕ) (l : a < 4294967296) where
+  pub first-fits : SFits w64 (to_z w64 a -ℤ pos 1000)
+  first-fits = begin-fits a 0 l (lit≤ tt)
+
+  pub first-back : to_z w64 (of_z w64 (to_z w64 a -ℤ pos 1000)) ≡ pos a -ℤ pos 1000
+  first-back = to_z-of_z first-fits ∙ begin a 0 l (lit≤ tt)

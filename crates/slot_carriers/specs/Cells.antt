@@ -1,6 +1,6 @@
 -- Carriers by slot: of each slot four numbers, how many values its variable has, the shape of its type and two numbers of it; from 256 on the lists of the
 -- partial and total functions. That a cell's values are those of a carrier, in the fixed order, is proofs/CarrierCells. Nothing here need be believed.
-use Rattle.std.specs.Prelude.{◌≡◌, true, false, List, ℕ, ◌+◌, ◌*◌, ◌<◌, ◌≤◌, eqb, ltb, get_or, ℤ, pos, ◌+ℤ◌, ◌-ℤ◌}
+use Rattle.std.specs.Prelude.{◌≡◌, true, false, List, ℕ, ◌+◌, ◌*◌, ◌<◌, ◌≤◌, eqb, ltb, get_or, length, Option, MatchOption, ℤ, pos, ◌+ℤ◌, ◌-ℤ◌}
 use Rattle.std.specs.Int.Signed.{lt_z}
 use Rattle.form.specs.Tree.{Arrow, relation, partial, total}
 use Rattle.carriers.specs.StaticRulesCarriers.{Carrier, elements_of, numbers, subsets_of, pairs_in, size_of, count_of}
@@ -36,12 +36,13 @@ pub record Readable (cells : List ℕ) (slot : ℕ) : Type 0 where
   pub reached : (d : ℕ) → d < count_in cells slot → Reached cells slot d
   pub rising : (d e : ℕ) → d < e → e < count_in cells slot → lt_z (value_in cells slot d) (value_in cells slot e) ≡ true
 
--- between low and high the values of f are below x up to r, and no longer from there on
-pub record Split (f : ℕ → ℤ) (x : ℤ) (low high r : ℕ) : Type 0 where
-  pub from : low ≤ r
-  pub to : r ≤ high
-  pub before : (d : ℕ) → low ≤ d → d < r → lt_z (f d) x ≡ true
-  pub behind : (d : ℕ) → r ≤ d → d < high → lt_z (f d) x ≡ false
+-- numbers none of which is below one before it
+abbrev pub Rising : List ℕ → Type 0
+Rising xs = (i j : ℕ) → i ≤ j → j < length xs → get_or xs i 0 ≤ get_or xs j 0
+
+-- o is the place of x among the n values of f, or none where x is none of them
+abbrev pub Sought : (f : ℕ → ℤ) (n : ℕ) (x : ℤ) (o : Option ℕ) → Type 0
+Sought f n x o = MatchOption o ((d : ℕ) → d < n → f d ≡ x → ⊥) (λ r. (r < n) × (f r ≡ x))
 
 -- r is the place of x among the n values of f, or n where x is none of them
 pub record Found (f : ℕ → ℤ) (n : ℕ) (x : ℤ) (r : ℕ) : Type 0 where

@@ -1,5 +1,5 @@
 // A group of variables, whose cells stand one behind the other: how many bindings it has, and the values of one of them.
-ghost use Rattle.std.specs.Prelude.{◌≡◌, ◌<◌, pos, length, set};
+ghost use Rattle.std.specs.Prelude.{◌≡◌, ◌<◌, pos};
 ghost use Rattle.slot_carriers.specs.CellGroups.{Grouped, Counts, HoldsAt, HoldsBinding, Others};
 
 use crate::{CELLS, SLOTS, count_of, value_at};
@@ -16,17 +16,16 @@ pub fn binding_count(cells: &[u32; CELLS], base: usize, n: usize) -> usize
     c * binding_count(cells, base + 1, n - 1)
 }
 
-// The value of a slot is written.
-fn put(slots: &mut [i64], slot: usize, x: i64)
-    requires { slot < length slots.old }
-    ensures { slots.new ≡ set slots.old slot x }
-{
-    slots[slot] = x;
-}
-
 // Gives the n variables from a slot on the values by the digits of k; they have w bindings.
-fn bind_by(cells: &[u32; CELLS], base: usize, n: usize, w: usize, k: usize, slots: &mut [i64])
-    requires slots_len { (length slots.old ≡ 64) × (k < w) }
+fn bind_by(
+    cells: &[u32; CELLS],
+    base: usize,
+    n: usize,
+    w: usize,
+    k: usize,
+    slots: &mut [i64; SLOTS],
+)
+    requires k_lt_w { k < w }
     requires grouped { Grouped cells.now base n }
     requires counts { Counts cells.now base n w }
     ensures values { HoldsAt cells.now base n k slots.new }
@@ -36,7 +35,7 @@ fn bind_by(cells: &[u32; CELLS], base: usize, n: usize, w: usize, k: usize, slot
         return;
     }
     let v = w / count_of(cells, base);
-    put(slots, base, value_at(cells, base, k / v));
+    slots[base] = value_at(cells, base, k / v);
     bind_by(cells, base + 1, n - 1, v, k % v, slots);
 }
 

@@ -1,13 +1,13 @@
 // Carriers by slot: `cells` has four numbers for each slot, how many values its variable has, the shape of its type and two numbers of it; then the lists of
-// partial and total functions.
+// partial and total functions. The caller lends the array, so that a shape is a number in it.
 #![tactic(auto)]
 
 pub mod groups;
 pub mod setup;
 pub mod type_shapes;
 
-ghost use Rattle.std.specs.Prelude.{◌≡◌, true, ◌<◌, ◌≤◌, get_or, length};
-ghost use Rattle.slot_carriers.specs.Cells.{count_in, value_in, Reached, Readable, Split, Found};
+ghost use Rattle.std.specs.Prelude.{◌≡◌, ℕ, ◌<◌, ◌≤◌, get_or, length, pos, ◌+ℤ◌};
+ghost use Rattle.slot_carriers.specs.Cells.{count_in, shape_in, value_in, Reached, Readable, Rising, Sought, Found};
 
 use lexical::bounds;
 
@@ -26,22 +26,15 @@ const FIRST: usize = 2;
 // How much more than the first number of a range its cell has, which is then not negative.
 const RAISED: i64 = bounds::LARGEST_NUMBER as i64;
 
-const RAISED_PLACES: usize = bounds::LARGEST_NUMBER as usize;
-
-// A number of the cells.
-fn cell(cells: &[u32], k: usize) -> u32
-    requires { k < length cells.now }
-    ensures { (result ≡ get_or cells.now k 0) × (result < 4294967296) }
-{
-    cells[k]
-}
+// The largest number that the cells can have.
+const LARGEST: i64 = u32::MAX as i64;
 
 // How many values the variable of a slot has.
 pub fn count_of(cells: &[u32; CELLS], slot: usize) -> usize
     requires { slot < 64 }
     ensures { result ≡ count_in cells.now slot }
 {
-    cell(cells, CELL * slot) as usize
+    cells[CELL * slot] as usize
 }
 
 // Its d-th value.
@@ -49,69 +42,73 @@ pub fn value_at(cells: &[u32; CELLS], slot: usize, d: usize) -> i64
     requires { Reached cells.now slot d }
     ensures { result ≡ value_in cells.now slot d }
 {
-    let shape = cell(cells, CELL * slot + SHAPE);
-    let a = cell(cells, CELL * slot + FIRST);
+    let shape = cells[CELL * slot + SHAPE];
+    let a = cells[CELL * slot + FIRST];
     if shape == type_shapes::RANGE {
         return a as i64 - RAISED + d as i64;
     }
     if shape < type_shapes::PARTIAL {
         return d as i64;
     }
-    cell(cells, a as usize + d) as i64
+    cells[a as usize + d] as i64
 }
 
-// The first place between two whose value is not below x: values rise, so what is left is halved.
-fn first_from(cells: &[u32; CELLS], slot: usize, low: usize, high: usize, x: i64) -> usize
-    requires readable { Readable cells.now slot }
-    requires low_le_high { (low ≤ high) × (high ≤ count_in cells.now slot) }
-    ensures { Split (λ d. value_in cells.now slot d) x low high result }
+// What the values of a slot whose type is not one of functions rise from, by one each.
+fn lowest(cells: &[u32; CELLS], slot: usize) -> i64
+    requires { (slot < 64) × (shape_in cells.now slot < 5) }
+    ensures { (d : ℕ) → result +ℤ pos d ≡ value_in cells.now slot d }
 {
-    if low >= high {
-        return low;
+    if cells[CELL * slot + SHAPE] == type_shapes::RANGE {
+        return cells[CELL * slot + FIRST] as i64 - RAISED;
     }
-    let mid = (low + high) / 2;
-    if value_at(cells, slot, mid) < x {
-        return first_from(cells, slot, mid + 1, high, x);
-    }
-    first_from(cells, slot, low, mid, x)
+    0
 }
 
-// A guess at the place of x: of every type but functions the values rise by one, so it is how far x is from the first of them. Nothing is promised: `stands` looks.
-fn guess(cells: &[u32; CELLS], slot: usize, x: i64) -> usize
-    requires { slot < 64 }
+// The place of x among n numbers from `low` on, if it is one of them.
+fn distance(x: i64, low: i64, n: usize) -> Option<usize>
+    requires { n ≤ 65536 }
+    ensures { Sought (λ d. low +ℤ pos d) n x result }
 {
-    let shape = cell(cells, CELL * slot + SHAPE);
-    if type_shapes::PARTIAL <= shape {
-        return CELLS;
+    let Some(d) = x.checked_sub(low) else {
+        return None;
+    };
+    if d < 0 {
+        return None;
     }
+    if n as i64 <= d {
+        return None;
+    }
+    Some(d as usize)
+}
+
+// The place of x among numbers that rise, if it is one of them.
+fn listed(list: &[u32], x: i64) -> Option<usize>
+    requires { Rising list.now }
+    ensures { Sought (λ d. pos (get_or list.now d 0)) (length list.now) x result }
+{
     if x < 0 {
-        return CELLS;
+        return None;
     }
-    if shape != type_shapes::RANGE {
-        return x as usize;
+    if LARGEST < x {
+        return None;
     }
-    let first = cell(cells, CELL * slot + FIRST) as usize;
-    let raised = x as usize + RAISED_PLACES;
-    if raised < first {
-        return CELLS;
-    }
-    raised - first
+    list.binary_search(&(x as u32)).ok()
 }
 
-// Is x the d-th of the n values of a slot?
-fn stands(cells: &[u32; CELLS], slot: usize, n: usize, d: usize, x: i64) -> bool
+// The place of x among the n values of a slot, if it is one of them.
+fn sought(cells: &[u32; CELLS], slot: usize, n: usize, x: i64) -> Option<usize>
     requires readable { Readable cells.now slot }
     requires n_value { n ≡ count_in cells.now slot }
-    ensures { result ≡ true → Found (λ d. value_in cells.now slot d) n x d }
+    ensures { Sought (λ d. value_in cells.now slot d) n x result }
 {
-    if n <= d {
-        return false;
+    if n == 0 {
+        return None;
     }
-    let y = value_at(cells, slot, d);
-    if y < x {
-        return false;
+    if cells[CELL * slot + SHAPE] < type_shapes::PARTIAL {
+        return distance(x, lowest(cells, slot), n);
     }
-    y <= x
+    let a = cells[CELL * slot + FIRST] as usize;
+    listed(&cells[a..a + n], x)
 }
 
 // The place of x among the values of a slot, or their count where it is none of them.
@@ -120,16 +117,5 @@ pub fn place_of(cells: &[u32; CELLS], slot: usize, x: i64) -> usize
     ensures { Found (λ d. value_in cells.now slot d) (count_in cells.now slot) x result }
 {
     let n = count_of(cells, slot);
-    let d = guess(cells, slot, x);
-    if stands(cells, slot, n, d, x) {
-        return d;
-    }
-    let r = first_from(cells, slot, 0, n, x);
-    if r >= n {
-        return n;
-    }
-    if value_at(cells, slot, r) <= x {
-        return r;
-    }
-    n
+    sought(cells, slot, n, x).unwrap_or(n)
 }

@@ -1,10 +1,10 @@
 // The cells are made of the nodes of declared types in the reader's table.
-ghost use Rattle.std.specs.Prelude.{◌≡◌, ◌+◌, ◌<◌, ◌≤◌, get_or, length, set};
+ghost use Rattle.std.specs.Prelude.{◌≡◌, ◌+◌, ◌<◌, ◌≤◌, get_or};
 ghost use Rattle.slot_carriers.specs.CellGroups.{Others};
 ghost use Rattle.slot_carriers.specs.TypeNodes.{CountIs, FunctionIs, Functions, CellWritten, Placed, CellMade};
-ghost use Rattle.slot_carriers.specs.DeclaredGroups.{Declared, CellsMade, Again, Copied};
+ghost use Rattle.slot_carriers.specs.DeclaredGroups.{Declared, CellsMade, Copied};
 
-use crate::{CELL, CELLS, FIRST, SHAPE, cell, type_shapes};
+use crate::{CELL, CELLS, FIRST, SHAPE, type_shapes};
 use form::node;
 
 // How many numbers the reader leaves of the groups of variables (search_groups/src/groups).
@@ -38,48 +38,30 @@ fn function_at(shape: u32, a: u32, b: u32, d: u32) -> u32
     ensures { FunctionIs shape a b d result }
 {
     if shape == type_shapes::PARTIAL {
-        return carriers::partial_mask(a, b, d) as u32;
+        return u32::from(carriers::partial_mask(a, b, d));
     }
-    carriers::total_mask(a, b, d) as u32
-}
-
-// A number of the cells is written.
-fn put(cells: &mut [u32], k: usize, x: u32)
-    requires { k < length cells.old }
-    ensures { cells.new ≡ set cells.old k x }
-{
-    cells[k] = x;
+    u32::from(carriers::total_mask(a, b, d))
 }
 
 // Writes the n functions of a type from `at` on: they are asked for often, and each takes a loop.
-fn set_list(shape: u32, a: u32, b: u32, n: u32, at: usize, cells: &mut [u32])
-    requires { (at + n ≤ length cells.old) × (length cells.old ≡ 9216) }
+fn set_list(shape: u32, a: u32, b: u32, n: u32, at: usize, cells: &mut [u32; CELLS])
+    requires { at + n ≤ 9216 }
     ensures list { Functions shape a b at n cells.new }
     ensures others { Others 0 cells.old at n cells.new }
 {
-    let mut d: u32 = 0;
-    while d < n {
-        put(cells, at + d as usize, function_at(shape, a, b, d));
-        d += 1;
+    for d in 0..n {
+        cells[at + d as usize] = function_at(shape, a, b, d);
     }
 }
 
 // The first three numbers of a slot's cell.
-fn write_cell(cells: &mut [u32], slot: usize, count: u32, shape: u32, first: u32)
-    requires { (slot < 64) × (length cells.old ≡ 9216) }
+fn write_cell(cells: &mut [u32; CELLS], slot: usize, count: u32, shape: u32, first: u32)
+    requires { slot < 64 }
     ensures { CellWritten cells.old slot count shape first cells.new }
 {
-    put(cells, CELL * slot, count);
-    put(cells, CELL * slot + SHAPE, shape);
-    put(cells, CELL * slot + FIRST, first);
-}
-
-// A number of the reader's table or groups.
-fn entry(table: &[u16], k: usize) -> u32
-    requires { k < length table.now }
-    ensures { (result ≡ get_or table.now k 0) × (result < 65536) }
-{
-    table[k] as u32
+    cells[CELL * slot] = count;
+    cells[CELL * slot + SHAPE] = shape;
+    cells[CELL * slot + FIRST] = first;
 }
 
 // The cell of the variable of a slot, whose type's node is at q; its functions are listed from `at` on. Answers the place behind them.
@@ -88,15 +70,15 @@ fn set_cell(
     q: usize,
     slot: usize,
     at: usize,
-    cells: &mut [u32],
+    cells: &mut [u32; CELLS],
 ) -> usize
-    requires q_bound { (q + 4 ≤ 16384) × (slot < 64) × (256 ≤ at) × (at ≤ 9216) × (length cells.old ≡ 9216) }
+    requires q_bound { (q + 4 ≤ 16384) × (slot < 64) × (256 ≤ at) × (at ≤ 9216) }
     requires placed { Placed table.now q at }
     ensures { CellMade table.now q slot at cells.old cells.new result }
 {
-    let shape = entry(table, q + node::SHAPE);
-    let a = entry(table, q + node::A);
-    let b = entry(table, q);
+    let shape = u32::from(table[q + node::SHAPE]);
+    let a = u32::from(table[q + node::A]);
+    let b = u32::from(table[q]);
     let n = type_count(shape, a, b);
     if shape < type_shapes::PARTIAL {
         write_cell(cells, slot, n, shape, a);
@@ -115,16 +97,16 @@ fn set_from(
     n: usize,
     slot: usize,
     at: usize,
-    cells: &mut [u32],
+    cells: &mut [u32; CELLS],
 ) -> usize
-    requires n_bound { (p + n ≤ 160) × (slot + n ≤ 64) × (256 ≤ at) × (length cells.old ≡ 9216) }
+    requires n_bound { (p + n ≤ 160) × (slot + n ≤ 64) × (256 ≤ at) }
     requires declared { Declared table.now groups.now p n at }
     ensures { CellsMade table.now groups.now p n slot at cells.old cells.new result }
 {
     if n == 0 {
         return at;
     }
-    let q = entry(groups, p) as usize;
+    let q = usize::from(groups[p]);
     let next = set_cell(table, q + node::SIZE, slot, at, cells);
     set_from(table, groups, p + 1, n - 1, slot + 1, next, cells)
 }
@@ -142,22 +124,8 @@ pub fn set_cells(
     requires declared { Declared table.now groups.now (row + 1) (get_or groups.now row 0) from }
     ensures { CellsMade table.now groups.now (row + 1) (get_or groups.now row 0) base from cells.old cells.new result }
 {
-    let n = entry(groups, row) as usize;
+    let n = usize::from(groups[row]);
     set_from(table, groups, row + 1, n, base, from, cells)
-}
-
-// The n numbers from one place on, again from a place behind them on.
-fn copy_numbers(n: usize, from: usize, to: usize, cells: &mut [u32])
-    requires { (from + n ≤ to) × (to + n ≤ length cells.old) × (length cells.old ≡ 9216) }
-    ensures each { Again from to n cells.old cells.new }
-    ensures others { Others 0 cells.old to n cells.new }
-{
-    let mut k: usize = 0;
-    while k < n {
-        let x = cell(cells, from + k);
-        put(cells, to + k, x);
-        k += 1;
-    }
 }
 
 // The cells of n variables from one slot on, again from another slot on.
@@ -165,5 +133,5 @@ pub fn copy_cells(n: usize, base: usize, to: usize, cells: &mut [u32; CELLS])
     requires { (base + n ≤ to) × (to + n ≤ 64) }
     ensures { Copied n base to cells.old cells.new }
 {
-    copy_numbers(CELL * n, CELL * base, CELL * to, cells)
+    cells.copy_within(CELL * base..CELL * (base + n), CELL * to)
 }

@@ -1,23 +1,24 @@
 -- The first conjunct that fails, row by row, and at the values of two states. Assumes nothing.
 use mathlib.Core.Path.{◌≡◌, refl, sym, ap, subst, ◌∙◌}
-use mathlib.Core.Bool.{Bool, true, false}
-use mathlib.Core.List.{List, [], ◌∷◌, ◌++◌}
-use mathlib.Core.Option.{some, some-injective}
+use mathlib.Core.Bool.{true, false}
+use mathlib.Core.List.{List, ◌++◌}
+use mathlib.Core.Option.{some-injective}
+use Rattle.std.specs.Prelude.{Option, Some, None}
 use Prim.Native.Nat.{ℕ, ◌+◌, ◌<◌, ◌≤◌}
 use native.Mathlib.Omega.{arith}
 use lib.ListN.{get_or, length}
-use Rattle.form.specs.Tree.{Pred, Given, Dossier}
+use Rattle.form.specs.Tree.{Pred, Dossier}
 use Rattle.static_rules.specs.Carriers.{Variable}
-use Rattle.static_rules.specs.Scope.{Scope, Context, contexts, unprimed}
-use Rattle.meaning.specs.Meaning.{Binding, Environment, holds}
+use Rattle.static_rules.specs.Scope.{Scope, Context, unprimed}
+use Rattle.meaning.specs.Meaning.{Binding, Environment}
 use Rattle.meaning.specs.Bindings.{Over}
 use Rattle.meaning.specs.Operations.{environment, abstract_bindings, concrete_bindings}
 use Rattle.carriers.proofs.Bindings.{bindings-count}
 use Rattle.table_places.specs.ResolvedTable.{Slots}
-use Rattle.table_places.specs.DossierTable.{slots_of, abstract_slots, concrete_slots}
+use Rattle.table_places.specs.DossierTable.{abstract_slots, concrete_slots}
 use Rattle.evaluation.specs.EvaluationByNumber.{Values}
 use Rattle.evaluation.specs.SlotValues.{Slotted, Held}
-use Rattle.truths.specs.Promises.{Asked, Answers}
+use Rattle.truths.specs.Promises.{Answers}
 use Rattle.states.specs.ReadPredicatesPredicateRows.{RowsAt, no_rows, more_rows, ContextAt}
 use Rattle.states.specs.StateTests.{Placed}
 use Rattle.states.specs.Promises.{ContextAsked, AbstractIn, ConcreteIn}
@@ -28,34 +29,34 @@ use Rattle.part_places.specs.PartTestsPartsByNumber.{abstract_at, concrete_at}
 use Rattle.part_places.specs.Places.{PartSet}
 use Rattle.state_facts.specs.Placings.{PairBound}
 use Rattle.state_facts.specs.Reads.{abstract_count, concrete_count, StatesRead, SearchAsked}
-use Rattle.state_facts.specs.FalseConjuncts.{FirstFalse, none_false, false_here, false_later, Every, Guard, In, FirstIs, ContextFirst, ContextIs, pair_of, FalsePair, FalseConjunct}
+use Rattle.state_facts.specs.FalseConjuncts.{FirstFalse, none_false, false_here, false_later, Every, In, FirstIs, ContextFirst, ContextIs, pair_of, FalsePair, FalseConjunct}
 use Rattle.state_facts.proofs.SearchLaws.{abstract_in, concrete_in, states-read}
 
 -- ---- row by row
 
 module _ {G : ℕ → Type 0} {table rows : List ℕ} {to : ℕ} {σ : Values} where
-  pub first_done : (at : ℕ) → to ≤ at → FirstIs G table rows at to σ 16384
+  pub first_done : (at : ℕ) → to ≤ at → FirstIs G table rows at to σ None
   first_done at h = record { means = go }
     where
-      go : (Γ : Scope) (W : Slots) (ρ : Environment) (ps : List Pred) → RowsAt table rows Γ W to at ps → Held Γ W 0 ρ σ → FirstFalse G (In ρ) at ps 16384
+      go : (Γ : Scope) (W : Slots) (ρ : Environment) (ps : List Pred) → RowsAt table rows Γ W to at ps → Held Γ W 0 ρ σ → FirstFalse G (In ρ) at ps None
       go Γ W ρ _ (no_rows l) k = none_false
       go Γ W ρ _ (more_rows l c o r) k = absurd (omega arith)
 
-  pub first-here : (at : ℕ) → at < to → G at → Answers table (get_or rows (at + 1) 0) σ false → FirstIs G table rows at to σ at
+  pub first-here : (at : ℕ) → at < to → G at → Answers table (get_or rows (at + 1) 0) σ false → FirstIs G table rows at to σ (Some at)
   first-here at h g a = record { means = go }
     where
-      go : (Γ : Scope) (W : Slots) (ρ : Environment) (ps : List Pred) → RowsAt table rows Γ W to at ps → Held Γ W 0 ρ σ → FirstFalse G (In ρ) at ps at
+      go : (Γ : Scope) (W : Slots) (ρ : Environment) (ps : List Pred) → RowsAt table rows Γ W to at ps → Held Γ W 0 ρ σ → FirstFalse G (In ρ) at ps (Some at)
       go Γ W ρ _ (no_rows l) k = absurd (omega arith)
       go Γ W ρ _ (more_rows {from = f} {p = p} l c o r) k = false_here g (sym (a.means Γ W ρ p f c k))
 
-  pub first_next : (at : ℕ) {x : ℕ} → at < to → (G at → Answers table (get_or rows (at + 1) 0) σ true) → FirstIs G table rows (at + 8) to σ x → FirstIs G table rows at to σ x
+  pub first_next : (at : ℕ) {x : Option ℕ} → at < to → (G at → Answers table (get_or rows (at + 1) 0) σ true) → FirstIs G table rows (at + 8) to σ x → FirstIs G table rows at to σ x
   first_next at {x} h a w = record { means = go }
     where
       go : (Γ : Scope) (W : Slots) (ρ : Environment) (ps : List Pred) → RowsAt table rows Γ W to at ps → Held Γ W 0 ρ σ → FirstFalse G (In ρ) at ps x
       go Γ W ρ _ (no_rows l) k = absurd (omega arith)
       go Γ W ρ _ (more_rows {from = f} {p = p} {ps = ps} l c o r) k = false_later (λ g. sym ((a g).means Γ W ρ p f c k)) (w.means Γ W ρ ps r k)
 
-pub context-first : {G : ℕ → Type 0} {table rows firsts : List ℕ} {n : ℕ} {σ : Values} {r : ℕ} → FirstIs G table rows (get_or firsts n 0) (get_or firsts (n + 1) 0) σ r
+pub context-first : {G : ℕ → Type 0} {table rows firsts : List ℕ} {n : ℕ} {σ : Values} {r : Option ℕ} → FirstIs G table rows (get_or firsts n 0) (get_or firsts (n + 1) 0) σ r
     → ContextFirst G table rows firsts n σ r
 context-first w = record { means = λ K W ρ k h. w.means K.scope W ρ k.conjuncts k.stand h }
 
@@ -98,20 +99,20 @@ module _ {table rows firsts cells : List ℕ} {p : Part} {a c : ℕ} where
     pub retrieve-asked : SearchAsked table rows firsts cells p → ContextAsked table rows firsts 4 σ
     retrieve-asked A = asked-at A.read.tests (retrieve-context A.dossier) (placed_pair A.dossier A.read)
 
-    pub pair-first : {r : ℕ} → ContextFirst Every table rows firsts 4 σ r → FalsePair table rows firsts cells p a c r
+    pub pair-first : {r : Option ℕ} → ContextFirst Every table rows firsts 4 σ r → FalsePair table rows firsts cells p a c r
     pair-first w = record {
       first = λ d R l m K W x k. w.means K W (pair_of d a c) k (held_in (retrieve-context d) x k (placed_pair d R));
       no_abstract = λ l. absurd (omega arith);
       no_concrete = λ l. absurd (omega arith);
     }
 
-  pub pair-no-abstract : p.nm ≤ a → FalsePair table rows firsts cells p a c 16384
+  pub pair-no-abstract : p.nm ≤ a → FalsePair table rows firsts cells p a c None
   pair-no-abstract h = record { first = λ d R l m K W x k. absurd (omega arith); no_abstract = λ l. refl; no_concrete = λ l. refl }
 
-  pub pair-no-concrete : p.nc ≤ c → FalsePair table rows firsts cells p a c 16384
+  pub pair-no-concrete : p.nc ≤ c → FalsePair table rows firsts cells p a c None
   pair-no-concrete h = record { first = λ d R l m K W x k. absurd (omega arith); no_abstract = λ l. refl; no_concrete = λ l. refl }
 
-  pub false_conjunct-is : {groups : List ℕ} {operations r : ℕ} → PartSet table groups 0 cells p → FalsePair table rows firsts cells p a c r
+  pub false_conjunct-is : {groups : List ℕ} {operations : ℕ} {r : Option ℕ} → PartSet table groups 0 cells p → FalsePair table rows firsts cells p a c r
       → FalseConjunct table rows firsts groups operations a c r
   unfolding abstract_bindings concrete_bindings
   false_conjunct-is {groups} P w = record {

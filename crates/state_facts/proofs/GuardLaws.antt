@@ -3,35 +3,35 @@ use mathlib.Core.Path.{◌≡◌, refl, sym, ap, subst, ◌∙◌}
 use mathlib.Core.Bool.{Bool, true, false}
 use mathlib.Core.List.{List, [], ◌∷◌, ◌++◌, append_assoc}
 use mathlib.Core.Option.{some, some-injective}
+use Rattle.std.specs.Prelude.{Option, None}
 use Prim.Native.Nat.{ℕ, suc, ◌+◌, ◌*◌, ◌<◌, ◌≤◌}
 use native.Mathlib.Omega.{arith}
 use lib.ListN.{get_or, length, get_elem?}
 use Rattle.lexical.specs.Symbols.{Name, prime}
-use Rattle.form.specs.Tree.{Pred, Given, Operation, Dossier}
+use Rattle.form.specs.Tree.{Pred, Operation, Dossier}
 use Rattle.static_rules.specs.Carriers.{Variable}
-use Rattle.static_rules.specs.Limits.{binding_count}
-use Rattle.static_rules.specs.Scope.{Scope, Context, contexts, unprimed, primed, inputs, outputs, operation_reach}
+use Rattle.static_rules.specs.Scope.{Scope, Context, unprimed, primed, inputs, outputs, operation_reach}
 use Rattle.meaning.specs.Meaning.{Binding, Environment, holds}
 use Rattle.meaning.specs.Bindings.{bindings, Among, Over}
-use Rattle.meaning.specs.Operations.{environment, after, abstract_bindings, concrete_bindings, output_bindings}
+use Rattle.meaning.specs.Operations.{environment, after, concrete_bindings, output_bindings}
 use Rattle.meaning.proofs.Places.{entry-below, below-entry}
 use Rattle.carriers.proofs.Bindings.{bindings-count, bindings-some}
 use Rattle.slot_carriers.specs.CellGroups.{Holding}
 use Rattle.table_places.specs.ResolvedTable.{Slots, slotted}
-use Rattle.table_places.specs.DossierTable.{slots_of, concrete_slots, parameter_slots}
+use Rattle.table_places.specs.DossierTable.{concrete_slots, parameter_slots}
 use Rattle.search_groups.specs.Conjuncts.{used_pred, last_in}
 use Rattle.evaluation.specs.EvaluationByNumber.{Values}
-use Rattle.evaluation.specs.SlotValues.{Slotted, Held}
+use Rattle.evaluation.specs.SlotValues.{Slotted}
 use Rattle.conjunct_tests.specs.ConjunctTests.{Agree, agree_none, agree_more}
 use Rattle.conjunct_tests.proofs.SlotFrame.{frame-slots}
 use Rattle.conjunct_tests.proofs.LastVariables.{not_in}
 use Rattle.mentions.proofs.FreeNodes.{refused}
-use Rattle.truths.specs.Promises.{Asked, Answers}
-use Rattle.states.specs.ReadPredicatesPredicateRows.{Columns, RowsAt, no_rows, more_rows, ContextAt}
+use Rattle.truths.specs.Promises.{Answers}
+use Rattle.states.specs.ReadPredicatesPredicateRows.{Columns, RowsAt, more_rows, ContextAt}
 use Rattle.states.specs.StateTests.{Placed}
 use Rattle.states.specs.Promises.{RowsAsked, ContextAsked}
 use Rattle.states.proofs.RowLaws.{row_inside, first-asked}
-use Rattle.states.proofs.StateLaws.{ContextOf, asked-at, over-append, slotted-append}
+use Rattle.states.proofs.StateLaws.{asked-at, over-append, slotted-append}
 use Rattle.states.proofs.StepLaws.{concrete-operation}
 use Rattle.part_places.specs.ReadingsReadings.{ReadingOf}
 use Rattle.points.proofs.PointBindings.{Primes, no_primes, more_primes, state-primes}
@@ -40,7 +40,7 @@ use Rattle.part_places.specs.PartTestsPartsByNumber.{concrete_at, input_at, outp
 use Rattle.part_places.specs.Places.{PartAsked, PartSet}
 use Rattle.part_places.proofs.ReadingGroups.{reading-groups}
 use Rattle.state_facts.specs.declared.Numbers.{Numbers}
-use Rattle.state_facts.specs.Placings.{StatesAre, StatesSized, StatesBound, ParametersAre, ParametersSized, ParametersBound}
+use Rattle.state_facts.specs.Placings.{StatesSized, StatesBound, ParametersSized, ParametersBound}
 use Rattle.state_facts.specs.Reads.{concrete_count, ReadAsked}
 use Rattle.state_facts.specs.FalseConjuncts.{FirstFalse, none_false, false_here, false_later, Guard, In, Throughout, ContextFirst, ContextIs}
 use Rattle.state_facts.specs.FalseConjuncts.{StepFrom, GuardRowAsked, GuardFails, OperationRead, GuardAsked, FalseStep, FalseGuard}
@@ -179,7 +179,7 @@ module _ (d : Dossier) (op : Operation) where
 module _ {table rows : List ℕ} {Γ : Scope} {to : ℕ} (d : Dossier) (op : Operation) (c i : ℕ) (k o : Binding) where
   -- every conjunct that counts is in all these environments what it is in one of them
   lifted : Over (unprimed d d.concrete) (concrete_at d c) → Over (unprimed d d.concrete) k → Over (inputs d op) (input_at d op i) → Over (outputs d op) o
-      → length (unprimed d d.concrete) ≤ 8 → length (outputs d op) ≤ 3 → (at r : ℕ) (ps : List Pred) → RowsAt table rows Γ (step_slots d op) to at ps
+      → length (unprimed d d.concrete) ≤ 8 → length (outputs d op) ≤ 3 → (at : ℕ) (r : Option ℕ) (ps : List Pred) → RowsAt table rows Γ (step_slots d op) to at ps
       → FirstFalse (Guard rows) (In (environment d (step_values (concrete_at d c) k (input_at d op i) o))) at ps r
       → FirstFalse (Guard rows) (Throughout (StepFrom d op c i)) at ps r
   lifted ob ok oi oo sc so = go
@@ -192,7 +192,7 @@ module _ {table rows : List ℕ} {Γ : Scope} {to : ℕ} (d : Dossier) (op : Ope
           (sym m.outputs ∙ g.outputs_none) (sym m.concretes_primed ∙ g.concretes_none)
           ∙ h
 
-      go : (at r : ℕ) (ps : List Pred) → RowsAt table rows Γ (step_slots d op) to at ps
+      go : (at : ℕ) (r : Option ℕ) (ps : List Pred) → RowsAt table rows Γ (step_slots d op) to at ps
           → FirstFalse (Guard rows) (In (environment d (step_values (concrete_at d c) k (input_at d op i) o))) at ps r
           → FirstFalse (Guard rows) (Throughout (StepFrom d op c i)) at ps r
       go at _ _ w none_false = none_false
@@ -234,7 +234,7 @@ module _ {table rows firsts cells : List ℕ} {p : Part} {j c i : ℕ} where
           (placed_at (inputs d op) i 16 τ (subst (λ (n : ℕ). i < n) R.parameters.inputs.count li) (Q.inputs (inputs d op) (outputs d op) R.parameters) long)
           (placed_at (outputs d op) 0 19 τ (bindings-some (outputs d op)) (Q.outputs (inputs d op) (outputs d op) R.parameters) long)
 
-      first_of : {r : ℕ} → ContextFirst (Guard rows) table rows firsts (5 + 2 * j + 1) τ r → (K : Context) (W : Slots) → ContextIs d (5 + 2 * j + 1) K W
+      first_of : {r : Option ℕ} → ContextFirst (Guard rows) table rows firsts (5 + 2 * j + 1) τ r → (K : Context) (W : Slots) → ContextIs d (5 + 2 * j + 1) K W
           → (k : ContextAt table rows firsts (5 + 2 * j + 1) K W)
           → FirstFalse (Guard rows) (Throughout (StepFrom d op c i)) (get_or firsts (5 + 2 * j + 1) 0) k.conjuncts r
       first_of {r} w K W x k =
@@ -248,17 +248,17 @@ module _ {table rows firsts cells : List ℕ} {p : Part} {j c i : ℕ} where
     pub guard-context : GuardAsked table rows firsts cells p j → ContextAsked table rows firsts (5 + 2 * j + 1) τ
     guard-context A = asked-at A.read.tests (concrete-operation A.dossier j A.operation A.read.listed) (placed-guard A.dossier A.operation A.read)
 
-    pub step-first : {r : ℕ} → ContextFirst (Guard rows) table rows firsts (5 + 2 * j + 1) τ r → FalseStep table rows firsts cells p j c i r
+    pub step-first : {r : Option ℕ} → ContextFirst (Guard rows) table rows firsts (5 + 2 * j + 1) τ r → FalseStep table rows firsts cells p j c i r
     step-first w = record {
       first = λ d op R l m K W x k. first_of d op R w K W x k;
       no_concrete = λ l. absurd (omega arith);
       no_inputs = λ l. absurd (omega arith);
     }
 
-  pub step-no-concrete : p.nc ≤ c → FalseStep table rows firsts cells p j c i 16384
+  pub step-no-concrete : p.nc ≤ c → FalseStep table rows firsts cells p j c i None
   step-no-concrete h = record { first = λ d op R l m K W x k. absurd (omega arith); no_concrete = λ l. refl; no_inputs = λ l. refl }
 
-  pub step-no-inputs : p.ni ≤ i → FalseStep table rows firsts cells p j c i 16384
+  pub step-no-inputs : p.ni ≤ i → FalseStep table rows firsts cells p j c i None
   step-no-inputs h = record { first = λ d op R l m K W x k. absurd (omega arith); no_concrete = λ l. refl; no_inputs = λ l. refl }
 
 module _ {table rows firsts cells : List ℕ} {p : Part} {j : ℕ} (A : GuardAsked table rows firsts cells p j) where
@@ -292,7 +292,7 @@ module _ {table rows firsts groups cells : List ℕ} {p : Part} {operations j : 
       let t = below-entry a.dossier.operations j (subst (λ (n : ℕ). j < n) a.many h) in
       record { dossier = a.dossier; operation = t.0; read = operation-read P a.dossier t.0 a.reading t.1; few = own-low a h }
 
-  pub false_guard-is : {c i r : ℕ} → j < operations → FalseStep table rows firsts cells p j c i r → FalseGuard table rows firsts groups operations j c i r
+  pub false_guard-is : {c i : ℕ} {r : Option ℕ} → j < operations → FalseStep table rows firsts cells p j c i r → FalseGuard table rows firsts groups operations j c i r
   unfolding concrete_bindings
   false_guard-is {c} {i} {r} h w = record {
     first = λ d op R m l lc li K W x k.
@@ -310,7 +310,7 @@ module _ {table rows firsts groups cells : List ℕ} {p : Part} {operations j : 
       inward : (d : Dossier) (op : Operation) → ReadingOf table rows firsts groups d → get_elem? d.operations j ≡ some op → length (bindings (inputs d op)) ≡ p.ni
       inward d op R l = bindings-count (inputs d op) ∙ sym (operation-read P d op R l).parameters.inputs.count
 
-pub guard_no-operation : {table rows firsts groups : List ℕ} {operations j c i : ℕ} → operations ≤ j → FalseGuard table rows firsts groups operations j c i 16384
+pub guard_no-operation : {table rows firsts groups : List ℕ} {operations j c i : ℕ} → operations ≤ j → FalseGuard table rows firsts groups operations j c i None
 guard_no-operation {j = j} h = record {
   first = λ d op R m l lc li K W x k. let y = entry-below op d.operations j l in absurd (omega arith);
   no_operation = λ l. refl;

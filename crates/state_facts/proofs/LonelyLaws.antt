@@ -1,9 +1,10 @@
 -- States that no state of the other side is related to: a walk over all bindings of the other side that finds none. Assumes nothing.
 use mathlib.Core.Path.{◌≡◌, refl, sym, ap, subst, ◌∙◌}
-use mathlib.Core.Bool.{Bool, true, false, ◌&&◌, not}
+use mathlib.Core.Bool.{Bool, true, false, ◌&&◌, not, true≢false}
 use mathlib.Core.List.{List, []}
-use Prim.Native.Nat.{ℕ, ◌<◌, ◌≤◌}
+use Prim.Native.Nat.{ℕ, ◌<◌}
 use native.Mathlib.Omega.{arith}
+use Rattle.std.specs.Prelude.{Option, Some, None, is_some, is_none}
 use lib.ListN.{get_or, length}
 use Rattle.lexical.specs.Lists.{any}
 use Rattle.form.specs.Tree.{Dossier}
@@ -17,8 +18,8 @@ use Rattle.carriers.proofs.Bindings.{bindings-count}
 use Rattle.plans.specs.declared.Part.{Part}
 use Rattle.part_places.specs.PartTestsPartsByNumber.{abstract_at, concrete_at}
 use Rattle.state_facts.specs.Reads.{abstract_count, concrete_count, abstract_state_at, concrete_state_at, related_at, unrelated_concrete, unrelated_abstract, lonely_concrete, lonely_abstract}
-use Rattle.state_facts.specs.Reads.{StatesRead, TestIs, PairIs}
-use Rattle.state_facts.proofs.SearchLaws.{Walked}
+use Rattle.state_facts.specs.Reads.{StatesRead, TestIs}
+use Rattle.step_searches.specs.StepPromises.{First}
 
 -- ---- over all places of a list
 
@@ -31,27 +32,20 @@ none_passes g xs h = sym (ap not (none_any g xs each))
     each : (x : Binding) → Among x xs → g x ≡ false
     each x m = let t = place-of x xs [] m in subst (λ (b : Binding). g b ≡ false) t.2 (h t.0 t.1)
 
+-- nothing is found
+pub none-found : (o : Option ℕ) (r : Bool) → is_some o ≡ not r → r ≡ is_none o
+none-found None true e = refl
+none-found None false e = absurd (true≢false (sym e))
+none-found (Some x) true e = absurd (true≢false e)
+none-found (Some x) false e = refl
+
 no-state : (x y : Bool) → false ≡ x → false ≡ (x && y)
 no-state x y e = subst (λ (b : Bool). false ≡ (b && y)) e refl
 
 a-state : (x y r : Bool) → true ≡ x → r ≡ y → r ≡ (x && y)
 a-state x y r e h = subst (λ (b : Bool). r ≡ (b && y)) e h
 
--- ---- a test at one number of two
-
-abbrev pub related_to : (c : ℕ) → Dossier → ℕ → Bool
-related_to c d a = related_at d a c
-
-abbrev pub related_from : (a : ℕ) → Dossier → ℕ → Bool
-related_from a d c = related_at d a c
-
 module _ {table rows firsts cells : List ℕ} {p : Part} where
-  pub at_first : {a c : ℕ} {r : Bool} → PairIs table rows firsts cells p related_at a c r → TestIs table rows firsts cells p (related_to c) a r
-  at_first w = record { means = w.means }
-
-  pub at_second : {a c : ℕ} {r : Bool} → PairIs table rows firsts cells p related_at a c r → TestIs table rows firsts cells p (related_from a) c r
-  at_second w = record { means = w.means }
-
   abstracts : (d : Dossier) → StatesRead table rows firsts cells p d → p.nm ≡ abstract_count d
   unfolding abstract_bindings
   abstracts d R = R.are.abstracts.count ∙ sym (bindings-count (unprimed d d.abstract))
@@ -60,30 +54,28 @@ module _ {table rows firsts cells : List ℕ} {p : Part} where
   unfolding concrete_bindings
   concretes d R = R.are.concretes.count ∙ sym (bindings-count (unprimed d d.concrete))
 
-  -- ---- one that is related ends the walk
+  -- ---- the first that is related, or none
 
-  pub met_concrete : {a c : ℕ} {r : Bool} → a < p.nm → PairIs table rows firsts cells p related_at a c r → r ≡ true → TestIs table rows firsts cells p unrelated_concrete c false
-  met_concrete {a} {c} h w e = record {
-    means = λ d R. some-passes (λ (b : Binding). related d b (concrete_at d c)) (abstract_bindings d) a (subst (λ (n : ℕ). a < n) (abstracts d R) h) (sym (w.means d R) ∙ e);
-  }
-
-  pub met-abstract : {a c : ℕ} {r : Bool} → c < p.nc → PairIs table rows firsts cells p related_at a c r → r ≡ true → TestIs table rows firsts cells p unrelated_abstract a false
-  met-abstract {a} {c} h w e = record {
-    means = λ d R. some-passes (λ (b : Binding). related d (abstract_at d a) b) (concrete_bindings d) c (subst (λ (n : ℕ). c < n) (concretes d R) h) (sym (w.means d R) ∙ e);
-  }
-
-  -- ---- a walk to the end finds none
-
-  pub unmet-concrete : {c k : ℕ} → Walked table rows firsts cells p (related_to c) p.nm 0 k → p.nm ≤ k → TestIs table rows firsts cells p unrelated_concrete c true
-  unmet-concrete {c} {k} w h = record {
+  pub unmet-concrete : {c : ℕ} {r : Bool} (o : Option ℕ) → r ≡ is_none o → ((d : Dossier) → StatesRead table rows firsts cells p d → First (λ (a : ℕ). related_at d a c) 0 p.nm o)
+      → TestIs table rows firsts cells p unrelated_concrete c r
+  unmet-concrete {c} None e w = record {
     means = λ d R.
-        none_passes (λ (b : Binding). related d b (concrete_at d c)) (abstract_bindings d) (λ i l. let e = abstracts d R in w.past d R i (omega arith) (omega arith));
+        e ∙ none_passes (λ (b : Binding). related d b (concrete_at d c)) (abstract_bindings d) (λ i l. let n = abstracts d R in w d R i (omega arith) (omega arith));
+  }
+  unmet-concrete {c} (Some a) e w = record {
+    means = λ d R.
+        e ∙ some-passes (λ (b : Binding). related d b (concrete_at d c)) (abstract_bindings d) a (subst (λ (n : ℕ). a < n) (abstracts d R) (w d R).1) (w d R).2;
   }
 
-  pub unmet-abstract : {a k : ℕ} → Walked table rows firsts cells p (related_from a) p.nc 0 k → p.nc ≤ k → TestIs table rows firsts cells p unrelated_abstract a true
-  unmet-abstract {a} {k} w h = record {
+  pub unmet-abstract : {a : ℕ} {r : Bool} (o : Option ℕ) → r ≡ is_none o → ((d : Dossier) → StatesRead table rows firsts cells p d → First (λ (c : ℕ). related_at d a c) 0 p.nc o)
+      → TestIs table rows firsts cells p unrelated_abstract a r
+  unmet-abstract {a} None e w = record {
     means = λ d R.
-        none_passes (λ (b : Binding). related d (abstract_at d a) b) (concrete_bindings d) (λ i l. let e = concretes d R in w.past d R i (omega arith) (omega arith));
+        e ∙ none_passes (λ (b : Binding). related d (abstract_at d a) b) (concrete_bindings d) (λ i l. let n = concretes d R in w d R i (omega arith) (omega arith));
+  }
+  unmet-abstract {a} (Some c) e w = record {
+    means = λ d R.
+        e ∙ some-passes (λ (b : Binding). related d (abstract_at d a) b) (concrete_bindings d) c (subst (λ (n : ℕ). c < n) (concretes d R) (w d R).1) (w d R).2;
   }
 
   -- ---- a state, and unrelated

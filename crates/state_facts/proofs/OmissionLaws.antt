@@ -14,12 +14,12 @@ use Rattle.sets.specs.Sets.{has}
 use Rattle.sets.proofs.Members.{has-zero, has-suc, has-past, under-power}
 use Rattle.form.specs.Tree.{Pred, Dossier}
 use Rattle.static_rules.specs.Carriers.{Variable}
-use Rattle.static_rules.specs.Scope.{Scope, Context}
+use Rattle.static_rules.specs.Scope.{Scope}
 use Rattle.meaning.proofs.Places.{below-entry}
 use Rattle.table_places.specs.ResolvedTable.{Slots}
 use Rattle.mentions.specs.MentionPromises.{TruthFree, TruthSays}
 use Rattle.mentions.proofs.FreeNodes.{refused}
-use Rattle.states.specs.ReadPredicatesPredicateRows.{RowsAt, no_rows, more_rows, ContextAt, TestsOf}
+use Rattle.states.specs.ReadPredicatesPredicateRows.{RowsAt, no_rows, more_rows, TestsOf}
 use Rattle.states.proofs.StateLaws.{ContextOf, abstract-context, concrete-context, ainit-context, cinit-context, retrieve-context}
 use Rattle.states.proofs.StepLaws.{abstract-operation, concrete-operation}
 use Rattle.state_facts.specs.Reads.{ReadAsked}

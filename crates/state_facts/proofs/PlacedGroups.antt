@@ -14,13 +14,12 @@ use Rattle.meaning.specs.Bindings.{bindings, Over}
 use Rattle.meaning.proofs.Bindings.{listed-over}
 use Rattle.meaning.proofs.Places.{member-at}
 use Rattle.carriers.proofs.Bindings.{bindings-count}
-use Rattle.slot_carriers.specs.CellGroups.{CellsOf, Grouped, Counts, Holding, HoldsBinding, Others}
-use Rattle.slot_carriers.proofs.GroupBindings.{others-none}
+use Rattle.slot_carriers.specs.CellGroups.{Grouped, Counts, Holding, HoldsBinding, Others}
 use Rattle.plans.specs.declared.Part.{Part}
 use Rattle.points.specs.Points.{span}
 use Rattle.points.proofs.PointBindings.{span-count}
 use Rattle.state_facts.specs.declared.Numbers.{Numbers}
-use Rattle.state_facts.specs.Placings.{GroupOf, GroupAsked, GroupBound, StatesAre, StatesSized, PairBound, OthersFrom, StatesBound, ParametersAre, ParametersSized, ParametersBound}
+use Rattle.state_facts.specs.Placings.{GroupAsked, GroupBound, StatesSized, PairBound, OthersFrom, StatesBound, ParametersSized, ParametersBound}
 
 -- ---- listed bindings
 

@@ -1,27 +1,25 @@
 -- The groups of the part that is shown are those of every dossier whose groups stand in the arrays. Assumes nothing.
-use mathlib.Core.Path.{◌≡◌, refl, sym, ap, subst, ◌∙◌}
+use mathlib.Core.Path.{◌≡◌, sym, ap, subst}
 use mathlib.Core.Logic.{◌⊎◌, inl, inr}
 use mathlib.Core.List.{List, []}
 use mathlib.Core.Option.{some}
 use Prim.Native.Nat.{ℕ, ◌+◌, ◌*◌, ◌<◌, ◌≤◌}
 use native.Mathlib.Omega.{arith}
-use lib.ListN.{get_or, length, get_elem?}
+use lib.ListN.{length, get_elem?}
 use lib.IntN.{ℤ}
 use Rattle.form.specs.Tree.{Operation, Dossier}
 use Rattle.static_rules.specs.Carriers.{Variable}
 use Rattle.static_rules.specs.Limits.{binding_count}
 use Rattle.static_rules.specs.Scope.{unprimed, inputs, outputs}
-use Rattle.meaning.specs.Bindings.{bindings}
 use Rattle.meaning.specs.Operations.{abstract_bindings, concrete_bindings, output_bindings}
 use Rattle.meaning.proofs.Places.{entry-below, below-entry}
 use Rattle.slot_carriers.specs.CellGroups.{CellsOf}
 use Rattle.plans.specs.declared.Part.{Part}
-use Rattle.part_places.specs.PartTestsPartGroups.{StateCells, OperationCells, opening_part, correctness_part}
+use Rattle.part_places.specs.PartTestsPartGroups.{StateCells}
 use Rattle.part_places.specs.Places.{GroupsOf, AllAsked, PartAsked, PartSet}
 use Rattle.state_facts.specs.declared.Numbers.{Numbers}
-use Rattle.state_facts.specs.declared.Sizes.{Sizes}
-use Rattle.state_facts.specs.Placings.{GroupOf, StatesAre, StatesSized, StatesBound, ParametersAre, ParametersSized, ParametersBound}
-use Rattle.state_facts.specs.Shown.{PartOf, Shown, ShownStates, ShownParameters}
+use Rattle.state_facts.specs.Placings.{StatesAre, StatesSized, StatesBound, ParametersAre, ParametersSized, ParametersBound}
+use Rattle.state_facts.specs.Shown.{PartOf, Shown}
 use Rattle.state_facts.proofs.PlacedGroups.{split_at, states-kept}
 
 pub part-asked : {table groups : List ℕ} {operations operation k : ℕ} → AllAsked table groups operations → PartOf operations operation k → PartAsked table groups k

@@ -1,5 +1,5 @@
 -- The first conjunct of a predicate that fails: of retrieve for two states, of an operation's concrete predicate for a state and inputs. Nothing here need be believed.
-use Rattle.std.specs.Prelude.{◌≡◌, Bool, true, false, List, [], ◌∷◌, ◌++◌, ℕ, ◌+◌, ◌*◌, ◌<◌, ◌≤◌, get_or, length}
+use Rattle.std.specs.Prelude.{◌≡◌, Bool, true, false, Option, Some, None, List, [], ◌∷◌, ◌++◌, ℕ, ◌+◌, ◌*◌, ◌<◌, ◌≤◌, get_or, length}
 use Rattle.std.proofs.Math.Option.{some}
 use Rattle.std.proofs.Math.ListN.{get_elem?}
 use Rattle.form.specs.Tree.{Pred, Operation, Dossier}
@@ -19,12 +19,12 @@ use Rattle.part_places.specs.PartTestsPartsByNumber.{abstract_at, concrete_at, i
 use Rattle.state_facts.specs.Placings.{StatesAre, ParametersAre}
 use Rattle.state_facts.specs.Reads.{abstract_count, concrete_count, StatesRead}
 
--- r is where the row of the first of these conjuncts stands that counts and fails, or 16384 where none does; their rows stand from `at` on. G: a row counts. T: what it is that a conjunct is
+-- r is where the row of the first of these conjuncts stands that counts and fails, or none where none does; their rows stand from `at` on. G: a row counts. T: what it is that a conjunct is
 -- true or false
-pub data FirstFalse (G : ℕ → Type 0) (T : Pred → Bool → Type 0) : (at : ℕ) → List Pred → (r : ℕ) → Type 0 where
-  none_false : {at : ℕ} → FirstFalse G T at [] 16384
-  false_here : {at : ℕ} {p : Pred} {ps : List Pred} → G at → T p false → FirstFalse G T at (p ∷ ps) at
-  false_later : {at r : ℕ} {p : Pred} {ps : List Pred} → (G at → T p true) → FirstFalse G T (at + 8) ps r → FirstFalse G T at (p ∷ ps) r
+pub data FirstFalse (G : ℕ → Type 0) (T : Pred → Bool → Type 0) : (at : ℕ) → List Pred → (r : Option ℕ) → Type 0 where
+  none_false : {at : ℕ} → FirstFalse G T at [] None
+  false_here : {at : ℕ} {p : Pred} {ps : List Pred} → G at → T p false → FirstFalse G T at (p ∷ ps) (Some at)
+  false_later : {at : ℕ} {r : Option ℕ} {p : Pred} {ps : List Pred} → (G at → T p true) → FirstFalse G T (at + 8) ps r → FirstFalse G T at (p ∷ ps) r
 
 -- every row counts
 abbrev pub Every : ℕ → Type 0
@@ -42,10 +42,10 @@ In ρ q b = holds q ρ ≡ b
 
 -- ---- by the values in the slots
 
-pub record FirstIs (G : ℕ → Type 0) (table rows : List ℕ) (from to : ℕ) (σ : Values) (r : ℕ) : Type 0 where
+pub record FirstIs (G : ℕ → Type 0) (table rows : List ℕ) (from to : ℕ) (σ : Values) (r : Option ℕ) : Type 0 where
   pub means : (Γ : Scope) (W : Slots) (ρ : Environment) (ps : List Pred) → RowsAt table rows Γ W to from ps → Held Γ W 0 ρ σ → FirstFalse G (In ρ) from ps r
 
-pub record ContextFirst (G : ℕ → Type 0) (table rows firsts : List ℕ) (n : ℕ) (σ : Values) (r : ℕ) : Type 0 where
+pub record ContextFirst (G : ℕ → Type 0) (table rows firsts : List ℕ) (n : ℕ) (σ : Values) (r : Option ℕ) : Type 0 where
   pub means : (K : Context) (W : Slots) (ρ : Environment) (k : ContextAt table rows firsts n K W) → Held K.scope W 0 ρ σ
       → FirstFalse G (In ρ) (get_or firsts n 0) k.conjuncts r
 
@@ -59,19 +59,19 @@ pub record ContextIs (d : Dossier) (n : ℕ) (K : Context) (W : Slots) : Type 0 
 abbrev pub pair_of : Dossier → (a c : ℕ) → Environment
 pair_of d a c = environment d (abstract_at d a ++ concrete_at d c)
 
-pub record FalsePair (table rows firsts cells : List ℕ) (p : Part) (a c r : ℕ) : Type 0 where
+pub record FalsePair (table rows firsts cells : List ℕ) (p : Part) (a c : ℕ) (r : Option ℕ) : Type 0 where
   pub first : (d : Dossier) → StatesRead table rows firsts cells p d → a < p.nm → c < p.nc → (K : Context) (W : Slots) → ContextIs d 4 K W
       → (k : ContextAt table rows firsts 4 K W) → FirstFalse Every (In (pair_of d a c)) (get_or firsts 4 0) k.conjuncts r
-  pub no_abstract : p.nm ≤ a → r ≡ 16384
-  pub no_concrete : p.nc ≤ c → r ≡ 16384
+  pub no_abstract : p.nm ≤ a → r ≡ None
+  pub no_concrete : p.nc ≤ c → r ≡ None
 
 -- of every dossier whose reading the arrays are, whatever its conjuncts of retrieve are taken to be (read_predicates/specs/PredicateRows.ContextAt)
-pub record FalseConjunct (table rows firsts groups : List ℕ) (operations a c r : ℕ) : Type 0 where
+pub record FalseConjunct (table rows firsts groups : List ℕ) (operations a c : ℕ) (r : Option ℕ) : Type 0 where
   pub first : (d : Dossier) → ReadingOf table rows firsts groups d → operations ≡ length d.operations → a < abstract_count d → c < concrete_count d
       → (K : Context) (W : Slots) → ContextIs d 4 K W → (k : ContextAt table rows firsts 4 K W)
       → FirstFalse Every (In (pair_of d a c)) (get_or firsts 4 0) k.conjuncts r
-  pub no_abstract : (d : Dossier) → ReadingOf table rows firsts groups d → abstract_count d ≤ a → r ≡ 16384
-  pub no_concrete : (d : Dossier) → ReadingOf table rows firsts groups d → concrete_count d ≤ c → r ≡ 16384
+  pub no_abstract : (d : Dossier) → ReadingOf table rows firsts groups d → abstract_count d ≤ a → r ≡ None
+  pub no_concrete : (d : Dossier) → ReadingOf table rows firsts groups d → concrete_count d ≤ c → r ≡ None
 
 -- ---- an operation's concrete predicate
 
@@ -108,19 +108,19 @@ pub record GuardAsked (table rows firsts cells : List ℕ) (p : Part) (j : ℕ) 
   pub read : OperationRead table rows firsts cells p j dossier operation
   pub few : j < 16
 
-pub record FalseStep (table rows firsts cells : List ℕ) (p : Part) (j c i r : ℕ) : Type 0 where
+pub record FalseStep (table rows firsts cells : List ℕ) (p : Part) (j c i : ℕ) (r : Option ℕ) : Type 0 where
   pub first : (d : Dossier) (op : Operation) → OperationRead table rows firsts cells p j d op → c < p.nc → i < p.ni → (K : Context) (W : Slots) → ContextIs d (5 + 2 * j + 1) K W
       → (k : ContextAt table rows firsts (5 + 2 * j + 1) K W)
       → FirstFalse (Guard rows) (Throughout (StepFrom d op c i)) (get_or firsts (5 + 2 * j + 1) 0) k.conjuncts r
-  pub no_concrete : p.nc ≤ c → r ≡ 16384
-  pub no_inputs : p.ni ≤ i → r ≡ 16384
+  pub no_concrete : p.nc ≤ c → r ≡ None
+  pub no_inputs : p.ni ≤ i → r ≡ None
 
-pub record FalseGuard (table rows firsts groups : List ℕ) (operations j c i r : ℕ) : Type 0 where
+pub record FalseGuard (table rows firsts groups : List ℕ) (operations j c i : ℕ) (r : Option ℕ) : Type 0 where
   pub first : (d : Dossier) (op : Operation) → ReadingOf table rows firsts groups d → operations ≡ length d.operations → get_elem? d.operations j ≡ some op
       → c < concrete_count d → i < length (bindings (inputs d op)) → (K : Context) (W : Slots) → ContextIs d (5 + 2 * j + 1) K W
       → (k : ContextAt table rows firsts (5 + 2 * j + 1) K W)
       → FirstFalse (Guard rows) (Throughout (StepFrom d op c i)) (get_or firsts (5 + 2 * j + 1) 0) k.conjuncts r
-  pub no_operation : operations ≤ j → r ≡ 16384
-  pub no_concrete : (d : Dossier) → ReadingOf table rows firsts groups d → operations ≡ length d.operations → concrete_count d ≤ c → r ≡ 16384
+  pub no_operation : operations ≤ j → r ≡ None
+  pub no_concrete : (d : Dossier) → ReadingOf table rows firsts groups d → operations ≡ length d.operations → concrete_count d ≤ c → r ≡ None
   pub no_inputs : (d : Dossier) (op : Operation) → ReadingOf table rows firsts groups d → operations ≡ length d.operations → get_elem? d.operations j ≡ some op
-      → length (bindings (inputs d op)) ≤ i → r ≡ 16384
+      → length (bindings (inputs d op)) ≤ i → r ≡ None

@@ -1,5 +1,5 @@
 -- Facts of a dossier whose reading the arrays are: what is asked, and what a search among the numbers of bindings promises. Nothing here need be believed.
-use Rattle.std.specs.Prelude.{◌≡◌, Bool, ◌&&◌, not, List, ℕ, ◌<◌, ◌≤◌, length}
+use Rattle.std.specs.Prelude.{◌≡◌, Bool, ◌&&◌, not, Option, List, ℕ, length}
 use Rattle.lexical.specs.Lists.{any}
 use Rattle.form.specs.Tree.{Dossier}
 use Rattle.static_rules.specs.Scope.{unprimed}
@@ -7,16 +7,11 @@ use Rattle.meaning.specs.Meaning.{Binding}
 use Rattle.meaning.specs.Operations.{abstract_bindings, concrete_bindings, is_state, abstract_initial, related}
 use Rattle.states.specs.ReadPredicatesPredicateRows.{TestsOf}
 use Rattle.part_places.specs.ReadingsReadings.{ReadingOf}
-use Rattle.points.specs.Searches.{Sought}
 use Rattle.plans.specs.declared.Part.{Part}
 use Rattle.part_places.specs.PartTestsPartsByNumber.{abstract_at, concrete_at}
+pub use Rattle.step_searches.specs.StepPromises.{ReadAsked}
+use Rattle.step_searches.specs.StepPromises.{First}
 use Rattle.state_facts.specs.Placings.{StatesAre}
-
--- asked: the arrays are the reading of some dossier, which has so many operations
-pub record ReadAsked (table rows firsts groups : List ℕ) (operations : ℕ) : Type 0 where
-  pub dossier : Dossier
-  pub reading : ReadingOf table rows firsts groups dossier
-  pub many : operations ≡ length dossier.operations
 
 -- ---- the tests, by numbers of bindings
 
@@ -53,14 +48,9 @@ lonely_abstract d a = abstract_state_at d a && unrelated_abstract d a
 
 -- ---- promised
 
--- from a number on to the next one that passes, or to the end; a number behind the end is left
-pub record Goes (f : ℕ → Bool) (from end r : ℕ) : Type 0 where
-  pub sought : from ≤ end → Sought f from end r
-  pub beyond : end < from → r ≡ from
-
 -- of every dossier whose reading the arrays are: f is the test, n how many bindings there are
-pub record Next (table rows firsts groups : List ℕ) (operations : ℕ) (f : Dossier → ℕ → Bool) (n : Dossier → ℕ) (from r : ℕ) : Type 0 where
-  pub goes : (d : Dossier) → ReadingOf table rows firsts groups d → operations ≡ length d.operations → Goes (f d) from (n d) r
+pub record Next (table rows firsts groups : List ℕ) (operations : ℕ) (f : Dossier → ℕ → Bool) (n : Dossier → ℕ) (from : ℕ) (r : Option ℕ) : Type 0 where
+  pub first : (d : Dossier) → ReadingOf table rows firsts groups d → operations ≡ length d.operations → First (f d) from (n d) r
 
 -- ---- over the cells of both states
 
@@ -78,6 +68,3 @@ pub record TestIs (table rows firsts cells : List ℕ) (p : Part) (f : Dossier �
 
 pub record PairIs (table rows firsts cells : List ℕ) (p : Part) (f : Dossier → (a c : ℕ) → Bool) (a c : ℕ) (r : Bool) : Type 0 where
   pub means : (d : Dossier) → StatesRead table rows firsts cells p d → r ≡ f d a c
-
-pub record NextIs (table rows firsts cells : List ℕ) (p : Part) (f : Dossier → ℕ → Bool) (end from r : ℕ) : Type 0 where
-  pub goes : (d : Dossier) → StatesRead table rows firsts cells p d → Goes (f d) from end r

@@ -6,16 +6,13 @@ ghost use Rattle.state_facts.specs.Reads.{ReadAsked, SearchAsked};
 ghost use Rattle.state_facts.specs.FalseConjuncts.{Every, Guard, FirstIs, ContextFirst, FalsePair, FalseConjunct};
 ghost use Rattle.state_facts.specs.FalseConjuncts.{GuardRowAsked, GuardFails, GuardAsked, FalseStep, FalseGuard};
 
-use crate::Numbers;
 use crate::placing::{bind_pair, put_parameters, put_states};
+use crate::{Numbers, StateSearch};
 use part_places::{OBLIGATIONS, part_cells};
-use plans::Part;
-use search_groups::conjuncts::{FIRSTS, ROW};
+use search_groups::Dossier;
+use search_groups::conjuncts::ROW;
 use slot_carriers::{CELLS, SLOTS};
 use truths::truth;
-
-// No conjunct: no row begins here.
-pub const NONE: usize = 16384;
 
 // The part of the check that has the groups of both states.
 const INITIALISATION: usize = 0;
@@ -45,7 +42,7 @@ fn seek_false(
     from: usize,
     to: usize,
     slots: &mut [i64; SLOTS],
-) -> usize
+) -> Option<usize>
     requires { RowsAsked t.now rows.now from to slots.old }
     ensures { FirstIs Every t.now rows.now from to slots.old result }
 {
@@ -53,69 +50,52 @@ fn seek_false(
     while i < to {
         let end = rows[i + END] as usize;
         if !truth(t, end, slots) {
-            return i;
+            return Some(i);
         }
         i += ROW;
     }
-    NONE
+    None
 }
 
 // That of the n-th context's predicate.
-fn first_false(
-    t: &[u16; 16384],
-    rows: &[u16; 16384],
-    firsts: &[u16; FIRSTS],
-    n: usize,
-    slots: &mut [i64; SLOTS],
-) -> usize
-    requires { ContextAsked t.now rows.now firsts.now n slots.old }
-    ensures { ContextFirst Every t.now rows.now firsts.now n slots.old result }
+fn first_false(d: &Dossier<'_>, n: usize, slots: &mut [i64; SLOTS]) -> Option<usize>
+    requires { ContextAsked d.now.table.now d.now.rows.now d.now.firsts.now n slots.old }
+    ensures { ContextFirst Every d.now.table.now d.now.rows.now d.now.firsts.now n slots.old result }
 {
-    let from = firsts[n] as usize;
-    let to = firsts[n + 1] as usize;
-    seek_false(t, rows, from, to, slots)
+    let from = d.firsts[n] as usize;
+    let to = d.firsts[n + 1] as usize;
+    seek_false(d.table, d.rows, from, to, slots)
 }
 
 // That of retrieve, for the a-th abstract and the c-th concrete state.
-fn retrieve_false(
-    t: &[u16; 16384],
-    rows: &[u16; 16384],
-    firsts: &[u16; FIRSTS],
-    cells: &[u32; CELLS],
-    p: Part,
-    a: usize,
-    c: usize,
-) -> usize
-    requires { SearchAsked t.now rows.now firsts.now cells.now p }
-    ensures { FalsePair t.now rows.now firsts.now cells.now p a c result }
+fn retrieve_false(s: &StateSearch<'_>, a: usize, c: usize) -> Option<usize>
+    requires { SearchAsked s.now.dossier.table.now s.now.dossier.rows.now s.now.dossier.firsts.now s.now.cells.now s.now.part }
+    ensures { FalsePair s.now.dossier.table.now s.now.dossier.rows.now s.now.dossier.firsts.now s.now.cells.now s.now.part a c result }
 {
-    if p.nm <= a {
-        return NONE;
+    if s.part.nm <= a {
+        return None;
     }
-    if p.nc <= c {
-        return NONE;
+    if s.part.nc <= c {
+        return None;
     }
     let mut slots = [0i64; SLOTS];
-    bind_pair(cells, p, a, c, &mut slots);
-    first_false(t, rows, firsts, RETRIEVE, &mut slots)
+    bind_pair(s.cells, s.part, a, c, &mut slots);
+    first_false(&s.dossier, RETRIEVE, &mut slots)
 }
 
 // Where the first conjunct of retrieve stands that fails for the a-th abstract and the c-th concrete state.
-pub fn false_conjunct(
-    t: &[u16; 16384],
-    rows: &[u16; 16384],
-    firsts: &[u16; FIRSTS],
-    groups: &[u16; 160],
-    operations: usize,
-    a: usize,
-    c: usize,
-) -> usize
-    requires { ReadAsked t.now rows.now firsts.now groups.now operations }
-    ensures { FalseConjunct t.now rows.now firsts.now groups.now operations a c result }
+pub fn false_conjunct(d: &Dossier<'_>, a: usize, c: usize) -> Option<usize>
+    requires { ReadAsked d.now.table.now d.now.rows.now d.now.firsts.now d.now.groups.now d.now.operations }
+    ensures { FalseConjunct d.now.table.now d.now.rows.now d.now.firsts.now d.now.groups.now d.now.operations a c result }
 {
     let mut cells = [0u32; CELLS];
-    let p = part_cells(t, groups, INITIALISATION, &mut cells);
-    retrieve_false(t, rows, firsts, &cells, p, a, c)
+    let part = part_cells(d.table, d.groups, INITIALISATION, &mut cells);
+    let s = StateSearch {
+        dossier: *d,
+        cells: &cells,
+        part,
+    };
+    retrieve_false(&s, a, c)
 }
 
 // Does the conjunct of a row fail, which mentions no output and no variable of a state after?
@@ -147,56 +127,41 @@ fn seek_guard(
     from: usize,
     to: usize,
     slots: &mut [i64; SLOTS],
-) -> usize
+) -> Option<usize>
     requires { RowsAsked t.now rows.now from to slots.old }
     ensures { FirstIs (Guard rows.now) t.now rows.now from to slots.old result }
 {
     let mut i = from;
     while i < to {
         if guard_fails(t, rows, i, slots) {
-            return i;
+            return Some(i);
         }
         i += ROW;
     }
-    NONE
+    None
 }
 
 // That of the n-th context's predicate.
-fn first_guard(
-    t: &[u16; 16384],
-    rows: &[u16; 16384],
-    firsts: &[u16; FIRSTS],
-    n: usize,
-    slots: &mut [i64; SLOTS],
-) -> usize
-    requires { ContextAsked t.now rows.now firsts.now n slots.old }
-    ensures { ContextFirst (Guard rows.now) t.now rows.now firsts.now n slots.old result }
+fn first_guard(d: &Dossier<'_>, n: usize, slots: &mut [i64; SLOTS]) -> Option<usize>
+    requires { ContextAsked d.now.table.now d.now.rows.now d.now.firsts.now n slots.old }
+    ensures { ContextFirst (Guard d.now.rows.now) d.now.table.now d.now.rows.now d.now.firsts.now n slots.old result }
 {
-    let from = firsts[n] as usize;
-    let to = firsts[n + 1] as usize;
-    seek_guard(t, rows, from, to, slots)
+    let from = d.firsts[n] as usize;
+    let to = d.firsts[n + 1] as usize;
+    seek_guard(d.table, d.rows, from, to, slots)
 }
 
 // That of the j-th operation's concrete predicate, for the c-th concrete state and the i-th inputs. The state after and the outputs are some that there are: the conjuncts do not
 // depend on them.
-fn step_false(
-    t: &[u16; 16384],
-    rows: &[u16; 16384],
-    firsts: &[u16; FIRSTS],
-    cells: &[u32; CELLS],
-    p: Part,
-    j: usize,
-    c: usize,
-    i: usize,
-) -> usize
-    requires { GuardAsked t.now rows.now firsts.now cells.now p j }
-    ensures { FalseStep t.now rows.now firsts.now cells.now p j c i result }
+fn step_false(s: &StateSearch<'_>, j: usize, c: usize, i: usize) -> Option<usize>
+    requires { GuardAsked s.now.dossier.table.now s.now.dossier.rows.now s.now.dossier.firsts.now s.now.cells.now s.now.part j }
+    ensures { FalseStep s.now.dossier.table.now s.now.dossier.rows.now s.now.dossier.firsts.now s.now.cells.now s.now.part j c i result }
 {
-    if p.nc <= c {
-        return NONE;
+    if s.part.nc <= c {
+        return None;
     }
-    if p.ni <= i {
-        return NONE;
+    if s.part.ni <= i {
+        return None;
     }
     let mut slots = [0i64; SLOTS];
     let x = Numbers {
@@ -207,12 +172,10 @@ fn step_false(
         k: c,
         b: 0,
     };
-    put_states(cells, p, x, &mut slots);
-    put_parameters(cells, p, x, &mut slots);
+    put_states(s.cells, s.part, x, &mut slots);
+    put_parameters(s.cells, s.part, x, &mut slots);
     first_guard(
-        t,
-        rows,
-        firsts,
+        &s.dossier,
         OPERATIONS + SIDES * j + CONCRETE_SIDE,
         &mut slots,
     )
@@ -220,23 +183,19 @@ fn step_false(
 
 // Where the first conjunct of the j-th operation's concrete predicate stands that mentions no output and no variable of a state after, and fails for the c-th concrete state and the
 // i-th inputs: with it the operation has no step from there.
-pub fn false_guard(
-    t: &[u16; 16384],
-    rows: &[u16; 16384],
-    firsts: &[u16; FIRSTS],
-    groups: &[u16; 160],
-    operations: usize,
-    j: usize,
-    c: usize,
-    i: usize,
-) -> usize
-    requires { ReadAsked t.now rows.now firsts.now groups.now operations }
-    ensures { FalseGuard t.now rows.now firsts.now groups.now operations j c i result }
+pub fn false_guard(d: &Dossier<'_>, j: usize, c: usize, i: usize) -> Option<usize>
+    requires { ReadAsked d.now.table.now d.now.rows.now d.now.firsts.now d.now.groups.now d.now.operations }
+    ensures { FalseGuard d.now.table.now d.now.rows.now d.now.firsts.now d.now.groups.now d.now.operations j c i result }
 {
-    if operations <= j {
-        return NONE;
+    if d.operations <= j {
+        return None;
     }
     let mut cells = [0u32; CELLS];
-    let p = part_cells(t, groups, OBLIGATIONS + OBLIGATIONS * j, &mut cells);
-    step_false(t, rows, firsts, &cells, p, j, c, i)
+    let part = part_cells(d.table, d.groups, OBLIGATIONS + OBLIGATIONS * j, &mut cells);
+    let s = StateSearch {
+        dossier: *d,
+        cells: &cells,
+        part,
+    };
+    step_false(&s, j, c, i)
 }

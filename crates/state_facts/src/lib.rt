@@ -13,6 +13,8 @@ ghost use Rattle.state_facts.specs.Shown.{PartOf, Shown};
 
 use part_places::{OBLIGATIONS, part_cells};
 use placing::{put_parameters, put_states};
+use plans::Part;
+use search_groups::Dossier;
 use slot_carriers::{CELLS, SLOTS};
 
 // The numbers of bindings: of the abstract and the concrete state, the inputs, the outputs, the concrete and the abstract state after.
@@ -24,6 +26,14 @@ pub struct Numbers {
     pub o: usize,
     pub k: usize,
     pub b: usize,
+}
+
+// What a search among states goes over: the dossier, the cells of a part's variables, and the part's sizes.
+#[derive(Clone, Copy)]
+struct StateSearch<'a> {
+    dossier: Dossier<'a>,
+    cells: &'a [u32; CELLS],
+    part: Part,
 }
 
 // How many variables the groups have: of the abstract and the concrete state, inputs, outputs.
@@ -47,19 +57,17 @@ fn part_of(operations: usize, operation: usize) -> usize
 }
 
 // The slots get the values of the bindings with these numbers; a group whose number is out of range keeps its slots. Where the operation is none of the dossier's, it is the states alone.
-pub fn show(
-    t: &[u16; 16384],
-    groups: &[u16; 160],
-    operations: usize,
-    operation: usize,
-    x: Numbers,
-    slots: &mut [i64; SLOTS],
-) -> Sizes
-    requires { AllAsked t.now groups.now operations }
-    ensures { Shown t.now groups.now operations operation x slots.new result }
+pub fn show(d: &Dossier<'_>, operation: usize, x: Numbers, slots: &mut [i64; SLOTS]) -> Sizes
+    requires { AllAsked d.now.table.now d.now.groups.now d.now.operations }
+    ensures { Shown d.now.table.now d.now.groups.now d.now.operations operation x slots.new result }
 {
     let mut cells = [0u32; CELLS];
-    let p = part_cells(t, groups, part_of(operations, operation), &mut cells);
+    let p = part_cells(
+        d.table,
+        d.groups,
+        part_of(d.operations, operation),
+        &mut cells,
+    );
     put_states(&cells, p, x, slots);
     put_parameters(&cells, p, x, slots);
     Sizes {

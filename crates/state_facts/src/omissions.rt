@@ -4,7 +4,8 @@ ghost use Rattle.state_facts.specs.Reads.{ReadAsked};
 ghost use Rattle.state_facts.specs.Omissions.{RowsStand, RowsSay, BitSays, BitsSay, LeftOut};
 
 use mentions::free_pred;
-use search_groups::conjuncts::{FIRSTS, ROW};
+use search_groups::Dossier;
+use search_groups::conjuncts::ROW;
 use slot_carriers::SLOTS;
 
 // Where a row has the end of its conjunct's table.
@@ -62,29 +63,18 @@ fn bits_between(
     ensures { BitsSay t.now rows.now from to slot count 0 result }
 {
     let mut bits: usize = 0;
-    let mut k = count;
-    while 0 < k {
-        k -= 1;
+    for k in (0..count).rev() {
         bits = bit_of(t, rows, from, to, slot + k) + BASE * bits;
     }
     bits
 }
 
 // Which of at most 8 slots from one on the predicate of a context leaves out, by bits, the first slot's the lowest; 0 where a number is out of range. A bit that is not set says nothing.
-pub fn left_out(
-    t: &[u16; 16384],
-    rows: &[u16; 16384],
-    firsts: &[u16; FIRSTS],
-    groups: &[u16; 160],
-    operations: usize,
-    context: usize,
-    slot: usize,
-    count: usize,
-) -> usize
-    requires { ReadAsked t.now rows.now firsts.now groups.now operations }
-    ensures { LeftOut t.now rows.now firsts.now context slot count result }
+pub fn left_out(d: &Dossier<'_>, context: usize, slot: usize, count: usize) -> usize
+    requires { ReadAsked d.now.table.now d.now.rows.now d.now.firsts.now d.now.groups.now d.now.operations }
+    ensures { LeftOut d.now.table.now d.now.rows.now d.now.firsts.now context slot count result }
 {
-    if CONDITIONS + SIDES * operations <= context {
+    if CONDITIONS + SIDES * d.operations <= context {
         return 0;
     }
     if SLOTS < slot {
@@ -93,7 +83,7 @@ pub fn left_out(
     if MOST < count {
         return 0;
     }
-    let from = firsts[context] as usize;
-    let to = firsts[context + 1] as usize;
-    bits_between(t, rows, from, to, slot, count)
+    let from = d.firsts[context] as usize;
+    let to = d.firsts[context + 1] as usize;
+    bits_between(d.table, d.rows, from, to, slot, count)
 }

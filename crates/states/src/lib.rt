@@ -91,7 +91,7 @@ pub fn abstract_initial(
     context_holds(t, rows, firsts, AINIT, slots)
 }
 
-// The same of the concrete variables and cinit.
+// The same of the concrete variables and cinit: of its own bindings is what it asks and promises, and the code that the two could share is two calls.
 pub fn concrete_initial(
     t: &[u16; node::NUMBERS],
     rows: &[u16; node::NUMBERS],
@@ -152,7 +152,7 @@ pub fn abstract_step(
     context_holds(t, rows, firsts, OPERATIONS + SIDES * k, slots)
 }
 
-// The same of its concrete side.
+// The same of its concrete side, for the reason of `concrete_initial` a function of its own.
 pub fn concrete_step(
     t: &[u16; node::NUMBERS],
     rows: &[u16; node::NUMBERS],

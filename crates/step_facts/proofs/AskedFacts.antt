@@ -1,12 +1,12 @@
 -- From the reading of some dossier to the searches of its operation, and from what these find back to every dossier whose reading it is. Assumes nothing.
 use mathlib.Core.Path.{◌≡◌, refl, sym, ap, subst, ◌∙◌}
-use mathlib.Core.Bool.{Bool, true, false, true≢false, false≢true}
+use mathlib.Core.Bool.{Bool, false, true≢false}
 use mathlib.Core.List.{List}
 use mathlib.Core.Option.{some}
-use Prim.Native.Nat.{ℕ, ◌+◌, ◌*◌, ◌/◌, ◌%◌, ◌<◌, ◌≤◌}
+use Prim.Native.Nat.{ℕ, ◌*◌, ◌/◌, ◌%◌, ◌<◌, ◌≤◌}
 use native.Mathlib.Omega.{arith}
-use lib.Dec.{ltb}
-use borrow.Author.Tests.{ltb-true, ltb-false}
+use native.Mathlib.Decide.{dec_lt}
+use Rattle.std.specs.Prelude.{Option, Some, None, IfSome, unwrap_or}
 use lib.ListN.{length, get_elem?}
 use Rattle.form.specs.Tree.{Operation, Dossier}
 use Rattle.static_rules.specs.Scope.{unprimed, inputs, outputs}
@@ -17,17 +17,17 @@ use Rattle.carriers.proofs.Bindings.{bindings-count}
 use Rattle.points.specs.Searches.{Sought}
 use Rattle.plans.specs.declared.Part.{Part}
 use Rattle.state_facts.specs.ReadingsReadings.{ReadingOf}
-use Rattle.state_facts.specs.PartTestsPartGroups.{correctness_part, opening_part}
 use Rattle.state_facts.specs.PartTestsPartsByNumber.{abstract_at, output_at, abstractly, initial, initial_match}
-use Rattle.step_searches.specs.StepPromises.{StepSearches, StepsAsked, ForSteps, PrepareAsked, Prepared, AbstractStepFound}
+use Rattle.step_searches.specs.StepPromises.{StepSearches, StepsAsked, PrepareAsked, Prepared, First, AbstractStepFound}
 use Rattle.step_searches.specs.StepPromises.{OpeningSearches, OpeningAsked, OpenAsked, Opened, InitialStateFound, InitialMatchFound}
 use Rattle.step_searches.proofs.FoundSteps as steps
 use Rattle.step_searches.proofs.FoundOpenings as openings
-use Rattle.step_facts.specs.declared.Widths.{Widths}
-use Rattle.step_facts.specs.declared.Pair.{Pair}
-use Rattle.state_facts.specs.Reads.{ReadAsked}
-use Rattle.step_facts.specs.FactPromises.{ForReading, ForOperation, abstract_count, concrete_count, input_count, output_count}
-use Rattle.step_facts.specs.FactPromises.{SpansAre, InRange, AbstractStepIs, BeginIs}
+use Rattle.state_facts.specs.Reads.{ReadAsked, abstract_count, concrete_count}
+use Rattle.step_facts.specs.FactPromises.{ForOperation, input_count, output_count}
+use Rattle.step_facts.specs.FactPromises.{SpansAre, InRange, AbstractStepIs, found_step, IsWithin, BeginIs}
+use Rattle.step_facts.specs.declared.NextStep.{NextStep}
+use Rattle.step_facts.specs.declared.NextStep.TheVariants.{Beyond}
+use Rattle.step_facts.specs.declared.runs.Beginning.TheVariants.{Both, Concrete, Nowhere}
 
 abstract-count : (d : Dossier) → abstract_count d ≡ binding_count (unprimed d d.abstract)
 unfolding abstract_bindings
@@ -76,6 +76,21 @@ module _ {table rows firsts groups : List ℕ} {operations j : ℕ} where
         let t : (op : Operation) × (get_elem? q.dossier.operations j ≡ some op) = below-entry q.dossier.operations j (omega (arith, q.many)) in
         record { dossier = q.dossier; operation = t.0; searches = w.searches q.dossier t.0 q.reading t.1 }
 
+-- ---- the first number that passes
+
+-- no other number that passes is before it
+pub sought-low : {f : ℕ → Bool} {n c k : ℕ} → Sought f 0 n c → Sought f 0 n k → k < n → c ≤ k
+sought-low {f} {n} {c} {k} s t l =
+    elim (dec_lt k c) [ yes h ↦ absurd (true≢false (sym (t.found l) ∙ s.past k (omega arith) h)) | no h ↦ omega arith ]
+
+pub sought-same-place : {f : ℕ → Bool} {n c k : ℕ} → Sought f 0 n c → Sought f 0 n k → c < n → k < n → c ≡ k
+sought-same-place s t l h = omega (arith, sought-low s t h, sought-low t s l)
+
+-- a search that went to a number, or to the end where it found none
+pub first-of : {f : ℕ → Bool} {from end : ℕ} (r : Option ℕ) → IfSome r (λ (k : ℕ). k < end) → Sought f from end (unwrap_or r end) → First f from end r
+first-of None l s = s.past
+first-of (Some k) l s = (s.low, l, s.found l, s.past)
+
 -- ---- a step of the abstract operation
 
 -- with n bindings of the abstract state
@@ -85,36 +100,37 @@ step_by d op a i n x = abstractly d op a i (output_at d op (x / n)) (abstract_at
 module _ {table rows firsts groups : List ℕ} {operations j a i from : ℕ} where
   -- nothing is in range
   no_step : ForOperation table rows firsts groups operations j (λ (d : Dossier) (op : Operation). InRange d op a i from → ⊥)
-      → AbstractStepIs table rows firsts groups operations j a i from 4294967296
-  no_step n = record { sought = λ d op R m e h. absurd (n d op R m e h); beyond = λ d op R m e h. refl; outside = λ h. refl }
+      → AbstractStepIs table rows firsts groups operations j a i from Beyond
+  no_step n = record { first = λ d op R m e h. absurd (n d op R m e h); beyond = λ d op R m e h. refl; outside = λ h. refl }
 
-  pub step-unlisted : operations ≤ j → AbstractStepIs table rows firsts groups operations j a i from 4294967296
+  pub step-unlisted : operations ≤ j → AbstractStepIs table rows firsts groups operations j a i from Beyond
   step-unlisted h = no_step (λ d op R m e r. unlisted d h m e)
 
   module _ {plan cells : List ℕ} {p : Part} (w : Prepared table rows firsts groups j plan cells p) where
-    pub state-beyond : p.na ≤ a → AbstractStepIs table rows firsts groups operations j a i from 4294967296
+    pub state-beyond : p.na ≤ a → AbstractStepIs table rows firsts groups operations j a i from Beyond
     state-beyond h = no_step (λ d op R m e r. none r.state (na-is (w.searches d op R e)))
       where
         none : {n : ℕ} → a < n → p.na ≡ n → ⊥
         none l q = omega arith
 
-    pub input-beyond : p.ni ≤ i → AbstractStepIs table rows firsts groups operations j a i from 4294967296
+    pub input-beyond : p.ni ≤ i → AbstractStepIs table rows firsts groups operations j a i from Beyond
     input-beyond h = no_step (λ d op R m e r. none r.input (ni-is (w.searches d op R e)))
       where
         none : {n : ℕ} → i < n → p.ni ≡ n → ⊥
         none l q = omega arith
 
-    pub start-beyond : p.nr < from → AbstractStepIs table rows firsts groups operations j a i from 4294967296
+    pub start-beyond : p.nr < from → AbstractStepIs table rows firsts groups operations j a i from Beyond
     start-beyond h = no_step (λ d op R m e r. let x = w.searches d op R e in none r.start (nr-is x ∙ (λ t. nq-is x t * na-is x t)))
       where
         none : {n : ℕ} → from ≤ n → p.nr ≡ n → ⊥
         none l q = omega arith
 
-    pub step-found : {r : ℕ} → j < operations → a < p.na → i < p.ni → from ≤ p.nr → AbstractStepFound table plan cells p a i from r
-        → AbstractStepIs table rows firsts groups operations j a i from r
-    step-found {r} h la li lf s =
+    pub step-found : (r : Option ℕ) (x : NextStep) → r ≡ found_step x → IsWithin x → j < operations → a < p.na → i < p.ni → from ≤ p.nr → IfSome r (λ (k : ℕ). k < p.nq * p.na)
+        → AbstractStepFound table plan cells p a i from (unwrap_or r (p.nq * p.na)) → AbstractStepIs table rows firsts groups operations j a i from x
+    step-found r x is within h la li lf low s =
         record {
-          sought = λ d op R m e q. found d op (w.searches d op R e);
+          first = λ d op R m e q.
+              (subst (First (step_by d op a i (abstract_count d)) from (output_count d op * abstract_count d)) is (found d op (w.searches d op R e)), within);
           beyond = λ d op R m e n. absurd (n (ranged d op (w.searches d op R e)));
           outside = λ l. absurd (over l);
         }
@@ -131,10 +147,10 @@ module _ {table rows firsts groups : List ℕ} {operations j a i from : ℕ} whe
             }
 
         found : (d : Dossier) (op : Operation) → StepSearches table plan cells p d op
-            → Sought (step_by d op a i (abstract_count d)) from (output_count d op * abstract_count d) r
+            → First (step_by d op a i (abstract_count d)) from (output_count d op * abstract_count d) r
         found d op x =
-            subst (λ (n : ℕ). Sought (step_by d op a i (abstract_count d)) from (n * abstract_count d) r) (nq-is x)
-            (subst (λ (n : ℕ). Sought (step_by d op a i n) from (p.nq * n) r) (na-is x) (s.sought d op x))
+            subst (λ (n : ℕ). First (step_by d op a i (abstract_count d)) from (n * abstract_count d) r) (nq-is x)
+            (subst (λ (n : ℕ). First (step_by d op a i n) from (p.nq * n) r) (na-is x) (first-of r low (s.sought d op x)))
 
 -- ---- how many bindings there are
 
@@ -187,33 +203,38 @@ module _ {table rows firsts groups : List ℕ} {operations : ℕ} where
 
     -- ---- a beginning
 
-    pub no_beginning : {c : ℕ} → InitialStateFound table plan cells p 0 c → p.nc ≤ c
-        → BeginIs table rows firsts groups operations (record { found = false; a = 0; c = c })
-    no_beginning {c} s h =
-        record {
-          first = λ d R m. subst (λ (n : ℕ). Sought (initial d) 0 n c) (opening-nc-is (w.searches d R)) (s.sought d (w.searches d R));
-          matched = λ d R m l. absurd (over (opening-nc-is (w.searches d R)) l);
-          both = λ e. absurd (false≢true e);
-          missing = λ e d R m l. absurd (over (opening-nc-is (w.searches d R)) l);
-        }
+    -- where there is no concrete initial state, or no abstract one for the first
+    pub no_beginning : {c : ℕ} → InitialStateFound table plan cells p 0 c → p.nc ≤ c → BeginIs table rows firsts groups operations Nowhere
+    no_beginning {c} s h = record {
+      is = λ d R m k l. (s.sought d (w.searches d R)).past k (omega arith) (below (opening-nc-is (w.searches d R)) l);
+    }
       where
-        over : {n : ℕ} → p.nc ≡ n → c < n → ⊥
-        over e l = omega arith
+        below : {n k : ℕ} → p.nc ≡ n → k < n → k < c
+        below e l = omega arith
 
-    pub beginning : {a c : ℕ} → InitialStateFound table plan cells p 0 c → c < p.nc → InitialMatchFound table plan cells p c 0 a
-        → BeginIs table rows firsts groups operations (record { found = ltb a p.nm; a = a; c = c })
-    beginning {a} {c} s h u =
-        record {
-          first = λ d R m. subst (λ (n : ℕ). Sought (initial d) 0 n c) (opening-nc-is (w.searches d R)) (s.sought d (w.searches d R));
-          matched = λ d R m l. met d R;
-          both = λ e d R m.
-              (subst (λ (n : ℕ). c < n) (opening-nc-is (w.searches d R)) h, subst (λ (n : ℕ). a < n) (opening-nm-is (w.searches d R)) (ltb-true a p.nm e));
-          missing = λ e d R m l. last (opening-nm-is (w.searches d R)) (ltb-false a p.nm e) (met d R).high;
-        }
-      where
-        met : (d : Dossier) → ReadingOf table rows firsts groups d → Sought (λ (x : ℕ). initial_match d c (abstract_at d x)) 0 (abstract_count d) a
-        met d R =
-            subst (λ (n : ℕ). Sought (λ (x : ℕ). initial_match d c (abstract_at d x)) 0 n a) (opening-nm-is (w.searches d R)) (u.sought d (w.searches d R))
+    module _ {c : ℕ} (s : InitialStateFound table plan cells p 0 c) (h : c < p.nc) where
+      starts : (d : Dossier) → ReadingOf table rows firsts groups d → Sought (initial d) 0 (concrete_count d) c
+      starts d R = subst (λ (n : ℕ). Sought (initial d) 0 n c) (opening-nc-is (w.searches d R)) (s.sought d (w.searches d R))
 
-        last : {n : ℕ} → p.nm ≡ n → p.nm ≤ a → a ≤ n → a ≡ n
-        last e l g = omega arith
+      met : {a : ℕ} → InitialMatchFound table plan cells p c 0 a → (d : Dossier) → ReadingOf table rows firsts groups d
+          → Sought (λ (x : ℕ). initial_match d c (abstract_at d x)) 0 (abstract_count d) a
+      met {a} u d R =
+          subst (λ (n : ℕ). Sought (λ (x : ℕ). initial_match d c (abstract_at d x)) 0 n a) (opening-nm-is (w.searches d R)) (u.sought d (w.searches d R))
+
+      pub unmatched-beginning : {a : ℕ} → InitialMatchFound table plan cells p c 0 a → p.nm ≤ a → BeginIs table rows firsts groups operations (Concrete c)
+      unmatched-beginning {a} u g = record {
+        is = λ d R m. record {
+          first = starts d R;
+          inside = subst (λ (n : ℕ). c < n) (opening-nc-is (w.searches d R)) h;
+          alone = λ x b. (met u d R).past x (omega arith) (omega (arith, opening-nm-is (w.searches d R)));
+        };
+      }
+
+      pub beginning : {a : ℕ} → InitialMatchFound table plan cells p c 0 a → a < p.nm → BeginIs table rows firsts groups operations (Both (record { a = a; c = c }))
+      beginning {a} u g = record {
+        is = λ d R m. record {
+          first = starts d R;
+          matched = met u d R;
+          both = (subst (λ (n : ℕ). c < n) (opening-nc-is (w.searches d R)) h, subst (λ (n : ℕ). a < n) (opening-nm-is (w.searches d R)) g);
+        };
+      }

@@ -2,18 +2,18 @@
 use mathlib.Core.Path.{◌≡◌, refl, sym, ap, ap₂, subst, ◌∙◌}
 use mathlib.Core.Bool.{Bool, true, false}
 use mathlib.Core.List.{List}
-use Prim.Native.Nat.{ℕ, zero, suc, ◌+◌, ◌-◌, ◌*◌, ◌<◌, ◌≤◌}
+use Prim.Native.Nat.{ℕ, zero, suc, ◌+◌, ◌*◌, ◌<◌, ◌≤◌}
 use native.Mathlib.Nat.{eq-or-lt_of_le}
 use native.Mathlib.Omega.{arith}
-use mathlib.Core.Logic.{◌⊎◌, inl, inr, ⊎_elim}
+use mathlib.Core.Logic.{◌⊎◌, inl, inr}
 use mir.Val.{bool_byte}
 use Rattle.form.specs.Tree.{Operation, Dossier}
 use Rattle.points.specs.Searches.{Sought}
 use Rattle.plans.specs.declared.Part.{Part}
 use Rattle.state_facts.specs.PartTestsPartsByNumber.{abstract_state, related_to, ready_at}
-use Rattle.step_searches.specs.StepPromises.{StepSearches, StepsAsked, ForSteps, Prepared, AbstractStateFound, RelatedStateFound}
-use Rattle.step_facts.specs.FactPromises.{if_so, weight, tally, Summed, one, state_test, related_test, ready_test, related_below, ready_below, AbleIs}
-use Rattle.step_facts.specs.FactPromises.{abstract_count, concrete_count, input_count, StatesCounted, PairsCounted, PromisesCounted}
+use Rattle.step_searches.specs.StepPromises.{StepsAsked, ForSteps, Prepared}
+use Rattle.step_facts.specs.FactPromises.{if_so, weight, tally, Summed, one, state_test, ready_test, related_below, ready_below, AbleIs}
+use Rattle.step_facts.specs.FactPromises.{StatesCounted, PairsCounted, PromisesCounted}
 use Rattle.step_facts.proofs.AskedFacts.{na-is, nc-is, ni-is, unlisted}
 use Rattle.step_facts.proofs.Masks.{byte_low}
 
@@ -126,10 +126,13 @@ module _ {table plan cells : List ℕ} {p : Part} {a : ℕ} where
   unfolding weight
   ready-start = record { high = omega arith; few = omega arith; sums = λ d op x. refl }
 
-  pub ready-next : {n i m : ℕ} {b : Bool} → ReadyTo table plan cells p a n i → i < p.ni → AbleIs table plan cells p true a i b → m ≡ i + 1
-      → ReadyTo table plan cells p a (n + bool_byte b) m
-  ready-next {n} {i} {m} {b} w h r e =
-      record { high = omega arith; few = omega (arith, w.few, byte_low b); sums = λ d op x. tally-byte (ready_at d op a) n i m b (w.sums d op x) (r.is d op x) e }
+  pub ready-next : {n i m y : ℕ} {b : Bool} → ReadyTo table plan cells p a n i → i < p.ni → AbleIs table plan cells p true a i b → y ≡ bool_byte b → m ≡ i + 1
+      → ReadyTo table plan cells p a (n + y) m
+  ready-next {n} {i} {m} {y} {b} w h r u e = record {
+    high = omega arith;
+    few = omega (arith, w.few, u, byte_low b);
+    sums = λ d op x. ap (λ (z : ℕ). n + z) u ∙ tally-byte (ready_at d op a) n i m b (w.sums d op x) (r.is d op x) e;
+  }
 
   pub ready-done : {n i : ℕ} → ReadyTo table plan cells p a n i → p.ni ≤ i → Summed table plan cells p (ready_test a) one p.ni n
   ready-done {n} {i} w h = let e : i ≡ p.ni = omega (arith, w.high) in record { is = λ d op x. w.sums d op x ∙ ap (tally (ready_at d op a)) e }

@@ -1,12 +1,13 @@
 -- The inputs at which a side can step, as bits; those of all concrete states. Assumes nothing.
 use mathlib.Core.Path.{◌≡◌, refl, sym, ap, ap₂, subst, ◌∙◌}
-use mathlib.Core.Bool.{Bool, true, false, true≢false, false≢true}
+use mathlib.Core.Bool.{Bool, true, false}
 use mathlib.Core.Logic.{◌⊎◌, ⊎_elim}
 use mathlib.Core.List.{List, []}
 use Prim.Native.Nat.{ℕ, zero, suc, ◌+◌, ◌-◌, ◌*◌, ◌/◌, ◌%◌, ◌<◌, ◌≤◌, ◌^◌}
 use native.Mathlib.Nat.{pow-le-pow_right, eq-or-lt_of_le, mod-lt, div-lt_iff_lt-mul}
 use native.Mathlib.Omega.{arith}
 use mir.Val.{bool_byte}
+use Rattle.std.specs.Prelude.{Option, Some, None, IfSome, unwrap_or, is_some}
 use lib.Arith.{digits_lt, digits_div, digits_mod}
 use lib.Dec.{ltb}
 use lib.ListN.{get_or, length, set, length-set}
@@ -26,7 +27,7 @@ use Rattle.plans.specs.declared.Part.{Part}
 use Rattle.state_facts.specs.PartTestsPartsByNumber.{nth, abstract_at, concrete_at, output_at, abstractly, concretely, ready_at, stepping}
 use Rattle.step_searches.specs.StepPromises.{StepSearches, StepsAsked, ForSteps, AbstractStepFound, ConcreteStepFound}
 use Rattle.step_facts.specs.FactPromises.{able_at, states_of, AbleIs, BitsAre, MasksAre}
-use Rattle.step_facts.proofs.AskedFacts.{na-is, nc-is, nq-is, nr-is, sizes-of}
+use Rattle.step_facts.proofs.AskedFacts.{na-is, nc-is, nq-is, sizes-of}
 
 -- ---- a search among pairs of bindings comes to an end exactly if no pair passes
 
@@ -91,17 +92,22 @@ module _ {table plan cells : List ℕ} {p : Part} (s i : ℕ) where
       → ltb r (n * length (concrete_bindings d)) ≡ any (λ (o : Binding). any (concretely d op s i o) (concrete_bindings d)) (output_bindings d op)) (sym (nq-is x))
       (some_pair (concretely d op s i) (output_bindings d op) (concrete_bindings d) r))
 
+-- what is found is below the end
+some-below : (n : ℕ) (o : Option ℕ) → IfSome o (λ (k : ℕ). k < n) → ltb (unwrap_or o n) n ≡ is_some o
+some-below n None l = le-ltb n n (omega arith)
+some-below n (Some k) l = lt-ltb k n l
+
 module _ {table plan cells : List ℕ} {p : Part} {s i : ℕ} {side : Bool} where
-  pub abstract-able : {r : ℕ} → side ≡ true → StepsAsked table plan cells p → AbstractStepFound table plan cells p s i 0 r
-      → AbleIs table plan cells p side s i (ltb r p.nr)
-  abstract-able {r} e q w = record {
-    is = λ d op x. ap (ltb r) (nr-is x) ∙ abstract-any s i x r (sizes-of q).0.0 (w.sought d op x) ∙ ap (λ (b : Bool). able_at d op b s i) (sym e);
+  pub abstract-able : (o : Option ℕ) {r : Bool} → r ≡ is_some o → side ≡ true → StepsAsked table plan cells p → IfSome o (λ (k : ℕ). k < p.nq * p.na)
+      → AbstractStepFound table plan cells p s i 0 (unwrap_or o (p.nq * p.na)) → AbleIs table plan cells p side s i r
+  abstract-able o t e q l w = record {
+    is = λ d op x. t ∙ sym (some-below (p.nq * p.na) o l) ∙ abstract-any s i x (unwrap_or o (p.nq * p.na)) (sizes-of q).0.0 (w.sought d op x) ∙ ap (λ (b : Bool). able_at d op b s i) (sym e);
   }
 
-  pub concrete-able : {r n : ℕ} → n ≡ p.nq * p.nc → side ≡ false → StepsAsked table plan cells p → ConcreteStepFound table plan cells p s i 0 r
-      → AbleIs table plan cells p side s i (ltb r n)
-  concrete-able {r} l e q w = record {
-    is = λ d op x. ap (ltb r) l ∙ concrete-any s i x r (sizes-of q).1.0 (w.sought d op x) ∙ ap (λ (b : Bool). able_at d op b s i) (sym e);
+  pub concrete-able : (o : Option ℕ) {r : Bool} → r ≡ is_some o → side ≡ false → StepsAsked table plan cells p → IfSome o (λ (k : ℕ). k < p.nq * p.nc)
+      → ConcreteStepFound table plan cells p s i 0 (unwrap_or o (p.nq * p.nc)) → AbleIs table plan cells p side s i r
+  concrete-able o t e q l w = record {
+    is = λ d op x. t ∙ sym (some-below (p.nq * p.nc) o l) ∙ concrete-any s i x (unwrap_or o (p.nq * p.nc)) (sizes-of q).1.0 (w.sought d op x) ∙ ap (λ (b : Bool). able_at d op b s i) (sym e);
   }
 
 -- ---- the bits of all inputs, the last one's first
@@ -151,11 +157,11 @@ module _ {table plan cells : List ℕ} {p : Part} {side : Bool} {s : ℕ} where
   pub bits-start : BitsFrom table plan cells p side s 0 p.ni
   bits-start = record { high = omega arith; sum = λ d op x n e. no_bits (able_at d op side s) p.ni n e }
 
-  pub bits-next : {m i : ℕ} {b : Bool} → BitsFrom table plan cells p side s m i → 0 < i → AbleIs table plan cells p side s (i - 1) b
-      → BitsFrom table plan cells p side s (2 * m + bool_byte b) (i - 1)
-  bits-next {m} {i} {b} w h a = record {
+  pub bits-next : {m i x : ℕ} {b : Bool} → BitsFrom table plan cells p side s m i → 0 < i → AbleIs table plan cells p side s (i - 1) b → x ≡ bool_byte b
+      → BitsFrom table plan cells p side s (2 * m + x) (i - 1)
+  bits-next {m} {i} {x = x} {b = b} w h a u = record {
     high = omega (arith, w.high);
-    sum = λ d op x n e. one_more (able_at d op side s) m i p.ni n b h w.high (w.sum d op x) (a.is d op x) e;
+    sum = λ d op y n e. ap (λ (z : ℕ). 2 * m + z) u ∙ one_more (able_at d op side s) m i p.ni n b h w.high (w.sum d op y) (a.is d op y) e;
   }
 
   -- the number stays small

@@ -1,23 +1,27 @@
 -- Facts about the states and steps of a dossier's two machines, by numbers of bindings, for every dossier whose reading the arrays are: what is asked and promised. Nothing here need be
 -- believed.
-use Rattle.std.specs.Prelude.{◌≡◌, Bool, true, false, ◌&&◌, not, List, ℕ, zero, suc, ◌+◌, ◌*◌, ◌/◌, ◌%◌, ◌<◌, ◌≤◌, length, get_or}
+use Rattle.std.specs.Prelude.{◌≡◌, Bool, true, false, ◌&&◌, not, Option, Some, None, MatchOption, IfSome, List, ℕ, zero, suc, ◌+◌, ◌*◌, ◌/◌, ◌%◌, ◌<◌, ◌≤◌, length, get_or}
 use Rattle.std.proofs.Math.Option.{some}
 use Rattle.std.proofs.Math.ListN.{get_elem?}
 use Rattle.form.specs.Tree.{Operation, Dossier}
 use Rattle.static_rules.specs.Scope.{inputs}
 use Rattle.sets.specs.Sets.{has}
 use Rattle.meaning.specs.Bindings.{bindings}
-use Rattle.meaning.specs.Operations.{abstract_bindings, concrete_bindings, output_bindings}
+use Rattle.meaning.specs.Operations.{output_bindings}
 use Rattle.points.specs.Searches.{Sought}
 use Rattle.plans.specs.declared.Part.{Part}
 use Rattle.state_facts.specs.ReadingsReadings.{ReadingOf}
 use Rattle.state_facts.specs.PartTestsPartsByNumber.{abstract_at, concrete_at, output_at, initial, initial_match, abstract_state, related_to, abstractly, concretely, ready_at, stepping, match}
-use Rattle.step_searches.specs.StepPromises.{ForSteps}
-use Rattle.state_facts.specs.Reads.{ReadAsked}
+use Rattle.step_searches.specs.StepPromises.{ForSteps, First}
+use Rattle.state_facts.specs.Reads.{abstract_count, concrete_count}
 use Rattle.step_facts.specs.declared.Widths.{Widths}
-use Rattle.step_facts.specs.declared.Place.{Place}
-use Rattle.step_facts.specs.declared.Pair.{Pair}
-use Rattle.step_facts.specs.declared.BothStep.{BothStep}
+use Rattle.step_facts.specs.declared.NextStep.{NextStep}
+use Rattle.step_facts.specs.declared.NextStep.TheVariants.{Step, NoStep, Beyond}
+use Rattle.step_facts.specs.declared.runs.Beginning.{Beginning}
+use Rattle.step_facts.specs.declared.runs.Beginning.TheVariants.{Both, Concrete, Nowhere}
+use Rattle.step_facts.specs.declared.differences.Place.{Place}
+use Rattle.step_facts.specs.declared.runs.Pair.{Pair}
+use Rattle.step_facts.specs.declared.runs.BothStep.{BothStep}
 
 -- of every dossier whose reading they are, and of its operation j
 abbrev pub ForReading : (table rows firsts groups : List ℕ) (operations : ℕ) → (Dossier → Type 0) → Type 0
@@ -29,19 +33,13 @@ ForOperation table rows firsts groups operations j X =
 
 -- ---- how many bindings each group has
 
-abbrev pub abstract_count : Dossier → ℕ
-abstract_count d = length (abstract_bindings d)
-
-abbrev pub concrete_count : Dossier → ℕ
-concrete_count d = length (concrete_bindings d)
-
 abbrev pub input_count : Dossier → Operation → ℕ
 input_count d op = length (bindings (inputs d op))
 
 abbrev pub output_count : Dossier → Operation → ℕ
 output_count d op = length (output_bindings d op)
 
--- spans(t, rows, firsts, groups, operations, j); where operation j is none of the dossier's, inputs and outputs have one binding
+-- spans(d, j); where operation j is none of the dossier's, inputs and outputs have one binding
 pub record SpansAre (table rows firsts groups : List ℕ) (operations j : ℕ) (r : Widths) : Type 0 where
   pub states : ForReading table rows firsts groups operations (λ (d : Dossier). (r.na ≡ abstract_count d) × (r.nc ≡ concrete_count d))
   pub parameters : ForOperation table rows firsts groups operations j (λ (d : Dossier) (op : Operation). (r.ni ≡ input_count d op) × (r.nq ≡ output_count d op))
@@ -59,12 +57,23 @@ pub record InRange (d : Dossier) (op : Operation) (a i from : ℕ) : Type 0 wher
   pub input : i < input_count d op
   pub start : from ≤ output_count d op * abstract_count d
 
--- abstract_step(t, rows, firsts, groups, operations, j, a, i, from)
-pub record AbstractStepIs (table rows firsts groups : List ℕ) (operations j a i from r : ℕ) : Type 0 where
-  pub sought : ForOperation table rows firsts groups operations j
-      (λ (d : Dossier) (op : Operation). InRange d op a i from → Sought (abstract_step_at d op a i) from (output_count d op * abstract_count d) r)
-  pub beyond : ForOperation table rows firsts groups operations j (λ (d : Dossier) (op : Operation). (InRange d op a i from → ⊥) → r ≡ 4294967296)
-  pub outside : operations ≤ j → r ≡ 4294967296
+-- the number of a step, if there is one
+abbrev pub found_step : NextStep → Option ℕ
+found_step (Step x) = Some x
+found_step NoStep = None
+found_step Beyond = None
+
+abbrev pub IsWithin : NextStep → Type 0
+IsWithin (Step x) = Unit {0}
+IsWithin NoStep = Unit {0}
+IsWithin Beyond = ⊥
+
+-- abstract_step(d, j, a, i, from)
+pub record AbstractStepIs (table rows firsts groups : List ℕ) (operations j a i from : ℕ) (r : NextStep) : Type 0 where
+  pub first : ForOperation table rows firsts groups operations j
+      (λ (d : Dossier) (op : Operation). InRange d op a i from → First (abstract_step_at d op a i) from (output_count d op * abstract_count d) (found_step r) × IsWithin r)
+  pub beyond : ForOperation table rows firsts groups operations j (λ (d : Dossier) (op : Operation). (InRange d op a i from → ⊥) → r ≡ Beyond)
+  pub outside : operations ≤ j → r ≡ Beyond
 
 -- ---- the inputs at which a side can step, as bits
 
@@ -100,8 +109,8 @@ abbrev pub more_by : (narrowed : Bool) (s m i : ℕ) → Bool
 more_by true s m i = more s m i
 more_by false s m i = more m s i
 
-pub record FirstMore (narrowed : Bool) (s m n r : ℕ) : Type 0 where
-  pub sought : Sought (more_by narrowed s m) 0 n r
+pub record FirstMore (narrowed : Bool) (s m n : ℕ) (r : Option ℕ) : Type 0 where
+  pub first : First (more_by narrowed s m) 0 n r
 
 -- the abstract side can step and the concrete one cannot (narrowed), or the other way round
 abbrev pub differs : (d : Dossier) (op : Operation) (narrowed : Bool) (a c i : ℕ) → Bool
@@ -125,49 +134,69 @@ pub record FirstPlace (d : Dossier) (op : Operation) (narrowed : Bool) (nc ni a 
   pub related : (l j : ℕ) → l < c → j < ni → differs_at d op narrowed a l j ≡ false
   pub inputs : (j : ℕ) → j < i → differs_at d op narrowed a c j ≡ false
 
-pub record PlaceFrom (table plan cells : List ℕ) (p : Part) (narrowed : Bool) (a : ℕ) (r : Place) : Type 0 where
-  pub low : r.found ≡ true → (r.a ≡ a) × (r.c < p.nc) × (r.i < p.ni)
-  pub here : r.found ≡ true → ForSteps table plan cells p (λ (d : Dossier) (op : Operation). differs_related d op narrowed a r.c r.i ≡ true)
-  pub first : r.found ≡ true → ForSteps table plan cells p (λ (d : Dossier) (op : Operation). FirstRelated d op narrowed p.ni a r.c r.i)
-  pub nowhere : r.found ≡ false
-      → ForSteps table plan cells p (λ (d : Dossier) (op : Operation). (c i : ℕ) → c < p.nc → i < p.ni → differs_related d op narrowed a c i ≡ false)
+-- at a related concrete state, or at none
+pub record PlaceHere (table plan cells : List ℕ) (p : Part) (narrowed : Bool) (a : ℕ) (x : Place) : Type 0 where
+  pub low : (x.a ≡ a) × (x.c < p.nc) × (x.i < p.ni)
+  pub here : ForSteps table plan cells p (λ (d : Dossier) (op : Operation). differs_related d op narrowed a x.c x.i ≡ true)
+  pub first : ForSteps table plan cells p (λ (d : Dossier) (op : Operation). FirstRelated d op narrowed p.ni a x.c x.i)
 
-pub record PlaceAmong (table plan cells : List ℕ) (p : Part) (narrowed : Bool) (r : Place) : Type 0 where
-  pub low : r.found ≡ true → (r.a < p.na) × (r.c < p.nc) × (r.i < p.ni)
-  pub here : r.found ≡ true → ForSteps table plan cells p (λ (d : Dossier) (op : Operation). differs_at d op narrowed r.a r.c r.i ≡ true)
-  pub first : r.found ≡ true → ForSteps table plan cells p (λ (d : Dossier) (op : Operation). FirstPlace d op narrowed p.nc p.ni r.a r.c r.i)
-  pub nowhere : r.found ≡ false
-      → ForSteps table plan cells p
-      (λ (d : Dossier) (op : Operation). (a c i : ℕ) → a < p.na → c < p.nc → i < p.ni → differs_at d op narrowed a c i ≡ false)
+abbrev pub NowhereFrom : (table plan cells : List ℕ) (p : Part) (narrowed : Bool) (a : ℕ) → Type 0
+NowhereFrom table plan cells p narrowed a =
+    ForSteps table plan cells p (λ (d : Dossier) (op : Operation). (c i : ℕ) → c < p.nc → i < p.ni → differs_related d op narrowed a c i ≡ false)
+
+pub record PlaceFrom (table plan cells : List ℕ) (p : Part) (narrowed : Bool) (a : ℕ) (r : Option Place) : Type 0 where
+  pub is : MatchOption r (NowhereFrom table plan cells p narrowed a) (PlaceHere table plan cells p narrowed a)
+
+-- at an abstract state and a concrete one, or at none
+pub record PlaceThere (table plan cells : List ℕ) (p : Part) (narrowed : Bool) (x : Place) : Type 0 where
+  pub low : (x.a < p.na) × (x.c < p.nc) × (x.i < p.ni)
+  pub here : ForSteps table plan cells p (λ (d : Dossier) (op : Operation). differs_at d op narrowed x.a x.c x.i ≡ true)
+  pub first : ForSteps table plan cells p (λ (d : Dossier) (op : Operation). FirstPlace d op narrowed p.nc p.ni x.a x.c x.i)
+
+abbrev pub NowhereAmong : (table plan cells : List ℕ) (p : Part) (narrowed : Bool) → Type 0
+NowhereAmong table plan cells p narrowed =
+    ForSteps table plan cells p
+    (λ (d : Dossier) (op : Operation). (a c i : ℕ) → a < p.na → c < p.nc → i < p.ni → differs_at d op narrowed a c i ≡ false)
+
+pub record PlaceAmong (table plan cells : List ℕ) (p : Part) (narrowed : Bool) (r : Option Place) : Type 0 where
+  pub is : MatchOption r (NowhereAmong table plan cells p narrowed) (PlaceThere table plan cells p narrowed)
 
 pub record Within (d : Dossier) (op : Operation) (a c i : ℕ) : Type 0 where
   pub abstractly : a < abstract_count d
   pub concretely : c < concrete_count d
   pub input : i < input_count d op
 
--- narrowed(t, rows, firsts, groups, operations, j), widened(..): the first such place
-pub record PlaceIs (table rows firsts groups : List ℕ) (operations j : ℕ) (narrowed : Bool) (r : Place) : Type 0 where
-  pub here : r.found ≡ true
-      → ForOperation table rows firsts groups operations j
-      (λ (d : Dossier) (op : Operation). Within d op r.a r.c r.i × (differs_at d op narrowed r.a r.c r.i ≡ true))
-  pub first : r.found ≡ true
-      → ForOperation table rows firsts groups operations j
-      (λ (d : Dossier) (op : Operation). FirstPlace d op narrowed (concrete_count d) (input_count d op) r.a r.c r.i)
-  pub nowhere : r.found ≡ false
-      → ForOperation table rows firsts groups operations j
-      (λ (d : Dossier) (op : Operation). (a c i : ℕ) → Within d op a c i → differs_at d op narrowed a c i ≡ false)
-  pub outside : operations ≤ j → r.found ≡ false
+-- narrowed(d, j), widened(d, j): the first such place
+pub record PlaceIs (table rows firsts groups : List ℕ) (operations j : ℕ) (narrowed : Bool) (r : Option Place) : Type 0 where
+  pub is : ForOperation table rows firsts groups operations j
+      (λ (d : Dossier) (op : Operation).
+      MatchOption r ((a c i : ℕ) → Within d op a c i → differs_at d op narrowed a c i ≡ false)
+      (λ (x : Place).
+      Within d op x.a x.c x.i × (differs_at d op narrowed x.a x.c x.i ≡ true)
+      × FirstPlace d op narrowed (concrete_count d) (input_count d op) x.a x.c x.i))
+  pub outside : operations ≤ j → r ≡ None
 
 -- ---- a beginning, and a step of both sides
 
--- begin(t, rows, firsts, groups, operations): the first concrete initial state, and the first abstract initial state that is related to it
-pub record BeginIs (table rows firsts groups : List ℕ) (operations : ℕ) (r : Pair) : Type 0 where
-  pub first : ForReading table rows firsts groups operations (λ (d : Dossier). Sought (initial d) 0 (concrete_count d) r.c)
-  pub matched : ForReading table rows firsts groups operations
-      (λ (d : Dossier). r.c < concrete_count d → Sought (λ (x : ℕ). initial_match d r.c (abstract_at d x)) 0 (abstract_count d) r.a)
-  pub both : r.found ≡ true → ForReading table rows firsts groups operations (λ (d : Dossier). (r.c < concrete_count d) × (r.a < abstract_count d))
-  pub missing : r.found ≡ false
-      → ForReading table rows firsts groups operations (λ (d : Dossier). r.c < concrete_count d → r.a ≡ abstract_count d)
+-- begin(d): the first concrete initial state, and the first abstract initial state that is related to it
+pub record BothBegin (d : Dossier) (x : Pair) : Type 0 where
+  pub first : Sought (initial d) 0 (concrete_count d) x.c
+  pub matched : Sought (λ (a : ℕ). initial_match d x.c (abstract_at d a)) 0 (abstract_count d) x.a
+  pub both : (x.c < concrete_count d) × (x.a < abstract_count d)
+
+-- the first concrete initial state, that no abstract initial state is related to
+pub record ConcreteBegins (d : Dossier) (c : ℕ) : Type 0 where
+  pub first : Sought (initial d) 0 (concrete_count d) c
+  pub inside : c < concrete_count d
+  pub alone : (a : ℕ) → a < abstract_count d → initial_match d c (abstract_at d a) ≡ false
+
+abbrev pub BeginsAs : Dossier → Beginning → Type 0
+BeginsAs d (Both x) = BothBegin d x
+BeginsAs d (Concrete c) = ConcreteBegins d c
+BeginsAs d Nowhere = (c : ℕ) → c < concrete_count d → initial d c ≡ false
+
+pub record BeginIs (table rows firsts groups : List ℕ) (operations : ℕ) (r : Beginning) : Type 0 where
+  pub is : ForReading table rows firsts groups operations (λ (d : Dossier). BeginsAs d r)
 
 -- a step of both sides: the abstract side is ready, the concrete side steps, and an abstract state after it is related to the concrete one
 pub record StepOf (d : Dossier) (op : Operation) (a c i o k b : ℕ) : Type 0 where
@@ -181,9 +210,12 @@ pub record StepLow (p : Part) (r : BothStep) : Type 0 where
   pub k_low : r.k < p.nc
   pub b_low : r.b < p.na
 
-pub record StepFound (table plan cells : List ℕ) (p : Part) (a c : ℕ) (r : BothStep) : Type 0 where
-  pub low : r.found ≡ true → StepLow p r
-  pub here : r.found ≡ true → ForSteps table plan cells p (λ (d : Dossier) (op : Operation). StepOf d op a c r.i r.o r.k r.b)
+pub record StepHere (table plan cells : List ℕ) (p : Part) (a c : ℕ) (x : BothStep) : Type 0 where
+  pub low : StepLow p x
+  pub here : ForSteps table plan cells p (λ (d : Dossier) (op : Operation). StepOf d op a c x.i x.o x.k x.b)
+
+pub record StepFound (table plan cells : List ℕ) (p : Part) (a c : ℕ) (r : Option BothStep) : Type 0 where
+  pub is : IfSome r (StepHere table plan cells p a c)
 
 pub record StepWithin (d : Dossier) (op : Operation) (r : BothStep) : Type 0 where
   pub i_low : r.i < input_count d op
@@ -191,11 +223,12 @@ pub record StepWithin (d : Dossier) (op : Operation) (r : BothStep) : Type 0 whe
   pub k_low : r.k < concrete_count d
   pub b_low : r.b < abstract_count d
 
--- step(t, rows, firsts, groups, operations, j, a, c): where none is found nothing is promised, since of the concrete steps with an input only the first one is tried
-pub record StepIs (table rows firsts groups : List ℕ) (operations j a c : ℕ) (r : BothStep) : Type 0 where
-  pub here : r.found ≡ true
-      → ForOperation table rows firsts groups operations j
-      (λ (d : Dossier) (op : Operation). StepWithin d op r × StepOf d op a c r.i r.o r.k r.b)
+-- step(d, j, a, c): where none is found nothing is promised, since of the concrete steps with an input only the first one is tried
+pub record StepIs (table rows firsts groups : List ℕ) (operations j a c : ℕ) (r : Option BothStep) : Type 0 where
+  pub is : IfSome r
+      (λ (x : BothStep).
+      ForOperation table rows firsts groups operations j
+      (λ (d : Dossier) (op : Operation). StepWithin d op x × StepOf d op a c x.i x.o x.k x.b))
 
 -- ---- counts
 

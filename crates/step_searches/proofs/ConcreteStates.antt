@@ -3,9 +3,7 @@
 use mathlib.Core.Path.{◌≡◌, sym, ap, subst, ◌∙◌}
 use mathlib.Core.Bool.{Bool, true, false}
 use mathlib.Core.List.{List, [], ◌∷◌}
-use Prim.Native.Nat.{ℕ, suc, ◌+◌, ◌<◌, ◌≤◌}
-use native.Mathlib.Decide.{dec_lt}
-use native.Mathlib.Omega.{arith}
+use Prim.Native.Nat.{ℕ, suc, ◌<◌}
 use lib.ListN.{get_or, length}
 use lib.IntN.{ℤ, pos}
 use Rattle.form.specs.Tree.{Operation, Dossier}
@@ -30,7 +28,7 @@ use Rattle.plans.specs.declared.Part.{Part}
 use Rattle.part_setup.specs.PartTestsPartsByNumber.{concrete_at}
 use Rattle.part_setup.specs.ReadingsReadings.{ReadingOf}
 use Rattle.lexical.specs.Lists.{upward}
-use Rattle.step_searches.specs.StepPromises.{StepSearches, OpeningSearches, ConcreteStates, ConcreteAsked, StateAnswers, ConcreteStateFound}
+use Rattle.step_searches.specs.StepPromises.{StepSearches, OpeningSearches, ConcreteStates, ConcreteAsked, StateAnswers}
 
 -- ---- the parts that have them
 
@@ -94,9 +92,6 @@ module _ {table rows firsts cells : List ℕ} {p : Part} {d : Dossier} (x : Conc
     state-is a = answer_at x.tests (concrete-context d) in-slots a
 
 module _ {table rows firsts cells : List ℕ} {p : Part} where
-  pub few-states : ConcreteAsked table rows firsts cells p → p.nc ≤ 4096
-  few-states q = subst (λ (n : ℕ). n ≤ 4096) (sym q.states.bindings) q.states.few
-
   pub bind-grouped : ConcreteAsked table rows firsts cells p → Grouped cells 8 p.vc
   bind-grouped q = grouped q.states
 
@@ -110,38 +105,10 @@ module _ {table rows firsts cells : List ℕ} {p : Part} where
     pub context-answers : {r : Bool} → ContextAnswers table rows firsts 1 σ r → StateAnswers table rows firsts cells p c r
     context-answers a = record { is = λ d x. state-is x l long h o a }
 
--- ---- one after the other
+-- what the test of one binding says
+module _ {table rows firsts cells : List ℕ} {p : Part} {d : Dossier} (x : ConcreteStates table rows firsts cells p d) where
+  pub is-state : (c : ℕ) → StateAnswers table rows firsts cells p c true → is_state d d.concrete (concrete_at d c) ≡ true
+  is-state c a = sym (a.is d x)
 
--- from `from` up to c none is a state
-pub record NoneTo (table rows firsts cells : List ℕ) (p : Part) (from c : ℕ) : Type 0 where
-  pub low : from ≤ c
-  pub high : c ≤ p.nc
-  pub past : (d : Dossier) → ConcreteStates table rows firsts cells p d → (k : ℕ) → from ≤ k → k < c → is_state d d.concrete (concrete_at d k) ≡ false
-
-none_between : (c k : ℕ) → c ≤ k → k < c → ⊥
-none_between c k h l = omega arith
-
--- the last one before c + 1
-last-before : (k c y : ℕ) → (k < c → ⊥) → y ≡ c + 1 → k < y → k ≡ c
-last-before k c y h e l = omega arith
-
-module _ {table rows firsts cells : List ℕ} {p : Part} {from : ℕ} where
-  pub none_yet : from ≤ p.nc → NoneTo table rows firsts cells p from from
-  none_yet h = record { low = omega arith; high = h; past = λ d x k l m. absurd (none_between from k l m) }
-
-  module _ {c : ℕ} (w : NoneTo table rows firsts cells p from c) where
-    pub none_more : c < p.nc → {r : Bool} → StateAnswers table rows firsts cells p c r → r ≡ false → {y : ℕ} → y ≡ c + 1 → NoneTo table rows firsts cells p from y
-    none_more h a e {y} n = record {
-      low = omega (arith, w.low);
-      high = omega arith;
-      past = λ d x k l m. elim (dec_lt k c) [
-        | yes g ↦ w.past d x k l g
-        | no g ↦ ap (λ (n : ℕ). is_state d d.concrete (concrete_at d n)) (last-before k c y g n m) ∙ sym (a.is d x) ∙ e
-      ];
-    }
-
-    pub state-here : {r : Bool} → StateAnswers table rows firsts cells p c r → r ≡ true → ConcreteStateFound table rows firsts cells p from c
-    state-here a e = record { sought = λ d x. record { low = w.low; high = w.high; past = w.past d x; found = λ h. sym (a.is d x) ∙ e } }
-
-    pub none_left : p.nc ≤ c → ConcreteStateFound table rows firsts cells p from c
-    none_left h = record { sought = λ d x. record { low = w.low; high = w.high; past = w.past d x; found = λ l. absurd (none_between p.nc c h l) } }
+  pub no-state : (c : ℕ) → StateAnswers table rows firsts cells p c false → is_state d d.concrete (concrete_at d c) ≡ false
+  no-state c a = sym (a.is d x)

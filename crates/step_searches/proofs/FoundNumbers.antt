@@ -56,6 +56,13 @@ module _ {table plan cells : List ℕ} {u : ℕ} {ss : List ℕ} {P : Point → 
       (search-finds S δ σ.tame (subst (λ (t : ℕ). Sought (under cells S.tests 0 ss δ) from t r) (sym e) (s.sought ss S.tests δ S.planned σ l))))
       w
 
+-- a search that does not stop before the end of its span stops there
+pub ended : {table plan cells : List ℕ} {u j m w from r : ℕ} {before after : List (List ℤ)} → SeekAsked table plan cells u j m w from before
+    → SeekAnswers table plan cells u j m w from before after r → w ≤ r → SeekAnswers table plan cells u j m w from before after w
+ended {table} {plan} {cells} {u} {j} {m} {w} {from} {r} {before} {after} q a h =
+    let e : r ≡ w = omega (arith, (a.sought q.slots q.tests q.point q.planned q.shows q.many).high) in
+    subst (λ (n : ℕ). SeekAnswers table plan cells u j m w from before after n) e a
+
 -- ---- the numbers of groups
 
 -- the variables of a group have their cells in the slots from `base` on

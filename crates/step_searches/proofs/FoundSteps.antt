@@ -1,9 +1,10 @@
 -- What the searches of an operation's correctness part are asked, and what they find by numbers. Assumes nothing.
-use mathlib.Core.Path.{◌≡◌, sym, ap, ap₂, subst, ◌∙◌}
+use mathlib.Core.Path.{◌≡◌, refl, sym, ap, ap₂, subst, ◌∙◌}
 use mathlib.Core.Bool.{Bool}
 use mathlib.Core.List.{List, ◌++◌}
 use Prim.Native.Nat.{ℕ, ◌+◌, ◌*◌, ◌/◌, ◌%◌, ◌<◌, ◌≤◌, ◌^◌}
 use native.Mathlib.Omega.{arith}
+use Rattle.std.specs.Prelude.{Option, unwrap_or, IfSome}
 use lib.ListN.{length}
 use lib.IntN.{ℤ}
 use Rattle.lexical.specs.Lists.{upward}
@@ -296,3 +297,25 @@ module _ {table plan cells : List ℕ} {p : Part} {d : Dossier} {op : Operation}
         → SeekAnswers table plan cells 4 0 z.vm z.nm from before after r → Sought (λ (s : ℕ). match d op a i o k (abstract_at d s)) from z.na r)
         (λ la li lo lk σ. finds x.met σ (upward-long 30 (length us)) (group-span abstracts-after) (λ (s : ℕ). match d op a i o k (abstract_at d s))
         (λ s h. matched a i o k s la li lo lk h))
+
+  -- ---- how many steps and after states a search has
+
+  steps-end : p.nr ≡ p.nq * p.na
+  steps-end = by_part (λ (z : Part). z.nr ≡ z.nq * z.na) refl
+
+  matches-end : p.nm ≡ p.na
+  matches-end = by_part (λ (z : Part). z.nm ≡ z.na) refl
+
+  module _ {f : ℕ → Bool} {from e : ℕ} (r : Option ℕ) where
+    pub steps-found-or : Sought f from e (unwrap_or r p.nr) → Sought f from e (unwrap_or r (p.nq * p.na))
+    steps-found-or = subst (λ (n : ℕ). Sought f from e (unwrap_or r n)) steps-end
+
+    pub matches-found-or : Sought f from e (unwrap_or r p.nm) → Sought f from e (unwrap_or r p.na)
+    matches-found-or = subst (λ (n : ℕ). Sought f from e (unwrap_or r n)) matches-end
+
+  module _ (r : Option ℕ) where
+    pub steps-low : IfSome r (λ (k : ℕ). k < p.nr) → IfSome r (λ (k : ℕ). k < p.nq * p.na)
+    steps-low = subst (λ (n : ℕ). IfSome r (λ (k : ℕ). k < n)) steps-end
+
+    pub matches-low : IfSome r (λ (k : ℕ). k < p.nm) → IfSome r (λ (k : ℕ). k < p.na)
+    matches-low = subst (λ (n : ℕ). IfSome r (λ (k : ℕ). k < n)) matches-end

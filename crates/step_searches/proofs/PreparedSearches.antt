@@ -7,7 +7,7 @@ use Prim.Native.Nat.{ℕ, ◌+◌, ◌*◌}
 use native.Mathlib.Omega.{arith}
 use lib.ListN.{length, get_elem?}
 use Rattle.form.specs.Tree.{Operation, Dossier}
-use Rattle.static_rules.specs.Scope.{unprimed, inputs, outputs}
+use Rattle.static_rules.specs.Scope.{unprimed, outputs}
 use Rattle.meaning.proofs.Places.{below-entry}
 use Rattle.plans.specs.declared.Part.{Part}
 use Rattle.plans.specs.PlanPromises.{InitialisationPlan, CorrectnessPlan}

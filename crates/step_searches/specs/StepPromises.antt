@@ -1,5 +1,5 @@
 -- States and steps of a dossier's two machines, found one after the other by the numbers of their bindings: what the searches ask and promise. Nothing here need be believed.
-use Rattle.std.specs.Prelude.{◌≡◌, Bool, List, ◌++◌, ℕ, ◌+◌, ◌*◌, ◌/◌, ◌%◌, ◌<◌, ◌≤◌, length, ℤ}
+use Rattle.std.specs.Prelude.{◌≡◌, Bool, true, false, List, ◌++◌, ℕ, Option, MatchOption, ◌+◌, ◌*◌, ◌/◌, ◌%◌, ◌<◌, ◌≤◌, length, ℤ}
 use Rattle.std.proofs.Math.Option.{some}
 use Rattle.std.proofs.Math.ListN.{get_elem?}
 use Rattle.lexical.specs.Lists.{upward}
@@ -19,6 +19,18 @@ use Rattle.part_setup.specs.PartTestsPartsByNumber.{abstract_at, concrete_at, ou
 use Rattle.parts.specs.PartSearchesPartCells.{StatesCelled, OperationCelled}
 use Rattle.part_setup.specs.SetupPromises.{FirstValues}
 use Rattle.step_searches.specs.declared.Stepped.{Stepped}
+
+-- the first number from `from` on and below the end at which the test holds, or none where it holds at none of them
+abbrev pub First : (f : ℕ → Bool) (from end : ℕ) → Option ℕ → Type 0
+First f from end r =
+    MatchOption r ((k : ℕ) → from ≤ k → k < end → f k ≡ false)
+    (λ (i : ℕ). (from ≤ i) × (i < end) × (f i ≡ true) × ((k : ℕ) → from ≤ k → k < i → f k ≡ false))
+
+-- asked: the arrays are the reading of some dossier, which has so many operations
+pub record ReadAsked (table rows firsts groups : List ℕ) (operations : ℕ) : Type 0 where
+  pub dossier : Dossier
+  pub reading : ReadingOf table rows firsts groups dossier
+  pub many : operations ≡ length dossier.operations
 
 -- ---- a group gets the values of one of its bindings
 
@@ -104,27 +116,29 @@ pub record PrepareAsked (table rows firsts groups : List ℕ) (j : ℕ) : Type 0
 pub record Prepared (table rows firsts groups : List ℕ) (j : ℕ) (plan cells : List ℕ) (p : Part) : Type 0 where
   pub searches : (d : Dossier) (op : Operation) → ReadingOf table rows firsts groups d → get_elem? d.operations j ≡ some op → StepSearches table plan cells p d op
 
--- next_abstract_state(t, plan, cells, p, from, memo): abstract states
+-- the number that is found, or the count where none is
+
+-- next_abstract_state(s, from, memo): abstract states
 pub record AbstractStateFound (table plan cells : List ℕ) (p : Part) (from r : ℕ) : Type 0 where
   pub sought : ForSteps table plan cells p (λ (d : Dossier) (op : Operation). Sought (abstract_state d) from p.na r)
 
--- next_related_state(t, plan, cells, p, a, from, memo): concrete states related to the abstract one
+-- next_related_state(s, a, from, memo): concrete states related to the abstract one
 pub record RelatedStateFound (table plan cells : List ℕ) (p : Part) (a from r : ℕ) : Type 0 where
   pub sought : ForSteps table plan cells p (λ (d : Dossier) (op : Operation). Sought (related_to d a) from p.nc r)
 
--- next_abstract_step(t, plan, cells, p, a, i, from, memo): outputs and after state as one number, o * na + a'
+-- next_abstract_step(s, a, i, from, memo): outputs and after state as one number, o * na + a'
 pub record AbstractStepFound (table plan cells : List ℕ) (p : Part) (a i from r : ℕ) : Type 0 where
   pub sought : ForSteps table plan cells p
       (λ (d : Dossier) (op : Operation).
       Sought (λ (x : ℕ). abstractly d op a i (output_at d op (x / p.na)) (abstract_at d (x % p.na))) from (p.nq * p.na) r)
 
--- next_concrete_step(t, plan, cells, p, c, i, from, memo): o * nc + c'
+-- next_concrete_step(s, c, i, from, memo): o * nc + c'
 pub record ConcreteStepFound (table plan cells : List ℕ) (p : Part) (c i from r : ℕ) : Type 0 where
   pub sought : ForSteps table plan cells p
       (λ (d : Dossier) (op : Operation).
       Sought (λ (x : ℕ). concretely d op c i (output_at d op (x / p.nc)) (concrete_at d (x % p.nc))) from (p.nq * p.nc) r)
 
--- next_matching_state(t, plan, cells, p, b, from, memo): abstract after states, reached from a with the inputs i and the outputs o, that are related to the concrete after state k
+-- next_matching_state(s, b, from, memo): abstract after states, reached from a with the inputs i and the outputs o, that are related to the concrete after state k
 pub record MatchFound (table plan cells : List ℕ) (p : Part) (a i o k from r : ℕ) : Type 0 where
   pub sought : ForSteps table plan cells p (λ (d : Dossier) (op : Operation). Sought (λ (x : ℕ). match d op a i o k (abstract_at d x)) from p.na r)
 
@@ -161,11 +175,11 @@ pub record OpenAsked (table rows firsts groups : List ℕ) : Type 0 where
 pub record Opened (table rows firsts groups plan cells : List ℕ) (p : Part) : Type 0 where
   pub searches : (d : Dossier) → ReadingOf table rows firsts groups d → OpeningSearches table plan cells p d
 
--- next_initial_state(t, plan, cells, p, from, memo): concrete initial states
+-- next_initial_state(s, from, memo): concrete initial states
 pub record InitialStateFound (table plan cells : List ℕ) (p : Part) (from r : ℕ) : Type 0 where
   pub sought : ForOpening table plan cells p (λ (d : Dossier). Sought (initial d) from p.nc r)
 
--- next_initial_match(t, plan, cells, p, c, from, memo): abstract initial states related to the concrete one
+-- next_initial_match(s, c, from, memo): abstract initial states related to the concrete one
 pub record InitialMatchFound (table plan cells : List ℕ) (p : Part) (c from r : ℕ) : Type 0 where
   pub sought : ForOpening table plan cells p (λ (d : Dossier). Sought (λ (x : ℕ). initial_match d c (abstract_at d x)) from p.nm r)
 
@@ -187,6 +201,6 @@ pub record ConcreteAsked (table rows firsts cells : List ℕ) (p : Part) : Type 
 pub record StateAnswers (table rows firsts cells : List ℕ) (p : Part) (c : ℕ) (r : Bool) : Type 0 where
   pub is : (d : Dossier) → ConcreteStates table rows firsts cells p d → r ≡ is_state d d.concrete (concrete_at d c)
 
--- next_concrete_state(t, rows, firsts, cells, p, from)
-pub record ConcreteStateFound (table rows firsts cells : List ℕ) (p : Part) (from r : ℕ) : Type 0 where
-  pub sought : (d : Dossier) → ConcreteStates table rows firsts cells p d → Sought (λ (c : ℕ). is_state d d.concrete (concrete_at d c)) from p.nc r
+-- next_concrete_state(d, cells, p, from)
+pub record ConcreteStateFound (table rows firsts cells : List ℕ) (p : Part) (from : ℕ) (r : Option ℕ) : Type 0 where
+  pub first : (d : Dossier) → ConcreteStates table rows firsts cells p d → First (λ (c : ℕ). is_state d d.concrete (concrete_at d c)) from p.nc r

@@ -2,17 +2,19 @@
 // with the variables that are given at one of their bindings and all others at their first values.
 #![tactic(auto)]
 
-ghost use Rattle.std.specs.Prelude.{◌*◌, ◌<◌, ◌≤◌};
+ghost use Rattle.std.specs.Prelude.{◌*◌, ◌<◌, ◌≤◌, IfSome, unwrap_or};
 ghost use Rattle.memo.specs.MemoPromises.{Memo};
 ghost use Rattle.part_setup.specs.SetupPromises.{Blank};
+ghost use Rattle.seek.specs.SeekPromises.{SeekAsked, SeekAnswers};
 ghost use Rattle.step_searches.specs.StepPromises.{PutAsked, PutAnswers, PrepareAsked, Prepared, OpenAsked, Opened, StepsAsked, OpeningAsked, Below};
 ghost use Rattle.step_searches.specs.StepPromises.{AbstractStateFound, RelatedStateFound, AbstractStepFound, ConcreteStepFound, MatchFound};
 ghost use Rattle.step_searches.specs.StepPromises.{InitialStateFound, InitialMatchFound, ConcreteAsked, StateAnswers, ConcreteStateFound};
 
 use part_setup::{correctness_part, fill, opening_cells, opening_part, operation_cells};
-use plans::{Part, plan_correctness, plan_initialisation};
+use plans::{Part, PartSearch, plan_correctness, plan_initialisation};
 use points::plan::{MET, READY, RELATED, STATES, STEPS};
 use points::slots;
+use search_groups::Dossier;
 use seek::{Span, seek, store};
 use slot_carriers::count_of;
 use slot_carriers::groups::bind;
@@ -56,288 +58,274 @@ fn put_group(
 }
 
 // The cells, the plan and the sizes of operation j's correctness part.
-pub fn prepare(
-    t: &[u16; 16384],
-    rows: &[u16; 16384],
-    firsts: &[u16; 40],
-    groups: &[u16; 160],
-    j: usize,
-    cells: &mut [u32; 9216],
-    plan: &mut [u16; 20560],
-) -> Part
-    requires prepare_asked { PrepareAsked t.now rows.now firsts.now groups.now j }
+pub fn prepare(d: &Dossier<'_>, j: usize, cells: &mut [u32; 9216], plan: &mut [u16; 20560]) -> Part
+    requires prepare_asked { PrepareAsked d.now.table.now d.now.rows.now d.now.firsts.now d.now.groups.now j }
     requires blank { Blank cells.old }
-    ensures { Prepared t.now rows.now firsts.now groups.now j plan.new cells.new result }
+    ensures { Prepared d.now.table.now d.now.rows.now d.now.firsts.now d.now.groups.now j plan.new cells.new result }
 {
     let row = OPERATION_ROWS + OPERATION_ROW * j;
-    operation_cells(t, groups, row, cells);
-    let p = correctness_part(groups, row, cells);
-    plan_correctness(rows, firsts, j, p.vo, plan);
+    operation_cells(d.table, d.groups, row, cells);
+    let p = correctness_part(d.groups, row, cells);
+    plan_correctness(d.rows, d.firsts, j, p.vo, plan);
     p
 }
 
 // Those of initialisation.
-pub fn prepare_opening(
-    t: &[u16; 16384],
-    rows: &[u16; 16384],
-    firsts: &[u16; 40],
-    groups: &[u16; 160],
-    cells: &mut [u32; 9216],
-    plan: &mut [u16; 20560],
-) -> Part
-    requires open_asked { OpenAsked t.now rows.now firsts.now groups.now }
+pub fn prepare_opening(d: &Dossier<'_>, cells: &mut [u32; 9216], plan: &mut [u16; 20560]) -> Part
+    requires open_asked { OpenAsked d.now.table.now d.now.rows.now d.now.firsts.now d.now.groups.now }
     requires blank { Blank cells.old }
-    ensures { Opened t.now rows.now firsts.now groups.now plan.new cells.new result }
+    ensures { Opened d.now.table.now d.now.rows.now d.now.firsts.now d.now.groups.now plan.new cells.new result }
 {
-    opening_cells(t, groups, cells);
-    plan_initialisation(rows, firsts, plan);
-    opening_part(groups, cells)
+    opening_cells(d.table, d.groups, cells);
+    plan_initialisation(d.rows, d.firsts, plan);
+    opening_part(d.groups, cells)
+}
+
+// The next number of a span that the search finds.
+fn next_of(
+    s: &PartSearch<'_>,
+    span: Span,
+    arrays: &mut [[i64; 64]; 2],
+    memo: &mut [u64; memo::NUMBERS],
+) -> Option<usize>
+    requires seek_asked { SeekAsked s.now.table.now s.now.plan.now s.now.cells.now span.u span.j span.m span.w span.from arrays.old }
+    requires memo { Memo s.now.table.now memo.old }
+    ensures answers { SeekAnswers s.now.table.now s.now.plan.now s.now.cells.now span.u span.j span.m span.w span.from arrays.old arrays.new (unwrap_or result span.w) }
+    ensures low { IfSome result (λ k. k < span.w) }
+    ensures remembers { Memo s.now.table.now memo.new }
+{
+    let r = seek(s, span, arrays, memo);
+    if r < span.w {
+        return Some(r);
+    }
+    None
 }
 
 // The next abstract state.
 pub fn next_abstract_state(
-    t: &[u16; 16384],
-    plan: &[u16; 20560],
-    cells: &[u32; 9216],
-    p: Part,
+    s: &PartSearch<'_>,
     from: usize,
     memo: &mut [u64; memo::NUMBERS],
-) -> usize
-    requires from_le_na { from ≤ p.na }
-    requires steps_asked { StepsAsked t.now plan.now cells.now p }
-    requires memo { Memo t.now memo.old }
-    ensures found { AbstractStateFound t.now plan.now cells.now p from result }
-    ensures remembers { Memo t.now memo.new }
+) -> Option<usize>
+    requires from_le_na { from ≤ s.now.part.na }
+    requires steps_asked { StepsAsked s.now.table.now s.now.plan.now s.now.cells.now s.now.part }
+    requires memo { Memo s.now.table.now memo.old }
+    ensures found { AbstractStateFound s.now.table.now s.now.plan.now s.now.cells.now s.now.part from (unwrap_or result s.now.part.na) }
+    ensures low { IfSome result (λ x. x < s.now.part.na) }
+    ensures remembers { Memo s.now.table.now memo.new }
 {
     let mut arrays = [[0i64; 64]; 2];
-    fill(cells, &mut arrays);
-    let s = Span {
+    fill(s.cells, &mut arrays);
+    let span = Span {
         u: STATES,
         j: 0,
-        m: p.va,
-        w: p.na,
+        m: s.part.va,
+        w: s.part.na,
         from,
     };
-    seek(t, plan, cells, s, &mut arrays, memo)
+    next_of(s, span, &mut arrays, memo)
 }
 
 // The next concrete state that is related to the abstract state a.
 pub fn next_related_state(
-    t: &[u16; 16384],
-    plan: &[u16; 20560],
-    cells: &[u32; 9216],
-    p: Part,
+    s: &PartSearch<'_>,
     a: usize,
     from: usize,
     memo: &mut [u64; memo::NUMBERS],
-) -> usize
-    requires a_lt_na { (a < p.na) × (from ≤ p.nc) }
-    requires steps_asked { StepsAsked t.now plan.now cells.now p }
-    requires memo { Memo t.now memo.old }
-    ensures found { RelatedStateFound t.now plan.now cells.now p a from result }
-    ensures remembers { Memo t.now memo.new }
+) -> Option<usize>
+    requires a_lt_na { (a < s.now.part.na) × (from ≤ s.now.part.nc) }
+    requires steps_asked { StepsAsked s.now.table.now s.now.plan.now s.now.cells.now s.now.part }
+    requires memo { Memo s.now.table.now memo.old }
+    ensures found { RelatedStateFound s.now.table.now s.now.plan.now s.now.cells.now s.now.part a from (unwrap_or result s.now.part.nc) }
+    ensures low { IfSome result (λ x. x < s.now.part.nc) }
+    ensures remembers { Memo s.now.table.now memo.new }
 {
+    let p = s.part;
     let mut arrays = [[0i64; 64]; 2];
-    fill(cells, &mut arrays);
-    put_group(cells, slots::ABSTRACT, p.va, p.na, a, &mut arrays);
-    let s = Span {
+    fill(s.cells, &mut arrays);
+    put_group(s.cells, slots::ABSTRACT, p.va, p.na, a, &mut arrays);
+    let span = Span {
         u: RELATED,
         j: 0,
         m: p.vc,
         w: p.nc,
         from,
     };
-    seek(t, plan, cells, s, &mut arrays, memo)
+    next_of(s, span, &mut arrays, memo)
 }
 
 // The next step of the abstract operation from the state a with the inputs i: outputs and after state as one number.
 pub fn next_abstract_step(
-    t: &[u16; 16384],
-    plan: &[u16; 20560],
-    cells: &[u32; 9216],
-    p: Part,
+    s: &PartSearch<'_>,
     a: usize,
     i: usize,
     from: usize,
     memo: &mut [u64; memo::NUMBERS],
-) -> usize
-    requires a_lt_na { (a < p.na) × (i < p.ni) × (from ≤ p.nq * p.na) }
-    requires steps_asked { StepsAsked t.now plan.now cells.now p }
-    requires memo { Memo t.now memo.old }
-    ensures found { AbstractStepFound t.now plan.now cells.now p a i from result }
-    ensures remembers { Memo t.now memo.new }
+) -> Option<usize>
+    requires a_lt_na { (a < s.now.part.na) × (i < s.now.part.ni) × (from ≤ s.now.part.nq * s.now.part.na) }
+    requires steps_asked { StepsAsked s.now.table.now s.now.plan.now s.now.cells.now s.now.part }
+    requires memo { Memo s.now.table.now memo.old }
+    ensures found { AbstractStepFound s.now.table.now s.now.plan.now s.now.cells.now s.now.part a i from (unwrap_or result (s.now.part.nq * s.now.part.na)) }
+    ensures low { IfSome result (λ x. x < s.now.part.nq * s.now.part.na) }
+    ensures remembers { Memo s.now.table.now memo.new }
 {
+    let p = s.part;
     let mut arrays = [[0i64; 64]; 2];
-    fill(cells, &mut arrays);
-    put_group(cells, slots::ABSTRACT, p.va, p.na, a, &mut arrays);
-    put_group(cells, slots::INPUTS, p.vi, p.ni, i, &mut arrays);
-    let s = Span {
+    fill(s.cells, &mut arrays);
+    put_group(s.cells, slots::ABSTRACT, p.va, p.na, a, &mut arrays);
+    put_group(s.cells, slots::INPUTS, p.vi, p.ni, i, &mut arrays);
+    let span = Span {
         u: READY,
         j: 0,
         m: p.vr,
         w: p.nr,
         from,
     };
-    seek(t, plan, cells, s, &mut arrays, memo)
+    next_of(s, span, &mut arrays, memo)
 }
 
 // The next step of the concrete operation from the state c with the inputs i: outputs and after state as one number.
 pub fn next_concrete_step(
-    t: &[u16; 16384],
-    plan: &[u16; 20560],
-    cells: &[u32; 9216],
-    p: Part,
+    s: &PartSearch<'_>,
     c: usize,
     i: usize,
     from: usize,
     memo: &mut [u64; memo::NUMBERS],
-) -> usize
-    requires c_lt_nc { (c < p.nc) × (i < p.ni) × (from ≤ p.nq * p.nc) }
-    requires steps_asked { StepsAsked t.now plan.now cells.now p }
-    requires memo { Memo t.now memo.old }
-    ensures found { ConcreteStepFound t.now plan.now cells.now p c i from result }
-    ensures remembers { Memo t.now memo.new }
+) -> Option<usize>
+    requires c_lt_nc { (c < s.now.part.nc) × (i < s.now.part.ni) × (from ≤ s.now.part.nq * s.now.part.nc) }
+    requires steps_asked { StepsAsked s.now.table.now s.now.plan.now s.now.cells.now s.now.part }
+    requires memo { Memo s.now.table.now memo.old }
+    ensures found { ConcreteStepFound s.now.table.now s.now.plan.now s.now.cells.now s.now.part c i from (unwrap_or result (s.now.part.nq * s.now.part.nc)) }
+    ensures low { IfSome result (λ x. x < s.now.part.nq * s.now.part.nc) }
+    ensures remembers { Memo s.now.table.now memo.new }
 {
+    let p = s.part;
     let mut arrays = [[0i64; 64]; 2];
-    fill(cells, &mut arrays);
-    put_group(cells, slots::CONCRETE, p.vc, p.nc, c, &mut arrays);
-    put_group(cells, slots::INPUTS, p.vi, p.ni, i, &mut arrays);
-    let s = Span {
+    fill(s.cells, &mut arrays);
+    put_group(s.cells, slots::CONCRETE, p.vc, p.nc, c, &mut arrays);
+    put_group(s.cells, slots::INPUTS, p.vi, p.ni, i, &mut arrays);
+    let span = Span {
         u: STEPS,
         j: 0,
         m: p.vo + p.vk,
         w: p.nq * p.nc,
         from,
     };
-    seek(t, plan, cells, s, &mut arrays, memo)
+    next_of(s, span, &mut arrays, memo)
 }
 
 // The next abstract after state that the abstract operation reaches from b.a with these inputs and outputs, and that is related to the concrete after state.
 pub fn next_matching_state(
-    t: &[u16; 16384],
-    plan: &[u16; 20560],
-    cells: &[u32; 9216],
-    p: Part,
+    s: &PartSearch<'_>,
     b: Stepped,
     from: usize,
     memo: &mut [u64; memo::NUMBERS],
-) -> usize
-    requires below { Below p b }
-    requires from_le_na { from ≤ p.na }
-    requires steps_asked { StepsAsked t.now plan.now cells.now p }
-    requires memo { Memo t.now memo.old }
-    ensures found { MatchFound t.now plan.now cells.now p b.a b.i b.o b.k from result }
-    ensures remembers { Memo t.now memo.new }
+) -> Option<usize>
+    requires below { Below s.now.part b }
+    requires from_le_na { from ≤ s.now.part.na }
+    requires steps_asked { StepsAsked s.now.table.now s.now.plan.now s.now.cells.now s.now.part }
+    requires memo { Memo s.now.table.now memo.old }
+    ensures found { MatchFound s.now.table.now s.now.plan.now s.now.cells.now s.now.part b.a b.i b.o b.k from (unwrap_or result s.now.part.na) }
+    ensures low { IfSome result (λ x. x < s.now.part.na) }
+    ensures remembers { Memo s.now.table.now memo.new }
 {
+    let p = s.part;
     let mut arrays = [[0i64; 64]; 2];
-    fill(cells, &mut arrays);
-    put_group(cells, slots::ABSTRACT, p.va, p.na, b.a, &mut arrays);
-    put_group(cells, slots::INPUTS, p.vi, p.ni, b.i, &mut arrays);
-    put_group(cells, slots::OUTPUTS, p.vo, p.nq, b.o, &mut arrays);
-    put_group(cells, slots::CONCRETE_PRIMED, p.vk, p.nk, b.k, &mut arrays);
-    let s = Span {
+    fill(s.cells, &mut arrays);
+    put_group(s.cells, slots::ABSTRACT, p.va, p.na, b.a, &mut arrays);
+    put_group(s.cells, slots::INPUTS, p.vi, p.ni, b.i, &mut arrays);
+    put_group(s.cells, slots::OUTPUTS, p.vo, p.nq, b.o, &mut arrays);
+    put_group(
+        s.cells,
+        slots::CONCRETE_PRIMED,
+        p.vk,
+        p.nk,
+        b.k,
+        &mut arrays,
+    );
+    let span = Span {
         u: MET,
         j: 0,
         m: p.vm,
         w: p.nm,
         from,
     };
-    seek(t, plan, cells, s, &mut arrays, memo)
+    next_of(s, span, &mut arrays, memo)
 }
 
 // The next concrete initial state; the part is that of initialisation.
 pub fn next_initial_state(
-    t: &[u16; 16384],
-    plan: &[u16; 20560],
-    cells: &[u32; 9216],
-    p: Part,
+    s: &PartSearch<'_>,
     from: usize,
     memo: &mut [u64; memo::NUMBERS],
-) -> usize
-    requires from_le_nc { from ≤ p.nc }
-    requires opening_asked { OpeningAsked t.now plan.now cells.now p }
-    requires memo { Memo t.now memo.old }
-    ensures found { InitialStateFound t.now plan.now cells.now p from result }
-    ensures remembers { Memo t.now memo.new }
+) -> Option<usize>
+    requires from_le_nc { from ≤ s.now.part.nc }
+    requires opening_asked { OpeningAsked s.now.table.now s.now.plan.now s.now.cells.now s.now.part }
+    requires memo { Memo s.now.table.now memo.old }
+    ensures found { InitialStateFound s.now.table.now s.now.plan.now s.now.cells.now s.now.part from (unwrap_or result s.now.part.nc) }
+    ensures low { IfSome result (λ x. x < s.now.part.nc) }
+    ensures remembers { Memo s.now.table.now memo.new }
 {
     let mut arrays = [[0i64; 64]; 2];
-    fill(cells, &mut arrays);
-    let s = Span {
+    fill(s.cells, &mut arrays);
+    let span = Span {
         u: RELATED,
         j: 0,
-        m: p.vc,
-        w: p.nc,
+        m: s.part.vc,
+        w: s.part.nc,
         from,
     };
-    seek(t, plan, cells, s, &mut arrays, memo)
+    next_of(s, span, &mut arrays, memo)
 }
 
 // The next abstract initial state that is related to the concrete state c.
 pub fn next_initial_match(
-    t: &[u16; 16384],
-    plan: &[u16; 20560],
-    cells: &[u32; 9216],
-    p: Part,
+    s: &PartSearch<'_>,
     c: usize,
     from: usize,
     memo: &mut [u64; memo::NUMBERS],
-) -> usize
-    requires c_lt_nc { (c < p.nc) × (from ≤ p.nm) }
-    requires opening_asked { OpeningAsked t.now plan.now cells.now p }
-    requires memo { Memo t.now memo.old }
-    ensures found { InitialMatchFound t.now plan.now cells.now p c from result }
-    ensures remembers { Memo t.now memo.new }
+) -> Option<usize>
+    requires c_lt_nc { (c < s.now.part.nc) × (from ≤ s.now.part.nm) }
+    requires opening_asked { OpeningAsked s.now.table.now s.now.plan.now s.now.cells.now s.now.part }
+    requires memo { Memo s.now.table.now memo.old }
+    ensures found { InitialMatchFound s.now.table.now s.now.plan.now s.now.cells.now s.now.part c from (unwrap_or result s.now.part.nm) }
+    ensures low { IfSome result (λ x. x < s.now.part.nm) }
+    ensures remembers { Memo s.now.table.now memo.new }
 {
+    let p = s.part;
     let mut arrays = [[0i64; 64]; 2];
-    fill(cells, &mut arrays);
-    put_group(cells, slots::CONCRETE, p.vc, p.nc, c, &mut arrays);
-    let s = Span {
+    fill(s.cells, &mut arrays);
+    put_group(s.cells, slots::CONCRETE, p.vc, p.nc, c, &mut arrays);
+    let span = Span {
         u: MET,
         j: 0,
         m: p.vm,
         w: p.nm,
         from,
     };
-    seek(t, plan, cells, s, &mut arrays, memo)
+    next_of(s, span, &mut arrays, memo)
 }
 
 // Is the c-th binding of the concrete variables a state?
-fn state_at(
-    t: &[u16; 16384],
-    rows: &[u16; 16384],
-    firsts: &[u16; 40],
-    cells: &[u32; 9216],
-    p: Part,
-    c: usize,
-) -> bool
+pub fn concrete_state_at(d: &Dossier<'_>, cells: &[u32; 9216], p: Part, c: usize) -> bool
     requires c_lt_nc { c < p.nc }
-    requires concrete_asked { ConcreteAsked t.now rows.now firsts.now cells.now p }
-    ensures { StateAnswers t.now rows.now firsts.now cells.now p c result }
+    requires concrete_asked { ConcreteAsked d.now.table.now d.now.rows.now d.now.firsts.now cells.now p }
+    ensures { StateAnswers d.now.table.now d.now.rows.now d.now.firsts.now cells.now p c result }
 {
     let mut values = [0i64; 64];
     bind(cells, slots::CONCRETE, p.vc, p.nc, c, &mut values);
-    context_holds(t, rows, firsts, CONCRETE_STATE, &mut values)
+    context_holds(d.table, d.rows, d.firsts, CONCRETE_STATE, &mut values)
 }
 
 // The next concrete state, related or not; the part is any of the dossier's.
 pub fn next_concrete_state(
-    t: &[u16; 16384],
-    rows: &[u16; 16384],
-    firsts: &[u16; 40],
+    d: &Dossier<'_>,
     cells: &[u32; 9216],
     p: Part,
     from: usize,
-) -> usize
-    requires from_le_nc { from ≤ p.nc }
-    requires concrete_asked { ConcreteAsked t.now rows.now firsts.now cells.now p }
-    ensures { ConcreteStateFound t.now rows.now firsts.now cells.now p from result }
+) -> Option<usize>
+    requires concrete_asked { ConcreteAsked d.now.table.now d.now.rows.now d.now.firsts.now cells.now p }
+    ensures { ConcreteStateFound d.now.table.now d.now.rows.now d.now.firsts.now cells.now p from result }
 {
-    let mut c = from;
-    while c < p.nc {
-        if state_at(t, rows, firsts, cells, p, c) {
-            return c;
-        }
-        c += 1;
-    }
-    c
+    (from..p.nc).find(|&c| concrete_state_at(d, cells, p, c))
 }

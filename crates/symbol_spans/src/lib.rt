@@ -1,301 +1,61 @@
-// Stretches of a text's symbols, by their kinds: the operands of an operator, the atom that it stands in. They say where to try another text, not what a text means.
+// Symbols of a text, and stretches of them by their kinds: the operands of an operator, the atom that it stands in. They say where to try another text, not what a text means.
 #![tactic(auto)]
 
-ghost use Rattle.std.specs.Prelude.{◌≤◌, ◌<◌};
+ghost use Rattle.std.specs.Prelude.{◌≡◌, ◌==◌, ◌≤◌, ◌<◌, count_by, take, slice_index};
 
 use lexical::bounds::SYMBOLS;
 use lexical::codes;
-use type_rules::kinds::{index, look};
+use text_places::{Span, before, symbol_end};
 
-// How tight a symbol binds: 3 products, 2 sums, 1 comparisons, 0 what no atom goes past, 4 what stands inside an operand.
-pub const LOOSE: u8 = 0;
-
-pub const COMPARISON: u8 = 1;
-
-pub const SUM: u8 = 2;
-
-pub const PRODUCT: u8 = 3;
-
-pub const INSIDE: u8 = 4;
-
-// Brackets that are open; and what says that the walk ends here.
-const STOP: usize = 8192;
-
-// The symbols from `from` up to `to`.
-#[derive(Clone, Copy)]
-pub struct Stretch {
-    pub from: usize,
-    pub to: usize,
+// How tight a symbol binds: what no atom goes past, comparisons, sums, products, what stands inside an operand.
+#[derive(Clone, Copy, PartialEq, Eq, PartialOrd, Ord)]
+pub enum Tightness {
+    Loose,
+    Comparison,
+    Sum,
+    Product,
+    Inside,
 }
 
-// The kind of a symbol, 0 past the last one.
-pub fn kind_at(kinds: &[u8], s: usize) -> u8 {
-    if s < kinds.len() {
-        return kinds[s];
-    }
-    0
+#[derive(Clone, Copy, PartialEq, Eq)]
+pub enum Bracket {
+    Open,
+    Close,
+}
+
+// A text and its symbols, as they are scanned: their kinds, 0 past the last one, where they start, and their values.
+#[derive(Clone, Copy)]
+pub struct Symbols<'a> {
+    pub text: &'a [u8],
+    pub kinds: &'a [u8; SYMBOLS],
+    pub starts: &'a [u16; SYMBOLS],
+    pub values: &'a [u16; SYMBOLS],
 }
 
 // How tight a kind binds.
-pub fn tightness(kind: u8) -> u8 {
+pub fn tightness_of(kind: u8) -> Tightness {
     match kind {
-        codes::NUMBER..=codes::OUTPUT => INSIDE,
-        codes::OPEN_BRACKET..=codes::UP_TO => INSIDE,
-        codes::EQUALS..=codes::AT_MOST => COMPARISON,
-        codes::PLUS => SUM,
-        codes::DASH => SUM,
-        codes::TIMES => PRODUCT,
-        codes::SIZE => INSIDE,
-        codes::MAPLET => COMPARISON,
-        codes::EMPTY => INSIDE,
-        codes::IN => COMPARISON,
-        codes::NOTIN => COMPARISON,
-        codes::UNION => SUM,
-        codes::MINUS => SUM,
-        codes::INTER => PRODUCT,
-        codes::DIV => PRODUCT,
-        codes::MOD => PRODUCT,
-        codes::DOM => INSIDE,
-        codes::RAN => INSIDE,
-        _ => LOOSE,
+        codes::EQUALS..=codes::AT_MOST | codes::MAPLET | codes::IN | codes::NOTIN => {
+            Tightness::Comparison
+        }
+        codes::PLUS | codes::DASH | codes::UNION | codes::MINUS => Tightness::Sum,
+        codes::TIMES | codes::INTER | codes::DIV | codes::MOD => Tightness::Product,
+        codes::NUMBER..=codes::OUTPUT
+        | codes::OPEN_BRACKET..=codes::UP_TO
+        | codes::SIZE
+        | codes::EMPTY
+        | codes::DOM
+        | codes::RAN => Tightness::Inside,
+        _ => Tightness::Loose,
     }
 }
 
-fn is_open(kind: u8) -> bool {
+pub fn bracket_of(kind: u8) -> Option<Bracket> {
     match kind {
-        codes::OPEN_PAREN => true,
-        codes::OPEN_BRACKET => true,
-        codes::OPEN_BRACE => true,
-        _ => false,
+        codes::OPEN_PAREN | codes::OPEN_BRACKET | codes::OPEN_BRACE => Some(Bracket::Open),
+        codes::CLOSE_PAREN | codes::CLOSE_BRACKET | codes::CLOSE_BRACE => Some(Bracket::Close),
+        _ => None,
     }
-}
-
-fn is_close(kind: u8) -> bool {
-    match kind {
-        codes::CLOSE_PAREN => true,
-        codes::CLOSE_BRACKET => true,
-        codes::CLOSE_BRACE => true,
-        _ => false,
-    }
-}
-
-// Does an operand end with a symbol of this kind? A dash behind it is no prefix.
-fn ends_operand(kind: u8) -> bool {
-    match kind {
-        codes::NUMBER..=codes::OUTPUT => true,
-        _ => is_close(kind),
-    }
-}
-
-// The symbol before s, none before the first.
-pub fn kind_before(kinds: &[u8], s: usize) -> u8 {
-    if s == 0 {
-        return 0;
-    }
-    kind_at(kinds, s - 1)
-}
-
-// Is the symbol a prefix?
-pub fn is_prefix(kinds: &[u8], s: usize) -> bool {
-    match kind_at(kinds, s) {
-        codes::SIZE => true,
-        codes::DOM => true,
-        codes::RAN => true,
-        codes::DASH => !ends_operand(kind_before(kinds, s)),
-        _ => false,
-    }
-}
-
-// How tight symbol s binds; a prefix belongs to its operand.
-pub fn tightness_at(kinds: &[u8], s: usize) -> u8 {
-    if is_prefix(kinds, s) {
-        return INSIDE;
-    }
-    tightness(kind_at(kinds, s))
-}
-
-fn deeper(depth: usize) -> usize {
-    if depth < SYMBOLS {
-        return depth + 1;
-    }
-    depth
-}
-
-fn less_deep(depth: usize) -> usize {
-    if depth == 0 {
-        return STOP;
-    }
-    depth - 1
-}
-
-// How many brackets are open behind symbol s, going to the left; STOP where the walk ends in front of it.
-fn left_depth(kinds: &[u8], s: usize, depth: usize, least: u8) -> usize {
-    let kind = kind_at(kinds, s);
-    if is_close(kind) {
-        return deeper(depth);
-    }
-    if is_open(kind) {
-        return less_deep(depth);
-    }
-    if 0 < depth {
-        return depth;
-    }
-    if tightness_at(kinds, s) < least {
-        return STOP;
-    }
-    depth
-}
-
-// The same going to the right.
-fn right_depth(kinds: &[u8], s: usize, depth: usize, least: u8) -> usize {
-    let kind = kind_at(kinds, s);
-    if is_open(kind) {
-        return deeper(depth);
-    }
-    if is_close(kind) {
-        return less_deep(depth);
-    }
-    if 0 < depth {
-        return depth;
-    }
-    if tightness_at(kinds, s) < least {
-        return STOP;
-    }
-    depth
-}
-
-// The first symbol of what stands before s and binds at least as tight as `least`, brackets whole.
-pub fn left_from(kinds: &[u8], s: usize, least: u8) -> usize
-    ensures { result ≤ s }
-{
-    let mut depth: usize = 0;
-    let mut k = s;
-    while 0 < k {
-        let d = left_depth(kinds, k - 1, depth, least);
-        if d == STOP {
-            return k;
-        }
-        depth = d;
-        k -= 1;
-    }
-    k
-}
-
-// Behind the last symbol of what stands from s on and binds so tight.
-pub fn right_to(kinds: &[u8], s: usize, least: u8) -> usize
-    ensures { s ≤ result }
-{
-    let mut depth: usize = 0;
-    let mut k = s;
-    while k < SYMBOLS {
-        let d = right_depth(kinds, k, depth, least);
-        if d == STOP {
-            return k;
-        }
-        depth = d;
-        k += 1;
-    }
-    k
-}
-
-// Does a term go on around what begins at s: a bracket, or a brace that lists?
-fn is_enclosed(kinds: &[u8], s: usize) -> bool {
-    match kind_before(kinds, s) {
-        codes::OPEN_BRACKET => true,
-        codes::OPEN_BRACE => true,
-        codes::COMMA => true,
-        _ => false,
-    }
-}
-
-// One step around it: what a brace lists is taken whole before the brace is left.
-fn around(kinds: &[u8], t: Stretch) -> Stretch {
-    if t.from == 0 {
-        return t;
-    }
-    if SYMBOLS <= t.to {
-        return t;
-    }
-    if kind_at(kinds, t.to) == codes::COMMA {
-        return Stretch {
-            from: t.from,
-            to: right_to(kinds, t.to + 1, COMPARISON),
-        };
-    }
-    if kind_before(kinds, t.from) == codes::COMMA {
-        return Stretch {
-            from: left_from(kinds, t.from - 1, COMPARISON),
-            to: t.to,
-        };
-    }
-    Stretch {
-        from: left_from(kinds, t.from - 1, COMPARISON),
-        to: right_to(kinds, t.to + 1, COMPARISON),
-    }
-}
-
-// The atom that symbol s stands in: out of brackets of terms, up to what no atom goes past.
-pub fn atom(kinds: &[u8], s: usize) -> Stretch {
-    let mut t = Stretch {
-        from: left_from(kinds, s, COMPARISON),
-        to: right_to(kinds, s, COMPARISON),
-    };
-    let mut k: usize = 0;
-    while k < SYMBOLS {
-        if !is_enclosed(kinds, t.from) {
-            return t;
-        }
-        t = around(kinds, t);
-        k += 1;
-    }
-    t
-}
-
-// How many symbols stand before a byte.
-pub fn symbols_before(kinds: &[u8], starts: &[u16], p: usize) -> usize
-    ensures { result ≤ 4096 }
-{
-    let mut s: usize = 0;
-    while s < SYMBOLS {
-        if kind_at(kinds, s) == 0 {
-            return s;
-        }
-        if p <= start_of(starts, s) {
-            return s;
-        }
-        s += 1;
-    }
-    s
-}
-
-// The first byte of a symbol, 0 past the last one.
-pub fn start_of(starts: &[u16], s: usize) -> usize
-    ensures { result < 65536 }
-{
-    index(look(starts, s))
-}
-
-// How many symbols of a kind stand before symbol s.
-pub fn count_before(kinds: &[u8], kind: u8, s: usize) -> usize
-    ensures { result ≤ s }
-{
-    let mut n: usize = 0;
-    let mut k: usize = 0;
-    while k < s {
-        n += is_kind(kinds, k, kind);
-        k += 1;
-    }
-    n
-}
-
-// 1 where symbol s is of the kind, else 0.
-fn is_kind(kinds: &[u8], s: usize, kind: u8) -> usize
-    ensures { result ≤ 1 }
-{
-    if kind_at(kinds, s) == kind {
-        return 1;
-    }
-    0
 }
 
 // Is the symbol a name?
@@ -306,10 +66,196 @@ pub fn is_name(kind: u8) -> bool {
     }
 }
 
-// Have two symbols the same letters and ending?
-pub fn is_same(kinds: &[u8], values: &[u16], s: usize, k: usize) -> bool {
-    if kind_at(kinds, s) != kind_at(kinds, k) {
-        return false;
+// Does an operand end with a symbol of this kind? A dash behind it is no prefix.
+fn ends_operand(kind: u8) -> bool {
+    match kind {
+        codes::NUMBER..=codes::OUTPUT => true,
+        _ => bracket_of(kind) == Some(Bracket::Close),
     }
-    start_of(values, s) == start_of(values, k)
+}
+
+// A number of each symbol, 0 past the last one.
+fn number_at(numbers: &[u16; SYMBOLS], s: usize) -> usize
+    ensures value { result ≡ slice_index numbers.now s }
+    ensures small { result < 65536 }
+{
+    usize::from(numbers.get(s).copied().unwrap_or(0))
+}
+
+impl Symbols<'_> {
+    // The kind of a symbol, 0 past the last one: codes begin with 1, and the scanner leaves 0 behind them.
+    pub fn kind(&self, s: usize) -> u8
+        ensures { result ≡ slice_index self.now.kinds.now s }
+    {
+        let kinds = self.kinds;
+        kinds.get(s).copied().unwrap_or(0)
+    }
+
+    // The kind of the symbol before s, 0 before the first one.
+    pub fn kind_before(&self, s: usize) -> u8 {
+        match s.checked_sub(1) {
+            Some(k) => self.kind(k),
+            None => 0,
+        }
+    }
+
+    // The first byte of a symbol, 0 past the last one.
+    pub fn start(&self, s: usize) -> usize
+        ensures value { result ≡ slice_index self.now.starts.now s }
+        ensures small { result < 65536 }
+    {
+        number_at(self.starts, s)
+    }
+
+    // Behind its last byte.
+    pub fn end(&self, s: usize) -> usize {
+        symbol_end(self.text, self.start(s))
+    }
+
+    // Have two symbols the same letters?
+    pub fn has_same_letters(&self, s: usize, k: usize) -> bool {
+        self.value(s) == self.value(k)
+    }
+
+    // And the same ending?
+    pub fn is_same(&self, s: usize, k: usize) -> bool {
+        self.kind(s) == self.kind(k) && self.has_same_letters(s, k)
+    }
+
+    // The value of a symbol.
+    pub fn value(&self, s: usize) -> usize
+        ensures value { result ≡ slice_index self.now.values.now s }
+        ensures small { result < 65536 }
+    {
+        number_at(self.values, s)
+    }
+
+    // Is the symbol a prefix?
+    pub fn is_prefix(&self, s: usize) -> bool {
+        match self.kind(s) {
+            codes::SIZE | codes::DOM | codes::RAN => true,
+            codes::DASH => !ends_operand(self.kind_before(s)),
+            _ => false,
+        }
+    }
+
+    // How tight symbol s binds; a prefix belongs to its operand.
+    pub fn tightness_at(&self, s: usize) -> Tightness {
+        if self.is_prefix(s) {
+            return Tightness::Inside;
+        }
+        tightness_of(self.kind(s))
+    }
+
+    // How many brackets are open behind symbol s, on a walk that goes into brackets of one kind and out of those of the other; none where the walk ends in front of it.
+    fn depth_behind(
+        &self,
+        s: usize,
+        depth: usize,
+        least: Tightness,
+        into: Bracket,
+    ) -> Option<usize> {
+        if let Some(b) = bracket_of(self.kind(s)) {
+            if b == into {
+                return Some(depth.saturating_add(1));
+            }
+            return depth.checked_sub(1);
+        }
+        if 0 < depth || least <= self.tightness_at(s) {
+            return Some(depth);
+        }
+        None
+    }
+
+    // The first symbol of what stands before s and binds at least as tight as `least`, brackets whole.
+    pub fn left_from(&self, s: usize, least: Tightness) -> usize
+        ensures { result ≤ s }
+    {
+        let mut depth: usize = 0;
+        for k in (0..s).rev() {
+            match self.depth_behind(k, depth, least, Bracket::Close) {
+                Some(d) => depth = d,
+                None => return k + 1,
+            }
+        }
+        0
+    }
+
+    // Behind the last symbol of what stands from s on and binds so tight.
+    pub fn right_to(&self, s: usize, least: Tightness) -> usize
+        ensures { s ≤ result }
+    {
+        let mut depth: usize = 0;
+        for k in s..SYMBOLS {
+            match self.depth_behind(k, depth, least, Bracket::Open) {
+                Some(d) => depth = d,
+                None => return k,
+            }
+        }
+        s.max(SYMBOLS)
+    }
+
+    // Does a term go on around what begins at s: a bracket, or a brace that lists?
+    fn is_enclosed(&self, s: usize) -> bool {
+        match self.kind_before(s) {
+            codes::OPEN_BRACKET | codes::OPEN_BRACE | codes::COMMA => true,
+            _ => false,
+        }
+    }
+
+    // One step around it: what a brace lists is taken whole before the brace is left.
+    fn around(&self, t: Span) -> Span {
+        if t.from == 0 || SYMBOLS <= t.to {
+            return t;
+        }
+        let right = self.kind(t.to) == codes::COMMA;
+        let left = self.kind_before(t.from) == codes::COMMA;
+        Span {
+            from: if right {
+                t.from
+            } else {
+                self.left_from(t.from - 1, Tightness::Comparison)
+            },
+            to: if left && !right {
+                t.to
+            } else {
+                self.right_to(t.to + 1, Tightness::Comparison)
+            },
+        }
+    }
+
+    // The atom that symbol s stands in: out of brackets of terms, up to what no atom goes past.
+    pub fn atom(&self, s: usize) -> Span {
+        let mut t = Span {
+            from: self.left_from(s, Tightness::Comparison),
+            to: self.right_to(s, Tightness::Comparison),
+        };
+        for _ in 0..SYMBOLS {
+            if !self.is_enclosed(t.from) {
+                return t;
+            }
+            t = self.around(t);
+        }
+        t
+    }
+
+    // How many symbols stand before a byte.
+    pub fn before_byte(&self, p: usize) -> usize
+        ensures { result ≤ 4096 }
+    {
+        for s in 0..SYMBOLS {
+            if self.kind(s) == 0 || p <= self.start(s) {
+                return s;
+            }
+        }
+        SYMBOLS
+    }
+
+    // How many symbols of a kind stand before symbol s.
+    pub fn count_before(&self, kind: u8, s: usize) -> usize
+        ensures { result ≡ count_by (λ k. k == kind) (take s self.now.kinds.now) }
+    {
+        let kinds = self.kinds;
+        before(kinds, s).iter().filter(|k| **k == kind).count()
+    }
 }

@@ -10,15 +10,16 @@ use lib.ListN.{length, take, drop, get_or, length-map}
 use lib.Seq.{take_all, take_at, drop_at}
 use Rattle.lexical.specs.Refusals.{fault, lesser, least, long_text}
 use Rattle.lexical.specs.Symbols.{Placed, scan, symbols, scan_faults, length_faults}
-use Rattle.lexical.specs.Promises.{code_in, number_in, value_in, value_at, taken, filled, first_of, written, Scans}
+use Rattle.lexical.specs.Promises.{code_in, number_in, value_in, value_at, taken, filled, first_of, written, Scanned, Scans}
 use Rattle.lexical.specs.SymbolPromises.{filled_numbers, filled_values, Takes, Rows}
-use Rattle.lexical.specs.declared.Scanned.{Scanned}
-use Rattle.lexical.specs.declared.Scanned.TheVariants.{Symbols, LongText, UnlistedSymbol, ManySymbols}
+use Rattle.std.specs.Prelude.{Ok, Err}
+use Rattle.lexical.specs.declared.refusals.Refusal.TheVariants.{LongText}
+use Rattle.lexical.specs.declared.refusals.Fault as refusals
 use Rattle.name_numbers.proofs.RowLaws.{filled_at}
 use Rattle.name_numbers.proofs.SoundLaws.{map_at}
 
 -- a text that is too long
-pub scans-long : (text codes starts values : List ℕ) → 32768 < length text → Scans text codes starts values codes starts values LongText
+pub scans-long : (text codes starts values : List ℕ) → 32768 < length text → Scans text codes starts values codes starts values (Err (record { place = 32768; refusal = LongText }))
 unfolding length_faults least lesser
 scans-long text codes starts values h =
     let t : ltb 32768 (length text) ≡ true = lt-ltb 32768 (length text) h in
@@ -54,16 +55,10 @@ module _ {text codes₀ starts₀ values₀ codes starts values : List ℕ} {r :
   numbers = h.valued ∙ ap (λ (l : List Placed). filled (λ (x : Placed). number_in x.symbol) l values₀) (sym all-written)
 
   -- an answer that is a refusal
-  pub scans-long-text : r ≡ LongText → Scans text codes₀ starts₀ values₀ codes starts values LongText
-  scans-long-text e = subst (Scans text codes₀ starts₀ values₀ codes starts values) e (scans (numbers ∙ ap (λ (y : Scanned). filled (λ (x : Placed). value_at y (symbols (scan text)) x.symbol) (written text) values₀) (sym e)))
+  pub scans-fault : {f : refusals.Fault} → r ≡ Err f → Scans text codes₀ starts₀ values₀ codes starts values (Err f)
+  scans-fault e = subst (Scans text codes₀ starts₀ values₀ codes starts values) e (scans (numbers ∙ ap (λ (y : Scanned). filled (λ (x : Placed). value_at y (symbols (scan text)) x.symbol) (written text) values₀) (sym e)))
 
-  pub scans-unlisted : {p : ℕ} → r ≡ UnlistedSymbol p → Scans text codes₀ starts₀ values₀ codes starts values (UnlistedSymbol p)
-  scans-unlisted e = subst (Scans text codes₀ starts₀ values₀ codes starts values) e (scans (numbers ∙ ap (λ (y : Scanned). filled (λ (x : Placed). value_at y (symbols (scan text)) x.symbol) (written text) values₀) (sym e)))
-
-  pub scans-many : {p : ℕ} → r ≡ ManySymbols p → Scans text codes₀ starts₀ values₀ codes starts values (ManySymbols p)
-  scans-many e = subst (Scans text codes₀ starts₀ values₀ codes starts values) e (scans (numbers ∙ ap (λ (y : Scanned). filled (λ (x : Placed). value_at y (symbols (scan text)) x.symbol) (written text) values₀) (sym e)))
-
-  module _ {n : ℕ} (e : r ≡ Symbols n) where
+  module _ {n : ℕ} (e : r ≡ Ok n) where
     few : n ≤ 4096
     few = h.few n e
 
@@ -94,7 +89,7 @@ module _ {text codes₀ starts₀ values₀ codes starts values : List ℕ} {r :
         ap (λ (l : List ℕ). get_or l i 0) (row (λ (x : Placed). number_in x.symbol) values₀ values h.valued)
         ∙ filled_at (λ (x : Placed). number_in x.symbol) (symbols (scan text)) values₀ i k ∙ sym (map_at (λ (x : Placed). number_in x.symbol) (symbols (scan text)) i k)
 
-    pub scans-all : {values' : List ℕ} → values' ≡ filled_values text values → Scans text codes₀ starts₀ values₀ codes starts values' (Symbols n)
+    pub scans-all : {values' : List ℕ} → values' ≡ filled_values text values → Scans text codes₀ starts₀ values₀ codes starts values' (Ok n)
     scans-all {values'} q =
         let l : List Placed = symbols (scan text) in
         let f : Placed → ℕ = λ (x : Placed). value_in (symbols (scan text)) x.symbol in

@@ -4,8 +4,8 @@
 ghost use Rattle.lexical.specs.Promises.{Scans};
 
 use crate::texts::scan_symbols;
-use lexical::Scanned;
 use lexical::bounds::{SYMBOLS, TEXT_BYTES};
+use lexical::refusals::{Fault, Refusal};
 use name_numbers::numbering::number_names;
 
 mod texts;
@@ -16,20 +16,16 @@ pub fn scan(
     codes: &mut [u8; SYMBOLS],
     starts: &mut [u16; SYMBOLS],
     values: &mut [u16; SYMBOLS],
-) -> Scanned
+) -> Result<usize, Fault>
     ensures { Scans text.now codes.old starts.old values.old codes.new starts.new values.new result }
 {
     if TEXT_BYTES < text.len() {
-        return Scanned::LongText;
+        return Err(Fault {
+            place: TEXT_BYTES,
+            refusal: Refusal::LongText,
+        });
     }
-    let r = scan_symbols(text, codes, starts, values);
-    match r {
-        Scanned::Symbols(n) => {
-            number_names(text, codes, starts, values, n);
-            Scanned::Symbols(n)
-        }
-        Scanned::LongText => Scanned::LongText,
-        Scanned::UnlistedSymbol(p) => Scanned::UnlistedSymbol(p),
-        Scanned::ManySymbols(p) => Scanned::ManySymbols(p),
-    }
+    let n = scan_symbols(text, codes, starts, values)?;
+    number_names(text, codes, starts, values, n);
+    Ok(n)
 }

@@ -7,8 +7,9 @@ use lexical::bounds::SYMBOLS;
 use lexical::classes::class_of;
 use lexical::marks::mark_at;
 use lexical::numbers::number_at;
+use lexical::refusals::{Fault, Refusal};
 use lexical::words::word_at;
-use lexical::{Class, Scanned, Token};
+use lexical::{Class, Token};
 
 // What stands at `at`.
 pub(crate) fn token_at(s: &[u8], at: usize) -> Token
@@ -31,7 +32,7 @@ pub(crate) fn scan_symbols(
     codes: &mut [u8],
     starts: &mut [u16],
     values: &mut [u16],
-) -> Scanned
+) -> Result<usize, Fault>
     requires { (length s.now ≤ 32768) × (length codes.old ≡ 4096) × (length starts.old ≡ 4096) × (length values.old ≡ 4096) }
     ensures { Takes s.now codes.old starts.old values.old codes.new starts.new values.new result }
 {
@@ -40,13 +41,19 @@ pub(crate) fn scan_symbols(
     while at < s.len() {
         let t = token_at(s, at);
         match t {
-            Token::Gap => {
-                at += 1;
+            Token::Gap => at += 1,
+            Token::Unlisted => {
+                return Err(Fault {
+                    place: at,
+                    refusal: Refusal::UnlistedSymbol,
+                });
             }
-            Token::Unlisted => return Scanned::UnlistedSymbol(at),
             Token::Listed(code, len, value) => {
                 if SYMBOLS <= n {
-                    return Scanned::ManySymbols(at);
+                    return Err(Fault {
+                        place: at,
+                        refusal: Refusal::ManySymbols,
+                    });
                 }
                 codes[n] = code;
                 starts[n] = at as u16;
@@ -56,5 +63,5 @@ pub(crate) fn scan_symbols(
             }
         }
     }
-    Scanned::Symbols(n)
+    Ok(n)
 }

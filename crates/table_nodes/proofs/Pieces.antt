@@ -1,11 +1,11 @@
 -- Pieces written side by side are one piece, whichever of them is written first.
 use mathlib.Core.Path.{◌≡◌, sym, ap, ap₂, ◌∙◌}
-use mathlib.Core.List.{List, [], ◌∷◌, ◌++◌, append_assoc}
-use Prim.Native.Nat.{ℕ, suc, ◌+◌, ◌≤◌}
+use mathlib.Core.List.{List, ◌++◌, append_assoc}
+use Prim.Native.Nat.{ℕ, ◌+◌, ◌≤◌}
 use native.Mathlib.Omega.{arith}
-use lib.ListN.{length, take, drop, set, length-append, length-drop}
-use lib.Seq.{take_at, drop_at, take-take, take-append-le, drop-drop, length-take-le, sets-eq}
-use Rattle.form.specs.Codes.{node}
+use lib.ListN.{length, take, drop, length-append, length-drop}
+use lib.Seq.{take_at, drop_at, take-take, take-append-le, drop-drop, length-take-le}
+use borrow.Rule.Slice.PartMut.{put_mid}
 use Rattle.table_nodes.specs.TableWalkPromises.{patch}
 
 -- a piece that fits leaves the length as it was
@@ -53,15 +53,9 @@ patch-behind b m t u out h l =
     ∙ drop-drop (length u) m out in
     ap₂ (λ (x y : List ℕ). x ++ (u ++ y)) front back ∙ append_assoc (take b out) t (u ++ drop (m + length u) out) ∙ both b m t u out h
 
--- four stores, one behind the other
-pub four-stores : (out : List ℕ) (at k i a b : ℕ) → at + 4 ≤ length out
-    → set (set (set (set out at b) (at + 1) a) (at + 2) i) (at + 3) k ≡ patch at (node k i a b) out
+-- a part of a slice, written as a whole
+pub part-written : (a k : ℕ) (out ys piece : List ℕ) → ys ≡ piece → length piece ≡ k → put_mid a k out ys ≡ patch a piece out
 unfolding patch
-four-stores out at k i a b h =
-    let p₁ : at + 1 ≡ suc at = omega arith in
-    let p₂ : at + 2 ≡ suc (suc at) = omega arith in
-    let p₃ : at + 3 ≡ suc (suc (suc at)) = omega arith in
-    ap₂ (λ (m n : ℕ). set (set (set (set out at b) m a) n i) (at + 3) k) p₁ p₂
-    ∙ ap (λ (n : ℕ). set (set (set (set out at b) (suc at) a) (suc (suc at)) i) n k) p₃
-    ∙ sets-eq (b ∷ a ∷ i ∷ k ∷ []) out at h
-    ∙ append_assoc (take at out) (node k i a b) (drop (at + 4) out)
+part-written a k out ys piece e h =
+    let n : a + k ≡ a + length piece = omega arith in
+    ap₂ (λ (x y : List ℕ). take a out ++ (x ++ y)) e (drop-drop k a out ∙ ap (λ (j : ℕ). drop j out) n)

@@ -2,11 +2,11 @@
 use mathlib.Core.Path.{◌≡◌, refl, sym, ap, ◌∙◌}
 use mathlib.Core.Bool.{Bool, true, false, cond}
 use mathlib.Core.List.{List}
-use Prim.Native.Nat.{ℕ, ◌+◌, ◌-◌, ◌*◌, ◌/◌, ◌%◌, ◌≤◌, ◌<◌}
+use Prim.Native.Nat.{ℕ, ◌+◌, ◌-◌, ◌*◌, ◌/◌, ◌%◌, ◌≤◌, ◌<◌, min}
 use native.Mathlib.Omega.{arith}
-use lib.Dec.{leb, ltb}
-use lib.ListN.{length, set, length-set}
-use borrow.Author.Tests.{le-leb, lt-leb, lt-ltb, le-ltb, leb-true, ltb-true}
+use lib.Dec.{eqb, leb, ltb}
+use mir.Val.{bool_byte}
+use borrow.Author.Tests.{eq-eqb, ne_eqb, le-leb, lt-leb, lt-ltb, le-ltb, leb-true, ltb-true, ltb-false}
 use Rattle.form.proofs.SymbolsBooleanTests.{and_left, and_right}
 use Rattle.lexical.specs.Kinds.{code_of}
 use Rattle.form.specs.Tree.{Membership, is_in, not_in}
@@ -17,13 +17,13 @@ use Rattle.type_rules.proofs.TypeNumbers.{cond_yes, cond_no}
 use Rattle.table_nodes.specs.TableByNumber.{next_slot, given_size, element_size, first_size, second_size, range_count, related_shape, placed}
 use Rattle.table_nodes.specs.TableWalkPromises.{TruthOf}
 
-pub slot_next : (s : ℕ) → s < 63 → s + 1 ≡ next_slot s
+pub slot-next : (s r : ℕ) → r ≡ min s 62 + 1 → r ≡ next_slot s
 unfolding next_slot
-slot_next s h = sym (ap (λ (t : Bool). cond t (s + 1) 63) (lt-ltb s 63 h))
-
-pub slot-last : (s : ℕ) → 63 ≤ s → 63 ≡ next_slot s
-unfolding next_slot
-slot-last s h = sym (ap (λ (t : Bool). cond t (s + 1) 63) (le-ltb s 63 h))
+slot-next s r e = go (ltb s 63) refl
+  where
+    go : (t : Bool) → ltb s 63 ≡ t → r ≡ cond t (s + 1) 63
+    go true h = let l = ltb-true s 63 h in omega arith
+    go false h = let l = ltb-false s 63 h in omega arith
 
 -- a name's node, by where its value is found
 pub placed-slot : (w : ℕ) → w < 64 → node 2 0 w 0 ≡ placed w
@@ -95,39 +95,6 @@ unfolding code_of
 shape-notin o h is_in e = absurd (h (sym e))
 shape-notin o h not_in e = refl
 
-pub truth-yes : (o : ℕ) → o ≡ 48 → TruthOf o 1
+pub truth-by : (o r : ℕ) → r ≡ bool_byte (eqb o 48) → TruthOf o r
 unfolding code_of
-truth-yes o h = (λ e. refl, λ e. absurd (omega arith))
-
-pub truth-no : (o : ℕ) → (o ≡ 48 → ⊥) → TruthOf o 0
-unfolding code_of
-truth-no o h = (λ e. absurd (h (sym e)), λ e. refl)
-
--- the places of a node's second, third and fourth numbers, after the stores before
-pub in-second : (out : List ℕ) (at b : ℕ) → at + 4 ≤ length out → at + 1 < length (set out at b)
-in-second out at b h = let n = length-set out at b in omega arith
-
-pub in-third : (out : List ℕ) (at b a : ℕ) → at + 4 ≤ length out → at + 2 < length (set (set out at b) (at + 1) a)
-in-third out at b a h = let n = length-set (set out at b) (at + 1) a in let m = length-set out at b in omega arith
-
-pub in-fourth : (out : List ℕ) (at b a i : ℕ) → at + 4 ≤ length out → at + 3 < length (set (set (set out at b) (at + 1) a) (at + 2) i)
-in-fourth out at b a i h =
-    let k = length-set (set (set out at b) (at + 1) a) (at + 2) i in
-    let n = length-set (set out at b) (at + 1) a in
-    let m = length-set out at b in
-    omega arith
-
--- a place before e is a number of the table; the node that ends at e is inside, whatever calls kept the length
-pub start_small : {x e c o : ℕ} → x ≤ e - 4 → e ≤ c → c ≤ o → o ≤ 16384 → x < 65536
-start_small h p q m = omega arith
-
-pub node-room : {e c o n : ℕ} → 4 ≤ e → e ≤ c → c ≤ o → o ≤ 16384 → n ≡ o → (e - 4 + 4 ≤ n) × (n ≤ 16384)
-node-room far p q m h = (omega arith, omega arith)
-
--- what a call for a part before e asks: the measure t of its caller falls, and there is room
-pub call-room : {x e c o n t : ℕ} → 3 * e ≡ t → 4 ≤ e → x ≤ e - 4 → e ≤ c → c ≤ o → o ≤ 16384 → n ≡ o
-    → (3 * x + 1 < t) × ((x ≤ c) × (c ≤ n) × (n ≤ 16384))
-call-room tq far h p q m nq = (omega arith, (omega arith, omega arith, omega arith))
-
-pub before-before : {x y e : ℕ} → x ≤ y → y ≤ e → x ≤ e
-before-before h p = omega arith
+truth-by o r e = (λ h. e ∙ ap bool_byte (eq-eqb o 48 (sym h)), λ h. e ∙ ap bool_byte (ne_eqb o 48 (λ k. omega arith)))

@@ -1,5 +1,5 @@
 -- What the walk that writes the table promises of whatever tree the nodes are those of. Nothing here need be believed.
-use Rattle.std.specs.Prelude.{◌≡◌, List, ◌++◌, ℕ, ◌+◌, ◌≤◌, length, take, drop}
+use Rattle.std.specs.Prelude.{◌≡◌, ◌⊎◌, List, ◌++◌, ℕ, ◌+◌, ◌-◌, ◌≤◌, length, take, drop, get_or}
 use Rattle.lexical.specs.Kinds as kind
 use Rattle.lexical.specs.Kinds.{code_of}
 use Rattle.form.specs.Tree.{Membership, Domain, Term, Items, Pairs, Pred}
@@ -19,6 +19,26 @@ TruthOf o r = (code_of kind.TRUE ≡ o → r ≡ 1) × (code_of kind.FALSE ≡ o
 -- the numbers `piece` written from the place b on
 unfoldable pub patch : ℕ → List ℕ → List ℕ → List ℕ
 patch b piece out = take b out ++ (piece ++ drop (b + length piece) out)
+
+-- what a walk asks: the nodes up to e stand in the code, and the table has as many numbers, all places of 16 bits
+pub record WalkAsked (code : List ℕ) (e : ℕ) (out : List ℕ) : Type 0 where
+  pub inside : e ≤ length code
+  pub fits : length code ≤ length out
+  pub small : length out ≤ 16384
+
+-- the same where a node of the shape k ends at e
+pub record NodeAsked (code : List ℕ) (e k : ℕ) (out : List ℕ) : Type 0 where
+  pub inside : e ≤ length code
+  pub fits : length code ≤ length out
+  pub small : length out ≤ 16384
+  pub far : 4 ≤ e
+  pub shape : get_or code (e - 4 + 3) 0 ≡ k
+
+-- two terms with a symbol between them: a comparison, or a membership; g is the shape in the table
+pub record SidesAsked (code : List ℕ) (e g : ℕ) (out : List ℕ) : Type 0 where
+  pub asked : WalkAsked code e out
+  pub far : 4 ≤ e
+  pub shape : ((get_or code (e - 4 + 3) 0 ≡ 4) × (g ≡ 19)) ⊎ ((get_or code (e - 4 + 3) 0 ≡ 5) × (g ≡ 20))
 
 -- what was made: the type k, where the nodes begin, the piece written from there on, up to e
 pub record Makes (r : Made) (k b e : ℕ) (piece out after : List ℕ) : Type 0 where

@@ -12,16 +12,14 @@ use type_rules::kinds::{index, is_element, is_given, look, range_fits};
 
 // One node, from the place `at` on.
 pub fn set_node(out: &mut [u16], at: usize, shape: u16, i: u16, a: u16, b: u16)
-    requires { (at + 4 ≤ length out.old) × (length out.old ≤ 16384) }
+    requires { at + 4 ≤ length out.old }
     ensures { out.new ≡ patch at (node shape i a b) out.old }
 {
-    out[at] = b;
-    out[at + node::A] = a;
-    out[at + node::PLACE] = i;
-    out[at + node::SHAPE] = shape;
+    out[at..at + node::SIZE].copy_from_slice(&[b, a, i, shape]);
 }
 
-// No nodes of a tree end here.
+// No nodes of a tree end here. No Option: no caller asks, the walk goes on from place 0, where none end either, and names and places are restored on the way back;
+// with `?` the calls that bind a name would have to restore it before.
 pub fn nothing() -> Made
     ensures { result.start ≡ 0 }
 {
@@ -31,25 +29,15 @@ pub fn nothing() -> Made
     }
 }
 
-// A place in the table, as a number of it.
-pub fn small(x: usize) -> u16
-    requires { x < 65536 }
-    ensures { result ≡ x }
-{
-    x as u16
-}
-
-// The slot behind a bound name's.
+// The slot behind a bound name's; behind the last one it stays.
 pub fn next_slot(s: u16) -> u16
     ensures { result ≡ next_slot s }
 {
-    if s < slots::LAST {
-        return s + 1;
-    }
-    slots::LAST
+    s.min(slots::LAST - 1) + 1
 }
 
-// How many elements the given set has that a name is; that elements are of; that the first and the second sides of pairs are of.
+// How many elements the given set has that a name is; that elements are of; that the first and the second sides of pairs are of. The node has the number as it
+// is, 0 where there is no such set: with an Option each caller would turn it back into 0.
 pub fn given_size(sizes: &[u16], k: u16) -> u16
     ensures { result ≡ given_size sizes.now k }
 {
@@ -113,8 +101,5 @@ pub fn related_shape(o: u16) -> u16
 pub fn truth_of(o: u16) -> u16
     ensures { TruthOf o result }
 {
-    if o == TRUE {
-        return 1;
-    }
-    0
+    u16::from(o == TRUE)
 }

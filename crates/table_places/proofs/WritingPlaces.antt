@@ -1,5 +1,5 @@
 -- Walks over nodes that say where values are found: the next slot stands in front of the places.
-use mathlib.Core.Path.{◌≡◌, refl, ap, ap₂, sym, ◌∙◌}
+use mathlib.Core.Path.{◌≡◌, refl, ap, ap₂, sym, ◌∙◌, subst}
 use mathlib.Core.Bool.{Bool, true, false, cond}
 use mathlib.Core.List.{List, [], ◌∷◌, ◌++◌}
 use Prim.Native.Nat.{ℕ, suc, ◌+◌, ◌-◌, ◌*◌, ◌%◌, ◌≤◌, ◌<◌}
@@ -16,7 +16,7 @@ use Rattle.form.specs.Codes.{Numbering, node, name_number, number_of_name, endin
 use Rattle.type_rules.specs.TypesByNumber.{Names}
 use Rattle.names.specs.DeclaredNamesNamesByNumber.{Typed, parameters_of}
 use Rattle.names.specs.DeclaredNamesPassPromises.{typed_code}
-use Rattle.names.proofs.DeclaredNamesDeclarationNodes.{node-a, node-shape, Walked, finished}
+use Rattle.names.proofs.DeclaredNamesDeclarationNodes.{node-a, node-shape, Walked, on, finished}
 use Rattle.names.proofs.DeclaredNamesGivenSetNodes.{element-shape, behind, nothing_left}
 use Rattle.names.proofs.PassSteps.{parameters-codes}
 use Rattle.table_nodes.specs.TableByNumber.{Places}
@@ -26,6 +26,12 @@ use Rattle.table_places.specs.TablePromises.{ElementSet, ElementsSet, VariablesS
 -- the number of a declared name is the second one of its node
 named-at : (code : List ℕ) (at : ℕ) (x : Typed) (j : ℕ) (ρ : Numbering) (rest : List ℕ) → drop at code ≡ typed_code j x ρ ++ rest → get_or code (at + 1) 0 ≡ name_number ρ x.called
 named-at code at x j ρ rest e = node-a code at 6 j (name_number ρ x.called) 0 (type_codes x.type (j + 2) ρ ++ rest) e
+
+-- one declaration further, where the next one stands at `next`
+pub on-next : {X : Type 0} (F : List Typed → ℕ → Names → Numbering → X) (code : List ℕ) (at next : ℕ) (T U U' : Names) → next ≡ at + 8 → Walked F code at T U → at + 8 ≤ length code
+    → ((ρ : Numbering) (x : Typed) (xs : List Typed) (j : ℕ) (rest : List ℕ) → drop at code ≡ typed_code j x ρ ++ rest → F (x ∷ xs) j U ρ ≡ F xs (j + 3 + type_width x.type) U' ρ)
+    → Walked F code next T U'
+on-next F code at next T U U' n w room change = subst (λ (m : ℕ). Walked F code m T U') (sym n) (on F code at T U U' w room change)
 
 -- variables
 abbrev pub slotting : ℕ → List Typed → ℕ → Names → Numbering → Places
@@ -68,10 +74,6 @@ parameter-on code at i o a v i' o' b W Y p q r h u w ρ x xs j rest e =
     sym
     (ap₂ (λ (l m : ℕ). typed_placed xs l m Y ρ) (u ∙ ap (λ (t : Bool). cond t (i + 1) i) s) (w ∙ ap (λ (t : Bool). cond t o (o + 1)) s)
     ∙ ap (λ (t : Places). typed_placed xs (cond B (i + 1) i) (cond B o (o + 1)) t ρ) y)
-
-pub chosen-below : (b : Bool) (r x y n : ℕ) → r ≡ cond b x y → x ≤ n → y ≤ n → r ≤ n
-chosen-below true r x y n e h k = omega arith
-chosen-below false r x y n e h k = omega arith
 
 abbrev is_inward : Direction → Bool
 is_inward inward = true
@@ -176,9 +178,12 @@ elements-end code at W ρ v h [] (g ∷ gs) p l m e s =
 elements-end code at W ρ v h (x ∷ es) gs p l m e s =
     elim (something-left code at 4 p (number_of_name ρ x no_ending) 0 (element_codes (suc p) es ρ ++ given_codes l gs ρ) h e) [ ]
 
-pub elements-on : (code : List ℕ) (at j r : ℕ) (W₀ W Y : Places) → at + 4 ≤ length code → ElementSet code at j W Y r → ElementsOn code at j W₀ W → ElementsOn code (at + 4) r W₀ Y
-elements-on code at j r W₀ W Y room is w gs i ρ e =
-    let o = w gs i ρ e in element-next code at j r W Y ρ (givens_placed gs W₀ ρ) room is o.es o.gs o.p o.l o.m o.here o.counted o.same
+pub elements-on : (code : List ℕ) (at next j r : ℕ) (W₀ W Y : Places) → next ≡ at + 4 → at + 4 ≤ length code → ElementSet code at j W Y r → ElementsOn code at j W₀ W
+    → ElementsOn code next r W₀ Y
+elements-on code at next j r W₀ W Y n room is w gs i ρ e =
+    let o = w gs i ρ e in
+    subst (λ (m : ℕ). Left code m r Y ρ (givens_placed gs W₀ ρ)) (sym n)
+    (element-next code at j r W Y ρ (givens_placed gs W₀ ρ) room is o.es o.gs o.p o.l o.m o.here o.counted o.same)
 
 pub elements-set : (code : List ℕ) (at j : ℕ) (W₀ W : Places) → length code < at + 4 → ElementsOn code at j W₀ W → ElementsSet code W₀ W
 elements-set code at j W₀ W h w gs i ρ e =

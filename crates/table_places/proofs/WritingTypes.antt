@@ -91,16 +91,17 @@ by_two s a b x y i j n m z e l p p' q q' =
 abbrev pub typing : Names → Sizes → List Typed → ℕ → List ℕ → Numbering → List ℕ
 typing T z xs i S ρ = with_types T z ρ (get_or S 0 0) xs (drop 1 S)
 
-pub typing-start : (T : Names) (z : Sizes) (code : List ℕ) (q : ℕ) (out : List ℕ) → Walked (typing T z) code 0 (q ∷ out) ((q + 0) ∷ out)
+pub typing-start : (T : Names) (z : Sizes) (code : List ℕ) (q : ℕ) (out : List ℕ) → Walked (typing T z) code 0 (q ∷ out) ((q + 8 * 0) ∷ out)
 typing-start T z code q out xs i ρ e =
     record { left = xs; place = i; here = e; same = ap (λ (n : ℕ). with_types T z ρ n xs out) (add-zero q) }
 
-pub typing-on : (T : Names) (z : Sizes) (code : List ℕ) (at q q' : ℕ) (out after : List ℕ) → q' ≡ q + 8 → TypeSet code (at + 4) (q + 4) T z out after
+pub typing-on : (T : Names) (z : Sizes) (code : List ℕ) (at q q' p : ℕ) (out after : List ℕ) → q' ≡ q + 8 → p ≡ q + 4 → TypeSet code (at + 4) p T z out after
     → (ρ : Numbering) (x : Typed) (xs : List Typed) (j : ℕ) (rest : List ℕ) → drop at code ≡ typed_code j x ρ ++ rest
     → typing T z (x ∷ xs) j (q ∷ out) ρ ≡ typing T z xs (j + 3 + type_width x.type) (q' ∷ after) ρ
 unfolding with_types
-typing-on T z code at q q' out after n h ρ x xs j rest e =
-    sym (ap₂ (λ (m : ℕ) (o : List ℕ). with_types T z ρ m xs o) n (h x.type (j + 2) ρ rest (typed-type code at x j ρ rest e)))
+typing-on T z code at q q' p out after n b h ρ x xs j rest e =
+    sym (ap₂ (λ (m : ℕ) (o : List ℕ). with_types T z ρ m xs o) n
+    (h x.type (j + 2) ρ rest (typed-type code at x j ρ rest e) ∙ ap (λ (m : ℕ). patch m (type_node x.type T z ρ) out) b))
 
 pub part-stands : (nodes : List ℕ) (from to : ℕ) (code l : List ℕ) → PartOf nodes from to code → Stands nodes from to l → code ≡ l
 part-stands nodes from to code l p s = p.part s.ordered s.inside ∙ s.stands

@@ -15,6 +15,11 @@ use Rattle.table_nodes.specs.TableWalkPromises.{patch}
 use Rattle.table_places.specs.DossierTable.{operation_starts}
 use Rattle.table_places.specs.DossierTableByNumber.{givens_placed, placing, parameters_placed, states_placed, operation_kinds, operation_places, kinds_of, with_tables, type_node, with_nodes, with_operations, table_by}
 
+-- what writing asks: the table has as many numbers as there are nodes, all places of 16 bits
+pub record TableRoom (nodes out : List ℕ) : Type 0 where
+  pub fits : length nodes ≤ length out
+  pub small : length out ≤ 16384
+
 -- the places of elements, of variables, of parameters
 abbrev pub ElementsSet : (code : List ℕ) (W Y : Places) → Type 0
 ElementsSet code W Y = (gs : List Given) (i : ℕ) (ρ : Numbering) → code ≡ given_codes i gs ρ → Y ≡ givens_placed gs W ρ

@@ -1,7 +1,7 @@
 // The carriers of declared names, written behind the nodes of the names.
 ghost use Rattle.std.specs.Prelude.{◌≡◌, ◌+◌, ◌≤◌, ◌<◌, length, get_or};
 ghost use Rattle.table_places.specs.DossierTableByNumber.{given_index};
-ghost use Rattle.table_places.specs.TablePromises.{TypeSet, TypesSet, OperationTypesSet, DeclaredSet};
+ghost use Rattle.table_places.specs.TablePromises.{TableRoom, TypeSet, TypesSet, OperationTypesSet, DeclaredSet};
 
 use form::{node, shapes};
 use names::passes::part;
@@ -52,21 +52,14 @@ fn set_type(code: &[u16], at: usize, names: &[u16], sizes: &[u16], out: &mut [u1
 
 // The carriers of declarations.
 fn set_types(nodes: &[u16], from: usize, to: usize, names: &[u16], sizes: &[u16], out: &mut [u16])
-    requires { (length nodes.now ≤ length out.old) × (length out.old ≤ 16384) }
+    requires { TableRoom nodes.now out.old }
     ensures { TypesSet nodes.now from to names.now sizes.now out.old out.new }
 {
     let code = part(nodes, from, to);
-    let mut at: usize = 0;
-    while node::DECLARATION <= code.len() - at {
-        set_type(
-            code,
-            at + node::SIZE,
-            names,
-            sizes,
-            out,
-            from + at + node::SIZE,
-        );
-        at += node::DECLARATION;
+    for k in 0..code.len() / node::DECLARATION {
+        // the type's node stands behind the name's
+        let at = node::DECLARATION * k + node::SIZE;
+        set_type(code, at, names, sizes, out, from + at);
     }
 }
 
@@ -79,15 +72,13 @@ fn set_parameter_types(
     sizes: &[u16],
     out: &mut [u16],
 )
-    requires { (n ≤ 16) × (length nodes.now ≤ length out.old) × (length out.old ≤ 16384) }
+    requires { (n ≤ 16) × TableRoom nodes.now out.old }
     ensures { OperationTypesSet nodes.now spans.now n names.now sizes.now out.old out.new }
 {
-    let mut k: usize = 0;
-    while k < n {
+    for k in 0..n {
         let first = span_at(spans, span::OPERATIONS + span::OPERATION * k);
         let last = span_at(spans, span::OPERATIONS + span::OPERATION * k + span::LAST);
         set_types(nodes, first, last, names, sizes, out);
-        k += 1;
     }
 }
 
@@ -100,7 +91,7 @@ pub fn set_declared(
     sizes: &[u16],
     out: &mut [u16],
 )
-    requires { (n ≤ 16) × (length nodes.now ≤ length out.old) × (length out.old ≤ 16384) }
+    requires { (n ≤ 16) × TableRoom nodes.now out.old }
     ensures { DeclaredSet nodes.now spans.now n names.now sizes.now out.old out.new }
 {
     set_types(

@@ -1,5 +1,5 @@
 // Where values are found: the places of elements, the slots of variables and parameters.
-ghost use Rattle.std.specs.Prelude.{◌≡◌, cond, ◌+◌, ◌%◌, ◌≤◌, ◌<◌, eqb, length};
+ghost use Rattle.std.specs.Prelude.{◌≡◌, ◌+◌, ◌%◌, ◌≤◌, ◌<◌, eqb, length};
 ghost use Rattle.table_places.specs.TablePromises.{ElementsSet, ElementSet, VariablesSet, ParametersSet, PlacesSet};
 
 use form::name_endings::{INPUT, PLAIN, PRIMED};
@@ -13,11 +13,9 @@ fn place_elements(code: &[u16], places: &mut [u16])
     requires { length code.now ≤ 16384 }
     ensures { ElementsSet code.now places.old places.new }
 {
-    let mut at: usize = 0;
     let mut j: u16 = slots::ELEMENTS;
-    while node::SIZE <= code.len() - at {
-        j = place_element(code, at, j, places);
-        at += node::SIZE;
+    for k in 0..code.len() / node::SIZE {
+        j = place_element(code, node::SIZE * k, j, places);
     }
 }
 
@@ -38,12 +36,11 @@ fn place_variables(code: &[u16], shift: u16, slot: u16, places: &mut [u16])
     requires { (length code.now ≤ 16384) × (slot < 64) }
     ensures { VariablesSet code.now shift slot places.old places.new }
 {
-    let mut at: usize = 0;
     let mut s: u16 = slot;
-    while node::DECLARATION <= code.len() - at {
-        put(places, index(code[at + node::A]) + shift as usize, s);
+    for k in 0..code.len() / node::DECLARATION {
+        let x = code[node::DECLARATION * k + node::A];
+        put(places, index(x) + shift as usize, s);
         s += 1;
-        at += node::DECLARATION;
     }
 }
 
@@ -54,30 +51,22 @@ fn is_input(x: u16) -> bool
     x % endings::COUNT == INPUT
 }
 
-fn choose(yes: bool, i: u16, o: u16) -> u16
-    ensures { result ≡ cond yes i o }
-{
-    if yes {
-        return i;
-    }
-    o
-}
-
 // Inputs and outputs have slots of their own.
 pub fn place_parameters(code: &[u16], places: &mut [u16])
     requires { length code.now ≤ 16384 }
     ensures { ParametersSet code.now places.old places.new }
 {
-    let mut at: usize = 0;
     let mut i: u16 = slots::INPUTS;
     let mut o: u16 = slots::OUTPUTS;
-    while node::DECLARATION <= code.len() - at {
-        let x = code[at + node::A];
-        let yes = is_input(x);
-        put(places, index(x), choose(yes, i, o));
-        i = choose(yes, i + 1, i);
-        o = choose(yes, o, o + 1);
-        at += node::DECLARATION;
+    for k in 0..code.len() / node::DECLARATION {
+        let x = code[node::DECLARATION * k + node::A];
+        if is_input(x) {
+            put(places, index(x), i);
+            i += 1;
+        } else {
+            put(places, index(x), o);
+            o += 1;
+        }
     }
 }
 

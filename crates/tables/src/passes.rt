@@ -1,6 +1,6 @@
 // The whole table, in the order of the text: where values are found, the carriers, then each predicate with the names in its reach.
 ghost use Rattle.std.specs.Prelude.{◌≡◌, ◌+◌, ◌-◌, ◌≤◌, ◌<◌, length, get_or};
-ghost use Rattle.table_places.specs.TablePromises.{PredicateSet, StateSet, StatesSet, ConditionsSet, SideSet, OperationSet, OperationsSet, ContextsSet, TableSet, TableWritten};
+ghost use Rattle.table_places.specs.TablePromises.{TableRoom, PredicateSet, StateSet, StatesSet, ConditionsSet, SideSet, OperationSet, OperationsSet, ContextsSet, TableSet, TableWritten};
 
 use declared_names::declared::{hide, show};
 use form::name_endings::{PLAIN, PRIMED};
@@ -15,109 +15,101 @@ use table_places::places::{place_all, place_parameters};
 use type_rules::entries::{FREE, USED};
 use type_rules::kinds::{index, look, put};
 
+// What is read: the nodes of a dossier, where its parts stand among them, how many elements its given sets have, and the variables of both states, which stand
+// among the nodes too.
+#[derive(Clone, Copy)]
+struct Source<'a> {
+    nodes: &'a [u16],
+    spans: &'a [u16],
+    sizes: &'a [u16],
+    abstracts: &'a [u16],
+    concretes: &'a [u16],
+}
+
 // A predicate that ends at a place.
-fn set_predicate(
-    nodes: &[u16],
-    end: usize,
-    names: &mut [u16],
-    places: &mut [u16],
-    sizes: &[u16],
-    out: &mut [u16],
-)
-    requires { (length nodes.now ≤ length out.old) × (length out.old ≤ 16384) }
-    ensures { PredicateSet nodes.now end names.old names.new places.old places.new sizes.now out.old out.new }
+fn set_predicate(s: &Source<'_>, end: usize, names: &mut [u16], places: &mut [u16], out: &mut [u16])
+    requires { TableRoom s.now.nodes.now out.old }
+    ensures { PredicateSet s.now.nodes.now end names.old names.new places.old places.new s.now.sizes.now out.old out.new }
 {
-    if nodes.len() < end {
+    if s.nodes.len() < end {
         return;
     }
-    let made = pred(nodes, end, slots::BOUND, names, places, sizes, out);
+    let made = pred(s.nodes, end, slots::BOUND, names, places, s.sizes, out);
 }
 
 // A state: its variables are in use behind it.
 fn set_state(
-    nodes: &[u16],
+    s: &Source<'_>,
     first: usize,
     last: usize,
     end: usize,
     names: &mut [u16],
     places: &mut [u16],
-    sizes: &[u16],
     out: &mut [u16],
 )
-    requires { (length nodes.now ≤ length out.old) × (length out.old ≤ 16384) }
-    ensures { StateSet nodes.now first last end names.old names.new places.old places.new sizes.now out.old out.new }
+    requires { TableRoom s.now.nodes.now out.old }
+    ensures { StateSet s.now.nodes.now first last end names.old names.new places.old places.new s.now.sizes.now out.old out.new }
 {
-    let variables = part(nodes, first, last);
+    let variables = part(s.nodes, first, last);
     show(variables, PLAIN, names);
-    set_predicate(nodes, end, names, places, sizes, out);
+    set_predicate(s, end, names, places, out);
     hide(variables, PLAIN, USED, names);
 }
 
 // The two states.
-fn set_states(
-    nodes: &[u16],
-    spans: &[u16],
-    names: &mut [u16],
-    places: &mut [u16],
-    sizes: &[u16],
-    out: &mut [u16],
-)
-    requires { (length nodes.now ≤ length out.old) × (length out.old ≤ 16384) }
-    ensures { StatesSet nodes.now spans.now names.old names.new places.old places.new sizes.now out.old out.new }
+fn set_states(s: &Source<'_>, names: &mut [u16], places: &mut [u16], out: &mut [u16])
+    requires { TableRoom s.now.nodes.now out.old }
+    ensures { StatesSet s.now.nodes.now s.now.spans.now names.old names.new places.old places.new s.now.sizes.now out.old out.new }
 {
-    let s0 = span_at(spans, span::ABSTRACT_FIRST);
-    let s1 = span_at(spans, span::ABSTRACT_LAST);
-    let s2 = span_at(spans, span::ABSTRACT_END);
-    set_state(nodes, s0, s1, s2, names, places, sizes, out);
-    let s3 = span_at(spans, span::CONCRETE_FIRST);
-    let s4 = span_at(spans, span::CONCRETE_LAST);
-    let s5 = span_at(spans, span::CONCRETE_END);
-    set_state(nodes, s3, s4, s5, names, places, sizes, out);
+    let s0 = span_at(s.spans, span::ABSTRACT_FIRST);
+    let s1 = span_at(s.spans, span::ABSTRACT_LAST);
+    let s2 = span_at(s.spans, span::ABSTRACT_END);
+    set_state(s, s0, s1, s2, names, places, out);
+    let s3 = span_at(s.spans, span::CONCRETE_FIRST);
+    let s4 = span_at(s.spans, span::CONCRETE_LAST);
+    let s5 = span_at(s.spans, span::CONCRETE_END);
+    set_state(s, s3, s4, s5, names, places, out);
 }
 
 // ainit, cinit, retrieve, by their ends.
 fn set_conditions(
-    nodes: &[u16],
+    s: &Source<'_>,
     e1: usize,
     e2: usize,
     e3: usize,
-    abstracts: &[u16],
-    concretes: &[u16],
     names: &mut [u16],
     places: &mut [u16],
-    sizes: &[u16],
     out: &mut [u16],
 )
-    requires { (length nodes.now ≤ length out.old) × (length out.old ≤ 16384) }
-    ensures { ConditionsSet nodes.now abstracts.now concretes.now e1 e2 e3 names.old names.new places.old places.new sizes.now out.old out.new }
+    requires { TableRoom s.now.nodes.now out.old }
+    ensures { ConditionsSet s.now.nodes.now s.now.abstracts.now s.now.concretes.now e1 e2 e3 names.old names.new places.old places.new s.now.sizes.now out.old out.new }
 {
-    show(abstracts, PLAIN, names);
-    set_predicate(nodes, e1, names, places, sizes, out);
-    hide(abstracts, PLAIN, USED, names);
-    show(concretes, PLAIN, names);
-    set_predicate(nodes, e2, names, places, sizes, out);
-    show(abstracts, PLAIN, names);
-    set_predicate(nodes, e3, names, places, sizes, out);
-    hide(abstracts, PLAIN, USED, names);
-    hide(concretes, PLAIN, USED, names);
+    show(s.abstracts, PLAIN, names);
+    set_predicate(s, e1, names, places, out);
+    hide(s.abstracts, PLAIN, USED, names);
+    show(s.concretes, PLAIN, names);
+    set_predicate(s, e2, names, places, out);
+    show(s.abstracts, PLAIN, names);
+    set_predicate(s, e3, names, places, out);
+    hide(s.abstracts, PLAIN, USED, names);
+    hide(s.concretes, PLAIN, USED, names);
 }
 
 // A predicate of an operation, with the variables of its state, plain and primed.
 fn set_side(
-    nodes: &[u16],
+    s: &Source<'_>,
     end: usize,
     variables: &[u16],
     names: &mut [u16],
     places: &mut [u16],
-    sizes: &[u16],
     out: &mut [u16],
 )
-    requires { (length nodes.now ≤ length out.old) × (length out.old ≤ 16384) }
-    ensures { SideSet nodes.now variables.now end names.old names.new places.old places.new sizes.now out.old out.new }
+    requires { TableRoom s.now.nodes.now out.old }
+    ensures { SideSet s.now.nodes.now variables.now end names.old names.new places.old places.new s.now.sizes.now out.old out.new }
 {
     show(variables, PLAIN, names);
     show(variables, PRIMED, names);
-    set_predicate(nodes, end, names, places, sizes, out);
+    set_predicate(s, end, names, places, out);
     hide(variables, PLAIN, USED, names);
     hide(variables, PRIMED, FREE, names);
 }
@@ -134,98 +126,59 @@ fn title_at(nodes: &[u16], first: usize) -> usize
 
 // An operation, with the variables of both states.
 fn set_operation(
-    nodes: &[u16],
+    s: &Source<'_>,
     first: usize,
     last: usize,
     middle: usize,
     end: usize,
-    abstracts: &[u16],
-    concretes: &[u16],
     names: &mut [u16],
     places: &mut [u16],
-    sizes: &[u16],
     out: &mut [u16],
 )
-    requires { (length nodes.now ≤ length out.old) × (length out.old ≤ 16384) }
-    ensures { OperationSet nodes.now abstracts.now concretes.now first last middle end names.old names.new places.old places.new sizes.now out.old out.new }
+    requires { TableRoom s.now.nodes.now out.old }
+    ensures { OperationSet s.now.nodes.now s.now.abstracts.now s.now.concretes.now first last middle end names.old names.new places.old places.new s.now.sizes.now out.old out.new }
 {
-    put(names, title_at(nodes, first), USED);
-    let parameters = part(nodes, first, last);
+    put(names, title_at(s.nodes, first), USED);
+    let parameters = part(s.nodes, first, last);
     show(parameters, PLAIN, names);
     place_parameters(parameters, places);
-    set_side(nodes, middle, abstracts, names, places, sizes, out);
-    set_side(nodes, end, concretes, names, places, sizes, out);
+    set_side(s, middle, s.abstracts, names, places, out);
+    set_side(s, end, s.concretes, names, places, out);
     hide(parameters, PLAIN, FREE, names);
 }
 
-fn set_operations(
-    nodes: &[u16],
-    spans: &[u16],
-    n: usize,
-    abstracts: &[u16],
-    concretes: &[u16],
-    names: &mut [u16],
-    places: &mut [u16],
-    sizes: &[u16],
-    out: &mut [u16],
-)
-    requires { (n ≤ 16) × (length nodes.now ≤ length out.old) × (length out.old ≤ 16384) }
-    ensures { OperationsSet nodes.now spans.now abstracts.now concretes.now n names.old places.old sizes.now out.old out.new }
+fn set_operations(s: &Source<'_>, n: usize, names: &mut [u16], places: &mut [u16], out: &mut [u16])
+    requires { (n ≤ 16) × TableRoom s.now.nodes.now out.old }
+    ensures { OperationsSet s.now.nodes.now s.now.spans.now s.now.abstracts.now s.now.concretes.now n names.old places.old s.now.sizes.now out.old out.new }
 {
-    let mut k: usize = 0;
-    while k < n {
-        let first = span_at(spans, span::OPERATIONS + span::OPERATION * k);
-        let last = span_at(spans, span::OPERATIONS + span::OPERATION * k + span::LAST);
-        let middle = span_at(spans, span::OPERATIONS + span::OPERATION * k + span::MIDDLE);
-        let end = span_at(spans, span::OPERATIONS + span::OPERATION * k + span::END);
-        set_operation(
-            nodes, first, last, middle, end, abstracts, concretes, names, places, sizes, out,
+    for k in 0..n {
+        let first = span_at(s.spans, span::OPERATIONS + span::OPERATION * k);
+        let last = span_at(s.spans, span::OPERATIONS + span::OPERATION * k + span::LAST);
+        let middle = span_at(
+            s.spans,
+            span::OPERATIONS + span::OPERATION * k + span::MIDDLE,
         );
-        k += 1;
+        let end = span_at(s.spans, span::OPERATIONS + span::OPERATION * k + span::END);
+        set_operation(s, first, last, middle, end, names, places, out);
     }
 }
 
 // All predicates, each with the names in its reach.
-fn set_contexts(
-    nodes: &[u16],
-    spans: &[u16],
-    n: usize,
-    abstracts: &[u16],
-    concretes: &[u16],
-    names: &mut [u16],
-    places: &mut [u16],
-    sizes: &[u16],
-    out: &mut [u16],
-)
-    requires { (n ≤ 16) × (length nodes.now ≤ length out.old) × (length out.old ≤ 16384) }
-    ensures { ContextsSet nodes.now spans.now abstracts.now concretes.now n names.old places.old sizes.now out.old out.new }
+fn set_contexts(s: &Source<'_>, n: usize, names: &mut [u16], places: &mut [u16], out: &mut [u16])
+    requires { (n ≤ 16) × TableRoom s.now.nodes.now out.old }
+    ensures { ContextsSet s.now.nodes.now s.now.spans.now s.now.abstracts.now s.now.concretes.now n names.old places.old s.now.sizes.now out.old out.new }
 {
-    set_states(nodes, spans, names, places, sizes, out);
+    set_states(s, names, places, out);
     set_conditions(
-        nodes,
-        span_at(spans, span::AINIT_END),
-        span_at(spans, span::CINIT_END),
-        span_at(spans, span::RETRIEVE_END),
-        abstracts,
-        concretes,
+        s,
+        span_at(s.spans, span::AINIT_END),
+        span_at(s.spans, span::CINIT_END),
+        span_at(s.spans, span::RETRIEVE_END),
         names,
         places,
-        sizes,
         out,
     );
-    set_operations(
-        nodes, spans, n, abstracts, concretes, names, places, sizes, out,
-    );
-}
-
-// As many operations as there are spans for.
-fn at_most(n: usize) -> usize
-    ensures { (result ≤ 16) × (n ≤ 16 → result ≡ n) }
-{
-    if n <= span::MOST {
-        return n;
-    }
-    span::MOST
+    set_operations(s, n, names, places, out);
 }
 
 fn set_table(
@@ -239,10 +192,11 @@ fn set_table(
     sizes: &[u16],
     out: &mut [u16],
 )
-    requires { (length nodes.now ≤ length out.old) × (length out.old ≤ 16384) }
+    requires { TableRoom nodes.now out.old }
     ensures { TableSet nodes.now spans.now operations givens abstracts names.old places.old sizes.now out.old out.new }
 {
-    let n = at_most(operations);
+    // as many operations as there are spans for
+    let n = operations.min(span::MOST);
     let gs = part(nodes, givens, abstracts);
     let av = part(
         nodes,
@@ -256,7 +210,14 @@ fn set_table(
     );
     place_all(gs, av, cv, places);
     set_declared(nodes, spans, n, names, sizes, out);
-    set_contexts(nodes, spans, n, av, cv, names, places, sizes, out);
+    let source = Source {
+        nodes,
+        spans,
+        sizes,
+        abstracts: av,
+        concretes: cv,
+    };
+    set_contexts(&source, n, names, places, out);
 }
 
 // The table of a dossier. Its parts stand among the nodes where `spans` say, its given sets from `givens` up to `abstracts`; the names are those of the given sets.

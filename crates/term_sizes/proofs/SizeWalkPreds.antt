@@ -11,7 +11,7 @@ use Rattle.form.specs.Tree.{range}
 use Rattle.form.specs.Written.{connective_kind, comparison_kind, membership_kind, quantifier_kind}
 use Rattle.form.specs.Codes.{number_of_name, term_width, pred_width, domain_width, range_codes, domain_codes, term_codes, pred_codes}
 use Rattle.type_rules.specs.declared.Node.{Node}
-use Rattle.type_rules.specs.TypesByNumber.{entry, lesser, NodeAt}
+use Rattle.type_rules.specs.TypesByNumber.{fault_key, entry, lesser, NodeAt}
 use Rattle.typing.proofs.LastNodes.{last-node, one-part, two-parts, three-parts, middle}
 use Rattle.typing.proofs.TypeWalkTerms.{restored}
 use Rattle.term_sizes.specs.declared.Sized.{Sized}
@@ -21,7 +21,7 @@ use Rattle.term_sizes.proofs.SizeWalk.{pred-from}
 
 module _ (code : List ℕ) (e : ℕ) (l : e ≤ length code) (S : Bounds) where
   -- true, false
-  pub pred_constant : (r : Sized) → get_or code (e - 4 + 3) 0 ≡ 1 → (r.bound ≡ 0) × (r.fault ≡ 0) × (r.start ≡ e - 4) → PredSized code e S S r
+  pub pred_constant : (r : Sized) → get_or code (e - 4 + 3) 0 ≡ 1 → (r.bound ≡ 0) × (fault_key r.fault ≡ 0) × (r.start ≡ e - 4) → PredSized code e S S r
   unfolding term_codes term_over
   pred_constant r q s = pred-from code e l S 1 S r (let f = s.2 in omega arith) refl q (
     (λ i ρ base y. let h = last-node code e l base 1 i (code_of kind.TRUE) 0 y in record { fault_is = s.1; bound_is = λ z. s.0; start_is = s.2 ∙ sym h.long }),
@@ -34,7 +34,7 @@ module _ (code : List ℕ) (e : ℕ) (l : e ≤ length code) (S : Bounds) where
       (λ p i ρ base y. hv.right p (suc i) ρ base (one-part code e l base (pred_codes p (suc i) ρ) 2 i 0 0 y).before)
 
   pub pred-connected : (U W : Bounds) (v u r : Sized) → get_or code (e - 4 + 3) 0 ≡ 3 → PredSized code (e - 4) S U u → PredSized code u.start U W v
-      → r.bound ≡ 0 → r.fault ≡ lesser v.fault u.fault → r.start ≡ v.start → PredSized code e S W r
+      → r.bound ≡ 0 → fault_key r.fault ≡ lesser (fault_key v.fault) (fault_key u.fault) → r.start ≡ v.start → PredSized code e S W r
   unfolding term_codes term_over
   pred-connected U W v u r q hu hv₀ bq fq sq =
       let hv : PredSized code u.start S W v = subst (λ (X : Bounds). PredSized code u.start X W v) hu.kept hv₀ in
@@ -62,7 +62,7 @@ module _ (code : List ℕ) (e : ℕ) (l : e ≤ length code) (S : Bounds) where
       hv.right t₁ t₂ i j ρ base (two-parts code e l base (term_codes t₁ i ρ) (term_codes t₂ j ρ) 5 (i + term_width t₁) (code_of (membership_kind o)) 0 y).before)
 
   pub pred-within : (W : Bounds) (v d r : Sized) → get_or code (e - 4 + 3) 0 ≡ 6 → DomainSized code (e - 4) d → TermSized code d.start S W v
-      → r.bound ≡ 0 → r.fault ≡ v.fault → r.start ≡ v.start → PredSized code e S W r
+      → r.bound ≡ 0 → fault_key r.fault ≡ fault_key v.fault → r.start ≡ v.start → PredSized code e S W r
   unfolding term_codes term_over
   pred-within W v d r q hd hv bq fq sq =
       pred-from code e l S 6 W r (let f = hd.falls in let g = hv.falls in omega arith) hv.kept q
@@ -74,7 +74,7 @@ module _ (code : List ℕ) (e : ℕ) (l : e ≤ length code) (S : Bounds) where
       record { fault_is = fq ∙ s₁.fault_is; bound_is = λ z. bq; start_is = sq ∙ s₁.start_is })
 
   pub pred-related : (U W : Bounds) (t v r : Sized) → get_or code (e - 4 + 3) 0 ≡ 7 → TermSized code (e - 4) S U v → PairSized code v.start U W t
-      → r.bound ≡ 0 → r.fault ≡ lesser t.fault v.fault → r.start ≡ t.start → PredSized code e S W r
+      → r.bound ≡ 0 → fault_key r.fault ≡ lesser (fault_key t.fault) (fault_key v.fault) → r.start ≡ t.start → PredSized code e S W r
   unfolding term_codes term_over
   pred-related U W t v r q hv ht₀ bq fq sq =
       let ht : PairSized code v.start S W t = subst (λ (X : Bounds). PairSized code v.start X W t) hv.kept ht₀ in
@@ -90,7 +90,7 @@ module _ (code : List ℕ) (e : ℕ) (l : e ≤ length code) (S : Bounds) where
   -- (forall x : T @ p): the body is seen with the size of what x is bound over
   pub pred-quantified : (U₁ U₂ U₃ : Bounds) (n : Node) (d p r : Sized) (x b old : ℕ) → NodeAt code e n → get_or code (e - 4 + 3) 0 ≡ 8
       → DomainSized code (e - 4) d → PredSized code d.start U₁ U₂ p
-      → b ≡ d.bound → U₁ ≡ set S x b → U₃ ≡ set U₂ x old → x ≡ n.a → old ≡ entry S x → r.bound ≡ 0 → r.fault ≡ p.fault → r.start ≡ p.start
+      → b ≡ d.bound → U₁ ≡ set S x b → U₃ ≡ set U₂ x old → x ≡ n.a → old ≡ entry S x → r.bound ≡ 0 → fault_key r.fault ≡ fault_key p.fault → r.start ≡ p.start
       → PredSized code e S U₃ r
   unfolding term_codes term_over
   pred-quantified U₁ U₂ U₃ n d p r x b old hn q hd hp bd b₁ b₃ xq oq bq fq sq =

@@ -12,7 +12,7 @@ use Rattle.form.specs.Tree.{Domain, given_set, range, Items, only, also, Pairs, 
 use Rattle.form.specs.Written.{prefix_kind, operator_kind}
 use Rattle.form.specs.Codes.{node, Numbering, name_number, number_of_name, end_number, end_width, sign_of, division_number, term_width, domain_codes, term_codes, items_codes, pairs_codes, pred_codes}
 use Rattle.type_rules.specs.declared.Node.{Node}
-use Rattle.type_rules.specs.TypesByNumber.{entry, key, lesser, judged_key, NodeAt}
+use Rattle.type_rules.specs.TypesByNumber.{fault_key, entry, key, lesser, judged_key, NodeAt}
 use Rattle.typing.proofs.LastNodes.{last-node, one-part, two-parts, three-parts, middle}
 use Rattle.typing.proofs.TypeWalkTerms.{restored}
 use Rattle.term_sizes.specs.declared.Sized.{Sized}
@@ -23,7 +23,7 @@ use Rattle.term_sizes.proofs.SizeWalk.{term-from}
 
 module _ (code : List ℕ) (e : ℕ) (l : e ≤ length code) where
   -- a given set's name; a range
-  pub domain-given : (r : Sized) → get_or code (e - 4 + 3) 0 ≡ 1 → (r.bound ≡ 0) × (r.fault ≡ 0) × (r.start ≡ e - 4) → DomainSized code e r
+  pub domain-given : (r : Sized) → get_or code (e - 4 + 3) 0 ≡ 1 → (r.bound ≡ 0) × (fault_key r.fault ≡ 0) × (r.start ≡ e - 4) → DomainSized code e r
   unfolding domain_bound
   domain-given r q s = record { falls = let f = s.2 in omega arith; small = let f = s.0 in omega arith; right = right }
     where
@@ -34,7 +34,7 @@ module _ (code : List ℕ) (e : ℕ) (l : e ≤ length code) where
           let h = last-node code e l base 1 i (name_number ρ g) 0 y in record { fault_is = s.1; bound_is = λ z. s.0; start_is = s.2 ∙ sym h.long }
 
   pub domain-range : (n : Node) (r : Sized) (a b : ℕ) → NodeAt code e n → (get_or code (e - 4 + 3) 0 ≡ 1 → ⊥) → a ≡ absolute n.a → b ≡ absolute n.b
-      → r.bound ≡ max a b → r.bound ≤ 65535 → r.fault ≡ 0 → r.start ≡ e - 4 → DomainSized code e r
+      → r.bound ≡ max a b → r.bound ≤ 65535 → fault_key r.fault ≡ 0 → r.start ≡ e - 4 → DomainSized code e r
   unfolding domain_bound
   domain-range n r a b hn q aq bq mq m fq s = record { falls = omega arith; small = m; right = right }
     where
@@ -50,14 +50,14 @@ module _ (code : List ℕ) (e : ℕ) (l : e ≤ length code) where
 
 module _ (code : List ℕ) (e : ℕ) (l : e ≤ length code) (S : Bounds) where
   pub term-number : (n : Node) (r : Sized) → NodeAt code e n → get_or code (e - 4 + 3) 0 ≡ 1 → r.bound ≡ n.a → r.bound ≤ 2147483647
-      → r.fault ≡ 0 → r.start ≡ e - 4 → TermSized code e S S r
+      → fault_key r.fault ≡ 0 → r.start ≡ e - 4 → TermSized code e S S r
   unfolding term_codes term_bound term_over
   term-number n r hn q p m f s = term-from code e l S 1 S r (omega arith) m refl q
       (λ v i ρ base y.
       let h = last-node code e l base 1 i v 0 y in record { fault_is = f; bound_is = λ z. p ∙ hn.first_is ∙ h.is_first; start_is = s ∙ sym h.long })
 
   pub term-name : (n : Node) (r : Sized) (x : ℕ) → NodeAt code e n → get_or code (e - 4 + 3) 0 ≡ 2 → x ≡ n.a → r.bound ≡ entry S x → r.bound ≤ 2147483647
-      → r.fault ≡ 0 → r.start ≡ e - 4 → TermSized code e S S r
+      → fault_key r.fault ≡ 0 → r.start ≡ e - 4 → TermSized code e S S r
   unfolding term_codes term_bound term_over
   term-name n r x hn q xq p m f s = term-from code e l S 2 S r (omega arith) m refl q
       (λ g i ρ base y.
@@ -65,46 +65,46 @@ module _ (code : List ℕ) (e : ℕ) (l : e ≤ length code) (S : Bounds) where
       record { fault_is = f; bound_is = λ z. p ∙ ap (entry S) (xq ∙ hn.first_is ∙ h.is_first); start_is = s ∙ sym h.long })
 
   -- empty G, empty G H
-  pub term-empty : (r : Sized) → get_or code (e - 4 + 3) 0 ≡ 9 → (r.bound ≡ 0) × (r.fault ≡ 0) × (r.start ≡ e - 4) → TermSized code e S S r
+  pub term-empty : (r : Sized) → get_or code (e - 4 + 3) 0 ≡ 9 → (r.bound ≡ 0) × (fault_key r.fault ≡ 0) × (r.start ≡ e - 4) → TermSized code e S S r
   unfolding term_codes term_bound term_over
   term-empty r q s = term-from code e l S 9 S r (let f = s.2 in omega arith) (let f = s.0 in omega arith) refl q
       (λ g i ρ base y. let h = last-node code e l base 9 i (name_number ρ g) 0 y in record { fault_is = s.1; bound_is = λ z. s.0; start_is = s.2 ∙ sym h.long })
 
-  pub term-empty-pairs : (r : Sized) → get_or code (e - 4 + 3) 0 ≡ 10 → (r.bound ≡ 0) × (r.fault ≡ 0) × (r.start ≡ e - 4) → TermSized code e S S r
+  pub term-empty-pairs : (r : Sized) → get_or code (e - 4 + 3) 0 ≡ 10 → (r.bound ≡ 0) × (fault_key r.fault ≡ 0) × (r.start ≡ e - 4) → TermSized code e S S r
   unfolding term_codes term_bound term_over
   term-empty-pairs r q s = term-from code e l S 10 S r (let f = s.2 in omega arith) (let f = s.0 in omega arith) refl q
       (λ g g' i ρ base y.
       let h = last-node code e l base 10 i (name_number ρ g) (name_number ρ g') y in record { fault_is = s.1; bound_is = λ z. s.0; start_is = s.2 ∙ sym h.long })
 
   pub term-prefix : (U : Bounds) (n : Node) (v r : Sized) (m : ℕ) → NodeAt code e n → get_or code (e - 4 + 3) 0 ≡ 3 → TermSized code (e - 4) S U v
-      → PrefixBound n.a v.bound m × (m ≤ 2147483647) → r.bound ≡ cond (eqb v.fault 0) m 0 → r.fault ≡ v.fault → r.start ≡ v.start
+      → PrefixBound n.a v.bound m × (m ≤ 2147483647) → r.bound ≡ cond (eqb (fault_key v.fault) 0) m 0 → fault_key r.fault ≡ fault_key v.fault → r.start ≡ v.start
       → TermSized code e S U r
   unfolding term_codes term_bound term_over
   term-prefix U n v r m hn q hv mq bq fq sq =
-      term-from code e l S 3 U r (let f = hv.falls in omega arith) (unless-small v.fault m r.bound mq.1 bq) hv.kept q
+      term-from code e l S 3 U r (let f = hv.falls in omega arith) (unless-small (fault_key v.fault) m r.bound mq.1 bq) hv.kept q
       (λ o t i ρ base y.
       let h = one-part code e l base (term_codes t (suc i) ρ) 3 i (code_of (prefix_kind o)) 0 y in
       let s = hv.right t (suc i) ρ base h.before in
       record {
         fault_is = fq ∙ s.fault_is;
         bound_is = λ z.
-            unless-none v.fault m r.bound bq (s.fault_is ∙ z) ∙ mq.0 o (sym (hn.first_is ∙ h.is_first)) ∙ ap (prefix_bound o) (s.bound_is z);
+            unless-none (fault_key v.fault) m r.bound bq (s.fault_is ∙ z) ∙ mq.0 o (sym (hn.first_is ∙ h.is_first)) ∙ ap (prefix_bound o) (s.bound_is z);
         start_is = sq ∙ s.start_is;
       })
 
   pub term-divided : (U : Bounds) (n : Node) (v r : Sized) (m : ℕ) → NodeAt code e n → get_or code (e - 4 + 3) 0 ≡ 4 → TermSized code (e - 4) S U v
-      → DivisionBound n.b n.a v.bound m × (m ≤ 2147483647) → r.bound ≡ cond (eqb v.fault 0) m 0 → r.fault ≡ v.fault → r.start ≡ v.start
+      → DivisionBound n.b n.a v.bound m × (m ≤ 2147483647) → r.bound ≡ cond (eqb (fault_key v.fault) 0) m 0 → fault_key r.fault ≡ fault_key v.fault → r.start ≡ v.start
       → TermSized code e S U r
   unfolding term_codes term_bound term_over
   term-divided U n v r m hn q hv mq bq fq sq =
-      term-from code e l S 4 U r (let f = hv.falls in omega arith) (unless-small v.fault m r.bound mq.1 bq) hv.kept q
+      term-from code e l S 4 U r (let f = hv.falls in omega arith) (unless-small (fault_key v.fault) m r.bound mq.1 bq) hv.kept q
       (λ o t d i ρ base y.
       let h = one-part code e l base (term_codes t i ρ) 4 (i + term_width t) d.magnitude (sign_of d.negative + division_number o) y in
       let s = hv.right t i ρ base h.before in
       record {
         fault_is = fq ∙ s.fault_is;
         bound_is = λ z.
-            unless-none v.fault m r.bound bq (s.fault_is ∙ z) ∙ mq.0 o d.negative (sym (hn.second_is ∙ h.is_second))
+            unless-none (fault_key v.fault) m r.bound bq (s.fault_is ∙ z) ∙ mq.0 o d.negative (sym (hn.second_is ∙ h.is_second))
             ∙ ap₂ (division_bound o) (s.bound_is z) (hn.first_is ∙ h.is_first);
         start_is = sq ∙ s.start_is;
       })
@@ -112,13 +112,13 @@ module _ (code : List ℕ) (e : ℕ) (l : e ≤ length code) (S : Bounds) where
   -- t and u, with an operator between them
   pub term-binary : (U W : Bounds) (n : Node) (v u r : Sized) (m g : ℕ) → NodeAt code e n → get_or code (e - 4 + 3) 0 ≡ 5
       → TermSized code (e - 4) S U u → TermSized code u.start U W v
-      → OperatorBound n.a v.bound u.bound m → g ≡ lesser v.fault u.fault
-      → r.fault ≡ judged_key (leb m 2147483647) (key n.place 13) g → r.bound ≡ cond (eqb r.fault 0) m 0 → r.start ≡ v.start
+      → OperatorBound n.a v.bound u.bound m → g ≡ lesser (fault_key v.fault) (fault_key u.fault)
+      → fault_key r.fault ≡ judged_key (leb m 2147483647) (key n.place 13) g → r.bound ≡ cond (eqb (fault_key r.fault) 0) m 0 → r.start ≡ v.start
       → TermSized code e S W r
   unfolding term_codes term_bound term_over
   term-binary U W n v u r m g hn q hu hv₀ mq gq fq bq sq =
       let hv : TermSized code u.start S W v = subst (λ (X : Bounds). TermSized code u.start X W v) hu.kept hv₀ in
-      term-from code e l S 5 W r (let f = hu.falls in let g = hv.falls in omega arith) (over-small r.fault m n.place g r.bound fq bq) hv.kept q
+      term-from code e l S 5 W r (let f = hu.falls in let g = hv.falls in omega arith) (over-small (fault_key r.fault) m n.place g r.bound fq bq) hv.kept q
       (λ o t₁ t₂ i ρ base y.
       let j : ℕ = suc (i + term_width t₁) in
       let h = two-parts code e l base (term_codes t₁ i ρ) (term_codes t₂ j ρ) 5 (i + term_width t₁) (code_of (operator_kind o)) 0 y in
@@ -132,7 +132,7 @@ module _ (code : List ℕ) (e : ℕ) (l : e ≤ length code) (S : Bounds) where
       record {
         fault_is = fault;
         bound_is = λ z.
-            unless-none r.fault m r.bound bq (fault ∙ z)
+            unless-none (fault_key r.fault) m r.bound bq (fault ∙ z)
             ∙ size (over_none (operator_bound o (term_bound t₁ S ρ) (term_bound t₂ S ρ)) (i + term_width t₁) (lesser (term_over t₁ S ρ i) (term_over t₂ S ρ j)) z).0;
         start_is = sq ∙ s₁.start_is;
       })
@@ -140,7 +140,7 @@ module _ (code : List ℕ) (e : ℕ) (l : e ≤ length code) (S : Bounds) where
   -- {x : G | p}
   pub term-such : (U₁ U₂ U₃ : Bounds) (n : Node) (d p r : Sized) (x old : ℕ) → NodeAt code e n → get_or code (e - 4 + 3) 0 ≡ 6
       → DomainSized code (e - 4) d → PredSized code d.start U₁ U₂ p
-      → U₁ ≡ set S x 0 → U₃ ≡ set U₂ x old → x ≡ n.a → old ≡ entry S x → r.bound ≡ 0 → r.fault ≡ p.fault → r.start ≡ p.start
+      → U₁ ≡ set S x 0 → U₃ ≡ set U₂ x old → x ≡ n.a → old ≡ entry S x → r.bound ≡ 0 → fault_key r.fault ≡ fault_key p.fault → r.start ≡ p.start
       → TermSized code e S U₃ r
   unfolding term_codes term_bound term_over
   term-such U₁ U₂ U₃ n d p r x old hn q hd hp b₁ b₃ xq oq bq fq sq =
@@ -158,7 +158,7 @@ module _ (code : List ℕ) (e : ℕ) (l : e ≤ length code) (S : Bounds) where
 
   -- {t, ...}, {t |-> t, ...}
   pub term-listed : (U : Bounds) (v r : Sized) → get_or code (e - 4 + 3) 0 ≡ 7 → ItemsSized code (e - 4) S U v
-      → r.bound ≡ 0 → r.fault ≡ v.fault → r.start ≡ v.start → TermSized code e S U r
+      → r.bound ≡ 0 → fault_key r.fault ≡ fault_key v.fault → r.start ≡ v.start → TermSized code e S U r
   unfolding term_codes term_bound term_over
   term-listed U v r q hv bq fq sq = term-from code e l S 7 U r (let f = hv.falls in omega arith) (omega arith) hv.kept q
       (λ ts i ρ base y.
@@ -166,7 +166,7 @@ module _ (code : List ℕ) (e : ℕ) (l : e ≤ length code) (S : Bounds) where
       record { fault_is = fq ∙ s.fault_is; bound_is = λ z. bq; start_is = sq ∙ s.start_is })
 
   pub term-pairs : (U : Bounds) (v r : Sized) → get_or code (e - 4 + 3) 0 ≡ 8 → PairsSized code (e - 4) S U v
-      → r.bound ≡ 0 → r.fault ≡ v.fault → r.start ≡ v.start → TermSized code e S U r
+      → r.bound ≡ 0 → fault_key r.fault ≡ fault_key v.fault → r.start ≡ v.start → TermSized code e S U r
   unfolding term_codes term_bound term_over
   term-pairs U v r q hv bq fq sq = term-from code e l S 8 U r (let f = hv.falls in omega arith) (omega arith) hv.kept q
       (λ ts i ρ base y.
@@ -175,7 +175,7 @@ module _ (code : List ℕ) (e : ℕ) (l : e ≤ length code) (S : Bounds) where
 
   -- the terms of a brace
   pub items-only : (U : Bounds) (v r : Sized) → TermSized code (e - 4) S U v → get_or code (e - 4 + 3) 0 ≡ 1
-      → r.bound ≡ 0 → r.fault ≡ v.fault → r.start ≡ v.start → ItemsSized code e S U r
+      → r.bound ≡ 0 → fault_key r.fault ≡ fault_key v.fault → r.start ≡ v.start → ItemsSized code e S U r
   unfolding term_codes term_over
   items-only U v r hv q bq fq sq = record { falls = let f = hv.falls in omega arith; kept = hv.kept; right = right }
     where
@@ -187,7 +187,7 @@ module _ (code : List ℕ) (e : ℕ) (l : e ≤ length code) (S : Bounds) where
           let h = (two-parts code e l base (term_codes t i ρ) (items_codes ts (suc (i + term_width t)) ρ) 2 0 0 0 y).is_shape in absurd (omega arith)
 
   pub items-also : (U W : Bounds) (v u r : Sized) → ItemsSized code (e - 4) S U u → TermSized code u.start U W v → (get_or code (e - 4 + 3) 0 ≡ 1 → ⊥)
-      → r.bound ≡ 0 → r.fault ≡ lesser v.fault u.fault → r.start ≡ v.start → ItemsSized code e S W r
+      → r.bound ≡ 0 → fault_key r.fault ≡ lesser (fault_key v.fault) (fault_key u.fault) → r.start ≡ v.start → ItemsSized code e S W r
   unfolding term_codes term_over
   items-also U W v u r hu hv₀ q bq fq sq = record { falls = let f = hu.falls in let g = hv₀.falls in omega arith; kept = hv₀.kept ∙ hu.kept; right = right }
     where
@@ -202,7 +202,7 @@ module _ (code : List ℕ) (e : ℕ) (l : e ≤ length code) (S : Bounds) where
 
   -- two terms; the pairs of a brace
   pub pair-sized : (U W : Bounds) (v u r : Sized) → TermSized code e S U u → TermSized code u.start U W v
-      → r.bound ≡ 0 → r.fault ≡ lesser v.fault u.fault → r.start ≡ v.start → PairSized code e S W r
+      → r.bound ≡ 0 → fault_key r.fault ≡ lesser (fault_key v.fault) (fault_key u.fault) → r.start ≡ v.start → PairSized code e S W r
   pair-sized U W v u r hu hv₀ bq fq sq = record {
     falls = let f = hu.falls in let g = hv₀.falls in omega arith;
     kept = hv₀.kept ∙ hu.kept;
@@ -225,7 +225,7 @@ module _ (code : List ℕ) (e : ℕ) (l : e ≤ length code) (S : Bounds) where
           absurd (omega arith)
 
   pub pairs-also : (U W : Bounds) (v u r : Sized) → PairsSized code (e - 4) S U u → PairSized code u.start U W v → (get_or code (e - 4 + 3) 0 ≡ 1 → ⊥)
-      → r.bound ≡ 0 → r.fault ≡ lesser v.fault u.fault → r.start ≡ v.start → PairsSized code e S W r
+      → r.bound ≡ 0 → fault_key r.fault ≡ lesser (fault_key v.fault) (fault_key u.fault) → r.start ≡ v.start → PairsSized code e S W r
   unfolding term_codes term_over
   pairs-also U W v u r hu hv₀ q bq fq sq = record { falls = let f = hu.falls in let g = hv₀.falls in omega arith; kept = hv₀.kept ∙ hu.kept; right = right }
     where

@@ -4,7 +4,7 @@ use Rattle.lexical.specs.Kinds.{code_of}
 use Rattle.form.specs.Tree.{Prefix, Operator, Division, Domain, Term, Items, Pairs, Pred}
 use Rattle.form.specs.Written.{prefix_kind, operator_kind}
 use Rattle.form.specs.Codes.{Numbering, sign_of, division_number, domain_codes, term_codes, items_codes, pairs_codes, pred_codes}
-use Rattle.type_rules.specs.TypesByNumber.{lesser}
+use Rattle.type_rules.specs.TypesByNumber.{fault_key, lesser}
 use Rattle.term_sizes.specs.SizesByNumber.{Bounds, prefix_bound, operator_bound, division_bound, domain_bound, term_bound, term_over, items_over, pairs_over, pred_over}
 use Rattle.term_sizes.specs.declared.Sized.{Sized}
 
@@ -21,7 +21,7 @@ DivisionBound o n a r = (p : Division) (s : Bool) → sign_of s + division_numbe
 
 -- what was seen: the least fault f; the size n where there is none; where the nodes begin
 pub record Saw (r : Sized) (n f s : ℕ) : Type 0 where
-  pub fault_is : r.fault ≡ f
+  pub fault_is : fault_key r.fault ≡ f
   pub bound_is : f ≡ 0 → r.bound ≡ n
   pub start_is : r.start ≡ s
 

@@ -1,12 +1,14 @@
 // Number 13: sizes of terms and predicates, from the end of their nodes.
 #![tactic(auto)]
 
+use lexical::refusals::Fault;
+
 pub mod sizes;
 
-// The size of a term, its least fault (place * KEY_ROOM + number + 1) or 0, and where its nodes begin. A term at fault has the size 0.
-#[derive(Drop)]
+// The size of a term, its least fault, with the place by symbols, and where its nodes begin. A term at fault has the size 0.
+#[derive(Clone, Copy)]
 pub struct Sized {
     pub bound: u64,
-    pub fault: u32,
+    pub fault: Option<Fault>,
     pub start: usize,
 }

@@ -1,6 +1,6 @@
 // The walk over the nodes of terms and predicates, from their ends, with the size of each name in a table.
-ghost use Rattle.std.specs.Prelude.{◌≡◌, cond, ◌+◌, ◌-◌, ◌≤◌, max, eqb, leb, length, get_or};
-ghost use Rattle.type_rules.specs.TypesByNumber.{judged_key, key};
+ghost use Rattle.std.specs.Prelude.{◌≡◌, cond, ◌+◌, ◌-◌, ◌≤◌, eqb, leb, length, get_or};
+ghost use Rattle.type_rules.specs.TypesByNumber.{fault_key, judged_key, key};
 ghost use Rattle.term_sizes.specs.SizesByNumber.{absolute};
 ghost use Rattle.term_sizes.specs.SizeWalkPromises.{PrefixBound, OperatorBound, DivisionBound, DomainSized, TermSized, ItemsSized, PairSized, PairsSized, PredSized};
 
@@ -8,8 +8,8 @@ use crate::Sized;
 use form::{node, shapes};
 use lexical::bounds::{COUNT_SIZE, LARGEST_NUMBER, LARGEST_SIZE};
 use lexical::codes;
-use type_rules::faults;
-use type_rules::kinds::{KEY_ROOM, index, lesser_of, look, node_at, put, wide};
+use lexical::refusals::{Fault, Refusal};
+use type_rules::kinds::{lesser_of, look, node_at, put, unless};
 
 // Prefixes and operators by the code of their symbol. What is not a number has the size 0.
 const PLUS: u16 = codes::PLUS as u16;
@@ -51,62 +51,40 @@ fn division_bound(b: u16, a: u16, t: u64) -> u64
     if b < shapes::REMAINDER {
         return t;
     }
-    a as u64
+    u64::from(a)
 }
 
 // The absolute value of an end of a range, which stands with the largest number added.
 pub fn absolute_of(a: u16) -> u64
     ensures { (result ≡ absolute a) × (result ≤ 65535) }
 {
-    if a < LARGEST_NUMBER {
-        return (LARGEST_NUMBER - a) as u64;
-    }
-    (a - LARGEST_NUMBER) as u64
+    u64::from(a.abs_diff(LARGEST_NUMBER))
 }
-
-pub fn greater_of(a: u64, b: u64) -> u64
-    requires { (a ≤ 65535) × (b ≤ 65535) }
-    ensures { (result ≡ max a b) × (result ≤ 65535) }
-{
-    if a < b {
-        return b;
-    }
-    a
-}
-
-// The key of a size that is too large, at the text's first symbol.
-const LARGE: u32 = faults::LARGE_SIZE + 1;
 
 // An operation of the size n at the place i, with the fault `parts` in its parts.
-fn over(n: u64, i: u16, parts: u32) -> u32
-    ensures { result ≡ judged_key (leb n 2147483647) (key i 13) parts }
+fn over(n: u64, i: u16, parts: Option<Fault>) -> Option<Fault>
+    ensures { fault_key result ≡ judged_key (leb n 2147483647) (key i 13) (fault_key parts) }
 {
-    if parts == 0 {
-        if n <= LARGEST_SIZE {
-            return 0;
-        }
-        return wide(i) * KEY_ROOM + LARGE;
-    }
-    parts
+    parts.or(unless(n <= LARGEST_SIZE, usize::from(i), Refusal::LargeSize))
 }
 
 // The size, where there is no fault.
-fn unless_over(fault: u32, n: u64) -> u64
-    ensures { result ≡ cond (eqb fault 0) n 0 }
+fn unless_over(fault: Option<Fault>, n: u64) -> u64
+    ensures { result ≡ cond (eqb (fault_key fault) 0) n 0 }
 {
-    if fault == 0 {
-        return n;
+    match fault {
+        None => n,
+        Some(_) => 0,
     }
-    0
 }
 
 // No size and no fault, at `at`.
 fn bare(at: usize) -> Sized
-    ensures { (result.bound ≡ 0) × (result.fault ≡ 0) × (result.start ≡ at) }
+    ensures { (result.bound ≡ 0) × (fault_key result.fault ≡ 0) × (result.start ≡ at) }
 {
     Sized {
         bound: 0,
-        fault: 0,
+        fault: None,
         start: at,
     }
 }
@@ -127,8 +105,8 @@ fn domain(code: &[u16], end: usize) -> Sized
     let a = absolute_of(n.a);
     let b = absolute_of(n.b);
     Sized {
-        bound: greater_of(a, b),
-        fault: 0,
+        bound: a.max(b),
+        fault: None,
         start: at,
     }
 }
@@ -165,8 +143,8 @@ fn number(code: &[u16], end: usize, bounds: &[u16]) -> Sized
 {
     let n = node_at(code, end);
     Sized {
-        bound: n.a as u64,
-        fault: 0,
+        bound: u64::from(n.a),
+        fault: None,
         start: end - node::SIZE,
     }
 }
@@ -177,10 +155,10 @@ fn named(code: &[u16], end: usize, bounds: &[u16]) -> Sized
     ensures { TermSized code.now end bounds.now bounds.now result }
 {
     let n = node_at(code, end);
-    let e = look(bounds, index(n.a));
+    let e = look(bounds, usize::from(n.a));
     Sized {
-        bound: e as u64,
-        fault: 0,
+        bound: u64::from(e),
+        fault: None,
         start: end - node::SIZE,
     }
 }
@@ -243,7 +221,7 @@ fn such(code: &[u16], end: usize, bounds: &mut [u16]) -> Sized
     ensures { TermSized code.now end bounds.old bounds.new result }
 {
     let n = node_at(code, end);
-    let x = index(n.a);
+    let x = usize::from(n.a);
     let d = domain(code, end - node::SIZE);
     let was = look(bounds, x);
     put(bounds, x, 0);
@@ -428,7 +406,7 @@ fn quantified(code: &[u16], end: usize, bounds: &mut [u16]) -> Sized
     ensures { PredSized code.now end bounds.old bounds.new result }
 {
     let n = node_at(code, end);
-    let x = index(n.a);
+    let x = usize::from(n.a);
     let d = domain(code, end - node::SIZE);
     let old = look(bounds, x);
     put(bounds, x, d.bound as u16);

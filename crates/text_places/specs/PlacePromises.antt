@@ -1,9 +1,8 @@
 -- Lines of a text: a newline, byte 10, ends one.
-use Rattle.std.specs.Prelude.{◌≡◌, cond, ◌⊎◌, List, [], ◌∷◌, ℕ, ◌+◌, ◌<◌, ◌≤◌, eqb, get_or}
+use Rattle.std.specs.Prelude.{◌≡◌, ◌==◌, count_by, ◌⊎◌, List, ℕ, ◌+◌, ◌<◌, ◌≤◌, get_or}
 
-unfoldable pub newlines : List ℕ → ℕ
-newlines [] = 0
-newlines (b ∷ w) = cond (eqb b 10) 1 0 + newlines w
+abbrev pub newlines : List ℕ → ℕ
+newlines w = count_by (λ b. b == 10) w
 
 -- the line of the byte p begins at r: behind a newline or where the text begins, and no newline stands from there up to p
 pub record LineStart (text : List ℕ) (p r : ℕ) : Type 0 where

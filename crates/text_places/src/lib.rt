@@ -1,76 +1,80 @@
 // Where a byte of a text stands: its line and column, where that line begins, where the symbol ends that begins there.
 #![tactic(auto)]
 
-ghost use Rattle.std.specs.Prelude.{◌≡◌, cond, ◌+◌, ◌≤◌, eqb, get_or, take};
+ghost use Rattle.std.specs.Prelude.{◌≡◌, ◌+◌, ◌≤◌, take, drop, ◌==◌, ◌||◌};
 ghost use Rattle.text_places.specs.PlacePromises.{newlines, LineStart};
 
 use lexical::classes::{byte_at, run_from};
 use lexical::marks::mark_of;
 use lexical::words::ending_of;
-use lexical::{Token, endings};
+use lexical::{Ending, Token};
 
 const NEWLINE: u8 = b'\n';
+
+// The number of the first line, and of the first column.
+const FIRST: usize = 1;
 
 // The greatest place that is counted on; it is behind every text.
 const FARTHEST: usize = 65535;
 
-// 1 where a newline stands, else 0.
-fn newline_at(text: &[u8], k: usize) -> usize
-    ensures { (result ≡ cond (eqb (get_or text.now k 0) 10) 1 0) × (result ≤ 1) }
+// Does a byte part symbols?
+pub fn is_blank(b: u8) -> bool
+    ensures { result ≡ (b == 32 || b == 10) }
 {
-    if byte_at(text, k) == NEWLINE {
-        return 1;
-    }
-    0
+    b == b' ' || b == NEWLINE
 }
 
-// The number of the line that a byte stands in, from 1.
+// The bytes of a text, or its symbols, from `from` up to `to`.
+#[derive(Clone, Copy)]
+pub struct Span {
+    pub from: usize,
+    pub to: usize,
+}
+
+// The bytes of a text before a place.
+pub fn before(text: &[u8], p: usize) -> &[u8]
+    ensures { result.now ≡ take p text.now }
+{
+    &text[..p.min(text.len())]
+}
+
+// The bytes of a text in a span.
+pub fn part(text: &[u8], s: Span) -> &[u8]
+    ensures { result.now ≡ drop s.from (take s.to text.now) }
+{
+    let front = before(text, s.to);
+    &front[s.from.min(front.len())..]
+}
+
+// The number of the line that a byte stands in.
 pub fn line_of(text: &[u8], p: usize) -> usize
     ensures { result ≡ 1 + newlines (take p text.now) }
 {
-    let mut line: usize = 1;
-    let mut k: usize = 0;
-    while k < p {
-        if text.len() <= k {
-            return line;
-        }
-        line += newline_at(text, k);
-        k += 1;
-    }
-    line
+    FIRST + before(text, p).iter().filter(|b| **b == NEWLINE).count()
 }
 
 // Where that line begins.
 pub fn line_start(text: &[u8], p: usize) -> usize
     ensures { LineStart text.now p result }
 {
-    let mut k = p;
-    while 0 < k {
-        if byte_at(text, k - 1) == NEWLINE {
-            return k;
+    for k in (0..p).rev() {
+        if byte_at(text, k) == NEWLINE {
+            return k + 1;
         }
-        k -= 1;
     }
-    k
+    0
 }
 
 // A place of a text: what is farther off counts as this.
 fn place(p: usize) -> usize
     ensures { result ≤ 65535 }
 {
-    if FARTHEST < p {
-        return FARTHEST;
-    }
-    p
+    p.min(FARTHEST)
 }
 
-// The column of a byte, from 1.
+// The column of a byte.
 pub fn column_of(text: &[u8], p: usize) -> usize {
-    let start = line_start(text, p);
-    if p < start {
-        return 1;
-    }
-    place(p - start) + 1
+    place(p - line_start(text, p)) + FIRST
 }
 
 // How many bytes the mark has that three bytes begin with; 1 for none.
@@ -90,7 +94,7 @@ pub fn symbol_end(text: &[u8], p: usize) -> usize {
     if n == 0 {
         return q + place(mark_length(byte_at(text, q), byte_at(text, q + 1), byte_at(text, q + 2)));
     }
-    if ending_of(byte_at(text, q + n)) == endings::NONE {
+    if ending_of(byte_at(text, q + n)) == Ending::Plain {
         return q + n;
     }
     q + n + 1

@@ -5,26 +5,25 @@ use mathlib.Core.Option.{Option, none, some}
 use Prim.Native.Nat.{ℕ, ◌≤◌}
 use native.Mathlib.Omega.{arith}
 use lib.ListN.{length}
-use Rattle.lexical.specs.Refusals.{Fault, least}
+use Rattle.lexical.specs.Refusals.{Fault, number_of, least}
+use Rattle.lexical.specs.RefusalNames.{refusal_is, fault_is}
+use Rattle.lexical.specs.declared.refusals.Fault as refusals
+use Rattle.parser.specs.declared.Structure.{Structure}
 use Rattle.form.specs.Tree.{Dossier}
 use Rattle.form.specs.Codes.{dossier_codes}
-use Rattle.parser.specs.Promises.{numbering}
-use Rattle.parser.specs.declared.Parsed.{Parsed}
-use Rattle.parser.specs.declared.Parsed.TheVariants as parsed
+use Rattle.parser.specs.Promises.{numbering, Parsed}
+use Rattle.std.specs.Prelude.{Result, Ok, Err}
 use Rattle.static_rules.specs.Read as definition
 use Rattle.static_rules.specs.Read.{refusal, reading, pass, located, read_sizes, read_bindings, names_read, read}
 use Rattle.static_rules.specs.Names.{name_faults}
 use Rattle.static_rules.specs.Limits.{binding_faults, size_faults}
 use Rattle.reader.specs.Promises.{Reads, ReadIs, Written, Kept, Stands}
-use Rattle.reader.specs.declared.Reading.{Reading}
-use Rattle.reader.specs.declared.Reading.TheVariants as reader
 use Rattle.reader.proofs.ParsedReading.{Told, read_is}
 use Rattle.reader.proofs.ReadGives.{read-gives}
 use Rattle.labels.proofs.ReadingsReadReadings.{read-reading}
 use Rattle.labels.proofs.ReadLabels.{read-labels}
 use Rattle.labels.proofs.SpeltNames.{spelt}
 use Rattle.text_readings.specs.TextPromises.{Held, ReadAs, ReadsText, Counted, Gathered}
-use Rattle.text_readings.specs.declared.TextRead.TheVariants.{Read, Refused}
 
 abbrev IsRefusal : definition.Reading → Type 0
 IsRefusal (refusal f) = Unit {0}
@@ -47,30 +46,41 @@ record NodesOf (text starts nodes : List ℕ) (d : Dossier) : Type 0 where
   stands : Stands text starts nodes symbols_count (length (dossier_codes d (numbering text))) d
 
 nodes-of : {text starts nodes : List ℕ} (p : Parsed) (d : Dossier) → length nodes ≡ 16384 → read text ≡ reading d → Told text starts nodes p → NodesOf text starts nodes d
-nodes-of {text} {starts} {nodes} (parsed.Structure n m) d l e t =
+nodes-of {text} {starts} {nodes} (Ok s) d l e t =
     let f : t.dossier ≡ d = names-passed text t.dossier d (sym t.reads ∙ e) in
     subst (NodesOf text starts nodes) f
-    (record { symbols_count = n; stands = subst (λ (k : ℕ). Stands text starts nodes n k t.dossier) t.size (t.stands l) })
-nodes-of (parsed.Refused k p) d l e t = absurd (subst IsRefusal (sym t.reads ∙ e) tt)
+    (record { symbols_count = s.symbols; stands = subst (λ (k : ℕ). Stands text starts nodes s.symbols k t.dossier) t.size (t.stands l) })
+nodes-of (Err f) d l e t = absurd (subst IsRefusal (sym t.reads ∙ e) tt)
 
-module _ {text codes₀ starts₀ values₀ nodes₀ codes starts values nodes spans₀ table₀ groups₀ rows₀ firsts₀ spans table groups rows firsts : List ℕ} {r : Reading}
+numbers-of : {s : Structure} {a b : ℕ} → ◌≡◌ {A = Parsed} (Ok s) (Ok (record { symbols = a; numbers = b })) → s.numbers ≡ b
+numbers-of e = cc
+
+module _ {text codes₀ starts₀ values₀ nodes₀ codes starts values nodes spans₀ table₀ groups₀ rows₀ firsts₀ spans table groups rows firsts : List ℕ} {r : Parsed}
     (q : Reads text codes₀ starts₀ values₀ nodes₀ codes starts values nodes spans₀ table₀ groups₀ rows₀ firsts₀ spans table groups rows firsts r) where
   abbrev Leaves : definition.Reading → Type 0
   Leaves x =
       ReadIs (Kept spans₀ table₀ groups₀ rows₀ firsts₀ spans table groups rows firsts)
       (λ (d : Dossier). Written text d spans₀ table₀ groups₀ rows₀ firsts₀ spans table groups rows firsts) text x r
 
-  refused_as : {n p : ℕ} (labels : List ℕ) (x : definition.Reading) → Leaves x → r ≡ reader.Refused n p → ReadAs text table rows firsts groups labels x (Refused n p)
-  unfolding ReadAs
-  refused_as labels (refusal f) a e = let h = sym e ∙ a.0 in cc
-  refused_as labels (reading d) a e = let h = sym e ∙ a.0 in let z : ◌≡◌ {A = ℕ} 0 1 = cc in absurd (omega arith)
+  -- an answer, by what it is
+  as-is : (x : definition.Reading) {t : Parsed} → r ≡ t → Leaves x
+      → ReadIs (Kept spans₀ table₀ groups₀ rows₀ firsts₀ spans table groups rows firsts)
+      (λ (d : Dossier). Written text d spans₀ table₀ groups₀ rows₀ firsts₀ spans table groups rows firsts) text x t
+  as-is x e a =
+      subst (λ (y : Parsed). ReadIs (Kept spans₀ table₀ groups₀ rows₀ firsts₀ spans table groups rows firsts)
+      (λ (d : Dossier). Written text d spans₀ table₀ groups₀ rows₀ firsts₀ spans table groups rows firsts) text x y) e a
 
-  few-as : {n m : ℕ} (x : definition.Reading) → read text ≡ x → Leaves x → length nodes ≡ 16384 → r ≡ reader.Read n m → m ≤ 16384
-  few-as (refusal f) h a l e = let h = sym e ∙ a.0 in let z : ◌≡◌ {A = ℕ} 0 1 = cc in absurd (omega arith)
-  few-as {m = m} (reading d) h a l e =
-      let s = (nodes-of q.parsed d l h (read_is q.parses)).stands.short in
+  refused_as : {f : refusals.Fault} (labels : List ℕ) (x : definition.Reading) → Leaves x → r ≡ Err f → ReadAs text table rows firsts groups labels x (Err f)
+  unfolding ReadAs
+  refused_as labels (refusal g) a e = (as-is (refusal g) e a).0
+  refused_as labels (reading d) a e = let h = sym e ∙ a.0 in (cc)
+
+  few-as : {s : Structure} (x : definition.Reading) → read text ≡ x → Leaves x → length nodes ≡ 16384 → r ≡ Ok s → s.numbers ≤ 16384
+  few-as (refusal f) h a l e = absurd (as-is (refusal f) e a).0
+  few-as {s} (reading d) h a l e =
+      let b = (nodes-of q.parsed d l h (read_is q.parses)).stands.short in
       let i = sym e ∙ a.0 in
-      let j : m ≡ length (dossier_codes d (numbering text)) = cc in
+      let j : s.numbers ≡ length (dossier_codes d (numbering text)) = numbers-of i in
       omega arith
 
   held : {m : ℕ} (d : Dossier) {old labels : List ℕ} → length nodes ≡ 16384 → length table₀ ≡ 16384 → read text ≡ reading d → m ≡ length (dossier_codes d (numbering text))
@@ -95,23 +105,23 @@ module _ {text codes₀ starts₀ values₀ nodes₀ codes starts values nodes s
       let b = s.short in
       c.exact d (numbering text) s.inside s.nodes_are (read-gives text d h).variables.operations (omega arith)
 
-  read_as : {n m k : ℕ} {old labels : List ℕ} (x : definition.Reading) → read text ≡ x → Leaves x → length table₀ ≡ 16384 → r ≡ reader.Read n m
-      → Gathered nodes starts spans table groups m old labels → Counted nodes m k → ReadAs text table rows firsts groups labels x (Read k)
+  read_as : {s : Structure} {k : ℕ} {old labels : List ℕ} (x : definition.Reading) → read text ≡ x → Leaves x → length table₀ ≡ 16384 → r ≡ Ok s
+      → Gathered nodes starts spans table groups s.numbers old labels → Counted nodes s.numbers k → ReadAs text table rows firsts groups labels x (Ok k)
   unfolding ReadAs
-  read_as (refusal f) h a l e g c = let h = sym e ∙ a.0 in let z : ◌≡◌ {A = ℕ} 0 1 = cc in absurd (omega arith)
-  read_as {m = m} (reading d) h a l e g c =
+  read_as (refusal f) h a l e g c = absurd (as-is (refusal f) e a).0
+  read_as {s} (reading d) h a l e g c =
       let i = sym e ∙ a.0 in
-      let j : m ≡ length (dossier_codes d (numbering text)) = cc in
-      (ap Read (counted d h j c), held d c.long l h j a.1 g)
+      let j : s.numbers ≡ length (dossier_codes d (numbering text)) = numbers-of i in
+      (ap Ok (counted d h j c), held d c.long l h j a.1 g)
 
   -- a refusal
-  pub text-refused : {n p : ℕ} (labels : List ℕ) → r ≡ reader.Refused n p → ReadsText text table rows firsts groups labels (Refused n p)
-  text-refused {n} {p} labels e = record { answer = refused_as labels (read text) q.answers e }
+  pub text-refused : {f : refusals.Fault} (labels : List ℕ) → r ≡ Err f → ReadsText text table rows firsts groups labels (Err f)
+  text-refused labels e = record { answer = refused_as labels (read text) q.answers e }
 
   -- how many numbers the nodes have
-  pub nodes-few : {n m : ℕ} → length nodes ≡ 16384 → r ≡ reader.Read n m → m ≤ 16384
-  nodes-few {n} {m} l e = few-as (read text) refl q.answers l e
+  pub nodes-few : {s : Structure} → length nodes ≡ 16384 → r ≡ Ok s → s.numbers ≤ 16384
+  nodes-few l e = few-as (read text) refl q.answers l e
 
-  pub text-read : {n m k : ℕ} {old labels : List ℕ} → length table₀ ≡ 16384 → r ≡ reader.Read n m → Gathered nodes starts spans table groups m old labels → Counted nodes m k
-      → ReadsText text table rows firsts groups labels (Read k)
+  pub text-read : {s : Structure} {k : ℕ} {old labels : List ℕ} → length table₀ ≡ 16384 → r ≡ Ok s → Gathered nodes starts spans table groups s.numbers old labels → Counted nodes s.numbers k
+      → ReadsText text table rows firsts groups labels (Ok k)
   text-read l e g c = record { answer = read_as (read text) refl q.answers l e g c }

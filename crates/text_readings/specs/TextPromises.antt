@@ -1,6 +1,10 @@
 -- What reading a text leaves for the calls and the report: its fault, or the arrays of its dossier for the search and for the lines of a witness. Nothing here need be believed.
-use Rattle.std.specs.Prelude.{◌≡◌, List, ℕ, ◌≤◌, length, take}
+use Rattle.std.specs.Prelude.{◌≡◌, List, ℕ, ◌≤◌, length, take, Result, Ok, Err}
+use Rattle.lexical.specs.Refusals as refusals
 use Rattle.lexical.specs.Refusals.{number_of}
+use Rattle.lexical.specs.RefusalNames.{refusal_is, fault_is}
+use Rattle.lexical.specs.declared.refusals.Refusal.{Refusal}
+use Rattle.lexical.specs.declared.refusals.Fault.{Fault}
 use Rattle.form.specs.Tree.{Dossier}
 use Rattle.form.specs.Codes.{Numbering, dossier_codes}
 use Rattle.static_rules.specs.Read as definition
@@ -8,18 +12,21 @@ use Rattle.static_rules.specs.Read.{refusal, reading, read}
 use Rattle.labels.specs.ReadingsReadings.{ReadingOf}
 use Rattle.labels.specs.Labels.{LabelsOf}
 use Rattle.labels.specs.LabelPromises.{ElementsGathered, TitlesGathered, VariablesGathered}
-use Rattle.text_readings.specs.declared.TextRead.{TextRead}
-use Rattle.text_readings.specs.declared.TextRead.TheVariants.{Read, Refused}
 
 pub record Held (text table rows firsts groups labels : List ℕ) (d : Dossier) : Type 0 where
   pub arrays : ReadingOf table rows firsts groups d
   pub labelled : LabelsOf text labels d
 
-unfoldable pub ReadAs : (text table rows firsts groups labels : List ℕ) → definition.Reading → TextRead → Type 0
-ReadAs text table rows firsts groups labels (refusal f) r = r ≡ Refused (number_of f.refusal) f.place
-ReadAs text table rows firsts groups labels (reading d) r = (r ≡ Read (length d.operations)) × Held text table rows firsts groups labels d
+-- the fault that is answered
+abbrev pub Faults : refusals.Fault → Result ℕ Fault → Type 0
+Faults f (Err x) = fault_is x ≡ f
+Faults f (Ok n) = ⊥
 
-pub record ReadsText (text table rows firsts groups labels : List ℕ) (r : TextRead) : Type 0 where
+unfoldable pub ReadAs : (text table rows firsts groups labels : List ℕ) → definition.Reading → Result ℕ Fault → Type 0
+ReadAs text table rows firsts groups labels (refusal f) r = Faults f r
+ReadAs text table rows firsts groups labels (reading d) r = (r ≡ Ok (length d.operations)) × Held text table rows firsts groups labels d
+
+pub record ReadsText (text table rows firsts groups labels : List ℕ) (r : Result ℕ Fault) : Type 0 where
   pub answer : ReadAs text table rows firsts groups labels (read text) r
 
 -- What the functions promise each other

@@ -7,17 +7,11 @@ ghost use Rattle.text_readings.specs.TextPromises.{ReadsText, Counted, Gathered}
 use form::node::NUMBERS;
 use labels::{LABELS, gather_elements, gather_titles, gather_variables};
 use lexical::bounds::SYMBOLS;
+use lexical::refusals::Fault;
 use node_spans::{span, spans};
-use reader::{Reading, read};
+use reader::read;
 use search_groups::conjuncts::FIRSTS;
 use search_groups::groups::GROUPS;
-
-// A refusal by its number and place, or how many operations the dossier has.
-#[derive(Clone, Copy)]
-pub enum TextRead {
-    Refused(u8, usize),
-    Read(usize),
-}
 
 // Does nothing: the length of an array is known behind a call that takes it as a slice.
 fn measured(numbers: &[u16])
@@ -52,6 +46,7 @@ fn gather(
     gather_variables(nodes, starts, table, groups, labels);
 }
 
+// How many operations the dossier of a text has, or the fault of the text.
 pub fn read_text(
     text: &[u8],
     table: &mut [u16; NUMBERS],
@@ -59,7 +54,7 @@ pub fn read_text(
     firsts: &mut [u16; FIRSTS],
     groups: &mut [u16; GROUPS],
     labels: &mut [u16; LABELS],
-) -> TextRead
+) -> Result<usize, Fault>
     ensures { ReadsText text.now table.new rows.new firsts.new groups.new labels.new result }
 {
     let mut codes = [0u8; SYMBOLS];
@@ -80,12 +75,16 @@ pub fn read_text(
         rows,
         firsts,
     );
-    match answer {
-        Reading::Refused(n, p) => TextRead::Refused(n, p),
-        Reading::Read(_, m) => {
-            let n = operations(&nodes, m);
-            gather(&nodes, &starts, &places, table, groups, m, labels);
-            TextRead::Read(n)
-        }
-    }
+    let structure = answer?;
+    let n = operations(&nodes, structure.numbers);
+    gather(
+        &nodes,
+        &starts,
+        &places,
+        table,
+        groups,
+        structure.numbers,
+        labels,
+    );
+    Ok(n)
 }

@@ -10,8 +10,9 @@ use Rattle.tried_texts.proofs.WrittenPieces.{said-both, said_as}
 use Rattle.static_rules.specs.Read as definition
 use Rattle.static_rules.specs.Read.{refusal, reading, read}
 use Rattle.text_readings.specs.TextPromises.{ReadAs, ReadsText}
-use Rattle.text_readings.specs.declared.TextRead.{TextRead}
-use Rattle.text_readings.specs.declared.TextRead.TheVariants.{Read, Refused}
+use Rattle.std.specs.Prelude.{Result, Ok, Err, Option}
+use Rattle.std.specs.Result.{result_err}
+use Rattle.lexical.specs.declared.refusals.Fault.{Fault}
 use Rattle.tried_texts.specs.TrialPromises.{Answered, AnswerOf, instead}
 
 pub pieces : (text words : List ℕ) (from to : ℕ) {a b r : ℕ} {z y x w : List ℕ}
@@ -30,42 +31,22 @@ front n p z w l s = s.front (omega arith) ∙ ap (λ (k : ℕ). take k p) l
 
 -- ---- the answers of reading
 
-refused-answer : (text table rows firsts groups labels : List ℕ) (r : definition.Reading) (n p : ℕ) → ReadAs text table rows firsts groups labels r (Refused n p) → Answered r n p
-unfolding ReadAs Answered
-refused-answer text table rows firsts groups labels (refusal f) n p e = (ap number e, ap place e)
-  where
-    number : TextRead → ℕ
-    number (Refused a b) = a
-    number (Read a) = 0
+abbrev IsErr : Result ℕ Fault → Type 0
+IsErr (Ok m) = ⊥
+IsErr (Err x) = Unit {0}
 
-    place : TextRead → ℕ
-    place (Refused a b) = b
-    place (Read a) = 0
-refused-answer text table rows firsts groups labels (reading d) n p e = absurd (subst IsRefused e.0 tt)
-  where
-    IsRefused : TextRead → Type 0
-    IsRefused (Refused a b) = Unit {0}
-    IsRefused (Read a) = ⊥
+answer : (text table rows firsts groups labels : List ℕ) (q : definition.Reading) (r : Result ℕ Fault) → ReadAs text table rows firsts groups labels q r → Answered q (result_err r)
+unfolding ReadAs
+answer text table rows firsts groups labels (refusal f) (Err x) e = e
+answer text table rows firsts groups labels (refusal f) (Ok m) e = absurd e
+answer text table rows firsts groups labels (reading d) (Err x) e = absurd (subst IsErr e.0 tt)
+answer text table rows firsts groups labels (reading d) (Ok m) e = tt
 
-read_answer : (text table rows firsts groups labels : List ℕ) (r : definition.Reading) (m : ℕ) → ReadAs text table rows firsts groups labels r (Read m) → Answered r 0 0
-unfolding ReadAs Answered
-read_answer text table rows firsts groups labels (refusal f) m e = absurd (subst IsRead e tt)
-  where
-    IsRead : TextRead → Type 0
-    IsRead (Refused a b) = ⊥
-    IsRead (Read a) = Unit {0}
-read_answer text table rows firsts groups labels (reading d) m e = refl
+pub answered : {text table rows firsts groups labels : List ℕ} {r : Result ℕ Fault} → ReadsText text table rows firsts groups labels r → AnswerOf text (result_err r)
+answered {text} {table} {rows} {firsts} {groups} {labels} {r} w = record { is = answer text table rows firsts groups labels (read text) r w.answer }
 
-pub answered-refused : {text table rows firsts groups labels : List ℕ} {r : TextRead} (n p : ℕ) → r ≡ Refused n p → ReadsText text table rows firsts groups labels r → AnswerOf text n p
-answered-refused {text} {table} {rows} {firsts} {groups} {labels} {r} n p e w =
-    record { is = refused-answer text table rows firsts groups labels (read text) n p (subst (ReadAs text table rows firsts groups labels (read text)) e w.answer) }
+pub answered-front : {n : ℕ} {a : Option Fault} {p z w : List ℕ} → length z ≡ 32769 → Says p 0 z w n → AnswerOf (take n w) a → AnswerOf (take 32769 p) a
+answered-front {n} {a} {p} {z} {w} l s h = subst (λ (t : List ℕ). AnswerOf t a) (front n p z w l s) h
 
-pub answered-read : {text table rows firsts groups labels : List ℕ} {r : TextRead} (m : ℕ) → r ≡ Read m → ReadsText text table rows firsts groups labels r → AnswerOf text 0 0
-answered-read {text} {table} {rows} {firsts} {groups} {labels} {r} m e w =
-    record { is = read_answer text table rows firsts groups labels (read text) m (subst (ReadAs text table rows firsts groups labels (read text)) e w.answer) }
-
-pub answered-front : {n a b : ℕ} {p z w : List ℕ} → length z ≡ 32769 → Says p 0 z w n → AnswerOf (take n w) a b → AnswerOf (take 32769 p) a b
-answered-front {n} {a} {b} {p} {z} {w} l s h = subst (λ (t : List ℕ). AnswerOf t a b) (front n p z w l s) h
-
-pub answered_as : (text words : List ℕ) (from to : ℕ) {j k a b : ℕ} → j ≡ k → AnswerOf (instead text from to (take j words)) a b → AnswerOf (instead text from to (take k words)) a b
-answered_as text words from to {j} {k} {a} {b} e h = subst (λ (n : ℕ). AnswerOf (instead text from to (take n words)) a b) e h
+pub answered_as : (text words : List ℕ) (from to : ℕ) {j k : ℕ} {a : Option Fault} → j ≡ k → AnswerOf (instead text from to (take j words)) a → AnswerOf (instead text from to (take k words)) a
+answered_as text words from to {j} {k} {a} e h = subst (λ (n : ℕ). AnswerOf (instead text from to (take n words)) a) e h

@@ -1,16 +1,19 @@
 -- What the functions promise that try a text.
-use Rattle.std.specs.Prelude.{◌≡◌, List, ◌++◌, ℕ, take, drop}
-use Rattle.lexical.specs.Refusals.{number_of}
+use Rattle.std.specs.Prelude.{◌≡◌, List, ◌++◌, ℕ, take, drop, Option, Some, None, ⊤}
+use Rattle.lexical.specs.RefusalNames.{fault_is}
+use Rattle.lexical.specs.declared.refusals.Fault.{Fault}
 use Rattle.static_rules.specs.Read as definition
 use Rattle.static_rules.specs.Read.{refusal, reading, read}
 
--- document 01, "Each returns its number, 1 to 14 also the place"; the number 0 for a text that is read
-unfoldable pub Answered : definition.Reading → (n p : ℕ) → Type 0
-Answered (refusal f) n p = (n ≡ number_of f.refusal) × (p ≡ f.place)
-Answered (reading d) n p = n ≡ 0
+-- the fault of a text, if it is refused
+abbrev pub Answered : definition.Reading → Option Fault → Type 0
+Answered (refusal f) (Some x) = fault_is x ≡ f
+Answered (refusal f) None = ⊥
+Answered (reading d) (Some x) = ⊥
+Answered (reading d) None = ⊤
 
-pub record AnswerOf (text : List ℕ) (n p : ℕ) : Type 0 where
-  pub is : Answered (read text) n p
+pub record AnswerOf (text : List ℕ) (r : Option Fault) : Type 0 where
+  pub is : Answered (read text) r
 
 -- a text with other words in the place of its bytes from `from` up to `to`; of a text that is too long as many bytes as tell it
 abbrev pub instead : (text : List ℕ) (from to : ℕ) (words : List ℕ) → List ℕ

@@ -8,47 +8,32 @@ ghost use Rattle.tried_texts.specs.Written.{Goes, Says};
 
 use form::node::NUMBERS;
 use labels::LABELS;
+use lexical::refusals::Fault;
 use search_groups::conjuncts::FIRSTS;
 use search_groups::groups::GROUPS;
-use text_readings::{TextRead, read_text};
+use text_readings::read_text;
 
 // The longest text, and one byte more: a text that is longer is refused by these alone.
 pub const TRIAL: usize = 32769;
 
-// The number of the refusal, and its place; 0 and 0 for a text that is read.
-#[derive(Clone, Copy)]
-pub struct Answer {
-    pub number: u8,
-    pub place: usize,
-}
-
-// What reading a text answers.
-pub fn answer_of(text: &[u8]) -> Answer
-    ensures { AnswerOf text.now result.number result.place }
+// The fault of a text, if it is not read.
+pub fn answer_of(text: &[u8]) -> Option<Fault>
+    ensures { AnswerOf text.now result }
 {
     let mut table = [0u16; NUMBERS];
     let mut rows = [0u16; NUMBERS];
     let mut firsts = [0u16; FIRSTS];
     let mut groups = [0u16; GROUPS];
     let mut labels = [0u16; LABELS];
-    let answer = read_text(
+    read_text(
         text,
         &mut table,
         &mut rows,
         &mut firsts,
         &mut groups,
         &mut labels,
-    );
-    match answer {
-        TextRead::Refused(n, p) => Answer {
-            number: n,
-            place: p,
-        },
-        TextRead::Read(_) => Answer {
-            number: 0,
-            place: 0,
-        },
-    }
+    )
+    .err()
 }
 
 // One byte, where there is room for it.
@@ -69,13 +54,11 @@ fn part(text: &[u8], from: usize, to: usize, out: &mut [u8], at: usize) -> usize
     ensures says { Says (take (to - from) (drop from text.now)) at out.old out.new result }
 {
     let mut a = at;
-    let mut k = from;
-    while k < to {
+    for k in from..to {
         if text.len() <= k {
             return a;
         }
         a = byte(text[k], out, a);
-        k += 1;
     }
     a
 }
@@ -99,8 +82,8 @@ fn assemble(text: &[u8], from: usize, to: usize, words: &[u8], out: &mut [u8]) -
 }
 
 // What reading that text answers.
-pub fn tried(text: &[u8], from: usize, to: usize, words: &[u8]) -> Answer
-    ensures { AnswerOf (instead text.now from to words.now) result.number result.place }
+pub fn tried(text: &[u8], from: usize, to: usize, words: &[u8]) -> Option<Fault>
+    ensures { AnswerOf (instead text.now from to words.now) result }
 {
     let mut other = [0u8; TRIAL];
     let n = assemble(text, from, to, words, &mut other);
@@ -108,26 +91,17 @@ pub fn tried(text: &[u8], from: usize, to: usize, words: &[u8]) -> Answer
 }
 
 // What reading the first n bytes answers.
-fn front_answer(text: &[u8], n: usize) -> Answer
+fn front_answer(text: &[u8], n: usize) -> Option<Fault>
     requires { n ≤ length text.now }
-    ensures { AnswerOf (take n text.now) result.number result.place }
+    ensures { AnswerOf (take n text.now) result }
 {
     answer_of(&text[..n])
 }
 
-fn lesser(x: usize, y: usize) -> usize
-    ensures { result ≡ min x y }
-{
-    if x < y {
-        return x;
-    }
-    y
-}
-
 // The same with the first n bytes of some words.
-pub fn tried_front(text: &[u8], from: usize, to: usize, words: &[u8], n: usize) -> Answer
-    ensures { AnswerOf (instead text.now from to (take (min n (length words.now)) words.now)) result.number result.place }
+pub fn tried_front(text: &[u8], from: usize, to: usize, words: &[u8], n: usize) -> Option<Fault>
+    ensures { AnswerOf (instead text.now from to (take (min n (length words.now)) words.now)) result }
 {
-    let end = lesser(n, words.len());
+    let end = n.min(words.len());
     tried(text, from, to, &words[..end])
 }

@@ -1,2 +1,3 @@
 -- Names and types: the walk over nodes, and what it finds.
 pub mod TypeNumbers
+pub mod FaultOrder

@@ -1,1 +1,2 @@
 pub mod TypesByNumber
+pub mod Passes

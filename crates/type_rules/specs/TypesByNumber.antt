@@ -5,6 +5,10 @@ use Rattle.std.proofs.Math.Option.{Option, none, some}
 use Rattle.lexical.specs.Kinds.{code_of}
 use Rattle.lexical.specs.Symbols.{no_ending}
 use Rattle.lexical.specs.Refusals.{Fault, number_of, least}
+use Rattle.lexical.specs.RefusalNames.{fault_is}
+use Rattle.lexical.specs.declared.refusals.Fault as code
+use Rattle.std.specs.Prelude as rust
+use Rattle.std.specs.Prelude.{None, Some}
 use Rattle.form.specs.Tree.{Prefix, negate, size, dom, ran, Operator, plus, minus, union, without, times, inter, Comparison, equals, differs, less, at_most, Domain, given_set, range}
 use Rattle.form.specs.Tree.{Term, number, name, group, prefix, binary, divided, listed, pairs, such, empty_set, empty_pairs, Items, only, also, Pairs, only_pair, also_pair}
 use Rattle.form.specs.Tree.{Pred, truth, falsity, negation, paren, quantified, connected, compared, member, within, related}
@@ -111,6 +115,14 @@ key i n = i * key_room + n + 1
 abbrev pub key_of : Option Fault → ℕ
 key_of none = 0
 key_of (some f) = key f.place (number_of f.refusal)
+
+-- what the code found: a fault by its name and place, or none; and as a number
+abbrev pub found : rust.Option code.Fault → Option Fault
+found None = none
+found (Some f) = some (fault_is f)
+
+abbrev pub fault_key : rust.Option code.Fault → ℕ
+fault_key r = key_of (found r)
 
 abbrev pub least_key : List Fault → ℕ
 least_key fs = key_of (least fs)
@@ -257,7 +269,7 @@ pub record NodeAt (code : List ℕ) (e : ℕ) (n : Node) : Type 0 where
 -- what was seen: the type k, the least fault f, where the nodes begin
 pub record Saw (r : Seen) (k f s : ℕ) : Type 0 where
   pub kind_is : r.kind ≡ k
-  pub fault_is : r.fault ≡ f
+  pub fault_is : fault_key r.fault ≡ f
   pub start_is : r.start ≡ s
 
 -- what a walk over nodes that end at e promises of whatever tree they are the nodes of; the names are restored

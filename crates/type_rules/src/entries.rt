@@ -1,4 +1,5 @@
-// What a name is, by its number in the table of names (specs/TypesByNumber.antt). The types of terms are numbered so as well.
+// What a name is, by its number in the table of names (specs/TypesByNumber.antt), which the caller lends. The types of terms are numbered so as well,
+// and no type is a number too, since a bound name may have none and stands in that table.
 use lexical::bounds;
 
 // A name that is not in use; no type.

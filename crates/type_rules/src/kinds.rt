@@ -1,31 +1,26 @@
 // What names and terms are, by numbers (specs/TypesByNumber.antt).
 ghost use Rattle.std.specs.Prelude.{◌≡◌, ◌&&◌, ◌+◌, ◌≤◌, ◌<◌, length, set};
-ghost use Rattle.type_rules.specs.TypesByNumber.{entry, is_given, is_element, in_reach, element_of, set_of, pair_of, dom_of, ran_of, member_fits, related_fits, shared, key_room, key, unless_key, lesser, judged_key, inside_key, is_free, range_fits, size_in, product_fits, over_key, brace_key, NodeAt};
+ghost use Rattle.lexical.specs.Refusals.{number_of};
+ghost use Rattle.lexical.specs.RefusalNames.{refusal_is};
+ghost use Rattle.type_rules.specs.Passes.{refused_key};
+ghost use Rattle.type_rules.specs.TypesByNumber.{entry, is_given, is_element, in_reach, element_of, set_of, pair_of, dom_of, ran_of, member_fits, related_fits, shared, key, fault_key, unless_key, lesser, judged_key, inside_key, is_free, range_fits, size_in, product_fits, over_key, brace_key, NodeAt};
 
-use crate::{Node, entries, faults};
+use crate::{Node, entries};
 use form::node;
 use lexical::bounds;
-
-pub fn wide(x: u16) -> u32
-    ensures { (result ≡ x) × (result < 65536) }
-{
-    x as u32
-}
+use lexical::refusals::{Fault, Refusal};
 
 pub fn index(x: u16) -> usize
     ensures { (result ≡ x) × (result < 65536) }
 {
-    x as usize
+    usize::from(x)
 }
 
 // What the name x is.
 pub fn look(names: &[u16], x: usize) -> u16
     ensures { result ≡ entry names.now x }
 {
-    if x < names.len() {
-        return names[x];
-    }
-    0
+    names.get(x).copied().unwrap_or(0)
 }
 
 pub fn put(names: &mut [u16], x: usize, k: u16)
@@ -58,8 +53,6 @@ pub fn in_reach(k: u16) -> bool
 const TO_ELEMENT: u16 = entries::ELEMENT - entries::GIVEN;
 
 const TO_SET: u16 = entries::SET - entries::ELEMENT;
-
-const TO_SET_WIDE: u32 = TO_SET as u32;
 
 pub fn element_of(k: u16) -> u16
     ensures { result ≡ element_of k }
@@ -122,7 +115,7 @@ pub fn ran_of(k: u16) -> u16
 pub fn member_fits(k: u16, l: u16) -> bool
     ensures { result ≡ member_fits k l }
 {
-    is_element(k) && wide(k) + TO_SET_WIDE == wide(l)
+    is_element(k) && k + TO_SET == l
 }
 
 pub fn related_fits(k: u16, l: u16, m: u16) -> bool
@@ -141,72 +134,59 @@ pub fn shared_kind(k: u16, l: u16) -> u16
     entries::NONE
 }
 
-// How many numbers of refusals a key has room for at one place.
-pub const KEY_ROOM: u32 = 32;
-
-// The fault with the number n at the place i, unless all is well.
-pub fn unless(ok: bool, i: u32, n: u32) -> u32
-    requires { (i < 262144) × (n < key_room) }
-    ensures { result ≡ unless_key ok (key i n) }
+// The fault at a place, unless all is well.
+pub fn unless(ok: bool, place: usize, refusal: Refusal) -> Option<Fault>
+    ensures { fault_key result ≡ unless_key ok (key place (number_of (refusal_is refusal))) }
 {
-    if ok {
-        return 0;
-    }
-    i * KEY_ROOM + n + 1
+    (!ok).then_some(Fault { place, refusal })
 }
 
-// The lesser of two faults, 0 for none.
-pub fn lesser_of(a: u32, b: u32) -> u32
-    ensures { result ≡ lesser a b }
+// The lesser of two faults.
+pub fn lesser_of(a: Option<Fault>, b: Option<Fault>) -> Option<Fault>
+    ensures { fault_key result ≡ lesser (fault_key a) (fault_key b) }
 {
-    if a == 0 {
-        return b;
+    match (a, b) {
+        (Some(f), Some(g)) => Some(f.min(g)),
+        _ => a.or(b),
     }
-    if b == 0 {
-        return a;
+}
+
+// What a pass answers, which ends at a fault.
+pub fn all_well(fault: Option<Fault>) -> Result<(), Fault>
+    ensures { refused_key result ≡ fault_key fault }
+{
+    match fault {
+        Some(f) => Err(f),
+        None => Ok(()),
     }
-    if b < a {
-        return b;
-    }
-    a
 }
 
 // A whole at the place i with the fault `parts` in its parts.
-pub fn judge(fits: bool, i: u16, parts: u32) -> u32
-    ensures { result ≡ judged_key fits (key i 10) parts }
+pub fn judge(fits: bool, i: u16, parts: Option<Fault>) -> Option<Fault>
+    ensures { fault_key result ≡ judged_key fits (key i 10) (fault_key parts) }
 {
-    if parts == 0 {
-        return unless(fits, wide(i), faults::TYPES_MISFIT);
-    }
-    parts
+    parts.or(unless(fits, usize::from(i), Refusal::TypesMisfit))
 }
 
 // The fault of a bound name, where it stands behind the symbol i: `old` is what it was, `over` the fault of what it is bound over, `body` that of its reach.
-pub fn bound_fault(i: u16, old: u16, over: u32, body: u32) -> u32
-    ensures { result ≡ inside_key (lesser (unless_key (is_free old) (key (i + 1) 8)) over) body }
+pub fn bound_fault(i: u16, old: u16, over: Option<Fault>, body: Option<Fault>) -> Option<Fault>
+    ensures { fault_key result ≡ inside_key (lesser (unless_key (is_free old) (key (i + 1) 8)) (fault_key over)) (fault_key body) }
 {
-    let here = unless(old == entries::FREE, wide(i) + 1, faults::NAME_IN_USE);
-    let binder = lesser_of(here, over);
-    if binder == 0 {
-        return body;
-    }
-    binder
+    let here = unless(old == entries::FREE, usize::from(i) + 1, Refusal::NameInUse);
+    lesser_of(here, over).or(body)
 }
 
 pub fn range_fits(a: u16, b: u16) -> bool
     ensures { result ≡ range_fits a b }
 {
-    a <= b && wide(b) < wide(a) + bounds::RANGE_NUMBERS
+    a <= b && u32::from(b) < u32::from(a) + bounds::RANGE_NUMBERS
 }
 
 // How many elements the given set g has.
 pub fn size_in(sizes: &[u16], g: usize) -> u32
     ensures { (result ≡ size_in sizes.now g) × (result < 65536) }
 {
-    if g < sizes.len() {
-        return sizes[g] as u32;
-    }
-    0
+    u32::from(look(sizes, g))
 }
 
 pub fn product_fits(sizes: &[u16], g: usize, h: usize) -> bool
@@ -217,41 +197,31 @@ pub fn product_fits(sizes: &[u16], g: usize, h: usize) -> bool
     a * b <= bounds::PAIRS
 }
 
-// The fault of pairs over two names, by what these are.
-pub fn over_fault(sizes: &[u16], k: u16, l: u16, i: u16) -> u32
-    ensures { result ≡ over_key sizes.now k l i }
+// The fault at the place i of pairs over two names, by what these are.
+pub fn over_fault(sizes: &[u16], k: u16, l: u16, i: usize) -> Option<Fault>
+    ensures { fault_key result ≡ over_key sizes.now k l i }
 {
     if both_given(k, l) {
         let fits = product_fits(
             sizes,
-            index(k) - entries::FIRST_GIVEN,
-            index(l) - entries::FIRST_GIVEN,
+            usize::from(k) - entries::FIRST_GIVEN,
+            usize::from(l) - entries::FIRST_GIVEN,
         );
-        return unless(fits, wide(i), faults::WIDE_TYPE);
+        return unless(fits, i, Refusal::WideType);
     }
-    0
+    None
 }
 
 // The fault of a brace of pairs of the type k, whose parts have none.
-pub fn brace_fault(sizes: &[u16], k: u16, i: u16) -> u32
-    ensures { result ≡ brace_key sizes.now k i }
+pub fn brace_fault(sizes: &[u16], k: u16, i: u16) -> Option<Fault>
+    ensures { fault_key result ≡ brace_key sizes.now k i }
 {
     if entries::PAIRS <= k {
-        let x = index(k) - entries::FIRST_PAIRS;
+        let x = usize::from(k) - entries::FIRST_PAIRS;
         let fits = product_fits(sizes, x / entries::ROW_SETS, x % entries::ROW_SETS);
-        return unless(fits, wide(i), faults::WIDE_TYPE);
+        return unless(fits, usize::from(i), Refusal::WideType);
     }
-    unless(false, wide(i), faults::TYPES_MISFIT)
-}
-
-// One of two faults, the first where there is one.
-pub fn inside_of(a: u32, b: u32) -> u32
-    ensures { result ≡ inside_key a b }
-{
-    if a == 0 {
-        return b;
-    }
-    a
+    unless(false, usize::from(i), Refusal::TypesMisfit)
 }
 
 // The place of the node that ends at `end`, and its two numbers.

@@ -1,20 +1,21 @@
 // Types and faults by numbers: which types fit, and which fault stands where they do not.
 #![tactic(auto)]
 
+use lexical::refusals::Fault;
+
 pub mod entries;
-pub mod faults;
 pub mod kinds;
 
-// The type of a tree, its least fault (place * KEY_ROOM + number + 1) or 0, and where its nodes begin.
-#[derive(Drop)]
+// The type of a tree, its least fault, with the place by symbols, and where its nodes begin.
+#[derive(Clone, Copy)]
 pub struct Seen {
     pub kind: u16,
-    pub fault: u32,
+    pub fault: Option<Fault>,
     pub start: usize,
 }
 
 // A node's place in the text, and its two numbers.
-#[derive(Drop)]
+#[derive(Clone, Copy)]
 pub struct Node {
     pub place: u16,
     pub a: u16,

@@ -14,14 +14,14 @@ use Rattle.form.specs.Written.{connective_kind, comparison_kind, membership_kind
 use Rattle.form.specs.Codes.{number_of_name, term_width, pred_width, domain_width, range_codes, domain_codes, term_codes, pred_codes}
 use Rattle.type_rules.specs.declared.Seen.{Seen}
 use Rattle.type_rules.specs.declared.Node.{Node}
-use Rattle.type_rules.specs.TypesByNumber.{Names, Sizes, entry, is_free, is_number, member_fits, related_fits, comparison_fits, key, unless_key, lesser, judged_key, inside_key}
+use Rattle.type_rules.specs.TypesByNumber.{Names, Sizes, entry, is_free, is_number, member_fits, related_fits, comparison_fits, key, fault_key, unless_key, lesser, judged_key, inside_key}
 use Rattle.type_rules.specs.TypesByNumber.{term_kind, term_key, pred_key, ComparisonFits, NodeAt, DomainSeen, TermSeen, PredSeen}
 use Rattle.typing.proofs.LastNodes.{last-node, one-part, two-parts, three-parts, middle, pred-from}
 use Rattle.typing.proofs.TypeWalkTerms.{seen-judged, seen-bound, restored}
 
 module _ (code : List ℕ) (e : ℕ) (l : e ≤ length code) (T : Names) (z : Sizes) where
   -- true, false
-  pub pred_constant : (r : Seen) → r.kind ≡ 0 → r.fault ≡ 0 → r.start ≡ e - 4 → get_or code (e - 4 + 3) 0 ≡ 1 → PredSeen code e T T z r
+  pub pred_constant : (r : Seen) → r.kind ≡ 0 → fault_key r.fault ≡ 0 → r.start ≡ e - 4 → get_or code (e - 4 + 3) 0 ≡ 1 → PredSeen code e T T z r
   unfolding term_codes term_key
   pred_constant r p f s q = pred-from code e l T z 1 T r (omega arith) refl q (
     (λ i ρ base y. let h = last-node code e l base 1 i (code_of kind.TRUE) 0 y in record { kind_is = p; fault_is = f; start_is = s ∙ sym h.long }),
@@ -34,7 +34,7 @@ module _ (code : List ℕ) (e : ℕ) (l : e ≤ length code) (T : Names) (z : Si
       (λ p i ρ base y. hv.right p (suc i) ρ base (one-part code e l base (pred_codes p (suc i) ρ) 2 i 0 0 y).before)
 
   pub pred-connected : (U W : Names) (v u r : Seen) → get_or code (e - 4 + 3) 0 ≡ 3 → PredSeen code (e - 4) T U z u → PredSeen code u.start U W z v
-      → r.kind ≡ 0 → r.start ≡ v.start → r.fault ≡ lesser v.fault u.fault → PredSeen code e T W z r
+      → r.kind ≡ 0 → r.start ≡ v.start → fault_key r.fault ≡ lesser (fault_key v.fault) (fault_key u.fault) → PredSeen code e T W z r
   unfolding term_codes term_key
   pred-connected U W v u r q hu hv₀ kq sq fq =
       let hv : PredSeen code u.start T W z v = subst (λ (X : Names). PredSeen code u.start X W z v) hu.kept hv₀ in
@@ -48,8 +48,8 @@ module _ (code : List ℕ) (e : ℕ) (l : e ≤ length code) (T : Names) (z : Si
 
   pub pred-compared : (U W : Names) (n : Node) (v u r : Seen) (b : Bool) (m : ℕ) → NodeAt code e n → get_or code (e - 4 + 3) 0 ≡ 4
       → TermSeen code (e - 4) T U z u → TermSeen code u.start U W z v
-      → ComparisonFits n.a v.kind u.kind b → m ≡ lesser v.fault u.fault
-      → r.kind ≡ 0 → r.start ≡ v.start → r.fault ≡ judged_key b (key n.place 10) m
+      → ComparisonFits n.a v.kind u.kind b → m ≡ lesser (fault_key v.fault) (fault_key u.fault)
+      → r.kind ≡ 0 → r.start ≡ v.start → fault_key r.fault ≡ judged_key b (key n.place 10) m
       → PredSeen code e T W z r
   unfolding term_codes term_key
   pred-compared U W n v u r b m hn q hu hv₀ bq mq kq sq fq =
@@ -70,8 +70,8 @@ module _ (code : List ℕ) (e : ℕ) (l : e ≤ length code) (T : Names) (z : Si
   -- t in u, t in a..b, t |-> u in v
   pub pred-member : (U W : Names) (n : Node) (v u r : Seen) (b : Bool) (m : ℕ) → NodeAt code e n → get_or code (e - 4 + 3) 0 ≡ 5
       → TermSeen code (e - 4) T U z u → TermSeen code u.start U W z v
-      → b ≡ member_fits v.kind u.kind → m ≡ lesser v.fault u.fault
-      → r.kind ≡ 0 → r.start ≡ v.start → r.fault ≡ judged_key b (key n.place 10) m
+      → b ≡ member_fits v.kind u.kind → m ≡ lesser (fault_key v.fault) (fault_key u.fault)
+      → r.kind ≡ 0 → r.start ≡ v.start → fault_key r.fault ≡ judged_key b (key n.place 10) m
       → PredSeen code e T W z r
   unfolding term_codes term_key
   pred-member U W n v u r b m hn q hu hv₀ bq mq kq sq fq =
@@ -89,8 +89,8 @@ module _ (code : List ℕ) (e : ℕ) (l : e ≤ length code) (T : Names) (z : Si
       })
 
   pub pred-within : (W : Names) (n : Node) (v d r : Seen) (m : ℕ) → NodeAt code e n → get_or code (e - 4 + 3) 0 ≡ 6
-      → DomainSeen code (e - 4) T d → TermSeen code d.start T W z v → m ≡ lesser v.fault d.fault
-      → r.kind ≡ 0 → r.start ≡ v.start → r.fault ≡ judged_key (eqb v.kind 1) (key n.place 10) m
+      → DomainSeen code (e - 4) T d → TermSeen code d.start T W z v → m ≡ lesser (fault_key v.fault) (fault_key d.fault)
+      → r.kind ≡ 0 → r.start ≡ v.start → fault_key r.fault ≡ judged_key (eqb v.kind 1) (key n.place 10) m
       → PredSeen code e T W z r
   unfolding term_codes term_key is_number
   pred-within W n v d r m hn q hd hv mq kq sq fq =
@@ -108,8 +108,8 @@ module _ (code : List ℕ) (e : ℕ) (l : e ≤ length code) (T : Names) (z : Si
 
   pub pred-related : (U W X : Names) (n : Node) (t u v r : Seen) (b : Bool) (m o : ℕ) → NodeAt code e n → get_or code (e - 4 + 3) 0 ≡ 7
       → TermSeen code (e - 4) T U z v → TermSeen code v.start U W z u → TermSeen code u.start W X z t
-      → b ≡ related_fits t.kind u.kind v.kind → m ≡ lesser t.fault u.fault → o ≡ lesser m v.fault
-      → r.kind ≡ 0 → r.start ≡ t.start → r.fault ≡ judged_key b (key n.place 10) o
+      → b ≡ related_fits t.kind u.kind v.kind → m ≡ lesser (fault_key t.fault) (fault_key u.fault) → o ≡ lesser m (fault_key v.fault)
+      → r.kind ≡ 0 → r.start ≡ t.start → fault_key r.fault ≡ judged_key b (key n.place 10) o
       → PredSeen code e T X z r
   unfolding term_codes term_key
   pred-related U W X n t u v r b m o hn q hv hu₀ ht₀ bq mq oq kq sq fq =
@@ -135,7 +135,7 @@ module _ (code : List ℕ) (e : ℕ) (l : e ≤ length code) (T : Names) (z : Si
   pub pred-quantified : (U₁ U₂ U₃ : Names) (n : Node) (d p r : Seen) (x old : ℕ) → NodeAt code e n → get_or code (e - 4 + 3) 0 ≡ 8
       → DomainSeen code (e - 4) T d → PredSeen code d.start U₁ U₂ z p
       → U₁ ≡ set T x d.kind → U₃ ≡ set U₂ x old → x ≡ n.a → old ≡ entry T x → r.kind ≡ 0 → r.start ≡ p.start
-      → r.fault ≡ inside_key (lesser (unless_key (is_free old) (key (n.place + 1) 8)) d.fault) p.fault
+      → fault_key r.fault ≡ inside_key (lesser (unless_key (is_free old) (key (n.place + 1) 8)) (fault_key d.fault)) (fault_key p.fault)
       → PredSeen code e T U₃ z r
   unfolding term_codes term_key
   pred-quantified U₁ U₂ U₃ n d p r x old hn q hd hp b₁ b₃ xq oq kq sq fq =

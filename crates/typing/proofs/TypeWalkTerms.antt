@@ -14,7 +14,7 @@ use Rattle.form.specs.Written.{prefix_kind, operator_kind}
 use Rattle.form.specs.Codes.{node, Numbering, name_number, number_of_name, end_number, end_width, sign_of, division_number, term_width, domain_codes, term_codes, items_codes, pairs_codes, pred_codes}
 use Rattle.type_rules.specs.declared.Seen.{Seen}
 use Rattle.type_rules.specs.declared.Node.{Node}
-use Rattle.type_rules.specs.TypesByNumber.{Names, Sizes, entry, is_free, is_number, is_given, is_element, in_reach, element_of, set_of, pair_of, prefix_fits, prefix_type, operator_fits, shared, key, unless_key, lesser, judged_key, inside_key, range_fits, over_key, brace_key}
+use Rattle.type_rules.specs.TypesByNumber.{Names, Sizes, entry, is_free, is_number, is_given, is_element, in_reach, element_of, set_of, pair_of, prefix_fits, prefix_type, operator_fits, shared, key, fault_key, unless_key, lesser, judged_key, inside_key, range_fits, over_key, brace_key}
 use Rattle.type_rules.specs.TypesByNumber.{domain_kind, domain_key, term_kind, items_kind, pairs_kind, term_key, items_key, pairs_key, pred_key, PrefixFits, PrefixType, OperatorFits, NodeAt, Saw, DomainSeen, TermSeen, ItemsSeen, PairSeen, PairsSeen, PredSeen}
 use Rattle.typing.proofs.LastNodes.{last-node, one-part, two-parts, three-parts, middle, term-from}
 
@@ -46,7 +46,7 @@ sign-of false remainder = refl
 module _ (code : List ℕ) (e : ℕ) (l : e ≤ length code) (T : Names) (z : Sizes) where
   -- a given set's name; a range
   pub domain-given : (n : Node) (r : Seen) (x v w : ℕ) (b : Bool) → NodeAt code e n → get_or code (e - 4 + 3) 0 ≡ 1 → r.start ≡ e - 4
-      → x ≡ n.a → v ≡ entry T x → w ≡ n.place → b ≡ is_given v → r.kind ≡ element_of v → r.fault ≡ unless_key b (key w 9)
+      → x ≡ n.a → v ≡ entry T x → w ≡ n.place → b ≡ is_given v → r.kind ≡ element_of v → fault_key r.fault ≡ unless_key b (key w 9)
       → DomainSeen code e T r
   unfolding domain_kind domain_key
   domain-given n r x v w b hn q s xq vq wq bq kq fq = record { falls = omega arith; right = right }
@@ -60,7 +60,7 @@ module _ (code : List ℕ) (e : ℕ) (l : e ≤ length code) (T : Names) (z : Si
           record { kind_is = kq ∙ ap element_of vx; fault_is = fq ∙ seen-unless 9 (bq ∙ ap is_given vx) (wq ∙ hn.place_is ∙ h.is_place); start_is = s ∙ sym h.long }
 
   pub domain-range : (n : Node) (r : Seen) (w : ℕ) (b : Bool) → NodeAt code e n → (get_or code (e - 4 + 3) 0 ≡ 1 → ⊥) → r.start ≡ e - 4
-      → w ≡ n.place → b ≡ range_fits n.a n.b → r.kind ≡ 1 → r.fault ≡ unless_key b (key w 11)
+      → w ≡ n.place → b ≡ range_fits n.a n.b → r.kind ≡ 1 → fault_key r.fault ≡ unless_key b (key w 11)
       → DomainSeen code e T r
   unfolding domain_kind domain_key
   domain-range n r w b hn q s wq bq kq fq = record { falls = omega arith; right = right }
@@ -75,13 +75,13 @@ module _ (code : List ℕ) (e : ℕ) (l : e ≤ length code) (T : Names) (z : Si
             start_is = s ∙ sym h.long;
           }
 
-  pub term-number : (r : Seen) → r.kind ≡ 1 → r.fault ≡ 0 → r.start ≡ e - 4 → get_or code (e - 4 + 3) 0 ≡ 1 → TermSeen code e T T z r
+  pub term-number : (r : Seen) → r.kind ≡ 1 → fault_key r.fault ≡ 0 → r.start ≡ e - 4 → get_or code (e - 4 + 3) 0 ≡ 1 → TermSeen code e T T z r
   unfolding term_codes term_kind term_key
   term-number r p f s q = term-from code e l T z 1 T r (omega arith) refl q
       (λ v i ρ base y. let h = last-node code e l base 1 i v 0 y in record { kind_is = p; fault_is = f; start_is = s ∙ sym h.long })
 
   pub term-name : (n : Node) (r : Seen) (x w : ℕ) (b : Bool) → NodeAt code e n → get_or code (e - 4 + 3) 0 ≡ 2 → r.start ≡ e - 4
-      → x ≡ n.a → r.kind ≡ entry T x → w ≡ n.place → b ≡ in_reach r.kind → r.fault ≡ unless_key b (key w 9)
+      → x ≡ n.a → r.kind ≡ entry T x → w ≡ n.place → b ≡ in_reach r.kind → fault_key r.fault ≡ unless_key b (key w 9)
       → TermSeen code e T T z r
   unfolding term_codes term_kind term_key
   term-name n r x w b hn q s xq kq wq bq fq = term-from code e l T z 2 T r (omega arith) refl q
@@ -92,7 +92,7 @@ module _ (code : List ℕ) (e : ℕ) (l : e ≤ length code) (T : Names) (z : Si
 
   -- empty G, empty G H
   pub term-empty : (n : Node) (r : Seen) (x v w k : ℕ) (b : Bool) → NodeAt code e n → get_or code (e - 4 + 3) 0 ≡ 9 → r.start ≡ e - 4
-      → x ≡ n.a → v ≡ entry T x → w ≡ n.place → b ≡ is_given v → k ≡ element_of v → r.kind ≡ set_of k → r.fault ≡ unless_key b (key (w + 1) 9)
+      → x ≡ n.a → v ≡ entry T x → w ≡ n.place → b ≡ is_given v → k ≡ element_of v → r.kind ≡ set_of k → fault_key r.fault ≡ unless_key b (key (w + 1) 9)
       → TermSeen code e T T z r
   unfolding term_codes term_kind term_key
   term-empty n r x v w k b hn q s xq vq wq bq eq kq fq = term-from code e l T z 9 T r (omega arith) refl q
@@ -108,7 +108,7 @@ module _ (code : List ℕ) (e : ℕ) (l : e ≤ length code) (T : Names) (z : Si
   pub term-empty-pairs : (n : Node) (r : Seen) (x₁ x₂ v₁ v₂ w₁ w₂ k₁ k₂ f₁ f₂ f₃ m : ℕ) (b₁ b₂ : Bool) → NodeAt code e n → get_or code (e - 4 + 3) 0 ≡ 10
       → r.start ≡ e - 4 → x₁ ≡ n.a → x₂ ≡ n.b → v₁ ≡ entry T x₁ → v₂ ≡ entry T x₂ → w₁ ≡ n.place → w₂ ≡ n.place → b₁ ≡ is_given v₁ → b₂ ≡ is_given v₂
       → k₁ ≡ element_of v₁ → k₂ ≡ element_of v₂ → r.kind ≡ pair_of k₁ k₂
-      → f₁ ≡ unless_key b₁ (key (w₁ + 1) 9) → f₂ ≡ unless_key b₂ (key (w₂ + 2) 9) → f₃ ≡ over_key z v₁ v₂ n.place → m ≡ lesser f₂ f₃ → r.fault ≡ lesser f₁ m
+      → f₁ ≡ unless_key b₁ (key (w₁ + 1) 9) → f₂ ≡ unless_key b₂ (key (w₂ + 2) 9) → f₃ ≡ over_key z v₁ v₂ n.place → m ≡ lesser f₂ f₃ → fault_key r.fault ≡ lesser f₁ m
       → TermSeen code e T T z r
   unfolding term_codes term_kind term_key
   term-empty-pairs n r x₁ x₂ v₁ v₂ w₁ w₂ k₁ k₂ f₁ f₂ f₃ m b₁ b₂ hn q s xq₁ xq₂ vq₁ vq₂ wq₁ wq₂ bq₁ bq₂ eq₁ eq₂ kq fq₁ fq₂ fq₃ mq fq =
@@ -127,7 +127,7 @@ module _ (code : List ℕ) (e : ℕ) (l : e ≤ length code) (T : Names) (z : Si
       })
 
   pub term-prefix : (U : Names) (n : Node) (v r : Seen) (b : Bool) → NodeAt code e n → get_or code (e - 4 + 3) 0 ≡ 3 → TermSeen code (e - 4) T U z v
-      → PrefixFits n.a v.kind b → PrefixType n.a v.kind r.kind → r.start ≡ v.start → r.fault ≡ judged_key b (key n.place 10) v.fault
+      → PrefixFits n.a v.kind b → PrefixType n.a v.kind r.kind → r.start ≡ v.start → fault_key r.fault ≡ judged_key b (key n.place 10) (fault_key v.fault)
       → TermSeen code e T U z r
   unfolding term_codes term_kind term_key
   term-prefix U n v r b hn q hv bq kq sq fq = term-from code e l T z 3 U r (let f = hv.falls in omega arith) hv.kept q
@@ -142,8 +142,8 @@ module _ (code : List ℕ) (e : ℕ) (l : e ≤ length code) (T : Names) (z : Si
       })
 
   pub term-divided : (U : Names) (n : Node) (v r : Seen) (w₁ w₂ g m : ℕ) → NodeAt code e n → get_or code (e - 4 + 3) 0 ≡ 4 → TermSeen code (e - 4) T U z v
-      → w₁ ≡ n.place → w₂ ≡ n.b → g ≡ unless_key (ltb 0 n.a) (key (w₁ + 1 + w₂ % 2) 14) → m ≡ lesser v.fault g
-      → r.kind ≡ 1 → r.start ≡ v.start → r.fault ≡ judged_key (eqb v.kind 1) (key n.place 10) m
+      → w₁ ≡ n.place → w₂ ≡ n.b → g ≡ unless_key (ltb 0 n.a) (key (w₁ + 1 + w₂ % 2) 14) → m ≡ lesser (fault_key v.fault) g
+      → r.kind ≡ 1 → r.start ≡ v.start → fault_key r.fault ≡ judged_key (eqb v.kind 1) (key n.place 10) m
       → TermSeen code e T U z r
   unfolding term_codes term_kind term_key is_number
   term-divided U n v r w₁ w₂ g m hn q hv wq₁ wq₂ gq mq kq sq fq = term-from code e l T z 4 U r (let f = hv.falls in omega arith) hv.kept q
@@ -162,8 +162,8 @@ module _ (code : List ℕ) (e : ℕ) (l : e ≤ length code) (T : Names) (z : Si
   -- t and u, with an operator between them
   pub term-binary : (U W : Names) (n : Node) (v u r : Seen) (b : Bool) (m : ℕ) → NodeAt code e n → get_or code (e - 4 + 3) 0 ≡ 5
       → TermSeen code (e - 4) T U z u → TermSeen code u.start U W z v
-      → OperatorFits n.a v.kind u.kind b → m ≡ lesser v.fault u.fault
-      → r.kind ≡ v.kind → r.start ≡ v.start → r.fault ≡ judged_key b (key n.place 10) m
+      → OperatorFits n.a v.kind u.kind b → m ≡ lesser (fault_key v.fault) (fault_key u.fault)
+      → r.kind ≡ v.kind → r.start ≡ v.start → fault_key r.fault ≡ judged_key b (key n.place 10) m
       → TermSeen code e T W z r
   unfolding term_codes term_kind term_key
   term-binary U W n v u r b m hn q hu hv₀ bq mq kq sq fq =
@@ -184,7 +184,7 @@ module _ (code : List ℕ) (e : ℕ) (l : e ≤ length code) (T : Names) (z : Si
   pub term-such : (U₁ U₂ U₃ : Names) (n : Node) (d p r : Seen) (x old : ℕ) → NodeAt code e n → get_or code (e - 4 + 3) 0 ≡ 6
       → DomainSeen code (e - 4) T d → PredSeen code d.start U₁ U₂ z p
       → U₁ ≡ set T x d.kind → U₃ ≡ set U₂ x old → x ≡ n.a → old ≡ entry T x → r.kind ≡ set_of d.kind → r.start ≡ p.start
-      → r.fault ≡ inside_key (lesser (unless_key (is_free old) (key (n.place + 1) 8)) d.fault) p.fault
+      → fault_key r.fault ≡ inside_key (lesser (unless_key (is_free old) (key (n.place + 1) 8)) (fault_key d.fault)) (fault_key p.fault)
       → TermSeen code e T U₃ z r
   unfolding term_codes term_kind term_key domain_kind domain_key
   term-such U₁ U₂ U₃ n d p r x old hn q hd hp b₁ b₃ xq oq kq sq fq =
@@ -203,7 +203,7 @@ module _ (code : List ℕ) (e : ℕ) (l : e ≤ length code) (T : Names) (z : Si
 
   -- {t, ...}, {t |-> t, ...}
   pub term-listed : (U : Names) (n : Node) (v r : Seen) (b : Bool) → NodeAt code e n → get_or code (e - 4 + 3) 0 ≡ 7 → ItemsSeen code (e - 4) T U z v
-      → b ≡ is_element v.kind → r.kind ≡ set_of v.kind → r.start ≡ v.start → r.fault ≡ judged_key b (key n.place 10) v.fault
+      → b ≡ is_element v.kind → r.kind ≡ set_of v.kind → r.start ≡ v.start → fault_key r.fault ≡ judged_key b (key n.place 10) (fault_key v.fault)
       → TermSeen code e T U z r
   unfolding term_codes term_kind term_key
   term-listed U n v r b hn q hv bq kq sq fq = term-from code e l T z 7 U r (let f = hv.falls in omega arith) hv.kept q
@@ -217,7 +217,7 @@ module _ (code : List ℕ) (e : ℕ) (l : e ≤ length code) (T : Names) (z : Si
       })
 
   pub term-pairs : (U : Names) (n : Node) (v r : Seen) (m : ℕ) → NodeAt code e n → get_or code (e - 4 + 3) 0 ≡ 8 → PairsSeen code (e - 4) T U z v
-      → m ≡ brace_key z v.kind n.place → r.kind ≡ v.kind → r.start ≡ v.start → r.fault ≡ inside_key v.fault m
+      → m ≡ brace_key z v.kind n.place → r.kind ≡ v.kind → r.start ≡ v.start → fault_key r.fault ≡ inside_key (fault_key v.fault) m
       → TermSeen code e T U z r
   unfolding term_codes term_kind term_key
   term-pairs U n v r m hn q hv mq kq sq fq = term-from code e l T z 8 U r (let f = hv.falls in omega arith) hv.kept q
@@ -241,7 +241,7 @@ module _ (code : List ℕ) (e : ℕ) (l : e ≤ length code) (T : Names) (z : Si
           let h = (two-parts code e l base (term_codes t i ρ) (items_codes ts (suc (i + term_width t)) ρ) 2 0 0 0 y).is_shape in absurd (omega arith)
 
   pub items-also : (U W : Names) (v u r : Seen) → ItemsSeen code (e - 4) T U z u → TermSeen code u.start U W z v → (get_or code (e - 4 + 3) 0 ≡ 1 → ⊥)
-      → r.kind ≡ shared v.kind u.kind → r.start ≡ v.start → r.fault ≡ lesser v.fault u.fault → ItemsSeen code e T W z r
+      → r.kind ≡ shared v.kind u.kind → r.start ≡ v.start → fault_key r.fault ≡ lesser (fault_key v.fault) (fault_key u.fault) → ItemsSeen code e T W z r
   unfolding term_codes term_kind term_key
   items-also U W v u r hu hv₀ q kq sq fq = record { falls = let f = hu.falls in let g = hv₀.falls in omega arith; kept = hv₀.kept ∙ hu.kept; right = right }
     where
@@ -256,7 +256,7 @@ module _ (code : List ℕ) (e : ℕ) (l : e ≤ length code) (T : Names) (z : Si
 
   -- two terms; the pairs of a brace
   pub pair-seen : (U W : Names) (v u r : Seen) → TermSeen code e T U z u → TermSeen code u.start U W z v
-      → r.kind ≡ pair_of v.kind u.kind → r.start ≡ v.start → r.fault ≡ lesser v.fault u.fault → PairSeen code e T W z r
+      → r.kind ≡ pair_of v.kind u.kind → r.start ≡ v.start → fault_key r.fault ≡ lesser (fault_key v.fault) (fault_key u.fault) → PairSeen code e T W z r
   pair-seen U W v u r hu hv₀ kq sq fq = record {
     falls = let f = hu.falls in let g = hv₀.falls in omega arith;
     kept = hv₀.kept ∙ hu.kept;
@@ -279,7 +279,7 @@ module _ (code : List ℕ) (e : ℕ) (l : e ≤ length code) (T : Names) (z : Si
           absurd (omega arith)
 
   pub pairs-also : (U W : Names) (v u r : Seen) → PairsSeen code (e - 4) T U z u → PairSeen code u.start U W z v → (get_or code (e - 4 + 3) 0 ≡ 1 → ⊥)
-      → r.kind ≡ shared v.kind u.kind → r.start ≡ v.start → r.fault ≡ lesser v.fault u.fault → PairsSeen code e T W z r
+      → r.kind ≡ shared v.kind u.kind → r.start ≡ v.start → fault_key r.fault ≡ lesser (fault_key v.fault) (fault_key u.fault) → PairsSeen code e T W z r
   unfolding term_codes term_kind term_key
   pairs-also U W v u r hu hv₀ q kq sq fq = record { falls = let f = hu.falls in let g = hv₀.falls in omega arith; kept = hv₀.kept ∙ hu.kept; right = right }
     where

@@ -4,12 +4,13 @@ ghost use Rattle.type_rules.specs.TypesByNumber.{DomainSeen, TermSeen, ItemsSeen
 
 use form::{node, shapes};
 use lexical::codes;
+use lexical::refusals::Refusal;
 use type_rules::kinds::{
-    bound_fault, brace_fault, dom_of, element_of, in_reach, index, inside_of, is_element, is_given,
-    judge, lesser_of, look, member_fits, node_at, over_fault, pair_of, put, ran_of, range_fits,
-    related_fits, set_of, shared_kind, unless, wide,
+    bound_fault, brace_fault, dom_of, element_of, in_reach, is_element, is_given, judge, lesser_of,
+    look, member_fits, node_at, over_fault, pair_of, put, ran_of, range_fits, related_fits, set_of,
+    shared_kind, unless,
 };
-use type_rules::{Seen, entries, faults};
+use type_rules::{Seen, entries};
 
 // Prefixes by the code of their symbol.
 const MINUS: u16 = codes::DASH as u16;
@@ -68,7 +69,7 @@ fn nothing() -> Seen
 {
     Seen {
         kind: entries::NONE,
-        fault: 0,
+        fault: None,
         start: 0,
     }
 }
@@ -84,15 +85,19 @@ fn domain(code: &[u16], end: usize, names: &[u16]) -> Seen
     let at = end - node::SIZE;
     let n = node_at(code, end);
     if code[at + node::SHAPE] == shapes::SET {
-        let e = look(names, index(n.a));
-        let f = unless(is_given(e), wide(n.place), faults::NAME_UNKNOWN);
+        let e = look(names, usize::from(n.a));
+        let f = unless(is_given(e), usize::from(n.place), Refusal::NameUnknown);
         return Seen {
             kind: element_of(e),
             fault: f,
             start: at,
         };
     }
-    let f = unless(range_fits(n.a, n.b), wide(n.place), faults::WIDE_TYPE);
+    let f = unless(
+        range_fits(n.a, n.b),
+        usize::from(n.place),
+        Refusal::WideType,
+    );
     Seen {
         kind: entries::NUMBER,
         fault: f,
@@ -113,7 +118,7 @@ fn term(code: &[u16], end: usize, names: &mut [u16], sizes: &[u16]) -> Seen
     match code[at + node::SHAPE] {
         shapes::NUMBER => Seen {
             kind: entries::NUMBER,
-            fault: 0,
+            fault: None,
             start: at,
         },
         shapes::NAME => named(code, end, names, sizes),
@@ -135,8 +140,8 @@ fn named(code: &[u16], end: usize, names: &[u16], sizes: &[u16]) -> Seen
     ensures { TermSeen code.now end names.now names.now sizes.now result }
 {
     let n = node_at(code, end);
-    let e = look(names, index(n.a));
-    let f = unless(in_reach(e), wide(n.place), faults::NAME_UNKNOWN);
+    let e = look(names, usize::from(n.a));
+    let f = unless(in_reach(e), usize::from(n.place), Refusal::NameUnknown);
     Seen {
         kind: e,
         fault: f,
@@ -150,8 +155,8 @@ fn empty_set(code: &[u16], end: usize, names: &[u16], sizes: &[u16]) -> Seen
     ensures { TermSeen code.now end names.now names.now sizes.now result }
 {
     let n = node_at(code, end);
-    let e = look(names, index(n.a));
-    let f = unless(is_given(e), wide(n.place) + 1, faults::NAME_UNKNOWN);
+    let e = look(names, usize::from(n.a));
+    let f = unless(is_given(e), usize::from(n.place) + 1, Refusal::NameUnknown);
     Seen {
         kind: set_of(element_of(e)),
         fault: f,
@@ -165,11 +170,12 @@ fn empty_pairs(code: &[u16], end: usize, names: &[u16], sizes: &[u16]) -> Seen
     ensures { TermSeen code.now end names.now names.now sizes.now result }
 {
     let n = node_at(code, end);
-    let g = look(names, index(n.a));
-    let h = look(names, index(n.b));
-    let first = unless(is_given(g), wide(n.place) + 1, faults::NAME_UNKNOWN);
-    let second = unless(is_given(h), wide(n.place) + 2, faults::NAME_UNKNOWN);
-    let over = over_fault(sizes, g, h, n.place);
+    let g = look(names, usize::from(n.a));
+    let h = look(names, usize::from(n.b));
+    let i = usize::from(n.place);
+    let first = unless(is_given(g), i + 1, Refusal::NameUnknown);
+    let second = unless(is_given(h), i + 2, Refusal::NameUnknown);
+    let over = over_fault(sizes, g, h, i);
     let f = lesser_of(first, lesser_of(second, over));
     Seen {
         kind: pair_of(element_of(g), element_of(h)),
@@ -195,7 +201,7 @@ fn prefixed(code: &[u16], end: usize, names: &mut [u16], sizes: &[u16]) -> Seen
 }
 
 // A division's second number, less this for a remainder, is 1 where a - stands in front of the divisor.
-const REMAINDER: u32 = shapes::REMAINDER as u32;
+const REMAINDER: usize = shapes::REMAINDER as usize;
 
 // t div n, t mod n.
 #[cycle(types)]
@@ -207,8 +213,8 @@ fn divided(code: &[u16], end: usize, names: &mut [u16], sizes: &[u16]) -> Seen
     let t = term(code, end - node::SIZE, names, sizes);
     let zero = unless(
         0 < n.a,
-        wide(n.place) + 1 + wide(n.b) % REMAINDER,
-        faults::ZERO_DIVISOR,
+        usize::from(n.place) + 1 + usize::from(n.b) % REMAINDER,
+        Refusal::ZeroDivisor,
     );
     let f = judge(t.kind == entries::NUMBER, n.place, lesser_of(t.fault, zero));
     Seen {
@@ -243,7 +249,7 @@ fn such(code: &[u16], end: usize, names: &mut [u16], sizes: &[u16]) -> Seen
     ensures { TermSeen code.now end names.old names.new sizes.now result }
 {
     let n = node_at(code, end);
-    let x = index(n.a);
+    let x = usize::from(n.a);
     let d = domain(code, end - node::SIZE, names);
     let was = look(names, x);
     put(names, x, d.kind);
@@ -281,7 +287,7 @@ fn paired(code: &[u16], end: usize, names: &mut [u16], sizes: &[u16]) -> Seen
 {
     let n = node_at(code, end);
     let t = pairs(code, end - node::SIZE, names, sizes);
-    let f = inside_of(t.fault, brace_fault(sizes, t.kind, n.place));
+    let f = t.fault.or(brace_fault(sizes, t.kind, n.place));
     Seen {
         kind: t.kind,
         fault: f,
@@ -364,7 +370,7 @@ pub fn pred(code: &[u16], end: usize, names: &mut [u16], sizes: &[u16]) -> Seen
     match code[at + node::SHAPE] {
         shapes::TRUTH => Seen {
             kind: entries::NONE,
-            fault: 0,
+            fault: None,
             start: at,
         },
         shapes::NEGATION => pred(code, at, names, sizes),
@@ -474,7 +480,7 @@ fn quantified(code: &[u16], end: usize, names: &mut [u16], sizes: &[u16]) -> See
     ensures { PredSeen code.now end names.old names.new sizes.now result }
 {
     let n = node_at(code, end);
-    let x = index(n.a);
+    let x = usize::from(n.a);
     let d = domain(code, end - node::SIZE, names);
     let old = look(names, x);
     put(names, x, d.kind);

@@ -2,15 +2,17 @@
 #![tactic(auto)]
 
 ghost use Rattle.std.specs.Prelude.{◌≡◌, ◌+◌, ◌-◌, ◌*◌, ◌/◌, ◌≤◌, length};
-ghost use Rattle.pieces.specs.PiecePromises.{Writes};
+ghost use Rattle.pieces.specs.PiecePromises.{Adds};
 ghost use Rattle.witnesses.specs.WitnessPromises.{WitnessAsked, WitnessWritten};
 ghost use Rattle.witnesses.specs.WitnessSteps.{BindAsked, BoundAt, LinesAsked, part_piece};
 
-use labels::LABELS;
+use labels::Names;
 use lines::{Group, put_group};
 use part_places::{Found, OBLIGATIONS, OPENING, part_cells};
+use pieces::Writer;
 use plans::Part;
 use points::slots;
+use search_groups::Dossier;
 use slot_carriers::groups::bind;
 
 // The greatest length of a witness: 30 lines.
@@ -64,30 +66,23 @@ fn group(first: usize, count: usize, slot: usize, ending: u8) -> Group
 }
 
 // The lines of all groups of a part; `row` is how far its operation's rows are from the first operation's. A group without variables leaves no line.
-fn put_groups(
-    text: &[u8],
-    labels: &[u16; LABELS],
-    values: &[i64; 64],
-    p: Part,
-    row: usize,
-    out: &mut [u8],
-    at: usize,
-) -> usize
-    requires at_in_bounds { at + 19350 ≤ length out.old }
+fn put_groups(names: &Names<'_>, values: &[i64; 64], p: Part, row: usize, w: &mut Writer<'_>)
+    requires at_in_bounds { w.old.at + 19350 ≤ length w.old.out.now }
     requires lines_asked { LinesAsked p row }
-    ensures lines { Writes at (part_piece text.now labels.now p row values.now) out.old out.new result }
-    ensures short { result ≤ at + 19350 }
+    ensures same_bytes { w.new.out.ghost_name ≡ w.old.out.ghost_name }
+    ensures lines { Adds (part_piece names.now.text.now names.now.labels.now p row values.now) w.old w.new }
+    ensures short { w.new.at ≤ w.old.at + 19350 }
 {
     let abstracts = group(ABSTRACT_FIRST, p.va, slots::ABSTRACT, NONE);
-    let a = put_group(text, labels, values, abstracts, out, at);
+    put_group(names, values, abstracts, w);
     let concretes = group(CONCRETE_FIRST, p.vc, slots::CONCRETE, NONE);
-    let b = put_group(text, labels, values, concretes, out, a);
+    put_group(names, values, concretes, w);
     let inputs = group(INPUTS_FIRST + row, p.vi, slots::INPUTS, QUERY);
-    let c = put_group(text, labels, values, inputs, out, b);
+    put_group(names, values, inputs, w);
     let outputs = group(OUTPUTS_FIRST + row, p.vo, slots::OUTPUTS, SHRIEK);
-    let d = put_group(text, labels, values, outputs, out, c);
+    put_group(names, values, outputs, w);
     let primes = group(CONCRETE_FIRST, p.vk, slots::CONCRETE_PRIMED, PRIME);
-    put_group(text, labels, values, primes, out, d)
+    put_group(names, values, primes, w);
 }
 
 // How far the rows of the k-th part's operation are from the first operation's.
@@ -102,22 +97,15 @@ fn operation_row(k: usize) -> usize
 }
 
 // The witness at a place of a part.
-pub fn put_witness(
-    text: &[u8],
-    labels: &[u16; LABELS],
-    table: &[u16; 16384],
-    groups: &[u16; 160],
-    f: Found,
-    out: &mut [u8],
-    at: usize,
-) -> usize
-    requires at_in_bounds { at + 19350 ≤ length out.old }
-    requires witness_asked { WitnessAsked table.now groups.now f.part f.at }
-    ensures { WitnessWritten text.now labels.now table.now groups.now f.part f.at at out.old out.new result }
+pub fn put_witness(names: &Names<'_>, d: &Dossier<'_>, f: Found, w: &mut Writer<'_>)
+    requires at_in_bounds { w.old.at + 19350 ≤ length w.old.out.now }
+    requires witness_asked { WitnessAsked d.now.table.now d.now.groups.now f.part f.at }
+    ensures same_bytes { w.new.out.ghost_name ≡ w.old.out.ghost_name }
+    ensures written { WitnessWritten names.now.text.now names.now.labels.now d.now.table.now d.now.groups.now f.part f.at w.old.at w.old.out.now w.new.out.now w.new.at }
 {
     let mut cells = [0u32; 9216];
     let mut values = [0i64; 64];
-    let p = part_cells(table, groups, f.part, &mut cells);
+    let p = part_cells(d.table, d.groups, f.part, &mut cells);
     bind_place(&cells, p, f.at, &mut values);
-    put_groups(text, labels, &values, p, operation_row(f.part), out, at)
+    put_groups(names, &values, p, operation_row(f.part), w);
 }

@@ -1,8 +1,7 @@
--- `carriers::count_at` meets its contract: after i rows r is the number for those. Assumes nothing.
-use Prim.Native.Nat.{◌^◌, ℕ, ◌+◌, ◌-◌, ◌*◌}
-use native.Mathlib.Nat.{pow-suc, pow-zero}
-use native.Mathlib.Numerals.{add-one}
-use mathlib.Core.Path.{◌≡◌, refl, sym, ap, ◌∙◌}
+-- `carriers::count_at` meets its contract: the number of the choices in a row, to the power of the rows. Assumes nothing.
+use Prim.Native.Nat.{◌^◌, ℕ}
+use native.Mathlib.Nat.{pow-zero}
+use mathlib.Core.Path.{refl, sym, ap, ◌∙◌}
 use native.Mathlib.Omega.{arith}
 use borrow.Author.Tests.{not-true, not-false}
 use Rattle.carriers.specs.ValuesByNumber.{choices}
@@ -18,17 +17,8 @@ overflow_add-base c = omega (arith, (c.room.ensures.0 (not-false c.room.result c
 pub overflow_sub-base : goal.overflow_sub-base
 overflow_sub-base c = omega (arith, (c.room.ensures.0 (not-false c.room.result c.if-not-room.false-raw)).some_bit)
 
-pub loop-i-init : goal.loop-i-init
-loop-i-init c = (omega arith, sym (pow-zero (c.args.m + 1 - c.args.least)))
-
-pub overflow_mul-r : goal.overflow_mul-r
-overflow_mul-r c = omega (arith, (ap (λ (x : ℕ). x * (c.args.m + 1 - c.args.least)) c.loop-i.invariant.1 ∙ sym (pow-suc (c.args.m + 1 - c.args.least) c.loop-i.i)), count_small c.args.least c.args.m c.args.n c.loop-i.i (omega arith) (c.room.ensures.0 (not-false c.room.result c.if-not-room.false-raw)).bits)
-
-pub loop-i-smaller : goal.loop-i-smaller
-loop-i-smaller c = omega arith
-
-pub loop-i-preserved : goal.loop-i-preserved
-loop-i-preserved c = (omega arith, (ap (λ (x : ℕ). x * (c.args.m + 1 - c.args.least)) c.loop-i.invariant.1 ∙ sym (pow-suc (c.args.m + 1 - c.args.least) c.loop-i.i)) ∙ ap (λ (x : ℕ). (c.args.m + 1 - c.args.least) ^ x) (sym (add-one c.loop-i.i)))
+pub pow-requires : goal.pow-requires
+pow-requires c = omega (arith, count_small c.args.least c.args.m c.args.n (c.room.ensures.0 (not-false c.room.result c.if-not-room.false-raw)).bits)
 
 pub returns : goal.returns
-returns c = (λ a b h. counted c.args.least c.args.m c.args.n c.loop-i.r a (c.loop-i.invariant.1 ∙ (let z : c.loop-i.i ≡ c.args.n = omega arith in ap (λ (x : ℕ). (c.args.m + 1 - c.args.least) ^ x) z)), λ h. absurd (omega (arith, (c.room.ensures.0 (not-false c.room.result c.if-not-room.false-raw)).bits)), λ h. absurd (omega (arith, (c.room.ensures.0 (not-false c.room.result c.if-not-room.false-raw)).some_bit)))
+returns c = (λ a b h. counted c.args.least c.args.m c.args.n c.pow.result a c.pow.ensures, λ h. absurd (omega (arith, (c.room.ensures.0 (not-false c.room.result c.if-not-room.false-raw)).bits)), λ h. absurd (omega (arith, (c.room.ensures.0 (not-false c.room.result c.if-not-room.false-raw)).some_bit)))

@@ -5,6 +5,3 @@ use Rattle.carriers.proofs.mask_at.Given as goal
 
 abbrev pub invariant-loop-i : goal.invariant-loop-i
 invariant-loop-i l = (l.i ≤ l.n) × (l.from ≡ l.i * l.m) × (l.r + word (row_of l.least) l.base (2 ^ l.m) (l.n - l.i) l.rest * 2 ^ l.from ≡ word (row_of l.least) l.base (2 ^ l.m) l.n l.k)
-
-abbrev pub decreases-loop-i : goal.decreases-loop-i
-decreases-loop-i l = l.n - l.i

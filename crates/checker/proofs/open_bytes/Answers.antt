@@ -1,24 +1,27 @@
 -- `checker::open_bytes` meets its contract: the bytes are laid, their text is read, and their mark fits their place.
 use borrow.Author.Rules.{rules}
-use mathlib.Core.Path.{sym, ◌∙◌}
+use mathlib.Core.Path.{sym, subst, ◌∙◌}
 use borrow.Author.Tests.{not-true, not-false}
-use Rattle.checker.proofs.OpenLaws.{text-held, text-faulty, all_asked, opens_unlaid, opens-faulty, opens_misfit, opens-held}
+use Rattle.checker.proofs.OpenLaws.{text-read, all_asked, opens_as, opens_unlaid, opens_unread, opens_unmarked, opens_misfit, opens-held}
 use Rattle.checker.proofs.open_bytes.Goals as goal
 
 pub returns-then-not-laid : goal.returns-then-not-laid
-returns-then-not-laid c = opens_unlaid c.nothing.ensures (sym c.laid.ensures ∙ not-true _ c.if-not-laid.true-raw)
+returns-then-not-laid c = opens_unlaid (sym c.laid.ensures ∙ not-true _ c.if-not-laid.true-raw)
 
-pub open_text-answer-requires : goal.open_text-answer-requires
-open_text-answer-requires c = (sym c.laid.ensures ∙ not-false _ c.if-not-laid.false-raw)
+pub open_text-requires : goal.open_text-requires
+open_text-requires c = (sym c.laid.ensures ∙ not-false _ c.if-not-laid.false-raw)
+
+pub returns-in_err-operations : goal.returns-in_err-operations
+returns-in_err-operations c = opens_as c.from_residual.ensures (opens_unread (sym c.laid.ensures ∙ not-false _ c.if-not-laid.false-raw) c.open_text.ensures c.ok.ensures.value c.in_err-operations.was)
 
 pub total-all-requires : goal.total-all-requires
-total-all-requires c = all_asked (text-held c.open_text-answer.ensures c.in-Read.is)
+total-all-requires c = all_asked (text-read c.open_text.ensures c.ok.ensures.value c.in_ok-operations.was)
+
+pub returns-in_err-mark : goal.returns-in_err-mark
+returns-in_err-mark c = opens_as c.from_residual-in_err-mark.ensures (opens_unmarked c.args.held.now (sym c.laid.ensures ∙ not-false _ c.if-not-laid.false-raw) (text-read c.open_text.ensures c.ok.ensures.value c.in_ok-operations.was) c.total-all.ensures c.mark_in.ensures c.in_err-mark.was)
 
 pub returns-then-not-fits : goal.returns-then-not-fits
-returns-then-not-fits c = opens_misfit c.args.held.now (sym c.laid.ensures ∙ not-false _ c.if-not-laid.false-raw) (text-held c.open_text-answer.ensures c.in-Read.is) c.total-all.ensures c.place_in-place.result c.place_in-place.ensures (sym c.fits.ensures ∙ not-true _ c.if-not-fits.true-raw) c.nothing-then-not-fits.ensures
+returns-then-not-fits c = opens_misfit c.args.held.now (sym c.laid.ensures ∙ not-false _ c.if-not-laid.false-raw) (text-read c.open_text.ensures c.ok.ensures.value c.in_ok-operations.was) c.total-all.ensures c.place_in-place.result c.in_ok-mark.mark c.place_in-place.ensures c.in_ok-mark.ensures (sym c.fits.ensures ∙ c.if-not-fits.true)
 
-pub returns-in-Refused : goal.returns-in-Refused
-returns-in-Refused c = opens-faulty c.nothing-in-Refused.ensures (sym c.laid.ensures ∙ not-false _ c.if-not-laid.false-raw) (text-faulty c.open_text-answer.ensures c.in-Refused.is)
-
-pub returns-else-not-fits : goal.returns-else-not-fits
-returns-else-not-fits c = opens-held c.args.held.now (sym c.laid.ensures ∙ not-false _ c.if-not-laid.false-raw) (text-held c.open_text-answer.ensures c.in-Read.is) c.total-all.ensures c.place_in-place.result c.place_in-place.ensures (sym c.fits.ensures ∙ not-false _ c.if-not-fits.false-raw)
+pub returns : goal.returns
+returns c = opens-held c.args.held.now (sym c.laid.ensures ∙ not-false _ c.if-not-laid.false-raw) (text-read c.open_text.ensures c.ok.ensures.value c.in_ok-operations.was) c.total-all.ensures c.place_in-place.result c.in_ok-mark.mark c.place_in-place.ensures c.in_ok-mark.ensures (sym c.fits.ensures ∙ c.if-not-fits.false)

@@ -18,4 +18,4 @@ pub put_witness-requires : goal.put_witness-requires
 put_witness-requires c = record { at_in_bounds = omega (arith, c.requires.out_len); witness_asked = last_found c.requires.last_asked c.find-f.ensures }
 
 pub returns : goal.returns
-returns c = last_written (text-is c.args.held.now c.text_in.ensures c.length_in-n.ensures) c.find-f.ensures c.put_witness.ensures
+returns c = last_written (text-is c.args.held.now c.text_in.ensures c.length_in-n.ensures) c.find-f.ensures c.put_witness.ensures.written (search rules)

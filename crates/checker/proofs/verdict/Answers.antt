@@ -2,18 +2,21 @@
 use borrow.Author.Rules.{rules}
 use native.Mathlib.Omega.{arith}
 use Rattle.checker.proofs.MarkLaws.{not-one, not-two}
-use Rattle.checker.proofs.CallLaws.{verdict-told}
+use Rattle.checker.proofs.CallLaws.{nothing-verdict, verdict-told}
 use Rattle.checker.proofs.RefutedLaws.{last-asked, last-place, verdict-refuted}
 use Rattle.checker.proofs.verdict.Goals as goal
 
-pub returns-then-o-ne-REFUTED : goal.returns-then-o-ne-REFUTED
-returns-then-o-ne-REFUTED c = verdict-told c.open_bytes-o.ensures c.if-o-ne-REFUTED.true c.told.ensures
+pub returns-in_default : goal.returns-in_default
+returns-in_default c = nothing-verdict (c.open_bytes-o.ensures.none c.in_default.is)
+
+pub returns-in-Some-told : goal.returns-in-Some-told
+returns-in-Some-told c = verdict-told (c.open_bytes-o.ensures.some _ c.in-Some.is) c.in-Some-told.v c.in-Some-told.ensures
 
 pub overflow_sub-o : goal.overflow_sub-o
-overflow_sub-o c = (last-asked (c.open_bytes-o.ensures.some (omega (arith, c.if-o-ne-REFUTED.false))) (not-one c.if-o-ne-REFUTED.false) (not-two c.if-o-ne-REFUTED.false)).positive
+overflow_sub-o c = (last-asked (c.open_bytes-o.ensures.some _ c.in-Some.is) (not-one c.in_default-told.ensures) (not-two c.in_default-told.ensures)).positive
 
 pub find-f-requires : goal.find-f-requires
-find-f-requires c = last-place (last-asked (c.open_bytes-o.ensures.some (omega (arith, c.if-o-ne-REFUTED.false))) (not-one c.if-o-ne-REFUTED.false) (not-two c.if-o-ne-REFUTED.false))
+find-f-requires c = last-place (last-asked (c.open_bytes-o.ensures.some _ c.in-Some.is) (not-one c.in_default-told.ensures) (not-two c.in_default-told.ensures))
 
 pub returns : goal.returns
-returns c = verdict-refuted (c.open_bytes-o.ensures.some (omega (arith, c.if-o-ne-REFUTED.false))) (not-one c.if-o-ne-REFUTED.false) (not-two c.if-o-ne-REFUTED.false) c.find-f.ensures c.obligation_of.ensures
+returns c = verdict-refuted (c.open_bytes-o.ensures.some _ c.in-Some.is) (not-one c.in_default-told.ensures) (not-two c.in_default-told.ensures) c.find-f.ensures c.obligation_of.ensures

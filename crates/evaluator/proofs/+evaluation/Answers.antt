@@ -2,9 +2,8 @@
 use lib.ListN.{set, get_or}
 use mir.Facts.{to_z-of_z}
 use mir.Syntax.{w64}
-use mir.Val.{bool_byte}
-use mathlib.Core.Path.{subst, refl, sym, ap, ◌∙◌}
-use Prim.Native.Nat.{ℕ, ◌+◌, ◌-◌, ◌≤◌}
+use mathlib.Core.Path.{refl, sym, ap, ◌∙◌}
+use Prim.Native.Nat.{◌-◌, ◌≤◌}
 use native.Mathlib.Omega.{arith}
 use borrow.Author.Rules.{rules}
 use Rattle.evaluator.proofs.LoopLaws.{SuchSoFar, SomeSoFar, OnceSoFar}
@@ -197,20 +196,17 @@ once-loop-k-init t c = (omega arith, (λ v. refl), loops.once-start)
 pub once-counted-requires : goal.once-counted-requires
 once-counted-requires t c = tt
 
-pub once-next-k-requires : goal.once-next-k-requires
-once-next-k-requires t c = c.loop-k-test.true
-
 pub once-holds-requires : goal.once-holds-requires
-once-holds-requires t c = (let room : 8 ≤ c.args.end = c.requires.bound_runs.room in omega arith, loops.test-part c.requires.bound_runs c.loop-k-test.true (c.loop-k.invariant.1 _ ∙ ap (set c.args.slots.now (get_or c.args.t.now (c.args.end - 3) 0)) (nodes.read c.counted.type_inv ∙ c.counted.ensures)))
+once-holds-requires t c = (let room : 8 ≤ c.args.end = c.requires.bound_runs.room in omega arith, loops.test-part {k = c.loop-k.k} c.requires.bound_runs (omega arith) (c.loop-k.invariant.1 _ ∙ ap (set c.args.slots.now (get_or c.args.t.now (c.args.end - 3) 0)) (nodes.read c.counted.type_inv ∙ c.counted.ensures)))
 
 pub once-overflow_add-found : goal.once-overflow_add-found
-once-overflow_add-found t c = let room = c.next-k.type_inv in let counted = loops.counted-small c.loop-k.found c.loop-k.k c.holds.result c.loop-k.invariant.0 in omega arith
+once-overflow_add-found t c = let counted = loops.counted-small c.loop-k.found c.loop-k.k c.holds.result c.from-found.ensures c.loop-k.invariant.0 in omega arith
 
 pub once-loop-k-preserved : goal.once-loop-k-preserved
-once-loop-k-preserved t c = (let counted = loops.counted-small c.loop-k.found c.loop-k.k c.holds.result c.loop-k.invariant.0 in omega (arith, c.next-k.ensures), loops.still c.loop-k.slots c.args.slots.now (get_or c.args.t.now (c.args.end - 3) 0) _ c.holds.ensures.kept c.loop-k.invariant.1, subst (λ (i : ℕ). OnceSoFar c.args.t.now c.args.end c.args.slots.now i (c.loop-k.found + bool_byte c.holds.result)) (sym c.next-k.ensures) (loops.once-step c.loop-k.invariant.2 c.loop-k-test.true (c.loop-k.invariant.1 _ ∙ ap (set c.args.slots.now (get_or c.args.t.now (c.args.end - 3) 0)) (nodes.read c.counted.type_inv ∙ c.counted.ensures)) c.holds.ensures.answers))
+once-loop-k-preserved t c = (loops.counted-small c.loop-k.found c.loop-k.k c.holds.result c.from-found.ensures c.loop-k.invariant.0, loops.still c.loop-k.slots c.args.slots.now (get_or c.args.t.now (c.args.end - 3) 0) _ c.holds.ensures.kept c.loop-k.invariant.1, loops.once-step {k = c.loop-k.k} c.from-found.ensures c.loop-k.invariant.2 (omega arith) (c.loop-k.invariant.1 _ ∙ ap (set c.args.slots.now (get_or c.args.t.now (c.args.end - 3) 0)) (nodes.read c.counted.type_inv ∙ c.counted.ensures)) c.holds.ensures.answers)
 
 pub once-returns : goal.once-returns
-once-returns t c = record { answers = loops.once-done c.loop-k.invariant.2 c.loop-k-test.false; kept = loops.given_back c.loop-k.slots c.args.slots.now (get_or c.args.t.now (c.args.end - 3) 0) c.loop-k.invariant.1 (to_z-of_z {w = w64} (search rules)) }
+once-returns t c = record { answers = loops.once-done {k = c.loop-k.k} c.loop-k.invariant.2 (omega arith); kept = loops.given_back c.loop-k.slots c.args.slots.now (get_or c.args.t.now (c.args.end - 3) 0) c.loop-k.invariant.1 (to_z-of_z {w = w64} (search rules)) }
 
 pub part-offset_bounds-slots-t : goal.part-offset_bounds-slots-t
 part-offset_bounds-slots-t t c = let low = nodes.slot_low c.if-shape-eq-SLOT.true c.requires.term_runs in omega arith
@@ -221,11 +217,8 @@ part-bounds-slots-t t c = nodes.slot_low c.if-shape-eq-SLOT.true c.requires.term
 pub part-returns-then-shape-eq-SLOT : goal.part-returns-then-shape-eq-SLOT
 part-returns-then-shape-eq-SLOT t c = record { answers = nodes.slot-answers c.if-shape-eq-SLOT.true (to_z-of_z {w = w64} (search rules)); kept = refl }
 
-pub part-whole-requires : goal.part-whole-requires
-part-whole-requires t c = tt
-
 pub part-returns-then-shape-eq-VALUE : goal.part-returns-then-shape-eq-VALUE
-part-returns-then-shape-eq-VALUE t c = record { answers = nodes.number-answers c.if-shape-eq-VALUE.true (nodes.read c.whole.type_inv ∙ c.whole.ensures); kept = refl }
+part-returns-then-shape-eq-VALUE t c = record { answers = nodes.number-answers c.if-shape-eq-VALUE.true (nodes.read c.from.type_inv ∙ c.from.ensures); kept = refl }
 
 pub part-value-requires : goal.part-value-requires
 part-value-requires t c = (omega arith, (c.requires.inside, c.requires.term_runs))
@@ -258,49 +251,37 @@ pub some-counted-requires : goal.some-counted-requires
 some-counted-requires t c = tt
 
 pub some-holds-p-requires : goal.some-holds-p-requires
-some-holds-p-requires t c = (let room : 8 ≤ c.args.end = c.requires.bound_runs.room in omega arith, loops.test-part c.requires.bound_runs c.loop-k-test.true (c.loop-k.invariant.1 _ ∙ ap (set c.args.slots.now (get_or c.args.t.now (c.args.end - 3) 0)) (nodes.read c.counted.type_inv ∙ c.counted.ensures)))
+some-holds-p-requires t c = (let room : 8 ≤ c.args.end = c.requires.bound_runs.room in omega arith, loops.test-part {k = c.loop-k.k} c.requires.bound_runs (omega arith) (c.loop-k.invariant.1 _ ∙ ap (set c.args.slots.now (get_or c.args.t.now (c.args.end - 3) 0)) (nodes.read c.counted.type_inv ∙ c.counted.ensures)))
 
 pub some-asked-requires : goal.some-asked-requires
 some-asked-requires t c = tt
 
 pub some-returns-then-asked : goal.some-returns-then-asked
-some-returns-then-asked t c = record { answers = loops.some-found c.loop-k.invariant.2 c.loop-k-test.true (c.loop-k.invariant.1 _ ∙ ap (set c.args.slots.now (get_or c.args.t.now (c.args.end - 3) 0)) (nodes.read c.counted.type_inv ∙ c.counted.ensures)) c.holds-p.ensures.answers (sym c.asked.ensures ∙ c.if-asked.true); kept = loops.given_back c.holds-p.new.slots c.args.slots.now (get_or c.args.t.now (c.args.end - 3) 0) (loops.still c.loop-k.slots c.args.slots.now (get_or c.args.t.now (c.args.end - 3) 0) _ c.holds-p.ensures.kept c.loop-k.invariant.1) (to_z-of_z {w = w64} (search rules)) }
-
-pub some-next-k-requires : goal.some-next-k-requires
-some-next-k-requires t c = c.loop-k-test.true
+some-returns-then-asked t c = record { answers = loops.some-found {k = c.loop-k.k} c.loop-k.invariant.2 (omega arith) (c.loop-k.invariant.1 _ ∙ ap (set c.args.slots.now (get_or c.args.t.now (c.args.end - 3) 0)) (nodes.read c.counted.type_inv ∙ c.counted.ensures)) c.holds-p.ensures.answers (sym c.asked.ensures ∙ c.if-asked.true); kept = loops.given_back c.holds-p.new.slots c.args.slots.now (get_or c.args.t.now (c.args.end - 3) 0) (loops.still c.loop-k.slots c.args.slots.now (get_or c.args.t.now (c.args.end - 3) 0) _ c.holds-p.ensures.kept c.loop-k.invariant.1) (to_z-of_z {w = w64} (search rules)) }
 
 pub some-loop-k-preserved : goal.some-loop-k-preserved
-some-loop-k-preserved t c = (omega (arith, c.next-k.ensures), loops.still c.loop-k.slots c.args.slots.now (get_or c.args.t.now (c.args.end - 3) 0) _ c.holds-p.ensures.kept c.loop-k.invariant.1, subst (λ (i : ℕ). SomeSoFar c.args.t.now c.args.end c.args.slots.now c.args.wanted i) (sym c.next-k.ensures) (loops.some-step c.loop-k.invariant.2 c.loop-k-test.true (c.loop-k.invariant.1 _ ∙ ap (set c.args.slots.now (get_or c.args.t.now (c.args.end - 3) 0)) (nodes.read c.counted.type_inv ∙ c.counted.ensures)) c.holds-p.ensures.answers (sym c.asked.ensures ∙ c.if-asked.false)))
+some-loop-k-preserved t c = (omega arith, loops.still c.loop-k.slots c.args.slots.now (get_or c.args.t.now (c.args.end - 3) 0) _ c.holds-p.ensures.kept c.loop-k.invariant.1, loops.some-step {k = c.loop-k.k} c.loop-k.invariant.2 (omega arith) (c.loop-k.invariant.1 _ ∙ ap (set c.args.slots.now (get_or c.args.t.now (c.args.end - 3) 0)) (nodes.read c.counted.type_inv ∙ c.counted.ensures)) c.holds-p.ensures.answers (sym c.asked.ensures ∙ c.if-asked.false))
 
 pub some-returns : goal.some-returns
-some-returns t c = record { answers = loops.some-none c.loop-k.invariant.2 c.loop-k-test.false; kept = loops.given_back c.loop-k.slots c.args.slots.now (get_or c.args.t.now (c.args.end - 3) 0) c.loop-k.invariant.1 (to_z-of_z {w = w64} (search rules)) }
+some-returns t c = record { answers = loops.some-none {k = c.loop-k.k} c.loop-k.invariant.2 (omega arith); kept = loops.given_back c.loop-k.slots c.args.slots.now (get_or c.args.t.now (c.args.end - 3) 0) c.loop-k.invariant.1 (to_z-of_z {w = w64} (search rules)) }
 
 pub such-loop-k-init : goal.such-loop-k-init
 such-loop-k-init t c = (omega arith, (λ v. refl), loops.such-start)
-
-pub such-whole-requires : goal.such-whole-requires
-such-whole-requires t c = tt
 
 pub such-overflow_mul-s : goal.such-overflow_mul-s
 such-overflow_mul-s t c = let small = loops.such-small c.requires.such_runs c.loop-k.invariant.2 in omega arith
 
 pub such-holds-requires : goal.such-holds-requires
-such-holds-requires t c = (let room : 8 ≤ c.args.end = c.requires.such_runs.is.room in omega arith, loops.such-part {k = c.loop-k.k} c.requires.such_runs (omega arith) c.loop-k.invariant.0 (c.loop-k.invariant.1 _ ∙ ap (set c.args.slots.now (get_or c.args.t.now (c.args.end - 3) 0)) (nodes.read c.whole.type_inv ∙ c.whole.ensures)))
+such-holds-requires t c = (let room : 8 ≤ c.args.end = c.requires.such_runs.is.room in omega arith, loops.such-part {k = c.loop-k.k} c.requires.such_runs (omega arith) c.loop-k.invariant.0 (c.loop-k.invariant.1 _ ∙ ap (set c.args.slots.now (get_or c.args.t.now (c.args.end - 3) 0)) (nodes.read c.from.type_inv ∙ c.from.ensures)))
 
 pub such-overflow_add-s : goal.such-overflow_add-s
-such-overflow_add-s t c = let small = loops.doubled-small c.loop-k.s c.holds.result (loops.such-small c.requires.such_runs c.loop-k.invariant.2) in omega arith
+such-overflow_add-s t c = let small = loops.doubled-small c.loop-k.s c.holds.result c.from-in-loop-k.ensures (loops.such-small c.requires.such_runs c.loop-k.invariant.2) in omega arith
 
 pub such-loop-k-preserved : goal.such-loop-k-preserved
-such-loop-k-preserved t c = (omega arith, loops.still c.loop-k.slots c.args.slots.now (get_or c.args.t.now (c.args.end - 3) 0) _ c.holds.ensures.kept c.loop-k.invariant.1, loops.such-step {k = c.loop-k.k} c.loop-k.invariant.2 (omega arith) c.loop-k.invariant.0 (c.loop-k.invariant.1 _ ∙ ap (set c.args.slots.now (get_or c.args.t.now (c.args.end - 3) 0)) (nodes.read c.whole.type_inv ∙ c.whole.ensures)) c.holds.ensures.answers)
-
-pub such-of_bits-requires : goal.such-of_bits-requires
-such-of_bits-requires t c = tt
+such-loop-k-preserved t c = (omega arith, loops.still c.loop-k.slots c.args.slots.now (get_or c.args.t.now (c.args.end - 3) 0) _ c.holds.ensures.kept c.loop-k.invariant.1, loops.such-step {k = c.loop-k.k} c.from-in-loop-k.ensures c.loop-k.invariant.2 (omega arith) c.loop-k.invariant.0 (c.loop-k.invariant.1 _ ∙ ap (set c.args.slots.now (get_or c.args.t.now (c.args.end - 3) 0)) (nodes.read c.from.type_inv ∙ c.from.ensures)) c.holds.ensures.answers)
 
 pub such-returns : goal.such-returns
-such-returns t c = record { answers = loops.such-done c.loop-k.invariant.2 c.loop-k-test.false (nodes.read c.of_bits.type_inv ∙ c.of_bits.ensures); kept = loops.given_back c.loop-k.slots c.args.slots.now (get_or c.args.t.now (c.args.end - 3) 0) c.loop-k.invariant.1 (to_z-of_z {w = w64} (search rules)) }
-
-pub value-whole-requires : goal.value-whole-requires
-value-whole-requires t c = tt
+such-returns t c = record { answers = loops.such-done {k = c.loop-k.k} c.loop-k.invariant.2 (omega arith) (nodes.read c.from-2.type_inv ∙ c.from-2.ensures); kept = loops.given_back c.loop-k.slots c.args.slots.now (get_or c.args.t.now (c.args.end - 3) 0) c.loop-k.invariant.1 (to_z-of_z {w = w64} (search rules)) }
 
 pub value-overflow_cast-result : goal.value-overflow_cast-result
 value-overflow_cast-result t c = let low = nodes.slot_low c.in-2.is c.requires.term_runs in let inside = c.requires.inside in omega arith
@@ -339,7 +320,7 @@ pub value-items-requires : goal.value-items-requires
 value-items-requires t c = (omega arith, nodes.brace-part (nodes.unequal c.in_default.in_default-own.rest.0.0.0.0.0.1) (nodes.unequal c.in_default.in_default-own.rest.0.0.0.0.1) (nodes.unequal c.in_default.in_default-own.rest.0.0.0.1) (nodes.unequal c.in_default.in_default-own.rest.0.0.1) (nodes.unequal c.in_default.in_default-own.rest.0.1) (nodes.unequal c.in_default.in_default-own.rest.1) c.requires.term_runs)
 
 pub value-returns-in-1 : goal.value-returns-in-1
-value-returns-in-1 t c = record { answers = nodes.number-answers c.in-1.is (nodes.read c.whole.type_inv ∙ c.whole.ensures); kept = refl }
+value-returns-in-1 t c = record { answers = nodes.number-answers c.in-1.is (nodes.read c.from.type_inv ∙ c.from.ensures); kept = refl }
 
 pub value-returns-in-2 : goal.value-returns-in-2
 value-returns-in-2 t c = record { answers = nodes.slot-answers c.in-2.is (to_z-of_z {w = w64} (search rules)); kept = refl }

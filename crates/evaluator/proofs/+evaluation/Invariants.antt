@@ -1,7 +1,7 @@
 use lib.IntN.{ℤ}
 use lib.ListN.{set}
 use mathlib.Core.Path.{◌≡◌}
-use Prim.Native.Nat.{◌+◌, ◌-◌, ◌*◌, ◌≤◌}
+use Prim.Native.Nat.{◌+◌, ◌*◌, ◌≤◌}
 use Rattle.evaluator.proofs.LoopLaws.{SuchSoFar, SomeSoFar, OnceSoFar}
 use Rattle.evaluator.proofs.+evaluation.Given as goal
 
@@ -35,17 +35,8 @@ decreases-value l = 4 * l.end + 2
 abbrev pub invariant-once-loop-k : goal.invariant-once-loop-k
 invariant-once-loop-k l = (l.found ≤ l.k) × ((v : ℤ) → set l.slots l.slot v ≡ set l.initial.slots l.slot v) × OnceSoFar l.t l.end l.initial.slots l.k l.found
 
-abbrev pub decreases-once-loop-k : goal.decreases-once-loop-k
-decreases-once-loop-k l = l.n - l.k
-
 abbrev pub invariant-some-loop-k : goal.invariant-some-loop-k
 invariant-some-loop-k l = (l.k ≤ l.n) × ((v : ℤ) → set l.slots l.slot v ≡ set l.initial.slots l.slot v) × SomeSoFar l.t l.end l.initial.slots l.wanted l.k
 
-abbrev pub decreases-some-loop-k : goal.decreases-some-loop-k
-decreases-some-loop-k l = l.n - l.k
-
 abbrev pub invariant-such-loop-k : goal.invariant-such-loop-k
-invariant-such-loop-k l = (l.k ≤ l.initial.k) × ((v : ℤ) → set l.slots l.slot v ≡ set l.initial.slots l.slot v) × SuchSoFar l.t l.end l.initial.slots l.k l.s
-
-abbrev pub decreases-such-loop-k : goal.decreases-such-loop-k
-decreases-such-loop-k l = l.k
+invariant-such-loop-k l = (l.k ≤ l.n) × ((v : ℤ) → set l.slots l.slot v ≡ set l.initial.slots l.slot v) × SuchSoFar l.t l.end l.initial.slots l.k l.s

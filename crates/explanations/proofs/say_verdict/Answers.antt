@@ -7,8 +7,8 @@ use Rattle.explanations.proofs.say_verdict.Goals as goal
 pub total-all-requires : goal.total-all-requires
 total-all-requires c = all_asked c.requires
 
-pub search-w-requires : goal.search-w-requires
-search-w-requires c = record { from_le_end = (omega arith, omega (arith, all_small c.requires c.total-all.ensures)); search_asked = search-asked c.requires c.total-all.ensures }
+pub search-found-requires : goal.search-found-requires
+search-found-requires c = record { from_le_end = (omega arith, omega (arith, all_small c.requires c.total-all.ensures)); search_asked = search-asked c.requires c.total-all.ensures }
 
 pub find-f-requires : goal.find-f-requires
-find-f-requires c = place-asked c.requires c.total-all.ensures c.search-w.ensures c.if-w.true
+find-f-requires c = place-asked c.requires c.total-all.ensures c.search-found.ensures c.in-Some.is

@@ -9,5 +9,5 @@ counted-place-requires c = omega (arith, c.requires.1)
 pub overflow_sub-result : goal.overflow_sub-result
 overflow_sub-result c = onward c.args.from c.args.at c.args.failed c.counted-place.ensures c.requires.0
 
-pub returns : goal.returns
-returns c = moves c.counted-place.ensures c.mark_after.ensures c.turn.ensures
+pub returns-clause-moved : goal.returns-clause-moved
+returns-clause-moved c = moves c.args.failed c.args.all c.args.at c.counted-place.ensures c.mark_after.ensures c.turn.ensures

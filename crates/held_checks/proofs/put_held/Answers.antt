@@ -10,13 +10,13 @@ use Rattle.held_checks.proofs.LayoutLaws.{laid-anew}
 use Rattle.held_checks.proofs.put_held.Goals as goal
 
 pub put_number-requires : goal.put_number-requires
-put_number-requires c = omega (arith, (length-set c.fill_zero.new.held 0 1 ∙ c.fill_zero.auto.held))
+put_number-requires c = omega (arith, (length-set c.fill_zero.new.held 0 c.byte.result ∙ c.fill_zero.auto.held))
 
 pub put_text-requires : goal.put_text-requires
-put_text-requires c = omega (arith, c.put_number.auto.held, (length-set c.fill_zero.new.held 0 1 ∙ c.fill_zero.auto.held))
+put_text-requires c = omega (arith, c.put_number.auto.held, (length-set c.fill_zero.new.held 0 c.byte.result ∙ c.fill_zero.auto.held))
 
 pub returns : goal.returns
 returns c = laid-anew c.args.text.now _
     (c.put_text.ensures
     ∙ ap (λ (w : List ℕ). patch 16 c.args.text.now w)
-    (c.put_number.ensures ∙ ap (λ (w : List ℕ). patch 4 (little_endian 4 (length c.args.text.now)) (set w 0 1)) c.fill_zero.ensures))
+    (c.put_number.ensures ∙ ap (λ (k : ℕ). patch 4 (little_endian 4 (length c.args.text.now)) (set c.fill_zero.new.held 0 k)) c.byte.ensures ∙ ap (λ (w : List ℕ). patch 4 (little_endian 4 (length c.args.text.now)) (set w 0 1)) c.fill_zero.ensures))

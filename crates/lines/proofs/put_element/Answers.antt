@@ -1,6 +1,7 @@
 -- `lines::put_element` meets its contract. Assumes nothing.
+use mathlib.Core.Path.{◌∙◌}
 use Rattle.lines.proofs.LineLaws.{element-written}
 use Rattle.lines.proofs.put_element.Goals as goal
 
-pub returns : goal.returns
-returns c = element-written c.args.text.now c.args.labels.now c.args.g c.args.k c.label-from.ensures c.put_letters.ensures
+pub returns-clause-written : goal.returns-clause-written
+returns-clause-written c = element-written c.args.names.now.text.now c.args.names.now.labels.now c.args.g c.args.k (c.from.ensures ∙ c.label.ensures) c.put_letters.ensures.written

@@ -4,14 +4,14 @@ use native.Mathlib.Omega.{arith}
 use Rattle.lines.proofs.LineLaws.{sides-low, element-length, pair-written}
 use Rattle.lines.proofs.put_pair.Goals as goal
 
-pub put_element-a-requires : goal.put_element-a-requires
-put_element-a-requires c = (omega arith, (sides-low c.args.k c.args.m c.requires.2).0, omega arith)
-
-pub put_all-b-requires : goal.put_all-b-requires
-put_all-b-requires c = omega (arith, c.put_element-a.ensures.end, c.put_element-a.ensures.long, element-length c.args.text.now c.args.labels.now (c.args.sides / 8) (c.args.k / c.args.m))
-
 pub put_element-requires : goal.put_element-requires
-put_element-requires c = (omega arith, (sides-low c.args.k c.args.m c.requires.2).1, omega (arith, c.put_element-a.ensures.end, c.put_element-a.ensures.long, element-length c.args.text.now c.args.labels.now (c.args.sides / 8) (c.args.k / c.args.m), c.put_all-b.ensures.end, c.put_all-b.ensures.long))
+put_element-requires c = (omega arith, (sides-low c.args.k c.args.m c.requires.2).0, omega arith)
 
-pub returns : goal.returns
-returns c = pair-written c.args.text.now c.args.labels.now c.args.sides c.args.m c.args.k c.put_element-a.ensures c.put_all-b.ensures c.put_element.ensures
+pub put_all-requires : goal.put_all-requires
+put_all-requires c = omega (arith, c.put_element.ensures.written.end, c.put_element.ensures.written.long, element-length c.args.names.now.text.now c.args.names.now.labels.now (c.args.sides / 8) (c.args.k / c.args.m))
+
+pub put_element-requires-2 : goal.put_element-requires-2
+put_element-requires-2 c = (omega arith, (sides-low c.args.k c.args.m c.requires.2).1, omega (arith, c.put_element.ensures.written.end, c.put_element.ensures.written.long, element-length c.args.names.now.text.now c.args.names.now.labels.now (c.args.sides / 8) (c.args.k / c.args.m), c.put_all.ensures.written.end, c.put_all.ensures.written.long))
+
+pub returns-clause-written : goal.returns-clause-written
+returns-clause-written c = pair-written c.args.names.now.text.now c.args.names.now.labels.now c.args.sides c.args.m c.args.k c.put_element.ensures.written c.put_all.ensures.written c.put_element-2.ensures.written

@@ -5,15 +5,15 @@ use Rattle.lines.proofs.MemberLaws.{set-length}
 use Rattle.lines.proofs.LineLaws.{member-length, set-written}
 use Rattle.lines.proofs.put_set.Goals as goal
 
-pub put-requires : goal.put-requires
-put-requires c = omega (
+pub put-requires-2 : goal.put-requires-2
+put-requires-2 c = omega (
   arith,
-  c.put-a.ensures.end,
-  c.put-a.ensures.long,
-  c.put_members-b.ensures.end,
-  c.put_members-b.ensures.long,
-  set-length (member_piece c.args.text.now c.args.labels.now c.args.t.sides c.args.t.size) c.args.t.bits (member-length c.args.text.now c.args.labels.now c.args.t.sides c.args.t.size),
+  c.put.ensures.written.end,
+  c.put.ensures.written.long,
+  c.put_members.ensures.written.end,
+  c.put_members.ensures.written.long,
+  set-length (member_piece c.args.names.now.text.now c.args.names.now.labels.now c.args.t.sides c.args.t.size) c.args.t.bits (member-length c.args.names.now.text.now c.args.names.now.labels.now c.args.t.sides c.args.t.size),
 )
 
-pub returns : goal.returns
-returns c = set-written (member_piece c.args.text.now c.args.labels.now c.args.t.sides c.args.t.size) c.args.t.bits c.put-a.ensures c.put_members-b.ensures c.put.ensures
+pub returns-clause-written : goal.returns-clause-written
+returns-clause-written c = set-written (member_piece c.args.names.now.text.now c.args.names.now.labels.now c.args.t.sides c.args.t.size) c.args.t.bits c.put.ensures.written c.put_members.ensures.written c.put-2.ensures.written

@@ -12,7 +12,7 @@ pub holds-r-requires : goal.holds-r-requires
 holds-r-requires c = record { inside = c.requires.again_asked.inside; truth_runs = c.requires.again_asked.runs }
 
 pub overflow_add-memo : goal.overflow_add-memo
-overflow_add-memo c = cell-fits c.holds-r.result c.requires.again_asked.near
+overflow_add-memo c = cell-fits c.holds-r.result c.from.ensures c.requires.again_asked.near
 
 pub returns : goal.returns
-returns c = record { answers = c.holds-r.ensures.answers; kept = c.holds-r.ensures.kept; remembers = cell-more c.requires.memo (omega arith) (omega arith) (kept-now c.requires.again_asked c.holds-r.ensures.answers refl) }
+returns c = record { answers = c.holds-r.ensures.answers; kept = c.holds-r.ensures.kept; remembers = cell-more c.requires.memo (omega arith) (omega arith) (kept-now c.requires.again_asked c.holds-r.ensures.answers c.from.ensures) }

@@ -5,6 +5,3 @@ use Rattle.memo.proofs.described.Given as goal
 
 abbrev pub invariant-loop-s : goal.invariant-loop-s
 invariant-loop-s l = TruthFree l.t l.end 63 × Lists l.t l.end l.s l.list × (l.s ≤ 63)
-
-abbrev pub decreases-loop-s : goal.decreases-loop-s
-decreases-loop-s l = l.s

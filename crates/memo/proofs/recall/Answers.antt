@@ -22,17 +22,17 @@ returns-then-end-ne0 c = record { answers = c.truth-then-end-ne0.ensures.answers
 pub listed-list-requires : goal.listed-list-requires
 listed-list-requires c = (omega (arith, (asked-inside c.requires.asked).some, (asked-inside c.requires.asked).within), c.requires.memo)
 
-pub key-k-requires : goal.key-k-requires
-key-k-requires c = (omega (arith, (asked-inside c.requires.asked).some, (asked-inside c.requires.asked).within), c.requires.asked.held.long)
+pub key-requires : goal.key-requires
+key-requires c = (omega (arith, (asked-inside c.requires.asked).some, c.if-end-ne0.false), omega (arith, (asked-inside c.requires.asked).some, (asked-inside c.requires.asked).within), c.requires.asked.held.long)
 
-pub truth-requires-then-k-eq0 : goal.truth-requires-then-k-eq0
-truth-requires-then-k-eq0 c = c.requires.asked
+pub truth-requires-in_default : goal.truth-requires-in_default
+truth-requires-in_default c = c.requires.asked
 
-pub returns-then-k-eq0 : goal.returns-then-k-eq0
-returns-then-k-eq0 c = record { answers = c.truth-then-k-eq0.ensures.answers; kept = c.truth-then-k-eq0.ensures.kept; remembers = c.listed-list.ensures.remembers }
+pub returns-in_default : goal.returns-in_default
+returns-in_default c = record { answers = c.truth-in_default.ensures.answers; kept = c.truth-in_default.ensures.kept; remembers = c.listed-list.ensures.remembers }
 
 pub again-requires : goal.again-requires
-again-requires c = record { again_asked = again-asked c.requires.asked (omega (arith, c.if-end-ne0.false)) c.listed-list.ensures.stands c.key-k.ensures c.if-k-eq0.false; memo = c.listed-list.ensures.remembers }
+again-requires c = record { again_asked = again-asked c.requires.asked (omega (arith, c.if-end-ne0.false)) c.listed-list.ensures.stands c.in-Some.ensures; memo = c.listed-list.ensures.remembers }
 
 pub returns : goal.returns
 returns c = record { answers = answered c.again.ensures.answers; kept = c.again.ensures.kept; remembers = c.again.ensures.remembers }

@@ -1,6 +1,6 @@
 use Prim.Native.Nat.{◌-◌}
 use mathlib.Core.Path.{◌≡◌}
-use mathlib.Core.Bool.{false}
+use Rattle.std.specs.Prelude.{None}
 use Rattle.nest.proofs.LoopStates.{InAbstracts, InConcretes, InInputs, InOutputs, InAfters}
 use Rattle.memo.specs.MemoPromises.{Memo}
 use Rattle.nest_steps.specs.Remembering.{Remembered}
@@ -8,31 +8,31 @@ use Rattle.nest_steps.specs.OpenBlocks.{PairsSeen, WholesSeen}
 use Rattle.nest.proofs.sweep.Given as goal
 
 abbrev pub invariant-loop-k : goal.invariant-loop-k
-invariant-loop-k l = InAfters l.t l.plan l.cells l.p l.from l.end l.a l.mask l.c l.i l.o l.k l.slots × (l.at ≡ l.end) × (l.failed ≡ false) × Remembered l.t l.plan l.cells l.p l.known × Memo l.t l.memo × WholesSeen l.t l.plan l.cells l.p l.masks l.done × PairsSeen l.t l.plan l.cells l.p l.masks l.seen
+invariant-loop-k l = InAfters l.s.table.now l.s.plan.now l.s.cells.now l.s.part l.from l.end l.a l.mask l.c l.i l.o l.k l.slots × (l.failing ≡ None) × Remembered l.s.table.now l.s.plan.now l.s.cells.now l.s.part l.known × Memo l.s.table.now l.memo × WholesSeen l.s.table.now l.s.plan.now l.s.cells.now l.s.part l.masks l.done × PairsSeen l.s.table.now l.s.plan.now l.s.cells.now l.s.part l.masks l.seen
 
 abbrev pub decreases-loop-k : goal.decreases-loop-k
-decreases-loop-k l = l.p.nk - l.k
+decreases-loop-k l = l.s.part.nk - l.k
 
 abbrev pub invariant-loop-o : goal.invariant-loop-o
-invariant-loop-o l = InOutputs l.t l.plan l.cells l.p l.from l.end l.a l.mask l.c l.i l.o l.slots × (l.at ≡ l.end) × (l.failed ≡ false) × Remembered l.t l.plan l.cells l.p l.known × Memo l.t l.memo × WholesSeen l.t l.plan l.cells l.p l.masks l.done × PairsSeen l.t l.plan l.cells l.p l.masks l.seen
+invariant-loop-o l = InOutputs l.s.table.now l.s.plan.now l.s.cells.now l.s.part l.from l.end l.a l.mask l.c l.i l.o l.slots × (l.failing ≡ None) × Remembered l.s.table.now l.s.plan.now l.s.cells.now l.s.part l.known × Memo l.s.table.now l.memo × WholesSeen l.s.table.now l.s.plan.now l.s.cells.now l.s.part l.masks l.done × PairsSeen l.s.table.now l.s.plan.now l.s.cells.now l.s.part l.masks l.seen
 
 abbrev pub decreases-loop-o : goal.decreases-loop-o
-decreases-loop-o l = l.p.nq - l.o
+decreases-loop-o l = l.s.part.nq - l.o
 
 abbrev pub invariant-loop-i : goal.invariant-loop-i
-invariant-loop-i l = InInputs l.t l.plan l.cells l.p l.from l.end l.a l.mask l.c l.i l.slots × (l.at ≡ l.end) × (l.failed ≡ false) × Remembered l.t l.plan l.cells l.p l.known × Memo l.t l.memo × WholesSeen l.t l.plan l.cells l.p l.masks l.done × PairsSeen l.t l.plan l.cells l.p l.masks l.seen
+invariant-loop-i l = InInputs l.s.table.now l.s.plan.now l.s.cells.now l.s.part l.from l.end l.a l.mask l.c l.i l.slots × (l.failing ≡ None) × Remembered l.s.table.now l.s.plan.now l.s.cells.now l.s.part l.known × Memo l.s.table.now l.memo × WholesSeen l.s.table.now l.s.plan.now l.s.cells.now l.s.part l.masks l.done × PairsSeen l.s.table.now l.s.plan.now l.s.cells.now l.s.part l.masks l.seen
 
 abbrev pub decreases-loop-i : goal.decreases-loop-i
-decreases-loop-i l = l.p.ni - l.i
+decreases-loop-i l = l.s.part.ni - l.i
 
 abbrev pub invariant-loop-c : goal.invariant-loop-c
-invariant-loop-c l = InConcretes l.t l.plan l.cells l.p l.from l.end l.a l.mask l.c l.slots × (l.at ≡ l.end) × (l.failed ≡ false) × Remembered l.t l.plan l.cells l.p l.known × Memo l.t l.memo × WholesSeen l.t l.plan l.cells l.p l.masks l.done × PairsSeen l.t l.plan l.cells l.p l.masks l.seen
+invariant-loop-c l = InConcretes l.s.table.now l.s.plan.now l.s.cells.now l.s.part l.from l.end l.a l.mask l.c l.slots × (l.failing ≡ None) × Remembered l.s.table.now l.s.plan.now l.s.cells.now l.s.part l.known × Memo l.s.table.now l.memo × WholesSeen l.s.table.now l.s.plan.now l.s.cells.now l.s.part l.masks l.done × PairsSeen l.s.table.now l.s.plan.now l.s.cells.now l.s.part l.masks l.seen
 
 abbrev pub decreases-loop-c : goal.decreases-loop-c
-decreases-loop-c l = l.p.nc - l.c
+decreases-loop-c l = l.s.part.nc - l.c
 
 abbrev pub invariant-abstracts : goal.invariant-abstracts
-invariant-abstracts l = InAbstracts l.t l.plan l.cells l.p l.from l.end l.a l.slots × (l.at ≡ l.end) × (l.failed ≡ false) × Remembered l.t l.plan l.cells l.p l.known × Memo l.t l.memo × WholesSeen l.t l.plan l.cells l.p l.masks l.done × PairsSeen l.t l.plan l.cells l.p l.masks l.seen
+invariant-abstracts l = InAbstracts l.s.table.now l.s.plan.now l.s.cells.now l.s.part l.from l.end l.a l.slots × (l.failing ≡ None) × Remembered l.s.table.now l.s.plan.now l.s.cells.now l.s.part l.known × Memo l.s.table.now l.memo × WholesSeen l.s.table.now l.s.plan.now l.s.cells.now l.s.part l.masks l.done × PairsSeen l.s.table.now l.s.plan.now l.s.cells.now l.s.part l.masks l.seen
 
 abbrev pub decreases-abstracts : goal.decreases-abstracts
-decreases-abstracts l = l.p.na - l.a
+decreases-abstracts l = l.s.part.na - l.a

@@ -12,12 +12,6 @@ overflow_shr-mask c = omega (arith, c.requires.1)
 pub returns-then-mask-i-eq1 : goal.returns-then-mask-i-eq1
 returns-then-mask-i-eq1 c = unset-found c.loop-i.invariant (set-bit _ _ c.if-mask-i-eq1.true)
 
-pub overflow_add-i : goal.overflow_add-i
-overflow_add-i c = omega (arith, c.requires.1)
-
-pub loop-i-smaller : goal.loop-i-smaller
-loop-i-smaller c = omega arith
-
 pub loop-i-preserved : goal.loop-i-preserved
 loop-i-preserved c = unset-next c.loop-i.invariant (omega arith) (unset-bit _ _ c.if-mask-i-eq1.false)
 

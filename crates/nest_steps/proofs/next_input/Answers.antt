@@ -9,10 +9,10 @@ pub next_bit-i-requires : goal.next_bit-i-requires
 next_bit-i-requires c = (c.requires.from_le_ni, c.requires.input_asked.asked.nest.sized.few_i.1)
 
 pub bind-requires : goal.bind-requires
-bind-requires c = record { k_lt_w = c.if-i-p.true; grouped = c.requires.input_asked.asked.nest.sized.grouped; counts = inputs-count _ _ _ (c.requires.input_asked.asked.nest.sized.ni ∙ ap (span _) c.requires.input_asked.asked.nest.sized.inputs_are) }
+bind-requires c = record { k_lt_w = c.if-i-s.true; grouped = c.requires.input_asked.asked.nest.sized.grouped; counts = inputs-count _ _ _ (c.requires.input_asked.asked.nest.sized.ni ∙ ap (span _) c.requires.input_asked.asked.nest.sized.inputs_are) }
 
-pub returns-then-i-p : goal.returns-then-i-p
-returns-then-i-p c = record { sought = c.next_bit-i.ensures; left = λ table plan. bound-inputs c.if-i-p.true c.bind.ensures.values c.bind.ensures.others }
+pub returns-then-i-s : goal.returns-then-i-s
+returns-then-i-s c = record { sought = c.next_bit-i.ensures; left = λ table plan. bound-inputs c.if-i-s.true c.bind.ensures.values c.bind.ensures.others }
 
-pub returns-else-i-p : goal.returns-else-i-p
-returns-else-i-p c = record { sought = c.next_bit-i.ensures; left = λ table plan. no-input c.if-i-p.false }
+pub returns-else-i-s : goal.returns-else-i-s
+returns-else-i-s c = record { sought = c.next_bit-i.ensures; left = λ table plan. no-input c.if-i-s.false }

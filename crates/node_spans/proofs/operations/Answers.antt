@@ -1,11 +1,11 @@
 -- `operations` meets its contract: what is still to be read, and what is written, make the whole.
-use mathlib.Core.Path.{◌∙◌}
+use mathlib.Core.Path.{◌≡◌, ◌∙◌}
 use native.Mathlib.Omega.{arith}
 use Rattle.node_spans.proofs.SpanWrites.{ahead-next, ahead-done}
 use Rattle.node_spans.proofs.operations.Goals as goal
 
 pub loop-k-init : goal.loop-k-init
-loop-k-init c = (omega arith, c.requires, λ s₀ w n h x. x)
+loop-k-init c = (omega arith, omega arith, λ s₀ w n h x. x)
 
 pub returns-then-m-at : goal.returns-then-m-at
 returns-then-m-at c = record { few = omega arith; counts = λ s₀ w n h l x. (ahead-done (c.loop-k.invariant.2 s₀ w n h x) (λ i e p. omega arith)).counts; fills = λ s₀ w n h l x. (ahead-done (c.loop-k.invariant.2 s₀ w n h x) (λ i e p. omega arith)).fills }
@@ -14,4 +14,8 @@ pub loop-k-preserved : goal.loop-k-preserved
 loop-k-preserved c = (omega arith, c.operation-at.ensures.same ∙ c.loop-k.invariant.1, λ s₀ w n h x. ahead-next (c.loop-k.invariant.2 s₀ w n h x) c.operation-at.ensures h (omega arith))
 
 pub returns : goal.returns
-returns c = record { few = omega arith; counts = λ s₀ w n h l x. (ahead-done (c.loop-k.invariant.2 s₀ w n h x) (λ i e p. omega arith)).counts; fills = λ s₀ w n h l x. (ahead-done (c.loop-k.invariant.2 s₀ w n h x) (λ i e p. omega arith)).fills }
+returns c = record {
+  few = omega arith;
+  counts = λ s₀ w n h l x. let d : c.loop-k.k ≡ n = (ahead-done (c.loop-k.invariant.2 s₀ w n h x) (λ i e p. omega arith)).counts in omega arith;
+  fills = λ s₀ w n h l x. (ahead-done (c.loop-k.invariant.2 s₀ w n h x) (λ i e p. omega arith)).fills;
+}

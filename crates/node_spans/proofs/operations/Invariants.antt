@@ -1,12 +1,9 @@
 use mathlib.Core.List.{List}
 use lib.ListN.{take, length}
-use Prim.Native.Nat.{ℕ, ◌-◌, ◌≤◌}
+use Prim.Native.Nat.{ℕ, ◌≤◌}
 use mathlib.Core.Path.{◌≡◌}
 use Rattle.node_spans.specs.SpanPromises.{Ahead}
 use Rattle.node_spans.proofs.operations.Given as goal
 
 abbrev pub invariant-loop-k : goal.invariant-loop-k
 invariant-loop-k l = (l.k ≤ 16) × (length l.spans ≡ 80) × ((s₀ w : List ℕ) (n : ℕ) → l.m ≤ 65535 → Ahead (take l.m l.nodes) l.m l.from 0 l.initial.spans s₀ w n → Ahead (take l.m l.nodes) l.m l.at l.k l.spans s₀ w n)
-
-abbrev pub decreases-loop-k : goal.decreases-loop-k
-decreases-loop-k l = 16 - l.k

@@ -3,19 +3,18 @@ use mathlib.Core.Bool.{not}
 use lib.Signed.{le_z, lt_z}
 use Prim.Native.Nat.{ℕ}
 use mathlib.Core.Path.{sym, ap, ◌∙◌}
-use Rattle.evaluation.specs.MeaningValues.{same_integer}
 use Rattle.evaluation.specs.OperatorsByNumber.{compared}
-use Rattle.operators.proofs.SignedLaws.{both}
+use Rattle.operators.proofs.SignedLaws.{both, eq-bits}
 use Rattle.operators.proofs.CodeLaws.{comparison-last}
 use Rattle.operators.proofs.compared.Goals as goal
 
 pub returns-in-22 : goal.returns-in-22
 unfolding compared
-returns-in-22 c = c.same.ensures ∙ both c.args.x c.args.y c.ranges.x c.ranges.y same_integer ∙ ap (λ (n : ℕ). compared n c.args.x c.args.y) (sym c.in-22.is)
+returns-in-22 c = eq-bits c.args.x c.args.y c.ranges.x c.ranges.y ∙ ap (λ (n : ℕ). compared n c.args.x c.args.y) (sym c.in-22.is)
 
 pub returns-in-23 : goal.returns-in-23
 unfolding compared
-returns-in-23 c = ap not (c.same-in-23.ensures ∙ both c.args.x c.args.y c.ranges.x c.ranges.y same_integer) ∙ ap (λ (n : ℕ). compared n c.args.x c.args.y) (sym c.in-23.is)
+returns-in-23 c = ap not (eq-bits c.args.x c.args.y c.ranges.x c.ranges.y) ∙ ap (λ (n : ℕ). compared n c.args.x c.args.y) (sym c.in-23.is)
 
 pub returns-in-24 : goal.returns-in-24
 unfolding compared

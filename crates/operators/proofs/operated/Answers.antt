@@ -58,13 +58,13 @@ returns-in-30 c = product-back c.args.x c.args.y c.ranges.x c.ranges.y (subst (�
 
 pub returns-in-58 : goal.returns-in-58
 unfolding operated OperatorTakes
-returns-in-58 c = read c.of_bits.type_inv ∙ c.of_bits.ensures ∙ ap pos (c.union.ensures ∙ ap₂ sets.union (bits_are c.ranges.x c.bits.ensures) (bits_are c.ranges.y c.bits-in-58.ensures)) ∙ ap (λ (n : ℕ). operated n c.args.x c.args.y) (sym c.in-58.is)
+returns-in-58 c = read c.from.type_inv ∙ c.from.ensures ∙ ap pos (c.union.ensures ∙ ap₂ sets.union (bits_are c.ranges.x c.bits.ensures) (bits_are c.ranges.y c.bits-in-58.ensures)) ∙ ap (λ (n : ℕ). operated n c.args.x c.args.y) (sym c.in-58.is)
 
 pub returns-in-59 : goal.returns-in-59
 unfolding operated OperatorTakes
-returns-in-59 c = read c.of_bits-in-59.type_inv ∙ c.of_bits-in-59.ensures ∙ ap pos (c.without.ensures ∙ ap₂ sets.without (bits_are c.ranges.x c.bits-in-59.ensures) (bits_are c.ranges.y c.bits-in-59-2.ensures)) ∙ ap (λ (n : ℕ). operated n c.args.x c.args.y) (sym c.in-59.is)
+returns-in-59 c = read c.from-in-59.type_inv ∙ c.from-in-59.ensures ∙ ap pos (c.without.ensures ∙ ap₂ sets.without (bits_are c.ranges.x c.bits-in-59.ensures) (bits_are c.ranges.y c.bits-in-59-2.ensures)) ∙ ap (λ (n : ℕ). operated n c.args.x c.args.y) (sym c.in-59.is)
 
 pub returns-in_default : goal.returns-in_default
 unfolding operated OperatorTakes
-returns-in_default c = read c.of_bits-in_default.type_inv ∙ c.of_bits-in_default.ensures ∙ ap pos (c.inter.ensures ∙ ap₂ sets.inter (bits_are c.ranges.x c.bits-in_default.ensures) (bits_are c.ranges.y c.bits-in_default-2.ensures))
+returns-in_default c = read c.from-in_default.type_inv ∙ c.from-in_default.ensures ∙ ap pos (c.inter.ensures ∙ ap₂ sets.inter (bits_are c.ranges.x c.bits-in_default.ensures) (bits_are c.ranges.y c.bits-in_default-2.ensures))
     ∙ sym (operator-last c.args.code c.args.x c.args.y c.in_default.in_default-own.rest.0.0.0.0.1 c.in_default.in_default-own.rest.0.0.0.1 c.in_default.in_default-own.rest.0.0.1 c.in_default.in_default-own.rest.0.1 c.in_default.in_default-own.rest.1)

@@ -1,10 +1,7 @@
 -- `operators::prefixed` meets its contract, an arm for each code. Assumes nothing.
-use mathlib.Core.Path.{subst, sym, ap, ◌∙◌}
+use mathlib.Core.Path.{subst, sym, ap, ap₂, ◌∙◌}
 use lib.IntN.{pos}
-use mir.Syntax.{w64}
-use mir.Facts.{to_z_pos}
 use Prim.Native.Nat.{ℕ}
-use native.Mathlib.Omega.{arith}
 use Rattle.evaluation.specs.OperatorsByNumber.{prefixed, PrefixTakes}
 use Rattle.operators.proofs.SignedLaws.{read, opposite-fits, opposite-back, bits_back, bits_are}
 use Rattle.operators.proofs.CodeLaws.{prefix-takes, prefix-last}
@@ -32,13 +29,13 @@ returns-in-29 c = opposite-back c.args.x c.ranges.x (subst (λ (n : ℕ). Prefix
 
 pub returns-in-31 : goal.returns-in-31
 unfolding prefixed
-returns-in-31 c = to_z_pos w64 {n = c.size.result} (omega (arith, c.size.type_inv)) ∙ ap pos (c.size.ensures ∙ ap sets.size (bits_are c.ranges.x c.bits.ensures)) ∙ ap (λ (n : ℕ). prefixed n c.args.n c.args.m c.args.x) (sym c.in-31.is)
+returns-in-31 c = read c.from.type_inv ∙ c.from.ensures ∙ ap pos (c.size.ensures ∙ ap sets.size (bits_are c.ranges.x c.bits.ensures)) ∙ ap (λ (n : ℕ). prefixed n c.args.n c.args.m c.args.x) (sym c.in-31.is)
 
 pub returns-in-63 : goal.returns-in-63
 unfolding prefixed
-returns-in-63 c = read c.of_bits.type_inv ∙ c.of_bits.ensures ∙ ap pos (c.dom.ensures ∙ ap (sets.dom c.args.n c.args.m) (bits_are c.ranges.x c.bits-in-63.ensures)) ∙ ap (λ (n : ℕ). prefixed n c.args.n c.args.m c.args.x) (sym c.in-63.is)
+returns-in-63 c = read c.from-in-63-3.type_inv ∙ c.from-in-63-3.ensures ∙ ap pos (c.dom.ensures ∙ ap₂ (λ (a b : ℕ). sets.dom a b c.bits-in-63.result) c.from-in-63.ensures c.from-in-63-2.ensures ∙ ap (sets.dom c.args.n c.args.m) (bits_are c.ranges.x c.bits-in-63.ensures)) ∙ ap (λ (n : ℕ). prefixed n c.args.n c.args.m c.args.x) (sym c.in-63.is)
 
 pub returns-in_default : goal.returns-in_default
 unfolding prefixed
-returns-in_default c = read c.of_bits-in_default.type_inv ∙ c.of_bits-in_default.ensures ∙ ap pos (c.ran.ensures ∙ ap (sets.ran c.args.n c.args.m) (bits_are c.ranges.x c.bits-in_default.ensures))
+returns-in_default c = read c.from-in_default-3.type_inv ∙ c.from-in_default-3.ensures ∙ ap pos (c.ran.ensures ∙ ap₂ (λ (a b : ℕ). sets.ran a b c.bits-in_default.result) c.from-in_default.ensures c.from-in_default-2.ensures ∙ ap (sets.ran c.args.n c.args.m) (bits_are c.ranges.x c.bits-in_default.ensures))
     ∙ sym (prefix-last c.args.code c.args.n c.args.m c.args.x c.in_default.in_default-own.rest.0.0.1 c.in_default.in_default-own.rest.0.1 c.in_default.in_default-own.rest.1)

@@ -12,4 +12,4 @@ pub overflow_cast-x : goal.overflow_cast-x
 overflow_cast-x c = natural-cast c.args.x c.ranges.x c.requires.natural_is w32 (omega (arith, c.requires.low))
 
 pub returns : goal.returns
-returns c = read c.of_bits.type_inv ∙ c.of_bits.ensures ∙ ap pos (c.single.ensures.0 (subst (λ (k : ℕ). k < 16) (sym (natural-back c.args.x c.ranges.x c.requires.natural_is)) c.requires.low) ∙ ap sets.single (natural-back c.args.x c.ranges.x c.requires.natural_is))
+returns c = read c.from.type_inv ∙ c.from.ensures ∙ ap pos (c.single.ensures.0 (subst (λ (k : ℕ). k < 16) (sym (natural-back c.args.x c.ranges.x c.requires.natural_is)) c.requires.low) ∙ ap sets.single (natural-back c.args.x c.ranges.x c.requires.natural_is))

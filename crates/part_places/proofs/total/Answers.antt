@@ -19,12 +19,6 @@ part_size-all-requires c = part-asked c.loop-k.k c.loop-k-test.true c.requires
 pub overflow_add-all : goal.overflow_add-all
 overflow_add-all c = omega (arith, ends-small c.loop-k.invariant c.part_size-all.ensures c.loop-k-test.true c.requires)
 
-pub overflow_add-k : goal.overflow_add-k
-overflow_add-k c = omega (arith, c.loop-k-test.true, operations-low c.requires)
-
-pub loop-k-smaller : goal.loop-k-smaller
-loop-k-smaller c = omega (arith, c.loop-k-test.true)
-
 pub loop-k-preserved : goal.loop-k-preserved
 loop-k-preserved c = begins-next c.loop-k.invariant c.part_size-all.ensures c.loop-k-test.true (omega arith)
 

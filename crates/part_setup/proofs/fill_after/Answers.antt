@@ -13,23 +13,8 @@ use Rattle.part_setup.proofs.fill_after.Goals as goal
 pub loop-s-init : goal.loop-s-init
 loop-s-init c = (omega arith, firsts-none c.args.cells.now primed_slot c.args.a.now c.requires.a_len)
 
-pub primed_slot-requires : goal.primed_slot-requires
-primed_slot-requires c = omega arith
-
 pub value_at-requires : goal.value_at-requires
 value_at-requires c = c.requires.first_values.reached c.primed_slot.result c.primed_slot.ensures.1
-
-pub offset_bounds-a-s : goal.offset_bounds-a-s
-offset_bounds-a-s c = omega arith
-
-pub bounds-a-s : goal.bounds-a-s
-bounds-a-s c = omega (arith, c.loop-s.invariant.1.long)
-
-pub overflow_add-s : goal.overflow_add-s
-overflow_add-s c = omega arith
-
-pub loop-s-smaller : goal.loop-s-smaller
-loop-s-smaller c = omega arith
 
 pub loop-s-preserved : goal.loop-s-preserved
 loop-s-preserved c = (omega arith, firsts-next c.args.cells.now primed_slot c.loop-s.s _ c.loop-s.a _ (omega arith) c.loop-s.invariant.1 refl (to_z-of_z {w = w64} (record { sfits = c.value_at.type_inv }) ∙ c.value_at.ensures ∙ ap (λ (k : ℕ). value_in c.args.cells.now k 0) c.primed_slot.ensures.0))

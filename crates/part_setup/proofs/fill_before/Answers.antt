@@ -14,18 +14,6 @@ loop-s-init c = (omega arith, firsts-none c.args.cells.now (λ (t : ℕ). t) c.a
 pub value_at-requires : goal.value_at-requires
 value_at-requires c = c.requires.first_values.reached c.loop-s.s c.loop-s-test.true
 
-pub offset_bounds-a-s : goal.offset_bounds-a-s
-offset_bounds-a-s c = omega arith
-
-pub bounds-a-s : goal.bounds-a-s
-bounds-a-s c = omega (arith, c.loop-s.invariant.1.long)
-
-pub overflow_add-s : goal.overflow_add-s
-overflow_add-s c = omega arith
-
-pub loop-s-smaller : goal.loop-s-smaller
-loop-s-smaller c = omega arith
-
 pub loop-s-preserved : goal.loop-s-preserved
 loop-s-preserved c = (omega arith, firsts-next c.args.cells.now (λ (t : ℕ). t) c.loop-s.s _ c.loop-s.a _ (omega arith) c.loop-s.invariant.1 refl (to_z-of_z {w = w64} (record { sfits = c.value_at.type_inv }) ∙ c.value_at.ensures))
 

@@ -12,4 +12,4 @@ set_cells-end-requires c = record { row_bound = (omega arith, omega (arith, c.re
 
 pub returns : goal.returns
 returns c = states-ready c.args.table.now c.args.groups.now c.requires.states_asked c.args.cells.now c.requires.blank c.set_cells-at.new.cells c.set_cells-at.result c.set_cells-at.ensures _ c.set_cells-end.result c.set_cells-end.ensures _ _
-    c.group.result c.group-2.result c.group.ensures.0 c.group-2.ensures.0 c.copy_cells.ensures c.copy_cells-2.ensures
+    c.from.result c.from-2.result c.from.ensures c.from-2.ensures c.copy_cells.ensures c.copy_cells-2.ensures

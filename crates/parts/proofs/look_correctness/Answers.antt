@@ -14,14 +14,14 @@ overflow_add-row c = omega (arith, operation-low (correctness-look c.args.j c.re
 pub operation_cells-requires : goal.operation_cells-requires
 operation_cells-requires c = record { operation_asked = operation-cells-asked (correctness-look c.args.j c.requires.look_asked); blank = blank 9216 }
 
-pub correctness_part-p-requires : goal.correctness_part-p-requires
-correctness_part-p-requires c = operation-part-asked (correctness-look c.args.j c.requires.look_asked) c.operation_cells.ensures
+pub correctness_part-part-requires : goal.correctness_part-part-requires
+correctness_part-part-requires c = operation-part-asked (correctness-look c.args.j c.requires.look_asked) c.operation_cells.ensures
 
 pub plan_correctness-requires : goal.plan_correctness-requires
-plan_correctness-requires c = correctness-rows (correctness-look c.args.j c.requires.look_asked) c.operation_cells.ensures c.correctness_part-p.ensures
+plan_correctness-requires c = correctness-rows (correctness-look c.args.j c.requires.look_asked) c.operation_cells.ensures c.correctness_part-part.ensures
 
 pub sweep_part-requires : goal.sweep_part-requires
-sweep_part-requires c = record { from_le_end = c.requires.from_le_end; part_asked = for-asked (correctness-every c.operation_cells.ensures c.correctness_part-p.ensures c.plan_correctness.ensures c.requires.look_asked.dossier c.requires.look_asked.reading c.requires.look_asked.part) c.operation_cells.ensures.first_values }
+sweep_part-requires c = record { from_le_end = c.requires.from_le_end; part_asked = for-asked (correctness-every c.operation_cells.ensures c.correctness_part-part.ensures c.plan_correctness.ensures c.requires.look_asked.dossier c.requires.look_asked.reading c.requires.look_asked.part) c.operation_cells.ensures.first_values }
 
 pub returns : goal.returns
-returns c = part-answers (correctness-every c.operation_cells.ensures c.correctness_part-p.ensures c.plan_correctness.ensures) c.sweep_part.ensures
+returns c = part-answers (correctness-every c.operation_cells.ensures c.correctness_part-part.ensures c.plan_correctness.ensures) c.sweep_part.ensures

@@ -10,11 +10,11 @@ opening_cells-requires c = record { states_asked = opening-cells-asked c.require
 pub plan_initialisation-requires : goal.plan_initialisation-requires
 plan_initialisation-requires c = opening-rows c.requires.look_asked
 
-pub opening_part-p-requires : goal.opening_part-p-requires
-opening_part-p-requires c = opening-part-asked c.requires.look_asked c.opening_cells.ensures
+pub opening_part-part-requires : goal.opening_part-part-requires
+opening_part-part-requires c = opening-part-asked c.requires.look_asked c.opening_cells.ensures
 
 pub sweep_part-requires : goal.sweep_part-requires
-sweep_part-requires c = record { from_le_end = c.requires.from_le_end; part_asked = for-asked (opening-for c.opening_cells.ensures c.plan_initialisation.ensures c.opening_part-p.ensures c.requires.look_asked.dossier c.requires.look_asked.reading) c.opening_cells.ensures.first_values }
+sweep_part-requires c = record { from_le_end = c.requires.from_le_end; part_asked = for-asked (opening-for c.opening_cells.ensures c.plan_initialisation.ensures c.opening_part-part.ensures c.requires.look_asked.dossier c.requires.look_asked.reading) c.opening_cells.ensures.first_values }
 
 pub returns : goal.returns
-returns c = part-answers (λ d R h. opening-for c.opening_cells.ensures c.plan_initialisation.ensures c.opening_part-p.ensures d R) c.sweep_part.ensures
+returns c = part-answers (λ d R h. opening-for c.opening_cells.ensures c.plan_initialisation.ensures c.opening_part-part.ensures d R) c.sweep_part.ensures

@@ -22,20 +22,14 @@ overflow_sub-end c = omega (arith, c.parts.invariant.0.behind (unfinished c.part
 pub look-w-requires : goal.look-w-requires
 look-w-requires c = record { from_le_end = omega (arith, c.parts.invariant.0.high); look_asked = part-asked c.parts.k c.parts-test.true c.requires.search_asked }
 
-pub overflow_add-at : goal.overflow_add-at
-overflow_add-at c = omega (arith, step-high c.parts.invariant.0 c.look-w.ensures c.parts-test.true (unfinished c.parts.invariant.0 c.if-at-end.false) c.requires.search_asked, c.requires.from_le_end.1)
+pub overflow_add-failing : goal.overflow_add-failing
+overflow_add-failing c = omega (arith, step-high c.parts.invariant.0 c.look-w.ensures c.parts-test.true (unfinished c.parts.invariant.0 c.if-at-end.false) c.requires.search_asked c.in-Some.is, c.requires.from_le_end.1)
 
 pub overflow_add-begin : goal.overflow_add-begin
 overflow_add-begin c = omega (arith, step_small c.parts.invariant.0 c.look-w.ensures c.parts-test.true (unfinished c.parts.invariant.0 c.if-at-end.false) c.requires.search_asked)
 
-pub overflow_add-k : goal.overflow_add-k
-overflow_add-k c = omega (arith, c.parts-test.true, operations-low c.requires.search_asked)
-
-pub parts-smaller : goal.parts-smaller
-parts-smaller c = omega (arith, c.parts-test.true)
-
 pub parts-preserved : goal.parts-preserved
-parts-preserved c = (gone-on c.parts.invariant.0 c.look-w.ensures c.parts-test.true (unfinished c.parts.invariant.0 c.if-at-end.false) c.requires.search_asked c.if-w.false (omega arith), c.parts.invariant.1)
+parts-preserved c = (gone-on c.parts.invariant.0 c.look-w.ensures c.parts-test.true (unfinished c.parts.invariant.0 c.if-at-end.false) c.requires.search_asked c.in_default.is (omega arith) (omega arith), c.parts.invariant.1)
 
 pub returns-after-parts : goal.returns-after-parts
 returns-after-parts c = not-failed c.parts.invariant.1 (gone_whole c.parts.invariant.0 (omega (arith, c.parts-test.false)))
@@ -43,5 +37,5 @@ returns-after-parts c = not-failed c.parts.invariant.1 (gone_whole c.parts.invar
 pub returns-then-at-end : goal.returns-then-at-end
 returns-then-at-end c = not-failed c.parts.invariant.1 (gone-end c.parts.invariant.0 c.if-at-end.true)
 
-pub returns-then-w : goal.returns-then-w
-returns-then-w c = gone-failed c.parts.invariant.0 c.look-w.ensures c.parts-test.true (unfinished c.parts.invariant.0 c.if-at-end.false) c.requires.search_asked c.if-w.true
+pub returns-in-Some : goal.returns-in-Some
+returns-in-Some c = gone-failed c.parts.invariant.0 c.look-w.ensures c.parts-test.true (unfinished c.parts.invariant.0 c.if-at-end.false) c.requires.search_asked c.in-Some.is

@@ -1,11 +1,7 @@
-use Prim.Native.Nat.{◌+◌, ◌-◌, ◌*◌}
 use mathlib.Core.Path.{◌≡◌}
-use mathlib.Core.Bool.{false}
+use Rattle.std.specs.Prelude.{None}
 use Rattle.parts.proofs.SearchLaws.{Gone}
 use Rattle.parts.proofs.search.Given as goal
 
 abbrev pub invariant-parts : goal.invariant-parts
-invariant-parts l = Gone l.t l.rows l.firsts l.groups l.operations l.from l.end l.k l.begin l.at × (l.failed ≡ false)
-
-abbrev pub decreases-parts : goal.decreases-parts
-decreases-parts l = 1 + 2 * l.operations - l.k
+invariant-parts l = Gone l.d.table.now l.d.rows.now l.d.firsts.now l.d.groups.now l.d.operations l.from l.end l.k l.begin l.at × (l.failing ≡ None)

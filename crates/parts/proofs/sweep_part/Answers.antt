@@ -21,8 +21,8 @@ returns-then-size-from c = part-passed c.if-size-from.true
 pub fill-requires : goal.fill-requires
 fill-requires c = c.requires.part_asked.first_values
 
-pub sweep-w-requires : goal.sweep-w-requires
-sweep-w-requires c = record { from_le_end = (omega (arith, c.least.ensures, c.if-size-from.false, c.requires.from_le_end), omega (arith, c.least.ensures)); nest_asked = nest-asked c.requires.part_asked c.fill.ensures }
+pub sweep-failing-requires : goal.sweep-failing-requires
+sweep-failing-requires c = record { from_le_end = (omega (arith, c.min.ensures, c.if-size-from.false, c.requires.from_le_end), omega (arith, c.min.ensures)); nest_asked = nest-asked c.requires.part_asked c.fill.ensures }
 
 pub returns : goal.returns
-returns c = part-swept (omega (arith, c.if-size-from.false)) c.least.ensures c.sweep-w.ensures
+returns c = part-swept (omega (arith, c.if-size-from.false)) c.min.ensures c.sweep-failing.ensures

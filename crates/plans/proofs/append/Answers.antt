@@ -8,20 +8,8 @@ use Rattle.plans.proofs.append.Goals as goal
 pub loop-i-init : goal.loop-i-init
 loop-i-init c = (omega arith, rows_none c.args.rows.now (asking c.args.p) c.args.l c.args.at c.args.plan.now)
 
-pub overflow_mul-i : goal.overflow_mul-i
-overflow_mul-i c = omega (arith, c.requires.rows.low, c.loop-i-test.true)
-
-pub overflow_add-p : goal.overflow_add-p
-overflow_add-p c = omega (arith, c.requires.rows.low, c.loop-i-test.true)
-
 pub append_row-k-requires : goal.append_row-k-requires
 append_row-k-requires c = record { row_in = row_in c.args.rows.now (asking c.args.p) c.loop-i.i c.loop-i-test.true c.requires.rows; r_bound = (rows-room c.args.rows.now (asking c.args.p) c.loop-i.i c.loop-i-test.true c.args.l c.args.at c.loop-i.k c.args.plan.now c.loop-i.plan c.loop-i.invariant.1 c.requires.l_bound.0, (c.loop-i.invariant.1.same_length ∙ c.requires.l_bound.1)) }
-
-pub overflow_add-i : goal.overflow_add-i
-overflow_add-i c = omega (arith, c.requires.rows.low, c.loop-i-test.true)
-
-pub loop-i-smaller : goal.loop-i-smaller
-loop-i-smaller c = omega (arith, c.loop-i-test.true)
 
 pub loop-i-preserved : goal.loop-i-preserved
 loop-i-preserved c = (omega (arith, c.loop-i-test.true), rows_next c.args.rows.now (asking c.args.p) c.loop-i.i c.loop-i-test.true c.args.l c.args.at c.loop-i.k c.args.plan.now c.loop-i.plan c.loop-i.invariant.1 c.append_row-k.result c.append_row-k.new.plan c.append_row-k.ensures)

@@ -27,12 +27,6 @@ head-requires-3 c = (omega arith, omega arith, omega (arith, c.requires.operatio
 pub after-requires : goal.after-requires
 after-requires c = between c.args.rows.now c.args.firsts.now 0 c.requires.operation_rows.common.abstractly
 
-pub overflow_mul-j : goal.overflow_mul-j
-overflow_mul-j c = omega (arith, c.requires.operation_rows.few)
-
-pub overflow_add-j : goal.overflow_add-j
-overflow_add-j c = omega (arith, c.requires.operation_rows.few)
-
 pub step-requires : goal.step-requires
 step-requires c = between c.args.rows.now c.args.firsts.now (5 + 2 * c.args.j) c.requires.operation_rows.abstractly
 

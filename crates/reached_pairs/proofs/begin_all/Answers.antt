@@ -1,32 +1,31 @@
 -- `begin_all` meets its contract: the pairs with the concrete initial states before c have their marks. Assumes nothing.
-use Prim.Native.Nat.{◌-◌}
 use mathlib.Core.Path.{◌∙◌}
 use native.Mathlib.Omega.{arith}
-use Rattle.memo.specs.MemoPromises.{Memo}
-use Rattle.reached_pairs.specs.PairPromises.{StatesBeginning}
+use Rattle.std.proofs.Common.{ap}
+use Rattle.std.specs.Prelude.{ℕ, Option, unwrap_or}
 use Rattle.reached_pairs.proofs.BegunPairs.{few_c, states-start, states-next, states-done}
 use Rattle.reached_pairs.proofs.begin_all.Goals as goal
 
-pub next_initial_state-c-requires : goal.next_initial_state-c-requires
-next_initial_state-c-requires c = record { from_le_nc = omega arith; opening_asked = c.requires.open_pairs_asked.opening; memo = c.requires.memo }
+pub next_initial_state-next-requires : goal.next_initial_state-next-requires
+next_initial_state-next-requires c = record { from_le_nc = omega arith; opening_asked = c.requires.open_pairs_asked.opening; memo = c.requires.memo }
 
-pub loop-c-init : goal.loop-c-init
-loop-c-init c = (states-start _ c.next_initial_state-c.ensures.found, c.next_initial_state-c.ensures.remembers)
+pub loop-next-init : goal.loop-next-init
+loop-next-init c = (states-start _ c.next_initial_state-next.ensures.found, c.next_initial_state-next.ensures.remembers, c.next_initial_state-next.ensures.low)
 
 pub begin_with-requires : goal.begin_with-requires
-begin_with-requires c = record { c_lt_nc = c.loop-c-test.true; open_pairs_asked = record { opening = c.requires.open_pairs_asked.opening; room = c.requires.open_pairs_asked.room; long = c.loop-c.invariant.0.long ∙ c.requires.open_pairs_asked.long }; memo = c.loop-c.invariant.1 }
+begin_with-requires c = record { c_lt_nc = (rw c.in-Some.is at c.loop-next.invariant.2); open_pairs_asked = record { opening = c.requires.open_pairs_asked.opening; room = c.requires.open_pairs_asked.room; long = c.loop-next.invariant.0.long ∙ c.requires.open_pairs_asked.long }; memo = c.loop-next.invariant.1 }
 
 pub overflow_add-c : goal.overflow_add-c
-overflow_add-c c = omega (arith, c.loop-c-test.true, (few_c c.requires.open_pairs_asked.opening.searches).1)
+overflow_add-c c = omega (arith, (rw c.in-Some.is at c.loop-next.invariant.2), (few_c c.requires.open_pairs_asked.opening.searches).1)
 
-pub next_initial_state-c-requires-in-loop-c : goal.next_initial_state-c-requires-in-loop-c
-next_initial_state-c-requires-in-loop-c c = record { from_le_nc = omega (arith, c.loop-c-test.true); opening_asked = c.requires.open_pairs_asked.opening; memo = c.begin_with.ensures.remembers }
+pub next_initial_state-next-requires-in-Some : goal.next_initial_state-next-requires-in-Some
+next_initial_state-next-requires-in-Some c = record { from_le_nc = omega (arith, (rw c.in-Some.is at c.loop-next.invariant.2)); opening_asked = c.requires.open_pairs_asked.opening; memo = c.begin_with.ensures.remembers }
 
-pub loop-c-smaller : goal.loop-c-smaller
-loop-c-smaller c = omega (arith, c.loop-c-test.true, (c.next_initial_state-c-in-loop-c.ensures.found.sought _ c.requires.open_pairs_asked.opening.searches).low)
+pub loop-next-smaller : goal.loop-next-smaller
+loop-next-smaller c = omega (arith, ap (λ (o : Option ℕ). unwrap_or o c.args.s.now.part.nc) c.in-Some.is, (rw c.in-Some.is at c.loop-next.invariant.2), (c.next_initial_state-next-in-Some.ensures.found.sought _ c.requires.open_pairs_asked.opening.searches).low)
 
-pub loop-c-preserved : goal.loop-c-preserved
-loop-c-preserved c = (states-next c.loop-c.invariant.0 c.loop-c-test.true c.begin_with.ensures.grown c.next_initial_state-c-in-loop-c.ensures.found, c.next_initial_state-c-in-loop-c.ensures.remembers)
+pub loop-next-preserved : goal.loop-next-preserved
+loop-next-preserved c = (states-next (rw c.in-Some.is at c.loop-next.invariant.0) (rw c.in-Some.is at c.loop-next.invariant.2) c.begin_with.ensures.grown c.next_initial_state-next-in-Some.ensures.found, c.next_initial_state-next-in-Some.ensures.remembers, c.next_initial_state-next-in-Some.ensures.low)
 
 pub returns : goal.returns
-returns c = states-done c.loop-c.invariant.0 c.loop-c-test.false
+returns c = states-done (rw c.in_default.is at c.loop-next.invariant.0) (omega arith)

@@ -1,13 +1,11 @@
 use Prim.Native.Nat.{◌-◌}
-use mathlib.Core.Path.{◌∙◌}
-use native.Mathlib.Omega.{arith}
+use Rattle.std.specs.Prelude.{◌<◌, unwrap_or, IfSome}
 use Rattle.memo.specs.MemoPromises.{Memo}
 use Rattle.reached_pairs.specs.PairPromises.{StatesBeginning}
-use Rattle.reached_pairs.proofs.BegunPairs.{few_c, states-start, states-next, states-done}
 use Rattle.reached_pairs.proofs.begin_all.Given as goal
 
-abbrev pub invariant-loop-c : goal.invariant-loop-c
-invariant-loop-c l = StatesBeginning l.t l.plan l.cells l.p l.c l.initial.marks l.marks × Memo l.t l.memo
+abbrev pub invariant-loop-next : goal.invariant-loop-next
+invariant-loop-next l = StatesBeginning l.s.table.now l.s.plan.now l.s.cells.now l.s.part (unwrap_or l.next l.s.part.nc) l.initial.marks l.marks × Memo l.s.table.now l.memo × IfSome l.next (λ k. k < l.s.part.nc)
 
-abbrev pub decreases-loop-c : goal.decreases-loop-c
-decreases-loop-c l = l.p.nc - l.c
+abbrev pub decreases-loop-next : goal.decreases-loop-next
+decreases-loop-next l = l.s.part.nc - unwrap_or l.next l.s.part.nc

@@ -1,13 +1,11 @@
 use Prim.Native.Nat.{◌-◌}
-use native.Mathlib.Omega.{arith}
+use Rattle.std.specs.Prelude.{◌<◌, unwrap_or, IfSome}
 use Rattle.memo.specs.MemoPromises.{Memo}
 use Rattle.reached_pairs.specs.PairPromises.{MatchesBeginning}
-use Rattle.reached_pairs.proofs.PairNumbers.{pair_inside}
-use Rattle.reached_pairs.proofs.BegunPairs.{few_a, open-start, open_next, open_done}
 use Rattle.reached_pairs.proofs.begin_with.Given as goal
 
-abbrev pub invariant-loop-a : goal.invariant-loop-a
-invariant-loop-a l = MatchesBeginning l.t l.plan l.cells l.p l.c 1 l.a l.initial.marks l.marks × Memo l.t l.memo
+abbrev pub invariant-loop-next : goal.invariant-loop-next
+invariant-loop-next l = MatchesBeginning l.s.table.now l.s.plan.now l.s.cells.now l.s.part l.c 1 (unwrap_or l.next l.s.part.nm) l.initial.marks l.marks × Memo l.s.table.now l.memo × IfSome l.next (λ k. k < l.s.part.nm)
 
-abbrev pub decreases-loop-a : goal.decreases-loop-a
-decreases-loop-a l = l.p.nm - l.a
+abbrev pub decreases-loop-next : goal.decreases-loop-next
+decreases-loop-next l = l.s.part.nm - unwrap_or l.next l.s.part.nm

@@ -1,9 +1,6 @@
 -- `spread_all` meets its contract: the layers before n are gone through. Assumes nothing.
-use Prim.Native.Nat.{◌-◌, ◌<◌, ◌≤◌}
 use mathlib.Core.Path.{refl}
 use native.Mathlib.Omega.{arith}
-use borrow.Author.Rules.{rules}
-use Rattle.reached_pairs.specs.PairPromises.{Layers}
 use Rattle.reached_pairs.proofs.SpreadLayers.{layers-next, layers-given-up, layers-whole}
 use Rattle.reached_pairs.proofs.spread_all.Goals as goal
 
@@ -21,12 +18,6 @@ returns-then-left-many c = layers-given-up c.loop-n.invariant.0 refl
 
 pub spread_layer-requires : goal.spread_layer-requires
 spread_layer-requires c = record { n_nonzero = (c.loop-n.invariant.1, c.loop-n-test.true, c.loop-n.invariant.0.long); reach_asked = c.requires.reach_asked; pairs_are = c.requires.pairs_are }
-
-pub overflow_add-n : goal.overflow_add-n
-overflow_add-n c = omega (arith, c.loop-n-test.true)
-
-pub loop-n-smaller : goal.loop-n-smaller
-loop-n-smaller c = omega (arith, c.loop-n-test.true)
 
 pub loop-n-preserved : goal.loop-n-preserved
 loop-n-preserved c = (layers-next c.loop-n.invariant.1 c.loop-n.invariant.0 c.spread_layer.ensures, omega arith, omega (arith, c.loop-n-test.true))

@@ -1,9 +1,6 @@
 -- `spread_inputs` meets its contract: what the inputs before i lead to has its marks. Assumes nothing.
-use Prim.Native.Nat.{◌-◌}
 use mathlib.Core.Path.{◌∙◌}
 use native.Mathlib.Omega.{arith}
-use Rattle.memo.specs.MemoPromises.{Memo}
-use Rattle.reached_pairs.specs.PairPromises.{InputsSpread}
 use Rattle.reached_pairs.proofs.SpreadSteps.{few-inputs, inputs-start, inputs-next, inputs-done}
 use Rattle.reached_pairs.proofs.spread_inputs.Goals as goal
 
@@ -15,12 +12,6 @@ mark_from-m-requires c = (omega (arith, c.requires.x_bound.0, c.requires.pairs_a
 
 pub spread_steps-requires : goal.spread_steps-requires
 spread_steps-requires c = record { x_bound = (c.requires.x_bound.0, omega (arith, c.loop-i-test.true), omega (arith, c.mark_from-m.ensures.layer_is)); pairs_asked = record { steps = c.requires.pairs_asked.steps; room = c.requires.pairs_asked.room; long = c.loop-i.invariant.0.long ∙ c.requires.pairs_asked.long }; memo = c.loop-i.invariant.1 }
-
-pub overflow_add-i : goal.overflow_add-i
-overflow_add-i c = omega (arith, c.loop-i-test.true, (few-inputs c.requires.pairs_asked.steps.searches))
-
-pub loop-i-smaller : goal.loop-i-smaller
-loop-i-smaller c = omega (arith, c.loop-i-test.true)
 
 pub loop-i-preserved : goal.loop-i-preserved
 loop-i-preserved c = (inputs-next c.loop-i.invariant.0 (omega (arith, c.loop-i-test.true)) c.mark_from-m.ensures c.spread_steps.ensures.grown (omega arith), c.spread_steps.ensures.remembers)

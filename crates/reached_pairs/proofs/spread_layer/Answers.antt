@@ -1,9 +1,7 @@
 -- `spread_layer` meets its contract: what the operations before j lead to has its marks. Assumes nothing.
-use Prim.Native.Nat.{◌-◌, ◌≤◌}
 use mathlib.Core.Path.{◌∙◌}
 use native.Mathlib.Omega.{arith}
-use Rattle.reached_pairs.specs.PairPromises.{LayerSpread}
-use Rattle.reached_pairs.proofs.SpreadLayers.{layer-start, layer-next, layer-done, layer_prepare, operation-few}
+use Rattle.reached_pairs.proofs.SpreadLayers.{layer-start, layer-next, layer-done, layer_prepare}
 use Rattle.reached_pairs.proofs.spread_layer.Goals as goal
 
 pub loop-j-init : goal.loop-j-init
@@ -11,12 +9,6 @@ loop-j-init c = (layer-start _, omega arith)
 
 pub spread-requires : goal.spread-requires
 spread-requires c = record { n_nonzero = (c.requires.n_nonzero.0, c.requires.n_nonzero.1, c.loop-j.invariant.0.long ∙ c.requires.n_nonzero.2); prepare_asked = layer_prepare c.requires.reach_asked c.loop-j-test.true; pairs_are = c.requires.pairs_are }
-
-pub overflow_add-j : goal.overflow_add-j
-overflow_add-j c = omega (arith, operation-few (layer_prepare c.requires.reach_asked c.loop-j-test.true))
-
-pub loop-j-smaller : goal.loop-j-smaller
-loop-j-smaller c = omega (arith, c.loop-j-test.true)
 
 pub loop-j-preserved : goal.loop-j-preserved
 loop-j-preserved c = (layer-next c.requires.n_nonzero.0 c.loop-j.invariant.0 c.spread.ensures, omega (arith, c.loop-j-test.true))

@@ -1,38 +1,38 @@
 -- `spread_matches` meets its contract: the abstract states before x that match have their marks. Assumes nothing.
-use Prim.Native.Nat.{◌-◌}
 use native.Mathlib.Omega.{arith}
-use Rattle.memo.specs.MemoPromises.{Memo}
-use Rattle.reached_pairs.specs.PairPromises.{MatchesSpreading}
+use Rattle.std.proofs.Common.{ap}
+use Rattle.std.specs.Prelude.{ℕ, Option, unwrap_or}
+use Rattle.step_searches.proofs.FoundSteps.{sizes}
 use Rattle.reached_pairs.proofs.PairNumbers.{pair_inside}
 use Rattle.reached_pairs.proofs.SpreadSteps.{matches-start, matches-next, matches-done}
 use Rattle.reached_pairs.proofs.spread_matches.Goals as goal
 
-pub next_matching_state-x-requires : goal.next_matching_state-x-requires
-next_matching_state-x-requires c = record { below = c.requires.below.0; from_le_na = omega arith; steps_asked = c.requires.pairs_asked.steps; memo = c.requires.memo }
+pub next_matching_state-next-requires : goal.next_matching_state-next-requires
+next_matching_state-next-requires c = record { below = c.requires.below.0; from_le_na = omega arith; steps_asked = c.requires.pairs_asked.steps; memo = c.requires.memo }
 
-pub loop-x-init : goal.loop-x-init
-loop-x-init c = (matches-start _ c.next_matching_state-x.ensures.found, c.next_matching_state-x.ensures.remembers)
+pub loop-next-init : goal.loop-next-init
+loop-next-init c = (matches-start _ c.next_matching_state-next.ensures.found, c.next_matching_state-next.ensures.remembers, c.next_matching_state-next.ensures.low)
 
 pub overflow_mul-x : goal.overflow_mul-x
-overflow_mul-x c = omega (arith, (pair_inside c.loop-x.x c.args.b.k c.args.p.na c.args.p.nc c.loop-x-test.true c.requires.below.0.k_low), c.requires.pairs_asked.room)
+overflow_mul-x c = omega (arith, (pair_inside c.in-Some.x c.args.b.k c.args.s.now.part.na c.args.s.now.part.nc (rw c.in-Some.is at c.loop-next.invariant.2) c.requires.below.0.k_low), c.requires.pairs_asked.room)
 
 pub overflow_add-x : goal.overflow_add-x
-overflow_add-x c = omega (arith, (pair_inside c.loop-x.x c.args.b.k c.args.p.na c.args.p.nc c.loop-x-test.true c.requires.below.0.k_low), c.requires.pairs_asked.room)
+overflow_add-x c = omega (arith, (pair_inside c.in-Some.x c.args.b.k c.args.s.now.part.na c.args.s.now.part.nc (rw c.in-Some.is at c.loop-next.invariant.2) c.requires.below.0.k_low), c.requires.pairs_asked.room)
 
 pub mark-requires : goal.mark-requires
-mark-requires c = (omega (arith, (pair_inside c.loop-x.x c.args.b.k c.args.p.na c.args.p.nc c.loop-x-test.true c.requires.below.0.k_low), c.requires.pairs_asked.room, c.requires.pairs_asked.long, c.loop-x.invariant.0.long), c.requires.below.1)
+mark-requires c = (omega (arith, (pair_inside c.in-Some.x c.args.b.k c.args.s.now.part.na c.args.s.now.part.nc (rw c.in-Some.is at c.loop-next.invariant.2) c.requires.below.0.k_low), c.requires.pairs_asked.room, c.requires.pairs_asked.long, c.loop-next.invariant.0.long), c.requires.below.1)
 
-pub overflow_add-x-in-loop-x : goal.overflow_add-x-in-loop-x
-overflow_add-x-in-loop-x c = omega (arith, (pair_inside c.loop-x.x c.args.b.k c.args.p.na c.args.p.nc c.loop-x-test.true c.requires.below.0.k_low), c.requires.pairs_asked.room)
+pub overflow_add-x-in-Some : goal.overflow_add-x-in-Some
+overflow_add-x-in-Some c = omega (arith, (rw c.in-Some.is at c.loop-next.invariant.2), (sizes c.requires.pairs_asked.steps.searches).0.1)
 
-pub next_matching_state-x-requires-in-loop-x : goal.next_matching_state-x-requires-in-loop-x
-next_matching_state-x-requires-in-loop-x c = record { below = c.requires.below.0; from_le_na = omega (arith, c.loop-x-test.true); steps_asked = c.requires.pairs_asked.steps; memo = c.loop-x.invariant.1 }
+pub next_matching_state-next-requires-in-Some : goal.next_matching_state-next-requires-in-Some
+next_matching_state-next-requires-in-Some c = record { below = c.requires.below.0; from_le_na = omega (arith, (rw c.in-Some.is at c.loop-next.invariant.2)); steps_asked = c.requires.pairs_asked.steps; memo = c.loop-next.invariant.1 }
 
-pub loop-x-smaller : goal.loop-x-smaller
-loop-x-smaller c = omega (arith, c.loop-x-test.true, (c.next_matching_state-x-in-loop-x.ensures.found.sought _ _ c.requires.pairs_asked.steps.searches).low)
+pub loop-next-smaller : goal.loop-next-smaller
+loop-next-smaller c = omega (arith, ap (λ (o : Option ℕ). unwrap_or o c.args.s.now.part.na) c.in-Some.is, (rw c.in-Some.is at c.loop-next.invariant.2), (c.next_matching_state-next-in-Some.ensures.found.sought _ _ c.requires.pairs_asked.steps.searches).low)
 
-pub loop-x-preserved : goal.loop-x-preserved
-loop-x-preserved c = (matches-next c.loop-x.invariant.0 c.requires.below.0 c.loop-x-test.true c.mark.ensures c.next_matching_state-x-in-loop-x.ensures.found, c.next_matching_state-x-in-loop-x.ensures.remembers)
+pub loop-next-preserved : goal.loop-next-preserved
+loop-next-preserved c = (matches-next (rw c.in-Some.is at c.loop-next.invariant.0) c.requires.below.0 (rw c.in-Some.is at c.loop-next.invariant.2) c.mark.ensures c.next_matching_state-next-in-Some.ensures.found, c.next_matching_state-next-in-Some.ensures.remembers, c.next_matching_state-next-in-Some.ensures.low)
 
 pub returns : goal.returns
-returns c = record { grown = matches-done c.loop-x.invariant.0 c.loop-x-test.false; remembers = c.loop-x.invariant.1 }
+returns c = record { grown = matches-done (rw c.in_default.is at c.loop-next.invariant.0) (omega arith); remembers = c.loop-next.invariant.1 }

@@ -1,13 +1,11 @@
 use Prim.Native.Nat.{◌-◌}
-use native.Mathlib.Omega.{arith}
+use Rattle.std.specs.Prelude.{◌<◌, unwrap_or, IfSome}
 use Rattle.memo.specs.MemoPromises.{Memo}
 use Rattle.reached_pairs.specs.PairPromises.{MatchesSpreading}
-use Rattle.reached_pairs.proofs.PairNumbers.{pair_inside}
-use Rattle.reached_pairs.proofs.SpreadSteps.{matches-start, matches-next, matches-done}
 use Rattle.reached_pairs.proofs.spread_matches.Given as goal
 
-abbrev pub invariant-loop-x : goal.invariant-loop-x
-invariant-loop-x l = MatchesSpreading l.t l.plan l.cells l.p l.b l.m l.x l.initial.marks l.marks × Memo l.t l.memo
+abbrev pub invariant-loop-next : goal.invariant-loop-next
+invariant-loop-next l = MatchesSpreading l.s.table.now l.s.plan.now l.s.cells.now l.s.part l.b l.m (unwrap_or l.next l.s.part.na) l.initial.marks l.marks × Memo l.s.table.now l.memo × IfSome l.next (λ k. k < l.s.part.na)
 
-abbrev pub decreases-loop-x : goal.decreases-loop-x
-decreases-loop-x l = l.p.na - l.x
+abbrev pub decreases-loop-next : goal.decreases-loop-next
+decreases-loop-next l = l.s.part.na - unwrap_or l.next l.s.part.na

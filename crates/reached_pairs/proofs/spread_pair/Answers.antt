@@ -1,5 +1,4 @@
 -- `spread_pair` meets its contract. Assumes nothing.
-use borrow.Author.Rules.{rules}
 use native.Mathlib.Omega.{arith}
 use borrow.Author.Tests.{not-true, not-false}
 use Rattle.reached_pairs.proofs.SpreadLayers.{pair-other, pair-spread}

@@ -1,14 +1,11 @@
 use Prim.Native.Nat.{◌-◌, ◌*◌}
-use mathlib.Core.Path.{◌∙◌}
-use native.Mathlib.Omega.{arith}
+use Rattle.std.specs.Prelude.{◌<◌, unwrap_or, IfSome}
 use Rattle.memo.specs.MemoPromises.{Memo}
 use Rattle.reached_pairs.specs.PairPromises.{StepsSpreading}
-use Rattle.reached_pairs.proofs.PairNumbers.{high_digit, low_digit}
-use Rattle.reached_pairs.proofs.SpreadSteps.{few-steps, steps-start, steps_next, steps-done}
 use Rattle.reached_pairs.proofs.spread_steps.Given as goal
 
-abbrev pub invariant-loop-r : goal.invariant-loop-r
-invariant-loop-r l = StepsSpreading l.t l.plan l.cells l.p l.x l.i l.m l.r l.initial.marks l.marks × Memo l.t l.memo
+abbrev pub invariant-loop-next : goal.invariant-loop-next
+invariant-loop-next l = StepsSpreading l.s.table.now l.s.plan.now l.s.cells.now l.s.part l.x l.i l.m (unwrap_or l.next (l.s.part.nq * l.s.part.nc)) l.initial.marks l.marks × Memo l.s.table.now l.memo × IfSome l.next (λ k. k < l.s.part.nq * l.s.part.nc)
 
-abbrev pub decreases-loop-r : goal.decreases-loop-r
-decreases-loop-r l = l.p.nq * l.p.nc - l.r
+abbrev pub decreases-loop-next : goal.decreases-loop-next
+decreases-loop-next l = l.s.part.nq * l.s.part.nc - unwrap_or l.next (l.s.part.nq * l.s.part.nc)

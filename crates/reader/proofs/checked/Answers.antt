@@ -1,12 +1,11 @@
--- `reading::checked` meets its contract: the first fault refuses, and where there is none the arrays are written.
+-- `checked` meets its contract: the first fault refuses, and where there is none the arrays are written.
 use mathlib.Core.Path.{refl}
-use native.Mathlib.Omega.{arith}
 use Rattle.reader.proofs.LaterPasses.{refuses, all_pass}
 use Rattle.reader.proofs.PassAnswers.{unwritten}
 use Rattle.reader.proofs.checked.Goals as goal
 
-pub returns-then-fault-ne0 : goal.returns-then-fault-ne0
-returns-then-fault-ne0 c = λ f. refuses _ _ c.args.starts.now c.args.n c.args.end c.args.nodes.now c.args.m c.args.fault f _ (λ e. omega arith) c.refused.ensures (unwritten _ _ _ _ _)
+pub returns-in-Err : goal.returns-in-Err
+returns-in-Err c = refuses _ _ c.args.starts.now c.args.structure.symbols c.args.end c.args.nodes.now c.args.structure.numbers _ c.in-Err.ensures c.in-Err.f c.located.result refl c.located.ensures.place c.located.ensures.refusal (unwritten _ _ _ _ _)
 
-pub returns : goal.returns
-returns c = λ f. all_pass _ _ c.args.starts.now c.args.n c.args.end c.args.nodes.now c.args.m c.args.fault f _ (omega arith) refl c.leave.ensures
+pub returns-in-Ok : goal.returns-in-Ok
+returns-in-Ok c = all_pass _ _ c.args.starts.now c.args.structure.symbols c.args.end c.args.nodes.now c.args.structure.numbers 0 c.in-Ok.ensures refl _ c.args.structure refl refl refl c.leave.ensures

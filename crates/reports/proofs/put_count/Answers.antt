@@ -7,8 +7,8 @@ use Rattle.reports.proofs.put_count.Goals as goal
 
 pub put-requires : goal.put-requires
 unfolding bytes
-put-requires c = count_room c.args.n c.put_all-a.ensures c.put_decimal-b.ensures (omega (arith, c.ranges.n)) c.requires
+put-requires c = count_room c.args.n c.put_all.ensures.written c.put_decimal.ensures.written (omega (arith, c.ranges.n)) c.requires
 
-pub returns : goal.returns
+pub returns-clause-written : goal.returns-clause-written
 unfolding bytes
-returns c = count-written c.args.n c.put_all-a.ensures c.put_decimal-b.ensures c.put.ensures
+returns-clause-written c = count-written c.args.n c.put_all.ensures.written c.put_decimal.ensures.written c.put.ensures.written

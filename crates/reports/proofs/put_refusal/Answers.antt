@@ -1,22 +1,23 @@
 -- `reports::put_refusal` meets its contract: the line of a refusal, piece by piece. Assumes nothing.
 use borrow.Author.Rules.{rules}
+use mathlib.Core.Path.{◌∙◌}
 use native.Mathlib.Omega.{arith}
 use Rattle.lexical.specs.Lists.{bytes}
-use Rattle.reports.proofs.LineRooms.{at_room, place-room, newline-room, refusal-written, refusal-short}
+use Rattle.reports.proofs.LineRooms.{at_room, place-room, newline-room, refusal-written, refusal-short, refusal_in}
 use Rattle.reports.proofs.put_refusal.Goals as goal
 
-pub put_all-c-requires : goal.put_all-c-requires
+pub put_all-requires-2 : goal.put_all-requires-2
 unfolding bytes
-put_all-c-requires c = at_room c.args.n c.put_all-a.ensures c.put_decimal-b.ensures (omega (arith, c.ranges.n)) c.requires
+put_all-requires-2 c = at_room c.from.result c.put_all.ensures.written c.put_decimal.ensures.written (omega (arith, c.from.ensures, c.number.type_inv)) c.requires
 
-pub put_decimal-d-requires : goal.put_decimal-d-requires
+pub put_decimal-requires-2 : goal.put_decimal-requires-2
 unfolding bytes
-put_decimal-d-requires c = place-room c.args.n c.put_all-a.ensures c.put_decimal-b.ensures (omega (arith, c.ranges.n)) c.requires c.put_all-c.ensures
+put_decimal-requires-2 c = place-room c.from.result c.put_all.ensures.written c.put_decimal.ensures.written (omega (arith, c.from.ensures, c.number.type_inv)) c.requires c.put_all-2.ensures.written
 
 pub put-requires : goal.put-requires
 unfolding bytes
-put-requires c = newline-room c.args.n c.put_all-a.ensures c.put_decimal-b.ensures (omega (arith, c.ranges.n)) c.requires c.put_all-c.ensures c.args.p c.put_decimal-d.ensures (omega (arith, c.ranges.p))
+put-requires c = newline-room c.from.result c.put_all.ensures.written c.put_decimal.ensures.written (omega (arith, c.from.ensures, c.number.type_inv)) c.requires c.put_all-2.ensures.written c.args.place c.put_decimal-2.ensures.written (omega (arith, c.ranges.place))
 
 pub returns : goal.returns
 unfolding bytes
-returns c = let w = refusal-written c.args.n c.put_all-a.ensures c.put_decimal-b.ensures (omega (arith, c.ranges.n)) c.requires c.put_all-c.ensures c.args.p c.put_decimal-d.ensures (omega (arith, c.ranges.p)) c.put.ensures in (w, omega (arith, w.end, refusal-short c.args.n c.args.p (omega (arith, c.ranges.n)) (omega (arith, c.ranges.p))))
+returns c = let w = refusal-written c.from.result c.put_all.ensures.written c.put_decimal.ensures.written (omega (arith, c.from.ensures, c.number.type_inv)) c.requires c.put_all-2.ensures.written c.args.place c.put_decimal-2.ensures.written (omega (arith, c.ranges.place)) c.put.ensures.written in (refusal_in c.args.place (c.from.ensures ∙ c.number.ensures) w (search rules), omega (arith, w.end, refusal-short c.from.result c.args.place (omega (arith, c.from.ensures, c.number.type_inv)) (omega (arith, c.ranges.place))))

@@ -9,22 +9,22 @@ use Rattle.reports.proofs.LineRooms.{title-room}
 use Rattle.reports.proofs.LineLaws.{opening-line, applying-line, correcting-line}
 use Rattle.reports.proofs.put_refuted.Goals as goal
 
-pub returns-then-part-lt-OPENING : goal.returns-then-part-lt-OPENING
+pub returns-then-part-lt-OPENING-clause-written : goal.returns-then-part-lt-OPENING-clause-written
 unfolding bytes
-returns-then-part-lt-OPENING c = opening-line (omega arith) c.put_all.ensures
+returns-then-part-lt-OPENING-clause-written c = opening-line (omega arith) c.put_all.ensures.written
 
 pub put-requires : goal.put-requires
 unfolding bytes
-put-requires c = title-room c.args.text.now (get_or c.args.labels.now (64 + ((c.args.part - 1) / 2)) 0) 22 c.put_all-a.ensures c.put_title-b.ensures (omega arith) (omega arith)
+put-requires c = title-room c.args.names.now.text.now (get_or c.args.names.now.labels.now (64 + ((c.args.part - 1) / 2)) 0) 22 c.put_all-then-part-eq0.ensures.written c.put_title.ensures.written (omega arith) (omega arith)
 
-pub returns-then-part-eq0 : goal.returns-then-part-eq0
+pub returns-then-part-eq0-clause-written : goal.returns-then-part-eq0-clause-written
 unfolding bytes
-returns-then-part-eq0 c = applying-line {k = ((c.args.part - 1) / 2)} c.put_title-b.ensures c.put.ensures (omega arith) refl (omega arith) c.put_all-a.ensures
+returns-then-part-eq0-clause-written c = applying-line {k = ((c.args.part - 1) / 2)} c.put_title.ensures.written c.put.ensures.written (omega arith) refl (omega arith) c.put_all-then-part-eq0.ensures.written
 
 pub put-requires-2 : goal.put-requires-2
 unfolding bytes
-put-requires-2 c = title-room c.args.text.now (get_or c.args.labels.now (64 + ((c.args.part - 1) / 2)) 0) 22 c.put_all-a-2.ensures c.put_title-b-2.ensures (omega arith) (omega arith)
+put-requires-2 c = title-room c.args.names.now.text.now (get_or c.args.names.now.labels.now (64 + ((c.args.part - 1) / 2)) 0) 22 c.put_all-2.ensures.written c.put_title-2.ensures.written (omega arith) (omega arith)
 
-pub returns : goal.returns
+pub returns-clause-written : goal.returns-clause-written
 unfolding bytes
-returns c = correcting-line {k = ((c.args.part - 1) / 2)} c.put_title-b-2.ensures c.put-2.ensures (omega arith) refl c.if-part-eq0.false c.put_all-a-2.ensures
+returns-clause-written c = correcting-line {k = ((c.args.part - 1) / 2)} c.put_title-2.ensures.written c.put-2.ensures.written (omega arith) refl c.if-part-eq0.false c.put_all-2.ensures.written

@@ -1,31 +1,35 @@
 -- `reports::put_verdict` meets its contract: the lines of a refuted check, or of an accepted one. Assumes nothing.
 use borrow.Author.Rules.{rules}
+use mathlib.Core.Path.{subst}
 use native.Mathlib.Omega.{arith}
+use Rattle.std.specs.Prelude.{Option}
 use Rattle.lexical.specs.Lists.{bytes}
-use Rattle.reports.proofs.VerdictLaws.{all_asked, all_small, search-asked, at_small, place-asked, witness-asked, part_small, refuted-written, accepted-written}
+use Rattle.parts.specs.SearchPromises.{SearchAnswers}
+use Rattle.reports.proofs.VerdictLaws.{all_asked, all_small, search-asked, place_small, place-asked, witness-asked, part_small, refuted-written, accepted-written, found-at}
+use Rattle.reports.proofs.LineRooms.{verdict_in}
 use Rattle.reports.proofs.put_verdict.Goals as goal
 
 pub total-all-requires : goal.total-all-requires
-total-all-requires c = all_asked c.requires
+total-all-requires c = all_asked c.requires.asked
 
-pub search-w-requires : goal.search-w-requires
-search-w-requires c = record { from_le_end = (omega arith, omega (arith, all_small c.requires c.total-all.ensures)); search_asked = search-asked c.requires c.total-all.ensures }
-
-pub counted-n-requires : goal.counted-n-requires
-counted-n-requires c = at_small c.requires c.total-all.ensures c.search-w.ensures
+pub search-found-requires : goal.search-found-requires
+search-found-requires c = record { from_le_end = (omega arith, omega (arith, all_small c.requires.asked c.total-all.ensures)); search_asked = search-asked c.requires.asked c.total-all.ensures }
 
 pub find-f-requires : goal.find-f-requires
-find-f-requires c = place-asked c.requires c.total-all.ensures c.search-w.ensures c.if-w.true
+find-f-requires c = place-asked c.requires.asked c.total-all.ensures (found-at c.in-Some.is c.search-found.ensures)
 
-pub put_refuted-a-requires : goal.put_refuted-a-requires
-put_refuted-a-requires c = (part_small c.requires c.total-all.ensures c.search-w.ensures c.if-w.true c.find-f.ensures, search rules)
+pub put_refuted-requires : goal.put_refuted-requires
+put_refuted-requires c = (part_small c.requires.asked c.total-all.ensures (found-at c.in-Some.is c.search-found.ensures) c.find-f.ensures, omega (arith, c.requires.room))
 
-pub put_witness-b-requires : goal.put_witness-b-requires
-put_witness-b-requires c = record { at_in_bounds = omega (arith, c.put_refuted-a.ensures.short, c.put_refuted-a.ensures.long); witness_asked = witness-asked c.requires c.total-all.ensures c.search-w.ensures c.if-w.true c.find-f.ensures }
+pub put_witness-requires : goal.put_witness-requires
+put_witness-requires c = record { at_in_bounds = omega (arith, c.put_refuted.ensures.written.short, c.put_refuted.ensures.written.long); witness_asked = witness-asked c.requires.asked c.total-all.ensures (found-at c.in-Some.is c.search-found.ensures) c.find-f.ensures }
 
-pub returns-then-w : goal.returns-then-w
-returns-then-w c = refuted-written c.requires c.total-all.ensures c.search-w.ensures c.if-w.true c.find-f.ensures c.put_refuted-a.ensures c.put_witness-b.ensures c.counted-n.ensures c.put_count.ensures
+pub overflow_add-place : goal.overflow_add-place
+overflow_add-place c = omega (arith, place_small c.requires.asked c.total-all.ensures (found-at c.in-Some.is c.search-found.ensures))
 
 pub returns : goal.returns
+returns c = verdict_in (refuted-written c.requires.asked c.total-all.ensures (found-at c.in-Some.is c.search-found.ensures) c.find-f.ensures c.put_refuted.ensures.written c.put_witness.ensures.written (omega arith) c.put_count-2.ensures.written) (search rules)
+
+pub returns-in_default : goal.returns-in_default
 unfolding bytes
-returns c = accepted-written c.requires c.total-all.ensures c.search-w.ensures c.if-w.false c.put_all-a.ensures c.counted-n.ensures c.put_count-2.ensures
+returns-in_default c = verdict_in (accepted-written c.requires.asked c.total-all.ensures (found-at c.in_default.is c.search-found.ensures) c.put_all.ensures.written c.put_count.ensures.written) (search rules)

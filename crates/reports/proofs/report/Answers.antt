@@ -3,11 +3,11 @@ use borrow.Author.Rules.{rules}
 use Rattle.reports.proofs.ReportAnswers.{refusal-reported, verdict-asked, verdict-reported}
 use Rattle.reports.proofs.report.Goals as goal
 
-pub put_verdict-requires : goal.put_verdict-requires
-put_verdict-requires c = verdict-asked c.read_text-answer.ensures c.in-Read.is
+pub put_verdict-requires-clause-asked : goal.put_verdict-requires-clause-asked
+put_verdict-requires-clause-asked c = verdict-asked c.read_text-answer.ensures c.in-Ok.is
 
-pub returns-in-Refused : goal.returns-in-Refused
-returns-in-Refused c = refusal-reported c.read_text-answer.ensures c.in-Refused.is c.put_refusal.ensures.0 c.put_refusal.ensures.1
+pub returns-in-Err : goal.returns-in-Err
+returns-in-Err c = refusal-reported c.read_text-answer.ensures c.in-Err.is c.put_refusal.ensures.0 c.put_refusal.ensures.1
 
-pub returns-in-Read : goal.returns-in-Read
-returns-in-Read c = verdict-reported c.read_text-answer.ensures c.in-Read.is c.put_verdict.ensures
+pub returns-in-Ok : goal.returns-in-Ok
+returns-in-Ok c = verdict-reported c.read_text-answer.ensures c.in-Ok.is c.put_verdict.ensures

@@ -9,20 +9,20 @@ use Rattle.evaluator.proofs.NodeLaws.{heard}
 use Rattle.seek.proofs.SolvedValues.{aim-all, value-asked, aim-one, aim-none}
 use Rattle.seek.proofs.aim.Goals as goal
 
-pub equation-q-requires : goal.equation-q-requires
-equation-q-requires c = (c.requires.search_low, c.requires.level_low, c.requires.slot_low, c.requires.end_low)
+pub equation-requires : goal.equation-requires
+equation-requires c = (c.requires.search_low, c.requires.level_low, c.requires.slot_low, c.requires.end_low)
 
-pub returns-then-q-eq0 : goal.returns-then-q-eq0
-returns-then-q-eq0 c = record { answers = aim-all c.requires; kept = refl }
+pub returns-in_default : goal.returns-in_default
+returns-in_default c = record { answers = aim-all c.requires; kept = refl }
 
 pub value-y-requires : goal.value-y-requires
-value-y-requires c = record { inside = (value-asked c.requires (c.equation-q.ensures.means c.if-q-eq0.false)).0; term_runs = (value-asked c.requires (c.equation-q.ensures.means c.if-q-eq0.false)).1 }
+value-y-requires c = record { inside = (value-asked c.requires c.in-Some.ensures).0; term_runs = (value-asked c.requires c.in-Some.ensures).1 }
 
 pub place_of-d-requires : goal.place_of-d-requires
 place_of-d-requires c = c.requires.readable
 
 pub returns-then-d-g : goal.returns-then-d-g
-returns-then-d-g c = record { answers = aim-one c.requires (c.equation-q.ensures.means c.if-q-eq0.false) (heard c.value-y.type_inv c.value-y.ensures.answers) c.place_of-d.ensures (omega (arith, c.if-d-g.true)); kept = (ap (set c.args.slots.now (c.equation-q.result.test % 2)) c.value-y.ensures.kept ∙ set-get_or c.args.slots.now (c.equation-q.result.test % 2) []) }
+returns-then-d-g c = record { answers = aim-one c.requires c.in-Some.ensures (heard c.value-y.type_inv c.value-y.ensures.answers) c.place_of-d.ensures (omega (arith, c.if-d-g.true)); kept = (ap (set c.args.slots.now (c.in-Some.q.test % 2)) c.value-y.ensures.kept ∙ set-get_or c.args.slots.now (c.in-Some.q.test % 2) []) }
 
 pub returns : goal.returns
-returns c = record { answers = aim-none c.requires (c.equation-q.ensures.means c.if-q-eq0.false) (heard c.value-y.type_inv c.value-y.ensures.answers) c.place_of-d.ensures c.if-d-g.false; kept = (ap (set c.args.slots.now (c.equation-q.result.test % 2)) c.value-y.ensures.kept ∙ set-get_or c.args.slots.now (c.equation-q.result.test % 2) []) }
+returns c = record { answers = aim-none c.requires c.in-Some.ensures (heard c.value-y.type_inv c.value-y.ensures.answers) c.place_of-d.ensures c.if-d-g.false; kept = (ap (set c.args.slots.now (c.in-Some.q.test % 2)) c.value-y.ensures.kept ∙ set-get_or c.args.slots.now (c.in-Some.q.test % 2) []) }

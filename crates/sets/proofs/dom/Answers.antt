@@ -20,9 +20,6 @@ overflow_add-r c = (let e : (1 * 2 ^ c.loop-i.i) % 65536 ≡ 2 ^ c.loop-i.i = on
     let p : 2 ^ suc c.loop-i.i ≡ 2 ^ c.loop-i.i * 2 = pow-suc 2 c.loop-i.i in
     let q : 2 ^ suc c.loop-i.i ≤ 65536 = pow_mono {i = suc c.loop-i.i} {j = 16} (omega arith) in omega arith)
 
-pub loop-i-smaller : goal.loop-i-smaller
-loop-i-smaller c = omega arith
-
 pub loop-i-preserved : goal.loop-i-preserved
 loop-i-preserved c = (
   omega arith,
@@ -33,4 +30,4 @@ loop-i-preserved c = (
 )
 
 pub returns : goal.returns
-returns c = c.loop-i.invariant.1 ∙ (let e : c.loop-i.i ≡ c.rows-top.result = omega arith in ap (λ (x : ℕ). dom x c.args.m c.args.s) e) ∙ dom-top c.args.n c.args.m c.args.s c.rows-top.result c.ranges.s.fits c.rows-top.ensures.1 c.rows-top.ensures.2
+returns c = c.loop-i.invariant.1 ∙ (let e : c.loop-i.i ≡ c.min-top.result = omega arith in ap (λ (x : ℕ). dom x c.args.m c.args.s) e) ∙ dom-top c.args.n c.args.m c.args.s c.min-top.result c.ranges.s.fits (λ h. omega (arith, c.min-top.ensures)) (λ h. omega (arith, c.min-top.ensures))

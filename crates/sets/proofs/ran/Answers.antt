@@ -11,11 +11,8 @@ use Rattle.sets.proofs.ran.Goals as goal
 pub loop-i-init : goal.loop-i-init
 loop-i-init c = (omega arith, ran-none c.args.m c.args.s)
 
-pub loop-i-smaller : goal.loop-i-smaller
-loop-i-smaller c = omega arith
-
 pub loop-i-preserved : goal.loop-i-preserved
 loop-i-preserved c = (omega arith, ap₂ bit_or c.loop-i.invariant.1 (row_at c.args.m c.args.s c.loop-i.i c.pair.result c.row-r.result c.pair.ensures c.row-r.ensures) ∙ ran-more c.args.m c.args.s c.loop-i.i ∙ ap (λ (x : ℕ). ran x c.args.m c.args.s) (sym (add-one c.loop-i.i)))
 
 pub returns : goal.returns
-returns c = c.loop-i.invariant.1 ∙ (let e : c.loop-i.i ≡ c.rows-top.result = omega arith in ap (λ (x : ℕ). ran x c.args.m c.args.s) e) ∙ ran-top c.args.n c.args.m c.args.s c.rows-top.result c.ranges.s.fits c.rows-top.ensures.1 c.rows-top.ensures.2
+returns c = c.loop-i.invariant.1 ∙ (let e : c.loop-i.i ≡ c.min-top.result = omega arith in ap (λ (x : ℕ). ran x c.args.m c.args.s) e) ∙ ran-top c.args.n c.args.m c.args.s c.min-top.result c.ranges.s.fits (λ h. omega (arith, c.min-top.ensures)) (λ h. omega (arith, c.min-top.ensures))

@@ -1,9 +1,5 @@
 -- `step_searches::put_group` meets its contract: the first variable gets the value by the quotient, the others those of the remainder. Assumes nothing.
-use Prim.Native.Nat.{ℕ, ◌<◌}
-use borrow.Fn.Kinds.{In}
-use borrow.Fn.PlainCycle.{Measures, is, falls, and}
 use native.Mathlib.Omega.{arith}
-use borrow.Author.Rules.{rules}
 use Rattle.step_searches.proofs.PutGroups.{none-put, slot_low, count-positive, stride-positive, store-asked, rest-asked, more-put}
 use Rattle.step_searches.proofs.+put_group.Goals as goal
 

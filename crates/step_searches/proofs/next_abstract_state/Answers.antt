@@ -5,8 +5,8 @@ use Rattle.step_searches.proofs.next_abstract_state.Goals as goal
 pub fill-requires : goal.fill-requires
 fill-requires c = c.requires.steps_asked.searches.first_values
 
-pub seek-requires : goal.seek-requires
-seek-requires c = record { seek_asked = ask-states c.requires.steps_asked.searches c.fill.ensures.shows c.requires.from_le_na; memo = c.requires.memo }
+pub next_of-requires : goal.next_of-requires
+next_of-requires c = record { seek_asked = ask-states c.requires.steps_asked.searches c.fill.ensures.shows c.requires.from_le_na; memo = c.requires.memo }
 
 pub returns : goal.returns
-returns c = record { found = record { sought = λ d op x. states-found x c.fill.ensures.shows c.seek.ensures.answers }; remembers = c.seek.ensures.remembers }
+returns c = record { found = record { sought = λ d op x. states-found x c.fill.ensures.shows c.next_of.ensures.answers }; remembers = c.next_of.ensures.remembers; low = c.next_of.ensures.low }

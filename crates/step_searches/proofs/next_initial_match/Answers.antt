@@ -8,8 +8,8 @@ fill-requires c = c.requires.opening_asked.searches.first_values
 pub put_group-requires : goal.put_group-requires
 put_group-requires c = put-concrete c.requires.opening_asked.searches c.fill.ensures.shows c.requires.c_lt_nc.0
 
-pub seek-requires : goal.seek-requires
-seek-requires c = record { seek_asked = ask-met c.requires.opening_asked.searches (c.put_group.ensures.means _ c.fill.ensures.shows) c.requires.c_lt_nc.1; memo = c.requires.memo }
+pub next_of-requires : goal.next_of-requires
+next_of-requires c = record { seek_asked = ask-met c.requires.opening_asked.searches (c.put_group.ensures.means _ c.fill.ensures.shows) c.requires.c_lt_nc.1; memo = c.requires.memo }
 
 pub returns : goal.returns
-returns c = record { found = record { sought = λ d x. met-found x c.requires.c_lt_nc.0 (c.put_group.ensures.means _ c.fill.ensures.shows) c.seek.ensures.answers }; remembers = c.seek.ensures.remembers }
+returns c = record { found = record { sought = λ d x. met-found x c.requires.c_lt_nc.0 (c.put_group.ensures.means _ c.fill.ensures.shows) c.next_of.ensures.answers }; remembers = c.next_of.ensures.remembers; low = c.next_of.ensures.low }

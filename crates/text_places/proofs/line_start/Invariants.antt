@@ -4,7 +4,4 @@ use lib.ListN.{get_or}
 use Rattle.text_places.proofs.line_start.Given as goal
 
 abbrev pub invariant-loop-k : goal.invariant-loop-k
-invariant-loop-k l = (l.k ≤ l.p) × ((j : ℕ) → l.k ≤ j → j < l.p → get_or l.text j 0 ≡ 10 → ⊥)
-
-abbrev pub decreases-loop-k : goal.decreases-loop-k
-decreases-loop-k l = l.k
+invariant-loop-k l = (j : ℕ) → l.k ≤ j → j < l.p → get_or l.text j 0 ≡ 10 → ⊥

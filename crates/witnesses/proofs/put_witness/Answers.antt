@@ -17,5 +17,5 @@ operation_row-requires c = part_low c.requires.witness_asked
 pub put_groups-requires : goal.put_groups-requires
 put_groups-requires c = record { at_in_bounds = c.requires.at_in_bounds; lines_asked = lines-asked c.requires.witness_asked c.part_cells-p.ensures c.operation_row.ensures.1 }
 
-pub returns : goal.returns
-returns c = witness-written c.part_cells-p.ensures c.bind_place.ensures c.operation_row.ensures.0 c.put_groups.ensures.lines c.put_groups.ensures.short
+pub returns-clause-written : goal.returns-clause-written
+returns-clause-written c = witness-written c.part_cells-p.ensures c.bind_place.ensures c.operation_row.ensures.0 c.put_groups.ensures.lines c.put_groups.ensures.short

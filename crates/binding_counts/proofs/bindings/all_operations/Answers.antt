@@ -1,5 +1,6 @@
 -- `bindings::all_operations` meets its contract: the fault so far and that of the operations that are left make that of all of them. Assumes nothing.
 use native.Mathlib.Omega.{arith}
+use Rattle.type_rules.specs.TypesByNumber.{fault_key}
 use Rattle.binding_counts.proofs.BindingSpans.{remains-start, remains-on, remains-full, remains-end}
 use Rattle.binding_counts.proofs.bindings.all_operations.Goals as goal
 
@@ -7,10 +8,10 @@ pub loop-k-init : goal.loop-k-init
 loop-k-init c = (omega arith, (omega arith, remains-start c.args.nodes.now c.args.spans.now c.args.names.now c.args.sizes.now c.args.n))
 
 pub returns-then-k-ge-ROOM : goal.returns-then-k-ge-ROOM
-returns-then-k-ge-ROOM c = remains-full c.args.nodes.now c.args.spans.now c.args.names.now c.args.sizes.now c.args.n c.loop-k.k c.loop-k.f c.requires c.if-k-ge-ROOM.true c.loop-k-test.true c.loop-k.invariant.1.1
+returns-then-k-ge-ROOM c = remains-full c.args.nodes.now c.args.spans.now c.args.names.now c.args.sizes.now c.args.n c.loop-k.k (fault_key c.loop-k.f) c.requires c.if-k-ge-ROOM.true c.loop-k-test.true c.loop-k.invariant.1.1
 
 pub loop-k-preserved : goal.loop-k-preserved
-loop-k-preserved c = (omega arith, (omega arith, remains-on c.args.nodes.now c.args.spans.now c.args.names.now c.args.sizes.now c.args.n c.loop-k.k c.loop-k.f c.operation-g.result c.lesser_of-f.result c.operation-g.ensures c.lesser_of-f.ensures c.loop-k-test.true c.loop-k.invariant.1.1))
+loop-k-preserved c = (omega arith, (omega arith, remains-on c.args.nodes.now c.args.spans.now c.args.names.now c.args.sizes.now c.args.n c.loop-k.k (fault_key c.loop-k.f) (fault_key c.operation-g.result) (fault_key c.lesser_of-f.result) c.operation-g.ensures c.lesser_of-f.ensures c.loop-k-test.true c.loop-k.invariant.1.1))
 
 pub returns : goal.returns
-returns c = remains-end c.args.nodes.now c.args.spans.now c.args.names.now c.args.sizes.now c.args.n c.loop-k.k c.loop-k.f (omega arith) c.loop-k.invariant.1.1
+returns c = remains-end c.args.nodes.now c.args.spans.now c.args.names.now c.args.sizes.now c.args.n c.loop-k.k (fault_key c.loop-k.f) (omega arith) c.loop-k.invariant.1.1

@@ -4,4 +4,4 @@ use Rattle.binding_counts.proofs.BindingSpans.{operation-bound}
 use Rattle.binding_counts.proofs.bindings.operation.Goals as goal
 
 pub returns : goal.returns
-returns c = operation-bound c.args.nodes.now c.args.spans.now c.args.k c.args.names.now c.args.sizes.now c.index-from.result c.index-to.result _ c.group-inputs.result c.group-outputs.result _ c.both_few.result (c.index-from.ensures.0 ∙ c.look.ensures) (c.index-to.ensures.0 ∙ c.look-2.ensures) c.part-code.ensures c.group-inputs.ensures c.group-outputs.ensures c.both_few.ensures c.heading_fault.ensures
+returns c = operation-bound c.args.nodes.now c.args.spans.now c.args.k c.args.names.now c.args.sizes.now c.from-from.result c.from-to.result _ c.group-inputs.result c.group-outputs.result _ c.both_few.result (c.from-from.ensures ∙ c.look.ensures) (c.from-to.ensures ∙ c.look-2.ensures) c.part-code.ensures c.group-inputs.ensures c.group-outputs.ensures c.both_few.ensures c.heading_fault.ensures

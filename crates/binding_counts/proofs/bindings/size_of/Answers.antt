@@ -8,8 +8,8 @@ use Rattle.binding_counts.proofs.bindings.size_of.Goals as goal
 
 pub returns-then-k-lt-FIRST_GIVEN : goal.returns-then-k-lt-FIRST_GIVEN
 unfolding size_at
-returns-then-k-lt-FIRST_GIVEN c = let e = (c.index-k.ensures.0 ∙ (c.look.ensures ∙ ap (λ (n : ℕ). entry c.args.names.now n) c.index.ensures.0)) in let g : 0 ≡ entry c.args.names.now c.args.x - 8 = omega arith in (c.size_in.ensures.0 ∙ ap (size_in c.args.sizes.now) g, c.size_in.ensures.1)
+returns-then-k-lt-FIRST_GIVEN c = let e = (c.from-k.ensures ∙ (c.look.ensures ∙ ap (λ (n : ℕ). entry c.args.names.now n) c.from.ensures)) in let g : 0 ≡ entry c.args.names.now c.args.x - 8 = omega arith in (c.size_in.ensures.0 ∙ ap (size_in c.args.sizes.now) g, c.size_in.ensures.1)
 
 pub returns : goal.returns
 unfolding size_at
-returns c = (c.size_in-2.ensures.0 ∙ ap (λ (n : ℕ). size_in c.args.sizes.now (n - 8)) (c.index-k.ensures.0 ∙ (c.look.ensures ∙ ap (λ (n : ℕ). entry c.args.names.now n) c.index.ensures.0)), c.size_in-2.ensures.1)
+returns c = (c.size_in-2.ensures.0 ∙ ap (λ (n : ℕ). size_in c.args.sizes.now (n - 8)) (c.from-k.ensures ∙ (c.look.ensures ∙ ap (λ (n : ℕ). entry c.args.names.now n) c.from.ensures)), c.size_in-2.ensures.1)

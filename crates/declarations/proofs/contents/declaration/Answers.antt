@@ -6,9 +6,9 @@ use native.Mathlib.Omega.{arith}
 use Rattle.form.specs.Machine.{exact, a_type}
 use Rattle.form.specs.Computed.{compute_form}
 use Rattle.form.specs.Codes.{node}
-use Rattle.form_nodes.specs.declared.Read.{Read}
+use Rattle.form_nodes.specs.FormPromises.{Answer}
 use Rattle.form_nodes.specs.Derivations.{Made}
-use Rattle.form_nodes.proofs.ReadParts.{next, fails, framed, known, wider}
+use Rattle.form_nodes.proofs.ReadParts.{exits, next, fails, framed, known, wider}
 use Rattle.declarations.proofs.ListNodes.{closed, declaration-made, renumber}
 use Rattle.lexical.specs.Kinds as kind
 use Rattle.form_nodes.specs.Derivations as part
@@ -25,20 +25,20 @@ close-requires c = let room = c.requires.0 in let inside = c.requires.2 in searc
 
 pub type_form-requires : goal.type_form-requires
 unfolding compute_form
-type_form-requires c = let room = c.requires.0 in let inside = c.requires.2 in let h = (known c.in-At.is (c.close.ensures.reads kind.colon refl)) in let z = closed c.in-At.is c.close.ensures in let z₀ = z.0.0 in let z₁ = z.1 in let w = c.put-m.ensures.count in search rules
+type_form-requires c = let room = c.requires.0 in let inside = c.requires.2 in let h = (known c.in_ok-colon.was (c.close.ensures.reads kind.colon refl)) in let z = closed c.in_ok-colon.was c.close.ensures in let z₀ = z.0.0 in let z₁ = z.1 in let w = c.put-m.ensures.count in search rules
 
-pub close-requires-in-At-type_form : goal.close-requires-in-At-type_form
+pub close-requires-2 : goal.close-requires-2
 unfolding compute_form
-close-requires-in-At-type_form c = let t = (known c.in-At-type_form.is c.type_form.ensures.0) in search rules
+close-requires-2 c = let t = (known c.in_ok-typed.was c.type_form.ensures.0) in search rules
 
-pub returns-in-At-type_form : goal.returns-in-At-type_form
+pub returns : goal.returns
 unfolding compute_form
-returns-in-At-type_form c = let room = c.requires.0 in let inside = c.requires.2 in let h = (known c.in-At.is (c.close.ensures.reads kind.colon refl)) in let z = closed c.in-At.is c.close.ensures in let z₀ = z.0.0 in let z₁ = z.1 in let w = c.put-m.ensures.count in (wider (next (framed (a_type ∷ exact kind.semicolon ∷ []) h) (next (framed (exact kind.semicolon ∷ []) (known c.in-At-type_form.is c.type_form.ensures.0)) (c.close-in-At-type_form.ensures.reads kind.semicolon refl))) (omega arith), declaration-made c.close-in-At-type_form.result c.requires.1 z.0.0 z.0.1 (renumber z.1 c.put-m.ensures) (ap (λ y. node 6 c.args.at y 0) c.name_number-x.ensures) (subst (λ (z : Read). Made c.args.s.now c.args.v.now part.a_type c.in-At.a c.in-At.c c.put-m.new.code c.type_form.new.code z) c.in-At-type_form.is c.type_form.ensures.1) c.close-in-At-type_form.ensures)
+returns c = let room = c.requires.0 in let inside = c.requires.2 in let h = (known c.in_ok-colon.was (c.close.ensures.reads kind.colon refl)) in let z = closed c.in_ok-colon.was c.close.ensures in let z₀ = z.0.0 in let z₁ = z.1 in let w = c.put-m.ensures.count in (wider (next (framed (a_type ∷ exact kind.semicolon ∷ []) h) (next (framed (exact kind.semicolon ∷ []) (known c.in_ok-typed.was c.type_form.ensures.0)) (c.close-2.ensures.reads kind.semicolon refl))) (omega arith), declaration-made c.close-2.result c.requires.1 z.0.0 z.0.1 (renumber z.1 c.put-m.ensures) (ap (λ y. node 6 c.args.at y 0) c.name_number-x.ensures) (subst (λ (z : Answer). Made c.args.s.now c.args.v.now part.a_type c.in_ok-colon.colon.at c.in_ok-colon.colon.count c.put-m.new.code c.type_form.new.code z) c.in_ok-typed.was c.type_form.ensures.1) c.close-2.ensures)
 
-pub returns-in-Fault-type_form : goal.returns-in-Fault-type_form
+pub returns-in_err-typed : goal.returns-in_err-typed
 unfolding compute_form
-returns-in-Fault-type_form c = let room = c.requires.0 in let inside = c.requires.2 in let h = (known c.in-At.is (c.close.ensures.reads kind.colon refl)) in let z = closed c.in-At.is c.close.ensures in let z₀ = z.0.0 in let z₁ = z.1 in let w = c.put-m.ensures.count in (wider (next (framed (a_type ∷ exact kind.semicolon ∷ []) h) (fails (framed (exact kind.semicolon ∷ []) (known c.in-Fault-type_form.is c.type_form.ensures.0)))) (omega arith), tt)
+returns-in_err-typed c = rw (exits c.from_residual-in_err-typed.result c.from_residual-in_err-typed.ensures.1) (let room = c.requires.0 in let inside = c.requires.2 in let h = (known c.in_ok-colon.was (c.close.ensures.reads kind.colon refl)) in let z = closed c.in_ok-colon.was c.close.ensures in let z₀ = z.0.0 in let z₁ = z.1 in let w = c.put-m.ensures.count in (wider (next (framed (a_type ∷ exact kind.semicolon ∷ []) h) (fails (framed (exact kind.semicolon ∷ []) (known c.in_err-typed.was c.type_form.ensures.0)))) (omega arith), tt))
 
-pub returns-in-Fault : goal.returns-in-Fault
+pub returns-in_err-colon : goal.returns-in_err-colon
 unfolding compute_form
-returns-in-Fault c = (fails (framed (a_type ∷ exact kind.semicolon ∷ []) (known c.in-Fault.is (c.close.ensures.reads kind.colon refl))), tt)
+returns-in_err-colon c = rw (exits c.from_residual.result c.from_residual.ensures.1) ((fails (framed (a_type ∷ exact kind.semicolon ∷ []) (known c.in_err-colon.was (c.close.ensures.reads kind.colon refl))), tt))

@@ -7,10 +7,10 @@ use borrow.Author.Rules.{rules}
 use Rattle.form.specs.Written.{a_variable}
 use Rattle.form.specs.Machine.{some_declarations}
 use Rattle.form.specs.Computed.{compute_form}
-use Rattle.form_nodes.specs.declared.Read.{Read}
+use Rattle.form_nodes.specs.FormPromises.{Answer}
 use Rattle.form_nodes.specs.Derivations.{NameAt, Made, a_declaration, no_declarations, declares_more}
 use Rattle.declarations.specs.DossierPromises.{a_typed}
-use Rattle.form_nodes.proofs.ReadParts.{only, here, next, taken, stops, likewise, fails, framed, known}
+use Rattle.form_nodes.proofs.ReadParts.{exits, only, here, next, taken, stops, likewise, fails, framed, known}
 use Rattle.declarations.proofs.ListItems.{count-well, count-over, variables, crowded, declared-stops, declaration-first, declaration-takes, declarations-behind}
 use Rattle.declarations.proofs.ListNodes.{more-none, more-then, more-made, more-part}
 use Rattle.lexical.specs.Kinds as kind
@@ -31,15 +31,15 @@ pub overflow_add-k : goal.overflow_add-k
 overflow_add-k c = let room = c.requires in let i = c.loop-start.invariant.0 in let l = c.loop-start.invariant.2 in let z = c.kind_at-in-loop-start.ensures.inside in search rules
 
 pub loop-start-smaller : goal.loop-start-smaller
-loop-start-smaller c = let room = c.requires in let i = c.loop-start.invariant.0 in let l = c.loop-start.invariant.2 in let z = c.kind_at-in-loop-start.ensures.inside in let h = (known c.in-At.is c.declaration.ensures.0) in search rules
+loop-start-smaller c = let room = c.requires in let i = c.loop-start.invariant.0 in let l = c.loop-start.invariant.2 in let z = c.kind_at-in-loop-start.ensures.inside in let h = (known c.in_ok-read.was c.declaration.ensures.0) in search rules
 
 pub loop-start-preserved : goal.loop-start-preserved
 unfolding compute_form
-loop-start-preserved c = let room = c.requires in let i = c.loop-start.invariant.0 in let l = c.loop-start.invariant.2 in let z = c.kind_at-in-loop-start.ensures.inside in let h = (known c.in-At.is c.declaration.ensures.0) in (next i (taken {μ = a_typed ++ (some_declarations (c.loop-start.k + 1) ∷ [])} {m = c.loop-start.n + 4} (a_variable (c.loop-start.k + 1)) (omega arith) (count-well c.args.s.now c.loop-start.at (c.loop-start.k + 1) variables (omega arith)) (only _ kind.plain (sym c.kind_at-in-loop-start.ensures.is ∙ c.loop-start-test.true) (λ γ. declaration-takes c.loop-start.k γ)) (framed (some_declarations (c.loop-start.k + 1) ∷ []) h) (omega arith)), more-then c.loop-start.invariant.1 (let p = subst (λ (z : Read). Made c.args.s.now c.args.v.now a_declaration c.loop-start.at c.loop-start.n c.loop-start.code c.declaration.new.code z) c.in-At.is c.declaration.ensures.1 in more-part p (λ j u d. declares_more (sym c.kind_at-in-loop-start.ensures.is ∙ c.loop-start-test.true) p.derives d)), search rules, omega arith)
+loop-start-preserved c = let room = c.requires in let i = c.loop-start.invariant.0 in let l = c.loop-start.invariant.2 in let z = c.kind_at-in-loop-start.ensures.inside in let h = (known c.in_ok-read.was c.declaration.ensures.0) in (next i (taken {μ = a_typed ++ (some_declarations (c.loop-start.k + 1) ∷ [])} {m = c.loop-start.n + 4} (a_variable (c.loop-start.k + 1)) (omega arith) (count-well c.args.s.now c.loop-start.at (c.loop-start.k + 1) variables (omega arith)) (only _ kind.plain (sym c.kind_at-in-loop-start.ensures.is ∙ c.loop-start-test.true) (λ γ. declaration-takes c.loop-start.k γ)) (framed (some_declarations (c.loop-start.k + 1) ∷ []) h) (omega arith)), more-then c.loop-start.invariant.1 (let p = subst (λ (z : Answer). Made c.args.s.now c.args.v.now a_declaration c.loop-start.at c.loop-start.n c.loop-start.code c.declaration.new.code z) c.in_ok-read.was c.declaration.ensures.1 in more-part p (λ j u d. declares_more (sym c.kind_at-in-loop-start.ensures.is ∙ c.loop-start-test.true) p.derives d)), search rules, omega arith)
 
-pub returns-in-Fault : goal.returns-in-Fault
+pub returns-in_err-read : goal.returns-in_err-read
 unfolding compute_form
-returns-in-Fault c = let room = c.requires in let i = c.loop-start.invariant.0 in let l = c.loop-start.invariant.2 in let z = c.kind_at-in-loop-start.ensures.inside in (next i (taken {μ = a_typed ++ (some_declarations (c.loop-start.k + 1) ∷ [])} {m = c.loop-start.n + 4} (a_variable (c.loop-start.k + 1)) (omega arith) (count-well c.args.s.now c.loop-start.at (c.loop-start.k + 1) variables (omega arith)) (only _ kind.plain (sym c.kind_at-in-loop-start.ensures.is ∙ c.loop-start-test.true) (λ γ. declaration-takes c.loop-start.k γ)) (fails (framed (some_declarations (c.loop-start.k + 1) ∷ []) (known c.in-Fault.is c.declaration.ensures.0))) (omega arith)), tt, tt)
+returns-in_err-read c = rw (exits c.from_residual.result c.from_residual.ensures.1) (let room = c.requires in let i = c.loop-start.invariant.0 in let l = c.loop-start.invariant.2 in let z = c.kind_at-in-loop-start.ensures.inside in (next i (taken {μ = a_typed ++ (some_declarations (c.loop-start.k + 1) ∷ [])} {m = c.loop-start.n + 4} (a_variable (c.loop-start.k + 1)) (omega arith) (count-well c.args.s.now c.loop-start.at (c.loop-start.k + 1) variables (omega arith)) (only _ kind.plain (sym c.kind_at-in-loop-start.ensures.is ∙ c.loop-start-test.true) (λ γ. declaration-takes c.loop-start.k γ)) (fails (framed (some_declarations (c.loop-start.k + 1) ∷ []) (known c.in_err-read.was c.declaration.ensures.0))) (omega arith)), tt, tt))
 
 pub returns-then-kind_at-eq-PLAIN : goal.returns-then-kind_at-eq-PLAIN
 unfolding compute_form

@@ -4,7 +4,7 @@ use mathlib.Core.List.{[], ◌∷◌}
 use borrow.Author.Rules.{rules}
 use Rattle.form.specs.Machine.{exact}
 use Rattle.form.specs.Computed.{compute_form}
-use Rattle.form_nodes.proofs.ReadParts.{next, fails, framed, known}
+use Rattle.form_nodes.proofs.ReadParts.{exits, next, fails, framed, known}
 use Rattle.declarations.proofs.ListNodes.{closed, words-shown}
 use Rattle.lexical.specs.Kinds as kind
 use Rattle.declarations.proofs.contents.words.Goals as goal
@@ -13,38 +13,38 @@ pub close-requires : goal.close-requires
 unfolding compute_form
 close-requires c = search rules
 
-pub close-requires-in-At : goal.close-requires-in-At
+pub close-requires-2 : goal.close-requires-2
 unfolding compute_form
-close-requires-in-At c = let h = (known c.in-At.is (c.close.ensures.reads kind.ABSTRACT refl)) in search rules
+close-requires-2 c = let h = (known c.in_ok-abstracts.was (c.close.ensures.reads kind.ABSTRACT refl)) in search rules
 
-pub close-requires-in-At-close : goal.close-requires-in-At-close
+pub close-requires-3 : goal.close-requires-3
 unfolding compute_form
-close-requires-in-At-close c = let h = (known c.in-At-close.is (c.close-in-At.ensures.reads kind.CONCRETE refl)) in search rules
+close-requires-3 c = let h = (known c.in_ok-concretes.was (c.close-2.ensures.reads kind.CONCRETE refl)) in search rules
 
-pub close-requires-in-At-close-2 : goal.close-requires-in-At-close-2
+pub close-requires-4 : goal.close-requires-4
 unfolding compute_form
-close-requires-in-At-close-2 c = let h = (known c.in-At-close-2.is (c.close-in-At-close.ensures.reads kind.AINIT refl)) in search rules
+close-requires-4 c = let h = (known c.in_ok-ainit.was (c.close-3.ensures.reads kind.AINIT refl)) in search rules
 
-pub close-requires-in-At-close-3 : goal.close-requires-in-At-close-3
+pub close-requires-5 : goal.close-requires-5
 unfolding compute_form
-close-requires-in-At-close-3 c = let h = (known c.in-At-close-3.is (c.close-in-At-close-2.ensures.reads kind.CINIT refl)) in search rules
+close-requires-5 c = let h = (known c.in_ok-cinit.was (c.close-4.ensures.reads kind.CINIT refl)) in search rules
 
-pub returns-in-At-close-3 : goal.returns-in-At-close-3
+pub returns : goal.returns
 unfolding compute_form
-returns-in-At-close-3 c = (next (framed (exact kind.CONCRETE ∷ exact kind.AINIT ∷ exact kind.CINIT ∷ exact kind.RETRIEVE ∷ []) (known c.in-At.is (c.close.ensures.reads kind.ABSTRACT refl))) (next (framed (exact kind.AINIT ∷ exact kind.CINIT ∷ exact kind.RETRIEVE ∷ []) (known c.in-At-close.is (c.close-in-At.ensures.reads kind.CONCRETE refl))) (next (framed (exact kind.CINIT ∷ exact kind.RETRIEVE ∷ []) (known c.in-At-close-2.is (c.close-in-At-close.ensures.reads kind.AINIT refl))) (next (framed (exact kind.RETRIEVE ∷ []) (known c.in-At-close-3.is (c.close-in-At-close-2.ensures.reads kind.CINIT refl))) (c.close-in-At-close-3.ensures.reads kind.RETRIEVE refl)))), words-shown c.args.at c.close-in-At-close-3.result (closed c.in-At.is c.close.ensures) (closed c.in-At-close.is c.close-in-At.ensures) (closed c.in-At-close-2.is c.close-in-At-close.ensures) (closed c.in-At-close-3.is c.close-in-At-close-2.ensures) c.close-in-At-close-3.ensures)
+returns c = (next (framed (exact kind.CONCRETE ∷ exact kind.AINIT ∷ exact kind.CINIT ∷ exact kind.RETRIEVE ∷ []) (known c.in_ok-abstracts.was (c.close.ensures.reads kind.ABSTRACT refl))) (next (framed (exact kind.AINIT ∷ exact kind.CINIT ∷ exact kind.RETRIEVE ∷ []) (known c.in_ok-concretes.was (c.close-2.ensures.reads kind.CONCRETE refl))) (next (framed (exact kind.CINIT ∷ exact kind.RETRIEVE ∷ []) (known c.in_ok-ainit.was (c.close-3.ensures.reads kind.AINIT refl))) (next (framed (exact kind.RETRIEVE ∷ []) (known c.in_ok-cinit.was (c.close-4.ensures.reads kind.CINIT refl))) (c.close-5.ensures.reads kind.RETRIEVE refl)))), words-shown c.args.at c.close-5.result (closed c.in_ok-abstracts.was c.close.ensures) (closed c.in_ok-concretes.was c.close-2.ensures) (closed c.in_ok-ainit.was c.close-3.ensures) (closed c.in_ok-cinit.was c.close-4.ensures) c.close-5.ensures)
 
-pub returns-in-Fault-close-3 : goal.returns-in-Fault-close-3
+pub returns-in_err-cinit : goal.returns-in_err-cinit
 unfolding compute_form
-returns-in-Fault-close-3 c = (next (framed (exact kind.CONCRETE ∷ exact kind.AINIT ∷ exact kind.CINIT ∷ exact kind.RETRIEVE ∷ []) (known c.in-At.is (c.close.ensures.reads kind.ABSTRACT refl))) (next (framed (exact kind.AINIT ∷ exact kind.CINIT ∷ exact kind.RETRIEVE ∷ []) (known c.in-At-close.is (c.close-in-At.ensures.reads kind.CONCRETE refl))) (next (framed (exact kind.CINIT ∷ exact kind.RETRIEVE ∷ []) (known c.in-At-close-2.is (c.close-in-At-close.ensures.reads kind.AINIT refl))) (fails (framed (exact kind.RETRIEVE ∷ []) (known c.in-Fault-close-3.is (c.close-in-At-close-2.ensures.reads kind.CINIT refl)))))), tt)
+returns-in_err-cinit c = rw (exits c.from_residual-in_err-cinit.result c.from_residual-in_err-cinit.ensures.1) ((next (framed (exact kind.CONCRETE ∷ exact kind.AINIT ∷ exact kind.CINIT ∷ exact kind.RETRIEVE ∷ []) (known c.in_ok-abstracts.was (c.close.ensures.reads kind.ABSTRACT refl))) (next (framed (exact kind.AINIT ∷ exact kind.CINIT ∷ exact kind.RETRIEVE ∷ []) (known c.in_ok-concretes.was (c.close-2.ensures.reads kind.CONCRETE refl))) (next (framed (exact kind.CINIT ∷ exact kind.RETRIEVE ∷ []) (known c.in_ok-ainit.was (c.close-3.ensures.reads kind.AINIT refl))) (fails (framed (exact kind.RETRIEVE ∷ []) (known c.in_err-cinit.was (c.close-4.ensures.reads kind.CINIT refl)))))), tt))
 
-pub returns-in-Fault-close-2 : goal.returns-in-Fault-close-2
+pub returns-in_err-ainit : goal.returns-in_err-ainit
 unfolding compute_form
-returns-in-Fault-close-2 c = (next (framed (exact kind.CONCRETE ∷ exact kind.AINIT ∷ exact kind.CINIT ∷ exact kind.RETRIEVE ∷ []) (known c.in-At.is (c.close.ensures.reads kind.ABSTRACT refl))) (next (framed (exact kind.AINIT ∷ exact kind.CINIT ∷ exact kind.RETRIEVE ∷ []) (known c.in-At-close.is (c.close-in-At.ensures.reads kind.CONCRETE refl))) (fails (framed (exact kind.CINIT ∷ exact kind.RETRIEVE ∷ []) (known c.in-Fault-close-2.is (c.close-in-At-close.ensures.reads kind.AINIT refl))))), tt)
+returns-in_err-ainit c = rw (exits c.from_residual-in_err-ainit.result c.from_residual-in_err-ainit.ensures.1) ((next (framed (exact kind.CONCRETE ∷ exact kind.AINIT ∷ exact kind.CINIT ∷ exact kind.RETRIEVE ∷ []) (known c.in_ok-abstracts.was (c.close.ensures.reads kind.ABSTRACT refl))) (next (framed (exact kind.AINIT ∷ exact kind.CINIT ∷ exact kind.RETRIEVE ∷ []) (known c.in_ok-concretes.was (c.close-2.ensures.reads kind.CONCRETE refl))) (fails (framed (exact kind.CINIT ∷ exact kind.RETRIEVE ∷ []) (known c.in_err-ainit.was (c.close-3.ensures.reads kind.AINIT refl))))), tt))
 
-pub returns-in-Fault-close : goal.returns-in-Fault-close
+pub returns-in_err-concretes : goal.returns-in_err-concretes
 unfolding compute_form
-returns-in-Fault-close c = (next (framed (exact kind.CONCRETE ∷ exact kind.AINIT ∷ exact kind.CINIT ∷ exact kind.RETRIEVE ∷ []) (known c.in-At.is (c.close.ensures.reads kind.ABSTRACT refl))) (fails (framed (exact kind.AINIT ∷ exact kind.CINIT ∷ exact kind.RETRIEVE ∷ []) (known c.in-Fault-close.is (c.close-in-At.ensures.reads kind.CONCRETE refl)))), tt)
+returns-in_err-concretes c = rw (exits c.from_residual-in_err-concretes.result c.from_residual-in_err-concretes.ensures.1) ((next (framed (exact kind.CONCRETE ∷ exact kind.AINIT ∷ exact kind.CINIT ∷ exact kind.RETRIEVE ∷ []) (known c.in_ok-abstracts.was (c.close.ensures.reads kind.ABSTRACT refl))) (fails (framed (exact kind.AINIT ∷ exact kind.CINIT ∷ exact kind.RETRIEVE ∷ []) (known c.in_err-concretes.was (c.close-2.ensures.reads kind.CONCRETE refl)))), tt))
 
-pub returns-in-Fault : goal.returns-in-Fault
+pub returns-in_err-abstracts : goal.returns-in_err-abstracts
 unfolding compute_form
-returns-in-Fault c = (fails (framed (exact kind.CONCRETE ∷ exact kind.AINIT ∷ exact kind.CINIT ∷ exact kind.RETRIEVE ∷ []) (known c.in-Fault.is (c.close.ensures.reads kind.ABSTRACT refl))), tt)
+returns-in_err-abstracts c = rw (exits c.from_residual.result c.from_residual.ensures.1) ((fails (framed (exact kind.CONCRETE ∷ exact kind.AINIT ∷ exact kind.CINIT ∷ exact kind.RETRIEVE ∷ []) (known c.in_err-abstracts.was (c.close.ensures.reads kind.ABSTRACT refl))), tt))

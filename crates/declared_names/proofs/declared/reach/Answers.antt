@@ -1,6 +1,9 @@
 -- `declared::reach` meets its contract. Assumes nothing.
+use lib.ListN.{set}
+use Prim.Native.Nat.{ℕ, ◌+◌}
+use mathlib.Core.Path.{ap, ◌∙◌}
 use Rattle.declared_names.proofs.DeclarationNodes.{reached}
 use Rattle.declared_names.proofs.declared.reach.Goals as goal
 
 pub returns : goal.returns
-returns c = reached c.args.code.now c.args.at c.args.shift c.args.names.now _ c.index.result c.type_kind-k.result c.index.ensures.0 c.type_kind-k.ensures c.put.ensures
+returns c = reached c.args.code.now c.args.at c.args.shift c.args.names.now _ c.from.result c.type_kind-k.result c.from.ensures c.type_kind-k.ensures (c.put.ensures ∙ ap (λ (n : ℕ). set c.args.names.now (c.from.result + n) c.type_kind-k.result) c.from-2.ensures)

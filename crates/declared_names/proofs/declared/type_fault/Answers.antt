@@ -2,18 +2,22 @@
 use Prim.Native.Nat.{◌+◌}
 use mathlib.Core.Path.{sym, ◌∙◌}
 use lib.ListN.{get_or}
+use Rattle.lexical.specs.Refusals.{number_of}
 use Rattle.type_rules.specs.TypesByNumber.{entry}
 use Rattle.declared_names.proofs.DeclarationNodes.{faulted, key_one, key-two, key-three, key-else}
 use Rattle.declared_names.proofs.declared.type_fault.Goals as goal
 
 pub returns-in-1 : goal.returns-in-1
-returns-in-1 c = faulted c.args.code.now c.args.at c.args.names.now c.args.sizes.now _ (c.unless.ensures ∙ (rw (c.wide-i.ensures.0, c.is_given.ensures, c.look.ensures, c.index.ensures.0) (key_one (get_or c.args.code.now (c.args.at + 3) 0) (get_or c.args.code.now (c.args.at + 2) 0) (get_or c.args.code.now (c.args.at + 1) 0) (get_or c.args.code.now c.args.at 0) (entry c.args.names.now (get_or c.args.code.now (c.args.at + 1) 0)) (entry c.args.names.now (get_or c.args.code.now c.args.at 0)) c.args.sizes.now c.in-1.is)))
+unfolding number_of
+returns-in-1 c = faulted c.args.code.now c.args.at c.args.names.now c.args.sizes.now _ (c.unless.ensures ∙ (rw (c.from-i.ensures, c.is_given.ensures, c.look-g.ensures, c.from.ensures) (key_one (get_or c.args.code.now (c.args.at + 3) 0) (get_or c.args.code.now (c.args.at + 2) 0) (get_or c.args.code.now (c.args.at + 1) 0) (get_or c.args.code.now c.args.at 0) (entry c.args.names.now (get_or c.args.code.now (c.args.at + 1) 0)) (entry c.args.names.now (get_or c.args.code.now c.args.at 0)) c.args.sizes.now c.in-1.is)))
 
 pub returns-in-2 : goal.returns-in-2
-returns-in-2 c = faulted c.args.code.now c.args.at c.args.names.now c.args.sizes.now _ (c.unless-in-2.ensures ∙ (rw (c.wide-i.ensures.0, c.range_fits.ensures) (key-two (get_or c.args.code.now (c.args.at + 3) 0) (get_or c.args.code.now (c.args.at + 2) 0) (get_or c.args.code.now (c.args.at + 1) 0) (get_or c.args.code.now c.args.at 0) (entry c.args.names.now (get_or c.args.code.now (c.args.at + 1) 0)) (entry c.args.names.now (get_or c.args.code.now c.args.at 0)) c.args.sizes.now c.in-2.is)))
+unfolding number_of
+returns-in-2 c = faulted c.args.code.now c.args.at c.args.names.now c.args.sizes.now _ (c.unless-in-2.ensures ∙ (rw (c.from-i.ensures, c.range_fits.ensures) (key-two (get_or c.args.code.now (c.args.at + 3) 0) (get_or c.args.code.now (c.args.at + 2) 0) (get_or c.args.code.now (c.args.at + 1) 0) (get_or c.args.code.now c.args.at 0) (entry c.args.names.now (get_or c.args.code.now (c.args.at + 1) 0)) (entry c.args.names.now (get_or c.args.code.now c.args.at 0)) c.args.sizes.now c.in-2.is)))
 
 pub returns-in-3 : goal.returns-in-3
-returns-in-3 c = faulted c.args.code.now c.args.at c.args.names.now c.args.sizes.now _ (c.unless-in-3.ensures ∙ (rw (c.wide-i.ensures.0, c.is_given-in-3.ensures, c.look-in-3.ensures, c.index-in-3.ensures.0) (key-three (get_or c.args.code.now (c.args.at + 3) 0) (get_or c.args.code.now (c.args.at + 2) 0) (get_or c.args.code.now (c.args.at + 1) 0) (get_or c.args.code.now c.args.at 0) (entry c.args.names.now (get_or c.args.code.now (c.args.at + 1) 0)) (entry c.args.names.now (get_or c.args.code.now c.args.at 0)) c.args.sizes.now c.in-3.is)))
+unfolding number_of
+returns-in-3 c = faulted c.args.code.now c.args.at c.args.names.now c.args.sizes.now _ (c.unless-in-3.ensures ∙ (rw (c.from-i.ensures, c.is_given-in-3.ensures, c.look-g.ensures, c.from.ensures) (key-three (get_or c.args.code.now (c.args.at + 3) 0) (get_or c.args.code.now (c.args.at + 2) 0) (get_or c.args.code.now (c.args.at + 1) 0) (get_or c.args.code.now c.args.at 0) (entry c.args.names.now (get_or c.args.code.now (c.args.at + 1) 0)) (entry c.args.names.now (get_or c.args.code.now c.args.at 0)) c.args.sizes.now c.in-3.is)))
 
 pub returns-in_default : goal.returns-in_default
-returns-in_default c = faulted c.args.code.now c.args.at c.args.names.now c.args.sizes.now _ (c.pairs_fault.ensures ∙ (rw (c.wide-i.ensures.0, c.look-in_default.ensures, c.index-in_default.ensures.0, c.look-in_default-2.ensures, c.index-in_default-2.ensures.0) (sym (key-else (get_or c.args.code.now (c.args.at + 3) 0) (get_or c.args.code.now (c.args.at + 2) 0) (get_or c.args.code.now (c.args.at + 1) 0) (get_or c.args.code.now c.args.at 0) (entry c.args.names.now (get_or c.args.code.now (c.args.at + 1) 0)) (entry c.args.names.now (get_or c.args.code.now c.args.at 0)) c.args.sizes.now c.in_default.in_default-own.rest.0.0.1 c.in_default.in_default-own.rest.0.1 c.in_default.in_default-own.rest.1))))
+returns-in_default c = faulted c.args.code.now c.args.at c.args.names.now c.args.sizes.now _ (c.pairs_fault.ensures ∙ (rw (c.from-i.ensures, c.look-g.ensures, c.from.ensures, c.look.ensures, c.from-in_default.ensures) (sym (key-else (get_or c.args.code.now (c.args.at + 3) 0) (get_or c.args.code.now (c.args.at + 2) 0) (get_or c.args.code.now (c.args.at + 1) 0) (get_or c.args.code.now c.args.at 0) (entry c.args.names.now (get_or c.args.code.now (c.args.at + 1) 0)) (entry c.args.names.now (get_or c.args.code.now c.args.at 0)) c.args.sizes.now c.in_default.in_default-own.rest.0.0.1 c.in_default.in_default-own.rest.0.1 c.in_default.in_default-own.rest.1))))

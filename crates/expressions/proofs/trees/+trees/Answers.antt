@@ -11,7 +11,7 @@ use Rattle.form_nodes.specs.FormPromises.{Ranged, start_as}
 use Rattle.declarations.proofs.ListNodes.{more-none, more-then, more-made}
 use Rattle.expressions.proofs.Chains.{more-known, chain}
 use Rattle.form.specs.Computed.{compute_form}
-use Rattle.form_nodes.proofs.ReadParts.{only, here, next, takes, taken, deeper, stops, likewise, fails, framed, known, counted, alike, wider, raised, known-ahead}
+use Rattle.form_nodes.proofs.ReadParts.{exits, only, here, next, takes, taken, deeper, stops, likewise, fails, framed, known, counted, alike, wider, raised, known-ahead}
 use Rattle.form_nodes.proofs.RangeEnds.{open_well, open-deep, range-well, other-kind, bind_well, bound-deep, bound-elsewhere}
 use Rattle.form_nodes.proofs.ItemSteps.{name-step, name-taken, rel-step, mem-step, unary-step, pred-rest-step}
 use Rattle.form_nodes.proofs.SameSteps.{operand_step, as-operand, as-term, as_pred, quantifier-step, as-list, list-stops, pairs-stop, whole-term, whole-pred, known-level, below-level, rest-division, rest-binary, rest-connective, rest-depth, paren-opens, rel-pair, mem-some, quantifier-code, declared-stops, known-code}
@@ -33,27 +33,27 @@ pub atom-returns-then-c-eq-MEMBERSHIP : goal.atom-returns-then-c-eq-MEMBERSHIP
 unfolding compute_form
 atom-returns-then-c-eq-MEMBERSHIP t c = (takes {μ = a_right c.args.d c.args.b ∷ []} (omega arith) (λ κ e γ. rel-step c.args.d c.args.b κ γ ((c.relation_of-c.ensures.classes.class κ (e ∙ sym c.kind_at-k.ensures.is)) ∙ c.if-c-eq-MEMBERSHIP.true)) c.member.ensures.0 (omega arith), c.member.ensures.1)
 
-pub atom-put-h-requires : goal.atom-put-h-requires
-atom-put-h-requires t c = let room = c.requires.0 in let h = (known c.in-At.is c.term.ensures.0) in search rules
+pub atom-put-count-requires : goal.atom-put-count-requires
+atom-put-count-requires t c = let room = c.requires.0 in let h = (known c.in_ok-right.was c.term.ensures.0) in search rules
 
-pub atom-returns-in-At : goal.atom-returns-in-At
+pub atom-returns-then-c-eq-COMPARISON : goal.atom-returns-then-c-eq-COMPARISON
 unfolding compute_form
-atom-returns-in-At t c = (let h = (known c.in-At.is c.term.ensures.0) in takes {μ = a_term c.args.d c.args.b ∷ []} {m = c.args.n + 4} (omega arith) (λ κ e γ. rel-step c.args.d c.args.b κ γ ((c.relation_of-c.ensures.classes.class κ (e ∙ sym c.kind_at-k.ensures.is)) ∙ c.if-c-eq-COMPARISON.true)) (counted (omega arith) h) (omega arith), let w₁ = (made c.in-At.is c.term.ensures.1) in makes (both (built w₁) (node_of (c.wide.ensures ∙ c.kind_at-k.ensures.is) refl c.put-h.ensures)) (derived.compared (class-at c.kind_at-k.ensures.is c.if-c-eq-COMPARISON.true c.relation_of-c.ensures.classes) w₁.derives))
+atom-returns-then-c-eq-COMPARISON t c = (let h = (known c.in_ok-right.was c.term.ensures.0) in takes {μ = a_term c.args.d c.args.b ∷ []} {m = c.args.n + 4} (omega arith) (λ κ e γ. rel-step c.args.d c.args.b κ γ ((c.relation_of-c.ensures.classes.class κ (e ∙ sym c.kind_at-k.ensures.is)) ∙ c.if-c-eq-COMPARISON.true)) (counted (omega arith) h) (omega arith), let w₁ = (made c.in_ok-right.was c.term.ensures.1) in makes (both (built w₁) (node_of (c.wide.ensures ∙ c.kind_at-k.ensures.is) refl c.put-count.ensures)) (derived.compared (class-at c.kind_at-k.ensures.is c.if-c-eq-COMPARISON.true c.relation_of-c.ensures.classes) w₁.derives))
 
-pub atom-returns-in-Fault : goal.atom-returns-in-Fault
+pub atom-returns-in_err-right : goal.atom-returns-in_err-right
 unfolding compute_form
-atom-returns-in-Fault t c = (takes {μ = a_term c.args.d c.args.b ∷ []} {m = c.args.n} (omega arith) (λ κ e γ. rel-step c.args.d c.args.b κ γ ((c.relation_of-c.ensures.classes.class κ (e ∙ sym c.kind_at-k.ensures.is)) ∙ c.if-c-eq-COMPARISON.true)) (fails (known c.in-Fault.is c.term.ensures.0)) (omega arith), tt)
+atom-returns-in_err-right t c = rw (exits c.from_residual.result c.from_residual.ensures.1) ((takes {μ = a_term c.args.d c.args.b ∷ []} {m = c.args.n} (omega arith) (λ κ e γ. rel-step c.args.d c.args.b κ γ ((c.relation_of-c.ensures.classes.class κ (e ∙ sym c.kind_at-k.ensures.is)) ∙ c.if-c-eq-COMPARISON.true)) (fails (known c.in_err-right.was c.term.ensures.0)) (omega arith), tt))
 
 pub atom-related-requires : goal.atom-related-requires
-atom-related-requires t c = let room = c.requires.0 in let h = (known c.in-At-term.is c.term-2.ensures.0) in search rules
+atom-related-requires t c = let room = c.requires.0 in let h = (known c.in_ok-second.was c.term-2.ensures.0) in search rules
 
-pub atom-returns-in-At-term : goal.atom-returns-in-At-term
+pub atom-returns : goal.atom-returns
 unfolding compute_form
-atom-returns-in-At-term t c = (takes {μ = a_term c.args.d c.args.b ∷ a_mem c.args.d c.args.b ∷ []} {m = c.args.n} (omega arith) (λ κ e γ. rel-pair c.args.d c.args.b c.relation_of-c.result κ γ (c.relation_of-c.ensures.classes.class κ (e ∙ sym c.kind_at-k.ensures.is)) (omega arith)) (next (framed (a_mem c.args.d c.args.b ∷ []) (known c.in-At-term.is c.term-2.ensures.0)) c.related.ensures.0) (omega arith), let w₁ = (made c.in-At-term.is c.term-2.ensures.1) in onward _ c.related.result (built w₁) (λ k v x. derived.mapped (sym c.kind_at-k.ensures.is ∙ c.relation_of-c.ensures.maplet (omega arith)) w₁.derives x) c.related.ensures.1)
+atom-returns t c = (takes {μ = a_term c.args.d c.args.b ∷ a_mem c.args.d c.args.b ∷ []} {m = c.args.n} (omega arith) (λ κ e γ. rel-pair c.args.d c.args.b c.relation_of-c.result κ γ (c.relation_of-c.ensures.classes.class κ (e ∙ sym c.kind_at-k.ensures.is)) (omega arith)) (next (framed (a_mem c.args.d c.args.b ∷ []) (known c.in_ok-second.was c.term-2.ensures.0)) c.related.ensures.0) (omega arith), let w₁ = (made c.in_ok-second.was c.term-2.ensures.1) in onward _ c.related.result (built w₁) (λ k v x. derived.mapped (sym c.kind_at-k.ensures.is ∙ c.relation_of-c.ensures.maplet (omega arith)) w₁.derives x) c.related.ensures.1)
 
-pub atom-returns-in-Fault-term : goal.atom-returns-in-Fault-term
+pub atom-returns-in_err-second : goal.atom-returns-in_err-second
 unfolding compute_form
-atom-returns-in-Fault-term t c = (takes {μ = a_term c.args.d c.args.b ∷ a_mem c.args.d c.args.b ∷ []} {m = c.args.n} (omega arith) (λ κ e γ. rel-pair c.args.d c.args.b c.relation_of-c.result κ γ (c.relation_of-c.ensures.classes.class κ (e ∙ sym c.kind_at-k.ensures.is)) (omega arith)) (fails (framed (a_mem c.args.d c.args.b ∷ []) (known c.in-Fault-term.is c.term-2.ensures.0))) (omega arith), tt)
+atom-returns-in_err-second t c = rw (exits c.from_residual-in_err-second.result c.from_residual-in_err-second.ensures.1) ((takes {μ = a_term c.args.d c.args.b ∷ a_mem c.args.d c.args.b ∷ []} {m = c.args.n} (omega arith) (λ κ e γ. rel-pair c.args.d c.args.b c.relation_of-c.result κ γ (c.relation_of-c.ensures.classes.class κ (e ∙ sym c.kind_at-k.ensures.is)) (omega arith)) (fails (framed (a_mem c.args.d c.args.b ∷ []) (known c.in_err-second.was c.term-2.ensures.0))) (omega arith), tt))
 
 pub brace-returns-then-kind_at-eq-COLON : goal.brace-returns-then-kind_at-eq-COLON
 unfolding compute_form
@@ -72,80 +72,80 @@ unfolding compute_form
 items-returns-then-k-eq-CLOSE_BRACE t c = (let room = c.requires.0 in takes {μ = []} (omega arith) (only _ kind.close_brace (sym c.kind_at-k.ensures.is ∙ c.if-k-eq-CLOSE_BRACE.true) (λ γ. refl)) (here (omega arith)) (omega arith), makes (wrote c.put-c.ensures) (derived.items_end (sym c.kind_at-k.ensures.is ∙ c.if-k-eq-CLOSE_BRACE.true)))
 
 pub items-items-requires : goal.items-items-requires
-items-items-requires t c = let room = c.requires.0 in let h = (known c.in-At.is c.term.ensures.0) in search rules
+items-items-requires t c = let room = c.requires.0 in let h = (known c.in_ok-item.was c.term.ensures.0) in search rules
 
-pub items-put-h-requires : goal.items-put-h-requires
-items-put-h-requires t c = let room = c.requires.0 in let h = (known c.in-At.is c.term.ensures.0) in let i = (known c.in-At-items.is c.items.ensures.0) in search rules
+pub items-put-count-requires : goal.items-put-count-requires
+items-put-count-requires t c = let room = c.requires.0 in let h = (known c.in_ok-item.was c.term.ensures.0) in let i = (known c.in_ok-rest.was c.items.ensures.0) in search rules
 
-pub items-returns-in-At-items : goal.items-returns-in-At-items
+pub items-returns-then-k-eq-COMMA : goal.items-returns-then-k-eq-COMMA
 unfolding compute_form
-items-returns-in-At-items t c = (let room = c.requires.0 in let h = (known c.in-At.is c.term.ensures.0) in let i = (known c.in-At-items.is c.items.ensures.0) in takes {μ = a_term c.args.d c.args.b ∷ a_list c.args.d c.args.b ∷ []} {m = c.args.n + 4} (omega arith) (only _ kind.comma (sym c.kind_at-k.ensures.is ∙ c.if-k-eq-COMMA.true) (λ γ. refl)) (counted (omega arith) (next (framed (a_list c.args.d c.args.b ∷ []) h) i)) (omega arith), let w₁ = (made c.in-At.is c.term.ensures.1) in let w₂ = (made c.in-At-items.is c.items.ensures.1) in makes (both (both (built w₁) (built w₂)) (wrote c.put-h.ensures)) (derived.more_items (sym c.kind_at-k.ensures.is ∙ c.if-k-eq-COMMA.true) w₁.derives w₂.derives))
+items-returns-then-k-eq-COMMA t c = (let room = c.requires.0 in let h = (known c.in_ok-item.was c.term.ensures.0) in let i = (known c.in_ok-rest.was c.items.ensures.0) in takes {μ = a_term c.args.d c.args.b ∷ a_list c.args.d c.args.b ∷ []} {m = c.args.n + 4} (omega arith) (only _ kind.comma (sym c.kind_at-k.ensures.is ∙ c.if-k-eq-COMMA.true) (λ γ. refl)) (counted (omega arith) (next (framed (a_list c.args.d c.args.b ∷ []) h) i)) (omega arith), let w₁ = (made c.in_ok-item.was c.term.ensures.1) in let w₂ = (made c.in_ok-rest.was c.items.ensures.1) in makes (both (both (built w₁) (built w₂)) (wrote c.put-count.ensures)) (derived.more_items (sym c.kind_at-k.ensures.is ∙ c.if-k-eq-COMMA.true) w₁.derives w₂.derives))
 
-pub items-returns-in-Fault-items : goal.items-returns-in-Fault-items
+pub items-returns-in_err-rest : goal.items-returns-in_err-rest
 unfolding compute_form
-items-returns-in-Fault-items t c = (let room = c.requires.0 in let h = (known c.in-At.is c.term.ensures.0) in takes {μ = a_term c.args.d c.args.b ∷ a_list c.args.d c.args.b ∷ []} {m = c.args.n} (omega arith) (only _ kind.comma (sym c.kind_at-k.ensures.is ∙ c.if-k-eq-COMMA.true) (λ γ. refl)) (fails (next (framed (a_list c.args.d c.args.b ∷ []) h) (known c.in-Fault-items.is c.items.ensures.0))) (omega arith), tt)
+items-returns-in_err-rest t c = rw (exits c.from_residual-in_err-rest.result c.from_residual-in_err-rest.ensures.1) ((let room = c.requires.0 in let h = (known c.in_ok-item.was c.term.ensures.0) in takes {μ = a_term c.args.d c.args.b ∷ a_list c.args.d c.args.b ∷ []} {m = c.args.n} (omega arith) (only _ kind.comma (sym c.kind_at-k.ensures.is ∙ c.if-k-eq-COMMA.true) (λ γ. refl)) (fails (next (framed (a_list c.args.d c.args.b ∷ []) h) (known c.in_err-rest.was c.items.ensures.0))) (omega arith), tt))
 
-pub items-returns-in-Fault : goal.items-returns-in-Fault
+pub items-returns-in_err-item : goal.items-returns-in_err-item
 unfolding compute_form
-items-returns-in-Fault t c = (let room = c.requires.0 in takes {μ = a_term c.args.d c.args.b ∷ a_list c.args.d c.args.b ∷ []} {m = c.args.n} (omega arith) (only _ kind.comma (sym c.kind_at-k.ensures.is ∙ c.if-k-eq-COMMA.true) (λ γ. refl)) (fails (framed (a_list c.args.d c.args.b ∷ []) (known c.in-Fault.is c.term.ensures.0))) (omega arith), tt)
+items-returns-in_err-item t c = rw (exits c.from_residual.result c.from_residual.ensures.1) ((let room = c.requires.0 in takes {μ = a_term c.args.d c.args.b ∷ a_list c.args.d c.args.b ∷ []} {m = c.args.n} (omega arith) (only _ kind.comma (sym c.kind_at-k.ensures.is ∙ c.if-k-eq-COMMA.true) (λ γ. refl)) (fails (framed (a_list c.args.d c.args.b ∷ []) (known c.in_err-item.was c.term.ensures.0))) (omega arith), tt))
 
 pub items-returns : goal.items-returns
 unfolding compute_form
 items-returns t c = (let room = c.requires.0 in stops (omega arith) (λ κ e γ. list-stops c.args.d c.args.b κ γ (λ q. c.if-k-eq-CLOSE_BRACE.false (c.kind_at-k.ensures.is ∙ sym e ∙ q)) (λ q. c.if-k-eq-COMMA.false (c.kind_at-k.ensures.is ∙ sym e ∙ q))) (λ γ. refl), tt)
 
 pub listed-pairs-requires : goal.listed-pairs-requires
-listed-pairs-requires t c = let room = c.requires.0 in let h = (known c.in-At.is c.term.ensures.0) in search rules
+listed-pairs-requires t c = let room = c.requires.0 in let h = (known c.in_ok-first.was c.term.ensures.0) in search rules
 
-pub listed-put-h-requires : goal.listed-put-h-requires
-listed-put-h-requires t c = let room = c.requires.0 in let h = (known c.in-At.is c.term.ensures.0) in let i = (known c.in-At-pairs.is c.pairs.ensures.0) in search rules
+pub listed-put-count-requires : goal.listed-put-count-requires
+listed-put-count-requires t c = let room = c.requires.0 in let h = (known c.in_ok-first.was c.term.ensures.0) in let i = (known c.in_ok-sides.was c.pairs.ensures.0) in search rules
 
-pub listed-returns-in-At-pairs : goal.listed-returns-in-At-pairs
+pub listed-returns-then-kind_at-eq-MAPLET : goal.listed-returns-then-kind_at-eq-MAPLET
 unfolding compute_form
-listed-returns-in-At-pairs t c = (let room = c.requires.0 in let h = (known c.in-At.is c.term.ensures.0) in let i = (known c.in-At-pairs.is c.pairs.ensures.0) in counted (omega arith) (alike (as-listed c.args.s.now c.args.at c.args.d c.args.b c.requires.4 c.requires.5) (next (framed (a_first c.args.d c.args.b ∷ []) h) (likewise (only _ kind.maplet (sym c.kind_at.ensures.is ∙ c.if-kind_at-eq-MAPLET.true) (λ γ. refl)) (λ γ. refl) i))), let w₁ = (made c.in-At.is c.term.ensures.1) in let w₂ = (made c.in-At-pairs.is c.pairs.ensures.1) in makes (both (both (built w₁) (built w₂)) (wrote c.put-h.ensures)) (derived.paired c.requires.4 w₁.derives w₂.derives))
+listed-returns-then-kind_at-eq-MAPLET t c = (let room = c.requires.0 in let h = (known c.in_ok-first.was c.term.ensures.0) in let i = (known c.in_ok-sides.was c.pairs.ensures.0) in counted (omega arith) (alike (as-listed c.args.s.now c.args.at c.args.d c.args.b c.requires.4 c.requires.5) (next (framed (a_first c.args.d c.args.b ∷ []) h) (likewise (only _ kind.maplet (sym c.kind_at.ensures.is ∙ c.if-kind_at-eq-MAPLET.true) (λ γ. refl)) (λ γ. refl) i))), let w₁ = (made c.in_ok-first.was c.term.ensures.1) in let w₂ = (made c.in_ok-sides.was c.pairs.ensures.1) in makes (both (both (built w₁) (built w₂)) (wrote c.put-count.ensures)) (derived.paired c.requires.4 w₁.derives w₂.derives))
 
-pub listed-returns-in-Fault-pairs : goal.listed-returns-in-Fault-pairs
+pub listed-returns-in_err-sides : goal.listed-returns-in_err-sides
 unfolding compute_form
-listed-returns-in-Fault-pairs t c = (let room = c.requires.0 in let h = (known c.in-At.is c.term.ensures.0) in wider (alike (as-listed c.args.s.now c.args.at c.args.d c.args.b c.requires.4 c.requires.5) (next (framed (a_first c.args.d c.args.b ∷ []) h) (likewise (only _ kind.maplet (sym c.kind_at.ensures.is ∙ c.if-kind_at-eq-MAPLET.true) (λ γ. refl)) (λ γ. refl) (known c.in-Fault-pairs.is c.pairs.ensures.0)))) (omega arith), tt)
+listed-returns-in_err-sides t c = rw (exits c.from_residual-in_err-sides.result c.from_residual-in_err-sides.ensures.1) ((let room = c.requires.0 in let h = (known c.in_ok-first.was c.term.ensures.0) in wider (alike (as-listed c.args.s.now c.args.at c.args.d c.args.b c.requires.4 c.requires.5) (next (framed (a_first c.args.d c.args.b ∷ []) h) (likewise (only _ kind.maplet (sym c.kind_at.ensures.is ∙ c.if-kind_at-eq-MAPLET.true) (λ γ. refl)) (λ γ. refl) (known c.in_err-sides.was c.pairs.ensures.0)))) (omega arith), tt))
 
 pub listed-items-requires : goal.listed-items-requires
-listed-items-requires t c = let room = c.requires.0 in let h = (known c.in-At.is c.term.ensures.0) in search rules
+listed-items-requires t c = let room = c.requires.0 in let h = (known c.in_ok-first.was c.term.ensures.0) in search rules
 
-pub listed-put-h-requires-in-At-items : goal.listed-put-h-requires-in-At-items
-listed-put-h-requires-in-At-items t c = let room = c.requires.0 in let h = (known c.in-At.is c.term.ensures.0) in let i = (known c.in-At-items.is c.items.ensures.0) in search rules
+pub listed-put-count-requires-2 : goal.listed-put-count-requires-2
+listed-put-count-requires-2 t c = let room = c.requires.0 in let h = (known c.in_ok-first.was c.term.ensures.0) in let i = (known c.in_ok-rest.was c.items.ensures.0) in search rules
 
-pub listed-returns-in-At-items : goal.listed-returns-in-At-items
+pub listed-returns : goal.listed-returns
 unfolding compute_form
-listed-returns-in-At-items t c = (let room = c.requires.0 in let h = (known c.in-At.is c.term.ensures.0) in let i = (known c.in-At-items.is c.items.ensures.0) in counted (omega arith) (alike (as-listed c.args.s.now c.args.at c.args.d c.args.b c.requires.4 c.requires.5) (next (framed (a_first c.args.d c.args.b ∷ []) h) (likewise (λ κ e γ. as-list c.args.d c.args.b κ γ (λ q. c.if-kind_at-eq-MAPLET.false (c.kind_at.ensures.is ∙ sym e ∙ q))) (λ γ. refl) i))), let w₁ = (made c.in-At.is c.term.ensures.1) in let w₂ = (made c.in-At-items.is c.items.ensures.1) in makes (both (both (built w₁) (built w₂)) (wrote c.put-h-in-At-items.ensures)) (derived.listed c.requires.4 w₁.derives w₂.derives))
+listed-returns t c = (let room = c.requires.0 in let h = (known c.in_ok-first.was c.term.ensures.0) in let i = (known c.in_ok-rest.was c.items.ensures.0) in counted (omega arith) (alike (as-listed c.args.s.now c.args.at c.args.d c.args.b c.requires.4 c.requires.5) (next (framed (a_first c.args.d c.args.b ∷ []) h) (likewise (λ κ e γ. as-list c.args.d c.args.b κ γ (λ q. c.if-kind_at-eq-MAPLET.false (c.kind_at.ensures.is ∙ sym e ∙ q))) (λ γ. refl) i))), let w₁ = (made c.in_ok-first.was c.term.ensures.1) in let w₂ = (made c.in_ok-rest.was c.items.ensures.1) in makes (both (both (built w₁) (built w₂)) (wrote c.put-count-2.ensures)) (derived.listed c.requires.4 w₁.derives w₂.derives))
 
-pub listed-returns-in-Fault-items : goal.listed-returns-in-Fault-items
+pub listed-returns-in_err-rest : goal.listed-returns-in_err-rest
 unfolding compute_form
-listed-returns-in-Fault-items t c = (let room = c.requires.0 in let h = (known c.in-At.is c.term.ensures.0) in wider (alike (as-listed c.args.s.now c.args.at c.args.d c.args.b c.requires.4 c.requires.5) (next (framed (a_first c.args.d c.args.b ∷ []) h) (likewise (λ κ e γ. as-list c.args.d c.args.b κ γ (λ q. c.if-kind_at-eq-MAPLET.false (c.kind_at.ensures.is ∙ sym e ∙ q))) (λ γ. refl) (known c.in-Fault-items.is c.items.ensures.0)))) (omega arith), tt)
+listed-returns-in_err-rest t c = rw (exits c.from_residual-in_err-rest.result c.from_residual-in_err-rest.ensures.1) ((let room = c.requires.0 in let h = (known c.in_ok-first.was c.term.ensures.0) in wider (alike (as-listed c.args.s.now c.args.at c.args.d c.args.b c.requires.4 c.requires.5) (next (framed (a_first c.args.d c.args.b ∷ []) h) (likewise (λ κ e γ. as-list c.args.d c.args.b κ γ (λ q. c.if-kind_at-eq-MAPLET.false (c.kind_at.ensures.is ∙ sym e ∙ q))) (λ γ. refl) (known c.in_err-rest.was c.items.ensures.0)))) (omega arith), tt))
 
-pub listed-returns-in-Fault : goal.listed-returns-in-Fault
+pub listed-returns-in_err-first : goal.listed-returns-in_err-first
 unfolding compute_form
-listed-returns-in-Fault t c = (alike (as-listed c.args.s.now c.args.at c.args.d c.args.b c.requires.4 c.requires.5) (fails (framed (a_first c.args.d c.args.b ∷ []) (known c.in-Fault.is c.term.ensures.0))), tt)
+listed-returns-in_err-first t c = rw (exits c.from_residual.result c.from_residual.ensures.1) ((alike (as-listed c.args.s.now c.args.at c.args.d c.args.b c.requires.4 c.requires.5) (fails (framed (a_first c.args.d c.args.b ∷ []) (known c.in_err-first.was c.term.ensures.0))), tt))
 
-pub member-put-c-requires : goal.member-put-c-requires
-member-put-c-requires t c = let room = c.requires.0 in let h = known c.in-At.is c.range.ensures.0.reads in let i = known-ahead _ c.in-At.is c.range.ensures.0.ahead in search rules
+pub member-put-count-requires : goal.member-put-count-requires
+member-put-count-requires t c = let room = c.requires.0 in let h = known c.in_ok-ends.was c.range.ensures.0.reads in let i = known-ahead _ c.in_ok-ends.was c.range.ensures.0.ahead in search rules
 
-pub member-returns-in-At : goal.member-returns-in-At
+pub member-returns-then-is_range : goal.member-returns-then-is_range
 unfolding compute_form
-member-returns-in-At t c = (let room = c.requires.0 in let h = known c.in-At.is c.range.ensures.0.reads in let i = known-ahead _ c.in-At.is c.range.ensures.0.ahead in right-range c.args.at (omega arith) (omega arith) (subst (λ y. Ranged c.args.s.now (c.args.at + 1) y) c.if-is_range.true c.is_range.ensures) (counted (omega arith) h), makes (both (wrote c.put_range-m.ensures) (node_of (c.wide.ensures ∙ c.kind_at-k.ensures.is) refl c.put-c.ensures)) (derived.within (record { low = c.requires.4; high = c.requires.5 }) (showing (RangeAt c.args.s.now (c.args.at + 1)) _ c.in-At.is c.range.ensures.1)))
+member-returns-then-is_range t c = (let room = c.requires.0 in let h = known c.in_ok-ends.was c.range.ensures.0.reads in let i = known-ahead _ c.in_ok-ends.was c.range.ensures.0.ahead in right-range c.args.at (omega arith) (omega arith) (subst (λ y. Ranged c.args.s.now (c.args.at + 1) y) c.if-is_range.true c.is_range.ensures) (counted (omega arith) h), makes (both (wrote c.put_range-m.ensures) (node_of (c.wide.ensures ∙ c.kind_at-k.ensures.is) refl c.put-count.ensures)) (derived.within (record { low = c.requires.4; high = c.requires.5 }) (showing (RangeAt c.args.s.now (c.args.at + 1)) _ c.in_ok-ends.was c.range.ensures.1)))
 
-pub member-returns-in-Fault : goal.member-returns-in-Fault
+pub member-returns-in_err-ends : goal.member-returns-in_err-ends
 unfolding compute_form
-member-returns-in-Fault t c = (let room = c.requires.0 in right-range c.args.at (omega arith) (omega arith) (subst (λ y. Ranged c.args.s.now (c.args.at + 1) y) c.if-is_range.true c.is_range.ensures) (fails (known c.in-Fault.is c.range.ensures.0.reads)), tt)
+member-returns-in_err-ends t c = rw (exits c.from_residual.result c.from_residual.ensures.1) ((let room = c.requires.0 in right-range c.args.at (omega arith) (omega arith) (subst (λ y. Ranged c.args.s.now (c.args.at + 1) y) c.if-is_range.true c.is_range.ensures) (fails (known c.in_err-ends.was c.range.ensures.0.reads)), tt))
 
-pub member-put-c-requires-in-At-term : goal.member-put-c-requires-in-At-term
-member-put-c-requires-in-At-term t c = let room = c.requires.0 in let h = (known c.in-At-term.is c.term.ensures.0) in search rules
+pub member-put-count-requires-2 : goal.member-put-count-requires-2
+member-put-count-requires-2 t c = let room = c.requires.0 in let h = (known c.in_ok-set.was c.term.ensures.0) in search rules
 
-pub member-returns-in-At-term : goal.member-returns-in-At-term
+pub member-returns : goal.member-returns
 unfolding compute_form
-member-returns-in-At-term t c = (let room = c.requires.0 in let h = (known c.in-At-term.is c.term.ensures.0) in right-term (subst (λ y. Ranged c.args.s.now (c.args.at + 1) y) c.if-is_range.false c.is_range.ensures) (counted (omega arith) h), let w₁ = (made c.in-At-term.is c.term.ensures.1) in makes (both (built w₁) (node_of (c.wide-in-At-term.ensures ∙ c.kind_at-k.ensures.is) refl c.put-c-in-At-term.ensures)) (derived.belongs (record { low = c.requires.4; high = c.requires.5 }) w₁.derives))
+member-returns t c = (let room = c.requires.0 in let h = (known c.in_ok-set.was c.term.ensures.0) in right-term (subst (λ y. Ranged c.args.s.now (c.args.at + 1) y) c.if-is_range.false c.is_range.ensures) (counted (omega arith) h), let w₁ = (made c.in_ok-set.was c.term.ensures.1) in makes (both (built w₁) (node_of (c.wide-2.ensures ∙ c.kind_at-k.ensures.is) refl c.put-count-2.ensures)) (derived.belongs (record { low = c.requires.4; high = c.requires.5 }) w₁.derives))
 
-pub member-returns-in-Fault-term : goal.member-returns-in-Fault-term
+pub member-returns-in_err-set : goal.member-returns-in_err-set
 unfolding compute_form
-member-returns-in-Fault-term t c = (let room = c.requires.0 in right-term (subst (λ y. Ranged c.args.s.now (c.args.at + 1) y) c.if-is_range.false c.is_range.ensures) (fails (known c.in-Fault-term.is c.term.ensures.0)), tt)
+member-returns-in_err-set t c = rw (exits c.from_residual-in_err-set.result c.from_residual-in_err-set.ensures.1) ((let room = c.requires.0 in right-term (subst (λ y. Ranged c.args.s.now (c.args.at + 1) y) c.if-is_range.false c.is_range.ensures) (fails (known c.in_err-set.was c.term.ensures.0)), tt))
 
 pub operand-leaf-m-requires : goal.operand-leaf-m-requires
 operand-leaf-m-requires t c = let room = c.requires.0 in let h = known-code c.kind_at-k.result c.in-Leaf.is c.start_of-start.ensures in let k = c.kind_at-k.ensures.is in search rules
@@ -170,8 +170,8 @@ operand-returns-then-d-ge-DEPTH t c = (let room = c.requires.0 in let h = known-
 pub operand-operand-requires : goal.operand-operand-requires
 operand-operand-requires t c = let room = c.requires.0 in let h = known-code c.kind_at-k.result c.in-Prefix.is c.start_of-start.ensures in let k = c.kind_at-k.ensures.is in search rules
 
-pub operand-put-c-requires-in-At : goal.operand-put-c-requires-in-At
-operand-put-c-requires-in-At t c = let room = c.requires.0 in let h = known-code c.kind_at-k.result c.in-Prefix.is c.start_of-start.ensures in let i = (known c.in-At.is c.operand.ensures.0) in search rules
+pub operand-put-count-requires : goal.operand-put-count-requires
+operand-put-count-requires t c = let room = c.requires.0 in let h = known-code c.kind_at-k.result c.in-Prefix.is c.start_of-start.ensures in let i = (known c.in_ok-inner-in-Prefix.was c.operand.ensures.0) in search rules
 
 pub operand-returns-then-d-ge-DEPTH-2 : goal.operand-returns-then-d-ge-DEPTH-2
 unfolding compute_form
@@ -181,7 +181,7 @@ pub operand-term-requires : goal.operand-term-requires
 operand-term-requires t c = let room = c.requires.0 in let h = known-code c.kind_at-k.result c.in-Bracket.is c.start_of-start.ensures in let k = c.kind_at-k.ensures.is in search rules
 
 pub operand-close-requires : goal.operand-close-requires
-operand-close-requires t c = let room = c.requires.0 in let h = (known c.in-At-term.is c.term.ensures.0) in search rules
+operand-close-requires t c = let room = c.requires.0 in let h = (known c.in_ok-bracketed-in-Bracket.was c.term.ensures.0) in search rules
 
 pub operand-returns-then-d-ge-DEPTH-3 : goal.operand-returns-then-d-ge-DEPTH-3
 unfolding compute_form
@@ -197,21 +197,21 @@ pub operand-returns-in-Leaf : goal.operand-returns-in-Leaf
 unfolding compute_form
 operand-returns-in-Leaf t c = (let room = c.requires.0 in let h = known-code c.kind_at-k.result c.in-Leaf.is c.start_of-start.ensures in takes {μ = []} (omega arith) (λ κ e γ. operand_step c.args.d c.args.b κ γ _ (c.start_of-start.ensures.start κ (e ∙ sym c.kind_at-k.ensures.is) ∙ ap start_as c.in-Leaf.is)) (here (omega arith)) (omega arith), makes (wrote c.leaf-m.ensures) (derived.leaf (start-at c.kind_at-k.ensures.is c.in-Leaf.is c.start_of-start.ensures)))
 
-pub operand-returns-in-At : goal.operand-returns-in-At
+pub operand-returns-in_ok-inner-in-Prefix : goal.operand-returns-in_ok-inner-in-Prefix
 unfolding compute_form
-operand-returns-in-At t c = (let room = c.requires.0 in let h = known-code c.kind_at-k.result c.in-Prefix.is c.start_of-start.ensures in let i = (known c.in-At.is c.operand.ensures.0) in taken {μ = an_operand (suc c.args.d) c.args.b ∷ []} {m = c.args.n + 4} (opens (suc c.args.d)) (omega arith) (open_well c.args.s.now c.args.at (suc c.args.d) (omega arith)) (λ κ e γ. operand_step c.args.d c.args.b κ γ _ (c.start_of-start.ensures.start κ (e ∙ sym c.kind_at-k.ensures.is) ∙ ap start_as c.in-Prefix.is)) (counted {c = c.args.n + 4} (omega arith) (raised (λ x. an_operand x c.args.b ∷ []) c.args.d i)) (omega arith), let w₁ = (made c.in-At.is c.operand.ensures.1) in makes (both (built w₁) (node_of (c.wide-in-At.ensures ∙ c.kind_at-k.ensures.is) refl c.put-c-in-At.ensures)) (derived.prefixed (start-at c.kind_at-k.ensures.is c.in-Prefix.is c.start_of-start.ensures) w₁.derives))
+operand-returns-in_ok-inner-in-Prefix t c = (let room = c.requires.0 in let h = known-code c.kind_at-k.result c.in-Prefix.is c.start_of-start.ensures in let i = (known c.in_ok-inner-in-Prefix.was c.operand.ensures.0) in taken {μ = an_operand (suc c.args.d) c.args.b ∷ []} {m = c.args.n + 4} (opens (suc c.args.d)) (omega arith) (open_well c.args.s.now c.args.at (suc c.args.d) (omega arith)) (λ κ e γ. operand_step c.args.d c.args.b κ γ _ (c.start_of-start.ensures.start κ (e ∙ sym c.kind_at-k.ensures.is) ∙ ap start_as c.in-Prefix.is)) (counted {c = c.args.n + 4} (omega arith) (raised (λ x. an_operand x c.args.b ∷ []) c.args.d i)) (omega arith), let w₁ = (made c.in_ok-inner-in-Prefix.was c.operand.ensures.1) in makes (both (built w₁) (node_of (c.wide-in-Prefix.ensures ∙ c.kind_at-k.ensures.is) refl c.put-count.ensures)) (derived.prefixed (start-at c.kind_at-k.ensures.is c.in-Prefix.is c.start_of-start.ensures) w₁.derives))
 
-pub operand-returns-in-Fault : goal.operand-returns-in-Fault
+pub operand-returns-in_err-inner-in-Prefix : goal.operand-returns-in_err-inner-in-Prefix
 unfolding compute_form
-operand-returns-in-Fault t c = (let room = c.requires.0 in let h = known-code c.kind_at-k.result c.in-Prefix.is c.start_of-start.ensures in taken {μ = an_operand (suc c.args.d) c.args.b ∷ []} {m = c.args.n + 4} (opens (suc c.args.d)) (omega arith) (open_well c.args.s.now c.args.at (suc c.args.d) (omega arith)) (λ κ e γ. operand_step c.args.d c.args.b κ γ _ (c.start_of-start.ensures.start κ (e ∙ sym c.kind_at-k.ensures.is) ∙ ap start_as c.in-Prefix.is)) (fails (raised (λ x. an_operand x c.args.b ∷ []) c.args.d (known c.in-Fault.is c.operand.ensures.0))) (omega arith), tt)
+operand-returns-in_err-inner-in-Prefix t c = rw (exits c.from_residual.result c.from_residual.ensures.1) ((let room = c.requires.0 in let h = known-code c.kind_at-k.result c.in-Prefix.is c.start_of-start.ensures in taken {μ = an_operand (suc c.args.d) c.args.b ∷ []} {m = c.args.n + 4} (opens (suc c.args.d)) (omega arith) (open_well c.args.s.now c.args.at (suc c.args.d) (omega arith)) (λ κ e γ. operand_step c.args.d c.args.b κ γ _ (c.start_of-start.ensures.start κ (e ∙ sym c.kind_at-k.ensures.is) ∙ ap start_as c.in-Prefix.is)) (fails (raised (λ x. an_operand x c.args.b ∷ []) c.args.d (known c.in_err-inner-in-Prefix.was c.operand.ensures.0))) (omega arith), tt))
 
-pub operand-returns-in-At-term : goal.operand-returns-in-At-term
+pub operand-returns-in_ok-bracketed-in-Bracket : goal.operand-returns-in_ok-bracketed-in-Bracket
 unfolding compute_form
-operand-returns-in-At-term t c = (let room = c.requires.0 in let h = known-code c.kind_at-k.result c.in-Bracket.is c.start_of-start.ensures in taken {μ = a_term (suc c.args.d) c.args.b ∷ exact kind.close_bracket ∷ []} {m = c.args.n + 4} (opens (suc c.args.d)) (omega arith) (open_well c.args.s.now c.args.at (suc c.args.d) (omega arith)) (λ κ e γ. operand_step c.args.d c.args.b κ γ _ (c.start_of-start.ensures.start κ (e ∙ sym c.kind_at-k.ensures.is) ∙ ap start_as c.in-Bracket.is)) (wider (next (framed (exact kind.close_bracket ∷ []) (raised (λ x. a_term x c.args.b ∷ []) c.args.d (known c.in-At-term.is c.term.ensures.0))) (c.close.ensures.reads kind.close_bracket refl)) (omega arith)) (omega arith), let w₁ = (made c.in-At-term.is c.term.ensures.1) in let t₁ = known-code c.kind_at-k.result c.in-Bracket.is c.start_of-start.ensures in closing c.close.ensures (λ q. makes (built w₁) (derived.bracketed (sym c.kind_at-k.ensures.is ∙ t₁) w₁.derives q)))
+operand-returns-in_ok-bracketed-in-Bracket t c = (let room = c.requires.0 in let h = known-code c.kind_at-k.result c.in-Bracket.is c.start_of-start.ensures in taken {μ = a_term (suc c.args.d) c.args.b ∷ exact kind.close_bracket ∷ []} {m = c.args.n + 4} (opens (suc c.args.d)) (omega arith) (open_well c.args.s.now c.args.at (suc c.args.d) (omega arith)) (λ κ e γ. operand_step c.args.d c.args.b κ γ _ (c.start_of-start.ensures.start κ (e ∙ sym c.kind_at-k.ensures.is) ∙ ap start_as c.in-Bracket.is)) (wider (next (framed (exact kind.close_bracket ∷ []) (raised (λ x. a_term x c.args.b ∷ []) c.args.d (known c.in_ok-bracketed-in-Bracket.was c.term.ensures.0))) (c.close.ensures.reads kind.close_bracket refl)) (omega arith)) (omega arith), let w₁ = (made c.in_ok-bracketed-in-Bracket.was c.term.ensures.1) in let t₁ = known-code c.kind_at-k.result c.in-Bracket.is c.start_of-start.ensures in closing c.close.ensures (λ q. makes (built w₁) (derived.bracketed (sym c.kind_at-k.ensures.is ∙ t₁) w₁.derives q)))
 
-pub operand-returns-in-Fault-term : goal.operand-returns-in-Fault-term
+pub operand-returns-in_err-bracketed-in-Bracket : goal.operand-returns-in_err-bracketed-in-Bracket
 unfolding compute_form
-operand-returns-in-Fault-term t c = (let room = c.requires.0 in let h = known-code c.kind_at-k.result c.in-Bracket.is c.start_of-start.ensures in taken {μ = a_term (suc c.args.d) c.args.b ∷ exact kind.close_bracket ∷ []} {m = c.args.n + 4} (opens (suc c.args.d)) (omega arith) (open_well c.args.s.now c.args.at (suc c.args.d) (omega arith)) (λ κ e γ. operand_step c.args.d c.args.b κ γ _ (c.start_of-start.ensures.start κ (e ∙ sym c.kind_at-k.ensures.is) ∙ ap start_as c.in-Bracket.is)) (fails (framed (exact kind.close_bracket ∷ []) (raised (λ x. a_term x c.args.b ∷ []) c.args.d (known c.in-Fault-term.is c.term.ensures.0)))) (omega arith), tt)
+operand-returns-in_err-bracketed-in-Bracket t c = rw (exits c.from_residual-in_err-bracketed-in-Bracket.result c.from_residual-in_err-bracketed-in-Bracket.ensures.1) ((let room = c.requires.0 in let h = known-code c.kind_at-k.result c.in-Bracket.is c.start_of-start.ensures in taken {μ = a_term (suc c.args.d) c.args.b ∷ exact kind.close_bracket ∷ []} {m = c.args.n + 4} (opens (suc c.args.d)) (omega arith) (open_well c.args.s.now c.args.at (suc c.args.d) (omega arith)) (λ κ e γ. operand_step c.args.d c.args.b κ γ _ (c.start_of-start.ensures.start κ (e ∙ sym c.kind_at-k.ensures.is) ∙ ap start_as c.in-Bracket.is)) (fails (framed (exact kind.close_bracket ∷ []) (raised (λ x. a_term x c.args.b ∷ []) c.args.d (known c.in_err-bracketed-in-Bracket.was c.term.ensures.0)))) (omega arith), tt))
 
 pub operand-returns-else-d-ge-DEPTH-3 : goal.operand-returns-else-d-ge-DEPTH-3
 unfolding compute_form
@@ -231,7 +231,7 @@ pairs-close-requires t c = search rules
 
 pub pairs-term-requires : goal.pairs-term-requires
 unfolding code_of
-pairs-term-requires t c = let room = c.requires.0 in let h = (known c.in-At.is (c.close.ensures.reads kind.maplet refl)) in let z = known-ahead _ c.in-At.is c.close.ensures.ahead in search rules
+pairs-term-requires t c = let room = c.requires.0 in let h = (known c.in_ok-arrow.was (c.close.ensures.reads kind.maplet refl)) in let z = known-ahead _ c.in_ok-arrow.was c.close.ensures.ahead in search rules
 
 pub pairs-kind_at-k-requires : goal.pairs-kind_at-k-requires
 unfolding code_of
@@ -239,58 +239,58 @@ pairs-kind_at-k-requires t c = search rules
 
 pub pairs-put-c-requires : goal.pairs-put-c-requires
 unfolding code_of
-pairs-put-c-requires t c = let room = c.requires.0 in let h = (known c.in-At.is (c.close.ensures.reads kind.maplet refl)) in let i = (known c.in-At-term.is c.term.ensures.0) in search rules
+pairs-put-c-requires t c = let room = c.requires.0 in let h = (known c.in_ok-arrow.was (c.close.ensures.reads kind.maplet refl)) in let i = (known c.in_ok-right.was c.term.ensures.0) in search rules
 
 pub pairs-returns-then-k-eq-CLOSE_BRACE : goal.pairs-returns-then-k-eq-CLOSE_BRACE
 unfolding compute_form
-pairs-returns-then-k-eq-CLOSE_BRACE t c = (let room = c.requires.0 in let h = (known c.in-At.is (c.close.ensures.reads kind.maplet refl)) in let i = (known c.in-At-term.is c.term.ensures.0) in next (counted {c = c.args.n} {d = c.args.n} (omega arith) (framed (a_term c.args.d c.args.b ∷ a_pairs c.args.d c.args.b ∷ []) h)) (next (framed (a_pairs c.args.d c.args.b ∷ []) i) (takes {μ = []} (omega arith) (only _ kind.close_brace (sym c.kind_at-k.ensures.is ∙ c.if-k-eq-CLOSE_BRACE.true) (λ γ. refl)) (here (omega arith)) (omega arith))), let t₁ = closed c.in-At.is c.close.ensures in let w₁ = (made c.in-At-term.is c.term.ensures.1) in makes (both (built w₁) (wrote c.put-c.ensures)) (derived.end_of_pairs t₁.1 (from t₁.0 w₁.derives) (sym c.kind_at-k.ensures.is ∙ c.if-k-eq-CLOSE_BRACE.true)))
+pairs-returns-then-k-eq-CLOSE_BRACE t c = (let room = c.requires.0 in let h = (known c.in_ok-arrow.was (c.close.ensures.reads kind.maplet refl)) in let i = (known c.in_ok-right.was c.term.ensures.0) in next (counted {c = c.args.n} {d = c.args.n} (omega arith) (framed (a_term c.args.d c.args.b ∷ a_pairs c.args.d c.args.b ∷ []) h)) (next (framed (a_pairs c.args.d c.args.b ∷ []) i) (takes {μ = []} (omega arith) (only _ kind.close_brace (sym c.kind_at-k.ensures.is ∙ c.if-k-eq-CLOSE_BRACE.true) (λ γ. refl)) (here (omega arith)) (omega arith))), let t₁ = closed c.in_ok-arrow.was c.close.ensures in let w₁ = (made c.in_ok-right.was c.term.ensures.1) in makes (both (built w₁) (wrote c.put-c.ensures)) (derived.end_of_pairs t₁.1 (from t₁.0 w₁.derives) (sym c.kind_at-k.ensures.is ∙ c.if-k-eq-CLOSE_BRACE.true)))
 
 pub pairs-term-requires-then-k-eq-COMMA : goal.pairs-term-requires-then-k-eq-COMMA
 unfolding code_of
-pairs-term-requires-then-k-eq-COMMA t c = let room = c.requires.0 in let h = (known c.in-At.is (c.close.ensures.reads kind.maplet refl)) in let i = (known c.in-At-term.is c.term.ensures.0) in search rules
+pairs-term-requires-then-k-eq-COMMA t c = let room = c.requires.0 in let h = (known c.in_ok-arrow.was (c.close.ensures.reads kind.maplet refl)) in let i = (known c.in_ok-right.was c.term.ensures.0) in search rules
 
 pub pairs-pairs-requires : goal.pairs-pairs-requires
 unfolding code_of
-pairs-pairs-requires t c = let room = c.requires.0 in let k = c.term.auto.code in let h = (known c.in-At.is (c.close.ensures.reads kind.maplet refl)) in let i = (known c.in-At-term.is c.term.ensures.0) in let j = (known c.in-At-term-2.is c.term-then-k-eq-COMMA.ensures.0) in let b₁ = c.requires.1 in let b₂ = c.requires.2 in let b₃ = c.requires.0 in let z = known-ahead _ c.in-At.is c.close.ensures.ahead in search rules
+pairs-pairs-requires t c = let room = c.requires.0 in let k = c.term.auto.code in let h = (known c.in_ok-arrow.was (c.close.ensures.reads kind.maplet refl)) in let i = (known c.in_ok-right.was c.term.ensures.0) in let j = (known c.in_ok-left.was c.term-then-k-eq-COMMA.ensures.0) in let b₁ = c.requires.1 in let b₂ = c.requires.2 in let b₃ = c.requires.0 in let z = known-ahead _ c.in_ok-arrow.was c.close.ensures.ahead in search rules
 
-pub pairs-put-i-requires : goal.pairs-put-i-requires
+pub pairs-put-count-requires : goal.pairs-put-count-requires
 unfolding code_of
-pairs-put-i-requires t c = let room = c.requires.0 in let h = (known c.in-At.is (c.close.ensures.reads kind.maplet refl)) in let i = (known c.in-At-term.is c.term.ensures.0) in let j = (known c.in-At-term-2.is c.term-then-k-eq-COMMA.ensures.0) in let l = (known c.in-At-pairs.is c.pairs.ensures.0) in search rules
+pairs-put-count-requires t c = let room = c.requires.0 in let h = (known c.in_ok-arrow.was (c.close.ensures.reads kind.maplet refl)) in let i = (known c.in_ok-right.was c.term.ensures.0) in let j = (known c.in_ok-left.was c.term-then-k-eq-COMMA.ensures.0) in let l = (known c.in_ok-rest.was c.pairs.ensures.0) in search rules
 
-pub pairs-returns-in-At-pairs : goal.pairs-returns-in-At-pairs
+pub pairs-returns-then-k-eq-COMMA : goal.pairs-returns-then-k-eq-COMMA
 unfolding compute_form
-pairs-returns-in-At-pairs t c = (let room = c.requires.0 in let h = (known c.in-At.is (c.close.ensures.reads kind.maplet refl)) in let i = (known c.in-At-term.is c.term.ensures.0) in let j = (known c.in-At-term-2.is c.term-then-k-eq-COMMA.ensures.0) in let l = (known c.in-At-pairs.is c.pairs.ensures.0) in next (counted {c = c.args.n} {d = c.args.n} (omega arith) (framed (a_term c.args.d c.args.b ∷ a_pairs c.args.d c.args.b ∷ []) h)) (next (framed (a_pairs c.args.d c.args.b ∷ []) i) (takes {μ = a_term c.args.d c.args.b ∷ exact kind.maplet ∷ a_term c.args.d c.args.b ∷ a_pairs c.args.d c.args.b ∷ []} {m = c.in-At-term.m + 4} (omega arith) (only _ kind.comma (sym c.kind_at-k.ensures.is ∙ c.if-k-eq-COMMA.true) (λ γ. refl)) (counted (omega arith) (next (framed (exact kind.maplet ∷ a_term c.args.d c.args.b ∷ a_pairs c.args.d c.args.b ∷ []) j) l)) (omega arith))), let t₁ = closed c.in-At.is c.close.ensures in let w₁ = (made c.in-At-term.is c.term.ensures.1) in let w₂ = (made c.in-At-term-2.is c.term-then-k-eq-COMMA.ensures.1) in let w₃ = (made c.in-At-pairs.is c.pairs.ensures.1) in makes (both (both (both (built w₁) (built w₂)) (built w₃)) (wrote c.put-i.ensures)) (derived.pairs_more t₁.1 (from t₁.0 w₁.derives) (sym c.kind_at-k.ensures.is ∙ c.if-k-eq-COMMA.true) w₂.derives w₃.derives))
+pairs-returns-then-k-eq-COMMA t c = (let room = c.requires.0 in let h = (known c.in_ok-arrow.was (c.close.ensures.reads kind.maplet refl)) in let i = (known c.in_ok-right.was c.term.ensures.0) in let j = (known c.in_ok-left.was c.term-then-k-eq-COMMA.ensures.0) in let l = (known c.in_ok-rest.was c.pairs.ensures.0) in next (counted {c = c.args.n} {d = c.args.n} (omega arith) (framed (a_term c.args.d c.args.b ∷ a_pairs c.args.d c.args.b ∷ []) h)) (next (framed (a_pairs c.args.d c.args.b ∷ []) i) (takes {μ = a_term c.args.d c.args.b ∷ exact kind.maplet ∷ a_term c.args.d c.args.b ∷ a_pairs c.args.d c.args.b ∷ []} {m = c.in_ok-right.right.count + 4} (omega arith) (only _ kind.comma (sym c.kind_at-k.ensures.is ∙ c.if-k-eq-COMMA.true) (λ γ. refl)) (counted (omega arith) (next (framed (exact kind.maplet ∷ a_term c.args.d c.args.b ∷ a_pairs c.args.d c.args.b ∷ []) j) l)) (omega arith))), let t₁ = closed c.in_ok-arrow.was c.close.ensures in let w₁ = (made c.in_ok-right.was c.term.ensures.1) in let w₂ = (made c.in_ok-left.was c.term-then-k-eq-COMMA.ensures.1) in let w₃ = (made c.in_ok-rest.was c.pairs.ensures.1) in makes (both (both (both (built w₁) (built w₂)) (built w₃)) (wrote c.put-count.ensures)) (derived.pairs_more t₁.1 (from t₁.0 w₁.derives) (sym c.kind_at-k.ensures.is ∙ c.if-k-eq-COMMA.true) w₂.derives w₃.derives))
 
-pub pairs-returns-in-Fault-pairs : goal.pairs-returns-in-Fault-pairs
+pub pairs-returns-in_err-rest : goal.pairs-returns-in_err-rest
 unfolding compute_form
-pairs-returns-in-Fault-pairs t c = (let room = c.requires.0 in let h = (known c.in-At.is (c.close.ensures.reads kind.maplet refl)) in let i = (known c.in-At-term.is c.term.ensures.0) in let j = (known c.in-At-term-2.is c.term-then-k-eq-COMMA.ensures.0) in next (counted {c = c.args.n} {d = c.args.n} (omega arith) (framed (a_term c.args.d c.args.b ∷ a_pairs c.args.d c.args.b ∷ []) h)) (next (framed (a_pairs c.args.d c.args.b ∷ []) i) (takes {μ = a_term c.args.d c.args.b ∷ exact kind.maplet ∷ a_term c.args.d c.args.b ∷ a_pairs c.args.d c.args.b ∷ []} {m = c.in-At-term.m + 4} (omega arith) (only _ kind.comma (sym c.kind_at-k.ensures.is ∙ c.if-k-eq-COMMA.true) (λ γ. refl)) (fails (next (framed (exact kind.maplet ∷ a_term c.args.d c.args.b ∷ a_pairs c.args.d c.args.b ∷ []) j) (known c.in-Fault-pairs.is c.pairs.ensures.0))) (omega arith))), tt)
+pairs-returns-in_err-rest t c = rw (exits c.from_residual-in_err-rest.result c.from_residual-in_err-rest.ensures.1) ((let room = c.requires.0 in let h = (known c.in_ok-arrow.was (c.close.ensures.reads kind.maplet refl)) in let i = (known c.in_ok-right.was c.term.ensures.0) in let j = (known c.in_ok-left.was c.term-then-k-eq-COMMA.ensures.0) in next (counted {c = c.args.n} {d = c.args.n} (omega arith) (framed (a_term c.args.d c.args.b ∷ a_pairs c.args.d c.args.b ∷ []) h)) (next (framed (a_pairs c.args.d c.args.b ∷ []) i) (takes {μ = a_term c.args.d c.args.b ∷ exact kind.maplet ∷ a_term c.args.d c.args.b ∷ a_pairs c.args.d c.args.b ∷ []} {m = c.in_ok-right.right.count + 4} (omega arith) (only _ kind.comma (sym c.kind_at-k.ensures.is ∙ c.if-k-eq-COMMA.true) (λ γ. refl)) (fails (next (framed (exact kind.maplet ∷ a_term c.args.d c.args.b ∷ a_pairs c.args.d c.args.b ∷ []) j) (known c.in_err-rest.was c.pairs.ensures.0))) (omega arith))), tt))
 
-pub pairs-returns-in-Fault-term-2 : goal.pairs-returns-in-Fault-term-2
+pub pairs-returns-in_err-left : goal.pairs-returns-in_err-left
 unfolding compute_form
-pairs-returns-in-Fault-term-2 t c = (let room = c.requires.0 in let h = (known c.in-At.is (c.close.ensures.reads kind.maplet refl)) in let i = (known c.in-At-term.is c.term.ensures.0) in next (counted {c = c.args.n} {d = c.args.n} (omega arith) (framed (a_term c.args.d c.args.b ∷ a_pairs c.args.d c.args.b ∷ []) h)) (next (framed (a_pairs c.args.d c.args.b ∷ []) i) (takes {μ = a_term c.args.d c.args.b ∷ exact kind.maplet ∷ a_term c.args.d c.args.b ∷ a_pairs c.args.d c.args.b ∷ []} {m = c.in-At-term.m + 4} (omega arith) (only _ kind.comma (sym c.kind_at-k.ensures.is ∙ c.if-k-eq-COMMA.true) (λ γ. refl)) (fails (framed (exact kind.maplet ∷ a_term c.args.d c.args.b ∷ a_pairs c.args.d c.args.b ∷ []) (known c.in-Fault-term-2.is c.term-then-k-eq-COMMA.ensures.0))) (omega arith))), tt)
+pairs-returns-in_err-left t c = rw (exits c.from_residual-in_err-left.result c.from_residual-in_err-left.ensures.1) ((let room = c.requires.0 in let h = (known c.in_ok-arrow.was (c.close.ensures.reads kind.maplet refl)) in let i = (known c.in_ok-right.was c.term.ensures.0) in next (counted {c = c.args.n} {d = c.args.n} (omega arith) (framed (a_term c.args.d c.args.b ∷ a_pairs c.args.d c.args.b ∷ []) h)) (next (framed (a_pairs c.args.d c.args.b ∷ []) i) (takes {μ = a_term c.args.d c.args.b ∷ exact kind.maplet ∷ a_term c.args.d c.args.b ∷ a_pairs c.args.d c.args.b ∷ []} {m = c.in_ok-right.right.count + 4} (omega arith) (only _ kind.comma (sym c.kind_at-k.ensures.is ∙ c.if-k-eq-COMMA.true) (λ γ. refl)) (fails (framed (exact kind.maplet ∷ a_term c.args.d c.args.b ∷ a_pairs c.args.d c.args.b ∷ []) (known c.in_err-left.was c.term-then-k-eq-COMMA.ensures.0))) (omega arith))), tt))
 
-pub pairs-returns-else-k-eq-COMMA : goal.pairs-returns-else-k-eq-COMMA
+pub pairs-returns : goal.pairs-returns
 unfolding compute_form
-pairs-returns-else-k-eq-COMMA t c = (let room = c.requires.0 in let h = (known c.in-At.is (c.close.ensures.reads kind.maplet refl)) in let i = (known c.in-At-term.is c.term.ensures.0) in next (counted {c = c.args.n} {d = c.args.n} (omega arith) (framed (a_term c.args.d c.args.b ∷ a_pairs c.args.d c.args.b ∷ []) h)) (next (framed (a_pairs c.args.d c.args.b ∷ []) i) (stops (omega arith) (λ κ e γ. pairs-stop c.args.d c.args.b κ γ (λ q. c.if-k-eq-CLOSE_BRACE.false (c.kind_at-k.ensures.is ∙ sym e ∙ q)) (λ q. c.if-k-eq-COMMA.false (c.kind_at-k.ensures.is ∙ sym e ∙ q))) (λ γ. refl))), tt)
+pairs-returns t c = (let room = c.requires.0 in let h = (known c.in_ok-arrow.was (c.close.ensures.reads kind.maplet refl)) in let i = (known c.in_ok-right.was c.term.ensures.0) in next (counted {c = c.args.n} {d = c.args.n} (omega arith) (framed (a_term c.args.d c.args.b ∷ a_pairs c.args.d c.args.b ∷ []) h)) (next (framed (a_pairs c.args.d c.args.b ∷ []) i) (stops (omega arith) (λ κ e γ. pairs-stop c.args.d c.args.b κ γ (λ q. c.if-k-eq-CLOSE_BRACE.false (c.kind_at-k.ensures.is ∙ sym e ∙ q)) (λ q. c.if-k-eq-COMMA.false (c.kind_at-k.ensures.is ∙ sym e ∙ q))) (λ γ. refl))), tt)
 
-pub pairs-returns-in-Fault-term : goal.pairs-returns-in-Fault-term
+pub pairs-returns-in_err-right : goal.pairs-returns-in_err-right
 unfolding compute_form
-pairs-returns-in-Fault-term t c = (let room = c.requires.0 in let h = (known c.in-At.is (c.close.ensures.reads kind.maplet refl)) in next (counted {c = c.args.n} {d = c.args.n} (omega arith) (framed (a_term c.args.d c.args.b ∷ a_pairs c.args.d c.args.b ∷ []) h)) (fails (framed (a_pairs c.args.d c.args.b ∷ []) (known c.in-Fault-term.is c.term.ensures.0))), tt)
+pairs-returns-in_err-right t c = rw (exits c.from_residual-in_err-right.result c.from_residual-in_err-right.ensures.1) ((let room = c.requires.0 in let h = (known c.in_ok-arrow.was (c.close.ensures.reads kind.maplet refl)) in next (counted {c = c.args.n} {d = c.args.n} (omega arith) (framed (a_term c.args.d c.args.b ∷ a_pairs c.args.d c.args.b ∷ []) h)) (fails (framed (a_pairs c.args.d c.args.b ∷ []) (known c.in_err-right.was c.term.ensures.0))), tt))
 
-pub pairs-returns-in-Fault : goal.pairs-returns-in-Fault
+pub pairs-returns-in_err-arrow : goal.pairs-returns-in_err-arrow
 unfolding compute_form
-pairs-returns-in-Fault t c = (let room = c.requires.0 in fails (framed (a_term c.args.d c.args.b ∷ a_pairs c.args.d c.args.b ∷ []) (known c.in-Fault.is (c.close.ensures.reads kind.maplet refl))), tt)
+pairs-returns-in_err-arrow t c = rw (exits c.from_residual.result c.from_residual.ensures.1) ((let room = c.requires.0 in fails (framed (a_term c.args.d c.args.b ∷ a_pairs c.args.d c.args.b ∷ []) (known c.in_err-arrow.was (c.close.ensures.reads kind.maplet refl))), tt))
 
 pub paren-close-requires : goal.paren-close-requires
-paren-close-requires t c = let room = c.requires.0 in let h = (known c.in-At.is c.pred.ensures.0) in search rules
+paren-close-requires t c = let room = c.requires.0 in let h = (known c.in_ok-inner.was c.pred.ensures.0) in search rules
 
-pub paren-returns-in-At : goal.paren-returns-in-At
+pub paren-returns-then-c-eq-NONE : goal.paren-returns-then-c-eq-NONE
 unfolding compute_form
-paren-returns-in-At t c = (wider (likewise (λ κ e γ. as_pred c.args.d c.args.b κ γ ((c.quantifier_of-c.ensures.classes.class κ (e ∙ sym c.kind_at-k.ensures.is)) ∙ c.if-c-eq-NONE.true)) (λ γ. refl) (next (framed (exact kind.close_paren ∷ []) (known c.in-At.is c.pred.ensures.0)) (c.close.ensures.reads kind.close_paren refl))) (omega arith), let w₁ = (made c.in-At.is c.pred.ensures.1) in closing c.close.ensures (λ q. makes (built w₁) (derived.parenthesised c.requires.4 w₁.derives q)))
+paren-returns-then-c-eq-NONE t c = (wider (likewise (λ κ e γ. as_pred c.args.d c.args.b κ γ ((c.quantifier_of-c.ensures.classes.class κ (e ∙ sym c.kind_at-k.ensures.is)) ∙ c.if-c-eq-NONE.true)) (λ γ. refl) (next (framed (exact kind.close_paren ∷ []) (known c.in_ok-inner.was c.pred.ensures.0)) (c.close.ensures.reads kind.close_paren refl))) (omega arith), let w₁ = (made c.in_ok-inner.was c.pred.ensures.1) in closing c.close.ensures (λ q. makes (built w₁) (derived.parenthesised c.requires.4 w₁.derives q)))
 
-pub paren-returns-in-Fault : goal.paren-returns-in-Fault
+pub paren-returns-in_err-inner : goal.paren-returns-in_err-inner
 unfolding compute_form
-paren-returns-in-Fault t c = (likewise (λ κ e γ. as_pred c.args.d c.args.b κ γ ((c.quantifier_of-c.ensures.classes.class κ (e ∙ sym c.kind_at-k.ensures.is)) ∙ c.if-c-eq-NONE.true)) (λ γ. refl) (fails (framed (exact kind.close_paren ∷ []) (known c.in-Fault.is c.pred.ensures.0))), tt)
+paren-returns-in_err-inner t c = rw (exits c.from_residual.result c.from_residual.ensures.1) ((likewise (λ κ e γ. as_pred c.args.d c.args.b κ γ ((c.quantifier_of-c.ensures.classes.class κ (e ∙ sym c.kind_at-k.ensures.is)) ∙ c.if-c-eq-NONE.true)) (λ γ. refl) (fails (framed (exact kind.close_paren ∷ []) (known c.in_err-inner.was c.pred.ensures.0))), tt))
 
 pub paren-returns : goal.paren-returns
 unfolding compute_form
@@ -301,15 +301,15 @@ unfolding compute_form
 pred-returns t c = (whole-pred c.pred_from.ensures.0, c.pred_from.ensures.1)
 
 pub pred_from-pred_rest-requires : goal.pred_from-pred_rest-requires
-pred_from-pred_rest-requires t c = let room = c.requires.0 in let h = (known c.in-At.is c.unary.ensures.0) in search rules
+pred_from-pred_rest-requires t c = let room = c.requires.0 in let h = (known c.in_ok-first.was c.unary.ensures.0) in search rules
 
-pub pred_from-returns-in-At : goal.pred_from-returns-in-At
+pub pred_from-returns : goal.pred_from-returns
 unfolding compute_form
-pred_from-returns-in-At t c = (record { reads = λ base q. next (framed (a_pred_rest base c.args.d c.args.b ∷ []) (known c.in-At.is c.unary.ensures.0)) (c.pred_rest.ensures.0.reads base q); stops = c.pred_rest.ensures.0.stops }, let w₁ = (made c.in-At.is c.unary.ensures.1) in onward _ c.pred_rest.result (built w₁) (λ k v x. derived.pred_from w₁.derives x) c.pred_rest.ensures.1)
+pred_from-returns t c = (record { reads = λ base q. next (framed (a_pred_rest base c.args.d c.args.b ∷ []) (known c.in_ok-first.was c.unary.ensures.0)) (c.pred_rest.ensures.0.reads base q); stops = c.pred_rest.ensures.0.stops }, let w₁ = (made c.in_ok-first.was c.unary.ensures.1) in onward _ c.pred_rest.result (built w₁) (λ k v x. derived.pred_from w₁.derives x) c.pred_rest.ensures.1)
 
-pub pred_from-returns-in-Fault : goal.pred_from-returns-in-Fault
+pub pred_from-returns-in_err-first : goal.pred_from-returns-in_err-first
 unfolding compute_form
-pred_from-returns-in-Fault t c = (record { reads = λ base q. fails (framed (a_pred_rest base c.args.d c.args.b ∷ []) (known c.in-Fault.is c.unary.ensures.0)); stops = tt }, tt)
+pred_from-returns-in_err-first t c = rw (exits c.from_residual.result c.from_residual.ensures.1) ((record { reads = λ base q. fails (framed (a_pred_rest base c.args.d c.args.b ∷ []) (known c.in_err-first.was c.unary.ensures.0)); stops = tt }, tt))
 
 pub pred_more-returns-then-d-ge-DEPTH : goal.pred_more-returns-then-d-ge-DEPTH
 unfolding compute_form
@@ -318,30 +318,30 @@ pred_more-returns-then-d-ge-DEPTH t c = let room = c.requires.0 in let positive 
 pub pred_more-pred_from-requires : goal.pred_more-pred_from-requires
 pred_more-pred_from-requires t c = let room = c.requires.0 in let positive = c.requires.3 in let ahead = c.requires.4 in let small = c.requires.5.small in search rules
 
-pub pred_more-put-c-requires : goal.pred_more-put-c-requires
-pred_more-put-c-requires t c = let room = c.requires.0 in let positive = c.requires.3 in let ahead = c.requires.4 in let small = c.requires.5.small in let g = (known c.in-At.is (c.pred_from.ensures.0.reads 0 (λ z. absurd (omega arith)))) in search rules
+pub pred_more-put-count-requires : goal.pred_more-put-count-requires
+pred_more-put-count-requires t c = let room = c.requires.0 in let positive = c.requires.3 in let ahead = c.requires.4 in let small = c.requires.5.small in let g = (known c.in_ok-conclusion.was (c.pred_from.ensures.0.reads 0 (λ z. absurd (omega arith)))) in search rules
 
-pub pred_more-returns-in-At : goal.pred_more-returns-in-At
+pub pred_more-returns-then-l-eq-IMPLIES_LEVEL : goal.pred_more-returns-then-l-eq-IMPLIES_LEVEL
 unfolding compute_form
-pred_more-returns-in-At t c = let room = c.requires.0 in let positive = c.requires.3 in let ahead = c.requires.4 in let small = c.requires.5.small in let g = (known c.in-At.is (c.pred_from.ensures.0.reads 0 (λ z. absurd (omega arith)))) in let c₁ = c.put-c.ensures.count in (λ base q. let h = (known c.in-At.is (c.pred_from.ensures.0.reads base (λ z. absurd (omega arith)))) in taken {μ = a_unary (suc c.args.d) c.args.b ∷ a_pred_rest base (suc c.args.d) c.args.b ∷ []} {m = c.args.n + 4} (opens (suc c.args.d)) (omega arith) (open_well c.args.s.now c.args.at (suc c.args.d) (omega arith)) (λ κ e γ. pred-rest-step base c.args.d c.args.b κ γ (c.requires.5.class κ e ∙ c.if-l-eq-IMPLIES_LEVEL.true)) (next (counted (omega arith) (raised (λ x. a_unary x c.args.b ∷ a_pred_rest base x c.args.b ∷ []) c.args.d h)) (likewise (λ κ e γ. rest-depth base (c.args.d + 1) c.args.d c.args.b κ γ (known-level c.args.s.now 2 c.in-At.is c.pred_from.ensures.0.stops κ e)) (λ γ. refl) (here (omega arith)))) (omega arith), omega arith, λ min q. let w₁ = (made c.in-At.is c.pred_from.ensures.1) in chain (both (built w₁) (node_of (c.wide.ensures ∙ c.kind_at-k.ensures.is) refl c.put-c.ensures)) (λ k u x. derived.implied (class-at refl c.if-l-eq-IMPLIES_LEVEL.true c.requires.5) (omega arith) w₁.derives x))
+pred_more-returns-then-l-eq-IMPLIES_LEVEL t c = let room = c.requires.0 in let positive = c.requires.3 in let ahead = c.requires.4 in let small = c.requires.5.small in let g = (known c.in_ok-conclusion.was (c.pred_from.ensures.0.reads 0 (λ z. absurd (omega arith)))) in let c₁ = c.put-count.ensures.count in (λ base q. let h = (known c.in_ok-conclusion.was (c.pred_from.ensures.0.reads base (λ z. absurd (omega arith)))) in taken {μ = a_unary (suc c.args.d) c.args.b ∷ a_pred_rest base (suc c.args.d) c.args.b ∷ []} {m = c.args.n + 4} (opens (suc c.args.d)) (omega arith) (open_well c.args.s.now c.args.at (suc c.args.d) (omega arith)) (λ κ e γ. pred-rest-step base c.args.d c.args.b κ γ (c.requires.5.class κ e ∙ c.if-l-eq-IMPLIES_LEVEL.true)) (next (counted (omega arith) (raised (λ x. a_unary x c.args.b ∷ a_pred_rest base x c.args.b ∷ []) c.args.d h)) (likewise (λ κ e γ. rest-depth base (c.args.d + 1) c.args.d c.args.b κ γ (known-level c.args.s.now 2 c.in_ok-conclusion.was c.pred_from.ensures.0.stops κ e)) (λ γ. refl) (here (omega arith)))) (omega arith), omega arith, λ min q. let w₁ = (made c.in_ok-conclusion.was c.pred_from.ensures.1) in chain (both (built w₁) (node_of (c.wide.ensures ∙ c.kind_at-k.ensures.is) refl c.put-count.ensures)) (λ k u x. derived.implied (class-at refl c.if-l-eq-IMPLIES_LEVEL.true c.requires.5) (omega arith) w₁.derives x))
 
-pub pred_more-returns-in-Fault : goal.pred_more-returns-in-Fault
+pub pred_more-returns-in_err-conclusion : goal.pred_more-returns-in_err-conclusion
 unfolding compute_form
-pred_more-returns-in-Fault t c = let room = c.requires.0 in let positive = c.requires.3 in let ahead = c.requires.4 in let small = c.requires.5.small in (λ base q. taken {μ = a_unary (suc c.args.d) c.args.b ∷ a_pred_rest base (suc c.args.d) c.args.b ∷ []} {m = c.args.n + 4} (opens (suc c.args.d)) (omega arith) (open_well c.args.s.now c.args.at (suc c.args.d) (omega arith)) (λ κ e γ. pred-rest-step base c.args.d c.args.b κ γ (c.requires.5.class κ e ∙ c.if-l-eq-IMPLIES_LEVEL.true)) (fails (raised (λ x. a_unary x c.args.b ∷ a_pred_rest base x c.args.b ∷ []) c.args.d (known c.in-Fault.is (c.pred_from.ensures.0.reads base (λ z. absurd (omega arith)))))) (omega arith), tt, λ min q. tt)
+pred_more-returns-in_err-conclusion t c = rw (exits c.from_residual.result c.from_residual.ensures.1) (let room = c.requires.0 in let positive = c.requires.3 in let ahead = c.requires.4 in let small = c.requires.5.small in (λ base q. taken {μ = a_unary (suc c.args.d) c.args.b ∷ a_pred_rest base (suc c.args.d) c.args.b ∷ []} {m = c.args.n + 4} (opens (suc c.args.d)) (omega arith) (open_well c.args.s.now c.args.at (suc c.args.d) (omega arith)) (λ κ e γ. pred-rest-step base c.args.d c.args.b κ γ (c.requires.5.class κ e ∙ c.if-l-eq-IMPLIES_LEVEL.true)) (fails (raised (λ x. a_unary x c.args.b ∷ a_pred_rest base x c.args.b ∷ []) c.args.d (known c.in_err-conclusion.was (c.pred_from.ensures.0.reads base (λ z. absurd (omega arith)))))) (omega arith), tt, λ min q. tt))
 
 pub pred_more-pred_from-requires-2 : goal.pred_more-pred_from-requires-2
 pred_more-pred_from-requires-2 t c = let room = c.requires.0 in let positive = c.requires.3 in let ahead = c.requires.4 in let small = c.requires.5.small in search rules
 
-pub pred_more-put-c-requires-in-At-pred_from : goal.pred_more-put-c-requires-in-At-pred_from
-pred_more-put-c-requires-in-At-pred_from t c = let room = c.requires.0 in let positive = c.requires.3 in let ahead = c.requires.4 in let small = c.requires.5.small in let g = (known c.in-At-pred_from.is (c.pred_from-2.ensures.0.reads 0 (λ z. absurd (omega arith)))) in search rules
+pub pred_more-put-count-requires-2 : goal.pred_more-put-count-requires-2
+pred_more-put-count-requires-2 t c = let room = c.requires.0 in let positive = c.requires.3 in let ahead = c.requires.4 in let small = c.requires.5.small in let g = (known c.in_ok-right.was (c.pred_from-2.ensures.0.reads 0 (λ z. absurd (omega arith)))) in search rules
 
-pub pred_more-returns-in-At-pred_from : goal.pred_more-returns-in-At-pred_from
+pub pred_more-returns : goal.pred_more-returns
 unfolding compute_form
-pred_more-returns-in-At-pred_from t c = let room = c.requires.0 in let positive = c.requires.3 in let ahead = c.requires.4 in let small = c.requires.5.small in let g = (known c.in-At-pred_from.is (c.pred_from-2.ensures.0.reads 0 (λ z. absurd (omega arith)))) in let c₁ = c.put-c-in-At-pred_from.ensures.count in (λ base q. let h = (known c.in-At-pred_from.is (c.pred_from-2.ensures.0.reads base (λ z. absurd (omega arith)))) in takes {μ = a_unary c.args.d c.args.b ∷ a_pred_rest base c.args.d c.args.b ∷ []} {m = c.args.n + 4} (omega arith) (λ κ e γ. rest-connective base c.args.d c.args.b c.args.l κ γ (c.requires.5.class κ e) (omega arith) c.if-l-eq-IMPLIES_LEVEL.false q) (counted (omega arith) h) (omega arith), omega arith, λ min q. let w₁ = (made c.in-At-pred_from.is c.pred_from-2.ensures.1) in chain (both (built w₁) (node_of (c.wide-in-At-pred_from.ensures ∙ c.kind_at-k.ensures.is) refl c.put-c-in-At-pred_from.ensures)) (λ k u x. derived.connected c.requires.5 (omega arith) c.if-l-eq-IMPLIES_LEVEL.false (omega arith) w₁.derives x))
+pred_more-returns t c = let room = c.requires.0 in let positive = c.requires.3 in let ahead = c.requires.4 in let small = c.requires.5.small in let g = (known c.in_ok-right.was (c.pred_from-2.ensures.0.reads 0 (λ z. absurd (omega arith)))) in let c₁ = c.put-count-2.ensures.count in (λ base q. let h = (known c.in_ok-right.was (c.pred_from-2.ensures.0.reads base (λ z. absurd (omega arith)))) in takes {μ = a_unary c.args.d c.args.b ∷ a_pred_rest base c.args.d c.args.b ∷ []} {m = c.args.n + 4} (omega arith) (λ κ e γ. rest-connective base c.args.d c.args.b c.args.l κ γ (c.requires.5.class κ e) (omega arith) c.if-l-eq-IMPLIES_LEVEL.false q) (counted (omega arith) h) (omega arith), omega arith, λ min q. let w₁ = (made c.in_ok-right.was c.pred_from-2.ensures.1) in chain (both (built w₁) (node_of (c.wide-2.ensures ∙ c.kind_at-k.ensures.is) refl c.put-count-2.ensures)) (λ k u x. derived.connected c.requires.5 (omega arith) c.if-l-eq-IMPLIES_LEVEL.false (omega arith) w₁.derives x))
 
-pub pred_more-returns-in-Fault-pred_from : goal.pred_more-returns-in-Fault-pred_from
+pub pred_more-returns-in_err-right : goal.pred_more-returns-in_err-right
 unfolding compute_form
-pred_more-returns-in-Fault-pred_from t c = let room = c.requires.0 in let positive = c.requires.3 in let ahead = c.requires.4 in let small = c.requires.5.small in (λ base q. takes {μ = a_unary c.args.d c.args.b ∷ a_pred_rest base c.args.d c.args.b ∷ []} {m = c.args.n + 4} (omega arith) (λ κ e γ. rest-connective base c.args.d c.args.b c.args.l κ γ (c.requires.5.class κ e) (omega arith) c.if-l-eq-IMPLIES_LEVEL.false q) (fails (known c.in-Fault-pred_from.is (c.pred_from-2.ensures.0.reads base (λ z. absurd (omega arith))))) (omega arith), tt, λ min q. tt)
+pred_more-returns-in_err-right t c = rw (exits c.from_residual-in_err-right.result c.from_residual-in_err-right.ensures.1) (let room = c.requires.0 in let positive = c.requires.3 in let ahead = c.requires.4 in let small = c.requires.5.small in (λ base q. takes {μ = a_unary c.args.d c.args.b ∷ a_pred_rest base c.args.d c.args.b ∷ []} {m = c.args.n + 4} (omega arith) (λ κ e γ. rest-connective base c.args.d c.args.b c.args.l κ γ (c.requires.5.class κ e) (omega arith) c.if-l-eq-IMPLIES_LEVEL.false q) (fails (known c.in_err-right.was (c.pred_from-2.ensures.0.reads base (λ z. absurd (omega arith))))) (omega arith), tt, λ min q. tt))
 
 pub pred_rest-loop-l-init : goal.pred_rest-loop-l-init
 pred_rest-loop-l-init t c = let room = c.requires.0 in (λ base q. here (omega arith), more-none _ _ _, refl, c.connective_at-l.ensures.0, c.connective_at-l.ensures.1)
@@ -350,15 +350,15 @@ pub pred_rest-pred_more-requires : goal.pred_rest-pred_more-requires
 pred_rest-pred_more-requires t c = let room = c.requires.0 in let so = c.loop-l.invariant.0 c.args.d (λ z. refl) in let long = c.loop-l.invariant.2 in let behind = c.loop-l.invariant.4 in (omega arith, (record { inside = omega arith; few = omega arith; written = omega arith; long = omega arith }, omega arith, omega arith, omega arith, omega arith, c.loop-l.invariant.3))
 
 pub pred_rest-loop-l-smaller : goal.pred_rest-loop-l-smaller
-pred_rest-loop-l-smaller t c = let room = c.requires.0 in let so = c.loop-l.invariant.0 c.args.d (λ z. refl) in let long = c.loop-l.invariant.2 in let behind = c.loop-l.invariant.4 in let h = known-ahead _ c.in-At.is c.pred_more.ensures.1 in let i = known c.in-At.is (c.pred_more.ensures.0 c.args.d (λ z. refl)) in omega arith
+pred_rest-loop-l-smaller t c = let room = c.requires.0 in let so = c.loop-l.invariant.0 c.args.d (λ z. refl) in let long = c.loop-l.invariant.2 in let behind = c.loop-l.invariant.4 in let h = known-ahead _ c.in_ok-read.was c.pred_more.ensures.1 in let i = known c.in_ok-read.was (c.pred_more.ensures.0 c.args.d (λ z. refl)) in omega arith
 
 pub pred_rest-loop-l-preserved : goal.pred_rest-loop-l-preserved
 unfolding compute_form
-pred_rest-loop-l-preserved t c = let room = c.requires.0 in let so = c.loop-l.invariant.0 c.args.d (λ z. refl) in let long = c.loop-l.invariant.2 in let behind = c.loop-l.invariant.4 in (λ base q. next (c.loop-l.invariant.0 base q) (known c.in-At.is (c.pred_more.ensures.0 base (λ z. q (omega arith)))), more-then c.loop-l.invariant.1 (more-known c.in-At.is (c.pred_more.ensures.2 c.args.min (omega arith))), search rules, c.connective_at-l-in-At.ensures.0, c.connective_at-l-in-At.ensures.1)
+pred_rest-loop-l-preserved t c = let room = c.requires.0 in let so = c.loop-l.invariant.0 c.args.d (λ z. refl) in let long = c.loop-l.invariant.2 in let behind = c.loop-l.invariant.4 in (λ base q. next (c.loop-l.invariant.0 base q) (known c.in_ok-read.was (c.pred_more.ensures.0 base (λ z. q (omega arith)))), more-then c.loop-l.invariant.1 (more-known c.in_ok-read.was (c.pred_more.ensures.2 c.args.min (omega arith))), search rules, c.connective_at-l-in-loop-l.ensures.0, c.connective_at-l-in-loop-l.ensures.1)
 
-pub pred_rest-returns-in-Fault : goal.pred_rest-returns-in-Fault
+pub pred_rest-returns-in_err-read : goal.pred_rest-returns-in_err-read
 unfolding compute_form
-pred_rest-returns-in-Fault t c = let room = c.requires.0 in let so = c.loop-l.invariant.0 c.args.d (λ z. refl) in let long = c.loop-l.invariant.2 in let behind = c.loop-l.invariant.4 in (record { reads = λ base q. next (c.loop-l.invariant.0 base q) (known c.in-Fault.is (c.pred_more.ensures.0 base (λ z. q (omega arith)))); stops = tt }, tt)
+pred_rest-returns-in_err-read t c = rw (exits c.from_residual.result c.from_residual.ensures.1) (let room = c.requires.0 in let so = c.loop-l.invariant.0 c.args.d (λ z. refl) in let long = c.loop-l.invariant.2 in let behind = c.loop-l.invariant.4 in (record { reads = λ base q. next (c.loop-l.invariant.0 base q) (known c.in_err-read.was (c.pred_more.ensures.0 base (λ z. q (omega arith)))); stops = tt }, tt))
 
 pub pred_rest-returns : goal.pred_rest-returns
 unfolding compute_form
@@ -381,19 +381,19 @@ quantified-close-requires t c = search rules
 
 pub quantified-domain-requires : goal.quantified-domain-requires
 unfolding code_of
-quantified-domain-requires t c = let room = c.requires.0 in let h = (known c.in-At.is (c.close.ensures.reads kind.colon refl)) in let z = known-ahead _ c.in-At.is c.close.ensures.ahead in search rules
+quantified-domain-requires t c = let room = c.requires.0 in let h = (known c.in_ok-colon.was (c.close.ensures.reads kind.colon refl)) in let z = known-ahead _ c.in_ok-colon.was c.close.ensures.ahead in search rules
 
-pub quantified-close-requires-in-At-domain : goal.quantified-close-requires-in-At-domain
+pub quantified-close-requires-then-kind_at-eq-PLAIN : goal.quantified-close-requires-then-kind_at-eq-PLAIN
 unfolding code_of
-quantified-close-requires-in-At-domain t c = let room = c.requires.0 in let h = (known c.in-At.is (c.close.ensures.reads kind.colon refl)) in let z = known-ahead _ c.in-At.is c.close.ensures.ahead in let i = (known c.in-At-domain.is c.domain.ensures.0) in search rules
+quantified-close-requires-then-kind_at-eq-PLAIN t c = let room = c.requires.0 in let h = (known c.in_ok-colon.was (c.close.ensures.reads kind.colon refl)) in let z = known-ahead _ c.in_ok-colon.was c.close.ensures.ahead in let i = (known c.in_ok-over.was c.domain.ensures.0) in search rules
 
 pub quantified-pred-requires : goal.quantified-pred-requires
 unfolding code_of
-quantified-pred-requires t c = let room = c.requires.0 in let h = (known c.in-At.is (c.close.ensures.reads kind.colon refl)) in let z = known-ahead _ c.in-At.is c.close.ensures.ahead in let i = (known c.in-At-domain.is c.domain.ensures.0) in let j = (known c.in-At-close.is (c.close-in-At-domain.ensures.reads kind.spot refl)) in let y = known-ahead _ c.in-At-close.is c.close-in-At-domain.ensures.ahead in search rules
+quantified-pred-requires t c = let room = c.requires.0 in let h = (known c.in_ok-colon.was (c.close.ensures.reads kind.colon refl)) in let z = known-ahead _ c.in_ok-colon.was c.close.ensures.ahead in let i = (known c.in_ok-over.was c.domain.ensures.0) in let j = (known c.in_ok-spot.was (c.close-then-kind_at-eq-PLAIN.ensures.reads kind.spot refl)) in let y = known-ahead _ c.in_ok-spot.was c.close-then-kind_at-eq-PLAIN.ensures.ahead in search rules
 
 pub quantified-put_domain-h-requires : goal.quantified-put_domain-h-requires
 unfolding code_of
-quantified-put_domain-h-requires t c = let room = c.requires.0 in let h = (known c.in-At.is (c.close.ensures.reads kind.colon refl)) in let z = known-ahead _ c.in-At.is c.close.ensures.ahead in let i = (known c.in-At-domain.is c.domain.ensures.0) in let j = (known c.in-At-close.is (c.close-in-At-domain.ensures.reads kind.spot refl)) in let y = known-ahead _ c.in-At-close.is c.close-in-At-domain.ensures.ahead in let l = (known c.in-At-pred.is c.pred.ensures.0) in search rules
+quantified-put_domain-h-requires t c = let room = c.requires.0 in let h = (known c.in_ok-colon.was (c.close.ensures.reads kind.colon refl)) in let z = known-ahead _ c.in_ok-colon.was c.close.ensures.ahead in let i = (known c.in_ok-over.was c.domain.ensures.0) in let j = (known c.in_ok-spot.was (c.close-then-kind_at-eq-PLAIN.ensures.reads kind.spot refl)) in let y = known-ahead _ c.in_ok-spot.was c.close-then-kind_at-eq-PLAIN.ensures.ahead in let l = (known c.in_ok-body.was c.pred.ensures.0) in search rules
 
 pub quantified-name_number-i-requires : goal.quantified-name_number-i-requires
 unfolding code_of
@@ -406,8 +406,8 @@ pub quantified-kind_at-j-requires : goal.quantified-kind_at-j-requires
 unfolding code_of
 quantified-kind_at-j-requires t c = search rules
 
-pub quantified-overflow_add-at-in-At-pred : goal.quantified-overflow_add-at-in-At-pred
-quantified-overflow_add-at-in-At-pred t c = let room = c.requires.0 in search rules
+pub quantified-overflow_add-at-then-kind_at-eq-PLAIN : goal.quantified-overflow_add-at-then-kind_at-eq-PLAIN
+quantified-overflow_add-at-then-kind_at-eq-PLAIN t c = let room = c.requires.0 in search rules
 
 pub quantified-wide-requires : goal.quantified-wide-requires
 unfolding code_of
@@ -415,31 +415,31 @@ quantified-wide-requires t c = search rules
 
 pub quantified-put-c-requires : goal.quantified-put-c-requires
 unfolding code_of
-quantified-put-c-requires t c = let room = c.requires.0 in let h = (known c.in-At.is (c.close.ensures.reads kind.colon refl)) in let z = known-ahead _ c.in-At.is c.close.ensures.ahead in let i = (known c.in-At-domain.is c.domain.ensures.0) in let j = (known c.in-At-close.is (c.close-in-At-domain.ensures.reads kind.spot refl)) in let y = known-ahead _ c.in-At-close.is c.close-in-At-domain.ensures.ahead in let l = (known c.in-At-pred.is c.pred.ensures.0) in search rules
+quantified-put-c-requires t c = let room = c.requires.0 in let h = (known c.in_ok-colon.was (c.close.ensures.reads kind.colon refl)) in let z = known-ahead _ c.in_ok-colon.was c.close.ensures.ahead in let i = (known c.in_ok-over.was c.domain.ensures.0) in let j = (known c.in_ok-spot.was (c.close-then-kind_at-eq-PLAIN.ensures.reads kind.spot refl)) in let y = known-ahead _ c.in_ok-spot.was c.close-then-kind_at-eq-PLAIN.ensures.ahead in let l = (known c.in_ok-body.was c.pred.ensures.0) in search rules
 
-pub quantified-close-requires-in-At-pred : goal.quantified-close-requires-in-At-pred
+pub quantified-close-requires-then-kind_at-eq-PLAIN-2 : goal.quantified-close-requires-then-kind_at-eq-PLAIN-2
 unfolding code_of
-quantified-close-requires-in-At-pred t c = let room = c.requires.0 in let l = (known c.in-At-pred.is c.pred.ensures.0) in search rules
+quantified-close-requires-then-kind_at-eq-PLAIN-2 t c = let room = c.requires.0 in let l = (known c.in_ok-body.was c.pred.ensures.0) in search rules
 
-pub quantified-returns-in-At-pred : goal.quantified-returns-in-At-pred
+pub quantified-returns-then-kind_at-eq-PLAIN : goal.quantified-returns-then-kind_at-eq-PLAIN
 unfolding compute_form
-quantified-returns-in-At-pred t c = (let room = c.requires.0 in let h = (known c.in-At.is (c.close.ensures.reads kind.colon refl)) in let z = known-ahead _ c.in-At.is c.close.ensures.ahead in let i = (known c.in-At-domain.is c.domain.ensures.0) in let j = (known c.in-At-close.is (c.close-in-At-domain.ensures.reads kind.spot refl)) in let y = known-ahead _ c.in-At-close.is c.close-in-At-domain.ensures.ahead in let l = (known c.in-At-pred.is c.pred.ensures.0) in takes {μ = a_declared (binds (suc c.args.b)) ∷ exact kind.colon ∷ a_domain ∷ exact kind.spot ∷ a_unary c.args.d (suc c.args.b) ∷ a_pred_rest c.args.d c.args.d (suc c.args.b) ∷ exact kind.close_paren ∷ []} {m = c.args.n} (omega arith) (λ κ e γ. quantifier-step c.args.d c.args.b κ γ (quantifier-code κ (omega (arith, c.requires.4)) (omega (arith, c.requires.5)))) (taken {μ = exact kind.colon ∷ a_domain ∷ exact kind.spot ∷ a_unary c.args.d (suc c.args.b) ∷ a_pred_rest c.args.d c.args.d (suc c.args.b) ∷ exact kind.close_paren ∷ []} {m = c.args.n} (binds (suc c.args.b)) (omega arith) (bind_well c.args.s.now (c.args.at + 1 + 1) (suc c.args.b) (omega (arith, c.if-b-ge-BOUND_NAMES.false))) (only _ kind.plain (sym c.kind_at.ensures.is ∙ c.if-kind_at-eq-PLAIN.true) (λ γ. refl)) (next (counted {c = c.args.n} {d = c.args.n + 4} (omega arith) (framed (a_domain ∷ exact kind.spot ∷ a_unary c.args.d (suc c.args.b) ∷ a_pred_rest c.args.d c.args.d (suc c.args.b) ∷ exact kind.close_paren ∷ []) h)) (next (counted {c = c.args.n + 4} {d = c.args.n + 4} (omega arith) (framed (exact kind.spot ∷ a_unary c.args.d (suc c.args.b) ∷ a_pred_rest c.args.d c.args.d (suc c.args.b) ∷ exact kind.close_paren ∷ []) i)) (next (counted {c = c.args.n + 4} {d = c.args.n + 8} (omega arith) (framed (a_unary c.args.d (suc c.args.b) ∷ a_pred_rest c.args.d c.args.d (suc c.args.b) ∷ exact kind.close_paren ∷ []) j)) (next (counted {c = c.args.n + 8} (omega arith) (framed (exact kind.close_paren ∷ []) (raised (λ x. a_unary c.args.d x ∷ a_pred_rest c.args.d c.args.d x ∷ []) c.args.b l))) (c.close-in-At-pred.ensures.reads kind.close_paren refl))))) (omega arith)) (omega arith), let t₁ = closed c.in-At.is c.close.ensures in let t₂ = showing (DomainAt c.args.s.now c.in-At.t) _ c.in-At-domain.is c.domain.ensures.1 in let t₃ = closed c.in-At-close.is c.close-in-At-domain.ensures in let w₁ = (made c.in-At-pred.is c.pred.ensures.1) in closing c.close-in-At-pred.ensures (λ q. makes (both (both (built w₁) (wrote c.put_domain-h.ensures)) (node_of c.name_number-i.ensures (c.wide.ensures ∙ c.kind_at-j.ensures.is) c.put-c.ensures)) (ranging c.requires.6 c.requires.4 c.requires.5 (sym c.kind_at.ensures.is ∙ c.if-kind_at-eq-PLAIN.true) t₁ t₂ t₃ w₁.derives q)))
+quantified-returns-then-kind_at-eq-PLAIN t c = (let room = c.requires.0 in let h = (known c.in_ok-colon.was (c.close.ensures.reads kind.colon refl)) in let z = known-ahead _ c.in_ok-colon.was c.close.ensures.ahead in let i = (known c.in_ok-over.was c.domain.ensures.0) in let j = (known c.in_ok-spot.was (c.close-then-kind_at-eq-PLAIN.ensures.reads kind.spot refl)) in let y = known-ahead _ c.in_ok-spot.was c.close-then-kind_at-eq-PLAIN.ensures.ahead in let l = (known c.in_ok-body.was c.pred.ensures.0) in takes {μ = a_declared (binds (suc c.args.b)) ∷ exact kind.colon ∷ a_domain ∷ exact kind.spot ∷ a_unary c.args.d (suc c.args.b) ∷ a_pred_rest c.args.d c.args.d (suc c.args.b) ∷ exact kind.close_paren ∷ []} {m = c.args.n} (omega arith) (λ κ e γ. quantifier-step c.args.d c.args.b κ γ (quantifier-code κ (omega (arith, c.requires.4)) (omega (arith, c.requires.5)))) (taken {μ = exact kind.colon ∷ a_domain ∷ exact kind.spot ∷ a_unary c.args.d (suc c.args.b) ∷ a_pred_rest c.args.d c.args.d (suc c.args.b) ∷ exact kind.close_paren ∷ []} {m = c.args.n} (binds (suc c.args.b)) (omega arith) (bind_well c.args.s.now (c.args.at + 1 + 1) (suc c.args.b) (omega (arith, c.if-b-ge-BOUND_NAMES.false))) (only _ kind.plain (sym c.kind_at.ensures.is ∙ c.if-kind_at-eq-PLAIN.true) (λ γ. refl)) (next (counted {c = c.args.n} {d = c.args.n + 4} (omega arith) (framed (a_domain ∷ exact kind.spot ∷ a_unary c.args.d (suc c.args.b) ∷ a_pred_rest c.args.d c.args.d (suc c.args.b) ∷ exact kind.close_paren ∷ []) h)) (next (counted {c = c.args.n + 4} {d = c.args.n + 4} (omega arith) (framed (exact kind.spot ∷ a_unary c.args.d (suc c.args.b) ∷ a_pred_rest c.args.d c.args.d (suc c.args.b) ∷ exact kind.close_paren ∷ []) i)) (next (counted {c = c.args.n + 4} {d = c.args.n + 8} (omega arith) (framed (a_unary c.args.d (suc c.args.b) ∷ a_pred_rest c.args.d c.args.d (suc c.args.b) ∷ exact kind.close_paren ∷ []) j)) (next (counted {c = c.args.n + 8} (omega arith) (framed (exact kind.close_paren ∷ []) (raised (λ x. a_unary c.args.d x ∷ a_pred_rest c.args.d c.args.d x ∷ []) c.args.b l))) (c.close-then-kind_at-eq-PLAIN-2.ensures.reads kind.close_paren refl))))) (omega arith)) (omega arith), let t₁ = closed c.in_ok-colon.was c.close.ensures in let t₂ = showing (DomainAt c.args.s.now c.in_ok-colon.colon.at) _ c.in_ok-over.was c.domain.ensures.1 in let t₃ = closed c.in_ok-spot.was c.close-then-kind_at-eq-PLAIN.ensures in let w₁ = (made c.in_ok-body.was c.pred.ensures.1) in closing c.close-then-kind_at-eq-PLAIN-2.ensures (λ q. makes (both (both (built w₁) (wrote c.put_domain-h.ensures)) (node_of c.name_number-i.ensures (c.wide.ensures ∙ c.kind_at-j.ensures.is) c.put-c.ensures)) (ranging c.requires.6 c.requires.4 c.requires.5 (sym c.kind_at.ensures.is ∙ c.if-kind_at-eq-PLAIN.true) t₁ t₂ t₃ w₁.derives q)))
 
-pub quantified-returns-in-Fault-pred : goal.quantified-returns-in-Fault-pred
+pub quantified-returns-in_err-body : goal.quantified-returns-in_err-body
 unfolding compute_form
-quantified-returns-in-Fault-pred t c = (let room = c.requires.0 in let h = (known c.in-At.is (c.close.ensures.reads kind.colon refl)) in let z = known-ahead _ c.in-At.is c.close.ensures.ahead in let i = (known c.in-At-domain.is c.domain.ensures.0) in let j = (known c.in-At-close.is (c.close-in-At-domain.ensures.reads kind.spot refl)) in let y = known-ahead _ c.in-At-close.is c.close-in-At-domain.ensures.ahead in takes {μ = a_declared (binds (suc c.args.b)) ∷ exact kind.colon ∷ a_domain ∷ exact kind.spot ∷ a_unary c.args.d (suc c.args.b) ∷ a_pred_rest c.args.d c.args.d (suc c.args.b) ∷ exact kind.close_paren ∷ []} {m = c.args.n} (omega arith) (λ κ e γ. quantifier-step c.args.d c.args.b κ γ (quantifier-code κ (omega (arith, c.requires.4)) (omega (arith, c.requires.5)))) (taken {μ = exact kind.colon ∷ a_domain ∷ exact kind.spot ∷ a_unary c.args.d (suc c.args.b) ∷ a_pred_rest c.args.d c.args.d (suc c.args.b) ∷ exact kind.close_paren ∷ []} {m = c.args.n} (binds (suc c.args.b)) (omega arith) (bind_well c.args.s.now (c.args.at + 1 + 1) (suc c.args.b) (omega (arith, c.if-b-ge-BOUND_NAMES.false))) (only _ kind.plain (sym c.kind_at.ensures.is ∙ c.if-kind_at-eq-PLAIN.true) (λ γ. refl)) (next (counted {c = c.args.n} {d = c.args.n + 4} (omega arith) (framed (a_domain ∷ exact kind.spot ∷ a_unary c.args.d (suc c.args.b) ∷ a_pred_rest c.args.d c.args.d (suc c.args.b) ∷ exact kind.close_paren ∷ []) h)) (next (counted {c = c.args.n + 4} {d = c.args.n + 4} (omega arith) (framed (exact kind.spot ∷ a_unary c.args.d (suc c.args.b) ∷ a_pred_rest c.args.d c.args.d (suc c.args.b) ∷ exact kind.close_paren ∷ []) i)) (next (counted {c = c.args.n + 4} {d = c.args.n + 8} (omega arith) (framed (a_unary c.args.d (suc c.args.b) ∷ a_pred_rest c.args.d c.args.d (suc c.args.b) ∷ exact kind.close_paren ∷ []) j)) (fails (framed (exact kind.close_paren ∷ []) (raised (λ x. a_unary c.args.d x ∷ a_pred_rest c.args.d c.args.d x ∷ []) c.args.b (known c.in-Fault-pred.is c.pred.ensures.0))))))) (omega arith)) (omega arith), tt)
+quantified-returns-in_err-body t c = rw (exits c.from_residual-in_err-body.result c.from_residual-in_err-body.ensures.1) ((let room = c.requires.0 in let h = (known c.in_ok-colon.was (c.close.ensures.reads kind.colon refl)) in let z = known-ahead _ c.in_ok-colon.was c.close.ensures.ahead in let i = (known c.in_ok-over.was c.domain.ensures.0) in let j = (known c.in_ok-spot.was (c.close-then-kind_at-eq-PLAIN.ensures.reads kind.spot refl)) in let y = known-ahead _ c.in_ok-spot.was c.close-then-kind_at-eq-PLAIN.ensures.ahead in takes {μ = a_declared (binds (suc c.args.b)) ∷ exact kind.colon ∷ a_domain ∷ exact kind.spot ∷ a_unary c.args.d (suc c.args.b) ∷ a_pred_rest c.args.d c.args.d (suc c.args.b) ∷ exact kind.close_paren ∷ []} {m = c.args.n} (omega arith) (λ κ e γ. quantifier-step c.args.d c.args.b κ γ (quantifier-code κ (omega (arith, c.requires.4)) (omega (arith, c.requires.5)))) (taken {μ = exact kind.colon ∷ a_domain ∷ exact kind.spot ∷ a_unary c.args.d (suc c.args.b) ∷ a_pred_rest c.args.d c.args.d (suc c.args.b) ∷ exact kind.close_paren ∷ []} {m = c.args.n} (binds (suc c.args.b)) (omega arith) (bind_well c.args.s.now (c.args.at + 1 + 1) (suc c.args.b) (omega (arith, c.if-b-ge-BOUND_NAMES.false))) (only _ kind.plain (sym c.kind_at.ensures.is ∙ c.if-kind_at-eq-PLAIN.true) (λ γ. refl)) (next (counted {c = c.args.n} {d = c.args.n + 4} (omega arith) (framed (a_domain ∷ exact kind.spot ∷ a_unary c.args.d (suc c.args.b) ∷ a_pred_rest c.args.d c.args.d (suc c.args.b) ∷ exact kind.close_paren ∷ []) h)) (next (counted {c = c.args.n + 4} {d = c.args.n + 4} (omega arith) (framed (exact kind.spot ∷ a_unary c.args.d (suc c.args.b) ∷ a_pred_rest c.args.d c.args.d (suc c.args.b) ∷ exact kind.close_paren ∷ []) i)) (next (counted {c = c.args.n + 4} {d = c.args.n + 8} (omega arith) (framed (a_unary c.args.d (suc c.args.b) ∷ a_pred_rest c.args.d c.args.d (suc c.args.b) ∷ exact kind.close_paren ∷ []) j)) (fails (framed (exact kind.close_paren ∷ []) (raised (λ x. a_unary c.args.d x ∷ a_pred_rest c.args.d c.args.d x ∷ []) c.args.b (known c.in_err-body.was c.pred.ensures.0))))))) (omega arith)) (omega arith), tt))
 
-pub quantified-returns-in-Fault-close : goal.quantified-returns-in-Fault-close
+pub quantified-returns-in_err-spot : goal.quantified-returns-in_err-spot
 unfolding compute_form
-quantified-returns-in-Fault-close t c = (let room = c.requires.0 in let h = (known c.in-At.is (c.close.ensures.reads kind.colon refl)) in let z = known-ahead _ c.in-At.is c.close.ensures.ahead in let i = (known c.in-At-domain.is c.domain.ensures.0) in takes {μ = a_declared (binds (suc c.args.b)) ∷ exact kind.colon ∷ a_domain ∷ exact kind.spot ∷ a_unary c.args.d (suc c.args.b) ∷ a_pred_rest c.args.d c.args.d (suc c.args.b) ∷ exact kind.close_paren ∷ []} {m = c.args.n} (omega arith) (λ κ e γ. quantifier-step c.args.d c.args.b κ γ (quantifier-code κ (omega (arith, c.requires.4)) (omega (arith, c.requires.5)))) (taken {μ = exact kind.colon ∷ a_domain ∷ exact kind.spot ∷ a_unary c.args.d (suc c.args.b) ∷ a_pred_rest c.args.d c.args.d (suc c.args.b) ∷ exact kind.close_paren ∷ []} {m = c.args.n} (binds (suc c.args.b)) (omega arith) (bind_well c.args.s.now (c.args.at + 1 + 1) (suc c.args.b) (omega (arith, c.if-b-ge-BOUND_NAMES.false))) (only _ kind.plain (sym c.kind_at.ensures.is ∙ c.if-kind_at-eq-PLAIN.true) (λ γ. refl)) (next (counted {c = c.args.n} {d = c.args.n + 4} (omega arith) (framed (a_domain ∷ exact kind.spot ∷ a_unary c.args.d (suc c.args.b) ∷ a_pred_rest c.args.d c.args.d (suc c.args.b) ∷ exact kind.close_paren ∷ []) h)) (next (counted {c = c.args.n + 4} {d = c.args.n + 4} (omega arith) (framed (exact kind.spot ∷ a_unary c.args.d (suc c.args.b) ∷ a_pred_rest c.args.d c.args.d (suc c.args.b) ∷ exact kind.close_paren ∷ []) i)) (fails (framed (a_unary c.args.d (suc c.args.b) ∷ a_pred_rest c.args.d c.args.d (suc c.args.b) ∷ exact kind.close_paren ∷ []) (known c.in-Fault-close.is (c.close-in-At-domain.ensures.reads kind.spot refl)))))) (omega arith)) (omega arith), tt)
+quantified-returns-in_err-spot t c = rw (exits c.from_residual-in_err-spot.result c.from_residual-in_err-spot.ensures.1) ((let room = c.requires.0 in let h = (known c.in_ok-colon.was (c.close.ensures.reads kind.colon refl)) in let z = known-ahead _ c.in_ok-colon.was c.close.ensures.ahead in let i = (known c.in_ok-over.was c.domain.ensures.0) in takes {μ = a_declared (binds (suc c.args.b)) ∷ exact kind.colon ∷ a_domain ∷ exact kind.spot ∷ a_unary c.args.d (suc c.args.b) ∷ a_pred_rest c.args.d c.args.d (suc c.args.b) ∷ exact kind.close_paren ∷ []} {m = c.args.n} (omega arith) (λ κ e γ. quantifier-step c.args.d c.args.b κ γ (quantifier-code κ (omega (arith, c.requires.4)) (omega (arith, c.requires.5)))) (taken {μ = exact kind.colon ∷ a_domain ∷ exact kind.spot ∷ a_unary c.args.d (suc c.args.b) ∷ a_pred_rest c.args.d c.args.d (suc c.args.b) ∷ exact kind.close_paren ∷ []} {m = c.args.n} (binds (suc c.args.b)) (omega arith) (bind_well c.args.s.now (c.args.at + 1 + 1) (suc c.args.b) (omega (arith, c.if-b-ge-BOUND_NAMES.false))) (only _ kind.plain (sym c.kind_at.ensures.is ∙ c.if-kind_at-eq-PLAIN.true) (λ γ. refl)) (next (counted {c = c.args.n} {d = c.args.n + 4} (omega arith) (framed (a_domain ∷ exact kind.spot ∷ a_unary c.args.d (suc c.args.b) ∷ a_pred_rest c.args.d c.args.d (suc c.args.b) ∷ exact kind.close_paren ∷ []) h)) (next (counted {c = c.args.n + 4} {d = c.args.n + 4} (omega arith) (framed (exact kind.spot ∷ a_unary c.args.d (suc c.args.b) ∷ a_pred_rest c.args.d c.args.d (suc c.args.b) ∷ exact kind.close_paren ∷ []) i)) (fails (framed (a_unary c.args.d (suc c.args.b) ∷ a_pred_rest c.args.d c.args.d (suc c.args.b) ∷ exact kind.close_paren ∷ []) (known c.in_err-spot.was (c.close-then-kind_at-eq-PLAIN.ensures.reads kind.spot refl)))))) (omega arith)) (omega arith), tt))
 
-pub quantified-returns-in-Fault-domain : goal.quantified-returns-in-Fault-domain
+pub quantified-returns-in_err-over : goal.quantified-returns-in_err-over
 unfolding compute_form
-quantified-returns-in-Fault-domain t c = (let room = c.requires.0 in let h = (known c.in-At.is (c.close.ensures.reads kind.colon refl)) in let z = known-ahead _ c.in-At.is c.close.ensures.ahead in takes {μ = a_declared (binds (suc c.args.b)) ∷ exact kind.colon ∷ a_domain ∷ exact kind.spot ∷ a_unary c.args.d (suc c.args.b) ∷ a_pred_rest c.args.d c.args.d (suc c.args.b) ∷ exact kind.close_paren ∷ []} {m = c.args.n} (omega arith) (λ κ e γ. quantifier-step c.args.d c.args.b κ γ (quantifier-code κ (omega (arith, c.requires.4)) (omega (arith, c.requires.5)))) (taken {μ = exact kind.colon ∷ a_domain ∷ exact kind.spot ∷ a_unary c.args.d (suc c.args.b) ∷ a_pred_rest c.args.d c.args.d (suc c.args.b) ∷ exact kind.close_paren ∷ []} {m = c.args.n} (binds (suc c.args.b)) (omega arith) (bind_well c.args.s.now (c.args.at + 1 + 1) (suc c.args.b) (omega (arith, c.if-b-ge-BOUND_NAMES.false))) (only _ kind.plain (sym c.kind_at.ensures.is ∙ c.if-kind_at-eq-PLAIN.true) (λ γ. refl)) (next (counted {c = c.args.n} {d = c.args.n + 4} (omega arith) (framed (a_domain ∷ exact kind.spot ∷ a_unary c.args.d (suc c.args.b) ∷ a_pred_rest c.args.d c.args.d (suc c.args.b) ∷ exact kind.close_paren ∷ []) h)) (fails (framed (exact kind.spot ∷ a_unary c.args.d (suc c.args.b) ∷ a_pred_rest c.args.d c.args.d (suc c.args.b) ∷ exact kind.close_paren ∷ []) (known c.in-Fault-domain.is c.domain.ensures.0)))) (omega arith)) (omega arith), tt)
+quantified-returns-in_err-over t c = rw (exits c.from_residual-in_err-over.result c.from_residual-in_err-over.ensures.1) ((let room = c.requires.0 in let h = (known c.in_ok-colon.was (c.close.ensures.reads kind.colon refl)) in let z = known-ahead _ c.in_ok-colon.was c.close.ensures.ahead in takes {μ = a_declared (binds (suc c.args.b)) ∷ exact kind.colon ∷ a_domain ∷ exact kind.spot ∷ a_unary c.args.d (suc c.args.b) ∷ a_pred_rest c.args.d c.args.d (suc c.args.b) ∷ exact kind.close_paren ∷ []} {m = c.args.n} (omega arith) (λ κ e γ. quantifier-step c.args.d c.args.b κ γ (quantifier-code κ (omega (arith, c.requires.4)) (omega (arith, c.requires.5)))) (taken {μ = exact kind.colon ∷ a_domain ∷ exact kind.spot ∷ a_unary c.args.d (suc c.args.b) ∷ a_pred_rest c.args.d c.args.d (suc c.args.b) ∷ exact kind.close_paren ∷ []} {m = c.args.n} (binds (suc c.args.b)) (omega arith) (bind_well c.args.s.now (c.args.at + 1 + 1) (suc c.args.b) (omega (arith, c.if-b-ge-BOUND_NAMES.false))) (only _ kind.plain (sym c.kind_at.ensures.is ∙ c.if-kind_at-eq-PLAIN.true) (λ γ. refl)) (next (counted {c = c.args.n} {d = c.args.n + 4} (omega arith) (framed (a_domain ∷ exact kind.spot ∷ a_unary c.args.d (suc c.args.b) ∷ a_pred_rest c.args.d c.args.d (suc c.args.b) ∷ exact kind.close_paren ∷ []) h)) (fails (framed (exact kind.spot ∷ a_unary c.args.d (suc c.args.b) ∷ a_pred_rest c.args.d c.args.d (suc c.args.b) ∷ exact kind.close_paren ∷ []) (known c.in_err-over.was c.domain.ensures.0)))) (omega arith)) (omega arith), tt))
 
-pub quantified-returns-in-Fault : goal.quantified-returns-in-Fault
+pub quantified-returns-in_err-colon : goal.quantified-returns-in_err-colon
 unfolding compute_form
-quantified-returns-in-Fault t c = (let room = c.requires.0 in takes {μ = a_declared (binds (suc c.args.b)) ∷ exact kind.colon ∷ a_domain ∷ exact kind.spot ∷ a_unary c.args.d (suc c.args.b) ∷ a_pred_rest c.args.d c.args.d (suc c.args.b) ∷ exact kind.close_paren ∷ []} {m = c.args.n} (omega arith) (λ κ e γ. quantifier-step c.args.d c.args.b κ γ (quantifier-code κ (omega (arith, c.requires.4)) (omega (arith, c.requires.5)))) (taken {μ = exact kind.colon ∷ a_domain ∷ exact kind.spot ∷ a_unary c.args.d (suc c.args.b) ∷ a_pred_rest c.args.d c.args.d (suc c.args.b) ∷ exact kind.close_paren ∷ []} {m = c.args.n} (binds (suc c.args.b)) (omega arith) (bind_well c.args.s.now (c.args.at + 1 + 1) (suc c.args.b) (omega (arith, c.if-b-ge-BOUND_NAMES.false))) (only _ kind.plain (sym c.kind_at.ensures.is ∙ c.if-kind_at-eq-PLAIN.true) (λ γ. refl)) (fails (framed (a_domain ∷ exact kind.spot ∷ a_unary c.args.d (suc c.args.b) ∷ a_pred_rest c.args.d c.args.d (suc c.args.b) ∷ exact kind.close_paren ∷ []) (known c.in-Fault.is (c.close.ensures.reads kind.colon refl)))) (omega arith)) (omega arith), tt)
+quantified-returns-in_err-colon t c = rw (exits c.from_residual.result c.from_residual.ensures.1) ((let room = c.requires.0 in takes {μ = a_declared (binds (suc c.args.b)) ∷ exact kind.colon ∷ a_domain ∷ exact kind.spot ∷ a_unary c.args.d (suc c.args.b) ∷ a_pred_rest c.args.d c.args.d (suc c.args.b) ∷ exact kind.close_paren ∷ []} {m = c.args.n} (omega arith) (λ κ e γ. quantifier-step c.args.d c.args.b κ γ (quantifier-code κ (omega (arith, c.requires.4)) (omega (arith, c.requires.5)))) (taken {μ = exact kind.colon ∷ a_domain ∷ exact kind.spot ∷ a_unary c.args.d (suc c.args.b) ∷ a_pred_rest c.args.d c.args.d (suc c.args.b) ∷ exact kind.close_paren ∷ []} {m = c.args.n} (binds (suc c.args.b)) (omega arith) (bind_well c.args.s.now (c.args.at + 1 + 1) (suc c.args.b) (omega (arith, c.if-b-ge-BOUND_NAMES.false))) (only _ kind.plain (sym c.kind_at.ensures.is ∙ c.if-kind_at-eq-PLAIN.true) (λ γ. refl)) (fails (framed (a_domain ∷ exact kind.spot ∷ a_unary c.args.d (suc c.args.b) ∷ a_pred_rest c.args.d c.args.d (suc c.args.b) ∷ exact kind.close_paren ∷ []) (known c.in_err-colon.was (c.close.ensures.reads kind.colon refl)))) (omega arith)) (omega arith), tt))
 
 pub quantified-returns : goal.quantified-returns
 unfolding compute_form
@@ -449,16 +449,16 @@ pub related-returns-then-c-eq-NONE : goal.related-returns-then-c-eq-NONE
 unfolding compute_form
 related-returns-then-c-eq-NONE t c = (stops (omega arith) (λ κ e γ. mem-step c.args.d c.args.b κ γ ((c.membership_of-c.ensures.classes.class κ (e ∙ sym c.kind_at-k.ensures.is)) ∙ c.if-c-eq-NONE.true)) (λ γ. refl), tt)
 
-pub related-put-h-requires : goal.related-put-h-requires
-related-put-h-requires t c = let room = c.requires.0 in let h = (known c.in-At.is c.term.ensures.0) in search rules
+pub related-put-count-requires : goal.related-put-count-requires
+related-put-count-requires t c = let room = c.requires.0 in let h = (known c.in_ok-set.was c.term.ensures.0) in search rules
 
-pub related-returns-in-At : goal.related-returns-in-At
+pub related-returns : goal.related-returns
 unfolding compute_form
-related-returns-in-At t c = (let h = (known c.in-At.is c.term.ensures.0) in takes {μ = a_term c.args.d c.args.b ∷ []} {m = c.args.n + 4} (omega arith) (λ κ e γ. mem-some c.args.d c.args.b c.membership_of-c.result κ γ (c.membership_of-c.ensures.classes.class κ (e ∙ sym c.kind_at-k.ensures.is)) c.if-c-eq-NONE.false) (counted (omega arith) h) (omega arith), let w₁ = (made c.in-At.is c.term.ensures.1) in makes (both (built w₁) (node_of (c.wide.ensures ∙ c.kind_at-k.ensures.is) refl c.put-h.ensures)) (derived.related (membership-at c.kind_at-k.ensures.is (c.membership_of-c.ensures.member (omega arith))) w₁.derives))
+related-returns t c = (let h = (known c.in_ok-set.was c.term.ensures.0) in takes {μ = a_term c.args.d c.args.b ∷ []} {m = c.args.n + 4} (omega arith) (λ κ e γ. mem-some c.args.d c.args.b c.membership_of-c.result κ γ (c.membership_of-c.ensures.classes.class κ (e ∙ sym c.kind_at-k.ensures.is)) c.if-c-eq-NONE.false) (counted (omega arith) h) (omega arith), let w₁ = (made c.in_ok-set.was c.term.ensures.1) in makes (both (built w₁) (node_of (c.wide.ensures ∙ c.kind_at-k.ensures.is) refl c.put-count.ensures)) (derived.related (membership-at c.kind_at-k.ensures.is (c.membership_of-c.ensures.member (omega arith))) w₁.derives))
 
-pub related-returns-in-Fault : goal.related-returns-in-Fault
+pub related-returns-in_err-set : goal.related-returns-in_err-set
 unfolding compute_form
-related-returns-in-Fault t c = (takes {μ = a_term c.args.d c.args.b ∷ []} {m = c.args.n} (omega arith) (λ κ e γ. mem-some c.args.d c.args.b c.membership_of-c.result κ γ (c.membership_of-c.ensures.classes.class κ (e ∙ sym c.kind_at-k.ensures.is)) c.if-c-eq-NONE.false) (fails (known c.in-Fault.is c.term.ensures.0)) (omega arith), tt)
+related-returns-in_err-set t c = rw (exits c.from_residual.result c.from_residual.ensures.1) ((takes {μ = a_term c.args.d c.args.b ∷ []} {m = c.args.n} (omega arith) (λ κ e γ. mem-some c.args.d c.args.b c.membership_of-c.result κ γ (c.membership_of-c.ensures.classes.class κ (e ∙ sym c.kind_at-k.ensures.is)) c.if-c-eq-NONE.false) (fails (known c.in_err-set.was c.term.ensures.0)) (omega arith), tt))
 
 pub such-returns-then-b-ge-BOUND_NAMES : goal.such-returns-then-b-ge-BOUND_NAMES
 unfolding compute_form
@@ -485,7 +485,7 @@ such-close-requires t c = search rules
 
 pub such-pred-requires : goal.such-pred-requires
 unfolding code_of
-such-pred-requires t c = let room = c.requires.0 in let h = (known c.in-At.is (c.close.ensures.reads kind.bar refl)) in search rules
+such-pred-requires t c = let room = c.requires.0 in let h = (known c.in_ok-bar.was (c.close.ensures.reads kind.bar refl)) in search rules
 
 pub such-name_number-y-requires : goal.such-name_number-y-requires
 unfolding code_of
@@ -493,7 +493,7 @@ such-name_number-y-requires t c = search rules
 
 pub such-put-h-requires : goal.such-put-h-requires
 unfolding code_of
-such-put-h-requires t c = let room = c.requires.0 in let h = (known c.in-At.is (c.close.ensures.reads kind.bar refl)) in let j = (known c.in-At-pred.is c.pred.ensures.0) in search rules
+such-put-h-requires t c = let room = c.requires.0 in let h = (known c.in_ok-bar.was (c.close.ensures.reads kind.bar refl)) in let j = (known c.in_ok-body.was c.pred.ensures.0) in search rules
 
 pub such-overflow_add-at : goal.such-overflow_add-at
 such-overflow_add-at t c = let room = c.requires.0 in search rules
@@ -504,63 +504,63 @@ such-name_number-x-requires t c = search rules
 
 pub such-put-i-requires : goal.such-put-i-requires
 unfolding code_of
-such-put-i-requires t c = let room = c.requires.0 in let h = (known c.in-At.is (c.close.ensures.reads kind.bar refl)) in let j = (known c.in-At-pred.is c.pred.ensures.0) in search rules
+such-put-i-requires t c = let room = c.requires.0 in let h = (known c.in_ok-bar.was (c.close.ensures.reads kind.bar refl)) in let j = (known c.in_ok-body.was c.pred.ensures.0) in search rules
 
-pub such-close-requires-in-At-pred : goal.such-close-requires-in-At-pred
+pub such-close-requires-2 : goal.such-close-requires-2
 unfolding code_of
-such-close-requires-in-At-pred t c = let room = c.requires.0 in let j = (known c.in-At-pred.is c.pred.ensures.0) in search rules
+such-close-requires-2 t c = let room = c.requires.0 in let j = (known c.in_ok-body.was c.pred.ensures.0) in search rules
 
-pub such-returns-in-At-pred : goal.such-returns-in-At-pred
+pub such-returns : goal.such-returns
 unfolding compute_form
-such-returns-in-At-pred t c = (let room = c.requires.0 in let h = (known c.in-At.is (c.close.ensures.reads kind.bar refl)) in let i = known-ahead _ c.in-At.is c.close.ensures.ahead in let j = (known c.in-At-pred.is c.pred.ensures.0) in taken {μ = a_named c.args.d c.args.b ∷ []} {m = c.args.n} (binds (suc c.args.b)) (omega (arith, inside c.args.s.now (c.args.at + 1 + 1) (omega (arith, c.requires.6)))) (bind_well c.args.s.now (c.args.at + 1) (suc c.args.b) (omega (arith, c.if-b-ge-BOUND_NAMES.false))) (only _ kind.plain c.requires.5 (λ γ. refl)) (takes {μ = a_name ∷ exact kind.bar ∷ a_unary c.args.d (suc c.args.b) ∷ a_pred_rest c.args.d c.args.d (suc c.args.b) ∷ exact kind.close_brace ∷ []} {m = c.args.n} (inside c.args.s.now (c.args.at + 1 + 1) (omega (arith, c.requires.6))) (only _ kind.colon c.requires.6 (λ γ. refl)) (takes {μ = exact kind.bar ∷ a_unary c.args.d (suc c.args.b) ∷ a_pred_rest c.args.d c.args.d (suc c.args.b) ∷ exact kind.close_brace ∷ []} {m = c.args.n + 4} (omega arith) (λ κ e γ. name-taken κ _ (λ q. c.if-name_of-eq-NONE.false (sym (c.name_of.ensures.classes.class κ (e ∙ sym c.kind_at-k.ensures.is)) ∙ q))) (next (counted {c = c.args.n + 4} {d = c.args.n + 8} (omega arith) (framed (a_unary c.args.d (suc c.args.b) ∷ a_pred_rest c.args.d c.args.d (suc c.args.b) ∷ exact kind.close_brace ∷ []) h)) (next (counted {c = c.args.n + 8} (omega arith) (framed (exact kind.close_brace ∷ []) (raised (λ x. a_unary c.args.d x ∷ a_pred_rest c.args.d c.args.d x ∷ []) c.args.b j))) (c.close-in-At-pred.ensures.reads kind.close_brace refl))) (omega arith)) (omega arith)) (omega arith), let t₁ = closed c.in-At.is c.close.ensures in let w₁ = (made c.in-At-pred.is c.pred.ensures.1) in closing c.close-in-At-pred.ensures (λ q. makes (both (both (built w₁) (node_of c.name_number-y.ensures refl c.put-h.ensures)) (node_of c.name_number-x.ensures refl c.put-i.ensures)) (derived.such c.requires.4 c.requires.5 c.requires.6 (named-at c.kind_at-k.ensures.is (c.name_of.ensures.name (omega (arith, c.if-name_of-eq-NONE.false)))) t₁.1 (from t₁.0 w₁.derives) q)))
+such-returns t c = (let room = c.requires.0 in let h = (known c.in_ok-bar.was (c.close.ensures.reads kind.bar refl)) in let i = known-ahead _ c.in_ok-bar.was c.close.ensures.ahead in let j = (known c.in_ok-body.was c.pred.ensures.0) in taken {μ = a_named c.args.d c.args.b ∷ []} {m = c.args.n} (binds (suc c.args.b)) (omega (arith, inside c.args.s.now (c.args.at + 1 + 1) (omega (arith, c.requires.6)))) (bind_well c.args.s.now (c.args.at + 1) (suc c.args.b) (omega (arith, c.if-b-ge-BOUND_NAMES.false))) (only _ kind.plain c.requires.5 (λ γ. refl)) (takes {μ = a_name ∷ exact kind.bar ∷ a_unary c.args.d (suc c.args.b) ∷ a_pred_rest c.args.d c.args.d (suc c.args.b) ∷ exact kind.close_brace ∷ []} {m = c.args.n} (inside c.args.s.now (c.args.at + 1 + 1) (omega (arith, c.requires.6))) (only _ kind.colon c.requires.6 (λ γ. refl)) (takes {μ = exact kind.bar ∷ a_unary c.args.d (suc c.args.b) ∷ a_pred_rest c.args.d c.args.d (suc c.args.b) ∷ exact kind.close_brace ∷ []} {m = c.args.n + 4} (omega arith) (λ κ e γ. name-taken κ _ (λ q. c.if-name_of-eq-NONE.false (sym (c.name_of.ensures.classes.class κ (e ∙ sym c.kind_at-k.ensures.is)) ∙ q))) (next (counted {c = c.args.n + 4} {d = c.args.n + 8} (omega arith) (framed (a_unary c.args.d (suc c.args.b) ∷ a_pred_rest c.args.d c.args.d (suc c.args.b) ∷ exact kind.close_brace ∷ []) h)) (next (counted {c = c.args.n + 8} (omega arith) (framed (exact kind.close_brace ∷ []) (raised (λ x. a_unary c.args.d x ∷ a_pred_rest c.args.d c.args.d x ∷ []) c.args.b j))) (c.close-2.ensures.reads kind.close_brace refl))) (omega arith)) (omega arith)) (omega arith), let t₁ = closed c.in_ok-bar.was c.close.ensures in let w₁ = (made c.in_ok-body.was c.pred.ensures.1) in closing c.close-2.ensures (λ q. makes (both (both (built w₁) (node_of c.name_number-y.ensures refl c.put-h.ensures)) (node_of c.name_number-x.ensures refl c.put-i.ensures)) (derived.such c.requires.4 c.requires.5 c.requires.6 (named-at c.kind_at-k.ensures.is (c.name_of.ensures.name (omega (arith, c.if-name_of-eq-NONE.false)))) t₁.1 (from t₁.0 w₁.derives) q)))
 
-pub such-returns-in-Fault-pred : goal.such-returns-in-Fault-pred
+pub such-returns-in_err-body : goal.such-returns-in_err-body
 unfolding compute_form
-such-returns-in-Fault-pred t c = (let room = c.requires.0 in let h = (known c.in-At.is (c.close.ensures.reads kind.bar refl)) in taken {μ = a_named c.args.d c.args.b ∷ []} {m = c.args.n} (binds (suc c.args.b)) (omega (arith, inside c.args.s.now (c.args.at + 1 + 1) (omega (arith, c.requires.6)))) (bind_well c.args.s.now (c.args.at + 1) (suc c.args.b) (omega (arith, c.if-b-ge-BOUND_NAMES.false))) (only _ kind.plain c.requires.5 (λ γ. refl)) (takes {μ = a_name ∷ exact kind.bar ∷ a_unary c.args.d (suc c.args.b) ∷ a_pred_rest c.args.d c.args.d (suc c.args.b) ∷ exact kind.close_brace ∷ []} {m = c.args.n} (inside c.args.s.now (c.args.at + 1 + 1) (omega (arith, c.requires.6))) (only _ kind.colon c.requires.6 (λ γ. refl)) (takes {μ = exact kind.bar ∷ a_unary c.args.d (suc c.args.b) ∷ a_pred_rest c.args.d c.args.d (suc c.args.b) ∷ exact kind.close_brace ∷ []} {m = c.args.n + 4} (omega arith) (λ κ e γ. name-taken κ _ (λ q. c.if-name_of-eq-NONE.false (sym (c.name_of.ensures.classes.class κ (e ∙ sym c.kind_at-k.ensures.is)) ∙ q))) (next (counted {c = c.args.n + 4} {d = c.args.n} (omega arith) (framed (a_unary c.args.d (suc c.args.b) ∷ a_pred_rest c.args.d c.args.d (suc c.args.b) ∷ exact kind.close_brace ∷ []) h)) (fails (framed (exact kind.close_brace ∷ []) (raised (λ x. a_unary c.args.d x ∷ a_pred_rest c.args.d c.args.d x ∷ []) c.args.b (known c.in-Fault-pred.is c.pred.ensures.0))))) (omega arith)) (omega arith)) (omega arith), tt)
+such-returns-in_err-body t c = rw (exits c.from_residual-in_err-body.result c.from_residual-in_err-body.ensures.1) ((let room = c.requires.0 in let h = (known c.in_ok-bar.was (c.close.ensures.reads kind.bar refl)) in taken {μ = a_named c.args.d c.args.b ∷ []} {m = c.args.n} (binds (suc c.args.b)) (omega (arith, inside c.args.s.now (c.args.at + 1 + 1) (omega (arith, c.requires.6)))) (bind_well c.args.s.now (c.args.at + 1) (suc c.args.b) (omega (arith, c.if-b-ge-BOUND_NAMES.false))) (only _ kind.plain c.requires.5 (λ γ. refl)) (takes {μ = a_name ∷ exact kind.bar ∷ a_unary c.args.d (suc c.args.b) ∷ a_pred_rest c.args.d c.args.d (suc c.args.b) ∷ exact kind.close_brace ∷ []} {m = c.args.n} (inside c.args.s.now (c.args.at + 1 + 1) (omega (arith, c.requires.6))) (only _ kind.colon c.requires.6 (λ γ. refl)) (takes {μ = exact kind.bar ∷ a_unary c.args.d (suc c.args.b) ∷ a_pred_rest c.args.d c.args.d (suc c.args.b) ∷ exact kind.close_brace ∷ []} {m = c.args.n + 4} (omega arith) (λ κ e γ. name-taken κ _ (λ q. c.if-name_of-eq-NONE.false (sym (c.name_of.ensures.classes.class κ (e ∙ sym c.kind_at-k.ensures.is)) ∙ q))) (next (counted {c = c.args.n + 4} {d = c.args.n} (omega arith) (framed (a_unary c.args.d (suc c.args.b) ∷ a_pred_rest c.args.d c.args.d (suc c.args.b) ∷ exact kind.close_brace ∷ []) h)) (fails (framed (exact kind.close_brace ∷ []) (raised (λ x. a_unary c.args.d x ∷ a_pred_rest c.args.d c.args.d x ∷ []) c.args.b (known c.in_err-body.was c.pred.ensures.0))))) (omega arith)) (omega arith)) (omega arith), tt))
 
-pub such-returns-in-Fault : goal.such-returns-in-Fault
+pub such-returns-in_err-bar : goal.such-returns-in_err-bar
 unfolding compute_form
-such-returns-in-Fault t c = (let room = c.requires.0 in taken {μ = a_named c.args.d c.args.b ∷ []} {m = c.args.n} (binds (suc c.args.b)) (omega (arith, inside c.args.s.now (c.args.at + 1 + 1) (omega (arith, c.requires.6)))) (bind_well c.args.s.now (c.args.at + 1) (suc c.args.b) (omega (arith, c.if-b-ge-BOUND_NAMES.false))) (only _ kind.plain c.requires.5 (λ γ. refl)) (takes {μ = a_name ∷ exact kind.bar ∷ a_unary c.args.d (suc c.args.b) ∷ a_pred_rest c.args.d c.args.d (suc c.args.b) ∷ exact kind.close_brace ∷ []} {m = c.args.n} (inside c.args.s.now (c.args.at + 1 + 1) (omega (arith, c.requires.6))) (only _ kind.colon c.requires.6 (λ γ. refl)) (takes {μ = exact kind.bar ∷ a_unary c.args.d (suc c.args.b) ∷ a_pred_rest c.args.d c.args.d (suc c.args.b) ∷ exact kind.close_brace ∷ []} {m = c.args.n + 4} (omega arith) (λ κ e γ. name-taken κ _ (λ q. c.if-name_of-eq-NONE.false (sym (c.name_of.ensures.classes.class κ (e ∙ sym c.kind_at-k.ensures.is)) ∙ q))) (fails (framed (a_unary c.args.d (suc c.args.b) ∷ a_pred_rest c.args.d c.args.d (suc c.args.b) ∷ exact kind.close_brace ∷ []) (known c.in-Fault.is (c.close.ensures.reads kind.bar refl)))) (omega arith)) (omega arith)) (omega arith), tt)
+such-returns-in_err-bar t c = rw (exits c.from_residual.result c.from_residual.ensures.1) ((let room = c.requires.0 in taken {μ = a_named c.args.d c.args.b ∷ []} {m = c.args.n} (binds (suc c.args.b)) (omega (arith, inside c.args.s.now (c.args.at + 1 + 1) (omega (arith, c.requires.6)))) (bind_well c.args.s.now (c.args.at + 1) (suc c.args.b) (omega (arith, c.if-b-ge-BOUND_NAMES.false))) (only _ kind.plain c.requires.5 (λ γ. refl)) (takes {μ = a_name ∷ exact kind.bar ∷ a_unary c.args.d (suc c.args.b) ∷ a_pred_rest c.args.d c.args.d (suc c.args.b) ∷ exact kind.close_brace ∷ []} {m = c.args.n} (inside c.args.s.now (c.args.at + 1 + 1) (omega (arith, c.requires.6))) (only _ kind.colon c.requires.6 (λ γ. refl)) (takes {μ = exact kind.bar ∷ a_unary c.args.d (suc c.args.b) ∷ a_pred_rest c.args.d c.args.d (suc c.args.b) ∷ exact kind.close_brace ∷ []} {m = c.args.n + 4} (omega arith) (λ κ e γ. name-taken κ _ (λ q. c.if-name_of-eq-NONE.false (sym (c.name_of.ensures.classes.class κ (e ∙ sym c.kind_at-k.ensures.is)) ∙ q))) (fails (framed (a_unary c.args.d (suc c.args.b) ∷ a_pred_rest c.args.d c.args.d (suc c.args.b) ∷ exact kind.close_brace ∷ []) (known c.in_err-bar.was (c.close.ensures.reads kind.bar refl)))) (omega arith)) (omega arith)) (omega arith), tt))
 
 pub term-returns : goal.term-returns
 unfolding compute_form
 term-returns t c = (whole-term c.term_from.ensures.0, c.term_from.ensures.1)
 
 pub term_from-term_rest-requires : goal.term_from-term_rest-requires
-term_from-term_rest-requires t c = let room = c.requires.0 in let h = (known c.in-At.is c.operand.ensures.0) in search rules
+term_from-term_rest-requires t c = let room = c.requires.0 in let h = (known c.in_ok-first.was c.operand.ensures.0) in search rules
 
-pub term_from-returns-in-At : goal.term_from-returns-in-At
+pub term_from-returns : goal.term_from-returns
 unfolding compute_form
-term_from-returns-in-At t c = (record { reads = likewise (λ κ e γ. as-operand c.args.d c.args.b κ γ) (λ γ. refl) (next (framed (a_term_rest c.args.d c.args.b ∷ []) (known c.in-At.is c.operand.ensures.0)) c.term_rest.ensures.0.reads); stops = c.term_rest.ensures.0.stops }, let w₁ = (made c.in-At.is c.operand.ensures.1) in onward _ c.term_rest.result (built w₁) (λ k v x. derived.term_from w₁.derives x) c.term_rest.ensures.1)
+term_from-returns t c = (record { reads = likewise (λ κ e γ. as-operand c.args.d c.args.b κ γ) (λ γ. refl) (next (framed (a_term_rest c.args.d c.args.b ∷ []) (known c.in_ok-first.was c.operand.ensures.0)) c.term_rest.ensures.0.reads); stops = c.term_rest.ensures.0.stops }, let w₁ = (made c.in_ok-first.was c.operand.ensures.1) in onward _ c.term_rest.result (built w₁) (λ k v x. derived.term_from w₁.derives x) c.term_rest.ensures.1)
 
-pub term_from-returns-in-Fault : goal.term_from-returns-in-Fault
+pub term_from-returns-in_err-first : goal.term_from-returns-in_err-first
 unfolding compute_form
-term_from-returns-in-Fault t c = (record { reads = likewise (λ κ e γ. as-operand c.args.d c.args.b κ γ) (λ γ. refl) (fails (framed (a_term_rest c.args.d c.args.b ∷ []) (known c.in-Fault.is c.operand.ensures.0))); stops = tt }, tt)
+term_from-returns-in_err-first t c = rw (exits c.from_residual.result c.from_residual.ensures.1) ((record { reads = likewise (λ κ e γ. as-operand c.args.d c.args.b κ γ) (λ γ. refl) (fails (framed (a_term_rest c.args.d c.args.b ∷ []) (known c.in_err-first.was c.operand.ensures.0))); stops = tt }, tt))
 
-pub term_more-put-c-requires : goal.term_more-put-c-requires
-term_more-put-c-requires t c = let room = c.requires.0 in let positive = c.requires.3 in let ahead = c.requires.4 in let small = c.requires.5.small in let h = (known c.in-At.is c.end.ensures.0.reads) in search rules
+pub term_more-put-count-requires : goal.term_more-put-count-requires
+term_more-put-count-requires t c = let room = c.requires.0 in let positive = c.requires.3 in let ahead = c.requires.4 in let small = c.requires.5.small in let h = (known c.in_ok-divisor.was c.end.ensures.0.reads) in search rules
 
-pub term_more-returns-in-At : goal.term_more-returns-in-At
+pub term_more-returns-then-o-ge-DIVIDES : goal.term_more-returns-then-o-ge-DIVIDES
 unfolding compute_form
-term_more-returns-in-At t c = let room = c.requires.0 in let positive = c.requires.3 in let ahead = c.requires.4 in let small = c.requires.5.small in let h = (known c.in-At.is c.end.ensures.0.reads) in let i = known-ahead _ c.in-At.is c.end.ensures.0.ahead in let c₁ = c.put-c.ensures.count in (takes {μ = an_end ∷ a_term_rest c.args.d c.args.b ∷ []} {m = c.args.n} (omega arith) (λ κ e γ. rest-division c.args.d c.args.b c.args.o κ γ (c.requires.5.class κ e) (omega arith)) (counted {c = c.args.n} (omega arith) (framed (a_term_rest c.args.d c.args.b ∷ []) h)) (omega arith), omega arith, λ min q. chain (node_of c.magnitude-x.ensures c.division-y.ensures c.put-c.ensures) (λ k u x. derived.divided c.requires.5 (omega arith) (omega (arith, level-two c.args.o)) (showing (EndAt c.args.s.now (c.args.at + 1)) _ c.in-At.is c.end.ensures.1) x))
+term_more-returns-then-o-ge-DIVIDES t c = let room = c.requires.0 in let positive = c.requires.3 in let ahead = c.requires.4 in let small = c.requires.5.small in let h = (known c.in_ok-divisor.was c.end.ensures.0.reads) in let i = known-ahead _ c.in_ok-divisor.was c.end.ensures.0.ahead in let c₁ = c.put-count.ensures.count in (takes {μ = an_end ∷ a_term_rest c.args.d c.args.b ∷ []} {m = c.args.n} (omega arith) (λ κ e γ. rest-division c.args.d c.args.b c.args.o κ γ (c.requires.5.class κ e) (omega arith)) (counted {c = c.args.n} (omega arith) (framed (a_term_rest c.args.d c.args.b ∷ []) h)) (omega arith), omega arith, λ min q. chain (node_of c.magnitude-x.ensures c.division-y.ensures c.put-count.ensures) (λ k u x. derived.divided c.requires.5 (omega arith) (omega (arith, level-two c.args.o)) (showing (EndAt c.args.s.now (c.args.at + 1)) _ c.in_ok-divisor.was c.end.ensures.1) x))
 
-pub term_more-returns-in-Fault : goal.term_more-returns-in-Fault
+pub term_more-returns-in_err-divisor : goal.term_more-returns-in_err-divisor
 unfolding compute_form
-term_more-returns-in-Fault t c = let room = c.requires.0 in let positive = c.requires.3 in let ahead = c.requires.4 in let small = c.requires.5.small in (takes {μ = an_end ∷ a_term_rest c.args.d c.args.b ∷ []} {m = c.args.n} (omega arith) (λ κ e γ. rest-division c.args.d c.args.b c.args.o κ γ (c.requires.5.class κ e) (omega arith)) (fails (framed (a_term_rest c.args.d c.args.b ∷ []) (known c.in-Fault.is c.end.ensures.0.reads))) (omega arith), tt, λ min q. tt)
+term_more-returns-in_err-divisor t c = rw (exits c.from_residual.result c.from_residual.ensures.1) (let room = c.requires.0 in let positive = c.requires.3 in let ahead = c.requires.4 in let small = c.requires.5.small in (takes {μ = an_end ∷ a_term_rest c.args.d c.args.b ∷ []} {m = c.args.n} (omega arith) (λ κ e γ. rest-division c.args.d c.args.b c.args.o κ γ (c.requires.5.class κ e) (omega arith)) (fails (framed (a_term_rest c.args.d c.args.b ∷ []) (known c.in_err-divisor.was c.end.ensures.0.reads))) (omega arith), tt, λ min q. tt))
 
 pub term_more-term_from-requires : goal.term_more-term_from-requires
 term_more-term_from-requires t c = let room = c.requires.0 in let positive = c.requires.3 in let ahead = c.requires.4 in let small = c.requires.5.small in search rules
 
-pub term_more-put-c-requires-in-At-term_from : goal.term_more-put-c-requires-in-At-term_from
-term_more-put-c-requires-in-At-term_from t c = let room = c.requires.0 in let positive = c.requires.3 in let ahead = c.requires.4 in let small = c.requires.5.small in let h = (known c.in-At-term_from.is c.term_from.ensures.0.reads) in search rules
+pub term_more-put-count-requires-2 : goal.term_more-put-count-requires-2
+term_more-put-count-requires-2 t c = let room = c.requires.0 in let positive = c.requires.3 in let ahead = c.requires.4 in let small = c.requires.5.small in let h = (known c.in_ok-right.was c.term_from.ensures.0.reads) in search rules
 
-pub term_more-returns-in-At-term_from : goal.term_more-returns-in-At-term_from
+pub term_more-returns : goal.term_more-returns
 unfolding compute_form
-term_more-returns-in-At-term_from t c = let room = c.requires.0 in let positive = c.requires.3 in let ahead = c.requires.4 in let small = c.requires.5.small in let h = (known c.in-At-term_from.is c.term_from.ensures.0.reads) in let c₁ = c.put-c-in-At-term_from.ensures.count in (takes {μ = a_term c.args.d c.args.b ∷ []} {m = c.args.n + 4} (omega arith) (λ κ e γ. rest-binary c.args.d c.args.b c.args.o κ γ (c.requires.5.class κ e) (omega arith) (omega arith)) (counted {c = c.args.n + 4} (omega arith) h) (omega arith), (let f = h.from in omega arith), λ min q. let w₁ = made c.in-At-term_from.is c.term_from.ensures.1 in chain (both (built w₁) (node_of (c.wide.ensures ∙ c.kind_at-k.ensures.is) refl c.put-c-in-At-term_from.ensures)) (λ k u x. derived.operated c.requires.5 (omega arith) (omega arith) (omega (arith, level-class c.args.o)) w₁.derives x))
+term_more-returns t c = let room = c.requires.0 in let positive = c.requires.3 in let ahead = c.requires.4 in let small = c.requires.5.small in let h = (known c.in_ok-right.was c.term_from.ensures.0.reads) in let c₁ = c.put-count-2.ensures.count in (takes {μ = a_term c.args.d c.args.b ∷ []} {m = c.args.n + 4} (omega arith) (λ κ e γ. rest-binary c.args.d c.args.b c.args.o κ γ (c.requires.5.class κ e) (omega arith) (omega arith)) (counted {c = c.args.n + 4} (omega arith) h) (omega arith), (let f = h.from in omega arith), λ min q. let w₁ = made c.in_ok-right.was c.term_from.ensures.1 in chain (both (built w₁) (node_of (c.wide.ensures ∙ c.kind_at-k.ensures.is) refl c.put-count-2.ensures)) (λ k u x. derived.operated c.requires.5 (omega arith) (omega arith) (omega (arith, level-class c.args.o)) w₁.derives x))
 
-pub term_more-returns-in-Fault-term_from : goal.term_more-returns-in-Fault-term_from
+pub term_more-returns-in_err-right : goal.term_more-returns-in_err-right
 unfolding compute_form
-term_more-returns-in-Fault-term_from t c = let room = c.requires.0 in let positive = c.requires.3 in let ahead = c.requires.4 in let small = c.requires.5.small in (takes {μ = a_term c.args.d c.args.b ∷ []} {m = c.args.n + 4} (omega arith) (λ κ e γ. rest-binary c.args.d c.args.b c.args.o κ γ (c.requires.5.class κ e) (omega arith) (omega arith)) (fails (known c.in-Fault-term_from.is c.term_from.ensures.0.reads)) (omega arith), tt, λ min q. tt)
+term_more-returns-in_err-right t c = rw (exits c.from_residual-in_err-right.result c.from_residual-in_err-right.ensures.1) (let room = c.requires.0 in let positive = c.requires.3 in let ahead = c.requires.4 in let small = c.requires.5.small in (takes {μ = a_term c.args.d c.args.b ∷ []} {m = c.args.n + 4} (omega arith) (λ κ e γ. rest-binary c.args.d c.args.b c.args.o κ γ (c.requires.5.class κ e) (omega arith) (omega arith)) (fails (known c.in_err-right.was c.term_from.ensures.0.reads)) (omega arith), tt, λ min q. tt))
 
 pub term_rest-loop-code-init : goal.term_rest-loop-code-init
 term_rest-loop-code-init t c = let room = c.requires.0 in (here (omega arith), more-none _ _ _, refl, c.operator_at-o.ensures.0, c.operator_at-o.ensures.1)
@@ -569,30 +569,30 @@ pub term_rest-term_more-requires : goal.term_rest-term_more-requires
 term_rest-term_more-requires t c = let room = c.requires.0 in let so = c.loop-code.invariant.0 in let long = c.loop-code.invariant.2 in let behind = c.loop-code.invariant.4 in let positive = level-class c.loop-code.o in let level = c.level_of.ensures in (omega arith, (record { inside = omega arith; few = omega arith; written = omega arith; long = omega arith }, omega arith, omega arith, omega arith, omega arith, c.loop-code.invariant.3))
 
 pub term_rest-loop-code-smaller : goal.term_rest-loop-code-smaller
-term_rest-loop-code-smaller t c = let room = c.requires.0 in let so = c.loop-code.invariant.0 in let long = c.loop-code.invariant.2 in let behind = c.loop-code.invariant.4 in let positive = level-class c.loop-code.o in let level = c.level_of.ensures in let h = known-ahead _ c.in-At.is c.term_more.ensures.1 in let i = (known c.in-At.is c.term_more.ensures.0) in omega arith
+term_rest-loop-code-smaller t c = let room = c.requires.0 in let so = c.loop-code.invariant.0 in let long = c.loop-code.invariant.2 in let behind = c.loop-code.invariant.4 in let positive = level-class c.loop-code.o in let level = c.level_of.ensures in let h = known-ahead _ c.in_ok-read.was c.term_more.ensures.1 in let i = (known c.in_ok-read.was c.term_more.ensures.0) in omega arith
 
 pub term_rest-loop-code-preserved : goal.term_rest-loop-code-preserved
 unfolding compute_form
-term_rest-loop-code-preserved t c = let room = c.requires.0 in let so = c.loop-code.invariant.0 in let long = c.loop-code.invariant.2 in let behind = c.loop-code.invariant.4 in let positive = level-class c.loop-code.o in let level = c.level_of.ensures in (next c.loop-code.invariant.0 (known c.in-At.is c.term_more.ensures.0), more-then c.loop-code.invariant.1 (more-known c.in-At.is (c.term_more.ensures.2 c.args.min (omega arith))), search rules, c.operator_at-o-in-At.ensures.0, c.operator_at-o-in-At.ensures.1)
+term_rest-loop-code-preserved t c = let room = c.requires.0 in let so = c.loop-code.invariant.0 in let long = c.loop-code.invariant.2 in let behind = c.loop-code.invariant.4 in let positive = level-class c.loop-code.o in let level = c.level_of.ensures in (next c.loop-code.invariant.0 (known c.in_ok-read.was c.term_more.ensures.0), more-then c.loop-code.invariant.1 (more-known c.in_ok-read.was (c.term_more.ensures.2 c.args.min (omega arith))), search rules, c.operator_at-o-in-loop-code.ensures.0, c.operator_at-o-in-loop-code.ensures.1)
 
-pub term_rest-returns-in-Fault : goal.term_rest-returns-in-Fault
+pub term_rest-returns-in_err-read : goal.term_rest-returns-in_err-read
 unfolding compute_form
-term_rest-returns-in-Fault t c = (record { reads = next c.loop-code.invariant.0 (known c.in-Fault.is c.term_more.ensures.0); stops = tt }, tt)
+term_rest-returns-in_err-read t c = rw (exits c.from_residual.result c.from_residual.ensures.1) ((record { reads = next c.loop-code.invariant.0 (known c.in_err-read.was c.term_more.ensures.0); stops = tt }, tt))
 
 pub term_rest-returns : goal.term_rest-returns
 unfolding compute_form
 term_rest-returns t c = (record { reads = c.loop-code.invariant.0; stops = (λ κ e. below-level _ c.loop-code.o c.level_of.result c.args.min (c.loop-code.invariant.3.class κ e) c.level_of.ensures (omega arith)) }, more-made c.loop-code.invariant.1 (derived.term_stops (λ κ e. below-level _ c.loop-code.o c.level_of.result c.args.min (c.loop-code.invariant.3.class κ e) c.level_of.ensures (omega arith))))
 
 pub unary-atom-requires : goal.unary-atom-requires
-unary-atom-requires t c = let room = c.requires.0 in let h = (known c.in-At.is c.term.ensures.0) in search rules
+unary-atom-requires t c = let room = c.requires.0 in let h = (known c.in_ok-first.was c.term.ensures.0) in search rules
 
-pub unary-returns-in-At : goal.unary-returns-in-At
+pub unary-returns-then-c-eq-NONE : goal.unary-returns-then-c-eq-NONE
 unfolding compute_form
-unary-returns-in-At t c = (likewise (λ κ e γ. as-term c.args.d c.args.b κ γ ((c.pred_start_of-c.ensures.classes.class κ (e ∙ sym c.kind_at-k.ensures.is)) ∙ c.if-c-eq-NONE.true)) (λ γ. refl) (next (framed (a_rel c.args.d c.args.b ∷ []) (known c.in-At.is c.term.ensures.0)) c.atom.ensures.0), let w₁ = (made c.in-At.is c.term.ensures.1) in onward _ c.atom.result (built w₁) (λ k v x. derived.atomic w₁.derives x) c.atom.ensures.1)
+unary-returns-then-c-eq-NONE t c = (likewise (λ κ e γ. as-term c.args.d c.args.b κ γ ((c.pred_start_of-c.ensures.classes.class κ (e ∙ sym c.kind_at-k.ensures.is)) ∙ c.if-c-eq-NONE.true)) (λ γ. refl) (next (framed (a_rel c.args.d c.args.b ∷ []) (known c.in_ok-first.was c.term.ensures.0)) c.atom.ensures.0), let w₁ = (made c.in_ok-first.was c.term.ensures.1) in onward _ c.atom.result (built w₁) (λ k v x. derived.atomic w₁.derives x) c.atom.ensures.1)
 
-pub unary-returns-in-Fault : goal.unary-returns-in-Fault
+pub unary-returns-in_err-first : goal.unary-returns-in_err-first
 unfolding compute_form
-unary-returns-in-Fault t c = (likewise (λ κ e γ. as-term c.args.d c.args.b κ γ ((c.pred_start_of-c.ensures.classes.class κ (e ∙ sym c.kind_at-k.ensures.is)) ∙ c.if-c-eq-NONE.true)) (λ γ. refl) (fails (framed (a_rel c.args.d c.args.b ∷ []) (known c.in-Fault.is c.term.ensures.0))), tt)
+unary-returns-in_err-first t c = rw (exits c.from_residual.result c.from_residual.ensures.1) ((likewise (λ κ e γ. as-term c.args.d c.args.b κ γ ((c.pred_start_of-c.ensures.classes.class κ (e ∙ sym c.kind_at-k.ensures.is)) ∙ c.if-c-eq-NONE.true)) (λ γ. refl) (fails (framed (a_rel c.args.d c.args.b ∷ []) (known c.in_err-first.was c.term.ensures.0))), tt))
 
 pub unary-returns-then-c-eq-TRUTH : goal.unary-returns-then-c-eq-TRUTH
 unfolding compute_form
@@ -602,16 +602,16 @@ pub unary-returns-then-d-ge-DEPTH : goal.unary-returns-then-d-ge-DEPTH
 unfolding compute_form
 unary-returns-then-d-ge-DEPTH t c = (deeper (opens (suc c.args.d)) (omega arith) (open-deep c.args.s.now c.args.at (suc c.args.d) (omega arith) (other-kind c.args.s.now c.args.at (λ q. absurd (omega (arith, c.pred_start_of-c.ensures.classes.class kind.minus (sym (c.kind_at-k.ensures.is ∙ q))))))) (λ κ e γ. unary-step c.args.d c.args.b κ γ ((c.pred_start_of-c.ensures.classes.class κ (e ∙ sym c.kind_at-k.ensures.is)) ∙ c.if-c-eq-NEGATION.true)), tt)
 
-pub unary-put-h-requires : goal.unary-put-h-requires
-unary-put-h-requires t c = let room = c.requires.0 in let h = (known c.in-At-unary.is c.unary.ensures.0) in search rules
+pub unary-put-count-requires : goal.unary-put-count-requires
+unary-put-count-requires t c = let room = c.requires.0 in let h = (known c.in_ok-denied.was c.unary.ensures.0) in search rules
 
-pub unary-returns-in-At-unary : goal.unary-returns-in-At-unary
+pub unary-returns-then-c-eq-NEGATION : goal.unary-returns-then-c-eq-NEGATION
 unfolding compute_form
-unary-returns-in-At-unary t c = (let h = (known c.in-At-unary.is c.unary.ensures.0) in taken {μ = a_unary (suc c.args.d) c.args.b ∷ []} {m = c.args.n + 4} (opens (suc c.args.d)) (omega arith) (open_well c.args.s.now c.args.at (suc c.args.d) (omega arith)) (λ κ e γ. unary-step c.args.d c.args.b κ γ ((c.pred_start_of-c.ensures.classes.class κ (e ∙ sym c.kind_at-k.ensures.is)) ∙ c.if-c-eq-NEGATION.true)) (counted (omega arith) (raised (λ x. a_unary x c.args.b ∷ []) c.args.d h)) (omega arith), let w₁ = (made c.in-At-unary.is c.unary.ensures.1) in makes (both (built w₁) (wrote c.put-h.ensures)) (derived.denied (class-at c.kind_at-k.ensures.is c.if-c-eq-NEGATION.true c.pred_start_of-c.ensures.classes) w₁.derives))
+unary-returns-then-c-eq-NEGATION t c = (let h = (known c.in_ok-denied.was c.unary.ensures.0) in taken {μ = a_unary (suc c.args.d) c.args.b ∷ []} {m = c.args.n + 4} (opens (suc c.args.d)) (omega arith) (open_well c.args.s.now c.args.at (suc c.args.d) (omega arith)) (λ κ e γ. unary-step c.args.d c.args.b κ γ ((c.pred_start_of-c.ensures.classes.class κ (e ∙ sym c.kind_at-k.ensures.is)) ∙ c.if-c-eq-NEGATION.true)) (counted (omega arith) (raised (λ x. a_unary x c.args.b ∷ []) c.args.d h)) (omega arith), let w₁ = (made c.in_ok-denied.was c.unary.ensures.1) in makes (both (built w₁) (wrote c.put-count.ensures)) (derived.denied (class-at c.kind_at-k.ensures.is c.if-c-eq-NEGATION.true c.pred_start_of-c.ensures.classes) w₁.derives))
 
-pub unary-returns-in-Fault-unary : goal.unary-returns-in-Fault-unary
+pub unary-returns-in_err-denied : goal.unary-returns-in_err-denied
 unfolding compute_form
-unary-returns-in-Fault-unary t c = (taken {μ = a_unary (suc c.args.d) c.args.b ∷ []} {m = c.args.n + 4} (opens (suc c.args.d)) (omega arith) (open_well c.args.s.now c.args.at (suc c.args.d) (omega arith)) (λ κ e γ. unary-step c.args.d c.args.b κ γ ((c.pred_start_of-c.ensures.classes.class κ (e ∙ sym c.kind_at-k.ensures.is)) ∙ c.if-c-eq-NEGATION.true)) (fails (raised (λ x. a_unary x c.args.b ∷ []) c.args.d (known c.in-Fault-unary.is c.unary.ensures.0))) (omega arith), tt)
+unary-returns-in_err-denied t c = rw (exits c.from_residual-in_err-denied.result c.from_residual-in_err-denied.ensures.1) ((taken {μ = a_unary (suc c.args.d) c.args.b ∷ []} {m = c.args.n + 4} (opens (suc c.args.d)) (omega arith) (open_well c.args.s.now c.args.at (suc c.args.d) (omega arith)) (λ κ e γ. unary-step c.args.d c.args.b κ γ ((c.pred_start_of-c.ensures.classes.class κ (e ∙ sym c.kind_at-k.ensures.is)) ∙ c.if-c-eq-NEGATION.true)) (fails (raised (λ x. a_unary x c.args.b ∷ []) c.args.d (known c.in_err-denied.was c.unary.ensures.0))) (omega arith), tt))
 
 pub unary-returns-then-d-ge-DEPTH-2 : goal.unary-returns-then-d-ge-DEPTH-2
 unfolding compute_form

@@ -4,7 +4,7 @@ use mathlib.Core.Path.{◌≡◌}
 use lib.ListN.{length, get_or}
 use Rattle.form.specs.Machine.{a_term_rest, a_pred_rest}
 use Rattle.form_nodes.specs.FormPromises.{Reads, Classes, operators, connectives}
-use Rattle.form_nodes.specs.declared.Read.TheVariants.{At}
+use Rattle.std.specs.Prelude.{Ok}
 use Rattle.declarations.specs.DossierPromises.{MoreAt}
 use Rattle.form_nodes.specs.Derivations.{EndAt, RangeAt, DomainAt}
 use Rattle.form_nodes.specs.Derivations as derived
@@ -71,13 +71,13 @@ abbrev pub decreases-unary : goal.decreases-unary
 decreases-unary l = 8 * (length l.s.now - l.at) + 5
 
 abbrev pub invariant-pred_rest-loop-l : goal.invariant-pred_rest-loop-l
-invariant-pred_rest-loop-l l = ((base : ℕ) → (l.min ≡ 1 → base ≡ l.d) → Reads l.s l.at l.n (a_pred_rest base l.d l.b ∷ []) (a_pred_rest base l.d l.b ∷ []) (At l.e l.m)) × MoreAt l.s l.v (derived.a_pred_rest l.min) l.at l.n l.initial.code l.code l.e l.m × (length l.code ≡ length l.initial.code) × Classes connectives (get_or l.s l.e 0) l.l × (l.l ≤ 2295 * (length l.s - l.e))
+invariant-pred_rest-loop-l l = ((base : ℕ) → (l.min ≡ 1 → base ≡ l.d) → Reads l.s l.at l.n (a_pred_rest base l.d l.b ∷ []) (a_pred_rest base l.d l.b ∷ []) (Ok l.read)) × MoreAt l.s l.v (derived.a_pred_rest l.min) l.at l.n l.initial.code l.code l.read.at l.read.count × (length l.code ≡ length l.initial.code) × Classes connectives (get_or l.s l.read.at 0) l.l × (l.l ≤ 2295 * (length l.s - l.read.at))
 
 abbrev pub decreases-pred_rest-loop-l : goal.decreases-pred_rest-loop-l
-decreases-pred_rest-loop-l l = length l.s - l.e
+decreases-pred_rest-loop-l l = length l.s - l.read.at
 
 abbrev pub invariant-term_rest-loop-code : goal.invariant-term_rest-loop-code
-invariant-term_rest-loop-code l = Reads l.s l.at l.n (a_term_rest l.d l.b ∷ []) (a_term_rest l.d l.b ∷ []) (At l.e l.m) × MoreAt l.s l.v (derived.a_term_rest l.min) l.at l.n l.initial.code l.code l.e l.m × (length l.code ≡ length l.initial.code) × Classes operators (get_or l.s l.e 0) l.o × (l.o ≤ 2295 * (length l.s - l.e))
+invariant-term_rest-loop-code l = Reads l.s l.at l.n (a_term_rest l.d l.b ∷ []) (a_term_rest l.d l.b ∷ []) (Ok l.read) × MoreAt l.s l.v (derived.a_term_rest l.min) l.at l.n l.initial.code l.code l.read.at l.read.count × (length l.code ≡ length l.initial.code) × Classes operators (get_or l.s l.read.at 0) l.o × (l.o ≤ 2295 * (length l.s - l.read.at))
 
 abbrev pub decreases-term_rest-loop-code : goal.decreases-term_rest-loop-code
-decreases-term_rest-loop-code l = length l.s - l.e
+decreases-term_rest-loop-code l = length l.s - l.read.at

@@ -1,9 +1,9 @@
 -- `keys::key_at` meets its contract: the key of the variables behind the first, and the first one's digit, if it is not idle. Measure: the variables left. Assumes nothing.
-use Prim.Native.Nat.{◌/◌, ℕ, ◌<◌}
+use Prim.Native.Nat.{ℕ, ◌<◌}
 use mathlib.Core.Path.{subst, sym}
-use native.Mathlib.Nat.{mod-lt, div-mul-le_self}
+use native.Mathlib.Nat.{mod-lt}
 use native.Mathlib.Omega.{arith}
-use Rattle.idle_variables.proofs.KeySteps.{empty-key, no_idle, key-low, count-some, rest_some, rest-few, rest-asked, key-idle, key-kept}
+use Rattle.idle_variables.proofs.KeySteps.{empty-key, no_idle, key-low, count-some, rest_some, rest-asked, key-idle, key-kept}
 use Rattle.idle_variables.proofs.keys.+key_at.Goals as goal
 
 pub returns-then-g-eq0 : goal.returns-then-g-eq0
@@ -12,17 +12,8 @@ returns-then-g-eq0 t c = record { is = no_idle c.requires.key_asked c.args.x c.r
 pub returns-then-g-eq0-2 : goal.returns-then-g-eq0-2
 returns-then-g-eq0-2 t c = record { is = empty-key c.args.cells.now c.args.g.first c.args.g.many c.args.g.idle c.args.x c.if-g-eq0-2.true; low = omega (arith, c.requires.x_lt_count) }
 
-pub count_of-requires : goal.count_of-requires
-count_of-requires t c = omega (arith, c.requires.key_asked.low, c.if-g-eq0-2.false)
-
 pub nonzero_div-v : goal.nonzero_div-v
 nonzero_div-v t c = count-some c.requires.key_asked c.if-g-eq0-2.false c.count_of.ensures
-
-pub overflow_add-rest : goal.overflow_add-rest
-overflow_add-rest t c = omega (arith, c.requires.key_asked.low, c.if-g-eq0-2.false)
-
-pub overflow_sub-rest : goal.overflow_sub-rest
-overflow_sub-rest t c = omega (arith, c.if-g-eq0-2.false)
 
 pub nonzero_rem-x : goal.nonzero_rem-x
 nonzero_rem-x t c = rest_some c.requires.key_asked c.if-g-eq0-2.false c.count_of.ensures
@@ -35,12 +26,6 @@ returns-then-g-eq1 t c = record { is = (key-idle c.requires.key_asked c.if-g-eq0
 
 pub nonzero_div-result : goal.nonzero_div-result
 nonzero_div-result t c = rest_some c.requires.key_asked c.if-g-eq0-2.false c.count_of.ensures
-
-pub overflow_mul-result : goal.overflow_mul-result
-overflow_mul-result t c = omega (arith, div-mul-le_self c.args.x (c.args.g.count / c.count_of.result), c.requires.key_asked.few, c.requires.x_lt_count)
-
-pub overflow_add-result : goal.overflow_add-result
-overflow_add-result t c = omega (arith, div-mul-le_self c.args.x (c.args.g.count / c.count_of.result), c.requires.key_asked.few, c.requires.x_lt_count, c.key_at-key.ensures.low, rest-few c.requires.key_asked c.if-g-eq0-2.false c.count_of.ensures)
 
 pub returns : goal.returns
 returns t c = record { is = (key-kept c.requires.key_asked c.if-g-eq0-2.false c.count_of.ensures c.args.x c.key_at-key.ensures.is c.if-g-eq1.false); low = subst (λ (k : ℕ). k < c.args.g.count) (sym (key-kept c.requires.key_asked c.if-g-eq0-2.false c.count_of.ensures c.args.x c.key_at-key.ensures.is c.if-g-eq1.false)) (key-low c.requires.key_asked c.args.x c.requires.x_lt_count) }

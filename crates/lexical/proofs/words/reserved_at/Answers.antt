@@ -10,8 +10,8 @@ returns-then-n-gt-LONGEST_WORD c = reserved-none c.args.s.now c.args.at c.args.n
 pub overflow_add-at : goal.overflow_add-at
 overflow_add-at c = omega (arith, run_length (drop c.args.at c.args.s.now), length-drop c.args.at c.args.s.now)
 
-pub eight-key-requires : goal.eight-key-requires
-eight-key-requires c = (omega (arith, run_length (drop c.args.at c.args.s.now), length-drop c.args.at c.args.s.now), omega arith)
+pub eight-requires : goal.eight-requires
+eight-requires c = (omega (arith, run_length (drop c.args.at c.args.s.now), length-drop c.args.at c.args.s.now), omega arith)
 
 pub returns : goal.returns
-returns c = reserved-key c.args.s.now c.args.at c.args.n c.requires.2 c.if-n-gt-LONGEST_WORD.false c.eight-key.ensures c.word_code.ensures
+returns c = reserved-key c.args.s.now c.args.at c.args.n c.requires.2 c.if-n-gt-LONGEST_WORD.false c.eight.ensures c.word_code.ensures

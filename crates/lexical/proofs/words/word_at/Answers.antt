@@ -8,7 +8,7 @@ pub overflow_add-at : goal.overflow_add-at
 overflow_add-at c = omega (arith, run_length (drop c.args.at c.args.s.now), length-drop c.args.at c.args.s.now)
 
 pub word_of-requires : goal.word_of-requires
-word_of-requires c = (omega (arith, run_length (drop c.args.at c.args.s.now), length-drop c.args.at c.args.s.now), omega arith)
+word_of-requires c = omega (arith, run_length (drop c.args.at c.args.s.now), length-drop c.args.at c.args.s.now)
 
 pub returns : goal.returns
-returns c = word-here c.args.s.now c.args.at c.run_from-n.ensures c.byte_at.ensures c.ending_of-ending.ensures.0 c.reserved_at-word.ensures c.word_of.ensures
+returns c = word-here c.args.s.now c.args.at c.run_from-n.ensures c.byte_at.ensures c.ending_of-ending.ensures c.reserved_at-word.ensures c.word_of.ensures

@@ -1,9 +1,9 @@
 -- `measures::conditions` meets its contract. Assumes nothing.
 use mathlib.Core.Path.{ap, ◌∙◌}
 use native.Mathlib.Omega.{arith}
-use Rattle.type_rules.specs.TypesByNumber.{lesser}
+use Rattle.type_rules.specs.TypesByNumber.{fault_key, lesser}
 use Rattle.limits.proofs.SizePass.{conditions-seen}
 use Rattle.limits.proofs.measures.conditions.Goals as goal
 
 pub returns : goal.returns
-returns c = conditions-seen c.args.nodes.now c.args.spans.now c.args.a.now c.args.c.now _ _ _ _ c.args.bounds.now _ _ _ c.context-f.result c.context-g.result c.context-h.result _ (c.part-none.ensures.part (omega arith) (omega arith)) c.place.ensures c.place-2.ensures c.place-3.ensures c.context-f.ensures c.context-g.ensures c.context-h.ensures (c.lesser_of-2.ensures ∙ ap (lesser c.context-f.result) c.lesser_of.ensures)
+returns c = conditions-seen c.args.nodes.now c.args.spans.now c.args.a.now c.args.c.now _ _ _ _ c.args.bounds.now _ _ _ (fault_key c.context-f.result) (fault_key c.context-g.result) (fault_key c.context-h.result) _ (c.part-none.ensures.part (omega arith) (omega arith)) c.place.ensures c.place-2.ensures c.place-3.ensures c.context-f.ensures c.context-g.ensures c.context-h.ensures (c.lesser_of-2.ensures ∙ ap (lesser (fault_key c.context-f.result)) c.lesser_of.ensures)

@@ -1,12 +1,10 @@
 use Prim.Native.Nat.{◌-◌, ◌≤◌}
 use mathlib.Core.Path.{◌≡◌}
 use lib.ListN.{length}
+use Rattle.type_rules.specs.TypesByNumber.{fault_key}
 use Rattle.limits.specs.DossierSizesByNumber.{Clear}
 use Rattle.limits.proofs.SizePassOperations.{OperationsOn}
 use Rattle.limits.proofs.measures.operations.Given as goal
 
 abbrev pub invariant-loop-k : goal.invariant-loop-k
-invariant-loop-k l = (l.k ≤ l.n) × ((length l.bounds ≡ length l.initial.bounds) × (Clear l.initial.bounds → (l.bounds ≡ l.initial.bounds) × OperationsOn l.nodes l.spans l.n l.a l.c (length l.initial.bounds) l.k l.f))
-
-abbrev pub decreases-loop-k : goal.decreases-loop-k
-decreases-loop-k l = l.n - l.k
+invariant-loop-k l = (l.k ≤ l.n) × ((length l.bounds ≡ length l.initial.bounds) × (Clear l.initial.bounds → (l.bounds ≡ l.initial.bounds) × OperationsOn l.nodes l.spans l.n l.a l.c (length l.initial.bounds) l.k (fault_key l.f)))

@@ -10,4 +10,4 @@ pub returns-then-code-at-ne-RANGE : goal.returns-then-code-at-ne-RANGE
 returns-then-code-at-ne-RANGE c = size-other c.args.on c.args.code.now c.args.at c.if-code-at-ne-RANGE.true
 
 pub returns : goal.returns
-returns c = size-range c.args.on c.args.code.now c.args.at c.absolute_of.result c.absolute_of-2.result c.greater_of.result (not-false c.args.on c.if-not-on.false-raw) c.if-code-at-ne-RANGE.false c.absolute_of.ensures.0 c.absolute_of-2.ensures.0 c.greater_of.ensures.0
+returns c = size-range c.args.on c.args.code.now c.args.at c.absolute_of.result c.absolute_of-2.result c.max.result (not-false c.args.on c.if-not-on.false-raw) c.if-code-at-ne-RANGE.false c.absolute_of.ensures.0 c.absolute_of-2.ensures.0 c.max.ensures

@@ -1,7 +1,8 @@
 -- `measures::states` meets its contract. Assumes nothing.
 use native.Mathlib.Omega.{arith}
+use Rattle.type_rules.specs.TypesByNumber.{fault_key}
 use Rattle.limits.proofs.SizePass.{states-seen}
 use Rattle.limits.proofs.measures.states.Goals as goal
 
 pub returns : goal.returns
-returns c = states-seen c.args.nodes.now c.args.spans.now c.args.a.now c.args.c.now _ _ _ c.args.bounds.now _ _ c.context-f.result c.context-g.result _ (c.part-none.ensures.part (omega arith) (omega arith)) c.place.ensures c.place-2.ensures c.context-f.ensures c.context-g.ensures c.lesser_of.ensures
+returns c = states-seen c.args.nodes.now c.args.spans.now c.args.a.now c.args.c.now _ _ _ c.args.bounds.now _ _ (fault_key c.context-f.result) (fault_key c.context-g.result) _ (c.part-none.ensures.part (omega arith) (omega arith)) c.place.ensures c.place-2.ensures c.context-f.ensures c.context-g.ensures c.lesser_of.ensures

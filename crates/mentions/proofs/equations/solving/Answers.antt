@@ -16,14 +16,14 @@ returns-then-t-end-ne-COMPARED c = record { means = λ n. absurd (n refl) }
 pub returns-then-t-end-ne-EQUALS : goal.returns-then-t-end-ne-EQUALS
 returns-then-t-end-ne-EQUALS c = record { means = λ n. absurd (n refl) }
 
-pub earlier-left-requires : goal.earlier-left-requires
-earlier-left-requires c = (record { some = c.if-end-lt-SIZE.false; within = c.if-end-gt-NUMBERS.false }, omega arith, omega arith)
+pub earlier-requires : goal.earlier-requires
+earlier-requires c = (record { some = c.if-end-lt-SIZE.false; within = c.if-end-gt-NUMBERS.false }, omega arith, omega arith)
 
 pub returns-then-tells : goal.returns-then-tells
-returns-then-tells c = record { means = λ n. left-solves c.if-t-end-ne-COMPARED.false (omega (arith, c.if-t-end-ne-EQUALS.false)) c.earlier-left.ensures (c.tells.ensures.means c.if-tells.true) }
+returns-then-tells c = record { means = λ n. left-solves c.if-t-end-ne-COMPARED.false (omega (arith, c.if-t-end-ne-EQUALS.false)) c.in-Some.ensures (c.tells.ensures.means c.if-tells.true) }
 
 pub returns-then-tells-2 : goal.returns-then-tells-2
-returns-then-tells-2 c = record { means = λ n. right-solves c.if-t-end-ne-COMPARED.false (omega (arith, c.if-t-end-ne-EQUALS.false)) c.earlier-left.ensures (c.tells-2.ensures.means c.if-tells-2.true) }
+returns-then-tells-2 c = record { means = λ n. right-solves c.if-t-end-ne-COMPARED.false (omega (arith, c.if-t-end-ne-EQUALS.false)) c.in-Some.ensures (c.tells-2.ensures.means c.if-tells-2.true) }
 
 pub returns : goal.returns
 returns c = record { means = λ n. absurd (n refl) }

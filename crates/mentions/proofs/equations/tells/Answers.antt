@@ -13,8 +13,8 @@ returns-then-own-gt-NUMBERS c = record { means = λ e. refused e }
 pub returns-then-t-own-ne-SLOT : goal.returns-then-t-own-ne-SLOT
 returns-then-t-own-ne-SLOT c = record { means = λ e. refused e }
 
-pub returns-then-number-slot : goal.returns-then-number-slot
-returns-then-number-slot c = record { means = λ e. refused e }
+pub returns-then-from-slot : goal.returns-then-from-slot
+returns-then-from-slot c = record { means = λ e. refused e }
 
 pub returns : goal.returns
-returns c = record { means = λ e. slot-told c.if-t-own-ne-SLOT.false (sym c.number.ensures ∙ c.if-number-slot.false) (c.free_term.ensures.means e) }
+returns c = record { means = λ e. slot-told c.if-t-own-ne-SLOT.false (sym c.from.ensures ∙ c.if-from-slot.false) (c.free_term.ensures.means e) }

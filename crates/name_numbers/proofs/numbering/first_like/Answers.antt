@@ -1,7 +1,6 @@
 -- `symbols::names::first_like` meets its contract: no symbol passed has the letters. Assumes nothing.
 use borrow.Author.Count.{below_more}
-use Prim.Native.Nat.{ℕ}
-use mathlib.Core.Path.{◌≡◌, sym, ap, ◌∙◌}
+use mathlib.Core.Path.{refl, sym, ◌∙◌}
 use native.Mathlib.Omega.{arith}
 use lib.ListN.{get_or}
 use Rattle.name_numbers.proofs.TreeLaws.{both, not-both}
@@ -17,4 +16,4 @@ pub loop-m-preserved : goal.loop-m-preserved
 loop-m-preserved c = (omega arith, below_more _ _ c.loop-m.invariant.1 (not-both (get_or c.args.low.now c.loop-m.m 0) (get_or c.args.low.now c.args.i 0) (get_or c.args.high.now c.loop-m.m 0) (get_or c.args.high.now c.args.i 0) (sym c.same_letters.ensures ∙ c.if-same_letters.false)))
 
 pub returns : goal.returns
-returns c = let e : c.loop-m.m ≡ c.args.i = omega arith in record { up_to = omega arith; same_low = ap (λ (x : ℕ). get_or c.args.low.now x 0) e; same_high = ap (λ (x : ℕ). get_or c.args.high.now x 0) e; none = c.loop-m.invariant.1 }
+returns c = record { up_to = omega arith; same_low = refl; same_high = refl; none = λ j l. c.loop-m.invariant.1 j (omega arith) }

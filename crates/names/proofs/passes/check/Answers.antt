@@ -1,16 +1,19 @@
 -- `passes::check` meets its contract. Assumes nothing.
-use lib.ListN.{length}
+use mathlib.Core.Path.{refl}
+use Rattle.type_rules.specs.Passes.{refused_key}
+use Rattle.type_rules.proofs.FaultOrder.{no-zero}
+use Rattle.std.proofs.lemmas.Result.{err_from_is_err_and}
 use Rattle.names.proofs.WholePass.{check-given, check-one, check-two, check_later}
 use Rattle.names.proofs.passes.check.Goals as goal
 
-pub returns-then-f-ne0 : goal.returns-then-f-ne0
-returns-then-f-ne0 c = check-given c.args.nodes.now c.args.m c.args.givens c.args.abstracts c.args.concretes c.args.ainit c.args.after (length c.args.names.now) _ c.part-first.ensures _ _ _ c.give-f.result c.clear.ensures c.give-f.ensures c.if-f-ne0.true
+pub returns-in_err-give : goal.returns-in_err-give
+returns-in_err-give c = let p = err_from_is_err_and c.from_residual.result c.from_residual.ensures.1 in rw (p.1, p.2) (check-given c.args.nodes.now c.args.m c.args.givens c.args.abstracts c.args.concretes c.args.ainit c.args.after 16384 _ c.part-first.ensures _ _ _ _ refl c.in_err-give.ensures (no-zero _))
 
-pub returns-then-a-ne0 : goal.returns-then-a-ne0
-returns-then-a-ne0 c = check-one c.args.nodes.now c.args.m c.args.givens c.args.abstracts c.args.concretes c.args.ainit c.args.after (length c.args.names.now) _ c.part-first.ensures _ _ _ c.give-f.result c.clear.ensures c.give-f.ensures c.if-f-ne0.false _ c.part-one.ensures _ c.state-a.result c.state-a.ensures c.if-a-ne0.true
+pub returns-in_err-state : goal.returns-in_err-state
+returns-in_err-state c = let p = err_from_is_err_and c.from_residual-in_err-state.result c.from_residual-in_err-state.ensures.1 in rw (p.1, p.2) (check-one c.args.nodes.now c.args.m c.args.givens c.args.abstracts c.args.concretes c.args.ainit c.args.after 16384 _ c.part-first.ensures _ _ _ 0 refl c.in_ok-give.ensures refl _ c.part-one.ensures _ _ c.in_err-state.ensures (no-zero _))
 
-pub returns-then-c-ne0 : goal.returns-then-c-ne0
-returns-then-c-ne0 c = check-two c.args.nodes.now c.args.m c.args.givens c.args.abstracts c.args.concretes c.args.ainit c.args.after (length c.args.names.now) _ c.part-first.ensures _ _ _ c.give-f.result c.clear.ensures c.give-f.ensures c.if-f-ne0.false _ c.part-one.ensures _ c.state-a.result c.state-a.ensures c.if-a-ne0.false _ c.part-two.ensures _ c.state-c.result c.state-c.ensures c.if-c-ne0.true
+pub returns-in_err-state-2 : goal.returns-in_err-state-2
+returns-in_err-state-2 c = let p = err_from_is_err_and c.from_residual-in_err-state-2.result c.from_residual-in_err-state-2.ensures.1 in rw (p.1, p.2) (check-two c.args.nodes.now c.args.m c.args.givens c.args.abstracts c.args.concretes c.args.ainit c.args.after 16384 _ c.part-first.ensures _ _ _ 0 refl c.in_ok-give.ensures refl _ c.part-one.ensures _ 0 c.in_ok-state.ensures refl _ c.part-two.ensures _ _ c.in_err-state-2.ensures (no-zero _))
 
 pub returns : goal.returns
-returns c = check_later c.args.nodes.now c.args.m c.args.givens c.args.abstracts c.args.concretes c.args.ainit c.args.after (length c.args.names.now) _ c.part-first.ensures _ _ _ c.give-f.result c.clear.ensures c.give-f.ensures c.if-f-ne0.false _ c.part-one.ensures _ c.state-a.result c.state-a.ensures c.if-a-ne0.false _ c.part-two.ensures _ c.state-c.result c.state-c.ensures c.if-c-ne0.false _ _ c.part-three.ensures c.part-last.ensures c.later.result c.later.ensures
+returns c = check_later c.args.nodes.now c.args.m c.args.givens c.args.abstracts c.args.concretes c.args.ainit c.args.after 16384 _ c.part-first.ensures _ _ _ 0 refl c.in_ok-give.ensures refl _ c.part-one.ensures _ 0 c.in_ok-state.ensures refl _ c.part-two.ensures _ 0 c.in_ok-state-2.ensures refl _ _ c.part-three.ensures c.part-last.ensures (refused_key c.later.result) c.later.ensures

@@ -1,6 +1,8 @@
 -- `passes::condition` meets its contract. Assumes nothing.
+use mathlib.Core.Path.{sym, subst}
+use Rattle.declared_names.specs.PassPromises.{ConditionSeen}
 use Rattle.names.proofs.PassSteps.{condition-seen}
 use Rattle.names.proofs.passes.condition.Goals as goal
 
 pub returns : goal.returns
-returns c = condition-seen c.args.code.now c.args.names.now _ c.args.sizes.now c.pred-p.result c.pred-p.ensures
+returns c = subst (ConditionSeen c.args.code.now c.args.names.now _ c.args.sizes.now) (sym c.all_well.ensures) (condition-seen c.args.code.now c.args.names.now _ c.args.sizes.now c.pred.result c.pred.ensures)

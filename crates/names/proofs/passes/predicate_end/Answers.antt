@@ -7,7 +7,7 @@ pub returns-then-code-at-lt-SIZE : goal.returns-then-code-at-lt-SIZE
 returns-then-code-at-lt-SIZE c = condition-short c.args.code.now c.args.at (omega arith) (omega arith)
 
 pub returns-then-n-code : goal.returns-then-n-code
-returns-then-n-code c = condition-end c.args.code.now c.args.at c.index-n.result c.index-n.ensures.0 (omega arith) (omega arith)
+returns-then-n-code c = condition-end c.args.code.now c.args.at c.from-n.result c.from-n.ensures (omega arith) (omega arith)
 
 pub returns : goal.returns
-returns c = condition-over c.args.code.now c.args.at c.index-n.result c.index-n.ensures.0 (omega arith) (omega arith)
+returns c = condition-over c.args.code.now c.args.at c.from-n.result c.from-n.ensures (omega arith) (omega arith)

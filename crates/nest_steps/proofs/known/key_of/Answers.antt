@@ -20,7 +20,7 @@ overflow_add-result-then-p c = omega (arith, small-io c.requires, small-iok c.re
 
 pub returns-then-p : goal.returns-then-p
 unfolding key_at
-returns-then-p c = sym (key-by c.args.p c.args.b c.if-p.true)
+returns-then-p c = sym (key-by c.args.p.now c.args.b c.if-p.true)
 
 pub overflow_mul-result-2 : goal.overflow_mul-result-2
 overflow_mul-result-2 c = omega (arith, small-io c.requires, small-iok c.requires, small-ci c.requires)
@@ -30,4 +30,4 @@ overflow_add-result-2 c = omega (arith, small-io c.requires, small-iok c.require
 
 pub returns : goal.returns
 unfolding key_at
-returns c = sym (key-by c.args.p c.args.b c.if-p.false)
+returns c = sym (key-by c.args.p.now c.args.b c.if-p.false)

@@ -13,8 +13,8 @@ overflow_cast-result c = omega (arith, c.requires.low_a.0, c.requires.low_a.1, c
 
 pub returns-then-p : goal.returns-then-p
 unfolding mark_at
-returns-then-p c = sym (mark-by c.args.p c.args.b c.if-p.true)
+returns-then-p c = sym (mark-by c.args.p.now c.args.b c.if-p.true)
 
 pub returns : goal.returns
 unfolding mark_at
-returns c = sym (mark-by c.args.p c.args.b c.if-p.false)
+returns c = sym (mark-by c.args.p.now c.args.b c.if-p.false)

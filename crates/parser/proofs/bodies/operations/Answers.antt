@@ -9,7 +9,7 @@ use Rattle.form.specs.Machine.{a_declared, some_operations, some_parameters}
 use Rattle.form.specs.Computed.{compute_form}
 use Rattle.form_nodes.specs.Derivations.{no_operations}
 use Rattle.declarations.specs.DossierPromises.{a_condition_to}
-use Rattle.form_nodes.proofs.ReadParts.{only, here, next, takes, taken, stops, likewise, fails, framed, known}
+use Rattle.form_nodes.proofs.ReadParts.{exits, only, here, next, takes, taken, stops, likewise, fails, framed, known}
 use Rattle.declarations.proofs.ListItems.{count-well, count-over, operations, crowded, declared-takes, declared-stops, operation-word, operations_behind}
 use Rattle.declarations.proofs.ListNodes.{more-none, more-then, more-made}
 use Rattle.parser.proofs.BodyNodes.{more-known}
@@ -36,15 +36,15 @@ pub overflow_add-k : goal.overflow_add-k
 overflow_add-k c = let room = c.requires in let i = c.loop-start.invariant.0 in let l = c.loop-start.invariant.2 in let l₂ = c.loop-start.invariant.3 in let z = c.kind_at.ensures.inside in let y = c.kind_at-in-loop-start.ensures.inside in search rules
 
 pub loop-start-smaller : goal.loop-start-smaller
-loop-start-smaller c = let room = c.requires in let i = c.loop-start.invariant.0 in let l = c.loop-start.invariant.2 in let l₂ = c.loop-start.invariant.3 in let z = c.kind_at.ensures.inside in let y = c.kind_at-in-loop-start.ensures.inside in let h = known c.in-At.is c.operation.ensures.0 in search rules
+loop-start-smaller c = let room = c.requires in let i = c.loop-start.invariant.0 in let l = c.loop-start.invariant.2 in let l₂ = c.loop-start.invariant.3 in let z = c.kind_at.ensures.inside in let y = c.kind_at-in-loop-start.ensures.inside in let h = known c.in_ok-read.was c.operation.ensures.0 in search rules
 
 pub loop-start-preserved : goal.loop-start-preserved
 unfolding compute_form
-loop-start-preserved c = let room = c.requires in let i = c.loop-start.invariant.0 in let l = c.loop-start.invariant.2 in let l₂ = c.loop-start.invariant.3 in let z = c.kind_at.ensures.inside in let y = c.kind_at-in-loop-start.ensures.inside in let h = known c.in-At.is c.operation.ensures.0 in (next i (takes {μ = a_declared (an_operation (c.loop-start.k + 1)) ∷ some_parameters 0 0 ∷ (a_condition_to kind.CONCRETE ++ (a_condition_to kind.END ++ (some_operations (c.loop-start.k + 1) ∷ [])))} {m = c.loop-start.n} (omega arith) (only _ kind.OP (sym c.kind_at.ensures.is ∙ c.loop-start-test.true) (λ γ. operation-word c.loop-start.k γ)) (taken {μ = some_parameters 0 0 ∷ (a_condition_to kind.CONCRETE ++ (a_condition_to kind.END ++ (some_operations (c.loop-start.k + 1) ∷ [])))} {m = c.loop-start.n + 4} (an_operation (c.loop-start.k + 1)) (omega arith) (count-well c.args.s.now (c.loop-start.at + 1) (c.loop-start.k + 1) operations (omega arith)) (only _ kind.plain (sym c.kind_at-in-loop-start.ensures.is ∙ c.if-kind_at-eq-PLAIN.true) (λ γ. declared-takes (an_operation (c.loop-start.k + 1)) (some_parameters 0 0 ∷ ((a_condition_to kind.CONCRETE ++ (a_condition_to kind.END ++ (some_operations (c.loop-start.k + 1) ∷ []))) ++ γ)))) (framed (some_operations (c.loop-start.k + 1) ∷ []) h) (omega arith)) (omega arith)), more-then c.loop-start.invariant.1 (more-known c.in-At.is c.operation.ensures.1), search rules, omega arith)
+loop-start-preserved c = let room = c.requires in let i = c.loop-start.invariant.0 in let l = c.loop-start.invariant.2 in let l₂ = c.loop-start.invariant.3 in let z = c.kind_at.ensures.inside in let y = c.kind_at-in-loop-start.ensures.inside in let h = known c.in_ok-read.was c.operation.ensures.0 in (next i (takes {μ = a_declared (an_operation (c.loop-start.k + 1)) ∷ some_parameters 0 0 ∷ (a_condition_to kind.CONCRETE ++ (a_condition_to kind.END ++ (some_operations (c.loop-start.k + 1) ∷ [])))} {m = c.loop-start.n} (omega arith) (only _ kind.OP (sym c.kind_at.ensures.is ∙ c.loop-start-test.true) (λ γ. operation-word c.loop-start.k γ)) (taken {μ = some_parameters 0 0 ∷ (a_condition_to kind.CONCRETE ++ (a_condition_to kind.END ++ (some_operations (c.loop-start.k + 1) ∷ [])))} {m = c.loop-start.n + 4} (an_operation (c.loop-start.k + 1)) (omega arith) (count-well c.args.s.now (c.loop-start.at + 1) (c.loop-start.k + 1) operations (omega arith)) (only _ kind.plain (sym c.kind_at-in-loop-start.ensures.is ∙ c.if-kind_at-eq-PLAIN.true) (λ γ. declared-takes (an_operation (c.loop-start.k + 1)) (some_parameters 0 0 ∷ ((a_condition_to kind.CONCRETE ++ (a_condition_to kind.END ++ (some_operations (c.loop-start.k + 1) ∷ []))) ++ γ)))) (framed (some_operations (c.loop-start.k + 1) ∷ []) h) (omega arith)) (omega arith)), more-then c.loop-start.invariant.1 (more-known c.in_ok-read.was c.operation.ensures.1), search rules, omega arith)
 
-pub returns-in-Fault : goal.returns-in-Fault
+pub returns-in_err-read : goal.returns-in_err-read
 unfolding compute_form
-returns-in-Fault c = let room = c.requires in let i = c.loop-start.invariant.0 in let l = c.loop-start.invariant.2 in let l₂ = c.loop-start.invariant.3 in let z = c.kind_at.ensures.inside in let y = c.kind_at-in-loop-start.ensures.inside in (next i (takes {μ = a_declared (an_operation (c.loop-start.k + 1)) ∷ some_parameters 0 0 ∷ (a_condition_to kind.CONCRETE ++ (a_condition_to kind.END ++ (some_operations (c.loop-start.k + 1) ∷ [])))} {m = c.loop-start.n} (omega arith) (only _ kind.OP (sym c.kind_at.ensures.is ∙ c.loop-start-test.true) (λ γ. operation-word c.loop-start.k γ)) (taken {μ = some_parameters 0 0 ∷ (a_condition_to kind.CONCRETE ++ (a_condition_to kind.END ++ (some_operations (c.loop-start.k + 1) ∷ [])))} {m = c.loop-start.n + 4} (an_operation (c.loop-start.k + 1)) (omega arith) (count-well c.args.s.now (c.loop-start.at + 1) (c.loop-start.k + 1) operations (omega arith)) (only _ kind.plain (sym c.kind_at-in-loop-start.ensures.is ∙ c.if-kind_at-eq-PLAIN.true) (λ γ. declared-takes (an_operation (c.loop-start.k + 1)) (some_parameters 0 0 ∷ ((a_condition_to kind.CONCRETE ++ (a_condition_to kind.END ++ (some_operations (c.loop-start.k + 1) ∷ []))) ++ γ)))) (fails (framed (some_operations (c.loop-start.k + 1) ∷ []) (known c.in-Fault.is c.operation.ensures.0))) (omega arith)) (omega arith)), tt)
+returns-in_err-read c = rw (exits c.from_residual.result c.from_residual.ensures.1) (let room = c.requires in let i = c.loop-start.invariant.0 in let l = c.loop-start.invariant.2 in let l₂ = c.loop-start.invariant.3 in let z = c.kind_at.ensures.inside in let y = c.kind_at-in-loop-start.ensures.inside in (next i (takes {μ = a_declared (an_operation (c.loop-start.k + 1)) ∷ some_parameters 0 0 ∷ (a_condition_to kind.CONCRETE ++ (a_condition_to kind.END ++ (some_operations (c.loop-start.k + 1) ∷ [])))} {m = c.loop-start.n} (omega arith) (only _ kind.OP (sym c.kind_at.ensures.is ∙ c.loop-start-test.true) (λ γ. operation-word c.loop-start.k γ)) (taken {μ = some_parameters 0 0 ∷ (a_condition_to kind.CONCRETE ++ (a_condition_to kind.END ++ (some_operations (c.loop-start.k + 1) ∷ [])))} {m = c.loop-start.n + 4} (an_operation (c.loop-start.k + 1)) (omega arith) (count-well c.args.s.now (c.loop-start.at + 1) (c.loop-start.k + 1) operations (omega arith)) (only _ kind.plain (sym c.kind_at-in-loop-start.ensures.is ∙ c.if-kind_at-eq-PLAIN.true) (λ γ. declared-takes (an_operation (c.loop-start.k + 1)) (some_parameters 0 0 ∷ ((a_condition_to kind.CONCRETE ++ (a_condition_to kind.END ++ (some_operations (c.loop-start.k + 1) ∷ []))) ++ γ)))) (fails (framed (some_operations (c.loop-start.k + 1) ∷ []) (known c.in_err-read.was c.operation.ensures.0))) (omega arith)) (omega arith)), tt))
 
 pub overflow_add-result-else-kind_at-eq-PLAIN : goal.overflow_add-result-else-kind_at-eq-PLAIN
 overflow_add-result-else-kind_at-eq-PLAIN c = let room = c.requires in let i = c.loop-start.invariant.0 in let l = c.loop-start.invariant.2 in let l₂ = c.loop-start.invariant.3 in let z = c.kind_at.ensures.inside in search rules

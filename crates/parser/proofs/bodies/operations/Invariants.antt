@@ -4,14 +4,14 @@ use Prim.Native.Nat.{◌-◌, ◌≤◌}
 use lib.ListN.{length}
 use Rattle.form.specs.Machine.{some_operations}
 use Rattle.form_nodes.specs.FormPromises.{Reads}
-use Rattle.form_nodes.specs.declared.Read.TheVariants.{At}
+use Rattle.form_nodes.proofs.ReadParts.{read}
 use Rattle.form_nodes.specs.Derivations.{no_operations}
 use Rattle.declarations.specs.DossierPromises.{MoreAt}
 use Rattle.form_nodes.specs.Derivations as part
 use Rattle.parser.proofs.bodies.operations.Given as goal
 
 abbrev pub invariant-loop-start : goal.invariant-loop-start
-invariant-loop-start l = Reads l.s l.start l.from (some_operations 0 ∷ []) (some_operations l.k ∷ []) (At l.at l.n) × MoreAt l.s l.v part.some_operations l.start l.from l.initial.code l.code l.at l.n × (length l.code ≡ length l.initial.code) × (l.k ≤ 16)
+invariant-loop-start l = Reads l.s l.start l.from (some_operations 0 ∷ []) (some_operations l.k ∷ []) (read l.at l.n) × MoreAt l.s l.v part.some_operations l.start l.from l.initial.code l.code l.at l.n × (length l.code ≡ length l.initial.code) × (l.k ≤ 16)
 
 abbrev pub decreases-loop-start : goal.decreases-loop-start
 decreases-loop-start l = length l.s - l.at

@@ -1,8 +1,5 @@
 use Prim.Native.Nat.{◌-◌, ◌≤◌}
-use native.Mathlib.Omega.{arith}
-use borrow.Author.Rules.{rules}
 use Rattle.reached_pairs.specs.ReachedByNumber.{LayerCounted}
-use Rattle.reached_pairs.proofs.MarkNumbers.{counted_none, counted_next, counted-all, byte_low}
 use Rattle.reached_pairs.proofs.marks.count_layer.Given as goal
 
 abbrev pub invariant-loop-y : goal.invariant-loop-y

@@ -1,6 +1,5 @@
 -- `marks::is_of` meets its contract. Assumes nothing.
 use borrow.Author.Tests.{eqb-true, eqb-false}
-use borrow.Author.Rules.{rules}
 use Rattle.reached_pairs.proofs.marks.is_of.Goals as goal
 
 pub returns : goal.returns

@@ -1,5 +1,4 @@
 -- `marks::mark` meets its contract: a mark that stands stays. Assumes nothing.
-use borrow.Author.Rules.{rules}
 use native.Mathlib.Omega.{arith}
 use Rattle.reached_pairs.proofs.GrownMarks.{marked-before, marked-now}
 use Rattle.reached_pairs.proofs.marks.mark.Goals as goal

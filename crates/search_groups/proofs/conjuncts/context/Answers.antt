@@ -4,4 +4,4 @@ use Rattle.search_groups.proofs.ConjunctLists.{context-put}
 use Rattle.search_groups.proofs.conjuncts.context.Goals as goal
 
 pub returns : goal.returns
-returns c = context-put c.short.ensures.0 c.index-from.ensures.0 c.index-end.ensures.0 c.index-end.ensures.1 c.conjoin.ensures (omega arith)
+returns c = context-put c.mark.ensures c.index-from.ensures.0 c.index-end.ensures.0 c.index-end.ensures.1 c.conjoin.ensures (omega arith)

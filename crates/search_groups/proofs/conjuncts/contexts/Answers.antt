@@ -6,7 +6,7 @@ use Rattle.search_groups.proofs.ConjunctLists.{ahead-first, ahead-next, ahead-do
 use Rattle.search_groups.proofs.conjuncts.contexts.Goals as goal
 
 pub loop-k-init : goal.loop-k-init
-loop-k-init c = (omega arith, c.requires.2, c.requires.3, λ rows fs a l. ahead-first _ _ _ rows fs _ _ a)
+loop-k-init c = (omega arith, omega arith, omega arith, λ rows fs a l. ahead-first _ _ _ rows fs _ _ a)
 
 pub context-n-requires : goal.context-n-requires
 context-n-requires c = let w = c.place.ensures.within (omega arith) in search rules
@@ -15,4 +15,4 @@ pub loop-k-preserved : goal.loop-k-preserved
 loop-k-preserved c = (omega arith, c.context-n.ensures.long ∙ c.loop-k.invariant.1, c.context-n.ensures.firsts_long ∙ c.loop-k.invariant.2, λ rows fs a l. ahead-next (c.loop-k.invariant.3 rows fs a l) c.context-n.ensures c.place.ensures.right (omega arith) (omega arith) (omega arith) (omega arith))
 
 pub returns : goal.returns
-returns c = record { right = λ rows fs a l. ahead-done (c.loop-k.invariant.3 rows fs a l) c.short.ensures.0 (omega arith) (omega arith) (omega arith) }
+returns c = record { right = λ rows fs a l. ahead-done (c.loop-k.invariant.3 rows fs a l) c.mark.ensures (omega arith) (omega arith) (omega arith) }

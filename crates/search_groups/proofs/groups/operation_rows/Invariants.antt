@@ -1,5 +1,5 @@
 use mathlib.Core.List.{List}
-use Prim.Native.Nat.{ℕ, ◌-◌, ◌≤◌}
+use Prim.Native.Nat.{ℕ, ◌≤◌}
 use mathlib.Core.Path.{◌≡◌}
 use lib.ListN.{length}
 use Rattle.form.specs.Tree.{Operation}
@@ -10,6 +10,3 @@ use Rattle.search_groups.proofs.groups.operation_rows.Given as goal
 
 abbrev pub invariant-loop-k : goal.invariant-loop-k
 invariant-loop-k l = (l.k ≤ 16) × (length l.out ≡ 160) × ((os : List Operation) (ρ : Numbering) (i : ℕ) → l.operations ≡ length os → OperationsAt l.nodes l.spans ρ 0 i os → FewEach os → RowsAhead l.nodes l.spans ρ l.k os l.initial.out l.out)
-
-abbrev pub decreases-loop-k : goal.decreases-loop-k
-decreases-loop-k l = 16 - l.k

@@ -7,11 +7,11 @@ use Rattle.search_groups.proofs.groups.picked.Goals as goal
 pub returns-then-nodes-to : goal.returns-then-nodes-to
 returns-then-nodes-to c = record { few = omega arith; long = refl; right = λ codes qs s p l. let i = s.inside in absurd (omega arith) }
 
-pub loop-at-init : goal.loop-at-init
-loop-at-init c = (omega arith, omega arith, refl, λ codes qs s p l. left-first _ _ _ _ _ codes qs _ s p)
+pub loop-k-init : goal.loop-k-init
+loop-k-init c = (omega arith, refl, λ codes qs s p l. left-first _ _ _ _ _ _ codes qs _ (omega arith) s p)
 
-pub loop-at-preserved : goal.loop-at-preserved
-loop-at-preserved c = (c.pick-c.ensures.few, omega arith, c.pick-c.ensures.long ∙ c.loop-at.invariant.2, λ codes qs s p l. left-next (c.loop-at.invariant.3 codes qs s p l) c.pick-c.ensures (omega arith) l (omega arith))
+pub loop-k-preserved : goal.loop-k-preserved
+loop-k-preserved c = (c.pick-c.ensures.few, c.pick-c.ensures.long ∙ c.loop-k.invariant.1, λ codes qs s p l. left-next (c.loop-k.invariant.2 codes qs s p l) c.pick-c.ensures (omega arith) (omega arith) l (omega arith))
 
 pub returns : goal.returns
-returns c = record { few = omega arith; long = c.loop-at.invariant.2; right = λ codes qs s p l. left-done (c.loop-at.invariant.3 codes qs s p l) (omega arith) }
+returns c = record { few = omega arith; long = c.loop-k.invariant.1; right = λ codes qs s p l. left-done (c.loop-k.invariant.2 codes qs s p l) (omega arith) }

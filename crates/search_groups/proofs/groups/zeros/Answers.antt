@@ -1,15 +1,12 @@
 -- `groups::zeros` meets its contract. Assumes nothing.
-use lib.ListN.{length-set}
-use mathlib.Core.Path.{refl, ◌∙◌}
+use Prim.Native.Nat.{ℕ, ◌-◌}
+use mathlib.Core.Path.{ap, ◌∙◌}
 use native.Mathlib.Omega.{arith}
-use Rattle.search_groups.proofs.GroupPlaces.{zeros-first, zeros-next, zeros-done}
+use borrow.Author.Rules.{rules}
+use lib.ListN.{drop, replicate, length-drop, length-replicate}
+use lib.Seq.{length-take-le}
+use Rattle.table_nodes.proofs.Pieces.{part-written}
 use Rattle.search_groups.proofs.groups.zeros.Goals as goal
 
-pub loop-i-init : goal.loop-i-init
-loop-i-init c = (omega arith, omega arith, refl, zeros-first _ _)
-
-pub loop-i-preserved : goal.loop-i-preserved
-loop-i-preserved c = (omega arith, omega arith, length-set c.loop-i.out c.loop-i.i 0 ∙ c.loop-i.invariant.2, zeros-next c.args.from c.loop-i.i _ _ c.loop-i.invariant.3 (omega arith) (omega arith))
-
 pub returns : goal.returns
-returns c = zeros-done _ _ _ _ _ c.loop-i.invariant.3 (omega arith) (omega arith)
+returns c = part-written c.args.from (c.args.to - c.args.from) c.args.out.now _ (replicate (c.args.to - c.args.from) 0) (c.fill.ensures.after (λ y e. search rules) ∙ ap (λ (n : ℕ). replicate {A = ℕ} n 0) (length-take-le (c.args.to - c.args.from) (drop c.args.from c.args.out.now) (omega (arith, length-drop c.args.from c.args.out.now)))) (length-replicate {A = ℕ} (c.args.to - c.args.from) 0)

@@ -1,5 +1,5 @@
 -- `setup::set_list` meets its contract: d of the functions are written, and nothing else is. Assumes nothing.
-use mathlib.Core.Path.{subst, ◌≡◌}
+use mathlib.Core.Path.{refl, subst, ◌≡◌}
 use Prim.Native.Nat.{ℕ}
 use native.Mathlib.Omega.{arith}
 use Rattle.slot_carriers.specs.CellGroups.{Others}
@@ -11,17 +11,14 @@ use Rattle.slot_carriers.proofs.setup.set_list.Goals as goal
 pub loop-d-init : goal.loop-d-init
 loop-d-init c = (omega arith, functions-none c.args.shape c.args.a c.args.b c.args.at c.args.cells.now, others-none 0 c.args.cells.now c.args.at 0)
 
-pub put-requires : goal.put-requires
-put-requires c = omega (arith, c.requires.0, c.loop-d.invariant.2.same_length)
-
-pub loop-d-smaller : goal.loop-d-smaller
-loop-d-smaller c = omega arith
+pub bounds-cells-at : goal.bounds-cells-at
+bounds-cells-at c = omega (arith, c.requires, c.loop-d.invariant.2.same_length)
 
 pub loop-d-preserved : goal.loop-d-preserved
 loop-d-preserved c = (
   omega arith,
-  functions-next c.args.shape c.args.a c.args.b c.args.at c.loop-d.d c.loop-d.cells c.put.new.cells c.function_at.result omega (arith, c.requires.0, c.loop-d.invariant.2.same_length) c.loop-d.invariant.1 c.put.ensures c.function_at.ensures,
-  others-next c.args.cells.now c.loop-d.cells c.put.new.cells c.args.at c.loop-d.d c.function_at.result c.loop-d.invariant.2 c.put.ensures,
+  functions-next c.args.shape c.args.a c.args.b c.args.at c.loop-d.d c.loop-d.cells _ c.function_at.result omega (arith, c.requires, c.loop-d.invariant.2.same_length) c.loop-d.invariant.1 refl c.function_at.ensures,
+  others-next c.args.cells.now c.loop-d.cells _ c.args.at c.loop-d.d c.function_at.result c.loop-d.invariant.2 refl,
 )
 
 pub returns : goal.returns

@@ -4,11 +4,11 @@ use Rattle.state_facts.proofs.SearchLaws.{first-part-asked, search-asked}
 use Rattle.state_facts.proofs.ConjunctLaws.{false_conjunct-is}
 use Rattle.state_facts.proofs.conjuncts.false_conjunct.Goals as goal
 
-pub part_cells-p-requires : goal.part_cells-p-requires
-part_cells-p-requires c = record { part_asked = first-part-asked c.requires; blank = blank 9216 }
+pub part_cells-part-requires : goal.part_cells-part-requires
+part_cells-part-requires c = record { part_asked = first-part-asked c.requires; blank = blank 9216 }
 
 pub retrieve_false-requires : goal.retrieve_false-requires
-retrieve_false-requires c = search-asked c.part_cells-p.ensures c.requires
+retrieve_false-requires c = search-asked c.part_cells-part.ensures c.requires
 
 pub returns : goal.returns
-returns c = false_conjunct-is c.part_cells-p.ensures c.retrieve_false.ensures
+returns c = false_conjunct-is c.part_cells-part.ensures c.retrieve_false.ensures

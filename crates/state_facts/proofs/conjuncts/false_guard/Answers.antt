@@ -4,20 +4,20 @@ use Rattle.part_places.proofs.PartsSetupLaws.{blank}
 use Rattle.state_facts.proofs.GuardLaws.{own-part-asked, own-low, guard-asked, false_guard-is, guard_no-operation}
 use Rattle.state_facts.proofs.conjuncts.false_guard.Goals as goal
 
-pub returns-then-operations-j : goal.returns-then-operations-j
-returns-then-operations-j c = guard_no-operation c.if-operations-j.true
+pub returns-then-d-j : goal.returns-then-d-j
+returns-then-d-j c = guard_no-operation c.if-d-j.true
 
 pub overflow_mul-j : goal.overflow_mul-j
-overflow_mul-j c = omega (arith, own-low {j = c.args.j} c.requires (omega (arith, c.if-operations-j.false)))
+overflow_mul-j c = omega (arith, own-low {j = c.args.j} c.requires (omega (arith, c.if-d-j.false)))
 
 pub overflow_add-j : goal.overflow_add-j
-overflow_add-j c = omega (arith, own-low {j = c.args.j} c.requires (omega (arith, c.if-operations-j.false)))
+overflow_add-j c = omega (arith, own-low {j = c.args.j} c.requires (omega (arith, c.if-d-j.false)))
 
-pub part_cells-p-requires : goal.part_cells-p-requires
-part_cells-p-requires c = record { part_asked = own-part-asked c.requires (omega (arith, c.if-operations-j.false)); blank = blank 9216 }
+pub part_cells-part-requires : goal.part_cells-part-requires
+part_cells-part-requires c = record { part_asked = own-part-asked c.requires (omega (arith, c.if-d-j.false)); blank = blank 9216 }
 
 pub step_false-requires : goal.step_false-requires
-step_false-requires c = guard-asked c.part_cells-p.ensures c.requires (omega (arith, c.if-operations-j.false))
+step_false-requires c = guard-asked c.part_cells-part.ensures c.requires (omega (arith, c.if-d-j.false))
 
 pub returns : goal.returns
-returns c = false_guard-is c.part_cells-p.ensures (omega (arith, c.if-operations-j.false)) c.step_false.ensures
+returns c = false_guard-is c.part_cells-part.ensures (omega (arith, c.if-d-j.false)) c.step_false.ensures

@@ -1,15 +1,14 @@
 -- `conjuncts::first_false` meets its contract: the rows of a context stand between its place and the next. Assumes nothing.
-use borrow.Author.Rules.{rules}
 use native.Mathlib.Omega.{arith}
 use Rattle.states.proofs.RowLaws.{context-rows}
 use Rattle.state_facts.proofs.ConjunctLaws.{context-first}
 use Rattle.state_facts.proofs.conjuncts.first_false.Goals as goal
 
-pub bounds-firsts-n : goal.bounds-firsts-n
-bounds-firsts-n c = let inside = c.requires.at.inside in omega arith
+pub bounds-d-n : goal.bounds-d-n
+bounds-d-n c = let inside = c.requires.at.inside in omega arith
 
-pub bounds-firsts-n-2 : goal.bounds-firsts-n-2
-bounds-firsts-n-2 c = let inside = c.requires.at.inside in omega arith
+pub bounds-d-n-2 : goal.bounds-d-n-2
+bounds-d-n-2 c = let inside = c.requires.at.inside in omega arith
 
 pub seek_false-requires : goal.seek_false-requires
 seek_false-requires c = context-rows c.requires

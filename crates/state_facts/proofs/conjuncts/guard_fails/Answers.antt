@@ -1,5 +1,4 @@
 -- `conjuncts::guard_fails` meets its contract. Assumes nothing.
-use borrow.Author.Rules.{rules}
 use mathlib.Core.Path.{refl}
 use native.Mathlib.Omega.{arith}
 use Rattle.states.proofs.RowLaws.{answer-as}

@@ -4,17 +4,17 @@ use Rattle.state_facts.proofs.SearchLaws.{both-sized}
 use Rattle.state_facts.proofs.ConjunctLaws.{pair-no-abstract, pair-no-concrete, retrieve-asked, pair-first}
 use Rattle.state_facts.proofs.conjuncts.retrieve_false.Goals as goal
 
-pub returns-then-p-a : goal.returns-then-p-a
-returns-then-p-a c = pair-no-abstract c.if-p-a.true
+pub returns-then-s-a : goal.returns-then-s-a
+returns-then-s-a c = pair-no-abstract c.if-s-a.true
 
-pub returns-then-p-c : goal.returns-then-p-c
-returns-then-p-c c = pair-no-concrete c.if-p-c.true
+pub returns-then-s-c : goal.returns-then-s-c
+returns-then-s-c c = pair-no-concrete c.if-s-c.true
 
 pub bind_pair-requires : goal.bind_pair-requires
 bind_pair-requires c = both-sized c.requires
 
 pub first_false-requires : goal.first_false-requires
-first_false-requires c = retrieve-asked c.bind_pair.ensures.values c.bind_pair.ensures.others.same_length (omega (arith, c.if-p-a.false)) (omega (arith, c.if-p-c.false)) c.requires
+first_false-requires c = retrieve-asked c.bind_pair.ensures.values c.bind_pair.ensures.others.same_length (omega (arith, c.if-s-a.false)) (omega (arith, c.if-s-c.false)) c.requires
 
 pub returns : goal.returns
-returns c = pair-first c.bind_pair.ensures.values c.bind_pair.ensures.others.same_length (omega (arith, c.if-p-a.false)) (omega (arith, c.if-p-c.false)) c.first_false.ensures
+returns c = pair-first c.bind_pair.ensures.values c.bind_pair.ensures.others.same_length (omega (arith, c.if-s-a.false)) (omega (arith, c.if-s-c.false)) c.first_false.ensures

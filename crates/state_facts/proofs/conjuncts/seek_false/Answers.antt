@@ -1,12 +1,8 @@
 -- `conjuncts::seek_false` meets its contract: an answer for the rows that are left is one for all, since those before hold. Assumes nothing.
-use Prim.Native.Nat.{ℕ, ◌-◌}
-use mathlib.Core.Path.{◌≡◌, refl, ◌∙◌}
+use mathlib.Core.Path.{refl, ◌∙◌}
 use native.Mathlib.Omega.{arith}
-use borrow.Author.Rules.{rules}
 use borrow.Author.Tests.{not-true, not-false}
-use Rattle.states.specs.Promises.{RowsAsked}
-use Rattle.states.proofs.RowLaws.{row_inside, row_low, first-asked, rest-asked, answer-as}
-use Rattle.state_facts.specs.FalseConjuncts.{Every, FirstIs}
+use Rattle.states.proofs.RowLaws.{row_inside, first-asked, rest-asked, answer-as}
 use Rattle.state_facts.proofs.ConjunctLaws.{first_done, first-here, first_next}
 use Rattle.state_facts.proofs.conjuncts.seek_false.Goals as goal
 

@@ -1,10 +1,7 @@
 -- `conjuncts::seek_guard` meets its contract: an answer for the rows that are left is one for all, since those before do not count or hold. Assumes nothing.
-use Prim.Native.Nat.{ℕ, ◌-◌}
-use mathlib.Core.Path.{◌≡◌, refl, ◌∙◌}
+use mathlib.Core.Path.{refl, ◌∙◌}
 use native.Mathlib.Omega.{arith}
-use Rattle.states.specs.Promises.{RowsAsked}
 use Rattle.states.proofs.RowLaws.{row_inside, rest-asked}
-use Rattle.state_facts.specs.FalseConjuncts.{Guard, FirstIs}
 use Rattle.state_facts.proofs.ConjunctLaws.{first_done, first-here, first_next}
 use Rattle.state_facts.proofs.GuardLaws.{guard-row, guard_as}
 use Rattle.state_facts.proofs.conjuncts.seek_guard.Goals as goal

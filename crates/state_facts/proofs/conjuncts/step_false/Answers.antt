@@ -4,11 +4,11 @@ use native.Mathlib.Omega.{arith}
 use Rattle.state_facts.proofs.GuardLaws.{guard-states, guard-parameters, guard-context, step-first, step-no-concrete, step-no-inputs}
 use Rattle.state_facts.proofs.conjuncts.step_false.Goals as goal
 
-pub returns-then-p-c : goal.returns-then-p-c
-returns-then-p-c c = step-no-concrete c.if-p-c.true
+pub returns-then-s-c : goal.returns-then-s-c
+returns-then-s-c c = step-no-concrete c.if-s-c.true
 
-pub returns-then-p-i : goal.returns-then-p-i
-returns-then-p-i c = step-no-inputs c.if-p-i.true
+pub returns-then-s-i : goal.returns-then-s-i
+returns-then-s-i c = step-no-inputs c.if-s-i.true
 
 pub put_states-requires : goal.put_states-requires
 put_states-requires c = guard-states c.requires
@@ -26,7 +26,7 @@ pub overflow_add-j-2 : goal.overflow_add-j-2
 overflow_add-j-2 c = omega (arith, c.requires.few)
 
 pub first_guard-requires : goal.first_guard-requires
-first_guard-requires c = guard-context c.put_states.ensures c.put_parameters.ensures refl (omega (arith, c.if-p-c.false)) (omega (arith, c.if-p-i.false)) c.requires
+first_guard-requires c = guard-context c.put_states.ensures c.put_parameters.ensures refl (omega (arith, c.if-s-c.false)) (omega (arith, c.if-s-i.false)) c.requires
 
 pub returns : goal.returns
-returns c = step-first c.put_states.ensures c.put_parameters.ensures refl (omega (arith, c.if-p-c.false)) (omega (arith, c.if-p-i.false)) c.first_guard.ensures
+returns c = step-first c.put_states.ensures c.put_parameters.ensures refl (omega (arith, c.if-s-c.false)) (omega (arith, c.if-s-i.false)) c.first_guard.ensures

@@ -1,5 +1,4 @@
 -- `omissions::bit_of` meets its contract. Assumes nothing.
-use borrow.Author.Rules.{rules}
 use Rattle.state_facts.proofs.OmissionLaws.{bit-set, bit-unset}
 use Rattle.state_facts.proofs.omissions.bit_of.Goals as goal
 

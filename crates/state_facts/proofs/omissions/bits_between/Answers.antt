@@ -1,7 +1,5 @@
 -- `omissions::bits_between` meets its contract: the bit of the slot before goes below those that are there. Assumes nothing.
 use native.Mathlib.Omega.{arith}
-use borrow.Author.Rules.{rules}
-use Rattle.state_facts.specs.Omissions.{BitsSay}
 use Rattle.state_facts.proofs.OmissionLaws.{bits_none, bits_small, bits-more, bits-done}
 use Rattle.state_facts.proofs.omissions.bits_between.Goals as goal
 
@@ -19,9 +17,6 @@ overflow_mul-bits c = omega (arith, (bits_small c.loop-k.invariant c.requires.sl
 
 pub overflow_add-bits : goal.overflow_add-bits
 overflow_add-bits c = omega (arith, (bits_small c.loop-k.invariant c.requires.slot_bound.1), c.loop-k.invariant.within, c.requires.slot_bound.1, c.requires.slot_bound.0)
-
-pub loop-k-smaller : goal.loop-k-smaller
-loop-k-smaller c = omega (arith, c.loop-k-test.true)
 
 pub loop-k-preserved : goal.loop-k-preserved
 loop-k-preserved c = bits-more (omega arith) c.loop-k.invariant c.bit_of.ensures

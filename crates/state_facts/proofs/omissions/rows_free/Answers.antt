@@ -1,10 +1,7 @@
 -- `omissions::rows_free` meets its contract: each row that is left behind is free of the slot. Assumes nothing.
-use Prim.Native.Nat.{◌-◌}
 use native.Mathlib.Omega.{arith}
-use borrow.Author.Rules.{rules}
 use borrow.Author.Tests.{not-false}
-use Rattle.state_facts.specs.Omissions.{RowsStand}
-use Rattle.state_facts.proofs.OmissionLaws.{Freed, stand-inside, stand-low, stand-rest, freed-none, freed-more, rows_say, rows_say_no}
+use Rattle.state_facts.proofs.OmissionLaws.{stand-inside, stand-rest, freed-none, freed-more, rows_say, rows_say_no}
 use Rattle.state_facts.proofs.omissions.rows_free.Goals as goal
 
 pub loop-i-init : goal.loop-i-init

@@ -1,9 +1,6 @@
 use Prim.Native.Nat.{◌-◌}
-use native.Mathlib.Omega.{arith}
-use borrow.Author.Rules.{rules}
-use borrow.Author.Tests.{not-false}
 use Rattle.state_facts.specs.Omissions.{RowsStand}
-use Rattle.state_facts.proofs.OmissionLaws.{Freed, stand-inside, stand-low, stand-rest, freed-none, freed-more, rows_say, rows_say_no}
+use Rattle.state_facts.proofs.OmissionLaws.{Freed}
 use Rattle.state_facts.proofs.omissions.rows_free.Given as goal
 
 abbrev pub invariant-loop-i : goal.invariant-loop-i

@@ -1,5 +1,4 @@
 -- `placing::put_states` meets its contract: the states after leave the slots of those before. Assumes nothing.
-use borrow.Author.Rules.{rules}
 use Rattle.state_facts.proofs.PlacedGroups.{concretes-primed-asked, abstracts-primed-asked, states-bound}
 use Rattle.state_facts.proofs.placing.put_states.Goals as goal
 

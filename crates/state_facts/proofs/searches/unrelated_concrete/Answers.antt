@@ -1,27 +1,19 @@
--- `searches::unrelated_concrete` meets its contract: no binding of the other side that is left behind is related. Assumes nothing.
-use Prim.Native.Nat.{◌-◌}
-use native.Mathlib.Omega.{arith}
-use Rattle.state_facts.proofs.SearchLaws.{Walked, walk_start, walk-on, abstract-few}
-use Rattle.state_facts.proofs.LonelyLaws.{related_to, at_first, met_concrete, unmet-concrete}
+-- `searches::unrelated_concrete` meets its contract: none of the bindings of the other side is the first that is related. Assumes nothing.
+use mathlib.Core.Bool.{true, false}
+use Rattle.std.proofs.Common.{◌≡◌, rules, tests}
+use Rattle.std.proofs.lemmas.Iterator.{first_from_Range, serves_from_Range}
+use Rattle.state_facts.specs.Reads.{related_at}
+use Rattle.state_facts.proofs.SearchLaws.{pair-passes, pair-fails}
+use Rattle.state_facts.proofs.LonelyLaws.{none-found, unmet-concrete}
 use Rattle.state_facts.proofs.searches.unrelated_concrete.Goals as goal
 
-pub loop-a-init : goal.loop-a-init
-loop-a-init c = walk_start
-
-pub related_at-requires : goal.related_at-requires
-related_at-requires c = record { search_asked = c.requires.search_asked; a_lt_nm = (c.loop-a-test.true, c.requires.c_lt_nc) }
-
-pub returns-then-related_at : goal.returns-then-related_at
-returns-then-related_at c = met_concrete c.loop-a-test.true c.related_at.ensures c.if-related_at.true
-
-pub overflow_add-a : goal.overflow_add-a
-overflow_add-a c = omega (arith, abstract-few c.requires.search_asked, c.loop-a-test.true)
-
-pub loop-a-smaller : goal.loop-a-smaller
-loop-a-smaller c = omega (arith, c.loop-a-test.true)
-
-pub loop-a-preserved : goal.loop-a-preserved
-loop-a-preserved c = walk-on c.loop-a.invariant c.loop-a-test.true (at_first c.related_at.ensures) c.if-related_at.false
+pub find-requires : goal.find-requires
+find-requires c = record { can = tt; finite = tt; callable = serves_from_Range (λ x q k. search (rules, tests)) (λ x low high. search (rules, c.requires.search_asked, c.requires.c_lt_nc)) }
 
 pub returns : goal.returns
-returns c = unmet-concrete c.loop-a.invariant c.loop-a-test.false
+returns c =
+    unmet-concrete c.find.result (none-found _ _ c.is_none.ensures)
+    (λ d R.
+    first_from_Range _ _ _ _ (λ i. related_at d i c.args.c ≡ true) (λ i. related_at d i c.args.c ≡ false) c.find.ensures.ran
+    (λ i q k. search (rules, tests, pair-passes R))
+    (λ i q k. (search (rules, tests), search (rules, tests, pair-fails R))))

@@ -1,9 +1,8 @@
 -- `nodes::next_slot` meets its contract. Assumes nothing.
-use Rattle.table_nodes.proofs.TableNumbers.{slot_next, slot-last}
+use Prim.Native.Nat.{ℕ, ◌+◌}
+use mathlib.Core.Path.{ap}
+use Rattle.table_nodes.proofs.TableNumbers.{slot-next}
 use Rattle.table_nodes.proofs.nodes.next_slot.Goals as goal
 
-pub returns-then-s-lt-LAST : goal.returns-then-s-lt-LAST
-returns-then-s-lt-LAST c = slot_next c.args.s c.if-s-lt-LAST.true
-
 pub returns : goal.returns
-returns c = slot-last c.args.s c.if-s-lt-LAST.false
+returns c = slot-next c.args.s _ (ap (λ (n : ℕ). n + 1) c.min.ensures)

@@ -1,16 +1,9 @@
 -- `nodes::set_node` meets its contract. Assumes nothing.
-use Rattle.table_nodes.proofs.TableNumbers.{in-second, in-third, in-fourth}
-use Rattle.table_nodes.proofs.Pieces.{four-stores}
+use Prim.Native.Nat.{◌+◌, ◌-◌}
+use native.Mathlib.Omega.{arith}
+use Rattle.form.specs.Codes.{node}
+use Rattle.table_nodes.proofs.Pieces.{part-written}
 use Rattle.table_nodes.proofs.nodes.set_node.Goals as goal
 
-pub bounds-out-at-2 : goal.bounds-out-at-2
-bounds-out-at-2 c = in-second c.args.out.now c.args.at c.args.b c.requires.0
-
-pub bounds-out-at-3 : goal.bounds-out-at-3
-bounds-out-at-3 c = in-third c.args.out.now c.args.at c.args.b c.args.a c.requires.0
-
-pub bounds-out-at-4 : goal.bounds-out-at-4
-bounds-out-at-4 c = in-fourth c.args.out.now c.args.at c.args.b c.args.a c.args.i c.requires.0
-
 pub returns : goal.returns
-returns c = four-stores c.args.out.now c.args.at c.args.shape c.args.i c.args.a c.args.b c.requires.0
+returns c = part-written c.args.at (c.args.at + 4 - c.args.at) c.args.out.now _ (node c.args.shape c.args.i c.args.a c.args.b) c.copy_from_slice.ensures.after (omega arith)

@@ -1,4 +1,4 @@
-use Prim.Native.Nat.{◌-◌, ◌≤◌}
+use Prim.Native.Nat.{◌≤◌}
 use mathlib.Core.Path.{◌≡◌}
 use lib.ListN.{length}
 use Rattle.table_places.proofs.WritingTypes.{CarriersOn}
@@ -6,6 +6,3 @@ use Rattle.table_places.proofs.declared_types.set_parameter_types.Given as goal
 
 abbrev pub invariant-loop-k : goal.invariant-loop-k
 invariant-loop-k l = (l.k ≤ l.n) × ((length l.out ≡ length l.initial.out) × CarriersOn l.nodes l.spans l.k l.n l.names l.sizes l.initial.out l.out)
-
-abbrev pub decreases-loop-k : goal.decreases-loop-k
-decreases-loop-k l = l.n - l.k

@@ -1,26 +1,23 @@
 -- `declared_types::set_types` meets its contract: what is left of the declarations makes of the table as it is what all of them make of that at entry. Assumes nothing.
 use mathlib.Core.List.{◌∷◌}
-use Prim.Native.Nat.{◌+◌}
+use Prim.Native.Nat.{◌+◌, ◌*◌}
 use mathlib.Core.Path.{refl, ◌∙◌}
 use native.Mathlib.Omega.{arith}
-use Rattle.names.proofs.DeclaredNamesDeclarationNodes.{on}
+use Rattle.table_places.proofs.WritingPlaces.{on-next}
 use Rattle.table_places.proofs.WritingTypes.{typing, typing-start, typing-on, types-set}
 use Rattle.table_places.proofs.declared_types.set_types.Goals as goal
 
-pub loop-at-init : goal.loop-at-init
-loop-at-init c = (omega arith, (refl, typing-start c.args.names.now c.args.sizes.now _ c.args.from c.args.out.now))
+pub loop-k-init : goal.loop-k-init
+loop-k-init c = (refl, typing-start c.args.names.now c.args.sizes.now _ c.args.from c.args.out.now)
 
 pub overflow_add-from : goal.overflow_add-from
-overflow_add-from c = let t = c.loop-at-test.true in let f = c.part-code.ensures.fits (omega arith) in let e = c.loop-at.invariant.1.0 in let p = c.requires.0 in let q = c.requires.1 in omega arith
-
-pub overflow_add-from-in-loop-at : goal.overflow_add-from-in-loop-at
-overflow_add-from-in-loop-at c = let t = c.loop-at-test.true in let f = c.part-code.ensures.fits (omega arith) in let e = c.loop-at.invariant.1.0 in let p = c.requires.0 in let q = c.requires.1 in omega arith
+overflow_add-from c = let f = c.part-code.ensures.fits (omega arith) in omega arith
 
 pub set_type-requires : goal.set_type-requires
-set_type-requires c = let t = c.loop-at-test.true in let f = c.part-code.ensures.fits (omega arith) in let e = c.loop-at.invariant.1.0 in let p = c.requires.0 in let q = c.requires.1 in (omega arith, omega arith, omega arith)
+set_type-requires c = let f = c.part-code.ensures.fits (omega arith) in let e = c.loop-k.invariant.0 in (omega arith, omega arith, omega arith)
 
-pub loop-at-preserved : goal.loop-at-preserved
-loop-at-preserved c = (omega arith, (c.set_type.auto.out ∙ c.loop-at.invariant.1.0, on (typing c.args.names.now c.args.sizes.now) _ c.loop-at.at (c.args.from ∷ c.args.out.now) ((c.args.from + c.loop-at.at) ∷ c.loop-at.out) _ c.loop-at.invariant.1.1 (omega arith) (typing-on c.args.names.now c.args.sizes.now _ c.loop-at.at (c.args.from + c.loop-at.at) (c.args.from + (c.loop-at.at + 8)) c.loop-at.out _ (omega arith) c.set_type.ensures)))
+pub loop-k-preserved : goal.loop-k-preserved
+loop-k-preserved c = (c.set_type.auto.out ∙ c.loop-k.invariant.0, on-next (typing c.args.names.now c.args.sizes.now) _ (8 * c.loop-k.k) (8 * (c.loop-k.k + 1)) (c.args.from ∷ c.args.out.now) ((c.args.from + 8 * c.loop-k.k) ∷ c.loop-k.out) _ (omega arith) c.loop-k.invariant.1 (omega arith) (typing-on c.args.names.now c.args.sizes.now _ (8 * c.loop-k.k) (c.args.from + 8 * c.loop-k.k) (c.args.from + 8 * (c.loop-k.k + 1)) _ c.loop-k.out _ (omega arith) (omega arith) c.set_type.ensures))
 
 pub returns : goal.returns
-returns c = types-set c.args.nodes.now c.args.from c.args.to c.args.names.now c.args.sizes.now _ c.loop-at.at _ c.args.out.now c.loop-at.out c.part-code.ensures c.loop-at.invariant.1.1 (omega arith)
+returns c = types-set c.args.nodes.now c.args.from c.args.to c.args.names.now c.args.sizes.now _ (8 * c.loop-k.k) _ c.args.out.now c.loop-k.out c.part-code.ensures c.loop-k.invariant.1 (omega arith)

@@ -4,7 +4,7 @@ use Rattle.tables.proofs.WritingContexts.{conditions-set}
 use Rattle.tables.proofs.passes.set_conditions.Goals as goal
 
 pub set_predicate-requires-3 : goal.set_predicate-requires-3
-set_predicate-requires-3 c = let a = c.set_predicate-2.auto.out in let b = c.set_predicate.auto.out in let p = c.requires.0 in let q = c.requires.1 in (omega arith, omega arith)
+set_predicate-requires-3 c = let a = c.set_predicate-2.auto.out in let b = c.set_predicate.auto.out in let p = c.requires.fits in let q = c.requires.small in record { fits = omega arith; small = omega arith }
 
 pub returns : goal.returns
-returns c = conditions-set c.args.nodes.now c.args.abstracts.now c.args.concretes.now c.args.e1 c.args.e2 c.args.e3 c.args.names.now _ _ _ _ _ _ _ _ _ c.args.places.now _ _ _ c.args.sizes.now c.args.out.now _ _ _ c.show.ensures c.set_predicate.ensures c.hide.ensures c.show-2.ensures c.set_predicate-2.ensures c.show-3.ensures c.set_predicate-3.ensures c.hide-2.ensures c.hide-3.ensures
+returns c = conditions-set c.args.s.now.nodes.now c.args.s.now.abstracts.now c.args.s.now.concretes.now c.args.e1 c.args.e2 c.args.e3 c.args.names.now _ _ _ _ _ _ _ _ _ c.args.places.now _ _ _ c.args.s.now.sizes.now c.args.out.now _ _ _ c.show.ensures c.set_predicate.ensures c.hide.ensures c.show-2.ensures c.set_predicate-2.ensures c.show-3.ensures c.set_predicate-3.ensures c.hide-2.ensures c.hide-3.ensures

@@ -2,6 +2,7 @@
 use Prim.Native.Nat.{◌+◌, ◌-◌}
 use mathlib.Core.Path.{refl}
 use lib.ListN.{get_or}
+use Rattle.type_rules.specs.TypesByNumber.{fault_key}
 use Rattle.typing.proofs.LastNodes.{eight, ten}
 use Rattle.term_sizes.proofs.SizeWalk.{term-short, items-short, pairs-short, pred-short, term-rest, pred-rest}
 use Rattle.term_sizes.proofs.SizeWalkTerms.{term-empty, term-empty-pairs, term-prefix, term-divided, term-binary, term-such, term-listed, term-pairs, items-only, items-also, pair-sized, pairs-only, pairs-also}
@@ -27,7 +28,7 @@ pub listed-returns : goal.listed-returns
 listed-returns t c = term-listed c.args.code.now c.args.end c.requires.0 c.args.bounds.now _ c.items-t.result _ c.requires.2 c.items-t.ensures refl refl refl
 
 pub operated-returns : goal.operated-returns
-operated-returns t c = term-binary c.args.code.now c.args.end c.requires.0 c.args.bounds.now _ _ c.node_at-n.result c.term-t.result c.term-u.result _ c.operator_bound-m.result c.lesser_of-parts.result c.node_at-n.ensures c.requires.2 c.term-u.ensures c.term-t.ensures c.operator_bound-m.ensures c.lesser_of-parts.ensures c.over-f.ensures c.unless_over.ensures refl
+operated-returns t c = term-binary c.args.code.now c.args.end c.requires.0 c.args.bounds.now _ _ c.node_at-n.result c.term-t.result c.term-u.result _ c.operator_bound-m.result (fault_key c.lesser_of-parts.result) c.node_at-n.ensures c.requires.2 c.term-u.ensures c.term-t.ensures c.operator_bound-m.ensures c.lesser_of-parts.ensures c.over-f.ensures c.unless_over.ensures refl
 
 pub pair-returns : goal.pair-returns
 pair-returns t c = pair-sized c.args.code.now c.args.end c.requires c.args.bounds.now _ _ c.term-t.result c.term-u.result _ c.term-u.ensures c.term-t.ensures refl c.lesser_of-f.ensures refl
@@ -78,13 +79,13 @@ pub prefixed-returns : goal.prefixed-returns
 prefixed-returns t c = term-prefix c.args.code.now c.args.end c.requires.0 c.args.bounds.now _ c.node_at-n.result c.term-t.result _ c.prefix_bound-m.result c.node_at-n.ensures c.requires.2 c.term-t.ensures c.prefix_bound-m.ensures c.unless_over.ensures refl refl
 
 pub quantified-returns : goal.quantified-returns
-quantified-returns t c = pred-quantified c.args.code.now c.args.end c.requires.0 c.args.bounds.now _ _ _ c.node_at-n.result c.domain-d.result c.pred-p.result _ c.index-x.result _ c.look-old.result c.node_at-n.ensures c.requires.2 c.domain-d.ensures c.pred-p.ensures refl c.put.ensures c.put-2.ensures c.index-x.ensures.0 c.look-old.ensures refl refl refl
+quantified-returns t c = pred-quantified c.args.code.now c.args.end c.requires.0 c.args.bounds.now _ _ _ c.node_at-n.result c.domain-d.result c.pred-p.result _ c.from-x.result _ c.look-old.result c.node_at-n.ensures c.requires.2 c.domain-d.ensures c.pred-p.ensures refl c.put.ensures c.put-2.ensures c.from-x.ensures c.look-old.ensures refl refl refl
 
 pub related-returns : goal.related-returns
 related-returns t c = pred-related c.args.code.now c.args.end c.requires.0 c.args.bounds.now _ _ c.pair-t.result c.term-v.result _ c.requires.2 c.term-v.ensures c.pair-t.ensures refl c.lesser_of-f.ensures refl
 
 pub such-returns : goal.such-returns
-such-returns t c = term-such c.args.code.now c.args.end c.requires.0 c.args.bounds.now _ _ _ c.node_at-n.result c.domain-d.result c.pred-p.result _ c.index-x.result c.look-was.result c.node_at-n.ensures c.requires.2 c.domain-d.ensures c.pred-p.ensures c.put.ensures c.put-2.ensures c.index-x.ensures.0 c.look-was.ensures refl refl refl
+such-returns t c = term-such c.args.code.now c.args.end c.requires.0 c.args.bounds.now _ _ _ c.node_at-n.result c.domain-d.result c.pred-p.result _ c.from-x.result c.look-was.result c.node_at-n.ensures c.requires.2 c.domain-d.ensures c.pred-p.ensures c.put.ensures c.put-2.ensures c.from-x.ensures c.look-was.ensures refl refl refl
 
 pub term-returns-then-end-lt-SIZE : goal.term-returns-then-end-lt-SIZE
 term-returns-then-end-lt-SIZE t c = term-short c.args.code.now c.args.end c.requires c.args.bounds.now _ c.bare.ensures.2 c.bare.ensures.0 c.if-end-lt-SIZE.true

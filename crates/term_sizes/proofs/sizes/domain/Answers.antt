@@ -13,4 +13,4 @@ pub returns-then-code-at-eq-SET : goal.returns-then-code-at-eq-SET
 returns-then-code-at-eq-SET c = domain-given c.args.code.now c.args.end (omega arith) _ c.if-code-at-eq-SET.true c.bare-then-code-at-eq-SET.ensures
 
 pub returns : goal.returns
-returns c = domain-range c.args.code.now c.args.end (omega arith) c.node_at-n.result _ c.absolute_of-a.result c.absolute_of-b.result c.node_at-n.ensures c.if-code-at-eq-SET.false c.absolute_of-a.ensures.0 c.absolute_of-b.ensures.0 c.greater_of.ensures.0 c.greater_of.ensures.1 refl refl
+returns c = domain-range c.args.code.now c.args.end (omega arith) c.node_at-n.result _ c.absolute_of-a.result c.absolute_of-b.result c.node_at-n.ensures c.if-code-at-eq-SET.false c.absolute_of-a.ensures.0 c.absolute_of-b.ensures.0 c.max.ensures (let p = c.absolute_of-a.ensures.1 in let q = c.absolute_of-b.ensures.1 in omega arith) refl refl

@@ -1,13 +1,15 @@
 -- `sizes::over` meets its contract. Assumes nothing.
-use borrow.Author.Tests.{le-leb, lt-leb, eq-eqb, ne_eqb}
-use native.Mathlib.Omega.{arith}
+use lib.Dec.{leb}
+use Prim.Native.Nat.{ℕ}
+use mathlib.Core.Path.{ap, ◌∙◌}
+use Rattle.lexical.specs.Refusals.{number_of}
+use Rattle.type_rules.specs.TypesByNumber.{key, fault_key, unless_key}
+use Rattle.type_rules.proofs.FaultOrder.{judged-first}
 use Rattle.term_sizes.proofs.sizes.over.Goals as goal
 
-pub returns-then-n-le-LARGEST_SIZE : goal.returns-then-n-le-LARGEST_SIZE
-returns-then-n-le-LARGEST_SIZE c = rw (eq-eqb c.args.parts 0 c.if-parts-eq0.true, le-leb c.args.n 2147483647 c.if-n-le-LARGEST_SIZE.true)
-
-pub returns-then-parts-eq0 : goal.returns-then-parts-eq0
-returns-then-parts-eq0 c = rw (eq-eqb c.args.parts 0 c.if-parts-eq0.true, lt-leb c.args.n 2147483647 c.if-n-le-LARGEST_SIZE.false) (omega (arith, c.wide.ensures.0))
-
 pub returns : goal.returns
-returns c = rw (ne_eqb c.args.parts 0 c.if-parts-eq0.false)
+unfolding number_of
+returns c =
+    ap fault_key c.or.ensures
+    ∙ judged-first c.args.parts c.unless.result (leb c.args.n 2147483647) (key c.args.i 13)
+    (c.unless.ensures ∙ ap (λ (j : ℕ). unless_key (leb c.args.n 2147483647) (key j 13)) c.from.ensures)

@@ -1,9 +1,15 @@
 -- `kinds::bound_fault` meets its contract. Assumes nothing.
-use Rattle.type_rules.proofs.TypeNumbers.{binder, inside-none, inside-some}
+use mathlib.Core.Path.{ap, ◌∙◌}
+use Prim.Native.Nat.{ℕ}
+use Rattle.lexical.specs.Refusals.{number_of}
+use Rattle.type_rules.specs.TypesByNumber.{fault_key, inside_key}
+use Rattle.type_rules.proofs.FaultOrder.{first-key}
+use Rattle.type_rules.proofs.TypeNumbers.{binder}
 use Rattle.type_rules.proofs.kinds.bound_fault.Goals as goal
 
-pub returns-then-binder-eq0 : goal.returns-then-binder-eq0
-returns-then-binder-eq0 c = inside-none c.lesser_of-binder.result _ c.args.body (binder c.args.i c.args.old c.args.over c.wide.result c.unless-here.result c.lesser_of-binder.result c.wide.ensures.0 c.unless-here.ensures c.lesser_of-binder.ensures) c.if-binder-eq0.true
-
 pub returns : goal.returns
-returns c = inside-some c.lesser_of-binder.result _ c.args.body (binder c.args.i c.args.old c.args.over c.wide.result c.unless-here.result c.lesser_of-binder.result c.wide.ensures.0 c.unless-here.ensures c.lesser_of-binder.ensures) c.if-binder-eq0.false
+unfolding number_of
+returns c =
+    ap fault_key c.or.ensures ∙ first-key c.lesser_of.result c.args.body
+    ∙ ap (λ (k : ℕ). inside_key k (fault_key c.args.body))
+    (binder c.args.i c.args.old (fault_key c.args.over) c.from.result (fault_key c.unless-here.result) (fault_key c.lesser_of.result) c.from.ensures c.unless-here.ensures c.lesser_of.ensures)

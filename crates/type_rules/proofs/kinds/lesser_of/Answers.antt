@@ -1,20 +1,17 @@
 -- `kinds::lesser_of` meets its contract. Assumes nothing.
-use borrow.Author.Tests.{lt-ltb, le-ltb, eq-eqb, ne_eqb}
-use Rattle.type_rules.specs.TypesByNumber.{lesser}
+use mathlib.Core.Path.{ap, ap₂, sym, ◌∙◌}
+use Rattle.std.specs.Prelude.{Some}
+use Rattle.type_rules.specs.TypesByNumber.{fault_key, lesser}
+use Rattle.type_rules.proofs.FaultOrder.{lesser-faults, first-alone, second-alone}
 use Rattle.type_rules.proofs.kinds.lesser_of.Goals as goal
+use Rattle.type_rules.proofs.kinds.lesser_of.Goals.{in_default-via-in-Some+in_default, in_default-via-in_default}
 
-pub returns-then-a-eq0 : goal.returns-then-a-eq0
-unfolding lesser
-returns-then-a-eq0 c = rw (lesser, eq-eqb c.args.a 0 c.if-a-eq0.true)
+pub returns-in-Some-Some : goal.returns-in-Some-Some
+returns-in-Some-Some c =
+    ap (λ f. fault_key (Some f)) c.min.ensures ∙ lesser-faults c.in-Some-Some.f c.in-Some-Some.g
+    ∙ sym (ap₂ (λ a b. lesser (fault_key a) (fault_key b)) c.in-Some-Some.is-0 c.in-Some-Some.is-1)
 
-pub returns-then-b-eq0 : goal.returns-then-b-eq0
-unfolding lesser
-returns-then-b-eq0 c = rw (lesser, ne_eqb c.args.a 0 c.if-a-eq0.false, eq-eqb c.args.b 0 c.if-b-eq0.true)
-
-pub returns-then-b-a : goal.returns-then-b-a
-unfolding lesser
-returns-then-b-a c = rw (lesser, ne_eqb c.args.a 0 c.if-a-eq0.false, ne_eqb c.args.b 0 c.if-b-eq0.false, lt-ltb c.args.b c.args.a c.if-b-a.true)
-
-pub returns : goal.returns
-unfolding lesser
-returns c = rw (lesser, ne_eqb c.args.a 0 c.if-a-eq0.false, ne_eqb c.args.b 0 c.if-b-eq0.false, le-ltb c.args.b c.args.a c.if-b-a.false)
+pub returns-in_default : goal.returns-in_default
+returns-in_default c =
+    ap fault_key c.or.ensures
+    ∙ elim c.in_default.branch [ in_default-via-in-Some+in_default w ↦ second-alone c.args.a c.args.b w.in_default.is-1 | in_default-via-in_default w ↦ first-alone c.args.a c.args.b w.in_default.is-0 ]

@@ -8,7 +8,7 @@ use Rattle.type_rules.proofs.kinds.range_fits.Goals as goal
 
 pub returns-then-a-b : goal.returns-then-a-b
 unfolding range_fits
-returns-then-a-b c = rw (range_fits, le-leb c.args.a c.args.b c.if-a-b.true) (ap₂ (λ (m n : ℕ). ltb m (n + 64)) c.wide.ensures.0 c.wide-then-a-b.ensures.0)
+returns-then-a-b c = rw (range_fits, le-leb c.args.a c.args.b c.if-a-b.true) (ap₂ (λ (m n : ℕ). ltb m (n + 64)) c.from.ensures c.from-then-a-b.ensures)
 
 pub returns-else-a-b : goal.returns-else-a-b
 unfolding range_fits

@@ -1,20 +1,24 @@
 -- The walk over the nodes of terms and predicates meets its contracts. Assumes nothing.
 use Prim.Native.Nat.{◌+◌, ◌-◌}
-use mathlib.Core.Path.{refl}
+use mathlib.Core.Path.{refl, ap, ◌∙◌}
 use lib.ListN.{get_or}
+use Rattle.lexical.specs.Refusals.{number_of}
+use Rattle.type_rules.specs.TypesByNumber.{fault_key}
+use Rattle.type_rules.proofs.FaultOrder.{first-key}
 use Rattle.typing.proofs.LastNodes.{term-short, items-short, pairs-short, pred-short, term-rest, pred-rest, eight, ten}
 use Rattle.typing.proofs.TypeWalkTerms.{term-number, term-prefix, term-divided, term-binary, term-such, term-listed, term-pairs, items-only, items-also, pair-seen, pairs-only, pairs-also}
 use Rattle.typing.proofs.TypeWalkPreds.{pred_constant, pred-negation, pred-connected, pred-compared, pred-member, pred-within, pred-related, pred-quantified}
 use Rattle.typing.proofs.types.+types.Goals as goal
 
 pub compared-returns : goal.compared-returns
-compared-returns t c = pred-compared c.args.code.now c.args.end c.requires.0 c.args.names.now c.args.sizes.now _ _ c.node_at-n.result c.term-t.result c.term-u.result _ c.comparison_fits.result c.lesser_of-parts.result c.node_at-n.ensures c.requires.2 c.term-u.ensures c.term-t.ensures c.comparison_fits.ensures c.lesser_of-parts.ensures refl refl c.judge-f.ensures
+compared-returns t c = pred-compared c.args.code.now c.args.end c.requires.0 c.args.names.now c.args.sizes.now _ _ c.node_at-n.result c.term-t.result c.term-u.result _ c.comparison_fits.result (fault_key c.lesser_of-parts.result) c.node_at-n.ensures c.requires.2 c.term-u.ensures c.term-t.ensures c.comparison_fits.ensures c.lesser_of-parts.ensures refl refl c.judge-f.ensures
 
 pub connected-returns : goal.connected-returns
 connected-returns t c = pred-connected c.args.code.now c.args.end c.requires.0 c.args.names.now c.args.sizes.now _ _ c.pred-p.result c.pred-q.result _ c.requires.2 c.pred-q.ensures c.pred-p.ensures refl refl c.lesser_of-f.ensures
 
 pub divided-returns : goal.divided-returns
-divided-returns t c = term-divided c.args.code.now c.args.end c.requires.0 c.args.names.now c.args.sizes.now _ c.node_at-n.result c.term-t.result _ c.wide.result c.wide-2.result c.unless-zero.result c.lesser_of.result c.node_at-n.ensures c.requires.2 c.term-t.ensures c.wide.ensures.0 c.wide-2.ensures.0 c.unless-zero.ensures c.lesser_of.ensures refl refl c.judge-f.ensures
+unfolding number_of
+divided-returns t c = term-divided c.args.code.now c.args.end c.requires.0 c.args.names.now c.args.sizes.now _ c.node_at-n.result c.term-t.result _ c.from.result c.from-2.result (fault_key c.unless-zero.result) (fault_key c.lesser_of.result) c.node_at-n.ensures c.requires.2 c.term-t.ensures c.from.ensures c.from-2.ensures c.unless-zero.ensures c.lesser_of.ensures refl refl c.judge-f.ensures
 
 pub items-returns-then-end-lt-SIZE : goal.items-returns-then-end-lt-SIZE
 items-returns-then-end-lt-SIZE t c = items-short c.args.code.now c.args.end c.requires c.args.names.now c.args.sizes.now _ c.nothing.ensures c.if-end-lt-SIZE.true
@@ -26,19 +30,19 @@ pub items-returns : goal.items-returns
 items-returns t c = items-also c.args.code.now c.args.end c.requires c.args.names.now c.args.sizes.now _ _ c.term-t.result c.items-l.result _ c.items-l.ensures c.term-t.ensures c.if-code-at-eq-LAST.false c.shared_kind.ensures refl c.lesser_of-f.ensures
 
 pub joined-returns : goal.joined-returns
-joined-returns t c = term-binary c.args.code.now c.args.end c.requires.0 c.args.names.now c.args.sizes.now _ _ c.node_at-n.result c.term-t.result c.term-u.result _ c.operator_fits.result c.lesser_of-parts.result c.node_at-n.ensures c.requires.2 c.term-u.ensures c.term-t.ensures c.operator_fits.ensures c.lesser_of-parts.ensures refl refl c.judge-f.ensures
+joined-returns t c = term-binary c.args.code.now c.args.end c.requires.0 c.args.names.now c.args.sizes.now _ _ c.node_at-n.result c.term-t.result c.term-u.result _ c.operator_fits.result (fault_key c.lesser_of-parts.result) c.node_at-n.ensures c.requires.2 c.term-u.ensures c.term-t.ensures c.operator_fits.ensures c.lesser_of-parts.ensures refl refl c.judge-f.ensures
 
 pub listed-returns : goal.listed-returns
 listed-returns t c = term-listed c.args.code.now c.args.end c.requires.0 c.args.names.now c.args.sizes.now _ c.node_at-n.result c.items-t.result _ c.is_element.result c.node_at-n.ensures c.requires.2 c.items-t.ensures c.is_element.ensures c.set_of.ensures refl c.judge-f.ensures
 
 pub member-returns : goal.member-returns
-member-returns t c = pred-member c.args.code.now c.args.end c.requires.0 c.args.names.now c.args.sizes.now _ _ c.node_at-n.result c.term-t.result c.term-u.result _ c.member_fits.result c.lesser_of-parts.result c.node_at-n.ensures c.requires.2 c.term-u.ensures c.term-t.ensures c.member_fits.ensures c.lesser_of-parts.ensures refl refl c.judge-f.ensures
+member-returns t c = pred-member c.args.code.now c.args.end c.requires.0 c.args.names.now c.args.sizes.now _ _ c.node_at-n.result c.term-t.result c.term-u.result _ c.member_fits.result (fault_key c.lesser_of-parts.result) c.node_at-n.ensures c.requires.2 c.term-u.ensures c.term-t.ensures c.member_fits.ensures c.lesser_of-parts.ensures refl refl c.judge-f.ensures
 
 pub pair-returns : goal.pair-returns
 pair-returns t c = pair-seen c.args.code.now c.args.end c.requires c.args.names.now c.args.sizes.now _ _ c.term-t.result c.term-u.result _ c.term-u.ensures c.term-t.ensures c.pair_of.ensures refl c.lesser_of-f.ensures
 
 pub paired-returns : goal.paired-returns
-paired-returns t c = term-pairs c.args.code.now c.args.end c.requires.0 c.args.names.now c.args.sizes.now _ c.node_at-n.result c.pairs-t.result _ c.brace_fault.result c.node_at-n.ensures c.requires.2 c.pairs-t.ensures c.brace_fault.ensures refl refl c.inside_of-f.ensures
+paired-returns t c = term-pairs c.args.code.now c.args.end c.requires.0 c.args.names.now c.args.sizes.now _ c.node_at-n.result c.pairs-t.result _ (fault_key c.brace_fault.result) c.node_at-n.ensures c.requires.2 c.pairs-t.ensures c.brace_fault.ensures refl refl (ap fault_key c.or-f.ensures ∙ first-key c.pairs-t.result.fault c.brace_fault.result)
 
 pub pairs-returns-then-end-lt-SIZE : goal.pairs-returns-then-end-lt-SIZE
 pairs-returns-then-end-lt-SIZE t c = pairs-short c.args.code.now c.args.end c.requires c.args.names.now c.args.sizes.now _ c.nothing.ensures c.if-end-lt-SIZE.true
@@ -83,13 +87,13 @@ pub prefixed-returns : goal.prefixed-returns
 prefixed-returns t c = term-prefix c.args.code.now c.args.end c.requires.0 c.args.names.now c.args.sizes.now _ c.node_at-n.result c.term-t.result _ c.prefix_fits.result c.node_at-n.ensures c.requires.2 c.term-t.ensures c.prefix_fits.ensures c.prefix_type.ensures refl c.judge-f.ensures
 
 pub quantified-returns : goal.quantified-returns
-quantified-returns t c = pred-quantified c.args.code.now c.args.end c.requires.0 c.args.names.now c.args.sizes.now _ _ _ c.node_at-n.result c.domain-d.result c.pred-p.result _ c.index-x.result c.look-old.result c.node_at-n.ensures c.requires.2 c.domain-d.ensures c.pred-p.ensures c.put.ensures c.put-2.ensures c.index-x.ensures.0 c.look-old.ensures refl refl c.bound_fault-f.ensures
+quantified-returns t c = pred-quantified c.args.code.now c.args.end c.requires.0 c.args.names.now c.args.sizes.now _ _ _ c.node_at-n.result c.domain-d.result c.pred-p.result _ c.from-x.result c.look-old.result c.node_at-n.ensures c.requires.2 c.domain-d.ensures c.pred-p.ensures c.put.ensures c.put-2.ensures c.from-x.ensures c.look-old.ensures refl refl c.bound_fault-f.ensures
 
 pub related-returns : goal.related-returns
-related-returns t c = pred-related c.args.code.now c.args.end c.requires.0 c.args.names.now c.args.sizes.now _ _ _ c.node_at-n.result c.term-t.result c.term-u.result c.term-v.result _ c.related_fits.result c.lesser_of.result c.lesser_of-parts.result c.node_at-n.ensures c.requires.2 c.term-v.ensures c.term-u.ensures c.term-t.ensures c.related_fits.ensures c.lesser_of.ensures c.lesser_of-parts.ensures refl refl c.judge-f.ensures
+related-returns t c = pred-related c.args.code.now c.args.end c.requires.0 c.args.names.now c.args.sizes.now _ _ _ c.node_at-n.result c.term-t.result c.term-u.result c.term-v.result _ c.related_fits.result (fault_key c.lesser_of.result) (fault_key c.lesser_of-parts.result) c.node_at-n.ensures c.requires.2 c.term-v.ensures c.term-u.ensures c.term-t.ensures c.related_fits.ensures c.lesser_of.ensures c.lesser_of-parts.ensures refl refl c.judge-f.ensures
 
 pub such-returns : goal.such-returns
-such-returns t c = term-such c.args.code.now c.args.end c.requires.0 c.args.names.now c.args.sizes.now _ _ _ c.node_at-n.result c.domain-d.result c.pred-p.result _ c.index-x.result c.look-was.result c.node_at-n.ensures c.requires.2 c.domain-d.ensures c.pred-p.ensures c.put.ensures c.put-2.ensures c.index-x.ensures.0 c.look-was.ensures c.set_of.ensures refl c.bound_fault-f.ensures
+such-returns t c = term-such c.args.code.now c.args.end c.requires.0 c.args.names.now c.args.sizes.now _ _ _ c.node_at-n.result c.domain-d.result c.pred-p.result _ c.from-x.result c.look-was.result c.node_at-n.ensures c.requires.2 c.domain-d.ensures c.pred-p.ensures c.put.ensures c.put-2.ensures c.from-x.ensures c.look-was.ensures c.set_of.ensures refl c.bound_fault-f.ensures
 
 pub term-returns-then-end-lt-SIZE : goal.term-returns-then-end-lt-SIZE
 term-returns-then-end-lt-SIZE t c = term-short c.args.code.now c.args.end c.requires c.args.names.now c.args.sizes.now _ c.nothing.ensures c.if-end-lt-SIZE.true
@@ -128,4 +132,4 @@ pub term-returns-in_default : goal.term-returns-in_default
 term-returns-in_default t c = term-rest c.args.code.now c.args.end c.requires c.args.names.now c.args.sizes.now _ c.nothing-in_default.ensures (ten (get_or c.args.code.now (c.args.end - 4 + 3) 0) (eight (get_or c.args.code.now (c.args.end - 4 + 3) 0) c.in_default.in_default-own.rest.0.0.0.0.0.0.0.0.0.1 c.in_default.in_default-own.rest.0.0.0.0.0.0.0.0.1 c.in_default.in_default-own.rest.0.0.0.0.0.0.0.1 c.in_default.in_default-own.rest.0.0.0.0.0.0.1 c.in_default.in_default-own.rest.0.0.0.0.0.1 c.in_default.in_default-own.rest.0.0.0.0.1 c.in_default.in_default-own.rest.0.0.0.1 c.in_default.in_default-own.rest.0.0.1) c.in_default.in_default-own.rest.0.1 c.in_default.in_default-own.rest.1)
 
 pub within-returns : goal.within-returns
-within-returns t c = pred-within c.args.code.now c.args.end c.requires.0 c.args.names.now c.args.sizes.now _ c.node_at-n.result c.term-t.result c.domain-d.result _ c.lesser_of-parts.result c.node_at-n.ensures c.requires.2 c.domain-d.ensures c.term-t.ensures c.lesser_of-parts.ensures refl refl c.judge-f.ensures
+within-returns t c = pred-within c.args.code.now c.args.end c.requires.0 c.args.names.now c.args.sizes.now _ c.node_at-n.result c.term-t.result c.domain-d.result _ (fault_key c.lesser_of-parts.result) c.node_at-n.ensures c.requires.2 c.domain-d.ensures c.term-t.ensures c.lesser_of-parts.ensures refl refl c.judge-f.ensures

@@ -2,6 +2,7 @@
 use mathlib.Core.List.{[]}
 use mathlib.Core.Path.{refl}
 use native.Mathlib.Omega.{arith}
+use Rattle.lexical.specs.Refusals.{number_of}
 use Rattle.typing.proofs.LastNodes.{domain-short}
 use Rattle.typing.proofs.TypeWalkTerms.{domain-given, domain-range}
 use Rattle.typing.proofs.types.domain.Goals as goal
@@ -10,7 +11,9 @@ pub returns-then-end-lt-SIZE : goal.returns-then-end-lt-SIZE
 returns-then-end-lt-SIZE c = domain-short c.args.code.now c.args.end (omega arith) c.args.names.now [] _ c.nothing.ensures c.if-end-lt-SIZE.true
 
 pub returns-then-code-at-eq-SET : goal.returns-then-code-at-eq-SET
-returns-then-code-at-eq-SET c = domain-given c.args.code.now c.args.end (omega arith) c.args.names.now [] c.node_at-n.result _ c.index.result c.look-e.result c.wide.result c.is_given.result c.node_at-n.ensures c.if-code-at-eq-SET.true refl c.index.ensures.0 c.look-e.ensures c.wide.ensures.0 c.is_given.ensures c.element_of.ensures c.unless-f.ensures
+unfolding number_of
+returns-then-code-at-eq-SET c = domain-given c.args.code.now c.args.end (omega arith) c.args.names.now [] c.node_at-n.result _ c.from.result c.look-e.result c.from-then-code-at-eq-SET.result c.is_given.result c.node_at-n.ensures c.if-code-at-eq-SET.true refl c.from.ensures c.look-e.ensures c.from-then-code-at-eq-SET.ensures c.is_given.ensures c.element_of.ensures c.unless-f.ensures
 
 pub returns : goal.returns
-returns c = domain-range c.args.code.now c.args.end (omega arith) c.args.names.now [] c.node_at-n.result _ c.wide-2.result c.range_fits.result c.node_at-n.ensures c.if-code-at-eq-SET.false refl c.wide-2.ensures.0 c.range_fits.ensures refl c.unless-f-2.ensures
+unfolding number_of
+returns c = domain-range c.args.code.now c.args.end (omega arith) c.args.names.now [] c.node_at-n.result _ c.from-2.result c.range_fits.result c.node_at-n.ensures c.if-code-at-eq-SET.false refl c.from-2.ensures c.range_fits.ensures refl c.unless-f-2.ensures

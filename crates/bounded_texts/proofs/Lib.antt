@@ -1,0 +1,2 @@
+-- Lists with room for so many bytes.
+pub mod RoomLaws

@@ -1,7 +1,0 @@
--- `idle_variables::entry` meets its contract. Assumes nothing.
-use mathlib.Core.Path.{refl}
-use native.Mathlib.Omega.{arith}
-use Rattle.idle_variables.proofs.entry.Goals as goal
-
-pub returns : goal.returns
-returns c = (refl, omega (arith, c.type_inv.plan c.args.k))

@@ -1,0 +1,178 @@
+// The walk over the terms and the pairs of braces.
+ghost use Rattle.std.specs.Prelude.{◌≡◌, ◌+◌, ◌-◌, ◌≤◌, get_or};
+ghost use Rattle.table_nodes.specs.TableWalkPromises.{WalkAsked, NodeAsked, TermMade, ItemsMade, PairsMade};
+
+use crate::walk::term;
+use form::{node, shapes};
+use table_nodes::nodes::{element_size, nothing, set_node};
+use table_nodes::{Made, table_shapes};
+use type_rules::kinds::{pair_of, set_of, shared_kind};
+
+// {t, ...}.
+#[cycle(walk)]
+pub fn listed(
+    code: &[u16],
+    end: usize,
+    slot: u16,
+    names: &mut [u16],
+    places: &mut [u16],
+    sizes: &[u16],
+    out: &mut [u16],
+) -> Made
+    requires { NodeAsked code.now end 7 out.old }
+    ensures { TermMade code.now end slot names.old names.new places.old places.new sizes.now out.old out.new result }
+{
+    let at = end - node::SIZE;
+    let t = items(code, at, slot, names, places, sizes, out);
+    set_node(out, at, table_shapes::LISTED, 0, 0, 0);
+    Made {
+        kind: set_of(t.kind),
+        start: t.start,
+    }
+}
+
+// {t |-> t, ...}.
+#[cycle(walk)]
+pub fn paired(
+    code: &[u16],
+    end: usize,
+    slot: u16,
+    names: &mut [u16],
+    places: &mut [u16],
+    sizes: &[u16],
+    out: &mut [u16],
+) -> Made
+    requires { NodeAsked code.now end 8 out.old }
+    ensures { TermMade code.now end slot names.old names.new places.old places.new sizes.now out.old out.new result }
+{
+    let at = end - node::SIZE;
+    let t = pairs(code, at, slot, names, places, sizes, out);
+    set_node(out, at, table_shapes::PAIRS, 0, 0, 0);
+    Made {
+        kind: t.kind,
+        start: t.start,
+    }
+}
+
+// The terms of a brace.
+#[cycle(walk)]
+fn items(
+    code: &[u16],
+    end: usize,
+    slot: u16,
+    names: &mut [u16],
+    places: &mut [u16],
+    sizes: &[u16],
+    out: &mut [u16],
+) -> Made
+    requires { WalkAsked code.now end out.old }
+    ensures { ItemsMade code.now end slot names.old names.new places.old places.new sizes.now out.old out.new result }
+{
+    if end < node::SIZE {
+        return nothing();
+    }
+    let at = end - node::SIZE;
+    if code[at + node::SHAPE] == shapes::LAST {
+        let t = term(code, at, slot, names, places, sizes, out);
+        set_node(out, at, table_shapes::LAST_ITEM, 0, 0, 0);
+        return Made {
+            kind: t.kind,
+            start: t.start,
+        };
+    }
+    let l = items(code, at, slot, names, places, sizes, out);
+    let t = term(code, l.start, slot, names, places, sizes, out);
+    set_node(out, at, table_shapes::ALSO_ITEM, l.start as u16, 0, 0);
+    Made {
+        kind: shared_kind(t.kind, l.kind),
+        start: t.start,
+    }
+}
+
+// The pairs of a brace.
+#[cycle(walk)]
+fn pairs(
+    code: &[u16],
+    end: usize,
+    slot: u16,
+    names: &mut [u16],
+    places: &mut [u16],
+    sizes: &[u16],
+    out: &mut [u16],
+) -> Made
+    requires { WalkAsked code.now end out.old }
+    ensures { PairsMade code.now end slot names.old names.new places.old places.new sizes.now out.old out.new result }
+{
+    if end < node::SIZE {
+        return nothing();
+    }
+    if code[end - node::SIZE + node::SHAPE] == shapes::LAST {
+        return last_pair(code, end, slot, names, places, sizes, out);
+    }
+    next_pair(code, end, slot, names, places, sizes, out)
+}
+
+// The last pair of a brace.
+#[cycle(walk)]
+fn last_pair(
+    code: &[u16],
+    end: usize,
+    slot: u16,
+    names: &mut [u16],
+    places: &mut [u16],
+    sizes: &[u16],
+    out: &mut [u16],
+) -> Made
+    requires { NodeAsked code.now end 1 out.old }
+    ensures { PairsMade code.now end slot names.old names.new places.old places.new sizes.now out.old out.new result }
+{
+    let at = end - node::SIZE;
+    let u = term(code, at, slot, names, places, sizes, out);
+    let t = term(code, u.start, slot, names, places, sizes, out);
+    set_node(
+        out,
+        at,
+        table_shapes::LAST_PAIR,
+        u.start as u16,
+        element_size(sizes, u.kind),
+        0,
+    );
+    Made {
+        kind: pair_of(t.kind, u.kind),
+        start: t.start,
+    }
+}
+
+// Another pair of a brace, before those that follow it.
+#[cycle(walk)]
+fn next_pair(
+    code: &[u16],
+    end: usize,
+    slot: u16,
+    names: &mut [u16],
+    places: &mut [u16],
+    sizes: &[u16],
+    out: &mut [u16],
+) -> Made
+    requires { WalkAsked code.now end out.old × (4 ≤ end) × (get_or code.now (end - 4 + 3) 0 ≡ 1 → ⊥) }
+    ensures { PairsMade code.now end slot names.old names.new places.old places.new sizes.now out.old out.new result }
+{
+    let at = end - node::SIZE;
+    let l = pairs(code, at, slot, names, places, sizes, out);
+    let u = term(code, l.start, slot, names, places, sizes, out);
+    let t = term(code, u.start, slot, names, places, sizes, out);
+    let n = element_size(sizes, u.kind);
+    set_node(
+        out,
+        at,
+        table_shapes::ALSO_PAIR,
+        u.start as u16,
+        n,
+        l.start as u16,
+    );
+    let k = pair_of(t.kind, u.kind);
+    Made {
+        kind: shared_kind(k, l.kind),
+        start: t.start,
+    }
+}

@@ -1,0 +1,112 @@
+// The nodes that the walk writes with no call of itself: what names are bound over, numbers, names, empty sets, truth values.
+ghost use Rattle.std.specs.Prelude.{List, ℕ};
+ghost use Rattle.table_nodes.specs.TableWalkPromises.{WalkAsked, NodeAsked, DomainMade, TermMade, PredMade};
+
+use form::{node, shapes};
+use lexical::bounds::LARGEST_NUMBER;
+use table_nodes::nodes::{given_size, nothing, range_count, set_node, truth_of};
+use table_nodes::{Made, slots, table_shapes};
+use type_rules::entries;
+use type_rules::kinds::{element_of, index, look, pair_of, set_of};
+
+// What a name is bound over, or the range after `in`: the node that ends at `end`.
+pub fn domain(code: &[u16], end: usize, names: &[u16], sizes: &[u16], out: &mut [u16]) -> Made
+    requires { WalkAsked code.now end out.old }
+    ensures { DomainMade code.now end names.now sizes.now out.old out.new result }
+{
+    if end < node::SIZE {
+        return nothing();
+    }
+    let at = end - node::SIZE;
+    let a = look(code, at + node::A);
+    if look(code, at + node::SHAPE) == shapes::SET {
+        let e = look(names, index(a));
+        let n = given_size(sizes, e);
+        set_node(out, at, table_shapes::OVER, 0, LARGEST_NUMBER, n);
+        return Made {
+            kind: element_of(e),
+            start: at,
+        };
+    }
+    let b = look(code, at);
+    let n = range_count(a, b);
+    set_node(out, at, table_shapes::OVER, 0, a, n);
+    Made {
+        kind: entries::NUMBER,
+        start: at,
+    }
+}
+
+// A number.
+pub fn number(code: &[u16], end: usize, out: &mut [u16]) -> Made
+    requires { NodeAsked code.now end 1 out.old }
+    ensures { (s : ℕ) (T W z : List ℕ) → TermMade code.now end s T T W W z out.old out.new result }
+{
+    let at = end - node::SIZE;
+    let a = look(code, at + node::A);
+    set_node(out, at, table_shapes::VALUE, 0, a, 0);
+    Made {
+        kind: entries::NUMBER,
+        start: at,
+    }
+}
+
+// A name: its slot, or an element by its place.
+pub fn named(code: &[u16], end: usize, names: &[u16], places: &[u16], out: &mut [u16]) -> Made
+    requires { NodeAsked code.now end 2 out.old }
+    ensures { (s : ℕ) (z : List ℕ) → TermMade code.now end s names.now names.now places.now places.now z out.old out.new result }
+{
+    let at = end - node::SIZE;
+    let x = index(look(code, at + node::A));
+    let e = look(names, x);
+    let w = look(places, x);
+    if w < slots::ELEMENTS {
+        set_node(out, at, table_shapes::SLOT, 0, w, 0);
+        return Made { kind: e, start: at };
+    }
+    set_node(out, at, table_shapes::VALUE, 0, w - slots::ELEMENTS, 0);
+    Made { kind: e, start: at }
+}
+
+// empty G.
+pub fn empty_set(code: &[u16], end: usize, names: &[u16], out: &mut [u16]) -> Made
+    requires { NodeAsked code.now end 9 out.old }
+    ensures { (s : ℕ) (W z : List ℕ) → TermMade code.now end s names.now names.now W W z out.old out.new result }
+{
+    let at = end - node::SIZE;
+    let e = look(names, index(look(code, at + node::A)));
+    set_node(out, at, table_shapes::VALUE, 0, 0, 0);
+    Made {
+        kind: set_of(element_of(e)),
+        start: at,
+    }
+}
+
+// empty G H.
+pub fn empty_pairs(code: &[u16], end: usize, names: &[u16], out: &mut [u16]) -> Made
+    requires { NodeAsked code.now end 10 out.old }
+    ensures { (s : ℕ) (W z : List ℕ) → TermMade code.now end s names.now names.now W W z out.old out.new result }
+{
+    let at = end - node::SIZE;
+    let g = look(names, index(look(code, at + node::A)));
+    let h = look(names, index(look(code, at)));
+    set_node(out, at, table_shapes::VALUE, 0, 0, 0);
+    Made {
+        kind: pair_of(element_of(g), element_of(h)),
+        start: at,
+    }
+}
+
+// true, false.
+pub fn constant(code: &[u16], end: usize, out: &mut [u16]) -> Made
+    requires { NodeAsked code.now end 1 out.old }
+    ensures { (s : ℕ) (T W z : List ℕ) → PredMade code.now end s T T W W z out.old out.new result }
+{
+    let at = end - node::SIZE;
+    let a = look(code, at + node::A);
+    set_node(out, at, table_shapes::TRUTH, 0, truth_of(a), 0);
+    Made {
+        kind: entries::NONE,
+        start: at,
+    }
+}

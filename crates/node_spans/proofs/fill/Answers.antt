@@ -1,6 +1,0 @@
--- `fill` meets its contract.
-use Rattle.node_spans.proofs.PartNodes.{spanned}
-use Rattle.node_spans.proofs.fill.Goals as goal
-
-pub returns : goal.returns
-returns c = spanned c.sections-s.result c.sections-s.ensures.exact c.state.ensures c.state-2.ensures c.three.ensures c.operations.ensures

@@ -1,0 +1,2 @@
+-- Lists with room for so many items.
+pub mod RoomLaws

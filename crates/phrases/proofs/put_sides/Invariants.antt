@@ -1,8 +1,0 @@
-use Prim.Native.Nat.{◌-◌}
-use Rattle.phrases.proofs.put_sides.Given as goal
-
-abbrev pub invariant-loop-k : goal.invariant-loop-k
-invariant-loop-k l = Unit {0}
-
-abbrev pub decreases-loop-k : goal.decreases-loop-k
-decreases-loop-k l = l.rows - l.k

@@ -1,8 +1,0 @@
-use Prim.Native.Nat.{◌-◌}
-use Rattle.refusal_hints.proofs.amounts.elements.Given as goal
-
-abbrev pub invariant-loop-k : goal.invariant-loop-k
-invariant-loop-k l = Unit {0}
-
-abbrev pub decreases-loop-k : goal.decreases-loop-k
-decreases-loop-k l = 4096 - l.k

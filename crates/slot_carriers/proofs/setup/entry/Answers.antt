@@ -1,7 +1,0 @@
--- `setup::entry` meets its contract. Assumes nothing.
-use mathlib.Core.Path.{refl}
-use native.Mathlib.Omega.{arith}
-use Rattle.slot_carriers.proofs.setup.entry.Goals as goal
-
-pub returns : goal.returns
-returns c = (refl, omega (arith, c.type_inv.table c.args.k))

@@ -1,0 +1,18 @@
+-- `runs::step_from` meets its contract. Assumes nothing.
+use native.Mathlib.Omega.{arith}
+use Rattle.step_facts.proofs.runs.step_from.Goals as goal
+
+pub loop-i-init : goal.loop-i-init
+loop-i-init c = (c.requires.memo, omega arith)
+
+pub step_at-x-requires : goal.step_at-x-requires
+step_at-x-requires c = record { a_lt_na = (c.requires.a_lt_na.0, c.requires.a_lt_na.1, omega (arith, c.loop-i-test.true)); steps_asked = c.requires.steps_asked; memo = c.loop-i.invariant.0 }
+
+pub returns-then-is_some : goal.returns-then-is_some
+returns-then-is_some c = record { found = c.step_at-x.ensures.found; remembers = c.step_at-x.ensures.remembers }
+
+pub loop-i-preserved : goal.loop-i-preserved
+loop-i-preserved c = (c.step_at-x.ensures.remembers, omega (arith, c.loop-i-test.true))
+
+pub returns : goal.returns
+returns c = record { found = record { is = tt }; remembers = c.loop-i.invariant.0 }

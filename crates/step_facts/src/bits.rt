@@ -1,0 +1,65 @@
+// The inputs with which a side can step, as bits.
+ghost use Rattle.std.specs.Prelude.{◌≡◌, ◌<◌, length, get_or};
+ghost use Rattle.memo.specs.MemoPromises.{Memo};
+ghost use Rattle.step_searches.specs.StepPromises.{StepsAsked};
+ghost use Rattle.step_facts.specs.FactPromises.{AbleIs, states_of, BitsAre, MasksAre};
+
+use plans::PartSearch;
+use step_searches::{next_abstract_step, next_concrete_step};
+
+// Can the abstract side step from its state s with the inputs i, or the concrete side from its own?
+pub fn able(
+    s: &PartSearch<'_>,
+    abstractly: bool,
+    x: usize,
+    i: usize,
+    memo: &mut [u64; memo::NUMBERS],
+) -> bool
+    requires s_bound { (x < states_of s.now.part abstractly) × (i < s.now.part.ni) }
+    requires steps_asked { StepsAsked s.now.table.now s.now.plan.now s.now.cells.now s.now.part }
+    requires memo { Memo s.now.table.now memo.old }
+    ensures found { AbleIs s.now.table.now s.now.plan.now s.now.cells.now s.now.part abstractly x i result }
+    ensures remembers { Memo s.now.table.now memo.new }
+{
+    if abstractly {
+        return next_abstract_step(s, x, i, 0, memo).is_some();
+    }
+    next_concrete_step(s, x, i, 0, memo).is_some()
+}
+
+// The inputs with which it can, as bits; the last one's first, so that each one doubles what is there.
+pub fn bits(s: &PartSearch<'_>, abstractly: bool, x: usize, memo: &mut [u64; memo::NUMBERS]) -> u64
+    requires s_bound { x < states_of s.now.part abstractly }
+    requires steps_asked { StepsAsked s.now.table.now s.now.plan.now s.now.cells.now s.now.part }
+    requires memo { Memo s.now.table.now memo.old }
+    ensures found { BitsAre s.now.table.now s.now.plan.now s.now.cells.now s.now.part abstractly x result }
+    ensures remembers { Memo s.now.table.now memo.new }
+{
+    let mut m: u64 = 0;
+    for i in (0..s.part.ni).rev() {
+        m = 2 * m + u64::from(able(s, abstractly, x, i, memo));
+    }
+    m
+}
+
+// Those of all concrete states.
+pub fn fill_masks(s: &PartSearch<'_>, masks: &mut [u64], memo: &mut [u64; memo::NUMBERS])
+    requires masks_len { length masks.old ≡ 4096 }
+    requires steps_asked { StepsAsked s.now.table.now s.now.plan.now s.now.cells.now s.now.part }
+    requires memo { Memo s.now.table.now memo.old }
+    ensures fills { MasksAre s.now.table.now s.now.plan.now s.now.cells.now s.now.part s.now.part.nc masks.new }
+    ensures remembers { Memo s.now.table.now memo.new }
+{
+    for c in 0..s.part.nc {
+        let m = bits(s, false, c, memo);
+        masks[c] = m;
+    }
+}
+
+// Those of the concrete state c.
+pub fn mask_at(masks: &[u64], c: usize) -> u64
+    requires { c < length masks.now }
+    ensures { result ≡ get_or masks.now c 0 }
+{
+    masks[c]
+}

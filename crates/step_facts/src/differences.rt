@@ -1,0 +1,135 @@
+// States and inputs at which one side can step and the other cannot.
+ghost use Rattle.std.specs.Prelude.{◌≡◌, true, false, ◌<◌, ◌≤◌};
+ghost use Rattle.memo.specs.MemoPromises.{Memo};
+ghost use Rattle.step_searches.specs.StepPromises.{StepsAsked, First};
+ghost use Rattle.state_facts.specs.Reads.{ReadAsked};
+ghost use Rattle.step_facts.specs.FactPromises.{MasksAre, more, FirstMore, PlaceFrom, PlaceAmong, PlaceIs};
+
+use crate::PLAN;
+use crate::bits::{bits, fill_masks, mask_at};
+use plans::PartSearch;
+use search_groups::Dossier;
+use slot_carriers::CELLS;
+use step_searches::{next_abstract_state, next_related_state, prepare};
+
+// The most bindings that a state has.
+const STATES: usize = 4096;
+
+// An abstract state, a concrete one and inputs.
+#[derive(Clone, Copy)]
+pub struct Place {
+    pub a: usize,
+    pub c: usize,
+    pub i: usize,
+}
+
+// The first bit of s that is none of m.
+fn first_more(s: u64, m: u64, n: usize) -> Option<usize>
+    requires { n ≤ 64 }
+    ensures { First (more s m) 0 n result }
+{
+    (0..n).find(
+        |&i|
+            requires { i < 64 }
+        { (m >> i) % 2 < (s >> i) % 2 },
+    )
+}
+
+// The first input with which the one side can step and the other cannot; s are the bits of the abstract side.
+fn first_difference(narrowed: bool, s: u64, m: u64, n: usize) -> Option<usize>
+    requires { n ≤ 64 }
+    ensures { FirstMore narrowed s m n result }
+{
+    if narrowed {
+        return first_more(s, m, n);
+    }
+    first_more(m, s, n)
+}
+
+// The first concrete state related to the abstract state a, and the first inputs, where the sides differ so.
+fn place_from(
+    s: &PartSearch<'_>,
+    narrowed: bool,
+    a: usize,
+    masks: &[u64],
+    memo: &mut [u64; memo::NUMBERS],
+) -> Option<Place>
+    requires a_lt_na { a < s.now.part.na }
+    requires steps_asked { StepsAsked s.now.table.now s.now.plan.now s.now.cells.now s.now.part }
+    requires memo { Memo s.now.table.now memo.old }
+    requires masks_are { MasksAre s.now.table.now s.now.plan.now s.now.cells.now s.now.part s.now.part.nc masks.now }
+    ensures found { PlaceFrom s.now.table.now s.now.plan.now s.now.cells.now s.now.part narrowed a result }
+    ensures remembers { Memo s.now.table.now memo.new }
+{
+    let m = bits(s, true, a, memo);
+    let mut next = next_related_state(s, a, 0, memo);
+    while let Some(c) = next {
+        if let Some(i) = first_difference(narrowed, m, mask_at(masks, c), s.part.ni) {
+            return Some(Place { a, c, i });
+        }
+        next = next_related_state(s, a, c + 1, memo);
+    }
+    None
+}
+
+// The first abstract state, concrete state and inputs where they do.
+fn place_among(
+    s: &PartSearch<'_>,
+    narrowed: bool,
+    masks: &[u64],
+    memo: &mut [u64; memo::NUMBERS],
+) -> Option<Place>
+    requires steps_asked { StepsAsked s.now.table.now s.now.plan.now s.now.cells.now s.now.part }
+    requires memo { Memo s.now.table.now memo.old }
+    requires masks_are { MasksAre s.now.table.now s.now.plan.now s.now.cells.now s.now.part s.now.part.nc masks.now }
+    ensures found { PlaceAmong s.now.table.now s.now.plan.now s.now.cells.now s.now.part narrowed result }
+    ensures remembers { Memo s.now.table.now memo.new }
+{
+    let mut next = next_abstract_state(s, 0, memo);
+    while let Some(a) = next {
+        if let Some(x) = place_from(s, narrowed, a, masks, memo) {
+            return Some(x);
+        }
+        next = next_abstract_state(s, a + 1, memo);
+    }
+    None
+}
+
+// The same for operation j of the arrays.
+fn differing(d: &Dossier<'_>, j: usize, narrowed: bool) -> Option<Place>
+    requires { ReadAsked d.now.table.now d.now.rows.now d.now.firsts.now d.now.groups.now d.now.operations }
+    ensures { PlaceIs d.now.table.now d.now.rows.now d.now.firsts.now d.now.groups.now d.now.operations j narrowed result }
+{
+    if d.operations <= j {
+        return None;
+    }
+    let mut cells = [0u32; CELLS];
+    let mut plan = [0u16; PLAN];
+    let part = prepare(d, j, &mut cells, &mut plan);
+    let s = PartSearch {
+        table: d.table,
+        plan: &plan,
+        cells: &cells,
+        part,
+    };
+    let mut memo = [0u64; memo::NUMBERS];
+    let mut masks = [0u64; STATES];
+    fill_masks(&s, &mut masks, &mut memo);
+    place_among(&s, narrowed, &masks, &mut memo)
+}
+
+// The first abstract state, concrete state related to it, and inputs with which the abstract side of operation j can step and the concrete side cannot; none where there is none.
+pub fn narrowed(d: &Dossier<'_>, j: usize) -> Option<Place>
+    requires { ReadAsked d.now.table.now d.now.rows.now d.now.firsts.now d.now.groups.now d.now.operations }
+    ensures { PlaceIs d.now.table.now d.now.rows.now d.now.firsts.now d.now.groups.now d.now.operations j true result }
+{
+    differing(d, j, true)
+}
+
+// Those with which the concrete side can step and the abstract side cannot.
+pub fn widened(d: &Dossier<'_>, j: usize) -> Option<Place>
+    requires { ReadAsked d.now.table.now d.now.rows.now d.now.firsts.now d.now.groups.now d.now.operations }
+    ensures { PlaceIs d.now.table.now d.now.rows.now d.now.firsts.now d.now.groups.now d.now.operations j false result }
+{
+    differing(d, j, false)
+}

@@ -1,0 +1,137 @@
+// A beginning of both machines, and a step of both.
+ghost use Rattle.std.specs.Prelude.{◌<◌};
+ghost use Rattle.memo.specs.MemoPromises.{Memo};
+ghost use Rattle.step_searches.specs.StepPromises.{StepsAsked};
+ghost use Rattle.state_facts.specs.Reads.{ReadAsked};
+ghost use Rattle.step_facts.specs.FactPromises.{BeginIs, StepFound, StepIs};
+
+use crate::PLAN;
+use crate::bits::able;
+use plans::PartSearch;
+use search_groups::Dossier;
+use slot_carriers::CELLS;
+use step_searches::{
+    Stepped, next_concrete_step, next_initial_match, next_initial_state, next_matching_state,
+    prepare, prepare_opening,
+};
+
+// An abstract state and a concrete one.
+#[derive(Clone, Copy)]
+pub struct Pair {
+    pub a: usize,
+    pub c: usize,
+}
+
+// Where a run begins: in a concrete initial state and an abstract one that is related to it; in a concrete initial state that no abstract one is related to; nowhere.
+#[derive(Clone, Copy)]
+pub enum Beginning {
+    Both(Pair),
+    Concrete(usize),
+    Nowhere,
+}
+
+// A step of both sides: inputs, outputs, the concrete state after it, the abstract state after it.
+#[derive(Clone, Copy)]
+pub struct BothStep {
+    pub i: usize,
+    pub o: usize,
+    pub k: usize,
+    pub b: usize,
+}
+
+// The first concrete initial state, and the first abstract initial state that is related to it.
+pub fn begin(d: &Dossier<'_>) -> Beginning
+    requires { ReadAsked d.now.table.now d.now.rows.now d.now.firsts.now d.now.groups.now d.now.operations }
+    ensures { BeginIs d.now.table.now d.now.rows.now d.now.firsts.now d.now.groups.now d.now.operations result }
+{
+    let mut cells = [0u32; CELLS];
+    let mut plan = [0u16; PLAN];
+    let part = prepare_opening(d, &mut cells, &mut plan);
+    let s = PartSearch {
+        table: d.table,
+        plan: &plan,
+        cells: &cells,
+        part,
+    };
+    let mut memo = [0u64; memo::NUMBERS];
+    let Some(c) = next_initial_state(&s, 0, &mut memo) else {
+        return Beginning::Nowhere;
+    };
+    match next_initial_match(&s, c, 0, &mut memo) {
+        Some(a) => Beginning::Both(Pair { a, c }),
+        None => Beginning::Concrete(c),
+    }
+}
+
+// A step of both sides from the states a and c with the inputs i: the first concrete one, and an abstract state after it that matches.
+fn step_at(
+    s: &PartSearch<'_>,
+    a: usize,
+    c: usize,
+    i: usize,
+    memo: &mut [u64; memo::NUMBERS],
+) -> Option<BothStep>
+    requires a_lt_na { (a < s.now.part.na) × (c < s.now.part.nc) × (i < s.now.part.ni) }
+    requires steps_asked { StepsAsked s.now.table.now s.now.plan.now s.now.cells.now s.now.part }
+    requires memo { Memo s.now.table.now memo.old }
+    ensures found { StepFound s.now.table.now s.now.plan.now s.now.cells.now s.now.part a c result }
+    ensures remembers { Memo s.now.table.now memo.new }
+{
+    if !able(s, true, a, i, memo) {
+        return None;
+    }
+    let x = next_concrete_step(s, c, i, 0, memo)?;
+    let o = x / s.part.nc;
+    let k = x % s.part.nc;
+    let b = next_matching_state(s, Stepped { a, i, o, k }, 0, memo)?;
+    Some(BothStep { i, o, k, b })
+}
+
+// One with any inputs.
+fn step_from(
+    s: &PartSearch<'_>,
+    a: usize,
+    c: usize,
+    memo: &mut [u64; memo::NUMBERS],
+) -> Option<BothStep>
+    requires a_lt_na { (a < s.now.part.na) × (c < s.now.part.nc) }
+    requires steps_asked { StepsAsked s.now.table.now s.now.plan.now s.now.cells.now s.now.part }
+    requires memo { Memo s.now.table.now memo.old }
+    ensures found { StepFound s.now.table.now s.now.plan.now s.now.cells.now s.now.part a c result }
+    ensures remembers { Memo s.now.table.now memo.new }
+{
+    for i in 0..s.part.ni {
+        let x = step_at(s, a, c, i, memo);
+        if x.is_some() {
+            return x;
+        }
+    }
+    None
+}
+
+// A step of both sides of operation j from the states a and c.
+pub fn step(d: &Dossier<'_>, j: usize, a: usize, c: usize) -> Option<BothStep>
+    requires { ReadAsked d.now.table.now d.now.rows.now d.now.firsts.now d.now.groups.now d.now.operations }
+    ensures { StepIs d.now.table.now d.now.rows.now d.now.firsts.now d.now.groups.now d.now.operations j a c result }
+{
+    if d.operations <= j {
+        return None;
+    }
+    let mut cells = [0u32; CELLS];
+    let mut plan = [0u16; PLAN];
+    let part = prepare(d, j, &mut cells, &mut plan);
+    if part.na <= a {
+        return None;
+    }
+    if part.nc <= c {
+        return None;
+    }
+    let s = PartSearch {
+        table: d.table,
+        plan: &plan,
+        cells: &cells,
+        part,
+    };
+    let mut memo = [0u64; memo::NUMBERS];
+    step_from(&s, a, c, &mut memo)
+}

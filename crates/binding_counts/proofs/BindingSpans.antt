@@ -1,6 +1,6 @@
 -- States and operations by where they stand among the nodes: their faults by the counts of their groups, and a walk over the operations.
 use mathlib.Core.Path.{◌≡◌, refl, ap, ap₂, sym, ◌∙◌, subst}
-use mathlib.Core.Bool.{Bool, true, false, ◌&&◌}
+use mathlib.Core.Bool.{Bool, ◌&&◌}
 use mathlib.Core.List.{List, [], ◌∷◌}
 use Prim.Native.Nat.{ℕ, suc, ◌+◌, ◌-◌, ◌*◌, ◌≤◌, ◌<◌}
 use native.Mathlib.Omega.{arith}
@@ -10,7 +10,7 @@ use Rattle.lexical.specs.Symbols.{no_ending}
 use Rattle.form.specs.Tree.{declarations, Operation}
 use Rattle.form.specs.Headings.{operation_length}
 use Rattle.form.specs.Codes.{Numbering}
-use Rattle.type_rules.specs.TypesByNumber.{Names, Sizes, key_room, key, unless_key, lesser}
+use Rattle.type_rules.specs.TypesByNumber.{Names, Sizes, key, unless_key, lesser}
 use Rattle.names.specs.DeclaredNamesNamesByNumber.{Typed, variables_of, parameters_of, typed_codes}
 use Rattle.names.specs.DeclaredNamesPassPromises.{PartOf}
 use Rattle.names.proofs.TypesAgreeLeast.{lesser-zero, lesser-assoc}

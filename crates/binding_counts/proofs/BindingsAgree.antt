@@ -12,7 +12,7 @@ use lib.Signed.{le_z, lt_z}
 use borrow.Author.Tests.{leb-true, le-ltb}
 use Rattle.lexical.specs.Lists.{filter}
 use Rattle.lexical.specs.Symbols.{Name, Ending, no_ending, prime, query, shriek}
-use Rattle.lexical.specs.Refusals.{fault, number_of, unless, many_bindings, name_unknown, wide_type}
+use Rattle.refusals.specs.Refusals.{fault, number_of, unless, many_bindings, name_unknown, wide_type}
 use Rattle.form.specs.Tree.{Letters, Range, Arrow, relation, partial, total, TypeForm, given_type, power_type, range_type, arrow_type, Given, Declaration, Direction, inward, outward, Parameter, Operation, Dossier}
 use Rattle.form.specs.Written.{ending_of}
 use Rattle.form.specs.Headings.{abstract_at, concrete_at, operations_at, operation_length}

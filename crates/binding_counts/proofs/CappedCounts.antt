@@ -1,5 +1,5 @@
 -- Products of counts that stop at a limit, and a walk over declarations that multiplies their counts.
-use mathlib.Core.Path.{◌≡◌, refl, ap, ap₂, sym, ◌∙◌}
+use mathlib.Core.Path.{◌≡◌, refl, ap, ap₂, sym, subst, ◌∙◌}
 use mathlib.Core.Bool.{Bool, true, false, cond}
 use mathlib.Core.List.{List, [], ◌∷◌, ◌++◌}
 use Prim.Native.Nat.{ℕ, zero, suc, ◌+◌, ◌-◌, ◌*◌, ◌^◌, ◌%◌, ◌≤◌, ◌<◌}
@@ -9,10 +9,11 @@ use lib.Dec.{eqb, leb}
 use lib.ListN.{length, drop, get_or}
 use borrow.Author.Tests.{leb-true, leb-false, lt-leb, eq-eqb, ne_eqb}
 use Rattle.form.specs.Tree.{TypeForm, given_type, power_type, range_type, arrow_type, relation, partial, total}
-use Rattle.form.specs.Codes.{Numbering, node, name_number, end_number, end_width, arrow_number, type_codes}
+use Rattle.form.specs.Codes.{Numbering, node, name_number, type_codes}
 use Rattle.type_rules.specs.TypesByNumber.{Names, Sizes}
 use Rattle.names.specs.DeclaredNamesNamesByNumber.{Typed}
-use Rattle.names.proofs.DeclaredNamesDeclarationNodes.{node-a, node-b, node-shape, typed-type, Walked, start, on, finished}
+use Rattle.names.proofs.DeclaredNamesNodePieces.{Ends, place, whole}
+use Rattle.names.proofs.DeclaredNamesDeclarationNodes.{node-a, node-b, node-shape, shape_of, place_of, left_of, right_of, as-node, typed-type, of-piece, walked-on, Walked, start, finished}
 use Rattle.binding_counts.specs.BindingsByNumber.{cap, size_at, counted_by, type_count, typed_factor, typed_count, TypeCounted, FactorCounted, GroupCounted}
 
 -- ---- the limit ----
@@ -86,36 +87,6 @@ power-none c b = omega (arith, pow-zero b)
 
 -- ---- a type's node ----
 
-abbrev shape_of : TypeForm → ℕ
-shape_of (given_type g) = 1
-shape_of (range_type r) = 2
-shape_of (power_type g) = 3
-shape_of (arrow_type a g h) = arrow_number a
-
-abbrev place_of : TypeForm → ℕ → ℕ
-place_of (given_type g) i = i
-place_of (range_type r) i = i + end_width r.lower
-place_of (power_type g) i = i
-place_of (arrow_type a g h) i = i
-
-abbrev left_of : TypeForm → Numbering → ℕ
-left_of (given_type g) ρ = name_number ρ g
-left_of (range_type r) ρ = end_number r.lower
-left_of (power_type g) ρ = name_number ρ g
-left_of (arrow_type a g h) ρ = name_number ρ g
-
-abbrev right_of : TypeForm → Numbering → ℕ
-right_of (given_type g) ρ = 0
-right_of (range_type r) ρ = end_number r.upper
-right_of (power_type g) ρ = 0
-right_of (arrow_type a g h) ρ = name_number ρ h
-
-as-node : (t : TypeForm) (i : ℕ) (ρ : Numbering) → type_codes t i ρ ≡ node (shape_of t) (place_of t i) (left_of t ρ) (right_of t ρ)
-as-node (given_type g) i ρ = refl
-as-node (range_type r) i ρ = refl
-as-node (power_type g) i ρ = refl
-as-node (arrow_type a g h) i ρ = refl
-
 count_by : (t : TypeForm) (T : Names) (ρ : Numbering) (z : Sizes) → counted_by (shape_of t) (left_of t ρ) (right_of t ρ) T z ≡ type_count t T ρ z
 unfolding counted_by type_count
 count_by (given_type g) T ρ z = refl
@@ -186,14 +157,18 @@ abbrev pub Counting : (e c : ℕ) (T : Names) (z : Sizes) (code : List ℕ) (at 
 Counting e c T z code at n = Walked (multiplied e c T z) code at (1 ∷ []) (n ∷ [])
 
 module _ (e c : ℕ) (T : Names) (z : Sizes) (code : List ℕ) where
-  pub counting-start : Counting e c T z code 0 1
-  counting-start = start (multiplied e c T z) code (1 ∷ [])
+  pub counting-start : (rest : List ℕ) → rest ≡ code → Ends code rest × Counting e c T z code (place code rest) 1
+  counting-start rest q =
+      let none : length code - length code ≡ 0 = omega arith in
+      subst (λ (l : List ℕ). Ends code l × Counting e c T z code (place code l) 1) (sym q)
+      (whole code, subst (λ (k : ℕ). Counting e c T z code k 1) (sym none) (start (multiplied e c T z) code (1 ∷ [])))
 
-  pub counting-on : (at n f r : ℕ) → at + 8 ≤ length code → FactorCounted code at e c T z f → r ≡ cap c (n * f) → Counting e c T z code at n → Counting e c T z code (at + 8) r
+  pub counting-on : (d rest behind : List ℕ) (n f r : ℕ) → rest ≡ d ++ behind → length d ≡ 8 → Ends code rest → FactorCounted d 0 e c T z f → r ≡ cap c (n * f)
+      → Counting e c T z code (place code rest) n → Counting e c T z code (place code behind) r
   unfolding typed_count
-  counting-on at n f r room h q w =
-      on (multiplied e c T z) code at (1 ∷ []) (n ∷ []) (r ∷ []) w room
-      (λ ρ x xs j rest d. cap-factor c n f (typed_factor e x T ρ z) (typed_count e xs T ρ z) r (h x j ρ rest d) q)
+  counting-on d rest behind n f r cut long at h q w =
+      walked-on code d rest behind cut long at (multiplied e c T z) (1 ∷ []) (n ∷ []) (r ∷ []) w
+      (λ ρ x xs j rest' p. cap-factor c n f (typed_factor e x T ρ z) (typed_count e xs T ρ z) r (of-piece code d rest behind cut long at {P = λ y k σ. cap c f ≡ cap c (typed_factor e y T σ z)} h x j ρ rest' p) q)
 
   pub counting-end : (at n : ℕ) → n ≤ c + 1 → length code < at + 8 → Counting e c T z code at n → GroupCounted code e c T z n
   unfolding typed_count

@@ -7,23 +7,27 @@ use form::name_endings::{INPUT, OUTPUT, PLAIN};
 use form::{node, shapes};
 use lexical::bounds::{PARAMETER_BINDINGS, STATE_BINDINGS};
 use lexical::endings;
-use lexical::refusals::{Fault, Refusal};
 use names::SIZES;
 use names::passes::part;
-use node_spans::span;
+use node_spans::{Parts, span};
+use refusals::{Fault, Refusal};
 use type_rules::entries::FIRST_GIVEN;
 use type_rules::kinds::{lesser_of, look, size_in, unless};
 
+// What each name is, by its number, and how many elements each given set has.
+#[derive(Clone, Copy)]
+struct Sets<'a> {
+    names: &'a [u16],
+    sizes: &'a [u16],
+}
+
 // A product of counts; the limit and one for all above it.
+// Form 5: the limit is one of two numbers of document 01, that of states or that of inputs and outputs.
 fn product(limit: u32, n: u32, m: u32) -> u32
     requires { (limit ≤ 4096) × (n ≤ limit + 1) × (m ≤ 65536) }
     ensures { (result ≡ cap limit (n * m)) × (result ≤ limit + 1) }
 {
-    let p = n * m;
-    if limit < p {
-        return limit + 1;
-    }
-    p
+    (n * m).min(limit + 1)
 }
 
 // A power, likewise.
@@ -39,38 +43,33 @@ fn power(limit: u32, b: u32, k: u32) -> u32
 }
 
 // How many elements the given set has whose name has the number x.
-fn size_of(names: &[u16], sizes: &[u16], x: u16) -> u32
-    ensures { (result ≡ size_at names.now sizes.now x) × (result < 65536) }
+fn size_of(g: &Sets<'_>, x: u16) -> u32
+    ensures { (result ≡ size_at g.now.names.now g.now.sizes.now x) × (result < 65536) }
 {
-    let k = usize::from(look(names, usize::from(x)));
-    if k < FIRST_GIVEN {
-        return size_in(sizes, 0);
-    }
-    size_in(sizes, k - FIRST_GIVEN)
+    let k = usize::from(look(g.names, usize::from(x)));
+    size_in(g.sizes, k.saturating_sub(FIRST_GIVEN))
 }
 
 // How many numbers a range has.
 fn width(a: u16, b: u16) -> u32
     ensures { (result ≡ b - a + 1) × (result ≤ 65536) }
 {
-    if a <= b {
-        return u32::from(b) - u32::from(a) + 1;
-    }
-    1
+    u32::from(b.saturating_sub(a)) + 1
 }
 
 // An element is in a set or not, and a pair likewise.
 const IN_OR_OUT: u32 = 2;
 
 // How many values a declared type has, whose node begins at `at`.
-fn type_count(code: &[u16], at: usize, limit: u32, names: &[u16], sizes: &[u16]) -> u32
+// Form 5: here and in the crates below a node is read in the midst of others, at a place and not as a slice of its own.
+fn type_count(code: &[u16], at: usize, limit: u32, g: &Sets<'_>) -> u32
     requires { (at + 4 ≤ length code.now) × (limit ≤ 4096) }
-    ensures { TypeCounted code.now at limit names.now sizes.now result × (result ≤ 65536) }
+    ensures { TypeCounted code.now at limit g.now.names.now g.now.sizes.now result × (result ≤ 65536) }
 {
     let a = code[at + node::A];
     let b = code[at];
-    let n = size_of(names, sizes, a);
-    let m = size_of(names, sizes, b);
+    let n = size_of(g, a);
+    let m = size_of(g, b);
     match code[at + node::SHAPE] {
         shapes::SET => n,
         shapes::RANGE => width(a, b),
@@ -82,32 +81,31 @@ fn type_count(code: &[u16], at: usize, limit: u32, names: &[u16], sizes: &[u16])
 }
 
 // What a declared name adds to the product: nothing, where it has another ending.
-fn factor(code: &[u16], at: usize, ending: u16, limit: u32, names: &[u16], sizes: &[u16]) -> u32
-    requires { (at + 8 ≤ length code.now) × (limit ≤ 4096) }
-    ensures { FactorCounted code.now at ending limit names.now sizes.now result × (result ≤ 65536) }
+// Form 5: `chunks_exact` lends slices, of whose length only the cut speaks.
+fn factor(d: &[u16], ending: u16, limit: u32, g: &Sets<'_>) -> u32
+    requires { (length d.now ≡ 8) × (limit ≤ 4096) }
+    ensures { FactorCounted d.now 0 ending limit g.now.names.now g.now.sizes.now result × (result ≤ 65536) }
 {
-    if code[at + node::A] % endings::COUNT == ending {
-        return type_count(code, at + node::SIZE, limit, names, sizes);
+    if d[node::A] % endings::COUNT == ending {
+        return type_count(d, node::SIZE, limit, g);
     }
     1
 }
 
 // How many bindings the declared names with an ending have.
-fn group(code: &[u16], ending: u16, limit: u32, names: &[u16], sizes: &[u16]) -> u32
+fn group(code: &[u16], ending: u16, limit: u32, g: &Sets<'_>) -> u32
     requires { limit ≤ 4096 }
-    ensures { GroupCounted code.now ending limit names.now sizes.now result }
+    ensures { GroupCounted code.now ending limit g.now.names.now g.now.sizes.now result }
 {
     let mut n: u32 = 1;
-    let mut at: usize = 0;
-    while node::DECLARATION <= code.len() - at {
-        let f = factor(code, at, ending, limit, names, sizes);
-        n = product(limit, n, f);
-        at += node::DECLARATION;
+    for d in code.chunks_exact(node::DECLARATION) {
+        n = product(limit, n, factor(d, ending, limit, g));
     }
     n
 }
 
 // The fault at the heading in front of `from`, unless all is well.
+// Form 7: `ok` is what the counts say, a truth value that comes with no step of its own.
 fn heading_fault(nodes: &[u16], from: usize, ok: bool) -> Option<Fault>
     ensures { HeadingFaulted nodes.now from ok (fault_key result) }
 {
@@ -119,14 +117,14 @@ fn heading_fault(nodes: &[u16], from: usize, ok: bool) -> Option<Fault>
 }
 
 // The state whose variables stand from the span k on.
-fn state(nodes: &[u16], spans: &[u16], k: usize, names: &[u16], sizes: &[u16]) -> Option<Fault>
+fn state(p: &Parts<'_>, k: usize, g: &Sets<'_>) -> Option<Fault>
     requires { k < 65536 }
-    ensures { StateBound nodes.now spans.now k names.now sizes.now (fault_key result) }
+    ensures { StateBound p.now.nodes.now p.now.spans.now k g.now.names.now g.now.sizes.now (fault_key result) }
 {
-    let from = usize::from(look(spans, k));
-    let to = usize::from(look(spans, k + span::LAST));
-    let n = group(part(nodes, from, to), PLAIN, STATE_BINDINGS, names, sizes);
-    heading_fault(nodes, from, n <= STATE_BINDINGS)
+    let from = usize::from(look(p.spans, k));
+    let to = usize::from(look(p.spans, k + span::LAST));
+    let n = group(part(p.nodes, from, to), PLAIN, STATE_BINDINGS, g);
+    heading_fault(p.nodes, from, n <= STATE_BINDINGS)
 }
 
 fn both_few(n: u32, m: u32) -> bool
@@ -136,42 +134,37 @@ fn both_few(n: u32, m: u32) -> bool
 }
 
 // The operation k.
-fn operation(nodes: &[u16], spans: &[u16], k: usize, names: &[u16], sizes: &[u16]) -> Option<Fault>
+fn operation(p: &Parts<'_>, k: usize, g: &Sets<'_>) -> Option<Fault>
     requires { k < 65536 }
-    ensures { OperationBound nodes.now spans.now k names.now sizes.now (fault_key result) }
+    ensures { OperationBound p.now.nodes.now p.now.spans.now k g.now.names.now g.now.sizes.now (fault_key result) }
 {
-    let from = usize::from(look(spans, span::OPERATIONS + span::OPERATION * k));
-    let to = usize::from(look(spans, span::OPERATIONS + span::OPERATION * k + span::LAST));
-    let code = part(nodes, from, to);
-    let inputs = group(code, INPUT, PARAMETER_BINDINGS, names, sizes);
-    let outputs = group(code, OUTPUT, PARAMETER_BINDINGS, names, sizes);
-    heading_fault(nodes, from, both_few(inputs, outputs))
+    let from = usize::from(look(p.spans, span::OPERATIONS + span::OPERATION * k));
+    let to = usize::from(look(p.spans, span::OPERATIONS + span::OPERATION * k + span::LAST));
+    let code = part(p.nodes, from, to);
+    let inputs = group(code, INPUT, PARAMETER_BINDINGS, g);
+    let outputs = group(code, OUTPUT, PARAMETER_BINDINGS, g);
+    heading_fault(p.nodes, from, both_few(inputs, outputs))
 }
 
 // The first n operations, as many as the spans have room for.
-fn all_operations(
-    nodes: &[u16],
-    spans: &[u16],
-    n: usize,
-    names: &[u16],
-    sizes: &[u16],
-) -> Option<Fault>
-    requires { length spans.now ≡ 80 }
-    ensures { OperationsBound nodes.now spans.now n names.now sizes.now (fault_key result) }
+// Form 5: the spans come as an array of that length, and as a slice in `Parts` they no longer say it.
+fn all_operations(p: &Parts<'_>, n: usize, g: &Sets<'_>) -> Option<Fault>
+    requires { length p.now.spans.now ≡ 80 }
+    ensures { OperationsBound p.now.nodes.now p.now.spans.now n g.now.names.now g.now.sizes.now (fault_key result) }
 {
     let mut f = None;
     for k in 0..n {
         if span::ROOM <= k {
             return f;
         }
-        let g = operation(nodes, spans, k, names, sizes);
-        f = lesser_of(f, g);
+        f = lesser_of(f, operation(p, k, g));
     }
     f
 }
 
 // The least fault, with its place by symbols. The spans say where the parts of a dossier stand among its nodes,
 // the names what each name is, by its number, the sizes how many elements each given set has.
+// Form 5: `reader` has the five from passes of its own, each where it is made.
 pub fn bindings(
     nodes: &[u16],
     spans: &[u16; span::COUNT],
@@ -181,8 +174,10 @@ pub fn bindings(
 ) -> Option<Fault>
     ensures { BindingsSeen nodes.now spans.now operations names.now sizes.now (fault_key result) }
 {
-    let a = state(nodes, spans, span::ABSTRACT_FIRST, names, sizes);
-    let c = state(nodes, spans, span::CONCRETE_FIRST, names, sizes);
-    let o = all_operations(nodes, spans, operations, names, sizes);
+    let p = Parts { nodes, spans };
+    let g = Sets { names, sizes };
+    let a = state(&p, span::ABSTRACT_FIRST, &g);
+    let c = state(&p, span::CONCRETE_FIRST, &g);
+    let o = all_operations(&p, operations, &g);
     lesser_of(a, lesser_of(c, o))
 }

@@ -1,26 +1,24 @@
 // Runs a script of calls on one held check, for tests: each line of standard input is a call, each answer goes to standard output. `l LEN` and the text load it, `a N` advances, `v` asks for
 // the verdict, `w LENT` for the witness in LENT lent bytes, `d` drops. Of a script the first 65,536 bytes are read. A read or a write that fails ends the program with its error.
+// Form 1: the constants are lengths and a base, no kinds.
 #![tactic(auto)]
 
-ghost use Rattle.std.specs.Prelude.{◌≤◌, length, min, IfOk};
+ghost use Rattle.std.specs.Prelude.{◌≤◌, min};
 
 use checker::{advance, drop, load, verdict, witness};
 use held_checks::{HELD, LoadRefusal, Obligation, TEXT, Verdict, length_in};
+use input_texts::read_front;
 use lexical::classes::byte_at;
-use lexical::refusals::Refusal;
+use refusals::Refusal;
 use reports::{FIRST_LINE, refuted_line};
 use std::io;
-use std::io::{Read, Write};
+use std::io::Write;
 
 // The most bytes of a script.
 const SCRIPT: usize = 65536;
 
 // The most bytes that a witness is lent here.
 const LENT: usize = 65536;
-
-const ZERO: u8 = b'0';
-
-const NINE: u8 = b'9';
 
 const TEN: usize = 10;
 
@@ -31,51 +29,34 @@ struct Digits {
     next: usize,
 }
 
-// A digit behind a number; the largest number where there is no room.
-fn shifted(n: usize, digit: usize) -> usize {
-    if n > (usize::MAX - digit) / TEN {
-        return usize::MAX;
+// The value of a digit.
+fn digit_of(b: u8) -> Option<usize> {
+    match b {
+        b'0'..=b'9' => Some(usize::from(b - b'0')),
+        _ => None,
     }
-    n * TEN + digit
 }
 
-// The value of a digit, and ten of any other byte.
-fn digit_of(b: u8) -> usize {
-    if b < ZERO {
-        return TEN;
-    }
-    if b > NINE {
-        return TEN;
-    }
-    (b - ZERO) as usize
-}
-
-// The number whose digits begin at a place.
+// The number whose digits begin at a place; the largest number where there is no room for it.
 fn number(script: &[u8], at: usize) -> Digits {
     let mut value: usize = 0;
-    let mut next = at;
-    while next < script.len() {
-        let digit = digit_of(script[next]);
-        if digit == TEN {
+    for next in at..script.len() {
+        let Some(digit) = digit_of(script[next]) else {
             return Digits { value, next };
-        }
-        value = shifted(value, digit);
-        next += 1;
+        };
+        value = value.saturating_mul(TEN).saturating_add(digit);
     }
-    Digits { value, next }
+    Digits {
+        value,
+        next: at.max(script.len()),
+    }
 }
 
 // The place n behind another one, within the script.
 fn onward(at: usize, n: usize, length: usize) -> usize
     ensures { (result ≤ length) × (min at length ≤ result) }
 {
-    if at >= length {
-        return length;
-    }
-    if n > length - at {
-        return length;
-    }
-    at + n
+    at.saturating_add(n).min(length)
 }
 
 fn print<W: Write>(output: &mut W, text: &[u8]) -> io::Result<()> {
@@ -121,7 +102,7 @@ fn run_advance<W: Write>(output: &mut W, n: usize, held: &mut [u8; HELD]) -> io:
     }
 }
 
-// The first line of the report of the held text, in lent bytes.
+// The first line of the report of the held text, of length n, in lent bytes. Form 6: the length stands among the held bytes, which the checker alone slices.
 fn put_line(held: &[u8], n: usize, o: Obligation, line: &mut [u8; FIRST_LINE]) -> usize {
     if held.len() < TEXT {
         return 0;
@@ -137,14 +118,10 @@ fn print_front<W: Write>(output: &mut W, text: &[u8], n: usize) -> io::Result<()
     print(output, &text[start..end])
 }
 
-fn print_line<W: Write>(output: &mut W, line: &[u8; FIRST_LINE], n: usize) -> io::Result<()> {
-    print_front(output, line, n)
-}
-
 fn print_refuted<W: Write>(output: &mut W, held: &[u8; HELD], o: Obligation) -> io::Result<()> {
     let mut line = [0u8; FIRST_LINE];
     let n = put_line(held, length_in(held), o, &mut line);
-    print_line(output, &line, n)
+    print_front(output, &line, n)
 }
 
 fn print_verdict<W: Write>(output: &mut W, held: &[u8; HELD], v: Verdict) -> io::Result<()> {
@@ -212,6 +189,7 @@ fn run_call<W: Write>(
     Ok(onward(n.next, 1, script.len()))
 }
 
+// The calls of a script, one behind the other. Form 3: where the next call begins the last one answers.
 fn run<W: Write>(output: &mut W, script: &[u8], held: &mut [u8; HELD]) -> io::Result<()> {
     let mut at: usize = 0;
     while at < script.len() {
@@ -222,21 +200,6 @@ fn run<W: Write>(output: &mut W, script: &[u8], held: &mut [u8; HELD]) -> io::Re
         at = next;
     }
     Ok(())
-}
-
-// Reads until the text is full or the input ends; how many bytes of it there are. The same as of `dossier`: the libraries read no input.
-fn read_front<R: Read>(input: &mut R, text: &mut [u8]) -> io::Result<usize>
-    ensures { IfOk result (λ n. n ≤ length text.new) }
-{
-    let mut done: usize = 0;
-    while done < text.len() {
-        let n = input.read(&mut text[done..])?;
-        if n == 0 {
-            return Ok(done);
-        }
-        done += n;
-    }
-    Ok(done)
 }
 
 fn main(rt: HostRuntime) -> io::Result<()> {

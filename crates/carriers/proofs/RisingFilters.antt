@@ -6,7 +6,7 @@ use Prim.Native.Nat.{ℕ, zero, suc, ◌+◌, ◌<◌, ◌≤◌}
 use native.Mathlib.Decide.{dec_lt}
 use native.Mathlib.Omega.{arith}
 use Rattle.lexical.specs.Lists.{filter, upward}
-use Rattle.meaning.proofs.SymbolsBooleanTests.{clash}
+use Rattle.meaning.proofs.LexicalBooleanTests.{clash}
 
 -- the n values of f from k on: rising, all of them among those of the `len` numbers from `lo` on that pass, and each of those among them
 pub record Lists (p : ℕ → Bool) (lo len : ℕ) (f : ℕ → ℕ) (k n : ℕ) : Type 0 where

@@ -6,7 +6,7 @@ use native.Mathlib.Nat.{mod-lt, div-add-mod', div-lt_iff_lt-mul, div-mul-le_self
 use native.Mathlib.Decide.{dec_lt}
 use native.Mathlib.Omega.{arith}
 use lib.Arith.{digits_div, digits_mod, digits_lt}
-use Rattle.meaning.proofs.SymbolsBooleanTests.{and_left, and_right}
+use Rattle.meaning.proofs.LexicalBooleanTests.{and_left, and_right}
 use Rattle.carriers.specs.ValuesByNumber.{word}
 use Rattle.carriers.proofs.RisingFilters.{Lists}
 

@@ -99,7 +99,7 @@ pub fn total_count(n: u32, m: u32) -> u32
 }
 
 // The digit of a variable with `count` values in the number k of a binding, where those after it have `stride` bindings.
-// No variable has 0 of either; there the numbers of the definitions give 0 for a quotient by 0, and leave all for a remainder.
+// Form 1: no variable has 0 of either; the definitions' numbers are total, and by 0 a quotient is 0 and all is left as the remainder.
 pub fn digit(stride: u32, count: u32, k: u32) -> u32
     ensures { result ≡ digit stride count k }
 {

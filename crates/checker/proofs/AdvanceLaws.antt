@@ -8,7 +8,7 @@ use native.Mathlib.Omega.{arith}
 use lib.Dec.{eqb, ltb}
 use lib.ListN.{length, take, drop}
 use borrow.Author.Tests.{ne_eqb, lt-ltb, le-ltb}
-use Rattle.lexical.specs.Refusals.{number_of, advance_range}
+use Rattle.refusals.specs.Refusals.{number_of, advance_range}
 use Rattle.obligations.specs.Subjects.{Subject, subject_of}
 use Rattle.obligations.specs.Order.{Check, initialises, checks, total, Look, look}
 use Rattle.obligations.specs.Calls as calls

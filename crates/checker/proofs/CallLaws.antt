@@ -5,7 +5,7 @@ use mathlib.Core.List.{List, []}
 use Prim.Native.Nat.{ℕ, pred}
 use lib.Dec.{eqb}
 use borrow.Author.Tests.{eqb-true, eqb-false}
-use Rattle.lexical.specs.Refusals.{Refusal, number_of, nothing_held, something_held, check_finished, no_counterexample}
+use Rattle.refusals.specs.Refusals.{Refusal, number_of, nothing_held, something_held, check_finished, no_counterexample}
 use Rattle.obligations.specs.Subjects.{Subject, subject_of}
 use Rattle.obligations.specs.Order.{obligation_of}
 use Rattle.obligations.specs.Report.{check_at}
@@ -15,8 +15,8 @@ use Rattle.obligations.proofs.PlainCalls.{drops}
 use Rattle.std.specs.Prelude.{Result, Ok, Err, IsErrAnd}
 use Rattle.held_checks.specs.declared.LoadRefusal.{LoadRefusal}
 use Rattle.held_checks.specs.declared.LoadRefusal.TheVariants.{Faulty}
-use Rattle.lexical.specs.RefusalNames.{fault_is}
-use Rattle.lexical.specs.declared.refusals.Fault.{Fault}
+use Rattle.refusals.specs.RefusalNames.{fault_is}
+use Rattle.refusals.specs.declared.Fault.{Fault}
 use Rattle.static_rules.specs.Read.{refusal, read}
 use Rattle.held_checks.specs.declared.Verdict as code
 use Rattle.held_checks.specs.HeldBytes.{bytes_of, none_held, verdict_marked, held_by}

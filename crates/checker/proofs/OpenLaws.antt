@@ -8,23 +8,25 @@ use lib.Dec.{ltb}
 use lib.ListN.{length, take, drop}
 use borrow.Author.Tests.{ltb-false}
 use Rattle.lexical.specs.Symbols.{length_faults}
-use Rattle.lexical.specs.Refusals as refusals
-use Rattle.lexical.specs.Refusals.{fault, long_text, least}
+use Rattle.refusals.specs.Refusals as refusals
+use Rattle.refusals.specs.Refusals.{fault, long_text, least}
 use Rattle.form.specs.Tree.{Dossier}
 use Rattle.static_rules.specs.Read as definition
 use Rattle.static_rules.specs.Read.{refusal, reading, pass, read_symbols, read}
 use Rattle.obligations.specs.Subjects.{subject_of}
 use Rattle.obligations.specs.Order.{total}
-use Rattle.obligations.specs.Calls.{Held, nothing, holding}
+use Rattle.obligations.specs.Calls.{nothing, holding}
 use Rattle.part_places.specs.Places.{AllAsked, TotalIs}
 use Rattle.part_places.proofs.ReadingGroups.{reading-groups}
 use Rattle.std.specs.Prelude.{Result, Ok, Err, Option, Some, None}
 use Rattle.std.specs.Result.{result_ok}
 use Rattle.std.specs.Option.{is_some}
-use Rattle.lexical.specs.RefusalNames.{fault_is}
-use Rattle.lexical.specs.declared.refusals.Fault.{Fault}
+use Rattle.refusals.specs.RefusalNames.{fault_is}
+use Rattle.refusals.specs.declared.Fault.{Fault}
 use Rattle.text_readings.specs.TextPromises as texts
-use Rattle.text_readings.specs.TextPromises.{Faults, ReadAs, ReadsText}
+use Rattle.text_readings.specs.TextPromises.{Faults, ReadAs, ReadsText, Lent}
+use Rattle.text_readings.proofs.LentArrays.{lent}
+use Rattle.search_groups.specs.declared.Dossier as tables
 use Rattle.held_checks.specs.HeldBytes.{from_bytes, held_mark, held_text, held_place, is_laid, verdict_marked, fitting, held_in, held_by}
 use Rattle.held_checks.proofs.HeldBytesLaws.{laid-is}
 use Rattle.held_checks.specs.declared.Mark.{Mark}
@@ -223,3 +225,8 @@ module _ (b : List ℕ) {table rows firsts groups labels : List ℕ} {m all : �
           opened : Option code.Opened → code.Opened
           opened (Some x) = x
           opened None = o
+
+-- what is open, of the dossier that lends the arrays
+pub opened_lent : {b table rows firsts groups labels : List ℕ} {mark place n all : ℕ} {d : tables.Dossier} → Opened b table rows firsts groups labels mark place n all → Lent table rows firsts groups n d
+    → Opened b d.table.now d.rows.now d.firsts.now d.groups.now labels mark place d.operations all
+opened_lent {b} {labels = labels} {mark} {place} {all = all} o l = lent l (λ t r f g k. Opened b t r f g labels mark place k all) o

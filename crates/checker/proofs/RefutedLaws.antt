@@ -9,7 +9,7 @@ use native.Mathlib.Decide.{dec_lt}
 use lib.ListN.{length, take, drop}
 use lib.Seq.{take-append_seam}
 use borrow.Author.Tests.{lt-ltb, le-ltb}
-use Rattle.lexical.specs.Refusals.{number_of, short_bytes}
+use Rattle.refusals.specs.Refusals.{number_of, short_bytes}
 use Rattle.form.specs.Tree.{Dossier}
 use Rattle.table_nodes.specs.TableWalkPromises.{patch}
 use Rattle.obligations.specs.Subjects.{Subject, subject_of}
@@ -28,6 +28,9 @@ use Rattle.held_checks.specs.HeldBytes.{held_text, held_by}
 use Rattle.held_checks.specs.Answers.{refused, verdict_is, written, obligation_is}
 use Rattle.held_checks.specs.CallPromises.{Responds}
 use Rattle.held_checks.specs.StepPromises.{PartTold}
+use Rattle.search_groups.specs.declared.Dossier as tables
+use Rattle.text_readings.specs.TextPromises.{Lent}
+use Rattle.text_readings.proofs.LentArrays.{given-back}
 use Rattle.checker.specs.OpenPromises.{Opened, LastAsked, LastWritten}
 use Rattle.checker.proofs.MarkLaws.{fits-refuted, marked-refuted}
 use Rattle.checker.proofs.CallLaws.{responds, refuses, held-as, verdict-is}
@@ -157,3 +160,8 @@ module _ {b table rows firsts groups labels : List ℕ} {mark place operations a
         (is-writing l ∙ writing-all σ place told lines l (omega (arith, lines_are.1)))
         (ap written lines_are.1) refl
         (ap₂ (λ (t : List ℕ) (k : ℕ). t ++ drop k l) (e ∙ lines_are.0) lines_are.1)
+
+-- the lines of the dossier that lends the arrays are those of the arrays
+pub last_back : {text labels table rows firsts groups out : List ℕ} {n place r : ℕ} {d : tables.Dossier} → Lent table rows firsts groups n d
+    → LastWritten text labels d.table.now d.groups.now d.operations place out r → LastWritten text labels table groups n place out r
+last_back {text} {labels} {out = out} {place = place} {r = r} l h = given-back l (λ t x f g k. LastWritten text labels t g k place out r) h

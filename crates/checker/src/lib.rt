@@ -11,20 +11,16 @@ ghost use Rattle.held_checks.specs.CallPromises.{Responds};
 ghost use Rattle.text_readings.specs.TextPromises.{ReadsText};
 ghost use Rattle.checker.specs.OpenPromises.{Opens, LastAsked, LastWritten};
 
-use form::node::NUMBERS;
 use held_checks::{
     HELD, LoadRefusal, Mark, TEXT, Verdict, clear, come_to, fits, laid, lay, length_in, mark_in,
     obligation_of, place_in, told,
 };
-use labels::{LABELS, Names};
-use lexical::refusals::{Fault, Refusal};
+use labels::Names;
 use part_places::{find, total};
 use parts::search;
 use pieces::Writer;
-use search_groups::Dossier;
-use search_groups::conjuncts::FIRSTS;
-use search_groups::groups::GROUPS;
-use text_readings::read_text;
+use refusals::{Fault, Refusal};
+use text_readings::Arrays;
 use witnesses::{WITNESS, put_witness};
 
 // Number 15: the longest advance.
@@ -49,43 +45,23 @@ fn text_in(held: &[u8], n: usize) -> &[u8]
 }
 
 // The held text is read into the arrays.
-fn open_text(
-    held: &[u8; HELD],
-    table: &mut [u16; NUMBERS],
-    rows: &mut [u16; NUMBERS],
-    firsts: &mut [u16; FIRSTS],
-    groups: &mut [u16; GROUPS],
-    labels: &mut [u16; LABELS],
-) -> Result<usize, Fault>
+fn open_text(held: &[u8; HELD], a: &mut Arrays) -> Result<usize, Fault>
     requires { is_laid held.now ≡ true }
-    ensures { ReadsText (held_text held.now) table.new rows.new firsts.new groups.new labels.new result }
+    ensures { ReadsText (held_text held.now) a.new.table a.new.rows a.new.firsts a.new.groups a.new.labels result }
 {
     let n = length_in(held);
-    read_text(text_in(held, n), table, rows, firsts, groups, labels)
+    a.read(text_in(held, n))
 }
 
 // What the bytes stand for, with the arrays of its text.
-fn open_bytes(
-    held: &[u8; HELD],
-    table: &mut [u16; NUMBERS],
-    rows: &mut [u16; NUMBERS],
-    firsts: &mut [u16; FIRSTS],
-    groups: &mut [u16; GROUPS],
-    labels: &mut [u16; LABELS],
-) -> Option<Opened>
-    ensures { Opens held.now table.new rows.new firsts.new groups.new labels.new result }
+fn open_bytes(held: &[u8; HELD], a: &mut Arrays) -> Option<Opened>
+    ensures { Opens held.now a.new.table a.new.rows a.new.firsts a.new.groups a.new.labels result }
 {
     if !laid(held) {
         return None;
     }
-    let operations = open_text(held, table, rows, firsts, groups, labels).ok()?;
-    let all = total(&Dossier {
-        table,
-        rows,
-        firsts,
-        groups,
-        operations,
-    });
+    let operations = open_text(held, a).ok()?;
+    let all = total(&a.dossier(operations));
     let place = place_in(held);
     let mark = mark_in(held)?;
     if !fits(all, place, mark) {
@@ -103,30 +79,12 @@ fn open_bytes(
 pub fn load(text: &[u8], held: &mut [u8; HELD]) -> Result<(), LoadRefusal>
     ensures { Responds held.old (call.load text.now) held.new [] (load_answer result) }
 {
-    let mut table = [0u16; NUMBERS];
-    let mut rows = [0u16; NUMBERS];
-    let mut firsts = [0u16; FIRSTS];
-    let mut groups = [0u16; GROUPS];
-    let mut labels = [0u16; LABELS];
-    let o = open_bytes(
-        held,
-        &mut table,
-        &mut rows,
-        &mut firsts,
-        &mut groups,
-        &mut labels,
-    );
+    let mut a = Arrays::new();
+    let o = open_bytes(held, &mut a);
     if o.is_some() {
         return Err(LoadRefusal::SomethingHeld);
     }
-    read_text(
-        text,
-        &mut table,
-        &mut rows,
-        &mut firsts,
-        &mut groups,
-        &mut labels,
-    )?;
+    a.read(text)?;
     lay(text, held);
     Ok(())
 }
@@ -135,19 +93,8 @@ pub fn load(text: &[u8], held: &mut [u8; HELD]) -> Result<(), LoadRefusal>
 pub fn advance(n: usize, held: &mut [u8; HELD]) -> Result<usize, Refusal>
     ensures { Responds held.old (call.advance n) held.new [] (advance_answer result) }
 {
-    let mut table = [0u16; NUMBERS];
-    let mut rows = [0u16; NUMBERS];
-    let mut firsts = [0u16; FIRSTS];
-    let mut groups = [0u16; GROUPS];
-    let mut labels = [0u16; LABELS];
-    let o = open_bytes(
-        held,
-        &mut table,
-        &mut rows,
-        &mut firsts,
-        &mut groups,
-        &mut labels,
-    );
+    let mut a = Arrays::new();
+    let o = open_bytes(held, &mut a);
     let Some(o) = o else {
         return Err(Refusal::NothingHeld);
     };
@@ -160,74 +107,45 @@ pub fn advance(n: usize, held: &mut [u8; HELD]) -> Result<usize, Refusal>
     if n > LONGEST {
         return Err(Refusal::AdvanceRange);
     }
-    let d = Dossier {
-        table: &table,
-        rows: &rows,
-        firsts: &firsts,
-        groups: &groups,
-        operations: o.operations,
-    };
+    let d = a.dossier(o.operations);
     let end = o.place + n;
     let failing = search(&d, o.place, end);
-    let at = failing.unwrap_or(end.min(o.all));
-    Ok(come_to(held, o.place, o.all, failing.is_some(), at))
+    Ok(come_to(held, o.place, o.all, failing, end.min(o.all)))
 }
 
 // The verdict so far.
 pub fn verdict(held: &[u8; HELD]) -> Result<Verdict, Refusal>
     ensures { Responds held.now call.verdict held.now [] (verdict_answer result) }
 {
-    let mut table = [0u16; NUMBERS];
-    let mut rows = [0u16; NUMBERS];
-    let mut firsts = [0u16; FIRSTS];
-    let mut groups = [0u16; GROUPS];
-    let mut labels = [0u16; LABELS];
-    let o = open_bytes(
-        held,
-        &mut table,
-        &mut rows,
-        &mut firsts,
-        &mut groups,
-        &mut labels,
-    );
+    let mut a = Arrays::new();
+    let o = open_bytes(held, &mut a);
     let Some(o) = o else {
         return Err(Refusal::NothingHeld);
     };
     if let Some(v) = told(o.mark) {
         return Ok(v);
     }
-    let d = Dossier {
-        table: &table,
-        rows: &rows,
-        firsts: &firsts,
-        groups: &groups,
-        operations: o.operations,
-    };
+    let d = a.dossier(o.operations);
     let f = find(&d, o.place - 1);
     Ok(Verdict::Refuted(obligation_of(f.part)))
 }
 
-// The lines of the binding before a place of a held text, in bytes of their own.
-fn put_held(
-    held: &[u8; HELD],
-    labels: &[u16; LABELS],
-    d: &Dossier<'_>,
-    place: usize,
-    out: &mut [u8],
-) -> usize
+// The lines of the binding before the place of a held text, in bytes of their own.
+fn put_held(held: &[u8; HELD], a: &Arrays, o: Opened, out: &mut [u8]) -> usize
     requires out_len { length out.old ≡ 19350 }
     requires held_value { is_laid held.now ≡ true }
-    requires last_asked { LastAsked (held_text held.now) labels.now d.now.table.now d.now.groups.now d.now.operations place }
-    ensures { LastWritten (held_text held.now) labels.now d.now.table.now d.now.groups.now d.now.operations place out.new result }
+    requires last_asked { LastAsked (held_text held.now) a.now.labels a.now.table a.now.groups o.operations o.place }
+    ensures { LastWritten (held_text held.now) a.now.labels a.now.table a.now.groups o.operations o.place out.new result }
 {
-    let f = find(d, place - 1);
+    let d = a.dossier(o.operations);
+    let f = find(&d, o.place - 1);
     let n = length_in(held);
     let names = Names {
         text: text_in(held, n),
-        labels,
+        labels: &a.labels,
     };
     let mut w = Writer { out, at: 0 };
-    put_witness(&names, d, f, &mut w);
+    put_witness(&names, &d, f, &mut w);
     w.at
 }
 
@@ -235,34 +153,16 @@ fn put_held(
 pub fn witness(held: &[u8; HELD], lent: &mut [u8]) -> Result<usize, Refusal>
     ensures { Responds held.now (call.witness lent.old) held.now lent.new (witness_answer result) }
 {
-    let mut table = [0u16; NUMBERS];
-    let mut rows = [0u16; NUMBERS];
-    let mut firsts = [0u16; FIRSTS];
-    let mut groups = [0u16; GROUPS];
-    let mut labels = [0u16; LABELS];
-    let o = open_bytes(
-        held,
-        &mut table,
-        &mut rows,
-        &mut firsts,
-        &mut groups,
-        &mut labels,
-    );
+    let mut a = Arrays::new();
+    let o = open_bytes(held, &mut a);
     let Some(o) = o else {
         return Err(Refusal::NothingHeld);
     };
     if o.mark != Mark::Refuted {
         return Err(Refusal::NoCounterexample);
     }
-    let d = Dossier {
-        table: &table,
-        rows: &rows,
-        firsts: &firsts,
-        groups: &groups,
-        operations: o.operations,
-    };
     let mut out = [0u8; WITNESS];
-    let n = put_held(held, &labels, &d, o.place, &mut out);
+    let n = put_held(held, &a, o, &mut out);
     if lent.len() < n {
         return Err(Refusal::ShortBytes);
     }

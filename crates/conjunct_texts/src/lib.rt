@@ -84,30 +84,25 @@ fn brackets_wanting(y: &Symbols<'_>, e: Ends) -> Wanting {
 
 // Back to the n-th bracket that opens.
 fn opened(y: &Symbols<'_>, first: usize, n: usize) -> usize {
-    let mut left = n;
-    for k in (0..first).rev() {
-        if left == 0 {
-            return k + 1;
-        }
-        if bracket_of(y.kind(k)) == Some(Bracket::Open) {
-            left -= 1;
-        }
+    match n.checked_sub(1) {
+        Some(k) => (0..first)
+            .rev()
+            .filter(|&s| bracket_of(y.kind(s)) == Some(Bracket::Open))
+            .nth(k)
+            .unwrap_or(0),
+        None => first,
     }
-    0
 }
 
 // On to the n-th bracket that closes.
 fn closed(y: &Symbols<'_>, last: usize, n: usize) -> usize {
-    let mut left = n;
-    for k in last..SYMBOLS {
-        if left == 0 {
-            return k;
-        }
-        if bracket_of(y.kind(k + 1)) == Some(Bracket::Close) {
-            left -= 1;
-        }
+    match n.checked_sub(1) {
+        Some(k) => (last.saturating_add(1)..SYMBOLS)
+            .filter(|&s| bracket_of(y.kind(s)) == Some(Bracket::Close))
+            .nth(k)
+            .unwrap_or(last.max(SYMBOLS)),
+        None => last,
     }
-    last.max(SYMBOLS)
 }
 
 // The bytes of a span without the blanks at its end.

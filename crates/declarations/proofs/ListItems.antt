@@ -3,7 +3,7 @@ use mathlib.Core.Path.{◌≡◌, refl, ap, ◌∙◌, sym}
 use mathlib.Core.Bool.{Bool}
 use mathlib.Core.List.{List, [], ◌∷◌, ◌++◌}
 use mathlib.Core.Option.{Option, none, some}
-use Prim.Native.Nat.{ℕ, zero, suc, ◌+◌, ◌≤◌, ◌<◌}
+use Prim.Native.Nat.{ℕ, suc, ◌+◌, ◌≤◌, ◌<◌}
 use native.Mathlib.Omega.{arith}
 use native.Mathlib.Numerals.{add-one}
 use lib.Dec.{ltb}
@@ -11,16 +11,19 @@ use lib.ListN.{length, get_or}
 use borrow.Author.Tests.{le-ltb, lt-ltb}
 use Rattle.lexical.specs.Kinds as kind
 use Rattle.lexical.specs.Kinds.{Kind, code_of, is, lookup}
-use Rattle.lexical.specs.Refusals.{Refusal, many_declared}
+use Rattle.refusals.specs.Refusals.{Refusal, many_declared}
 use Rattle.form.specs.Written.{Mark, unmarked, a_given, an_element, a_variable, an_input, an_output, an_operation}
 use Rattle.form.specs.Form.{settled, excess, refuse}
 use Rattle.form.specs.Computed.{compute_form}
 use Rattle.form.specs.Machine.{Item, exact, a_name, an_end, a_type, a_type_rest, a_dossier, a_declared, some_entries, some_op_entries, some_bodies, some_elements, some_declarations, some_operations, some_parameters}
 use Rattle.form.specs.Machine.{Act, take, skip, stuck, then, act, on_name, go, halt, does, step, ends, unless_over}
 use Rattle.form_nodes.specs.FormPromises.{run_at, Reads, names}
-use Rattle.declarations.specs.DossierPromises.{EntriesOf, of_givens, of_operations, a_typed, a_condition_to, two_states, three_conditions, arrows, directions, counted_by, inputs_by, outputs_by, mark_by}
-use Rattle.std.specs.Prelude.{Err}
-use Rattle.lexical.specs.declared.refusals.Refusal.TheVariants.{ManyDeclared}
+use Rattle.declarations.specs.DossierPromises.{EntriesOf, of_givens, of_operations, a_typed, a_condition_to, two_states, three_conditions, arrows, directions, direction_class, counted_by, inputs_by, outputs_by, mark_by}
+use Rattle.declarations.specs.declared.contents.Direction.{Direction}
+use Rattle.declarations.specs.declared.contents.Direction.TheVariants.{Input, Output}
+use Rattle.std.specs.Prelude as prelude
+use Rattle.std.specs.Prelude.{Err, Some, None}
+use Rattle.refusals.specs.declared.Refusal.TheVariants.{ManyDeclared}
 use Rattle.form_nodes.proofs.Classes.{lookup-miss, by-table-or}
 use Rattle.form_nodes.proofs.ReadParts.{only, Within, step-at}
 use Rattle.form_nodes.proofs.ItemSteps.{by-act, exact-takes, exact-stops, lookup-mapped, either, naming, either-some}
@@ -173,25 +176,21 @@ unfolding act code_of
 operations_behind k κ γ f = by-act (some_operations k) γ κ skip (lookup-miss _ skip κ (f, tt))
 
 -- parameters, by their direction
-pub parameter-takes : (i o c : ℕ) (κ : Kind) (γ : List Item) → lookup directions 0 κ ≡ c → (c ≡ 0 → ⊥)
+pub parameter-takes : (i o : ℕ) (c : Direction) (κ : Kind) (γ : List Item) → lookup directions 0 κ ≡ direction_class (Some c)
     → step (some_parameters i o ∷ γ) κ ≡ go (mark_by c i o) (a_typed ++ (some_parameters (inputs_by c i) (outputs_by c o) ∷ γ))
 unfolding act step lookup is code_of
-parameter-takes i o c κ γ e f =
-    by-table-or (λ m b. lookup directions 0 m ≡ c → does b γ (step γ m) ≡ go (mark_by c i o) (a_typed ++ (some_parameters (inputs_by c i) (outputs_by c o) ∷ γ)))
+parameter-takes i o Input κ γ e =
+    by-table-or (λ m b. lookup directions 0 m ≡ 1 → does b γ (step γ m) ≡ go (an_input (i + 1)) (a_typed ++ (some_parameters (i + 1) o ∷ γ)))
     ((kind.input, take (an_input (suc i)) (a_typed ++ (some_parameters (suc i) o ∷ []))) ∷ (kind.output, take (an_output (suc o)) (a_typed ++ (some_parameters i (suc o) ∷ []))) ∷ (kind.ABSTRACT, then []) ∷ [])
     stuck κ
-    ((λ q. input q) & (λ q. output q) & (λ q. absurd (f (sym q))) & tt)
-    (λ m q. absurd (f (sym q ∙ lookup-miss directions 0 κ (m.0, (m.1.0, tt))))) e
-  where
-    input : 1 ≡ c → go (an_input (suc i)) (a_typed ++ (some_parameters (suc i) o ∷ γ)) ≡ go (mark_by c i o) (a_typed ++ (some_parameters (inputs_by c i) (outputs_by c o) ∷ γ))
-    input q =
-        ap (λ (j : ℕ). go (an_input j) (a_typed ++ (some_parameters j o ∷ γ))) (sym (add-one i))
-        ∙ ap (λ (d : ℕ). go (mark_by d i o) (a_typed ++ (some_parameters (inputs_by d i) (outputs_by d o) ∷ γ))) q
-
-    output : 2 ≡ c → go (an_output (suc o)) (a_typed ++ (some_parameters i (suc o) ∷ γ)) ≡ go (mark_by c i o) (a_typed ++ (some_parameters (inputs_by c i) (outputs_by c o) ∷ γ))
-    output q =
-        ap (λ (j : ℕ). go (an_output j) (a_typed ++ (some_parameters i j ∷ γ))) (sym (add-one o))
-        ∙ ap (λ (d : ℕ). go (mark_by d i o) (a_typed ++ (some_parameters (inputs_by d i) (outputs_by d o) ∷ γ))) q
+    ((λ q. ap (λ (j : ℕ). go (an_input j) (a_typed ++ (some_parameters j o ∷ γ))) (sym (add-one i))) & (λ q. absurd (omega (arith, q))) & (λ q. absurd (omega (arith, q))) & tt)
+    (λ m q. let z : ◌≡◌ {A = ℕ} 0 1 = sym (lookup-miss directions 0 κ (m.0, (m.1.0, tt))) ∙ q in absurd (omega arith)) e
+parameter-takes i o Output κ γ e =
+    by-table-or (λ m b. lookup directions 0 m ≡ 2 → does b γ (step γ m) ≡ go (an_output (o + 1)) (a_typed ++ (some_parameters i (o + 1) ∷ γ)))
+    ((kind.input, take (an_input (suc i)) (a_typed ++ (some_parameters (suc i) o ∷ []))) ∷ (kind.output, take (an_output (suc o)) (a_typed ++ (some_parameters i (suc o) ∷ []))) ∷ (kind.ABSTRACT, then []) ∷ [])
+    stuck κ
+    ((λ q. absurd (omega (arith, q))) & (λ q. ap (λ (j : ℕ). go (an_output j) (a_typed ++ (some_parameters i j ∷ γ))) (sym (add-one o))) & (λ q. absurd (omega (arith, q))) & tt)
+    (λ m q. let z : ◌≡◌ {A = ℕ} 0 2 = sym (lookup-miss directions 0 κ (m.0, (m.1.0, tt))) ∙ q in absurd (omega arith)) e
 
 pub parameters-behind : (i o : ℕ) (κ : Kind) (γ : List Item) → lookup directions 0 κ ≡ 0 → step (some_parameters i o ∷ γ) κ ≡ step (exact kind.ABSTRACT ∷ γ) κ
 unfolding act step lookup is code_of
@@ -202,15 +201,13 @@ parameters-behind i o κ γ e =
     ((λ q. absurd (omega (arith, q))) & (λ q. absurd (omega (arith, q))) & (λ q. refl) & tt)
     (λ m q. sym (exact-stops kind.ABSTRACT κ γ m.1.1.0)) e
 
-pub parameter-well : (s : List ℕ) (at c i o : ℕ) → (counted_by c i o < 3) → Within s at (λ k j v. settled k j v (mark_by c i o) ≡ none)
-parameter-well s at zero i o h = count-well s at (o + 1) outputs (omega arith)
-parameter-well s at (suc zero) i o h = count-well s at (i + 1) inputs (omega arith)
-parameter-well s at (suc (suc c)) i o h = count-well s at (o + 1) outputs (omega arith)
+pub parameter-well : (s : List ℕ) (at : ℕ) (c : Direction) (i o : ℕ) → (counted_by c i o < 3) → Within s at (λ k j v. settled k j v (mark_by c i o) ≡ none)
+parameter-well s at Input i o h = count-well s at (i + 1) inputs (omega arith)
+parameter-well s at Output i o h = count-well s at (o + 1) outputs (omega arith)
 
-pub parameter-over : (s : List ℕ) (at c i o : ℕ) → (3 ≤ counted_by c i o) → Within s at (λ k j v. settled k j v (mark_by c i o) ≡ some many_declared)
-parameter-over s at zero i o h = count-over s at (o + 1) outputs (omega arith)
-parameter-over s at (suc zero) i o h = count-over s at (i + 1) inputs (omega arith)
-parameter-over s at (suc (suc c)) i o h = count-over s at (o + 1) outputs (omega arith)
+pub parameter-over : (s : List ℕ) (at : ℕ) (c : Direction) (i o : ℕ) → (3 ≤ counted_by c i o) → Within s at (λ k j v. settled k j v (mark_by c i o) ≡ some many_declared)
+parameter-over s at Input i o h = count-over s at (i + 1) inputs (omega arith)
+parameter-over s at Output i o h = count-over s at (o + 1) outputs (omega arith)
 
 -- types
 pub type-rest-step : (κ : Kind) (γ : List Item) {c : ℕ} → lookup arrows 0 κ ≡ c → step (a_type_rest ∷ γ) κ ≡ does (either (then (a_name ∷ [])) skip c) γ (step γ κ)
@@ -242,31 +239,19 @@ type-range κ γ q p =
     (λ m g h. ap (λ (a : Act). does a γ (step γ κ)) (naming (then (a_type_rest ∷ [])) stuck κ g)
     ∙ sym (by-act an_end (exact kind.up_to ∷ an_end ∷ γ) κ stuck (lookup-miss ((kind.number, then []) ∷ (kind.minus, then (exact kind.number ∷ [])) ∷ []) stuck κ (m.0, (m.1.0, tt))))) q p
 
--- a direction other than that of an input
-pub count-other : (c i o : ℕ) → (c ≡ 1 → ⊥) → counted_by c i o ≡ o
-count-other zero i o f = refl
-count-other (suc zero) i o f = absurd (f refl)
-count-other (suc (suc c)) i o f = refl
+-- no direction is none
+pub undirected : (c : Direction) → ◌≡◌ {A = prelude.Option Direction} None (Some c) → ⊥
+undirected Input q = let z : ◌≡◌ {A = ℕ} 0 1 = ap direction_class q in omega arith
+undirected Output q = let z : ◌≡◌ {A = ℕ} 0 2 = ap direction_class q in omega arith
 
-pub inputs-other : (c i : ℕ) → (c ≡ 1 → ⊥) → inputs_by c i ≡ i
-inputs-other zero i f = refl
-inputs-other (suc zero) i f = absurd (f refl)
-inputs-other (suc (suc c)) i f = refl
+-- one more parameter, where there are fewer than three of its direction
+pub inputs_few : (c : Direction) (i o : ℕ) → counted_by c i o < 3 → i ≤ 3 → inputs_by c i ≤ 3
+inputs_few Input i o h l = omega arith
+inputs_few Output i o h l = l
 
-pub outputs-other : (c o : ℕ) → (c ≡ 1 → ⊥) → outputs_by c o ≡ o + 1
-outputs-other zero o f = refl
-outputs-other (suc zero) o f = absurd (f refl)
-outputs-other (suc (suc c)) o f = refl
-
-pub inputs_few : (c i o : ℕ) → counted_by c i o < 3 → i ≤ 3 → inputs_by c i ≤ 3
-inputs_few zero i o h l = l
-inputs_few (suc zero) i o h l = omega arith
-inputs_few (suc (suc c)) i o h l = l
-
-pub outputs_few : (c i o : ℕ) → counted_by c i o < 3 → o ≤ 3 → outputs_by c o ≤ 3
-outputs_few zero i o h l = omega arith
-outputs_few (suc zero) i o h l = l
-outputs_few (suc (suc c)) i o h l = omega arith
+pub outputs_few : (c : Direction) (i o : ℕ) → counted_by c i o < 3 → o ≤ 3 → outputs_by c o ≤ 3
+outputs_few Input i o h l = l
+outputs_few Output i o h l = omega arith
 
 -- the first word
 pub dossier-first : (κ : Kind) (γ : List Item) → step (a_dossier ∷ γ) κ ≡ step (exact kind.CONTENTS ∷ some_entries 0 ∷ γ) κ

@@ -1,14 +1,16 @@
 -- What the functions that read contents, bodies and declarations promise each other, and what a dossier that was read is. Nothing here need be believed.
-use Rattle.std.specs.Prelude.{◌≡◌, List, [], ◌∷◌, ◌++◌, ℕ, zero, suc, ◌+◌, ◌-◌, ◌*◌, ◌≤◌, length, take, get_or, Ok, Err}
+use Rattle.std.specs.Prelude.{◌≡◌, List, [], ◌∷◌, ◌++◌, ℕ, ◌+◌, ◌*◌, ◌≤◌, length, take, get_or, Ok, Err, Bool, true, Option, Some, None}
 use Rattle.lexical.specs.Kinds as kind
 use Rattle.lexical.specs.Kinds.{Kind, code_of}
 use Rattle.lexical.specs.Symbols.{Symbol}
 use Rattle.form.specs.Written.{Mark, a_given, a_variable, an_input, an_output, an_operation}
 use Rattle.form.specs.Machine.{Item, exact, a_declared, a_type, a_unary, a_pred_rest, some_entries, some_op_entries, some_bodies, some_declarations, Run, complete, failed, run}
-use Rattle.form_nodes.specs.FormPromises.{codes, Answer, Reads, Classes}
+use Rattle.form_nodes.specs.FormPromises.{codes, Answer, Reads, Classes, bit}
+use Rattle.declarations.specs.declared.contents.Direction.{Direction}
+use Rattle.declarations.specs.declared.contents.Direction.TheVariants.{Input, Output}
 use Rattle.form_nodes.specs.Derivations as part
 use Rattle.form_nodes.specs.Derivations.{Part, Derives, Made}
-use Rattle.lexical.specs.RefusalNames.{refusal_is}
+use Rattle.refusals.specs.RefusalNames.{refusal_is}
 
 -- the five words of the contents
 abbrev pub five_words : List Item
@@ -103,20 +105,22 @@ Sequenced s ν xs i n a b (Err f) = Unit {0}
 abbrev pub arrows : List (Kind × ℕ)
 arrows = (kind.relation, 1) ∷ (kind.partial, 1) ∷ (kind.total, 1) ∷ []
 
-pub record Arrows (k r : ℕ) : Type 0 where
-  pub classes : Classes arrows k r
-  pub low : r ≤ 9 * (k - 32)
-  pub high : r ≤ 9 * (36 - k)
+pub record Arrows (k : ℕ) (r : Bool) : Type 0 where
+  pub classes : Classes arrows k (bit r)
+  pub arrow : r ≡ true → (33 ≤ k) × (k ≤ 35)
 
 -- 1 an input, 2 an output
 abbrev pub directions : List (Kind × ℕ)
 directions = (kind.input, 1) ∷ (kind.output, 2) ∷ []
 
-pub record Directs (k r : ℕ) : Type 0 where
-  pub classes : Classes directions k r
-  pub low : r ≤ 9 * (k - 3)
-  pub high : r ≤ 9 * (6 - k)
-  pub small : r ≤ 2
+abbrev pub direction_class : Option Direction → ℕ
+direction_class None = 0
+direction_class (Some Input) = 1
+direction_class (Some Output) = 2
+
+pub record Directs (k : ℕ) (r : Option Direction) : Type 0 where
+  pub classes : Classes directions k (direction_class r)
+  pub parameter : (c : Direction) → r ≡ Some c → (4 ≤ k) × (k ≤ 5)
 
 -- a dossier is read to the text's end, and its nodes stand in front; or the machine stops at the fault
 abbrev pub Ended : (length : ℕ) → Answer → Type 0
@@ -133,22 +137,18 @@ pub record Formed (s ν a b : List ℕ) (r : Answer) : Type 0 where
   pub made : Made s ν part.a_dossier 0 0 a b r
 
 -- how many parameters of a direction there are, after i inputs and o outputs; how many inputs, and outputs, there are with one more; and its mark
-abbrev pub counted_by : (c i o : ℕ) → ℕ
-counted_by zero i o = o
-counted_by (suc zero) i o = i
-counted_by (suc (suc c)) i o = o
+abbrev pub counted_by : Direction → (i o : ℕ) → ℕ
+counted_by Input i o = i
+counted_by Output i o = o
 
-abbrev pub inputs_by : (c i : ℕ) → ℕ
-inputs_by zero i = i
-inputs_by (suc zero) i = i + 1
-inputs_by (suc (suc c)) i = i
+abbrev pub inputs_by : Direction → (i : ℕ) → ℕ
+inputs_by Input i = i + 1
+inputs_by Output i = i
 
-abbrev pub outputs_by : (c o : ℕ) → ℕ
-outputs_by zero o = o + 1
-outputs_by (suc zero) o = o
-outputs_by (suc (suc c)) o = o + 1
+abbrev pub outputs_by : Direction → (o : ℕ) → ℕ
+outputs_by Input o = o
+outputs_by Output o = o + 1
 
-abbrev pub mark_by : (c i o : ℕ) → Mark
-mark_by zero i o = an_output (o + 1)
-mark_by (suc zero) i o = an_input (i + 1)
-mark_by (suc (suc c)) i o = an_output (o + 1)
+abbrev pub mark_by : Direction → (i o : ℕ) → Mark
+mark_by Input i o = an_input (i + 1)
+mark_by Output i o = an_output (o + 1)

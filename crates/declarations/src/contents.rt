@@ -1,4 +1,5 @@
 // The contents of a dossier, given sets and declarations: numbers 4 and 6 of document 01, and their nodes.
+// Form 5: the place and the numbers written change with each symbol read; `Room` says of both what a function that writes may count on.
 ghost use Rattle.std.specs.Prelude.{◌≡◌, [], ◌∷◌, ◌++◌, ◌+◌, ◌*◌, ◌≤◌, ◌<◌, leb, length, get_or};
 ghost use Rattle.lexical.specs.Kinds as kind;
 ghost use Rattle.form.specs.Written.{an_element, a_variable};
@@ -9,17 +10,18 @@ ghost use Rattle.form_nodes.specs.Derivations.{Made, NameAt, a_declaration, some
 ghost use Rattle.declarations.specs.DossierPromises.{EntriesRead, five_words, WordsAt, ContentsMade, When, More, two_states, three_conditions, Arrows, Directs, a_typed, counted_by, inputs_by, outputs_by};
 
 use form::shapes;
-use form_nodes::Read;
-use form_nodes::kinds::{NONE, SOME, kind_at, name_of, wide};
+use form_nodes::kinds::kind_at;
 use form_nodes::nodes::{name_number, put, put_range};
 use form_nodes::ranges::{close, range};
-use lexical::refusals::{Fault, Refusal};
+use form_nodes::{Read, Symbols};
+use lexical::codes::is_name;
 use lexical::{bounds, codes};
+use refusals::{Fault, Refusal};
 
 // `word NAME` again and again, at most as many as the limit; a node of the shape for each.
+// Form 3: an entry is two symbols, and the place of a wrong one or of one too many is a fault of the form.
 fn entries(
-    s: &[u8],
-    v: &[u16],
+    y: &Symbols<'_>,
     start: usize,
     word: u8,
     shape: u16,
@@ -27,21 +29,21 @@ fn entries(
     code: &mut [u16],
     from: usize,
 ) -> Result<Read, Fault>
-    requires { Room s.now code.old start from × (1 ≤ word) }
-    ensures { EntriesRead s.now start from word limit result × Made s.now v.now (part.some_entries word shape) start from code.old code.new result }
+    requires { Room y.now.kinds.now code.old start from × (1 ≤ word) }
+    ensures { EntriesRead y.now.kinds.now start from word limit result × Made y.now.kinds.now y.now.values.now (part.some_entries word shape) start from code.old code.new result }
 {
     let mut at = start;
     let mut n = from;
     let mut k: u8 = 0;
-    while kind_at(s, at) == word {
-        if kind_at(s, at + 1) == codes::PLAIN {
+    while kind_at(y.kinds, at) == word {
+        if kind_at(y.kinds, at + 1) == codes::PLAIN {
             if limit <= k {
                 return Err(Fault {
                     place: at + 1,
                     refusal: Refusal::ManyDeclared,
                 });
             }
-            let x = name_number(s, v, at + 1);
+            let x = name_number(y, at + 1);
             n = put(code, n, shape, at + 1, x, 0);
             at = at + 1 + 1;
             k += 1;
@@ -67,14 +69,13 @@ fn words(s: &[u8], at: usize, n: usize) -> Result<Read, Fault>
     close(s, cinit.at, codes::RETRIEVE, cinit.count)
 }
 
-pub fn contents(s: &[u8], v: &[u16], code: &mut [u16]) -> Result<Read, Fault>
-    requires { (length s.now ≤ 4096) × (4 * length s.now ≤ length code.old) }
-    ensures { Reads s.now 0 0 (a_dossier ∷ []) (some_bodies 0 ∷ []) result × ContentsMade s.now v.now code.new result }
+pub fn contents(y: &Symbols<'_>, code: &mut [u16]) -> Result<Read, Fault>
+    requires { (length y.now.kinds.now ≤ 4096) × (4 * length y.now.kinds.now ≤ length code.old) }
+    ensures { Reads y.now.kinds.now 0 0 (a_dossier ∷ []) (some_bodies 0 ∷ []) result × ContentsMade y.now.kinds.now y.now.values.now code.new result }
 {
-    let word = close(s, 0, codes::CONTENTS, 0)?;
+    let word = close(y.kinds, 0, codes::CONTENTS, 0)?;
     let sets = entries(
-        s,
-        v,
+        y,
         word.at,
         codes::GIVEN,
         shapes::GIVEN_ENTRY,
@@ -82,10 +83,9 @@ pub fn contents(s: &[u8], v: &[u16], code: &mut [u16]) -> Result<Read, Fault>
         code,
         word.count,
     )?;
-    let five = words(s, sets.at, sets.count)?;
+    let five = words(y.kinds, sets.at, sets.count)?;
     let operations = entries(
-        s,
-        v,
+        y,
         five.at,
         codes::OP,
         shapes::OPERATION_ENTRY,
@@ -93,26 +93,27 @@ pub fn contents(s: &[u8], v: &[u16], code: &mut [u16]) -> Result<Read, Fault>
         code,
         five.count,
     )?;
-    close(s, operations.at, codes::END, operations.count)
+    close(y.kinds, operations.at, codes::END, operations.count)
 }
 
 // The elements of a given set, one or more, up to its `end`.
-fn elements(s: &[u8], v: &[u16], start: usize, code: &mut [u16], from: usize) -> Result<Read, Fault>
-    requires { Room s.now code.old start from }
-    ensures { Reads s.now start from (a_declared (an_element 1) ∷ some_elements 1 ∷ []) (exact kind.END ∷ []) result × Made s.now v.now part.some_elements start from code.old code.new result × When (get_or s.now start 0 ≡ 2) result }
+// Form 3: the place behind the last element is what is read, and that of the ninth is the fault.
+fn elements(y: &Symbols<'_>, start: usize, code: &mut [u16], from: usize) -> Result<Read, Fault>
+    requires { Room y.now.kinds.now code.old start from }
+    ensures { Reads y.now.kinds.now start from (a_declared (an_element 1) ∷ some_elements 1 ∷ []) (exact kind.END ∷ []) result × Made y.now.kinds.now y.now.values.now part.some_elements start from code.old code.new result × When (get_or y.now.kinds.now start 0 ≡ 2) result }
 {
-    if kind_at(s, start) == codes::PLAIN {
+    if kind_at(y.kinds, start) == codes::PLAIN {
         let mut at = start;
         let mut n = from;
         let mut k: u8 = 0;
-        while kind_at(s, at) == codes::PLAIN {
+        while kind_at(y.kinds, at) == codes::PLAIN {
             if bounds::ELEMENTS <= k {
                 return Err(Fault {
                     place: at,
                     refusal: Refusal::ManyDeclared,
                 });
             }
-            let x = name_number(s, v, at);
+            let x = name_number(y, at);
             n = put(code, n, shapes::ELEMENT, at, x, 0);
             at += 1;
             k += 1;
@@ -126,39 +127,34 @@ fn elements(s: &[u8], v: &[u16], start: usize, code: &mut [u16], from: usize) ->
 }
 
 // The body of a given set behind its name, with the `end`.
-fn given(s: &[u8], v: &[u16], at: usize, code: &mut [u16], n: usize) -> Result<Read, Fault>
-    requires { Room s.now code.old at n × (at + 1 < length s.now) × (get_or s.now at 0 ≡ 37) × (get_or s.now (at + 1) 0 ≡ 2) }
-    ensures { Reads s.now (at + 1 + 1) (n + 4) (a_declared (an_element 1) ∷ some_elements 1 ∷ []) ([]) result × More s.now v.now some_givens at n code.old code.new result }
+fn given(y: &Symbols<'_>, at: usize, code: &mut [u16], n: usize) -> Result<Read, Fault>
+    requires { Room y.now.kinds.now code.old at n × (at + 1 < length y.now.kinds.now) × (get_or y.now.kinds.now at 0 ≡ 37) × (get_or y.now.kinds.now (at + 1) 0 ≡ 2) }
+    ensures { Reads y.now.kinds.now (at + 1 + 1) (n + 4) (a_declared (an_element 1) ∷ some_elements 1 ∷ []) ([]) result × More y.now.kinds.now y.now.values.now some_givens at n code.old code.new result }
 {
-    let x = name_number(s, v, at + 1);
+    let x = name_number(y, at + 1);
     let m = put(code, n, shapes::GIVEN, at, x, 0);
-    let body = elements(s, v, at + 1 + 1, code, m)?;
-    close(s, body.at, codes::END, body.count)
+    let body = elements(y, at + 1 + 1, code, m)?;
+    close(y.kinds, body.at, codes::END, body.count)
 }
 
 // The bodies of given sets.
-pub fn givens(
-    s: &[u8],
-    v: &[u16],
-    start: usize,
-    code: &mut [u16],
-    from: usize,
-) -> Result<Read, Fault>
-    requires { Room s.now code.old start from }
-    ensures { Reads s.now start from (some_bodies 0 ∷ []) (two_states ++ (three_conditions ++ (some_operations 0 ∷ []))) result × Made s.now v.now some_givens start from code.old code.new result }
+// Form 3: where the next body stands, says the one that is read.
+pub fn givens(y: &Symbols<'_>, start: usize, code: &mut [u16], from: usize) -> Result<Read, Fault>
+    requires { Room y.now.kinds.now code.old start from }
+    ensures { Reads y.now.kinds.now start from (some_bodies 0 ∷ []) (two_states ++ (three_conditions ++ (some_operations 0 ∷ []))) result × Made y.now.kinds.now y.now.values.now some_givens start from code.old code.new result }
 {
     let mut at = start;
     let mut n = from;
     let mut k: u8 = 0;
-    while kind_at(s, at) == codes::GIVEN {
-        if kind_at(s, at + 1) == codes::PLAIN {
+    while kind_at(y.kinds, at) == codes::GIVEN {
+        if kind_at(y.kinds, at + 1) == codes::PLAIN {
             if bounds::GIVEN_SETS <= k {
                 return Err(Fault {
                     place: at + 1,
                     refusal: Refusal::ManyDeclared,
                 });
             }
-            let read = given(s, v, at, code, n)?;
+            let read = given(y, at, code, n)?;
             at = read.at;
             n = read.count;
             k += 1;
@@ -176,100 +172,97 @@ pub fn givens(
 const ARROW_CODE: u16 = codes::RELATION as u16 - shapes::RELATION;
 
 // Is the symbol an arrow between two given sets?
-fn arrow_of(k: u8) -> u8
+fn is_arrow(k: u8) -> bool
     ensures { Arrows k result }
 {
-    match k {
-        codes::RELATION..=codes::TOTAL => SOME,
-        _ => NONE,
-    }
+    matches!(k, codes::RELATION..=codes::TOTAL)
 }
 
 // A type that begins with a name: a given set, or an arrow between two.
-fn named(s: &[u8], v: &[u16], at: usize, code: &mut [u16], n: usize) -> Result<Read, Fault>
-    requires { Room s.now code.old at n × NameAt s.now at × (at < length s.now) }
-    ensures { Reads s.now (at + 1) (n + 4) (a_type_rest ∷ []) ([]) result × Made s.now v.now part.a_type at n code.old code.new result }
+fn named(y: &Symbols<'_>, at: usize, code: &mut [u16], n: usize) -> Result<Read, Fault>
+    requires { Room y.now.kinds.now code.old at n × NameAt y.now.kinds.now at × (at < length y.now.kinds.now) }
+    ensures { Reads y.now.kinds.now (at + 1) (n + 4) (a_type_rest ∷ []) ([]) result × Made y.now.kinds.now y.now.values.now part.a_type at n code.old code.new result }
 {
-    let x = name_number(s, v, at);
-    let k = kind_at(s, at + 1);
-    if arrow_of(k) == NONE {
+    let x = name_number(y, at);
+    let k = kind_at(y.kinds, at + 1);
+    if !is_arrow(k) {
         let count = put(code, n, shapes::SET, at, x, 0);
         return Ok(Read { at: at + 1, count });
     }
-    let j = kind_at(s, at + 1 + 1);
-    if name_of(j) == NONE {
+    let j = kind_at(y.kinds, at + 1 + 1);
+    if !is_name(j) {
         return Err(Fault {
             place: at + 1 + 1,
             refusal: Refusal::NoDossier,
         });
     }
-    let y = name_number(s, v, at + 1 + 1);
-    let count = put(code, n, wide(k) - ARROW_CODE, at, x, y);
+    let second = name_number(y, at + 1 + 1);
+    let count = put(code, n, u16::from(k) - ARROW_CODE, at, x, second);
     let at = at + 1 + 1 + 1;
     Ok(Read { at, count })
 }
 
-fn type_form(s: &[u8], v: &[u16], at: usize, code: &mut [u16], n: usize) -> Result<Read, Fault>
-    requires { Room s.now code.old at n }
-    ensures { Reads s.now at n (a_type ∷ []) ([]) result × Made s.now v.now part.a_type at n code.old code.new result }
+fn type_form(y: &Symbols<'_>, at: usize, code: &mut [u16], n: usize) -> Result<Read, Fault>
+    requires { Room y.now.kinds.now code.old at n }
+    ensures { Reads y.now.kinds.now at n (a_type ∷ []) ([]) result × Made y.now.kinds.now y.now.values.now part.a_type at n code.old code.new result }
 {
-    let k = kind_at(s, at);
+    let k = kind_at(y.kinds, at);
     if k == codes::POWER {
-        let j = kind_at(s, at + 1);
-        if name_of(j) == NONE {
+        let j = kind_at(y.kinds, at + 1);
+        if !is_name(j) {
             return Err(Fault {
                 place: at + 1,
                 refusal: Refusal::NoDossier,
             });
         }
-        let x = name_number(s, v, at + 1);
+        let x = name_number(y, at + 1);
         let count = put(code, n, shapes::POWER, at, x, 0);
         let at = at + 1 + 1;
         return Ok(Read { at, count });
     }
-    if name_of(k) == NONE {
-        let ends = range(s, at, n)?;
-        let count = put_range(s, v, at, code, n);
+    if !is_name(k) {
+        let ends = range(y.kinds, at, n)?;
+        let count = put_range(y, at, code, n);
         return Ok(Read { count, ..ends });
     }
-    named(s, v, at, code, n)
+    named(y, at, code, n)
 }
 
 // Behind a declared name: its node, and : type ;
-fn declaration(s: &[u8], v: &[u16], at: usize, code: &mut [u16], n: usize) -> Result<Read, Fault>
-    requires { Room s.now code.old at n × NameAt s.now at × (at < length s.now) }
-    ensures { Reads s.now (at + 1) (n + 4) a_typed [] result × Made s.now v.now a_declaration at n code.old code.new result }
+fn declaration(y: &Symbols<'_>, at: usize, code: &mut [u16], n: usize) -> Result<Read, Fault>
+    requires { Room y.now.kinds.now code.old at n × NameAt y.now.kinds.now at × (at < length y.now.kinds.now) }
+    ensures { Reads y.now.kinds.now (at + 1) (n + 4) a_typed [] result × Made y.now.kinds.now y.now.values.now a_declaration at n code.old code.new result }
 {
-    let x = name_number(s, v, at);
+    let x = name_number(y, at);
     let m = put(code, n, shapes::DECLARED, at, x, 0);
-    let colon = close(s, at + 1, codes::COLON, m)?;
-    let typed = type_form(s, v, colon.at, code, colon.count)?;
-    close(s, typed.at, codes::SEMICOLON, typed.count)
+    let colon = close(y.kinds, at + 1, codes::COLON, m)?;
+    let typed = type_form(y, colon.at, code, colon.count)?;
+    close(y.kinds, typed.at, codes::SEMICOLON, typed.count)
 }
 
 // The declarations of a state, one or more, up to its `where`.
+// Form 3: where the next declaration stands, says the one that is read.
 pub fn declarations(
-    s: &[u8],
-    v: &[u16],
+    y: &Symbols<'_>,
     start: usize,
     code: &mut [u16],
     from: usize,
 ) -> Result<Read, Fault>
-    requires { Room s.now code.old start from }
-    ensures { Reads s.now start from (a_declared (a_variable 1) ∷ a_typed ++ (some_declarations 1 ∷ [])) (exact kind.WHERE ∷ []) result × Made s.now v.now part.some_declarations start from code.old code.new result × When (get_or s.now start 0 ≡ 2) result }
+    requires { Room y.now.kinds.now code.old start from }
+    ensures { Reads y.now.kinds.now start from (a_declared (a_variable 1) ∷ a_typed ++ (some_declarations 1 ∷ [])) (exact kind.WHERE ∷ []) result × Made y.now.kinds.now y.now.values.now part.some_declarations start from code.old code.new result × When (get_or y.now.kinds.now start 0 ≡ 2) result }
 {
-    if kind_at(s, start) == codes::PLAIN {
+    if kind_at(y.kinds, start) == codes::PLAIN {
         let mut at = start;
         let mut n = from;
         let mut k: u8 = 0;
-        while kind_at(s, at) == codes::PLAIN {
+        while kind_at(y.kinds, at) == codes::PLAIN {
             if bounds::VARIABLES <= k {
                 return Err(Fault {
                     place: at,
                     refusal: Refusal::ManyDeclared,
                 });
             }
-            let read = declaration(s, v, at, code, n)?;
+            let read = declaration(y, at, code, n)?;
             at = read.at;
             n = read.count;
             k += 1;
@@ -283,81 +276,82 @@ pub fn declarations(
 }
 
 // The direction of a parameter.
-const IN: u8 = 1;
+// Form 1: the two directions; that a name is no parameter is the `None` of `direction_of`.
+#[derive(Clone, Copy)]
+pub enum Direction {
+    Input,
+    Output,
+}
 
-const OUT: u8 = 2;
-
-// That of a name that ends in ? or in !; none of any other symbol.
-fn direction_of(k: u8) -> u8
+// That of a name that ends in ? or in !.
+fn direction_of(k: u8) -> Option<Direction>
     ensures { Directs k result }
 {
     match k {
-        codes::INPUT => IN,
-        codes::OUTPUT => OUT,
-        _ => NONE,
+        codes::INPUT => Some(Direction::Input),
+        codes::OUTPUT => Some(Direction::Output),
+        _ => None,
     }
 }
 
 // Are there three parameters of this direction, after i inputs and o outputs?
-fn full(c: u8, i: u8, o: u8) -> bool
+fn full(c: Direction, i: u8, o: u8) -> bool
     ensures { result ≡ leb 3 (counted_by c i o) }
 {
-    if c == IN {
-        return bounds::INPUTS <= i;
+    match c {
+        Direction::Input => bounds::INPUTS <= i,
+        Direction::Output => bounds::OUTPUTS <= o,
     }
-    bounds::OUTPUTS <= o
 }
 
 // How many inputs there are with one more parameter; how many outputs.
-fn inputs(c: u8, i: u8) -> u8
+fn inputs(c: Direction, i: u8) -> u8
     requires { i ≤ 3 }
     ensures { result ≡ inputs_by c i }
 {
-    if c == IN {
-        return i + 1;
+    match c {
+        Direction::Input => i + 1,
+        Direction::Output => i,
     }
-    i
 }
 
-fn outputs(c: u8, o: u8) -> u8
+fn outputs(c: Direction, o: u8) -> u8
     requires { o ≤ 3 }
     ensures { result ≡ outputs_by c o }
 {
-    if c == IN {
-        return o;
+    match c {
+        Direction::Input => o,
+        Direction::Output => o + 1,
     }
-    o + 1
 }
 
 // The parameters of an operation, up to its `abstract`.
+// Form 3: where the next parameter stands, says the declaration that is read.
 pub fn parameters(
-    s: &[u8],
-    v: &[u16],
+    y: &Symbols<'_>,
     start: usize,
     code: &mut [u16],
     from: usize,
 ) -> Result<Read, Fault>
-    requires { Room s.now code.old start from }
-    ensures { Reads s.now start from (some_parameters 0 0 ∷ []) (exact kind.ABSTRACT ∷ []) result × Made s.now v.now part.some_parameters start from code.old code.new result }
+    requires { Room y.now.kinds.now code.old start from }
+    ensures { Reads y.now.kinds.now start from (some_parameters 0 0 ∷ []) (exact kind.ABSTRACT ∷ []) result × Made y.now.kinds.now y.now.values.now part.some_parameters start from code.old code.new result }
 {
     let mut at = start;
     let mut n = from;
     let mut i: u8 = 0;
     let mut o: u8 = 0;
-    let mut c = direction_of(kind_at(s, start));
-    while c != NONE {
+    while let Some(c) = direction_of(kind_at(y.kinds, at)) {
         if full(c, i, o) {
             return Err(Fault {
                 place: at,
                 refusal: Refusal::ManyDeclared,
             });
         }
-        let read = declaration(s, v, at, code, n)?;
+        let read = declaration(y, at, code, n)?;
         at = read.at;
         n = read.count;
         i = inputs(c, i);
         o = outputs(c, o);
-        c = direction_of(kind_at(s, at));
     }
     Ok(Read { at, count: n })
 }

@@ -1,7 +1,7 @@
 -- Declarations by their nodes: what a declared type's node holds, and a walk over declarations.
-use mathlib.Core.Path.{◌≡◌, refl, ap, ap₂, sym, ◌∙◌}
+use mathlib.Core.Path.{◌≡◌, refl, ap, ap₂, sym, ◌∙◌, subst}
 use mathlib.Core.Bool.{Bool, true, false, cond}
-use mathlib.Core.List.{List, [], ◌∷◌, ◌++◌}
+use mathlib.Core.List.{List, [], ◌∷◌, ◌++◌, append-nil}
 use Prim.Native.Nat.{ℕ, ◌+◌, ◌-◌, ◌≤◌, ◌<◌}
 use native.Mathlib.Nat.{add-zero}
 use native.Mathlib.Omega.{arith}
@@ -14,6 +14,7 @@ use Rattle.form.specs.Codes.{Numbering, node, name_number, end_number, end_width
 use Rattle.type_rules.specs.TypesByNumber.{Names, Sizes, entry, is_free, lesser, inside_key, is_given, element_of, set_of, pair_of, key, unless_key, range_fits, product_fits, over_key, domain_key}
 use Rattle.declared_names.specs.NamesByNumber.{Typed, typed_codes, type_kind, type_key, shown, hidden, declared_key}
 use Rattle.declared_names.specs.PassPromises.{TypeKinded, TypeFaulted, pairs_key_at, typed_code, typed_key, DeclarationFaulted, Reached}
+use Rattle.declared_names.proofs.NodePieces.{Ends, place, place-on, room, piece-is}
 
 -- what a node holds
 module _ (code : List ℕ) (at k i a b : ℕ) (rest : List ℕ) (e : drop at code ≡ node k i a b ++ rest) where
@@ -244,6 +245,18 @@ pub finished : {X : Type 0} (F : List Typed → ℕ → Names → Numbering → 
 finished F code at T U v w room is xs i ρ e =
     let r = w xs i ρ e in finish F code at T U ρ (F xs i T ρ) v room (λ j. is j ρ) r.left r.place r.here r.same
 
+-- the same over declarations that are cut off one by one: `d` is the next, `behind` what is left then
+module _ (code d rest behind : List ℕ) (cut : rest ≡ d ++ behind) (long : length d ≡ 8) (e : Ends code rest) where
+  pub of-piece : {P : Typed → ℕ → Numbering → Type 0} → ((x : Typed) (i : ℕ) (ρ : Numbering) (r : List ℕ) → d ≡ typed_code i x ρ ++ r → P x i ρ)
+      → (x : Typed) (i : ℕ) (ρ : Numbering) (r : List ℕ) → drop (place code rest) code ≡ typed_code i x ρ ++ r → P x i ρ
+  of-piece h x i ρ r q = h x i ρ [] (piece-is code d rest behind 8 cut long e (typed_code i x ρ) r (typed-eight x i ρ) q ∙ sym (append-nil (typed_code i x ρ)))
+
+  pub walked-on : {X : Type 0} (F : List Typed → ℕ → Names → Numbering → X) (T U U' : Names) → Walked F code (place code rest) T U
+      → ((ρ : Numbering) (x : Typed) (xs : List Typed) (j : ℕ) (r : List ℕ) → drop (place code rest) code ≡ typed_code j x ρ ++ r → F (x ∷ xs) j U ρ ≡ F xs (j + 3 + type_width x.type) U' ρ)
+      → Walked F code (place code behind) T U'
+  walked-on F T U U' w change =
+      subst (λ (n : ℕ). Walked F code n T U') (place-on code d rest behind 8 cut long e) (on F code (place code rest) T U U' w (room code d rest behind 8 cut long e) change)
+
 -- the three functions of declarations that the code computes
 abbrev pub keyed : Sizes → List Typed → ℕ → Names → Numbering → ℕ
 keyed z xs i T ρ = declared_key xs T ρ z i
@@ -267,13 +280,11 @@ module _ (code : List ℕ) (at : ℕ) (T U : Names) where
   unfolding shown
   shown-on s h ρ x xs j rest e = sym (ap (λ (t : Names). shown xs s t ρ) (h x j ρ rest e))
 
-  pub hidden-on : (s k a : ℕ) → a ≡ get_or code (at + 1) 0 → U ≡ set T (a + s) k
+  pub hidden-on : (s k a : ℕ) → ((x : Typed) (i : ℕ) (ρ : Numbering) (r : List ℕ) → drop at code ≡ typed_code i x ρ ++ r → a ≡ name_number ρ x.called) → U ≡ set T (a + s) k
       → (ρ : Numbering) (x : Typed) (xs : List Typed) (j : ℕ) (rest : List ℕ) → drop at code ≡ typed_code j x ρ ++ rest
       → hiding s k (x ∷ xs) j T ρ ≡ hiding s k xs (j + 3 + type_width x.type) U ρ
   unfolding hidden
-  hidden-on s k a p h ρ x xs j rest e =
-      let n : a ≡ name_number ρ x.called = p ∙ node-a code at 6 j (name_number ρ x.called) 0 (type_codes x.type (j + 2) ρ ++ rest) e in
-      sym (ap (λ (t : Names). hidden xs s k t ρ) (h ∙ ap (λ (m : ℕ). set T (m + s) k) n))
+  hidden-on s k a p h ρ x xs j rest e = sym (ap (λ (t : Names). hidden xs s k t ρ) (h ∙ ap (λ (m : ℕ). set T (m + s) k) (p x j ρ rest e)))
 
   pub keyed-on : (z : Sizes) (f : ℕ) → DeclarationFaulted code at T z f → f ≡ 0 → Reached code at 0 T U
       → (ρ : Numbering) (x : Typed) (xs : List Typed) (j : ℕ) (rest : List ℕ) → drop at code ≡ typed_code j x ρ ++ rest
@@ -290,6 +301,10 @@ module _ (code : List ℕ) (at : ℕ) (T U : Names) where
   keyed-stop z f p q ρ x xs j rest e =
       let d = p x j ρ rest e in
       inside-some (typed_key x T ρ z j) (declared_key xs (set T (name_number ρ x.called) (type_kind x.type T ρ)) ρ z (j + 3 + type_width x.type)) (λ n. q (d ∙ n)) ∙ sym d
+
+-- the number of a declaration's name
+pub number-in : (d : List ℕ) (a : ℕ) → a ≡ get_or d 1 0 → (x : Typed) (i : ℕ) (ρ : Numbering) (r : List ℕ) → d ≡ typed_code i x ρ ++ r → a ≡ name_number ρ x.called
+number-in d a p x i ρ r e = p ∙ node-a d 0 6 i (name_number ρ x.called) 0 (type_codes x.type (i + 2) ρ ++ r) e
 
 -- the first fault of one declaration, by its parts
 pub declaration-fault : (code : List ℕ) (at : ℕ) (T : Names) (z : Sizes) (m old w here r f : ℕ) → m ≡ get_or code (at + 1) 0 → old ≡ entry T m

@@ -18,6 +18,7 @@ use Rattle.static_rules.specs.Carriers.{size_of}
 use Rattle.type_rules.specs.TypesByNumber.{Names, Sizes, entry, is_free, key, unless_key, inside_key}
 use Rattle.declared_names.specs.NamesByNumber.{elements_key, elements_named, givens_key, givens_named}
 use Rattle.declared_names.specs.PassPromises.{Counted, GivenFaulted, GivenKind, SizeCounted, Fewer, GivenSeen}
+use Rattle.declared_names.proofs.NodePieces.{Ends, place, whole}
 use Rattle.declared_names.proofs.DeclarationNodes.{node-a, node-place, node-shape, inside-none, inside-some}
 
 -- what is left at a place, where g given sets have begun: elements of the last one, and further sets
@@ -62,6 +63,11 @@ given-start code T z gs i ρ e f =
 
     never : (q : ℕ) → q + 1 < 0 → ⊥
     never q h = omega arith
+
+pub given-begin : (code rest : List ℕ) (T : Names) (z : Sizes) → rest ≡ code → Ends code rest × GivenOn code (place code rest) 0 T T z
+given-begin code rest T z e =
+    let none : length code - length code ≡ 0 = omega arith in
+    subst (λ (l : List ℕ). Ends code l × GivenOn code (place code l) 0 T T z) (sym e) (whole code, subst (λ (n : ℕ). GivenOn code n 0 T T z) (sym none) (given-start code T z))
 
 pub never-none : (g : ℕ) → g ≡ 0 → 1 ≤ g → ⊥
 never-none g e h = omega arith
@@ -256,6 +262,28 @@ module _ (code : List ℕ) (at g : ℕ) (T : Names) (z : Sizes) (ρ : Numbering)
 
   pub ended : length code < at + 4 → Left code at g T z ρ fault names target → Ended
   ended room r = ending room r.es r.gs r.j r.l r.here r.few r.faults r.named r.done r.last
+
+-- a node that is cut off, where it stands
+module _ (n code : List ℕ) (at : ℕ) (same : (k : ℕ) → k < 4 → get_or n k 0 ≡ get_or code (at + k) 0) where
+  pub counted-at : (g r : ℕ) → Counted n 0 g r → Counted code at g r
+  counted-at g r h =
+      let s = same 3 (omega arith) in record { few = h.few; title = λ e. h.title (s ∙ e); element = λ o. h.element (λ e. o (sym s ∙ e)) }
+
+  pub faulted-at : (T : Names) (r : ℕ) → GivenFaulted n 0 T r → GivenFaulted code at T r
+  faulted-at T r h =
+      let s = same 3 (omega arith) in
+      let a = same 1 (omega arith) in
+      let p = same 2 (omega arith) in
+      record {
+        title = λ e. h.title (s ∙ e) ∙ ap₂ (λ (x y : ℕ). unless_key (is_free (entry T x)) (key (y + 1) 8)) a p;
+        element = λ o. h.element (λ e. o (sym s ∙ e)) ∙ ap₂ (λ (x y : ℕ). unless_key (is_free (entry T x)) (key y 8)) a p;
+      }
+
+  pub kind-at : (g r : ℕ) → GivenKind n 0 g r → GivenKind code at g r
+  kind-at g r h = let s = same 3 (omega arith) in record { title = λ e. h.title (s ∙ e); element = λ o. h.element (λ e. o (sym s ∙ e)) }
+
+  pub sized-at : (g : ℕ) (z z' : Sizes) → SizeCounted n 0 g z z' → SizeCounted code at g z z'
+  sized-at g z z' h = let s = same 3 (omega arith) in record { title = λ e. h.title (s ∙ e); element = λ o. h.element (λ e. o (sym s ∙ e)) }
 
 -- the same from an equal table
 pub given-from : {code T T' U z : List ℕ} {r : ℕ} → T ≡ T' → GivenSeen code T U z r → GivenSeen code T' U z r

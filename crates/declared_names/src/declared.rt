@@ -7,7 +7,7 @@ ghost use Rattle.declared_names.specs.PassPromises.{TypeKinded, TypeFaulted, pai
 use form::name_endings::PLAIN;
 use form::{node, shapes};
 use lexical::bounds;
-use lexical::refusals::{Fault, Refusal};
+use refusals::{Fault, Refusal};
 use type_rules::entries;
 use type_rules::kinds::{
     all_well, element_of, is_given, lesser_of, look, over_fault, pair_of, put, range_fits, set_of,
@@ -60,51 +60,43 @@ fn pairs_fault(i: usize, g: u16, h: u16, sizes: &[u16]) -> Option<Fault>
 pub fn declare(code: &[u16], names: &mut [u16], sizes: &[u16]) -> Result<(), Fault>
     ensures { DeclaredSeen code.now names.old names.new sizes.now (refused_key result) }
 {
-    let mut at: usize = 0;
-    while node::DECLARATION <= code.len() - at {
-        all_well(declaration_fault(code, at, names, sizes))?;
-        reach(code, at, PLAIN, names);
-        at += node::DECLARATION;
+    for d in code.chunks_exact(node::DECLARATION) {
+        all_well(declaration_fault(d, names, sizes))?;
+        reach(d, PLAIN, names);
     }
     Ok(())
 }
 
-// The first fault of the declaration whose node begins at `at`.
-fn declaration_fault(code: &[u16], at: usize, names: &[u16], sizes: &[u16]) -> Option<Fault>
-    requires { at + 8 ≤ length code.now }
-    ensures { DeclarationFaulted code.now at names.now sizes.now (fault_key result) }
+// The first fault of a declaration, by its nodes.
+fn declaration_fault(d: &[u16], names: &[u16], sizes: &[u16]) -> Option<Fault>
+    requires { length d.now ≡ 8 }
+    ensures { DeclarationFaulted d.now 0 names.now sizes.now (fault_key result) }
 {
-    let old = look(names, usize::from(code[at + node::A]));
+    let old = look(names, usize::from(d[node::A]));
     let here = unless(
         old == entries::FREE,
-        usize::from(code[at + node::PLACE]),
+        usize::from(d[node::PLACE]),
         Refusal::NameInUse,
     );
-    let of_type = type_fault(code, at + node::SIZE, names, sizes);
+    let of_type = type_fault(d, node::SIZE, names, sizes);
     lesser_of(here, of_type)
 }
 
 // A declared name comes into reach, with `shift` added to its number.
-fn reach(code: &[u16], at: usize, shift: u16, names: &mut [u16])
-    requires { at + 8 ≤ length code.now }
-    ensures { Reached code.now at shift names.old names.new }
+fn reach(d: &[u16], shift: u16, names: &mut [u16])
+    requires { length d.now ≡ 8 }
+    ensures { Reached d.now 0 shift names.old names.new }
 {
-    let k = type_kind(code, at + node::SIZE, names);
-    put(
-        names,
-        usize::from(code[at + node::A]) + usize::from(shift),
-        k,
-    );
+    let k = type_kind(d, node::SIZE, names);
+    put(names, usize::from(d[node::A]) + usize::from(shift), k);
 }
 
 // Declared names come into reach.
 pub fn show(code: &[u16], shift: u16, names: &mut [u16])
     ensures { ShownSeen code.now shift names.old names.new }
 {
-    let mut at: usize = 0;
-    while node::DECLARATION <= code.len() - at {
-        reach(code, at, shift, names);
-        at += node::DECLARATION;
+    for d in code.chunks_exact(node::DECLARATION) {
+        reach(d, shift, names);
     }
 }
 
@@ -112,14 +104,8 @@ pub fn show(code: &[u16], shift: u16, names: &mut [u16])
 pub fn hide(code: &[u16], shift: u16, k: u16, names: &mut [u16])
     ensures { HiddenSeen code.now shift k names.old names.new }
 {
-    let mut at: usize = 0;
-    while node::DECLARATION <= code.len() - at {
-        put(
-            names,
-            usize::from(code[at + node::A]) + usize::from(shift),
-            k,
-        );
-        at += node::DECLARATION;
+    for d in code.chunks_exact(node::DECLARATION) {
+        put(names, usize::from(d[node::A]) + usize::from(shift), k);
     }
 }
 
@@ -128,46 +114,43 @@ pub fn give(code: &[u16], names: &mut [u16], sizes: &mut [u16]) -> Result<(), Fa
     requires { 8 ≤ length sizes.old }
     ensures { GivenSeen code.now names.old names.new sizes.new (refused_key result) }
 {
-    let mut at: usize = 0;
     let mut g: u16 = 0;
-    while node::SIZE <= code.len() - at {
-        all_well(given_fault(code, at, names))?;
-        g = counted(code, at, g);
-        let k = given_kind(code, at, g);
-        put(names, usize::from(code[at + node::A]), k);
-        count_given(code, at, g, sizes);
-        at += node::SIZE;
+    for n in code.chunks_exact(node::SIZE) {
+        all_well(given_fault(n, names))?;
+        g = counted(n, g);
+        let k = given_kind(n, g);
+        put(names, usize::from(n[node::A]), k);
+        count_given(n, g, sizes);
     }
     Ok(())
 }
 
 // How many given sets there are at most, and how many elements each has.
+// Form 1: limits of document 01 as the table's numbers, no kinds.
 const GIVEN_SETS: u16 = bounds::GIVEN_SETS as u16;
 
 const ELEMENTS: u16 = bounds::ELEMENTS as u16;
 
-// How many given sets have begun behind the node at `at`.
-fn counted(code: &[u16], at: usize, g: u16) -> u16
-    requires { (at + 4 ≤ length code.now) × (g ≤ 8) }
-    ensures { Counted code.now at g result }
+// How many given sets have begun behind a node.
+// Form 5: `chunks_exact` lends slices, of whose length only the cut speaks.
+fn counted(n: &[u16], g: u16) -> u16
+    requires { (length n.now ≡ 4) × (g ≤ 8) }
+    ensures { Counted n.now 0 g result }
 {
-    if code[at + node::SHAPE] != shapes::GIVEN {
+    if n[node::SHAPE] != shapes::GIVEN {
         return g;
     }
-    if g < GIVEN_SETS {
-        return g + 1;
-    }
-    g
+    (g + 1).min(GIVEN_SETS)
 }
 
 // A title stands behind its heading, an element at its own place.
-fn given_fault(code: &[u16], at: usize, names: &[u16]) -> Option<Fault>
-    requires { at + 4 ≤ length code.now }
-    ensures { GivenFaulted code.now at names.now (fault_key result) }
+fn given_fault(n: &[u16], names: &[u16]) -> Option<Fault>
+    requires { length n.now ≡ 4 }
+    ensures { GivenFaulted n.now 0 names.now (fault_key result) }
 {
-    let old = look(names, usize::from(code[at + node::A]));
-    let i = usize::from(code[at + node::PLACE]);
-    if code[at + node::SHAPE] == shapes::GIVEN {
+    let old = look(names, usize::from(n[node::A]));
+    let i = usize::from(n[node::PLACE]);
+    if n[node::SHAPE] == shapes::GIVEN {
         return unless(old == entries::FREE, i + 1, Refusal::NameInUse);
     }
     unless(old == entries::FREE, i, Refusal::NameInUse)
@@ -179,31 +162,31 @@ const BEFORE_GIVEN: u16 = entries::GIVEN - 1;
 const BEFORE_ELEMENT: u16 = entries::ELEMENT - 1;
 
 // What the title of the given set g is, counted from 1, or one of its elements.
-fn given_kind(code: &[u16], at: usize, g: u16) -> u16
-    requires { (at + 4 ≤ length code.now) × (g ≤ 8) }
-    ensures { GivenKind code.now at g result }
+fn given_kind(n: &[u16], g: u16) -> u16
+    requires { (length n.now ≡ 4) × (g ≤ 8) }
+    ensures { GivenKind n.now 0 g result }
 {
-    if code[at + node::SHAPE] == shapes::GIVEN {
+    if n[node::SHAPE] == shapes::GIVEN {
         return BEFORE_GIVEN + g;
     }
     BEFORE_ELEMENT + g
 }
 
 // The given set g, counted from 1, has one more element, or begins.
-fn count_given(code: &[u16], at: usize, g: u16, sizes: &mut [u16])
-    requires { at + 4 ≤ length code.now }
-    ensures { SizeCounted code.now at g sizes.old sizes.new }
+fn count_given(n: &[u16], g: u16, sizes: &mut [u16])
+    requires { length n.now ≡ 4 }
+    ensures { SizeCounted n.now 0 g sizes.old sizes.new }
 {
     if g == 0 {
         return;
     }
     let x = usize::from(g) - 1;
-    if code[at + node::SHAPE] == shapes::GIVEN {
+    if n[node::SHAPE] == shapes::GIVEN {
         put(sizes, x, 0);
         return;
     }
-    let n = look(sizes, x);
-    if n < ELEMENTS {
-        put(sizes, x, n + 1);
+    let m = look(sizes, x);
+    if m < ELEMENTS {
+        put(sizes, x, m + 1);
     }
 }

@@ -7,7 +7,7 @@ use native.Mathlib.Omega.{arith}
 use borrow.Author.Tests.{ltb-true, leb-true, eqb-true, lt-ltb, le-leb, eq-eqb}
 use lib.Dec.{eqb, ltb, leb}
 use lib.ListN.{get_or-replicate}
-use Rattle.symbols.proofs.BooleanTests.{and_both, and_left, and_right, on-cond}
+use Rattle.lexical.proofs.BooleanTests.{and_both, and_left, and_right, on-cond}
 use Rattle.static_rules.specs.Read.{Reading, refusal, reading, read}
 use Rattle.obligations.specs.Subjects.{Subject, subject_of}
 use Rattle.obligations.specs.Order.{obligation_of, total}

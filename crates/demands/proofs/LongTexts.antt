@@ -9,7 +9,7 @@ use borrow.Author.Tests.{lt-ltb}
 use lib.ListN.{length, take}
 use lib.Seq.{length-take-le, take_all}
 use Rattle.lexical.specs.Symbols.{length_faults}
-use Rattle.lexical.specs.Refusals.{fault, lesser, least, long_text}
+use Rattle.refusals.specs.Refusals.{fault, lesser, least, long_text}
 use Rattle.form.specs.Tree.{Dossier}
 use Rattle.static_rules.specs.Read.{Reading, refusal, reading, pass, read_symbols, read}
 use Rattle.obligations.specs.Report.{reported, report}

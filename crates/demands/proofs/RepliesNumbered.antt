@@ -4,8 +4,8 @@ use mathlib.Core.Bool.{true, false}
 use mathlib.Core.List.{List, [], ◌∷◌}
 use Prim.Native.Nat.{ℕ}
 use lib.Dec.{eqb}
-use Rattle.lexical.specs.Refusals.{Refusal, long_text, unlisted_symbol, many_symbols, no_dossier, deep, many_declared, heading_differs, name_in_use, name_unknown, types_misfit, wide_type, many_bindings, large_size, zero_divisor}
-use Rattle.lexical.specs.Refusals.{advance_range, short_bytes, nothing_held, something_held, check_finished, no_counterexample, number_of, fault}
+use Rattle.refusals.specs.Refusals.{Refusal, long_text, unlisted_symbol, many_symbols, no_dossier, deep, many_declared, heading_differs, name_in_use, name_unknown, types_misfit, wide_type, many_bindings, large_size, zero_divisor}
+use Rattle.refusals.specs.Refusals.{advance_range, short_bytes, nothing_held, something_held, check_finished, no_counterexample, number_of, fault}
 use Rattle.obligations.specs.Calls as calls
 use Rattle.held_checks.specs.Answers.{Answer, refused, refused_at, loaded, dropped, looked, verdict_is, written, answer_to}
 

@@ -1,7 +1,7 @@
 -- The demands over the code: of every list of calls on the held bytes, from all zero on, whose steps are the very promises in the calls' `ensures` (held_checks/specs/CallPromises.Responds).
 use Rattle.std.specs.Prelude.{◌≡◌, List, [], ◌∷◌, ◌++◌, ℕ, suc, ◌≤◌, ◌+◌, ◌-◌, min, length, drop}
 use Rattle.lexical.specs.Lists.{bytes}
-use Rattle.lexical.specs.Refusals.{Fault}
+use Rattle.refusals.specs.Refusals.{Fault}
 use Rattle.form.specs.Tree.{Dossier}
 use Rattle.static_rules.specs.Read.{refusal, reading, read}
 use Rattle.obligations.specs.Subjects.{Subject, subject_of}

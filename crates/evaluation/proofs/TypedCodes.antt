@@ -14,7 +14,7 @@ use Rattle.value_types.specs.StaticRulesCarriers.{plain}
 use Rattle.value_types.specs.StaticRulesTypes.{is_element, is_pairs, Ty, has, same_type, pairs_of_types, is_any_set, prefix_fits, operator_fits, member_fits, related_fits}
 use Rattle.value_types.specs.StaticRulesScope.{Scope}
 use Rattle.sets.specs.Sets as sets
-use Rattle.value_types.proofs.SymbolsBooleanTests.{and_both, and_left, and_right}
+use Rattle.value_types.proofs.LexicalBooleanTests.{and_both, and_left, and_right}
 use Rattle.value_types.specs.MeaningValues.{Value, natural, prefix_value, pair_bit}
 use Rattle.value_types.specs.MeaningMeaning.{Environment, size_of_given}
 use Rattle.value_types.specs.TypedValues.{IsElementOf, HasType, sizes_over, Carried}

@@ -1,6 +1,7 @@
 // The evaluator: values of terms and predicates over the table that the reader leaves (table_places/specs/ResolvedTable). A node is four numbers, second, first,
 // end, shape, and stands behind its parts; `end` is the place behind a node, its last part ends where the node begins, an earlier one where the node says.
 // A slot has the value of a variable or of a bound name; every function leaves the slots as they were. The caller lends the table: shapes and codes are numbers in it.
+// Form 5: each walk asks `Inside end` for itself, since `end` moves at each call: a struct of table and `end` would be made anew, and its fact shown, for each part.
 #![tactic(auto)]
 
 ghost use Rattle.std.specs.Prelude.{◌≡◌, ℕ, ◌<◌, ◌≤◌, ℤ, pos, nat_abs, ◌+ℤ◌, ◌-ℤ◌};
@@ -16,13 +17,14 @@ use operators::{
 };
 use table_nodes::table_shapes;
 
+// Form 1: codes of symbols as the table has them, as in `operators`.
 const FORALL: u16 = codes::FORALL as u16;
 
 const EXISTS: u16 = codes::EXISTS as u16;
 
 const IN: u16 = codes::IN as u16;
 
-// How many slots there are.
+// Form 1: a length and places in a node, no kinds. How many slots there are.
 pub const SLOTS: usize = table_nodes::slots::ELEMENTS as usize;
 
 // How far before its end a node's numbers stand. Behind the last part of a binder, and of a membership in a range, stand two nodes: that of the set or range, and its own.
@@ -242,6 +244,7 @@ fn quantified(t: &[u16; node::NUMBERS], end: usize, slots: &mut [i64; SLOTS]) ->
 }
 
 // Is the predicate of the quantifier as wanted at one of the values?
+// Form 7: `wanted` is the truth value that is looked for, false in forall and true in exists: what is compared, not which step to run.
 #[cycle(evaluation)]
 fn some(t: &[u16; node::NUMBERS], end: usize, wanted: bool, slots: &mut [i64; SLOTS]) -> bool
     requires inside { Inside end }

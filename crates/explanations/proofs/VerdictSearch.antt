@@ -16,7 +16,7 @@ use Rattle.reports.proofs.VerdictLines.{whole-look, failed-inside}
 use Rattle.reports.proofs.VerdictLaws.{found-at}
 use Rattle.state_facts.specs.Reads.{ReadAsked}
 use Rattle.text_readings.specs.TextPromises.{ReadsText}
-use Rattle.lexical.specs.declared.refusals.Fault.{Fault}
+use Rattle.refusals.specs.declared.Fault.{Fault}
 use Rattle.reports.specs.ReportPromises.{VerdictAsked}
 use Rattle.reports.proofs.ReportAnswers.{verdict-asked}
 

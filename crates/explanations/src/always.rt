@@ -13,6 +13,7 @@ use state_facts::omissions::left_out;
 use step_facts::{Place, narrowed, spans, widened};
 
 // The contexts of the operations' predicates: two for each, the abstract one first.
+// Form 1: the first context and counts, no kinds.
 const OPERATIONS: usize = 5;
 
 const SIDES: usize = 2;
@@ -96,19 +97,17 @@ pub fn say_omissions(d: &Dossier<'_>, page: &mut Page)
 
 // ---- preconditions
 
-// A place where the preconditions differ; says whether there is one.
-fn say_place(page: &mut Page, phrase: usize, j: usize, place: Option<Place>) -> bool {
-    let Some(p) = place else {
-        return false;
-    };
-    let before = Numbers {
-        a: p.a,
-        c: p.c,
-        i: p.i,
-        ..NONE
-    };
-    say_at(page, phrase, j, before);
-    true
+// A place where the preconditions differ, if there is one.
+fn say_place(page: &mut Page, phrase: usize, j: usize, place: Option<Place>) {
+    if let Some(p) = place {
+        let before = Numbers {
+            a: p.a,
+            c: p.c,
+            i: p.i,
+            ..NONE
+        };
+        say_at(page, phrase, j, before);
+    }
 }
 
 fn say_precondition(d: &Dossier<'_>, j: usize, page: &mut Page)
@@ -120,10 +119,10 @@ fn say_precondition(d: &Dossier<'_>, j: usize, page: &mut Page)
         return;
     }
     let n = narrowed(d, j);
-    let is_narrowed = say_place(page, words::NARROWED, j, n);
     let w = widened(d, j);
-    let is_widened = say_place(page, words::WIDENED, j, w);
-    if !is_narrowed && !is_widened {
+    say_place(page, words::NARROWED, j, n);
+    say_place(page, words::WIDENED, j, w);
+    if n.is_none() && w.is_none() {
         say_for(page, words::NEITHER, j);
     }
 }

@@ -7,6 +7,7 @@ use form::node::NUMBERS;
 use pages::{Item, Page, plain};
 use search_groups::Dossier;
 use state_facts::{Numbers, Sizes, show};
+use text_places::Span;
 
 // Where a row has the ends of its conjunct's nodes.
 const FROM: usize = 0;
@@ -45,30 +46,12 @@ pub fn states(a: usize, c: usize) -> Numbers {
     Numbers { a, c, ..NONE }
 }
 
-// The text of the conjunct whose row begins there, if it has one; says whether it has.
-pub fn say_conjunct(
-    text: &[u8],
-    rows: &[u16; NUMBERS],
-    row: Option<usize>,
-    phrase: usize,
-    page: &mut Page,
-) -> bool {
-    let Some(row) = row else {
-        return false;
-    };
-    let Some(ends) = rows.get(row..) else {
-        return false;
-    };
-    let (Some(from), Some(end)) = (ends.get(FROM).copied(), ends.get(END).copied()) else {
-        return false;
-    };
-    match bytes_of(text, usize::from(from), usize::from(end)) {
-        Some(b) => {
-            page.say_of(phrase, 0, b.from, b.to);
-            true
-        }
-        None => false,
-    }
+// The bytes of the conjunct whose row begins there, if it has some.
+pub fn conjunct_at(text: &[u8], rows: &[u16; NUMBERS], row: Option<usize>) -> Option<Span> {
+    let ends = rows.get(row?..)?;
+    let from = ends.get(FROM).copied()?;
+    let end = ends.get(END).copied()?;
+    bytes_of(text, usize::from(from), usize::from(end))
 }
 
 // How many variables the groups of an operation have.

@@ -1,4 +1,5 @@
 // What is explained of a text: the items of a page, from facts that are proved, and the page written in words.
+// Form 5: tried: `IsRead` as a ghost field of a struct of text and dossier; a ghost field must be a proposition, which that fact is not proved to be.
 #![tactic(auto)]
 
 ghost use Rattle.std.specs.Prelude.{◌≤◌};
@@ -7,20 +8,17 @@ ghost use Rattle.explanations.specs.Asked.{IsRead, IsPlaced};
 use crate::accepted::say_accepted;
 use crate::always::{say_omissions, say_preconditions};
 use crate::refuted::{say_applicability, say_correctness, say_initialisation};
-use form::node::NUMBERS;
 use labels::LABELS;
-use lexical::refusals::Fault;
 use pages::{Item, Page};
 use part_places::{Found, find, total};
 use parts::search;
 use phrases::{Filling, SLOTS, Source, put_phrase};
 use refusal_pages::say_refusal;
+use refusals::Fault;
 use search_groups::Dossier;
-use search_groups::conjuncts::FIRSTS;
-use search_groups::groups::GROUPS;
 use sheets::{SHEET, Sheet};
 use state_facts::{Numbers, Sizes, show};
-use text_readings::read_text;
+use text_readings::Arrays;
 
 mod accepted;
 mod always;
@@ -169,30 +167,13 @@ fn explain_refusal(text: &[u8], labels: &[u16; LABELS], f: Fault, out: &mut [u8;
 pub fn explain(text: &[u8], out: &mut [u8; SHEET]) -> usize
     ensures { result ≤ 65536 }
 {
-    let mut table = [0u16; NUMBERS];
-    let mut rows = [0u16; NUMBERS];
-    let mut firsts = [0u16; FIRSTS];
-    let mut groups = [0u16; GROUPS];
-    let mut labels = [0u16; LABELS];
-    let answer = read_text(
-        text,
-        &mut table,
-        &mut rows,
-        &mut firsts,
-        &mut groups,
-        &mut labels,
-    );
+    let mut a = Arrays::new();
+    let answer = a.read(text);
     match answer {
-        Err(f) => explain_refusal(text, &labels, f, out),
+        Err(f) => explain_refusal(text, &a.labels, f, out),
         Ok(operations) => {
-            let d = Dossier {
-                table: &table,
-                rows: &rows,
-                firsts: &firsts,
-                groups: &groups,
-                operations,
-            };
-            explain_dossier(text, &labels, &d, out)
+            let d = a.dossier(operations);
+            explain_dossier(text, &a.labels, &d, out)
         }
     }
 }

@@ -37,19 +37,7 @@ fn say_entries(marks: &[u64; PAIRS], x: usize, n: usize, page: &mut Page) {
     }
 }
 
-// What the marks say of a pair.
-fn say_marked(marks: &[u64; PAIRS], x: usize, whole: bool, pairs: usize, page: &mut Page) {
-    match layer_of(mark_at(marks, x)) as usize {
-        0 if whole => page.say(words::NOT_REACHED),
-        0 => page.say_of(words::REACHED_LEFT_OUT, 0, pairs, PAIRS),
-        1 => page.say(words::REACHED_AT_ONCE),
-        n => {
-            page.say(words::REACHED_BY_A_LIST);
-            say_entries(marks, x, n - 1, page);
-        }
-    }
-}
-
+// What the marks say of a pair of states.
 pub fn say_reached(d: &Dossier<'_>, a: usize, c: usize, page: &mut Page)
     requires { IsRead d.now }
 {
@@ -57,5 +45,13 @@ pub fn say_reached(d: &Dossier<'_>, a: usize, c: usize, page: &mut Page)
     let mut marks = [0u64; PAIRS];
     let whole = reach(d, BUDGET, &mut marks);
     let x = product(a, s.nc).saturating_add(c);
-    say_marked(&marks, x, whole, product(s.na, s.nc), page);
+    match layer_of(mark_at(&marks, x)) as usize {
+        0 if whole => page.say(words::NOT_REACHED),
+        0 => page.say_of(words::REACHED_LEFT_OUT, 0, product(s.na, s.nc), PAIRS),
+        1 => page.say(words::REACHED_AT_ONCE),
+        n => {
+            page.say(words::REACHED_BY_A_LIST);
+            say_entries(&marks, x, n - 1, page);
+        }
+    }
 }

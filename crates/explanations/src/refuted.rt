@@ -1,8 +1,11 @@
 // A counterexample: the binding, what holds there, and what fails.
+// Form 5: tried: the text and its dossier as one struct with a ghost field `IsRead`; such a fact is no proposition, as a ghost field must be, and the borrow checker does not cover the function that
+// makes the struct of arrays of its own. The page is what is written, lent for one call (DECISIONS L7).
+ghost use Rattle.std.specs.Prelude.{◌<◌};
 ghost use Rattle.explanations.specs.Asked.{IsRead};
 
 use crate::bounds::product;
-use crate::items::{NONE, say_at, say_conjunct, say_for, states};
+use crate::items::{NONE, conjunct_at, say_at, say_for, states};
 use crate::reached::say_reached;
 use pages::Page;
 use phrases::words;
@@ -14,15 +17,6 @@ use step_facts::{Widths, abstract_step, spans};
 
 // How many states of a list are shown.
 const SHOWN: usize = 4;
-
-// x / y, and what is left; 0 where y is 0.
-fn quotient(x: usize, y: usize) -> usize {
-    x.checked_div(y).unwrap_or(0)
-}
-
-fn rest(x: usize, y: usize) -> usize {
-    x.checked_rem(y).unwrap_or(0)
-}
 
 // The states of an item, and why they are not related.
 fn say_unrelated(
@@ -38,13 +32,9 @@ fn say_unrelated(
 {
     say_at(page, phrase, j, x);
     let row = false_conjunct(d, pair.0, pair.1);
-    say_conjunct(
-        text,
-        d.rows,
-        row,
-        words::WHY_TWO_STATES_ARE_NOT_RELATED,
-        page,
-    );
+    if let Some(b) = conjunct_at(text, d.rows, row) {
+        page.say_of(words::WHY_TWO_STATES_ARE_NOT_RELATED, 0, b.from, b.to);
+    }
 }
 
 // ---- initialisation
@@ -90,10 +80,12 @@ pub fn say_initialisation(text: &[u8], d: &Dossier<'_>, c: usize, page: &mut Pag
 // ---- operations
 
 // A binding with the outputs and the abstract state after of a step by its number, where there are na abstract states.
-fn stepped(x: Numbers, step: usize, na: usize) -> Numbers {
+fn stepped(x: Numbers, step: usize, na: usize) -> Numbers
+    requires { 0 < na }
+{
     Numbers {
-        o: quotient(step, na),
-        b: rest(step, na),
+        o: step / na,
+        b: step % na,
         ..x
     }
 }
@@ -107,12 +99,14 @@ fn say_binding(phrase: usize, j: usize, x: Numbers, page: &mut Page) {
 // ---- applicability
 
 // The numbers of a place of applicability.
-fn applied(place: usize, s: Widths) -> Numbers {
-    let x = quotient(place, s.ni);
+fn applied(place: usize, s: Widths) -> Numbers
+    requires { (0 < s.nc) × (0 < s.ni) }
+{
+    let x = place / s.ni;
     Numbers {
-        a: quotient(x, s.nc),
-        c: rest(x, s.nc),
-        i: rest(place, s.ni),
+        a: x / s.nc,
+        c: x % s.nc,
+        i: place % s.ni,
         ..NONE
     }
 }
@@ -137,24 +131,27 @@ fn say_guard(text: &[u8], d: &Dossier<'_>, j: usize, x: Numbers, page: &mut Page
     requires { IsRead d.now }
 {
     let row = false_guard(d, j, x.c, x.i);
-    if !say_conjunct(text, d.rows, row, words::A_CONDITION_THAT_IS_FALSE, page) {
-        page.say(words::NO_SINGLE_CONDITION);
+    match conjunct_at(text, d.rows, row) {
+        Some(b) => page.say_of(words::A_CONDITION_THAT_IS_FALSE, 0, b.from, b.to),
+        None => page.say(words::NO_SINGLE_CONDITION),
     }
 }
 
 // ---- correctness
 
 // The numbers of a place of correctness.
-fn corrected(place: usize, s: Widths) -> Numbers {
-    let by_output = quotient(place, s.nc);
-    let by_input = quotient(by_output, s.nq);
-    let by_concrete = quotient(by_input, s.ni);
+fn corrected(place: usize, s: Widths) -> Numbers
+    requires { (0 < s.nc) × (0 < s.ni) × (0 < s.nq) }
+{
+    let by_output = place / s.nc;
+    let by_input = by_output / s.nq;
+    let by_concrete = by_input / s.ni;
     Numbers {
-        a: quotient(by_concrete, s.nc),
-        c: rest(by_concrete, s.nc),
-        i: rest(by_input, s.ni),
-        o: rest(by_output, s.nq),
-        k: rest(place, s.nc),
+        a: by_concrete / s.nc,
+        c: by_concrete % s.nc,
+        i: by_input % s.ni,
+        o: by_output % s.nq,
+        k: place % s.nc,
         b: 0,
     }
 }

@@ -9,12 +9,12 @@ use lib.Dec.{eqb, ltb}
 use lib.ListN.{length, take, drop, get_or}
 use lib.Seq.{take-suc, take-length}
 use borrow.Author.Tests.{le-ltb, ltb-true, ltb-false, eqb-true, eq-eqb}
-use Rattle.symbols.proofs.BooleanTests.{and_left, and_right, clash, or-false}
+use Rattle.lexical.proofs.BooleanTests.{and_left, and_right, clash, or-false}
 use Rattle.lexical.specs.Kinds as kind
 use Rattle.lexical.specs.Kinds.{Kind, code_of, is, lookup}
 use Rattle.lexical.specs.Symbols.{Symbol, fixed}
-use Rattle.lexical.specs.Refusals.{Refusal, fault, number_of, before, long_text, unlisted_symbol, many_symbols, no_dossier, deep, many_declared, heading_differs, name_in_use, name_unknown}
-use Rattle.lexical.specs.Refusals.{types_misfit, wide_type, many_bindings, large_size, zero_divisor, advance_range, short_bytes, nothing_held, something_held, check_finished, no_counterexample}
+use Rattle.refusals.specs.Refusals.{Refusal, fault, number_of, before, long_text, unlisted_symbol, many_symbols, no_dossier, deep, many_declared, heading_differs, name_in_use, name_unknown}
+use Rattle.refusals.specs.Refusals.{types_misfit, wide_type, many_bindings, large_size, zero_divisor, advance_range, short_bytes, nothing_held, something_held, check_finished, no_counterexample}
 use Rattle.form.specs.Tree.{Dossier}
 use Rattle.form.specs.Written.{Mark, unmarked, written, write_contents}
 use Rattle.form.specs.Form as shape

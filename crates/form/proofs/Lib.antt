@@ -30,4 +30,4 @@ pub mod Lengths
 pub mod RelationsBehind
 pub mod FewBoundNames
 -- what crates above name of crates below
-pub use Rattle.symbols.proofs.BooleanTests as SymbolsBooleanTests
+pub use Rattle.lexical.proofs.BooleanTests as LexicalBooleanTests

@@ -9,7 +9,7 @@ use native.Mathlib.Nat.{add-zero}
 use lib.ListN.{length, take, drop}
 use Rattle.lexical.specs.Kinds.{Kind}
 use Rattle.lexical.specs.Symbols.{Symbol, kind_of}
-use Rattle.lexical.specs.Refusals.{Refusal, no_dossier}
+use Rattle.refusals.specs.Refusals.{Refusal, no_dossier}
 use Rattle.form.specs.Written.{Mark}
 use Rattle.form.specs.Form.{kind_at, settled}
 use Rattle.form.specs.Machine.{Item, Next, go, halt, step, ends, Run, complete, failed, unless_over, onward, run_from}

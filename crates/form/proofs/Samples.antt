@@ -8,7 +8,7 @@ use Prim.Native.String.{String}
 use lib.Dec.{eqb}
 use Rattle.lexical.specs.Lists.{all, bytes}
 use Rattle.lexical.specs.Base.{Parts, dossier_of}
-use Rattle.lexical.specs.Refusals.{Refusal, number_of, no_dossier, deep, many_declared, Fault}
+use Rattle.refusals.specs.Refusals.{Refusal, number_of, no_dossier, deep, many_declared, Fault}
 use Rattle.form.specs.Tree.{Term, number, name, group, prefix, binary, divided, listed, pairs, such, empty_set, empty_pairs}
 use Rattle.form.specs.Tree.{Pred, truth, falsity, negation, paren, quantified, connected, compared, member, within, related}
 use Rattle.form.specs.Codes.{term_width, pred_width}

@@ -4,7 +4,7 @@ use Rattle.std.proofs.Math.Option.{Option, none, some}
 use Rattle.lexical.specs.Kinds as kind
 use Rattle.lexical.specs.Kinds.{Kind, is}
 use Rattle.lexical.specs.Symbols.{Symbol, fixed, kind_of}
-use Rattle.lexical.specs.Refusals.{Refusal, fault, before, no_dossier, deep, many_declared}
+use Rattle.refusals.specs.Refusals.{Refusal, fault, before, no_dossier, deep, many_declared}
 use Rattle.form.specs.Tree.{Operator, plus, minus, union, without, times, inter, Connective, and, or, implies, iff}
 use Rattle.form.specs.Tree.{Term, number, name, group, prefix, binary, divided, listed, pairs, such, empty_set, empty_pairs, Items, only, also, Pairs, only_pair, also_pair}
 use Rattle.form.specs.Tree.{Pred, truth, falsity, negation, paren, quantified, connected, compared, member, within, related, Operation, Dossier}

@@ -1,7 +1,7 @@
 -- Document 01, number 7: headings against contents; and the symbol at which each body begins.
 use Rattle.std.specs.Prelude.{List, [], ◌∷◌, ◌++◌, ℕ, suc, ◌+◌, length}
 use Rattle.lexical.specs.Lists.{same}
-use Rattle.lexical.specs.Refusals.{Fault, fault, heading_differs, unless}
+use Rattle.refusals.specs.Refusals.{Fault, fault, heading_differs, unless}
 use Rattle.form.specs.Tree.{Letters, Given, Operation, Dossier}
 use Rattle.form.specs.Written.{write_contents, write_givens, write_state, write_where, write_operations}
 

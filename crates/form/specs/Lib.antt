@@ -10,5 +10,5 @@ pub mod BoundNames
 -- what crates above name of crates below
 pub use Rattle.lexical.specs.Base as LexicalBase
 pub use Rattle.lexical.specs.Lists as LexicalLists
-pub use Rattle.lexical.specs.Refusals as LexicalRefusals
+pub use Rattle.refusals.specs.Refusals as LexicalRefusals
 pub use Rattle.lexical.specs.Symbols as LexicalSymbols

@@ -4,7 +4,7 @@ use Rattle.std.proofs.Math.Option.{Option, none, some}
 use Rattle.lexical.specs.Kinds as kind
 use Rattle.lexical.specs.Kinds.{Kind, lookup}
 use Rattle.lexical.specs.Symbols.{Symbol, kind_of}
-use Rattle.lexical.specs.Refusals.{Refusal, no_dossier}
+use Rattle.refusals.specs.Refusals.{Refusal, no_dossier}
 use Rattle.form.specs.Written.{Mark, unmarked, opens, binds, a_given, an_element, a_variable, an_input, an_output, an_operation}
 use Rattle.form.specs.Form.{settled, kind_at}
 

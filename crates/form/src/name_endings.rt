@@ -1,5 +1,6 @@
 // The ending of a name, which the name's number leaves when divided by `lexical::endings::COUNT` (`name_number` of specs/Codes.antt). The number of a plain
 // name, as a variable is declared, and one of these is the number of the name with that ending.
+// Form 1: they are added to names' numbers and compared with what these leave.
 use lexical::endings;
 
 pub const PLAIN: u16 = endings::NONE as u16;

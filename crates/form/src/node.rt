@@ -1,4 +1,5 @@
 // A node of a tree: four numbers, b, a, the place and the shape, and where the last three stand (`node` of specs/Codes.antt).
+// Form 1: lengths, and places in a node, no kinds.
 pub const SIZE: usize = 4;
 
 pub const A: usize = 1;

@@ -1,4 +1,5 @@
 // The shapes of nodes (specs/Codes.antt), each by what its node stands for.
+// Form 1: numbers of nodes in arrays that the caller lends, where an enum would not stand (DECISIONS L9); `match` takes them by name.
 // An entry `given NAME` of the contents, and an entry `op NAME`; a given set's heading, and an element; a state's heading; a declared name;
 // a predicate; an operation's heading.
 pub const GIVEN_ENTRY: u16 = 1;

@@ -1,6 +1,6 @@
 -- A `match` on a kind's code agrees with a table over kinds.
 use mathlib.Core.Path.{◌≡◌, refl, ap, ◌∙◌, sym, subst}
-use mathlib.Core.Bool.{Bool, true, false}
+use mathlib.Core.Bool.{Bool, true, false, true≢false, false≢true}
 use mathlib.Core.List.{List, [], ◌∷◌}
 use Prim.Native.Nat.{ℕ, zero, suc, ◌+◌, ◌*◌, ◌≤◌, ◌<◌}
 use native.Mathlib.Omega.{arith}
@@ -9,7 +9,9 @@ use borrow.Author.Tests.{eqb-true, eqb-false, ne_eqb, leb-true}
 use Rattle.lexical.specs.Lists.{all}
 use Rattle.lexical.specs.Kinds as kind
 use Rattle.lexical.specs.Kinds.{Kind, code_of, is, lookup}
-use Rattle.form_nodes.specs.FormPromises.{Classes, Starts, StartCode, start_as, level_of}
+use Rattle.lexical.specs.SymbolPromises.{is_name}
+use Rattle.lexical.proofs.NameCodes.{name-low, name-high, no-name}
+use Rattle.form_nodes.specs.FormPromises.{Classes, Starts, StartCode, start_as, level_of, bit, Named}
 use Rattle.form.specs.Machine.{starts, nothing}
 use Rattle.form_nodes.specs.declared.kinds.Start.{Start}
 use Rattle.form_nodes.specs.declared.kinds.Start.TheVariants.{Nothing}
@@ -77,6 +79,31 @@ spanned {t} {k} {v} lo n h a b l =
 
 pub missed : {t : List (Kind × ℕ)} {k : ℕ} → Misses k t → Classes t k 0
 missed {t} {k} m = record { none = omega arith; small = omega arith; class = λ κ q. lookup-miss t 0 κ (subst (λ (j : ℕ). Misses j t) (sym q) m) }
+
+-- a class is at most nine times the code
+pub class-code : {t : List (Kind × ℕ)} {k r v : ℕ} → Classes t k r → r ≡ v → v ≤ 9 * k
+class-code {k = k} h q = subst (λ (x : ℕ). x ≤ 9 * k) q h.none
+
+-- a class by a test that is known
+pub no-class : {t : List (Kind × ℕ)} {k : ℕ} {r : Bool} → Classes t k (bit r) → r ≡ false → (κ : Kind) → code_of κ ≡ k → lookup t 0 κ ≡ 0
+no-class h q κ e = h.class κ e ∙ ap bit q
+
+pub some-class : {t : List (Kind × ℕ)} {k : ℕ} {r : Bool} → Classes t k (bit r) → r ≡ true → (κ : Kind) → code_of κ ≡ k → lookup t 0 κ ≡ 0 → ⊥
+some-class h q κ e z = let w : ◌≡◌ {A = ℕ} 0 1 = sym z ∙ h.class κ e ∙ ap bit q in omega arith
+
+pub named : (k : ℕ) {r : Bool} → r ≡ is_name k → Named k r
+unfolding code_of
+named k {r = true} e =
+    let l = name-low k (sym e) in
+    let h = name-high k (sym e) in
+    record { classes = classed (omega arith) (omega arith) (omega arith); name = λ q. (l, h); none = λ q. absurd (true≢false q) }
+named k {r = false} e =
+    let f : 2 ≤ k → k ≤ 5 → ⊥ = no-name k (sym e) in
+    record {
+      classes = missed (λ q. f (omega arith) (omega arith), (λ q. f (omega arith) (omega arith), (λ q. f (omega arith) (omega arith), (λ q. f (omega arith) (omega arith), tt))));
+      name = λ q. absurd (false≢true q);
+      none = λ q. f;
+    }
 
 -- the same of what begins a term
 pub started : {k : ℕ} {r : Start} (lo n : ℕ) → Same (λ (j : ℕ). lookup starts nothing (kind_in kinds j)) (start_as r) lo n → lo ≤ k → k < lo + n → StartCode k r → Starts k r

@@ -14,8 +14,8 @@ use Rattle.lexical.specs.Lists.{all}
 use Rattle.lexical.specs.Kinds as kind
 use Rattle.lexical.specs.Kinds.{Kind, code_of, is}
 use Rattle.lexical.specs.Symbols.{Symbol, fixed, kind_of}
-use Rattle.lexical.specs.Refusals.{Refusal, deep}
-use Rattle.form.proofs.SymbolsBooleanTests.{and-right-false}
+use Rattle.refusals.specs.Refusals.{Refusal, deep}
+use Rattle.form.proofs.LexicalBooleanTests.{and-right-false}
 use Rattle.form.specs.Written.{opens, binds}
 use Rattle.form.specs.Form.{kind_at, is_range_end, is_used, settled, excess, refuse}
 use Rattle.form_nodes.specs.FormPromises.{codes, range_end_at, RangeEnd}

@@ -13,7 +13,7 @@ use borrow.Author.Tests.{ltb-true, ltb-false}
 use Rattle.lexical.specs.Kinds as kind
 use Rattle.lexical.specs.Kinds.{Kind, code_of}
 use Rattle.lexical.specs.Symbols.{Symbol, fixed, kind_of}
-use Rattle.lexical.specs.Refusals.{Refusal, no_dossier, deep}
+use Rattle.refusals.specs.Refusals.{Refusal, no_dossier, deep}
 use Rattle.form.specs.Written.{Mark, unmarked}
 use Rattle.form.specs.Form.{kind_at, settled}
 use Rattle.form.specs.Machine.{Item, Next, go, halt, step, ends, complete, failed, unless_over, onward, run_from}
@@ -23,8 +23,8 @@ use Rattle.std.specs.Prelude.{Result, Ok, Err, IsErrAnd}
 use Rattle.std.proofs.lemmas.Result.{err_from_is_err_and}
 use Rattle.form_nodes.specs.declared.Read.{Read}
 use Rattle.form_nodes.specs.FormPromises.{Answer}
-use Rattle.lexical.specs.declared.refusals.Fault.{Fault}
-use Rattle.lexical.specs.declared.refusals.Refusal.TheVariants.{NoDossier, Deep}
+use Rattle.refusals.specs.declared.Fault.{Fault}
+use Rattle.refusals.specs.declared.Refusal.TheVariants.{NoDossier, Deep}
 use Rattle.form.proofs.Table.{kinds, kind_in, kind-back}
 
 -- what a `?` returns where a part is at fault

@@ -1,5 +1,6 @@
 -- What stands from one symbol up to another, by what was read there.
 use mathlib.Core.Path.{◌≡◌, ◌∙◌, sym, subst}
+use mathlib.Core.Bool.{Bool, true}
 use mathlib.Core.List.{List}
 use Prim.Native.Nat.{ℕ, ◌+◌, ◌≤◌}
 use native.Mathlib.Omega.{arith}
@@ -34,8 +35,8 @@ pub whole-range : (s : List ℕ) (at n : ℕ) (e f : Read) (r : Answer) → Show
 whole-range s at n e f (Ok g) a b h = (ranges a.0 b.0.1 (subst (λ (i : ℕ). EndAt s i g.at) b.0.0 h.0), h.1 ∙ b.1 ∙ a.1)
 whole-range s at n e f (Err g) a b h = tt
 
-pub name-at : {s : List ℕ} {i k r : ℕ} → k ≡ get_or s i 0 → Named k r → (r ≡ 0 → ⊥) → NameAt s i
-name-at {r = r} q h f = let l : (2 ≤ _) × (_ ≤ 5) = h.name (omega arith) in record { low = omega arith; high = omega arith }
+pub name-at : {s : List ℕ} {i k : ℕ} {r : Bool} → k ≡ get_or s i 0 → Named k r → r ≡ true → NameAt s i
+name-at q h f = let l : (2 ≤ _) × (_ ≤ 5) = h.name f in record { low = omega arith; high = omega arith }
 
 -- a part whose nodes are one that was written
 pub made_one : {s ν a b : List ℕ} {x : Part} {i j n m : ℕ} {y : List ℕ} → Derives s ν x i j y → Writes a n y b m → MadeAt s ν x i n a b j m

@@ -1,5 +1,5 @@
 -- What the functions of the form pass promise each other, against the machine and the nodes of a tree. Nothing here need be believed.
-use Rattle.std.specs.Prelude.{◌≡◌, Bool, true, false, ◌&&◌, List, [], ◌∷◌, ◌++◌, map, ℕ, zero, suc, ◌+◌, ◌-◌, ◌*◌, ◌≤◌, ◌<◌, eqb, leb, length, take, drop, get_or, Result, Ok, Err}
+use Rattle.std.specs.Prelude.{◌≡◌, Bool, true, false, ◌&&◌, List, [], ◌∷◌, ◌++◌, map, ℕ, zero, suc, ◌+◌, ◌-◌, ◌*◌, ◌≤◌, ◌<◌, eqb, leb, length, take, drop, get_or, Result, Ok, Err, Option, Some, None}
 use Rattle.lexical.specs.Kinds as kind
 use Rattle.lexical.specs.Kinds.{Kind, code_of, lookup}
 use Rattle.lexical.specs.Symbols.{Symbol, kind_of}
@@ -8,9 +8,13 @@ use Rattle.form.specs.Machine as machine
 use Rattle.form.specs.Machine.{kind_before, Item, a_term_rest, a_pred_rest, Run, failed, run_from, starts}
 use Rattle.form_nodes.specs.declared.kinds.Start.{Start}
 use Rattle.form_nodes.specs.declared.kinds.Start.TheVariants.{Leaf, Prefix, Bracket, Brace, Empty, Nothing}
+use Rattle.form_nodes.specs.declared.kinds.PredStart.{PredStart}
+use Rattle.form_nodes.specs.declared.kinds.PredStart.TheVariants.{Truth, Negation, Paren, Term}
+use Rattle.form_nodes.specs.declared.kinds.Relation.{Relation}
+use Rattle.form_nodes.specs.declared.kinds.Relation.TheVariants.{Comparison, Membership, Pairing}
 use Rattle.form_nodes.specs.declared.Read.{Read}
-use Rattle.lexical.specs.declared.refusals.Fault.{Fault}
-use Rattle.lexical.specs.RefusalNames.{refusal_is}
+use Rattle.refusals.specs.declared.Fault.{Fault}
+use Rattle.refusals.specs.RefusalNames.{refusal_is}
 
 -- the kinds' numbers, which the code reads
 unfoldable pub codes : List Symbol → List ℕ
@@ -174,28 +178,45 @@ pub record PredReads (s : List ℕ) (at n d b min : ℕ) (ι : List Item) (r : A
   pub reads : (base : ℕ) → (min ≡ 1 → base ≡ d) → Reads s at n (ι ++ (a_pred_rest base d b ∷ [])) (a_pred_rest base d b ∷ []) r
   pub stops : PredStops s min r
 
-pub record Quantifies (k r : ℕ) : Type 0 where
-  pub classes : Classes quantifiers k r
-  pub low : r ≤ 9 * (k - 52)
-  pub high : r ≤ 9 * (56 - k)
+-- classes that are answers of tests, and those of the two enums, by their numbers in the tables
+abbrev pub bit : Bool → ℕ
+bit true = 1
+bit false = 0
 
-pub record Relates (k r : ℕ) : Type 0 where
-  pub classes : Classes relations k r
-  pub member : r ≡ 2 → (56 ≤ k) × (k ≤ 57)
-  pub maplet : 3 ≤ r → k ≡ 32
+abbrev pub start_class : PredStart → ℕ
+start_class Truth = 1
+start_class Negation = 2
+start_class Paren = 3
+start_class Term = 0
 
-pub record Members (k r : ℕ) : Type 0 where
-  pub classes : Classes memberships k r
-  pub member : 1 ≤ r → (56 ≤ k) × (k ≤ 57)
+abbrev pub relation_class : Option Relation → ℕ
+relation_class None = 0
+relation_class (Some Comparison) = 1
+relation_class (Some Membership) = 2
+relation_class (Some Pairing) = 3
 
-pub record Begins (k r : ℕ) : Type 0 where
-  pub classes : Classes pred_starts k r
-  pub paren : 3 ≤ r → k ≡ 15
+pub record Quantifies (k : ℕ) (r : Bool) : Type 0 where
+  pub classes : Classes quantifiers k (bit r)
+  pub quantifier : r ≡ true → (53 ≤ k) × (k ≤ 55)
 
-pub record Named (k r : ℕ) : Type 0 where
-  pub classes : Classes names k r
-  pub name : 1 ≤ r → (2 ≤ k) × (k ≤ 5)
-  pub none : r ≡ 0 → (2 ≤ k → k ≤ 5 → ⊥)
+pub record Relates (k : ℕ) (r : Option Relation) : Type 0 where
+  pub classes : Classes relations k (relation_class r)
+  pub member : r ≡ Some Membership → (56 ≤ k) × (k ≤ 57)
+  pub maplet : r ≡ Some Pairing → k ≡ 32
+
+pub record Members (k : ℕ) (r : Bool) : Type 0 where
+  pub classes : Classes memberships k (bit r)
+  pub member : r ≡ true → (56 ≤ k) × (k ≤ 57)
+
+pub record Begins (k : ℕ) (r : PredStart) : Type 0 where
+  pub classes : Classes pred_starts k (start_class r)
+  pub paren : r ≡ Paren → k ≡ 15
+
+-- of a test of `is_name` (lexical/specs/SymbolPromises)
+pub record Named (k : ℕ) (r : Bool) : Type 0 where
+  pub classes : Classes names k (bit r)
+  pub name : r ≡ true → (2 ≤ k) × (k ≤ 5)
+  pub none : r ≡ false → (2 ≤ k → k ≤ 5 → ⊥)
 
 -- what a scan that answers n symbols has left in the arrays
 pub record Left (text coded placed valued : List ℕ) (n : ℕ) : Type 0 where

@@ -1,11 +1,12 @@
 // The kinds of symbols, by their codes.
 ghost use Rattle.std.specs.Prelude.{◌≡◌, get_or};
-ghost use Rattle.form_nodes.specs.FormPromises.{KindAt, Classes, Starts, Begins, Members, Named, Quantifies, Relates, operators, connectives, level_of};
+ghost use Rattle.form_nodes.specs.FormPromises.{KindAt, Classes, Starts, Begins, Members, Quantifies, Relates, operators, connectives, level_of};
 
 use lexical::codes;
 
 // How a symbol begins a term.
-#[derive(Drop)]
+// Form 1: the six cases of the machine's `Start` (form/specs/Machine.antt), of which `Nothing` is one.
+#[derive(Clone, Copy)]
 pub enum Start {
     Leaf,
     Prefix,
@@ -15,7 +16,27 @@ pub enum Start {
     Nothing,
 }
 
-// The kind's code at a place, or 0 behind the end.
+// How a symbol begins a predicate: any that is not a truth value, `not` or ( begins a term.
+// Form 1: four ways, each with a reading of its own.
+#[derive(Clone, Copy)]
+pub enum PredStart {
+    Truth,
+    Negation,
+    Paren,
+    Term,
+}
+
+// What stands behind a predicate's first term: a comparison, a membership, |->.
+// Form 1: three relations; that none stands there is the `None` of `relation_of`.
+#[derive(Clone, Copy)]
+pub enum Relation {
+    Comparison,
+    Membership,
+    Pairing,
+}
+
+// The kind's code at a place.
+// Form 1: behind the end it is 0, no kind's code, so that a test is false there; with an Option each test would compare with `Some(..)`.
 pub fn kind_at(s: &[u8], at: usize) -> u8
     ensures { KindAt s.now at result }
 {
@@ -40,17 +61,16 @@ pub fn start_of(k: u8) -> Start
     }
 }
 
-// No symbol of the class that is asked for.
+// Operators of the lower level, of the higher, and those with a number on their right, which are of the higher; and the levels of connectives.
+// Form 1: levels are compared, none is below all, and a right side is read from the next level on (`o + 1`): they are numbers in the tables too.
 pub const NONE: u8 = 0;
 
-// Operators of the lower level, of the higher, and those with a number on their right, which are of the higher.
 pub const LOOSE: u8 = 1;
 
 pub const TIGHT: u8 = 2;
 
 pub const DIVIDES: u8 = 3;
 
-// The levels of connectives.
 pub const IFF_LEVEL: u8 = 1;
 
 pub const IMPLIES_LEVEL: u8 = 2;
@@ -58,23 +78,6 @@ pub const IMPLIES_LEVEL: u8 = 2;
 pub const OR_LEVEL: u8 = 3;
 
 pub const AND_LEVEL: u8 = 4;
-
-// What a predicate begins with, other than a term: a truth value, `not`, (.
-pub const TRUTH: u8 = 1;
-
-pub const NEGATION: u8 = 2;
-
-pub const PAREN: u8 = 3;
-
-// What stands behind a predicate's first term: a comparison, a membership, |->.
-pub const COMPARISON: u8 = 1;
-
-pub const MEMBERSHIP: u8 = 2;
-
-pub const PAIRING: u8 = 3;
-
-// The one class of quantifiers, and of names.
-pub const SOME: u8 = 1;
 
 // Which kind of operator it is.
 pub fn operator_of(k: u8) -> u8
@@ -113,57 +116,43 @@ pub fn connective_of(k: u8) -> u8
     }
 }
 
-// What a predicate begins with; none of these is a term.
-pub fn pred_start_of(k: u8) -> u8
+pub fn pred_start_of(k: u8) -> PredStart
     ensures { Begins k result }
 {
     match k {
-        codes::TRUE..=codes::FALSE => TRUTH,
-        codes::NOT => NEGATION,
-        codes::OPEN_PAREN => PAREN,
-        _ => NONE,
+        codes::TRUE..=codes::FALSE => PredStart::Truth,
+        codes::NOT => PredStart::Negation,
+        codes::OPEN_PAREN => PredStart::Paren,
+        _ => PredStart::Term,
     }
 }
 
-// What stands behind a predicate's first term.
-pub fn relation_of(k: u8) -> u8
+pub fn relation_of(k: u8) -> Option<Relation>
     ensures { Relates k result }
 {
     match k {
-        codes::EQUALS..=codes::AT_MOST => COMPARISON,
-        codes::IN..=codes::NOTIN => MEMBERSHIP,
-        codes::MAPLET => PAIRING,
-        _ => NONE,
+        codes::EQUALS..=codes::AT_MOST => Some(Relation::Comparison),
+        codes::IN..=codes::NOTIN => Some(Relation::Membership),
+        codes::MAPLET => Some(Relation::Pairing),
+        _ => None,
     }
 }
 
-pub fn membership_of(k: u8) -> u8
+// Is it `in` or `notin`?
+pub fn is_membership(k: u8) -> bool
     ensures { Members k result }
 {
-    match k {
-        codes::IN..=codes::NOTIN => SOME,
-        _ => NONE,
-    }
+    matches!(k, codes::IN..=codes::NOTIN)
 }
 
-pub fn quantifier_of(k: u8) -> u8
+pub fn is_quantifier(k: u8) -> bool
     ensures { Quantifies k result }
 {
-    match k {
-        codes::FORALL..=codes::EXISTS1 => SOME,
-        _ => NONE,
-    }
+    matches!(k, codes::FORALL..=codes::EXISTS1)
 }
 
-pub fn name_of(k: u8) -> u8
-    ensures { Named k result }
-{
-    match k {
-        codes::PLAIN..=codes::OUTPUT => SOME,
-        _ => NONE,
-    }
-}
-
+// The value of a symbol, or a number of a node.
+// Form 1: behind the end it is 0, as `get_or` of the definitions; the places are those of symbols that were read, or tested by the caller.
 pub fn value_at(v: &[u16], at: usize) -> u16
     ensures { result ≡ get_or v.now at 0 }
 {
@@ -171,10 +160,4 @@ pub fn value_at(v: &[u16], at: usize) -> u16
         return v[at];
     }
     0
-}
-
-pub fn wide(k: u8) -> u16
-    ensures { result ≡ k }
-{
-    k as u16
 }

@@ -1,16 +1,19 @@
 // The nodes of a tree, four numbers each (form/specs/Codes.antt).
+// Form 5: the place of a symbol and the numbers written so far change with each node.
+// Form 6: the node in front of a predicate counts its numbers and is written behind them (`condition` of parser): a writer that appends cannot.
 ghost use Rattle.std.specs.Prelude.{◌≡◌, [], ◌∷◌, ◌+◌, ◌≤◌, ◌<◌, length, get_or};
 ghost use Rattle.form.specs.Machine.{a_name, an_empty_rest};
 ghost use Rattle.form_nodes.specs.FormPromises.{Room, Writes, Reads};
 ghost use Rattle.form.specs.Codes.{node};
 ghost use Rattle.form_nodes.specs.Derivations.{Made, an_operand, name_code, end_code, magnitude_code, division_code, leaf_node, range_node, domain_node};
 
-use crate::Read;
-use crate::kinds::{NONE, kind_at, name_of, value_at, wide};
+use crate::kinds::{kind_at, value_at};
+use crate::{Read, Symbols};
 use form::{node, shapes};
 use lexical::bounds::{LARGEST_NUMBER, SYMBOLS};
-use lexical::refusals::{Fault, Refusal};
+use lexical::codes::is_name;
 use lexical::{codes, endings};
+use refusals::{Fault, Refusal};
 
 // The last number of a symbol; and of a plain name the code, which its ending is added to.
 const LAST_SYMBOL: u16 = SYMBOLS as u16 - 1;
@@ -30,33 +33,33 @@ pub fn put(code: &mut [u16], n: usize, shape: u16, place: usize, x: u16, y: u16)
 }
 
 // The number of a name: of its letters, and its ending.
-pub fn name_number(s: &[u8], v: &[u16], at: usize) -> u16
-    ensures { result ≡ name_code s.now v.now at }
+pub fn name_number(y: &Symbols<'_>, at: usize) -> u16
+    ensures { result ≡ name_code y.now.kinds.now y.now.values.now at }
 {
-    let k = kind_at(s, at);
-    let x = value_at(v, at);
+    let k = kind_at(y.kinds, at);
+    let x = value_at(y.values, at);
     if LAST_SYMBOL < x {
         return 0;
     }
     if k < codes::PLAIN {
         return 0;
     }
-    endings::COUNT * x + (wide(k) - PLAIN)
+    endings::COUNT * x + (u16::from(k) - PLAIN)
 }
 
 // An end of a range, plus 1,000.
-pub fn signed(s: &[u8], v: &[u16], at: usize) -> u16
+pub fn signed(y: &Symbols<'_>, at: usize) -> u16
     requires { at ≤ 4100 }
-    ensures { result ≡ end_code s.now v.now at }
+    ensures { result ≡ end_code y.now.kinds.now y.now.values.now at }
 {
-    if kind_at(s, at) == codes::DASH {
-        let x = value_at(v, at + 1);
+    if kind_at(y.kinds, at) == codes::DASH {
+        let x = value_at(y.values, at + 1);
         if LARGEST_NUMBER < x {
             return 0;
         }
         return LARGEST_NUMBER - x;
     }
-    let x = value_at(v, at);
+    let x = value_at(y.values, at);
     if LARGEST_NUMBER < x {
         return 0;
     }
@@ -64,14 +67,14 @@ pub fn signed(s: &[u8], v: &[u16], at: usize) -> u16
 }
 
 // A divisor's magnitude; the sign, and which of the two divisions it is.
-pub fn magnitude(s: &[u8], v: &[u16], at: usize) -> u16
+pub fn magnitude(y: &Symbols<'_>, at: usize) -> u16
     requires { at ≤ 4100 }
-    ensures { result ≡ magnitude_code s.now v.now at }
+    ensures { result ≡ magnitude_code y.now.kinds.now y.now.values.now at }
 {
-    if kind_at(s, at) == codes::DASH {
-        return value_at(v, at + 1);
+    if kind_at(y.kinds, at) == codes::DASH {
+        return value_at(y.values, at + 1);
     }
-    value_at(v, at)
+    value_at(y.values, at)
 }
 
 pub fn division(s: &[u8], at: usize) -> u16
@@ -91,67 +94,67 @@ pub fn division(s: &[u8], at: usize) -> u16
 }
 
 // The node of a number or a name.
-pub fn leaf(s: &[u8], v: &[u16], at: usize, code: &mut [u16], n: usize) -> usize
+pub fn leaf(y: &Symbols<'_>, at: usize, code: &mut [u16], n: usize) -> usize
     requires { (n + 4 ≤ length code.old) × (at < 65536) }
-    ensures { Writes code.old n (leaf_node s.now v.now at) code.new result }
+    ensures { Writes code.old n (leaf_node y.now.kinds.now y.now.values.now at) code.new result }
 {
-    if kind_at(s, at) == codes::NUMBER {
-        let x = value_at(v, at);
+    if kind_at(y.kinds, at) == codes::NUMBER {
+        let x = value_at(y.values, at);
         return put(code, n, shapes::NUMBER, at, x, 0);
     }
-    let x = name_number(s, v, at);
+    let x = name_number(y, at);
     put(code, n, shapes::NAME, at, x, 0)
 }
 
 // The node of a..b.
-pub fn put_range(s: &[u8], v: &[u16], at: usize, code: &mut [u16], n: usize) -> usize
+pub fn put_range(y: &Symbols<'_>, at: usize, code: &mut [u16], n: usize) -> usize
     requires { (n + 4 ≤ length code.old) × (at ≤ 4096) }
-    ensures { Writes code.old n (range_node s.now v.now at) code.new result }
+    ensures { Writes code.old n (range_node y.now.kinds.now y.now.values.now at) code.new result }
 {
-    let x = signed(s, v, at);
-    if kind_at(s, at) == codes::DASH {
-        let y = signed(s, v, at + 3);
-        return put(code, n, shapes::RANGE, at + 2, x, y);
+    let x = signed(y, at);
+    if kind_at(y.kinds, at) == codes::DASH {
+        let upper = signed(y, at + 3);
+        return put(code, n, shapes::RANGE, at + 2, x, upper);
     }
-    let y = signed(s, v, at + 2);
-    put(code, n, shapes::RANGE, at + 1, x, y)
+    let upper = signed(y, at + 2);
+    put(code, n, shapes::RANGE, at + 1, x, upper)
 }
 
-pub fn put_domain(s: &[u8], v: &[u16], at: usize, code: &mut [u16], n: usize) -> usize
+pub fn put_domain(y: &Symbols<'_>, at: usize, code: &mut [u16], n: usize) -> usize
     requires { (n + 4 ≤ length code.old) × (at ≤ 4096) }
-    ensures { Writes code.old n (domain_node s.now v.now at) code.new result }
+    ensures { Writes code.old n (domain_node y.now.kinds.now y.now.values.now at) code.new result }
 {
-    let k = kind_at(s, at);
-    if name_of(k) == NONE {
-        return put_range(s, v, at, code, n);
+    let k = kind_at(y.kinds, at);
+    if !is_name(k) {
+        return put_range(y, at, code, n);
     }
-    let x = name_number(s, v, at);
+    let x = name_number(y, at);
     put(code, n, shapes::SET, at, x, 0)
 }
 
 // One name or two behind an `empty`.
-pub fn empty(s: &[u8], v: &[u16], at: usize, code: &mut [u16], n: usize) -> Result<Read, Fault>
-    requires { Room s.now code.old at n × (at < length s.now) × (get_or s.now at 0 ≡ 47) }
-    ensures { Reads s.now (at + 1) (n + 4) (a_name ∷ an_empty_rest ∷ []) [] result × Made s.now v.now an_operand at n code.old code.new result }
+pub fn empty(y: &Symbols<'_>, at: usize, code: &mut [u16], n: usize) -> Result<Read, Fault>
+    requires { Room y.now.kinds.now code.old at n × (at < length y.now.kinds.now) × (get_or y.now.kinds.now at 0 ≡ 47) }
+    ensures { Reads y.now.kinds.now (at + 1) (n + 4) (a_name ∷ an_empty_rest ∷ []) [] result × Made y.now.kinds.now y.now.values.now an_operand at n code.old code.new result }
 {
-    let k = kind_at(s, at + 1);
-    if name_of(k) == NONE {
+    let k = kind_at(y.kinds, at + 1);
+    if !is_name(k) {
         return Err(Fault {
             place: at + 1,
             refusal: Refusal::NoDossier,
         });
     }
-    let x = name_number(s, v, at + 1);
-    let j = kind_at(s, at + 1 + 1);
-    if name_of(j) == NONE {
+    let x = name_number(y, at + 1);
+    let j = kind_at(y.kinds, at + 1 + 1);
+    if !is_name(j) {
         let m = put(code, n, shapes::EMPTY_SET, at, x, 0);
         return Ok(Read {
             at: at + 1 + 1,
             count: m,
         });
     }
-    let y = name_number(s, v, at + 1 + 1);
-    let m = put(code, n, shapes::EMPTY_PAIRS, at, x, y);
+    let second = name_number(y, at + 1 + 1);
+    let m = put(code, n, shapes::EMPTY_PAIRS, at, x, second);
     Ok(Read {
         at: at + 1 + 1 + 1,
         count: m,

@@ -1,4 +1,5 @@
 // Ends, ranges and what a bound name ranges over.
+// Form 5: the place moves with each symbol read; that there are at most 4,096 symbols, `Room` says to those that write.
 ghost use Rattle.std.specs.Prelude.{[], ◌∷◌, ◌≤◌, ◌<◌, length};
 ghost use Rattle.lexical.specs.Kinds as kind;
 ghost use Rattle.form.specs.Machine.{exact, an_end, a_domain};
@@ -6,9 +7,10 @@ ghost use Rattle.form_nodes.specs.FormPromises.{Closes, Reads, Advances, Ranged,
 ghost use Rattle.form_nodes.specs.Derivations.{EndAt, RangeAt, DomainAt};
 
 use crate::Read;
-use crate::kinds::{NONE, kind_at, name_of};
+use crate::kinds::kind_at;
 use lexical::codes;
-use lexical::refusals::{Fault, Refusal};
+use lexical::codes::is_name;
+use refusals::{Fault, Refusal};
 
 // A symbol of the kind with the code k.
 pub fn close(s: &[u8], at: usize, k: u8, n: usize) -> Result<Read, Fault>
@@ -111,7 +113,7 @@ pub fn domain(s: &[u8], at: usize, n: usize) -> Result<Read, Fault>
     ensures { Reads s.now at n (a_domain ∷ []) [] result × Shown (DomainAt s.now at) n result }
 {
     let k = kind_at(s, at);
-    if name_of(k) == NONE {
+    if !is_name(k) {
         return range(s, at, n);
     }
     Ok(Read {

@@ -1,8 +1,8 @@
 -- For every case of an enum answer of the calls: document 01's number and values.
 use Rattle.std.specs.Prelude.{ℕ, Result, Ok, Err}
-use Rattle.lexical.specs.Refusals.{number_of, something_held}
-use Rattle.lexical.specs.RefusalNames.{refusal_is, fault_is}
-use Rattle.lexical.specs.declared.refusals.Refusal.{Refusal}
+use Rattle.refusals.specs.Refusals.{number_of, something_held}
+use Rattle.refusals.specs.RefusalNames.{refusal_is, fault_is}
+use Rattle.refusals.specs.declared.Refusal.{Refusal}
 use Rattle.obligations.specs.Order as order
 use Rattle.obligations.specs.Calls as calls
 use Rattle.held_checks.specs.declared.Obligation as obligation

@@ -1,8 +1,10 @@
 // The held check in lent bytes, and the answers of the calls. The bytes: 0 the mark, 1 the profile, 2 the operation, 3 spare (all three 0), from 4 on the text's length, from 8 on the
 // place, numbers with the lowest byte first, from 16 on the text, and zeros behind it. All zero is nothing held.
+// Form 1: the enums are the cases of document 01; the constants are places in the held bytes, and lengths.
+// Form 5: that there are 32,784 bytes is asked where they come as a slice, since the laws of what is written speak of slices.
 #![tactic(auto)]
 
-ghost use Rattle.std.specs.Prelude.{◌≡◌, ◌+◌, ◌-◌, ◌^◌, ◌<◌, ◌≤◌, length, take, drop};
+ghost use Rattle.std.specs.Prelude.{◌≡◌, ◌+◌, ◌-◌, ◌^◌, ◌<◌, ◌≤◌, length, take, drop, is_some, unwrap_or};
 ghost use Rattle.table_nodes.specs.TableWalkPromises.{patch};
 ghost use Rattle.held_checks.specs.HeldBytes.{little_endian, from_bytes, bytes_of, none_held, is_laid, held_mark, held_place, fitting};
 ghost use Rattle.held_checks.specs.BytePromises.{NumberAt, all_zero, Turned};
@@ -10,7 +12,7 @@ ghost use Rattle.held_checks.specs.declared.LoadRefusal.TheVariants.{Faulty};
 ghost use Rattle.held_checks.specs.StepPromises.{Marks, mark_byte, Tells, place_after, mark_after, PartTold};
 
 use lexical::bounds::TEXT_BYTES;
-use lexical::refusals::Fault;
+use refusals::Fault;
 
 const MARK: usize = 0;
 
@@ -103,7 +105,7 @@ impl Mark {
     }
 }
 
-// The number in n bytes.
+// The number in n bytes. Form 4: `from_le_bytes` takes an array, so that each of the two widths would be read by a line of its own, byte after byte.
 fn number(held: &[u8], at: usize, n: usize) -> usize
     requires { (at + n ≤ length held.now) × (n ≤ 8) }
     ensures { NumberAt held.now at n result }
@@ -114,7 +116,7 @@ fn number(held: &[u8], at: usize, n: usize) -> usize
     held[at] as usize + BYTE * number(held, at + 1, n - 1)
 }
 
-// A number is written in n bytes.
+// A number is written in n bytes, as `number` reads it.
 fn put_number(held: &mut [u8], at: usize, n: usize, x: usize)
     requires { at + n ≤ length held.old }
     ensures { held.new ≡ patch at (little_endian n x) held.old }
@@ -249,19 +251,22 @@ fn turn(held: &mut [u8; HELD], place: usize, mark: Mark)
     put_turn(held, place, mark);
 }
 
-// How many bindings were looked at up to a place, with the one that failed there.
-pub fn counted(failed: bool, at: usize) -> usize
-    requires { at < 2 ^ 62 }
-    ensures { result ≡ place_after failed at }
+// The place after a search up to an end: behind the binding that failed, if one did.
+pub fn counted(failing: Option<usize>, end: usize) -> usize
+    requires { unwrap_or failing end < 2 ^ 62 }
+    ensures { result ≡ place_after (is_some failing) (unwrap_or failing end) }
 {
-    at + usize::from(failed)
+    match failing {
+        Some(at) => at + 1,
+        None => end,
+    }
 }
 
 // The mark after a search that came to a place.
-fn mark_after(failed: bool, all: usize, place: usize) -> Mark
-    ensures { mark_byte result ≡ mark_after failed all place }
+fn mark_after(failing: Option<usize>, all: usize, place: usize) -> Mark
+    ensures { mark_byte result ≡ mark_after (is_some failing) all place }
 {
-    if failed {
+    if failing.is_some() {
         Mark::Refuted
     } else if all <= place {
         Mark::Accepted
@@ -270,14 +275,20 @@ fn mark_after(failed: bool, all: usize, place: usize) -> Mark
     }
 }
 
-// A search from a place on stopped at another, of so many in all: the held check comes there. How many bindings were looked at.
-pub fn come_to(held: &mut [u8; HELD], from: usize, all: usize, failed: bool, at: usize) -> usize
-    requires { (from ≤ at) × (at < 2 ^ 62) }
-    ensures moved { Turned held.old (place_after failed at) (mark_after failed all (place_after failed at)) held.new }
-    ensures looked { result ≡ place_after failed at - from }
+// A search from a place on, of so many in all, stopped at a binding that failed or came to its end: the held check comes there. How many bindings were looked at.
+pub fn come_to(
+    held: &mut [u8; HELD],
+    from: usize,
+    all: usize,
+    failing: Option<usize>,
+    end: usize,
+) -> usize
+    requires { (from ≤ unwrap_or failing end) × (unwrap_or failing end < 2 ^ 62) }
+    ensures moved { Turned held.old (place_after (is_some failing) (unwrap_or failing end)) (mark_after (is_some failing) all (place_after (is_some failing) (unwrap_or failing end))) held.new }
+    ensures looked { result ≡ place_after (is_some failing) (unwrap_or failing end) - from }
 {
-    let place = counted(failed, at);
-    turn(held, place, mark_after(failed, all, place));
+    let place = counted(failing, end);
+    turn(held, place, mark_after(failing, all, place));
     place - from
 }
 

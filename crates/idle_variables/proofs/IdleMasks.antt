@@ -3,7 +3,6 @@ use mathlib.Core.Path.{◌≡◌, refl, sym, ap, subst, ◌∙◌}
 use mathlib.Core.Bool.{Bool, true, false}
 use mathlib.Core.List.{List}
 use Prim.Native.Nat.{ℕ, zero, suc, ◌+◌, ◌-◌, ◌*◌, ◌<◌, ◌≤◌, ◌^◌}
-use native.Mathlib.Nat.{pow-le-pow_right}
 use native.Mathlib.Omega.{arith}
 use mir.Val.{bool_byte}
 use lib.Dec.{eqb}
@@ -59,13 +58,6 @@ module _ {table plan : List ℕ} {u : ℕ} where
         where
           behind : (s i : ℕ) → s + 1 + i ≡ s + suc i
           behind s i = omega arith
-
-  -- the number stays small
-  pub mask-small : {s m r : ℕ} → m ≤ 22 → MaskSays table plan u s m r → r < 4194304
-  mask-small {s} {m} {r} h w = small m h w.small
-    where
-      small : (m : ℕ) → m ≤ 22 → r < 2 ^ m → r < 4194304
-      small m h l = let k : 2 ^ m ≤ 2 ^ 22 = pow-le-pow_right {n = 2} (omega arith) {i = m} {j = 22} h in omega arith
 
 -- ---- what ignores the variables of a mask
 

@@ -1,4 +1,5 @@
 // Keys of bindings: their numbers with the digits of idle variables 0, so that bindings that differ in those alone have one key; marks by keys.
+// Form 5: a group becomes a smaller one with each digit of a key, so that what is asked of it is shown anew at each call; in a type it would be shown as often.
 ghost use Rattle.std.specs.Prelude.{◌≡◌, ◌<◌, length};
 ghost use Rattle.idle_variables.specs.KeyPromises.{key_in, KeyAsked, MarkSays, Marked, Within};
 
@@ -53,6 +54,7 @@ pub fn is_marked(cells: &[u32; 9216], g: KeyGroup, x: usize, mark: u16, marks: &
 }
 
 // Makes the mark there, if it may be made.
+// Form 7: with an `if` at the calls, each of the loops of `nest` would go on from two joined ways, and its invariant be shown for both.
 pub fn make_mark(
     cells: &[u32; 9216],
     g: KeyGroup,

@@ -1,4 +1,5 @@
 // Variables that do not matter: no test of some searches of a part mentions them. Of the state before only; a test of the state after does not read them.
+// Form 5: the numbers of searches, levels and slots change with each call, since these functions go over them; what holds of the plan at all calls is `PlanAsked`.
 #![tactic(auto)]
 
 pub mod keys;

@@ -10,6 +10,7 @@ use node_spans::span;
 use parser::sections::{run_from, sections, skip_from};
 use type_rules::kinds::{index, look, put};
 
+// Form 1: numbers of the lent array of labels and of nodes, no kinds.
 // How many labels there are; where those of operations and of variables begin, and how many a variable has.
 pub const LABELS: usize = 720;
 
@@ -51,83 +52,81 @@ impl Names<'_> {
     }
 }
 
+// What reading a text leaves: the nodes of its dossier, where its symbols start, where its parts stand, the table, the groups of variables.
+#[derive(Clone, Copy)]
+pub struct Sources<'a> {
+    pub nodes: &'a [u16],
+    pub starts: &'a [u16],
+    pub spans: &'a [u16],
+    pub table: &'a [u16],
+    pub groups: &'a [u16],
+}
+
 // The first byte of the name whose node stands at q.
-fn name_byte(nodes: &[u16], starts: &[u16], q: usize) -> u16
+fn name_byte(x: &Sources<'_>, q: usize) -> u16
     requires { q < 65536 }
-    ensures { result ≡ name_byte nodes.now starts.now q }
+    ensures { result ≡ name_byte x.now.nodes.now x.now.starts.now q }
 {
-    look(starts, index(look(nodes, q + node::A) / endings::COUNT))
+    look(x.starts, index(look(x.nodes, q + node::A) / endings::COUNT))
 }
 
 // The eight labels of a given set whose elements' nodes stand from q on; if it has fewer, the last labels are of other nodes, and nobody reads them.
-fn gather_set(nodes: &[u16], starts: &[u16], q: usize, at: usize, labels: &mut [u16])
+// Form 5: these five and `gather` take all labels, so that each can say which it leaves as they are; `put` writes into a slice of any length.
+fn gather_set(x: &Sources<'_>, q: usize, at: usize, labels: &mut [u16])
     requires { (q ≤ 16384) × (at ≤ 64) × (length labels.old ≡ 720) }
-    ensures { Stored 8 at (names_from nodes.now starts.now q) labels.old labels.new }
+    ensures { Stored 8 at (names_from x.now.nodes.now x.now.starts.now q) labels.old labels.new }
 {
     for k in 0..ELEMENTS {
-        put(labels, at + k, name_byte(nodes, starts, q + node::SIZE * k));
+        put(labels, at + k, name_byte(x, q + node::SIZE * k));
     }
 }
 
-// Of the elements: behind the heading of each given set.
-pub fn gather_elements(nodes: &[u16], starts: &[u16], m: usize, labels: &mut [u16])
+// Of the elements: behind the heading of each given set; the first m numbers are the nodes of the dossier.
+pub fn gather_elements(x: &Sources<'_>, m: usize, labels: &mut [u16])
     requires { (m ≤ 16384) × (length labels.old ≡ 720) }
-    ensures { ElementsGathered nodes.now starts.now m labels.old labels.new }
+    ensures { ElementsGathered x.now.nodes.now x.now.starts.now m labels.old labels.new }
 {
-    let mut q = sections(nodes, m).givens;
+    let mut q = sections(x.nodes, m).givens;
     for g in 0..GIVEN_SETS {
-        let from = skip_from(nodes, q, m);
-        gather_set(nodes, starts, from, ELEMENTS * g, labels);
-        q = run_from(nodes, from, m, shapes::ELEMENT, shapes::ELEMENT);
+        let from = skip_from(x.nodes, q, m);
+        gather_set(x, from, ELEMENTS * g, labels);
+        q = run_from(x.nodes, from, m, shapes::ELEMENT, shapes::ELEMENT);
     }
 }
 
 // Of the operations' names.
-pub fn gather_titles(nodes: &[u16], starts: &[u16], spans: &[u16], labels: &mut [u16])
+pub fn gather_titles(x: &Sources<'_>, labels: &mut [u16])
     requires { length labels.old ≡ 720 }
-    ensures { TitlesGathered nodes.now starts.now spans.now labels.old labels.new }
+    ensures { TitlesGathered x.now.nodes.now x.now.starts.now x.now.spans.now labels.old labels.new }
 {
     for j in 0..span::MOST {
-        let q = index(look(spans, span::OPERATIONS + span::OPERATION * j));
+        let q = index(look(x.spans, span::OPERATIONS + span::OPERATION * j));
         put(
             labels,
             TITLES + j,
-            name_byte(nodes, starts, q.saturating_sub(node::SIZE)),
+            name_byte(x, q.saturating_sub(node::SIZE)),
         );
     }
 }
 
 // The four labels of a place of the groups.
-fn gather_variable(
-    nodes: &[u16],
-    starts: &[u16],
-    table: &[u16],
-    q: usize,
-    at: usize,
-    labels: &mut [u16],
-)
+fn gather_variable(x: &Sources<'_>, q: usize, at: usize, labels: &mut [u16])
     requires { (q < 65536) × (at ≤ 716) × (length labels.old ≡ 720) }
-    ensures { Stored 4 at (variable_of nodes.now starts.now table.now q) labels.old labels.new }
+    ensures { Stored 4 at (variable_of x.now.nodes.now x.now.starts.now x.now.table.now q) labels.old labels.new }
 {
-    put(labels, at, name_byte(nodes, starts, q));
-    put(labels, at + 1, look(table, q + TYPE_SHAPE));
-    put(labels, at + 2, look(table, q + TYPE_SIDES));
-    put(labels, at + 3, look(table, q + TYPE_SIZE));
+    put(labels, at, name_byte(x, q));
+    put(labels, at + 1, look(x.table, q + TYPE_SHAPE));
+    put(labels, at + 2, look(x.table, q + TYPE_SIDES));
+    put(labels, at + 3, look(x.table, q + TYPE_SIZE));
 }
 
 // Of the variables in the groups.
-pub fn gather_variables(
-    nodes: &[u16],
-    starts: &[u16],
-    table: &[u16],
-    groups: &[u16],
-    labels: &mut [u16],
-)
+pub fn gather_variables(x: &Sources<'_>, labels: &mut [u16])
     requires { length labels.old ≡ 720 }
-    ensures { VariablesGathered nodes.now starts.now table.now groups.now labels.old labels.new }
+    ensures { VariablesGathered x.now.nodes.now x.now.starts.now x.now.table.now x.now.groups.now labels.old labels.new }
 {
     for i in 0..GROUPS {
-        let q = index(look(groups, i));
-        gather_variable(nodes, starts, table, q, VARIABLES + VARIABLE * i, labels);
+        let q = index(look(x.groups, i));
+        gather_variable(x, q, VARIABLES + VARIABLE * i, labels);
     }
 }

@@ -1,6 +1,8 @@
 -- The definitions of symbols computed on short texts; the laws that the scanner is proved by.
+pub mod BooleanTests
 pub mod ByteLaws
 pub mod MarkLaws
 pub mod WordLaws
 pub mod NumberLaws
 pub mod Samples
+pub mod NameCodes

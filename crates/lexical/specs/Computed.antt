@@ -3,7 +3,7 @@ use Rattle.std.specs.Prelude.{List, ℕ}
 use Rattle.lexical.specs.Base as base
 use Rattle.lexical.specs.Kinds as kinds
 use Rattle.lexical.specs.Lists as lists
-use Rattle.lexical.specs.Refusals as refusals
+use Rattle.refusals.specs.Refusals as refusals
 use Rattle.lexical.specs.Symbols as symbols
 
 unfoldable pub compute_scan : List ℕ → symbols.Scan

@@ -1,6 +1,4 @@
 pub mod Lists
-pub mod Refusals
-pub mod RefusalNames
 pub mod Kinds
 pub mod Symbols
 pub mod Base

@@ -4,13 +4,13 @@ use Rattle.std.specs.Prelude as prelude
 use Rattle.std.proofs.Math.Option.{Option, none, some}
 use Rattle.lexical.specs.Lists.{same}
 use Rattle.lexical.specs.Kinds.{code_of}
-use Rattle.lexical.specs.Refusals.{Fault, least}
+use Rattle.refusals.specs.Refusals.{Fault, least}
 use Rattle.lexical.specs.Symbols.{Class, letter, digit, mark, blank, other, Symbol, fixed, numeral, name, kind_of}
 use Rattle.lexical.specs.Symbols.{Placed, scan, symbols, scan_faults, length_faults}
 use Rattle.lexical.specs.declared.Class as byteClass
 use Rattle.lexical.specs.declared.Class.TheVariants.{Letter, Digit, Mark, Blank, Other}
-use Rattle.lexical.specs.declared.refusals.Fault as refusals
-use Rattle.lexical.specs.RefusalNames.{fault_is}
+use Rattle.refusals.specs.declared.Fault as refusals
+use Rattle.refusals.specs.RefusalNames.{fault_is}
 
 -- the class that the code's class is
 abbrev pub class_is : byteClass.Class → Class

@@ -5,7 +5,7 @@ use Rattle.std.proofs.Math.Option.{Option, none, some}
 use Prim.Native.String.{String}
 use Rattle.lexical.specs.Lists.{bytes}
 use Rattle.lexical.specs.Kinds.{Kind, code_of}
-use Rattle.lexical.specs.Refusals.{least}
+use Rattle.refusals.specs.Refusals.{least}
 use Rattle.lexical.specs.Symbols.{Symbol, fixed, numeral}
 use Rattle.lexical.specs.Symbols as symbol
 use Rattle.lexical.specs.Symbols.{Found, gap, unlisted, found, Placed, scan, symbols, scan_faults, Ending, no_ending, prime, query, shriek, class_of, is_digit}

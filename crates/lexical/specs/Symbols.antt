@@ -4,7 +4,7 @@ use Rattle.std.proofs.Math.Option.{Option, none, some}
 use Prim.Native.String.{String}
 use Rattle.lexical.specs.Lists.{bytes, same, begins, all, any}
 use Rattle.lexical.specs.Kinds.{Kind, number, plain, primed, input, output, marks, words}
-use Rattle.lexical.specs.Refusals.{Fault, fault, long_text, unlisted_symbol, many_symbols}
+use Rattle.refusals.specs.Refusals.{Fault, fault, long_text, unlisted_symbol, many_symbols}
 
 -- "Bytes are sorted into classes by range: letters, digits, marks, blanks, all others."
 pub data Class : Type 0 where

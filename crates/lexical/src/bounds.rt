@@ -1,4 +1,5 @@
 // The limits of document 01, "Refusals that come from the input", 1 to 6 and 11 to 13, and "Symbols".
+// Form 1: limits, no kinds.
 // Bytes of a text, symbols of a text, letters of a name, and the largest number.
 pub const TEXT_BYTES: usize = 32768;
 

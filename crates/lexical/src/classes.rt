@@ -40,7 +40,8 @@ pub fn run_from(s: &[u8], at: usize) -> usize
     s.len().saturating_sub(at)
 }
 
-// The byte at a place, or 0 past the end.
+// The byte at a place.
+// Form 1: past the end it is 0, which no mark and no ending has, so that a test is false there; with an Option each would compare with `Some(..)`.
 pub fn byte_at(s: &[u8], at: usize) -> u8
     ensures { result ≡ get_or s.now at 0 }
 {

@@ -1,4 +1,8 @@
 // The number of each kind of symbol: `code_of` of specs/Kinds.antt.
+// Form 1: the codes of a text stand in an array of bytes of fixed length that the caller of `read` lends; an enum would narrow what he may lend.
+ghost use Rattle.std.specs.Prelude.{◌≡◌};
+ghost use Rattle.lexical.specs.SymbolPromises.{is_name};
+
 pub const NUMBER: u8 = 1;
 
 pub const PLAIN: u8 = 2;
@@ -118,3 +122,10 @@ pub const MOD: u8 = 62;
 pub const DOM: u8 = 63;
 
 pub const RAN: u8 = 64;
+
+// Is it the code of a name, with or without an ending?
+pub fn is_name(code: u8) -> bool
+    ensures { result ≡ is_name code }
+{
+    matches!(code, PLAIN..=OUTPUT)
+}

@@ -1,4 +1,5 @@
 // What ends a name, by numbers: `ending_code` of specs/SymbolPromises.antt.
+// Form 1: they are added to four times the number of a name's letters, and the sum stands in a node; as an enum they are `Ending`.
 pub const NONE: u8 = 0;
 
 pub const PRIME: u8 = 1;

@@ -23,6 +23,7 @@ pub fn more(v: u16, b: u8) -> Option<u16>
 }
 
 // The number that the bytes from `at` to `e` write; none where they are not digits or it is over 1,000.
+// Form 5: the end of a run is inside the text, wherever the run begins; a struct of both would be made for each symbol.
 pub fn decimal(s: &[u8], at: usize, e: usize) -> Option<u16>
     requires { (at ≤ e) × (e ≤ length s.now) }
     ensures { result ≡ decimal_after 0 (take (e - at) (drop at s.now)) }

@@ -50,7 +50,8 @@ pub fn word_code(key: u64) -> Option<u8>
     }
 }
 
-// Byte k of the run from `at` to `e`, or 0 past its end.
+// Byte k of the run from `at` to `e`.
+// Form 1: past its end it is 0, which a word of less than eight bytes is packed with.
 pub fn run_byte(s: &[u8], at: usize, e: usize, k: usize) -> u64
     requires { (e ≤ length s.now) × (at ≤ 65536) × (k ≤ 8) }
     ensures { (result ≡ get_or (take (e - at) (drop at s.now)) k 0) × (result < 256) }
@@ -91,6 +92,7 @@ pub fn ending_of(b: u8) -> Ending
 }
 
 // The reserved word that the run of n bytes from `at` on is: none is longer than eight bytes.
+// Form 5: that a text has at most 32,768 bytes is a fact of the caller's slice; a struct around it would be made anew for each symbol.
 pub fn reserved_at(s: &[u8], at: usize, n: usize) -> Option<u8>
     requires { (at ≤ length s.now) × (length s.now ≤ 32768) × (n ≡ length (run (drop at s.now))) }
     ensures { result ≡ word_code (reserved words (run (drop at s.now))) }

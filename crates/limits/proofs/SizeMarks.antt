@@ -14,9 +14,6 @@ use Rattle.limits.specs.DossierSizesByNumber.{entry_size, type_size, marks_of, m
 
 -- ---- one declaration ----
 
-pub size-off : (on : Bool) (code : List ℕ) (at : ℕ) → on ≡ false → 0 ≡ entry_size on code at
-size-off on code at e = sym (ap (λ (b : Bool). entry_size b code at) e)
-
 pub size-other : (on : Bool) (code : List ℕ) (at : ℕ) → (get_or code (at + 3) 0 ≡ 2 → ⊥) → 0 ≡ entry_size on code at
 unfolding type_size
 size-other true code at h = rw (type_size, ne_eqb (get_or code (at + 3) 0) 2 h)
@@ -28,8 +25,8 @@ unfolding type_size
 size-range on code at x y r o k p q e =
     e ∙ ap₂ max p q ∙ sym (ap (λ (b : Bool). entry_size b code at) o ∙ ap (λ (n : ℕ). type_size n (get_or code (at + 1) 0) (get_or code at 0)) k)
 
-pub set-one : (S U : Bounds) (x y s n m : ℕ) → U ≡ set S (x + s) n → x ≡ y → n ≡ m → U ≡ set S (y + s) m
-set-one S U x y s n m e p q = e ∙ ap₂ (λ (a b : ℕ). set S (a + s) b) p q
+pub set-one : (S U : Bounds) (x y n m : ℕ) → U ≡ set S x n → x ≡ y → n ≡ m → U ≡ set S y m
+set-one S U x y n m e p q = e ∙ ap₂ (λ (a b : ℕ). set S a b) p q
 
 -- ---- the loop ----
 
@@ -78,6 +75,10 @@ less_none n = omega arith
 pub mark-end : (on : Bool) (code : List ℕ) (s n : ℕ) (S U : Bounds) → n ≤ 0 → MarkedFrom on code s n S U → U ≡ marks on code s S
 mark-end on code s zero S U h w = w ∙ ap (λ (k : ℕ). marks_of on k code s S) (less_none (length code / 8))
 mark-end on code s (suc n) S U h w = absurd (omega arith)
+
+-- three groups, one behind the other
+pub three-marked : (on : Bool) (a b : List ℕ) (s : ℕ) (c : List ℕ) (S T U V : Bounds) → T ≡ marks on c 0 S → U ≡ marks on b s T → V ≡ marks on a 0 U → V ≡ marked on a b s c S
+three-marked on a b s c S T U V p q r = r ∙ ap (λ (X : Bounds). marks on a 0 X) (q ∙ ap (λ (X : Bounds). marks on b s X) p)
 
 -- ---- marks that are taken away ----
 

@@ -4,7 +4,7 @@ use mathlib.Core.List.{◌++◌}
 use Prim.Native.Nat.{ℕ, suc, ◌+◌}
 use native.Mathlib.Omega.{arith}
 use lib.Dec.{leb}
-use Rattle.lexical.specs.Refusals.{number_of, large_size}
+use Rattle.refusals.specs.Refusals.{number_of, large_size}
 use Rattle.form.specs.Tree.{End, Prefix, negate, size, dom, ran, Operator, plus, minus, union, without, times, inter, Division, quotient, remainder}
 use Rattle.form.specs.Tree.{Term, Items, Pairs, Pred}
 use Rattle.form.specs.Codes.{Numbering, term_width, pred_width}

@@ -5,7 +5,7 @@ use mathlib.Core.List.{List, [], ◌∷◌, ◌++◌, map}
 use Prim.Native.Nat.{ℕ, suc, ◌+◌}
 use lib.ListN.{length}
 use Rattle.lexical.specs.Lists.{any}
-use Rattle.lexical.specs.Refusals.{Fault, fault, name_in_use, unless}
+use Rattle.refusals.specs.Refusals.{Fault, fault, name_in_use, unless}
 use Rattle.form.specs.Tree.{Letters, Given, Declaration, declarations, Parameter, Operation, Dossier}
 use Rattle.form.specs.Written.{write_type}
 use Rattle.form.specs.Headings.{givens_at, abstract_at, concrete_at, operations_at, operation_length}

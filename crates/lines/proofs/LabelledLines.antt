@@ -32,7 +32,8 @@ use Rattle.slot_carriers.specs.CellGroups.{Holding}
 use Rattle.obligations.specs.Report.{ending_bytes, name_bytes, element_bytes, pair_bytes, braced, value_bytes, binding_lines}
 use Rattle.labels.specs.Labels.{SpeltAt, Typed, label_of, LabelAt, LabelsFrom}
 use Rattle.pieces.specs.PiecePromises.{letters_at}
-use Rattle.lines.specs.LinesByNumber.{element_piece, pair_piece, member_piece, value_piece, ending_piece, line_piece, group_piece}
+use Rattle.lines.specs.LinesByNumber.{element_piece, pair_piece, member_piece, value_piece, ending_byte, line_piece, group_piece}
+use Rattle.lines.proofs.LineLaws.{ending-piece}
 
 entry-is : {A : Type 0} (xs : List A) (k : ℕ) (x z : A) → get_elem? xs k ≡ some x → get_or xs k z ≡ x
 entry-is [] k x z e = absurd (none-ne-some x e)
@@ -124,23 +125,9 @@ module _ (text labels : List ℕ) (gs : List Given) (spelt : ElementsAt text lab
 
 -- ---- groups
 
--- the ending of a name as a byte
-abbrev pub ending_byte : Ending → ℕ
-ending_byte no_ending = 0
-ending_byte prime = 39
-ending_byte query = 63
-ending_byte shriek = 33
-
 -- variables with another ending
 abbrev pub ended : Ending → Variable → Variable
 ended e v = record { called = record { letters = v.called.letters; ending = e }; carrier = v.carrier }
-
-ending-piece : (e : Ending) → ending_piece [] [] (ending_byte e) ≡ ending_bytes e
-unfolding bytes
-ending-piece no_ending = refl
-ending-piece prime = refl
-ending-piece query = refl
-ending-piece shriek = refl
 
 -- five lists one behind the other, grouped to the right and to the left
 pub left : {A : Type 0} (a b c d e : List A) → a ++ (b ++ (c ++ (d ++ e))) ≡ a ++ b ++ c ++ d ++ e

@@ -15,15 +15,17 @@ use mir.Syntax.{w64}
 use mir.Val.{SFits, of_z, to_z}
 use mir.Facts.{to_z-of_z}
 use Rattle.lexical.specs.Lists.{bytes}
+use Rattle.lexical.specs.Symbols.{Ending, no_ending, prime, query, shriek}
+use Rattle.std.specs.Prelude.{Option, Some, None}
 use Rattle.sets.specs.Sets.{has, members}
 use Rattle.meaning.specs.Values.{natural}
-use Rattle.obligations.specs.Report.{signed_decimal, braced}
+use Rattle.obligations.specs.Report.{ending_bytes, signed_decimal, braced}
 use Rattle.labels.specs.Labels.{label_of}
 use Rattle.pieces.specs.PiecePromises.{Writes, letters_at}
 use Rattle.pieces.proofs.WrittenPieces.{nothing_written, both-written, letters-length}
 use Rattle.pieces.proofs.Signs.{signed-length}
-use Rattle.lines.specs.LinesByNumber.{element_piece, pair_piece, member_piece, value_piece, line_piece, group_piece}
-use Rattle.lines.specs.MembersByNumber.{comma_piece, members_piece}
+use Rattle.lines.specs.LinesByNumber.{element_piece, pair_piece, member_piece, value_piece, ending_byte, byte_piece, ending_piece, line_piece, group_piece}
+use Rattle.lines.specs.MembersByNumber.{members_piece}
 use Rattle.lines.proofs.MemberLaws.{braced-are, members-here, members-there, members-none, braced-length, members-low}
 
 -- a piece chosen by a test
@@ -40,8 +42,26 @@ cond-length : (t : Bool) (p q : List ℕ) (n : ℕ) → length p ≤ n → lengt
 cond-length true p q n h k = h
 cond-length false p q n h k = k
 
-pub ending-length : (e : ℕ) → length (cond (eqb e 0) [] (e ∷ [])) ≤ 1
+ending-length : (e : ℕ) → length (cond (eqb e 0) [] (e ∷ [])) ≤ 1
 ending-length e = cond-length (eqb e 0) [] (e ∷ []) 1 (omega arith) (omega arith)
+
+-- ---- the ending of a name
+
+pub ending-piece : (e : Ending) → ending_piece [] [] (ending_byte e) ≡ ending_bytes e
+unfolding bytes
+ending-piece no_ending = refl
+ending-piece prime = refl
+ending-piece query = refl
+ending-piece shriek = refl
+
+pub ended-length : (e : Ending) → length (ending_bytes e) ≤ 1
+ended-length e = subst (λ (w : List ℕ). length w ≤ 1) (ending-piece e) (ending-length (ending_byte e))
+
+pub unended : (e : Ending) {r : Option ℕ} {at : ℕ} {a : List ℕ} → byte_piece r ≡ ending_bytes e → r ≡ None → Writes at (ending_bytes e) a a at
+unended e {r} {at} {a} p q = piece_is (sym (ap byte_piece q) ∙ p) (nothing_written at a)
+
+pub ended : (e : Ending) {r : Option ℕ} {x at m : ℕ} {a b : List ℕ} → byte_piece r ≡ ending_bytes e → r ≡ Some x → Writes at (x ∷ []) a b m → Writes at (ending_bytes e) a b m
+ended e p q v = piece_is (sym (ap byte_piece q) ∙ p) v
 
 -- ---- a value as a natural number
 
@@ -64,31 +84,25 @@ module _ (x : ℤ) (f : SFits w64 x) where
 
 -- ---- the members of a set
 
-pub no_comma : (b : Bool) {at : ℕ} {a : List ℕ} → b ≡ true → Writes at (comma_piece b) a a at
-no_comma b {at} {a} e = piece_is (sym (ap comma_piece e)) (nothing_written at a)
-
-pub comma-written : (b : Bool) {at r : ℕ} {a c : List ℕ} → b ≡ false → Writes at (44 ∷ 32 ∷ []) a c r → Writes at (comma_piece b) a c r
-unfolding bytes
-comma-written b e v = piece_is (sym (ap comma_piece e)) v
-
 -- the places of a pair's sides
 pub sides-low : (k m : ℕ) → k < 16 → (k / m < 2 ^ 63) × (k % m < 2 ^ 63)
 sides-low k m h = (omega (arith, div-le_self k m), omega (arith, mod-le k m))
 
-module _ (f : ℕ → List ℕ) (s k : ℕ) (first : Bool) where
-  pub none_written : 16 ≤ k → {at : ℕ} {a : List ℕ} → Writes at (members_piece f s k (16 - k) first) a a at
-  none_written h {at} {a} = piece_is (sym (members-none f s k first h)) (nothing_written at a)
+module _ (f : ℕ → List ℕ) (s : ℕ) (p : List ℕ) (k : ℕ) where
+  pub none_written : 16 ≤ k → {at : ℕ} {a : List ℕ} → Writes at (members_piece f s p k (16 - k)) a a at
+  none_written h {at} {a} = piece_is (sym (members-none f s k p h)) (nothing_written at a)
 
-  pub there-written : k < 16 → false ≡ has s k → {at r : ℕ} {a b : List ℕ} → Writes at (members_piece f s (k + 1) (16 - (k + 1)) first) a b r
-      → Writes at (members_piece f s k (16 - k) first) a b r
-  there-written h e v = piece_is (sym (members-there f s k first h (sym e))) v
+  pub there-written : k < 16 → false ≡ has s k → {at r : ℕ} {a b : List ℕ} → Writes at (members_piece f s p (k + 1) (16 - (k + 1))) a b r
+      → Writes at (members_piece f s p k (16 - k)) a b r
+  there-written h e v = piece_is (sym (members-there f s k p h (sym e))) v
 
-  pub here-written : k < 16 → true ≡ has s k → {at m n r : ℕ} {a b c d : List ℕ} → Writes at (comma_piece first) a b m → Writes m (f k) b c n
-      → Writes n (members_piece f s (k + 1) (16 - (k + 1)) false) c d r → Writes at (members_piece f s k (16 - k) first) a d r
-  here-written h e u v w = piece_is (sym (members-here f s k first h (sym e))) (both-written u (both-written v w))
+  pub here-written : k < 16 → true ≡ has s k → {at m n r : ℕ} {a b c d : List ℕ} → Writes at p a b m → Writes m (f k) b c n
+      → Writes n (members_piece f s (44 ∷ 32 ∷ []) (k + 1) (16 - (k + 1))) c d r → Writes at (members_piece f s p k (16 - k)) a d r
+  unfolding bytes
+  here-written h e u v w = piece_is (sym (members-here f s k p h (sym e))) (both-written u (both-written v w))
 
 module _ (f : ℕ → List ℕ) (s : ℕ) where
-  pub set-written : {at m n r : ℕ} {a b c d : List ℕ} → Writes at (123 ∷ []) a b m → Writes m (members_piece f s 0 16 true) b c n → Writes n (125 ∷ []) c d r
+  pub set-written : {at m n r : ℕ} {a b c d : List ℕ} → Writes at (123 ∷ []) a b m → Writes m (members_piece f s [] 0 16) b c n → Writes n (125 ∷ []) c d r
       → Writes at (braced (map f (members s))) a d r
   unfolding bytes
   set-written u v w = piece_is (braced-are f s) (both-written u (both-written v w))
@@ -182,17 +196,17 @@ module _ (text labels : List ℕ) where
         when_false _ _ (ne_eqb s 1 h₁) (when_false _ _ (ne_eqb s 2 h₂) (when_false _ _ (ne_eqb s 3 h₃)
         (piece_is (ap (λ (l : List ℕ). braced (map (member_piece text labels n m) l)) (ap members e ∙ members-low (natural x))) v)))
 
-  pub line-written : (i e : ℕ) (x : ℤ) {from s n m : ℕ} {y : ℤ} {at j k l o r : ℕ} {a b c d f g : List ℕ}
+  pub line-written : (i : ℕ) (e : Ending) (x : ℤ) {from s n m : ℕ} {y : ℤ} {at j k l o r : ℕ} {a b c d f g : List ℕ}
       → from ≡ get_or labels (80 + 4 * i) 0 → s ≡ label_of labels i 1 → n ≡ label_of labels i 2 → m ≡ label_of labels i 3 → y ≡ x
-      → Writes at (letters_at text from) a b j → Writes j (cond (eqb e 0) [] (e ∷ [])) b c k → Writes k (32 ∷ 61 ∷ 32 ∷ []) c d l
-      → Writes l (value_piece text labels s n m y) d f o → Writes o (10 ∷ []) f g r → Writes at (line_piece text labels i e x) a g r
+      → Writes at (letters_at text from) a b j → Writes j (ending_bytes e) b c k → Writes k (32 ∷ 61 ∷ 32 ∷ []) c d l
+      → Writes l (value_piece text labels s n m y) d f o → Writes o (10 ∷ []) f g r → Writes at (line_piece text labels i (ending_byte e) x) a g r
   unfolding line_piece bytes
   line-written i e x {from} {s} {n} {m} {y} hf hs hn hm hy u v w z t =
       let name : letters_at text from ≡ letters_at text (label_of labels i 0) =
       ap (letters_at text) (hf ∙ ap (λ (k : ℕ). get_or labels k 0) (sym (add-zero (80 + 4 * i)))) in
       let value : value_piece text labels s n m y ≡ value_piece text labels (label_of labels i 1) (label_of labels i 2) (label_of labels i 3) x =
       λ h. value_piece text labels (hs h) (hn h) (hm h) (hy h) in
-      both-written (piece_is name u) (both-written v (both-written w (both-written (piece_is value z) t)))
+      both-written (piece_is name u) (both-written (piece_is (sym (ending-piece e)) v) (both-written w (both-written (piece_is value z) t)))
 
   -- ---- the lines of a group
 

@@ -10,114 +10,105 @@ use Rattle.lexical.specs.Lists.{bytes}
 use Rattle.sets.specs.Sets.{has, members_from, members}
 use Rattle.sets.proofs.Pairs.{has-low}
 use Rattle.obligations.specs.Report.{separated, braced}
-use Rattle.lines.specs.MembersByNumber.{comma_piece, spared, members_piece}
+use Rattle.lines.specs.MembersByNumber.{members_piece}
 
-pub comma-length : (b : Bool) → length (comma_piece b) + spared b ≡ 2
+comma-length : length (bytes ", ") ≡ 2
 unfolding bytes
-comma-length true = refl
-comma-length false = refl
+comma-length = refl
 
--- what stands behind a member
-abbrev behind : List (List ℕ) → List ℕ
-behind [] = []
-behind (x ∷ xs) = bytes ", " ++ separated (x ∷ xs)
+-- members behind what stands before the first of them
+abbrev behind : List ℕ → List (List ℕ) → List ℕ
+behind p [] = []
+behind p (x ∷ xs) = p ++ separated (x ∷ xs)
 
-separated-cons : (x : List ℕ) (xs : List (List ℕ)) → separated (x ∷ xs) ≡ x ++ behind xs
+separated-cons : (x : List ℕ) (xs : List (List ℕ)) → separated (x ∷ xs) ≡ x ++ behind (bytes ", ") xs
 unfolding separated
 separated-cons x [] = sym (append-nil x)
 separated-cons x (y ∷ ys) = append_assoc x (bytes ", ") (separated (y ∷ ys))
 
-abbrev after : Bool → List (List ℕ) → List ℕ
-after true xs = separated xs
-after false xs = behind xs
-
-after-cons : (b : Bool) (x : List ℕ) (xs : List (List ℕ)) → comma_piece b ++ (x ++ behind xs) ≡ after b (x ∷ xs)
-after-cons true x xs = sym (separated-cons x xs)
-after-cons false x xs = ap (λ (w : List ℕ). bytes ", " ++ w) (sym (separated-cons x xs))
-
-after-nil : (b : Bool) → [] ≡ after b []
+behind-nothing : (xs : List (List ℕ)) → behind [] xs ≡ separated xs
 unfolding separated
-after-nil true = refl
-after-nil false = refl
+behind-nothing [] = refl
+behind-nothing (x ∷ xs) = refl
 
 module _ (f : ℕ → List ℕ) (s : ℕ) where
-  members-are : (n k : ℕ) (b : Bool) → members_piece f s k n b ≡ after b (map f (members_from s k n))
+  members-are : (n k : ℕ) (p : List ℕ) → members_piece f s p k n ≡ behind p (map f (members_from s k n))
   unfolding members_piece members_from
-  members-are zero k b = after-nil b
-  members-are (suc n) k b = on (has s k) (members-are n (suc k) false) (members-are n (suc k) b)
+  members-are zero k p = refl
+  members-are (suc n) k p = on (has s k) (members-are n (suc k) (bytes ", ")) (members-are n (suc k) p)
     where
-      on : (t : Bool) → members_piece f s (suc k) n false ≡ after false (map f (members_from s (suc k) n))
-          → members_piece f s (suc k) n b ≡ after b (map f (members_from s (suc k) n))
-          → ◌≡◌ {A = List ℕ} (elim t [ true ↦ comma_piece b ++ (f k ++ members_piece f s (suc k) n false) | false ↦ members_piece f s (suc k) n b ])
-          (after b (map f (elim t [ true ↦ k ∷ members_from s (suc k) n | false ↦ members_from s (suc k) n ])))
-      on true p q = ap (λ (w : List ℕ). comma_piece b ++ (f k ++ w)) p ∙ after-cons b (f k) (map f (members_from s (suc k) n))
-      on false p q = q
+      on : (t : Bool) → members_piece f s (bytes ", ") (suc k) n ≡ behind (bytes ", ") (map f (members_from s (suc k) n))
+          → members_piece f s p (suc k) n ≡ behind p (map f (members_from s (suc k) n))
+          → ◌≡◌ {A = List ℕ} (elim t [ true ↦ p ++ (f k ++ members_piece f s (bytes ", ") (suc k) n) | false ↦ members_piece f s p (suc k) n ])
+          (behind p (map f (elim t [ true ↦ k ∷ members_from s (suc k) n | false ↦ members_from s (suc k) n ])))
+      on true q r = ap (λ (w : List ℕ). p ++ (f k ++ w)) q ∙ ap (λ (w : List ℕ). p ++ w) (sym (separated-cons (f k) (map f (members_from s (suc k) n))))
+      on false q r = r
 
-  pub braced-are : (bytes "{" ++ (members_piece f s 0 16 true ++ bytes "}")) ≡ braced (map f (members s))
+  pub braced-are : (bytes "{" ++ (members_piece f s [] 0 16 ++ bytes "}")) ≡ braced (map f (members s))
   unfolding braced members
   braced-are =
-      ap (λ (w : List ℕ). bytes "{" ++ (w ++ bytes "}")) (members-are 16 0 true)
+      ap (λ (w : List ℕ). bytes "{" ++ (w ++ bytes "}")) (members-are 16 0 [] ∙ behind-nothing (map f (members_from s 0 16)))
       ∙ sym (append_assoc (bytes "{") (separated (map f (members_from s 0 16))) (bytes "}"))
 
   -- one step
-  pub members-here : (k : ℕ) (b : Bool) → k < 16 → has s k ≡ true
-      → members_piece f s k (16 - k) b ≡ comma_piece b ++ (f k ++ members_piece f s (k + 1) (16 - (k + 1)) false)
+  pub members-here : (k : ℕ) (p : List ℕ) → k < 16 → has s k ≡ true
+      → members_piece f s p k (16 - k) ≡ p ++ (f k ++ members_piece f s (bytes ", ") (k + 1) (16 - (k + 1)))
   unfolding members_piece
-  members-here k b h e =
+  members-here k p h e =
       let n : ℕ = 16 - (k + 1) in
       let more : 16 - k ≡ suc n = omega arith in
-      ap (λ (i : ℕ). members_piece f s k i b) more
-      ∙ ap (λ (t : Bool). elim t [ true ↦ comma_piece b ++ (f k ++ members_piece f s (suc k) n false) | false ↦ members_piece f s (suc k) n b ]) e
-      ∙ ap (λ (i : ℕ). comma_piece b ++ (f k ++ members_piece f s i n false)) (sym (add-one k))
+      ap (λ (i : ℕ). members_piece f s p k i) more
+      ∙ ap (λ (t : Bool). elim t [ true ↦ p ++ (f k ++ members_piece f s (bytes ", ") (suc k) n) | false ↦ members_piece f s p (suc k) n ]) e
+      ∙ ap (λ (i : ℕ). p ++ (f k ++ members_piece f s (bytes ", ") i n)) (sym (add-one k))
 
-  pub members-there : (k : ℕ) (b : Bool) → k < 16 → has s k ≡ false → members_piece f s k (16 - k) b ≡ members_piece f s (k + 1) (16 - (k + 1)) b
+  pub members-there : (k : ℕ) (p : List ℕ) → k < 16 → has s k ≡ false → members_piece f s p k (16 - k) ≡ members_piece f s p (k + 1) (16 - (k + 1))
   unfolding members_piece
-  members-there k b h e =
+  members-there k p h e =
       let n : ℕ = 16 - (k + 1) in
       let more : 16 - k ≡ suc n = omega arith in
-      ap (λ (i : ℕ). members_piece f s k i b) more
-      ∙ ap (λ (t : Bool). elim t [ true ↦ comma_piece b ++ (f k ++ members_piece f s (suc k) n false) | false ↦ members_piece f s (suc k) n b ]) e
-      ∙ ap (λ (i : ℕ). members_piece f s i n b) (sym (add-one k))
+      ap (λ (i : ℕ). members_piece f s p k i) more
+      ∙ ap (λ (t : Bool). elim t [ true ↦ p ++ (f k ++ members_piece f s (bytes ", ") (suc k) n) | false ↦ members_piece f s p (suc k) n ]) e
+      ∙ ap (λ (i : ℕ). members_piece f s p i n) (sym (add-one k))
 
-  pub members-none : (k : ℕ) (b : Bool) → 16 ≤ k → members_piece f s k (16 - k) b ≡ []
+  pub members-none : (k : ℕ) (p : List ℕ) → 16 ≤ k → members_piece f s p k (16 - k) ≡ []
   unfolding members_piece
-  members-none k b h = let z : 16 - k ≡ 0 = omega arith in ap (λ (i : ℕ). members_piece f s k i b) z
+  members-none k p h = let z : 16 - k ≡ 0 = omega arith in ap (λ (i : ℕ). members_piece f s p k i) z
 
   -- how long they are, where no member is longer than 37
   module _ (short : (k : ℕ) → length (f k) ≤ 37) where
-    next-length : (n k : ℕ) → length (members_piece f s k n false) ≤ 39 * n
+    next-length : (n k : ℕ) → length (members_piece f s (bytes ", ") k n) ≤ 39 * n
     unfolding members_piece
     next-length zero k = omega arith
     next-length (suc n) k = on (has s k) (next-length n (suc k))
       where
-        on : (t : Bool) → length (members_piece f s (suc k) n false) ≤ 39 * n
-            → length {A = ℕ} (elim t [ true ↦ comma_piece false ++ (f k ++ members_piece f s (suc k) n false) | false ↦ members_piece f s (suc k) n false ]) ≤ 39 * suc n
+        on : (t : Bool) → length (members_piece f s (bytes ", ") (suc k) n) ≤ 39 * n
+            → length {A = ℕ} (elim t [ true ↦ bytes ", " ++ (f k ++ members_piece f s (bytes ", ") (suc k) n) | false ↦ members_piece f s (bytes ", ") (suc k) n ]) ≤ 39 * suc n
         on true r =
-            let p = length-append (comma_piece false) (f k ++ members_piece f s (suc k) n false) in
-            let q = length-append (f k) (members_piece f s (suc k) n false) in
-            omega (arith, short k, comma-length false)
+            let p = length-append (bytes ", ") (f k ++ members_piece f s (bytes ", ") (suc k) n) in
+            let q = length-append (f k) (members_piece f s (bytes ", ") (suc k) n) in
+            omega (arith, short k, comma-length)
         on false r = omega arith
 
-    members-length : (n k : ℕ) → length (members_piece f s k n true) ≤ 39 * n - 2
+    members-length : (n k : ℕ) → length (members_piece f s [] k n) ≤ 39 * n - 2
     unfolding members_piece
     members-length zero k = omega arith
     members-length (suc n) k = on (has s k) (members-length n (suc k))
       where
-        on : (t : Bool) → length (members_piece f s (suc k) n true) ≤ 39 * n - 2
-            → length {A = ℕ} (elim t [ true ↦ f k ++ members_piece f s (suc k) n false | false ↦ members_piece f s (suc k) n true ]) ≤ 39 * suc n - 2
+        on : (t : Bool) → length (members_piece f s [] (suc k) n) ≤ 39 * n - 2
+            → length {A = ℕ} (elim t [ true ↦ f k ++ members_piece f s (bytes ", ") (suc k) n | false ↦ members_piece f s [] (suc k) n ]) ≤ 39 * suc n - 2
         on true r =
-            let q = length-append (f k) (members_piece f s (suc k) n false) in
+            let q = length-append (f k) (members_piece f s (bytes ", ") (suc k) n) in
             omega (arith, short k, next-length n (suc k))
         on false r = omega arith
 
-    pub set-length : length (members_piece f s 0 16 true) ≤ 622
+    pub set-length : length (members_piece f s [] 0 16) ≤ 622
     set-length = members-length 16 0
 
     pub braced-length : length (braced (map f (members s))) ≤ 624
     unfolding bytes
     braced-length =
         let p = ap (λ (w : List ℕ). length w) braced-are in
-        let q = length-append (members_piece f s 0 16 true) (bytes "}") in
+        let q = length-append (members_piece f s [] 0 16) (bytes "}") in
         omega (arith, set-length)
 
 -- bits behind the 16th do not matter

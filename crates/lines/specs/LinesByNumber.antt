@@ -1,11 +1,24 @@
 -- The lines of a witness by labels and values in slots. That they are the lines of document 01 is proofs/LabelledLines. Nothing here need be believed.
-use Rattle.std.specs.Prelude.{List, [], ◌∷◌, ◌++◌, map, cond, ℕ, zero, suc, ◌+◌, ◌*◌, ◌/◌, ◌%◌, eqb, ℤ, pos, get_or}
+use Rattle.std.specs.Prelude.{List, [], ◌∷◌, ◌++◌, map, cond, ℕ, zero, suc, ◌+◌, ◌*◌, ◌/◌, ◌%◌, eqb, ℤ, pos, get_or, Option, Some, None}
 use Rattle.lexical.specs.Lists.{bytes}
+use Rattle.lexical.specs.Symbols.{Ending, no_ending, prime, query, shriek}
 use Rattle.sets.specs.Sets.{members}
 use Rattle.meaning.specs.Values.{natural}
 use Rattle.obligations.specs.Report.{signed_decimal, braced}
 use Rattle.labels.specs.Labels.{label_of}
 use Rattle.pieces.specs.PiecePromises.{letters_at}
+
+-- the ending of a name as a byte, 0 where there is none
+abbrev pub ending_byte : Ending → ℕ
+ending_byte no_ending = 0
+ending_byte prime = 39
+ending_byte query = 63
+ending_byte shriek = 33
+
+-- one byte or none
+abbrev pub byte_piece : Option ℕ → List ℕ
+byte_piece None = []
+byte_piece (Some b) = b ∷ []
 
 module _ (text labels : List ℕ) where
   -- element k of the given set g

@@ -10,7 +10,7 @@ use type_rules::kinds::{pair_of, set_of, shared_kind};
 
 // {t, ...}.
 #[cycle(walk)]
-pub fn listed(
+pub(crate) fn listed(
     code: &[u16],
     end: usize,
     slot: u16,
@@ -33,7 +33,7 @@ pub fn listed(
 
 // {t |-> t, ...}.
 #[cycle(walk)]
-pub fn paired(
+pub(crate) fn paired(
     code: &[u16],
     end: usize,
     slot: u16,

@@ -10,7 +10,13 @@ use type_rules::entries;
 use type_rules::kinds::{element_of, index, look, pair_of, set_of};
 
 // What a name is bound over, or the range after `in`: the node that ends at `end`.
-pub fn domain(code: &[u16], end: usize, names: &[u16], sizes: &[u16], out: &mut [u16]) -> Made
+pub(crate) fn domain(
+    code: &[u16],
+    end: usize,
+    names: &[u16],
+    sizes: &[u16],
+    out: &mut [u16],
+) -> Made
     requires { WalkAsked code.now end out.old }
     ensures { DomainMade code.now end names.now sizes.now out.old out.new result }
 {
@@ -38,7 +44,7 @@ pub fn domain(code: &[u16], end: usize, names: &[u16], sizes: &[u16], out: &mut 
 }
 
 // A number.
-pub fn number(code: &[u16], end: usize, out: &mut [u16]) -> Made
+pub(crate) fn number(code: &[u16], end: usize, out: &mut [u16]) -> Made
     requires { NodeAsked code.now end 1 out.old }
     ensures { (s : ℕ) (T W z : List ℕ) → TermMade code.now end s T T W W z out.old out.new result }
 {
@@ -52,7 +58,13 @@ pub fn number(code: &[u16], end: usize, out: &mut [u16]) -> Made
 }
 
 // A name: its slot, or an element by its place.
-pub fn named(code: &[u16], end: usize, names: &[u16], places: &[u16], out: &mut [u16]) -> Made
+pub(crate) fn named(
+    code: &[u16],
+    end: usize,
+    names: &[u16],
+    places: &[u16],
+    out: &mut [u16],
+) -> Made
     requires { NodeAsked code.now end 2 out.old }
     ensures { (s : ℕ) (z : List ℕ) → TermMade code.now end s names.now names.now places.now places.now z out.old out.new result }
 {
@@ -69,7 +81,7 @@ pub fn named(code: &[u16], end: usize, names: &[u16], places: &[u16], out: &mut 
 }
 
 // empty G.
-pub fn empty_set(code: &[u16], end: usize, names: &[u16], out: &mut [u16]) -> Made
+pub(crate) fn empty_set(code: &[u16], end: usize, names: &[u16], out: &mut [u16]) -> Made
     requires { NodeAsked code.now end 9 out.old }
     ensures { (s : ℕ) (W z : List ℕ) → TermMade code.now end s names.now names.now W W z out.old out.new result }
 {
@@ -83,7 +95,7 @@ pub fn empty_set(code: &[u16], end: usize, names: &[u16], out: &mut [u16]) -> Ma
 }
 
 // empty G H.
-pub fn empty_pairs(code: &[u16], end: usize, names: &[u16], out: &mut [u16]) -> Made
+pub(crate) fn empty_pairs(code: &[u16], end: usize, names: &[u16], out: &mut [u16]) -> Made
     requires { NodeAsked code.now end 10 out.old }
     ensures { (s : ℕ) (W z : List ℕ) → TermMade code.now end s names.now names.now W W z out.old out.new result }
 {
@@ -98,7 +110,7 @@ pub fn empty_pairs(code: &[u16], end: usize, names: &[u16], out: &mut [u16]) -> 
 }
 
 // true, false.
-pub fn constant(code: &[u16], end: usize, out: &mut [u16]) -> Made
+pub(crate) fn constant(code: &[u16], end: usize, out: &mut [u16]) -> Made
     requires { NodeAsked code.now end 1 out.old }
     ensures { (s : ℕ) (T W z : List ℕ) → PredMade code.now end s T T W W z out.old out.new result }
 {

@@ -14,7 +14,7 @@ use typing::types::prefix_type;
 
 // The term whose nodes end at `end`.
 #[cycle(walk)]
-pub fn term(
+pub(crate) fn term(
     code: &[u16],
     end: usize,
     slot: u16,

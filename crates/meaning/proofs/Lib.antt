@@ -11,4 +11,4 @@ pub mod Samples
 pub use Rattle.static_rules.proofs.FormPlainSymbols as FormPlainSymbols
 pub use Rattle.static_rules.proofs.FormScannedSymbols as FormScannedSymbols
 pub use Rattle.static_rules.proofs.FormTable as FormTable
-pub use Rattle.static_rules.proofs.SymbolsBooleanTests as SymbolsBooleanTests
+pub use Rattle.static_rules.proofs.LexicalBooleanTests as LexicalBooleanTests

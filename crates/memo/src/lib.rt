@@ -1,6 +1,8 @@
 // Truths that are remembered: what a conjunct whose last node is a quantifier comes to, by the conjunct and by the values of the at most four slots that it mentions.
 // `memo` has for each place where a conjunct can end the list of its slots; behind these the cells, each twice a whole key, and 1 more where the conjunct is true. 0 is nothing:
 // the caller lends the numbers, and they are all 0 at first.
+// Form 1: the constants are sizes of what is packed into the memory, and marks in it, which are numbers as all that the caller lends.
+// Form 5: the memory is lent to be written beside a table that is only read: in a struct of both each function would have to promise that the table is as it was.
 #![tactic(auto)]
 
 ghost use Rattle.std.specs.Prelude.{◌≡◌, ◌+◌, ◌<◌, ◌^◌, IfSome, get_or, length};

@@ -1,5 +1,5 @@
 -- What it is that nodes are free of a slot: they give the same with any value in it. What the functions promise. Nothing here need be believed.
-use Rattle.std.specs.Prelude.{◌≡◌, Bool, true, List, ℕ, ◌<◌, get_or, length, ℤ, pos}
+use Rattle.std.specs.Prelude.{Option, IfSome, ◌≡◌, Bool, true, List, ℕ, ◌<◌, get_or, length, ℤ, pos}
 use Rattle.evaluator.specs.EvaluationEvaluationByNumber.{Values, TermIs, ItemsIs, TruthIs, AskedNode}
 
 -- values in slots that are the same in all slots but s
@@ -72,5 +72,5 @@ pub record Solves (t : List ℕ) (e s q : ℕ) : Type 0 where
   pub gives : (f : ℕ) (ρ : Values) (b : Bool) → TruthIs f t e ρ b → Solved t q s ρ b
   pub free : TermFree t q s
 
-pub record Solving (t : List ℕ) (e s r : ℕ) : Type 0 where
-  pub means : (r ≡ 0 → ⊥) → Solves t e s r
+abbrev pub Solving : (t : List ℕ) (e s : ℕ) → Option ℕ → Type 0
+Solving t e s r = IfSome r (λ (q : ℕ). Solves t e s q)

@@ -29,31 +29,29 @@ fn tells(t: &[u16; node::NUMBERS], own: usize, other: usize, slot: usize) -> boo
     free_term(t, other, slot)
 }
 
-// Where the term ends that the predicate up to `end` says the variable of the slot to be: an equation with the variable on one side, and without it on the other. 0 if it says none.
-pub fn solving(t: &[u16; node::NUMBERS], end: usize, slot: usize) -> usize
+// Where the term ends that the predicate up to `end` says the variable of the slot to be: an equation with the variable on one side, and without it on the other; none if it says none.
+pub fn solving(t: &[u16; node::NUMBERS], end: usize, slot: usize) -> Option<usize>
     ensures { Solving t.now end slot result }
 {
     if end < node::SIZE {
-        return 0;
+        return None;
     }
     if node::NUMBERS < end {
-        return 0;
+        return None;
     }
     if t[end - SHAPE_BACK] != table_shapes::COMPARED {
-        return 0;
+        return None;
     }
     if t[end - FIRST_BACK] != EQUALS {
-        return 0;
+        return None;
     }
-    let Some(left) = earlier(t, end, END_BACK) else {
-        return 0;
-    };
+    let left = earlier(t, end, END_BACK)?;
     let right = end - node::SIZE;
     if tells(t, left, right, slot) {
-        return right;
+        return Some(right);
     }
     if tells(t, right, left, slot) {
-        return left;
+        return Some(left);
     }
-    0
+    None
 }

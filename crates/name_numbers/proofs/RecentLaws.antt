@@ -10,7 +10,8 @@ use lib.ListN.{length, get_or, set, replicate}
 use lib.Seq.{get_or-set_same, get_or-set_other}
 use Rattle.lexical.specs.SymbolPromises.{walk_from, IsFirst, Reached, reached, deep, Tree}
 use Rattle.lexical.specs.declared.Stop.{Stop}
-use Rattle.name_numbers.specs.RecentNames.{Recent, Recalls}
+use Rattle.name_numbers.specs.RecentNames.{Recent, Earlier, Recalls}
+use Rattle.std.specs.Prelude.{Option, Some}
 use Rattle.name_numbers.proofs.TreeLaws.{both}
 use Rattle.name_numbers.proofs.NumberingLaws.{walk_of, grown, zero-at}
 
@@ -29,30 +30,26 @@ module _ {low high : List ℕ} where
   reached-like _ l e g deep = deep
 
   -- a name that is recalled
-  pub recalls-none : {i : ℕ} → Recalls low high i 0
-  recalls-none = record { before = omega arith; first = λ h. absurd (omega arith); same_low = λ h. absurd (omega arith); same_high = λ h. absurd (omega arith) }
-
   pub recalls : {recent : List ℕ} {i t : ℕ} {b : Bool} (k : ℕ) → Recent low high recent i → t ≡ get_or recent k 0 → 0 < t
-      → b ≡ (eqb (get_or low (t - 1) 0) (get_or low i 0) && eqb (get_or high (t - 1) 0) (get_or high i 0)) → b ≡ true → Recalls low high i t
+      → b ≡ (eqb (get_or low (t - 1) 0) (get_or low i 0) && eqb (get_or high (t - 1) 0) (get_or high i 0)) → b ≡ true → Earlier low high i (t - 1)
   recalls {recent} {i} {t} k h e l p q =
       let o = both (get_or low (t - 1) 0) (get_or low i 0) (get_or high (t - 1) 0) (get_or high i 0) (sym p ∙ q) in
       let s : t ≡ suc (t - 1) = omega arith in
-      record {
-        before = subst (λ (x : ℕ). x ≤ i) (sym e) (h.below k);
-        first = λ z. h.firsts k (t - 1) (sym e ∙ s);
-        same_low = λ z. o.0;
-        same_high = λ z. o.1;
-      }
+      let b : t ≤ i = subst (λ (x : ℕ). x ≤ i) (sym e) (h.below k) in
+      record { before = omega arith; first = h.firsts k (t - 1) (sym e ∙ s); same_low = o.0; same_high = o.1 }
 
-  pub recalled-first : {i t : ℕ} → Recalls low high i t → 0 < t → IsFirst low high i (t - 1)
-  recalled-first h l = let b = h.before in first-like (omega arith) (h.same_low l) (h.same_high l) (h.first l)
+  pub earlier : {i m : ℕ} {r : Option ℕ} → r ≡ Some m → Recalls low high i r → Earlier low high i m
+  earlier {i} q h = subst (λ (x : Option ℕ). Recalls low high i x) q h
 
-  pub recalled-tree : {tree : List ℕ} {i t : ℕ} → Tree low high tree i → (get_or low i 0 ≡ 0 → ⊥) → Recalls low high i t → 0 < t → Tree low high tree (i + 1)
-  recalled-tree {tree} {i} {t} h n r l =
+  pub recalled-first : {i m : ℕ} → Earlier low high i m → IsFirst low high i m
+  recalled-first h = let b = h.before in first-like (omega arith) h.same_low h.same_high h.first
+
+  pub recalled-tree : {tree : List ℕ} {i m : ℕ} → Tree low high tree i → (get_or low i 0 ≡ 0 → ⊥) → Earlier low high i m → Tree low high tree (i + 1)
+  recalled-tree {tree} {i} {m} h n r =
       let b = r.before in
-      let k : Reached low high (t - 1) (walk_of low high tree (t - 1)) = h.known (t - 1) (omega arith) (λ z. n (sym (r.same_low l) ∙ z)) in
-      let e : walk_of low high tree (t - 1) ≡ walk_of low high tree i = ap₂ (λ (x y : ℕ). walk_from 128 low high tree x y x y 8192) (r.same_low l) (r.same_high l) in
-      grown h (subst (Reached low high i) e (reached-like (walk_of low high tree (t - 1)) (omega arith) (r.same_low l) (r.same_high l) k))
+      let k : Reached low high m (walk_of low high tree m) = h.known m b (λ z. n (sym r.same_low ∙ z)) in
+      let e : walk_of low high tree m ≡ walk_of low high tree i = ap₂ (λ (x y : ℕ). walk_from 128 low high tree x y x y 8192) r.same_low r.same_high in
+      grown h (subst (Reached low high i) e (reached-like (walk_of low high tree m) (omega arith) r.same_low r.same_high k))
 
   -- what is remembered
   pub recent-start : (n : ℕ) → Recent low high (replicate n 0) 0

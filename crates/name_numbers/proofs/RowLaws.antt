@@ -13,7 +13,7 @@ use Rattle.lexical.specs.Symbols.{run, Symbol, fixed, numeral, name, Name, Endin
 use Rattle.lexical.specs.Promises.{code_in, number_in, filled, has_letters, first_named, value_in}
 use Rattle.lexical.specs.SymbolPromises.{packed, is_name, low_in, high_in, filled_low, filled_high, Rows, IsFirst}
 use Rattle.lexical.proofs.WordLaws.{Fits, packed-one, run_fits, same_refl, same_true}
-use Rattle.name_numbers.proofs.TreeLaws.{name-above}
+use Rattle.lexical.proofs.NameCodes.{name-above}
 use Rattle.name_numbers.proofs.ScanLaws.{filled_more}
 use Rattle.name_numbers.proofs.SoundLaws.{Sound, Stands, all-stand, nowhere, stands_at, map_at}
 

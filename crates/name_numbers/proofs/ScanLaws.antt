@@ -14,7 +14,7 @@ use lib.ListN.{length, take, drop, get_or, set, length-append, length-map, lengt
 use lib.Seq.{drop-cons, get_or-drop, drop-drop, take_all, take_at, set_at}
 use Rattle.lexical.specs.Lists.{bytes, begins}
 use Rattle.lexical.specs.Kinds.{Kind, marks, words}
-use Rattle.lexical.specs.Refusals.{Fault, fault, before, lesser, least, number_of, many_symbols}
+use Rattle.refusals.specs.Refusals.{Fault, fault, before, lesser, least, number_of, many_symbols}
 use Rattle.lexical.specs.Symbols.{Class, letter, digit, mark, blank, other, class_of, in_run, run, Symbol, fixed, numeral, name, Found, gap, unlisted, found, Ending, no_ending, prime, query, shriek, ending_of, ending_length}
 use Rattle.lexical.specs.Symbols.{reserved, word_of, is_number, number_found, decimal_from, longer, longest, by_class, symbol_at, Placed, Scan, done, stopped, next, scanned, scan_from, scan, symbols, scan_faults}
 use Rattle.lexical.specs.Promises.{code_in, number_in, Scanned, fault_of, taken, filled}
@@ -22,7 +22,7 @@ use Rattle.lexical.specs.SymbolPromises.{token_of, Takes}
 use Rattle.lexical.specs.declared.Token.{Token}
 use Rattle.lexical.specs.declared.Token.TheVariants.{Gap, Unlisted, Listed}
 use Rattle.std.specs.Prelude.{Ok, Err}
-use Rattle.lexical.specs.declared.refusals.Refusal.TheVariants.{UnlistedSymbol, ManySymbols}
+use Rattle.refusals.specs.declared.Refusal.TheVariants.{UnlistedSymbol, ManySymbols}
 use Rattle.lexical.proofs.WordLaws.{run_length}
 
 -- what stands at a place, by the class of its byte

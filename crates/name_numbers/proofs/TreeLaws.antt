@@ -4,26 +4,13 @@ use mathlib.Core.Bool.{Bool, true, false, ◌&&◌}
 use mathlib.Core.List.{List}
 use Prim.Native.Nat.{ℕ, zero, suc, ◌+◌, ◌*◌, ◌/◌, ◌%◌, ◌≤◌, ◌<◌}
 use native.Mathlib.Omega.{arith}
-use lib.Dec.{eqb, leb, ltb}
-use borrow.Author.Tests.{eqb-true, eq-eqb, ltb-true, ltb-false, le-leb, lt-leb}
+use lib.Dec.{eqb, ltb}
+use borrow.Author.Tests.{eqb-true, eq-eqb, ltb-true, ltb-false}
 use lib.ListN.{length, get_or, set}
 use lib.Seq.{get_or-set_same, get_or-set_other}
-use Rattle.lexical.specs.SymbolPromises.{is_name, visited, walk_from}
+use Rattle.lexical.specs.SymbolPromises.{visited, walk_from}
 use Rattle.lexical.specs.declared.Stop.{Stop}
 use Rattle.lexical.specs.declared.Stop.TheVariants.{At, Free, Deep}
-
-pub name-yes : (c : ℕ) → 2 ≤ c → c ≤ 5 → true ≡ is_name c
-name-yes c p q = sym (ap₂ (λ (x y : Bool). x && y) (le-leb 2 c p) (le-leb c 5 q))
-
-pub name_below : (c : ℕ) → c < 2 → false ≡ is_name c
-name_below c p = sym (ap (λ (x : Bool). x && leb c 5) (lt-leb 2 c p))
-
-pub name-above : (c : ℕ) → 5 < c → false ≡ is_name c
-name-above c p = sym (ap (λ (x : Bool). leb 2 c && x) (lt-leb c 5 p) ∙ last (leb 2 c))
-  where
-    last : (x : Bool) → (x && false) ≡ false
-    last true = refl
-    last false = refl
 
 -- the letters of two symbols, by two tests
 pub both : (x a y b : ℕ) → (eqb x a && eqb y b) ≡ true → (x ≡ a) × (y ≡ b)

@@ -3,7 +3,7 @@ use mathlib.Core.Path.{◌≡◌}
 use mathlib.Core.List.{List, [], ◌++◌, map}
 use Prim.Native.Nat.{suc}
 use Rattle.lexical.specs.Lists.{concat}
-use Rattle.lexical.specs.Refusals.{Fault}
+use Rattle.refusals.specs.Refusals.{Fault}
 use Rattle.form.specs.Tree.{declarations, Dossier}
 use Rattle.form.specs.Headings.{givens_at, abstract_at, concrete_at, operations_at}
 use Rattle.declared_names.specs.StaticRulesScope.{given_names, abstract_taken, concrete_taken, contexts}

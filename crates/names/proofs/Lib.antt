@@ -33,4 +33,5 @@ pub mod PassAgrees
 pub mod FaultlessParts
 -- what crates above name of crates below
 pub use Rattle.declared_names.proofs.DeclarationNodes as DeclaredNamesDeclarationNodes
+pub use Rattle.declared_names.proofs.NodePieces as DeclaredNamesNodePieces
 pub use Rattle.declared_names.proofs.GivenSetNodes as DeclaredNamesGivenSetNodes

@@ -7,7 +7,7 @@ use lib.ListN.{length, get_or}
 use mathlib.Core.Bool.{not}
 use Rattle.lexical.specs.Lists.{any, concat}
 use Rattle.lexical.specs.Symbols.{Name, no_ending}
-use Rattle.lexical.specs.Refusals.{Fault}
+use Rattle.refusals.specs.Refusals.{Fault}
 use Rattle.form.specs.Tree.{Letters, declarations, Dossier}
 use Rattle.form.specs.Headings.{givens_at, abstract_at, concrete_at, ainit_at, cinit_at, retrieve_at, operations_at}
 use Rattle.form.specs.Codes.{Numbering}

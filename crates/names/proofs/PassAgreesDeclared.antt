@@ -9,7 +9,7 @@ use lib.ListN.{set}
 use borrow.Author.Tests.{ne_eqb, not-true}
 use Rattle.lexical.specs.Lists.{any, find}
 use Rattle.lexical.specs.Symbols.{Name}
-use Rattle.lexical.specs.Refusals.{Fault, fault, number_of, name_in_use, unless}
+use Rattle.refusals.specs.Refusals.{Fault, fault, number_of, name_in_use, unless}
 use Rattle.form.specs.Tree.{Letters, Given}
 use Rattle.form.specs.Codes.{Numbering, name_number, type_width}
 use Rattle.declared_names.specs.StaticRulesCarriers.{Carrier, Variable, same_name, given_of, carrier_of}

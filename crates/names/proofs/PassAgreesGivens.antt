@@ -8,7 +8,7 @@ use lib.ListN.{length, set, length-set}
 use borrow.Author.Tests.{ne_eqb}
 use Rattle.lexical.specs.Lists.{any}
 use Rattle.lexical.specs.Symbols.{Name, no_ending}
-use Rattle.lexical.specs.Refusals.{number_of, name_in_use}
+use Rattle.refusals.specs.Refusals.{number_of, name_in_use}
 use Rattle.form.specs.Tree.{Letters, Given, elements}
 use Rattle.form.specs.Headings.{given_length}
 use Rattle.form.specs.Codes.{Numbering, number_of_name, name_number}

@@ -7,7 +7,7 @@ use native.Mathlib.Omega.{arith}
 use Rattle.lexical.specs.Kinds as kind
 use Rattle.lexical.specs.Lists.{any}
 use Rattle.lexical.specs.Symbols.{no_ending, prime}
-use Rattle.lexical.specs.Refusals.{Fault, number_of, name_in_use}
+use Rattle.refusals.specs.Refusals.{Fault, number_of, name_in_use}
 use Rattle.form.specs.Tree.{Letters, Given, Declaration, inward, outward, Parameter, Operation}
 use Rattle.form.specs.Written.{bare, write_pred, write_operations}
 use Rattle.form.specs.Headings.{operation_length}

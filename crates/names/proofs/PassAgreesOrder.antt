@@ -6,7 +6,7 @@ use Prim.Native.Nat.{ℕ, zero, suc, ◌*◌, ◌≤◌, ◌<◌}
 use native.Mathlib.Omega.{arith}
 use lib.Dec.{ltb}
 use borrow.Author.Tests.{ne_eqb, ltb-true, ltb-false, lt-ltb, le-ltb}
-use Rattle.lexical.specs.Refusals.{Fault, number_of, least}
+use Rattle.refusals.specs.Refusals.{Fault, number_of, least}
 use Rattle.type_rules.specs.TypesByNumber.{key_room, lesser, inside_key, least_key}
 use Rattle.names.proofs.TypesAgreeLeast.{no_fault, one_more, lesser-zero, lesser-assoc, least-append, least-nil, one-fault}
 use Rattle.names.proofs.PassAgreesPlaces.{Within, nowhere, at_place, within-small}

@@ -9,7 +9,7 @@ use lib.ListN.{length, set}
 use Rattle.lexical.specs.Kinds as kind
 use Rattle.lexical.specs.Lists.{any, find, filter}
 use Rattle.lexical.specs.Symbols.{Name, Ending, no_ending, prime, query, shriek}
-use Rattle.lexical.specs.Refusals.{Fault, fault, unless, name_in_use}
+use Rattle.refusals.specs.Refusals.{Fault, fault, unless, name_in_use}
 use Rattle.form.specs.Tree.{Letters, Given, Declaration, Direction, inward, outward, Parameter}
 use Rattle.form.specs.Written.{Written, bare, ending_of, inputs_after, outputs_after, write_parameters}
 use Rattle.form.specs.Codes.{Numbering, number_of_name, type_width}

@@ -9,7 +9,7 @@ use lib.ListN.{length}
 use Rattle.lexical.specs.Kinds as kind
 use Rattle.lexical.specs.Lists.{same, any, find}
 use Rattle.lexical.specs.Symbols.{Name, Ending, no_ending}
-use Rattle.lexical.specs.Refusals.{Fault, fault, unless, name_in_use}
+use Rattle.refusals.specs.Refusals.{Fault, fault, unless, name_in_use}
 use Rattle.form.specs.Tree.{Letters, Given, Declaration}
 use Rattle.form.specs.Written.{Written, bare, write_declarations}
 use Rattle.form.specs.Codes.{type_width}

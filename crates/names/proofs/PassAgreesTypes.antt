@@ -7,7 +7,7 @@ use Prim.Native.Nat.{ℕ, suc, ◌+◌, ◌≤◌, ◌<◌}
 use native.Mathlib.Omega.{arith}
 use lib.ListN.{length, get_or}
 use Rattle.lexical.specs.Symbols.{Name}
-use Rattle.lexical.specs.Refusals.{fault, name_unknown}
+use Rattle.refusals.specs.Refusals.{fault, name_unknown}
 use Rattle.form.specs.Tree.{Letters, Given, Arrow, TypeForm, given_type, power_type, range_type, arrow_type}
 use Rattle.form.specs.Written.{write_type}
 use Rattle.form.specs.Codes.{Numbering, name_number, type_width}

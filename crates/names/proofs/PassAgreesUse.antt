@@ -8,7 +8,7 @@ use native.Mathlib.Omega.{arith}
 use borrow.Author.Tests.{not-true}
 use Rattle.lexical.specs.Lists.{same, any, find}
 use Rattle.lexical.specs.Symbols.{Name}
-use Rattle.lexical.specs.Refusals.{fault, name_in_use}
+use Rattle.refusals.specs.Refusals.{fault, name_in_use}
 use Rattle.lexical.proofs.WordLaws.{same_refl, same_true}
 use Rattle.form.specs.Tree.{Letters, Given, elements}
 use Rattle.form.specs.Headings.{given_length}

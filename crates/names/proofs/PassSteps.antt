@@ -1,12 +1,13 @@
 -- The parts of a dossier by their nodes: where declarations and predicates end, and what the pass makes of states and of the three conditions.
-use mathlib.Core.Path.{◌≡◌, refl, ap, sym, ◌∙◌}
+use mathlib.Core.Path.{◌≡◌, refl, ap, sym, ◌∙◌, subst}
 use mathlib.Core.List.{List, [], ◌∷◌, ◌++◌, append_assoc}
-use Prim.Native.Nat.{ℕ, suc, ◌+◌, ◌-◌, ◌≤◌, ◌<◌}
+use Prim.Native.Nat.{ℕ, zero, suc, ◌+◌, ◌-◌, ◌*◌, ◌/◌, ◌≤◌, ◌<◌, min}
 use native.Mathlib.Nat.{add-zero, zero-add}
 use native.Mathlib.Omega.{arith}
 use Rattle.form.specs.Headings.{ainit_at, cinit_at, retrieve_at}
 use lib.ListN.{length, take, drop, get_or, length-drop, length-append}
 use lib.Seq.{get_or-drop, drop-drop, drop_at, take_at, take-length, take_all}
+use Rattle.std.specs.Prelude.{Option, None, Some, MatchOption, unwrap_or}
 use Rattle.lexical.specs.Symbols.{no_ending}
 use Rattle.form.specs.Tree.{Declaration, declarations, Parameter, Pred, State, Dossier}
 use Rattle.form.specs.Written.{ending_of}
@@ -103,6 +104,21 @@ ahead-ended code at h s w =
           let r = w xs i ρ rest e other in ahead-end code at ρ rest (length (typed_codes i xs ρ)) s r.left r.place r.here r.count;
     }
 
+-- k declarations on
+pub ahead-to : (code : List ℕ) (k : ℕ) → ((j : ℕ) → j < k → get_or code (j * 8 + 3) 0 ≡ 6) → DeclaredOn code (k * 8)
+ahead-to code zero w = ahead-start code
+ahead-to code (suc k) w =
+    let next : k * 8 + 8 ≡ suc k * 8 = omega arith in
+    subst (DeclaredOn code) next (ahead-on code (k * 8) (w k (omega arith)) (ahead-to code k (λ j h. w j (omega arith))))
+
+-- where the first is that is no declaration, or that there is none
+pub ahead-found : (code : List ℕ) (o : Option ℕ)
+    → MatchOption o ((j : ℕ) → 0 ≤ j → j < length code / 8 → get_or code (j * 8 + 3) 0 ≡ 6)
+    (λ k. (0 ≤ k) × (k < length code / 8) × (get_or code (k * 8 + 3) 0 ≡ 6 → ⊥) × ((j : ℕ) → 0 ≤ j → j < k → get_or code (j * 8 + 3) 0 ≡ 6))
+    → DeclaredEnd code (unwrap_or o (length code / 8) * 8)
+ahead-found code None w = let n = length code / 8 in ahead-ended code (n * 8) (omega arith) (omega arith) (ahead-to code n (λ j h. w j (omega arith) h))
+ahead-found code (Some k) w = let h = w.1 in ahead-stopped code (k * 8) (omega arith) w.2 (ahead-to code k (λ j l. w.3 j (omega arith) l))
+
 -- the node of a predicate has the length of what follows
 module _ (code : List ℕ) (at : ℕ) (p : Pred) (i : ℕ) (ρ : Numbering) (rest : List ℕ) (e : drop at code ≡ condition_codes i p ρ ++ rest) where
   pub condition-length : 4 + get_or code (at + 1) 0 ≡ length (condition_codes i p ρ)
@@ -114,27 +130,10 @@ module _ (code : List ℕ) (at : ℕ) (p : Pred) (i : ℕ) (ρ : Numbering) (res
   pub condition-room : length code - at ≡ length (condition_codes i p ρ) + length rest
   condition-room = sym (length-drop at code) ∙ (ap (λ (l : List ℕ). length l) e ∙ length-append (condition_codes i p ρ) rest)
 
-pub condition-end : (code : List ℕ) (at n : ℕ) → n ≡ get_or code (at + 1) 0 → at ≤ length code → at + 4 + n ≤ length code → PredicateEnd code at (at + 4 + n)
-condition-end code at n q h k =
+pub condition-end : (code : List ℕ) (at n r : ℕ) → n ≡ get_or code (at + 1) 0 → at ≤ length code → r ≡ min (at + 4 + n) (length code) → PredicateEnd code at r
+condition-end code at n r q h m =
     record {
       behind = omega arith;
-      within = k;
-      right = λ p i ρ rest e. let s = condition-length code at p i ρ rest e in omega arith;
-    }
-
--- no predicate begins where fewer nodes are left than it has
-pub condition-short : (code : List ℕ) (at : ℕ) → at ≤ length code → length code - at < 4 → PredicateEnd code at (length code)
-condition-short code at h k =
-    record {
-      behind = h;
-      within = omega arith;
-      right = λ p i ρ rest e. let s = condition-length code at p i ρ rest e in let t = condition-room code at p i ρ rest e in omega arith;
-    }
-
-pub condition-over : (code : List ℕ) (at n : ℕ) → n ≡ get_or code (at + 1) 0 → at ≤ length code → length code - at - 4 < n → PredicateEnd code at (length code)
-condition-over code at n q h k =
-    record {
-      behind = h;
       within = omega arith;
       right = λ p i ρ rest e. let s = condition-length code at p i ρ rest e in let t = condition-room code at p i ρ rest e in omega arith;
     }

@@ -9,7 +9,7 @@ use lib.Dec.{leb}
 use lib.IntN.{pos}
 use borrow.Author.Tests.{le-leb, lt-ltb, not-true}
 use Rattle.lexical.specs.Symbols.{Name, no_ending}
-use Rattle.lexical.specs.Refusals.{Fault, fault, number_of, name_in_use, name_unknown, types_misfit, wide_type}
+use Rattle.refusals.specs.Refusals.{Fault, fault, number_of, name_in_use, name_unknown, types_misfit, wide_type}
 use Rattle.form.specs.Tree.{Letters, Given, Domain, given_set, range}
 use Rattle.form.specs.Codes.{Numbering, name_number, number_of_name}
 use Rattle.declared_names.specs.StaticRulesCarriers.{Carrier, elements_of, size_of, plain, given_of}

@@ -7,8 +7,8 @@ use Prim.Native.Nat.{ℕ, zero, suc, ◌≤◌, ◌<◌}
 use native.Mathlib.Omega.{arith}
 use lib.Dec.{eqb, ltb}
 use borrow.Author.Tests.{eqb-true, eqb-false, ne_eqb, ltb-true, ltb-false, lt-ltb, le-ltb}
-use Rattle.lexical.specs.Refusals as faults
-use Rattle.lexical.specs.Refusals.{Refusal, Fault, fault, number_of, before, least, unless}
+use Rattle.refusals.specs.Refusals as faults
+use Rattle.refusals.specs.Refusals.{Refusal, Fault, fault, number_of, before, least, unless}
 use Rattle.declared_names.specs.StaticRulesNames.{whole, inside}
 use Rattle.type_rules.specs.TypesByNumber.{key_room, key, lesser, unless_key, judged_key, inside_key, key_of, least_key}
 

@@ -7,7 +7,7 @@ use Prim.Native.Nat.{ℕ, suc, ◌+◌, ◌≤◌}
 use native.Mathlib.Omega.{arith}
 use lib.Dec.{ltb}
 use lib.ListN.{length}
-use Rattle.lexical.specs.Refusals.{fault, number_of, name_unknown, types_misfit, zero_divisor}
+use Rattle.refusals.specs.Refusals.{fault, number_of, name_unknown, types_misfit, zero_divisor}
 use Rattle.form.specs.Tree.{Letters, Given, End, Term, Items, Pairs, Pred}
 use Rattle.form.specs.Codes.{Numbering, sign_of, term_width, pred_width}
 use Rattle.declared_names.specs.StaticRulesTypes as ty

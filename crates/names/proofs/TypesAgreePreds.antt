@@ -4,7 +4,7 @@ use mathlib.Core.List.{List, ◌++◌}
 use Prim.Native.Nat.{ℕ, suc, ◌+◌}
 use native.Mathlib.Omega.{arith}
 use Rattle.lexical.specs.Symbols.{no_ending}
-use Rattle.lexical.specs.Refusals.{Fault, number_of, types_misfit}
+use Rattle.refusals.specs.Refusals.{Fault, number_of, types_misfit}
 use Rattle.form.specs.Tree.{Letters, Range, Domain, range, Connective, Quantifier, Comparison, Membership, Term, Pred, truth, falsity, negation, paren, quantified, connected, compared, member, within, related}
 use Rattle.form.specs.Codes.{Numbering, number_of_name, term_width, domain_width}
 use Rattle.declared_names.specs.StaticRulesTypes as ty

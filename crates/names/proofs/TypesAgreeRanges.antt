@@ -12,7 +12,7 @@ use Rattle.form.specs.Codes.{end_number, end_width}
 use Rattle.declared_names.specs.StaticRulesCarriers.{signed, end_value}
 use Rattle.declared_names.specs.StaticRulesNames as names
 use Rattle.declared_names.specs.StaticRulesNames.{range_faults}
-use Rattle.lexical.specs.Refusals.{number_of, wide_type}
+use Rattle.refusals.specs.Refusals.{number_of, wide_type}
 use Rattle.type_rules.specs.TypesByNumber.{range_fits, key, unless_key, least_key}
 use Rattle.names.proofs.ReachTables.{RangeIn}
 use Rattle.names.proofs.TypesAgreeLeast.{unless-least}

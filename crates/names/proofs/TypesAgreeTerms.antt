@@ -9,7 +9,7 @@ use native.Mathlib.Numerals.{add-one}
 use lib.Dec.{ltb}
 use lib.ListN.{length}
 use Rattle.lexical.specs.Symbols.{Name, no_ending}
-use Rattle.lexical.specs.Refusals.{Fault, fault, number_of, types_misfit}
+use Rattle.refusals.specs.Refusals.{Fault, fault, number_of, types_misfit}
 use Rattle.form.specs.Tree.{Letters, End, given_set, Prefix, Operator, Division, Term, number, name, group, prefix, binary, divided, listed, pairs, such, empty_set, empty_pairs, Items, only, also, Pairs, only_pair, also_pair, Pred}
 use Rattle.form.specs.Codes.{Numbering, name_number, number_of_name, sign_of, term_width}
 use Rattle.declared_names.specs.StaticRulesCarriers.{given_of}

@@ -7,7 +7,7 @@ use Prim.Native.Nat.{ℕ, suc, ◌+◌, ◌<◌}
 use native.Mathlib.Omega.{arith}
 use lib.ListN.{length}
 use Rattle.lexical.specs.Kinds as kind
-use Rattle.lexical.specs.Refusals.{Fault, fault, number_of, name_in_use, name_unknown, types_misfit, wide_type, zero_divisor}
+use Rattle.refusals.specs.Refusals.{Fault, fault, number_of, name_in_use, name_unknown, types_misfit, wide_type, zero_divisor}
 use Rattle.form.specs.Tree.{Letters, End, Range, Domain, given_set, range, Given}
 use Rattle.form.specs.Tree.{Term, number, name, group, prefix, binary, divided, listed, pairs, such, empty_set, empty_pairs, Items, only, also, Pairs, only_pair, also_pair}
 use Rattle.form.specs.Tree.{Pred, truth, falsity, negation, paren, quantified, connected, compared, member, within, related}

@@ -1,13 +1,14 @@
 -- The whole pass: its tables are cleared, and its parts are those of a dossier.
 use mathlib.Core.Path.{◌≡◌, refl, ap, sym, ◌∙◌}
-use mathlib.Core.Bool.{Bool, true, false}
-use mathlib.Core.List.{List, ◌++◌, map, append_assoc}
-use Prim.Native.Nat.{ℕ, zero, suc, ◌+◌, ◌-◌, ◌≤◌, ◌<◌}
+use mathlib.Core.List.{List, [], ◌++◌, map, append_assoc}
+use mathlib.Core.Logic.{inl, inr}
+use Prim.Native.Nat.{ℕ, suc, ◌+◌, ◌-◌, ◌≤◌, ◌<◌}
 use native.Mathlib.Omega.{arith}
-use lib.Dec.{eqb}
-use borrow.Author.Tests.{eqb-true, eqb-false}
-use lib.ListN.{length, take, drop, get_or, set, replicate, length-replicate, length-append, length-drop, take-append-drop}
-use lib.Seq.{drop-drop, length-take-le, ext_get_or, get_or-set_same, get_or-set_other}
+use lib.ListN.{length, take, drop, get_or, replicate, length-append, length-drop, take-append-drop}
+use lib.Seq.{drop-drop, length-take-le}
+use Rattle.std.specs.Prelude.{Option, None, Some, unwrap_or}
+use Rattle.std.specs.Slice.{IsGetRangeResult}
+use Rattle.std.proofs.Common.{Bor}
 use Rattle.form.specs.Tree.{declarations, Dossier}
 use Rattle.form.specs.Headings.{givens_at, abstract_at, concrete_at, ainit_at, cinit_at, retrieve_at, operations_at}
 use Rattle.form.specs.Codes.{Numbering, contents_codes, condition_codes, dossier_codes, given_codes, state_codes, operation_codes}
@@ -19,16 +20,21 @@ use Rattle.declared_names.proofs.DeclarationNodes.{inside-none, inside-some}
 use Rattle.names.proofs.PassSteps.{never-state, state-front, variables-codes, front, back}
 
 -- some of the nodes
-pub part-some : (nodes : List ℕ) (from to : ℕ) → from ≤ to → to ≤ length nodes → PartOf nodes from to (take (to - from) (drop from nodes))
-part-some nodes from to h k =
+pub part-cut : (nodes : List ℕ) (from to : ℕ) (o : Option (Bor (List ℕ))) (none r : Bor (List ℕ)) → IsGetRangeResult nodes from to o → none.now ≡ [] → r ≡ unwrap_or o none
+    → PartOf nodes from to r.now
+part-cut nodes from to None none r h e q =
+    let empty : r.now ≡ [] = ap (λ (b : Bor (List ℕ)). b.now) q ∙ e in
+    record {
+      fits = λ l. let z : length r.now ≡ 0 = ap (λ (x : List ℕ). length x) empty in absurd (omega arith);
+      part = λ p k. elim h.0 [ inl w ↦ absurd (omega arith) | inr w ↦ absurd (omega arith) ];
+      none = λ u. empty;
+    }
+part-cut nodes from to (Some x) none r h e q =
+    let is : r.now ≡ take (to - from) (drop from nodes) = ap (λ (b : Bor (List ℕ)). b.now) q ∙ h.0.2 in
     let d = length-drop from nodes in
-    let l = length-take-le (to - from) (drop from nodes) (omega arith) in
-    record { fits = λ q. omega arith; part = λ p q. refl; none = λ u. absurd (u h k) }
-
-pub part_none : (nodes : List ℕ) (from to : ℕ) → (from ≤ to → to ≤ length nodes → ⊥) → PartOf nodes from to (take 0 nodes)
-part_none nodes from to h =
-    let l = length-take-le 0 nodes (omega arith) in
-    record { fits = λ q. absurd (omega arith); part = λ p q. absurd (h p q); none = λ u. refl }
+    let l = length-take-le (to - from) (drop from nodes) (omega (arith, h.0.0, h.0.1)) in
+    let long : length r.now ≡ to - from = ap (λ (y : List ℕ). length y) is ∙ l in
+    record { fits = λ k. omega (arith, h.0.0, h.0.1); part = λ p k. is; none = λ u. absurd (u h.0.0 h.0.1) }
 
 -- the variables of a state
 pub variables-short : (code r : List ℕ) → length code < 4 → VariablesOf code r

@@ -7,8 +7,8 @@ ghost use Rattle.declared_names.specs.PassPromises.{GivenSeen, CheckSeen};
 
 use crate::passes::check;
 use declared_names::declared::give;
-use lexical::refusals::Fault;
 use lexical::{bounds, endings};
+use refusals::Fault;
 
 pub mod passes;
 

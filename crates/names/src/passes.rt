@@ -1,29 +1,35 @@
 // The pass over a whole dossier, in the order of the text: the first fault is the least.
-ghost use Rattle.std.specs.Prelude.{◌≡◌, ◌+◌, ◌≤◌, length};
+ghost use Rattle.std.specs.Prelude.{◌≡◌, ◌+◌, ◌*◌, ◌≤◌, length};
 ghost use Rattle.type_rules.specs.Passes.{refused_key};
-ghost use Rattle.declared_names.specs.PassPromises.{DeclaredEnd, PredicateEnd, OperationEnd, ConditionSeen, StateSeen, ReachingSeen, LeavingSeen, SideSeen, SidesSeen, OperationSeen, OperationsSeen, ConditionsSeen, PartOf, VariablesOf, LaterSeen, CheckSeen};
+ghost use Rattle.declared_names.specs.PassPromises.{DeclaredEnd, PredicateEnd, OperationEnd, ConditionSeen, StateSeen, ReachingSeen, LeavingSeen, SideSeen, SidesSeen, OperationSeen, OperationsSeen, ConditionsSeen, PartOf, VariablesOf, CheckSeen};
 
 use crate::NAMES;
 use declared_names::declared::{declare, give, hide, show};
 use form::name_endings::{PLAIN, PRIMED};
 use form::{node, shapes};
-use lexical::refusals::{Fault, Refusal};
+use refusals::{Fault, Refusal};
 use type_rules::entries;
 use type_rules::kinds::{all_well, look, put, unless};
 use typing::types::pred;
+
+// The variables of the two states, by their nodes.
+#[derive(Clone, Copy)]
+pub struct States<'a> {
+    pub abstracts: &'a [u16],
+    pub concretes: &'a [u16],
+}
 
 // How many numbers declarations have at the beginning of some nodes.
 fn declared_end(code: &[u16]) -> usize
     ensures { DeclaredEnd code.now result }
 {
-    let mut at: usize = 0;
-    while node::DECLARATION <= code.len() - at {
-        if code[at + node::SHAPE] != shapes::DECLARED {
-            return at;
-        }
-        at += node::DECLARATION;
-    }
-    at
+    let n = code.len() / node::DECLARATION;
+    let other = (0..n).find(
+        |&k|
+            requires { k * 8 + 8 ≤ length code.now }
+        { code[k * node::DECLARATION + node::SHAPE] != shapes::DECLARED },
+    );
+    other.unwrap_or(n) * node::DECLARATION
 }
 
 // The end of a predicate whose node stands at a place, or of all nodes.
@@ -31,14 +37,8 @@ fn predicate_end(code: &[u16], at: usize) -> usize
     requires { at ≤ length code.now }
     ensures { PredicateEnd code.now at result }
 {
-    if code.len() - at < node::SIZE {
-        return code.len();
-    }
-    let n = usize::from(code[at + node::A]);
-    if n <= code.len() - at - node::SIZE {
-        return at + node::SIZE + n;
-    }
-    code.len()
+    let n = usize::from(look(code, at + node::A));
+    (at + node::SIZE + n).min(code.len())
 }
 
 // A predicate with its node in front.
@@ -91,29 +91,22 @@ fn side(code: &[u16], variables: &[u16], names: &mut [u16], sizes: &[u16]) -> Re
 }
 
 // The two predicates of an operation.
-fn sides(
-    code: &[u16],
-    abstracts: &[u16],
-    concretes: &[u16],
-    names: &mut [u16],
-    sizes: &[u16],
-) -> Result<(), Fault>
-    ensures { SidesSeen code.now abstracts.now concretes.now names.old names.new sizes.now (refused_key result) }
+fn sides(code: &[u16], states: &States<'_>, names: &mut [u16], sizes: &[u16]) -> Result<(), Fault>
+    ensures { SidesSeen code.now states.now.abstracts.now states.now.concretes.now names.old names.new sizes.now (refused_key result) }
 {
     let e = predicate_end(code, 0);
-    side(&code[..e], abstracts, names, sizes)?;
-    side(&code[e..], concretes, names, sizes)
+    side(&code[..e], states.abstracts, names, sizes)?;
+    side(&code[e..], states.concretes, names, sizes)
 }
 
 // An operation, from its heading on, with the variables of both states.
 fn operation(
     code: &[u16],
-    abstracts: &[u16],
-    concretes: &[u16],
+    states: &States<'_>,
     names: &mut [u16],
     sizes: &[u16],
 ) -> Result<(), Fault>
-    ensures { OperationSeen code.now abstracts.now concretes.now names.old names.new sizes.now (refused_key result) }
+    ensures { OperationSeen code.now states.now.abstracts.now states.now.concretes.now names.old names.new sizes.now (refused_key result) }
 {
     if code.len() < node::SIZE {
         return Ok(());
@@ -131,7 +124,7 @@ fn operation(
     let e = declared_end(rest);
     let parameters = &rest[..e];
     declare(parameters, names, sizes)?;
-    let h = sides(&rest[e..], abstracts, concretes, names, sizes);
+    let h = sides(&rest[e..], states, names, sizes);
     hide(parameters, PLAIN, entries::FREE, names);
     h
 }
@@ -148,19 +141,19 @@ fn operation_end(code: &[u16], at: usize) -> usize
     predicate_end(code, p)
 }
 
+// Form 3: how long an operation is, `operation_end` answers; an iterator of them would be a type with laws of its own for this one walk.
 fn operations(
     code: &[u16],
-    abstracts: &[u16],
-    concretes: &[u16],
+    states: &States<'_>,
     names: &mut [u16],
     sizes: &[u16],
 ) -> Result<(), Fault>
-    ensures { OperationsSeen code.now abstracts.now concretes.now names.old sizes.now (refused_key result) }
+    ensures { OperationsSeen code.now states.now.abstracts.now states.now.concretes.now names.old sizes.now (refused_key result) }
 {
     let mut at: usize = 0;
     while node::SIZE <= code.len() - at {
         let e = operation_end(code, at);
-        operation(&code[at..e], abstracts, concretes, names, sizes)?;
+        operation(&code[at..e], states, names, sizes)?;
         at = e;
     }
     Ok(())
@@ -169,24 +162,23 @@ fn operations(
 // ainit, cinit, retrieve.
 fn conditions(
     code: &[u16],
-    abstracts: &[u16],
-    concretes: &[u16],
+    states: &States<'_>,
     names: &mut [u16],
     sizes: &[u16],
 ) -> Result<(), Fault>
-    ensures { ConditionsSeen code.now abstracts.now concretes.now names.old names.new sizes.now (refused_key result) }
+    ensures { ConditionsSeen code.now states.now.abstracts.now states.now.concretes.now names.old names.new sizes.now (refused_key result) }
 {
     let p = predicate_end(code, 0);
     let q = predicate_end(code, p);
-    show(abstracts, PLAIN, names);
+    show(states.abstracts, PLAIN, names);
     condition(&code[..p], names, sizes)?;
-    hide(abstracts, PLAIN, entries::USED, names);
-    show(concretes, PLAIN, names);
+    hide(states.abstracts, PLAIN, entries::USED, names);
+    show(states.concretes, PLAIN, names);
     condition(&code[p..q], names, sizes)?;
-    show(abstracts, PLAIN, names);
+    show(states.abstracts, PLAIN, names);
     let h = condition(&code[q..], names, sizes);
-    hide(abstracts, PLAIN, entries::USED, names);
-    hide(concretes, PLAIN, entries::USED, names);
+    hide(states.abstracts, PLAIN, entries::USED, names);
+    hide(states.concretes, PLAIN, entries::USED, names);
     h
 }
 
@@ -194,12 +186,7 @@ fn conditions(
 pub fn part(nodes: &[u16], from: usize, to: usize) -> &[u16]
     ensures { PartOf nodes.now from to result.now }
 {
-    if from <= to {
-        if to <= nodes.len() {
-            return &nodes[from..to];
-        }
-    }
-    &nodes[..0]
+    nodes.get(from..to).unwrap_or(&nodes[..0])
 }
 
 // The nodes of the variables of a state.
@@ -212,23 +199,6 @@ fn variables_of(code: &[u16]) -> &[u16]
     let rest = &code[node::SIZE..];
     let e = declared_end(rest);
     &rest[..e]
-}
-
-// What stands behind the states, which are given.
-fn later(
-    three: &[u16],
-    last: &[u16],
-    abstracts: &[u16],
-    concretes: &[u16],
-    names: &mut [u16],
-    sizes: &[u16],
-) -> Result<(), Fault>
-    ensures { LaterSeen three.now last.now abstracts.now concretes.now names.old sizes.now (refused_key result) }
-{
-    let av = variables_of(abstracts);
-    let cv = variables_of(concretes);
-    conditions(three, av, cv, names, sizes)?;
-    operations(last, av, cv, names, sizes)
 }
 
 // The least fault of the pass, with its place by symbols. The nodes are a dossier's, up to m; the places are where its parts begin.
@@ -253,7 +223,12 @@ pub(crate) fn check(
     state(one, &mut names, sizes)?;
     let two = part(nodes, concretes, ainit);
     state(two, &mut names, sizes)?;
+    let states = States {
+        abstracts: variables_of(one),
+        concretes: variables_of(two),
+    };
     let three = part(nodes, ainit, after);
     let last = part(nodes, after, m);
-    later(three, last, one, two, &mut names, sizes)
+    conditions(three, &states, &mut names, sizes)?;
+    operations(last, &states, &mut names, sizes)
 }

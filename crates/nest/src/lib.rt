@@ -1,5 +1,8 @@
 // One part of the check: labelled loops over the variable groups, each stepping to the next candidate of its group. What is passed over passes: one of the premises is false there, or
 // it lies in a block that passes as one did that was looked at whole. Places are counted by arithmetic.
+// Form 3: these are the labelled loops of document 01's last section, and the next candidate of a group is what its search answers: an iterator over the answers would have to own the
+// slots and the memory, which the loops inside write too.
+// Form 5: the slots are lent to be written beside a search that is only read; the two places of a sweep are other ones for each part.
 #![tactic(auto)]
 
 ghost use Rattle.std.specs.Prelude.{◌≡◌, ◌*◌, ◌≤◌};

@@ -41,6 +41,7 @@ pub fn masks_of(s: &PartSearch<'_>) -> Masks
 }
 
 // The groups by whose keys blocks are alike: of the abstract state of a pair, of its concrete state, of an abstract state alone.
+// Form 2: a function over slot, sizes and mask would be no more than `KeyGroup` itself; each of these is the group of that name of the definitions, and so are the next two.
 fn pair_group(p: &Part, m: Masks) -> KeyGroup
     ensures { result ≡ pair_group p.now m }
 {
@@ -52,6 +53,7 @@ fn pair_group(p: &Part, m: Masks) -> KeyGroup
     }
 }
 
+// Form 2: as `pair_group`.
 pub fn concrete_group(p: &Part, m: Masks) -> KeyGroup
     ensures { result ≡ concrete_group p.now m }
 {
@@ -63,6 +65,7 @@ pub fn concrete_group(p: &Part, m: Masks) -> KeyGroup
     }
 }
 
+// Form 2: as `pair_group`.
 pub fn whole_group(p: &Part, m: Masks) -> KeyGroup
     ensures { result ≡ whole_group p.now m }
 {
@@ -84,8 +87,9 @@ pub fn pair_mark(s: &PartSearch<'_>, m: Masks, a: usize) -> u16
     (key_at(s.cells, group, a) + 1) as u16
 }
 
-// The next related concrete state from c on whose block with the abstract state of the mark is not known to pass. One function over both states would be handed the search, the group, the
-// mark and what each of them means for what is passed over, and be no plainer than these two loops.
+// The next related concrete state from c on whose block with the abstract state of the mark is not known to pass.
+// Form 2: one function over both states would be handed the search, the group, the mark and what each of them means for what is passed over, and be no plainer than these two loops.
+// Form 3: the next place is what the search answers; an iterator over its answers would have to own the slots and the memory that the caller goes on with.
 pub fn next_open_concrete(
     s: &PartSearch<'_>,
     c: usize,
@@ -115,6 +119,8 @@ pub fn next_open_concrete(
 }
 
 // The next abstract state from a on whose block is not known to pass.
+// Form 2: as `next_open_concrete`.
+// Form 3: as `next_open_concrete`: the search answers the next place.
 pub fn next_open_abstract(
     s: &PartSearch<'_>,
     a: usize,

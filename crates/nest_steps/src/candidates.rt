@@ -1,4 +1,5 @@
-// The next candidate of each group that a search goes through. Each is one call of `seek`; they stay four functions, since each promises what its own search finds, and one function over the
+// The next candidate of each group that a search goes through.
+// Form 2: each is one call of `seek`; they stay four functions, since each promises what its own search finds, and one function over the
 // number of the search would promise that by cases.
 ghost use Rattle.std.specs.Prelude.{◌≤◌};
 ghost use Rattle.memo.specs.MemoPromises.{Memo};

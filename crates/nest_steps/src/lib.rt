@@ -1,5 +1,7 @@
 // The steps of the nest: the inputs at which the abstract precondition holds, the next of them, and whether a binding passes; in modules the next candidate of each group, the conclusions
 // that are known to be true, and the blocks that pass alike.
+// Form 5: the slots and the memories are lent to be written beside a search that is only read: in a struct of all each function would have to promise that the search is as it was. The
+// numbers of candidates change with each call.
 #![tactic(auto)]
 
 ghost use Rattle.std.specs.Prelude.{◌<◌, ◌≤◌};
@@ -20,7 +22,8 @@ pub mod blocks;
 pub mod candidates;
 pub mod known;
 
-// Does the abstract precondition hold at this abstract state and these inputs? This and `passes` are each one call of `seek`, as the functions of `candidates`, with a promise of its own.
+// Does the abstract precondition hold at this abstract state and these inputs?
+// Form 2: this and `passes` are each one call of `seek`, as the functions of `candidates`, with a promise of its own.
 fn abstract_pre(
     s: &PartSearch<'_>,
     slots: &mut [[i64; 64]; 2],
@@ -42,6 +45,7 @@ fn abstract_pre(
 }
 
 // Does a binding pass whose premises hold?
+// Form 2: as `abstract_pre`.
 fn passes(s: &PartSearch<'_>, slots: &mut [[i64; 64]; 2], memo: &mut [u64; memo::NUMBERS]) -> bool
     requires nest_asked { NestAsked s.now.table.now s.now.plan.now s.now.cells.now s.now.part slots.old }
     requires memo { Memo s.now.table.now memo.old }

@@ -1,4 +1,6 @@
 // Where the declarations and the predicates of a dossier stand among its nodes.
+// Form 6: the spans are an array of fixed length that is lent, with a place of its own for each number; what `operation` answers is a place among the nodes.
+// `m` may be past the end of the nodes, so that they are not cut there.
 #![tactic(auto)]
 
 ghost use Rattle.std.specs.Prelude.{◌+◌, ◌≤◌, ◌<◌, length, take};
@@ -10,10 +12,18 @@ use parser::sections::{run_from, sections, skip_from};
 
 pub mod span;
 
+// The nodes of a dossier, and where its parts stand among them.
+#[derive(Clone, Copy)]
+pub struct Parts<'a> {
+    pub nodes: &'a [u16],
+    pub spans: &'a [u16],
+}
+
 // The largest number of 16 bits.
 pub const LARGEST: usize = 65535;
 
-// A number behind the first n of the spans. In the lent array 0 stands for a place that is no number of 16 bits: the nodes of a dossier have none.
+// A number behind the first n of the spans.
+// Form 1: in the lent array 0 stands for a place that is no number of 16 bits; the nodes of a dossier have none.
 fn put(spans: &mut [u16], n: usize, x: usize)
     requires { n < length spans.old }
     ensures { Puts n x spans.old spans.new }

@@ -1,4 +1,5 @@
 // Which of the spans' numbers is which (specs/Spans.antt).
+// Form 1: places in the lent array of spans and how many there are, no kinds.
 use lexical::bounds;
 
 // Of each state where its variables begin and end, and where its predicate ends; where the three conditions end.

@@ -10,7 +10,7 @@ use Rattle.obligations.specs.Subjects.{Subject}
 use Rattle.obligations.specs.Order.{Obligation, Look}
 use Rattle.obligations.specs.Calls.{unfinished, accepted, refuted, Held, nothing, holding, Call, load, advance, verdict, witness, release, Reply, Outcome, loading, advanced, advancing, writing, respond, Exchange, Trace, held_after}
 use Rattle.obligations.specs.CallDemands.{counted, sum_of_advances, AtPlace}
-use Rattle.symbols.proofs.BooleanTests.{on-cond}
+use Rattle.lexical.proofs.BooleanTests.{on-cond}
 use Rattle.obligations.proofs.PlainCalls.{loads}
 
 -- the sum n before the call becomes the place that the call leaves

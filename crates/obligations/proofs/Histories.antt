@@ -18,7 +18,7 @@ use Rattle.obligations.specs.Machines.{abstract_side, concrete_side}
 use Rattle.obligations.specs.Runs.{RunsMatch}
 use Rattle.obligations.specs.CallDemands.{IsRefusal, whole_count, whole_fails, verdict_by, verdict_after, Proper, Loaded, none, text, after_reply, after_call, last_loaded, Meant, Reached}
 use Rattle.obligations.specs.Demands.{acceptance, Demand3}
-use Rattle.symbols.proofs.BooleanTests.{on-cond, or-false}
+use Rattle.lexical.proofs.BooleanTests.{on-cond, or-false}
 use Rattle.obligations.proofs.Accuracy.{accurate}
 use Rattle.obligations.proofs.Strides.{advances, count-positive}
 use Rattle.obligations.proofs.PlainCalls.{loads}

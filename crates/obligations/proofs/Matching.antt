@@ -10,7 +10,7 @@ use Rattle.meaning.proofs.Bindings.{binding-found, binding-put}
 use Rattle.obligations.specs.Machines.{Machine, Relation, SameOperations, pre}
 use Rattle.obligations.specs.Obligations.{Refines, initialisation_at, applicability_at, correctness_at}
 use Rattle.obligations.specs.Runs.{Entry, IsEntry, Entries, Outcome, Initial, Step, Pre, Path, last, Run, Meets, Related, Alike, Beside, MachinesMatch}
-use Rattle.symbols.proofs.BooleanTests.{and_both, and_left, and_right}
+use Rattle.lexical.proofs.BooleanTests.{and_both, and_left, and_right}
 use Rattle.obligations.proofs.GivesLaws.{gives-use}
 
 -- the last state of a run is over the carriers, and the last states of runs beside each other are related

@@ -6,7 +6,7 @@ use mathlib.Core.Option.{Option, none, some}
 use Prim.Native.Nat.{ℕ}
 use lib.Dec.{eqb, ltb}
 use lib.ListN.{length}
-use Rattle.lexical.specs.Refusals.{advance_range, short_bytes}
+use Rattle.refusals.specs.Refusals.{advance_range, short_bytes}
 use Rattle.static_rules.specs.Read.{Reading, refusal, reading, read}
 use Rattle.obligations.specs.Subjects.{Subject}
 use Rattle.obligations.specs.Order.{Obligation}
@@ -14,7 +14,7 @@ use Rattle.obligations.specs.Calls.{unfinished, accepted, refuted, Held, nothing
 use Rattle.obligations.specs.RefusalTable.{when, fault_in, row15, first_of, expected, refusal_in, lent_to}
 use Rattle.obligations.specs.CallDemands.{IsRefusal}
 use Rattle.obligations.specs.Demands.{Demand1}
-use Rattle.symbols.proofs.BooleanTests.{on-cond}
+use Rattle.lexical.proofs.BooleanTests.{on-cond}
 
 -- "each in exactly the case written there": the inputs' refusals, where no row of the state refuses
 load-exactly : (r : Reading) → refusal_in (loading r).reply ≡ first_of (fault_in r ∷ none ∷ none ∷ [])

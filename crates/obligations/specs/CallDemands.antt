@@ -1,7 +1,7 @@
 -- What the calls show of a dossier's checks: advance, verdict, witness, drop and the report.
 use Rattle.std.specs.Prelude.{◌≡◌, Bool, true, false, cond, List, [], ◌∷◌, ◌++◌, ℕ, suc, pred, ◌<◌, ◌≤◌, ◌+◌, ◌-◌, min, ltb, length, drop}
 use Rattle.lexical.specs.Lists.{bytes}
-use Rattle.lexical.specs.Refusals.{Fault}
+use Rattle.refusals.specs.Refusals.{Fault}
 use Rattle.form.specs.Tree.{Dossier}
 use Rattle.static_rules.specs.Read.{refusal, reading, read}
 use Rattle.obligations.specs.Subjects.{Subject, subject_of}

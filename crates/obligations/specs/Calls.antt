@@ -1,6 +1,6 @@
 -- Document 01, "Calls": load, advance, verdict, witness and drop, as one function from held check and call to reply, held check and lent bytes.
 use Rattle.std.specs.Prelude.{◌≡◌, Bool, true, false, cond, ◌||◌, List, [], ◌∷◌, ◌++◌, ℕ, pred, ◌+◌, eqb, leb, ltb, length, take, drop}
-use Rattle.lexical.specs.Refusals.{Refusal, Fault, advance_range, short_bytes, nothing_held, something_held, check_finished, no_counterexample}
+use Rattle.refusals.specs.Refusals.{Refusal, Fault, advance_range, short_bytes, nothing_held, something_held, check_finished, no_counterexample}
 use Rattle.static_rules.specs.Read.{Reading, refusal, reading, read}
 use Rattle.obligations.specs.Subjects.{Subject, subject_of}
 use Rattle.obligations.specs.Order.{Obligation, obligation_of, checks, total, Look, look}

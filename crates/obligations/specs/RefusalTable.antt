@@ -1,7 +1,7 @@
 -- Document 01, "Refusals that come from the input" and "from the state": which call is refused with what, a row for each sentence.
 use Rattle.std.specs.Prelude.{Bool, true, false, not, ◌&&◌, ◌||◌, List, [], ◌∷◌, ℕ, pred, eqb, ltb, length}
 use Rattle.std.proofs.Math.Option.{Option, none, some}
-use Rattle.lexical.specs.Refusals.{advance_range, short_bytes, nothing_held, something_held, check_finished, no_counterexample}
+use Rattle.refusals.specs.Refusals.{advance_range, short_bytes, nothing_held, something_held, check_finished, no_counterexample}
 use Rattle.static_rules.specs.Read.{Reading, refusal, reading, read}
 use Rattle.obligations.specs.Report.{check_at, witness_lines}
 use Rattle.obligations.specs.Calls.{unfinished, accepted, refuted, Held, nothing, holding, Call, load, advance, verdict, witness, release, Reply, refused_at, refused, loaded, looked, verdict_is, written, dropped}

@@ -2,7 +2,7 @@
 use Rattle.std.specs.Prelude.{true, false, List, [], ◌∷◌, ◌++◌, map, ℕ, zero, suc, pred, ◌+◌, ◌/◌, ◌%◌, ltb, ℤ, pos, negsuc, get_or}
 use Rattle.lexical.specs.Lists.{bytes}
 use Rattle.lexical.specs.Symbols.{Name, Ending, no_ending, prime, query, shriek}
-use Rattle.lexical.specs.Refusals.{Fault, number_of}
+use Rattle.refusals.specs.Refusals.{Fault, number_of}
 use Rattle.form.specs.Tree.{Letters, Given, elements, Operation, Dossier}
 use Rattle.static_rules.specs.Carriers.{Carrier, elements_of, numbers, subsets_of, pairs_in, Variable, size_of}
 use Rattle.static_rules.specs.Read.{Reading, refusal, reading, read}

@@ -1,5 +1,6 @@
 // What operators do to values: a number is itself, an element its place, a set its bits. An operator is told by its symbol's code:
 // the table that the caller lends has it as a number.
+// Form 7: the bools are the truth values that connectives and questions are over; none of them says which step to run.
 #![tactic(auto)]
 
 ghost use Rattle.std.specs.Prelude.{◌≡◌, Bool, true, false, not, ℕ, ◌<◌, ◌≤◌, ℤ, pos, nat_abs, ◌+ℤ◌, ◌-ℤ◌};
@@ -10,6 +11,7 @@ ghost use Rattle.evaluation.specs.OperatorsByNumber as numbered;
 
 use lexical::codes;
 
+// Form 1: codes of symbols once more, as the u16 that the table has: an arm of a `match` takes a constant and no conversion.
 const PLUS: u16 = codes::PLUS as u16;
 
 const DASH: u16 = codes::DASH as u16;
@@ -167,6 +169,7 @@ pub fn connected(code: u16, p: bool, q: bool) -> bool
 }
 
 // The question itself, or its opposite.
+// Form 4: `==` under the name that the definitions give it; every promise about a question is of `numbered.asked`.
 pub fn asked(yes: bool, b: bool) -> bool
     ensures { result ≡ numbered.asked yes b }
 {

@@ -10,7 +10,7 @@ use Rattle.lexical.specs.Kinds as kind
 use Rattle.lexical.specs.Lists.{same}
 use Rattle.lexical.specs.Symbols as symbol
 use Rattle.lexical.specs.Symbols.{no_ending, Symbol, fixed}
-use Rattle.lexical.specs.Refusals.{Fault, fault, heading_differs, unless}
+use Rattle.refusals.specs.Refusals.{Fault, fault, heading_differs, unless}
 use Rattle.lexical.proofs.WordLaws.{same_refl, same_true}
 use Rattle.form.specs.Tree.{Letters}
 use Rattle.form.specs.Codes.{node, Numbering, number_of_name, entry_codes}

@@ -6,7 +6,7 @@ use native.Mathlib.Omega.{arith}
 use lib.ListN.{length, take, drop, get_or, length-append, take-append-drop}
 use Rattle.lexical.specs.Kinds.{Kind, code_of}
 use Rattle.lexical.specs.Symbols.{Symbol}
-use Rattle.lexical.specs.Refusals.{no_dossier}
+use Rattle.refusals.specs.Refusals.{no_dossier}
 use Rattle.form.specs.Codes.{node}
 use Rattle.form.specs.Machine.{Item, exact, a_dossier, ends, step, complete, failed, run}
 use Rattle.form_nodes.specs.FormPromises.{codes, run_at, after, Reads, Writes, Closes}

@@ -6,7 +6,7 @@ use mathlib.Core.List.{List, [], ◌++◌, append-nil}
 use Prim.Native.Nat.{ℕ, ◌+◌, ◌≤◌}
 use native.Mathlib.Omega.{arith}
 use lib.ListN.{length, take, get_or}
-use Rattle.lexical.specs.Refusals.{Fault}
+use Rattle.refusals.specs.Refusals.{Fault}
 use Rattle.form.specs.Tree.{Dossier}
 use Rattle.form.specs.Written.{symbols_of}
 use Rattle.form.specs.Headings.{givens_at, abstract_at, operations_at, given_headings, operation_headings, heading_faults}

@@ -9,8 +9,8 @@ use Prim.Native.Nat.{ℕ, ◌≤◌}
 use native.Mathlib.Omega.{arith}
 use borrow.Author.Tests.{le-ltb}
 use lib.Dec.{eqb, ltb}
-use Rattle.lexical.specs.Refusals.{Refusal, Fault, fault, heading_differs, number_of, before, lesser, least}
-use Rattle.symbols.proofs.BooleanTests.{and-right-false}
+use Rattle.refusals.specs.Refusals.{Refusal, Fault, fault, heading_differs, number_of, before, lesser, least}
+use Rattle.lexical.proofs.BooleanTests.{and-right-false}
 use Rattle.parser.specs.Sections.{Finds}
 
 -- faults of number 7, at i or behind it, in the order of their places

@@ -8,7 +8,7 @@ use Prim.Native.Nat.{ℕ, ◌≤◌}
 use lib.ListN.{length, take, drop, get_or, length-map}
 use lib.Seq.{length-take-le}
 use Rattle.lexical.specs.Symbols.{Symbol, scan, symbols, place_at}
-use Rattle.lexical.specs.Refusals.{Refusal, Fault, fault, least, heading_differs}
+use Rattle.refusals.specs.Refusals.{Refusal, Fault, fault, least, heading_differs}
 use Rattle.lexical.specs.Promises.{Scanned, Scans, fault_of}
 use Rattle.form.specs.Tree.{Dossier}
 use Rattle.form.specs.Written.{symbols_of}
@@ -25,9 +25,9 @@ use Rattle.parser.specs.Sections.{Tells, Headed, Finds}
 use Rattle.parser.specs.Promises.{text_symbols, numbering, Answers, AnswersHeadings, Parsed, Parses}
 use Rattle.declarations.specs.DossierPromises.{Formed}
 use Rattle.form_nodes.specs.declared.Read.{Read}
-use Rattle.lexical.specs.declared.refusals.Fault as refusals
-use Rattle.lexical.specs.declared.refusals.Refusal.TheVariants.{HeadingDiffers}
-use Rattle.lexical.specs.RefusalNames.{refusal_is}
+use Rattle.refusals.specs.declared.Fault as refusals
+use Rattle.refusals.specs.declared.Refusal.TheVariants.{HeadingDiffers}
+use Rattle.refusals.specs.RefusalNames.{refusal_is}
 use Rattle.parser.proofs.TextDossier.{values, DossierAt}
 use Rattle.parser.proofs.Dossiers.{dossier-tree}
 use Rattle.parser.proofs.Texts.{Known, known}

@@ -8,7 +8,7 @@ use Rattle.lexical.specs.Kinds as kind
 use Rattle.lexical.specs.Kinds.{Kind, code_of, marks, words}
 use Rattle.lexical.specs.Lists.{bytes, begins, all, any}
 use Rattle.lexical.specs.Promises.{Scanned, code_in, taken, filled, first_of, fault_of, fault_in, written, has_letters, first_named, value_at, Scans}
-use Rattle.lexical.specs.Refusals.{Fault, fault, least, long_text, many_symbols}
+use Rattle.refusals.specs.Refusals.{Fault, fault, least, long_text, many_symbols}
 use Rattle.lexical.specs.Symbols.{Class, letter, digit, mark, blank, other, Ending, no_ending, prime, query, shriek, Name, Symbol, fixed, numeral, name, kind_of, Found, gap, unlisted, found}
 use Rattle.lexical.specs.Symbols.{Placed, Scan, done, stopped, next, scanned, scan_from, scan, symbols, length_faults, scan_faults}
 use Rattle.lexical.specs.Symbols.{class_of, is_digit, run, decimal_from, is_number, number_found, reserved, ending_of, ending_length, word_of, longer, longest, by_class, symbol_at}
@@ -16,7 +16,7 @@ use Rattle.std.specs.Prelude.{Ok, Err}
 use Rattle.parser.proofs.TextDossier.{value_by, values, Small, Text}
 use Rattle.parser.specs.Promises.{text_symbols, numbering}
 use Rattle.parser.specs.Sections.{Tells}
-use Rattle.symbols.proofs.BooleanTests.{and_right}
+use Rattle.lexical.proofs.BooleanTests.{and_right}
 use Rattle.symbols.proofs.ValueLaws.{Named, same-value}
 use borrow.Author.Tests.{leb-true, ltb-false, le-ltb, eqb-false}
 use lib.Dec.{eqb, leb, ltb}

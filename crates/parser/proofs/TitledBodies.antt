@@ -6,7 +6,7 @@ use native.Mathlib.Omega.{arith}
 use lib.ListN.{length, length-map}
 use Rattle.lexical.specs.Kinds as kind
 use Rattle.lexical.specs.Lists.{same}
-use Rattle.lexical.specs.Refusals.{Fault, fault, heading_differs, unless}
+use Rattle.refusals.specs.Refusals.{Fault, fault, heading_differs, unless}
 use Rattle.lexical.specs.Symbols.{no_ending}
 use Rattle.form.specs.Tree.{Letters, Given, elements, Operation, Dossier}
 use Rattle.form.specs.Written.{Written, bare, write_contents, write_givens, write_state, write_where, write_operations, written, symbols_of}

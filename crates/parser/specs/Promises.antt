@@ -2,14 +2,14 @@
 use Rattle.std.specs.Prelude.{◌≡◌, List, map, ◌++◌, ℕ, length, drop, Result, Ok, Err}
 use Rattle.std.proofs.Math.Option.{Option, none, some}
 use Rattle.lexical.specs.Symbols.{Symbol, Placed, scan, symbols, place_at}
-use Rattle.lexical.specs.Refusals.{Fault, fault, least}
+use Rattle.refusals.specs.Refusals.{Fault, fault, least}
 use Rattle.lexical.specs.Promises.{Scanned, Scans, fault_of, first_named}
 use Rattle.form.specs.Tree.{Dossier}
 use Rattle.form.specs.Form.{Outcome, refused, formed, FormOf}
 use Rattle.form.specs.Headings.{heading_faults}
 use Rattle.form.specs.Codes.{Numbering, dossier_codes}
-use Rattle.lexical.specs.declared.refusals.Fault as refusals
-use Rattle.lexical.specs.RefusalNames.{fault_is}
+use Rattle.refusals.specs.declared.Fault as refusals
+use Rattle.refusals.specs.RefusalNames.{fault_is}
 use Rattle.parser.specs.declared.Structure.{Structure}
 
 abbrev pub text_symbols : List ℕ → List Symbol

@@ -5,7 +5,7 @@ use Rattle.std.specs.Prelude.{◌≡◌, Bool, true, false, cond, List, ℕ, ◌
 use Rattle.std.proofs.Math.Option.{none, some}
 use Rattle.lexical.specs.Kinds as kind
 use Rattle.lexical.specs.Symbols.{Name, Symbol, fixed, name}
-use Rattle.lexical.specs.Refusals.{Fault, fault, heading_differs, least}
+use Rattle.refusals.specs.Refusals.{Fault, fault, heading_differs, least}
 use Rattle.form.specs.Tree.{Dossier}
 use Rattle.form.specs.Written.{symbols_of}
 use Rattle.form.specs.Headings.{heading_faults, givens_at, abstract_at, concrete_at, ainit_at, cinit_at, retrieve_at}

@@ -11,27 +11,26 @@ ghost use Rattle.declarations.specs.DossierPromises.{a_condition_to, a_state_of,
 use declarations::contents::{contents, declarations, givens, parameters};
 use expressions::trees::pred;
 use form::{node, shapes};
-use form_nodes::Read;
 use form_nodes::kinds::kind_at;
 use form_nodes::nodes::{name_number, put};
 use form_nodes::ranges::close;
+use form_nodes::{Read, Symbols};
 use lexical::bounds::OPERATIONS;
 use lexical::codes;
-use lexical::refusals::{Fault, Refusal};
+use refusals::{Fault, Refusal};
 
 // A predicate and the word behind it. The node that counts its numbers is written last, in front of them.
 fn condition(
-    s: &[u8],
-    v: &[u16],
+    y: &Symbols<'_>,
     at: usize,
     word: u8,
     code: &mut [u16],
     n: usize,
 ) -> Result<Read, Fault>
-    requires { Room s.now code.old at (n + 4) }
-    ensures { ((κ : Kind) → (code_of κ ≡ word) → Reads s.now at n (a_condition_to κ) [] result) × Made s.now v.now (a_condition word) at n code.old code.new result }
+    requires { Room y.now.kinds.now code.old at (n + 4) }
+    ensures { ((κ : Kind) → (code_of κ ≡ word) → Reads y.now.kinds.now at n (a_condition_to κ) [] result) × Made y.now.kinds.now y.now.values.now (a_condition word) at n code.old code.new result }
 {
-    let body = pred(s, v, at, 0, 0, code, n + node::SIZE)?;
+    let body = pred(y, at, 0, 0, code, n + node::SIZE)?;
     let c = put(
         code,
         n,
@@ -40,81 +39,62 @@ fn condition(
         (body.count - (n + node::SIZE)) as u16,
         0,
     );
-    close(s, body.at, word, body.count)
+    close(y.kinds, body.at, word, body.count)
 }
 
 // A state's body, by its heading.
-fn state(
-    s: &[u8],
-    v: &[u16],
-    at: usize,
-    word: u8,
-    code: &mut [u16],
-    n: usize,
-) -> Result<Read, Fault>
-    requires { Room s.now code.old at n × (1 ≤ word) }
-    ensures { ((κ : Kind) → (code_of κ ≡ word) → Reads s.now at n (a_state_of κ) [] result) × Made s.now v.now (a_state word) at n code.old code.new result }
+fn state(y: &Symbols<'_>, at: usize, word: u8, code: &mut [u16], n: usize) -> Result<Read, Fault>
+    requires { Room y.now.kinds.now code.old at n × (1 ≤ word) }
+    ensures { ((κ : Kind) → (code_of κ ≡ word) → Reads y.now.kinds.now at n (a_state_of κ) [] result) × Made y.now.kinds.now y.now.values.now (a_state word) at n code.old code.new result }
 {
-    let heading = close(s, at, word, n)?;
+    let heading = close(y.kinds, at, word, n)?;
     let m = put(code, n, shapes::STATE, at, 0, 0);
-    let declared = declarations(s, v, heading.at, code, m)?;
-    let wheres = close(s, declared.at, codes::WHERE, declared.count)?;
-    condition(s, v, wheres.at, codes::END, code, declared.count)
+    let declared = declarations(y, heading.at, code, m)?;
+    let wheres = close(y.kinds, declared.at, codes::WHERE, declared.count)?;
+    condition(y, wheres.at, codes::END, code, declared.count)
 }
 
 // The body of ainit, cinit or retrieve, by its heading.
-fn where_of(
-    s: &[u8],
-    v: &[u16],
-    at: usize,
-    word: u8,
-    code: &mut [u16],
-    n: usize,
-) -> Result<Read, Fault>
-    requires { Room s.now code.old at n × (1 ≤ word) }
-    ensures { ((κ : Kind) → (code_of κ ≡ word) → Reads s.now at n (a_where_of κ) [] result) × Made s.now v.now (a_where word) at n code.old code.new result }
+fn where_of(y: &Symbols<'_>, at: usize, word: u8, code: &mut [u16], n: usize) -> Result<Read, Fault>
+    requires { Room y.now.kinds.now code.old at n × (1 ≤ word) }
+    ensures { ((κ : Kind) → (code_of κ ≡ word) → Reads y.now.kinds.now at n (a_where_of κ) [] result) × Made y.now.kinds.now y.now.values.now (a_where word) at n code.old code.new result }
 {
-    let heading = close(s, at, word, n)?;
-    let wheres = close(s, heading.at, codes::WHERE, n)?;
-    condition(s, v, wheres.at, codes::END, code, n)
+    let heading = close(y.kinds, at, word, n)?;
+    let wheres = close(y.kinds, heading.at, codes::WHERE, n)?;
+    condition(y, wheres.at, codes::END, code, n)
 }
 
 // The body of an operation behind its name.
-fn operation(s: &[u8], v: &[u16], at: usize, code: &mut [u16], n: usize) -> Result<Read, Fault>
-    requires { Room s.now code.old at n × (at + 1 < length s.now) × (get_or s.now at 0 ≡ 43) × (get_or s.now (at + 1) 0 ≡ 2) }
-    ensures { Reads s.now (at + 1 + 1) (n + 4) (some_parameters 0 0 ∷ a_condition_to kind.CONCRETE ++ a_condition_to kind.END) ([]) result × More s.now v.now part.some_operations at n code.old code.new result }
+fn operation(y: &Symbols<'_>, at: usize, code: &mut [u16], n: usize) -> Result<Read, Fault>
+    requires { Room y.now.kinds.now code.old at n × (at + 1 < length y.now.kinds.now) × (get_or y.now.kinds.now at 0 ≡ 43) × (get_or y.now.kinds.now (at + 1) 0 ≡ 2) }
+    ensures { Reads y.now.kinds.now (at + 1 + 1) (n + 4) (some_parameters 0 0 ∷ a_condition_to kind.CONCRETE ++ a_condition_to kind.END) ([]) result × More y.now.kinds.now y.now.values.now part.some_operations at n code.old code.new result }
 {
-    let x = name_number(s, v, at + 1);
+    let x = name_number(y, at + 1);
     let m = put(code, n, shapes::OPERATION, at, x, 0);
-    let taken = parameters(s, v, at + 1 + 1, code, m)?;
-    let word = close(s, taken.at, codes::ABSTRACT, taken.count)?;
-    let abstractly = condition(s, v, word.at, codes::CONCRETE, code, taken.count)?;
-    condition(s, v, abstractly.at, codes::END, code, abstractly.count)
+    let taken = parameters(y, at + 1 + 1, code, m)?;
+    let word = close(y.kinds, taken.at, codes::ABSTRACT, taken.count)?;
+    let abstractly = condition(y, word.at, codes::CONCRETE, code, taken.count)?;
+    condition(y, abstractly.at, codes::END, code, abstractly.count)
 }
 
 // The bodies of operations.
-fn operations(
-    s: &[u8],
-    v: &[u16],
-    start: usize,
-    code: &mut [u16],
-    from: usize,
-) -> Result<Read, Fault>
-    requires { Room s.now code.old start from }
-    ensures { Reads s.now start from (some_operations 0 ∷ []) ([]) result × Made s.now v.now part.some_operations start from code.old code.new result }
+// Form 3: where the next body stands, says the one that is read.
+fn operations(y: &Symbols<'_>, start: usize, code: &mut [u16], from: usize) -> Result<Read, Fault>
+    requires { Room y.now.kinds.now code.old start from }
+    ensures { Reads y.now.kinds.now start from (some_operations 0 ∷ []) ([]) result × Made y.now.kinds.now y.now.values.now part.some_operations start from code.old code.new result }
 {
     let mut at = start;
     let mut n = from;
     let mut k: u8 = 0;
-    while kind_at(s, at) == codes::OP {
-        if kind_at(s, at + 1) == codes::PLAIN {
+    while kind_at(y.kinds, at) == codes::OP {
+        if kind_at(y.kinds, at + 1) == codes::PLAIN {
             if OPERATIONS <= k {
                 return Err(Fault {
                     place: at + 1,
                     refusal: Refusal::ManyDeclared,
                 });
             }
-            let read = operation(s, v, at, code, n)?;
+            let read = operation(y, at, code, n)?;
             at = read.at;
             n = read.count;
             k += 1;
@@ -129,42 +109,42 @@ fn operations(
 }
 
 // The two states.
-fn states(s: &[u8], v: &[u16], at: usize, code: &mut [u16], n: usize) -> Result<Read, Fault>
-    requires { Room s.now code.old at n }
-    ensures { Reads s.now at n two_states [] result × Sequenced s.now v.now (a_state 38 ∷ a_state 39 ∷ []) at n code.old code.new result }
+fn states(y: &Symbols<'_>, at: usize, code: &mut [u16], n: usize) -> Result<Read, Fault>
+    requires { Room y.now.kinds.now code.old at n }
+    ensures { Reads y.now.kinds.now at n two_states [] result × Sequenced y.now.kinds.now y.now.values.now (a_state 38 ∷ a_state 39 ∷ []) at n code.old code.new result }
 {
-    let first = state(s, v, at, codes::ABSTRACT, code, n)?;
-    state(s, v, first.at, codes::CONCRETE, code, first.count)
+    let first = state(y, at, codes::ABSTRACT, code, n)?;
+    state(y, first.at, codes::CONCRETE, code, first.count)
 }
 
 // ainit, cinit and retrieve.
-fn conditions(s: &[u8], v: &[u16], at: usize, code: &mut [u16], n: usize) -> Result<Read, Fault>
-    requires { Room s.now code.old at n }
-    ensures { Reads s.now at n three_conditions [] result × Sequenced s.now v.now (a_where 40 ∷ a_where 41 ∷ a_where 42 ∷ []) at n code.old code.new result }
+fn conditions(y: &Symbols<'_>, at: usize, code: &mut [u16], n: usize) -> Result<Read, Fault>
+    requires { Room y.now.kinds.now code.old at n }
+    ensures { Reads y.now.kinds.now at n three_conditions [] result × Sequenced y.now.kinds.now y.now.values.now (a_where 40 ∷ a_where 41 ∷ a_where 42 ∷ []) at n code.old code.new result }
 {
-    let ainit = where_of(s, v, at, codes::AINIT, code, n)?;
-    let cinit = where_of(s, v, ainit.at, codes::CINIT, code, ainit.count)?;
-    where_of(s, v, cinit.at, codes::RETRIEVE, code, cinit.count)
+    let ainit = where_of(y, at, codes::AINIT, code, n)?;
+    let cinit = where_of(y, ainit.at, codes::CINIT, code, ainit.count)?;
+    where_of(y, cinit.at, codes::RETRIEVE, code, cinit.count)
 }
 
 // All bodies.
-fn bodies(s: &[u8], v: &[u16], at: usize, code: &mut [u16], n: usize) -> Result<Read, Fault>
-    requires { Room s.now code.old at n }
-    ensures { Reads s.now at n (some_bodies 0 ∷ []) ([]) result × Sequenced s.now v.now (some_givens ∷ a_state 38 ∷ a_state 39 ∷ a_where 40 ∷ a_where 41 ∷ a_where 42 ∷ part.some_operations ∷ []) at n code.old code.new result }
+fn bodies(y: &Symbols<'_>, at: usize, code: &mut [u16], n: usize) -> Result<Read, Fault>
+    requires { Room y.now.kinds.now code.old at n }
+    ensures { Reads y.now.kinds.now at n (some_bodies 0 ∷ []) ([]) result × Sequenced y.now.kinds.now y.now.values.now (some_givens ∷ a_state 38 ∷ a_state 39 ∷ a_where 40 ∷ a_where 41 ∷ a_where 42 ∷ part.some_operations ∷ []) at n code.old code.new result }
 {
-    let sets = givens(s, v, at, code, n)?;
-    let both = states(s, v, sets.at, code, sets.count)?;
-    let three = conditions(s, v, both.at, code, both.count)?;
-    operations(s, v, three.at, code, three.count)
+    let sets = givens(y, at, code, n)?;
+    let both = states(y, sets.at, code, sets.count)?;
+    let three = conditions(y, both.at, code, both.count)?;
+    operations(y, three.at, code, three.count)
 }
 
-pub(crate) fn dossier(s: &[u8], v: &[u16], code: &mut [u16]) -> Result<Read, Fault>
-    requires { (length s.now ≤ 4096) × (4 * length s.now ≤ length code.old) }
-    ensures { Formed s.now v.now code.old code.new result }
+pub(crate) fn dossier(y: &Symbols<'_>, code: &mut [u16]) -> Result<Read, Fault>
+    requires { (length y.now.kinds.now ≤ 4096) × (4 * length y.now.kinds.now ≤ length code.old) }
+    ensures { Formed y.now.kinds.now y.now.values.now code.old code.new result }
 {
-    let listed = contents(s, v, code)?;
-    let read = bodies(s, v, listed.at, code, listed.count)?;
-    if read.at < s.len() {
+    let listed = contents(y, code)?;
+    let read = bodies(y, listed.at, code, listed.count)?;
+    if read.at < y.kinds.len() {
         return Err(Fault {
             place: read.at,
             refusal: Refusal::NoDossier,

@@ -2,12 +2,13 @@
 ghost use Rattle.std.specs.Prelude.{◌≡◌, ◌≤◌};
 ghost use Rattle.parser.specs.Sections.{Compared, Headed};
 
-use crate::sections::{part, run, sections, skip, wide};
+use crate::sections::{part, run, sections, skip};
 use form::node;
 use form::shapes::{DECLARED, ELEMENT, PREDICATE};
 
 // The entries from `from` up to `to` against the bodies from `head` up to `last`, in order. What belongs to a body has the shapes low to high.
 // A wanting body is at the symbol `wanting`. The number of the symbol of the first heading that differs, is extra or is wanting.
+// Form 3: an entry and a body go on by widths of their own, which their nodes say.
 fn compare(
     nodes: &[u16],
     m: usize,
@@ -31,14 +32,14 @@ fn compare(
         let x = part(nodes, e, m, node::A);
         let y = part(nodes, h, m, node::A);
         if x != y {
-            return Some(wide(part(nodes, h, m, node::PLACE)));
+            return Some(usize::from(part(nodes, h, m, node::PLACE)));
         }
         e = skip(nodes, e, m);
         let body = skip(nodes, h, m);
         h = run(nodes, body, m, low, high);
     }
     if h < last {
-        return Some(wide(part(nodes, h, m, node::PLACE)));
+        return Some(usize::from(part(nodes, h, m, node::PLACE)));
     }
     None
 }
@@ -52,7 +53,7 @@ pub fn headings(nodes: &[u16], m: usize, symbols: usize) -> Option<usize>
     let givens = s.givens;
     let abstracts = s.abstracts;
     let operations = s.operations;
-    let wanting = wide(part(nodes, abstracts, m, node::PLACE));
+    let wanting = usize::from(part(nodes, abstracts, m, node::PLACE));
     let first = compare(
         nodes, m, 0, entries, givens, abstracts, ELEMENT, ELEMENT, wanting,
     );

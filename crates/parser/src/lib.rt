@@ -9,10 +9,10 @@ ghost use Rattle.parser.specs.Promises.{Answers, Parses};
 use crate::bodies::dossier;
 use crate::copies::copy_nodes;
 use crate::headings::headings;
-use crate::sections::wide;
 use form::node::NUMBERS;
+use form_nodes::Symbols;
 use lexical::bounds::SYMBOLS;
-use lexical::refusals::{Fault, Refusal};
+use refusals::{Fault, Refusal};
 use symbols::scan;
 
 mod bodies;
@@ -28,6 +28,7 @@ pub struct Structure {
 }
 
 // The structure of a text: its symbols, and the nodes of the dossier that it is.
+// Form 5: four arrays of fixed length that the caller of `read` lends and keeps, all written here (no heap).
 pub fn parse(
     text: &[u8],
     codes: &mut [u8; SYMBOLS],
@@ -42,6 +43,7 @@ pub fn parse(
 }
 
 // The structure of the n symbols of a text. The nodes are made in an array of their own, so that a refusal leaves the lent one as it was.
+// Form 5: symbols are cut to their number and become one value below, in `structure_by`; places of bytes are only looked up.
 fn structure_of(
     text: &[u8],
     codes: &[u8],
@@ -58,6 +60,7 @@ fn structure_of(
 }
 
 // The same, by way of the array `made`.
+// Form 5: the symbols become one value here; places of bytes are only looked up.
 fn structure_by(
     text: &[u8],
     codes: &[u8],
@@ -70,7 +73,11 @@ fn structure_by(
     requires { Left text.now codes.now starts.now values.now n × (length codes.now ≡ 4096) × (length starts.now ≡ 4096) × (length values.now ≡ 4096) × (length made.old ≡ 16384) × (length nodes.old ≡ 16384) }
     ensures { Answers text.now none nodes.old nodes.new result }
 {
-    match dossier(&codes[..n], &values[..n], made) {
+    let y = Symbols {
+        kinds: &codes[..n],
+        values: &values[..n],
+    };
+    match dossier(&y, made) {
         Ok(read) => match headings(made, read.count, n) {
             None => {
                 copy_nodes(made, nodes, read.count);
@@ -97,7 +104,7 @@ pub fn place_at(starts: &[u16], n: usize, i: usize, end: usize) -> usize
     ensures { result ≡ get_or (take n starts.now) i end }
 {
     if i < n {
-        return wide(starts[i]);
+        return usize::from(starts[i]);
     }
     end
 }

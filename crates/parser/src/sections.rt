@@ -7,7 +7,7 @@ use form::shapes::{DECLARED, ELEMENT, GIVEN, GIVEN_ENTRY, OPERATION_ENTRY, PREDI
 use form_nodes::kinds::value_at;
 
 // The numbers at which begin the contents' entries of operations, the given sets, the two states, the three conditions and the operations.
-#[derive(Drop)]
+#[derive(Clone, Copy)]
 pub struct Bounds {
     pub entries: usize,
     pub givens: usize,
@@ -19,7 +19,9 @@ pub struct Bounds {
     pub operations: usize,
 }
 
-// A number of the node at a place; 0 where no node can stand.
+// A number of the node at a place.
+// Form 1: where no node can stand it is 0, no node's shape, as `Part` of specs/Sections.antt says; with an Option each test would compare with `Some(..)`.
+// Form 5: m ends the nodes that were made, and the place in front of it moves with each item.
 pub(crate) fn part(nodes: &[u16], at: usize, m: usize, k: usize) -> u16
     requires { (at ≤ m) × (k ≤ 3) }
     ensures { Part nodes.now at m k result }
@@ -30,12 +32,6 @@ pub(crate) fn part(nodes: &[u16], at: usize, m: usize, k: usize) -> u16
     value_at(nodes, at + k)
 }
 
-pub fn wide(x: u16) -> usize
-    ensures { result ≡ x }
-{
-    x as usize
-}
-
 // How many numbers the nodes of an item have: behind a declared name stands its type, and a predicate says how many follow.
 fn item(shape: u16, count: u16) -> usize
     ensures { Sized shape count result }
@@ -44,7 +40,7 @@ fn item(shape: u16, count: u16) -> usize
         return node::DECLARATION;
     }
     if shape == PREDICATE {
-        return node::SIZE + wide(count);
+        return node::SIZE + usize::from(count);
     }
     node::SIZE
 }
@@ -80,6 +76,7 @@ fn inside(nodes: &[u16], at: usize, m: usize, low: u16, high: u16) -> bool
 }
 
 // The place behind the items of the shapes low to high that stand at a place.
+// Form 3: how far an item goes, says its first node.
 pub(crate) fn run(nodes: &[u16], at: usize, m: usize, low: u16, high: u16) -> usize
     requires { at ≤ m }
     ensures { RunsTo nodes.now m low high at result }

@@ -21,6 +21,7 @@ pub struct Found {
 }
 
 // The cells of the k-th part, and its sizes.
+// Form 5: who makes the array knows it blank; with a type for blank cells each caller would make one in place of `[0u32; 9216]`.
 pub fn part_cells(
     table: &[u16; 16384],
     groups: &[u16; 160],

@@ -3,7 +3,6 @@ use mathlib.Core.Path.{◌≡◌, sym, ◌∙◌}
 use mathlib.Core.Bool.{true, false}
 use mathlib.Core.List.{List}
 use Prim.Native.Nat.{ℕ, ◌+◌, ◌*◌, ◌<◌, ◌≤◌}
-use native.Mathlib.Nat.{mul-le-mul}
 use native.Mathlib.Omega.{arith}
 use lib.ListN.{get_or, length}
 use Rattle.static_rules.specs.Carriers.{Variable}
@@ -11,7 +10,7 @@ use Rattle.static_rules.specs.Limits.{binding_count}
 use Rattle.slot_carriers.specs.CellGroups.{CellsOf, Grouped, Counts}
 use Rattle.plans.specs.declared.Part.{Part}
 use Rattle.part_tests.specs.PartGroups.{opening_part}
-use Rattle.part_setup.specs.SetupPromises.{CountedAt, OpeningCounts, OpeningPartIs, OperationPartAsked, ApplicabilityPartIs, CorrectnessPartIs}
+use Rattle.part_setup.specs.SetupPromises.{CountedAt, OpeningCounts, OpeningPartIs, ApplicabilityPartIs, CorrectnessPartIs}
 use Rattle.part_setup.specs.SetupSteps.{SizesOf, SizesAre}
 use Rattle.part_setup.specs.declared.Sizes.{Sizes}
 
@@ -59,20 +58,6 @@ sizes-are groups row cells r ea ec ei eo ca cc ci co la lc lo =
             nq = counted groups cells (row + 4) 19 r.vo 64 r.nq os w.cells_are.outputs w.outputs eo co;
           };
     }
-
--- products of two of them are small
-module _ (groups : List ℕ) (row : ℕ) (cells : List ℕ) (r : Sizes) (asked : OperationPartAsked groups row cells) (w : SizesAre groups row cells r) where
-  sizes : SizesOf asked.abstractly asked.concretely asked.inward asked.outward r
-  sizes = w.is _ _ _ _ asked.counts
-
-  few_outputs : r.nq ≤ 64
-  few_outputs = omega (arith, sizes.nq, asked.counts.outputs.bindings)
-
-  pub outputs-abstracts : r.nq * r.na ≤ 262144
-  outputs-abstracts = mul-le-mul {n₁ = r.nq} {m₁ = r.na} {n₂ = 64} {m₂ = 4096} few_outputs (omega (arith, sizes.na, asked.counts.abstracts.bindings))
-
-  pub outputs-concretes : r.nq * r.nc ≤ 262144
-  outputs-concretes = mul-le-mul {n₁ = r.nq} {m₁ = r.nc} {n₂ = 64} {m₂ = 4096} few_outputs (omega (arith, sizes.nc, asked.counts.concretes.bindings))
 
 -- ---- the parts of an operation
 

@@ -1,7 +1,8 @@
 // What a part of the check starts from: the cells of its variables' carriers, the sizes of its groups, and every variable's first value in the slots.
+// Form 5: cells are made here and then asked for sizes: what a function asks of them is what another has promised, and the callers hold groups and cells as arrays of their own.
 #![tactic(auto)]
 
-ghost use Rattle.std.specs.Prelude.{◌≡◌, ◌<◌, length};
+ghost use Rattle.std.specs.Prelude.{◌≡◌, ◌<◌};
 ghost use Rattle.points.specs.Points.{primed_slot};
 ghost use Rattle.part_setup.specs.SetupPromises.{Blank, FirstValues, StatesAsked, StatesSet, OperationAsked, OperationSet, OpeningPartAsked, OpeningPartIs};
 ghost use Rattle.part_setup.specs.SetupPromises.{OperationPartAsked, ApplicabilityPartIs, CorrectnessPartIs, Filled};
@@ -13,6 +14,7 @@ use slot_carriers::groups::binding_count;
 use slot_carriers::setup::{copy_cells, set_cells};
 use slot_carriers::value_at;
 
+// Form 1: places and lengths among cells and groups, no kinds.
 // Where the lists of functions begin among the cells.
 const LISTS: usize = 256;
 
@@ -215,11 +217,10 @@ fn primed_slot(s: usize) -> usize
     s + slots::CONCRETE_PRIMED - slots::CONCRETE
 }
 
-// Every variable gets its first value; the primed ones under the plain slots in another array. One loop over both would be handed a function from slots to slots and clauses on what it gives,
-// which is longer than the loop.
-fn fill_before(cells: &[u32; 9216], a: &mut [i64])
-    requires first_values { FirstValues cells.now }
-    requires a_len { length a.old ≡ 64 }
+// Every variable gets its first value; the primed ones under the plain slots in another array.
+// Form 2: one loop over both would be handed a function from slots to slots and clauses on what it gives, which is longer than the loop.
+fn fill_before(cells: &[u32; 9216], a: &mut [i64; 64])
+    requires { FirstValues cells.now }
     ensures { FirstsIn cells.now (λ s. s) 38 a.new }
 {
     for s in 0..slots::COUNT {
@@ -227,9 +228,9 @@ fn fill_before(cells: &[u32; 9216], a: &mut [i64])
     }
 }
 
-fn fill_after(cells: &[u32; 9216], a: &mut [i64])
-    requires first_values { FirstValues cells.now }
-    requires a_len { length a.old ≡ 64 }
+// Form 2: as `fill_before`.
+fn fill_after(cells: &[u32; 9216], a: &mut [i64; 64])
+    requires { FirstValues cells.now }
     ensures { FirstsIn cells.now primed_slot 16 a.new }
 {
     for s in 0..slots::INPUTS {
@@ -237,20 +238,11 @@ fn fill_after(cells: &[u32; 9216], a: &mut [i64])
     }
 }
 
-// Both arrays have the first value of every variable. They come as a slice, whose length the proof can speak of.
-fn fill_both(cells: &[u32; 9216], arrays: &mut [[i64; 64]])
-    requires first_values { FirstValues cells.now }
-    requires arrays_len { length arrays.old ≡ 2 }
-    ensures { Filled cells.now arrays.new }
-{
-    fill_before(cells, &mut arrays[slots::BEFORE]);
-    fill_after(cells, &mut arrays[slots::AFTER]);
-}
-
-// The same, of an array of two.
+// Both arrays have the first value of every variable.
 pub fn fill(cells: &[u32; 9216], arrays: &mut [[i64; 64]; 2])
     requires { FirstValues cells.now }
     ensures { Filled cells.now arrays.new }
 {
-    fill_both(cells, arrays)
+    fill_before(cells, &mut arrays[slots::BEFORE]);
+    fill_after(cells, &mut arrays[slots::AFTER]);
 }

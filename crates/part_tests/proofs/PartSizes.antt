@@ -9,7 +9,7 @@ use lib.ListN.{length, get_elem?}
 use Rattle.form.specs.Tree.{Operation, Dossier}
 use Rattle.obligations.specs.Subjects.{subject_of}
 use Rattle.obligations.specs.Order.{total}
-use Rattle.obligations.proofs.Digits.{abstracts, concretes, givens, results, applicability_size, correctness_size, size_of_first, start_of, length-opening, start-next, total-ends}
+use Rattle.obligations.proofs.Digits.{abstracts, concretes, givens, results, applicability_size, correctness_size, size_of_first, start_of, length-opening, total-ends}
 
 -- the most places that an operation's two parts can have: 2 ^ 30 and 2 ^ 48
 small-applicability : (a c i : ℕ) → a ≤ 4096 → c ≤ 4096 → i ≤ 64 → a * c * i ≤ 1073741824
@@ -52,7 +52,3 @@ module _ (d : Dossier) where
   -- each operation begins among the places, and its parts end there
   pub start_small : (j : ℕ) → start_of (subject_of d) j ≤ total (subject_of d)
   start_small j = omega (arith, first-within j d.operations, total-ends (subject_of d))
-
-  pub parts-small : (j : ℕ) (op : Operation) → get_elem? d.operations j ≡ some op
-      → start_of (subject_of d) j + applicability_size d op + correctness_size d op ≤ total (subject_of d)
-  parts-small j op listed = omega (arith, start_small (suc j), start-next (subject_of d) j op listed)

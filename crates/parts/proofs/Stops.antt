@@ -1,7 +1,6 @@
 -- Where a search that answers with the first failing place, or none, stops, and how many checks it looked at. Assumes nothing.
 use Rattle.std.specs.Prelude.{Option, None, Some, is_some}
 use mathlib.Core.Path.{◌≡◌, sym, ap, ◌∙◌}
-use mathlib.Core.Bool.{true}
 use mathlib.Core.List.{List}
 use Prim.Native.Nat.{ℕ, ◌-◌, ◌≤◌, min}
 use native.Mathlib.Omega.{arith}

@@ -1,4 +1,5 @@
 // The parts of a check one after the other, initialisation, then for each operation applicability and correctness: the search from one place up to another.
+// Form 5: each part begins at another place, so that from and end are made anew for each; a struct of both would have its order shown at each call as the clause has now.
 #![tactic(auto)]
 
 ghost use Rattle.std.specs.Prelude.{◌≡◌, ◌+◌, ◌*◌, ◌^◌, ◌<◌, ◌≤◌};
@@ -59,7 +60,8 @@ fn look_opening(d: &Dossier<'_>, from: usize, end: usize) -> PartLooked
     sweep_part(&s, from, end)
 }
 
-// Applicability of operation j. It and correctness differ in their sizes, their plans and their numbers: one function over both would be handed each of these, and be no shorter.
+// Applicability of operation j.
+// Form 2: it and correctness differ in their sizes, their plans and their numbers: one function over both would be handed each of these, and be no shorter.
 fn look_applicability(d: &Dossier<'_>, j: usize, from: usize, end: usize) -> PartLooked
     requires from_le_end { from ≤ end }
     requires look_asked { LookAsked d.now.table.now d.now.rows.now d.now.firsts.now d.now.groups.now (1 + 2 * j) }
@@ -101,6 +103,7 @@ fn look_correctness(d: &Dossier<'_>, j: usize, from: usize, end: usize) -> PartL
     sweep_part(&s, from, end)
 }
 
+// Form 1: a part is its number, which `search` counts on by; what it is, is asked here alone, and the enum that callers are told, `held_checks::Obligation`, stands by the bytes of a held check.
 // The k-th part: the opening obligations first, then two for each operation.
 fn look(d: &Dossier<'_>, k: usize, from: usize, end: usize) -> PartLooked
     requires from_le_end { from ≤ end }

@@ -3,6 +3,7 @@ use crate::groups::{LEFT, RIGHT, Side, side_of};
 
 // The two numbers, the operation, a part of the text, symbols, a line underlined, an ending, the values of a group, names of its variables, the group in a column, both states side by side,
 // a condition that the group has variables, nothing.
+// Form 1: cases of its own; `Nothing` is written `$.` among the words and takes the newline behind it away, so that it is a case as the others are.
 #[derive(Clone, Copy)]
 pub enum Insert {
     First,

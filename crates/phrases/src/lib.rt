@@ -1,7 +1,7 @@
 // Phrases: the words of explanations with what is filled in, written on a sheet. Facts come as numbers and as values in slots; what is written has no promise.
 #![tactic(auto)]
 
-use crate::groups::{Side, group_of, put_both, put_column, put_names, put_title, put_values};
+use crate::groups::{Pen, Side, group_of};
 use crate::inserts::{Insert, insert_of};
 use crate::texts::{ending_byte, put_symbols, put_underlined};
 use crate::words::WORDS;
@@ -84,31 +84,27 @@ fn margin(words: &[u8], at: usize) -> usize {
 }
 
 // What is filled in.
-fn put_insert(insert: Insert, indent: usize, f: &Filling, s: &Source<'_>, out: &mut Sheet) {
+fn put_insert(insert: Insert, indent: usize, f: &Filling, pen: &mut Pen<'_>) {
+    let text = pen.source.text;
     match insert {
-        Insert::First => out.put_number(f.n, indent),
-        Insert::Second => out.put_number(f.m, indent),
-        Insert::Operation => put_title(s, f.operation, indent, out),
-        Insert::Part => out.flow(
-            part(s.text, Span { from: f.n, to: f.m }),
+        Insert::First => pen.sheet.put_number(f.n, indent),
+        Insert::Second => pen.sheet.put_number(f.m, indent),
+        Insert::Operation => pen.put_title(f.operation, indent),
+        Insert::Part => pen.sheet.flow(
+            part(text, Span { from: f.n, to: f.m }),
             indent.saturating_add(DEEPER),
         ),
-        Insert::Symbols => put_symbols(f.n, indent, out),
-        Insert::Underlined => put_underlined(s.text, f.n, f.m, out),
+        Insert::Symbols => put_symbols(f.n, indent, pen.sheet),
+        Insert::Underlined => put_underlined(text, f.n, f.m, pen.sheet),
         Insert::Ending => {
             if let Some(b) = ending_byte(f.operation) {
-                out.put(b, indent);
+                pen.sheet.put(b, indent);
             }
         }
-        Insert::Values(side) => put_values(s, group_of(side, f), indent, out),
-        Insert::Names(side) => put_names(s, group_of(side, f), f.n, out),
-        Insert::Column(side, column) => put_column(s, group_of(side, f), column, out),
-        Insert::Both => put_both(
-            s,
-            group_of(Side::Abstract, f),
-            group_of(Side::Concrete, f),
-            out,
-        ),
+        Insert::Values(side) => pen.put_values(group_of(side, f), indent),
+        Insert::Names(side) => pen.put_names(group_of(side, f), f.n),
+        Insert::Column(side, column) => pen.put_column(group_of(side, f), column),
+        Insert::Both => pen.put_both(group_of(Side::Abstract, f), group_of(Side::Concrete, f)),
         Insert::Where(_) => (),
         Insert::Nothing => (),
     }
@@ -143,6 +139,10 @@ fn width_of(insert: Insert, words: &[u8], k: usize, f: &Filling) -> usize {
 // A phrase with what is filled in.
 pub fn put_phrase(f: &Filling, s: &Source<'_>, out: &mut Sheet) {
     let words = phrase(f.phrase);
+    let mut pen = Pen {
+        source: *s,
+        sheet: out,
+    };
     let mut skip: usize = 0;
     for (k, b) in words.iter().enumerate() {
         if 0 < skip {
@@ -155,10 +155,10 @@ pub fn put_phrase(f: &Filling, s: &Source<'_>, out: &mut Sheet) {
                     to: words.len(),
                 },
             ));
-            put_insert(insert, margin(words, k), f, s, out);
+            put_insert(insert, margin(words, k), f, &mut pen);
             skip = width_of(insert, words, k, f);
         } else {
-            out.put(*b, margin(words, k));
+            pen.sheet.put(*b, margin(words, k));
         }
     }
 }

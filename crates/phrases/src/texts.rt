@@ -12,6 +12,7 @@ const SPACE: u8 = b' ';
 const NEWLINE: u8 = b'\n';
 
 // How many codes of symbols there are.
+// Form 1: the constants from here on are a count, widths, and the endings' numbers of `lexical`, which stand on a page as numbers.
 const SYMBOLS: usize = 64;
 
 // A line of the text is indented so far, shown so long, at most so much of it before the byte, and at most so many bytes are underlined.
@@ -50,7 +51,7 @@ pub fn word(words: &[u8], n: usize) -> &[u8] {
 }
 
 // The symbols that the bits have, a space before each.
-pub fn put_symbols(bits: usize, indent: usize, out: &mut Sheet) {
+pub(crate) fn put_symbols(bits: usize, indent: usize, out: &mut Sheet) {
     for k in 0..SYMBOLS {
         if has_bit(bits, k) {
             out.put(SPACE, indent);
@@ -89,7 +90,7 @@ fn put_shown(text: &[u8], from: usize, out: &mut Sheet) {
 }
 
 // The text's line at a byte, with n bytes underlined.
-pub fn put_underlined(text: &[u8], p: usize, n: usize, out: &mut Sheet) {
+pub(crate) fn put_underlined(text: &[u8], p: usize, n: usize, out: &mut Sheet) {
     let from = line_start(text, p).max(p.saturating_sub(BEFORE));
     put_shown(text, from, out);
     out.put(NEWLINE, 0);

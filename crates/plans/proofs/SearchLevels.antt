@@ -55,7 +55,7 @@ module _ (rows : List ℕ) (u : ℕ) (p q r : Asking) (at : ℕ) (old plan : Lis
   pub levelled-room : k + length (search_entries rows p q r l) ≤ 20560
   levelled-room = omega (arith, v.count, m.inside, counts-next rows p q r l, counts-few rows p q r (l + 1))
 
-  pub levelled-long : length plan ≡ 20560
+  levelled-long : length plan ≡ 20560
   levelled-long = v.same_length ∙ long
 
   onward : 80 ≤ k

@@ -1,3 +1,4 @@
+// Form 1: places in a row, no kinds; `NO_COLUMN`, for a search of one group, is a column number of the definitions (`level_of`).
 // A row of a conjunct: 8 numbers, of which the second is where its nodes end, and the others from the third on the last variable of each group that it mentions.
 pub const ROW: usize = 8;
 

@@ -1,3 +1,4 @@
+// Form 1: places of contexts among `firsts`, which the caller lends; those of operations go on from the last.
 // The contexts: both states, initial states, retrieve, then two for each operation.
 pub const ABSTRACT_STATE: usize = 0;
 

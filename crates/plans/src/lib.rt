@@ -1,6 +1,9 @@
 // Plans: for each of the five searches of a part its variables, and the conjuncts that it asks by level. Level 0: no variable of the search is mentioned; level l: the
 // last one mentioned is number l - 1, so that a conjunct is asked as soon as that one has its value. A conjunct is one number: twice the end of its nodes, and 1 more where it is
 // asked of the after state.
+// Form 5: the rows are only read and the plan is written, and the sizes of a search change with each call: a struct of rows, firsts and plan would have to promise that the first two are
+// as they were.
+// Form 6: where the tests of a level begin is written among the plan's first numbers as the tests behind are appended: a writer that owned what is left of the plan could not reach them.
 #![tactic(auto)]
 
 ghost use Rattle.std.specs.Prelude.{◌≡◌, ◌+◌, ◌<◌, ◌≤◌, length};
@@ -79,11 +82,11 @@ fn append_row(
     r: usize,
     p: Asked,
     l: usize,
-    plan: &mut [u16],
+    plan: &mut [u16; 20560],
     at: usize,
 ) -> usize
     requires row_in { RowIn rows.now (asking p) r }
-    requires r_bound { (at + length (entries_from rows.now (asking p) l 1 r) ≤ 20560) × (length plan.old ≡ 20560) }
+    requires r_bound { at + length (entries_from rows.now (asking p) l 1 r) ≤ 20560 }
     ensures { Appended (entries_from rows.now (asking p) l 1 r) at plan.old plan.new result }
 {
     if level_of(rows, r, p) != l {
@@ -94,9 +97,9 @@ fn append_row(
 }
 
 // Appends the conjuncts of a predicate that have the level l; the place behind them.
-fn append(rows: &[u16; 16384], p: Asked, l: usize, plan: &mut [u16], at: usize) -> usize
+fn append(rows: &[u16; 16384], p: Asked, l: usize, plan: &mut [u16; 20560], at: usize) -> usize
     requires rows { Rows rows.now (asking p) }
-    requires l_bound { (at + length (entries_of rows.now (asking p) l) ≤ 20560) × (length plan.old ≡ 20560) }
+    requires l_bound { at + length (entries_of rows.now (asking p) l) ≤ 20560 }
     ensures { Appended (entries_of rows.now (asking p) l) at plan.old plan.new result }
 {
     let mut k = at;
@@ -113,11 +116,11 @@ fn append_level(
     q: Asked,
     r: Asked,
     l: usize,
-    plan: &mut [u16],
+    plan: &mut [u16; 20560],
     at: usize,
 ) -> usize
     requires rows { (Rows rows.now (asking p)) × (Rows rows.now (asking q)) × (Rows rows.now (asking r)) }
-    requires l_bound { (at + length (search_entries rows.now (asking p) (asking q) (asking r) l) ≤ 20560) × (length plan.old ≡ 20560) }
+    requires l_bound { at + length (search_entries rows.now (asking p) (asking q) (asking r) l) ≤ 20560 }
     ensures { Appended (search_entries rows.now (asking p) (asking q) (asking r) l) at plan.old plan.new result }
 {
     let k = append(rows, p, l, plan, at);
@@ -132,11 +135,10 @@ fn plan_search(
     p: Asked,
     q: Asked,
     r: Asked,
-    plan: &mut [u16],
+    plan: &mut [u16; 20560],
     at: usize,
 ) -> usize
-    requires room { Room rows.now u (asking p) (asking q) (asking r) at }
-    requires plan_len { length plan.old ≡ 20560 }
+    requires { Room rows.now u (asking p) (asking q) (asking r) at }
     ensures { Laying rows.now u (asking p) (asking q) (asking r) at plan.old plan.new result }
 {
     let mut k = at;
@@ -149,8 +151,8 @@ fn plan_search(
 }
 
 // The slots of its variables: n from the slot `first` on, then those from the slot `second` on.
-fn head(plan: &mut [u16], u: usize, first: usize, n: usize, second: usize)
-    requires { (u < 5) × (first < 64) × (n < 64) × (second < 64) × (length plan.old ≡ 20560) }
+fn head(plan: &mut [u16; 20560], u: usize, first: usize, n: usize, second: usize)
+    requires { (u < 5) × (first < 64) × (n < 64) × (second < 64) }
     ensures { Headed u first n second plan.old plan.new }
 {
     plan[plan::HEAD * u + plan::FIRST_SLOT] = first as u16;
@@ -218,8 +220,8 @@ fn step(firsts: &[u16; 40], c: usize, n: usize, second: usize) -> Asked
 }
 
 // A search without variables and predicates.
-fn plan_nothing(rows: &[u16; 16384], u: usize, plan: &mut [u16], at: usize) -> usize
-    requires { (u < 5) × (80 ≤ at) × (at ≤ 20560) × (length plan.old ≡ 20560) }
+fn plan_nothing(rows: &[u16; 16384], u: usize, plan: &mut [u16; 20560], at: usize) -> usize
+    requires { (u < 5) × (80 ≤ at) × (at ≤ 20560) }
     ensures { Laying rows.now u no_asking no_asking no_asking at plan.old plan.new result }
 {
     plan_search(rows, u, none(), none(), none(), plan, at)
@@ -232,10 +234,10 @@ fn plan_steps(
     c: usize,
     n: usize,
     u: usize,
-    plan: &mut [u16],
+    plan: &mut [u16; 20560],
     at: usize,
 ) -> usize
-    requires u_bound { (u < 5) × (n ≤ 3) × (80 ≤ at) × (at + 4096 ≤ 20560) × (length plan.old ≡ 20560) }
+    requires u_bound { (u < 5) × (n ≤ 3) × (80 ≤ at) × (at + 4096 ≤ 20560) }
     requires rows_of { (RowsOf rows.now firsts.now 1) × (RowsOf rows.now firsts.now c) }
     ensures { Searched rows.now u 19 n 22 (after_by firsts.now 1 n 3) (step_by firsts.now c n 6) no_asking at plan.old plan.new result }
 {
@@ -287,10 +289,9 @@ fn plan_premises(
     firsts: &[u16; 40],
     j: usize,
     n: usize,
-    plan: &mut [u16],
+    plan: &mut [u16; 20560],
 ) -> usize
-    requires operation_rows { OperationRows rows.now firsts.now j n }
-    requires plan_len { length plan.old ≡ 20560 }
+    requires { OperationRows rows.now firsts.now j n }
     ensures { Premises rows.now firsts.now j n plan.new result }
 {
     head(plan, plan::STATES, slots::ABSTRACT, 0, slots::ABSTRACT);

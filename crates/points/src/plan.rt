@@ -1,4 +1,5 @@
 // The layout of a plan: for each of the five searches 16 numbers, then the tests of all of them.
+// Form 1: lengths and places in a plan, no kinds. The number of a search is the place of its 16 numbers, and a search for idle variables goes over all numbers from one on.
 pub const HEAD: usize = 16;
 
 pub const TESTS: usize = 80;

@@ -1,4 +1,5 @@
 // The first slot of each group of variables, and how many slots they have in all.
+// Form 1: places in the arrays of slots, no kinds.
 pub const ABSTRACT: usize = 0;
 
 pub const CONCRETE: usize = 8;

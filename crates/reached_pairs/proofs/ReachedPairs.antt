@@ -7,7 +7,7 @@ use Prim.Native.Nat.{ℕ, suc, ◌+◌, ◌*◌, ◌<◌}
 use native.Mathlib.Omega.{arith}
 use lib.Arith.{digits_div, digits_mod}
 use lib.ListN.{length, get_elem?}
-use Rattle.symbols.proofs.BooleanTests.{and_both, and_left, and_right}
+use Rattle.lexical.proofs.BooleanTests.{and_both, and_left, and_right}
 use Rattle.form.specs.Tree.{Operation, Dossier}
 use Rattle.static_rules.specs.Scope.{unprimed, inputs, outputs}
 use Rattle.meaning.specs.Meaning.{Binding, holds}

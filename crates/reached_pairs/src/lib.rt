@@ -1,5 +1,9 @@
 // The pairs of states that both machines of a dossier reach side by side, each with the shortest list of operations with inputs that leads to it. Layer by layer: the pairs of layer 1 are
 // the initial states; those of layer n + 1 are what the pairs of layer n lead to and what has no mark yet. There is no queue, and no layer is kept but in the marks.
+// Form 3: in the loops by `while` the next place is what a search answers, which is lent the memory that the body is lent too: an iterator would have to own it.
+// Form 5: what is asked of a part (`PairsAsked`) speaks of the marks too, which change; the dossier's arrays are also lent to functions that ask less, so that they were read is no invariant
+// of `Dossier`; memory and marks are lent for a call, and in one struct each function would have to promise the other's part of it unchanged. Numbers of pairs, operations and layers
+// change with each call.
 #![tactic(auto)]
 
 ghost use Rattle.std.specs.Prelude.{◌≡◌, ◌*◌, ◌<◌, ◌≤◌, length};
@@ -144,16 +148,9 @@ fn spread(d: &Dossier<'_>, j: usize, n: u64, pairs: usize, marks: &mut [u64])
     requires pairs_are { PairsAre d.now.table.now d.now.rows.now d.now.firsts.now d.now.groups.now pairs }
     ensures { OperationSpread d.now.table.now d.now.rows.now d.now.firsts.now d.now.groups.now j n marks.old marks.new }
 {
-    let mut cells = [0u32; 9216];
-    let mut plan = [0u16; 20560];
+    let ready = prepare(d, j);
+    let s = ready.search(d.table);
     let mut memo = [0u64; memo::NUMBERS];
-    let part = prepare(d, j, &mut cells, &mut plan);
-    let s = PartSearch {
-        table: d.table,
-        plan: &plan,
-        cells: &cells,
-        part,
-    };
     spread_pairs(&s, j, n, &mut memo, marks)
 }
 
@@ -219,26 +216,19 @@ fn begin_all(s: &PartSearch<'_>, memo: &mut [u64; memo::NUMBERS], marks: &mut [u
     }
 }
 
-// The first layer; how many pairs there are, or none where there is no room for them.
+// The first layer; how many pairs there are, where there is room for them.
 fn begin(d: &Dossier<'_>, marks: &mut [u64]) -> Option<usize>
     requires marks_len { length marks.old ≡ 262144 }
     requires open_asked { OpenAsked d.now.table.now d.now.rows.now d.now.firsts.now d.now.groups.now }
     ensures { Begun d.now.table.now d.now.rows.now d.now.firsts.now d.now.groups.now marks.old marks.new result }
 {
-    let mut cells = [0u32; 9216];
-    let mut plan = [0u16; 20560];
-    let mut memo = [0u64; memo::NUMBERS];
-    let part = prepare_opening(d, &mut cells, &mut plan);
-    let s = PartSearch {
-        table: d.table,
-        plan: &plan,
-        cells: &cells,
-        part,
-    };
-    let pairs = part.nm * part.nc;
+    let ready = prepare_opening(d);
+    let pairs = ready.part.nm * ready.part.nc;
     if PAIRS < pairs {
         return None;
     }
+    let s = ready.search(d.table);
+    let mut memo = [0u64; memo::NUMBERS];
     begin_all(&s, &mut memo, marks);
     Some(pairs)
 }

@@ -10,7 +10,7 @@ use lib.ListN.{length, drop, get_or}
 use borrow.Author.Tests.{ltb-true, ltb-false, lt-ltb}
 use Rattle.lexical.specs.Kinds.{Kind}
 use Rattle.lexical.specs.Symbols.{Symbol}
-use Rattle.lexical.specs.Refusals.{many_declared}
+use Rattle.refusals.specs.Refusals.{many_declared}
 use Rattle.form.specs.Tree.{Letters, Given, Operation, Dossier}
 use Rattle.form.specs.Written.{Mark, unmarked, a_given, an_element, an_operation, Written, write_elements, write_givens, write_operations, written}
 use Rattle.form.specs.Form.{Forms, kind_at, refuse, excess, settled}

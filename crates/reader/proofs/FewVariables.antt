@@ -9,7 +9,7 @@ use lib.ListN.{length}
 use Rattle.lexical.specs.Kinds.{Kind}
 use Rattle.lexical.specs.Symbols.{Symbol}
 use Rattle.lexical.specs.Lists.{filter}
-use Rattle.lexical.specs.Refusals.{many_declared}
+use Rattle.refusals.specs.Refusals.{many_declared}
 use Rattle.form.specs.Tree.{End, TypeForm, given_type, power_type, range_type, arrow_type, Declaration, Direction, inward, outward, Parameter, State, Operation, Dossier, declarations}
 use Rattle.form.specs.Written.{Mark, a_variable, an_input, an_output, Written, minus_of, write_end, write_type, write_declarations, write_state, parameter_mark, inputs_after, outputs_after}
 use Rattle.form.specs.Written.{write_parameters, write_operations, written}

@@ -2,15 +2,15 @@
 use mathlib.Core.Path.{◌≡◌, refl, ap, ap₂, ◌∙◌, sym, subst}
 use mathlib.Core.List.{List}
 use mathlib.Core.Option.{Option, none, some}
-use Prim.Native.Nat.{ℕ, ◌<◌}
+use Prim.Native.Nat.{ℕ}
 use native.Mathlib.Omega.{arith}
 use lib.ListN.{take, get_or}
 use Rattle.std.specs.Prelude as rust
 use Rattle.std.specs.Prelude.{Ok, Err}
 use Rattle.lexical.specs.Symbols.{place_at}
-use Rattle.lexical.specs.Refusals.{Fault, fault, least}
-use Rattle.lexical.specs.RefusalNames.{refusal_is, fault_is}
-use Rattle.lexical.specs.declared.refusals.Fault as refusals
+use Rattle.refusals.specs.Refusals.{Fault, fault, least}
+use Rattle.refusals.specs.RefusalNames.{refusal_is, fault_is}
+use Rattle.refusals.specs.declared.Fault as refusals
 use Rattle.parser.specs.Promises.{Parsed}
 use Rattle.parser.specs.declared.Structure.{Structure}
 use Rattle.lexical.specs.Promises.{first_of}

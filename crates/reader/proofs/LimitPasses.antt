@@ -5,17 +5,16 @@ use mathlib.Core.Option.{none}
 use Prim.Native.Nat.{ℕ, ◌≤◌, ◌<◌}
 use native.Mathlib.Omega.{arith}
 use lib.ListN.{length, get_or, replicate}
-use Rattle.lexical.specs.Refusals.{Fault, least}
+use Rattle.refusals.specs.Refusals.{Fault, least}
 use Rattle.form.specs.Tree.{Dossier}
 use Rattle.form.specs.Headings.{givens_at}
 use Rattle.form.specs.Codes.{given_codes}
 use Rattle.parser.specs.Promises.{numbering}
 use Rattle.parser.specs.Sections.{Sectioned}
 use Rattle.parser.specs.declared.sections.Bounds.{Bounds}
-use Rattle.static_rules.specs.Carriers.{Variable, largest, size_of}
-use Rattle.static_rules.specs.Scope.{Context, contexts}
+use Rattle.static_rules.specs.Carriers.{size_of}
 use Rattle.static_rules.specs.Names.{name_faults}
-use Rattle.static_rules.specs.Limits.{binding_faults, context_sizes, size_faults}
+use Rattle.static_rules.specs.Limits.{binding_faults, size_faults}
 use Rattle.type_rules.specs.TypesByNumber.{Names, Sizes, key_of}
 use Rattle.declared_names.specs.NamesByNumber.{givens_key, givens_named}
 use Rattle.declared_names.specs.PassPromises.{PartOf, GivenSeen}

@@ -7,11 +7,11 @@ use native.Mathlib.Omega.{arith}
 use lib.ListN.{length, take, drop, length-append}
 use lib.Seq.{take_at}
 use Rattle.lexical.specs.Symbols.{scan, symbols, length_faults, scan_faults}
-use Rattle.lexical.specs.Refusals.{Fault, least}
+use Rattle.refusals.specs.Refusals.{Fault, least}
 use Rattle.lexical.specs.Promises.{Scanned, Scans, fault_of, first_of}
 use Rattle.std.specs.Prelude.{Ok, Err}
-use Rattle.lexical.specs.declared.refusals.Fault as refusals
-use Rattle.lexical.specs.RefusalNames.{fault_is}
+use Rattle.refusals.specs.declared.Fault as refusals
+use Rattle.refusals.specs.RefusalNames.{fault_is}
 use Rattle.form.specs.Tree.{Dossier}
 use Rattle.form.specs.Form.{Outcome, refused, formed, FormOf, Forms}
 use Rattle.form.specs.Parse.{form}

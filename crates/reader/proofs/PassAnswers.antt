@@ -2,9 +2,9 @@
 use mathlib.Core.Path.{◌≡◌, refl, ap, ap₂, ◌∙◌, sym, subst}
 use mathlib.Core.Bool.{Bool, true, false, cond}
 use mathlib.Core.List.{List}
-use Prim.Native.Nat.{ℕ, ◌≤◌, ◌-◌, ◌/◌, ◌%◌}
+use Prim.Native.Nat.{ℕ, ◌≤◌}
 use lib.Dec.{eqb}
-use lib.ListN.{length, take, get_or, replicate}
+use lib.ListN.{length, take, get_or}
 use lib.Seq.{length-take-le}
 use borrow.Author.Tests.{eqb-true}
 use Rattle.lexical.specs.Symbols.{scan, symbols, place_at}
@@ -15,7 +15,7 @@ use Rattle.parser.specs.Promises.{numbering, Parsed, Parses}
 use Rattle.parser.specs.Sections.{Sectioned}
 use Rattle.parser.specs.declared.Structure.{Structure}
 use Rattle.std.specs.Prelude.{Ok, Err}
-use Rattle.lexical.specs.declared.refusals.Fault.{Fault}
+use Rattle.refusals.specs.declared.Fault.{Fault}
 use Rattle.parser.specs.declared.sections.Bounds.{Bounds}
 use Rattle.parser.proofs.Texts.{known}
 use Rattle.static_rules.specs.Read as definition

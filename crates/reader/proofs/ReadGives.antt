@@ -4,7 +4,7 @@ use mathlib.Core.List.{List, []}
 use mathlib.Core.Option.{Option, none, some}
 use Prim.Native.Nat.{ℕ}
 use Rattle.lexical.specs.Symbols.{scan, length_faults, scan_faults}
-use Rattle.lexical.specs.Refusals.{Fault, least}
+use Rattle.refusals.specs.Refusals.{Fault, least}
 use Rattle.form.specs.Tree.{Dossier}
 use Rattle.form.specs.Form.{Outcome, refused, formed, FormOf}
 use Rattle.form.specs.Parse.{form}

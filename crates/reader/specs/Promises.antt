@@ -2,11 +2,10 @@
 use Rattle.std.specs.Prelude.{◌≡◌, List, ◌++◌, map, ℕ, ◌≤◌, ◌<◌, length, take, drop, get_or, replicate}
 use Rattle.std.proofs.Math.Option.{Option, none}
 use Rattle.lexical.specs.Symbols.{scan, symbols}
-use Rattle.lexical.specs.Refusals.{Fault, least}
+use Rattle.refusals.specs.Refusals.{Fault, least}
 use Rattle.lexical.specs.Promises.{Scans, first_of}
 use Rattle.std.specs.Prelude.{Ok, Err}
-use Rattle.lexical.specs.RefusalNames.{fault_is}
-use Rattle.parser.specs.declared.Structure.{Structure}
+use Rattle.refusals.specs.RefusalNames.{fault_is}
 use Rattle.form.specs.Tree.{Dossier}
 use Rattle.form.specs.Form.{Forms}
 use Rattle.form.specs.Codes.{dossier_codes}

@@ -1,4 +1,6 @@
 // The reading of a text: the passes of document 01 in their order.
+// Form 5: the caller lends each array, of fixed length, and one pass writes it; a struct of nine arrays to be written would have `read`, `checked` and `leave` each say
+// that they are still those which were lent. Who reads texts has them in a struct that owns them.
 #![tactic(auto)]
 
 ghost use Rattle.std.specs.Prelude.{◌≡◌, ◌≤◌, length, take, get_or};
@@ -10,13 +12,14 @@ ghost use Rattle.reader.specs.Promises.{Reads, Written, Kept, Named, Tabled, Fin
 use binding_counts::bindings::bindings;
 use form::node::NUMBERS;
 use lexical::bounds::SYMBOLS;
-use lexical::refusals::Fault;
 use limits::measures::measures;
 use names::passes::part;
 use names::{NAMES, SIZES, given_sets, least_fault};
 use node_spans::span;
 use parser::sections::sections;
 use parser::{Structure, parse, place_at};
+use refusals::Fault;
+use search_groups::Parts;
 use search_groups::conjuncts::{FIRSTS, conjuncts};
 use search_groups::groups::GROUPS;
 use tables::passes::write;
@@ -161,17 +164,28 @@ fn leave(
     let mut sizes = [0u16; SIZES];
     given_table(nodes, m, &mut names, &mut sizes);
     let at = sections(nodes, m);
-    let k = node_spans::spans(nodes, m, spans);
+    let operations = node_spans::spans(nodes, m, spans);
     write(
         nodes,
         spans,
-        k,
+        operations,
         at.givens,
         at.abstracts,
         &mut names,
         &sizes,
         table,
     );
-    search_groups::groups::groups(nodes, spans, k, groups);
-    conjuncts(table, spans, k, rows, firsts);
+    let read = Parts {
+        nodes,
+        spans,
+        operations,
+    };
+    search_groups::groups::groups(&read, groups);
+    let written: &[u16; NUMBERS] = table;
+    let resolved = Parts {
+        nodes: written,
+        spans,
+        operations,
+    };
+    conjuncts(&resolved, rows, firsts);
 }

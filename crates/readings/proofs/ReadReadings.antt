@@ -10,7 +10,7 @@ use lib.ListN.{length, get_elem?, take, drop}
 use lib.Seq.{length-take-le}
 use borrow.Author.Tests.{leb-true}
 use Rattle.lexical.specs.Symbols.{no_ending}
-use Rattle.lexical.specs.Refusals.{fault, unless, many_bindings}
+use Rattle.refusals.specs.Refusals.{fault, unless, many_bindings}
 use Rattle.form.specs.Tree.{Given, Declaration, declarations, inward, outward, Parameter, Operation, Dossier}
 use Rattle.form.specs.Written.{ending_of}
 use Rattle.form.specs.Headings.{abstract_at, concrete_at, operations_at, operation_length}

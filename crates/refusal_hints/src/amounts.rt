@@ -16,11 +16,8 @@ fn times(x: usize, n: usize) -> usize {
 
 // x to the power n, or MANY.
 fn power(x: usize, n: usize) -> usize {
-    let mut r: usize = 1;
-    for _ in 0..n {
-        r = times(r, x);
-    }
-    r
+    x.saturating_pow(u32::try_from(n).unwrap_or(u32::MAX))
+        .min(MANY)
 }
 
 // The end of a range at symbol s, counted from the least number on, where a dash may stand before it.
@@ -41,6 +38,7 @@ fn second_end(y: &Symbols<'_>, s: usize) -> usize {
     next
 }
 
+// Form 1: 0 is how many numbers such a range has; with an Option `type_values`, whose products take it so, would turn `None` back into 0.
 // How many numbers a range has, with its .. at symbol s; 0 where the first is the larger one.
 pub fn range_numbers(y: &Symbols<'_>, s: usize) -> usize {
     let a = end_at(y, s.saturating_sub(1));

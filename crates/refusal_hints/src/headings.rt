@@ -38,20 +38,10 @@ fn has_name(kind: u8) -> bool {
 
 // The symbol that begins the n-th entry of the contents.
 fn entry(y: &Symbols<'_>, n: usize) -> Option<usize> {
-    let mut left = n;
-    for s in 0..SYMBOLS {
-        let kind = y.kind(s);
-        if kind == codes::END {
-            return None;
-        }
-        if begins(kind) {
-            if left == 0 {
-                return Some(s);
-            }
-            left -= 1;
-        }
-    }
-    None
+    (0..SYMBOLS)
+        .take_while(|&s| y.kind(s) != codes::END)
+        .filter(|&s| begins(y.kind(s)))
+        .nth(n)
 }
 
 // Number 7: the entry of the contents that the heading at symbol s should be, by the number of bodies before it.
@@ -89,10 +79,5 @@ fn declares(y: &Symbols<'_>, k: usize) -> bool {
 
 // Number 8: the first symbol in the bodies that declares the name at symbol s, before it.
 pub fn first_declared(y: &Symbols<'_>, s: usize) -> Option<usize> {
-    for k in names_from(y, s)..s {
-        if y.is_same(k, s) && declares(y, k) {
-            return Some(k);
-        }
-    }
-    None
+    (names_from(y, s)..s).find(|&k| y.is_same(k, s) && declares(y, k))
 }

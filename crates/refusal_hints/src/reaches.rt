@@ -2,11 +2,11 @@
 // reach.
 use crate::samples::{Sample, is_past};
 use lexical::bounds::SYMBOLS;
-use lexical::refusals::Refusal;
 use lexical::{codes, endings};
 use pages::Page;
 use phrases::texts::ending_byte;
 use phrases::words;
+use refusals::Refusal;
 use symbol_spans::{Symbols, is_name};
 use text_places::{Span, part, run_end, symbol_end};
 use tried_texts::tried;
@@ -24,14 +24,14 @@ fn reaches(text: &[u8], p: usize, letters: Span, ending: usize) -> bool {
     is_past(answer, Refusal::NameInUse, Refusal::NameUnknown, p)
 }
 
-// The next name on the page.
-fn say_name(page: &mut Page, is_first: bool, ending: usize, letters: Span) {
-    if is_first {
-        page.say(words::IN_REACH);
-        page.say_of(words::A_FIRST_NAME, ending, letters.from, letters.to);
+// The next name on the page, which had so many items before the first one.
+fn say_name(page: &mut Page, before: usize, ending: usize, letters: Span) {
+    let phrase = if page.items().len() == before {
+        words::A_FIRST_NAME
     } else {
-        page.say_of(words::A_FURTHER_NAME, ending, letters.from, letters.to);
-    }
+        words::A_FURTHER_NAME
+    };
+    page.say_of(phrase, ending, letters.from, letters.to);
 }
 
 // Does a name that is declared stand at symbol s: before a colon, behind `given`, or in a list of elements?
@@ -45,46 +45,35 @@ pub fn is_declared(y: &Symbols<'_>, s: usize) -> bool {
 
 // Is the name at symbol s declared, and none before it with the same letters?
 fn is_new(y: &Symbols<'_>, s: usize) -> bool {
-    if !is_declared(y, s) {
-        return false;
-    }
-    for k in 0..s {
-        if y.has_same_letters(k, s) && is_declared(y, k) {
-            return false;
-        }
-    }
-    true
+    is_declared(y, s) && !(0..s).any(|k| y.has_same_letters(k, s) && is_declared(y, k))
 }
 
-// The letters at symbol s with each ending that is in reach in the place of the symbol at p; were there any, or is there one now?
-fn say_letters(y: &Symbols<'_>, p: usize, s: usize, page: &mut Page, said: bool) -> bool {
+// The letters at symbol s with each ending that is in reach in the place of the symbol at p, on a page that had so many items before the first name.
+fn say_letters(y: &Symbols<'_>, p: usize, s: usize, before: usize, page: &mut Page) {
     let from = y.start(s);
     let letters = Span {
         from,
         to: run_end(y.text, from),
     };
-    let mut any = said;
     for ending in 0..ENDINGS {
         if reaches(y.text, p, letters, ending) {
-            say_name(page, !any, ending, letters);
-            any = true;
+            say_name(page, before, ending, letters);
         }
     }
-    any
 }
 
 // The names that are in reach in the place of the symbol at p.
 pub fn say_names(y: &Symbols<'_>, p: usize, page: &mut Page) {
-    let mut any = false;
+    page.say(words::IN_REACH);
+    let before = page.items().len();
     for s in 0..SYMBOLS {
         if is_new(y, s) {
-            any = say_letters(y, p, s, page, any);
+            say_letters(y, p, s, before, page);
         }
     }
-    if any {
-        page.say(words::END_OF_NAMES);
-    } else {
-        page.say(words::IN_REACH);
+    if page.items().len() == before {
         page.say(words::NONE_IN_REACH);
+    } else {
+        page.say(words::END_OF_NAMES);
     }
 }

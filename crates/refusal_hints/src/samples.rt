@@ -1,8 +1,10 @@
 // Number 4: which symbols could stand at a place. Each is tried there, behind a blank and with nothing behind it; where that is not refused by 4 at the same symbol, some dossier goes on so.
+ghost use Rattle.std.specs.Prelude.{◌≡◌, None, IfSome, true, false};
+
 use bounded_texts::BoundedText;
-use lexical::refusals::{Fault, Refusal};
 use phrases::texts::word;
 use phrases::words::SPELLINGS;
+use refusals::{Fault, Refusal};
 use tried_texts::{TRIAL, tried};
 
 // Words that are tried in a text: as many bytes as tell of a text that it is too long.
@@ -11,6 +13,7 @@ pub type Sample = BoundedText<TRIAL>;
 // Symbols that stand for a number and for names, by their codes from 1 on.
 const STAND_INS: [u8; 13] = *b"0 x x' x? x! ";
 
+// Form 1: counts and bounds of codes, no kinds.
 const CLASSES: usize = 5;
 
 // The codes behind these stand for no symbol, up to the first mark's.
@@ -19,7 +22,10 @@ const FIRST_MARK: usize = 9;
 const CODES: usize = 64;
 
 // Is a text read on past a place, by this answer: is it not refused there so? Refusals before the least one say nothing of it.
-pub fn is_past(answer: Option<Fault>, least: Refusal, refused: Refusal, place: usize) -> bool {
+pub fn is_past(answer: Option<Fault>, least: Refusal, refused: Refusal, place: usize) -> bool
+    ensures read { answer ≡ None → result ≡ true }
+    ensures refused_there { IfSome answer (λ f. (f.refusal ≡ refused) × (f.place ≡ place) → result ≡ false) }
+{
     match answer {
         Some(f) => least <= f.refusal && (f.refusal != refused || f.place != place),
         None => true,

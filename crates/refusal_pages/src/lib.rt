@@ -3,7 +3,6 @@
 
 use lexical::bounds::{PAIRS, PARAMETER_BINDINGS, RANGE_NUMBERS, STATE_BINDINGS, SYMBOLS};
 use lexical::codes;
-use lexical::refusals::{Fault, Refusal};
 use pages::Page;
 use phrases::words;
 use refusal_hints::amounts::{MANY, bindings, pairs, parameter_bindings, range_numbers};
@@ -11,6 +10,7 @@ use refusal_hints::headings::{first_declared, passed, wanted};
 use refusal_hints::reaches::say_names;
 use refusal_hints::samples::could_stand;
 use refusal_sides::{Told, say_sides};
+use refusals::{Fault, Refusal};
 use symbol_spans::Symbols;
 use symbols::scan;
 use text_places::{column_of, line_of, symbol_end};

@@ -13,6 +13,7 @@ use text_places::{Span, symbol_end};
 pub mod trials;
 
 // What is said of the sides of an operator.
+// Form 1: two cases of its own, no Option or Result.
 #[derive(Clone, Copy, PartialEq, Eq)]
 pub enum Told {
     Types,
@@ -34,15 +35,10 @@ fn is_set(y: &Symbols<'_>, s: usize) -> bool {
 
 // The sets of pairs that the side is of, where their first parts are of the given set whose name stands at a byte.
 fn pairs_from(y: &Symbols<'_>, x: Side, first: usize) -> Option<Term> {
-    for s in 0..SYMBOLS {
-        if is_set(y, s) {
-            let pairs = Term::Pairs(first, y.start(s + 1));
-            if fits(y.text, x, pairs) {
-                return Some(pairs);
-            }
-        }
-    }
-    None
+    (0..SYMBOLS)
+        .filter(|&s| is_set(y, s))
+        .map(|s| Term::Pairs(first, y.start(s.saturating_add(1))))
+        .find(|&pairs| fits(y.text, x, pairs))
 }
 
 // The type of the given set at symbol s that the side is of.
@@ -64,15 +60,9 @@ fn type_of(y: &Symbols<'_>, x: Side) -> Option<Term> {
     if fits(y.text, x, Term::Number) {
         return Some(Term::Number);
     }
-    for s in 0..SYMBOLS {
-        if is_set(y, s) {
-            let t = type_by(y, x, s);
-            if t.is_some() {
-                return t;
-            }
-        }
-    }
-    None
+    (0..SYMBOLS)
+        .filter(|&s| is_set(y, s))
+        .find_map(|s| type_by(y, x, s))
 }
 
 // A phrase with the name that stands at a byte of the text.

@@ -1,11 +1,12 @@
 // Trials of one side of an operator: the atom that the operator stands in is replaced by an equation with that side.
 use lexical::bounds::LARGEST_SIZE;
-use lexical::refusals::{Fault, Refusal};
 use refusal_hints::samples::{Sample, is_past};
+use refusals::{Fault, Refusal};
 use text_places::{Span, part, symbol_end};
 use tried_texts::tried;
 
 // The digits of a size.
+// Form 1: lengths and limits of the numbers that are tried, no kinds.
 const DIGITS: usize = 10;
 
 const TEN: usize = 10;
@@ -23,6 +24,7 @@ pub struct Side {
 }
 
 // A term of some type, by the places of names in the text: a number; an element of a given set, by the names of both; a set of elements; a set of pairs, by the given sets of their parts.
+// Form 1: four cases of its own, no Option or Result.
 #[derive(Clone, Copy)]
 pub enum Term {
     Number,

@@ -1,14 +1,13 @@
 -- The lines of a report piece by piece: the first line of a refuted check by its part.
-use mathlib.Core.Path.{◌≡◌, refl, sym, ap, subst, ◌∙◌}
-use mathlib.Core.List.{List, [], ◌∷◌, ◌++◌, map}
+use mathlib.Core.Path.{◌≡◌, sym, ap, subst, ◌∙◌}
+use mathlib.Core.List.{List, [], ◌∷◌, map}
 use mathlib.Core.Option.{some, none-ne-some, some-injective}
-use Prim.Native.Nat.{ℕ, zero, suc, ◌+◌, ◌-◌, ◌*◌, ◌/◌, ◌%◌, ◌<◌, ◌≤◌}
+use Prim.Native.Nat.{ℕ, zero, suc, ◌+◌, ◌-◌, ◌/◌, ◌%◌, ◌<◌, ◌≤◌}
 use native.Mathlib.Omega.{arith}
 use lib.ListN.{length, get_or, get_elem?}
 use Rattle.lexical.specs.Lists.{bytes}
 use Rattle.form.specs.Tree.{Operation, Dossier}
 use Rattle.meaning.proofs.Places.{below-entry}
-use Rattle.obligations.specs.Order.{initialisation, applicability, correctness}
 use Rattle.obligations.specs.Report.{titles, refuted_line}
 use Rattle.pieces.specs.PiecePromises.{Writes, letters_at}
 use Rattle.pieces.proofs.WrittenPieces.{both-written, letters-length}

@@ -1,26 +1,25 @@
 -- From what is read of a text and what is written of it to the promise of the report.
 use mathlib.Core.Path.{◌≡◌, refl, sym, ap, subst, ◌∙◌}
 use mathlib.Core.List.{List, ◌++◌}
-use Prim.Native.Nat.{ℕ, ◌<◌, ◌≤◌, ◌+◌}
+use Prim.Native.Nat.{ℕ, ◌<◌, ◌≤◌}
 use native.Mathlib.Nat.{zero-add}
 use native.Mathlib.Omega.{arith}
-use lib.ListN.{length, take, drop}
+use lib.ListN.{length, drop}
 use Rattle.std.specs.Prelude.{Result, Ok, Err}
-use Rattle.lexical.specs.Refusals as refusals
-use Rattle.lexical.specs.Refusals.{number_of}
-use Rattle.lexical.specs.RefusalNames.{fault_is}
-use Rattle.lexical.specs.declared.refusals.Fault.{Fault}
+use Rattle.refusals.specs.Refusals as refusals
+use Rattle.refusals.specs.Refusals.{number_of}
+use Rattle.refusals.specs.RefusalNames.{fault_is}
+use Rattle.refusals.specs.declared.Fault.{Fault}
 use Rattle.form.specs.Tree.{Dossier}
 use Rattle.static_rules.specs.Read.{Reading, refusal, reading, read}
-use Rattle.obligations.specs.Subjects.{subject_of}
-use Rattle.obligations.specs.Order.{Obligation, initialisation, applicability, correctness, checks, look}
-use Rattle.obligations.specs.Report.{refuted_line, refused_line, verdict_lines, reported, report}
+use Rattle.obligations.specs.Order.{Obligation, initialisation, applicability, correctness}
+use Rattle.obligations.specs.Report.{refuted_line, refused_line, reported, report}
 use Rattle.held_checks.specs.declared.Obligation as code
 use Rattle.held_checks.specs.Answers.{obligation_is}
 use Rattle.labels.specs.Labels.{LabelsOf}
 use Rattle.table_nodes.specs.TableWalkPromises.{patch}
 use Rattle.pieces.specs.PiecePromises.{Writes}
-use Rattle.text_readings.specs.TextPromises.{Held, ReadAs, ReadsText}
+use Rattle.text_readings.specs.TextPromises.{ReadAs, ReadsText}
 use Rattle.reports.specs.ReportPromises.{Reported, ObligationIn, RefutedLine, part_of, refusal_piece, LineWritten, VerdictAsked, VerdictWritten}
 use Rattle.reports.proofs.LineRooms.{part-some}
 

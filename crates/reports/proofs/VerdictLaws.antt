@@ -2,8 +2,7 @@
 use mathlib.Core.Path.{◌≡◌, refl, sym, ap, subst, ◌∙◌}
 use Rattle.std.specs.Prelude.{Option, None, Some}
 use mathlib.Core.Bool.{Bool, true, false}
-use mathlib.Core.List.{List, [], ◌∷◌, ◌++◌}
-use mathlib.Core.Logic.{◌⊎◌, inl, inr}
+use mathlib.Core.List.{List, ◌++◌}
 use Prim.Native.Nat.{ℕ, suc, min, ◌+◌, ◌-◌, ◌*◌, ◌/◌, ◌%◌, ◌^◌, ◌<◌, ◌≤◌}
 use native.Mathlib.Omega.{arith}
 use lib.Dec.{eqb}
@@ -13,7 +12,7 @@ use Rattle.lexical.specs.Lists.{bytes}
 use Rattle.form.specs.Tree.{Dossier}
 use Rattle.obligations.specs.Subjects.{subject_of}
 use Rattle.obligations.specs.Order.{Obligation, obligation_of, checks, total, look}
-use Rattle.obligations.specs.Report.{decimal, check_at, witness_lines, refuted_line, count_line, verdict_lines}
+use Rattle.obligations.specs.Report.{decimal, check_at, witness_lines, refuted_line, count_line}
 use Rattle.parts.specs.PartTestsPartOrder.{part_size, part_begin}
 use Rattle.labels.specs.ReadingsReadings.{ReadingOf}
 use Rattle.parts.specs.SearchPromises.{SearchAsked, SearchAnswers}
@@ -21,7 +20,7 @@ use Rattle.parts.proofs.ReadingSizes.{reading_small}
 use Rattle.pieces.specs.PiecePromises.{Writes}
 use Rattle.pieces.proofs.WrittenPieces.{both-written}
 use Rattle.labels.specs.Labels.{LabelsOf}
-use Rattle.part_places.specs.Places.{GroupsOf, parts, AllAsked, TotalIs, PlaceAsked, PlaceFound}
+use Rattle.part_places.specs.Places.{parts, AllAsked, TotalIs, PlaceAsked, PlaceFound}
 use Rattle.part_places.proofs.PlaceObligations.{obligation-opening, obligation-applying, obligation-correcting}
 use Rattle.part_places.proofs.ReadingGroups.{reading-groups}
 use Rattle.witnesses.specs.WitnessPromises.{WitnessAsked, WitnessWritten}

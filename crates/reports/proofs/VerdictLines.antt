@@ -1,16 +1,16 @@
 -- What a search over all places says of the report's lines.
-use mathlib.Core.Path.{◌≡◌, refl, sym, ap, subst, ◌∙◌}
+use mathlib.Core.Path.{◌≡◌, refl, sym, ap, ◌∙◌}
 use Rattle.std.specs.Prelude.{Option, is_some}
 use mathlib.Core.Bool.{Bool, true, false, cond}
 use mathlib.Core.List.{List, [], ◌++◌}
-use Prim.Native.Nat.{ℕ, suc, ◌<◌, ◌≤◌, ◌-◌}
+use Prim.Native.Nat.{ℕ, suc, ◌<◌, ◌-◌}
 use native.Mathlib.Omega.{arith}
 use lib.ListN.{length, take, drop}
 use lib.Seq.{take_all}
 use Rattle.lexical.specs.Lists.{bytes}
 use Rattle.form.specs.Tree.{Dossier}
 use Rattle.obligations.specs.Subjects.{subject_of}
-use Rattle.obligations.specs.Order.{Check, initialises, obligation_of, checks, total, Look, look}
+use Rattle.obligations.specs.Order.{initialises, obligation_of, checks, total, Look, look}
 use Rattle.obligations.specs.Report.{check_at, witness_lines, refuted_line, count_line, verdict_lines}
 use Rattle.obligations.proofs.Looks.{First, look-first, look-whole}
 use Rattle.labels.specs.ReadingsReadings.{ReadingOf}

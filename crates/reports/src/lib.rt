@@ -2,26 +2,24 @@
 #![tactic(auto)]
 
 ghost use Rattle.std.specs.Prelude.{◌≡◌, ◌+◌, ◌≤◌, ◌<◌, length, get_or};
-ghost use Rattle.lexical.specs.Refusals.{number_of};
-ghost use Rattle.lexical.specs.RefusalNames.{refusal_is};
+ghost use Rattle.refusals.specs.Refusals.{number_of};
+ghost use Rattle.refusals.specs.RefusalNames.{refusal_is};
 ghost use Rattle.obligations.specs.Report.{count_line};
 ghost use Rattle.pieces.specs.PiecePromises.{Writes, Adds, letters_at};
 ghost use Rattle.reports.specs.ReportPromises.{Reported, RefutedLine, LineWritten, VerdictAsked, VerdictWritten, refusal_piece, operation_part, part_of};
 ghost use Rattle.held_checks.specs.Answers.{obligation_is};
 
-use form::node::NUMBERS;
 use held_checks::Obligation;
-use labels::{LABELS, Names, TITLES};
-use lexical::refusals::Refusal;
+use labels::{Names, TITLES};
 use part_places::{OBLIGATIONS, OPENING, find, total};
 use parts::search;
 use pieces::Writer;
+use refusals::Refusal;
 use search_groups::Dossier;
-use search_groups::conjuncts::FIRSTS;
-use search_groups::groups::GROUPS;
-use text_readings::read_text;
+use text_readings::Arrays;
 use witnesses::put_witness;
 
+// Form 1: lengths and counts, no kinds.
 // The greatest length of a report: a first line of 39 bytes, a witness, a line with the count of 30.
 pub const REPORT: usize = 19419;
 
@@ -112,33 +110,16 @@ fn put_verdict(names: &Names<'_>, d: &Dossier<'_>, out: &mut [u8]) -> usize
 pub fn report(text: &[u8], out: &mut [u8; REPORT]) -> usize
     ensures { Reported text.now out.old out.new result }
 {
-    let mut table = [0u16; NUMBERS];
-    let mut rows = [0u16; NUMBERS];
-    let mut firsts = [0u16; FIRSTS];
-    let mut groups = [0u16; GROUPS];
-    let mut labels = [0u16; LABELS];
-    let answer = read_text(
-        text,
-        &mut table,
-        &mut rows,
-        &mut firsts,
-        &mut groups,
-        &mut labels,
-    );
+    let mut a = Arrays::new();
+    let answer = a.read(text);
     match answer {
         Err(fault) => put_refusal(fault.refusal, fault.place, out),
         Ok(operations) => {
             let names = Names {
                 text,
-                labels: &labels,
+                labels: &a.labels,
             };
-            let d = Dossier {
-                table: &table,
-                rows: &rows,
-                firsts: &firsts,
-                groups: &groups,
-                operations,
-            };
+            let d = a.dossier(operations);
             put_verdict(&names, &d, out)
         }
     }
@@ -180,19 +161,8 @@ fn put_first_line(names: &Names<'_>, part: usize, out: &mut [u8]) -> usize
 pub fn refuted_line(text: &[u8], o: Obligation, out: &mut [u8; FIRST_LINE]) -> usize
     ensures { RefutedLine text.now o out.old out.new result }
 {
-    let mut table = [0u16; NUMBERS];
-    let mut rows = [0u16; NUMBERS];
-    let mut firsts = [0u16; FIRSTS];
-    let mut groups = [0u16; GROUPS];
-    let mut labels = [0u16; LABELS];
-    let answer = read_text(
-        text,
-        &mut table,
-        &mut rows,
-        &mut firsts,
-        &mut groups,
-        &mut labels,
-    );
+    let mut a = Arrays::new();
+    let answer = a.read(text);
     match answer {
         Err(_) => 0,
         Ok(_) => {
@@ -202,7 +172,7 @@ pub fn refuted_line(text: &[u8], o: Obligation, out: &mut [u8; FIRST_LINE]) -> u
             }
             let names = Names {
                 text,
-                labels: &labels,
+                labels: &a.labels,
             };
             put_first_line(&names, part, out)
         }

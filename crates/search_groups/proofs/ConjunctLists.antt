@@ -15,13 +15,11 @@ use Rattle.search_groups.proofs.GroupPlaces.{patch-none, patch-more}
 use Rattle.search_groups.proofs.ConjunctContexts.{twice, twice-is, starts_by, starts_are, dossier-rows}
 
 -- one context
-pub context-put : {table spans : List ℕ} {j n k from end r : ℕ} {out after firsts marked : List ℕ} → Marked k n firsts marked → from ≡ span spans j → end ≡ span spans (j + 1)
-    → end < 65536 → Conjoined table (from + 4) end n out after r → length out ≤ 65535 → ContextPut table spans j n k out after firsts marked r
-context-put {table} {spans} {j} {n} {k} {from} {end} {r} {out} {after} {firsts} {marked} m e f l c o =
+pub context-put : {table spans : List ℕ} {j n from end r : ℕ} {out after : List ℕ} → from ≡ span spans j → end ≡ span spans (j + 1) → end < 65536
+    → Conjoined table (from + 4) end n out after r → length out ≤ 65535 → ContextPut table spans j n out after r
+context-put {table} {spans} {j} {n} {from} {end} {r} {out} {after} e f l c o =
     record {
       long = c.long;
-      firsts_long = m.long;
-      marks = m.marks;
       right =
           λ codes rows p s h.
           let p₂ : Conjoin (from + 4) codes rows = subst (λ (x : ℕ). Conjoin (x + 4) codes rows) (sym e) p in
@@ -50,9 +48,9 @@ ahead-first table spans count rows fs out firsts a =
     }
 
 pub ahead-next : {table spans : List ℕ} {j k n count r : ℕ} {rows fs out now after firsts marks marked : List ℕ}
-    → ContextsAhead table spans k n count rows fs out now firsts marks → ContextPut table spans j n k now after marks marked r → j ≡ place_of k → k < count
+    → ContextsAhead table spans k n count rows fs out now firsts marks → Marked k n marks marked → ContextPut table spans j n now after r → j ≡ place_of k → k < count
     → length rows ≤ length out → length out ≤ 65535 → k < length firsts → ContextsAhead table spans (k + 1) r count rows fs out after firsts marked
-ahead-next {table} {spans} {j} {k} {n} {count} {r} {rows} {fs} {out} {now} {after} {firsts} {marks} {marked} x p e h l o q =
+ahead-next {table} {spans} {j} {k} {n} {count} {r} {rows} {fs} {out} {now} {after} {firsts} {marks} {marked} x z p e h l o q =
     go x.left x.more x.others x.rest x.whole x.firsts_whole x.sum
   where
     go : (m : ℕ) (more others : List ℕ) → RowsAt table spans k m n more others → rows ≡ x.front ++ more → fs ≡ x.before ++ others → count ≡ k + m
@@ -70,7 +68,7 @@ ahead-next {table} {spans} {j} {k} {n} {count} {r} {rows} {fs} {out} {now} {afte
         let d₂ : Stands table (span spans j + 4) (span spans (j + 1)) codes =
         subst (λ (i : ℕ). Stands table i (span spans (j + 1)) codes) fr (subst (λ (i : ℕ). Stands table from i codes) en d) in
         let y : Wrote n u now after r = p.right codes u c₂ d₂ (omega arith) in
-        let g : marked ≡ set marks k n = p.marks (omega arith) in
+        let g : marked ≡ set marks k n = z.marks (omega arith) in
         let lf = length-append x.front u in
         let lb : length (x.before ++ (n ∷ [])) ≡ length x.before + 1 = length-append x.before (n ∷ []) in
         let yb = y.behind in

@@ -2,15 +2,14 @@
 use mathlib.Core.Path.{◌≡◌, refl, sym, ap, ap₂, ◌∙◌}
 use mathlib.Core.Bool.{Bool, true, false, ◌&&◌, cond}
 use mathlib.Core.List.{List, [], ◌∷◌, ◌++◌}
-use Prim.Native.Nat.{ℕ, suc, ◌+◌, ◌-◌, ◌≤◌, ◌<◌, max}
+use Prim.Native.Nat.{ℕ, ◌+◌, ◌-◌, ◌≤◌, ◌<◌, max}
 use native.Mathlib.Nat.{max-zero, zero-max}
 use native.Mathlib.Omega.{arith}
 use lib.Dec.{leb, ltb}
-use lib.ListN.{length, take, drop, get_or, length-take}
-use lib.Seq.{drop-cons}
+use lib.ListN.{length, get_or}
 use borrow.Author.Tests.{eq-eqb, ne_eqb, le-leb, lt-leb, lt-ltb, le-ltb}
 use Rattle.search_groups.specs.Conjuncts.{last_in}
-use Rattle.search_groups.specs.GroupPromises.{slot_here, slots_at, piece, Noted, LastsOf, LastsAhead}
+use Rattle.search_groups.specs.GroupPromises.{slot_here, slots_at, Noted, LastsOf, LastsAhead}
 use Rattle.search_groups.specs.declared.conjuncts.Mentioned.{Mentioned}
 
 max_assoc : (a b c : ℕ) → max (max a b) c ≡ max a (max b c)
@@ -23,22 +22,15 @@ last-append base n (s ∷ x) y =
     let v : ℕ = cond (leb base s && ltb s (base + n)) (s - base + 1) 0 in
     ap (max v) (last-append base n x y) ∙ sym (max_assoc v (last_in base n x) (last_in base n y))
 
--- one number more, and four
-piece-cons : (t : List ℕ) (i j end : ℕ) → j ≡ suc i → i < end → end ≤ length t → piece t i end ≡ get_or t i 0 ∷ piece t j end
-piece-cons t i j end e h l =
-    let k : end - i ≡ suc (end - j) = omega arith in
-    ap₂ take k (drop-cons t i 0 (omega arith)) ∙ ap (λ (m : ℕ). get_or t i 0 ∷ take (end - j) (drop m t)) (sym e)
-
-piece-four : (t : List ℕ) (i end : ℕ) → i + 4 ≤ end → end ≤ length t
-    → piece t i end ≡ get_or t i 0 ∷ get_or t (i + 1) 0 ∷ get_or t (i + 2) 0 ∷ get_or t (i + 3) 0 ∷ piece t (i + 4) end
-piece-four t i end h l =
-    let a = get_or t i 0 in
-    let b = get_or t (i + 1) 0 in
-    let c = get_or t (i + 2) 0 in
-    piece-cons t i (i + 1) end (omega arith) (omega arith) l
-    ∙ ap (λ (x : List ℕ). a ∷ x) (piece-cons t (i + 1) (i + 2) end (omega arith) (omega arith) l)
-    ∙ ap (λ (x : List ℕ). a ∷ b ∷ x) (piece-cons t (i + 2) (i + 3) end (omega arith) (omega arith) l)
-    ∙ ap (λ (x : List ℕ). a ∷ b ∷ c ∷ x) (piece-cons t (i + 3) (i + 4) end (omega arith) (omega arith) l)
+-- a node, and what is behind it
+slots-cut : (n x : List ℕ) → length n ≡ 4 → slots_at (n ++ x) ≡ slot_here (get_or n 3 0) (get_or n 1 0) ++ slots_at x
+unfolding slots_at
+slots-cut [] x h = absurd (omega arith)
+slots-cut (b ∷ []) x h = absurd (omega arith)
+slots-cut (b ∷ a ∷ []) x h = absurd (omega arith)
+slots-cut (b ∷ a ∷ i ∷ []) x h = absurd (omega arith)
+slots-cut (b ∷ a ∷ i ∷ k ∷ []) x h = refl
+slots-cut (b ∷ a ∷ i ∷ k ∷ c ∷ n) x h = absurd (omega arith)
 
 -- less than a node has no slot
 few-slots : (x : List ℕ) → length x < 4 → slots_at x ≡ []
@@ -50,23 +42,19 @@ few-slots (b ∷ a ∷ i ∷ []) h = refl
 few-slots (b ∷ a ∷ i ∷ k ∷ x) h = absurd (omega arith)
 
 -- what a node adds; what has been found and what is still to come make the whole
-scan_step : (t : List ℕ) (i end base n best v w all : ℕ) → v ≡ last_in base n (slot_here (get_or t (i + 3) 0) (get_or t (i + 1) 0)) → w ≡ max best v
-    → max best (last_in base n (slots_at (piece t i end))) ≡ all → i + 4 ≤ end → end ≤ length t → max w (last_in base n (slots_at (piece t (i + 4) end))) ≡ all
-unfolding slots_at
-scan_step t i end base n best v w all e f g h l =
-    let rest : ℕ = last_in base n (slots_at (piece t (i + 4) end)) in
-    let u : last_in base n (slots_at (piece t i end)) ≡ max v rest =
-    ap (λ (x : List ℕ). last_in base n (slots_at x)) (piece-four t i end h l)
-    ∙ last-append base n (slot_here (get_or t (i + 3) 0) (get_or t (i + 1) 0)) (slots_at (piece t (i + 4) end))
-    ∙ ap (λ (x : ℕ). max x rest) (sym e) in
-    ap (λ (x : ℕ). max x rest) f ∙ max_assoc best v rest ∙ ap (max best) (sym u) ∙ g
+scan_step : (node rest x : List ℕ) (base n best v w all : ℕ) → x ≡ node ++ rest → length node ≡ 4 → v ≡ last_in base n (slot_here (get_or node 3 0) (get_or node 1 0)) → w ≡ max best v
+    → max best (last_in base n (slots_at x)) ≡ all → max w (last_in base n (slots_at rest)) ≡ all
+scan_step node rest x base n best v w all c m e f g =
+    let r : ℕ = last_in base n (slots_at rest) in
+    let u : last_in base n (slots_at x) ≡ max v r =
+    ap (λ (x : List ℕ). last_in base n x) (ap slots_at c ∙ slots-cut node rest m)
+    ∙ last-append base n (slot_here (get_or node 3 0) (get_or node 1 0)) (slots_at rest)
+    ∙ ap (λ (x : ℕ). max x r) (sym e) in
+    ap (λ (x : ℕ). max x r) f ∙ max_assoc best v r ∙ ap (max best) (sym u) ∙ g
 
-scan-done : (t : List ℕ) (i end base n best all : ℕ) → max best (last_in base n (slots_at (piece t i end))) ≡ all → end < i + 4 → end ≤ length t → best ≡ all
+scan-done : (x : List ℕ) (base n best all : ℕ) → max best (last_in base n (slots_at x)) ≡ all → length x < 4 → best ≡ all
 unfolding last_in
-scan-done t i end base n best all g h l =
-    let p : length (piece t i end) ≤ end - i = omega (arith, length-take (end - i) (drop i t)) in
-    let u : slots_at (piece t i end) ≡ [] = few-slots (piece t i end) (omega arith) in
-    sym (max-zero best) ∙ ap (λ (x : List ℕ). max best (last_in base n x)) (sym u) ∙ g
+scan-done x base n best all g h = sym (max-zero best) ∙ ap (λ (x : List ℕ). max best (last_in base n x)) (sym (few-slots x h)) ∙ g
 
 -- the place of a slot in its group, from 1; 0 where it is in another one
 no_slot : (k a base n : ℕ) → (k ≡ 2 → ⊥) → 0 ≡ last_in base n (slot_here k a)
@@ -109,17 +97,16 @@ noted-none k a l h =
     one : (base n v : ℕ) → v ≡ max v (last_in base n (slot_here k a))
     one base n v = sym (max-zero v) ∙ ap (max v) (no_slot k a base n h)
 
-pub lasts-start : (t : List ℕ) (i from end : ℕ) → i ≡ from
-    → LastsAhead (slots_at (piece t i end)) (slots_at (piece t from end)) (record { abstracts = 0; concretes = 0; inputs = 0; outputs = 0; cprimed = 0; aprimed = 0 })
-lasts-start t i from end e =
+pub lasts-start : (x y : List ℕ) → x ≡ y → LastsAhead (slots_at x) (slots_at y) (record { abstracts = 0; concretes = 0; inputs = 0; outputs = 0; cprimed = 0; aprimed = 0 })
+lasts-start x y e =
     record { abstracts = one 0 8; concretes = one 8 8; inputs = one 16 3; outputs = one 19 3; cprimed = one 22 8; aprimed = one 30 8 }
   where
-    one : (base n : ℕ) → max 0 (last_in base n (slots_at (piece t i end))) ≡ last_in base n (slots_at (piece t from end))
-    one base n = zero-max _ ∙ ap (λ (j : ℕ). last_in base n (slots_at (piece t j end))) e
+    one : (base n : ℕ) → max 0 (last_in base n (slots_at x)) ≡ last_in base n (slots_at y)
+    one base n = zero-max _ ∙ ap (λ (z : List ℕ). last_in base n (slots_at z)) e
 
-pub lasts-step : (t : List ℕ) (i j end : ℕ) (whole : List ℕ) (l r : Mentioned) → Noted (get_or t (i + 3) 0) (get_or t (i + 1) 0) l r
-    → LastsAhead (slots_at (piece t i end)) whole l → j ≡ i + 4 → i + 4 ≤ end → end ≤ length t → LastsAhead (slots_at (piece t j end)) whole r
-lasts-step t i j end whole l r m g q h k =
+pub lasts-step : (node rest x whole : List ℕ) (l r : Mentioned) → x ≡ node ++ rest → length node ≡ 4 → Noted (get_or node 3 0) (get_or node 1 0) l r
+    → LastsAhead (slots_at x) whole l → LastsAhead (slots_at rest) whole r
+lasts-step node rest x whole l r c h m g =
     record {
       abstracts = one 0 8 l.abstracts r.abstracts m.abstracts g.abstracts;
       concretes = one 8 8 l.concretes r.concretes m.concretes g.concretes;
@@ -129,12 +116,12 @@ lasts-step t i j end whole l r m g q h k =
       aprimed = one 30 8 l.aprimed r.aprimed m.aprimed g.aprimed;
     }
   where
-    one : (base n v w : ℕ) → w ≡ max v (last_in base n (slot_here (get_or t (i + 3) 0) (get_or t (i + 1) 0)))
-        → max v (last_in base n (slots_at (piece t i end))) ≡ last_in base n whole → max w (last_in base n (slots_at (piece t j end))) ≡ last_in base n whole
-    one base n v w e f = ap (λ (x : ℕ). max w (last_in base n (slots_at (piece t x end)))) q ∙ scan_step t i end base n v _ w _ refl e f h k
+    one : (base n v w : ℕ) → w ≡ max v (last_in base n (slot_here (get_or node 3 0) (get_or node 1 0)))
+        → max v (last_in base n (slots_at x)) ≡ last_in base n whole → max w (last_in base n (slots_at rest)) ≡ last_in base n whole
+    one base n v w e f = scan_step node rest x base n v _ w _ c h refl e f
 
-pub lasts-done : (t : List ℕ) (i end : ℕ) (whole : List ℕ) (l : Mentioned) → LastsAhead (slots_at (piece t i end)) whole l → end < i + 4 → end ≤ length t → LastsOf whole l
-lasts-done t i end whole l g h k =
+pub lasts-done : (x whole : List ℕ) (l : Mentioned) → LastsAhead (slots_at x) whole l → length x < 4 → LastsOf whole l
+lasts-done x whole l g h =
     record {
       abstracts = one 0 8 l.abstracts g.abstracts;
       concretes = one 8 8 l.concretes g.concretes;
@@ -144,5 +131,5 @@ lasts-done t i end whole l g h k =
       aprimed = one 30 8 l.aprimed g.aprimed;
     }
   where
-    one : (base n v : ℕ) → max v (last_in base n (slots_at (piece t i end))) ≡ last_in base n whole → v ≡ last_in base n whole
-    one base n v e = scan-done t i end base n v _ e h k
+    one : (base n v : ℕ) → max v (last_in base n (slots_at x)) ≡ last_in base n whole → v ≡ last_in base n whole
+    one base n v e = scan-done x base n v _ e h

@@ -1,10 +1,10 @@
 -- Places are picked, counted and written one behind the other: what the functions that list the groups count on.
-use mathlib.Core.Path.{◌≡◌, refl, sym, ap, ◌∙◌, subst}
+use mathlib.Core.Path.{◌≡◌, refl, sym, ap, ap₂, ◌∙◌, subst}
 use mathlib.Core.List.{List, [], ◌∷◌, ◌++◌, append_assoc, append-nil}
 use Prim.Native.Nat.{ℕ, suc, ◌+◌, ◌-◌, ◌%◌, ◌≤◌, ◌<◌}
 use native.Mathlib.Omega.{arith}
-use lib.ListN.{length, take, drop, get_or, set, replicate, length-set, length-append, length-replicate, take-append-drop}
-use lib.Seq.{set_split}
+use lib.ListN.{length, take, drop, get_or, set, replicate, length-set, length-append, length-drop, length-replicate, take-append-drop, drop_of_length-le}
+use lib.Seq.{set_split, drop-drop, length-take-le}
 use Rattle.node_spans.specs.Spans.{Stands, span}
 use Rattle.table_nodes.specs.TableWalkPromises.{patch}
 use Rattle.table_places.specs.DossierTable.{row}
@@ -29,7 +29,7 @@ patch-more n m v x out e h =
     patch-set m v (patch n x out) (omega arith) ∙ patch-behind n m x (v ∷ []) out e (omega arith)
 
 -- behind c picked ones: all come of those written and of those still to be read
-pub record Left (nodes : List ℕ) (to e at n : ℕ) (qs out after : List ℕ) (c : ℕ) : Type 0 where
+pub record Left (nodes : List ℕ) (to e at : ℕ) (qs out after : List ℕ) (c : ℕ) : Type 0 where
   pub codes : List ℕ
   pub more : List ℕ
   pub front : List ℕ
@@ -37,19 +37,19 @@ pub record Left (nodes : List ℕ) (to e at n : ℕ) (qs out after : List ℕ) (
   pub picks : Picks e at codes more
   pub whole : qs ≡ front ++ more
   pub count : c ≡ length front
-  pub written : after ≡ patch n front out
+  pub written : after ≡ patch 0 front out
 
-pub left-first : (nodes : List ℕ) (to e from at n : ℕ) (codes qs out : List ℕ) → at ≡ from → Stands nodes from to codes → Picks e from codes qs → Left nodes to e at n qs out out 0
-left-first nodes to e from at n codes qs out a s p =
-    subst (λ (i : ℕ). Left nodes to e i n qs out out 0) (sym a)
-    (record { codes = codes; more = qs; front = []; stand = s; picks = p; whole = refl; count = refl; written = sym (patch-none n out) })
+pub left-first : (nodes : List ℕ) (to e from at : ℕ) (codes qs out : List ℕ) → at ≡ from → Stands nodes from to codes → Picks e from codes qs → Left nodes to e at qs out out 0
+left-first nodes to e from at codes qs out a s p =
+    subst (λ (i : ℕ). Left nodes to e i qs out out 0) (sym a)
+    (record { codes = codes; more = qs; front = []; stand = s; picks = p; whole = refl; count = refl; written = sym (patch-none 0 out) })
 
-pub left-next : {nodes : List ℕ} {to e at next n c r width : ℕ} {qs out now after : List ℕ} → Left nodes to e at n qs out now c → Picked nodes at e width c n now after r
-    → next ≡ at + 8 → at + 8 ≤ to → length qs ≤ width → n + width ≤ length out → Left nodes to e next n qs out after r
-left-next {nodes} {to} {e} {at} {next} {n} {c} {r} {width} {qs} {out} {now} {after} x p f h l m =
-    subst (λ (i : ℕ). Left nodes to e i n qs out after r) (sym f) (go x.codes x.more x.stand x.whole x.picks)
+pub left-next : {nodes : List ℕ} {to e at next c r : ℕ} {qs out now after : List ℕ} → Left nodes to e at qs out now c → Picked nodes at e c now after r
+    → next ≡ at + 8 → at + 8 ≤ to → length qs ≤ length out → length now ≡ length out → Left nodes to e next qs out after r
+left-next {nodes} {to} {e} {at} {next} {c} {r} {qs} {out} {now} {after} x p f h l m =
+    subst (λ (i : ℕ). Left nodes to e i qs out after r) (sym f) (go x.codes x.more x.stand x.whole x.picks)
   where
-    go : (codes more : List ℕ) → Stands nodes at to codes → qs ≡ x.front ++ more → Picks e at codes more → Left nodes to e (at + 8) n qs out after r
+    go : (codes more : List ℕ) → Stands nodes at to codes → qs ≡ x.front ++ more → Picks e at codes more → Left nodes to e (at + 8) qs out after r
     go _ _ s w no_pick = absurd (let z = stands-length s in omega arith)
     go _ _ s w (pick {k = k} {i = i} {a = a} {b = b} {l = l₁} {j = j} {c = c₁} {d = d} {rest = rest} {qs = more} g q) =
         let z : List ℕ = b ∷ a ∷ i ∷ k ∷ d ∷ c₁ ∷ j ∷ l₁ ∷ [] in
@@ -67,7 +67,7 @@ left-next {nodes} {to} {e} {at} {next} {n} {c} {r} {width} {qs} {out} {now} {aft
           picks = q;
           whole = w ∙ sym (append_assoc x.front (at ∷ []) more);
           count = omega arith;
-          written = f.0 ∙ ap (λ (y : List ℕ). set y (n + c) at) x.written ∙ patch-more n (n + c) at x.front out (omega arith) (omega arith);
+          written = f.0 ∙ ap (λ (y : List ℕ). set y c at) x.written ∙ patch-more 0 c at x.front out (omega arith) (omega arith);
         }
     go _ _ s w (pass {k = k} {i = i} {a = a} {b = b} {l = l₁} {j = j} {c = c₁} {d = d} {rest = rest} {qs = more} g q) =
         let z : List ℕ = b ∷ a ∷ i ∷ k ∷ d ∷ c₁ ∷ j ∷ l₁ ∷ [] in
@@ -84,54 +84,91 @@ left-next {nodes} {to} {e} {at} {next} {n} {c} {r} {width} {qs} {out} {now} {aft
           written = f.0 ∙ x.written;
         }
 
-pub left-done : {nodes : List ℕ} {to e at n c : ℕ} {qs out after : List ℕ} → Left nodes to e at n qs out after c → to < at + 8 → Chosen n qs out after c
-left-done {nodes} {to} {e} {at} {n} {c} {qs} {out} {after} x h = go x.codes x.more x.stand x.whole x.picks
+pub left-done : {nodes : List ℕ} {to e at c : ℕ} {qs out after : List ℕ} → Left nodes to e at qs out after c → to < at + 8 → Chosen qs out after c
+left-done {nodes} {to} {e} {at} {c} {qs} {out} {after} x h = go x.codes x.more x.stand x.whole x.picks
   where
-    go : (codes more : List ℕ) → Stands nodes at to codes → qs ≡ x.front ++ more → Picks e at codes more → Chosen n qs out after c
+    go : (codes more : List ℕ) → Stands nodes at to codes → qs ≡ x.front ++ more → Picks e at codes more → Chosen qs out after c
     go _ _ s w no_pick =
         let u : x.front ≡ qs = sym (w ∙ append-nil x.front) in
-        record { written = x.written ∙ ap (λ (y : List ℕ). patch n y out) u; count = x.count ∙ ap length u }
+        record { written = x.written ∙ ap (λ (y : List ℕ). patch 0 y out) u; count = x.count ∙ ap length u }
     go _ _ s w (pick g q) = absurd (let z = stands-length s in omega arith)
     go _ _ s w (pass g q) = absurd (let z = stands-length s in omega arith)
 
--- a whole row
-pub group-put : {nodes : List ℕ} {from to e width n c : ℕ} {out mid now : List ℕ} → PickedAll nodes from to e width (n + 1) out mid c
-    → now ≡ patch (n + 1 + c) (replicate (n + 1 + width - (n + 1 + c)) 0) mid → n + 1 + width ≤ length out → GroupPut nodes from to e width n out (set now n c)
+-- what a front is exchanged for is written from 0 on
+pub front-written : (k : ℕ) (t out : List ℕ) → length t ≡ k → t ++ drop k out ≡ patch 0 t out
+unfolding patch
+front-written k t out e = let h : k ≡ 0 + length t = omega arith in ap (λ (j : ℕ). t ++ drop j out) h
+
+-- all of a list is written; its front is written in the part behind a place
+pub patch-whole : (piece out : List ℕ) → length piece ≡ length out → patch 0 piece out ≡ piece
+unfolding patch
+patch-whole piece out e = let h : length out ≤ 0 + length piece = omega arith in ap (λ (l : List ℕ). piece ++ l) (drop_of_length-le out h) ∙ append-nil piece
+
+pub patch-part : (a : ℕ) (t out : List ℕ) → a + length t ≤ length out → patch a (patch 0 t (drop a out)) out ≡ patch a t out
+unfolding patch
+patch-part a t out h =
+    let tail : List ℕ = drop (0 + length t) (drop a out) in
+    let l = length-append t tail in
+    let m = length-drop (0 + length t) (drop a out) in
+    let n = length-drop a out in
+    let k : length out ≤ a + length (t ++ tail) = omega arith in
+    let z : 0 + length t ≡ length t = omega arith in
+    ap (λ (l : List ℕ). take a out ++ ((t ++ tail) ++ l)) (drop_of_length-le out k)
+    ∙ ap (λ (l : List ℕ). take a out ++ l) (append-nil (t ++ tail) ∙ ap (λ (l : List ℕ). t ++ l) (ap (λ (j : ℕ). drop j (drop a out)) z ∙ drop-drop (length t) a out))
+
+-- a whole row: the places behind its first number, zeros behind them, and then that number
+pub group-put : {nodes : List ℕ} {from to e c m : ℕ} {out part mid now : List ℕ} → PickedAll nodes from to e part mid c → part ≡ drop 1 out
+    → now ≡ patch (1 + c) (replicate m 0) (patch 1 mid out) → m ≡ length out - (1 + c) → 1 ≤ length out → GroupPut nodes from to e out (set now 0 c)
 unfolding row
-group-put {nodes} {from} {to} {e} {width} {n} {c} {out} {mid} {now} p z h =
+group-put {nodes} {from} {to} {e} {c} {m} {out} {part} {mid} {now} p q z h f =
+    let b : length part ≡ length out - 1 = ap length q ∙ length-drop 1 out in
     let l = p.long in
-    let f = p.few in
-    let m : ℕ = n + 1 + width - (n + 1 + c) in
+    let g = p.few in
     let k = length-replicate {A = ℕ} m 0 in
-    let d = patch-length (n + 1 + c) (replicate m 0) mid (omega arith) in
+    let d = patch-length 1 mid out (omega arith) in
+    let n = patch-length (1 + c) (replicate m 0) (patch 1 mid out) (omega arith) in
     record {
-      long = length-set now n c ∙ ap length z ∙ d ∙ l;
+      long = length-set now 0 c ∙ ap length z ∙ n ∙ d;
       right =
-          λ codes qs s q g.
-          let w : Chosen (n + 1) qs out mid c = p.right codes qs s q g in
+          λ width codes qs o s r g.
+          let w : Chosen qs part mid c = p.right codes qs s r (omega arith) in
           let v = w.count in
           let j : m ≡ width - length qs = omega arith in
-          let o : now ≡ patch (n + 1) (qs ++ replicate (width - length qs) 0) out =
-          z ∙ ap (patch (n + 1 + c) (replicate m 0)) w.written ∙ patch-behind (n + 1) (n + 1 + c) qs (replicate m 0) out (omega arith) (omega arith)
-          ∙ ap (λ (i : ℕ). patch (n + 1) (qs ++ replicate i 0) out) j in
+          let x : List ℕ = qs ++ replicate (width - length qs) 0 in
           let a = length-append qs (replicate (width - length qs) 0) in
           let b = length-replicate {A = ℕ} (width - length qs) 0 in
-          let x : List ℕ = qs ++ replicate (width - length qs) 0 in
-          let y = patch-length (n + 1) x out (omega arith) in
-          ap (λ (y : List ℕ). set y n c) o ∙ patch-set n c (patch (n + 1) x out) (omega arith) ∙ patch-before n (n + 1) (c ∷ []) x out refl (omega arith)
-          ∙ ap (λ (i : ℕ). patch n (i ∷ x) out) v;
+          let y = patch-length 1 x out (omega arith) in
+          let u : patch 1 mid out ≡ patch 1 qs out = ap (λ (l : List ℕ). patch 1 l out) (w.written ∙ ap (λ (l : List ℕ). patch 0 qs l) q) ∙ patch-part 1 qs out (omega arith) in
+          let i : now ≡ patch 1 x out =
+          z ∙ ap (patch (1 + c) (replicate m 0)) u ∙ patch-behind 1 (1 + c) qs (replicate m 0) out (omega arith) (omega arith)
+          ∙ ap (λ (i : ℕ). patch 1 (qs ++ replicate i 0) out) j in
+          ap (λ (y : List ℕ). set y 0 c) i ∙ patch-set 0 c (patch 1 x out) (omega arith) ∙ patch-before 0 1 (c ∷ []) x out refl (omega arith)
+          ∙ ap (λ (i : ℕ). patch 0 (i ∷ x) out) v
+          ∙ patch-whole (length qs ∷ x) out (omega arith);
     }
 
-pub operation-put : {nodes spans : List ℕ} {j n from to : ℕ} {out mid after : List ℕ} → from ≡ span spans j → to ≡ span spans (j + 1)
-    → GroupPut nodes from to 2 3 n out mid → GroupPut nodes from to 3 3 (n + 4) mid after → n + 8 ≤ length out → OperationPut nodes spans j n out after
-operation-put {nodes} {spans} {j} {n} {from} {to} {out} {mid} {after} e f p q h =
+pub operation-put : {nodes spans : List ℕ} {j from to : ℕ} {out one two part mid after : List ℕ} → from ≡ span spans j → to ≡ span spans (j + 1)
+    → GroupPut nodes from to 2 (take 4 out) one → mid ≡ patch 0 one out → GroupPut nodes from to 3 part two → part ≡ drop 4 mid → after ≡ patch 4 two mid → length out ≡ 8
+    → OperationPut nodes spans j out after
+operation-put {nodes} {spans} {j} {from} {to} {out} {one} {two} {part} {mid} {after} e f p m q r t h =
+    let t4 = length-take-le 4 out (omega arith) in
+    let o = p.long in
+    let c = patch-length 0 one out (omega arith) in
+    let i : length mid ≡ 8 = ap length m ∙ c ∙ h in
+    let d4 : length part ≡ length mid - 4 = ap length r ∙ length-drop 4 mid in
+    let w = q.long in
+    let g = patch-length 4 two mid (omega arith) in
     record {
-      long = q.long ∙ p.long;
+      long = ap length t ∙ g ∙ i ∙ sym h;
       right =
-          λ codes ins outs s x y g k.
+          λ codes ins outs s x y k l.
           let u : Stands nodes from to codes = subst (λ (i : ℕ). Stands nodes i to codes) (sym e) (subst (λ (i : ℕ). Stands nodes (span spans j) i codes) (sym f) s) in
-          let a = p.right codes ins u (subst (λ (i : ℕ). Picks 2 i codes ins) (sym e) x) g in
-          let b = q.right codes outs u (subst (λ (i : ℕ). Picks 3 i codes outs) (sym e) y) k in
-          let l = row-length 3 ins g in
-          b ∙ ap (patch (n + 4) (row 3 outs)) a ∙ patch-behind n (n + 4) (row 3 ins) (row 3 outs) out (omega arith) (omega arith);
+          let a = p.right 3 codes ins (omega arith) u (subst (λ (i : ℕ). Picks 2 i codes ins) (sym e) x) k in
+          let b = q.right 3 codes outs (omega arith) u (subst (λ (i : ℕ). Picks 3 i codes outs) (sym e) y) l in
+          let v = row-length 3 ins k in
+          let z = row-length 3 outs l in
+          let n = length-append (row 3 ins) (row 3 outs) in
+          t ∙ ap₂ (λ (w v : List ℕ). patch 4 w v) b (m ∙ ap (λ (l : List ℕ). patch 0 l out) a)
+          ∙ patch-behind 0 4 (row 3 ins) (row 3 outs) out (omega arith) (omega arith)
+          ∙ patch-whole (row 3 ins ++ row 3 outs) out (omega arith);
     }

@@ -10,7 +10,7 @@ use lib.ListN.{length, set, length-set}
 use lib.Seq.{get_or-set_same, get_or-set_other}
 use borrow.Author.Tests.{ltb-true, lt-ltb, le-ltb}
 use Rattle.lexical.specs.Lists.{same, any, find}
-use Rattle.lexical.specs.Refusals.{fault, name_unknown}
+use Rattle.refusals.specs.Refusals.{fault, name_unknown}
 use Rattle.lexical.specs.Symbols.{Name, Ending, no_ending, prime, query, shriek}
 use Rattle.lexical.proofs.WordLaws.{same_refl, same_true}
 use Rattle.form.specs.Tree.{Letters, Given, elements, name}

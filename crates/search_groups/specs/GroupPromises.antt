@@ -77,31 +77,32 @@ pub data Picks (e : ℕ) : (q : ℕ) → (codes qs : List ℕ) → Type 0 where
   pass : {q k i a b l j c d : ℕ} {rest qs : List ℕ} → (a % 4 ≡ e → ⊥) → Picks e (q + 8) rest qs → Picks e q (b ∷ a ∷ i ∷ k ∷ d ∷ c ∷ j ∷ l ∷ rest) qs
 
 -- one declaration, at a place, behind c that were picked
-pub record Picked (nodes : List ℕ) (at e width c n : ℕ) (out after : List ℕ) (r : ℕ) : Type 0 where
-  pub few : r ≤ width
+pub record Picked (nodes : List ℕ) (at e c : ℕ) (out after : List ℕ) (r : ℕ) : Type 0 where
+  pub few : r ≤ length out
   pub long : length after ≡ length out
-  pub here : get_or nodes (at + 1) 0 % 4 ≡ e → c < width → (after ≡ set out (n + c) at) × (r ≡ c + 1)
+  pub here : get_or nodes (at + 1) 0 % 4 ≡ e → c < length out → (after ≡ set out c at) × (r ≡ c + 1)
   pub past : (get_or nodes (at + 1) 0 % 4 ≡ e → ⊥) → (after ≡ out) × (r ≡ c)
 
--- the places qs from n on, and how many they are
-pub record Chosen (n : ℕ) (qs out after : List ℕ) (r : ℕ) : Type 0 where
-  pub written : after ≡ patch n qs out
+-- the places qs in front, and how many they are
+pub record Chosen (qs out after : List ℕ) (r : ℕ) : Type 0 where
+  pub written : after ≡ patch 0 qs out
   pub count : r ≡ length qs
 
-pub record PickedAll (nodes : List ℕ) (from to e width n : ℕ) (out after : List ℕ) (r : ℕ) : Type 0 where
-  pub few : r ≤ width
+pub record PickedAll (nodes : List ℕ) (from to e : ℕ) (out after : List ℕ) (r : ℕ) : Type 0 where
+  pub few : r ≤ length out
   pub long : length after ≡ length out
-  pub right : (codes qs : List ℕ) → Stands nodes from to codes → Picks e from codes qs → length qs ≤ width → Chosen n qs out after r
+  pub right : (codes qs : List ℕ) → Stands nodes from to codes → Picks e from codes qs → length qs ≤ length out → Chosen qs out after r
 
-pub record GroupPut (nodes : List ℕ) (from to e width n : ℕ) (out after : List ℕ) : Type 0 where
+-- a row of as many places as it has numbers, but one
+pub record GroupPut (nodes : List ℕ) (from to e : ℕ) (out after : List ℕ) : Type 0 where
   pub long : length after ≡ length out
-  pub right : (codes qs : List ℕ) → Stands nodes from to codes → Picks e from codes qs → length qs ≤ width → after ≡ patch n (row width qs) out
+  pub right : (width : ℕ) (codes qs : List ℕ) → length out ≡ width + 1 → Stands nodes from to codes → Picks e from codes qs → length qs ≤ width → after ≡ row width qs
 
 -- the inputs and the outputs of the operation whose numbers stand from j on in the spans
-pub record OperationPut (nodes spans : List ℕ) (j n : ℕ) (out after : List ℕ) : Type 0 where
+pub record OperationPut (nodes spans : List ℕ) (j : ℕ) (out after : List ℕ) : Type 0 where
   pub long : length after ≡ length out
   pub right : (codes ins outs : List ℕ) → Stands nodes (span spans j) (span spans (j + 1)) codes → Picks 2 (span spans j) codes ins → Picks 3 (span spans j) codes outs
-      → length ins ≤ 3 → length outs ≤ 3 → after ≡ patch n (row 3 ins ++ row 3 outs) out
+      → length ins ≤ 3 → length outs ≤ 3 → after ≡ row 3 ins ++ row 3 outs
 
 -- at most three inputs and three outputs; at most 8 variables in a state, and 16 operations
 pub record FewParameters (o : Operation) : Type 0 where
@@ -159,10 +160,8 @@ pub record Marked (k n : ℕ) (firsts marked : List ℕ) : Type 0 where
   pub long : length marked ≡ length firsts
   pub marks : n ≤ 65535 → marked ≡ set firsts k n
 
-pub record ContextPut (table spans : List ℕ) (j n k : ℕ) (out after firsts marked : List ℕ) (r : ℕ) : Type 0 where
+pub record ContextPut (table spans : List ℕ) (j n : ℕ) (out after : List ℕ) (r : ℕ) : Type 0 where
   pub long : length after ≡ length out
-  pub firsts_long : length marked ≡ length firsts
-  pub marks : n ≤ 65535 → marked ≡ set firsts k n
   pub right : (codes rows : List ℕ) → Conjoin (span spans j + 4) codes rows → Stands table (span spans j + 4) (span spans (j + 1)) codes → n + length rows ≤ length out
       → Wrote n rows out after r
 

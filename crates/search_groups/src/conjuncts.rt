@@ -1,10 +1,10 @@
 // The conjuncts of each predicate, read off the table: where each one's nodes are, and the last variable of every group that it mentions.
 ghost use Rattle.std.specs.Prelude.{◌≡◌, ◌+◌, ◌≤◌, ◌<◌, length};
-ghost use Rattle.table_nodes.specs.TableWalkPromises.{patch};
 ghost use Rattle.search_groups.specs.Conjuncts.{last_in, conjunct_row};
 ghost use Rattle.search_groups.specs.GroupPromises.{slot_here, slots_at, piece, Noted, LastsOf, Middle, RowPut, Conjoined, Marked};
 ghost use Rattle.search_groups.specs.GroupPromises.{Place, ContextPut, ListPut, Listed};
 
+use crate::Parts;
 use form::node;
 use lexical::{bounds, codes};
 use node_spans::{LARGEST, span};
@@ -12,6 +12,7 @@ use table_nodes::{slots, table_shapes};
 use type_rules::kinds::index;
 
 // How many variables a state has at most; inputs and outputs an operation.
+// Form 1: limits of document 01, which are bytes, beside the table's numbers of 16 bits.
 const VARIABLES: u16 = bounds::VARIABLES as u16;
 
 const INPUTS: u16 = bounds::INPUTS as u16;
@@ -19,6 +20,7 @@ const INPUTS: u16 = bounds::INPUTS as u16;
 const OUTPUTS: u16 = bounds::OUTPUTS as u16;
 
 // The row of a conjunct: where its nodes begin and end, and the last variable of each group.
+// Form 1: a length, and places in a node, no kinds.
 pub const ROW: usize = 8;
 
 // How far before its end a node's numbers stand; the code of `and`.
@@ -40,8 +42,8 @@ const PARAMETERS_LAST: usize = span::OPERATIONS + span::LAST;
 // A number for each predicate and one behind them, with room to spare.
 pub const FIRSTS: usize = 40;
 
-// The place in the group of n slots from `base` on of the slot that a node has, from 1; 0 where it has none of them.
-// A number and no Option: rows have it so, and `max` with 0 leaves what was found before.
+// The place, counted from 1, that the slot of a node has in the group of n slots from `base` on.
+// Form 1: a node with none of them has 0, as the rows do, and `max` then leaves what was found before.
 fn rank(k: u16, a: u16, base: u16, n: u16) -> u16
     requires { base + n ≤ 64 }
     ensures { result ≡ last_in base n (slot_here k a) }
@@ -58,7 +60,8 @@ fn rank(k: u16, a: u16, base: u16, n: u16) -> u16
     a - base + 1
 }
 
-// The last variable of each group that some nodes mention, counted from 1; 0 for none. The last two are those of primed concrete and abstract variables.
+// The last variable of each group that some nodes mention, counted from 1. The last two are those of primed concrete and abstract variables.
+// Form 1: numbers of a row, which the caller lends, and 0 says none; six Options would be turned back into them.
 #[derive(Clone, Copy)]
 struct Mentioned {
     abstracts: u16,
@@ -99,20 +102,19 @@ fn lasts(table: &[u16], from: usize, end: usize) -> Mentioned
         cprimed: 0,
         aprimed: 0,
     };
-    for k in 0..(end - from) / node::SIZE {
-        let at = from + node::SIZE * k;
-        best = noted(best, table[at + node::SHAPE], table[at + node::A]);
+    for n in table[from..end].chunks_exact(node::SIZE) {
+        best = noted(best, n[node::SHAPE], n[node::A]);
     }
     best
 }
 
 // The row of one conjunct.
-fn write(table: &[u16], from: usize, end: usize, out: &mut [u16], n: usize)
-    requires { (from ≤ end) × (end ≤ length table.now) × (end ≤ 65535) × (n + 8 ≤ length out.old) × (length out.old ≤ 65535) }
-    ensures { out.new ≡ patch n (conjunct_row from end (slots_at (piece table.now from end))) out.old }
+fn write(table: &[u16], from: usize, end: usize, row: &mut [u16])
+    requires { (from ≤ end) × (end ≤ length table.now) × (end ≤ 65535) × (length row.old ≡ 8) }
+    ensures { row.new ≡ conjunct_row from end (slots_at (piece table.now from end)) }
 {
     let l = lasts(table, from, end);
-    out[n..n + ROW].copy_from_slice(&[
+    row.copy_from_slice(&[
         from as u16,
         end as u16,
         l.abstracts,
@@ -122,32 +124,6 @@ fn write(table: &[u16], from: usize, end: usize, out: &mut [u16], n: usize)
         l.cprimed,
         l.aprimed,
     ]);
-}
-
-// The same where there is room for it: the place behind it.
-fn row(table: &[u16], from: usize, end: usize, out: &mut [u16], n: usize) -> usize
-    ensures { RowPut table.now from end n out.old out.new result }
-{
-    if end < from {
-        return n;
-    }
-    if table.len() < end {
-        return n;
-    }
-    if LARGEST < end {
-        return n;
-    }
-    if LARGEST < out.len() {
-        return n;
-    }
-    if out.len() < ROW {
-        return n;
-    }
-    if out.len() - ROW < n {
-        return n;
-    }
-    write(table, from, end, out, n);
-    n + ROW
 }
 
 // Where the left part of an `and` ends; none where the last node is no `and`.
@@ -176,15 +152,53 @@ fn middle(table: &[u16], from: usize, end: usize) -> Option<usize>
     Some(m)
 }
 
-// The rows of the conjuncts of the predicate whose nodes stand between two places, from n on: the place behind them.
-fn conjoin(table: &[u16], from: usize, end: usize, out: &mut [u16], n: usize) -> usize
-    ensures { Conjoined table.now from end n out.old out.new result }
-{
-    if let Some(m) = middle(table, from, end) {
-        let k = conjoin(table, from, m, out, n);
-        return conjoin(table, m, end - node::SIZE, out, k);
+// Rows in the lent array, and the place behind them.
+#[derive(Drop)]
+struct Rows<'a> {
+    out: &'a mut [u16],
+    at: usize,
+}
+
+impl<'a> Rows<'a> {
+    // The row of one conjunct, where there is room for it.
+    fn add(&mut self, table: &[u16], from: usize, end: usize)
+        ensures same_rows { self.new.out.ghost_name ≡ self.old.out.ghost_name }
+        ensures put { RowPut table.now from end self.old.at self.old.out.now self.new.out.now self.new.at }
+    {
+        if end < from {
+            return;
+        }
+        if table.len() < end {
+            return;
+        }
+        if LARGEST < end {
+            return;
+        }
+        if LARGEST < self.out.len() {
+            return;
+        }
+        if self.out.len() < ROW {
+            return;
+        }
+        if self.out.len() - ROW < self.at {
+            return;
+        }
+        write(table, from, end, &mut self.out[self.at..self.at + ROW]);
+        self.at += ROW;
     }
-    row(table, from, end, out, n)
+
+    // The rows of the conjuncts of the predicate whose nodes stand between two places.
+    fn conjoin(&mut self, table: &[u16], from: usize, end: usize)
+        ensures same_rows { self.new.out.ghost_name ≡ self.old.out.ghost_name }
+        ensures put { Conjoined table.now from end self.old.at self.old.out.now self.new.out.now self.new.at }
+    {
+        if let Some(m) = middle(table, from, end) {
+            self.conjoin(table, from, m);
+            self.conjoin(table, m, end - node::SIZE);
+            return;
+        }
+        self.add(table, from, end);
+    }
 }
 
 // Which one of the spans the k-th context's predicate begins at.
@@ -209,54 +223,36 @@ fn mark(firsts: &mut [u16], k: usize, n: usize)
     firsts[k] = u16::try_from(n).unwrap_or(0);
 }
 
-// One context: how many numbers stand before its rows, and then these.
-fn context(
-    table: &[u16],
-    spans: &[u16; span::COUNT],
-    j: usize,
-    out: &mut [u16; node::NUMBERS],
-    n: usize,
-    firsts: &mut [u16; FIRSTS],
-    k: usize,
-) -> usize
-    requires { (j + 2 ≤ 80) × (k < 40) }
-    ensures { ContextPut table.now spans.now j n k out.old out.new firsts.old firsts.new result }
+// The rows of one context.
+fn context(p: &Parts<'_>, j: usize, rows: &mut Rows<'_>)
+    requires { (j + 2 ≤ 80) × (length rows.old.out.now ≤ 65535) }
+    ensures same_rows { rows.new.out.ghost_name ≡ rows.old.out.ghost_name }
+    ensures put { ContextPut p.now.nodes.now p.now.spans.now j rows.old.at rows.old.out.now rows.new.out.now rows.new.at }
 {
-    mark(firsts, k, n);
-    let from = index(spans[j]);
-    let end = index(spans[j + 1]);
-    conjoin(table, from + node::SIZE, end, out, n)
+    let from = index(p.spans[j]);
+    let end = index(p.spans[j + 1]);
+    rows.conjoin(p.nodes, from + node::SIZE, end);
 }
 
-fn contexts(
-    table: &[u16],
-    spans: &[u16; span::COUNT],
-    count: usize,
-    out: &mut [u16; node::NUMBERS],
-    firsts: &mut [u16; FIRSTS],
-)
+// All contexts: how many numbers stand before the rows of each, and these.
+fn contexts(p: &Parts<'_>, count: usize, out: &mut [u16; node::NUMBERS], firsts: &mut [u16; FIRSTS])
     requires { count ≤ 37 }
-    ensures { ListPut table.now spans.now count out.old out.new firsts.old firsts.new }
+    ensures { ListPut p.now.nodes.now p.now.spans.now count out.old out.new firsts.old firsts.new }
 {
-    let mut n: usize = 0;
+    let mut rows = Rows { out, at: 0 };
     for k in 0..count {
-        n = context(table, spans, place(k), out, n, firsts, k);
+        mark(firsts, k, rows.at);
+        context(p, place(k), &mut rows);
     }
-    mark(firsts, count, n);
+    mark(firsts, count, rows.at);
 }
 
-// The rows of the conjuncts of a dossier's predicates, in front of the lent array, and how many numbers stand before each predicate's.
-pub fn conjuncts(
-    table: &[u16],
-    spans: &[u16; span::COUNT],
-    operations: usize,
-    out: &mut [u16; node::NUMBERS],
-    firsts: &mut [u16; FIRSTS],
-)
-    ensures { Listed table.now spans.now operations out.old out.new firsts.old firsts.new }
+// The rows of the conjuncts of a dossier's predicates, in front of the lent array, and how many numbers stand before each predicate's; the nodes are the table's.
+pub fn conjuncts(p: &Parts<'_>, out: &mut [u16; node::NUMBERS], firsts: &mut [u16; FIRSTS])
+    ensures { Listed p.now.nodes.now p.now.spans.now p.now.operations out.old out.new firsts.old firsts.new }
 {
-    if span::MOST < operations {
+    if span::MOST < p.operations {
         return;
     }
-    contexts(table, spans, CONDITIONS + SIDES * operations, out, firsts);
+    contexts(p, CONDITIONS + SIDES * p.operations, out, firsts);
 }

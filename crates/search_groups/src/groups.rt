@@ -1,8 +1,8 @@
 // The groups of variables: how many each one has, and the places of their nodes.
-ghost use Rattle.std.specs.Prelude.{◌≡◌, ◌+◌, ◌-◌, ◌≤◌, ◌<◌, length, replicate};
-ghost use Rattle.table_nodes.specs.TableWalkPromises.{patch};
+ghost use Rattle.std.specs.Prelude.{◌≡◌, ◌+◌, ◌≤◌, length};
 ghost use Rattle.search_groups.specs.GroupPromises.{Picked, PickedAll, GroupPut, OperationPut, RowsPut, Grouped};
 
+use crate::Parts;
 use form::name_endings::{INPUT, OUTPUT, PLAIN};
 use form::node;
 use lexical::{bounds, endings};
@@ -10,6 +10,7 @@ use node_spans::span;
 use type_rules::kinds::index;
 
 // How many variables a group has at most. A row has one number more; an operation has two rows, behind those of the two states.
+// Form 1: limits of document 01 and lengths made of them, no kinds.
 const VARIABLES: usize = bounds::VARIABLES as usize;
 
 const INPUTS: usize = bounds::INPUTS as usize;
@@ -26,127 +27,83 @@ const OPERATION_ROWS: usize = INPUTS_ROW + OUTPUTS + 1;
 
 pub const GROUPS: usize = 160;
 
-// The place of a declaration behind c others, where its name's number leaves `ending` when divided by 4: how many there are then.
-fn pick(
-    nodes: &[u16],
-    at: usize,
-    ending: u16,
-    width: usize,
-    c: usize,
-    out: &mut [u16],
-    n: usize,
-) -> usize
-    requires { (at + 8 ≤ length nodes.now) × (at ≤ 65535) × (c ≤ width) × (n + width ≤ length out.old) × (length out.old ≤ 65535) }
-    ensures { Picked nodes.now at ending width c n out.old out.new result }
+// The place of a declaration behind c others, where its name's number leaves `ending` when divided by 4 and there is room: how many there are then.
+// Form 6: the row has the count as its first number, which is written when all places are known.
+fn pick(nodes: &[u16], at: usize, ending: u16, c: usize, places: &mut [u16]) -> usize
+    requires { (at + 8 ≤ length nodes.now) × (at ≤ 65535) × (c ≤ length places.old) × (length places.old ≤ 65535) }
+    ensures { Picked nodes.now at ending c places.old places.new result }
 {
     if nodes[at + node::A] % endings::COUNT != ending {
         return c;
     }
-    if width <= c {
+    if places.len() <= c {
         return c;
     }
-    out[n + c] = at as u16;
+    places[c] = at as u16;
     c + 1
 }
 
-// Of the declarations between two places, two nodes each: those places, from n on, and how many they are.
-fn picked(
-    nodes: &[u16],
-    from: usize,
-    to: usize,
-    ending: u16,
-    width: usize,
-    out: &mut [u16],
-    n: usize,
-) -> usize
-    requires { (from ≤ 65535) × (to ≤ 65535) × (n + width ≤ length out.old) × (length out.old ≤ 65535) }
-    ensures { PickedAll nodes.now from to ending width n out.old out.new result }
+// Of the declarations between two places, two nodes each: those places, as many as there is room for, and how many they are.
+fn picked(nodes: &[u16], from: usize, to: usize, ending: u16, places: &mut [u16]) -> usize
+    requires { (from ≤ 65535) × (to ≤ 65535) × (length places.old ≤ 65535) }
+    ensures { PickedAll nodes.now from to ending places.old places.new result }
 {
     if nodes.len() < to {
         return 0;
     }
     let mut c: usize = 0;
     for k in 0..to.saturating_sub(from) / node::DECLARATION {
-        c = pick(
-            nodes,
-            from + node::DECLARATION * k,
-            ending,
-            width,
-            c,
-            out,
-            n,
-        );
+        c = pick(nodes, from + node::DECLARATION * k, ending, c, places);
     }
     c
 }
 
-fn zeros(out: &mut [u16], from: usize, to: usize)
-    requires { (from ≤ to) × (to ≤ length out.old) × (length out.old ≤ 65535) }
-    ensures { out.new ≡ patch from (replicate (to - from) 0) out.old }
-{
-    out[from..to].fill(0);
-}
-
 // A row: how many, their places, and zeros behind them.
-fn group(
-    nodes: &[u16],
-    from: usize,
-    to: usize,
-    ending: u16,
-    width: usize,
-    out: &mut [u16],
-    n: usize,
-)
-    requires { (from ≤ 65535) × (to ≤ 65535) × (width ≤ 8) × (n + 1 + width ≤ length out.old) × (length out.old ≤ 65535) }
-    ensures { GroupPut nodes.now from to ending width n out.old out.new }
+fn group(nodes: &[u16], from: usize, to: usize, ending: u16, row: &mut [u16])
+    requires { (from ≤ 65535) × (to ≤ 65535) × (1 ≤ length row.old) × (length row.old ≤ 9) }
+    ensures { GroupPut nodes.now from to ending row.old row.new }
 {
-    let c = picked(nodes, from, to, ending, width, out, n + 1);
-    zeros(out, n + 1 + c, n + 1 + width);
-    out[n] = c as u16;
+    let c = picked(nodes, from, to, ending, &mut row[1..]);
+    row[1 + c..].fill(0);
+    row[0] = c as u16;
 }
 
-// The inputs of an operation, and its outputs.
-fn operation(nodes: &[u16], spans: &[u16; span::COUNT], j: usize, out: &mut [u16; GROUPS], n: usize)
-    requires { (j + 2 ≤ 80) × (n + 8 ≤ 160) }
-    ensures { OperationPut nodes.now spans.now j n out.old out.new }
+// The rows of an operation: its inputs, and its outputs.
+fn operation(p: &Parts<'_>, j: usize, rows: &mut [u16])
+    requires { (j + 2 ≤ 80) × (length rows.old ≡ 8) }
+    ensures { OperationPut p.now.nodes.now p.now.spans.now j rows.old rows.new }
 {
-    let from = index(spans[j]);
-    let to = index(spans[j + 1]);
-    group(nodes, from, to, INPUT, INPUTS, out, n);
-    group(nodes, from, to, OUTPUT, OUTPUTS, out, n + INPUTS_ROW);
+    let from = index(p.spans[j]);
+    let to = index(p.spans[j + 1]);
+    group(p.nodes, from, to, INPUT, &mut rows[..INPUTS_ROW]);
+    group(p.nodes, from, to, OUTPUT, &mut rows[INPUTS_ROW..]);
 }
 
-fn operation_rows(
-    nodes: &[u16],
-    spans: &[u16; span::COUNT],
-    operations: usize,
-    out: &mut [u16; GROUPS],
-)
-    ensures { RowsPut nodes.now spans.now operations out.old out.new }
+fn operation_rows(p: &Parts<'_>, out: &mut [u16; GROUPS])
+    ensures { RowsPut p.now.nodes.now p.now.spans.now p.now.operations out.old out.new }
 {
     for k in 0..span::MOST {
-        if operations <= k {
+        if p.operations <= k {
             return;
         }
+        let at = STATES_ROWS + OPERATION_ROWS * k;
         operation(
-            nodes,
-            spans,
+            p,
             span::OPERATIONS + span::OPERATION * k,
-            out,
-            STATES_ROWS + OPERATION_ROWS * k,
+            &mut out[at..at + OPERATION_ROWS],
         );
     }
 }
 
 // The groups of a dossier, in front of the lent array.
-pub fn groups(nodes: &[u16], spans: &[u16; span::COUNT], operations: usize, out: &mut [u16; GROUPS])
-    ensures { Grouped nodes.now spans.now operations out.old out.new }
+pub fn groups(p: &Parts<'_>, out: &mut [u16; GROUPS])
+    ensures { Grouped p.now.nodes.now p.now.spans.now p.now.operations out.old out.new }
 {
-    let a = index(spans[span::ABSTRACT_FIRST]);
-    let b = index(spans[span::ABSTRACT_LAST]);
-    let c = index(spans[span::CONCRETE_FIRST]);
-    let d = index(spans[span::CONCRETE_LAST]);
-    group(nodes, a, b, PLAIN, VARIABLES, out, 0);
-    group(nodes, c, d, PLAIN, VARIABLES, out, STATE_ROW);
-    operation_rows(nodes, spans, operations, out);
+    let a = index(p.spans[span::ABSTRACT_FIRST]);
+    let b = index(p.spans[span::ABSTRACT_LAST]);
+    let c = index(p.spans[span::CONCRETE_FIRST]);
+    let d = index(p.spans[span::CONCRETE_LAST]);
+    group(p.nodes, a, b, PLAIN, &mut out[..STATE_ROW]);
+    group(p.nodes, c, d, PLAIN, &mut out[STATE_ROW..STATES_ROWS]);
+    operation_rows(p, out);
 }

@@ -172,9 +172,6 @@ module _ {table plan cells : List ℕ} {u j m w from n v slot high : ℕ} {a₀ 
   pub place-low : r < v
   place-low = witness.going.short
 
-  pub length-low : v ≤ 16777216
-  length-low = let l : v ≤ w = here.short in let few : w ≤ 2 ^ 24 = here.asked.few in omega arith
-
   pub below-high : x < high → x < n
   below-high l = let inside : high ≤ n = here.high_in in omega arith
 
@@ -211,13 +208,6 @@ module _ {table plan cells : List ℕ} {u j m w from n v slot high : ℕ} {a₀ 
               reached = subst (λ (z : ℕ). Reached cells z x) (sym is)
                   ((p.readable 0 (omega arith)).reached x (subst (λ (z : ℕ). x < z) (here.count ∙ ap (λ (z : ℕ). count_in cells z) is) l));
             }
-
-    pub block-low : x * v ≤ 16777216
-    block-low =
-        let up : x * v ≤ n * v = mul-le-mul_right v (omega arith) in
-        let size : w ≡ n * v = here.size in
-        let few : w ≤ 2 ^ 24 = here.asked.few in
-        omega arith
 
     module _ {a₁ : List (List ℤ)} (st : StoreAnswers cells slot x a a₁) where
       stored : {s : ℕ} {ss : List ℕ} {tests : ℕ → List (Point → Bool)} {δ : Point} → Planned table plan cells u j (s ∷ ss) tests

@@ -11,7 +11,8 @@ use lib.Seq.{get_or-set_same, get_or-set_other}
 use lib.IntN.{ℤ, pos}
 use lib.Signed.{lt_z}
 use Rattle.lexical.specs.Lists.{all}
-use Rattle.slot_carriers.specs.Cells.{count_in, value_in, Found}
+use Rattle.std.specs.Prelude.{Option, Some, None}
+use Rattle.slot_carriers.specs.Cells.{count_in, value_in, Sought}
 use Rattle.slot_carriers.proofs.Halving.{either, less_self}
 use Rattle.evaluator.specs.EvaluationEvaluationByNumber.{Values, Inside}
 use Rattle.evaluator.specs.EvaluationPromises.{TermRuns, TermAnswers}
@@ -171,7 +172,7 @@ module _ {table plan cells : List ℕ} {u l slot n : ℕ} {a : List (List ℤ)} 
     pub value-asked : Inside r × TermRuns table r (get_or a (e % 2) [])
     value-asked = runs w.says (test-is (asked-at q.stand).is) q.shows
 
-    module _ {y : ℤ} {d : ℕ} (v : TermAnswers table r (get_or a (e % 2) []) y) (found : Found (λ d. value_in cells slot d) (count_in cells slot) y d) where
+    module _ {y : ℤ} (v : TermAnswers table r (get_or a (e % 2) []) y) where
       fails : (tests : ℕ → List (Point → Bool)) (δ : Point) → Shows cells δ a → TestsAt table plan cells (mark_in plan u (l + 1)) (mark_in plan u l) (tests l) → (x : ℕ)
           → x < n → (value_in cells slot x ≡ y → ⊥) → level_holds tests l (moved δ slot x) ≡ false
       unfolding level_holds
@@ -185,18 +186,19 @@ module _ {table plan cells : List ℕ} {u l slot n : ℕ} {a : List (List ℤ)} 
           subst T
           (sym (ap (λ (z : ℤ). lt_z z (value_in cells slot j)) (sym (e ∙ sym g)) ∙ q.readable.rising i j o h) ∙ less_self (value_in cells slot j)) tt
 
-      pub aim-one : d < n → AimAnswers table plan cells u l slot n a d (d + 1)
-      aim-one h = record { low_in = omega arith; high_in = omega arith; fails = λ tests δ s t x k o. fails tests δ s t x k (λ e. other x k o e) }
-        where
-          there : d < count_in cells slot
-          there = subst (λ (i : ℕ). d < i) q.count h
+      module _ {o : Option ℕ} (found : Sought (λ d. value_in cells slot d) (count_in cells slot) y o) where
+        found-at : {k : Option ℕ} → o ≡ k → Sought (λ d. value_in cells slot d) (count_in cells slot) y k
+        found-at i = subst (Sought (λ (d : ℕ). value_in cells slot d) (count_in cells slot) y) i found
 
-          other : (x : ℕ) → x < n → (x < d) ⊎ (d + 1 ≤ x) → value_in cells slot x ≡ y → ⊥
-          other x k (inl o) e = apart x d o there e (found.here there)
-          other x k (inr o) e = apart d x (omega arith) (subst (λ (i : ℕ). x < i) q.count k) (found.here there) e
+        pub aim-one : {d : ℕ} → o ≡ Some d → AimAnswers table plan cells u l slot n a d (d + 1)
+        aim-one {d} i =
+            let there : d < n = subst (λ (m : ℕ). d < m) (sym q.count) (found-at i).0 in
+            record { low_in = omega arith; high_in = omega arith; fails = λ tests δ s t x k o. fails tests δ s t x k (λ e. other x k o e) }
+          where
+            other : (x : ℕ) → x < n → (x < d) ⊎ (d + 1 ≤ x) → value_in cells slot x ≡ y → ⊥
+            other x k (inl o) e = apart x d o (found-at i).0 e (found-at i).1
+            other x k (inr o) e = apart d x (omega arith) (subst (λ (i : ℕ). x < i) q.count k) (found-at i).1 e
 
-      pub aim-none : n ≤ d → AimAnswers table plan cells u l slot n a d d
-      aim-none h =
-          let count : n ≡ count_in cells slot = q.count in
-          let within : d ≤ count_in cells slot = found.within in
-          record { low_in = omega arith; high_in = omega arith; fails = λ tests δ s t x k o. fails tests δ s t x k (λ e. found.nowhere (omega arith) x (omega arith) e) }
+        pub aim-none : o ≡ None → AimAnswers table plan cells u l slot n a n n
+        aim-none i =
+            record { low_in = omega arith; high_in = omega arith; fails = λ tests δ s t x k o. fails tests δ s t x k (λ e. found-at i x (subst (λ (m : ℕ). x < m) q.count k) e) }

@@ -1,5 +1,6 @@
 // One primitive for all searching: the least number, from a given one on, of a binding of the variables of a search at which all its tests hold. `slots` has two arrays: the values
 // before and the primed ones; those of the after state under the plain slots.
+// Form 5: the slots and the memory are lent to be written beside a search that is only read: in a struct of all three each function would have to promise that the search is as it was.
 #![tactic(auto)]
 
 ghost use Rattle.std.specs.Prelude.{◌≡◌, ◌+◌, ◌<◌, ◌≤◌, MatchOption};
@@ -129,11 +130,7 @@ fn solved(t: &[u16; 16384], e: usize, slot: usize) -> Option<usize>
     ensures { SolvedAnswers t.now e slot result }
 {
     let own = read_slot(e, slot)?;
-    let end = solving(t, e / 2, own);
-    if end == 0 {
-        return None;
-    }
-    Some(end)
+    solving(t, e / 2, own)
 }
 
 // The first test of a level that says the variable of a slot to be some term.
@@ -161,18 +158,21 @@ fn aim(s: &PartSearch<'_>, g: Target, slots: &mut [[i64; 64]; 2]) -> Bounds
         return Bounds { low: 0, high: g.n };
     };
     let y = value(s.table, q.end, &mut slots[q.test % 2]);
-    let d = place_of(s.cells, g.slot, y);
-    if d < g.n {
-        return Bounds {
+    match place_of(s.cells, g.slot, y) {
+        Some(d) => Bounds {
             low: d,
             high: d + 1,
-        };
+        },
+        None => Bounds {
+            low: g.n,
+            high: g.n,
+        },
     }
-    Bounds { low: d, high: d }
 }
 
-// The search among the bindings of a span. What it finds stays in the slots. Where there is none the answer is span.w, the number behind the last: at all numbers before the answer some test
-// fails, whether a binding is found or not, and the loops that go from one to the next need that one fact.
+// The search among the bindings of a span. What it finds stays in the slots.
+// Form 1: where there is none the answer is span.w, the number behind the last: at all numbers before the answer some test fails, whether a binding is found or not, and the loops that go
+// from one to the next need that one fact. With an Option each would turn none back into span.w.
 pub fn seek(
     s: &PartSearch<'_>,
     span: Span,

@@ -102,7 +102,8 @@ pub fn ran(n: u32, m: u32, s: u16) -> u16
     r
 }
 
-// x div y, rounded toward minus infinity. By 0 it is what the definition gives: -1 for an x below 0, and 0 for any other.
+// x div y, rounded toward minus infinity.
+// Form 1: it is total, as the definition is, which by 0 makes -1 of an x below 0 and 0 of any other; no dossier divides by 0 (document 01, number 14).
 pub fn floor_div(x: i32, y: i32) -> i64
     ensures { result ≡ floor_div x y }
 {

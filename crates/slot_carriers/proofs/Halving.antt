@@ -1,5 +1,5 @@
 -- Values that rise: the order of integers, and the place of a value. Assumes nothing.
-use mathlib.Core.Path.{◌≡◌, refl, sym, ap₂, ◌∙◌}
+use mathlib.Core.Path.{◌≡◌, refl, sym, ap, ap₂, ◌∙◌}
 use mathlib.Core.Bool.{Bool, true, false}
 use mathlib.Core.Logic.{◌⊎◌, inl, inr}
 use Prim.Native.Nat.{ℕ, ◌<◌, ◌≤◌}
@@ -8,7 +8,8 @@ use lib.Dec.{ltb}
 use lib.IntN.{ℤ, pos, negsuc}
 use lib.Signed.{lt_z}
 use borrow.Author.Tests.{ltb-true, ltb-false, lt-ltb, le-ltb}
-use Rattle.slot_carriers.specs.Cells.{Found}
+use Rattle.std.specs.Prelude.{Option, Some, None}
+use Rattle.slot_carriers.specs.Cells.{Sought}
 
 pub clash : {A : Type 0} → true ≡ false → A
 clash e = absurd (let z : ◌≡◌ {A = ℕ} 0 1 = cc in omega arith)
@@ -43,14 +44,14 @@ either d m = go (ltb d m) refl
 module _ (f : ℕ → ℤ) (n : ℕ) (x : ℤ) (rising : (d e : ℕ) → d < e → e < n → lt_z (f d) (f e) ≡ true) where
   -- ---- the place of a value is the only one
 
-  pub place-only : (r d : ℕ) → Found f n x r → d < n → f d ≡ x → r ≡ d
-  place-only r d w u q = go (either r n) (either r d) (either d r)
+  pub place-only : (o : Option ℕ) (d : ℕ) → Sought f n x o → d < n → f d ≡ x → o ≡ Some d
+  place-only None d w u q = absurd (w d u q)
+  place-only (Some r) d w u q = go (either r d) (either d r)
     where
       away : {A : Type 0} (i j : ℕ) → i < j → j < n → f i ≡ x → f j ≡ x → A
       away i j l h a b = clash (sym (rising i j l h) ∙ ap₂ lt_z a b ∙ less_self x)
 
-      go : (r < n) ⊎ (n ≤ r) → (r < d) ⊎ (d ≤ r) → (d < r) ⊎ (r ≤ d) → r ≡ d
-      go (inr h) i j = let e : r ≡ n = omega (arith, w.within) in absurd (w.nowhere e d u q)
-      go (inl h) (inl i) j = away r d i u (w.here h) q
-      go (inl h) (inr i) (inl j) = away d r j h q (w.here h)
-      go (inl h) (inr i) (inr j) = omega arith
+      go : (r < d) ⊎ (d ≤ r) → (d < r) ⊎ (r ≤ d) → Some r ≡ Some d
+      go (inl i) j = away r d i u w.1 q
+      go (inr i) (inl j) = away d r j w.0 q w.1
+      go (inr i) (inr j) = ap Some (omega arith)

@@ -44,12 +44,6 @@ Rising xs = (i j : ℕ) → i ≤ j → j < length xs → get_or xs i 0 ≤ get_
 abbrev pub Sought : (f : ℕ → ℤ) (n : ℕ) (x : ℤ) (o : Option ℕ) → Type 0
 Sought f n x o = MatchOption o ((d : ℕ) → d < n → f d ≡ x → ⊥) (λ r. (r < n) × (f r ≡ x))
 
--- r is the place of x among the n values of f, or n where x is none of them
-pub record Found (f : ℕ → ℤ) (n : ℕ) (x : ℤ) (r : ℕ) : Type 0 where
-  pub within : r ≤ n
-  pub here : r < n → f r ≡ x
-  pub nowhere : r ≡ n → (d : ℕ) → d < n → f d ≡ x → ⊥
-
 -- ---- the cell of a slot stands for a carrier
 
 -- the n sets of a list that begins at `from`

@@ -1,5 +1,7 @@
 // Carriers by slot: `cells` has four numbers for each slot, how many values its variable has, the shape of its type and two numbers of it; then the lists of
-// partial and total functions. The caller lends the array, so that a shape is a number in it.
+// partial and total functions.
+// Form 1: the caller lends the array, so that a shape is a number in it (DECISIONS L9); the others are places and lengths.
+// Form 5: a slot is a number in plans and nodes too, and a type of its own would be made anew at each reading; `Grouped` moves on by a variable with each call.
 #![tactic(auto)]
 
 pub mod groups;
@@ -7,7 +9,7 @@ pub mod setup;
 pub mod type_shapes;
 
 ghost use Rattle.std.specs.Prelude.{◌≡◌, ℕ, ◌<◌, ◌≤◌, get_or, length, pos, ◌+ℤ◌};
-ghost use Rattle.slot_carriers.specs.Cells.{count_in, shape_in, value_in, Reached, Readable, Rising, Sought, Found};
+ghost use Rattle.slot_carriers.specs.Cells.{count_in, shape_in, value_in, Reached, Readable, Rising, Sought};
 
 use lexical::bounds;
 
@@ -25,9 +27,6 @@ const FIRST: usize = 2;
 
 // How much more than the first number of a range its cell has, which is then not negative.
 const RAISED: i64 = bounds::LARGEST_NUMBER as i64;
-
-// The largest number that the cells can have.
-const LARGEST: i64 = u32::MAX as i64;
 
 // How many values the variable of a slot has.
 pub fn count_of(cells: &[u32; CELLS], slot: usize) -> usize
@@ -69,16 +68,11 @@ fn distance(x: i64, low: i64, n: usize) -> Option<usize>
     requires { n ≤ 65536 }
     ensures { Sought (λ d. low +ℤ pos d) n x result }
 {
-    let Some(d) = x.checked_sub(low) else {
-        return None;
-    };
-    if d < 0 {
+    let d = usize::try_from(x.checked_sub(low)?).ok()?;
+    if n <= d {
         return None;
     }
-    if n as i64 <= d {
-        return None;
-    }
-    Some(d as usize)
+    Some(d)
 }
 
 // The place of x among numbers that rise, if it is one of them.
@@ -86,21 +80,16 @@ fn listed(list: &[u32], x: i64) -> Option<usize>
     requires { Rising list.now }
     ensures { Sought (λ d. pos (get_or list.now d 0)) (length list.now) x result }
 {
-    if x < 0 {
-        return None;
-    }
-    if LARGEST < x {
-        return None;
-    }
-    list.binary_search(&(x as u32)).ok()
+    let k = u32::try_from(x).ok()?;
+    list.binary_search(&k).ok()
 }
 
-// The place of x among the n values of a slot, if it is one of them.
-fn sought(cells: &[u32; CELLS], slot: usize, n: usize, x: i64) -> Option<usize>
-    requires readable { Readable cells.now slot }
-    requires n_value { n ≡ count_in cells.now slot }
-    ensures { Sought (λ d. value_in cells.now slot d) n x result }
+// The place of x among the values of a slot, if it is one of them.
+pub fn place_of(cells: &[u32; CELLS], slot: usize, x: i64) -> Option<usize>
+    requires { Readable cells.now slot }
+    ensures { Sought (λ d. value_in cells.now slot d) (count_in cells.now slot) x result }
 {
+    let n = count_of(cells, slot);
     if n == 0 {
         return None;
     }
@@ -109,13 +98,4 @@ fn sought(cells: &[u32; CELLS], slot: usize, n: usize, x: i64) -> Option<usize>
     }
     let a = cells[CELL * slot + FIRST] as usize;
     listed(&cells[a..a + n], x)
-}
-
-// The place of x among the values of a slot, or their count where it is none of them.
-pub fn place_of(cells: &[u32; CELLS], slot: usize, x: i64) -> usize
-    requires { Readable cells.now slot }
-    ensures { Found (λ d. value_in cells.now slot d) (count_in cells.now slot) x result }
-{
-    let n = count_of(cells, slot);
-    sought(cells, slot, n, x).unwrap_or(n)
 }

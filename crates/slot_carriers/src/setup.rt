@@ -65,6 +65,7 @@ fn write_cell(cells: &mut [u32; CELLS], slot: usize, count: u32, shape: u32, fir
 }
 
 // The cell of the variable of a slot, whose type's node is at q; its functions are listed from `at` on. Answers the place behind them.
+// Form 6: the lists stand in the same lent array as the cells in front of them, which a slice from `at` on would not have.
 fn set_cell(
     table: &[u16; node::NUMBERS],
     q: usize,
@@ -90,6 +91,8 @@ fn set_cell(
 }
 
 // The cells of n variables from a slot on; the places of their nodes stand in `groups` from p on.
+// Form 5: callers hold table and groups in a `Dossier`, which stands above this crate.
+// Form 6: as at `set_cell`.
 fn set_from(
     table: &[u16; node::NUMBERS],
     groups: &[u16; GROUPS],
@@ -112,6 +115,7 @@ fn set_from(
 }
 
 // The cells of one group: `row` is where it stands in `groups`, `base` its first slot; lists from `from` on. Answers the place behind them.
+// Form 5: as at `set_from`.
 pub fn set_cells(
     table: &[u16; node::NUMBERS],
     groups: &[u16; GROUPS],

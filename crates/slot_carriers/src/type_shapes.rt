@@ -1,4 +1,5 @@
 // The shapes of types (form/src/shapes), as numbers of the cells.
+// Form 1: a cell's numbers have 32 bits, a node's 16.
 use form::shapes;
 
 pub const SET: u32 = shapes::SET as u32;

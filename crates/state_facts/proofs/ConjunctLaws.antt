@@ -1,6 +1,6 @@
 -- The first conjunct that fails, row by row, and at the values of two states. Assumes nothing.
 use mathlib.Core.Path.{◌≡◌, refl, sym, ap, subst, ◌∙◌}
-use mathlib.Core.Bool.{true, false}
+use mathlib.Core.Bool.{Bool, true, false}
 use mathlib.Core.List.{List, ◌++◌}
 use mathlib.Core.Option.{some-injective}
 use Rattle.std.specs.Prelude.{Option, Some, None}
@@ -59,6 +59,22 @@ module _ {G : ℕ → Type 0} {table rows : List ℕ} {to : ℕ} {σ : Values} w
 pub context-first : {G : ℕ → Type 0} {table rows firsts : List ℕ} {n : ℕ} {σ : Values} {r : Option ℕ} → FirstIs G table rows (get_or firsts n 0) (get_or firsts (n + 1) 0) σ r
     → ContextFirst G table rows firsts n σ r
 context-first w = record { means = λ K W ρ k h. w.means K.scope W ρ k.conjuncts k.stand h }
+
+-- other rows are said to count, which are the same
+first-as : {G H : ℕ → Type 0} {T : Pred → Bool → Type 0} → ((i : ℕ) → G i → H i) → ((i : ℕ) → H i → G i) → {at : ℕ} {ps : List Pred} {r : Option ℕ} → FirstFalse G T at ps r
+    → FirstFalse H T at ps r
+first-as f b none_false = none_false
+first-as f b (false_here {at} g t) = false_here (f at g) t
+first-as f b (false_later {at} t w) = false_later (λ h. t (b at h)) (first-as f b w)
+
+pub context-as : {G H : ℕ → Type 0} {table rows firsts : List ℕ} {n : ℕ} {σ : Values} {r : Option ℕ} → ((i : ℕ) → G i → H i) → ((i : ℕ) → H i → G i)
+    → ContextFirst G table rows firsts n σ r → ContextFirst H table rows firsts n σ r
+context-as f b w = record { means = λ K W ρ k h. first-as f b (w.means K W ρ k h) }
+
+-- every row counts
+pub every-context : {table rows firsts : List ℕ} {n : ℕ} {σ : Values} {r : Option ℕ} → ContextFirst (λ (i : ℕ). true ≡ true) table rows firsts n σ r
+    → ContextFirst Every table rows firsts n σ r
+every-context = context-as (λ i e. tt) (λ i u. refl)
 
 -- ---- bindings in the slots of a context
 

@@ -1,12 +1,15 @@
 -- The first conjunct of an operation's concrete predicate that fails and mentions neither outputs nor states after: it fails with all of them. Assumes nothing.
 use mathlib.Core.Path.{◌≡◌, refl, sym, ap, subst, ◌∙◌}
-use mathlib.Core.Bool.{Bool, true, false}
+use mathlib.Core.Bool.{Bool, true, false, ◌&&◌}
 use mathlib.Core.List.{List, [], ◌∷◌, ◌++◌, append_assoc}
 use mathlib.Core.Option.{some, some-injective}
 use Rattle.std.specs.Prelude.{Option, None}
 use Prim.Native.Nat.{ℕ, suc, ◌+◌, ◌*◌, ◌<◌, ◌≤◌}
 use native.Mathlib.Omega.{arith}
+use lib.Dec.{eqb}
+use borrow.Author.Tests.{eqb-true, eq-eqb}
 use lib.ListN.{get_or, length, get_elem?}
+use Rattle.lexical.proofs.BooleanTests.{and_left, and_right}
 use Rattle.lexical.specs.Symbols.{Name, prime}
 use Rattle.form.specs.Tree.{Pred, Operation, Dossier}
 use Rattle.static_rules.specs.Carriers.{Variable}
@@ -25,12 +28,9 @@ use Rattle.evaluation.specs.SlotValues.{Slotted}
 use Rattle.conjunct_tests.specs.ConjunctTests.{Agree, agree_none, agree_more}
 use Rattle.conjunct_tests.proofs.SlotFrame.{frame-slots}
 use Rattle.conjunct_tests.proofs.LastVariables.{not_in}
-use Rattle.mentions.proofs.FreeNodes.{refused}
-use Rattle.truths.specs.Promises.{Answers}
 use Rattle.states.specs.ReadPredicatesPredicateRows.{Columns, RowsAt, more_rows, ContextAt}
 use Rattle.states.specs.StateTests.{Placed}
-use Rattle.states.specs.Promises.{RowsAsked, ContextAsked}
-use Rattle.states.proofs.RowLaws.{row_inside, first-asked}
+use Rattle.states.specs.Promises.{ContextAsked}
 use Rattle.states.proofs.StateLaws.{asked-at, over-append, slotted-append}
 use Rattle.states.proofs.StepLaws.{concrete-operation}
 use Rattle.part_places.specs.ReadingsReadings.{ReadingOf}
@@ -42,32 +42,36 @@ use Rattle.part_places.proofs.ReadingGroups.{reading-groups}
 use Rattle.state_facts.specs.declared.Numbers.{Numbers}
 use Rattle.state_facts.specs.Placings.{StatesSized, StatesBound, ParametersSized, ParametersBound}
 use Rattle.state_facts.specs.Reads.{concrete_count, ReadAsked}
-use Rattle.state_facts.specs.FalseConjuncts.{FirstFalse, none_false, false_here, false_later, Guard, In, Throughout, ContextFirst, ContextIs}
-use Rattle.state_facts.specs.FalseConjuncts.{StepFrom, GuardRowAsked, GuardFails, OperationRead, GuardAsked, FalseStep, FalseGuard}
+use Rattle.state_facts.specs.FalseConjuncts.{FirstFalse, none_false, false_here, false_later, Guard, guard_test, In, Throughout, ContextFirst, ContextIs}
+use Rattle.state_facts.specs.FalseConjuncts.{StepFrom, OperationRead, GuardAsked, FalseStep, FalseGuard}
 use Rattle.state_facts.proofs.PlacedGroups.{over-at, states-kept}
 use Rattle.state_facts.proofs.ShownLaws.{operation-states, operation-parameters}
 use Rattle.state_facts.proofs.SearchLaws.{slotted-at, placed_at}
-use Rattle.state_facts.proofs.ConjunctLaws.{held_in}
+use Rattle.state_facts.proofs.ConjunctLaws.{held_in, context-as}
 
 -- ---- a row
 
-pub guard-row : {table rows : List ℕ} {to at : ℕ} {σ τ : Values} → RowsAsked table rows at to σ → τ ≡ σ → at < to → GuardRowAsked table rows at τ
-guard-row {table} {rows} {to} {at} {σ} {τ} a e h =
-    record { inside = row_inside table rows to σ at a h; asked = first-asked table rows to σ at τ a e h }
+module _ (rows : List ℕ) (at : ℕ) where
+  abbrev none_at : ℕ → Bool
+  none_at k = eqb (get_or rows (at + k) 0) 0
 
-module _ {table rows : List ℕ} {i : ℕ} {σ : Values} where
-  -- one of the numbers is not 0
-  pub no_guard : (Guard rows i → ⊥) → GuardFails table rows i σ false
-  no_guard n = record { fails = λ e. refused e; passes = λ e g. absurd (n g) }
+  pub guard-yes : guard_test rows at ≡ true → Guard rows at
+  guard-yes e =
+      let front : (none_at 5 && none_at 6) ≡ true = and_left (none_at 5 && none_at 6) (none_at 7) e in
+      record {
+        outputs_none = eqb-true (get_or rows (at + 5) 0) 0 (and_left (none_at 5) (none_at 6) front);
+        concretes_none = eqb-true (get_or rows (at + 6) 0) 0 (and_right (none_at 5) (none_at 6) front);
+        abstracts_none = eqb-true (get_or rows (at + 7) 0) 0 (and_right (none_at 5 && none_at 6) (none_at 7) e);
+      }
 
-  pub guard-holds : Answers table (get_or rows (i + 1) 0) σ true → GuardFails table rows i σ false
-  guard-holds a = record { fails = λ e. refused e; passes = λ e g. a }
+  pub guard-no : Guard rows at → guard_test rows at ≡ true
+  guard-no g =
+      λ t. eq-eqb (get_or rows (at + 5) 0) 0 g.outputs_none t && eq-eqb (get_or rows (at + 6) 0) 0 g.concretes_none t
+      && eq-eqb (get_or rows (at + 7) 0) 0 g.abstracts_none t
 
-  pub guard-fails : Guard rows i → Answers table (get_or rows (i + 1) 0) σ false → GuardFails table rows i σ true
-  guard-fails g a = record { fails = λ e. (g, a); passes = λ e. refused (sym e) }
-
-pub guard_as : {table rows : List ℕ} {i : ℕ} {τ σ : Values} {r : Bool} → τ ≡ σ → GuardFails table rows i τ r → GuardFails table rows i σ r
-guard_as {table} {rows} {i} {r = r} e w = subst (λ (v : Values). GuardFails table rows i v r) e w
+pub guard-context-first : {table rows firsts : List ℕ} {n : ℕ} {σ : Values} {r : Option ℕ} → ContextFirst (λ (i : ℕ). guard_test rows i ≡ true) table rows firsts n σ r
+    → ContextFirst (Guard rows) table rows firsts n σ r
+guard-context-first {rows = rows} = context-as (λ i. guard-yes rows i) (λ i. guard-no rows i)
 
 -- ---- the state after, under primed names
 

@@ -1,5 +1,6 @@
 pub mod PlacedGroups
 pub mod ShownLaws
+pub mod SearchParts
 pub mod SearchLaws
 pub mod ConjunctLaws
 pub mod GuardLaws

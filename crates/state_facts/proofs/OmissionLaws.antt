@@ -6,6 +6,7 @@ use mathlib.Core.List.{List}
 use Prim.Native.Nat.{ℕ, zero, suc, ◌+◌, ◌-◌, ◌*◌, ◌/◌, ◌%◌, ◌^◌, ◌<◌, ◌≤◌}
 use native.Mathlib.Nat.{pow-suc, mod-lt, zero-lt-suc}
 use native.Mathlib.Omega.{arith}
+use mir.Val.{bool_byte}
 use lib.Dec.{eqb}
 use lib.ListN.{get_or, length}
 use lib.Pow.{pow_mono}
@@ -23,7 +24,7 @@ use Rattle.states.specs.ReadPredicatesPredicateRows.{RowsAt, no_rows, more_rows,
 use Rattle.states.proofs.StateLaws.{ContextOf, abstract-context, concrete-context, ainit-context, cinit-context, retrieve-context}
 use Rattle.states.proofs.StepLaws.{abstract-operation, concrete-operation}
 use Rattle.state_facts.specs.Reads.{ReadAsked}
-use Rattle.state_facts.specs.Omissions.{RowsStand, RowsFree, RowsSay, BitSays, BitsSay, LeftOut, ContextStands}
+use Rattle.state_facts.specs.Omissions.{RowsStand, RowsFree, RowsSay, BitsSay, LeftOut, ContextStands}
 use Rattle.state_facts.proofs.PlacedGroups.{split_at}
 
 -- ---- row by row
@@ -77,13 +78,11 @@ module _ {table rows : List ℕ} {from slot : ℕ} where
 no_bits : (j : ℕ) → has 0 j ≡ true → ⊥
 no_bits j e = let z : false ≡ true = sym (has-past 0 0 j (omega arith) (omega arith)) ∙ e in refused z
 
+pub byte_small : (b : Bool) → bool_byte b < 2
+byte_small true = omega arith
+byte_small false = omega arith
+
 module _ {table rows : List ℕ} {from to : ℕ} where
-  pub bit-set : {slot : ℕ} {r : Bool} → RowsSay table rows from to slot r → r ≡ true → BitSays table rows from to slot 1
-  bit-set s e = record { low = omega arith; means = λ l. s.means e }
-
-  pub bit-unset : {slot : ℕ} → BitSays table rows from to slot 0
-  bit-unset = record { low = omega arith; means = λ l. absurd (omega arith) }
-
   module _ {slot count : ℕ} where
     pub bits_none : BitsSay table rows from to slot count count 0
     bits_none = record { within = omega arith; low = omega (arith, under-power (count - count)); means = λ j e. absurd (no_bits j e) }
@@ -91,28 +90,35 @@ module _ {table rows : List ℕ} {from to : ℕ} where
     pub bits_small : {k r : ℕ} → BitsSay table rows from to slot count k r → count ≤ 8 → r < 256
     bits_small {k} b h = let p : 2 ^ (count - k) ≤ 2 ^ 8 = pow_mono {i = count - k} {j = 8} (omega arith) in omega (arith, b.low)
 
-    pub bits-more : {k r x : ℕ} → 0 < k → BitsSay table rows from to slot count k r → BitSays table rows from to (slot + (k - 1)) x
-        → BitsSay table rows from to slot count (k - 1) (x + 2 * r)
-    bits-more {k} {r} {x} h b s = record { within = omega (arith, b.within); low = double; means = go }
+    pub bits-more : {k r x : ℕ} {t : Bool} → 0 < k → BitsSay table rows from to slot count k r → RowsSay table rows from to (slot + (k - 1)) t → x ≡ bool_byte t
+        → BitsSay table rows from to slot count (k - 1) (2 * r + x)
+    bits-more {k} {r} {x} {t} h b s u = record { within = omega (arith, b.within); low = double; means = go }
       where
-        double : x + 2 * r < 2 ^ (count - (k - 1))
+        low : x < 2
+        low = omega (arith, u, byte_small t)
+
+        set : (c : Bool) → bool_byte c ≡ 1 → c ≡ true
+        set true e = refl
+        set false e = absurd (omega arith)
+
+        double : 2 * r + x < 2 ^ (count - (k - 1))
         double =
             let e : count - (k - 1) ≡ suc (count - k) = omega (arith, b.within) in
-            subst (λ (n : ℕ). x + 2 * r < 2 ^ n) (sym e) (omega (arith, b.low, s.low, pow-suc 2 (count - k)))
+            subst (λ (n : ℕ). 2 * r + x < 2 ^ n) (sym e) (omega (arith, b.low, low, pow-suc 2 (count - k)))
 
-        half : (x + 2 * r) / 2 ≡ r
-        half = omega (arith, s.low)
+        half : (2 * r + x) / 2 ≡ r
+        half = omega (arith, low)
 
-        odd : (x + 2 * r) % 2 ≡ x
-        odd = omega (arith, s.low)
+        odd : (2 * r + x) % 2 ≡ x
+        odd = omega (arith, low)
 
-        go : (j : ℕ) → has (x + 2 * r) j ≡ true → RowsFree table rows from to (slot + (k - 1) + j)
+        go : (j : ℕ) → has (2 * r + x) j ≡ true → RowsFree table rows from to (slot + (k - 1) + j)
         go zero e =
-            let z : eqb x 1 ≡ true = sym (ap (λ (y : ℕ). eqb y 1) odd) ∙ sym (has-zero (x + 2 * r)) ∙ e in
+            let z : eqb x 1 ≡ true = sym (ap (λ (y : ℕ). eqb y 1) odd) ∙ sym (has-zero (2 * r + x)) ∙ e in
             let p : slot + (k - 1) ≡ slot + (k - 1) + zero = omega arith in
-            subst (RowsFree table rows from to) p (s.means (eqb-true x 1 z))
+            subst (RowsFree table rows from to) p (s.means (set t (sym u ∙ eqb-true x 1 z)))
         go (suc j) e =
-            let z : has r j ≡ true = sym (ap (λ (y : ℕ). has y j) half) ∙ sym (has-suc (x + 2 * r) j) ∙ e in
+            let z : has r j ≡ true = sym (ap (λ (y : ℕ). has y j) half) ∙ sym (has-suc (2 * r + x) j) ∙ e in
             let p : slot + k + j ≡ slot + (k - 1) + suc j = omega arith in
             subst (RowsFree table rows from to) p (b.means j z)
 

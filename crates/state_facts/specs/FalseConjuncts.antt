@@ -1,5 +1,5 @@
 -- The first conjunct of a predicate that fails: of retrieve for two states, of an operation's concrete predicate for a state and inputs. Nothing here need be believed.
-use Rattle.std.specs.Prelude.{◌≡◌, Bool, true, false, Option, Some, None, List, [], ◌∷◌, ◌++◌, ℕ, ◌+◌, ◌*◌, ◌<◌, ◌≤◌, get_or, length}
+use Rattle.std.specs.Prelude.{◌≡◌, Bool, true, false, ◌&&◌, nat_eq, Option, Some, None, List, [], ◌∷◌, ◌++◌, ℕ, ◌+◌, ◌*◌, ◌<◌, ◌≤◌, get_or, length}
 use Rattle.std.proofs.Math.Option.{some}
 use Rattle.std.proofs.Math.ListN.{get_elem?}
 use Rattle.form.specs.Tree.{Pred, Operation, Dossier}
@@ -11,7 +11,6 @@ use Rattle.table_places.specs.ResolvedTable.{Slots}
 use Rattle.table_places.specs.DossierTable.{slots_of}
 use Rattle.evaluation.specs.EvaluationByNumber.{Values}
 use Rattle.evaluation.specs.SlotValues.{Held}
-use Rattle.truths.specs.Promises.{Asked, Answers}
 use Rattle.states.specs.ReadPredicatesPredicateRows.{RowsAt, ContextAt, TestsOf}
 use Rattle.part_places.specs.ReadingsReadings.{ReadingOf}
 use Rattle.plans.specs.declared.Part.{Part}
@@ -36,6 +35,9 @@ pub record Guard (rows : List ℕ) (at : ℕ) : Type 0 where
   pub concretes_none : get_or rows (at + 6) 0 ≡ 0
   pub abstracts_none : get_or rows (at + 7) 0 ≡ 0
 
+abbrev pub guard_test : (rows : List ℕ) (at : ℕ) → Bool
+guard_test rows at = nat_eq (get_or rows (at + 5) 0) 0 && nat_eq (get_or rows (at + 6) 0) 0 && nat_eq (get_or rows (at + 7) 0) 0
+
 -- true or false in one environment
 abbrev pub In : Environment → Pred → Bool → Type 0
 In ρ q b = holds q ρ ≡ b
@@ -48,6 +50,10 @@ pub record FirstIs (G : ℕ → Type 0) (table rows : List ℕ) (from to : ℕ) 
 pub record ContextFirst (G : ℕ → Type 0) (table rows firsts : List ℕ) (n : ℕ) (σ : Values) (r : Option ℕ) : Type 0 where
   pub means : (K : Context) (W : Slots) (ρ : Environment) (k : ContextAt table rows firsts n K W) → Held K.scope W 0 ρ σ
       → FirstFalse G (In ρ) (get_or firsts n 0) k.conjuncts r
+
+-- P is what is known of the answers of a test of rows: the rows that count are those at which it is true, whatever function of rows it computes
+pub record CountedFirst (P : ℕ → Bool → Type 0) (table rows firsts : List ℕ) (n : ℕ) (σ : Values) (r : Option ℕ) : Type 0 where
+  pub means : (g : ℕ → Bool) → ((i : ℕ) (b : Bool) → i + 8 ≤ 16384 → P i b → b ≡ g i) → ContextFirst (λ (i : ℕ). g i ≡ true) table rows firsts n σ r
 
 -- ---- retrieve
 
@@ -86,14 +92,6 @@ pub record StepFrom (d : Dossier) (op : Operation) (c i : ℕ) (ρ : Environment
 -- true or false in all of them
 abbrev pub Throughout : (Environment → Type 0) → Pred → Bool → Type 0
 Throughout E q b = (ρ : Environment) → E ρ → holds q ρ ≡ b
-
-pub record GuardRowAsked (table rows : List ℕ) (i : ℕ) (σ : Values) : Type 0 where
-  pub inside : i + 8 ≤ 16384
-  pub asked : Asked table (get_or rows (i + 1) 0) σ
-
-pub record GuardFails (table rows : List ℕ) (i : ℕ) (σ : Values) (r : Bool) : Type 0 where
-  pub fails : r ≡ true → Guard rows i × Answers table (get_or rows (i + 1) 0) σ false
-  pub passes : r ≡ false → Guard rows i → Answers table (get_or rows (i + 1) 0) σ true
 
 -- the cells of the j-th operation
 pub record OperationRead (table rows firsts cells : List ℕ) (p : Part) (j : ℕ) (d : Dossier) (op : Operation) : Type 0 where

@@ -23,10 +23,6 @@ pub record RowsFree (table rows : List ℕ) (from to slot : ℕ) : Type 0 where
 pub record RowsSay (table rows : List ℕ) (from to slot : ℕ) (r : Bool) : Type 0 where
   pub means : r ≡ true → RowsFree table rows from to slot
 
-pub record BitSays (table rows : List ℕ) (from to slot r : ℕ) : Type 0 where
-  pub low : r < 2
-  pub means : r ≡ 1 → RowsFree table rows from to slot
-
 -- the bits of the slots slot + k up to slot + count
 pub record BitsSay (table rows : List ℕ) (from to slot count k r : ℕ) : Type 0 where
   pub within : k ≤ count

@@ -1,5 +1,7 @@
 // Facts about a dossier by numbers of bindings, for a program that explains counterexamples: the values of the bindings that are shown. Numbers are those of the fixed order;
 // one that is out of range is answered, never refused.
+// Form 5: what is asked of the cells of both states is no invariant of `StateSearch`, which is also made of an operation's part and for `show`, where less is known; numbers of bindings
+// change with each call.
 #![tactic(auto)]
 
 pub mod conjuncts;
@@ -8,7 +10,7 @@ pub mod placing;
 pub mod searches;
 
 ghost use Rattle.std.specs.Prelude.{◌≡◌, ◌+◌, ◌*◌, ◌<◌, ◌≤◌};
-ghost use Rattle.part_places.specs.Places.{AllAsked};
+ghost use Rattle.part_places.specs.Places.{AllAsked, PartAsked, PartSet};
 ghost use Rattle.state_facts.specs.Shown.{PartOf, Shown};
 
 use part_places::{OBLIGATIONS, part_cells};
@@ -29,11 +31,26 @@ pub struct Numbers {
 }
 
 // What a search among states goes over: the dossier, the cells of a part's variables, and the part's sizes.
-#[derive(Clone, Copy)]
+#[derive(Drop)]
 struct StateSearch<'a> {
     dossier: Dossier<'a>,
-    cells: &'a [u32; CELLS],
+    cells: [u32; CELLS],
     part: Part,
+}
+
+// That of the k-th part.
+fn state_search<'a>(d: &Dossier<'a>, k: usize) -> StateSearch<'a>
+    requires { PartAsked d.now.table.now d.now.groups.now k }
+    ensures dossier { result.dossier ≡ d.now }
+    ensures cells { PartSet d.now.table.now d.now.groups.now k result.cells result.part }
+{
+    let mut cells = [0u32; CELLS];
+    let part = part_cells(d.table, d.groups, k, &mut cells);
+    StateSearch {
+        dossier: *d,
+        cells,
+        part,
+    }
 }
 
 // How many variables the groups have: of the abstract and the concrete state, inputs, outputs.
@@ -45,6 +62,9 @@ pub struct Sizes {
     pub vo: usize,
 }
 
+// The part of the check that has the groups of both states.
+const INITIALISATION: usize = 0;
+
 // The part of the check that has all groups of an operation, which is its correctness; without an operation the first one, which has those of both states.
 fn part_of(operations: usize, operation: usize) -> usize
     requires { operations ≤ 16 }
@@ -53,7 +73,7 @@ fn part_of(operations: usize, operation: usize) -> usize
     if operation < operations {
         return OBLIGATIONS + OBLIGATIONS * operation;
     }
-    0
+    INITIALISATION
 }
 
 // The slots get the values of the bindings with these numbers; a group whose number is out of range keeps its slots. Where the operation is none of the dossier's, it is the states alone.
@@ -61,15 +81,10 @@ pub fn show(d: &Dossier<'_>, operation: usize, x: Numbers, slots: &mut [i64; SLO
     requires { AllAsked d.now.table.now d.now.groups.now d.now.operations }
     ensures { Shown d.now.table.now d.now.groups.now d.now.operations operation x slots.new result }
 {
-    let mut cells = [0u32; CELLS];
-    let p = part_cells(
-        d.table,
-        d.groups,
-        part_of(d.operations, operation),
-        &mut cells,
-    );
-    put_states(&cells, p, x, slots);
-    put_parameters(&cells, p, x, slots);
+    let s = state_search(d, part_of(d.operations, operation));
+    let p = s.part;
+    put_states(&s.cells, p, x, slots);
+    put_parameters(&s.cells, p, x, slots);
     Sizes {
         va: p.vm,
         vc: p.vc,

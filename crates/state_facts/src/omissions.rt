@@ -1,13 +1,14 @@
 // Which variables a predicate leaves out: no conjunct of it mentions their slots.
 ghost use Rattle.std.specs.Prelude.{◌≡◌, ◌≤◌};
 ghost use Rattle.state_facts.specs.Reads.{ReadAsked};
-ghost use Rattle.state_facts.specs.Omissions.{RowsStand, RowsSay, BitSays, BitsSay, LeftOut};
+ghost use Rattle.state_facts.specs.Omissions.{RowsStand, RowsSay, BitsSay, LeftOut};
 
 use mentions::free_pred;
 use search_groups::Dossier;
 use search_groups::conjuncts::ROW;
 use slot_carriers::SLOTS;
 
+// Form 1: a place in a row, numbers of contexts and a base, no kinds.
 // Where a row has the end of its conjunct's table.
 const END: usize = 1;
 
@@ -23,52 +24,33 @@ const MOST: usize = 8;
 const BASE: usize = 2;
 
 // Do the conjuncts of the rows between two places leave out a slot? A no says nothing: a conjunct may mention a slot that its truth does not depend on.
-fn rows_free(t: &[u16; 16384], rows: &[u16; 16384], from: usize, to: usize, slot: usize) -> bool
-    requires { RowsStand t.now rows.now from to }
-    ensures { RowsSay t.now rows.now from to slot result }
+fn rows_free(d: &Dossier<'_>, from: usize, to: usize, slot: usize) -> bool
+    requires { RowsStand d.now.table.now d.now.rows.now from to }
+    ensures { RowsSay d.now.table.now d.now.rows.now from to slot result }
 {
-    let mut i = from;
-    while i < to {
-        let end = rows[i + END] as usize;
-        if !free_pred(t, end, slot) {
+    for i in (from..to).step_by(ROW) {
+        let end = d.rows[i + END] as usize;
+        if !free_pred(d.table, end, slot) {
             return false;
         }
-        i += ROW;
     }
     true
 }
 
-// The same as a bit.
-fn bit_of(t: &[u16; 16384], rows: &[u16; 16384], from: usize, to: usize, slot: usize) -> usize
-    requires { RowsStand t.now rows.now from to }
-    ensures { BitSays t.now rows.now from to slot result }
-{
-    if rows_free(t, rows, from, to, slot) {
-        return 1;
-    }
-    0
-}
-
 // The bits of the slots from one on, the first one's the lowest.
-fn bits_between(
-    t: &[u16; 16384],
-    rows: &[u16; 16384],
-    from: usize,
-    to: usize,
-    slot: usize,
-    count: usize,
-) -> usize
-    requires rows_stand { RowsStand t.now rows.now from to }
+fn bits_between(d: &Dossier<'_>, from: usize, to: usize, slot: usize, count: usize) -> usize
+    requires rows_stand { RowsStand d.now.table.now d.now.rows.now from to }
     requires slot_bound { (slot ≤ 64) × (count ≤ 8) }
-    ensures { BitsSay t.now rows.now from to slot count 0 result }
+    ensures { BitsSay d.now.table.now d.now.rows.now from to slot count 0 result }
 {
     let mut bits: usize = 0;
     for k in (0..count).rev() {
-        bits = bit_of(t, rows, from, to, slot + k) + BASE * bits;
+        bits = BASE * bits + usize::from(rows_free(d, from, to, slot + k));
     }
     bits
 }
 
+// Form 1: 0 says nothing of any slot, so its caller would do the same for `None`.
 // Which of at most 8 slots from one on the predicate of a context leaves out, by bits, the first slot's the lowest; 0 where a number is out of range. A bit that is not set says nothing.
 pub fn left_out(d: &Dossier<'_>, context: usize, slot: usize, count: usize) -> usize
     requires { ReadAsked d.now.table.now d.now.rows.now d.now.firsts.now d.now.groups.now d.now.operations }
@@ -85,5 +67,5 @@ pub fn left_out(d: &Dossier<'_>, context: usize, slot: usize, count: usize) -> u
     }
     let from = d.firsts[context] as usize;
     let to = d.firsts[context + 1] as usize;
-    bits_between(d.table, d.rows, from, to, slot, count)
+    bits_between(d, from, to, slot, count)
 }

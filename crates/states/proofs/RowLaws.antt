@@ -34,13 +34,6 @@ module _ (table rows : List ℕ) (to : ℕ) (σ : Values) where
   asked_of Γ W ρ at _ (more_rows {from = f} {p = p} l c o r) k h =
       record { scope = Γ; slots = W; environment = ρ; predicate = p; from = f; stands = c; held = k }
 
-  low_of : (Γ : Scope) (W : Slots) (at : ℕ) (ps : List Pred) → RowsAt table rows Γ W to at ps → at < to → get_or rows (at + 1) 0 ≤ 16384
-  low_of Γ W at _ (no_rows l) h = absurd (omega arith)
-  low_of Γ W at _ (more_rows l c o r) h = c.low
-
-  pub row_low : (at : ℕ) → RowsAsked table rows at to σ → at < to → get_or rows (at + 1) 0 ≤ 16384
-  row_low at a h = low_of a.scope a.slots at a.conjuncts a.stand h
-
   -- the conjunct of the first row
   pub first-asked : (at : ℕ) (τ : Values) → RowsAsked table rows at to σ → τ ≡ σ → at < to → Asked table (get_or rows (at + 1) 0) τ
   first-asked at τ a e h =

@@ -9,10 +9,11 @@ ghost use Rattle.states.specs.Promises.{RelatedAsked, RelatedAnswers};
 ghost use Rattle.states.specs.Promises.{AbstractStepAsked, AbstractStepAnswers, ConcreteStepAsked, ConcreteStepAnswers};
 
 use evaluator::SLOTS;
-use form::node;
-use search_groups::conjuncts::{FIRSTS, ROW};
+use search_groups::Dossier;
+use search_groups::conjuncts::ROW;
 use truths::truth;
 
+// Form 1: places in a row and among `firsts`, and how many of them an operation has: no kinds.
 // Where a row has the end of its conjunct's table.
 const END: usize = 1;
 
@@ -34,149 +35,113 @@ const SIDES: usize = 2;
 
 const CONCRETE_SIDE: usize = 1;
 
+// Form 2: `rows_free` of state_facts walks the rows alike and asks the table alone; here the values are lent to be written, and a closure that lends them needs more clauses than the walk has lines.
 // Do all conjuncts of the rows between two places hold? The first that does not decides.
-fn all_hold(
-    t: &[u16; node::NUMBERS],
-    rows: &[u16; node::NUMBERS],
-    from: usize,
-    to: usize,
-    slots: &mut [i64; SLOTS],
-) -> bool
-    requires { RowsAsked t.now rows.now from to slots.old }
-    ensures answers { RowsAnswer t.now rows.now from to slots.old result }
+fn all_hold(d: &Dossier<'_>, from: usize, to: usize, slots: &mut [i64; SLOTS]) -> bool
+    requires { RowsAsked d.now.table.now d.now.rows.now from to slots.old }
+    ensures answers { RowsAnswer d.now.table.now d.now.rows.now from to slots.old result }
     ensures kept { slots.new ≡ slots.old }
 {
-    let mut i = from;
-    while i < to {
-        let end = rows[i + END] as usize;
-        if !truth(t, end, slots) {
+    for i in (from..to).step_by(ROW) {
+        let end = d.rows[i + END] as usize;
+        if !truth(d.table, end, slots) {
             return false;
         }
-        i += ROW;
     }
     true
 }
 
 // Does the predicate of the n-th context hold (static_rules/specs/Scope.contexts)?
-pub fn context_holds(
-    t: &[u16; node::NUMBERS],
-    rows: &[u16; node::NUMBERS],
-    firsts: &[u16; FIRSTS],
-    n: usize,
-    slots: &mut [i64; SLOTS],
-) -> bool
-    requires { ContextAsked t.now rows.now firsts.now n slots.old }
-    ensures answers { ContextAnswers t.now rows.now firsts.now n slots.old result }
+pub fn context_holds(d: &Dossier<'_>, n: usize, slots: &mut [i64; SLOTS]) -> bool
+    requires { ContextAsked d.now.table.now d.now.rows.now d.now.firsts.now n slots.old }
+    ensures answers { ContextAnswers d.now.table.now d.now.rows.now d.now.firsts.now n slots.old result }
     ensures kept { slots.new ≡ slots.old }
 {
-    let from = firsts[n] as usize;
-    let to = firsts[n + 1] as usize;
-    all_hold(t, rows, from, to, slots)
+    let from = d.firsts[n] as usize;
+    let to = d.firsts[n + 1] as usize;
+    all_hold(d, from, to, slots)
 }
 
 // Is the binding of the abstract variables an initial state: a state that meets ainit?
-pub fn abstract_initial(
-    t: &[u16; node::NUMBERS],
-    rows: &[u16; node::NUMBERS],
-    firsts: &[u16; FIRSTS],
-    slots: &mut [i64; SLOTS],
-) -> bool
-    requires { AbstractInitialAsked t.now rows.now firsts.now slots.old }
-    ensures answers { AbstractInitialAnswers t.now rows.now firsts.now slots.old result }
+pub fn abstract_initial(d: &Dossier<'_>, slots: &mut [i64; SLOTS]) -> bool
+    requires { AbstractInitialAsked d.now.table.now d.now.rows.now d.now.firsts.now slots.old }
+    ensures answers { AbstractInitialAnswers d.now.table.now d.now.rows.now d.now.firsts.now slots.old result }
     ensures kept { slots.new ≡ slots.old }
 {
-    if !context_holds(t, rows, firsts, ABSTRACT, slots) {
+    if !context_holds(d, ABSTRACT, slots) {
         return false;
     }
-    context_holds(t, rows, firsts, AINIT, slots)
+    context_holds(d, AINIT, slots)
 }
 
-// The same of the concrete variables and cinit: of its own bindings is what it asks and promises, and the code that the two could share is two calls.
-pub fn concrete_initial(
-    t: &[u16; node::NUMBERS],
-    rows: &[u16; node::NUMBERS],
-    firsts: &[u16; FIRSTS],
-    slots: &mut [i64; SLOTS],
-) -> bool
-    requires { ConcreteInitialAsked t.now rows.now firsts.now slots.old }
-    ensures answers { ConcreteInitialAnswers t.now rows.now firsts.now slots.old result }
+// The same of the concrete variables and cinit.
+// Form 2: what it asks and promises is of its own bindings, and the code that the two could share is two calls.
+pub fn concrete_initial(d: &Dossier<'_>, slots: &mut [i64; SLOTS]) -> bool
+    requires { ConcreteInitialAsked d.now.table.now d.now.rows.now d.now.firsts.now slots.old }
+    ensures answers { ConcreteInitialAnswers d.now.table.now d.now.rows.now d.now.firsts.now slots.old result }
     ensures kept { slots.new ≡ slots.old }
 {
-    if !context_holds(t, rows, firsts, CONCRETE, slots) {
+    if !context_holds(d, CONCRETE, slots) {
         return false;
     }
-    context_holds(t, rows, firsts, CINIT, slots)
+    context_holds(d, CINIT, slots)
 }
 
 // Are both bindings states, and related by retrieve?
-pub fn related(
-    t: &[u16; node::NUMBERS],
-    rows: &[u16; node::NUMBERS],
-    firsts: &[u16; FIRSTS],
-    slots: &mut [i64; SLOTS],
-) -> bool
-    requires { RelatedAsked t.now rows.now firsts.now slots.old }
-    ensures answers { RelatedAnswers t.now rows.now firsts.now slots.old result }
+pub fn related(d: &Dossier<'_>, slots: &mut [i64; SLOTS]) -> bool
+    requires { RelatedAsked d.now.table.now d.now.rows.now d.now.firsts.now slots.old }
+    ensures answers { RelatedAnswers d.now.table.now d.now.rows.now d.now.firsts.now slots.old result }
     ensures kept { slots.new ≡ slots.old }
 {
-    if !context_holds(t, rows, firsts, ABSTRACT, slots) {
+    if !context_holds(d, ABSTRACT, slots) {
         return false;
     }
-    if !context_holds(t, rows, firsts, CONCRETE, slots) {
+    if !context_holds(d, CONCRETE, slots) {
         return false;
     }
-    context_holds(t, rows, firsts, RETRIEVE, slots)
+    context_holds(d, RETRIEVE, slots)
 }
 
 // Is it a step of the k-th operation's abstract side? `slots` has the state before, the state after under its primed slots, inputs and outputs; `later` has the
 // state after under the plain slots, so that the nodes of the state's predicate serve both states.
 pub fn abstract_step(
-    t: &[u16; node::NUMBERS],
-    rows: &[u16; node::NUMBERS],
-    firsts: &[u16; FIRSTS],
+    d: &Dossier<'_>,
     k: usize,
     slots: &mut [i64; SLOTS],
     later: &mut [i64; SLOTS],
 ) -> bool
-    requires { AbstractStepAsked t.now rows.now firsts.now k slots.old later.old }
-    ensures answers { AbstractStepAnswers t.now rows.now firsts.now k slots.old later.old result }
+    requires { AbstractStepAsked d.now.table.now d.now.rows.now d.now.firsts.now k slots.old later.old }
+    ensures answers { AbstractStepAnswers d.now.table.now d.now.rows.now d.now.firsts.now k slots.old later.old result }
     ensures kept { slots.new ≡ slots.old }
     ensures later_kept { later.new ≡ later.old }
 {
-    if !context_holds(t, rows, firsts, ABSTRACT, slots) {
+    if !context_holds(d, ABSTRACT, slots) {
         return false;
     }
-    if !context_holds(t, rows, firsts, ABSTRACT, later) {
+    if !context_holds(d, ABSTRACT, later) {
         return false;
     }
-    context_holds(t, rows, firsts, OPERATIONS + SIDES * k, slots)
+    context_holds(d, OPERATIONS + SIDES * k, slots)
 }
 
-// The same of its concrete side, for the reason of `concrete_initial` a function of its own.
+// The same of its concrete side.
+// Form 2: as `concrete_initial`.
 pub fn concrete_step(
-    t: &[u16; node::NUMBERS],
-    rows: &[u16; node::NUMBERS],
-    firsts: &[u16; FIRSTS],
+    d: &Dossier<'_>,
     k: usize,
     slots: &mut [i64; SLOTS],
     later: &mut [i64; SLOTS],
 ) -> bool
-    requires { ConcreteStepAsked t.now rows.now firsts.now k slots.old later.old }
-    ensures answers { ConcreteStepAnswers t.now rows.now firsts.now k slots.old later.old result }
+    requires { ConcreteStepAsked d.now.table.now d.now.rows.now d.now.firsts.now k slots.old later.old }
+    ensures answers { ConcreteStepAnswers d.now.table.now d.now.rows.now d.now.firsts.now k slots.old later.old result }
     ensures kept { slots.new ≡ slots.old }
     ensures later_kept { later.new ≡ later.old }
 {
-    if !context_holds(t, rows, firsts, CONCRETE, slots) {
+    if !context_holds(d, CONCRETE, slots) {
         return false;
     }
-    if !context_holds(t, rows, firsts, CONCRETE, later) {
+    if !context_holds(d, CONCRETE, later) {
         return false;
     }
-    context_holds(
-        t,
-        rows,
-        firsts,
-        OPERATIONS + SIDES * k + CONCRETE_SIDE,
-        slots,
-    )
+    context_holds(d, OPERATIONS + SIDES * k + CONCRETE_SIDE, slots)
 }

@@ -4,4 +4,4 @@ pub mod Samples
 pub use Rattle.form.proofs.PlainSymbols as FormPlainSymbols
 pub use Rattle.form.proofs.ScannedSymbols as FormScannedSymbols
 pub use Rattle.form.proofs.Table as FormTable
-pub use Rattle.form.proofs.SymbolsBooleanTests as SymbolsBooleanTests
+pub use Rattle.form.proofs.LexicalBooleanTests as LexicalBooleanTests

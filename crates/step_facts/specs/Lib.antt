@@ -1,1 +1,2 @@
 pub mod FactPromises
+pub mod Sides

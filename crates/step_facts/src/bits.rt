@@ -2,42 +2,50 @@
 ghost use Rattle.std.specs.Prelude.{◌≡◌, ◌<◌, length, get_or};
 ghost use Rattle.memo.specs.MemoPromises.{Memo};
 ghost use Rattle.step_searches.specs.StepPromises.{StepsAsked};
+ghost use Rattle.step_facts.specs.Sides.{is_abstract};
 ghost use Rattle.step_facts.specs.FactPromises.{AbleIs, states_of, BitsAre, MasksAre};
 
 use plans::PartSearch;
 use step_searches::{next_abstract_step, next_concrete_step};
 
-// Can the abstract side step from its state s with the inputs i, or the concrete side from its own?
+// Form 1: one of the two machines, no result.
+#[derive(Clone, Copy)]
+pub enum Side {
+    Abstract,
+    Concrete,
+}
+
+// Can a side step from its state x with the inputs i?
 pub fn able(
     s: &PartSearch<'_>,
-    abstractly: bool,
+    side: Side,
     x: usize,
     i: usize,
     memo: &mut [u64; memo::NUMBERS],
 ) -> bool
-    requires s_bound { (x < states_of s.now.part abstractly) × (i < s.now.part.ni) }
+    requires s_bound { (x < states_of s.now.part (is_abstract side)) × (i < s.now.part.ni) }
     requires steps_asked { StepsAsked s.now.table.now s.now.plan.now s.now.cells.now s.now.part }
     requires memo { Memo s.now.table.now memo.old }
-    ensures found { AbleIs s.now.table.now s.now.plan.now s.now.cells.now s.now.part abstractly x i result }
+    ensures found { AbleIs s.now.table.now s.now.plan.now s.now.cells.now s.now.part (is_abstract side) x i result }
     ensures remembers { Memo s.now.table.now memo.new }
 {
-    if abstractly {
-        return next_abstract_step(s, x, i, 0, memo).is_some();
+    match side {
+        Side::Abstract => next_abstract_step(s, x, i, 0, memo).is_some(),
+        Side::Concrete => next_concrete_step(s, x, i, 0, memo).is_some(),
     }
-    next_concrete_step(s, x, i, 0, memo).is_some()
 }
 
 // The inputs with which it can, as bits; the last one's first, so that each one doubles what is there.
-pub fn bits(s: &PartSearch<'_>, abstractly: bool, x: usize, memo: &mut [u64; memo::NUMBERS]) -> u64
-    requires s_bound { x < states_of s.now.part abstractly }
+pub fn bits(s: &PartSearch<'_>, side: Side, x: usize, memo: &mut [u64; memo::NUMBERS]) -> u64
+    requires s_bound { x < states_of s.now.part (is_abstract side) }
     requires steps_asked { StepsAsked s.now.table.now s.now.plan.now s.now.cells.now s.now.part }
     requires memo { Memo s.now.table.now memo.old }
-    ensures found { BitsAre s.now.table.now s.now.plan.now s.now.cells.now s.now.part abstractly x result }
+    ensures found { BitsAre s.now.table.now s.now.plan.now s.now.cells.now s.now.part (is_abstract side) x result }
     ensures remembers { Memo s.now.table.now memo.new }
 {
     let mut m: u64 = 0;
     for i in (0..s.part.ni).rev() {
-        m = 2 * m + u64::from(able(s, abstractly, x, i, memo));
+        m = 2 * m + u64::from(able(s, side, x, i, memo));
     }
     m
 }
@@ -51,7 +59,7 @@ pub fn fill_masks(s: &PartSearch<'_>, masks: &mut [u64], memo: &mut [u64; memo::
     ensures remembers { Memo s.now.table.now memo.new }
 {
     for c in 0..s.part.nc {
-        let m = bits(s, false, c, memo);
+        let m = bits(s, Side::Concrete, c, memo);
         masks[c] = m;
     }
 }

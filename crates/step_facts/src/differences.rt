@@ -3,13 +3,12 @@ ghost use Rattle.std.specs.Prelude.{◌≡◌, true, false, ◌<◌, ◌≤◌};
 ghost use Rattle.memo.specs.MemoPromises.{Memo};
 ghost use Rattle.step_searches.specs.StepPromises.{StepsAsked, First};
 ghost use Rattle.state_facts.specs.Reads.{ReadAsked};
+ghost use Rattle.step_facts.specs.Sides.{is_abstract};
 ghost use Rattle.step_facts.specs.FactPromises.{MasksAre, more, FirstMore, PlaceFrom, PlaceAmong, PlaceIs};
 
-use crate::PLAN;
-use crate::bits::{bits, fill_masks, mask_at};
+use crate::bits::{Side, bits, fill_masks, mask_at};
 use plans::PartSearch;
 use search_groups::Dossier;
-use slot_carriers::CELLS;
 use step_searches::{next_abstract_state, next_related_state, prepare};
 
 // The most bindings that a state has.
@@ -35,21 +34,21 @@ fn first_more(s: u64, m: u64, n: usize) -> Option<usize>
     )
 }
 
-// The first input with which the one side can step and the other cannot; s are the bits of the abstract side.
-fn first_difference(narrowed: bool, s: u64, m: u64, n: usize) -> Option<usize>
+// The first input with which the side can step and the other cannot; s are the bits of the abstract side.
+fn first_difference(side: Side, s: u64, m: u64, n: usize) -> Option<usize>
     requires { n ≤ 64 }
-    ensures { FirstMore narrowed s m n result }
+    ensures { FirstMore (is_abstract side) s m n result }
 {
-    if narrowed {
-        return first_more(s, m, n);
+    match side {
+        Side::Abstract => first_more(s, m, n),
+        Side::Concrete => first_more(m, s, n),
     }
-    first_more(m, s, n)
 }
 
-// The first concrete state related to the abstract state a, and the first inputs, where the sides differ so.
+// The first concrete state related to the abstract state a, and the first inputs, where the side can step and the other cannot.
 fn place_from(
     s: &PartSearch<'_>,
-    narrowed: bool,
+    side: Side,
     a: usize,
     masks: &[u64],
     memo: &mut [u64; memo::NUMBERS],
@@ -58,13 +57,13 @@ fn place_from(
     requires steps_asked { StepsAsked s.now.table.now s.now.plan.now s.now.cells.now s.now.part }
     requires memo { Memo s.now.table.now memo.old }
     requires masks_are { MasksAre s.now.table.now s.now.plan.now s.now.cells.now s.now.part s.now.part.nc masks.now }
-    ensures found { PlaceFrom s.now.table.now s.now.plan.now s.now.cells.now s.now.part narrowed a result }
+    ensures found { PlaceFrom s.now.table.now s.now.plan.now s.now.cells.now s.now.part (is_abstract side) a result }
     ensures remembers { Memo s.now.table.now memo.new }
 {
-    let m = bits(s, true, a, memo);
+    let m = bits(s, Side::Abstract, a, memo);
     let mut next = next_related_state(s, a, 0, memo);
     while let Some(c) = next {
-        if let Some(i) = first_difference(narrowed, m, mask_at(masks, c), s.part.ni) {
+        if let Some(i) = first_difference(side, m, mask_at(masks, c), s.part.ni) {
             return Some(Place { a, c, i });
         }
         next = next_related_state(s, a, c + 1, memo);
@@ -75,19 +74,19 @@ fn place_from(
 // The first abstract state, concrete state and inputs where they do.
 fn place_among(
     s: &PartSearch<'_>,
-    narrowed: bool,
+    side: Side,
     masks: &[u64],
     memo: &mut [u64; memo::NUMBERS],
 ) -> Option<Place>
     requires steps_asked { StepsAsked s.now.table.now s.now.plan.now s.now.cells.now s.now.part }
     requires memo { Memo s.now.table.now memo.old }
     requires masks_are { MasksAre s.now.table.now s.now.plan.now s.now.cells.now s.now.part s.now.part.nc masks.now }
-    ensures found { PlaceAmong s.now.table.now s.now.plan.now s.now.cells.now s.now.part narrowed result }
+    ensures found { PlaceAmong s.now.table.now s.now.plan.now s.now.cells.now s.now.part (is_abstract side) result }
     ensures remembers { Memo s.now.table.now memo.new }
 {
     let mut next = next_abstract_state(s, 0, memo);
     while let Some(a) = next {
-        if let Some(x) = place_from(s, narrowed, a, masks, memo) {
+        if let Some(x) = place_from(s, side, a, masks, memo) {
             return Some(x);
         }
         next = next_abstract_state(s, a + 1, memo);
@@ -96,26 +95,19 @@ fn place_among(
 }
 
 // The same for operation j of the arrays.
-fn differing(d: &Dossier<'_>, j: usize, narrowed: bool) -> Option<Place>
+fn differing(d: &Dossier<'_>, j: usize, side: Side) -> Option<Place>
     requires { ReadAsked d.now.table.now d.now.rows.now d.now.firsts.now d.now.groups.now d.now.operations }
-    ensures { PlaceIs d.now.table.now d.now.rows.now d.now.firsts.now d.now.groups.now d.now.operations j narrowed result }
+    ensures { PlaceIs d.now.table.now d.now.rows.now d.now.firsts.now d.now.groups.now d.now.operations j (is_abstract side) result }
 {
     if d.operations <= j {
         return None;
     }
-    let mut cells = [0u32; CELLS];
-    let mut plan = [0u16; PLAN];
-    let part = prepare(d, j, &mut cells, &mut plan);
-    let s = PartSearch {
-        table: d.table,
-        plan: &plan,
-        cells: &cells,
-        part,
-    };
+    let ready = prepare(d, j);
+    let s = ready.search(d.table);
     let mut memo = [0u64; memo::NUMBERS];
     let mut masks = [0u64; STATES];
     fill_masks(&s, &mut masks, &mut memo);
-    place_among(&s, narrowed, &masks, &mut memo)
+    place_among(&s, side, &masks, &mut memo)
 }
 
 // The first abstract state, concrete state related to it, and inputs with which the abstract side of operation j can step and the concrete side cannot; none where there is none.
@@ -123,7 +115,7 @@ pub fn narrowed(d: &Dossier<'_>, j: usize) -> Option<Place>
     requires { ReadAsked d.now.table.now d.now.rows.now d.now.firsts.now d.now.groups.now d.now.operations }
     ensures { PlaceIs d.now.table.now d.now.rows.now d.now.firsts.now d.now.groups.now d.now.operations j true result }
 {
-    differing(d, j, true)
+    differing(d, j, Side::Abstract)
 }
 
 // Those with which the concrete side can step and the abstract side cannot.
@@ -131,5 +123,5 @@ pub fn widened(d: &Dossier<'_>, j: usize) -> Option<Place>
     requires { ReadAsked d.now.table.now d.now.rows.now d.now.firsts.now d.now.groups.now d.now.operations }
     ensures { PlaceIs d.now.table.now d.now.rows.now d.now.firsts.now d.now.groups.now d.now.operations j false result }
 {
-    differing(d, j, false)
+    differing(d, j, Side::Concrete)
 }

@@ -1,5 +1,7 @@
 // Facts about an operation of a dossier, by numbers of bindings, from the searches for single states and steps: for a program that explains counterexamples. A number that is out of range is
 // answered, never refused.
+// Form 3: in the loops by `while` the next place is what a search answers, which is lent the memory that the body is lent too: an iterator would have to own it.
+// Form 5: which operation a search goes over is no invariant of `PartSearch`, which is that of every part; masks and memory are lent for a call.
 #![tactic(auto)]
 
 ghost use Rattle.std.specs.Prelude.{◌≡◌};
@@ -7,10 +9,8 @@ ghost use Rattle.state_facts.specs.Reads.{ReadAsked};
 ghost use Rattle.step_facts.specs.FactPromises.{SpansAre, AbstractStepIs, found_step};
 
 pub use differences::{Place, narrowed, widened};
-use plans::PartSearch;
 pub use runs::{Beginning, BothStep, Pair, begin, step};
 use search_groups::Dossier;
-use slot_carriers::CELLS;
 use step_searches::{next_abstract_step, prepare, prepare_opening};
 pub use totals::{abstract_states, promises, related_pairs};
 
@@ -18,9 +18,6 @@ mod bits;
 mod differences;
 mod runs;
 mod totals;
-
-// How many numbers a plan has.
-const PLAN: usize = 20560;
 
 // How many bindings the groups of an operation have: abstract states, concrete states, inputs, outputs.
 #[derive(Clone, Copy)]
@@ -36,26 +33,25 @@ pub fn spans(d: &Dossier<'_>, j: usize) -> Widths
     requires { ReadAsked d.now.table.now d.now.rows.now d.now.firsts.now d.now.groups.now d.now.operations }
     ensures { SpansAre d.now.table.now d.now.rows.now d.now.firsts.now d.now.groups.now d.now.operations j result }
 {
-    let mut cells = [0u32; CELLS];
-    let mut plan = [0u16; PLAN];
     if j < d.operations {
-        let p = prepare(d, j, &mut cells, &mut plan);
+        let ready = prepare(d, j);
         return Widths {
-            na: p.na,
-            nc: p.nc,
-            ni: p.ni,
-            nq: p.nq,
+            na: ready.part.na,
+            nc: ready.part.nc,
+            ni: ready.part.ni,
+            nq: ready.part.nq,
         };
     }
-    let p = prepare_opening(d, &mut cells, &mut plan);
+    let ready = prepare_opening(d);
     Widths {
-        na: p.nm,
-        nc: p.nc,
+        na: ready.part.nm,
+        nc: ready.part.nc,
         ni: 1,
         nq: 1,
     }
 }
 
+// Form 1: three answers; an `Option` of an `Option` would not say which `None` is which.
 // The next step of an operation by its number, if there is one; `Beyond` where the numbers that it is asked for with are none of the operation's.
 #[derive(Clone, Copy)]
 pub enum NextStep {
@@ -85,24 +81,17 @@ pub fn abstract_step(d: &Dossier<'_>, j: usize, a: usize, i: usize, from: usize)
     if d.operations <= j {
         return NextStep::Beyond;
     }
-    let mut cells = [0u32; CELLS];
-    let mut plan = [0u16; PLAN];
-    let part = prepare(d, j, &mut cells, &mut plan);
-    if part.na <= a {
+    let ready = prepare(d, j);
+    if ready.part.na <= a {
         return NextStep::Beyond;
     }
-    if part.ni <= i {
+    if ready.part.ni <= i {
         return NextStep::Beyond;
     }
-    if part.nr < from {
+    if ready.part.nr < from {
         return NextStep::Beyond;
     }
-    let s = PartSearch {
-        table: d.table,
-        plan: &plan,
-        cells: &cells,
-        part,
-    };
+    let s = ready.search(d.table);
     let mut memo = [0u64; memo::NUMBERS];
     let step = next_abstract_step(&s, a, i, from, &mut memo);
     match step {

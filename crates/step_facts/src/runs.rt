@@ -5,11 +5,9 @@ ghost use Rattle.step_searches.specs.StepPromises.{StepsAsked};
 ghost use Rattle.state_facts.specs.Reads.{ReadAsked};
 ghost use Rattle.step_facts.specs.FactPromises.{BeginIs, StepFound, StepIs};
 
-use crate::PLAN;
-use crate::bits::able;
+use crate::bits::{Side, able};
 use plans::PartSearch;
 use search_groups::Dossier;
-use slot_carriers::CELLS;
 use step_searches::{
     Stepped, next_concrete_step, next_initial_match, next_initial_state, next_matching_state,
     prepare, prepare_opening,
@@ -22,6 +20,7 @@ pub struct Pair {
     pub c: usize,
 }
 
+// Form 1: three cases with other contents each.
 // Where a run begins: in a concrete initial state and an abstract one that is related to it; in a concrete initial state that no abstract one is related to; nowhere.
 #[derive(Clone, Copy)]
 pub enum Beginning {
@@ -44,15 +43,8 @@ pub fn begin(d: &Dossier<'_>) -> Beginning
     requires { ReadAsked d.now.table.now d.now.rows.now d.now.firsts.now d.now.groups.now d.now.operations }
     ensures { BeginIs d.now.table.now d.now.rows.now d.now.firsts.now d.now.groups.now d.now.operations result }
 {
-    let mut cells = [0u32; CELLS];
-    let mut plan = [0u16; PLAN];
-    let part = prepare_opening(d, &mut cells, &mut plan);
-    let s = PartSearch {
-        table: d.table,
-        plan: &plan,
-        cells: &cells,
-        part,
-    };
+    let ready = prepare_opening(d);
+    let s = ready.search(d.table);
     let mut memo = [0u64; memo::NUMBERS];
     let Some(c) = next_initial_state(&s, 0, &mut memo) else {
         return Beginning::Nowhere;
@@ -77,7 +69,7 @@ fn step_at(
     ensures found { StepFound s.now.table.now s.now.plan.now s.now.cells.now s.now.part a c result }
     ensures remembers { Memo s.now.table.now memo.new }
 {
-    if !able(s, true, a, i, memo) {
+    if !able(s, Side::Abstract, a, i, memo) {
         return None;
     }
     let x = next_concrete_step(s, c, i, 0, memo)?;
@@ -117,21 +109,14 @@ pub fn step(d: &Dossier<'_>, j: usize, a: usize, c: usize) -> Option<BothStep>
     if d.operations <= j {
         return None;
     }
-    let mut cells = [0u32; CELLS];
-    let mut plan = [0u16; PLAN];
-    let part = prepare(d, j, &mut cells, &mut plan);
-    if part.na <= a {
+    let ready = prepare(d, j);
+    if ready.part.na <= a {
         return None;
     }
-    if part.nc <= c {
+    if ready.part.nc <= c {
         return None;
     }
-    let s = PartSearch {
-        table: d.table,
-        plan: &plan,
-        cells: &cells,
-        part,
-    };
+    let s = ready.search(d.table);
     let mut memo = [0u64; memo::NUMBERS];
     step_from(&s, a, c, &mut memo)
 }

@@ -1,4 +1,6 @@
 // How many states, related pairs and promised steps there are.
+// Form 2: the sums differ in what a state counts for. As a closure, which is lent the memory, each would need clauses of its own for what it is asked and what it leaves (a state of the
+// part, the operation of its searches, the memory): more lines than its loop.
 ghost use Rattle.std.specs.Prelude.{◌<◌};
 ghost use Rattle.memo.specs.MemoPromises.{Memo};
 ghost use Rattle.step_searches.specs.StepPromises.{StepsAsked};
@@ -6,11 +8,9 @@ ghost use Rattle.state_facts.specs.Reads.{ReadAsked};
 ghost use Rattle.step_facts.specs.FactPromises.{Summed, one, state_test, related_test, ready_test, related_below, ready_below};
 ghost use Rattle.step_facts.specs.FactPromises.{StatesCounted, PairsCounted, PromisesCounted};
 
-use crate::PLAN;
-use crate::bits::able;
+use crate::bits::{Side, able};
 use plans::PartSearch;
 use search_groups::Dossier;
-use slot_carriers::CELLS;
 use step_searches::{next_abstract_state, next_related_state, prepare};
 
 // The operation that is asked for what all of them have in common.
@@ -59,7 +59,7 @@ fn count_ready(s: &PartSearch<'_>, a: usize, memo: &mut [u64; memo::NUMBERS]) ->
 {
     let mut n = 0;
     for i in 0..s.part.ni {
-        n += usize::from(able(s, true, a, i, memo));
+        n += usize::from(able(s, Side::Abstract, a, i, memo));
     }
     n
 }
@@ -104,15 +104,8 @@ pub fn abstract_states(d: &Dossier<'_>) -> usize
     if d.operations <= FIRST {
         return 0;
     }
-    let mut cells = [0u32; CELLS];
-    let mut plan = [0u16; PLAN];
-    let part = prepare(d, FIRST, &mut cells, &mut plan);
-    let s = PartSearch {
-        table: d.table,
-        plan: &plan,
-        cells: &cells,
-        part,
-    };
+    let ready = prepare(d, FIRST);
+    let s = ready.search(d.table);
     let mut memo = [0u64; memo::NUMBERS];
     count_states(&s, &mut memo)
 }
@@ -125,15 +118,8 @@ pub fn related_pairs(d: &Dossier<'_>) -> usize
     if d.operations <= FIRST {
         return 0;
     }
-    let mut cells = [0u32; CELLS];
-    let mut plan = [0u16; PLAN];
-    let part = prepare(d, FIRST, &mut cells, &mut plan);
-    let s = PartSearch {
-        table: d.table,
-        plan: &plan,
-        cells: &cells,
-        part,
-    };
+    let ready = prepare(d, FIRST);
+    let s = ready.search(d.table);
     let mut memo = [0u64; memo::NUMBERS];
     count_pairs(&s, &mut memo)
 }
@@ -146,15 +132,8 @@ pub fn promises(d: &Dossier<'_>, j: usize) -> usize
     if d.operations <= j {
         return 0;
     }
-    let mut cells = [0u32; CELLS];
-    let mut plan = [0u16; PLAN];
-    let part = prepare(d, j, &mut cells, &mut plan);
-    let s = PartSearch {
-        table: d.table,
-        plan: &plan,
-        cells: &cells,
-        part,
-    };
+    let ready = prepare(d, j);
+    let s = ready.search(d.table);
     let mut memo = [0u64; memo::NUMBERS];
     count_promises(&s, &mut memo)
 }

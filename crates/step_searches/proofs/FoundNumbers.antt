@@ -21,7 +21,7 @@ use Rattle.seek.specs.SeekPromises.{SeekAsked, SeekAnswers}
 use Rattle.parts.proofs.PartSearchesSlotGroups.{upward-long, distinct-upward, Filled, filled}
 use Rattle.parts.proofs.PartSearchesFoundBindings.{group-counts}
 use Rattle.parts.proofs.PartSearchesNestParts.{outside-run, run-apart}
-use Rattle.step_searches.specs.StepPromises.{PutAsked}
+use Rattle.step_searches.specs.StepPromises.{Bindable}
 
 -- every variable has its first value
 abbrev pub origin : Point
@@ -81,11 +81,8 @@ module _ {cells : List ℕ} {base : ℕ} {vs : List Variable} (c : Group cells b
       let e : base + (s - base) ≡ s = omega arith in
       subst (λ (x : ℕ). Filled cells x) e (filled cells base vs c.each (s - base) (omega arith))
 
-  pub put-asked : base + length vs ≤ 38 → {k : ℕ} {δ : Point} {before : List (List ℤ)} → Shows cells δ before → k < binding_count vs
-      → PutAsked cells base (length vs) (binding_count vs) k before
-  put-asked h {δ = δ} σ l = record {
-    point = δ;
-    shows = σ;
+  pub bindable : base + length vs ≤ 38 → {k : ℕ} → k < binding_count vs → Bindable cells base (length vs) (binding_count vs) k
+  bindable h l = record {
     low = h;
     values = λ s f g. (slot-filled s f g).values;
     some = λ s f g. (slot-filled s f g).some;

@@ -17,8 +17,8 @@ use Rattle.plans.specs.declared.Part.{Part}
 use Rattle.part_setup.specs.PartTestsPartGroups.{opening_part}
 use Rattle.part_setup.specs.PartTestsPartsByNumber.{abstract_at, initial, initial_match}
 use Rattle.parts.proofs.PartSearchesSlotGroups.{upward-long}
-use Rattle.step_searches.specs.StepPromises.{PutAsked, OpeningSearches, abstract_group, concrete_group}
-use Rattle.step_searches.proofs.FoundNumbers.{origin, asks, finds, Group, group-span, put-asked, has, kept_above}
+use Rattle.step_searches.specs.StepPromises.{Bindable, OpeningSearches, abstract_group, concrete_group}
+use Rattle.step_searches.proofs.FoundNumbers.{origin, asks, finds, Group, group-span, bindable, has, kept_above}
 use Rattle.step_searches.proofs.FoundSteps.{low-enough, from_concrete}
 
 module _ {table plan cells : List ℕ} {p : Part} {d : Dossier} (x : OpeningSearches table plan cells p d) where
@@ -45,11 +45,12 @@ module _ {table plan cells : List ℕ} {p : Part} {d : Dossier} (x : OpeningSear
       by_part (λ (z : Part). ((0 < z.nc) × (z.nc ≤ 4096)) × ((0 < z.nm) × (z.nm ≤ 4096)))
       ((bindings-some cs, x.few.concrete_bindings_lem), (bindings-some us, x.few.abstract_bindings_lem))
 
-  module _ {δ : Point} {before : List (List ℤ)} (σ : Shows cells δ before) {k : ℕ} where
-    pub put-concrete : k < p.nc → PutAsked cells 8 p.vc p.nc k before
+  module _ {k : ℕ} where
+    pub put-concrete : k < p.nc → Bindable cells 8 p.vc p.nc k
     put-concrete =
-        by_part (λ (z : Part). k < z.nc → PutAsked cells 8 z.vc z.nc k before) (λ l. put-asked concretes (omega (arith, x.few.concretes)) σ l)
+        by_part (λ (z : Part). k < z.nc → Bindable cells 8 z.vc z.nc k) (λ l. bindable concretes (omega (arith, x.few.concretes)) l)
 
+  module _ {δ : Point} {before : List (List ℤ)} (σ : Shows cells δ before) {k : ℕ} where
     pub ask-initials : k ≤ p.nc → SeekAsked table plan cells 1 0 p.vc p.nc k before
     ask-initials =
         by_part (λ (z : Part). k ≤ z.nc → SeekAsked table plan cells 1 0 z.vc z.nc k before)

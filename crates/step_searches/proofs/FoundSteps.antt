@@ -20,9 +20,9 @@ use Rattle.plans.specs.declared.Part.{Part}
 use Rattle.part_setup.specs.PartTestsPartGroups.{correctness_part}
 use Rattle.part_setup.specs.PartTestsPartsByNumber.{abstract_at, concrete_at, output_at, abstract_state, related_to, abstractly, concretely, match}
 use Rattle.parts.proofs.PartSearchesSlotGroups.{upward-long}
-use Rattle.step_searches.specs.StepPromises.{PutAsked, StepSearches}
+use Rattle.step_searches.specs.StepPromises.{Bindable, StepSearches}
 use Rattle.step_searches.specs.StepPromises.{abstract_group, concrete_group, concrete_after_group, abstract_after_group, input_group, output_group}
-use Rattle.step_searches.proofs.FoundNumbers.{origin, asks, finds, Group, group-span, put-asked, has, kept-below}
+use Rattle.step_searches.proofs.FoundNumbers.{origin, asks, finds, Group, group-span, bindable, has, kept-below}
 use Rattle.step_searches.proofs.FoundNumbers.{both-few, both_long, both_span, both-placed, first_low, second_low}
 
 pub low-enough : (n : ℕ) → n ≤ 4096 → n ≤ 2 ^ 18
@@ -96,34 +96,35 @@ module _ {table plan cells : List ℕ} {p : Part} {d : Dossier} {op : Operation}
 
   -- ---- groups at given numbers
 
-  module _ {δ : Point} {before : List (List ℤ)} (σ : Shows cells δ before) {k : ℕ} where
-    pub put-abstract : k < p.na → PutAsked cells 0 p.va p.na k before
+  module _ {k : ℕ} where
+    pub put-abstract : k < p.na → Bindable cells 0 p.va p.na k
     put-abstract =
-        by_part (λ (z : Part). k < z.na → PutAsked cells 0 z.va z.na k before)
-        (λ l. put-asked abstracts (omega (arith, x.few.abstracts)) σ l)
+        by_part (λ (z : Part). k < z.na → Bindable cells 0 z.va z.na k)
+        (λ l. bindable abstracts (omega (arith, x.few.abstracts)) l)
 
-    pub put-concrete : k < p.nc → PutAsked cells 8 p.vc p.nc k before
+    pub put-concrete : k < p.nc → Bindable cells 8 p.vc p.nc k
     put-concrete =
-        by_part (λ (z : Part). k < z.nc → PutAsked cells 8 z.vc z.nc k before)
-        (λ l. put-asked concretes (omega (arith, x.few.concretes)) σ l)
+        by_part (λ (z : Part). k < z.nc → Bindable cells 8 z.vc z.nc k)
+        (λ l. bindable concretes (omega (arith, x.few.concretes)) l)
 
-    pub put-inputs : k < p.ni → PutAsked cells 16 p.vi p.ni k before
+    pub put-inputs : k < p.ni → Bindable cells 16 p.vi p.ni k
     put-inputs =
-        by_part (λ (z : Part). k < z.ni → PutAsked cells 16 z.vi z.ni k before)
-        (λ l. put-asked inward (omega (arith, x.inputs_few)) σ l)
+        by_part (λ (z : Part). k < z.ni → Bindable cells 16 z.vi z.ni k)
+        (λ l. bindable inward (omega (arith, x.inputs_few)) l)
 
-    pub put-outputs : k < p.nq → PutAsked cells 19 p.vo p.nq k before
+    pub put-outputs : k < p.nq → Bindable cells 19 p.vo p.nq k
     put-outputs =
-        by_part (λ (z : Part). k < z.nq → PutAsked cells 19 z.vo z.nq k before)
-        (λ l. put-asked outward (omega (arith, x.outputs_few)) σ l)
+        by_part (λ (z : Part). k < z.nq → Bindable cells 19 z.vo z.nq k)
+        (λ l. bindable outward (omega (arith, x.outputs_few)) l)
 
-    pub put-concrete-after : k < p.nc → PutAsked cells 22 p.vk p.nk k before
+    pub put-concrete-after : k < p.nc → Bindable cells 22 p.vk p.nk k
     put-concrete-after =
-        by_part (λ (z : Part). k < z.nc → PutAsked cells 22 z.vk z.nk k before)
-        (λ l. put-asked concretes-after (omega (arith, x.few.concretes)) σ l)
+        by_part (λ (z : Part). k < z.nc → Bindable cells 22 z.vk z.nk k)
+        (λ l. bindable concretes-after (omega (arith, x.few.concretes)) l)
 
-    -- ---- what the searches are asked
+  -- ---- what the searches are asked
 
+  module _ {δ : Point} {before : List (List ℤ)} (σ : Shows cells δ before) {k : ℕ} where
     pub ask-states : k ≤ p.na → SeekAsked table plan cells 0 0 p.va p.na k before
     ask-states =
         by_part (λ (z : Part). k ≤ z.na → SeekAsked table plan cells 0 0 z.va z.na k before)

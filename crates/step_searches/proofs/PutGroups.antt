@@ -27,13 +27,9 @@ unfolding upward placed
 none-put {cells} {base} {n} {k} {before} e =
     record { means = λ δ s. subst (λ (m : ℕ). Shows cells (placed cells (upward base m) δ k) before) (sym e) s }
 
--- the number by another name
-pub put_as : {cells : List ℕ} {base n k : ℕ} {before after : List (List ℤ)} (l : ℕ) → PutAnswers cells base n k before after → k ≡ l → PutAnswers cells base n l before after
-put_as {cells} {base} {n} {before = before} {after = after} l q e = subst (λ (m : ℕ). PutAnswers cells base n m before after) e q
-
 module _ {cells : List ℕ} {base n w k : ℕ} {before : List (List ℤ)} (q : PutAsked cells base n w k before) (h : n ≡ 0 → ⊥) where
   pub slot_low : base < 38
-  slot_low = omega (arith, q.low, h)
+  slot_low = omega (arith, q.group.low, h)
 
   first-inside : base < base + n
   first-inside = omega (arith, h)
@@ -44,15 +40,15 @@ module _ {cells : List ℕ} {base n w k : ℕ} {before : List (List ℤ)} (q : P
   rest-counts : Counts cells rest
   rest-counts s m =
       let l = among-upward (base + 1) (n - 1) s m in
-      q.some s (omega (arith, l.0)) (omega (arith, l.1, h))
+      q.group.some s (omega (arith, l.0)) (omega (arith, l.1, h))
 
   module _ {c : ℕ} (e : c ≡ count_in cells base) where
     pub count-positive : 0 < c
-    count-positive = subst (λ (x : ℕ). 0 < x) (sym e) (q.some base (omega arith) first-inside)
+    count-positive = subst (λ (x : ℕ). 0 < x) (sym e) (q.group.some base (omega arith) first-inside)
 
     whole : w ≡ c * span cells rest
     unfolding span
-    whole = q.counted ∙ ap (span cells) (split base n h) ∙ ap (λ (x : ℕ). x * span cells rest) (sym e)
+    whole = q.group.counted ∙ ap (span cells) (split base n h) ∙ ap (λ (x : ℕ). x * span cells rest) (sym e)
 
     rest-span : w / c ≡ span cells rest
     rest-span = ap (λ (x : ℕ). x / c) (whole ∙ mul_comm c (span cells rest)) ∙ mul-div_cancel (span cells rest) count-positive
@@ -63,22 +59,24 @@ module _ {cells : List ℕ} {base n w k : ℕ} {before : List (List ℤ)} (q : P
     digit_low : k / (w / c) < count_in cells base
     digit_low =
         subst (λ (x : ℕ). k / (w / c) < x) e
-        ((div-lt_iff_lt-mul stride-positive).1 (subst (λ (x : ℕ). k < x) (whole ∙ ap (λ (x : ℕ). c * x) (sym rest-span)) q.inside))
+        ((div-lt_iff_lt-mul stride-positive).1 (subst (λ (x : ℕ). k < x) (whole ∙ ap (λ (x : ℕ). c * x) (sym rest-span)) q.group.inside))
 
     pub store-asked : StoreAsked cells base (k / (w / c)) before
     store-asked =
-        record { point = q.point; shows = q.shows; slot_low = slot_low; reached = (q.values base (omega arith) first-inside).reached (k / (w / c)) digit_low }
+        record { point = q.point; shows = q.shows; slot_low = slot_low; reached = (q.group.values base (omega arith) first-inside).reached (k / (w / c)) digit_low }
 
     module _ {mid : List (List ℤ)} (s : StoreAnswers cells base (k / (w / c)) before mid) where
       pub rest-asked : PutAsked cells (base + 1) (n - 1) (w / c) (k % (w / c)) mid
       rest-asked = record {
         point = moved q.point base (k / (w / c));
         shows = s.means q.point q.shows digit_low;
-        low = omega (arith, q.low, h);
-        values = λ t l m. q.values t (omega arith) (omega (arith, h));
-        some = λ t l m. q.some t (omega arith) (omega (arith, h));
-        counted = rest-span;
-        inside = mod-lt k stride-positive;
+        group = record {
+          low = omega (arith, q.group.low, h);
+          values = λ t l m. q.group.values t (omega arith) (omega (arith, h));
+          some = λ t l m. q.group.some t (omega arith) (omega (arith, h));
+          counted = rest-span;
+          inside = mod-lt k stride-positive;
+        };
       }
 
       pub more-put : {after : List (List ℤ)} → PutAnswers cells (base + 1) (n - 1) (k % (w / c)) mid after → PutAnswers cells base n k before after

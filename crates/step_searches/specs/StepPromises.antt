@@ -1,5 +1,5 @@
 -- States and steps of a dossier's two machines, found one after the other by the numbers of their bindings: what the searches ask and promise. Nothing here need be believed.
-use Rattle.std.specs.Prelude.{◌≡◌, Bool, true, false, List, ◌++◌, ℕ, Option, MatchOption, ◌+◌, ◌*◌, ◌/◌, ◌%◌, ◌<◌, ◌≤◌, length, ℤ}
+use Rattle.std.specs.Prelude.{◌≡◌, Bool, true, false, List, [], ◌∷◌, ◌++◌, ℕ, zero, suc, Option, MatchOption, ◌+◌, ◌*◌, ◌/◌, ◌%◌, ◌<◌, ◌≤◌, length, get_or, ℤ}
 use Rattle.std.proofs.Math.Option.{some}
 use Rattle.std.proofs.Math.ListN.{get_elem?}
 use Rattle.lexical.specs.Lists.{upward}
@@ -18,7 +18,9 @@ use Rattle.part_setup.specs.PartTestsPartGroups.{opening_part, correctness_part}
 use Rattle.part_setup.specs.PartTestsPartsByNumber.{abstract_at, concrete_at, output_at, initial, initial_match, abstract_state, related_to, abstractly, concretely, match}
 use Rattle.parts.specs.PartSearchesPartCells.{StatesCelled, OperationCelled}
 use Rattle.part_setup.specs.SetupPromises.{FirstValues}
+use Rattle.seek.specs.SeekPromises.{SeekAsked, SeekAnswers}
 use Rattle.step_searches.specs.declared.Stepped.{Stepped}
+use Rattle.step_searches.specs.declared.Given.{Given}
 
 -- the first number from `from` on and below the end at which the test holds, or none where it holds at none of them
 abbrev pub First : (f : ℕ → Bool) (from end : ℕ) → Option ℕ → Type 0
@@ -35,17 +37,49 @@ pub record ReadAsked (table rows firsts groups : List ℕ) (operations : ℕ) : 
 -- ---- a group gets the values of one of its bindings
 
 -- the n variables from the slot `base` on have w bindings, of which the k-th is wanted
-pub record PutAsked (cells : List ℕ) (base n w k : ℕ) (before : List (List ℤ)) : Type 0 where
-  pub point : Point
-  pub shows : Shows cells point before
+pub record Bindable (cells : List ℕ) (base n w k : ℕ) : Type 0 where
   pub low : base + n ≤ 38
   pub values : (s : ℕ) → base ≤ s → s < base + n → Readable cells s
   pub some : (s : ℕ) → base ≤ s → s < base + n → 0 < count_in cells s
   pub counted : w ≡ span cells (upward base n)
   pub inside : k < w
 
+pub record PutAsked (cells : List ℕ) (base n w k : ℕ) (before : List (List ℤ)) : Type 0 where
+  pub point : Point
+  pub shows : Shows cells point before
+  pub group : Bindable cells base n w k
+
 pub record PutAnswers (cells : List ℕ) (base n k : ℕ) (before after : List (List ℤ)) : Type 0 where
   pub means : (δ : Point) → Shows cells δ before → Shows cells (placed cells (upward base n) δ k) after
+
+-- group_at(base, n, w, k)
+pub record GroupIs (base n w k : ℕ) (r : Given) : Type 0 where
+  pub is : r ≡ record { base = base; n = n; w = w; k = k }
+
+-- ---- a search with some groups at given bindings, and all other variables at their first values
+
+abbrev pub no_group : Given
+no_group = record { base = 0; n = 0; w = 0; k = 0 }
+
+-- the point at which the first groups are, one after the other
+unfoldable pub given_at : (cells : List ℕ) (gs : List Given) → ℕ → Point
+given_at cells gs zero = λ (s : ℕ). 0
+given_at cells gs (suc i) = placed cells (upward (get_or gs i no_group).base (get_or gs i no_group).n) (given_at cells gs i) (get_or gs i no_group).k
+
+unfoldable pub EachBindable : (cells : List ℕ) → List Given → Type 0
+EachBindable cells [] = Unit {0}
+EachBindable cells (g ∷ gs) = Bindable cells g.base g.n g.w g.k × EachBindable cells gs
+
+pub record GivenAsked (table plan cells : List ℕ) (gs : List Given) (u j m w from : ℕ) : Type 0 where
+  pub first_values : FirstValues cells
+  pub groups : EachBindable cells gs
+  pub seeks : (before : List (List ℤ)) → Shows cells (given_at cells gs (length gs)) before → SeekAsked table plan cells u j m w from before
+
+pub record GivenAnswers (table plan cells : List ℕ) (gs : List Given) (u j m w from r : ℕ) : Type 0 where
+  pub before : List (List ℤ)
+  pub after : List (List ℤ)
+  pub shows : Shows cells (given_at cells gs (length gs)) before
+  pub answers : SeekAnswers table plan cells u j m w from before after r
 
 -- ---- the searches of an operation's correctness part
 

@@ -1,16 +1,20 @@
 // States and steps of a dossier's two machines, one after the other, by the numbers of their bindings: the searches of an operation's correctness part and of the initialisation part,
 // with the variables that are given at one of their bindings and all others at their first values.
+// Form 5: which dossier and operation a search goes over is asked of each function (`StepsAsked`), since `PartSearch` is that of every part: no invariant of it.
 #![tactic(auto)]
 
-ghost use Rattle.std.specs.Prelude.{◌*◌, ◌<◌, ◌≤◌, IfSome, unwrap_or};
+ghost use Rattle.std.specs.Prelude.{◌≡◌, ◌*◌, ◌<◌, ◌≤◌, IfSome, unwrap_or};
 ghost use Rattle.memo.specs.MemoPromises.{Memo};
-ghost use Rattle.part_setup.specs.SetupPromises.{Blank};
 ghost use Rattle.seek.specs.SeekPromises.{SeekAsked, SeekAnswers};
 ghost use Rattle.step_searches.specs.StepPromises.{PutAsked, PutAnswers, PrepareAsked, Prepared, OpenAsked, Opened, StepsAsked, OpeningAsked, Below};
+ghost use Rattle.step_searches.specs.StepPromises.{GroupIs, GivenAsked, GivenAnswers};
 ghost use Rattle.step_searches.specs.StepPromises.{AbstractStateFound, RelatedStateFound, AbstractStepFound, ConcreteStepFound, MatchFound};
 ghost use Rattle.step_searches.specs.StepPromises.{InitialStateFound, InitialMatchFound, ConcreteAsked, StateAnswers, ConcreteStateFound};
 
-use part_setup::{correctness_part, fill, opening_cells, opening_part, operation_cells};
+use part_setup::{
+    OPERATION_ROW, OPERATION_ROWS, correctness_part, fill, opening_cells, opening_part,
+    operation_cells,
+};
 use plans::{Part, PartSearch, plan_correctness, plan_initialisation};
 use points::plan::{MET, READY, RELATED, STATES, STEPS};
 use points::slots;
@@ -19,11 +23,6 @@ use seek::{Span, seek, store};
 use slot_carriers::count_of;
 use slot_carriers::groups::bind;
 use states::context_holds;
-
-// The first row of the groups that is an operation's, and how many numbers an operation has there.
-const OPERATION_ROWS: usize = 18;
-
-const OPERATION_ROW: usize = 8;
 
 // The place of the concrete state's predicate among the contexts.
 const CONCRETE_STATE: usize = 1;
@@ -37,64 +36,111 @@ pub struct Stepped {
     pub k: usize,
 }
 
-// The n variables from a slot on get the values of their k-th binding, primed ones in both arrays; they have w bindings.
-fn put_group(
-    cells: &[u32; 9216],
+// A group of variables at one of its bindings: n variables from a slot on, with w bindings, at the k-th.
+#[derive(Clone, Copy)]
+struct Given {
     base: usize,
     n: usize,
     w: usize,
     k: usize,
-    arrays: &mut [[i64; 64]; 2],
-)
-    requires { PutAsked cells.now base n w k arrays.old }
-    ensures { PutAnswers cells.now base n k arrays.old arrays.new }
+}
+
+fn group_at(base: usize, n: usize, w: usize, k: usize) -> Given
+    ensures { GroupIs base n w k result }
 {
-    if n == 0 {
+    Given { base, n, w, k }
+}
+
+// What the searches of a part go over and what is made of a dossier for them: the cells of the variables, the plans, the part's sizes.
+#[derive(Drop)]
+pub struct ReadyPart {
+    pub cells: [u32; 9216],
+    pub plan: [u16; 20560],
+    pub part: Part,
+}
+
+impl ReadyPart {
+    // With the dossier's table, what the searches are lent.
+    pub fn search<'a>(&'a self, table: &'a [u16; 16384]) -> PartSearch<'a>
+        ensures table { result.table.now ≡ table.now }
+        ensures plan { result.plan.now ≡ self.now.plan }
+        ensures cells { result.cells.now ≡ self.now.cells }
+        ensures part { result.part ≡ self.now.part }
+    {
+        PartSearch {
+            table,
+            plan: &self.plan,
+            cells: &self.cells,
+            part: self.part,
+        }
+    }
+}
+
+// The variables of a group get the values of its binding, primed ones in both arrays.
+fn put_group(cells: &[u32; 9216], g: Given, arrays: &mut [[i64; 64]; 2])
+    requires { PutAsked cells.now g.base g.n g.w g.k arrays.old }
+    ensures { PutAnswers cells.now g.base g.n g.k arrays.old arrays.new }
+{
+    if g.n == 0 {
         return;
     }
-    let v = w / count_of(cells, base);
-    store(cells, base, k / v, arrays);
-    put_group(cells, base + 1, n - 1, v, k % v, arrays);
+    let v = g.w / count_of(cells, g.base);
+    store(cells, g.base, g.k / v, arrays);
+    let rest = Given {
+        base: g.base + 1,
+        n: g.n - 1,
+        w: v,
+        k: g.k % v,
+    };
+    put_group(cells, rest, arrays);
 }
 
-// The cells, the plan and the sizes of operation j's correctness part.
-pub fn prepare(d: &Dossier<'_>, j: usize, cells: &mut [u32; 9216], plan: &mut [u16; 20560]) -> Part
-    requires prepare_asked { PrepareAsked d.now.table.now d.now.rows.now d.now.firsts.now d.now.groups.now j }
-    requires blank { Blank cells.old }
-    ensures { Prepared d.now.table.now d.now.rows.now d.now.firsts.now d.now.groups.now j plan.new cells.new result }
+// Operation j's correctness part.
+pub fn prepare(d: &Dossier<'_>, j: usize) -> ReadyPart
+    requires { PrepareAsked d.now.table.now d.now.rows.now d.now.firsts.now d.now.groups.now j }
+    ensures { Prepared d.now.table.now d.now.rows.now d.now.firsts.now d.now.groups.now j result.plan result.cells result.part }
 {
+    let mut cells = [0u32; 9216];
+    let mut plan = [0u16; 20560];
     let row = OPERATION_ROWS + OPERATION_ROW * j;
-    operation_cells(d.table, d.groups, row, cells);
-    let p = correctness_part(d.groups, row, cells);
-    plan_correctness(d.rows, d.firsts, j, p.vo, plan);
-    p
+    operation_cells(d.table, d.groups, row, &mut cells);
+    let part = correctness_part(d.groups, row, &cells);
+    plan_correctness(d.rows, d.firsts, j, part.vo, &mut plan);
+    ReadyPart { cells, plan, part }
 }
 
-// Those of initialisation.
-pub fn prepare_opening(d: &Dossier<'_>, cells: &mut [u32; 9216], plan: &mut [u16; 20560]) -> Part
-    requires open_asked { OpenAsked d.now.table.now d.now.rows.now d.now.firsts.now d.now.groups.now }
-    requires blank { Blank cells.old }
-    ensures { Opened d.now.table.now d.now.rows.now d.now.firsts.now d.now.groups.now plan.new cells.new result }
+// That of initialisation.
+pub fn prepare_opening(d: &Dossier<'_>) -> ReadyPart
+    requires { OpenAsked d.now.table.now d.now.rows.now d.now.firsts.now d.now.groups.now }
+    ensures { Opened d.now.table.now d.now.rows.now d.now.firsts.now d.now.groups.now result.plan result.cells result.part }
 {
-    opening_cells(d.table, d.groups, cells);
-    plan_initialisation(d.rows, d.firsts, plan);
-    opening_part(d.groups, cells)
+    let mut cells = [0u32; 9216];
+    let mut plan = [0u16; 20560];
+    opening_cells(d.table, d.groups, &mut cells);
+    plan_initialisation(d.rows, d.firsts, &mut plan);
+    let part = opening_part(d.groups, &cells);
+    ReadyPart { cells, plan, part }
 }
 
-// The next number of a span that the search finds.
-fn next_of(
+// The next number of a span that the search finds, with some groups at the bindings that are given and all other variables at their first values.
+fn next_with(
     s: &PartSearch<'_>,
+    given: &[Given],
     span: Span,
-    arrays: &mut [[i64; 64]; 2],
     memo: &mut [u64; memo::NUMBERS],
 ) -> Option<usize>
-    requires seek_asked { SeekAsked s.now.table.now s.now.plan.now s.now.cells.now span.u span.j span.m span.w span.from arrays.old }
+    requires given_asked { GivenAsked s.now.table.now s.now.plan.now s.now.cells.now given.now span.u span.j span.m span.w span.from }
     requires memo { Memo s.now.table.now memo.old }
-    ensures answers { SeekAnswers s.now.table.now s.now.plan.now s.now.cells.now span.u span.j span.m span.w span.from arrays.old arrays.new (unwrap_or result span.w) }
+    ensures answers { GivenAnswers s.now.table.now s.now.plan.now s.now.cells.now given.now span.u span.j span.m span.w span.from (unwrap_or result span.w) }
     ensures low { IfSome result (λ k. k < span.w) }
     ensures remembers { Memo s.now.table.now memo.new }
 {
-    let r = seek(s, span, arrays, memo);
+    let mut arrays = [[0i64; 64]; 2];
+    fill(s.cells, &mut arrays);
+    for g in given {
+        put_group(s.cells, *g, &mut arrays);
+    }
+    let r = seek(s, span, &mut arrays, memo);
     if r < span.w {
         return Some(r);
     }
@@ -114,8 +160,6 @@ pub fn next_abstract_state(
     ensures low { IfSome result (λ x. x < s.now.part.na) }
     ensures remembers { Memo s.now.table.now memo.new }
 {
-    let mut arrays = [[0i64; 64]; 2];
-    fill(s.cells, &mut arrays);
     let span = Span {
         u: STATES,
         j: 0,
@@ -123,7 +167,7 @@ pub fn next_abstract_state(
         w: s.part.na,
         from,
     };
-    next_of(s, span, &mut arrays, memo)
+    next_with(s, &[], span, memo)
 }
 
 // The next concrete state that is related to the abstract state a.
@@ -141,9 +185,7 @@ pub fn next_related_state(
     ensures remembers { Memo s.now.table.now memo.new }
 {
     let p = s.part;
-    let mut arrays = [[0i64; 64]; 2];
-    fill(s.cells, &mut arrays);
-    put_group(s.cells, slots::ABSTRACT, p.va, p.na, a, &mut arrays);
+    let state = group_at(slots::ABSTRACT, p.va, p.na, a);
     let span = Span {
         u: RELATED,
         j: 0,
@@ -151,7 +193,7 @@ pub fn next_related_state(
         w: p.nc,
         from,
     };
-    next_of(s, span, &mut arrays, memo)
+    next_with(s, &[state], span, memo)
 }
 
 // The next step of the abstract operation from the state a with the inputs i: outputs and after state as one number.
@@ -170,10 +212,8 @@ pub fn next_abstract_step(
     ensures remembers { Memo s.now.table.now memo.new }
 {
     let p = s.part;
-    let mut arrays = [[0i64; 64]; 2];
-    fill(s.cells, &mut arrays);
-    put_group(s.cells, slots::ABSTRACT, p.va, p.na, a, &mut arrays);
-    put_group(s.cells, slots::INPUTS, p.vi, p.ni, i, &mut arrays);
+    let state = group_at(slots::ABSTRACT, p.va, p.na, a);
+    let inputs = group_at(slots::INPUTS, p.vi, p.ni, i);
     let span = Span {
         u: READY,
         j: 0,
@@ -181,7 +221,7 @@ pub fn next_abstract_step(
         w: p.nr,
         from,
     };
-    next_of(s, span, &mut arrays, memo)
+    next_with(s, &[state, inputs], span, memo)
 }
 
 // The next step of the concrete operation from the state c with the inputs i: outputs and after state as one number.
@@ -200,10 +240,8 @@ pub fn next_concrete_step(
     ensures remembers { Memo s.now.table.now memo.new }
 {
     let p = s.part;
-    let mut arrays = [[0i64; 64]; 2];
-    fill(s.cells, &mut arrays);
-    put_group(s.cells, slots::CONCRETE, p.vc, p.nc, c, &mut arrays);
-    put_group(s.cells, slots::INPUTS, p.vi, p.ni, i, &mut arrays);
+    let state = group_at(slots::CONCRETE, p.vc, p.nc, c);
+    let inputs = group_at(slots::INPUTS, p.vi, p.ni, i);
     let span = Span {
         u: STEPS,
         j: 0,
@@ -211,7 +249,7 @@ pub fn next_concrete_step(
         w: p.nq * p.nc,
         from,
     };
-    next_of(s, span, &mut arrays, memo)
+    next_with(s, &[state, inputs], span, memo)
 }
 
 // The next abstract after state that the abstract operation reaches from b.a with these inputs and outputs, and that is related to the concrete after state.
@@ -230,19 +268,10 @@ pub fn next_matching_state(
     ensures remembers { Memo s.now.table.now memo.new }
 {
     let p = s.part;
-    let mut arrays = [[0i64; 64]; 2];
-    fill(s.cells, &mut arrays);
-    put_group(s.cells, slots::ABSTRACT, p.va, p.na, b.a, &mut arrays);
-    put_group(s.cells, slots::INPUTS, p.vi, p.ni, b.i, &mut arrays);
-    put_group(s.cells, slots::OUTPUTS, p.vo, p.nq, b.o, &mut arrays);
-    put_group(
-        s.cells,
-        slots::CONCRETE_PRIMED,
-        p.vk,
-        p.nk,
-        b.k,
-        &mut arrays,
-    );
+    let state = group_at(slots::ABSTRACT, p.va, p.na, b.a);
+    let inputs = group_at(slots::INPUTS, p.vi, p.ni, b.i);
+    let outputs = group_at(slots::OUTPUTS, p.vo, p.nq, b.o);
+    let after = group_at(slots::CONCRETE_PRIMED, p.vk, p.nk, b.k);
     let span = Span {
         u: MET,
         j: 0,
@@ -250,10 +279,11 @@ pub fn next_matching_state(
         w: p.nm,
         from,
     };
-    next_of(s, span, &mut arrays, memo)
+    next_with(s, &[state, inputs, outputs, after], span, memo)
 }
 
 // The next concrete initial state; the part is that of initialisation.
+// Form 2: what it shares with `next_abstract_state` is `next_with`; left are the plan, the group and the promise of each.
 pub fn next_initial_state(
     s: &PartSearch<'_>,
     from: usize,
@@ -266,8 +296,6 @@ pub fn next_initial_state(
     ensures low { IfSome result (λ x. x < s.now.part.nc) }
     ensures remembers { Memo s.now.table.now memo.new }
 {
-    let mut arrays = [[0i64; 64]; 2];
-    fill(s.cells, &mut arrays);
     let span = Span {
         u: RELATED,
         j: 0,
@@ -275,10 +303,11 @@ pub fn next_initial_state(
         w: s.part.nc,
         from,
     };
-    next_of(s, span, &mut arrays, memo)
+    next_with(s, &[], span, memo)
 }
 
 // The next abstract initial state that is related to the concrete state c.
+// Form 2: what it shares with `next_related_state` is `next_with`; left are the plan, the groups and the promise of each.
 pub fn next_initial_match(
     s: &PartSearch<'_>,
     c: usize,
@@ -293,9 +322,7 @@ pub fn next_initial_match(
     ensures remembers { Memo s.now.table.now memo.new }
 {
     let p = s.part;
-    let mut arrays = [[0i64; 64]; 2];
-    fill(s.cells, &mut arrays);
-    put_group(s.cells, slots::CONCRETE, p.vc, p.nc, c, &mut arrays);
+    let state = group_at(slots::CONCRETE, p.vc, p.nc, c);
     let span = Span {
         u: MET,
         j: 0,
@@ -303,7 +330,7 @@ pub fn next_initial_match(
         w: p.nm,
         from,
     };
-    next_of(s, span, &mut arrays, memo)
+    next_with(s, &[state], span, memo)
 }
 
 // Is the c-th binding of the concrete variables a state?
@@ -314,7 +341,7 @@ pub fn concrete_state_at(d: &Dossier<'_>, cells: &[u32; 9216], p: Part, c: usize
 {
     let mut values = [0i64; 64];
     bind(cells, slots::CONCRETE, p.vc, p.nc, c, &mut values);
-    context_holds(d.table, d.rows, d.firsts, CONCRETE_STATE, &mut values)
+    context_holds(d, CONCRETE_STATE, &mut values)
 }
 
 // The next concrete state, related or not; the part is any of the dossier's.

@@ -1,13 +1,15 @@
 // Symbols of a text, and stretches of them by their kinds: the operands of an operator, the atom that it stands in. They say where to try another text, not what a text means.
 #![tactic(auto)]
 
-ghost use Rattle.std.specs.Prelude.{◌≡◌, ◌==◌, ◌≤◌, ◌<◌, count_by, take, slice_index};
+ghost use Rattle.std.specs.Prelude.{◌≡◌, ◌==◌, ◌≤◌, ◌<◌, ◌⊎◌, count_by, take, slice_index, Some};
+ghost use Rattle.symbol_spans.specs.declared.Bracket.TheVariants.{Open, Close};
 
 use lexical::bounds::SYMBOLS;
 use lexical::codes;
 use text_places::{Span, before, symbol_end};
 
 // How tight a symbol binds: what no atom goes past, comparisons, sums, products, what stands inside an operand.
+// Form 1: five levels that are compared, no Option or Result.
 #[derive(Clone, Copy, PartialEq, Eq, PartialOrd, Ord)]
 pub enum Tightness {
     Loose,
@@ -17,6 +19,8 @@ pub enum Tightness {
     Inside,
 }
 
+// The two sides of a pair of brackets.
+// Form 1: two cases that walks go into and out of, no Option or Result; a symbol that is no bracket is `None` of it.
 #[derive(Clone, Copy, PartialEq, Eq)]
 pub enum Bracket {
     Open,
@@ -50,7 +54,11 @@ pub fn tightness_of(kind: u8) -> Tightness {
     }
 }
 
-pub fn bracket_of(kind: u8) -> Option<Bracket> {
+// The bracket that a kind is.
+pub fn bracket_of(kind: u8) -> Option<Bracket>
+    ensures opens { (kind ≡ 15) ⊎ ((kind ≡ 17) ⊎ (kind ≡ 19)) → result ≡ Some Open }
+    ensures closes { (kind ≡ 16) ⊎ ((kind ≡ 18) ⊎ (kind ≡ 20)) → result ≡ Some Close }
+{
     match kind {
         codes::OPEN_PAREN | codes::OPEN_BRACKET | codes::OPEN_BRACE => Some(Bracket::Open),
         codes::CLOSE_PAREN | codes::CLOSE_BRACKET | codes::CLOSE_BRACE => Some(Bracket::Close),
@@ -108,12 +116,16 @@ impl Symbols<'_> {
     }
 
     // Behind its last byte.
-    pub fn end(&self, s: usize) -> usize {
+    pub fn end(&self, s: usize) -> usize
+        ensures { slice_index self.now.starts.now s ≤ result }
+    {
         symbol_end(self.text, self.start(s))
     }
 
     // Have two symbols the same letters?
-    pub fn has_same_letters(&self, s: usize, k: usize) -> bool {
+    pub fn has_same_letters(&self, s: usize, k: usize) -> bool
+        ensures { result ≡ (slice_index self.now.values.now s == slice_index self.now.values.now k) }
+    {
         self.value(s) == self.value(k)
     }
 
@@ -123,6 +135,7 @@ impl Symbols<'_> {
     }
 
     // The value of a symbol.
+    // Form 2: two methods, since a caller names which of the two arrays it asks; what they share is `number_at`.
     pub fn value(&self, s: usize) -> usize
         ensures value { result ≡ slice_index self.now.values.now s }
         ensures small { result < 65536 }

@@ -1,5 +1,4 @@
 -- The definitions of symbols computed on short texts; the laws that the scanner is proved by.
 pub mod Samples
-pub mod BooleanTests
 pub mod WholeLaws
 pub mod ValueLaws

@@ -6,7 +6,7 @@ use Prim.Native.Nat.{ℕ}
 use Prim.Native.String.{String}
 use Rattle.lexical.specs.Lists.{bytes, same, begins, all, any}
 use Rattle.lexical.specs.Kinds.{Kind, number, plain, primed, input, output, up_to, less, at_most, iff, minus, total, relation, maplet, implies, IN, EXISTS, EXISTS1, code_of}
-use Rattle.lexical.specs.Refusals.{Fault}
+use Rattle.refusals.specs.Refusals.{Fault}
 use Rattle.lexical.specs.Symbols.{Placed, kind_of, scan, scan_from, symbols, scan_faults, symbol_at, by_class, longest, word_of, ending_of, reserved, number_found, is_number, decimal_from, run, class_of, between}
 use Rattle.lexical.specs.Promises.{value_in, first_named}
 

@@ -8,13 +8,13 @@ use lib.Dec.{ltb}
 use borrow.Author.Tests.{le-ltb, lt-ltb}
 use lib.ListN.{length, take, drop, get_or, length-map}
 use lib.Seq.{take_all, take_at, drop_at}
-use Rattle.lexical.specs.Refusals.{fault, lesser, least, long_text}
+use Rattle.refusals.specs.Refusals.{fault, lesser, least, long_text}
 use Rattle.lexical.specs.Symbols.{Placed, scan, symbols, scan_faults, length_faults}
 use Rattle.lexical.specs.Promises.{code_in, number_in, value_in, value_at, taken, filled, first_of, written, Scanned, Scans}
 use Rattle.lexical.specs.SymbolPromises.{filled_numbers, filled_values, Takes, Rows}
 use Rattle.std.specs.Prelude.{Ok, Err}
-use Rattle.lexical.specs.declared.refusals.Refusal.TheVariants.{LongText}
-use Rattle.lexical.specs.declared.refusals.Fault as refusals
+use Rattle.refusals.specs.declared.Refusal.TheVariants.{LongText}
+use Rattle.refusals.specs.declared.Fault as refusals
 use Rattle.name_numbers.proofs.RowLaws.{filled_at}
 use Rattle.name_numbers.proofs.SoundLaws.{map_at}
 

@@ -5,8 +5,8 @@ ghost use Rattle.lexical.specs.Promises.{Scans};
 
 use crate::texts::scan_symbols;
 use lexical::bounds::{SYMBOLS, TEXT_BYTES};
-use lexical::refusals::{Fault, Refusal};
 use name_numbers::numbering::number_names;
+use refusals::{Fault, Refusal};
 
 mod texts;
 

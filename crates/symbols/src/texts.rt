@@ -7,9 +7,9 @@ use lexical::bounds::SYMBOLS;
 use lexical::classes::class_of;
 use lexical::marks::mark_at;
 use lexical::numbers::number_at;
-use lexical::refusals::{Fault, Refusal};
 use lexical::words::word_at;
 use lexical::{Class, Token};
+use refusals::{Fault, Refusal};
 
 // What stands at `at`.
 pub(crate) fn token_at(s: &[u8], at: usize) -> Token
@@ -27,6 +27,7 @@ pub(crate) fn token_at(s: &[u8], at: usize) -> Token
 }
 
 // The codes, the places and the values of the symbols of `s`; a name's value is left at 0.
+// Form 3: how far the next symbol is, says the one that is read; an iterator would own the place that a refusal names.
 pub(crate) fn scan_symbols(
     s: &[u8],
     codes: &mut [u8],

@@ -7,7 +7,7 @@ use native.Mathlib.Omega.{arith}
 use lib.Dec.{eqb, leb, ltb}
 use mir.Val.{bool_byte}
 use borrow.Author.Tests.{eq-eqb, ne_eqb, le-leb, lt-leb, lt-ltb, le-ltb, leb-true, ltb-true, ltb-false}
-use Rattle.form.proofs.SymbolsBooleanTests.{and_left, and_right}
+use Rattle.form.proofs.LexicalBooleanTests.{and_left, and_right}
 use Rattle.lexical.specs.Kinds.{code_of}
 use Rattle.form.specs.Tree.{Membership, is_in, not_in}
 use Rattle.form.specs.Written.{membership_kind}

@@ -18,8 +18,9 @@ pub fn set_node(out: &mut [u16], at: usize, shape: u16, i: u16, a: u16, b: u16)
     out[at..at + node::SIZE].copy_from_slice(&[b, a, i, shape]);
 }
 
-// No nodes of a tree end here. No Option: no caller asks, the walk goes on from place 0, where none end either, and names and places are restored on the way back;
-// with `?` the calls that bind a name would have to restore it before.
+// No nodes of a tree end here.
+// Form 1: no Option, since no caller asks: the walk goes on from place 0, where none end either, and names and places are restored on the way back; with `?` the
+// calls that bind a name would have to restore it before.
 pub fn nothing() -> Made
     ensures { result.start ≡ 0 }
 {
@@ -36,8 +37,8 @@ pub fn next_slot(s: u16) -> u16
     s.min(slots::LAST - 1) + 1
 }
 
-// How many elements the given set has that a name is; that elements are of; that the first and the second sides of pairs are of. The node has the number as it
-// is, 0 where there is no such set: with an Option each caller would turn it back into 0.
+// How many elements the given set has that a name is; that elements are of; that the first and the second sides of pairs are of.
+// Form 1: a node has 0 in the place of no such set; with an Option each caller would turn `None` back into it.
 pub fn given_size(sizes: &[u16], k: u16) -> u16
     ensures { result ≡ given_size sizes.now k }
 {
@@ -85,6 +86,7 @@ pub fn range_count(a: u16, b: u16) -> u16
 }
 
 // Memberships and truth values, by the codes of their symbols.
+// Form 1: a node has its symbol's code as a number of 16 bits, where the code itself is a byte.
 const IN: u16 = codes::IN as u16;
 
 const TRUE: u16 = codes::TRUE as u16;

@@ -1,4 +1,5 @@
 // Where values are found: the first slot of each group of variables, plain and primed, of the parameters and of the bound names.
+// Form 1: places that are counted on from, in the lent table, and no kinds (DECISIONS L9).
 pub const ABSTRACT: u16 = 0;
 
 pub const CONCRETE: u16 = 8;

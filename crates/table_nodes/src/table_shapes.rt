@@ -1,4 +1,5 @@
 // The shapes of the table's nodes (table_places/specs/ResolvedTable.antt), each by what its node stands for.
+// Form 1: numbers of the table that the caller lends, where an enum would not stand (DECISIONS L9); `match` takes them by name.
 // Terms: a number, an element or an empty set by its value; a variable or a bound name by its slot; the others by their form.
 pub const VALUE: u16 = 1;
 

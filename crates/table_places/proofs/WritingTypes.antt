@@ -1,17 +1,18 @@
 -- The carriers of declarations: what the code writes for a type's node, and a walk over declarations, with the place of the next one in front of the table.
 use mathlib.Core.Path.{◌≡◌, refl, ap, ap₂, sym, ◌∙◌, subst}
 use mathlib.Core.Bool.{Bool, true, false, cond}
-use mathlib.Core.List.{List, [], ◌∷◌, ◌++◌, map}
+use mathlib.Core.List.{List, [], ◌∷◌, ◌++◌, map, append-nil}
 use Prim.Native.Nat.{ℕ, zero, suc, ◌+◌, ◌-◌, ◌*◌, ◌≤◌, ◌<◌}
 use native.Mathlib.Nat.{add-zero, zero-add}
 use native.Mathlib.Numerals.{add-one}
 use native.Mathlib.Omega.{arith}
 use lib.Dec.{eqb, ltb}
-use lib.ListN.{length, drop, get_or}
+use lib.ListN.{length, take, drop, get_or}
+use lib.Seq.{take_at}
 use borrow.Author.Tests.{ne_eqb, lt-ltb, le-ltb}
 use Rattle.form.specs.Tree.{TypeForm, given_type, power_type, range_type, arrow_type, relation, partial, total, Declaration, declarations, Parameter, Operation}
 use Rattle.form.specs.Headings.{abstract_at, concrete_at, operations_at, operation_length}
-use Rattle.form.specs.Codes.{Numbering, node, type_width, declaration_codes, parameter_codes}
+use Rattle.form.specs.Codes.{Numbering, node, type_codes, type_width, declaration_codes, parameter_codes}
 use Rattle.lexical.specs.Symbols.{no_ending}
 use Rattle.type_rules.specs.TypesByNumber.{Names, Sizes, entry, is_given}
 use Rattle.names.specs.DeclaredNamesNamesByNumber.{Typed, typed_codes, variables_of, parameters_of}
@@ -105,6 +106,17 @@ typing-on T z code at q q' p out after n b h ρ x xs j rest e =
 
 pub part-stands : (nodes : List ℕ) (from to : ℕ) (code l : List ℕ) → PartOf nodes from to code → Stands nodes from to l → code ≡ l
 part-stands nodes from to code l p s = p.part s.ordered s.inside ∙ s.stands
+
+-- a type's node by itself
+pub type-moved : (code : List ℕ) (at m q : ℕ) (T : Names) (z : Sizes) (out after : List ℕ) → m ≡ 4 → TypeSet (take m (drop at code)) 0 q T z out after
+    → TypeSet code at q T z out after
+type-moved code at m q T z out after h s t i ρ rest d =
+    let e = as-node t i ρ in
+    s t i ρ []
+    (ap₂ (λ (k : ℕ) (l : List ℕ). take k l) h (d ∙ ap (λ (l : List ℕ). l ++ rest) e)
+    ∙ take_at (node (shape_of t) (place_of t i) (left_of t ρ) (right_of t ρ)) rest 4 refl
+    ∙ sym e
+    ∙ sym (append-nil (type_codes t i ρ)))
 
 pub types-set : (nodes : List ℕ) (from to : ℕ) (T : Names) (z : Sizes) (code : List ℕ) (at q : ℕ) (out after : List ℕ) → PartOf nodes from to code
     → Walked (typing T z) code at (from ∷ out) (q ∷ after) → length code < at + 8 → TypesSet nodes from to T z out after

@@ -27,88 +27,80 @@ fn given_index(k: u16) -> u16
     0
 }
 
-// The carrier of a declared type, whose node begins at `at`, written at q.
-fn set_type(code: &[u16], at: usize, names: &[u16], sizes: &[u16], out: &mut [u16], q: usize)
-    requires { (at + 4 ≤ length code.now) × (q + 4 ≤ length out.old) × (length out.old ≤ 16384) }
-    ensures { TypeSet code.now at q names.now sizes.now out.old out.new }
+// What is read: the nodes of a dossier, where its parts stand among them, the names of its given sets, and how many elements these have.
+#[derive(Clone, Copy)]
+pub struct Declarations<'a> {
+    pub nodes: &'a [u16],
+    pub spans: &'a [u16],
+    pub names: &'a [u16],
+    pub sizes: &'a [u16],
+}
+
+// The carrier of a declared type, written at q; n has the type's node.
+fn set_type(s: &Declarations<'_>, n: &[u16], q: usize, out: &mut [u16])
+    requires { (4 ≤ length n.now) × (q + 4 ≤ length out.old) × (length out.old ≤ 16384) }
+    ensures { TypeSet n.now 0 q s.now.names.now s.now.sizes.now out.old out.new }
 {
-    let a = code[at + node::A];
-    let b = code[at];
-    let shape = code[at + node::SHAPE];
+    let a = n[node::A];
+    let b = n[0];
+    let shape = n[node::SHAPE];
     if shape == shapes::RANGE {
         set_node(out, q, shapes::RANGE, 0, a, range_count(a, b));
         return;
     }
-    let k = look(names, index(a));
+    let k = look(s.names, index(a));
     if shape < shapes::RELATION {
-        set_node(out, q, shape, given_index(k), given_size(sizes, k), 0);
+        set_node(out, q, shape, given_index(k), given_size(s.sizes, k), 0);
         return;
     }
-    let l = look(names, index(b));
+    let l = look(s.names, index(b));
     // the two given sets of an arrow in one number, as in the kind of its pairs
     let i = entries::ROW * given_index(k) + given_index(l);
-    set_node(out, q, shape, i, given_size(sizes, k), given_size(sizes, l));
+    set_node(
+        out,
+        q,
+        shape,
+        i,
+        given_size(s.sizes, k),
+        given_size(s.sizes, l),
+    );
 }
 
 // The carriers of declarations.
-fn set_types(nodes: &[u16], from: usize, to: usize, names: &[u16], sizes: &[u16], out: &mut [u16])
-    requires { TableRoom nodes.now out.old }
-    ensures { TypesSet nodes.now from to names.now sizes.now out.old out.new }
+fn set_types(s: &Declarations<'_>, from: usize, to: usize, out: &mut [u16])
+    requires { TableRoom s.now.nodes.now out.old }
+    ensures { TypesSet s.now.nodes.now from to s.now.names.now s.now.sizes.now out.old out.new }
 {
-    let code = part(nodes, from, to);
+    let code = part(s.nodes, from, to);
     for k in 0..code.len() / node::DECLARATION {
         // the type's node stands behind the name's
         let at = node::DECLARATION * k + node::SIZE;
-        set_type(code, at, names, sizes, out, from + at);
+        set_type(s, &code[at..at + node::SIZE], from + at, out);
     }
 }
 
 // The carriers of the operations' parameters.
-fn set_parameter_types(
-    nodes: &[u16],
-    spans: &[u16],
-    n: usize,
-    names: &[u16],
-    sizes: &[u16],
-    out: &mut [u16],
-)
-    requires { (n ≤ 16) × TableRoom nodes.now out.old }
-    ensures { OperationTypesSet nodes.now spans.now n names.now sizes.now out.old out.new }
+fn set_parameter_types(s: &Declarations<'_>, n: usize, out: &mut [u16])
+    requires { (n ≤ 16) × TableRoom s.now.nodes.now out.old }
+    ensures { OperationTypesSet s.now.nodes.now s.now.spans.now n s.now.names.now s.now.sizes.now out.old out.new }
 {
     for k in 0..n {
-        let first = span_at(spans, span::OPERATIONS + span::OPERATION * k);
-        let last = span_at(spans, span::OPERATIONS + span::OPERATION * k + span::LAST);
-        set_types(nodes, first, last, names, sizes, out);
+        let first = span_at(s.spans, span::OPERATIONS + span::OPERATION * k);
+        let last = span_at(s.spans, span::OPERATIONS + span::OPERATION * k + span::LAST);
+        set_types(s, first, last, out);
     }
 }
 
 // The carriers of all declared names.
-pub fn set_declared(
-    nodes: &[u16],
-    spans: &[u16],
-    n: usize,
-    names: &[u16],
-    sizes: &[u16],
-    out: &mut [u16],
-)
-    requires { (n ≤ 16) × TableRoom nodes.now out.old }
-    ensures { DeclaredSet nodes.now spans.now n names.now sizes.now out.old out.new }
+pub fn set_declared(s: &Declarations<'_>, n: usize, out: &mut [u16])
+    requires { (n ≤ 16) × TableRoom s.now.nodes.now out.old }
+    ensures { DeclaredSet s.now.nodes.now s.now.spans.now n s.now.names.now s.now.sizes.now out.old out.new }
 {
-    set_types(
-        nodes,
-        span_at(spans, span::ABSTRACT_FIRST),
-        span_at(spans, span::ABSTRACT_LAST),
-        names,
-        sizes,
-        out,
-    );
-    set_types(
-        nodes,
-        span_at(spans, span::CONCRETE_FIRST),
-        span_at(spans, span::CONCRETE_LAST),
-        names,
-        sizes,
-        out,
-    );
-    set_parameter_types(nodes, spans, n, names, sizes, out);
+    let a0 = span_at(s.spans, span::ABSTRACT_FIRST);
+    let a1 = span_at(s.spans, span::ABSTRACT_LAST);
+    set_types(s, a0, a1, out);
+    let c0 = span_at(s.spans, span::CONCRETE_FIRST);
+    let c1 = span_at(s.spans, span::CONCRETE_LAST);
+    set_types(s, c0, c1, out);
+    set_parameter_types(s, n, out);
 }

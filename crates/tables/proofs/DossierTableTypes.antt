@@ -8,7 +8,7 @@ use native.Mathlib.Omega.{arith}
 use lib.ListN.{length}
 use Rattle.lexical.specs.Lists.{any, find}
 use Rattle.lexical.specs.Symbols.{Name, no_ending}
-use Rattle.lexical.specs.Refusals.{Fault, fault, unless, name_in_use, name_unknown}
+use Rattle.refusals.specs.Refusals.{Fault, fault, unless, name_in_use, name_unknown}
 use Rattle.lexical.proofs.WordLaws.{same_refl}
 use Rattle.form.specs.Tree.{Letters, Given, TypeForm, given_type, power_type, range_type, arrow_type, Declaration, declarations, Parameter, Operation, Dossier}
 use Rattle.form.specs.Written.{write_type}

@@ -9,7 +9,7 @@ use lib.ListN.{length, length-map}
 use borrow.Author.Tests.{not-true}
 use Rattle.lexical.specs.Lists.{any, find, filter}
 use Rattle.lexical.specs.Symbols.{Name, query, shriek}
-use Rattle.lexical.specs.Refusals.{fault, unless, name_in_use}
+use Rattle.refusals.specs.Refusals.{fault, unless, name_in_use}
 use Rattle.form.specs.Tree.{Letters, Given, Declaration, Direction, inward, outward, Parameter}
 use Rattle.form.specs.Written.{ending_of, write_type}
 use Rattle.form.specs.Codes.{Numbering}

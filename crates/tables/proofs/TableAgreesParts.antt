@@ -6,7 +6,7 @@ use Prim.Native.Nat.{ℕ, suc, ◌+◌}
 use lib.ListN.{length, set}
 use Rattle.lexical.specs.Kinds.{code_of}
 use Rattle.lexical.specs.Lists.{all}
-use Rattle.lexical.specs.Refusals.{Fault, fault, types_misfit}
+use Rattle.refusals.specs.Refusals.{Fault, fault, types_misfit}
 use Rattle.lexical.specs.Symbols.{Name, no_ending}
 use Rattle.form.specs.Tree.{Letters, End, Range, Domain, given_set, range, Prefix, Operator, Division, Connective, Quantifier, Comparison, Membership}
 use Rattle.form.specs.Tree.{Term, prefix, binary, divided, listed, pairs, such, Items, also, Pairs, only_pair, also_pair, Pred, quantified, connected, compared, member, within, related}

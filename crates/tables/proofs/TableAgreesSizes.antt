@@ -7,7 +7,7 @@ use Prim.Native.Nat.{ℕ, ◌+◌, ◌-◌, ◌*◌, ◌/◌, ◌%◌, ◌<◌}
 use native.Mathlib.Omega.{arith}
 use lib.ListN.{get_or}
 use borrow.Author.Tests.{le-leb, lt-ltb}
-use Rattle.lexical.specs.Refusals.{least}
+use Rattle.refusals.specs.Refusals.{least}
 use Rattle.form.specs.Tree.{Letters, Range, Domain, given_set, range, Given, Term}
 use Rattle.form.specs.Codes.{Numbering, node, end_number, end_width}
 use Rattle.static_rules.specs.Carriers.{size_of, plain}

@@ -10,7 +10,7 @@ use names::passes::part;
 use names::{NAMES, SIZES};
 use node_spans::span;
 use table_nodes::slots;
-use table_places::declared_types::{set_declared, span_at};
+use table_places::declared_types::{Declarations, set_declared, span_at};
 use table_places::places::{place_all, place_parameters};
 use type_rules::entries::{FREE, USED};
 use type_rules::kinds::{index, look, put};
@@ -209,7 +209,13 @@ fn set_table(
         span_at(spans, span::CONCRETE_LAST),
     );
     place_all(gs, av, cv, places);
-    set_declared(nodes, spans, n, names, sizes, out);
+    let declared = Declarations {
+        nodes,
+        spans,
+        names,
+        sizes,
+    };
+    set_declared(&declared, n, out);
     let source = Source {
         nodes,
         spans,

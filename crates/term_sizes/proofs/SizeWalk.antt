@@ -74,11 +74,11 @@ module _ (code : List ℕ) (e : ℕ) (l : e ≤ length code) (S : Bounds) where
   term-short r s b lt =
       record { falls = omega arith; small = omega arith; kept = refl; right = λ t i ρ base y. absurd (too_short code e l base (ends_t t i ρ) lt y) }
 
-  pub items-short : (r : Sized) → r.start ≡ 0 → e < 4 → ItemsSized code e S S r
-  items-short r s lt = record { falls = omega arith; kept = refl; right = λ t i ρ base y. absurd (too_short code e l base (ends_i t i ρ) lt y) }
+  pub items-short : (r : Sized) → r.start ≡ 0 → r.bound ≡ 0 → e < 4 → ItemsSized code e S S r
+  items-short r s b lt = record { falls = omega arith; bare = b; kept = refl; right = λ t i ρ base y. absurd (too_short code e l base (ends_i t i ρ) lt y) }
 
-  pub pairs-short : (r : Sized) → r.start ≡ 0 → e < 4 → PairsSized code e S S r
-  pairs-short r s lt = record { falls = omega arith; kept = refl; right = λ t i ρ base y. absurd (too_short code e l base (ends_q t i ρ) lt y) }
+  pub pairs-short : (r : Sized) → r.start ≡ 0 → r.bound ≡ 0 → e < 4 → PairsSized code e S S r
+  pairs-short r s b lt = record { falls = omega arith; bare = b; kept = refl; right = λ t i ρ base y. absurd (too_short code e l base (ends_q t i ρ) lt y) }
 
   pub pred-short : (r : Sized) → r.start ≡ 0 → e < 4 → PredSized code e S S r
   pred-short r s lt = record { falls = omega arith; kept = refl; right = λ p i ρ base y. absurd (too_short code e l base (ends_p p i ρ) lt y) }

@@ -157,27 +157,21 @@ module _ (code : List ℕ) (e : ℕ) (l : e ≤ length code) (S : Bounds) where
       })
 
   -- {t, ...}, {t |-> t, ...}
-  pub term-listed : (U : Bounds) (v r : Sized) → get_or code (e - 4 + 3) 0 ≡ 7 → ItemsSized code (e - 4) S U v
-      → r.bound ≡ 0 → fault_key r.fault ≡ fault_key v.fault → r.start ≡ v.start → TermSized code e S U r
+  pub term-listed : (U : Bounds) (v : Sized) → get_or code (e - 4 + 3) 0 ≡ 7 → ItemsSized code (e - 4) S U v → TermSized code e S U v
   unfolding term_codes term_bound term_over
-  term-listed U v r q hv bq fq sq = term-from code e l S 7 U r (let f = hv.falls in omega arith) (omega arith) hv.kept q
-      (λ ts i ρ base y.
-      let s = hv.right ts (suc i) ρ base (one-part code e l base (items_codes ts (suc i) ρ) 7 i 0 0 y).before in
-      record { fault_is = fq ∙ s.fault_is; bound_is = λ z. bq; start_is = sq ∙ s.start_is })
+  term-listed U v q hv = term-from code e l S 7 U v (let f = hv.falls in omega arith) (let b = hv.bare in omega arith) hv.kept q
+      (λ ts i ρ base y. hv.right ts (suc i) ρ base (one-part code e l base (items_codes ts (suc i) ρ) 7 i 0 0 y).before)
 
-  pub term-pairs : (U : Bounds) (v r : Sized) → get_or code (e - 4 + 3) 0 ≡ 8 → PairsSized code (e - 4) S U v
-      → r.bound ≡ 0 → fault_key r.fault ≡ fault_key v.fault → r.start ≡ v.start → TermSized code e S U r
+  pub term-pairs : (U : Bounds) (v : Sized) → get_or code (e - 4 + 3) 0 ≡ 8 → PairsSized code (e - 4) S U v → TermSized code e S U v
   unfolding term_codes term_bound term_over
-  term-pairs U v r q hv bq fq sq = term-from code e l S 8 U r (let f = hv.falls in omega arith) (omega arith) hv.kept q
-      (λ ts i ρ base y.
-      let s = hv.right ts (suc i) ρ base (one-part code e l base (pairs_codes ts (suc i) ρ) 8 i 0 0 y).before in
-      record { fault_is = fq ∙ s.fault_is; bound_is = λ z. bq; start_is = sq ∙ s.start_is })
+  term-pairs U v q hv = term-from code e l S 8 U v (let f = hv.falls in omega arith) (let b = hv.bare in omega arith) hv.kept q
+      (λ ts i ρ base y. hv.right ts (suc i) ρ base (one-part code e l base (pairs_codes ts (suc i) ρ) 8 i 0 0 y).before)
 
   -- the terms of a brace
   pub items-only : (U : Bounds) (v r : Sized) → TermSized code (e - 4) S U v → get_or code (e - 4 + 3) 0 ≡ 1
       → r.bound ≡ 0 → fault_key r.fault ≡ fault_key v.fault → r.start ≡ v.start → ItemsSized code e S U r
   unfolding term_codes term_over
-  items-only U v r hv q bq fq sq = record { falls = let f = hv.falls in omega arith; kept = hv.kept; right = right }
+  items-only U v r hv q bq fq sq = record { falls = let f = hv.falls in omega arith; bare = bq; kept = hv.kept; right = right }
     where
       right : (ts : Items) (i : ℕ) (ρ : Numbering) (base : List ℕ) → take e code ≡ base ++ items_codes ts i ρ → Saw r 0 (items_over ts S ρ i) (length base)
       right (only t) i ρ base y =
@@ -189,7 +183,7 @@ module _ (code : List ℕ) (e : ℕ) (l : e ≤ length code) (S : Bounds) where
   pub items-also : (U W : Bounds) (v u r : Sized) → ItemsSized code (e - 4) S U u → TermSized code u.start U W v → (get_or code (e - 4 + 3) 0 ≡ 1 → ⊥)
       → r.bound ≡ 0 → fault_key r.fault ≡ lesser (fault_key v.fault) (fault_key u.fault) → r.start ≡ v.start → ItemsSized code e S W r
   unfolding term_codes term_over
-  items-also U W v u r hu hv₀ q bq fq sq = record { falls = let f = hu.falls in let g = hv₀.falls in omega arith; kept = hv₀.kept ∙ hu.kept; right = right }
+  items-also U W v u r hu hv₀ q bq fq sq = record { falls = let f = hu.falls in let g = hv₀.falls in omega arith; bare = bq; kept = hv₀.kept ∙ hu.kept; right = right }
     where
       right : (ts : Items) (i : ℕ) (ρ : Numbering) (base : List ℕ) → take e code ≡ base ++ items_codes ts i ρ → Saw r 0 (items_over ts S ρ i) (length base)
       right (only t) i ρ base y = absurd (q (one-part code e l base (term_codes t i ρ) 1 0 0 0 y).is_shape)
@@ -205,6 +199,7 @@ module _ (code : List ℕ) (e : ℕ) (l : e ≤ length code) (S : Bounds) where
       → r.bound ≡ 0 → fault_key r.fault ≡ lesser (fault_key v.fault) (fault_key u.fault) → r.start ≡ v.start → PairSized code e S W r
   pair-sized U W v u r hu hv₀ bq fq sq = record {
     falls = let f = hu.falls in let g = hv₀.falls in omega arith;
+    bare = bq;
     kept = hv₀.kept ∙ hu.kept;
     right = λ t₁ t₂ i j ρ base y.
         let hv : TermSized code u.start S W v = subst (λ (X : Bounds). TermSized code u.start X W v) hu.kept hv₀ in
@@ -215,7 +210,7 @@ module _ (code : List ℕ) (e : ℕ) (l : e ≤ length code) (S : Bounds) where
 
   pub pairs-only : (U : Bounds) (v : Sized) → PairSized code (e - 4) S U v → get_or code (e - 4 + 3) 0 ≡ 1 → PairsSized code e S U v
   unfolding term_codes term_over
-  pairs-only U v hv q = record { falls = let f = hv.falls in omega arith; kept = hv.kept; right = right }
+  pairs-only U v hv q = record { falls = let f = hv.falls in omega arith; bare = hv.bare; kept = hv.kept; right = right }
     where
       right : (ts : Pairs) (i : ℕ) (ρ : Numbering) (base : List ℕ) → take e code ≡ base ++ pairs_codes ts i ρ → Saw v 0 (pairs_over ts S ρ i) (length base)
       right (only_pair t u) i ρ base y =
@@ -227,7 +222,7 @@ module _ (code : List ℕ) (e : ℕ) (l : e ≤ length code) (S : Bounds) where
   pub pairs-also : (U W : Bounds) (v u r : Sized) → PairsSized code (e - 4) S U u → PairSized code u.start U W v → (get_or code (e - 4 + 3) 0 ≡ 1 → ⊥)
       → r.bound ≡ 0 → fault_key r.fault ≡ lesser (fault_key v.fault) (fault_key u.fault) → r.start ≡ v.start → PairsSized code e S W r
   unfolding term_codes term_over
-  pairs-also U W v u r hu hv₀ q bq fq sq = record { falls = let f = hu.falls in let g = hv₀.falls in omega arith; kept = hv₀.kept ∙ hu.kept; right = right }
+  pairs-also U W v u r hu hv₀ q bq fq sq = record { falls = let f = hu.falls in let g = hv₀.falls in omega arith; bare = bq; kept = hv₀.kept ∙ hu.kept; right = right }
     where
       right : (ts : Pairs) (i : ℕ) (ρ : Numbering) (base : List ℕ) → take e code ≡ base ++ pairs_codes ts i ρ → Saw r 0 (pairs_over ts S ρ i) (length base)
       right (only_pair t₁ t₂) i ρ base y = absurd (q (two-parts code e l base (term_codes t₁ i ρ) (term_codes t₂ (suc (i + term_width t₁)) ρ) 1 0 0 0 y).is_shape)

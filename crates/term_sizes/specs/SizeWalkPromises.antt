@@ -38,17 +38,20 @@ pub record TermSized (code : List ℕ) (e : ℕ) (S U : Bounds) (r : Sized) : Ty
 
 pub record ItemsSized (code : List ℕ) (e : ℕ) (S U : Bounds) (r : Sized) : Type 0 where
   pub falls : r.start ≤ e
+  pub bare : r.bound ≡ 0
   pub kept : U ≡ S
   pub right : (ts : Items) (i : ℕ) (ρ : Numbering) (base : List ℕ) → take e code ≡ base ++ items_codes ts i ρ → Saw r 0 (items_over ts S ρ i) (length base)
 
 pub record PairSized (code : List ℕ) (e : ℕ) (S U : Bounds) (r : Sized) : Type 0 where
   pub falls : r.start ≤ e
+  pub bare : r.bound ≡ 0
   pub kept : U ≡ S
   pub right : (t u : Term) (i j : ℕ) (ρ : Numbering) (base : List ℕ) → take e code ≡ (base ++ term_codes t i ρ) ++ term_codes u j ρ
       → Saw r 0 (lesser (term_over t S ρ i) (term_over u S ρ j)) (length base)
 
 pub record PairsSized (code : List ℕ) (e : ℕ) (S U : Bounds) (r : Sized) : Type 0 where
   pub falls : r.start ≤ e
+  pub bare : r.bound ≡ 0
   pub kept : U ≡ S
   pub right : (ts : Pairs) (i : ℕ) (ρ : Numbering) (base : List ℕ) → take e code ≡ base ++ pairs_codes ts i ρ → Saw r 0 (pairs_over ts S ρ i) (length base)
 

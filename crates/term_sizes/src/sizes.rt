@@ -1,4 +1,6 @@
-// The walk over the nodes of terms and predicates, from their ends, with the size of each name in a table.
+// The walk over the nodes of terms and predicates, from their ends, with the size of each name in a table. One cycle of functions, in one file.
+// Form 5: `end` moves with each call, and where a part ends is known only behind the one that follows it; a struct of it and the nodes would be made
+// anew at each call. The shape in front of a function's node is asked of a function that one arm of `term` or `pred` calls.
 ghost use Rattle.std.specs.Prelude.{◌≡◌, cond, ◌+◌, ◌-◌, ◌≤◌, eqb, leb, length, get_or};
 ghost use Rattle.type_rules.specs.TypesByNumber.{fault_key, judged_key, key};
 ghost use Rattle.term_sizes.specs.SizesByNumber.{absolute};
@@ -8,10 +10,11 @@ use crate::Sized;
 use form::{node, shapes};
 use lexical::bounds::{COUNT_SIZE, LARGEST_NUMBER, LARGEST_SIZE};
 use lexical::codes;
-use lexical::refusals::{Fault, Refusal};
+use refusals::{Fault, Refusal};
 use type_rules::kinds::{lesser_of, look, node_at, put, unless};
 
 // Prefixes and operators by the code of their symbol. What is not a number has the size 0.
+// Form 1: a node is lent as numbers of 16 bits, and codes of symbols are bytes.
 const PLUS: u16 = codes::PLUS as u16;
 
 const MINUS: u16 = codes::DASH as u16;
@@ -78,7 +81,9 @@ fn unless_over(fault: Option<Fault>, n: u64) -> u64
     }
 }
 
-// No size and no fault, at `at`.
+// No size and no fault, at `at`; 0 says that no nodes of a tree end.
+// Form 1: the nodes are always those of trees, so that the latter is never read; with an Option each function of the walk would hand on a case that does
+// not come.
 fn bare(at: usize) -> Sized
     ensures { (result.bound ≡ 0) × (fault_key result.fault ≡ 0) × (result.start ≡ at) }
 {
@@ -128,8 +133,8 @@ fn term(code: &[u16], end: usize, bounds: &mut [u16]) -> Sized
         shapes::DIVIDED => divided(code, end, bounds),
         shapes::BINARY => operated(code, end, bounds),
         shapes::SUCH => such(code, end, bounds),
-        shapes::LISTED => listed(code, end, bounds),
-        shapes::PAIRS => paired(code, end, bounds),
+        shapes::LISTED => items(code, at, bounds),
+        shapes::PAIRS => pairs(code, at, bounds),
         shapes::EMPTY_SET => bare(at),
         shapes::EMPTY_PAIRS => bare(at),
         _ => bare(0),
@@ -234,35 +239,7 @@ fn such(code: &[u16], end: usize, bounds: &mut [u16]) -> Sized
     }
 }
 
-// {t, ...}.
-#[cycle(sizes)]
-fn listed(code: &[u16], end: usize, bounds: &mut [u16]) -> Sized
-    requires { (end ≤ length code.now) × (4 ≤ end) × (get_or code.now (end - 4 + 3) 0 ≡ 7) }
-    ensures { TermSized code.now end bounds.old bounds.new result }
-{
-    let t = items(code, end - node::SIZE, bounds);
-    Sized {
-        bound: 0,
-        fault: t.fault,
-        start: t.start,
-    }
-}
-
-// {t |-> t, ...}.
-#[cycle(sizes)]
-fn paired(code: &[u16], end: usize, bounds: &mut [u16]) -> Sized
-    requires { (end ≤ length code.now) × (4 ≤ end) × (get_or code.now (end - 4 + 3) 0 ≡ 8) }
-    ensures { TermSized code.now end bounds.old bounds.new result }
-{
-    let t = pairs(code, end - node::SIZE, bounds);
-    Sized {
-        bound: 0,
-        fault: t.fault,
-        start: t.start,
-    }
-}
-
-// The terms of a brace.
+// The terms of a brace, which is no number.
 #[cycle(sizes)]
 fn items(code: &[u16], end: usize, bounds: &mut [u16]) -> Sized
     requires { end ≤ length code.now }
@@ -290,7 +267,9 @@ fn items(code: &[u16], end: usize, bounds: &mut [u16]) -> Sized
     }
 }
 
-// The pairs of a brace; the last two terms before the node of the last pair.
+// The pairs of a brace, which is no number; the last two terms before the node of the last pair.
+// Form 2: `items` with `pair` for `term`. Both go on in a cycle with these; one function for both would be told at each call which of them it is to
+// call, by a switch (Form 7) or a closure that calls back into the cycle.
 #[cycle(sizes)]
 fn pairs(code: &[u16], end: usize, bounds: &mut [u16]) -> Sized
     requires { end ≤ length code.now }

@@ -1,7 +1,7 @@
 // Where a byte of a text stands: its line and column, where that line begins, where the symbol ends that begins there.
 #![tactic(auto)]
 
-ghost use Rattle.std.specs.Prelude.{◌≡◌, ◌+◌, ◌≤◌, take, drop, ◌==◌, ◌||◌};
+ghost use Rattle.std.specs.Prelude.{◌≡◌, ◌+◌, ◌≤◌, take, drop, min, ◌==◌, ◌||◌};
 ghost use Rattle.text_places.specs.PlacePromises.{newlines, LineStart};
 
 use lexical::classes::{byte_at, run_from};
@@ -67,7 +67,7 @@ pub fn line_start(text: &[u8], p: usize) -> usize
 
 // A place of a text: what is farther off counts as this.
 fn place(p: usize) -> usize
-    ensures { result ≤ 65535 }
+    ensures { result ≡ min p 65535 }
 {
     p.min(FARTHEST)
 }
@@ -77,7 +77,7 @@ pub fn column_of(text: &[u8], p: usize) -> usize {
     place(p - line_start(text, p)) + FIRST
 }
 
-// How many bytes the mark has that three bytes begin with; 1 for none.
+// How many bytes the mark has that three bytes begin with; a byte that begins none is shown alone.
 fn mark_length(a: u8, b: u8, e: u8) -> usize {
     let token = mark_of(a, b, e);
     match token {
@@ -88,7 +88,9 @@ fn mark_length(a: u8, b: u8, e: u8) -> usize {
 }
 
 // Behind the last byte of the symbol that begins at a byte.
-pub fn symbol_end(text: &[u8], p: usize) -> usize {
+pub fn symbol_end(text: &[u8], p: usize) -> usize
+    ensures { min p 65535 ≤ result }
+{
     let q = place(p);
     let n = place(run_from(text, q));
     if n == 0 {

@@ -5,14 +5,13 @@ use mathlib.Core.Option.{Option, none, some}
 use Prim.Native.Nat.{ℕ, ◌≤◌}
 use native.Mathlib.Omega.{arith}
 use lib.ListN.{length}
-use Rattle.lexical.specs.Refusals.{Fault, number_of, least}
-use Rattle.lexical.specs.RefusalNames.{refusal_is, fault_is}
-use Rattle.lexical.specs.declared.refusals.Fault as refusals
+use Rattle.refusals.specs.Refusals.{Fault, least}
+use Rattle.refusals.specs.declared.Fault as refusals
 use Rattle.parser.specs.declared.Structure.{Structure}
 use Rattle.form.specs.Tree.{Dossier}
 use Rattle.form.specs.Codes.{dossier_codes}
 use Rattle.parser.specs.Promises.{numbering, Parsed}
-use Rattle.std.specs.Prelude.{Result, Ok, Err}
+use Rattle.std.specs.Prelude.{Ok, Err}
 use Rattle.static_rules.specs.Read as definition
 use Rattle.static_rules.specs.Read.{refusal, reading, pass, located, read_sizes, read_bindings, names_read, read}
 use Rattle.static_rules.specs.Names.{name_faults}

@@ -1,12 +1,12 @@
 -- What reading a text leaves for the calls and the report: its fault, or the arrays of its dossier for the search and for the lines of a witness. Nothing here need be believed.
 use Rattle.std.specs.Prelude.{◌≡◌, List, ℕ, ◌≤◌, length, take, Result, Ok, Err}
-use Rattle.lexical.specs.Refusals as refusals
-use Rattle.lexical.specs.Refusals.{number_of}
-use Rattle.lexical.specs.RefusalNames.{refusal_is, fault_is}
-use Rattle.lexical.specs.declared.refusals.Refusal.{Refusal}
-use Rattle.lexical.specs.declared.refusals.Fault.{Fault}
+use Rattle.refusals.specs.Refusals as refusals
+use Rattle.refusals.specs.Refusals.{number_of}
+use Rattle.refusals.specs.RefusalNames.{fault_is}
+use Rattle.refusals.specs.declared.Fault.{Fault}
 use Rattle.form.specs.Tree.{Dossier}
 use Rattle.form.specs.Codes.{Numbering, dossier_codes}
+use Rattle.search_groups.specs.declared.Dossier as code
 use Rattle.static_rules.specs.Read as definition
 use Rattle.static_rules.specs.Read.{refusal, reading, read}
 use Rattle.labels.specs.ReadingsReadings.{ReadingOf}
@@ -28,6 +28,14 @@ ReadAs text table rows firsts groups labels (reading d) r = (r ≡ Ok (length d.
 
 pub record ReadsText (text table rows firsts groups labels : List ℕ) (r : Result ℕ Fault) : Type 0 where
   pub answer : ReadAs text table rows firsts groups labels (read text) r
+
+-- a dossier of these arrays
+pub record Lent (table rows firsts groups : List ℕ) (n : ℕ) (d : code.Dossier) : Type 0 where
+  pub table_is : d.table.now ≡ table
+  pub rows_are : d.rows.now ≡ rows
+  pub firsts_are : d.firsts.now ≡ firsts
+  pub groups_are : d.groups.now ≡ groups
+  pub operations_are : d.operations ≡ n
 
 -- What the functions promise each other
 

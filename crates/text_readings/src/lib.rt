@@ -1,15 +1,16 @@
 // A text read for the calls and the report: its fault, or the arrays of its dossier.
 #![tactic(auto)]
 
-ghost use Rattle.std.specs.Prelude.{◌≡◌, ◌≤◌, length};
-ghost use Rattle.text_readings.specs.TextPromises.{ReadsText, Counted, Gathered};
+ghost use Rattle.std.specs.Prelude.{◌≡◌, ◌≤◌, length, replicate};
+ghost use Rattle.text_readings.specs.TextPromises.{ReadsText, Lent, Counted, Gathered};
 
 use form::node::NUMBERS;
-use labels::{LABELS, gather_elements, gather_titles, gather_variables};
+use labels::{LABELS, Sources, gather_elements, gather_titles, gather_variables};
 use lexical::bounds::SYMBOLS;
-use lexical::refusals::Fault;
 use node_spans::{span, spans};
 use reader::read;
+use refusals::Fault;
+use search_groups::Dossier;
 use search_groups::conjuncts::FIRSTS;
 use search_groups::groups::GROUPS;
 
@@ -29,62 +30,83 @@ fn operations(nodes: &[u16; NUMBERS], m: usize) -> usize
 }
 
 // The labels of the dossier whose nodes these are.
-fn gather(
-    nodes: &[u16; NUMBERS],
-    starts: &[u16; SYMBOLS],
-    places: &[u16; span::COUNT],
-    table: &[u16],
-    groups: &[u16],
-    m: usize,
-    labels: &mut [u16],
-)
-    requires { (m ≤ 16384) × (length table.now ≡ 16384) × (length labels.old ≡ 720) }
-    ensures { Gathered nodes.now starts.now places.now table.now groups.now m labels.old labels.new }
+fn gather(x: &Sources<'_>, m: usize, labels: &mut [u16])
+    requires { (m ≤ 16384) × (length x.now.table.now ≡ 16384) × (length labels.old ≡ 720) }
+    ensures { Gathered x.now.nodes.now x.now.starts.now x.now.spans.now x.now.table.now x.now.groups.now m labels.old labels.new }
 {
-    gather_elements(nodes, starts, m, labels);
-    gather_titles(nodes, starts, places, labels);
-    gather_variables(nodes, starts, table, groups, labels);
+    gather_elements(x, m, labels);
+    gather_titles(x, labels);
+    gather_variables(x, labels);
 }
 
-// How many operations the dossier of a text has, or the fault of the text.
-pub fn read_text(
-    text: &[u8],
-    table: &mut [u16; NUMBERS],
-    rows: &mut [u16; NUMBERS],
-    firsts: &mut [u16; FIRSTS],
-    groups: &mut [u16; GROUPS],
-    labels: &mut [u16; LABELS],
-) -> Result<usize, Fault>
-    ensures { ReadsText text.now table.new rows.new firsts.new groups.new labels.new result }
-{
-    let mut codes = [0u8; SYMBOLS];
-    let mut starts = [0u16; SYMBOLS];
-    let mut values = [0u16; SYMBOLS];
-    let mut nodes = [0u16; NUMBERS];
-    let mut places = [0u16; span::COUNT];
-    measured(table);
-    let answer = read(
-        text,
-        &mut codes,
-        &mut starts,
-        &mut values,
-        &mut nodes,
-        &mut places,
-        table,
-        groups,
-        rows,
-        firsts,
-    );
-    let structure = answer?;
-    let n = operations(&nodes, structure.numbers);
-    gather(
-        &nodes,
-        &starts,
-        &places,
-        table,
-        groups,
-        structure.numbers,
-        labels,
-    );
-    Ok(n)
+// The arrays of a text that is read, for the search and for the lines of a witness. They are lent, and never copied.
+#[derive(Drop)]
+pub struct Arrays {
+    pub table: [u16; NUMBERS],
+    pub rows: [u16; NUMBERS],
+    pub firsts: [u16; FIRSTS],
+    pub groups: [u16; GROUPS],
+    pub labels: [u16; LABELS],
+}
+
+impl Arrays {
+    pub fn new() -> Arrays
+        ensures { (result.table ≡ replicate 16384 0) × (result.rows ≡ replicate 16384 0) × (result.firsts ≡ replicate 40 0) × (result.groups ≡ replicate 160 0) × (result.labels ≡ replicate 720 0) }
+    {
+        Arrays {
+            table: [0; NUMBERS],
+            rows: [0; NUMBERS],
+            firsts: [0; FIRSTS],
+            groups: [0; GROUPS],
+            labels: [0; LABELS],
+        }
+    }
+
+    // How many operations the dossier of a text has, or the fault of the text.
+    pub fn read(&mut self, text: &[u8]) -> Result<usize, Fault>
+        ensures { ReadsText text.now self.new.table self.new.rows self.new.firsts self.new.groups self.new.labels result }
+    {
+        let mut codes = [0u8; SYMBOLS];
+        let mut starts = [0u16; SYMBOLS];
+        let mut values = [0u16; SYMBOLS];
+        let mut nodes = [0u16; NUMBERS];
+        let mut places = [0u16; span::COUNT];
+        measured(&self.table);
+        let answer = read(
+            text,
+            &mut codes,
+            &mut starts,
+            &mut values,
+            &mut nodes,
+            &mut places,
+            &mut self.table,
+            &mut self.groups,
+            &mut self.rows,
+            &mut self.firsts,
+        );
+        let structure = answer?;
+        let n = operations(&nodes, structure.numbers);
+        let x = Sources {
+            nodes: &nodes,
+            starts: &starts,
+            spans: &places,
+            table: &self.table,
+            groups: &self.groups,
+        };
+        gather(&x, structure.numbers, &mut self.labels);
+        Ok(n)
+    }
+
+    // The dossier of a text that was read, with so many operations.
+    pub fn dossier(&self, operations: usize) -> Dossier<'_>
+        ensures { Lent self.now.table self.now.rows self.now.firsts self.now.groups operations result }
+    {
+        Dossier {
+            table: &self.table,
+            rows: &self.rows,
+            firsts: &self.firsts,
+            groups: &self.groups,
+            operations,
+        }
+    }
 }

@@ -1,33 +1,49 @@
 -- The pieces of a text that is tried are that text. Assumes nothing.
-use mathlib.Core.Path.{◌≡◌, refl, ap, ◌∙◌, subst}
-use mathlib.Core.List.{List, ◌++◌}
-use Prim.Native.Nat.{ℕ, ◌-◌}
+use mathlib.Core.Path.{◌≡◌, refl, sym, ap, ◌∙◌, subst}
+use mathlib.Core.Bool.{Bool, true, false}
+use mathlib.Core.List.{List, [], ◌++◌, append_assoc}
+use Prim.Native.Nat.{ℕ, ◌-◌, min}
 use native.Mathlib.Omega.{arith}
-use lib.ListN.{length, take, drop, length-drop}
-use lib.Seq.{take_all}
-use Rattle.tried_texts.specs.Written.{Goes, Says}
-use Rattle.tried_texts.proofs.WrittenPieces.{said-both, said_as}
+use lib.Dec.{leb}
+use borrow.Author.Tests.{leb-true, leb-false}
+use lib.ListN.{length, take, drop, length-take, length-drop}
+use lib.Seq.{take_all, take-take, take-append-le}
+use Rattle.std.proofs.lemmas.List.{take_min, drop_min}
 use Rattle.static_rules.specs.Read as definition
 use Rattle.static_rules.specs.Read.{refusal, reading, read}
 use Rattle.text_readings.specs.TextPromises.{ReadAs, ReadsText}
 use Rattle.std.specs.Prelude.{Result, Ok, Err, Option}
 use Rattle.std.specs.Result.{result_err}
-use Rattle.lexical.specs.declared.refusals.Fault.{Fault}
+use Rattle.refusals.specs.declared.Fault.{Fault}
 use Rattle.tried_texts.specs.TrialPromises.{Answered, AnswerOf, instead}
 
-pub pieces : (text words : List ℕ) (from to : ℕ) {a b r : ℕ} {z y x w : List ℕ}
-    → Goes 0 z y a → Says (take (from - 0) (drop 0 text)) 0 z y a
-    → Goes a y x b → Says words a y x b
-    → Says (take (length text - to) (drop to text)) b x w r
-    → Says (take from text ++ (words ++ drop to text)) 0 z w r
-pieces text words from to {a} {b} {r} {z} {y} {x} {w} g f g' f' f'' =
-    let e : from - 0 ≡ from = omega arith in
-    let l = length-drop to text in
-    said-both g (said_as (ap (λ (n : ℕ). take n text) e) f)
-    (said-both g' f' (said_as (take_all (length text - to) (drop to text) (omega arith)) f''))
+-- what is cut before something is put behind it
+cut : (n : ℕ) (x y : List ℕ) → take n (take n x ++ y) ≡ take n (x ++ y)
+cut n x y = on (leb (length x) n) refl
+  where
+    on : (t : Bool) → leb (length x) n ≡ t → take n (take n x ++ y) ≡ take n (x ++ y)
+    on true e = ap (λ (l : List ℕ). take n (l ++ y)) (take_all n x (leb-true (length x) n e))
+    on false e =
+        let h = leb-false (length x) n e in
+        let l = length-take n x in
+        take-append-le n (take n x) y (omega arith) ∙ take-take n n x (omega arith) ∙ sym (take-append-le n x y (omega arith))
 
-pub front : (n : ℕ) (p z w : List ℕ) → length z ≡ 32769 → Says p 0 z w n → take n w ≡ take 32769 p
-front n p z w l s = s.front (omega arith) ∙ ap (λ (k : ℕ). take k p) l
+-- the three pieces, each cut where the room ends
+pub pieces : (text words : List ℕ) (from to : ℕ) {i j : ℕ} {w x y z front behind : List ℕ} → i ≡ min from (length text) → j ≡ min to (length text)
+    → w ≡ [] → x ≡ take 32769 (w ++ front) → y ≡ take 32769 (x ++ words) → z ≡ take 32769 (y ++ behind) → front ≡ take i text → behind ≡ take (length text - j) (drop j text)
+    → z ≡ instead text from to words
+pieces text words from to {i} {j} {w} {x} {y} {z} {front} {behind} hi hj hw hx hy hz hf hb =
+    let f : front ≡ take from text = hf ∙ ap (λ (n : ℕ). take n text) hi ∙ take_min from text in
+    let l = length-drop j text in
+    let b : behind ≡ drop to text = hb ∙ take_all (length text - j) (drop j text) (omega arith) ∙ ap (λ (n : ℕ). drop n text) hj ∙ drop_min to text in
+    let x' : x ≡ take 32769 (take from text) = hx ∙ ap (λ (l : List ℕ). take 32769 (l ++ front)) hw ∙ ap (take 32769) f in
+    let y' : y ≡ take 32769 (take from text ++ words) = hy ∙ ap (λ (l : List ℕ). take 32769 (l ++ words)) x' ∙ cut 32769 (take from text) words in
+    hz ∙ ap (λ (l : List ℕ). take 32769 (l ++ behind)) y' ∙ cut 32769 (take from text ++ words) behind
+    ∙ ap (λ (l : List ℕ). take 32769 (take from text ++ words ++ l)) b
+    ∙ ap (take 32769) (append_assoc (take from text) words (drop to text))
+
+pub answered-of : {t u : List ℕ} {a : Option Fault} → t ≡ u → AnswerOf t a → AnswerOf u a
+answered-of {a = a} e h = subst (λ (l : List ℕ). AnswerOf l a) e h
 
 -- ---- the answers of reading
 
@@ -44,9 +60,6 @@ answer text table rows firsts groups labels (reading d) (Ok m) e = tt
 
 pub answered : {text table rows firsts groups labels : List ℕ} {r : Result ℕ Fault} → ReadsText text table rows firsts groups labels r → AnswerOf text (result_err r)
 answered {text} {table} {rows} {firsts} {groups} {labels} {r} w = record { is = answer text table rows firsts groups labels (read text) r w.answer }
-
-pub answered-front : {n : ℕ} {a : Option Fault} {p z w : List ℕ} → length z ≡ 32769 → Says p 0 z w n → AnswerOf (take n w) a → AnswerOf (take 32769 p) a
-answered-front {n} {a} {p} {z} {w} l s h = subst (λ (t : List ℕ). AnswerOf t a) (front n p z w l s) h
 
 pub answered_as : (text words : List ℕ) (from to : ℕ) {j k : ℕ} {a : Option Fault} → j ≡ k → AnswerOf (instead text from to (take j words)) a → AnswerOf (instead text from to (take k words)) a
 answered_as text words from to {j} {k} {a} e h = subst (λ (n : ℕ). AnswerOf (instead text from to (take n words)) a) e h

@@ -1,4 +1,2 @@
 -- Texts that are tried.
 pub mod Assembled
-pub mod WrittenPieces
-pub mod WrittenSteps

@@ -1,2 +1,1 @@
 pub mod TrialPromises
-pub mod Written

@@ -1,7 +1,7 @@
 -- What the functions promise that try a text.
 use Rattle.std.specs.Prelude.{◌≡◌, List, ◌++◌, ℕ, take, drop, Option, Some, None, ⊤}
-use Rattle.lexical.specs.RefusalNames.{fault_is}
-use Rattle.lexical.specs.declared.refusals.Fault.{Fault}
+use Rattle.refusals.specs.RefusalNames.{fault_is}
+use Rattle.refusals.specs.declared.Fault.{Fault}
 use Rattle.static_rules.specs.Read as definition
 use Rattle.static_rules.specs.Read.{refusal, reading, read}
 

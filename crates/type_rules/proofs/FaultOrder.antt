@@ -16,15 +16,15 @@ use Rattle.std.specs.Ordering.{MatchOrdering, is_lt, ord_min, ordering_then}
 use Rattle.std.specs.Cmp.{ranks}
 use Rattle.std.specs.List.{list_all}
 use Rattle.std.proofs.lemmas.List.Folds.{list_all_at}
-use Rattle.lexical.specs.Refusals as definition
-use Rattle.lexical.specs.Refusals.{number_of}
-use Rattle.lexical.specs.RefusalNames.{refusal_is}
-use Rattle.lexical.specs.declared.refusals.Fault.{Fault}
-use Rattle.lexical.specs.declared.refusals.Refusal.{Refusal}
-use Rattle.lexical.specs.declared.refusals.Refusal.TheVariants.{LongText, UnlistedSymbol, ManySymbols, NoDossier, Deep, ManyDeclared, HeadingDiffers, NameInUse, NameUnknown, TypesMisfit, WideType, ManyBindings, LargeSize, ZeroDivisor}
-use Rattle.lexical.specs.declared.refusals.Refusal.TheVariants.{AdvanceRange, ShortBytes, NothingHeld, SomethingHeld, CheckFinished, NoCounterexample}
-use Rattle.lexical.specs.contracts.refusals.FaultOrd.TheImpl as FaultOrder
-use Rattle.lexical.specs.contracts.refusals.RefusalOrd.TheImpl as RefusalOrder
+use Rattle.refusals.specs.Refusals as definition
+use Rattle.refusals.specs.Refusals.{number_of}
+use Rattle.refusals.specs.RefusalNames.{refusal_is}
+use Rattle.refusals.specs.declared.Fault.{Fault}
+use Rattle.refusals.specs.declared.Refusal.{Refusal}
+use Rattle.refusals.specs.declared.Refusal.TheVariants.{LongText, UnlistedSymbol, ManySymbols, NoDossier, Deep, ManyDeclared, HeadingDiffers, NameInUse, NameUnknown, TypesMisfit, WideType, ManyBindings, LargeSize, ZeroDivisor}
+use Rattle.refusals.specs.declared.Refusal.TheVariants.{AdvanceRange, ShortBytes, NothingHeld, SomethingHeld, CheckFinished, NoCounterexample}
+use Rattle.refusals.specs.contracts.FaultOrd.TheImpl as FaultOrder
+use Rattle.refusals.specs.contracts.RefusalOrd.TheImpl as RefusalOrder
 use Rattle.type_rules.specs.TypesByNumber.{key_room, key, key_of, fault_key, lesser, judged_key, inside_key, unless_key}
 
 -- ---- tests of all refusals ----

@@ -6,7 +6,7 @@ use native.Mathlib.Omega.{arith}
 use native.Mathlib.Nat.{mul-le-mul}
 use lib.Dec.{eqb, leb, ltb}
 use borrow.Author.Tests.{leb-true, ltb-true, le-leb, lt-leb, eq-eqb, ne_eqb}
-use Rattle.form.proofs.SymbolsBooleanTests.{and_left, and_right}
+use Rattle.form.proofs.LexicalBooleanTests.{and_left, and_right}
 use Rattle.lexical.specs.Kinds.{code_of}
 use Rattle.form.specs.Tree.{Prefix, negate, size, dom, ran, Operator, plus, minus, union, without, times, inter, Comparison, equals, differs, less, at_most}
 use Rattle.form.specs.Written.{prefix_kind, operator_kind, comparison_kind}

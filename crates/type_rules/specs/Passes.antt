@@ -1,6 +1,6 @@
 -- What a pass answers, as a number: its first fault, or none.
 use Rattle.std.specs.Prelude.{ℕ, Result, Ok, Err, Some}
-use Rattle.lexical.specs.declared.refusals.Fault.{Fault}
+use Rattle.refusals.specs.declared.Fault.{Fault}
 use Rattle.type_rules.specs.TypesByNumber.{fault_key}
 
 abbrev pub refused_key : {A : Type 0} → Result A Fault → ℕ

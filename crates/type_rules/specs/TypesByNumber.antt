@@ -4,9 +4,9 @@ use Rattle.std.specs.Prelude.{◌≡◌, Bool, ◌&&◌, ◌||◌, cond, List, �
 use Rattle.std.proofs.Math.Option.{Option, none, some}
 use Rattle.lexical.specs.Kinds.{code_of}
 use Rattle.lexical.specs.Symbols.{no_ending}
-use Rattle.lexical.specs.Refusals.{Fault, number_of, least}
-use Rattle.lexical.specs.RefusalNames.{fault_is}
-use Rattle.lexical.specs.declared.refusals.Fault as code
+use Rattle.refusals.specs.Refusals.{Fault, number_of, least}
+use Rattle.refusals.specs.RefusalNames.{fault_is}
+use Rattle.refusals.specs.declared.Fault as code
 use Rattle.std.specs.Prelude as rust
 use Rattle.std.specs.Prelude.{None, Some}
 use Rattle.form.specs.Tree.{Prefix, negate, size, dom, ran, Operator, plus, minus, union, without, times, inter, Comparison, equals, differs, less, at_most, Domain, given_set, range}

@@ -1,5 +1,6 @@
-// What a name is, by its number in the table of names (specs/TypesByNumber.antt), which the caller lends. The types of terms are numbered so as well,
-// and no type is a number too, since a bound name may have none and stands in that table.
+// What a name is, by its number in the table of names (specs/TypesByNumber.antt).
+// Form 1: the table has a fixed length and is lent by the caller. The types of terms are numbered so as well, and no type is a number too, since a bound
+// name may have none and stands in that table.
 use lexical::bounds;
 
 // A name that is not in use; no type.
@@ -25,7 +26,7 @@ pub const PAIRS: u16 = 64;
 // How many given sets there are at most, each with a number of its own in each of these rows; the pairs have a row for each.
 pub const ROW: u16 = bounds::GIVEN_SETS as u16;
 
-// The same as indices.
+// The same as indices, which a table of sizes is looked up by.
 pub const FIRST_GIVEN: usize = GIVEN as usize;
 
 pub const FIRST_ELEMENT: usize = ELEMENT as usize;

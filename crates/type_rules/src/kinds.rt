@@ -1,15 +1,16 @@
 // What names and terms are, by numbers (specs/TypesByNumber.antt).
 ghost use Rattle.std.specs.Prelude.{◌≡◌, ◌&&◌, ◌+◌, ◌≤◌, ◌<◌, length, set};
-ghost use Rattle.lexical.specs.Refusals.{number_of};
-ghost use Rattle.lexical.specs.RefusalNames.{refusal_is};
+ghost use Rattle.refusals.specs.Refusals.{number_of};
+ghost use Rattle.refusals.specs.RefusalNames.{refusal_is};
 ghost use Rattle.type_rules.specs.Passes.{refused_key};
 ghost use Rattle.type_rules.specs.TypesByNumber.{entry, is_given, is_element, in_reach, element_of, set_of, pair_of, dom_of, ran_of, member_fits, related_fits, shared, key, fault_key, unless_key, lesser, judged_key, inside_key, is_free, range_fits, size_in, product_fits, over_key, brace_key, NodeAt};
 
 use crate::{Node, entries};
 use form::node;
 use lexical::bounds;
-use lexical::refusals::{Fault, Refusal};
+use refusals::{Fault, Refusal};
 
+// Form 4: `usize::from` with the bound that sums of indices need.
 pub fn index(x: u16) -> usize
     ensures { (result ≡ x) × (result < 65536) }
 {
@@ -17,6 +18,7 @@ pub fn index(x: u16) -> usize
 }
 
 // What the name x is.
+// Form 1: behind the end of the table a name is free, which the code's tests say of it; with an Option each of them would turn none back into that.
 pub fn look(names: &[u16], x: usize) -> u16
     ensures { result ≡ entry names.now x }
 {
@@ -135,6 +137,7 @@ pub fn shared_kind(k: u16, l: u16) -> u16
 }
 
 // The fault at a place, unless all is well.
+// Form 7: `ok` is what a rule says, a truth value that comes with no step of its own.
 pub fn unless(ok: bool, place: usize, refusal: Refusal) -> Option<Fault>
     ensures { fault_key result ≡ unless_key ok (key place (number_of (refusal_is refusal))) }
 {
@@ -162,6 +165,7 @@ pub fn all_well(fault: Option<Fault>) -> Result<(), Fault>
 }
 
 // A whole at the place i with the fault `parts` in its parts.
+// Form 7: `fits` is what a rule says, likewise.
 pub fn judge(fits: bool, i: u16, parts: Option<Fault>) -> Option<Fault>
     ensures { fault_key result ≡ judged_key fits (key i 10) (fault_key parts) }
 {

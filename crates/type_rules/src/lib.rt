@@ -1,7 +1,7 @@
 // Types and faults by numbers: which types fit, and which fault stands where they do not.
 #![tactic(auto)]
 
-use lexical::refusals::Fault;
+use refusals::Fault;
 
 pub mod entries;
 pub mod kinds;

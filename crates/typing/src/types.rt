@@ -1,10 +1,12 @@
-// The walk over the nodes of terms and predicates, from their ends: a binder is met before what stands in its reach.
+// The walk over the nodes of terms and predicates, from their ends: a binder is met before what stands in its reach. One cycle of functions, in one file.
+// Form 5: `end` moves with each call, and where a part ends is known only behind the one that follows it; a struct of it and the nodes would be made
+// anew at each call. The shape in front of a function's node is asked of a function that one arm of `term` or `pred` calls.
 ghost use Rattle.std.specs.Prelude.{◌≡◌, ◌+◌, ◌-◌, ◌≤◌, length, get_or};
 ghost use Rattle.type_rules.specs.TypesByNumber.{DomainSeen, TermSeen, ItemsSeen, PairSeen, PairsSeen, PredSeen, PrefixFits, PrefixType, OperatorFits, ComparisonFits};
 
 use form::{node, shapes};
 use lexical::codes;
-use lexical::refusals::Refusal;
+use refusals::Refusal;
 use type_rules::kinds::{
     bound_fault, brace_fault, dom_of, element_of, in_reach, is_element, is_given, judge, lesser_of,
     look, member_fits, node_at, over_fault, pair_of, put, ran_of, range_fits, related_fits, set_of,
@@ -13,6 +15,7 @@ use type_rules::kinds::{
 use type_rules::{Seen, entries};
 
 // Prefixes by the code of their symbol.
+// Form 1: a node is lent as numbers of 16 bits, and codes of symbols are bytes.
 const MINUS: u16 = codes::DASH as u16;
 
 const COUNT: u16 = codes::SIZE as u16;
@@ -64,6 +67,7 @@ fn comparison_fits(o: u16, k: u16, l: u16) -> bool
 }
 
 // No nodes of a tree end here.
+// Form 1: the nodes are always those of trees, so that this is never read; with an Option each function of the walk would hand on a case that does not come.
 fn nothing() -> Seen
     ensures { result.start ≡ 0 }
 {
@@ -319,6 +323,8 @@ fn items(code: &[u16], end: usize, names: &mut [u16], sizes: &[u16]) -> Seen
 }
 
 // The pairs of a brace; the last two terms before the node of the last pair.
+// Form 2: `items` with `pair` for `term`. Both go on in a cycle with these; one function for both would be told at each call which of them it is to
+// call, by a switch (Form 7) or a closure that calls back into the cycle.
 #[cycle(types)]
 fn pairs(code: &[u16], end: usize, names: &mut [u16], sizes: &[u16]) -> Seen
     requires { end ≤ length code.now }

@@ -9,7 +9,7 @@ use lib.ListN.{length, get_elem?}
 use borrow.Author.Tests.{leb-true}
 use Rattle.lexical.specs.Lists.{any, filter}
 use Rattle.lexical.specs.Symbols.{Name, Ending}
-use Rattle.lexical.specs.Refusals.{fault, unless, name_in_use}
+use Rattle.refusals.specs.Refusals.{fault, unless, name_in_use}
 use Rattle.meaning.specs.FormTree.{Letters, Arrow, Given, TypeForm, given_type, power_type, range_type, arrow_type}
 use Rattle.meaning.specs.FormTree.{Declaration, Direction, inward, outward, Parameter, Operation}
 use Rattle.meaning.specs.FormWritten.{ending_of, write_type}

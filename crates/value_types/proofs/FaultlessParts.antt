@@ -7,7 +7,7 @@ use Prim.Native.Nat.{ℕ, suc, ◌+◌, ◌<◌, ◌≤◌}
 use lib.IntN.{pos}
 use borrow.Author.Tests.{ltb-true, leb-true}
 use Rattle.lexical.specs.Symbols.{Name}
-use Rattle.lexical.specs.Refusals.{Fault, fault, unless, types_misfit}
+use Rattle.refusals.specs.Refusals.{Fault, fault, unless, types_misfit}
 use Rattle.meaning.specs.FormTree.{Letters, End, Range, Domain, given_set, range, Given, Prefix, Operator, Division, Quantifier, Connective, Comparison, Membership}
 use Rattle.meaning.specs.FormTree.{Term, name, group, prefix, binary, divided, listed, pairs, such, empty_set, empty_pairs, Items, only, also, Pairs, only_pair, also_pair}
 use Rattle.meaning.specs.FormTree.{Pred, negation, paren, quantified, connected, compared, member, within, related}

@@ -7,7 +7,7 @@ use Prim.Native.Nat.{ℕ, suc, ◌+◌}
 use lib.ListN.{get_elem?}
 use Rattle.lexical.specs.Lists.{concat}
 use Rattle.lexical.specs.Symbols.{no_ending, prime}
-use Rattle.lexical.specs.Refusals.{Fault}
+use Rattle.refusals.specs.Refusals.{Fault}
 use Rattle.meaning.specs.FormTree.{Letters, Pred, declarations, inward, outward, State, Operation, Dossier}
 use Rattle.meaning.specs.FormHeadings.{givens_at, abstract_at, concrete_at, operations_at, operation_length}
 use Rattle.meaning.proofs.FormTable.{◌&◌}

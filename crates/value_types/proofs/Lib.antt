@@ -18,4 +18,4 @@ pub use Rattle.meaning.proofs.ConjunctsHold as MeaningConjunctsHold
 pub use Rattle.meaning.proofs.Distinct as MeaningDistinct
 pub use Rattle.meaning.proofs.Frame as MeaningFrame
 pub use Rattle.meaning.proofs.Members as MeaningMembers
-pub use Rattle.meaning.proofs.SymbolsBooleanTests as SymbolsBooleanTests
+pub use Rattle.meaning.proofs.LexicalBooleanTests as LexicalBooleanTests

@@ -10,7 +10,7 @@ use lib.Signed.{le_z, lt_z}
 use borrow.Author.Tests.{ltb-true, ltb-false, leb-true, lt-ltb}
 use Rattle.sets.specs.Division.{floor_div, floor_mod}
 use Rattle.sets.proofs.Divides.{divides}
-use Rattle.meaning.proofs.SymbolsBooleanTests.{and_left}
+use Rattle.meaning.proofs.LexicalBooleanTests.{and_left}
 use Rattle.meaning.specs.StaticRulesNames.{range_fits}
 
 neg_abs : (n : ℕ) → nat_abs (neg_ℤ (pos n)) ≡ n

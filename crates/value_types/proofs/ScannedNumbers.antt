@@ -13,7 +13,7 @@ use Rattle.lexical.specs.Kinds.{Kind, marks, words}
 use Rattle.lexical.specs.Symbols.{Class, letter, digit, mark, blank, other, Ending, no_ending, prime, query, shriek, fixed, numeral, name, Found, gap, unlisted, found}
 use Rattle.lexical.specs.Symbols.{class_of, is_digit, run, decimal_from, is_number, number_found, reserved, ending_of, ending_length, word_of, longer, longest, by_class, symbol_at}
 use Rattle.lexical.specs.Symbols.{Placed, scanned, scan_from, scan, symbols}
-use Rattle.meaning.proofs.SymbolsBooleanTests.{and_right}
+use Rattle.meaning.proofs.LexicalBooleanTests.{and_right}
 use Rattle.meaning.proofs.FormScannedSymbols.{text_symbols}
 use Rattle.value_types.specs.FaultlessContexts.{NumberWithin, AllNumbers, no_symbols, one_symbol}
 

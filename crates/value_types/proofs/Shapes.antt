@@ -11,7 +11,7 @@ use Rattle.meaning.specs.FormTree.{Letters}
 use Rattle.meaning.specs.StaticRulesTypes.{Sort, is_number, is_element, is_set, is_pairs, Ty, has, same_type, set_of, pairs_of_types, is_any_set, member_fits, related_fits}
 use Rattle.meaning.specs.StaticRulesScope.{Scope}
 use Rattle.meaning.specs.StaticRulesNames.{over_fault}
-use Rattle.meaning.proofs.SymbolsBooleanTests.{and_left, and_right}
+use Rattle.meaning.proofs.LexicalBooleanTests.{and_left, and_right}
 use Rattle.sets.specs.Sets.{pair}
 use Rattle.meaning.specs.Values.{Value, natural, bits, pair_bit}
 use Rattle.meaning.specs.Meaning.{Environment}

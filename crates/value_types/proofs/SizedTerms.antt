@@ -18,7 +18,7 @@ use Rattle.meaning.specs.StaticRulesTypes.{Sort, is_number, is_element, is_set, 
 use Rattle.meaning.specs.StaticRulesScope.{Scope, element_of, type_of_name}
 use Rattle.meaning.specs.StaticRulesNames.{judge_term, judge_items, judge_pairs}
 use Rattle.meaning.specs.StaticRulesLimits.{operator_size, prefix_size, division_size, size_term}
-use Rattle.meaning.proofs.SymbolsBooleanTests.{and_left, and_right}
+use Rattle.meaning.proofs.LexicalBooleanTests.{and_left, and_right}
 use Rattle.meaning.specs.Values as val
 use Rattle.meaning.specs.Values.{Value, bits, prefix_value, operator_value, division_value}
 use Rattle.meaning.specs.Meaning.{Environment, element_value, value_of, size_of_given, number_values, value}

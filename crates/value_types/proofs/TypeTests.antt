@@ -6,7 +6,7 @@ use Prim.Native.Nat.{ℕ, zero, suc}
 use borrow.Author.Tests.{eqb-true, eq-eqb}
 use Rattle.lexical.specs.Lists.{same, all}
 use Rattle.lexical.proofs.WordLaws.{same_refl, same_true}
-use Rattle.meaning.proofs.SymbolsBooleanTests.{and_both, and_left, and_right}
+use Rattle.meaning.proofs.LexicalBooleanTests.{and_both, and_left, and_right}
 use Rattle.meaning.specs.FormTree.{Letters}
 use Rattle.meaning.specs.StaticRulesTypes.{Sort, is_number, is_element, is_set, is_pairs, Ty, sort_code, has, same_over_type, same_type, set_of, pairs_of_types, is_any_set, brace_type, brace_fits, pairs_type, pairs_fit}
 

@@ -13,7 +13,7 @@ use Rattle.meaning.specs.StaticRulesTypes.{Sort, is_number, is_element, is_set, 
 use Rattle.meaning.specs.StaticRulesScope.{Scope}
 use Rattle.meaning.specs.StaticRulesNames.{pairs_fault, over_fault}
 use Rattle.sets.specs.Sets as sets
-use Rattle.meaning.proofs.SymbolsBooleanTests.{and_left, and_right}
+use Rattle.meaning.proofs.LexicalBooleanTests.{and_left, and_right}
 use Rattle.meaning.specs.Values.{Value, bits, with_bits, prefix_value, operator_value, singleton, single_pair}
 use Rattle.meaning.specs.Meaning.{Environment, size_of_given}
 use Rattle.value_types.specs.TypedValues.{OfSort, HasType, Carried}

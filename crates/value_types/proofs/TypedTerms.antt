@@ -13,7 +13,7 @@ use Rattle.meaning.specs.StaticRulesCarriers.{Variable, elements_of, size_of, sa
 use Rattle.meaning.specs.StaticRulesTypes.{Ty, is_pairs, type_of, set_of, pairs_of_types, is_any_set, has, brace_type, brace_fits, pairs_type, pairs_fit}
 use Rattle.meaning.specs.StaticRulesScope.{Scope, element_of, place_in, type_of_name}
 use Rattle.meaning.specs.StaticRulesNames.{known, over_fault, judge_term, judge_items, judge_pairs}
-use Rattle.meaning.proofs.SymbolsBooleanTests.{and_both}
+use Rattle.meaning.proofs.LexicalBooleanTests.{and_both}
 use Rattle.sets.proofs.Members.{set_below}
 use Rattle.sets.specs.Sets as sets
 use Rattle.meaning.specs.Values as val

@@ -18,17 +18,19 @@ use Rattle.part_places.specs.PartTestsPartGroups.{StateCells, OperationCells, op
 use Rattle.labels.specs.ReadingsReadings.{GroupAt}
 use Rattle.pieces.specs.PiecePromises.{Writes}
 use Rattle.pieces.proofs.WrittenPieces.{both-written}
-use Rattle.lines.specs.LinesByNumber.{group_piece}
+use Rattle.lexical.specs.SymbolPromises.{ending_is}
+use Rattle.lexical.specs.declared.Ending.{Ending}
+use Rattle.lines.specs.LinesByNumber.{ending_byte, group_piece}
 use Rattle.part_places.specs.Places.{GroupsOf, parts, PartAsked, PartSet}
 use Rattle.part_places.proofs.PartCounts.{sized}
 use Rattle.witnesses.specs.WitnessPromises.{WitnessAsked}
 use Rattle.witnesses.specs.WitnessSteps.{SizedAt, PartSized, BindAsked, LinesAsked}
 
 -- the lines of a group by other names of its numbers
-pub group-as : (text labels : List ℕ) (σ : List ℤ) {i n s e i' n' s' e' at r : ℕ} {a b : List ℕ} → (i ≡ i') × (n ≡ n') × (s ≡ s') × (e ≡ e')
-    → Writes at (group_piece text labels i n s e σ) a b r → Writes at (group_piece text labels i' n' s' e' σ) a b r
+pub group-as : (text labels : List ℕ) (σ : List ℤ) {i n s i' n' s' at r : ℕ} {e e' : Ending} {a b : List ℕ} → (i ≡ i') × (n ≡ n') × (s ≡ s') × (e ≡ e')
+    → Writes at (group_piece text labels i n s (ending_byte (ending_is e)) σ) a b r → Writes at (group_piece text labels i' n' s' (ending_byte (ending_is e')) σ) a b r
 group-as text labels σ {at = at} {r = r} {a = a} {b = b} h w =
-    subst (λ (p : List ℕ). Writes at p a b r) (λ k. group_piece text labels (h.0 k) (h.1 k) (h.2 k) (h.3 k) σ) w
+    subst (λ (p : List ℕ). Writes at p a b r) (λ k. group_piece text labels (h.0 k) (h.1 k) (h.2 k) (ending_byte (ending_is (h.3 k))) σ) w
 
 -- five pieces one behind the other
 pub five-written : {at a b c d r : ℕ} {p q s t u x₀ x₁ x₂ x₃ x₄ x₅ : List ℕ} → Writes at p x₀ x₁ a → Writes a q x₁ x₂ b → Writes b s x₂ x₃ c → Writes c t x₃ x₄ d → Writes d u x₄ x₅ r

@@ -1,4 +1,5 @@
 // The binding at a place of a part, a line for each variable.
+// Form 1: the constants are lengths and places among the labels, no kinds.
 #![tactic(auto)]
 
 ghost use Rattle.std.specs.Prelude.{◌≡◌, ◌+◌, ◌-◌, ◌*◌, ◌/◌, ◌≤◌, length};
@@ -7,6 +8,7 @@ ghost use Rattle.witnesses.specs.WitnessPromises.{WitnessAsked, WitnessWritten};
 ghost use Rattle.witnesses.specs.WitnessSteps.{BindAsked, BoundAt, LinesAsked, part_piece};
 
 use labels::Names;
+use lexical::Ending;
 use lines::{Group, put_group};
 use part_places::{Found, OBLIGATIONS, OPENING, part_cells};
 use pieces::Writer;
@@ -29,15 +31,6 @@ const OUTPUTS_FIRST: usize = 23;
 
 const OPERATION_ROW: usize = 8;
 
-// The endings of names: none, of inputs, of outputs, of states after.
-const NONE: u8 = 0;
-
-const QUERY: u8 = b'?';
-
-const SHRIEK: u8 = b'!';
-
-const PRIME: u8 = b'\'';
-
 // The binding at a place, by its digits.
 fn bind_place(cells: &[u32; 9216], p: Part, at: usize, values: &mut [i64; 64])
     requires { BindAsked cells.now p at }
@@ -54,7 +47,7 @@ fn bind_place(cells: &[u32; 9216], p: Part, at: usize, values: &mut [i64; 64])
 }
 
 // A group by its first place, how many variables it has, the slot of its first value and the ending of its names.
-fn group(first: usize, count: usize, slot: usize, ending: u8) -> Group
+fn group(first: usize, count: usize, slot: usize, ending: Ending) -> Group
     ensures { (result.first ≡ first) × (result.count ≡ count) × (result.slot ≡ slot) × (result.ending ≡ ending) }
 {
     Group {
@@ -66,6 +59,7 @@ fn group(first: usize, count: usize, slot: usize, ending: u8) -> Group
 }
 
 // The lines of all groups of a part; `row` is how far its operation's rows are from the first operation's. A group without variables leaves no line.
+// Form 5: the names, the values and the part are each made or lent by another; a struct of the three would be made for this one call.
 fn put_groups(names: &Names<'_>, values: &[i64; 64], p: Part, row: usize, w: &mut Writer<'_>)
     requires at_in_bounds { w.old.at + 19350 ≤ length w.old.out.now }
     requires lines_asked { LinesAsked p row }
@@ -73,15 +67,15 @@ fn put_groups(names: &Names<'_>, values: &[i64; 64], p: Part, row: usize, w: &mu
     ensures lines { Adds (part_piece names.now.text.now names.now.labels.now p row values.now) w.old w.new }
     ensures short { w.new.at ≤ w.old.at + 19350 }
 {
-    let abstracts = group(ABSTRACT_FIRST, p.va, slots::ABSTRACT, NONE);
+    let abstracts = group(ABSTRACT_FIRST, p.va, slots::ABSTRACT, Ending::Plain);
     put_group(names, values, abstracts, w);
-    let concretes = group(CONCRETE_FIRST, p.vc, slots::CONCRETE, NONE);
+    let concretes = group(CONCRETE_FIRST, p.vc, slots::CONCRETE, Ending::Plain);
     put_group(names, values, concretes, w);
-    let inputs = group(INPUTS_FIRST + row, p.vi, slots::INPUTS, QUERY);
+    let inputs = group(INPUTS_FIRST + row, p.vi, slots::INPUTS, Ending::Query);
     put_group(names, values, inputs, w);
-    let outputs = group(OUTPUTS_FIRST + row, p.vo, slots::OUTPUTS, SHRIEK);
+    let outputs = group(OUTPUTS_FIRST + row, p.vo, slots::OUTPUTS, Ending::Shriek);
     put_group(names, values, outputs, w);
-    let primes = group(CONCRETE_FIRST, p.vk, slots::CONCRETE_PRIMED, PRIME);
+    let primes = group(CONCRETE_FIRST, p.vk, slots::CONCRETE_PRIMED, Ending::Prime);
     put_group(names, values, primes, w);
 }
 

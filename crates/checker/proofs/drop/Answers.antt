@@ -1,5 +1,4 @@
 -- `checker::drop` meets its contract.
-use borrow.Author.Rules.{rules}
 use Rattle.checker.proofs.CallLaws.{drop-answers}
 use Rattle.checker.proofs.drop.Goals as goal
 

@@ -11,4 +11,4 @@ pub text_in-requires : goal.text_in-requires
 text_in-requires c = let l : length c.args.held.now ≡ 32784 = search rules in omega (arith, l, laid-short c.args.held.now l c.requires, c.length_in-n.ensures)
 
 pub returns : goal.returns
-returns c = reads_as c.read_text.ensures (text-is c.args.held.now c.text_in.ensures c.length_in-n.ensures)
+returns c = reads_as c.read.ensures (text-is c.args.held.now c.text_in.ensures c.length_in-n.ensures)

@@ -1,5 +1,4 @@
 -- `checker::text_in` meets its contract.
-use borrow.Author.Rules.{rules}
 use Rattle.checker.proofs.OpenLaws.{part_is}
 use Rattle.checker.proofs.text_in.Goals as goal
 

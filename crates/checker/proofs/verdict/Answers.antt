@@ -1,6 +1,5 @@
 -- `checker::verdict` meets its contract.
-use borrow.Author.Rules.{rules}
-use native.Mathlib.Omega.{arith}
+use Rattle.checker.proofs.OpenLaws.{opened_lent}
 use Rattle.checker.proofs.MarkLaws.{not-one, not-two}
 use Rattle.checker.proofs.CallLaws.{nothing-verdict, verdict-told}
 use Rattle.checker.proofs.RefutedLaws.{last-asked, last-place, verdict-refuted}
@@ -16,7 +15,7 @@ pub overflow_sub-o : goal.overflow_sub-o
 overflow_sub-o c = (last-asked (c.open_bytes-o.ensures.some _ c.in-Some.is) (not-one c.in_default-told.ensures) (not-two c.in_default-told.ensures)).positive
 
 pub find-f-requires : goal.find-f-requires
-find-f-requires c = last-place (last-asked (c.open_bytes-o.ensures.some _ c.in-Some.is) (not-one c.in_default-told.ensures) (not-two c.in_default-told.ensures))
+find-f-requires c = last-place (last-asked (opened_lent (c.open_bytes-o.ensures.some _ c.in-Some.is) c.dossier-d.ensures) (not-one c.in_default-told.ensures) (not-two c.in_default-told.ensures))
 
 pub returns : goal.returns
-returns c = verdict-refuted (c.open_bytes-o.ensures.some _ c.in-Some.is) (not-one c.in_default-told.ensures) (not-two c.in_default-told.ensures) c.find-f.ensures c.obligation_of.ensures
+returns c = verdict-refuted (opened_lent (c.open_bytes-o.ensures.some _ c.in-Some.is) c.dossier-d.ensures) (not-one c.in_default-told.ensures) (not-two c.in_default-told.ensures) c.find-f.ensures c.obligation_of.ensures

@@ -1,5 +1,4 @@
 -- `checker::witness` meets its contract: the lines are written into bytes of their own, and copied where they fit.
-use borrow.Author.Rules.{rules}
 use mathlib.Core.Path.{sym, refl, ◌∙◌}
 use native.Mathlib.Omega.{arith}
 use lib.Seq.{length-take-le}

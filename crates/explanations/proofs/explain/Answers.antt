@@ -1,7 +1,9 @@
 -- `explanations::explain` meets its contract: what was read is asked as the explanation asks it. Assumes nothing.
-use borrow.Author.Rules.{rules}
+use mathlib.Core.Path.{sym, ap, ◌∙◌}
+use Rattle.std.specs.Prelude.{Ok}
+use Rattle.text_readings.proofs.LentArrays.{reads_lent}
 use Rattle.explanations.proofs.VerdictSearch.{read_asked}
 use Rattle.explanations.proofs.explain.Goals as goal
 
 pub explain_dossier-requires : goal.explain_dossier-requires
-explain_dossier-requires c = read_asked c.read_text-answer.ensures c.in-Ok.is
+explain_dossier-requires c = read_asked (reads_lent c.dossier-d.ensures c.read-answer.ensures) (c.in-Ok.is ∙ ap Ok (sym c.dossier-d.ensures.operations_are))

@@ -1,5 +1,6 @@
 -- `held_checks::come_to` meets its contract: the bytes come to the place, and its distance is the answer. Assumes nothing.
 use native.Mathlib.Omega.{arith}
+use Rattle.std.specs.Prelude.{is_some, unwrap_or}
 use Rattle.held_checks.proofs.StepLaws.{onward, moves}
 use Rattle.held_checks.proofs.come_to.Goals as goal
 
@@ -7,7 +8,7 @@ pub counted-place-requires : goal.counted-place-requires
 counted-place-requires c = omega (arith, c.requires.1)
 
 pub overflow_sub-result : goal.overflow_sub-result
-overflow_sub-result c = onward c.args.from c.args.at c.args.failed c.counted-place.ensures c.requires.0
+overflow_sub-result c = onward c.args.from (unwrap_or c.args.failing c.args.end) (is_some c.args.failing) c.counted-place.ensures c.requires.0
 
 pub returns-clause-moved : goal.returns-clause-moved
-returns-clause-moved c = moves c.args.failed c.args.all c.args.at c.counted-place.ensures c.mark_after.ensures c.turn.ensures
+returns-clause-moved c = moves (is_some c.args.failing) c.args.all (unwrap_or c.args.failing c.args.end) c.counted-place.ensures c.mark_after.ensures c.turn.ensures

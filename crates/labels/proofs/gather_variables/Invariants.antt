@@ -1,9 +1,6 @@
-use Prim.Native.Nat.{◌-◌, ◌≤◌}
+use Prim.Native.Nat.{◌≤◌}
 use Rattle.labels.proofs.LabelStores.{VariablesTo}
 use Rattle.labels.proofs.gather_variables.Given as goal
 
 abbrev pub invariant-loop-i : goal.invariant-loop-i
-invariant-loop-i l = (l.i ≤ 160) × VariablesTo l.nodes l.starts l.table l.groups l.i l.initial.labels l.labels
-
-abbrev pub decreases-loop-i : goal.decreases-loop-i
-decreases-loop-i l = 160 - l.i
+invariant-loop-i l = (l.i ≤ 160) × VariablesTo l.x.nodes.now l.x.starts.now l.x.table.now l.x.groups.now l.i l.initial.labels l.labels

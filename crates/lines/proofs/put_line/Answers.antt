@@ -1,23 +1,24 @@
 -- `lines::put_line` meets its contract: a name, its ending, a value. Assumes nothing.
 use mathlib.Core.Path.{◌∙◌}
+use Rattle.lexical.specs.SymbolPromises.{ending_is}
 use mir.Facts.{to_z-of_z}
 use native.Mathlib.Omega.{arith}
 use Rattle.pieces.proofs.WrittenPieces.{letters-length}
-use Rattle.lines.proofs.LineLaws.{ending-length, value-back, line-written}
+use Rattle.lines.proofs.LineLaws.{ended-length, value-back, line-written}
 use Rattle.lines.proofs.put_line.Goals as goal
 
 pub put_ending-requires : goal.put_ending-requires
 put_ending-requires c = omega (arith, c.put_letters.ensures.written.end, c.put_letters.ensures.written.long, letters-length c.args.names.now.text.now c.from.result)
 
 pub put_all-requires : goal.put_all-requires
-put_all-requires c = omega (arith, c.put_letters.ensures.written.end, c.put_letters.ensures.written.long, letters-length c.args.names.now.text.now c.from.result, c.put_ending.ensures.written.end, c.put_ending.ensures.written.long, ending-length c.args.ending)
+put_all-requires c = omega (arith, c.put_letters.ensures.written.end, c.put_letters.ensures.written.long, letters-length c.args.names.now.text.now c.from.result, c.put_ending.ensures.written.end, c.put_ending.ensures.written.long, ended-length (ending_is c.args.ending))
 
 pub put_value-requires : goal.put_value-requires
-put_value-requires c = (c.shape_of-t.ensures.3, omega (arith, c.put_letters.ensures.written.end, c.put_letters.ensures.written.long, letters-length c.args.names.now.text.now c.from.result, c.put_ending.ensures.written.end, c.put_ending.ensures.written.long, ending-length c.args.ending, c.put_all.ensures.written.end, c.put_all.ensures.written.long))
+put_value-requires c = (c.shape_of-t.ensures.3, omega (arith, c.put_letters.ensures.written.end, c.put_letters.ensures.written.long, letters-length c.args.names.now.text.now c.from.result, c.put_ending.ensures.written.end, c.put_ending.ensures.written.long, ended-length (ending_is c.args.ending), c.put_all.ensures.written.end, c.put_all.ensures.written.long))
 
 pub put-requires : goal.put-requires
-put-requires c = omega (arith, c.put_letters.ensures.written.end, c.put_letters.ensures.written.long, letters-length c.args.names.now.text.now c.from.result, c.put_ending.ensures.written.end, c.put_ending.ensures.written.long, ending-length c.args.ending, c.put_all.ensures.written.end, c.put_all.ensures.written.long, c.put_value.ensures.written.end, c.put_value.ensures.written.long, value-back c.args.names.now.text.now c.args.names.now.labels.now c.args.x c.ranges.x c.shape_of-t.result.shape c.shape_of-t.result.sides c.shape_of-t.result.size)
+put-requires c = omega (arith, c.put_letters.ensures.written.end, c.put_letters.ensures.written.long, letters-length c.args.names.now.text.now c.from.result, c.put_ending.ensures.written.end, c.put_ending.ensures.written.long, ended-length (ending_is c.args.ending), c.put_all.ensures.written.end, c.put_all.ensures.written.long, c.put_value.ensures.written.end, c.put_value.ensures.written.long, value-back c.args.names.now.text.now c.args.names.now.labels.now c.args.x c.ranges.x c.shape_of-t.result.shape c.shape_of-t.result.sides c.shape_of-t.result.size)
 
 pub returns-clause-written : goal.returns-clause-written
-returns-clause-written c = line-written c.args.names.now.text.now c.args.names.now.labels.now c.args.i c.args.ending c.args.x (c.from.ensures ∙ c.label.ensures) c.shape_of-t.ensures.0 c.shape_of-t.ensures.1
+returns-clause-written c = line-written c.args.names.now.text.now c.args.names.now.labels.now c.args.i (ending_is c.args.ending) c.args.x (c.from.ensures ∙ c.label.ensures) c.shape_of-t.ensures.0 c.shape_of-t.ensures.1
     c.shape_of-t.ensures.2 (to_z-of_z c.ranges.x) c.put_letters.ensures.written c.put_ending.ensures.written c.put_all.ensures.written c.put_value.ensures.written c.put.ensures.written

@@ -3,7 +3,7 @@ use mathlib.Core.Option.{none, some}
 use mathlib.Core.Path.{refl, ap}
 use borrow.Author.Rules.{rules}
 use Rattle.lexical.specs.Promises.{fault_of}
-use Rattle.lexical.specs.RefusalNames.{fault_is}
+use Rattle.refusals.specs.RefusalNames.{fault_is}
 use Rattle.form_nodes.proofs.ReadParts.{exits}
 use Rattle.parser.proofs.ParseAnswers.{left-of, parses}
 use Rattle.parser.proofs.parse.Goals as goal

@@ -5,11 +5,11 @@ use native.Mathlib.Omega.{arith}
 use Rattle.parser.proofs.ParseAnswers.{few-symbols, formed-as, form-fault, heading-fault, whole-structure}
 use Rattle.parser.proofs.structure_by.Goals as goal
 
-pub slice_bounds-dossier-end : goal.slice_bounds-dossier-end
-slice_bounds-dossier-end c = let p = c.requires in let few = few-symbols p.0 in let l = length-take-le c.args.n c.args.codes.now (omega (arith, p.1)) in sym l
+pub slice_bounds-y-end : goal.slice_bounds-y-end
+slice_bounds-y-end c = let p = c.requires in let few = few-symbols p.0 in let l = length-take-le c.args.n c.args.codes.now (omega (arith, p.1)) in sym l
 
-pub slice_bounds-dossier-end-2 : goal.slice_bounds-dossier-end-2
-slice_bounds-dossier-end-2 c = let p = c.requires in let few = few-symbols p.0 in sym (length-take-le c.args.n c.args.values.now (omega (arith, p.3)))
+pub slice_bounds-y-end-2 : goal.slice_bounds-y-end-2
+slice_bounds-y-end-2 c = let p = c.requires in let few = few-symbols p.0 in sym (length-take-le c.args.n c.args.values.now (omega (arith, p.3)))
 
 pub dossier-requires : goal.dossier-requires
 dossier-requires c = let p = c.requires in let few = few-symbols p.0 in let l = length-take-le c.args.n c.args.codes.now (omega (arith, p.1)) in (omega arith, omega (arith, p.4, p.5))

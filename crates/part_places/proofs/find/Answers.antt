@@ -2,7 +2,7 @@
 use mathlib.Core.Path.{◌≡◌, subst}
 use Prim.Native.Nat.{ℕ, ◌+◌, ◌*◌}
 use native.Mathlib.Omega.{arith}
-use Rattle.part_places.proofs.PlaceSteps.{Left, operations-low, part-asked, left-first, left-next, left_here, left-none}
+use Rattle.part_places.proofs.PlaceSteps.{operations-low, part-asked, left-first, left-next, left_here, left-none}
 use Rattle.part_places.specs.Places.{PlaceFound}
 use Rattle.part_places.proofs.find.Goals as goal
 

@@ -1,7 +1,6 @@
 -- `part_places::total` meets its contract: at the head of the loop `all` places stand before the part k.
-use Prim.Native.Nat.{◌+◌, ◌-◌, ◌*◌}
 use native.Mathlib.Omega.{arith}
-use Rattle.part_places.proofs.PlaceSteps.{BeginsAt, operations-low, part-asked, begins-first, begins-next, ends-small, total-is}
+use Rattle.part_places.proofs.PlaceSteps.{operations-low, part-asked, begins-first, begins-next, ends-small, total-is}
 use Rattle.part_places.proofs.total.Goals as goal
 
 pub overflow_mul-parts : goal.overflow_mul-parts

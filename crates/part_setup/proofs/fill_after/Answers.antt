@@ -1,6 +1,7 @@
 -- `fill_after` meets its contract: the first s plain slots have the first values of their primed ones. Assumes nothing.
 use mathlib.Core.Path.{subst, ◌≡◌, refl, ap, ◌∙◌}
 use mir.Facts.{to_z-of_z}
+use borrow.Author.Rules.{rules}
 use Prim.Native.Nat.{ℕ}
 use native.Mathlib.Omega.{arith}
 use Rattle.slot_carriers.specs.Cells.{value_in}
@@ -11,10 +12,10 @@ use mir.Syntax.{w64}
 use Rattle.part_setup.proofs.fill_after.Goals as goal
 
 pub loop-s-init : goal.loop-s-init
-loop-s-init c = (omega arith, firsts-none c.args.cells.now primed_slot c.args.a.now c.requires.a_len)
+loop-s-init c = (omega arith, firsts-none c.args.cells.now primed_slot c.args.a.now (search rules))
 
 pub value_at-requires : goal.value_at-requires
-value_at-requires c = c.requires.first_values.reached c.primed_slot.result c.primed_slot.ensures.1
+value_at-requires c = c.requires.reached c.primed_slot.result c.primed_slot.ensures.1
 
 pub loop-s-preserved : goal.loop-s-preserved
 loop-s-preserved c = (omega arith, firsts-next c.args.cells.now primed_slot c.loop-s.s _ c.loop-s.a _ (omega arith) c.loop-s.invariant.1 refl (to_z-of_z {w = w64} (record { sfits = c.value_at.type_inv }) ∙ c.value_at.ensures ∙ ap (λ (k : ℕ). value_in c.args.cells.now k 0) c.primed_slot.ensures.0))

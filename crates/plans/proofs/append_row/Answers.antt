@@ -9,7 +9,7 @@ pub returns-then-level_of-l : goal.returns-then-level_of-l
 returns-then-level_of-l c = row-none c.args.rows.now (asking c.args.p) c.args.r c.args.l c.level_of.result c.level_of.ensures c.args.at c.args.plan.now c.if-level_of-l.true
 
 pub bounds-plan-at : goal.bounds-plan-at
-bounds-plan-at c = omega (arith, row_room c.args.rows.now (asking c.args.p) c.args.r c.args.l c.level_of.result c.level_of.ensures c.args.at c.if-level_of-l.false c.requires.r_bound.0, c.requires.r_bound.1)
+bounds-plan-at c = omega (arith, row_room c.args.rows.now (asking c.args.p) c.args.r c.args.l c.level_of.result c.level_of.ensures c.args.at c.if-level_of-l.false c.requires.r_bound)
 
 pub returns : goal.returns
-returns c = row_one c.args.rows.now (asking c.args.p) c.args.r c.args.l c.level_of.result c.level_of.ensures c.args.at c.from.result c.args.plan.now _ c.if-level_of-l.false (omega (arith, row_room c.args.rows.now (asking c.args.p) c.args.r c.args.l c.level_of.result c.level_of.ensures c.args.at c.if-level_of-l.false c.requires.r_bound.0, c.requires.r_bound.1)) c.from.ensures refl
+returns c = row_one c.args.rows.now (asking c.args.p) c.args.r c.args.l c.level_of.result c.level_of.ensures c.args.at c.from.result c.args.plan.now _ c.if-level_of-l.false (omega (arith, row_room c.args.rows.now (asking c.args.p) c.args.r c.args.l c.level_of.result c.level_of.ensures c.args.at c.if-level_of-l.false c.requires.r_bound)) c.from.ensures refl

@@ -1,11 +1,7 @@
 -- `plans::plan_steps` meets its contract. Assumes nothing.
-use mathlib.Core.Path.{◌∙◌}
 use native.Mathlib.Omega.{arith}
 use Rattle.plans.proofs.LaidSearches.{between, rows_by, many-low, rows-nothing, room_of, searched_by}
 use Rattle.plans.proofs.plan_steps.Goals as goal
-
-pub head-requires : goal.head-requires
-head-requires c = (c.requires.u_bound.0, omega arith, omega (arith, c.requires.u_bound.1), omega arith, c.requires.u_bound.4)
 
 pub after-requires : goal.after-requires
 after-requires c = between c.args.rows.now c.args.firsts.now 1 c.requires.rows_of.0
@@ -14,12 +10,9 @@ pub step-requires : goal.step-requires
 step-requires c = between c.args.rows.now c.args.firsts.now c.args.c c.requires.rows_of.1
 
 pub plan_search-requires : goal.plan_search-requires
-plan_search-requires c = record {
-  room = room_of c.after.ensures c.step.ensures c.none.ensures (rows_by c.args.rows.now c.args.firsts.now 1 c.requires.rows_of.0 _ _ _ _ (omega arith) (omega arith) c.requires.u_bound.1 (omega arith))
-      (rows_by c.args.rows.now c.args.firsts.now c.args.c c.requires.rows_of.1 _ _ _ _ (omega arith) (omega arith) c.requires.u_bound.1 (omega arith)) (rows-nothing c.args.rows.now) c.requires.u_bound.0 c.requires.u_bound.2
-      (omega (arith, many-low c.args.rows.now c.args.firsts.now 1 c.requires.rows_of.0, many-low c.args.rows.now c.args.firsts.now c.args.c c.requires.rows_of.1, c.requires.u_bound.3));
-  plan_len = c.head.ensures.same_length ∙ c.requires.u_bound.4;
-}
+plan_search-requires c = room_of c.after.ensures c.step.ensures c.none.ensures (rows_by c.args.rows.now c.args.firsts.now 1 c.requires.rows_of.0 _ _ _ _ (omega arith) (omega arith) c.requires.u_bound.1 (omega arith))
+    (rows_by c.args.rows.now c.args.firsts.now c.args.c c.requires.rows_of.1 _ _ _ _ (omega arith) (omega arith) c.requires.u_bound.1 (omega arith)) (rows-nothing c.args.rows.now) c.requires.u_bound.0 c.requires.u_bound.2
+    (omega (arith, many-low c.args.rows.now c.args.firsts.now 1 c.requires.rows_of.0, many-low c.args.rows.now c.args.firsts.now c.args.c c.requires.rows_of.1, c.requires.u_bound.3))
 
 pub returns : goal.returns
 returns c = searched_by c.after.ensures c.step.ensures c.none.ensures c.requires.u_bound.2 c.head.ensures c.plan_search.ensures

@@ -1,15 +1,25 @@
 -- `spread` meets its contract. Assumes nothing.
 use mathlib.Core.Path.{refl}
 use Rattle.memo.proofs.Memos.{blank_memo}
-use Rattle.step_searches.proofs.PartsSetupLaws.{blank}
+use Prim.Native.Nat.{◌*◌}
+use Rattle.step_searches.proofs.LentParts.{lent, returned}
+use Rattle.reached_pairs.specs.PairPromises.{PairsAsked, PairsSpread}
 use Rattle.reached_pairs.proofs.SpreadLayers.{operation-spread, pairs-asked, operation-few}
 use Rattle.reached_pairs.proofs.spread.Goals as goal
 
-pub prepare-part-requires : goal.prepare-part-requires
-prepare-part-requires c = record { prepare_asked = c.requires.prepare_asked; blank = blank 9216 }
+pub prepare-ready-requires : goal.prepare-ready-requires
+prepare-ready-requires c = c.requires.prepare_asked
 
 pub spread_pairs-requires : goal.spread_pairs-requires
-spread_pairs-requires c = record { j_bound = (operation-few c.requires.prepare_asked, c.requires.n_nonzero.0, c.requires.n_nonzero.1); pairs_asked = pairs-asked c.requires.prepare_asked c.requires.pairs_are c.prepare-part.ensures c.requires.n_nonzero.2; memo = blank_memo 8098 refl }
+spread_pairs-requires c = record {
+  j_bound = (operation-few c.requires.prepare_asked, c.requires.n_nonzero.0, c.requires.n_nonzero.1);
+  pairs_asked = lent (λ t q x p. PairsAsked t q x p c.args.marks.now) c.search-s.ensures.table c.search-s.ensures.plan c.search-s.ensures.cells c.search-s.ensures.part
+      (pairs-asked c.requires.prepare_asked c.requires.pairs_are c.prepare-ready.ensures c.requires.n_nonzero.2);
+  memo = blank_memo 8098 refl;
+}
 
 pub returns : goal.returns
-returns c = operation-spread c.prepare-part.ensures c.spread_pairs.ensures
+returns c =
+    operation-spread c.prepare-ready.ensures
+    (returned (λ t q x p. PairsSpread t q x p c.args.j c.args.n (p.na * p.nc) c.args.marks.now c.spread_pairs.new.marks) c.search-s.ensures.table c.search-s.ensures.plan
+    c.search-s.ensures.cells c.search-s.ensures.part c.spread_pairs.ensures)

@@ -1,5 +1,4 @@
 -- `reports::operation_part` meets its contract. Assumes nothing.
-use borrow.Author.Rules.{rules}
 use native.Mathlib.Omega.{arith}
 use Rattle.reports.proofs.LineRooms.{part_none, part-some}
 use Rattle.reports.proofs.operation_part.Goals as goal

@@ -1,5 +1,4 @@
 -- `reports::part_of` meets its contract: the part of each obligation. Assumes nothing.
-use borrow.Author.Rules.{rules}
 use mathlib.Core.Path.{sym, ap, ◌∙◌}
 use Rattle.held_checks.specs.Answers.{obligation_is}
 use Rattle.reports.specs.ReportPromises.{part_of}

@@ -1,5 +1,4 @@
 -- `reports::put_count` meets its contract: the line with a count, piece by piece. Assumes nothing.
-use borrow.Author.Rules.{rules}
 use native.Mathlib.Omega.{arith}
 use Rattle.lexical.specs.Lists.{bytes}
 use Rattle.reports.proofs.LineRooms.{count_room, count-written}

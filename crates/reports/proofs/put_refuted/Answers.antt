@@ -1,6 +1,5 @@
 -- `reports::put_refuted` meets its contract: the first line of a refuted check, by its part. Assumes nothing.
 use Prim.Native.Nat.{◌/◌, ◌+◌, ◌-◌}
-use borrow.Author.Rules.{rules}
 use mathlib.Core.Path.{refl}
 use native.Mathlib.Omega.{arith}
 use lib.ListN.{get_or}

@@ -1,6 +1,5 @@
 -- `reports::put_title` meets its contract. Assumes nothing.
 use mathlib.Core.Path.{subst, ◌∙◌}
-use borrow.Author.Rules.{rules}
 use Prim.Native.Nat.{ℕ}
 use Rattle.pieces.specs.PiecePromises.{Adds, letters_at}
 use Rattle.reports.proofs.put_title.Goals as goal

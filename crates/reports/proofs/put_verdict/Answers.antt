@@ -1,10 +1,7 @@
 -- `reports::put_verdict` meets its contract: the lines of a refuted check, or of an accepted one. Assumes nothing.
 use borrow.Author.Rules.{rules}
-use mathlib.Core.Path.{subst}
 use native.Mathlib.Omega.{arith}
-use Rattle.std.specs.Prelude.{Option}
 use Rattle.lexical.specs.Lists.{bytes}
-use Rattle.parts.specs.SearchPromises.{SearchAnswers}
 use Rattle.reports.proofs.VerdictLaws.{all_asked, all_small, search-asked, place_small, place-asked, witness-asked, part_small, refuted-written, accepted-written, found-at}
 use Rattle.reports.proofs.LineRooms.{verdict_in}
 use Rattle.reports.proofs.put_verdict.Goals as goal

@@ -18,11 +18,11 @@ returns-in_default c = record { answers = aim-all c.requires; kept = refl }
 pub value-y-requires : goal.value-y-requires
 value-y-requires c = record { inside = (value-asked c.requires c.in-Some.ensures).0; term_runs = (value-asked c.requires c.in-Some.ensures).1 }
 
-pub place_of-d-requires : goal.place_of-d-requires
-place_of-d-requires c = c.requires.readable
+pub place_of-requires : goal.place_of-requires
+place_of-requires c = c.requires.readable
 
-pub returns-then-d-g : goal.returns-then-d-g
-returns-then-d-g c = record { answers = aim-one c.requires c.in-Some.ensures (heard c.value-y.type_inv c.value-y.ensures.answers) c.place_of-d.ensures (omega (arith, c.if-d-g.true)); kept = (ap (set c.args.slots.now (c.in-Some.q.test % 2)) c.value-y.ensures.kept ∙ set-get_or c.args.slots.now (c.in-Some.q.test % 2) []) }
+pub returns-in-Some-place_of : goal.returns-in-Some-place_of
+returns-in-Some-place_of c = record { answers = aim-one c.requires c.in-Some.ensures (heard c.value-y.type_inv c.value-y.ensures.answers) c.place_of.ensures c.in-Some-place_of.is; kept = (ap (set c.args.slots.now (c.in-Some.q.test % 2)) c.value-y.ensures.kept ∙ set-get_or c.args.slots.now (c.in-Some.q.test % 2) []) }
 
-pub returns : goal.returns
-returns c = record { answers = aim-none c.requires c.in-Some.ensures (heard c.value-y.type_inv c.value-y.ensures.answers) c.place_of-d.ensures c.if-d-g.false; kept = (ap (set c.args.slots.now (c.in-Some.q.test % 2)) c.value-y.ensures.kept ∙ set-get_or c.args.slots.now (c.in-Some.q.test % 2) []) }
+pub returns-in-None : goal.returns-in-None
+returns-in-None c = record { answers = aim-none c.requires c.in-Some.ensures (heard c.value-y.type_inv c.value-y.ensures.answers) c.place_of.ensures c.in-None.is; kept = (ap (set c.args.slots.now (c.in-Some.q.test % 2)) c.value-y.ensures.kept ∙ set-get_or c.args.slots.now (c.in-Some.q.test % 2) []) }

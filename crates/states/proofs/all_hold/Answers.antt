@@ -9,8 +9,8 @@ use Rattle.states.proofs.all_hold.Goals as goal
 pub loop-i-init : goal.loop-i-init
 loop-i-init c = (c.requires, refl, λ b a. a)
 
-pub bounds-rows-i : goal.bounds-rows-i
-bounds-rows-i c = let room = row_inside _ _ _ _ _ c.loop-i.invariant.0 c.loop-i-test.true in omega arith
+pub bounds-d-i : goal.bounds-d-i
+bounds-d-i c = let room = row_inside _ _ _ _ _ c.loop-i.invariant.0 c.loop-i-test.true in omega arith
 
 pub truth-requires : goal.truth-requires
 truth-requires c = first-asked _ _ _ _ _ _ c.loop-i.invariant.0 c.loop-i.invariant.1 c.loop-i-test.true
@@ -18,8 +18,8 @@ truth-requires c = first-asked _ _ _ _ _ _ c.loop-i.invariant.0 c.loop-i.invaria
 pub returns-then-not-truth : goal.returns-then-not-truth
 returns-then-not-truth c = record { answers = c.loop-i.invariant.2 false (answer-first _ _ _ _ _ c.loop-i-test.true (answer-as c.loop-i.invariant.1 (not-true _ c.if-not-truth.true-raw) c.truth.ensures.answers)); kept = c.truth.ensures.kept ∙ c.loop-i.invariant.1 }
 
-pub overflow_add-i : goal.overflow_add-i
-overflow_add-i c = let room = row_inside _ _ _ _ _ c.loop-i.invariant.0 c.loop-i-test.true in omega arith
+pub overflow_step-i : goal.overflow_step-i
+overflow_step-i c = let room = row_inside _ _ _ _ _ c.loop-i.invariant.0 c.loop-i-test.true in omega arith
 
 pub loop-i-smaller : goal.loop-i-smaller
 loop-i-smaller c = let room = row_inside _ _ _ _ _ c.loop-i.invariant.0 c.loop-i-test.true in omega arith
@@ -33,3 +33,6 @@ loop-i-preserved c = (
 
 pub returns : goal.returns
 returns c = record { answers = c.loop-i.invariant.2 true (answer-done _ _ _ _ _ (omega arith)); kept = c.loop-i.invariant.1 }
+
+pub returns-else-not-truth-clause-answers : goal.returns-else-not-truth-clause-answers
+returns-else-not-truth-clause-answers c = c.loop-i.invariant.2 true (answer-next _ _ _ _ _ true c.loop-i-test.true (answer-as c.loop-i.invariant.1 (not-false _ c.if-not-truth.false-raw) c.truth.ensures.answers) (answer-done _ _ _ _ _ (omega arith)))

@@ -3,11 +3,11 @@ use native.Mathlib.Omega.{arith}
 use Rattle.states.proofs.RowLaws.{context-rows, context-answers}
 use Rattle.states.proofs.context_holds.Goals as goal
 
-pub bounds-firsts-n : goal.bounds-firsts-n
-bounds-firsts-n c = let inside = c.requires.at.inside in omega arith
+pub bounds-d-n : goal.bounds-d-n
+bounds-d-n c = let inside = c.requires.at.inside in omega arith
 
-pub bounds-firsts-n-2 : goal.bounds-firsts-n-2
-bounds-firsts-n-2 c = let inside = c.requires.at.inside in omega arith
+pub bounds-d-n-2 : goal.bounds-d-n-2
+bounds-d-n-2 c = let inside = c.requires.at.inside in omega arith
 
 pub all_hold-requires : goal.all_hold-requires
 all_hold-requires c = context-rows c.requires

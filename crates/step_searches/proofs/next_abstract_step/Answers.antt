@@ -1,19 +1,20 @@
 -- `step_searches::next_abstract_step` meets its contract: with the abstract state and the inputs in their slots, the search for a step of the abstract operation finds outputs and
 -- after states by their numbers. Assumes nothing.
 use Rattle.step_searches.proofs.FoundSteps.{put-abstract, put-inputs, ask-ready, ready-found, steps-found-or, steps-low}
+use Rattle.step_searches.proofs.GivenGroups.{group-as, given-two}
+use Rattle.step_searches.specs.StepPromises.{EachBindable}
 use Rattle.step_searches.proofs.next_abstract_step.Goals as goal
 
-pub fill-requires : goal.fill-requires
-fill-requires c = c.requires.steps_asked.searches.first_values
-
-pub put_group-requires : goal.put_group-requires
-put_group-requires c = put-abstract c.requires.steps_asked.searches c.fill.ensures.shows c.requires.a_lt_na.0
-
-pub put_group-requires-2 : goal.put_group-requires-2
-put_group-requires-2 c = put-inputs c.requires.steps_asked.searches (c.put_group.ensures.means _ c.fill.ensures.shows) c.requires.a_lt_na.1
-
-pub next_of-requires : goal.next_of-requires
-next_of-requires c = record { seek_asked = ask-ready c.requires.steps_asked.searches (c.put_group-2.ensures.means _ (c.put_group.ensures.means _ c.fill.ensures.shows)) c.requires.a_lt_na.2; memo = c.requires.memo }
+pub next_with-requires : goal.next_with-requires
+unfolding EachBindable
+next_with-requires c = record {
+  given_asked = record { first_values = c.requires.steps_asked.searches.first_values; groups = (group-as c.group_at-state.ensures (put-abstract c.requires.steps_asked.searches c.requires.a_lt_na.0), (group-as c.group_at-inputs.ensures (put-inputs c.requires.steps_asked.searches c.requires.a_lt_na.1), tt)); seeks = λ b σ. ask-ready c.requires.steps_asked.searches (given-two c.group_at-state.ensures c.group_at-inputs.ensures σ) c.requires.a_lt_na.2 };
+  memo = c.requires.memo;
+}
 
 pub returns : goal.returns
-returns c = record { found = record { sought = λ d op x. steps-found-or x c.next_of.result (ready-found x c.requires.a_lt_na.0 c.requires.a_lt_na.1 (c.put_group-2.ensures.means _ (c.put_group.ensures.means _ c.fill.ensures.shows)) c.next_of.ensures.answers) }; remembers = c.next_of.ensures.remembers; low = steps-low c.requires.steps_asked.searches c.next_of.result c.next_of.ensures.low }
+returns c = record {
+  found = record { sought = λ d op x. steps-found-or x c.next_with.result (ready-found x c.requires.a_lt_na.0 c.requires.a_lt_na.1 (given-two c.group_at-state.ensures c.group_at-inputs.ensures c.next_with.ensures.answers.shows) c.next_with.ensures.answers.answers) };
+  remembers = c.next_with.ensures.remembers;
+  low = steps-low c.requires.steps_asked.searches c.next_with.result c.next_with.ensures.low;
+}

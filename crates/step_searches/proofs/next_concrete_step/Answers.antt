@@ -2,16 +2,9 @@
 -- Assumes nothing.
 use native.Mathlib.Omega.{arith}
 use Rattle.step_searches.proofs.FoundSteps.{fits, put-concrete, put-inputs, ask-steps, steps-found}
+use Rattle.step_searches.proofs.GivenGroups.{group-as, given-two}
+use Rattle.step_searches.specs.StepPromises.{EachBindable}
 use Rattle.step_searches.proofs.next_concrete_step.Goals as goal
-
-pub fill-requires : goal.fill-requires
-fill-requires c = c.requires.steps_asked.searches.first_values
-
-pub put_group-requires : goal.put_group-requires
-put_group-requires c = put-concrete c.requires.steps_asked.searches c.fill.ensures.shows c.requires.c_lt_nc.0
-
-pub put_group-requires-2 : goal.put_group-requires-2
-put_group-requires-2 c = put-inputs c.requires.steps_asked.searches (c.put_group.ensures.means _ c.fill.ensures.shows) c.requires.c_lt_nc.1
 
 pub overflow_add-span : goal.overflow_add-span
 overflow_add-span c = omega (arith, (fits c.requires.steps_asked.searches).1)
@@ -19,8 +12,16 @@ overflow_add-span c = omega (arith, (fits c.requires.steps_asked.searches).1)
 pub overflow_mul-span : goal.overflow_mul-span
 overflow_mul-span c = omega (arith, (fits c.requires.steps_asked.searches).0)
 
-pub next_of-requires : goal.next_of-requires
-next_of-requires c = record { seek_asked = ask-steps c.requires.steps_asked.searches (c.put_group-2.ensures.means _ (c.put_group.ensures.means _ c.fill.ensures.shows)) c.requires.c_lt_nc.2; memo = c.requires.memo }
+pub next_with-requires : goal.next_with-requires
+unfolding EachBindable
+next_with-requires c = record {
+  given_asked = record { first_values = c.requires.steps_asked.searches.first_values; groups = (group-as c.group_at-state.ensures (put-concrete c.requires.steps_asked.searches c.requires.c_lt_nc.0), (group-as c.group_at-inputs.ensures (put-inputs c.requires.steps_asked.searches c.requires.c_lt_nc.1), tt)); seeks = λ b σ. ask-steps c.requires.steps_asked.searches (given-two c.group_at-state.ensures c.group_at-inputs.ensures σ) c.requires.c_lt_nc.2 };
+  memo = c.requires.memo;
+}
 
 pub returns : goal.returns
-returns c = record { found = record { sought = λ d op x. steps-found x c.requires.c_lt_nc.0 c.requires.c_lt_nc.1 (c.put_group-2.ensures.means _ (c.put_group.ensures.means _ c.fill.ensures.shows)) c.next_of.ensures.answers }; remembers = c.next_of.ensures.remembers; low = c.next_of.ensures.low }
+returns c = record {
+  found = record { sought = λ d op x. steps-found x c.requires.c_lt_nc.0 c.requires.c_lt_nc.1 (given-two c.group_at-state.ensures c.group_at-inputs.ensures c.next_with.ensures.answers.shows) c.next_with.ensures.answers.answers };
+  remembers = c.next_with.ensures.remembers;
+  low = c.next_with.ensures.low;
+}

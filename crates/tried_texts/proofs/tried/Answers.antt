@@ -1,11 +1,7 @@
 -- `tried_texts::tried` meets its contract. Assumes nothing.
-use mathlib.Core.Path.{refl}
-use native.Mathlib.Omega.{arith}
-use Rattle.tried_texts.proofs.Assembled.{answered-front}
+use mathlib.Core.Path.{refl, ◌∙◌}
+use Rattle.tried_texts.proofs.Assembled.{pieces, answered-of}
 use Rattle.tried_texts.proofs.tried.Goals as goal
 
-pub front_answer-requires : goal.front_answer-requires
-front_answer-requires c = omega (arith, c.assemble-n.ensures.goes.high, c.assemble-n.ensures.goes.long)
-
 pub returns : goal.returns
-returns c = answered-front refl c.assemble-n.ensures.says c.front_answer.ensures
+returns c = answered-of (c.as_slice.ensures.value ∙ pieces c.args.text.now c.args.words.now c.args.from c.args.to c.min-front.ensures c.min-behind.ensures c.new-other.ensures c.put_all.ensures c.put_all-2.ensures c.put_all-3.ensures refl refl) c.answer_of.ensures

@@ -1,6 +1,4 @@
 -- `witnesses::put_groups` meets its contract: the lines of the five groups stand one behind the other.
-use borrow.Author.Rules.{rules}
-use mathlib.Core.Path.{◌∙◌}
 use native.Mathlib.Omega.{arith}
 use Rattle.witnesses.proofs.PartLines.{group-as, five-written}
 use Rattle.witnesses.proofs.put_groups.Goals as goal

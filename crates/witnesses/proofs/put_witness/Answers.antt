@@ -1,5 +1,4 @@
 -- `witnesses::put_witness` meets its contract: the part is set up, its slots get the binding at the place, and the lines of its groups are the witness.
-use borrow.Author.Rules.{rules}
 use Rattle.part_places.proofs.PartsSetupLaws.{blank}
 use Rattle.witnesses.proofs.WitnessLaws.{witness-written}
 use Rattle.witnesses.proofs.PartLines.{part-asked, part_low, bind-asked, lines-asked}

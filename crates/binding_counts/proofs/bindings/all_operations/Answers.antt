@@ -5,13 +5,13 @@ use Rattle.binding_counts.proofs.BindingSpans.{remains-start, remains-on, remain
 use Rattle.binding_counts.proofs.bindings.all_operations.Goals as goal
 
 pub loop-k-init : goal.loop-k-init
-loop-k-init c = (omega arith, (omega arith, remains-start c.args.nodes.now c.args.spans.now c.args.names.now c.args.sizes.now c.args.n))
+loop-k-init c = (omega arith, (omega arith, remains-start c.args.p.now.nodes.now c.args.p.now.spans.now c.args.g.now.names.now c.args.g.now.sizes.now c.args.n))
 
 pub returns-then-k-ge-ROOM : goal.returns-then-k-ge-ROOM
-returns-then-k-ge-ROOM c = remains-full c.args.nodes.now c.args.spans.now c.args.names.now c.args.sizes.now c.args.n c.loop-k.k (fault_key c.loop-k.f) c.requires c.if-k-ge-ROOM.true c.loop-k-test.true c.loop-k.invariant.1.1
+returns-then-k-ge-ROOM c = remains-full c.args.p.now.nodes.now c.args.p.now.spans.now c.args.g.now.names.now c.args.g.now.sizes.now c.args.n c.loop-k.k (fault_key c.loop-k.f) c.requires c.if-k-ge-ROOM.true c.loop-k-test.true c.loop-k.invariant.1.1
 
 pub loop-k-preserved : goal.loop-k-preserved
-loop-k-preserved c = (omega arith, (omega arith, remains-on c.args.nodes.now c.args.spans.now c.args.names.now c.args.sizes.now c.args.n c.loop-k.k (fault_key c.loop-k.f) (fault_key c.operation-g.result) (fault_key c.lesser_of-f.result) c.operation-g.ensures c.lesser_of-f.ensures c.loop-k-test.true c.loop-k.invariant.1.1))
+loop-k-preserved c = (omega arith, (omega arith, remains-on c.args.p.now.nodes.now c.args.p.now.spans.now c.args.g.now.names.now c.args.g.now.sizes.now c.args.n c.loop-k.k (fault_key c.loop-k.f) (fault_key c.operation.result) (fault_key c.lesser_of-f.result) c.operation.ensures c.lesser_of-f.ensures c.loop-k-test.true c.loop-k.invariant.1.1))
 
 pub returns : goal.returns
-returns c = remains-end c.args.nodes.now c.args.spans.now c.args.names.now c.args.sizes.now c.args.n c.loop-k.k (fault_key c.loop-k.f) (omega arith) c.loop-k.invariant.1.1
+returns c = remains-end c.args.p.now.nodes.now c.args.p.now.spans.now c.args.g.now.names.now c.args.g.now.sizes.now c.args.n c.loop-k.k (fault_key c.loop-k.f) (omega arith) c.loop-k.invariant.1.1

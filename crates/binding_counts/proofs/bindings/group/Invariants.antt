@@ -1,10 +1,8 @@
-use Prim.Native.Nat.{◌+◌, ◌-◌, ◌≤◌}
-use lib.ListN.{length}
+use Prim.Native.Nat.{◌+◌, ◌≤◌}
+use mathlib.Core.Path.{◌≡◌}
+use Rattle.names.proofs.DeclaredNamesNodePieces.{Ends, place}
 use Rattle.binding_counts.proofs.CappedCounts.{Counting}
 use Rattle.binding_counts.proofs.bindings.group.Given as goal
 
-abbrev pub invariant-loop-at : goal.invariant-loop-at
-invariant-loop-at l = (l.at ≤ length l.code) × ((l.n ≤ l.limit + 1) × Counting l.ending l.limit l.names l.sizes l.code l.at l.n)
-
-abbrev pub decreases-loop-at : goal.decreases-loop-at
-decreases-loop-at l = length l.code - l.at
+abbrev pub invariant-loop-d : goal.invariant-loop-d
+invariant-loop-d l = (l.d-iterator.size ≡ 8) × ((l.n ≤ l.limit + 1) × (Ends l.code l.d-iterator.rest.now × Counting l.ending l.limit l.g.names.now l.g.sizes.now l.code (place l.code l.d-iterator.rest.now) l.n))

@@ -1,6 +1,5 @@
 -- `bindings::heading_fault` meets its contract. Assumes nothing.
-use mathlib.Core.Path.{ap, ◌∙◌}
-use Rattle.lexical.specs.Refusals.{number_of}
+use Rattle.refusals.specs.Refusals.{number_of}
 use Rattle.binding_counts.proofs.BindingSpans.{heading-short, heading-over}
 use Rattle.binding_counts.proofs.bindings.heading_fault.Goals as goal
 

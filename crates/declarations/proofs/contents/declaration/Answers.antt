@@ -33,7 +33,7 @@ close-requires-2 c = let t = (known c.in_ok-typed.was c.type_form.ensures.0) in 
 
 pub returns : goal.returns
 unfolding compute_form
-returns c = let room = c.requires.0 in let inside = c.requires.2 in let h = (known c.in_ok-colon.was (c.close.ensures.reads kind.colon refl)) in let z = closed c.in_ok-colon.was c.close.ensures in let z₀ = z.0.0 in let z₁ = z.1 in let w = c.put-m.ensures.count in (wider (next (framed (a_type ∷ exact kind.semicolon ∷ []) h) (next (framed (exact kind.semicolon ∷ []) (known c.in_ok-typed.was c.type_form.ensures.0)) (c.close-2.ensures.reads kind.semicolon refl))) (omega arith), declaration-made c.close-2.result c.requires.1 z.0.0 z.0.1 (renumber z.1 c.put-m.ensures) (ap (λ y. node 6 c.args.at y 0) c.name_number-x.ensures) (subst (λ (z : Answer). Made c.args.s.now c.args.v.now part.a_type c.in_ok-colon.colon.at c.in_ok-colon.colon.count c.put-m.new.code c.type_form.new.code z) c.in_ok-typed.was c.type_form.ensures.1) c.close-2.ensures)
+returns c = let room = c.requires.0 in let inside = c.requires.2 in let h = (known c.in_ok-colon.was (c.close.ensures.reads kind.colon refl)) in let z = closed c.in_ok-colon.was c.close.ensures in let z₀ = z.0.0 in let z₁ = z.1 in let w = c.put-m.ensures.count in (wider (next (framed (a_type ∷ exact kind.semicolon ∷ []) h) (next (framed (exact kind.semicolon ∷ []) (known c.in_ok-typed.was c.type_form.ensures.0)) (c.close-2.ensures.reads kind.semicolon refl))) (omega arith), declaration-made c.close-2.result c.requires.1 z.0.0 z.0.1 (renumber z.1 c.put-m.ensures) (ap (λ y. node 6 c.args.at y 0) c.name_number-x.ensures) (subst (λ (z : Answer). Made c.args.y.now.kinds.now c.args.y.now.values.now part.a_type c.in_ok-colon.colon.at c.in_ok-colon.colon.count c.put-m.new.code c.type_form.new.code z) c.in_ok-typed.was c.type_form.ensures.1) c.close-2.ensures)
 
 pub returns-in_err-typed : goal.returns-in_err-typed
 unfolding compute_form

@@ -22,10 +22,10 @@ loop-start-init c = let room = c.requires in (likewise (only _ kind.plain (sym c
 
 pub returns-then-k-ge-VARIABLES : goal.returns-then-k-ge-VARIABLES
 unfolding compute_form
-returns-then-k-ge-VARIABLES c = let room = c.requires in let i = c.loop-start.invariant.0 in let l = c.loop-start.invariant.2 in let z = c.kind_at-in-loop-start.ensures.inside in (next i (crowded (λ γ. a_typed ++ (some_declarations (c.loop-start.k + 1) ∷ γ)) (a_variable (c.loop-start.k + 1)) (omega arith) (count-over c.args.s.now c.loop-start.at (c.loop-start.k + 1) variables (omega arith)) (only _ kind.plain (sym c.kind_at-in-loop-start.ensures.is ∙ c.loop-start-test.true) (λ γ. declaration-takes c.loop-start.k γ))), tt, tt)
+returns-then-k-ge-VARIABLES c = let room = c.requires in let i = c.loop-start.invariant.0 in let l = c.loop-start.invariant.2 in let z = c.kind_at-in-loop-start.ensures.inside in (next i (crowded (λ γ. a_typed ++ (some_declarations (c.loop-start.k + 1) ∷ γ)) (a_variable (c.loop-start.k + 1)) (omega arith) (count-over c.args.y.now.kinds.now c.loop-start.at (c.loop-start.k + 1) variables (omega arith)) (only _ kind.plain (sym c.kind_at-in-loop-start.ensures.is ∙ c.loop-start-test.true) (λ γ. declaration-takes c.loop-start.k γ))), tt, tt)
 
 pub declaration-requires : goal.declaration-requires
-declaration-requires c = let room = c.requires in let i = c.loop-start.invariant.0 in let l = c.loop-start.invariant.2 in let z = c.kind_at-in-loop-start.ensures.inside in let b : NameAt c.args.s.now c.loop-start.at = record { low = omega (arith, c.kind_at-in-loop-start.ensures.is); high = omega (arith, c.kind_at-in-loop-start.ensures.is) } in search rules
+declaration-requires c = let room = c.requires in let i = c.loop-start.invariant.0 in let l = c.loop-start.invariant.2 in let z = c.kind_at-in-loop-start.ensures.inside in let b : NameAt c.args.y.now.kinds.now c.loop-start.at = record { low = omega (arith, c.kind_at-in-loop-start.ensures.is); high = omega (arith, c.kind_at-in-loop-start.ensures.is) } in search rules
 
 pub overflow_add-k : goal.overflow_add-k
 overflow_add-k c = let room = c.requires in let i = c.loop-start.invariant.0 in let l = c.loop-start.invariant.2 in let z = c.kind_at-in-loop-start.ensures.inside in search rules
@@ -35,11 +35,11 @@ loop-start-smaller c = let room = c.requires in let i = c.loop-start.invariant.0
 
 pub loop-start-preserved : goal.loop-start-preserved
 unfolding compute_form
-loop-start-preserved c = let room = c.requires in let i = c.loop-start.invariant.0 in let l = c.loop-start.invariant.2 in let z = c.kind_at-in-loop-start.ensures.inside in let h = (known c.in_ok-read.was c.declaration.ensures.0) in (next i (taken {μ = a_typed ++ (some_declarations (c.loop-start.k + 1) ∷ [])} {m = c.loop-start.n + 4} (a_variable (c.loop-start.k + 1)) (omega arith) (count-well c.args.s.now c.loop-start.at (c.loop-start.k + 1) variables (omega arith)) (only _ kind.plain (sym c.kind_at-in-loop-start.ensures.is ∙ c.loop-start-test.true) (λ γ. declaration-takes c.loop-start.k γ)) (framed (some_declarations (c.loop-start.k + 1) ∷ []) h) (omega arith)), more-then c.loop-start.invariant.1 (let p = subst (λ (z : Answer). Made c.args.s.now c.args.v.now a_declaration c.loop-start.at c.loop-start.n c.loop-start.code c.declaration.new.code z) c.in_ok-read.was c.declaration.ensures.1 in more-part p (λ j u d. declares_more (sym c.kind_at-in-loop-start.ensures.is ∙ c.loop-start-test.true) p.derives d)), search rules, omega arith)
+loop-start-preserved c = let room = c.requires in let i = c.loop-start.invariant.0 in let l = c.loop-start.invariant.2 in let z = c.kind_at-in-loop-start.ensures.inside in let h = (known c.in_ok-read.was c.declaration.ensures.0) in (next i (taken {μ = a_typed ++ (some_declarations (c.loop-start.k + 1) ∷ [])} {m = c.loop-start.n + 4} (a_variable (c.loop-start.k + 1)) (omega arith) (count-well c.args.y.now.kinds.now c.loop-start.at (c.loop-start.k + 1) variables (omega arith)) (only _ kind.plain (sym c.kind_at-in-loop-start.ensures.is ∙ c.loop-start-test.true) (λ γ. declaration-takes c.loop-start.k γ)) (framed (some_declarations (c.loop-start.k + 1) ∷ []) h) (omega arith)), more-then c.loop-start.invariant.1 (let p = subst (λ (z : Answer). Made c.args.y.now.kinds.now c.args.y.now.values.now a_declaration c.loop-start.at c.loop-start.n c.loop-start.code c.declaration.new.code z) c.in_ok-read.was c.declaration.ensures.1 in more-part p (λ j u d. declares_more (sym c.kind_at-in-loop-start.ensures.is ∙ c.loop-start-test.true) p.derives d)), search rules, omega arith)
 
 pub returns-in_err-read : goal.returns-in_err-read
 unfolding compute_form
-returns-in_err-read c = rw (exits c.from_residual.result c.from_residual.ensures.1) (let room = c.requires in let i = c.loop-start.invariant.0 in let l = c.loop-start.invariant.2 in let z = c.kind_at-in-loop-start.ensures.inside in (next i (taken {μ = a_typed ++ (some_declarations (c.loop-start.k + 1) ∷ [])} {m = c.loop-start.n + 4} (a_variable (c.loop-start.k + 1)) (omega arith) (count-well c.args.s.now c.loop-start.at (c.loop-start.k + 1) variables (omega arith)) (only _ kind.plain (sym c.kind_at-in-loop-start.ensures.is ∙ c.loop-start-test.true) (λ γ. declaration-takes c.loop-start.k γ)) (fails (framed (some_declarations (c.loop-start.k + 1) ∷ []) (known c.in_err-read.was c.declaration.ensures.0))) (omega arith)), tt, tt))
+returns-in_err-read c = rw (exits c.from_residual.result c.from_residual.ensures.1) (let room = c.requires in let i = c.loop-start.invariant.0 in let l = c.loop-start.invariant.2 in let z = c.kind_at-in-loop-start.ensures.inside in (next i (taken {μ = a_typed ++ (some_declarations (c.loop-start.k + 1) ∷ [])} {m = c.loop-start.n + 4} (a_variable (c.loop-start.k + 1)) (omega arith) (count-well c.args.y.now.kinds.now c.loop-start.at (c.loop-start.k + 1) variables (omega arith)) (only _ kind.plain (sym c.kind_at-in-loop-start.ensures.is ∙ c.loop-start-test.true) (λ γ. declaration-takes c.loop-start.k γ)) (fails (framed (some_declarations (c.loop-start.k + 1) ∷ []) (known c.in_err-read.was c.declaration.ensures.0))) (omega arith)), tt, tt))
 
 pub returns-then-kind_at-eq-PLAIN : goal.returns-then-kind_at-eq-PLAIN
 unfolding compute_form

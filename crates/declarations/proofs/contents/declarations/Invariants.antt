@@ -12,7 +12,7 @@ use Rattle.form_nodes.specs.Derivations as part
 use Rattle.declarations.proofs.contents.declarations.Given as goal
 
 abbrev pub invariant-loop-start : goal.invariant-loop-start
-invariant-loop-start l = Reads l.s l.start l.from (a_declared (a_variable 1) ∷ (a_typed ++ (some_declarations 1 ∷ []))) (some_declarations l.k ∷ []) (read l.at l.n) × MoreAt l.s l.v part.some_declarations l.start l.from l.initial.code l.code l.at l.n × (length l.code ≡ length l.initial.code) × (l.k ≤ 8)
+invariant-loop-start l = Reads l.y.kinds.now l.start l.from (a_declared (a_variable 1) ∷ (a_typed ++ (some_declarations 1 ∷ []))) (some_declarations l.k ∷ []) (read l.at l.n) × MoreAt l.y.kinds.now l.y.values.now part.some_declarations l.start l.from l.initial.code l.code l.at l.n × (length l.code ≡ length l.initial.code) × (l.k ≤ 8)
 
 abbrev pub decreases-loop-start : goal.decreases-loop-start
-decreases-loop-start l = length l.s - l.at
+decreases-loop-start l = length l.y.kinds.now - l.at

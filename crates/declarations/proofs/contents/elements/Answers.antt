@@ -22,7 +22,7 @@ loop-start-init c = let room = c.requires in (likewise (only _ kind.plain (sym c
 
 pub returns-then-k-ge-ELEMENTS : goal.returns-then-k-ge-ELEMENTS
 unfolding compute_form
-returns-then-k-ge-ELEMENTS c = let room = c.requires in let i = c.loop-start.invariant.0 in let l = c.loop-start.invariant.2 in let z = c.kind_at-in-loop-start.ensures.inside in (next i (crowded (λ γ. some_elements (c.loop-start.k + 1) ∷ γ) (an_element (c.loop-start.k + 1)) (omega arith) (count-over c.args.s.now c.loop-start.at (c.loop-start.k + 1) elements (omega arith)) (only _ kind.plain (sym c.kind_at-in-loop-start.ensures.is ∙ c.loop-start-test.true) (λ γ. element-takes c.loop-start.k γ))), tt, tt)
+returns-then-k-ge-ELEMENTS c = let room = c.requires in let i = c.loop-start.invariant.0 in let l = c.loop-start.invariant.2 in let z = c.kind_at-in-loop-start.ensures.inside in (next i (crowded (λ γ. some_elements (c.loop-start.k + 1) ∷ γ) (an_element (c.loop-start.k + 1)) (omega arith) (count-over c.args.y.now.kinds.now c.loop-start.at (c.loop-start.k + 1) elements (omega arith)) (only _ kind.plain (sym c.kind_at-in-loop-start.ensures.is ∙ c.loop-start-test.true) (λ γ. element-takes c.loop-start.k γ))), tt, tt)
 
 pub put-n-requires : goal.put-n-requires
 put-n-requires c = let room = c.requires in let i = c.loop-start.invariant.0 in let l = c.loop-start.invariant.2 in let z = c.kind_at-in-loop-start.ensures.inside in search rules
@@ -38,7 +38,7 @@ loop-start-smaller c = let room = c.requires in let i = c.loop-start.invariant.0
 
 pub loop-start-preserved : goal.loop-start-preserved
 unfolding compute_form
-loop-start-preserved c = let room = c.requires in let i = c.loop-start.invariant.0 in let l = c.loop-start.invariant.2 in let z = c.kind_at-in-loop-start.ensures.inside in let p = c.put-n.ensures.count in (next i (taken {μ = some_elements (c.loop-start.k + 1) ∷ []} {m = c.put-n.result} (an_element (c.loop-start.k + 1)) (omega arith) (count-well c.args.s.now c.loop-start.at (c.loop-start.k + 1) elements (omega arith)) (only _ kind.plain (sym c.kind_at-in-loop-start.ensures.is ∙ c.loop-start-test.true) (λ γ. element-takes c.loop-start.k γ)) (here (omega arith)) (omega arith)), more-then c.loop-start.invariant.1 (more-node c.put-n.ensures (ap (λ y. node 4 c.loop-start.at y 0) c.name_number-x.ensures) (λ j u d. part.an_element (sym c.kind_at-in-loop-start.ensures.is ∙ c.loop-start-test.true) d)), search rules, omega arith)
+loop-start-preserved c = let room = c.requires in let i = c.loop-start.invariant.0 in let l = c.loop-start.invariant.2 in let z = c.kind_at-in-loop-start.ensures.inside in let p = c.put-n.ensures.count in (next i (taken {μ = some_elements (c.loop-start.k + 1) ∷ []} {m = c.put-n.result} (an_element (c.loop-start.k + 1)) (omega arith) (count-well c.args.y.now.kinds.now c.loop-start.at (c.loop-start.k + 1) elements (omega arith)) (only _ kind.plain (sym c.kind_at-in-loop-start.ensures.is ∙ c.loop-start-test.true) (λ γ. element-takes c.loop-start.k γ)) (here (omega arith)) (omega arith)), more-then c.loop-start.invariant.1 (more-node c.put-n.ensures (ap (λ y. node 4 c.loop-start.at y 0) c.name_number-x.ensures) (λ j u d. part.an_element (sym c.kind_at-in-loop-start.ensures.is ∙ c.loop-start-test.true) d)), search rules, omega arith)
 
 pub returns-then-kind_at-eq-PLAIN : goal.returns-then-kind_at-eq-PLAIN
 unfolding compute_form

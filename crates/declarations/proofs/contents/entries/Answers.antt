@@ -25,7 +25,7 @@ overflow_add-result c = let room = c.requires.0 in let word = c.requires.1 in le
 
 pub returns-then-limit-k : goal.returns-then-limit-k
 unfolding compute_form
-returns-then-limit-k c = let room = c.requires.0 in let word = c.requires.1 in let l = c.loop-start.invariant.1 in let l₁ = c.loop-start.invariant.2 in let l₂ = c.loop-start.invariant.3 in let l₃ = c.loop-start.invariant.4 in let l₄ = c.loop-start.invariant.5 in let l₅ = c.loop-start.invariant.6 in let z = c.kind_at.ensures.inside in let y = c.kind_at-in-loop-start.ensures.inside in (λ f ο x e. next (c.loop-start.invariant.0 f ο x e) (takes {μ = a_declared (x (c.loop-start.k + 1)) ∷ f (c.loop-start.k + 1) ∷ []} {m = c.loop-start.n} (omega arith) (λ κ q γ. entry-word e c.loop-start.k κ γ (q ∙ sym c.kind_at.ensures.is ∙ c.loop-start-test.true)) (crowded (λ γ. f (c.loop-start.k + 1) ∷ γ) (x (c.loop-start.k + 1)) (omega arith) (count-over c.args.s.now (c.loop-start.at + 1) (c.loop-start.k + 1) (entry-counts e) (omega arith)) (only _ kind.plain (sym c.kind_at-in-loop-start.ensures.is ∙ c.if-kind_at-eq-PLAIN.true) (λ γ. declared-takes (x (c.loop-start.k + 1)) (f (c.loop-start.k + 1) ∷ γ)))) (omega arith)), tt)
+returns-then-limit-k c = let room = c.requires.0 in let word = c.requires.1 in let l = c.loop-start.invariant.1 in let l₁ = c.loop-start.invariant.2 in let l₂ = c.loop-start.invariant.3 in let l₃ = c.loop-start.invariant.4 in let l₄ = c.loop-start.invariant.5 in let l₅ = c.loop-start.invariant.6 in let z = c.kind_at.ensures.inside in let y = c.kind_at-in-loop-start.ensures.inside in (λ f ο x e. next (c.loop-start.invariant.0 f ο x e) (takes {μ = a_declared (x (c.loop-start.k + 1)) ∷ f (c.loop-start.k + 1) ∷ []} {m = c.loop-start.n} (omega arith) (λ κ q γ. entry-word e c.loop-start.k κ γ (q ∙ sym c.kind_at.ensures.is ∙ c.loop-start-test.true)) (crowded (λ γ. f (c.loop-start.k + 1) ∷ γ) (x (c.loop-start.k + 1)) (omega arith) (count-over c.args.y.now.kinds.now (c.loop-start.at + 1) (c.loop-start.k + 1) (entry-counts e) (omega arith)) (only _ kind.plain (sym c.kind_at-in-loop-start.ensures.is ∙ c.if-kind_at-eq-PLAIN.true) (λ γ. declared-takes (x (c.loop-start.k + 1)) (f (c.loop-start.k + 1) ∷ γ)))) (omega arith)), tt)
 
 pub overflow_add-at-then-kind_at-eq-PLAIN : goal.overflow_add-at-then-kind_at-eq-PLAIN
 overflow_add-at-then-kind_at-eq-PLAIN c = let room = c.requires.0 in let word = c.requires.1 in let l = c.loop-start.invariant.1 in let l₁ = c.loop-start.invariant.2 in let l₂ = c.loop-start.invariant.3 in let l₃ = c.loop-start.invariant.4 in let l₄ = c.loop-start.invariant.5 in let l₅ = c.loop-start.invariant.6 in let z = c.kind_at.ensures.inside in search rules
@@ -50,7 +50,7 @@ loop-start-smaller c = let room = c.requires.0 in let word = c.requires.1 in let
 
 pub loop-start-preserved : goal.loop-start-preserved
 unfolding compute_form
-loop-start-preserved c = let room = c.requires.0 in let word = c.requires.1 in let l = c.loop-start.invariant.1 in let l₁ = c.loop-start.invariant.2 in let l₂ = c.loop-start.invariant.3 in let l₃ = c.loop-start.invariant.4 in let l₄ = c.loop-start.invariant.5 in let l₅ = c.loop-start.invariant.6 in let z = c.kind_at.ensures.inside in let y = c.kind_at-in-loop-start.ensures.inside in let p = c.put-n.ensures.count in (λ f ο x e. next (c.loop-start.invariant.0 f ο x e) (takes {μ = a_declared (x (c.loop-start.k + 1)) ∷ f (c.loop-start.k + 1) ∷ []} {m = c.loop-start.n} (omega arith) (λ κ q γ. entry-word e c.loop-start.k κ γ (q ∙ sym c.kind_at.ensures.is ∙ c.loop-start-test.true)) (taken {μ = f (c.loop-start.k + 1) ∷ []} {m = c.put-n.result} (x (c.loop-start.k + 1)) (omega arith) (count-well c.args.s.now (c.loop-start.at + 1) (c.loop-start.k + 1) (entry-counts e) (omega arith)) (only _ kind.plain (sym c.kind_at-in-loop-start.ensures.is ∙ c.if-kind_at-eq-PLAIN.true) (λ γ. declared-takes (x (c.loop-start.k + 1)) (f (c.loop-start.k + 1) ∷ γ))) (here (omega arith)) (omega arith)) (omega arith)), more-then c.loop-start.invariant.1 (more-node c.put-n.ensures (ap (λ y. node c.args.shape (c.loop-start.at + 1) y 0) c.name_number-x.ensures) (λ j u d. an_entry (sym c.kind_at.ensures.is ∙ c.loop-start-test.true) (sym c.kind_at-in-loop-start.ensures.is ∙ c.if-kind_at-eq-PLAIN.true) d)), search rules, omega arith, omega arith, omega arith, omega arith)
+loop-start-preserved c = let room = c.requires.0 in let word = c.requires.1 in let l = c.loop-start.invariant.1 in let l₁ = c.loop-start.invariant.2 in let l₂ = c.loop-start.invariant.3 in let l₃ = c.loop-start.invariant.4 in let l₄ = c.loop-start.invariant.5 in let l₅ = c.loop-start.invariant.6 in let z = c.kind_at.ensures.inside in let y = c.kind_at-in-loop-start.ensures.inside in let p = c.put-n.ensures.count in (λ f ο x e. next (c.loop-start.invariant.0 f ο x e) (takes {μ = a_declared (x (c.loop-start.k + 1)) ∷ f (c.loop-start.k + 1) ∷ []} {m = c.loop-start.n} (omega arith) (λ κ q γ. entry-word e c.loop-start.k κ γ (q ∙ sym c.kind_at.ensures.is ∙ c.loop-start-test.true)) (taken {μ = f (c.loop-start.k + 1) ∷ []} {m = c.put-n.result} (x (c.loop-start.k + 1)) (omega arith) (count-well c.args.y.now.kinds.now (c.loop-start.at + 1) (c.loop-start.k + 1) (entry-counts e) (omega arith)) (only _ kind.plain (sym c.kind_at-in-loop-start.ensures.is ∙ c.if-kind_at-eq-PLAIN.true) (λ γ. declared-takes (x (c.loop-start.k + 1)) (f (c.loop-start.k + 1) ∷ γ))) (here (omega arith)) (omega arith)) (omega arith)), more-then c.loop-start.invariant.1 (more-node c.put-n.ensures (ap (λ y. node c.args.shape (c.loop-start.at + 1) y 0) c.name_number-x.ensures) (λ j u d. an_entry (sym c.kind_at.ensures.is ∙ c.loop-start-test.true) (sym c.kind_at-in-loop-start.ensures.is ∙ c.if-kind_at-eq-PLAIN.true) d)), search rules, omega arith, omega arith, omega arith, omega arith)
 
 pub overflow_add-result-else-kind_at-eq-PLAIN : goal.overflow_add-result-else-kind_at-eq-PLAIN
 overflow_add-result-else-kind_at-eq-PLAIN c = let room = c.requires.0 in let word = c.requires.1 in let l = c.loop-start.invariant.1 in let l₁ = c.loop-start.invariant.2 in let l₂ = c.loop-start.invariant.3 in let l₃ = c.loop-start.invariant.4 in let l₄ = c.loop-start.invariant.5 in let l₅ = c.loop-start.invariant.6 in let z = c.kind_at.ensures.inside in search rules

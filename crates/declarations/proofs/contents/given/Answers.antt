@@ -35,7 +35,7 @@ close-requires c = let h = (known c.in_ok-body.was c.elements.ensures.0) in sear
 
 pub returns : goal.returns
 unfolding compute_form
-returns c = let room = c.requires.0 in let inside = c.requires.1 in let w = c.put-m.ensures.count in (wider (next (known c.in_ok-body.was c.elements.ensures.0) (c.close.ensures.reads kind.END refl)) (omega arith), given-more c.close.result c.requires.2 c.requires.3 (subst (λ (z : Answer). When (get_or c.args.s.now (c.args.at + 1 + 1) 0 ≡ 2) z) c.in_ok-body.was c.elements.ensures.2) c.put-m.ensures (ap (λ y. node 3 c.args.at y 0) c.name_number-x.ensures) (subst (λ (z : Answer). Made c.args.s.now c.args.v.now part.some_elements (c.args.at + 1 + 1) c.put-m.result c.put-m.new.code c.elements.new.code z) c.in_ok-body.was c.elements.ensures.1) c.close.ensures)
+returns c = let room = c.requires.0 in let inside = c.requires.1 in let w = c.put-m.ensures.count in (wider (next (known c.in_ok-body.was c.elements.ensures.0) (c.close.ensures.reads kind.END refl)) (omega arith), given-more c.close.result c.requires.2 c.requires.3 (subst (λ (z : Answer). When (get_or c.args.y.now.kinds.now (c.args.at + 1 + 1) 0 ≡ 2) z) c.in_ok-body.was c.elements.ensures.2) c.put-m.ensures (ap (λ y. node 3 c.args.at y 0) c.name_number-x.ensures) (subst (λ (z : Answer). Made c.args.y.now.kinds.now c.args.y.now.values.now part.some_elements (c.args.at + 1 + 1) c.put-m.result c.put-m.new.code c.elements.new.code z) c.in_ok-body.was c.elements.ensures.1) c.close.ensures)
 
 pub returns-in_err-body : goal.returns-in_err-body
 unfolding compute_form

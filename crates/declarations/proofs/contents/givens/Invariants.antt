@@ -10,7 +10,7 @@ use Rattle.declarations.specs.DossierPromises.{MoreAt}
 use Rattle.declarations.proofs.contents.givens.Given as goal
 
 abbrev pub invariant-loop-start : goal.invariant-loop-start
-invariant-loop-start l = Reads l.s l.start l.from (some_bodies 0 ∷ []) (some_bodies l.k ∷ []) (read l.at l.n) × MoreAt l.s l.v some_givens l.start l.from l.initial.code l.code l.at l.n × (length l.code ≡ length l.initial.code) × (l.k ≤ 8)
+invariant-loop-start l = Reads l.y.kinds.now l.start l.from (some_bodies 0 ∷ []) (some_bodies l.k ∷ []) (read l.at l.n) × MoreAt l.y.kinds.now l.y.values.now some_givens l.start l.from l.initial.code l.code l.at l.n × (length l.code ≡ length l.initial.code) × (l.k ≤ 8)
 
 abbrev pub decreases-loop-start : goal.decreases-loop-start
-decreases-loop-start l = length l.s - l.at
+decreases-loop-start l = length l.y.kinds.now - l.at

@@ -1,33 +1,61 @@
 -- `declared::give` meets its contract: what is left has the first fault of all given sets, and makes of the names as they are what all of them make of
 -- the names at entry; the sets that have ended have their sizes. Assumes nothing.
+use borrow.Author.Rules.{rules}
 use lib.ListN.{set, length-map}
 use Prim.Native.Nat.{ℕ}
-use mathlib.Core.Path.{refl, ap, sym, ◌∙◌, subst}
+use mathlib.Core.Path.{ap, sym, ◌∙◌, subst}
 use native.Mathlib.Omega.{arith}
 use Rattle.std.proofs.lemmas.Result.{err_from_is_err_and}
 use Rattle.type_rules.specs.TypesByNumber.{fault_key}
 use Rattle.type_rules.proofs.FaultOrder.{no-zero}
 use Rattle.declared_names.specs.PassPromises.{GivenFaulted}
-use Rattle.declared_names.proofs.GivenSetNodes.{given-start, given-on, halt, ended}
+use Rattle.declared_names.proofs.NodePieces.{place, place-on, piece-at, room, ends-on, none-left}
+use Rattle.declared_names.proofs.GivenSetNodes.{GivenOn, given-begin, given-on, halt, ended, counted-at, faulted-at, kind-at, sized-at}
 use Rattle.declared_names.proofs.declared.give.Goals as goal
 
-pub loop-at-init : goal.loop-at-init
-loop-at-init c = (omega arith, (omega arith, (refl, (refl, given-start c.args.code.now c.args.names.now c.args.sizes.now))))
+pub loop-n-init : goal.loop-n-init
+loop-n-init c = (search rules, (omega arith, given-begin c.args.code.now c.into_iter-n-iterator.result.rest.now c.args.names.now c.args.sizes.now (search rules)))
 
 pub returns-in_err-all_well : goal.returns-in_err-all_well
 returns-in_err-all_well c =
+    let code = c.args.code.now in
+    let n = c.in-Some.n.now in
+    let rest = c.loop-n.n-iterator.rest.now in
+    let cut = c.in-Some.ensures.steps.1.0 in
+    let long = c.in-Some.ensures.steps.1.1 ∙ c.loop-n.invariant.0 in
+    let e = c.loop-n.invariant.1.1.0 in
+    let same = piece-at code n rest _ 4 cut long e in
     let p = err_from_is_err_and c.from_residual.result c.from_residual.ensures.1 in
     rw (p.1, p.2) record {
-      right =
-          λ gs i ρ e few.
-          halt c.args.code.now c.loop-at.at c.loop-at.g c.loop-at.names c.loop-at.sizes ρ _ _ _ _ (omega arith)
-          (subst (GivenFaulted c.args.code.now c.loop-at.at c.loop-at.names) (sym c.in_err-all_well.ensures) c.given_fault.ensures) (no-zero _) (c.loop-at.invariant.1.1.1.1 gs i ρ e few);
+      right = λ gs i ρ q few.
+          halt code (place code rest) c.loop-n.g c.loop-n.names c.loop-n.sizes ρ _ _ _ _ (room code n rest _ 4 cut long e)
+          (subst (GivenFaulted code (place code rest) c.loop-n.names) (sym c.in_err-all_well.ensures) (faulted-at n code (place code rest) same c.loop-n.names _ c.given_fault.ensures)) (no-zero _) (c.loop-n.invariant.1.1.1 gs i ρ q few);
       named = λ gs i ρ e few q. elim (no-zero _ q) [ ];
       sized = λ gs i ρ e few q. elim (no-zero _ q) [ ];
     }
 
-pub loop-at-preserved : goal.loop-at-preserved
-loop-at-preserved c = (omega arith, (c.counted-g.ensures.few, (c.put.auto.names ∙ c.loop-at.invariant.1.1.0, (c.count_given.auto.sizes ∙ c.loop-at.invariant.1.1.1.0, given-on c.args.code.now c.loop-at.at c.loop-at.g c.counted-g.result c.args.names.now c.loop-at.names _ c.loop-at.sizes _ c.given_kind-k.result (fault_key c.given_fault.result) (omega arith) (rw c.loop-at.invariant.1.1.1.0 c.requires) c.counted-g.ensures c.given_kind-k.ensures c.count_given.ensures (c.put.ensures ∙ ap (λ (n : ℕ). set c.loop-at.names n c.given_kind-k.result) c.from.ensures) c.given_fault.ensures (sym c.in_ok-all_well.ensures) c.loop-at.invariant.1.1.1.1))))
+pub loop-n-preserved : goal.loop-n-preserved
+loop-n-preserved c =
+    let code = c.args.code.now in
+    let n = c.in-Some.n.now in
+    let rest = c.loop-n.n-iterator.rest.now in
+    let at = place code rest in
+    let cut = c.in-Some.ensures.steps.1.0 in
+    let long = c.in-Some.ensures.steps.1.1 ∙ c.loop-n.invariant.0 in
+    let e = c.loop-n.invariant.1.1.0 in
+    let same = piece-at code n rest _ 4 cut long e in
+    let g = c.counted-g.result in
+    let k = c.given_kind-k.result in
+    let on = given-on code at c.loop-n.g g c.args.names.now c.loop-n.names _ c.loop-n.sizes _ k (fault_key c.given_fault.result) (room code n rest _ 4 cut long e) (rw c.loop-n.auto.sizes c.requires) (counted-at n code at same c.loop-n.g g c.counted-g.ensures) (kind-at n code at same g k c.given_kind-k.ensures) (sized-at n code at same g c.loop-n.sizes _ c.count_given.ensures) (c.put.ensures ∙ ap (λ (m : ℕ). set c.loop-n.names m k) (c.from.ensures ∙ same 1 (omega arith))) (faulted-at n code at same c.loop-n.names (fault_key c.given_fault.result) c.given_fault.ensures) (sym c.in_ok-all_well.ensures) c.loop-n.invariant.1.1.1 in
+    (c.in-Some.ensures.steps.0 ∙ c.loop-n.invariant.0, (c.counted-g.ensures.few, (ends-on code n rest _ 4 cut long e, subst (λ (m : ℕ). GivenOn code m g c.args.names.now c.put.new.names c.count_given.new.sizes) (place-on code n rest _ 4 cut long e) on)))
 
 pub returns : goal.returns
-returns c = record { right = λ gs i ρ e few. (ended c.args.code.now c.loop-at.at c.loop-at.g c.loop-at.names c.loop-at.sizes ρ _ _ _ (omega arith) (c.loop-at.invariant.1.1.1.1 gs i ρ e few)).faultless; named = λ gs i ρ e few q. (ended c.args.code.now c.loop-at.at c.loop-at.g c.loop-at.names c.loop-at.sizes ρ _ _ _ (omega arith) (c.loop-at.invariant.1.1.1.1 gs i ρ e few)).all_named; sized = λ gs i ρ e few q k h. (ended c.args.code.now c.loop-at.at c.loop-at.g c.loop-at.names c.loop-at.sizes ρ _ _ _ (omega arith) (c.loop-at.invariant.1.1.1.1 gs i ρ e few)).all_sized k (rw length-map h) }
+returns c =
+    let code = c.args.code.now in
+    let rest = c.loop-n.n-iterator.rest.now in
+    let last = none-left code rest 4 _ c.loop-n.invariant.1.1.0 c.in-None.ensures.steps.1.0 c.loop-n.invariant.0 in
+    record {
+      right = λ gs i ρ e few. (ended code (place code rest) c.loop-n.g c.loop-n.names c.loop-n.sizes ρ _ _ _ last (c.loop-n.invariant.1.1.1 gs i ρ e few)).faultless;
+      named = λ gs i ρ e few q. (ended code (place code rest) c.loop-n.g c.loop-n.names c.loop-n.sizes ρ _ _ _ last (c.loop-n.invariant.1.1.1 gs i ρ e few)).all_named;
+      sized = λ gs i ρ e few q k h. (ended code (place code rest) c.loop-n.g c.loop-n.names c.loop-n.sizes ρ _ _ _ last (c.loop-n.invariant.1.1.1 gs i ρ e few)).all_sized k (rw length-map h);
+    }

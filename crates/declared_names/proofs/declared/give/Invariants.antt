@@ -1,11 +1,8 @@
-use lib.ListN.{length}
-use Prim.Native.Nat.{◌-◌, ◌≤◌}
+use Prim.Native.Nat.{◌≤◌}
 use mathlib.Core.Path.{◌≡◌}
+use Rattle.declared_names.proofs.NodePieces.{Ends, place}
 use Rattle.declared_names.proofs.GivenSetNodes.{GivenOn}
 use Rattle.declared_names.proofs.declared.give.Given as goal
 
-abbrev pub invariant-loop-at : goal.invariant-loop-at
-invariant-loop-at l = (l.at ≤ length l.code) × ((l.g ≤ 8) × ((length l.names ≡ length l.initial.names) × ((length l.sizes ≡ length l.initial.sizes) × GivenOn l.code l.at l.g l.initial.names l.names l.sizes)))
-
-abbrev pub decreases-loop-at : goal.decreases-loop-at
-decreases-loop-at l = length l.code - l.at
+abbrev pub invariant-loop-n : goal.invariant-loop-n
+invariant-loop-n l = (l.n-iterator.size ≡ 4) × ((l.g ≤ 8) × (Ends l.code l.n-iterator.rest.now × GivenOn l.code (place l.code l.n-iterator.rest.now) l.g l.initial.names l.names l.sizes))

@@ -2,7 +2,7 @@
 use mathlib.Core.Bool.{Bool}
 use mathlib.Core.Path.{ap₂, ap, ◌∙◌}
 use Prim.Native.Nat.{◌+◌}
-use Rattle.lexical.specs.Refusals.{number_of}
+use Rattle.refusals.specs.Refusals.{number_of}
 use Rattle.type_rules.specs.TypesByNumber.{lesser, unless_key, key}
 use Rattle.declared_names.specs.PassPromises.{pairs_key_at}
 use Rattle.declared_names.proofs.declared.pairs_fault.Goals as goal

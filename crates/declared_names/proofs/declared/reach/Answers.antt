@@ -6,4 +6,4 @@ use Rattle.declared_names.proofs.DeclarationNodes.{reached}
 use Rattle.declared_names.proofs.declared.reach.Goals as goal
 
 pub returns : goal.returns
-returns c = reached c.args.code.now c.args.at c.args.shift c.args.names.now _ c.from.result c.type_kind-k.result c.from.ensures c.type_kind-k.ensures (c.put.ensures ∙ ap (λ (n : ℕ). set c.args.names.now (c.from.result + n) c.type_kind-k.result) c.from-2.ensures)
+returns c = reached c.args.d.now 0 c.args.shift c.args.names.now _ c.from.result c.type_kind-k.result c.from.ensures c.type_kind-k.ensures (c.put.ensures ∙ ap (λ (n : ℕ). set c.args.names.now (c.from.result + n) c.type_kind-k.result) c.from-2.ensures)

@@ -1,11 +1,7 @@
-use Prim.Native.Nat.{◌-◌, ◌≤◌}
 use mathlib.Core.Path.{◌≡◌}
-use lib.ListN.{length}
+use Rattle.declared_names.proofs.NodePieces.{Ends, place}
 use Rattle.declared_names.proofs.DeclarationNodes.{Walked, showing}
 use Rattle.declared_names.proofs.declared.show.Given as goal
 
-abbrev pub invariant-loop-at : goal.invariant-loop-at
-invariant-loop-at l = (l.at ≤ length l.code) × ((length l.names ≡ length l.initial.names) × Walked (showing l.shift) l.code l.at l.initial.names l.names)
-
-abbrev pub decreases-loop-at : goal.decreases-loop-at
-decreases-loop-at l = length l.code - l.at
+abbrev pub invariant-loop-d : goal.invariant-loop-d
+invariant-loop-d l = (l.d-iterator.size ≡ 8) × (Ends l.code l.d-iterator.rest.now × Walked (showing l.shift) l.code (place l.code l.d-iterator.rest.now) l.initial.names l.names)

@@ -1,4 +1,5 @@
 -- `declared::type_kind` meets its contract. Assumes nothing.
+use native.Mathlib.Omega.{arith}
 use mathlib.Core.Path.{ap₂, sym, ap, ◌∙◌}
 use Prim.Native.Nat.{ℕ, ◌+◌}
 use lib.ListN.{get_or}
@@ -16,4 +17,4 @@ pub returns-in-3 : goal.returns-in-3
 returns-in-3 c = kinded c.args.code.now c.args.at c.args.names.now _ (c.set_of.ensures ∙ (ap set_of (c.element_of-g.ensures ∙ ap element_of (c.look.ensures ∙ ap (λ (n : ℕ). entry c.args.names.now n) c.from.ensures)) ∙ kind-three (get_or c.args.code.now (c.args.at + 3) 0) (entry c.args.names.now (get_or c.args.code.now (c.args.at + 1) 0)) (entry c.args.names.now (get_or c.args.code.now c.args.at 0)) c.in-3.is))
 
 pub returns-in_default : goal.returns-in_default
-returns-in_default c = kinded c.args.code.now c.args.at c.args.names.now _ (c.pair_of.ensures ∙ (ap₂ pair_of (c.element_of-g.ensures ∙ ap element_of (c.look.ensures ∙ ap (λ (n : ℕ). entry c.args.names.now n) c.from.ensures)) (c.element_of.ensures ∙ ap element_of (c.look-in_default.ensures ∙ ap (λ (n : ℕ). entry c.args.names.now n) c.from-in_default.ensures)) ∙ sym (kind-else (get_or c.args.code.now (c.args.at + 3) 0) (entry c.args.names.now (get_or c.args.code.now (c.args.at + 1) 0)) (entry c.args.names.now (get_or c.args.code.now c.args.at 0)) c.in_default.in_default-own.rest.0.0.1 c.in_default.in_default-own.rest.0.1 c.in_default.in_default-own.rest.1)))
+returns-in_default c = kinded c.args.code.now c.args.at c.args.names.now _ (c.pair_of.ensures ∙ (ap₂ pair_of (c.element_of-g.ensures ∙ ap element_of (c.look.ensures ∙ ap (λ (n : ℕ). entry c.args.names.now n) c.from.ensures)) (c.element_of.ensures ∙ ap element_of (c.look-in_default.ensures ∙ ap (λ (n : ℕ). entry c.args.names.now n) c.from-in_default.ensures)) ∙ sym (kind-else (get_or c.args.code.now (c.args.at + 3) 0) (entry c.args.names.now (get_or c.args.code.now (c.args.at + 1) 0)) (entry c.args.names.now (get_or c.args.code.now c.args.at 0)) (λ s. omega arith) (λ s. omega arith) (λ s. omega arith))))

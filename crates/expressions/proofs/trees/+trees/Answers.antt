@@ -1,13 +1,15 @@
 -- The functions that read terms and predicates meet their contracts: each result is put together from those of its parts.
 use mathlib.Core.List.{[], ◌∷◌}
-use Prim.Native.Nat.{suc, ◌+◌}
-use mathlib.Core.Path.{subst, refl, sym, ap, ◌∙◌}
+use Prim.Native.Nat.{ℕ, suc, ◌+◌, ◌*◌, ◌≤◌}
+use Rattle.std.specs.Prelude.{Some}
+use mathlib.Core.Path.{◌≡◌, subst, refl, sym, ap, ◌∙◌}
 use native.Mathlib.Omega.{arith}
 use borrow.Author.Rules.{rules}
 use Rattle.lexical.specs.Kinds.{code_of}
 use Rattle.form.specs.Written.{opens, binds}
 use Rattle.form.specs.Machine.{exact, a_name, an_empty_rest, an_end, a_domain, a_term, an_operand, a_term_rest, a_rel, a_mem, a_right, a_brace, a_named, a_first, a_list, a_pairs, a_unary, a_paren, a_pred_rest, a_declared}
-use Rattle.form_nodes.specs.FormPromises.{Ranged, start_as}
+use Rattle.form_nodes.specs.FormPromises.{Ranged, start_as, bit, start_class, relation_class}
+use Rattle.form_nodes.proofs.Classes.{named, no-class, some-class, class-code}
 use Rattle.declarations.proofs.ListNodes.{more-none, more-then, more-made}
 use Rattle.expressions.proofs.Chains.{more-known, chain}
 use Rattle.form.specs.Computed.{compute_form}
@@ -22,38 +24,38 @@ use Rattle.lexical.specs.Kinds as kind
 use Rattle.form_nodes.specs.Derivations as derived
 use Rattle.expressions.proofs.trees.+trees.Goals as goal
 
-pub atom-returns-then-c-eq-NONE : goal.atom-returns-then-c-eq-NONE
+pub atom-returns-in_default : goal.atom-returns-in_default
 unfolding compute_form
-atom-returns-then-c-eq-NONE t c = (stops (omega arith) (λ κ e γ. rel-step c.args.d c.args.b κ γ ((c.relation_of-c.ensures.classes.class κ (e ∙ sym c.kind_at-k.ensures.is)) ∙ c.if-c-eq-NONE.true)) (λ γ. refl), tt)
+atom-returns-in_default t c = (stops (omega arith) (λ κ e γ. rel-step c.args.d c.args.b κ γ (c.relation_of.ensures.classes.class κ (e ∙ sym c.kind_at-k.ensures.is) ∙ ap relation_class c.in_default.is)) (λ γ. refl), tt)
 
 pub atom-member-requires : goal.atom-member-requires
-atom-member-requires t c = let room = c.requires.0 in let i = c.relation_of-c.ensures.member c.if-c-eq-MEMBERSHIP.true in let k = c.kind_at-k.ensures.is in search rules
+atom-member-requires t c = let room = c.requires.0 in let i = c.relation_of.ensures.member (c.in-Some.is ∙ ap Some c.in-Membership.is) in let k = c.kind_at-k.ensures.is in search rules
 
-pub atom-returns-then-c-eq-MEMBERSHIP : goal.atom-returns-then-c-eq-MEMBERSHIP
+pub atom-returns-in-Membership : goal.atom-returns-in-Membership
 unfolding compute_form
-atom-returns-then-c-eq-MEMBERSHIP t c = (takes {μ = a_right c.args.d c.args.b ∷ []} (omega arith) (λ κ e γ. rel-step c.args.d c.args.b κ γ ((c.relation_of-c.ensures.classes.class κ (e ∙ sym c.kind_at-k.ensures.is)) ∙ c.if-c-eq-MEMBERSHIP.true)) c.member.ensures.0 (omega arith), c.member.ensures.1)
+atom-returns-in-Membership t c = let q = c.in-Some.is ∙ ap Some c.in-Membership.is in let r = ap relation_class q in let g : 2 ≤ 9 * c.kind_at-k.result = class-code c.relation_of.ensures.classes r in (takes {μ = a_right c.args.d c.args.b ∷ []} (omega arith) (λ κ e γ. rel-step c.args.d c.args.b κ γ (c.relation_of.ensures.classes.class κ (e ∙ sym c.kind_at-k.ensures.is) ∙ r)) c.member.ensures.0 (omega arith), c.member.ensures.1)
 
 pub atom-put-count-requires : goal.atom-put-count-requires
-atom-put-count-requires t c = let room = c.requires.0 in let h = (known c.in_ok-right.was c.term.ensures.0) in search rules
+atom-put-count-requires t c = let room = c.requires.0 in let q = c.in-Some.is ∙ ap Some c.in-Comparison.is in let r = ap relation_class q in let g : 1 ≤ 9 * c.kind_at-k.result = class-code c.relation_of.ensures.classes r in let h = (known c.in_ok-right-in-Comparison.was c.term.ensures.0) in search rules
 
-pub atom-returns-then-c-eq-COMPARISON : goal.atom-returns-then-c-eq-COMPARISON
+pub atom-returns-in_ok-right-in-Comparison : goal.atom-returns-in_ok-right-in-Comparison
 unfolding compute_form
-atom-returns-then-c-eq-COMPARISON t c = (let h = (known c.in_ok-right.was c.term.ensures.0) in takes {μ = a_term c.args.d c.args.b ∷ []} {m = c.args.n + 4} (omega arith) (λ κ e γ. rel-step c.args.d c.args.b κ γ ((c.relation_of-c.ensures.classes.class κ (e ∙ sym c.kind_at-k.ensures.is)) ∙ c.if-c-eq-COMPARISON.true)) (counted (omega arith) h) (omega arith), let w₁ = (made c.in_ok-right.was c.term.ensures.1) in makes (both (built w₁) (node_of (c.wide.ensures ∙ c.kind_at-k.ensures.is) refl c.put-count.ensures)) (derived.compared (class-at c.kind_at-k.ensures.is c.if-c-eq-COMPARISON.true c.relation_of-c.ensures.classes) w₁.derives))
+atom-returns-in_ok-right-in-Comparison t c = let q = c.in-Some.is ∙ ap Some c.in-Comparison.is in let r = ap relation_class q in let g : 1 ≤ 9 * c.kind_at-k.result = class-code c.relation_of.ensures.classes r in (let h = (known c.in_ok-right-in-Comparison.was c.term.ensures.0) in takes {μ = a_term c.args.d c.args.b ∷ []} {m = c.args.n + 4} (omega arith) (λ κ e γ. rel-step c.args.d c.args.b κ γ (c.relation_of.ensures.classes.class κ (e ∙ sym c.kind_at-k.ensures.is) ∙ r)) (counted (omega arith) h) (omega arith), let w₁ = (made c.in_ok-right-in-Comparison.was c.term.ensures.1) in makes (both (built w₁) (node_of (c.from.ensures ∙ c.kind_at-k.ensures.is) refl c.put-count.ensures)) (derived.compared (class-at c.kind_at-k.ensures.is r c.relation_of.ensures.classes) w₁.derives))
 
-pub atom-returns-in_err-right : goal.atom-returns-in_err-right
+pub atom-returns-in_err-right-in-Comparison : goal.atom-returns-in_err-right-in-Comparison
 unfolding compute_form
-atom-returns-in_err-right t c = rw (exits c.from_residual.result c.from_residual.ensures.1) ((takes {μ = a_term c.args.d c.args.b ∷ []} {m = c.args.n} (omega arith) (λ κ e γ. rel-step c.args.d c.args.b κ γ ((c.relation_of-c.ensures.classes.class κ (e ∙ sym c.kind_at-k.ensures.is)) ∙ c.if-c-eq-COMPARISON.true)) (fails (known c.in_err-right.was c.term.ensures.0)) (omega arith), tt))
+atom-returns-in_err-right-in-Comparison t c = rw (exits c.from_residual.result c.from_residual.ensures.1) (let q = c.in-Some.is ∙ ap Some c.in-Comparison.is in let r = ap relation_class q in let g : 1 ≤ 9 * c.kind_at-k.result = class-code c.relation_of.ensures.classes r in (takes {μ = a_term c.args.d c.args.b ∷ []} {m = c.args.n} (omega arith) (λ κ e γ. rel-step c.args.d c.args.b κ γ (c.relation_of.ensures.classes.class κ (e ∙ sym c.kind_at-k.ensures.is) ∙ r)) (fails (known c.in_err-right-in-Comparison.was c.term.ensures.0)) (omega arith), tt))
 
 pub atom-related-requires : goal.atom-related-requires
-atom-related-requires t c = let room = c.requires.0 in let h = (known c.in_ok-second.was c.term-2.ensures.0) in search rules
+atom-related-requires t c = let room = c.requires.0 in let q = c.in-Some.is ∙ ap Some c.in-Pairing.is in let r = ap relation_class q in let g : 3 ≤ 9 * c.kind_at-k.result = class-code c.relation_of.ensures.classes r in let h = (known c.in_ok-second-in-Pairing.was c.term-in-Pairing.ensures.0) in search rules
 
-pub atom-returns : goal.atom-returns
+pub atom-returns-in_ok-second-in-Pairing : goal.atom-returns-in_ok-second-in-Pairing
 unfolding compute_form
-atom-returns t c = (takes {μ = a_term c.args.d c.args.b ∷ a_mem c.args.d c.args.b ∷ []} {m = c.args.n} (omega arith) (λ κ e γ. rel-pair c.args.d c.args.b c.relation_of-c.result κ γ (c.relation_of-c.ensures.classes.class κ (e ∙ sym c.kind_at-k.ensures.is)) (omega arith)) (next (framed (a_mem c.args.d c.args.b ∷ []) (known c.in_ok-second.was c.term-2.ensures.0)) c.related.ensures.0) (omega arith), let w₁ = (made c.in_ok-second.was c.term-2.ensures.1) in onward _ c.related.result (built w₁) (λ k v x. derived.mapped (sym c.kind_at-k.ensures.is ∙ c.relation_of-c.ensures.maplet (omega arith)) w₁.derives x) c.related.ensures.1)
+atom-returns-in_ok-second-in-Pairing t c = let q = c.in-Some.is ∙ ap Some c.in-Pairing.is in let r = ap relation_class q in let g : 3 ≤ 9 * c.kind_at-k.result = class-code c.relation_of.ensures.classes r in (takes {μ = a_term c.args.d c.args.b ∷ a_mem c.args.d c.args.b ∷ []} {m = c.args.n} (omega arith) (λ κ e γ. rel-pair c.args.d c.args.b 3 κ γ (c.relation_of.ensures.classes.class κ (e ∙ sym c.kind_at-k.ensures.is) ∙ r) (omega arith)) (next (framed (a_mem c.args.d c.args.b ∷ []) (known c.in_ok-second-in-Pairing.was c.term-in-Pairing.ensures.0)) c.related.ensures.0) (omega arith), let w₁ = (made c.in_ok-second-in-Pairing.was c.term-in-Pairing.ensures.1) in onward _ c.related.result (built w₁) (λ k v x. derived.mapped (sym c.kind_at-k.ensures.is ∙ c.relation_of.ensures.maplet q) w₁.derives x) c.related.ensures.1)
 
-pub atom-returns-in_err-second : goal.atom-returns-in_err-second
+pub atom-returns-in_err-second-in-Pairing : goal.atom-returns-in_err-second-in-Pairing
 unfolding compute_form
-atom-returns-in_err-second t c = rw (exits c.from_residual-in_err-second.result c.from_residual-in_err-second.ensures.1) ((takes {μ = a_term c.args.d c.args.b ∷ a_mem c.args.d c.args.b ∷ []} {m = c.args.n} (omega arith) (λ κ e γ. rel-pair c.args.d c.args.b c.relation_of-c.result κ γ (c.relation_of-c.ensures.classes.class κ (e ∙ sym c.kind_at-k.ensures.is)) (omega arith)) (fails (framed (a_mem c.args.d c.args.b ∷ []) (known c.in_err-second.was c.term-2.ensures.0))) (omega arith), tt))
+atom-returns-in_err-second-in-Pairing t c = rw (exits c.from_residual-in_err-second-in-Pairing.result c.from_residual-in_err-second-in-Pairing.ensures.1) (let q = c.in-Some.is ∙ ap Some c.in-Pairing.is in let r = ap relation_class q in let g : 3 ≤ 9 * c.kind_at-k.result = class-code c.relation_of.ensures.classes r in (takes {μ = a_term c.args.d c.args.b ∷ a_mem c.args.d c.args.b ∷ []} {m = c.args.n} (omega arith) (λ κ e γ. rel-pair c.args.d c.args.b 3 κ γ (c.relation_of.ensures.classes.class κ (e ∙ sym c.kind_at-k.ensures.is) ∙ r) (omega arith)) (fails (framed (a_mem c.args.d c.args.b ∷ []) (known c.in_err-second-in-Pairing.was c.term-in-Pairing.ensures.0))) (omega arith), tt))
 
 pub brace-returns-then-kind_at-eq-COLON : goal.brace-returns-then-kind_at-eq-COLON
 unfolding compute_form
@@ -101,11 +103,11 @@ listed-put-count-requires t c = let room = c.requires.0 in let h = (known c.in_o
 
 pub listed-returns-then-kind_at-eq-MAPLET : goal.listed-returns-then-kind_at-eq-MAPLET
 unfolding compute_form
-listed-returns-then-kind_at-eq-MAPLET t c = (let room = c.requires.0 in let h = (known c.in_ok-first.was c.term.ensures.0) in let i = (known c.in_ok-sides.was c.pairs.ensures.0) in counted (omega arith) (alike (as-listed c.args.s.now c.args.at c.args.d c.args.b c.requires.4 c.requires.5) (next (framed (a_first c.args.d c.args.b ∷ []) h) (likewise (only _ kind.maplet (sym c.kind_at.ensures.is ∙ c.if-kind_at-eq-MAPLET.true) (λ γ. refl)) (λ γ. refl) i))), let w₁ = (made c.in_ok-first.was c.term.ensures.1) in let w₂ = (made c.in_ok-sides.was c.pairs.ensures.1) in makes (both (both (built w₁) (built w₂)) (wrote c.put-count.ensures)) (derived.paired c.requires.4 w₁.derives w₂.derives))
+listed-returns-then-kind_at-eq-MAPLET t c = (let room = c.requires.0 in let h = (known c.in_ok-first.was c.term.ensures.0) in let i = (known c.in_ok-sides.was c.pairs.ensures.0) in counted (omega arith) (alike (as-listed c.args.y.now.kinds.now c.args.at c.args.d c.args.b c.requires.4 c.requires.5) (next (framed (a_first c.args.d c.args.b ∷ []) h) (likewise (only _ kind.maplet (sym c.kind_at.ensures.is ∙ c.if-kind_at-eq-MAPLET.true) (λ γ. refl)) (λ γ. refl) i))), let w₁ = (made c.in_ok-first.was c.term.ensures.1) in let w₂ = (made c.in_ok-sides.was c.pairs.ensures.1) in makes (both (both (built w₁) (built w₂)) (wrote c.put-count.ensures)) (derived.paired c.requires.4 w₁.derives w₂.derives))
 
 pub listed-returns-in_err-sides : goal.listed-returns-in_err-sides
 unfolding compute_form
-listed-returns-in_err-sides t c = rw (exits c.from_residual-in_err-sides.result c.from_residual-in_err-sides.ensures.1) ((let room = c.requires.0 in let h = (known c.in_ok-first.was c.term.ensures.0) in wider (alike (as-listed c.args.s.now c.args.at c.args.d c.args.b c.requires.4 c.requires.5) (next (framed (a_first c.args.d c.args.b ∷ []) h) (likewise (only _ kind.maplet (sym c.kind_at.ensures.is ∙ c.if-kind_at-eq-MAPLET.true) (λ γ. refl)) (λ γ. refl) (known c.in_err-sides.was c.pairs.ensures.0)))) (omega arith), tt))
+listed-returns-in_err-sides t c = rw (exits c.from_residual-in_err-sides.result c.from_residual-in_err-sides.ensures.1) ((let room = c.requires.0 in let h = (known c.in_ok-first.was c.term.ensures.0) in wider (alike (as-listed c.args.y.now.kinds.now c.args.at c.args.d c.args.b c.requires.4 c.requires.5) (next (framed (a_first c.args.d c.args.b ∷ []) h) (likewise (only _ kind.maplet (sym c.kind_at.ensures.is ∙ c.if-kind_at-eq-MAPLET.true) (λ γ. refl)) (λ γ. refl) (known c.in_err-sides.was c.pairs.ensures.0)))) (omega arith), tt))
 
 pub listed-items-requires : goal.listed-items-requires
 listed-items-requires t c = let room = c.requires.0 in let h = (known c.in_ok-first.was c.term.ensures.0) in search rules
@@ -115,37 +117,37 @@ listed-put-count-requires-2 t c = let room = c.requires.0 in let h = (known c.in
 
 pub listed-returns : goal.listed-returns
 unfolding compute_form
-listed-returns t c = (let room = c.requires.0 in let h = (known c.in_ok-first.was c.term.ensures.0) in let i = (known c.in_ok-rest.was c.items.ensures.0) in counted (omega arith) (alike (as-listed c.args.s.now c.args.at c.args.d c.args.b c.requires.4 c.requires.5) (next (framed (a_first c.args.d c.args.b ∷ []) h) (likewise (λ κ e γ. as-list c.args.d c.args.b κ γ (λ q. c.if-kind_at-eq-MAPLET.false (c.kind_at.ensures.is ∙ sym e ∙ q))) (λ γ. refl) i))), let w₁ = (made c.in_ok-first.was c.term.ensures.1) in let w₂ = (made c.in_ok-rest.was c.items.ensures.1) in makes (both (both (built w₁) (built w₂)) (wrote c.put-count-2.ensures)) (derived.listed c.requires.4 w₁.derives w₂.derives))
+listed-returns t c = (let room = c.requires.0 in let h = (known c.in_ok-first.was c.term.ensures.0) in let i = (known c.in_ok-rest.was c.items.ensures.0) in counted (omega arith) (alike (as-listed c.args.y.now.kinds.now c.args.at c.args.d c.args.b c.requires.4 c.requires.5) (next (framed (a_first c.args.d c.args.b ∷ []) h) (likewise (λ κ e γ. as-list c.args.d c.args.b κ γ (λ q. c.if-kind_at-eq-MAPLET.false (c.kind_at.ensures.is ∙ sym e ∙ q))) (λ γ. refl) i))), let w₁ = (made c.in_ok-first.was c.term.ensures.1) in let w₂ = (made c.in_ok-rest.was c.items.ensures.1) in makes (both (both (built w₁) (built w₂)) (wrote c.put-count-2.ensures)) (derived.listed c.requires.4 w₁.derives w₂.derives))
 
 pub listed-returns-in_err-rest : goal.listed-returns-in_err-rest
 unfolding compute_form
-listed-returns-in_err-rest t c = rw (exits c.from_residual-in_err-rest.result c.from_residual-in_err-rest.ensures.1) ((let room = c.requires.0 in let h = (known c.in_ok-first.was c.term.ensures.0) in wider (alike (as-listed c.args.s.now c.args.at c.args.d c.args.b c.requires.4 c.requires.5) (next (framed (a_first c.args.d c.args.b ∷ []) h) (likewise (λ κ e γ. as-list c.args.d c.args.b κ γ (λ q. c.if-kind_at-eq-MAPLET.false (c.kind_at.ensures.is ∙ sym e ∙ q))) (λ γ. refl) (known c.in_err-rest.was c.items.ensures.0)))) (omega arith), tt))
+listed-returns-in_err-rest t c = rw (exits c.from_residual-in_err-rest.result c.from_residual-in_err-rest.ensures.1) ((let room = c.requires.0 in let h = (known c.in_ok-first.was c.term.ensures.0) in wider (alike (as-listed c.args.y.now.kinds.now c.args.at c.args.d c.args.b c.requires.4 c.requires.5) (next (framed (a_first c.args.d c.args.b ∷ []) h) (likewise (λ κ e γ. as-list c.args.d c.args.b κ γ (λ q. c.if-kind_at-eq-MAPLET.false (c.kind_at.ensures.is ∙ sym e ∙ q))) (λ γ. refl) (known c.in_err-rest.was c.items.ensures.0)))) (omega arith), tt))
 
 pub listed-returns-in_err-first : goal.listed-returns-in_err-first
 unfolding compute_form
-listed-returns-in_err-first t c = rw (exits c.from_residual.result c.from_residual.ensures.1) ((alike (as-listed c.args.s.now c.args.at c.args.d c.args.b c.requires.4 c.requires.5) (fails (framed (a_first c.args.d c.args.b ∷ []) (known c.in_err-first.was c.term.ensures.0))), tt))
+listed-returns-in_err-first t c = rw (exits c.from_residual.result c.from_residual.ensures.1) ((alike (as-listed c.args.y.now.kinds.now c.args.at c.args.d c.args.b c.requires.4 c.requires.5) (fails (framed (a_first c.args.d c.args.b ∷ []) (known c.in_err-first.was c.term.ensures.0))), tt))
 
 pub member-put-count-requires : goal.member-put-count-requires
 member-put-count-requires t c = let room = c.requires.0 in let h = known c.in_ok-ends.was c.range.ensures.0.reads in let i = known-ahead _ c.in_ok-ends.was c.range.ensures.0.ahead in search rules
 
 pub member-returns-then-is_range : goal.member-returns-then-is_range
 unfolding compute_form
-member-returns-then-is_range t c = (let room = c.requires.0 in let h = known c.in_ok-ends.was c.range.ensures.0.reads in let i = known-ahead _ c.in_ok-ends.was c.range.ensures.0.ahead in right-range c.args.at (omega arith) (omega arith) (subst (λ y. Ranged c.args.s.now (c.args.at + 1) y) c.if-is_range.true c.is_range.ensures) (counted (omega arith) h), makes (both (wrote c.put_range-m.ensures) (node_of (c.wide.ensures ∙ c.kind_at-k.ensures.is) refl c.put-count.ensures)) (derived.within (record { low = c.requires.4; high = c.requires.5 }) (showing (RangeAt c.args.s.now (c.args.at + 1)) _ c.in_ok-ends.was c.range.ensures.1)))
+member-returns-then-is_range t c = (let room = c.requires.0 in let h = known c.in_ok-ends.was c.range.ensures.0.reads in let i = known-ahead _ c.in_ok-ends.was c.range.ensures.0.ahead in right-range c.args.at (omega arith) (omega arith) (subst (λ y. Ranged c.args.y.now.kinds.now (c.args.at + 1) y) c.if-is_range.true c.is_range.ensures) (counted (omega arith) h), makes (both (wrote c.put_range-m.ensures) (node_of (c.from.ensures ∙ c.kind_at-k.ensures.is) refl c.put-count.ensures)) (derived.within (record { low = c.requires.4; high = c.requires.5 }) (showing (RangeAt c.args.y.now.kinds.now (c.args.at + 1)) _ c.in_ok-ends.was c.range.ensures.1)))
 
 pub member-returns-in_err-ends : goal.member-returns-in_err-ends
 unfolding compute_form
-member-returns-in_err-ends t c = rw (exits c.from_residual.result c.from_residual.ensures.1) ((let room = c.requires.0 in right-range c.args.at (omega arith) (omega arith) (subst (λ y. Ranged c.args.s.now (c.args.at + 1) y) c.if-is_range.true c.is_range.ensures) (fails (known c.in_err-ends.was c.range.ensures.0.reads)), tt))
+member-returns-in_err-ends t c = rw (exits c.from_residual.result c.from_residual.ensures.1) ((let room = c.requires.0 in right-range c.args.at (omega arith) (omega arith) (subst (λ y. Ranged c.args.y.now.kinds.now (c.args.at + 1) y) c.if-is_range.true c.is_range.ensures) (fails (known c.in_err-ends.was c.range.ensures.0.reads)), tt))
 
 pub member-put-count-requires-2 : goal.member-put-count-requires-2
 member-put-count-requires-2 t c = let room = c.requires.0 in let h = (known c.in_ok-set.was c.term.ensures.0) in search rules
 
 pub member-returns : goal.member-returns
 unfolding compute_form
-member-returns t c = (let room = c.requires.0 in let h = (known c.in_ok-set.was c.term.ensures.0) in right-term (subst (λ y. Ranged c.args.s.now (c.args.at + 1) y) c.if-is_range.false c.is_range.ensures) (counted (omega arith) h), let w₁ = (made c.in_ok-set.was c.term.ensures.1) in makes (both (built w₁) (node_of (c.wide-2.ensures ∙ c.kind_at-k.ensures.is) refl c.put-count-2.ensures)) (derived.belongs (record { low = c.requires.4; high = c.requires.5 }) w₁.derives))
+member-returns t c = (let room = c.requires.0 in let h = (known c.in_ok-set.was c.term.ensures.0) in right-term (subst (λ y. Ranged c.args.y.now.kinds.now (c.args.at + 1) y) c.if-is_range.false c.is_range.ensures) (counted (omega arith) h), let w₁ = (made c.in_ok-set.was c.term.ensures.1) in makes (both (built w₁) (node_of (c.from-2.ensures ∙ c.kind_at-k.ensures.is) refl c.put-count-2.ensures)) (derived.belongs (record { low = c.requires.4; high = c.requires.5 }) w₁.derives))
 
 pub member-returns-in_err-set : goal.member-returns-in_err-set
 unfolding compute_form
-member-returns-in_err-set t c = rw (exits c.from_residual-in_err-set.result c.from_residual-in_err-set.ensures.1) ((let room = c.requires.0 in right-term (subst (λ y. Ranged c.args.s.now (c.args.at + 1) y) c.if-is_range.false c.is_range.ensures) (fails (known c.in_err-set.was c.term.ensures.0)), tt))
+member-returns-in_err-set t c = rw (exits c.from_residual-in_err-set.result c.from_residual-in_err-set.ensures.1) ((let room = c.requires.0 in right-term (subst (λ y. Ranged c.args.y.now.kinds.now (c.args.at + 1) y) c.if-is_range.false c.is_range.ensures) (fails (known c.in_err-set.was c.term.ensures.0)), tt))
 
 pub operand-leaf-m-requires : goal.operand-leaf-m-requires
 operand-leaf-m-requires t c = let room = c.requires.0 in let h = known-code c.kind_at-k.result c.in-Leaf.is c.start_of-start.ensures in let k = c.kind_at-k.ensures.is in search rules
@@ -157,15 +159,15 @@ pub operand-leaf-m-requires-then-range_end : goal.operand-leaf-m-requires-then-r
 operand-leaf-m-requires-then-range_end t c = let room = c.requires.0 in let h = known-code c.kind_at-k.result c.in-Prefix.is c.start_of-start.ensures in let k = c.kind_at-k.ensures.is in search rules
 
 pub operand-put-c-requires : goal.operand-put-c-requires
-operand-put-c-requires t c = let room = c.requires.0 in let h = known-code c.kind_at-k.result c.in-Prefix.is c.start_of-start.ensures in let i = c.range_end.ensures.minus c.if-range_end.true in let j = inside c.args.s.now (c.args.at + 1) (omega (arith, i.1)) in search rules
+operand-put-c-requires t c = let room = c.requires.0 in let h = known-code c.kind_at-k.result c.in-Prefix.is c.start_of-start.ensures in let i = c.range_end.ensures.minus c.if-range_end.true in let j = inside c.args.y.now.kinds.now (c.args.at + 1) (omega (arith, i.1)) in search rules
 
 pub operand-returns-then-range_end : goal.operand-returns-then-range_end
 unfolding compute_form
-operand-returns-then-range_end t c = (let room = c.requires.0 in let h = known-code c.kind_at-k.result c.in-Prefix.is c.start_of-start.ensures in let i = c.range_end.ensures.minus c.if-range_end.true in let j = inside c.args.s.now (c.args.at + 1) (omega (arith, i.1)) in taken {μ = an_operand (suc c.args.d) c.args.b ∷ []} {m = c.args.n + 4} (opens (suc c.args.d)) (omega arith) (range-well c.args.s.now c.args.at (suc c.args.d) (c.range_end.ensures.test ∙ c.if-range_end.true)) (λ κ e γ. operand_step c.args.d c.args.b κ γ _ (c.start_of-start.ensures.start κ (e ∙ sym c.kind_at-k.ensures.is) ∙ ap start_as c.in-Prefix.is)) (takes {μ = []} (omega arith) (only _ kind.number i.1 (λ γ. refl)) (here (omega arith)) (omega arith)) (omega arith), makes (both (wrote c.leaf-m-then-range_end.ensures) (node_of (c.wide.ensures ∙ c.kind_at-k.ensures.is) refl c.put-c.ensures)) (derived.prefixed (start-at c.kind_at-k.ensures.is c.in-Prefix.is c.start_of-start.ensures) (derived.leaf (number-start (c.range_end.ensures.minus c.if-range_end.true).1))))
+operand-returns-then-range_end t c = (let room = c.requires.0 in let h = known-code c.kind_at-k.result c.in-Prefix.is c.start_of-start.ensures in let i = c.range_end.ensures.minus c.if-range_end.true in let j = inside c.args.y.now.kinds.now (c.args.at + 1) (omega (arith, i.1)) in taken {μ = an_operand (suc c.args.d) c.args.b ∷ []} {m = c.args.n + 4} (opens (suc c.args.d)) (omega arith) (range-well c.args.y.now.kinds.now c.args.at (suc c.args.d) (c.range_end.ensures.test ∙ c.if-range_end.true)) (λ κ e γ. operand_step c.args.d c.args.b κ γ _ (c.start_of-start.ensures.start κ (e ∙ sym c.kind_at-k.ensures.is) ∙ ap start_as c.in-Prefix.is)) (takes {μ = []} (omega arith) (only _ kind.number i.1 (λ γ. refl)) (here (omega arith)) (omega arith)) (omega arith), makes (both (wrote c.leaf-m-then-range_end.ensures) (node_of (c.from.ensures ∙ c.kind_at-k.ensures.is) refl c.put-c.ensures)) (derived.prefixed (start-at c.kind_at-k.ensures.is c.in-Prefix.is c.start_of-start.ensures) (derived.leaf (number-start (c.range_end.ensures.minus c.if-range_end.true).1))))
 
 pub operand-returns-then-d-ge-DEPTH : goal.operand-returns-then-d-ge-DEPTH
 unfolding compute_form
-operand-returns-then-d-ge-DEPTH t c = (let room = c.requires.0 in let h = known-code c.kind_at-k.result c.in-Prefix.is c.start_of-start.ensures in deeper (opens (suc c.args.d)) (omega arith) (open-deep c.args.s.now c.args.at (suc c.args.d) (omega arith) (c.range_end.ensures.test ∙ c.if-range_end.false)) (λ κ e γ. operand_step c.args.d c.args.b κ γ _ (c.start_of-start.ensures.start κ (e ∙ sym c.kind_at-k.ensures.is) ∙ ap start_as c.in-Prefix.is)), tt)
+operand-returns-then-d-ge-DEPTH t c = (let room = c.requires.0 in let h = known-code c.kind_at-k.result c.in-Prefix.is c.start_of-start.ensures in deeper (opens (suc c.args.d)) (omega arith) (open-deep c.args.y.now.kinds.now c.args.at (suc c.args.d) (omega arith) (c.range_end.ensures.test ∙ c.if-range_end.false)) (λ κ e γ. operand_step c.args.d c.args.b κ γ _ (c.start_of-start.ensures.start κ (e ∙ sym c.kind_at-k.ensures.is) ∙ ap start_as c.in-Prefix.is)), tt)
 
 pub operand-operand-requires : goal.operand-operand-requires
 operand-operand-requires t c = let room = c.requires.0 in let h = known-code c.kind_at-k.result c.in-Prefix.is c.start_of-start.ensures in let k = c.kind_at-k.ensures.is in search rules
@@ -175,7 +177,7 @@ operand-put-count-requires t c = let room = c.requires.0 in let h = known-code c
 
 pub operand-returns-then-d-ge-DEPTH-2 : goal.operand-returns-then-d-ge-DEPTH-2
 unfolding compute_form
-operand-returns-then-d-ge-DEPTH-2 t c = (let room = c.requires.0 in let h = known-code c.kind_at-k.result c.in-Bracket.is c.start_of-start.ensures in deeper (opens (suc c.args.d)) (omega arith) (open-deep c.args.s.now c.args.at (suc c.args.d) (omega arith) (other-kind c.args.s.now c.args.at (λ q. let h = known-code c.kind_at-k.result c.in-Bracket.is c.start_of-start.ensures in absurd (omega (arith, c.kind_at-k.ensures.is))))) (λ κ e γ. operand_step c.args.d c.args.b κ γ _ (c.start_of-start.ensures.start κ (e ∙ sym c.kind_at-k.ensures.is) ∙ ap start_as c.in-Bracket.is)), tt)
+operand-returns-then-d-ge-DEPTH-2 t c = (let room = c.requires.0 in let h = known-code c.kind_at-k.result c.in-Bracket.is c.start_of-start.ensures in deeper (opens (suc c.args.d)) (omega arith) (open-deep c.args.y.now.kinds.now c.args.at (suc c.args.d) (omega arith) (other-kind c.args.y.now.kinds.now c.args.at (λ q. let h = known-code c.kind_at-k.result c.in-Bracket.is c.start_of-start.ensures in absurd (omega (arith, c.kind_at-k.ensures.is))))) (λ κ e γ. operand_step c.args.d c.args.b κ γ _ (c.start_of-start.ensures.start κ (e ∙ sym c.kind_at-k.ensures.is) ∙ ap start_as c.in-Bracket.is)), tt)
 
 pub operand-term-requires : goal.operand-term-requires
 operand-term-requires t c = let room = c.requires.0 in let h = known-code c.kind_at-k.result c.in-Bracket.is c.start_of-start.ensures in let k = c.kind_at-k.ensures.is in search rules
@@ -185,7 +187,7 @@ operand-close-requires t c = let room = c.requires.0 in let h = (known c.in_ok-b
 
 pub operand-returns-then-d-ge-DEPTH-3 : goal.operand-returns-then-d-ge-DEPTH-3
 unfolding compute_form
-operand-returns-then-d-ge-DEPTH-3 t c = (let room = c.requires.0 in let h = known-code c.kind_at-k.result c.in-Brace.is c.start_of-start.ensures in deeper (opens (suc c.args.d)) (omega arith) (open-deep c.args.s.now c.args.at (suc c.args.d) (omega arith) (other-kind c.args.s.now c.args.at (λ q. let h = known-code c.kind_at-k.result c.in-Brace.is c.start_of-start.ensures in absurd (omega (arith, c.kind_at-k.ensures.is))))) (λ κ e γ. operand_step c.args.d c.args.b κ γ _ (c.start_of-start.ensures.start κ (e ∙ sym c.kind_at-k.ensures.is) ∙ ap start_as c.in-Brace.is)), tt)
+operand-returns-then-d-ge-DEPTH-3 t c = (let room = c.requires.0 in let h = known-code c.kind_at-k.result c.in-Brace.is c.start_of-start.ensures in deeper (opens (suc c.args.d)) (omega arith) (open-deep c.args.y.now.kinds.now c.args.at (suc c.args.d) (omega arith) (other-kind c.args.y.now.kinds.now c.args.at (λ q. let h = known-code c.kind_at-k.result c.in-Brace.is c.start_of-start.ensures in absurd (omega (arith, c.kind_at-k.ensures.is))))) (λ κ e γ. operand_step c.args.d c.args.b κ γ _ (c.start_of-start.ensures.start κ (e ∙ sym c.kind_at-k.ensures.is) ∙ ap start_as c.in-Brace.is)), tt)
 
 pub operand-brace-requires : goal.operand-brace-requires
 operand-brace-requires t c = let room = c.requires.0 in let h = known-code c.kind_at-k.result c.in-Brace.is c.start_of-start.ensures in let k = c.kind_at-k.ensures.is in search rules
@@ -199,23 +201,23 @@ operand-returns-in-Leaf t c = (let room = c.requires.0 in let h = known-code c.k
 
 pub operand-returns-in_ok-inner-in-Prefix : goal.operand-returns-in_ok-inner-in-Prefix
 unfolding compute_form
-operand-returns-in_ok-inner-in-Prefix t c = (let room = c.requires.0 in let h = known-code c.kind_at-k.result c.in-Prefix.is c.start_of-start.ensures in let i = (known c.in_ok-inner-in-Prefix.was c.operand.ensures.0) in taken {μ = an_operand (suc c.args.d) c.args.b ∷ []} {m = c.args.n + 4} (opens (suc c.args.d)) (omega arith) (open_well c.args.s.now c.args.at (suc c.args.d) (omega arith)) (λ κ e γ. operand_step c.args.d c.args.b κ γ _ (c.start_of-start.ensures.start κ (e ∙ sym c.kind_at-k.ensures.is) ∙ ap start_as c.in-Prefix.is)) (counted {c = c.args.n + 4} (omega arith) (raised (λ x. an_operand x c.args.b ∷ []) c.args.d i)) (omega arith), let w₁ = (made c.in_ok-inner-in-Prefix.was c.operand.ensures.1) in makes (both (built w₁) (node_of (c.wide-in-Prefix.ensures ∙ c.kind_at-k.ensures.is) refl c.put-count.ensures)) (derived.prefixed (start-at c.kind_at-k.ensures.is c.in-Prefix.is c.start_of-start.ensures) w₁.derives))
+operand-returns-in_ok-inner-in-Prefix t c = (let room = c.requires.0 in let h = known-code c.kind_at-k.result c.in-Prefix.is c.start_of-start.ensures in let i = (known c.in_ok-inner-in-Prefix.was c.operand.ensures.0) in taken {μ = an_operand (suc c.args.d) c.args.b ∷ []} {m = c.args.n + 4} (opens (suc c.args.d)) (omega arith) (open_well c.args.y.now.kinds.now c.args.at (suc c.args.d) (omega arith)) (λ κ e γ. operand_step c.args.d c.args.b κ γ _ (c.start_of-start.ensures.start κ (e ∙ sym c.kind_at-k.ensures.is) ∙ ap start_as c.in-Prefix.is)) (counted {c = c.args.n + 4} (omega arith) (raised (λ x. an_operand x c.args.b ∷ []) c.args.d i)) (omega arith), let w₁ = (made c.in_ok-inner-in-Prefix.was c.operand.ensures.1) in makes (both (built w₁) (node_of (c.from-in-Prefix.ensures ∙ c.kind_at-k.ensures.is) refl c.put-count.ensures)) (derived.prefixed (start-at c.kind_at-k.ensures.is c.in-Prefix.is c.start_of-start.ensures) w₁.derives))
 
 pub operand-returns-in_err-inner-in-Prefix : goal.operand-returns-in_err-inner-in-Prefix
 unfolding compute_form
-operand-returns-in_err-inner-in-Prefix t c = rw (exits c.from_residual.result c.from_residual.ensures.1) ((let room = c.requires.0 in let h = known-code c.kind_at-k.result c.in-Prefix.is c.start_of-start.ensures in taken {μ = an_operand (suc c.args.d) c.args.b ∷ []} {m = c.args.n + 4} (opens (suc c.args.d)) (omega arith) (open_well c.args.s.now c.args.at (suc c.args.d) (omega arith)) (λ κ e γ. operand_step c.args.d c.args.b κ γ _ (c.start_of-start.ensures.start κ (e ∙ sym c.kind_at-k.ensures.is) ∙ ap start_as c.in-Prefix.is)) (fails (raised (λ x. an_operand x c.args.b ∷ []) c.args.d (known c.in_err-inner-in-Prefix.was c.operand.ensures.0))) (omega arith), tt))
+operand-returns-in_err-inner-in-Prefix t c = rw (exits c.from_residual.result c.from_residual.ensures.1) ((let room = c.requires.0 in let h = known-code c.kind_at-k.result c.in-Prefix.is c.start_of-start.ensures in taken {μ = an_operand (suc c.args.d) c.args.b ∷ []} {m = c.args.n + 4} (opens (suc c.args.d)) (omega arith) (open_well c.args.y.now.kinds.now c.args.at (suc c.args.d) (omega arith)) (λ κ e γ. operand_step c.args.d c.args.b κ γ _ (c.start_of-start.ensures.start κ (e ∙ sym c.kind_at-k.ensures.is) ∙ ap start_as c.in-Prefix.is)) (fails (raised (λ x. an_operand x c.args.b ∷ []) c.args.d (known c.in_err-inner-in-Prefix.was c.operand.ensures.0))) (omega arith), tt))
 
 pub operand-returns-in_ok-bracketed-in-Bracket : goal.operand-returns-in_ok-bracketed-in-Bracket
 unfolding compute_form
-operand-returns-in_ok-bracketed-in-Bracket t c = (let room = c.requires.0 in let h = known-code c.kind_at-k.result c.in-Bracket.is c.start_of-start.ensures in taken {μ = a_term (suc c.args.d) c.args.b ∷ exact kind.close_bracket ∷ []} {m = c.args.n + 4} (opens (suc c.args.d)) (omega arith) (open_well c.args.s.now c.args.at (suc c.args.d) (omega arith)) (λ κ e γ. operand_step c.args.d c.args.b κ γ _ (c.start_of-start.ensures.start κ (e ∙ sym c.kind_at-k.ensures.is) ∙ ap start_as c.in-Bracket.is)) (wider (next (framed (exact kind.close_bracket ∷ []) (raised (λ x. a_term x c.args.b ∷ []) c.args.d (known c.in_ok-bracketed-in-Bracket.was c.term.ensures.0))) (c.close.ensures.reads kind.close_bracket refl)) (omega arith)) (omega arith), let w₁ = (made c.in_ok-bracketed-in-Bracket.was c.term.ensures.1) in let t₁ = known-code c.kind_at-k.result c.in-Bracket.is c.start_of-start.ensures in closing c.close.ensures (λ q. makes (built w₁) (derived.bracketed (sym c.kind_at-k.ensures.is ∙ t₁) w₁.derives q)))
+operand-returns-in_ok-bracketed-in-Bracket t c = (let room = c.requires.0 in let h = known-code c.kind_at-k.result c.in-Bracket.is c.start_of-start.ensures in taken {μ = a_term (suc c.args.d) c.args.b ∷ exact kind.close_bracket ∷ []} {m = c.args.n + 4} (opens (suc c.args.d)) (omega arith) (open_well c.args.y.now.kinds.now c.args.at (suc c.args.d) (omega arith)) (λ κ e γ. operand_step c.args.d c.args.b κ γ _ (c.start_of-start.ensures.start κ (e ∙ sym c.kind_at-k.ensures.is) ∙ ap start_as c.in-Bracket.is)) (wider (next (framed (exact kind.close_bracket ∷ []) (raised (λ x. a_term x c.args.b ∷ []) c.args.d (known c.in_ok-bracketed-in-Bracket.was c.term.ensures.0))) (c.close.ensures.reads kind.close_bracket refl)) (omega arith)) (omega arith), let w₁ = (made c.in_ok-bracketed-in-Bracket.was c.term.ensures.1) in let t₁ = known-code c.kind_at-k.result c.in-Bracket.is c.start_of-start.ensures in closing c.close.ensures (λ q. makes (built w₁) (derived.bracketed (sym c.kind_at-k.ensures.is ∙ t₁) w₁.derives q)))
 
 pub operand-returns-in_err-bracketed-in-Bracket : goal.operand-returns-in_err-bracketed-in-Bracket
 unfolding compute_form
-operand-returns-in_err-bracketed-in-Bracket t c = rw (exits c.from_residual-in_err-bracketed-in-Bracket.result c.from_residual-in_err-bracketed-in-Bracket.ensures.1) ((let room = c.requires.0 in let h = known-code c.kind_at-k.result c.in-Bracket.is c.start_of-start.ensures in taken {μ = a_term (suc c.args.d) c.args.b ∷ exact kind.close_bracket ∷ []} {m = c.args.n + 4} (opens (suc c.args.d)) (omega arith) (open_well c.args.s.now c.args.at (suc c.args.d) (omega arith)) (λ κ e γ. operand_step c.args.d c.args.b κ γ _ (c.start_of-start.ensures.start κ (e ∙ sym c.kind_at-k.ensures.is) ∙ ap start_as c.in-Bracket.is)) (fails (framed (exact kind.close_bracket ∷ []) (raised (λ x. a_term x c.args.b ∷ []) c.args.d (known c.in_err-bracketed-in-Bracket.was c.term.ensures.0)))) (omega arith), tt))
+operand-returns-in_err-bracketed-in-Bracket t c = rw (exits c.from_residual-in_err-bracketed-in-Bracket.result c.from_residual-in_err-bracketed-in-Bracket.ensures.1) ((let room = c.requires.0 in let h = known-code c.kind_at-k.result c.in-Bracket.is c.start_of-start.ensures in taken {μ = a_term (suc c.args.d) c.args.b ∷ exact kind.close_bracket ∷ []} {m = c.args.n + 4} (opens (suc c.args.d)) (omega arith) (open_well c.args.y.now.kinds.now c.args.at (suc c.args.d) (omega arith)) (λ κ e γ. operand_step c.args.d c.args.b κ γ _ (c.start_of-start.ensures.start κ (e ∙ sym c.kind_at-k.ensures.is) ∙ ap start_as c.in-Bracket.is)) (fails (framed (exact kind.close_bracket ∷ []) (raised (λ x. a_term x c.args.b ∷ []) c.args.d (known c.in_err-bracketed-in-Bracket.was c.term.ensures.0)))) (omega arith), tt))
 
 pub operand-returns-else-d-ge-DEPTH-3 : goal.operand-returns-else-d-ge-DEPTH-3
 unfolding compute_form
-operand-returns-else-d-ge-DEPTH-3 t c = (let room = c.requires.0 in let h = known-code c.kind_at-k.result c.in-Brace.is c.start_of-start.ensures in taken {μ = a_brace (suc c.args.d) c.args.b ∷ []} {m = c.args.n + 4} (opens (suc c.args.d)) (omega arith) (open_well c.args.s.now c.args.at (suc c.args.d) (omega arith)) (λ κ e γ. operand_step c.args.d c.args.b κ γ _ (c.start_of-start.ensures.start κ (e ∙ sym c.kind_at-k.ensures.is) ∙ ap start_as c.in-Brace.is)) (raised (λ x. a_brace x c.args.b ∷ []) c.args.d c.brace.ensures.0) (omega arith), c.brace.ensures.1)
+operand-returns-else-d-ge-DEPTH-3 t c = (let room = c.requires.0 in let h = known-code c.kind_at-k.result c.in-Brace.is c.start_of-start.ensures in taken {μ = a_brace (suc c.args.d) c.args.b ∷ []} {m = c.args.n + 4} (opens (suc c.args.d)) (omega arith) (open_well c.args.y.now.kinds.now c.args.at (suc c.args.d) (omega arith)) (λ κ e γ. operand_step c.args.d c.args.b κ γ _ (c.start_of-start.ensures.start κ (e ∙ sym c.kind_at-k.ensures.is) ∙ ap start_as c.in-Brace.is)) (raised (λ x. a_brace x c.args.b ∷ []) c.args.d c.brace.ensures.0) (omega arith), c.brace.ensures.1)
 
 pub operand-returns-in-Empty : goal.operand-returns-in-Empty
 unfolding compute_form
@@ -284,17 +286,17 @@ pairs-returns-in_err-arrow t c = rw (exits c.from_residual.result c.from_residua
 pub paren-close-requires : goal.paren-close-requires
 paren-close-requires t c = let room = c.requires.0 in let h = (known c.in_ok-inner.was c.pred.ensures.0) in search rules
 
-pub paren-returns-then-c-eq-NONE : goal.paren-returns-then-c-eq-NONE
+pub paren-returns : goal.paren-returns
 unfolding compute_form
-paren-returns-then-c-eq-NONE t c = (wider (likewise (λ κ e γ. as_pred c.args.d c.args.b κ γ ((c.quantifier_of-c.ensures.classes.class κ (e ∙ sym c.kind_at-k.ensures.is)) ∙ c.if-c-eq-NONE.true)) (λ γ. refl) (next (framed (exact kind.close_paren ∷ []) (known c.in_ok-inner.was c.pred.ensures.0)) (c.close.ensures.reads kind.close_paren refl))) (omega arith), let w₁ = (made c.in_ok-inner.was c.pred.ensures.1) in closing c.close.ensures (λ q. makes (built w₁) (derived.parenthesised c.requires.4 w₁.derives q)))
+paren-returns t c = (wider (likewise (λ κ e γ. as_pred c.args.d c.args.b κ γ (no-class c.is_quantifier.ensures.classes c.if-is_quantifier.false κ (e ∙ sym c.kind_at-k.ensures.is))) (λ γ. refl) (next (framed (exact kind.close_paren ∷ []) (known c.in_ok-inner.was c.pred.ensures.0)) (c.close.ensures.reads kind.close_paren refl))) (omega arith), let w₁ = (made c.in_ok-inner.was c.pred.ensures.1) in closing c.close.ensures (λ q. makes (built w₁) (derived.parenthesised c.requires.4 w₁.derives q)))
 
 pub paren-returns-in_err-inner : goal.paren-returns-in_err-inner
 unfolding compute_form
-paren-returns-in_err-inner t c = rw (exits c.from_residual.result c.from_residual.ensures.1) ((likewise (λ κ e γ. as_pred c.args.d c.args.b κ γ ((c.quantifier_of-c.ensures.classes.class κ (e ∙ sym c.kind_at-k.ensures.is)) ∙ c.if-c-eq-NONE.true)) (λ γ. refl) (fails (framed (exact kind.close_paren ∷ []) (known c.in_err-inner.was c.pred.ensures.0))), tt))
+paren-returns-in_err-inner t c = rw (exits c.from_residual.result c.from_residual.ensures.1) ((likewise (λ κ e γ. as_pred c.args.d c.args.b κ γ (no-class c.is_quantifier.ensures.classes c.if-is_quantifier.false κ (e ∙ sym c.kind_at-k.ensures.is))) (λ γ. refl) (fails (framed (exact kind.close_paren ∷ []) (known c.in_err-inner.was c.pred.ensures.0))), tt))
 
-pub paren-returns : goal.paren-returns
+pub paren-returns-then-is_quantifier : goal.paren-returns-then-is_quantifier
 unfolding compute_form
-paren-returns t c = c.quantified.ensures
+paren-returns-then-is_quantifier t c = c.quantified.ensures
 
 pub pred-returns : goal.pred-returns
 unfolding compute_form
@@ -313,7 +315,7 @@ pred_from-returns-in_err-first t c = rw (exits c.from_residual.result c.from_res
 
 pub pred_more-returns-then-d-ge-DEPTH : goal.pred_more-returns-then-d-ge-DEPTH
 unfolding compute_form
-pred_more-returns-then-d-ge-DEPTH t c = let room = c.requires.0 in let positive = c.requires.3 in let ahead = c.requires.4 in let small = c.requires.5.small in (λ base q. deeper (opens (suc c.args.d)) (omega arith) (open-deep c.args.s.now c.args.at (suc c.args.d) (omega arith) (other-kind c.args.s.now c.args.at (λ q. absurd (omega (arith, c.requires.5.class kind.minus (sym q)))))) (λ κ e γ. pred-rest-step base c.args.d c.args.b κ γ (c.requires.5.class κ e ∙ c.if-l-eq-IMPLIES_LEVEL.true)), tt, λ min q. tt)
+pred_more-returns-then-d-ge-DEPTH t c = let room = c.requires.0 in let positive = c.requires.3 in let ahead = c.requires.4 in let small = c.requires.5.small in (λ base q. deeper (opens (suc c.args.d)) (omega arith) (open-deep c.args.y.now.kinds.now c.args.at (suc c.args.d) (omega arith) (other-kind c.args.y.now.kinds.now c.args.at (λ q. absurd (omega (arith, c.requires.5.class kind.minus (sym q)))))) (λ κ e γ. pred-rest-step base c.args.d c.args.b κ γ (c.requires.5.class κ e ∙ c.if-l-eq-IMPLIES_LEVEL.true)), tt, λ min q. tt)
 
 pub pred_more-pred_from-requires : goal.pred_more-pred_from-requires
 pred_more-pred_from-requires t c = let room = c.requires.0 in let positive = c.requires.3 in let ahead = c.requires.4 in let small = c.requires.5.small in search rules
@@ -323,11 +325,11 @@ pred_more-put-count-requires t c = let room = c.requires.0 in let positive = c.r
 
 pub pred_more-returns-then-l-eq-IMPLIES_LEVEL : goal.pred_more-returns-then-l-eq-IMPLIES_LEVEL
 unfolding compute_form
-pred_more-returns-then-l-eq-IMPLIES_LEVEL t c = let room = c.requires.0 in let positive = c.requires.3 in let ahead = c.requires.4 in let small = c.requires.5.small in let g = (known c.in_ok-conclusion.was (c.pred_from.ensures.0.reads 0 (λ z. absurd (omega arith)))) in let c₁ = c.put-count.ensures.count in (λ base q. let h = (known c.in_ok-conclusion.was (c.pred_from.ensures.0.reads base (λ z. absurd (omega arith)))) in taken {μ = a_unary (suc c.args.d) c.args.b ∷ a_pred_rest base (suc c.args.d) c.args.b ∷ []} {m = c.args.n + 4} (opens (suc c.args.d)) (omega arith) (open_well c.args.s.now c.args.at (suc c.args.d) (omega arith)) (λ κ e γ. pred-rest-step base c.args.d c.args.b κ γ (c.requires.5.class κ e ∙ c.if-l-eq-IMPLIES_LEVEL.true)) (next (counted (omega arith) (raised (λ x. a_unary x c.args.b ∷ a_pred_rest base x c.args.b ∷ []) c.args.d h)) (likewise (λ κ e γ. rest-depth base (c.args.d + 1) c.args.d c.args.b κ γ (known-level c.args.s.now 2 c.in_ok-conclusion.was c.pred_from.ensures.0.stops κ e)) (λ γ. refl) (here (omega arith)))) (omega arith), omega arith, λ min q. let w₁ = (made c.in_ok-conclusion.was c.pred_from.ensures.1) in chain (both (built w₁) (node_of (c.wide.ensures ∙ c.kind_at-k.ensures.is) refl c.put-count.ensures)) (λ k u x. derived.implied (class-at refl c.if-l-eq-IMPLIES_LEVEL.true c.requires.5) (omega arith) w₁.derives x))
+pred_more-returns-then-l-eq-IMPLIES_LEVEL t c = let room = c.requires.0 in let positive = c.requires.3 in let ahead = c.requires.4 in let small = c.requires.5.small in let g = (known c.in_ok-conclusion.was (c.pred_from.ensures.0.reads 0 (λ z. absurd (omega arith)))) in let c₁ = c.put-count.ensures.count in (λ base q. let h = (known c.in_ok-conclusion.was (c.pred_from.ensures.0.reads base (λ z. absurd (omega arith)))) in taken {μ = a_unary (suc c.args.d) c.args.b ∷ a_pred_rest base (suc c.args.d) c.args.b ∷ []} {m = c.args.n + 4} (opens (suc c.args.d)) (omega arith) (open_well c.args.y.now.kinds.now c.args.at (suc c.args.d) (omega arith)) (λ κ e γ. pred-rest-step base c.args.d c.args.b κ γ (c.requires.5.class κ e ∙ c.if-l-eq-IMPLIES_LEVEL.true)) (next (counted (omega arith) (raised (λ x. a_unary x c.args.b ∷ a_pred_rest base x c.args.b ∷ []) c.args.d h)) (likewise (λ κ e γ. rest-depth base (c.args.d + 1) c.args.d c.args.b κ γ (known-level c.args.y.now.kinds.now 2 c.in_ok-conclusion.was c.pred_from.ensures.0.stops κ e)) (λ γ. refl) (here (omega arith)))) (omega arith), omega arith, λ min q. let w₁ = (made c.in_ok-conclusion.was c.pred_from.ensures.1) in chain (both (built w₁) (node_of (c.from.ensures ∙ c.kind_at-k.ensures.is) refl c.put-count.ensures)) (λ k u x. derived.implied (class-at refl c.if-l-eq-IMPLIES_LEVEL.true c.requires.5) (omega arith) w₁.derives x))
 
 pub pred_more-returns-in_err-conclusion : goal.pred_more-returns-in_err-conclusion
 unfolding compute_form
-pred_more-returns-in_err-conclusion t c = rw (exits c.from_residual.result c.from_residual.ensures.1) (let room = c.requires.0 in let positive = c.requires.3 in let ahead = c.requires.4 in let small = c.requires.5.small in (λ base q. taken {μ = a_unary (suc c.args.d) c.args.b ∷ a_pred_rest base (suc c.args.d) c.args.b ∷ []} {m = c.args.n + 4} (opens (suc c.args.d)) (omega arith) (open_well c.args.s.now c.args.at (suc c.args.d) (omega arith)) (λ κ e γ. pred-rest-step base c.args.d c.args.b κ γ (c.requires.5.class κ e ∙ c.if-l-eq-IMPLIES_LEVEL.true)) (fails (raised (λ x. a_unary x c.args.b ∷ a_pred_rest base x c.args.b ∷ []) c.args.d (known c.in_err-conclusion.was (c.pred_from.ensures.0.reads base (λ z. absurd (omega arith)))))) (omega arith), tt, λ min q. tt))
+pred_more-returns-in_err-conclusion t c = rw (exits c.from_residual.result c.from_residual.ensures.1) (let room = c.requires.0 in let positive = c.requires.3 in let ahead = c.requires.4 in let small = c.requires.5.small in (λ base q. taken {μ = a_unary (suc c.args.d) c.args.b ∷ a_pred_rest base (suc c.args.d) c.args.b ∷ []} {m = c.args.n + 4} (opens (suc c.args.d)) (omega arith) (open_well c.args.y.now.kinds.now c.args.at (suc c.args.d) (omega arith)) (λ κ e γ. pred-rest-step base c.args.d c.args.b κ γ (c.requires.5.class κ e ∙ c.if-l-eq-IMPLIES_LEVEL.true)) (fails (raised (λ x. a_unary x c.args.b ∷ a_pred_rest base x c.args.b ∷ []) c.args.d (known c.in_err-conclusion.was (c.pred_from.ensures.0.reads base (λ z. absurd (omega arith)))))) (omega arith), tt, λ min q. tt))
 
 pub pred_more-pred_from-requires-2 : goal.pred_more-pred_from-requires-2
 pred_more-pred_from-requires-2 t c = let room = c.requires.0 in let positive = c.requires.3 in let ahead = c.requires.4 in let small = c.requires.5.small in search rules
@@ -337,7 +339,7 @@ pred_more-put-count-requires-2 t c = let room = c.requires.0 in let positive = c
 
 pub pred_more-returns : goal.pred_more-returns
 unfolding compute_form
-pred_more-returns t c = let room = c.requires.0 in let positive = c.requires.3 in let ahead = c.requires.4 in let small = c.requires.5.small in let g = (known c.in_ok-right.was (c.pred_from-2.ensures.0.reads 0 (λ z. absurd (omega arith)))) in let c₁ = c.put-count-2.ensures.count in (λ base q. let h = (known c.in_ok-right.was (c.pred_from-2.ensures.0.reads base (λ z. absurd (omega arith)))) in takes {μ = a_unary c.args.d c.args.b ∷ a_pred_rest base c.args.d c.args.b ∷ []} {m = c.args.n + 4} (omega arith) (λ κ e γ. rest-connective base c.args.d c.args.b c.args.l κ γ (c.requires.5.class κ e) (omega arith) c.if-l-eq-IMPLIES_LEVEL.false q) (counted (omega arith) h) (omega arith), omega arith, λ min q. let w₁ = (made c.in_ok-right.was c.pred_from-2.ensures.1) in chain (both (built w₁) (node_of (c.wide-2.ensures ∙ c.kind_at-k.ensures.is) refl c.put-count-2.ensures)) (λ k u x. derived.connected c.requires.5 (omega arith) c.if-l-eq-IMPLIES_LEVEL.false (omega arith) w₁.derives x))
+pred_more-returns t c = let room = c.requires.0 in let positive = c.requires.3 in let ahead = c.requires.4 in let small = c.requires.5.small in let g = (known c.in_ok-right.was (c.pred_from-2.ensures.0.reads 0 (λ z. absurd (omega arith)))) in let c₁ = c.put-count-2.ensures.count in (λ base q. let h = (known c.in_ok-right.was (c.pred_from-2.ensures.0.reads base (λ z. absurd (omega arith)))) in takes {μ = a_unary c.args.d c.args.b ∷ a_pred_rest base c.args.d c.args.b ∷ []} {m = c.args.n + 4} (omega arith) (λ κ e γ. rest-connective base c.args.d c.args.b c.args.l κ γ (c.requires.5.class κ e) (omega arith) c.if-l-eq-IMPLIES_LEVEL.false q) (counted (omega arith) h) (omega arith), omega arith, λ min q. let w₁ = (made c.in_ok-right.was c.pred_from-2.ensures.1) in chain (both (built w₁) (node_of (c.from-2.ensures ∙ c.kind_at-k.ensures.is) refl c.put-count-2.ensures)) (λ k u x. derived.connected c.requires.5 (omega arith) c.if-l-eq-IMPLIES_LEVEL.false (omega arith) w₁.derives x))
 
 pub pred_more-returns-in_err-right : goal.pred_more-returns-in_err-right
 unfolding compute_form
@@ -370,7 +372,7 @@ quantified-kind_at-requires t c = search rules
 
 pub quantified-returns-then-b-ge-BOUND_NAMES : goal.quantified-returns-then-b-ge-BOUND_NAMES
 unfolding compute_form
-quantified-returns-then-b-ge-BOUND_NAMES t c = (let room = c.requires.0 in takes {μ = a_declared (binds (suc c.args.b)) ∷ exact kind.colon ∷ a_domain ∷ exact kind.spot ∷ a_unary c.args.d (suc c.args.b) ∷ a_pred_rest c.args.d c.args.d (suc c.args.b) ∷ exact kind.close_paren ∷ []} {m = c.args.n} (omega arith) (λ κ e γ. quantifier-step c.args.d c.args.b κ γ (quantifier-code κ (omega (arith, c.requires.4)) (omega (arith, c.requires.5)))) (deeper {ρ = λ γ. exact kind.colon ∷ a_domain ∷ exact kind.spot ∷ a_unary c.args.d (suc c.args.b) ∷ a_pred_rest c.args.d c.args.d (suc c.args.b) ∷ exact kind.close_paren ∷ γ} (binds (suc c.args.b)) (omega arith) (bound-elsewhere c.args.s.now (c.args.at + 1) (suc c.args.b) (omega arith) (λ q. absurd (omega (arith, c.requires.4)))) (only _ kind.plain (sym c.kind_at.ensures.is ∙ c.if-kind_at-eq-PLAIN.true) (λ γ. refl))) (omega arith), tt)
+quantified-returns-then-b-ge-BOUND_NAMES t c = (let room = c.requires.0 in takes {μ = a_declared (binds (suc c.args.b)) ∷ exact kind.colon ∷ a_domain ∷ exact kind.spot ∷ a_unary c.args.d (suc c.args.b) ∷ a_pred_rest c.args.d c.args.d (suc c.args.b) ∷ exact kind.close_paren ∷ []} {m = c.args.n} (omega arith) (λ κ e γ. quantifier-step c.args.d c.args.b κ γ (quantifier-code κ (omega (arith, c.requires.4)) (omega (arith, c.requires.5)))) (deeper {ρ = λ γ. exact kind.colon ∷ a_domain ∷ exact kind.spot ∷ a_unary c.args.d (suc c.args.b) ∷ a_pred_rest c.args.d c.args.d (suc c.args.b) ∷ exact kind.close_paren ∷ γ} (binds (suc c.args.b)) (omega arith) (bound-elsewhere c.args.y.now.kinds.now (c.args.at + 1) (suc c.args.b) (omega arith) (λ q. absurd (omega (arith, c.requires.4)))) (only _ kind.plain (sym c.kind_at.ensures.is ∙ c.if-kind_at-eq-PLAIN.true) (λ γ. refl))) (omega arith), tt)
 
 pub quantified-overflow_add-x-then-kind_at-eq-PLAIN : goal.quantified-overflow_add-x-then-kind_at-eq-PLAIN
 quantified-overflow_add-x-then-kind_at-eq-PLAIN t c = let room = c.requires.0 in search rules
@@ -409,9 +411,9 @@ quantified-kind_at-j-requires t c = search rules
 pub quantified-overflow_add-at-then-kind_at-eq-PLAIN : goal.quantified-overflow_add-at-then-kind_at-eq-PLAIN
 quantified-overflow_add-at-then-kind_at-eq-PLAIN t c = let room = c.requires.0 in search rules
 
-pub quantified-wide-requires : goal.quantified-wide-requires
+pub quantified-from-requires : goal.quantified-from-requires
 unfolding code_of
-quantified-wide-requires t c = search rules
+quantified-from-requires t c = search rules
 
 pub quantified-put-c-requires : goal.quantified-put-c-requires
 unfolding code_of
@@ -423,58 +425,58 @@ quantified-close-requires-then-kind_at-eq-PLAIN-2 t c = let room = c.requires.0 
 
 pub quantified-returns-then-kind_at-eq-PLAIN : goal.quantified-returns-then-kind_at-eq-PLAIN
 unfolding compute_form
-quantified-returns-then-kind_at-eq-PLAIN t c = (let room = c.requires.0 in let h = (known c.in_ok-colon.was (c.close.ensures.reads kind.colon refl)) in let z = known-ahead _ c.in_ok-colon.was c.close.ensures.ahead in let i = (known c.in_ok-over.was c.domain.ensures.0) in let j = (known c.in_ok-spot.was (c.close-then-kind_at-eq-PLAIN.ensures.reads kind.spot refl)) in let y = known-ahead _ c.in_ok-spot.was c.close-then-kind_at-eq-PLAIN.ensures.ahead in let l = (known c.in_ok-body.was c.pred.ensures.0) in takes {μ = a_declared (binds (suc c.args.b)) ∷ exact kind.colon ∷ a_domain ∷ exact kind.spot ∷ a_unary c.args.d (suc c.args.b) ∷ a_pred_rest c.args.d c.args.d (suc c.args.b) ∷ exact kind.close_paren ∷ []} {m = c.args.n} (omega arith) (λ κ e γ. quantifier-step c.args.d c.args.b κ γ (quantifier-code κ (omega (arith, c.requires.4)) (omega (arith, c.requires.5)))) (taken {μ = exact kind.colon ∷ a_domain ∷ exact kind.spot ∷ a_unary c.args.d (suc c.args.b) ∷ a_pred_rest c.args.d c.args.d (suc c.args.b) ∷ exact kind.close_paren ∷ []} {m = c.args.n} (binds (suc c.args.b)) (omega arith) (bind_well c.args.s.now (c.args.at + 1 + 1) (suc c.args.b) (omega (arith, c.if-b-ge-BOUND_NAMES.false))) (only _ kind.plain (sym c.kind_at.ensures.is ∙ c.if-kind_at-eq-PLAIN.true) (λ γ. refl)) (next (counted {c = c.args.n} {d = c.args.n + 4} (omega arith) (framed (a_domain ∷ exact kind.spot ∷ a_unary c.args.d (suc c.args.b) ∷ a_pred_rest c.args.d c.args.d (suc c.args.b) ∷ exact kind.close_paren ∷ []) h)) (next (counted {c = c.args.n + 4} {d = c.args.n + 4} (omega arith) (framed (exact kind.spot ∷ a_unary c.args.d (suc c.args.b) ∷ a_pred_rest c.args.d c.args.d (suc c.args.b) ∷ exact kind.close_paren ∷ []) i)) (next (counted {c = c.args.n + 4} {d = c.args.n + 8} (omega arith) (framed (a_unary c.args.d (suc c.args.b) ∷ a_pred_rest c.args.d c.args.d (suc c.args.b) ∷ exact kind.close_paren ∷ []) j)) (next (counted {c = c.args.n + 8} (omega arith) (framed (exact kind.close_paren ∷ []) (raised (λ x. a_unary c.args.d x ∷ a_pred_rest c.args.d c.args.d x ∷ []) c.args.b l))) (c.close-then-kind_at-eq-PLAIN-2.ensures.reads kind.close_paren refl))))) (omega arith)) (omega arith), let t₁ = closed c.in_ok-colon.was c.close.ensures in let t₂ = showing (DomainAt c.args.s.now c.in_ok-colon.colon.at) _ c.in_ok-over.was c.domain.ensures.1 in let t₃ = closed c.in_ok-spot.was c.close-then-kind_at-eq-PLAIN.ensures in let w₁ = (made c.in_ok-body.was c.pred.ensures.1) in closing c.close-then-kind_at-eq-PLAIN-2.ensures (λ q. makes (both (both (built w₁) (wrote c.put_domain-h.ensures)) (node_of c.name_number-i.ensures (c.wide.ensures ∙ c.kind_at-j.ensures.is) c.put-c.ensures)) (ranging c.requires.6 c.requires.4 c.requires.5 (sym c.kind_at.ensures.is ∙ c.if-kind_at-eq-PLAIN.true) t₁ t₂ t₃ w₁.derives q)))
+quantified-returns-then-kind_at-eq-PLAIN t c = (let room = c.requires.0 in let h = (known c.in_ok-colon.was (c.close.ensures.reads kind.colon refl)) in let z = known-ahead _ c.in_ok-colon.was c.close.ensures.ahead in let i = (known c.in_ok-over.was c.domain.ensures.0) in let j = (known c.in_ok-spot.was (c.close-then-kind_at-eq-PLAIN.ensures.reads kind.spot refl)) in let y = known-ahead _ c.in_ok-spot.was c.close-then-kind_at-eq-PLAIN.ensures.ahead in let l = (known c.in_ok-body.was c.pred.ensures.0) in takes {μ = a_declared (binds (suc c.args.b)) ∷ exact kind.colon ∷ a_domain ∷ exact kind.spot ∷ a_unary c.args.d (suc c.args.b) ∷ a_pred_rest c.args.d c.args.d (suc c.args.b) ∷ exact kind.close_paren ∷ []} {m = c.args.n} (omega arith) (λ κ e γ. quantifier-step c.args.d c.args.b κ γ (quantifier-code κ (omega (arith, c.requires.4)) (omega (arith, c.requires.5)))) (taken {μ = exact kind.colon ∷ a_domain ∷ exact kind.spot ∷ a_unary c.args.d (suc c.args.b) ∷ a_pred_rest c.args.d c.args.d (suc c.args.b) ∷ exact kind.close_paren ∷ []} {m = c.args.n} (binds (suc c.args.b)) (omega arith) (bind_well c.args.y.now.kinds.now (c.args.at + 1 + 1) (suc c.args.b) (omega (arith, c.if-b-ge-BOUND_NAMES.false))) (only _ kind.plain (sym c.kind_at.ensures.is ∙ c.if-kind_at-eq-PLAIN.true) (λ γ. refl)) (next (counted {c = c.args.n} {d = c.args.n + 4} (omega arith) (framed (a_domain ∷ exact kind.spot ∷ a_unary c.args.d (suc c.args.b) ∷ a_pred_rest c.args.d c.args.d (suc c.args.b) ∷ exact kind.close_paren ∷ []) h)) (next (counted {c = c.args.n + 4} {d = c.args.n + 4} (omega arith) (framed (exact kind.spot ∷ a_unary c.args.d (suc c.args.b) ∷ a_pred_rest c.args.d c.args.d (suc c.args.b) ∷ exact kind.close_paren ∷ []) i)) (next (counted {c = c.args.n + 4} {d = c.args.n + 8} (omega arith) (framed (a_unary c.args.d (suc c.args.b) ∷ a_pred_rest c.args.d c.args.d (suc c.args.b) ∷ exact kind.close_paren ∷ []) j)) (next (counted {c = c.args.n + 8} (omega arith) (framed (exact kind.close_paren ∷ []) (raised (λ x. a_unary c.args.d x ∷ a_pred_rest c.args.d c.args.d x ∷ []) c.args.b l))) (c.close-then-kind_at-eq-PLAIN-2.ensures.reads kind.close_paren refl))))) (omega arith)) (omega arith), let t₁ = closed c.in_ok-colon.was c.close.ensures in let t₂ = showing (DomainAt c.args.y.now.kinds.now c.in_ok-colon.colon.at) _ c.in_ok-over.was c.domain.ensures.1 in let t₃ = closed c.in_ok-spot.was c.close-then-kind_at-eq-PLAIN.ensures in let w₁ = (made c.in_ok-body.was c.pred.ensures.1) in closing c.close-then-kind_at-eq-PLAIN-2.ensures (λ q. makes (both (both (built w₁) (wrote c.put_domain-h.ensures)) (node_of c.name_number-i.ensures (c.from.ensures ∙ c.kind_at-j.ensures.is) c.put-c.ensures)) (ranging c.requires.6 c.requires.4 c.requires.5 (sym c.kind_at.ensures.is ∙ c.if-kind_at-eq-PLAIN.true) t₁ t₂ t₃ w₁.derives q)))
 
 pub quantified-returns-in_err-body : goal.quantified-returns-in_err-body
 unfolding compute_form
-quantified-returns-in_err-body t c = rw (exits c.from_residual-in_err-body.result c.from_residual-in_err-body.ensures.1) ((let room = c.requires.0 in let h = (known c.in_ok-colon.was (c.close.ensures.reads kind.colon refl)) in let z = known-ahead _ c.in_ok-colon.was c.close.ensures.ahead in let i = (known c.in_ok-over.was c.domain.ensures.0) in let j = (known c.in_ok-spot.was (c.close-then-kind_at-eq-PLAIN.ensures.reads kind.spot refl)) in let y = known-ahead _ c.in_ok-spot.was c.close-then-kind_at-eq-PLAIN.ensures.ahead in takes {μ = a_declared (binds (suc c.args.b)) ∷ exact kind.colon ∷ a_domain ∷ exact kind.spot ∷ a_unary c.args.d (suc c.args.b) ∷ a_pred_rest c.args.d c.args.d (suc c.args.b) ∷ exact kind.close_paren ∷ []} {m = c.args.n} (omega arith) (λ κ e γ. quantifier-step c.args.d c.args.b κ γ (quantifier-code κ (omega (arith, c.requires.4)) (omega (arith, c.requires.5)))) (taken {μ = exact kind.colon ∷ a_domain ∷ exact kind.spot ∷ a_unary c.args.d (suc c.args.b) ∷ a_pred_rest c.args.d c.args.d (suc c.args.b) ∷ exact kind.close_paren ∷ []} {m = c.args.n} (binds (suc c.args.b)) (omega arith) (bind_well c.args.s.now (c.args.at + 1 + 1) (suc c.args.b) (omega (arith, c.if-b-ge-BOUND_NAMES.false))) (only _ kind.plain (sym c.kind_at.ensures.is ∙ c.if-kind_at-eq-PLAIN.true) (λ γ. refl)) (next (counted {c = c.args.n} {d = c.args.n + 4} (omega arith) (framed (a_domain ∷ exact kind.spot ∷ a_unary c.args.d (suc c.args.b) ∷ a_pred_rest c.args.d c.args.d (suc c.args.b) ∷ exact kind.close_paren ∷ []) h)) (next (counted {c = c.args.n + 4} {d = c.args.n + 4} (omega arith) (framed (exact kind.spot ∷ a_unary c.args.d (suc c.args.b) ∷ a_pred_rest c.args.d c.args.d (suc c.args.b) ∷ exact kind.close_paren ∷ []) i)) (next (counted {c = c.args.n + 4} {d = c.args.n + 8} (omega arith) (framed (a_unary c.args.d (suc c.args.b) ∷ a_pred_rest c.args.d c.args.d (suc c.args.b) ∷ exact kind.close_paren ∷ []) j)) (fails (framed (exact kind.close_paren ∷ []) (raised (λ x. a_unary c.args.d x ∷ a_pred_rest c.args.d c.args.d x ∷ []) c.args.b (known c.in_err-body.was c.pred.ensures.0))))))) (omega arith)) (omega arith), tt))
+quantified-returns-in_err-body t c = rw (exits c.from_residual-in_err-body.result c.from_residual-in_err-body.ensures.1) ((let room = c.requires.0 in let h = (known c.in_ok-colon.was (c.close.ensures.reads kind.colon refl)) in let z = known-ahead _ c.in_ok-colon.was c.close.ensures.ahead in let i = (known c.in_ok-over.was c.domain.ensures.0) in let j = (known c.in_ok-spot.was (c.close-then-kind_at-eq-PLAIN.ensures.reads kind.spot refl)) in let y = known-ahead _ c.in_ok-spot.was c.close-then-kind_at-eq-PLAIN.ensures.ahead in takes {μ = a_declared (binds (suc c.args.b)) ∷ exact kind.colon ∷ a_domain ∷ exact kind.spot ∷ a_unary c.args.d (suc c.args.b) ∷ a_pred_rest c.args.d c.args.d (suc c.args.b) ∷ exact kind.close_paren ∷ []} {m = c.args.n} (omega arith) (λ κ e γ. quantifier-step c.args.d c.args.b κ γ (quantifier-code κ (omega (arith, c.requires.4)) (omega (arith, c.requires.5)))) (taken {μ = exact kind.colon ∷ a_domain ∷ exact kind.spot ∷ a_unary c.args.d (suc c.args.b) ∷ a_pred_rest c.args.d c.args.d (suc c.args.b) ∷ exact kind.close_paren ∷ []} {m = c.args.n} (binds (suc c.args.b)) (omega arith) (bind_well c.args.y.now.kinds.now (c.args.at + 1 + 1) (suc c.args.b) (omega (arith, c.if-b-ge-BOUND_NAMES.false))) (only _ kind.plain (sym c.kind_at.ensures.is ∙ c.if-kind_at-eq-PLAIN.true) (λ γ. refl)) (next (counted {c = c.args.n} {d = c.args.n + 4} (omega arith) (framed (a_domain ∷ exact kind.spot ∷ a_unary c.args.d (suc c.args.b) ∷ a_pred_rest c.args.d c.args.d (suc c.args.b) ∷ exact kind.close_paren ∷ []) h)) (next (counted {c = c.args.n + 4} {d = c.args.n + 4} (omega arith) (framed (exact kind.spot ∷ a_unary c.args.d (suc c.args.b) ∷ a_pred_rest c.args.d c.args.d (suc c.args.b) ∷ exact kind.close_paren ∷ []) i)) (next (counted {c = c.args.n + 4} {d = c.args.n + 8} (omega arith) (framed (a_unary c.args.d (suc c.args.b) ∷ a_pred_rest c.args.d c.args.d (suc c.args.b) ∷ exact kind.close_paren ∷ []) j)) (fails (framed (exact kind.close_paren ∷ []) (raised (λ x. a_unary c.args.d x ∷ a_pred_rest c.args.d c.args.d x ∷ []) c.args.b (known c.in_err-body.was c.pred.ensures.0))))))) (omega arith)) (omega arith), tt))
 
 pub quantified-returns-in_err-spot : goal.quantified-returns-in_err-spot
 unfolding compute_form
-quantified-returns-in_err-spot t c = rw (exits c.from_residual-in_err-spot.result c.from_residual-in_err-spot.ensures.1) ((let room = c.requires.0 in let h = (known c.in_ok-colon.was (c.close.ensures.reads kind.colon refl)) in let z = known-ahead _ c.in_ok-colon.was c.close.ensures.ahead in let i = (known c.in_ok-over.was c.domain.ensures.0) in takes {μ = a_declared (binds (suc c.args.b)) ∷ exact kind.colon ∷ a_domain ∷ exact kind.spot ∷ a_unary c.args.d (suc c.args.b) ∷ a_pred_rest c.args.d c.args.d (suc c.args.b) ∷ exact kind.close_paren ∷ []} {m = c.args.n} (omega arith) (λ κ e γ. quantifier-step c.args.d c.args.b κ γ (quantifier-code κ (omega (arith, c.requires.4)) (omega (arith, c.requires.5)))) (taken {μ = exact kind.colon ∷ a_domain ∷ exact kind.spot ∷ a_unary c.args.d (suc c.args.b) ∷ a_pred_rest c.args.d c.args.d (suc c.args.b) ∷ exact kind.close_paren ∷ []} {m = c.args.n} (binds (suc c.args.b)) (omega arith) (bind_well c.args.s.now (c.args.at + 1 + 1) (suc c.args.b) (omega (arith, c.if-b-ge-BOUND_NAMES.false))) (only _ kind.plain (sym c.kind_at.ensures.is ∙ c.if-kind_at-eq-PLAIN.true) (λ γ. refl)) (next (counted {c = c.args.n} {d = c.args.n + 4} (omega arith) (framed (a_domain ∷ exact kind.spot ∷ a_unary c.args.d (suc c.args.b) ∷ a_pred_rest c.args.d c.args.d (suc c.args.b) ∷ exact kind.close_paren ∷ []) h)) (next (counted {c = c.args.n + 4} {d = c.args.n + 4} (omega arith) (framed (exact kind.spot ∷ a_unary c.args.d (suc c.args.b) ∷ a_pred_rest c.args.d c.args.d (suc c.args.b) ∷ exact kind.close_paren ∷ []) i)) (fails (framed (a_unary c.args.d (suc c.args.b) ∷ a_pred_rest c.args.d c.args.d (suc c.args.b) ∷ exact kind.close_paren ∷ []) (known c.in_err-spot.was (c.close-then-kind_at-eq-PLAIN.ensures.reads kind.spot refl)))))) (omega arith)) (omega arith), tt))
+quantified-returns-in_err-spot t c = rw (exits c.from_residual-in_err-spot.result c.from_residual-in_err-spot.ensures.1) ((let room = c.requires.0 in let h = (known c.in_ok-colon.was (c.close.ensures.reads kind.colon refl)) in let z = known-ahead _ c.in_ok-colon.was c.close.ensures.ahead in let i = (known c.in_ok-over.was c.domain.ensures.0) in takes {μ = a_declared (binds (suc c.args.b)) ∷ exact kind.colon ∷ a_domain ∷ exact kind.spot ∷ a_unary c.args.d (suc c.args.b) ∷ a_pred_rest c.args.d c.args.d (suc c.args.b) ∷ exact kind.close_paren ∷ []} {m = c.args.n} (omega arith) (λ κ e γ. quantifier-step c.args.d c.args.b κ γ (quantifier-code κ (omega (arith, c.requires.4)) (omega (arith, c.requires.5)))) (taken {μ = exact kind.colon ∷ a_domain ∷ exact kind.spot ∷ a_unary c.args.d (suc c.args.b) ∷ a_pred_rest c.args.d c.args.d (suc c.args.b) ∷ exact kind.close_paren ∷ []} {m = c.args.n} (binds (suc c.args.b)) (omega arith) (bind_well c.args.y.now.kinds.now (c.args.at + 1 + 1) (suc c.args.b) (omega (arith, c.if-b-ge-BOUND_NAMES.false))) (only _ kind.plain (sym c.kind_at.ensures.is ∙ c.if-kind_at-eq-PLAIN.true) (λ γ. refl)) (next (counted {c = c.args.n} {d = c.args.n + 4} (omega arith) (framed (a_domain ∷ exact kind.spot ∷ a_unary c.args.d (suc c.args.b) ∷ a_pred_rest c.args.d c.args.d (suc c.args.b) ∷ exact kind.close_paren ∷ []) h)) (next (counted {c = c.args.n + 4} {d = c.args.n + 4} (omega arith) (framed (exact kind.spot ∷ a_unary c.args.d (suc c.args.b) ∷ a_pred_rest c.args.d c.args.d (suc c.args.b) ∷ exact kind.close_paren ∷ []) i)) (fails (framed (a_unary c.args.d (suc c.args.b) ∷ a_pred_rest c.args.d c.args.d (suc c.args.b) ∷ exact kind.close_paren ∷ []) (known c.in_err-spot.was (c.close-then-kind_at-eq-PLAIN.ensures.reads kind.spot refl)))))) (omega arith)) (omega arith), tt))
 
 pub quantified-returns-in_err-over : goal.quantified-returns-in_err-over
 unfolding compute_form
-quantified-returns-in_err-over t c = rw (exits c.from_residual-in_err-over.result c.from_residual-in_err-over.ensures.1) ((let room = c.requires.0 in let h = (known c.in_ok-colon.was (c.close.ensures.reads kind.colon refl)) in let z = known-ahead _ c.in_ok-colon.was c.close.ensures.ahead in takes {μ = a_declared (binds (suc c.args.b)) ∷ exact kind.colon ∷ a_domain ∷ exact kind.spot ∷ a_unary c.args.d (suc c.args.b) ∷ a_pred_rest c.args.d c.args.d (suc c.args.b) ∷ exact kind.close_paren ∷ []} {m = c.args.n} (omega arith) (λ κ e γ. quantifier-step c.args.d c.args.b κ γ (quantifier-code κ (omega (arith, c.requires.4)) (omega (arith, c.requires.5)))) (taken {μ = exact kind.colon ∷ a_domain ∷ exact kind.spot ∷ a_unary c.args.d (suc c.args.b) ∷ a_pred_rest c.args.d c.args.d (suc c.args.b) ∷ exact kind.close_paren ∷ []} {m = c.args.n} (binds (suc c.args.b)) (omega arith) (bind_well c.args.s.now (c.args.at + 1 + 1) (suc c.args.b) (omega (arith, c.if-b-ge-BOUND_NAMES.false))) (only _ kind.plain (sym c.kind_at.ensures.is ∙ c.if-kind_at-eq-PLAIN.true) (λ γ. refl)) (next (counted {c = c.args.n} {d = c.args.n + 4} (omega arith) (framed (a_domain ∷ exact kind.spot ∷ a_unary c.args.d (suc c.args.b) ∷ a_pred_rest c.args.d c.args.d (suc c.args.b) ∷ exact kind.close_paren ∷ []) h)) (fails (framed (exact kind.spot ∷ a_unary c.args.d (suc c.args.b) ∷ a_pred_rest c.args.d c.args.d (suc c.args.b) ∷ exact kind.close_paren ∷ []) (known c.in_err-over.was c.domain.ensures.0)))) (omega arith)) (omega arith), tt))
+quantified-returns-in_err-over t c = rw (exits c.from_residual-in_err-over.result c.from_residual-in_err-over.ensures.1) ((let room = c.requires.0 in let h = (known c.in_ok-colon.was (c.close.ensures.reads kind.colon refl)) in let z = known-ahead _ c.in_ok-colon.was c.close.ensures.ahead in takes {μ = a_declared (binds (suc c.args.b)) ∷ exact kind.colon ∷ a_domain ∷ exact kind.spot ∷ a_unary c.args.d (suc c.args.b) ∷ a_pred_rest c.args.d c.args.d (suc c.args.b) ∷ exact kind.close_paren ∷ []} {m = c.args.n} (omega arith) (λ κ e γ. quantifier-step c.args.d c.args.b κ γ (quantifier-code κ (omega (arith, c.requires.4)) (omega (arith, c.requires.5)))) (taken {μ = exact kind.colon ∷ a_domain ∷ exact kind.spot ∷ a_unary c.args.d (suc c.args.b) ∷ a_pred_rest c.args.d c.args.d (suc c.args.b) ∷ exact kind.close_paren ∷ []} {m = c.args.n} (binds (suc c.args.b)) (omega arith) (bind_well c.args.y.now.kinds.now (c.args.at + 1 + 1) (suc c.args.b) (omega (arith, c.if-b-ge-BOUND_NAMES.false))) (only _ kind.plain (sym c.kind_at.ensures.is ∙ c.if-kind_at-eq-PLAIN.true) (λ γ. refl)) (next (counted {c = c.args.n} {d = c.args.n + 4} (omega arith) (framed (a_domain ∷ exact kind.spot ∷ a_unary c.args.d (suc c.args.b) ∷ a_pred_rest c.args.d c.args.d (suc c.args.b) ∷ exact kind.close_paren ∷ []) h)) (fails (framed (exact kind.spot ∷ a_unary c.args.d (suc c.args.b) ∷ a_pred_rest c.args.d c.args.d (suc c.args.b) ∷ exact kind.close_paren ∷ []) (known c.in_err-over.was c.domain.ensures.0)))) (omega arith)) (omega arith), tt))
 
 pub quantified-returns-in_err-colon : goal.quantified-returns-in_err-colon
 unfolding compute_form
-quantified-returns-in_err-colon t c = rw (exits c.from_residual.result c.from_residual.ensures.1) ((let room = c.requires.0 in takes {μ = a_declared (binds (suc c.args.b)) ∷ exact kind.colon ∷ a_domain ∷ exact kind.spot ∷ a_unary c.args.d (suc c.args.b) ∷ a_pred_rest c.args.d c.args.d (suc c.args.b) ∷ exact kind.close_paren ∷ []} {m = c.args.n} (omega arith) (λ κ e γ. quantifier-step c.args.d c.args.b κ γ (quantifier-code κ (omega (arith, c.requires.4)) (omega (arith, c.requires.5)))) (taken {μ = exact kind.colon ∷ a_domain ∷ exact kind.spot ∷ a_unary c.args.d (suc c.args.b) ∷ a_pred_rest c.args.d c.args.d (suc c.args.b) ∷ exact kind.close_paren ∷ []} {m = c.args.n} (binds (suc c.args.b)) (omega arith) (bind_well c.args.s.now (c.args.at + 1 + 1) (suc c.args.b) (omega (arith, c.if-b-ge-BOUND_NAMES.false))) (only _ kind.plain (sym c.kind_at.ensures.is ∙ c.if-kind_at-eq-PLAIN.true) (λ γ. refl)) (fails (framed (a_domain ∷ exact kind.spot ∷ a_unary c.args.d (suc c.args.b) ∷ a_pred_rest c.args.d c.args.d (suc c.args.b) ∷ exact kind.close_paren ∷ []) (known c.in_err-colon.was (c.close.ensures.reads kind.colon refl)))) (omega arith)) (omega arith), tt))
+quantified-returns-in_err-colon t c = rw (exits c.from_residual.result c.from_residual.ensures.1) ((let room = c.requires.0 in takes {μ = a_declared (binds (suc c.args.b)) ∷ exact kind.colon ∷ a_domain ∷ exact kind.spot ∷ a_unary c.args.d (suc c.args.b) ∷ a_pred_rest c.args.d c.args.d (suc c.args.b) ∷ exact kind.close_paren ∷ []} {m = c.args.n} (omega arith) (λ κ e γ. quantifier-step c.args.d c.args.b κ γ (quantifier-code κ (omega (arith, c.requires.4)) (omega (arith, c.requires.5)))) (taken {μ = exact kind.colon ∷ a_domain ∷ exact kind.spot ∷ a_unary c.args.d (suc c.args.b) ∷ a_pred_rest c.args.d c.args.d (suc c.args.b) ∷ exact kind.close_paren ∷ []} {m = c.args.n} (binds (suc c.args.b)) (omega arith) (bind_well c.args.y.now.kinds.now (c.args.at + 1 + 1) (suc c.args.b) (omega (arith, c.if-b-ge-BOUND_NAMES.false))) (only _ kind.plain (sym c.kind_at.ensures.is ∙ c.if-kind_at-eq-PLAIN.true) (λ γ. refl)) (fails (framed (a_domain ∷ exact kind.spot ∷ a_unary c.args.d (suc c.args.b) ∷ a_pred_rest c.args.d c.args.d (suc c.args.b) ∷ exact kind.close_paren ∷ []) (known c.in_err-colon.was (c.close.ensures.reads kind.colon refl)))) (omega arith)) (omega arith), tt))
 
 pub quantified-returns : goal.quantified-returns
 unfolding compute_form
 quantified-returns t c = (let room = c.requires.0 in takes {μ = a_declared (binds (suc c.args.b)) ∷ exact kind.colon ∷ a_domain ∷ exact kind.spot ∷ a_unary c.args.d (suc c.args.b) ∷ a_pred_rest c.args.d c.args.d (suc c.args.b) ∷ exact kind.close_paren ∷ []} {m = c.args.n} (omega arith) (λ κ e γ. quantifier-step c.args.d c.args.b κ γ (quantifier-code κ (omega (arith, c.requires.4)) (omega (arith, c.requires.5)))) (stops (omega arith) (λ κ e γ. declared-stops (binds (suc c.args.b)) κ _ (λ q. c.if-kind_at-eq-PLAIN.false (c.kind_at.ensures.is ∙ sym e ∙ q))) (λ γ. refl)) (omega arith), tt)
 
-pub related-returns-then-c-eq-NONE : goal.related-returns-then-c-eq-NONE
+pub related-returns-then-not-is_membership : goal.related-returns-then-not-is_membership
 unfolding compute_form
-related-returns-then-c-eq-NONE t c = (stops (omega arith) (λ κ e γ. mem-step c.args.d c.args.b κ γ ((c.membership_of-c.ensures.classes.class κ (e ∙ sym c.kind_at-k.ensures.is)) ∙ c.if-c-eq-NONE.true)) (λ γ. refl), tt)
+related-returns-then-not-is_membership t c = (stops (omega arith) (λ κ e γ. mem-step c.args.d c.args.b κ γ (no-class c.is_membership.ensures.classes c.if-not-is_membership.true κ (e ∙ sym c.kind_at-k.ensures.is))) (λ γ. refl), tt)
 
 pub related-put-count-requires : goal.related-put-count-requires
 related-put-count-requires t c = let room = c.requires.0 in let h = (known c.in_ok-set.was c.term.ensures.0) in search rules
 
 pub related-returns : goal.related-returns
 unfolding compute_form
-related-returns t c = (let h = (known c.in_ok-set.was c.term.ensures.0) in takes {μ = a_term c.args.d c.args.b ∷ []} {m = c.args.n + 4} (omega arith) (λ κ e γ. mem-some c.args.d c.args.b c.membership_of-c.result κ γ (c.membership_of-c.ensures.classes.class κ (e ∙ sym c.kind_at-k.ensures.is)) c.if-c-eq-NONE.false) (counted (omega arith) h) (omega arith), let w₁ = (made c.in_ok-set.was c.term.ensures.1) in makes (both (built w₁) (node_of (c.wide.ensures ∙ c.kind_at-k.ensures.is) refl c.put-count.ensures)) (derived.related (membership-at c.kind_at-k.ensures.is (c.membership_of-c.ensures.member (omega arith))) w₁.derives))
+related-returns t c = (let h = (known c.in_ok-set.was c.term.ensures.0) in takes {μ = a_term c.args.d c.args.b ∷ []} {m = c.args.n + 4} (omega arith) (λ κ e γ. mem-some c.args.d c.args.b 1 κ γ (c.is_membership.ensures.classes.class κ (e ∙ sym c.kind_at-k.ensures.is) ∙ ap bit c.if-not-is_membership.false) (λ q. omega (arith, q))) (counted (omega arith) h) (omega arith), let w₁ = (made c.in_ok-set.was c.term.ensures.1) in makes (both (built w₁) (node_of (c.from.ensures ∙ c.kind_at-k.ensures.is) refl c.put-count.ensures)) (derived.related (membership-at c.kind_at-k.ensures.is (c.is_membership.ensures.member c.if-not-is_membership.false)) w₁.derives))
 
 pub related-returns-in_err-set : goal.related-returns-in_err-set
 unfolding compute_form
-related-returns-in_err-set t c = rw (exits c.from_residual.result c.from_residual.ensures.1) ((takes {μ = a_term c.args.d c.args.b ∷ []} {m = c.args.n} (omega arith) (λ κ e γ. mem-some c.args.d c.args.b c.membership_of-c.result κ γ (c.membership_of-c.ensures.classes.class κ (e ∙ sym c.kind_at-k.ensures.is)) c.if-c-eq-NONE.false) (fails (known c.in_err-set.was c.term.ensures.0)) (omega arith), tt))
+related-returns-in_err-set t c = rw (exits c.from_residual.result c.from_residual.ensures.1) ((takes {μ = a_term c.args.d c.args.b ∷ []} {m = c.args.n} (omega arith) (λ κ e γ. mem-some c.args.d c.args.b 1 κ γ (c.is_membership.ensures.classes.class κ (e ∙ sym c.kind_at-k.ensures.is) ∙ ap bit c.if-not-is_membership.false) (λ q. omega (arith, q))) (fails (known c.in_err-set.was c.term.ensures.0)) (omega arith), tt))
 
 pub such-returns-then-b-ge-BOUND_NAMES : goal.such-returns-then-b-ge-BOUND_NAMES
 unfolding compute_form
-such-returns-then-b-ge-BOUND_NAMES t c = (let room = c.requires.0 in deeper {ρ = λ γ. a_named c.args.d c.args.b ∷ γ} (binds (suc c.args.b)) (omega (arith, inside c.args.s.now (c.args.at + 1) (omega (arith, c.requires.5)))) (bound-deep c.args.s.now c.args.at (suc c.args.b) (omega arith) c.requires.6) (only _ kind.plain c.requires.5 (λ γ. refl)), tt)
+such-returns-then-b-ge-BOUND_NAMES t c = (let room = c.requires.0 in deeper {ρ = λ γ. a_named c.args.d c.args.b ∷ γ} (binds (suc c.args.b)) (omega (arith, inside c.args.y.now.kinds.now (c.args.at + 1) (omega (arith, c.requires.5)))) (bound-deep c.args.y.now.kinds.now c.args.at (suc c.args.b) (omega arith) c.requires.6) (only _ kind.plain c.requires.5 (λ γ. refl)), tt)
 
 pub such-kind_at-k-requires : goal.such-kind_at-k-requires
 unfolding code_of
 such-kind_at-k-requires t c = search rules
 
-pub such-name_of-requires : goal.such-name_of-requires
+pub such-is_name-requires : goal.such-is_name-requires
 unfolding code_of
-such-name_of-requires t c = search rules
+such-is_name-requires t c = search rules
 
-pub such-returns-then-name_of-eq-NONE : goal.such-returns-then-name_of-eq-NONE
+pub such-returns-then-not-is_name : goal.such-returns-then-not-is_name
 unfolding compute_form
-such-returns-then-name_of-eq-NONE t c = (let room = c.requires.0 in let z = inside c.args.s.now (c.args.at + 1 + 1) (omega (arith, c.requires.6)) in taken {μ = a_named c.args.d c.args.b ∷ []} {m = c.args.n} (binds (suc c.args.b)) (omega (arith, inside c.args.s.now (c.args.at + 1 + 1) (omega (arith, c.requires.6)))) (bind_well c.args.s.now (c.args.at + 1) (suc c.args.b) (omega (arith, c.if-b-ge-BOUND_NAMES.false))) (only _ kind.plain c.requires.5 (λ γ. refl)) (takes {μ = a_name ∷ exact kind.bar ∷ a_unary c.args.d (suc c.args.b) ∷ a_pred_rest c.args.d c.args.d (suc c.args.b) ∷ exact kind.close_brace ∷ []} {m = c.args.n} (inside c.args.s.now (c.args.at + 1 + 1) (omega (arith, c.requires.6))) (only _ kind.colon c.requires.6 (λ γ. refl)) (stops (omega arith) (λ κ e γ. name-step κ _ (c.name_of.ensures.classes.class κ (e ∙ sym c.kind_at-k.ensures.is) ∙ c.if-name_of-eq-NONE.true)) (λ γ. refl)) (omega arith)) (omega arith), tt)
+such-returns-then-not-is_name t c = (let room = c.requires.0 in let z = inside c.args.y.now.kinds.now (c.args.at + 1 + 1) (omega (arith, c.requires.6)) in taken {μ = a_named c.args.d c.args.b ∷ []} {m = c.args.n} (binds (suc c.args.b)) (omega (arith, inside c.args.y.now.kinds.now (c.args.at + 1 + 1) (omega (arith, c.requires.6)))) (bind_well c.args.y.now.kinds.now (c.args.at + 1) (suc c.args.b) (omega (arith, c.if-b-ge-BOUND_NAMES.false))) (only _ kind.plain c.requires.5 (λ γ. refl)) (takes {μ = a_name ∷ exact kind.bar ∷ a_unary c.args.d (suc c.args.b) ∷ a_pred_rest c.args.d c.args.d (suc c.args.b) ∷ exact kind.close_brace ∷ []} {m = c.args.n} (inside c.args.y.now.kinds.now (c.args.at + 1 + 1) (omega (arith, c.requires.6))) (only _ kind.colon c.requires.6 (λ γ. refl)) (stops (omega arith) (λ κ e γ. name-step κ _ (no-class (named c.kind_at-k.result c.is_name.ensures).classes c.if-not-is_name.true κ (e ∙ sym c.kind_at-k.ensures.is))) (λ γ. refl)) (omega arith)) (omega arith), tt)
 
 pub such-overflow_add-g-4 : goal.such-overflow_add-g-4
 such-overflow_add-g-4 t c = let room = c.requires.0 in search rules
@@ -487,9 +489,9 @@ pub such-pred-requires : goal.such-pred-requires
 unfolding code_of
 such-pred-requires t c = let room = c.requires.0 in let h = (known c.in_ok-bar.was (c.close.ensures.reads kind.bar refl)) in search rules
 
-pub such-name_number-y-requires : goal.such-name_number-y-requires
+pub such-name_number-over-requires : goal.such-name_number-over-requires
 unfolding code_of
-such-name_number-y-requires t c = search rules
+such-name_number-over-requires t c = search rules
 
 pub such-put-h-requires : goal.such-put-h-requires
 unfolding code_of
@@ -512,15 +514,15 @@ such-close-requires-2 t c = let room = c.requires.0 in let j = (known c.in_ok-bo
 
 pub such-returns : goal.such-returns
 unfolding compute_form
-such-returns t c = (let room = c.requires.0 in let h = (known c.in_ok-bar.was (c.close.ensures.reads kind.bar refl)) in let i = known-ahead _ c.in_ok-bar.was c.close.ensures.ahead in let j = (known c.in_ok-body.was c.pred.ensures.0) in taken {μ = a_named c.args.d c.args.b ∷ []} {m = c.args.n} (binds (suc c.args.b)) (omega (arith, inside c.args.s.now (c.args.at + 1 + 1) (omega (arith, c.requires.6)))) (bind_well c.args.s.now (c.args.at + 1) (suc c.args.b) (omega (arith, c.if-b-ge-BOUND_NAMES.false))) (only _ kind.plain c.requires.5 (λ γ. refl)) (takes {μ = a_name ∷ exact kind.bar ∷ a_unary c.args.d (suc c.args.b) ∷ a_pred_rest c.args.d c.args.d (suc c.args.b) ∷ exact kind.close_brace ∷ []} {m = c.args.n} (inside c.args.s.now (c.args.at + 1 + 1) (omega (arith, c.requires.6))) (only _ kind.colon c.requires.6 (λ γ. refl)) (takes {μ = exact kind.bar ∷ a_unary c.args.d (suc c.args.b) ∷ a_pred_rest c.args.d c.args.d (suc c.args.b) ∷ exact kind.close_brace ∷ []} {m = c.args.n + 4} (omega arith) (λ κ e γ. name-taken κ _ (λ q. c.if-name_of-eq-NONE.false (sym (c.name_of.ensures.classes.class κ (e ∙ sym c.kind_at-k.ensures.is)) ∙ q))) (next (counted {c = c.args.n + 4} {d = c.args.n + 8} (omega arith) (framed (a_unary c.args.d (suc c.args.b) ∷ a_pred_rest c.args.d c.args.d (suc c.args.b) ∷ exact kind.close_brace ∷ []) h)) (next (counted {c = c.args.n + 8} (omega arith) (framed (exact kind.close_brace ∷ []) (raised (λ x. a_unary c.args.d x ∷ a_pred_rest c.args.d c.args.d x ∷ []) c.args.b j))) (c.close-2.ensures.reads kind.close_brace refl))) (omega arith)) (omega arith)) (omega arith), let t₁ = closed c.in_ok-bar.was c.close.ensures in let w₁ = (made c.in_ok-body.was c.pred.ensures.1) in closing c.close-2.ensures (λ q. makes (both (both (built w₁) (node_of c.name_number-y.ensures refl c.put-h.ensures)) (node_of c.name_number-x.ensures refl c.put-i.ensures)) (derived.such c.requires.4 c.requires.5 c.requires.6 (named-at c.kind_at-k.ensures.is (c.name_of.ensures.name (omega (arith, c.if-name_of-eq-NONE.false)))) t₁.1 (from t₁.0 w₁.derives) q)))
+such-returns t c = (let room = c.requires.0 in let h = (known c.in_ok-bar.was (c.close.ensures.reads kind.bar refl)) in let i = known-ahead _ c.in_ok-bar.was c.close.ensures.ahead in let j = (known c.in_ok-body.was c.pred.ensures.0) in taken {μ = a_named c.args.d c.args.b ∷ []} {m = c.args.n} (binds (suc c.args.b)) (omega (arith, inside c.args.y.now.kinds.now (c.args.at + 1 + 1) (omega (arith, c.requires.6)))) (bind_well c.args.y.now.kinds.now (c.args.at + 1) (suc c.args.b) (omega (arith, c.if-b-ge-BOUND_NAMES.false))) (only _ kind.plain c.requires.5 (λ γ. refl)) (takes {μ = a_name ∷ exact kind.bar ∷ a_unary c.args.d (suc c.args.b) ∷ a_pred_rest c.args.d c.args.d (suc c.args.b) ∷ exact kind.close_brace ∷ []} {m = c.args.n} (inside c.args.y.now.kinds.now (c.args.at + 1 + 1) (omega (arith, c.requires.6))) (only _ kind.colon c.requires.6 (λ γ. refl)) (takes {μ = exact kind.bar ∷ a_unary c.args.d (suc c.args.b) ∷ a_pred_rest c.args.d c.args.d (suc c.args.b) ∷ exact kind.close_brace ∷ []} {m = c.args.n + 4} (omega arith) (λ κ e γ. name-taken κ _ (some-class (named c.kind_at-k.result c.is_name.ensures).classes c.if-not-is_name.false κ (e ∙ sym c.kind_at-k.ensures.is))) (next (counted {c = c.args.n + 4} {d = c.args.n + 8} (omega arith) (framed (a_unary c.args.d (suc c.args.b) ∷ a_pred_rest c.args.d c.args.d (suc c.args.b) ∷ exact kind.close_brace ∷ []) h)) (next (counted {c = c.args.n + 8} (omega arith) (framed (exact kind.close_brace ∷ []) (raised (λ x. a_unary c.args.d x ∷ a_pred_rest c.args.d c.args.d x ∷ []) c.args.b j))) (c.close-2.ensures.reads kind.close_brace refl))) (omega arith)) (omega arith)) (omega arith), let t₁ = closed c.in_ok-bar.was c.close.ensures in let w₁ = (made c.in_ok-body.was c.pred.ensures.1) in closing c.close-2.ensures (λ q. makes (both (both (built w₁) (node_of c.name_number-over.ensures refl c.put-h.ensures)) (node_of c.name_number-x.ensures refl c.put-i.ensures)) (derived.such c.requires.4 c.requires.5 c.requires.6 (named-at c.kind_at-k.ensures.is ((named c.kind_at-k.result c.is_name.ensures).name c.if-not-is_name.false)) t₁.1 (from t₁.0 w₁.derives) q)))
 
 pub such-returns-in_err-body : goal.such-returns-in_err-body
 unfolding compute_form
-such-returns-in_err-body t c = rw (exits c.from_residual-in_err-body.result c.from_residual-in_err-body.ensures.1) ((let room = c.requires.0 in let h = (known c.in_ok-bar.was (c.close.ensures.reads kind.bar refl)) in taken {μ = a_named c.args.d c.args.b ∷ []} {m = c.args.n} (binds (suc c.args.b)) (omega (arith, inside c.args.s.now (c.args.at + 1 + 1) (omega (arith, c.requires.6)))) (bind_well c.args.s.now (c.args.at + 1) (suc c.args.b) (omega (arith, c.if-b-ge-BOUND_NAMES.false))) (only _ kind.plain c.requires.5 (λ γ. refl)) (takes {μ = a_name ∷ exact kind.bar ∷ a_unary c.args.d (suc c.args.b) ∷ a_pred_rest c.args.d c.args.d (suc c.args.b) ∷ exact kind.close_brace ∷ []} {m = c.args.n} (inside c.args.s.now (c.args.at + 1 + 1) (omega (arith, c.requires.6))) (only _ kind.colon c.requires.6 (λ γ. refl)) (takes {μ = exact kind.bar ∷ a_unary c.args.d (suc c.args.b) ∷ a_pred_rest c.args.d c.args.d (suc c.args.b) ∷ exact kind.close_brace ∷ []} {m = c.args.n + 4} (omega arith) (λ κ e γ. name-taken κ _ (λ q. c.if-name_of-eq-NONE.false (sym (c.name_of.ensures.classes.class κ (e ∙ sym c.kind_at-k.ensures.is)) ∙ q))) (next (counted {c = c.args.n + 4} {d = c.args.n} (omega arith) (framed (a_unary c.args.d (suc c.args.b) ∷ a_pred_rest c.args.d c.args.d (suc c.args.b) ∷ exact kind.close_brace ∷ []) h)) (fails (framed (exact kind.close_brace ∷ []) (raised (λ x. a_unary c.args.d x ∷ a_pred_rest c.args.d c.args.d x ∷ []) c.args.b (known c.in_err-body.was c.pred.ensures.0))))) (omega arith)) (omega arith)) (omega arith), tt))
+such-returns-in_err-body t c = rw (exits c.from_residual-in_err-body.result c.from_residual-in_err-body.ensures.1) ((let room = c.requires.0 in let h = (known c.in_ok-bar.was (c.close.ensures.reads kind.bar refl)) in taken {μ = a_named c.args.d c.args.b ∷ []} {m = c.args.n} (binds (suc c.args.b)) (omega (arith, inside c.args.y.now.kinds.now (c.args.at + 1 + 1) (omega (arith, c.requires.6)))) (bind_well c.args.y.now.kinds.now (c.args.at + 1) (suc c.args.b) (omega (arith, c.if-b-ge-BOUND_NAMES.false))) (only _ kind.plain c.requires.5 (λ γ. refl)) (takes {μ = a_name ∷ exact kind.bar ∷ a_unary c.args.d (suc c.args.b) ∷ a_pred_rest c.args.d c.args.d (suc c.args.b) ∷ exact kind.close_brace ∷ []} {m = c.args.n} (inside c.args.y.now.kinds.now (c.args.at + 1 + 1) (omega (arith, c.requires.6))) (only _ kind.colon c.requires.6 (λ γ. refl)) (takes {μ = exact kind.bar ∷ a_unary c.args.d (suc c.args.b) ∷ a_pred_rest c.args.d c.args.d (suc c.args.b) ∷ exact kind.close_brace ∷ []} {m = c.args.n + 4} (omega arith) (λ κ e γ. name-taken κ _ (some-class (named c.kind_at-k.result c.is_name.ensures).classes c.if-not-is_name.false κ (e ∙ sym c.kind_at-k.ensures.is))) (next (counted {c = c.args.n + 4} {d = c.args.n} (omega arith) (framed (a_unary c.args.d (suc c.args.b) ∷ a_pred_rest c.args.d c.args.d (suc c.args.b) ∷ exact kind.close_brace ∷ []) h)) (fails (framed (exact kind.close_brace ∷ []) (raised (λ x. a_unary c.args.d x ∷ a_pred_rest c.args.d c.args.d x ∷ []) c.args.b (known c.in_err-body.was c.pred.ensures.0))))) (omega arith)) (omega arith)) (omega arith), tt))
 
 pub such-returns-in_err-bar : goal.such-returns-in_err-bar
 unfolding compute_form
-such-returns-in_err-bar t c = rw (exits c.from_residual.result c.from_residual.ensures.1) ((let room = c.requires.0 in taken {μ = a_named c.args.d c.args.b ∷ []} {m = c.args.n} (binds (suc c.args.b)) (omega (arith, inside c.args.s.now (c.args.at + 1 + 1) (omega (arith, c.requires.6)))) (bind_well c.args.s.now (c.args.at + 1) (suc c.args.b) (omega (arith, c.if-b-ge-BOUND_NAMES.false))) (only _ kind.plain c.requires.5 (λ γ. refl)) (takes {μ = a_name ∷ exact kind.bar ∷ a_unary c.args.d (suc c.args.b) ∷ a_pred_rest c.args.d c.args.d (suc c.args.b) ∷ exact kind.close_brace ∷ []} {m = c.args.n} (inside c.args.s.now (c.args.at + 1 + 1) (omega (arith, c.requires.6))) (only _ kind.colon c.requires.6 (λ γ. refl)) (takes {μ = exact kind.bar ∷ a_unary c.args.d (suc c.args.b) ∷ a_pred_rest c.args.d c.args.d (suc c.args.b) ∷ exact kind.close_brace ∷ []} {m = c.args.n + 4} (omega arith) (λ κ e γ. name-taken κ _ (λ q. c.if-name_of-eq-NONE.false (sym (c.name_of.ensures.classes.class κ (e ∙ sym c.kind_at-k.ensures.is)) ∙ q))) (fails (framed (a_unary c.args.d (suc c.args.b) ∷ a_pred_rest c.args.d c.args.d (suc c.args.b) ∷ exact kind.close_brace ∷ []) (known c.in_err-bar.was (c.close.ensures.reads kind.bar refl)))) (omega arith)) (omega arith)) (omega arith), tt))
+such-returns-in_err-bar t c = rw (exits c.from_residual.result c.from_residual.ensures.1) ((let room = c.requires.0 in let g = (named c.kind_at-k.result c.is_name.ensures).name c.if-not-is_name.false in taken {μ = a_named c.args.d c.args.b ∷ []} {m = c.args.n} (binds (suc c.args.b)) (omega (arith, inside c.args.y.now.kinds.now (c.args.at + 1 + 1) (omega (arith, c.requires.6)))) (bind_well c.args.y.now.kinds.now (c.args.at + 1) (suc c.args.b) (omega (arith, c.if-b-ge-BOUND_NAMES.false))) (only _ kind.plain c.requires.5 (λ γ. refl)) (takes {μ = a_name ∷ exact kind.bar ∷ a_unary c.args.d (suc c.args.b) ∷ a_pred_rest c.args.d c.args.d (suc c.args.b) ∷ exact kind.close_brace ∷ []} {m = c.args.n} (inside c.args.y.now.kinds.now (c.args.at + 1 + 1) (omega (arith, c.requires.6))) (only _ kind.colon c.requires.6 (λ γ. refl)) (takes {μ = exact kind.bar ∷ a_unary c.args.d (suc c.args.b) ∷ a_pred_rest c.args.d c.args.d (suc c.args.b) ∷ exact kind.close_brace ∷ []} {m = c.args.n + 4} (omega arith) (λ κ e γ. name-taken κ _ (some-class (named c.kind_at-k.result c.is_name.ensures).classes c.if-not-is_name.false κ (e ∙ sym c.kind_at-k.ensures.is))) (fails (framed (a_unary c.args.d (suc c.args.b) ∷ a_pred_rest c.args.d c.args.d (suc c.args.b) ∷ exact kind.close_brace ∷ []) (known c.in_err-bar.was (c.close.ensures.reads kind.bar refl)))) (omega arith)) (omega arith)) (omega arith), tt))
 
 pub term-returns : goal.term-returns
 unfolding compute_form
@@ -542,7 +544,7 @@ term_more-put-count-requires t c = let room = c.requires.0 in let positive = c.r
 
 pub term_more-returns-then-o-ge-DIVIDES : goal.term_more-returns-then-o-ge-DIVIDES
 unfolding compute_form
-term_more-returns-then-o-ge-DIVIDES t c = let room = c.requires.0 in let positive = c.requires.3 in let ahead = c.requires.4 in let small = c.requires.5.small in let h = (known c.in_ok-divisor.was c.end.ensures.0.reads) in let i = known-ahead _ c.in_ok-divisor.was c.end.ensures.0.ahead in let c₁ = c.put-count.ensures.count in (takes {μ = an_end ∷ a_term_rest c.args.d c.args.b ∷ []} {m = c.args.n} (omega arith) (λ κ e γ. rest-division c.args.d c.args.b c.args.o κ γ (c.requires.5.class κ e) (omega arith)) (counted {c = c.args.n} (omega arith) (framed (a_term_rest c.args.d c.args.b ∷ []) h)) (omega arith), omega arith, λ min q. chain (node_of c.magnitude-x.ensures c.division-y.ensures c.put-count.ensures) (λ k u x. derived.divided c.requires.5 (omega arith) (omega (arith, level-two c.args.o)) (showing (EndAt c.args.s.now (c.args.at + 1)) _ c.in_ok-divisor.was c.end.ensures.1) x))
+term_more-returns-then-o-ge-DIVIDES t c = let room = c.requires.0 in let positive = c.requires.3 in let ahead = c.requires.4 in let small = c.requires.5.small in let h = (known c.in_ok-divisor.was c.end.ensures.0.reads) in let i = known-ahead _ c.in_ok-divisor.was c.end.ensures.0.ahead in let c₁ = c.put-count.ensures.count in (takes {μ = an_end ∷ a_term_rest c.args.d c.args.b ∷ []} {m = c.args.n} (omega arith) (λ κ e γ. rest-division c.args.d c.args.b c.args.o κ γ (c.requires.5.class κ e) (omega arith)) (counted {c = c.args.n} (omega arith) (framed (a_term_rest c.args.d c.args.b ∷ []) h)) (omega arith), omega arith, λ min q. chain (node_of c.magnitude-x.ensures c.division-kind.ensures c.put-count.ensures) (λ k u x. derived.divided c.requires.5 (omega arith) (omega (arith, level-two c.args.o)) (showing (EndAt c.args.y.now.kinds.now (c.args.at + 1)) _ c.in_ok-divisor.was c.end.ensures.1) x))
 
 pub term_more-returns-in_err-divisor : goal.term_more-returns-in_err-divisor
 unfolding compute_form
@@ -556,7 +558,7 @@ term_more-put-count-requires-2 t c = let room = c.requires.0 in let positive = c
 
 pub term_more-returns : goal.term_more-returns
 unfolding compute_form
-term_more-returns t c = let room = c.requires.0 in let positive = c.requires.3 in let ahead = c.requires.4 in let small = c.requires.5.small in let h = (known c.in_ok-right.was c.term_from.ensures.0.reads) in let c₁ = c.put-count-2.ensures.count in (takes {μ = a_term c.args.d c.args.b ∷ []} {m = c.args.n + 4} (omega arith) (λ κ e γ. rest-binary c.args.d c.args.b c.args.o κ γ (c.requires.5.class κ e) (omega arith) (omega arith)) (counted {c = c.args.n + 4} (omega arith) h) (omega arith), (let f = h.from in omega arith), λ min q. let w₁ = made c.in_ok-right.was c.term_from.ensures.1 in chain (both (built w₁) (node_of (c.wide.ensures ∙ c.kind_at-k.ensures.is) refl c.put-count-2.ensures)) (λ k u x. derived.operated c.requires.5 (omega arith) (omega arith) (omega (arith, level-class c.args.o)) w₁.derives x))
+term_more-returns t c = let room = c.requires.0 in let positive = c.requires.3 in let ahead = c.requires.4 in let small = c.requires.5.small in let h = (known c.in_ok-right.was c.term_from.ensures.0.reads) in let c₁ = c.put-count-2.ensures.count in (takes {μ = a_term c.args.d c.args.b ∷ []} {m = c.args.n + 4} (omega arith) (λ κ e γ. rest-binary c.args.d c.args.b c.args.o κ γ (c.requires.5.class κ e) (omega arith) (omega arith)) (counted {c = c.args.n + 4} (omega arith) h) (omega arith), (let f = h.from in omega arith), λ min q. let w₁ = made c.in_ok-right.was c.term_from.ensures.1 in chain (both (built w₁) (node_of (c.from.ensures ∙ c.kind_at-k.ensures.is) refl c.put-count-2.ensures)) (λ k u x. derived.operated c.requires.5 (omega arith) (omega arith) (omega (arith, level-class c.args.o)) w₁.derives x))
 
 pub term_more-returns-in_err-right : goal.term_more-returns-in_err-right
 unfolding compute_form
@@ -584,42 +586,42 @@ unfolding compute_form
 term_rest-returns t c = (record { reads = c.loop-code.invariant.0; stops = (λ κ e. below-level _ c.loop-code.o c.level_of.result c.args.min (c.loop-code.invariant.3.class κ e) c.level_of.ensures (omega arith)) }, more-made c.loop-code.invariant.1 (derived.term_stops (λ κ e. below-level _ c.loop-code.o c.level_of.result c.args.min (c.loop-code.invariant.3.class κ e) c.level_of.ensures (omega arith))))
 
 pub unary-atom-requires : goal.unary-atom-requires
-unary-atom-requires t c = let room = c.requires.0 in let h = (known c.in_ok-first.was c.term.ensures.0) in search rules
+unary-atom-requires t c = let room = c.requires.0 in let h = (known c.in_ok-first-in-Term.was c.term.ensures.0) in search rules
 
-pub unary-returns-then-c-eq-NONE : goal.unary-returns-then-c-eq-NONE
+pub unary-returns-in_ok-first-in-Term : goal.unary-returns-in_ok-first-in-Term
 unfolding compute_form
-unary-returns-then-c-eq-NONE t c = (likewise (λ κ e γ. as-term c.args.d c.args.b κ γ ((c.pred_start_of-c.ensures.classes.class κ (e ∙ sym c.kind_at-k.ensures.is)) ∙ c.if-c-eq-NONE.true)) (λ γ. refl) (next (framed (a_rel c.args.d c.args.b ∷ []) (known c.in_ok-first.was c.term.ensures.0)) c.atom.ensures.0), let w₁ = (made c.in_ok-first.was c.term.ensures.1) in onward _ c.atom.result (built w₁) (λ k v x. derived.atomic w₁.derives x) c.atom.ensures.1)
+unary-returns-in_ok-first-in-Term t c = let r = ap start_class c.in-Term.is in (likewise (λ κ e γ. as-term c.args.d c.args.b κ γ (c.pred_start_of-start.ensures.classes.class κ (e ∙ sym c.kind_at-k.ensures.is) ∙ r)) (λ γ. refl) (next (framed (a_rel c.args.d c.args.b ∷ []) (known c.in_ok-first-in-Term.was c.term.ensures.0)) c.atom.ensures.0), let w₁ = (made c.in_ok-first-in-Term.was c.term.ensures.1) in onward _ c.atom.result (built w₁) (λ k v x. derived.atomic w₁.derives x) c.atom.ensures.1)
 
-pub unary-returns-in_err-first : goal.unary-returns-in_err-first
+pub unary-returns-in_err-first-in-Term : goal.unary-returns-in_err-first-in-Term
 unfolding compute_form
-unary-returns-in_err-first t c = rw (exits c.from_residual.result c.from_residual.ensures.1) ((likewise (λ κ e γ. as-term c.args.d c.args.b κ γ ((c.pred_start_of-c.ensures.classes.class κ (e ∙ sym c.kind_at-k.ensures.is)) ∙ c.if-c-eq-NONE.true)) (λ γ. refl) (fails (framed (a_rel c.args.d c.args.b ∷ []) (known c.in_err-first.was c.term.ensures.0))), tt))
+unary-returns-in_err-first-in-Term t c = rw (exits c.from_residual.result c.from_residual.ensures.1) (let r = ap start_class c.in-Term.is in (likewise (λ κ e γ. as-term c.args.d c.args.b κ γ (c.pred_start_of-start.ensures.classes.class κ (e ∙ sym c.kind_at-k.ensures.is) ∙ r)) (λ γ. refl) (fails (framed (a_rel c.args.d c.args.b ∷ []) (known c.in_err-first-in-Term.was c.term.ensures.0))), tt))
 
-pub unary-returns-then-c-eq-TRUTH : goal.unary-returns-then-c-eq-TRUTH
+pub unary-returns-in-Truth : goal.unary-returns-in-Truth
 unfolding compute_form
-unary-returns-then-c-eq-TRUTH t c = (takes {μ = []} (omega arith) (λ κ e γ. unary-step c.args.d c.args.b κ γ ((c.pred_start_of-c.ensures.classes.class κ (e ∙ sym c.kind_at-k.ensures.is)) ∙ c.if-c-eq-TRUTH.true)) (here (omega arith)) (omega arith), makes (node_of (c.wide.ensures ∙ c.kind_at-k.ensures.is) refl c.put-m.ensures) (derived.truth_value (class-at c.kind_at-k.ensures.is c.if-c-eq-TRUTH.true c.pred_start_of-c.ensures.classes)))
+unary-returns-in-Truth t c = let r = ap start_class c.in-Truth.is in let g : 1 ≤ 9 * c.kind_at-k.result = class-code c.pred_start_of-start.ensures.classes r in (takes {μ = []} (omega arith) (λ κ e γ. unary-step c.args.d c.args.b κ γ (c.pred_start_of-start.ensures.classes.class κ (e ∙ sym c.kind_at-k.ensures.is) ∙ r)) (here (omega arith)) (omega arith), makes (node_of (c.from.ensures ∙ c.kind_at-k.ensures.is) refl c.put-m.ensures) (derived.truth_value (class-at c.kind_at-k.ensures.is r c.pred_start_of-start.ensures.classes)))
 
 pub unary-returns-then-d-ge-DEPTH : goal.unary-returns-then-d-ge-DEPTH
 unfolding compute_form
-unary-returns-then-d-ge-DEPTH t c = (deeper (opens (suc c.args.d)) (omega arith) (open-deep c.args.s.now c.args.at (suc c.args.d) (omega arith) (other-kind c.args.s.now c.args.at (λ q. absurd (omega (arith, c.pred_start_of-c.ensures.classes.class kind.minus (sym (c.kind_at-k.ensures.is ∙ q))))))) (λ κ e γ. unary-step c.args.d c.args.b κ γ ((c.pred_start_of-c.ensures.classes.class κ (e ∙ sym c.kind_at-k.ensures.is)) ∙ c.if-c-eq-NEGATION.true)), tt)
+unary-returns-then-d-ge-DEPTH t c = let r = ap start_class c.in-Negation.is in let g : 2 ≤ 9 * c.kind_at-k.result = class-code c.pred_start_of-start.ensures.classes r in (deeper (opens (suc c.args.d)) (omega arith) (open-deep c.args.y.now.kinds.now c.args.at (suc c.args.d) (omega arith) (other-kind c.args.y.now.kinds.now c.args.at (λ q. let z : ◌≡◌ {A = ℕ} 0 2 = c.pred_start_of-start.ensures.classes.class kind.minus (sym (c.kind_at-k.ensures.is ∙ q)) ∙ r in absurd (omega arith)))) (λ κ e γ. unary-step c.args.d c.args.b κ γ (c.pred_start_of-start.ensures.classes.class κ (e ∙ sym c.kind_at-k.ensures.is) ∙ r)), tt)
 
 pub unary-put-count-requires : goal.unary-put-count-requires
-unary-put-count-requires t c = let room = c.requires.0 in let h = (known c.in_ok-denied.was c.unary.ensures.0) in search rules
+unary-put-count-requires t c = let room = c.requires.0 in let r = ap start_class c.in-Negation.is in let g : 2 ≤ 9 * c.kind_at-k.result = class-code c.pred_start_of-start.ensures.classes r in let h = (known c.in_ok-denied-in-Negation.was c.unary.ensures.0) in search rules
 
-pub unary-returns-then-c-eq-NEGATION : goal.unary-returns-then-c-eq-NEGATION
+pub unary-returns-in_ok-denied-in-Negation : goal.unary-returns-in_ok-denied-in-Negation
 unfolding compute_form
-unary-returns-then-c-eq-NEGATION t c = (let h = (known c.in_ok-denied.was c.unary.ensures.0) in taken {μ = a_unary (suc c.args.d) c.args.b ∷ []} {m = c.args.n + 4} (opens (suc c.args.d)) (omega arith) (open_well c.args.s.now c.args.at (suc c.args.d) (omega arith)) (λ κ e γ. unary-step c.args.d c.args.b κ γ ((c.pred_start_of-c.ensures.classes.class κ (e ∙ sym c.kind_at-k.ensures.is)) ∙ c.if-c-eq-NEGATION.true)) (counted (omega arith) (raised (λ x. a_unary x c.args.b ∷ []) c.args.d h)) (omega arith), let w₁ = (made c.in_ok-denied.was c.unary.ensures.1) in makes (both (built w₁) (wrote c.put-count.ensures)) (derived.denied (class-at c.kind_at-k.ensures.is c.if-c-eq-NEGATION.true c.pred_start_of-c.ensures.classes) w₁.derives))
+unary-returns-in_ok-denied-in-Negation t c = let r = ap start_class c.in-Negation.is in let g : 2 ≤ 9 * c.kind_at-k.result = class-code c.pred_start_of-start.ensures.classes r in (let h = (known c.in_ok-denied-in-Negation.was c.unary.ensures.0) in taken {μ = a_unary (suc c.args.d) c.args.b ∷ []} {m = c.args.n + 4} (opens (suc c.args.d)) (omega arith) (open_well c.args.y.now.kinds.now c.args.at (suc c.args.d) (omega arith)) (λ κ e γ. unary-step c.args.d c.args.b κ γ (c.pred_start_of-start.ensures.classes.class κ (e ∙ sym c.kind_at-k.ensures.is) ∙ r)) (counted (omega arith) (raised (λ x. a_unary x c.args.b ∷ []) c.args.d h)) (omega arith), let w₁ = (made c.in_ok-denied-in-Negation.was c.unary.ensures.1) in makes (both (built w₁) (wrote c.put-count.ensures)) (derived.denied (class-at c.kind_at-k.ensures.is r c.pred_start_of-start.ensures.classes) w₁.derives))
 
-pub unary-returns-in_err-denied : goal.unary-returns-in_err-denied
+pub unary-returns-in_err-denied-in-Negation : goal.unary-returns-in_err-denied-in-Negation
 unfolding compute_form
-unary-returns-in_err-denied t c = rw (exits c.from_residual-in_err-denied.result c.from_residual-in_err-denied.ensures.1) ((taken {μ = a_unary (suc c.args.d) c.args.b ∷ []} {m = c.args.n + 4} (opens (suc c.args.d)) (omega arith) (open_well c.args.s.now c.args.at (suc c.args.d) (omega arith)) (λ κ e γ. unary-step c.args.d c.args.b κ γ ((c.pred_start_of-c.ensures.classes.class κ (e ∙ sym c.kind_at-k.ensures.is)) ∙ c.if-c-eq-NEGATION.true)) (fails (raised (λ x. a_unary x c.args.b ∷ []) c.args.d (known c.in_err-denied.was c.unary.ensures.0))) (omega arith), tt))
+unary-returns-in_err-denied-in-Negation t c = rw (exits c.from_residual-in_err-denied-in-Negation.result c.from_residual-in_err-denied-in-Negation.ensures.1) (let r = ap start_class c.in-Negation.is in let g : 2 ≤ 9 * c.kind_at-k.result = class-code c.pred_start_of-start.ensures.classes r in (taken {μ = a_unary (suc c.args.d) c.args.b ∷ []} {m = c.args.n + 4} (opens (suc c.args.d)) (omega arith) (open_well c.args.y.now.kinds.now c.args.at (suc c.args.d) (omega arith)) (λ κ e γ. unary-step c.args.d c.args.b κ γ (c.pred_start_of-start.ensures.classes.class κ (e ∙ sym c.kind_at-k.ensures.is) ∙ r)) (fails (raised (λ x. a_unary x c.args.b ∷ []) c.args.d (known c.in_err-denied-in-Negation.was c.unary.ensures.0))) (omega arith), tt))
 
 pub unary-returns-then-d-ge-DEPTH-2 : goal.unary-returns-then-d-ge-DEPTH-2
 unfolding compute_form
-unary-returns-then-d-ge-DEPTH-2 t c = (deeper (opens (suc c.args.d)) (omega arith) (open-deep c.args.s.now c.args.at (suc c.args.d) (omega arith) (other-kind c.args.s.now c.args.at (λ q. absurd (omega (arith, c.pred_start_of-c.ensures.classes.class kind.minus (sym (c.kind_at-k.ensures.is ∙ q))))))) (λ κ e γ. paren-opens c.args.d c.args.b c.pred_start_of-c.result κ γ (c.pred_start_of-c.ensures.classes.class κ (e ∙ sym c.kind_at-k.ensures.is)) (omega arith)), tt)
+unary-returns-then-d-ge-DEPTH-2 t c = let r = ap start_class c.in-Paren.is in let g : 3 ≤ 9 * c.kind_at-k.result = class-code c.pred_start_of-start.ensures.classes r in (deeper (opens (suc c.args.d)) (omega arith) (open-deep c.args.y.now.kinds.now c.args.at (suc c.args.d) (omega arith) (other-kind c.args.y.now.kinds.now c.args.at (λ q. let z : ◌≡◌ {A = ℕ} 0 3 = c.pred_start_of-start.ensures.classes.class kind.minus (sym (c.kind_at-k.ensures.is ∙ q)) ∙ r in absurd (omega arith)))) (λ κ e γ. paren-opens c.args.d c.args.b 3 κ γ (c.pred_start_of-start.ensures.classes.class κ (e ∙ sym c.kind_at-k.ensures.is) ∙ r) (omega arith)), tt)
 
 pub unary-paren-requires : goal.unary-paren-requires
-unary-paren-requires t c = let room = c.requires.0 in let i = c.pred_start_of-c.ensures.paren (omega arith) in let k = c.kind_at-k.ensures.is in search rules
+unary-paren-requires t c = let room = c.requires.0 in let i = c.pred_start_of-start.ensures.paren c.in-Paren.is in let k = c.kind_at-k.ensures.is in search rules
 
-pub unary-returns : goal.unary-returns
+pub unary-returns-else-d-ge-DEPTH-2 : goal.unary-returns-else-d-ge-DEPTH-2
 unfolding compute_form
-unary-returns t c = (taken {μ = a_paren (suc c.args.d) c.args.b ∷ []} (opens (suc c.args.d)) (omega arith) (open_well c.args.s.now c.args.at (suc c.args.d) (omega arith)) (λ κ e γ. paren-opens c.args.d c.args.b c.pred_start_of-c.result κ γ (c.pred_start_of-c.ensures.classes.class κ (e ∙ sym c.kind_at-k.ensures.is)) (omega arith)) (raised (λ x. a_paren x c.args.b ∷ []) c.args.d c.paren.ensures.0) (omega arith), c.paren.ensures.1)
+unary-returns-else-d-ge-DEPTH-2 t c = let r = ap start_class c.in-Paren.is in let g : 3 ≤ 9 * c.kind_at-k.result = class-code c.pred_start_of-start.ensures.classes r in (taken {μ = a_paren (suc c.args.d) c.args.b ∷ []} (opens (suc c.args.d)) (omega arith) (open_well c.args.y.now.kinds.now c.args.at (suc c.args.d) (omega arith)) (λ κ e γ. paren-opens c.args.d c.args.b 3 κ γ (c.pred_start_of-start.ensures.classes.class κ (e ∙ sym c.kind_at-k.ensures.is) ∙ r) (omega arith)) (raised (λ x. a_paren x c.args.b ∷ []) c.args.d c.paren.ensures.0) (omega arith), c.paren.ensures.1)

@@ -1,16 +1,17 @@
 -- `measures::context` meets its contract: the marks are taken away behind the walk. Assumes nothing.
+use mathlib.Core.Bool.{true, false}
 use mathlib.Core.Path.{refl}
+use Rattle.limits.proofs.SizeMarks.{three-marked}
 use Rattle.limits.proofs.SizePass.{context-none, context-seen}
 use Rattle.limits.proofs.measures.context.Goals as goal
 
 pub returns-then-nodes-end : goal.returns-then-nodes-end
-returns-then-nodes-end c = context-none c.args.nodes.now c.args.first.now c.args.second.now c.args.shift c.args.third.now c.args.end c.args.bounds.now _ c.if-nodes-end.true refl
-
-pub mark_all-requires : goal.mark_all-requires
-mark_all-requires c = c.requires
-
-pub mark_all-requires-2 : goal.mark_all-requires-2
-mark_all-requires-2 c = c.requires
+returns-then-nodes-end c = context-none c.args.nodes.now c.args.r.now.first.now c.args.r.now.second.now c.args.r.now.shift c.args.r.now.third.now c.args.end c.args.bounds.now _ c.if-nodes-end.true refl
 
 pub returns : goal.returns
-returns c = context-seen c.args.nodes.now c.args.first.now c.args.second.now c.args.shift c.args.third.now c.args.end c.args.bounds.now _ _ _ c.pred-p.result c.mark_all.ensures c.pred-p.ensures c.mark_all-2.ensures
+returns c =
+    let a = c.args.r.now.first.now in
+    let b = c.args.r.now.second.now in
+    let s = c.args.r.now.shift in
+    let d = c.args.r.now.third.now in
+    context-seen c.args.nodes.now a b s d c.args.end c.args.bounds.now _ _ _ c.pred-p.result (three-marked true a b s d c.args.bounds.now _ _ _ c.mark.ensures c.mark-2.ensures c.mark-3.ensures) c.pred-p.ensures (three-marked false a b s d _ _ _ _ c.clear.ensures c.clear-2.ensures c.clear-3.ensures)

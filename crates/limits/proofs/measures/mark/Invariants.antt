@@ -1,11 +1,8 @@
+use mathlib.Core.Bool.{true}
 use Prim.Native.Nat.{◌/◌, ◌≤◌}
-use mathlib.Core.Path.{◌≡◌}
 use lib.ListN.{length}
 use Rattle.limits.proofs.SizeMarks.{MarkedFrom}
 use Rattle.limits.proofs.measures.mark.Given as goal
 
-abbrev pub invariant-loop-n : goal.invariant-loop-n
-invariant-loop-n l = (l.n ≤ length l.code / 8) × ((length l.bounds ≡ length l.initial.bounds) × MarkedFrom l.on l.code l.shift l.n l.initial.bounds l.bounds)
-
-abbrev pub decreases-loop-n : goal.decreases-loop-n
-decreases-loop-n l = l.n
+abbrev pub invariant-loop-k : goal.invariant-loop-k
+invariant-loop-k l = (l.k ≤ length l.code / 8) × MarkedFrom true l.code l.shift l.k l.initial.bounds l.bounds

@@ -5,7 +5,7 @@ use Rattle.limits.proofs.SizePassOperations.{too_many, measures-seen}
 use Rattle.limits.proofs.measures.measure.Goals as goal
 
 pub returns-then-n-gt-ROOM : goal.returns-then-n-gt-ROOM
-returns-then-n-gt-ROOM c = too_many c.args.nodes.now c.args.spans.now c.args.n _ c.requires c.if-n-gt-ROOM.true
+returns-then-n-gt-ROOM c = too_many c.args.p.now.nodes.now c.args.p.now.spans.now c.args.n _ c.requires c.if-n-gt-ROOM.true
 
 pub returns : goal.returns
-returns c = measures-seen c.args.nodes.now c.args.spans.now _ _ c.args.n _ _ _ _ 16384 _ _ _ _ (fault_key c.states-f.result) (fault_key c.conditions-g.result) (fault_key c.operations-h.result) _ refl c.place.ensures c.place-2.ensures c.part-a.ensures c.place-3.ensures c.place-4.ensures c.part-c.ensures (c.states-f.ensures c.args.n) (c.conditions-g.ensures c.args.n) c.operations-h.ensures (c.lesser_of-2.ensures ∙ ap (lesser (fault_key c.states-f.result)) c.lesser_of.ensures)
+returns c = measures-seen c.args.p.now.nodes.now c.args.p.now.spans.now _ _ c.args.n _ _ _ _ 16384 _ _ _ _ (fault_key c.states-f.result) (fault_key c.conditions-g.result) (fault_key c.operations-h.result) _ refl c.place.ensures c.place-2.ensures c.part.ensures c.place-3.ensures c.place-4.ensures c.part-2.ensures (c.states-f.ensures c.args.n) (c.conditions-g.ensures c.args.n) c.operations-h.ensures (c.lesser_of-2.ensures ∙ ap (lesser (fault_key c.states-f.result)) c.lesser_of.ensures)

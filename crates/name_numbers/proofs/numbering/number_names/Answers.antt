@@ -4,7 +4,6 @@ use lib.ListN.{set, length-set, length-replicate, length, get_or}
 use Prim.Native.Nat.{ℕ, ◌<◌, ◌≤◌}
 use mathlib.Core.Path.{◌≡◌, refl, ap, ◌∙◌}
 use native.Mathlib.Omega.{arith}
-use borrow.Author.Rules.{rules}
 use Rattle.lexical.specs.Symbols.{Placed, scan, symbols}
 use Rattle.lexical.specs.Promises.{value_in, number_in}
 use Rattle.name_numbers.proofs.NumberingLaws.{tree-start}
@@ -17,7 +16,7 @@ pub loop-i-init : goal.loop-i-init
 loop-i-init c = (tree-start c.pack_names.new.low c.pack_names.new.high 8193, refl, omega arith, length-replicate {A = ℕ} 8193 0, refl, length-replicate {A = ℕ} 256 0, recent-start 256)
 
 pub numbered-requires : goal.numbered-requires
-numbered-requires c = (c.loop-i.invariant.0, (let f = c.requires.0.few in omega arith), search rules, search rules, c.loop-i.invariant.3, c.loop-i.invariant.5, c.loop-i.invariant.6)
+numbered-requires c = (c.loop-i.invariant.0, (let f = c.requires.0.few in omega arith), c.loop-i.invariant.3, c.loop-i.invariant.5, c.loop-i.invariant.6)
 
 pub loop-i-preserved : goal.loop-i-preserved
 loop-i-preserved c = let k = c.requires.0.counted in let f = c.requires.0.few in let m = c.requires.3 in

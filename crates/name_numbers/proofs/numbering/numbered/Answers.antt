@@ -4,20 +4,20 @@ use borrow.Author.Rules.{rules}
 use mathlib.Core.Path.{refl, ◌∙◌}
 use native.Mathlib.Omega.{arith}
 use Rattle.name_numbers.proofs.NumberingLaws.{tree-skip}
-use Rattle.name_numbers.proofs.RecentLaws.{recalled-first, recalled-tree, recent-on, recent-more}
+use Rattle.name_numbers.proofs.RecentLaws.{earlier, recalled-first, recalled-tree, recent-on, recent-more}
 use Rattle.name_numbers.proofs.numbering.numbered.Goals as goal
 
 pub returns-then-a-eq0 : goal.returns-then-a-eq0
-returns-then-a-eq0 c = (tree-skip c.requires.0 c.if-a-eq0.true, c.requires.4, λ z. refl, λ n. absurd (n c.if-a-eq0.true), c.requires.5, recent-on c.requires.6)
+returns-then-a-eq0 c = (tree-skip c.requires.0 c.if-a-eq0.true, c.requires.2, λ z. refl, λ n. absurd (n c.if-a-eq0.true), c.requires.3, recent-on c.requires.4)
 
 pub overflow_cast-result : goal.overflow_cast-result
-overflow_cast-result c = let b = c.recalled-t.ensures.before in let g = c.requires.1 in search rules
+overflow_cast-result c = let b = (earlier c.in-Some.is c.recalled.ensures).before in let g = c.requires.1 in search rules
 
-pub returns-then-t-ne0 : goal.returns-then-t-ne0
-returns-then-t-ne0 c = (recalled-tree c.requires.0 c.if-a-eq0.false c.recalled-t.ensures (omega arith), c.requires.4, λ z. absurd (c.if-a-eq0.false z), λ n. recalled-first c.recalled-t.ensures (omega arith), c.requires.5, recent-on c.requires.6)
+pub returns-in-Some : goal.returns-in-Some
+returns-in-Some c = (recalled-tree c.requires.0 c.if-a-eq0.false (earlier c.in-Some.is c.recalled.ensures), c.requires.2, λ z. absurd (c.if-a-eq0.false z), λ n. recalled-first (earlier c.in-Some.is c.recalled.ensures), c.requires.3, recent-on c.requires.4)
 
 pub overflow_add-recent : goal.overflow_add-recent
 overflow_add-recent c = let f = (c.number_of-r.ensures.3 c.if-a-eq0.false).up_to in let g = c.requires.1 in search rules
 
 pub returns : goal.returns
-returns c = (c.number_of-r.ensures.0, c.number_of-r.ensures.1, λ z. absurd (c.if-a-eq0.false z), λ n. (c.number_of-r.ensures.3 c.if-a-eq0.false), length-set c.args.recent.now _ _ ∙ c.requires.5, recent-more c.requires.6 (c.number_of-r.ensures.3 c.if-a-eq0.false) (let l = c.requires.5 in omega arith))
+returns c = (c.number_of-r.ensures.0, c.number_of-r.ensures.1, λ z. absurd (c.if-a-eq0.false z), λ n. (c.number_of-r.ensures.3 c.if-a-eq0.false), length-set c.args.recent.now _ _ ∙ c.requires.3, recent-more c.requires.4 (c.number_of-r.ensures.3 c.if-a-eq0.false) (let l = c.requires.3 in omega arith))

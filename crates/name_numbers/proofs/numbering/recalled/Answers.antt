@@ -3,17 +3,17 @@ use Prim.Native.Nat.{◌%◌}
 use mathlib.Core.Path.{refl}
 use native.Mathlib.Omega.{arith}
 use lib.ListN.{get_or}
-use Rattle.name_numbers.proofs.RecentLaws.{recalls-none, recalls}
+use Rattle.name_numbers.proofs.RecentLaws.{recalls}
 use Rattle.name_numbers.proofs.numbering.recalled.Goals as goal
 
 pub returns-then-t-eq0 : goal.returns-then-t-eq0
-returns-then-t-eq0 c = recalls-none
+returns-then-t-eq0 c = tt
 
 pub same_letters-requires : goal.same_letters-requires
-same_letters-requires c = (omega (arith, c.requires.0.below (get_or c.args.low.now c.args.i 0 % 256)), omega (arith, c.requires.0.below (get_or c.args.low.now c.args.i 0 % 256)))
+same_letters-requires c = (omega (arith, c.requires.0.below (get_or c.args.y.now.low.now c.args.i 0 % 256)), omega (arith, c.requires.0.below (get_or c.args.y.now.low.now c.args.i 0 % 256)))
 
 pub returns-then-same_letters : goal.returns-then-same_letters
-returns-then-same_letters c = recalls (get_or c.args.low.now c.args.i 0 % 256) c.requires.0 refl (omega arith) c.same_letters.ensures c.if-same_letters.true
+returns-then-same_letters c = recalls (get_or c.args.y.now.low.now c.args.i 0 % 256) c.requires.0 refl (omega arith) c.same_letters.ensures c.if-same_letters.true
 
 pub returns : goal.returns
-returns c = recalls-none
+returns c = tt

@@ -1,16 +1,24 @@
--- `passes::declared_end` meets its contract: the declarations that are left, and the nodes behind them, stand at the place of the walk. Assumes nothing.
+-- `passes::declared_end` meets its contract: the first that is no declaration. Assumes nothing.
+use lib.ListN.{get_or}
+use mathlib.Core.Path.{sym, subst}
+use Prim.Native.Nat.{◌+◌, ◌*◌}
 use native.Mathlib.Omega.{arith}
-use Rattle.names.proofs.PassSteps.{ahead-start, ahead-on, ahead-stopped, ahead-ended}
+use Rattle.std.proofs.Common.{ℕ, ◌≡◌, rules, tests}
+use Rattle.std.proofs.lemmas.Iterator.{first_from_Range}
+use Rattle.declared_names.specs.PassPromises.{DeclaredEnd}
+use Rattle.names.proofs.PassSteps.{ahead-found}
 use Rattle.names.proofs.passes.declared_end.Goals as goal
 
-pub loop-at-init : goal.loop-at-init
-loop-at-init c = (omega arith, ahead-start c.args.code.now)
+found : (c : goal.After-unwrap_or) → DeclaredEnd c.args.code.now (c.unwrap_or.result * 8)
+found c =
+    subst (λ (n : ℕ). DeclaredEnd c.args.code.now (n * 8)) (sym c.unwrap_or.ensures)
+    (ahead-found c.args.code.now c.find-other.result
+    (first_from_Range _ _ _ _ (λ k. get_or c.args.code.now (k * 8 + 3) 0 ≡ 6 → ⊥) (λ k. get_or c.args.code.now (k * 8 + 3) 0 ≡ 6) c.find-other.ensures.ran
+    (λ k q w. search (rules, tests))
+    (λ k q w. (search (rules, tests), search (rules, tests)))))
 
-pub returns-then-code-at-ne-DECLARED : goal.returns-then-code-at-ne-DECLARED
-returns-then-code-at-ne-DECLARED c = ahead-stopped c.args.code.now c.loop-at.at (omega arith) c.if-code-at-ne-DECLARED.true c.loop-at.invariant.1
-
-pub loop-at-preserved : goal.loop-at-preserved
-loop-at-preserved c = (omega arith, ahead-on c.args.code.now c.loop-at.at c.if-code-at-ne-DECLARED.false c.loop-at.invariant.1)
+pub overflow_mul-result : goal.overflow_mul-result
+overflow_mul-result c = let w = (found c).within in let g = c.well_formed.0 in omega arith
 
 pub returns : goal.returns
-returns c = ahead-ended c.args.code.now c.loop-at.at (omega arith) (omega arith) c.loop-at.invariant.1
+returns c = found c

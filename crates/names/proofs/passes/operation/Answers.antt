@@ -2,7 +2,7 @@
 use lib.Seq.{length-take-le}
 use mathlib.Core.Path.{refl, sym, ◌∙◌}
 use Rattle.type_rules.specs.Passes.{refused_key}
-use Rattle.lexical.specs.Refusals.{number_of}
+use Rattle.refusals.specs.Refusals.{number_of}
 use Rattle.type_rules.proofs.FaultOrder.{no-zero}
 use Rattle.std.proofs.lemmas.Result.{err_from_is_err_and}
 use Rattle.names.proofs.PassStepsOperations.{operation-short, operation-titled, operation-declared, operation-seen}
@@ -10,19 +10,19 @@ use Rattle.names.proofs.PassSteps.{part-tail}
 use Rattle.names.proofs.passes.operation.Goals as goal
 
 pub returns-then-code-lt-SIZE : goal.returns-then-code-lt-SIZE
-returns-then-code-lt-SIZE c = operation-short c.args.code.now c.args.abstracts.now c.args.concretes.now c.args.names.now _ c.args.sizes.now _ c.if-code-lt-SIZE.true
+returns-then-code-lt-SIZE c = operation-short c.args.code.now c.args.states.now.abstracts.now c.args.states.now.concretes.now c.args.names.now _ c.args.sizes.now _ c.if-code-lt-SIZE.true
 
 pub returns-in_err-all_well : goal.returns-in_err-all_well
 unfolding number_of
-returns-in_err-all_well c = let p = err_from_is_err_and c.from_residual.result c.from_residual.ensures.1 in rw (p.1, p.2) (operation-titled c.args.code.now c.args.abstracts.now c.args.concretes.now c.args.names.now c.args.sizes.now c.from-x.result c.look-old.result c.from.result _ c.from-x.ensures c.look-old.ensures c.from.ensures (c.in_err-all_well.ensures ∙ c.unless-titled.ensures) (no-zero _) _)
+returns-in_err-all_well c = let p = err_from_is_err_and c.from_residual.result c.from_residual.ensures.1 in rw (p.1, p.2) (operation-titled c.args.code.now c.args.states.now.abstracts.now c.args.states.now.concretes.now c.args.names.now c.args.sizes.now c.from-x.result c.look-old.result c.from.result _ c.from-x.ensures c.look-old.ensures c.from.ensures (c.in_err-all_well.ensures ∙ c.unless-titled.ensures) (no-zero _) _)
 
 pub slice_bounds-parameters-end : goal.slice_bounds-parameters-end
 slice_bounds-parameters-end c = sym (length-take-le _ _ c.declared_end-e.ensures.within)
 
 pub returns-in_err-declare : goal.returns-in_err-declare
 unfolding number_of
-returns-in_err-declare c = let p = err_from_is_err_and c.from_residual-in_err-declare.result c.from_residual-in_err-declare.ensures.1 in rw (p.1, p.2) (operation-declared c.args.code.now c.args.abstracts.now c.args.concretes.now c.args.names.now c.args.sizes.now c.from-x.result c.look-old.result c.from.result 0 c.from-x.ensures c.look-old.ensures c.from.ensures (c.in_ok-all_well.ensures ∙ c.unless-titled.ensures) refl _ _ _ c.declared_end-e.result c.declared_end-e.ensures (part-tail c.args.code.now 4) refl refl _ _ _ c.put.ensures c.in_err-declare.ensures (no-zero _) _)
+returns-in_err-declare c = let p = err_from_is_err_and c.from_residual-in_err-declare.result c.from_residual-in_err-declare.ensures.1 in rw (p.1, p.2) (operation-declared c.args.code.now c.args.states.now.abstracts.now c.args.states.now.concretes.now c.args.names.now c.args.sizes.now c.from-x.result c.look-old.result c.from.result 0 c.from-x.ensures c.look-old.ensures c.from.ensures (c.in_ok-all_well.ensures ∙ c.unless-titled.ensures) refl _ _ _ c.declared_end-e.result c.declared_end-e.ensures (part-tail c.args.code.now 4) refl refl _ _ _ c.put.ensures c.in_err-declare.ensures (no-zero _) _)
 
 pub returns : goal.returns
 unfolding number_of
-returns c = operation-seen c.args.code.now c.args.abstracts.now c.args.concretes.now c.args.names.now c.args.sizes.now c.from-x.result c.look-old.result c.from.result 0 c.from-x.ensures c.look-old.ensures c.from.ensures (c.in_ok-all_well.ensures ∙ c.unless-titled.ensures) refl _ _ _ c.declared_end-e.result c.declared_end-e.ensures (part-tail c.args.code.now 4) refl (part-tail _ c.declared_end-e.result) _ _ 0 c.put.ensures c.in_ok-declare.ensures refl _ _ (refused_key c.sides-h.result) c.sides-h.ensures c.hide.ensures
+returns c = operation-seen c.args.code.now c.args.states.now.abstracts.now c.args.states.now.concretes.now c.args.names.now c.args.sizes.now c.from-x.result c.look-old.result c.from.result 0 c.from-x.ensures c.look-old.ensures c.from.ensures (c.in_ok-all_well.ensures ∙ c.unless-titled.ensures) refl _ _ _ c.declared_end-e.result c.declared_end-e.ensures (part-tail c.args.code.now 4) refl (part-tail _ c.declared_end-e.result) _ _ 0 c.put.ensures c.in_ok-declare.ensures refl _ _ (refused_key c.sides-h.result) c.sides-h.ensures c.hide.ensures

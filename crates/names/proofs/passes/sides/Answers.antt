@@ -12,7 +12,7 @@ pub slice_bounds-side-end : goal.slice_bounds-side-end
 slice_bounds-side-end c = sym (length-take-le _ _ c.predicate_end-e.ensures.within)
 
 pub returns-in_err-side : goal.returns-in_err-side
-returns-in_err-side c = let p = err_from_is_err_and c.from_residual.result c.from_residual.ensures.1 in rw (p.1, p.2) (sides-faulty c.args.code.now c.args.abstracts.now c.args.concretes.now _ _ c.predicate_end-e.result c.predicate_end-e.ensures refl refl c.args.names.now _ c.args.sizes.now _ c.in_err-side.ensures (no-zero _) _)
+returns-in_err-side c = let p = err_from_is_err_and c.from_residual.result c.from_residual.ensures.1 in rw (p.1, p.2) (sides-faulty c.args.code.now c.args.states.now.abstracts.now c.args.states.now.concretes.now _ _ c.predicate_end-e.result c.predicate_end-e.ensures refl refl c.args.names.now _ c.args.sizes.now _ c.in_err-side.ensures (no-zero _) _)
 
 pub returns : goal.returns
-returns c = sides-seen c.args.code.now c.args.abstracts.now c.args.concretes.now _ _ c.predicate_end-e.result c.predicate_end-e.ensures refl (part-tail c.args.code.now c.predicate_end-e.result) c.args.names.now _ c.args.sizes.now 0 c.in_ok-side.ensures refl _ (refused_key c.side-2.result) c.side-2.ensures
+returns c = sides-seen c.args.code.now c.args.states.now.abstracts.now c.args.states.now.concretes.now _ _ c.predicate_end-e.result c.predicate_end-e.ensures refl (part-tail c.args.code.now c.predicate_end-e.result) c.args.names.now _ c.args.sizes.now 0 c.in_ok-side.ensures refl _ (refused_key c.side-2.result) c.side-2.ensures

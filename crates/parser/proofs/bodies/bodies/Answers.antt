@@ -19,7 +19,7 @@ pub operations-requires : goal.operations-requires
 operations-requires c = let room = c.requires in let h = (known c.in_ok-sets.was c.givens.ensures.0) in let i = (known c.in_ok-both.was c.states.ensures.0) in let j = known c.in_ok-three.was c.conditions.ensures.0 in search rules
 
 pub returns : goal.returns
-returns c = (next (known c.in_ok-sets.was c.givens.ensures.0) (next (framed (three_conditions ++ (some_operations 0 ∷ [])) (known c.in_ok-both.was c.states.ensures.0)) (next (framed (some_operations 0 ∷ []) (known c.in_ok-three.was c.conditions.ensures.0)) c.operations.ensures.0)), sequence-then (part.a_state 38 ∷ part.a_state 39 ∷ part.a_where 40 ∷ part.a_where 41 ∷ part.a_where 42 ∷ part.some_operations ∷ []) c.operations.new.code c.operations.result (made c.in_ok-sets.was c.givens.ensures.1) (sequence-onto (part.a_where 40 ∷ part.a_where 41 ∷ part.a_where 42 ∷ part.some_operations ∷ []) c.operations.new.code c.operations.result (sequence-known c.in_ok-both.was c.states.ensures.1) (sequence-onto (part.some_operations ∷ []) c.operations.new.code c.operations.result (sequence-known c.in_ok-three.was c.conditions.ensures.1) (sequence-last c.args.s.now c.args.v.now part.some_operations c.in_ok-three.three.at c.in_ok-three.three.count c.conditions.new.code c.operations.new.code c.operations.result c.operations.ensures.1))))
+returns c = (next (known c.in_ok-sets.was c.givens.ensures.0) (next (framed (three_conditions ++ (some_operations 0 ∷ [])) (known c.in_ok-both.was c.states.ensures.0)) (next (framed (some_operations 0 ∷ []) (known c.in_ok-three.was c.conditions.ensures.0)) c.operations.ensures.0)), sequence-then (part.a_state 38 ∷ part.a_state 39 ∷ part.a_where 40 ∷ part.a_where 41 ∷ part.a_where 42 ∷ part.some_operations ∷ []) c.operations.new.code c.operations.result (made c.in_ok-sets.was c.givens.ensures.1) (sequence-onto (part.a_where 40 ∷ part.a_where 41 ∷ part.a_where 42 ∷ part.some_operations ∷ []) c.operations.new.code c.operations.result (sequence-known c.in_ok-both.was c.states.ensures.1) (sequence-onto (part.some_operations ∷ []) c.operations.new.code c.operations.result (sequence-known c.in_ok-three.was c.conditions.ensures.1) (sequence-last c.args.y.now.kinds.now c.args.y.now.values.now part.some_operations c.in_ok-three.three.at c.in_ok-three.three.count c.conditions.new.code c.operations.new.code c.operations.result c.operations.ensures.1))))
 
 pub returns-in_err-three : goal.returns-in_err-three
 returns-in_err-three c = rw (exits c.from_residual-in_err-three.result c.from_residual-in_err-three.ensures.1) ((next (known c.in_ok-sets.was c.givens.ensures.0) (next (framed (three_conditions ++ (some_operations 0 ∷ [])) (known c.in_ok-both.was c.states.ensures.0)) (fails (framed (some_operations 0 ∷ []) (known c.in_err-three.was c.conditions.ensures.0)))), tt))

@@ -21,7 +21,7 @@ where_of-requires-3 c = let room = c.requires in let h = (known c.in_ok-ainit.wa
 
 pub returns : goal.returns
 unfolding code_of
-returns c = (next (framed (a_where_of kind.CINIT ++ a_where_of kind.RETRIEVE) (known c.in_ok-ainit.was (c.where_of.ensures.0 kind.AINIT refl))) (next (framed (a_where_of kind.RETRIEVE) (known c.in_ok-cinit.was (c.where_of-2.ensures.0 kind.CINIT refl))) (c.where_of-3.ensures.0 kind.RETRIEVE refl)), sequence-then (part.a_where 41 ∷ part.a_where 42 ∷ []) c.where_of-3.new.code c.where_of-3.result (made c.in_ok-ainit.was c.where_of.ensures.1) (sequence-then (part.a_where 42 ∷ []) c.where_of-3.new.code c.where_of-3.result (made c.in_ok-cinit.was c.where_of-2.ensures.1) (sequence-last c.args.s.now c.args.v.now (part.a_where 42) c.in_ok-cinit.cinit.at c.in_ok-cinit.cinit.count c.where_of-2.new.code c.where_of-3.new.code c.where_of-3.result c.where_of-3.ensures.1)))
+returns c = (next (framed (a_where_of kind.CINIT ++ a_where_of kind.RETRIEVE) (known c.in_ok-ainit.was (c.where_of.ensures.0 kind.AINIT refl))) (next (framed (a_where_of kind.RETRIEVE) (known c.in_ok-cinit.was (c.where_of-2.ensures.0 kind.CINIT refl))) (c.where_of-3.ensures.0 kind.RETRIEVE refl)), sequence-then (part.a_where 41 ∷ part.a_where 42 ∷ []) c.where_of-3.new.code c.where_of-3.result (made c.in_ok-ainit.was c.where_of.ensures.1) (sequence-then (part.a_where 42 ∷ []) c.where_of-3.new.code c.where_of-3.result (made c.in_ok-cinit.was c.where_of-2.ensures.1) (sequence-last c.args.y.now.kinds.now c.args.y.now.values.now (part.a_where 42) c.in_ok-cinit.cinit.at c.in_ok-cinit.cinit.count c.where_of-2.new.code c.where_of-3.new.code c.where_of-3.result c.where_of-3.ensures.1)))
 
 pub returns-in_err-cinit : goal.returns-in_err-cinit
 unfolding code_of

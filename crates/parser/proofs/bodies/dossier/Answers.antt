@@ -8,8 +8,8 @@ use Rattle.parser.proofs.bodies.dossier.Goals as goal
 pub bodies-requires : goal.bodies-requires
 bodies-requires c = let few = c.requires.0 in let room = c.requires.1 in let h = (known c.in_ok-listed.was c.contents.ensures.0) in search rules
 
-pub returns-then-read-s : goal.returns-then-read-s
-returns-then-read-s c = let few = c.requires.0 in let room = c.requires.1 in let h = (known c.in_ok-listed.was c.contents.ensures.0) in let i = next h (known c.in_ok-read.was c.bodies.ensures.0) in record { exact = text-goes-on i (omega arith); ended = omega arith; made = tt }
+pub returns-then-read-y : goal.returns-then-read-y
+returns-then-read-y c = let few = c.requires.0 in let room = c.requires.1 in let h = (known c.in_ok-listed.was c.contents.ensures.0) in let i = next h (known c.in_ok-read.was c.bodies.ensures.0) in record { exact = text-goes-on i (omega arith); ended = omega arith; made = tt }
 
 pub returns : goal.returns
 returns c = let few = c.requires.0 in let room = c.requires.1 in let h = (known c.in_ok-listed.was c.contents.ensures.0) in let i = next h (known c.in_ok-read.was c.bodies.ensures.0) in record { exact = text-ends i (omega arith); ended = (omega arith, omega arith); made = dossier-made (contents-known c.in_ok-listed.was c.contents.ensures.1) (sequence-known c.in_ok-read.was c.bodies.ensures.1) }

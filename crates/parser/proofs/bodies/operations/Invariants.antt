@@ -11,7 +11,7 @@ use Rattle.form_nodes.specs.Derivations as part
 use Rattle.parser.proofs.bodies.operations.Given as goal
 
 abbrev pub invariant-loop-start : goal.invariant-loop-start
-invariant-loop-start l = Reads l.s l.start l.from (some_operations 0 ∷ []) (some_operations l.k ∷ []) (read l.at l.n) × MoreAt l.s l.v part.some_operations l.start l.from l.initial.code l.code l.at l.n × (length l.code ≡ length l.initial.code) × (l.k ≤ 16)
+invariant-loop-start l = Reads l.y.kinds.now l.start l.from (some_operations 0 ∷ []) (some_operations l.k ∷ []) (read l.at l.n) × MoreAt l.y.kinds.now l.y.values.now part.some_operations l.start l.from l.initial.code l.code l.at l.n × (length l.code ≡ length l.initial.code) × (l.k ≤ 16)
 
 abbrev pub decreases-loop-start : goal.decreases-loop-start
-decreases-loop-start l = length l.s - l.at
+decreases-loop-start l = length l.y.kinds.now - l.at

@@ -17,7 +17,7 @@ state-requires-2 c = let room = c.requires in let h = (known c.in_ok-first.was (
 
 pub returns : goal.returns
 unfolding code_of
-returns c = (next (framed (a_state_of kind.CONCRETE) (known c.in_ok-first.was (c.state.ensures.0 kind.ABSTRACT refl))) (c.state-2.ensures.0 kind.CONCRETE refl), sequence-then (part.a_state 39 ∷ []) c.state-2.new.code c.state-2.result (made c.in_ok-first.was c.state.ensures.1) (sequence-last c.args.s.now c.args.v.now (part.a_state 39) c.in_ok-first.first.at c.in_ok-first.first.count c.state.new.code c.state-2.new.code c.state-2.result c.state-2.ensures.1))
+returns c = (next (framed (a_state_of kind.CONCRETE) (known c.in_ok-first.was (c.state.ensures.0 kind.ABSTRACT refl))) (c.state-2.ensures.0 kind.CONCRETE refl), sequence-then (part.a_state 39 ∷ []) c.state-2.new.code c.state-2.result (made c.in_ok-first.was c.state.ensures.1) (sequence-last c.args.y.now.kinds.now c.args.y.now.values.now (part.a_state 39) c.in_ok-first.first.at c.in_ok-first.first.count c.state.new.code c.state-2.new.code c.state-2.result c.state-2.ensures.1))
 
 pub returns-in_err-first : goal.returns-in_err-first
 unfolding code_of

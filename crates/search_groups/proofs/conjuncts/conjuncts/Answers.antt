@@ -3,8 +3,8 @@ use native.Mathlib.Omega.{arith}
 use Rattle.search_groups.proofs.ConjunctLists.{listed, listed-none}
 use Rattle.search_groups.proofs.conjuncts.conjuncts.Goals as goal
 
-pub returns-then-operations-gt-MOST : goal.returns-then-operations-gt-MOST
-returns-then-operations-gt-MOST c = listed-none _ _ _ _ _ (omega arith)
+pub returns-then-p-gt-MOST : goal.returns-then-p-gt-MOST
+returns-then-p-gt-MOST c = listed-none _ _ _ _ _ (omega arith)
 
 pub returns : goal.returns
 returns c = listed c.contexts.ensures

@@ -1,14 +1,18 @@
 -- `conjuncts::lasts` meets its contract: what has been found, and what is still to come, make the whole. Assumes nothing.
-use Prim.Native.Nat.{◌+◌, ◌*◌}
+use borrow.Author.Rules.{rules}
+use mathlib.Core.Path.{◌∙◌}
 use native.Mathlib.Omega.{arith}
 use Rattle.search_groups.proofs.ConjunctScan.{lasts-start, lasts-step, lasts-done}
 use Rattle.search_groups.proofs.conjuncts.lasts.Goals as goal
 
-pub loop-k-init : goal.loop-k-init
-loop-k-init c = lasts-start c.args.table.now (c.args.from + 4 * 0) c.args.from c.args.end (omega arith)
+pub loop-n-init : goal.loop-n-init
+loop-n-init c = (search rules, lasts-start _ _ (search rules))
 
-pub loop-k-preserved : goal.loop-k-preserved
-loop-k-preserved c = lasts-step c.args.table.now _ _ c.args.end _ c.loop-k.best c.noted-best.result c.noted-best.ensures c.loop-k.invariant (omega arith) (omega arith) (omega arith)
+pub loop-n-preserved : goal.loop-n-preserved
+loop-n-preserved c =
+    let cut = c.in-Some.ensures.steps.1.0 in
+    let long = c.in-Some.ensures.steps.1.1 ∙ c.loop-n.invariant.0 in
+    (c.in-Some.ensures.steps.0 ∙ c.loop-n.invariant.0, lasts-step c.in-Some.n.now _ _ _ c.loop-n.best c.noted-best.result cut long c.noted-best.ensures c.loop-n.invariant.1)
 
 pub returns : goal.returns
-returns c = lasts-done c.args.table.now _ c.args.end _ c.loop-k.best c.loop-k.invariant (omega arith) (omega arith)
+returns c = lasts-done c.loop-n.n-iterator.rest.now _ c.loop-n.best c.loop-n.invariant.1 (let h = c.in-None.ensures.steps.1.0 in let i = c.loop-n.invariant.0 in omega arith)

@@ -1,11 +1,24 @@
 -- `groups::operation` meets its contract. Assumes nothing.
-use borrow.Author.Rules.{rules}
+use Prim.Native.Nat.{◌-◌}
+use mathlib.Core.Path.{refl, ap, ◌∙◌}
+use mathlib.Core.List.{◌++◌}
 use native.Mathlib.Omega.{arith}
-use Rattle.search_groups.proofs.GroupPlaces.{operation-put}
+use lib.ListN.{length, drop, length-append, length-drop}
+use lib.Seq.{length-take-le}
+use Rattle.std.proofs.lemmas.List.{take_rest}
+use Rattle.table_nodes.proofs.Pieces.{part-written}
+use Rattle.search_groups.proofs.GroupPlaces.{front-written, operation-put}
 use Rattle.search_groups.proofs.groups.operation.Goals as goal
 
-pub group-requires-2 : goal.group-requires-2
-group-requires-2 c = let l = c.group.ensures.long in search rules
-
 pub returns : goal.returns
-returns c = operation-put c.index-from.ensures.0 c.index-to.ensures.0 c.group.ensures c.group-2.ensures (omega arith)
+returns c =
+    let a = c.group.ensures.long in
+    let b = c.group-2.ensures.long in
+    let t = length-take-le 4 c.args.rows.now (omega arith) in
+    let d = length-drop 4 c.args.rows.now in
+    let e = length-append c.group.new.row (drop 4 c.args.rows.now) in
+    let mid = c.group.new.row ++ drop 4 c.args.rows.now in
+    let r = take_rest mid 4 in
+    let f = ap length r ∙ length-drop 4 mid in
+    operation-put c.index-from.ensures.0 c.index-to.ensures.0 c.group.ensures (front-written 4 c.group.new.row c.args.rows.now (omega arith)) c.group-2.ensures r
+    (part-written 4 (length mid - 4) mid c.group-2.new.row c.group-2.new.row refl (omega arith)) (omega arith)

@@ -9,4 +9,4 @@ use Rattle.search_groups.specs.GroupPromises.{FewEach, RowsAhead}
 use Rattle.search_groups.proofs.groups.operation_rows.Given as goal
 
 abbrev pub invariant-loop-k : goal.invariant-loop-k
-invariant-loop-k l = (l.k ≤ 16) × (length l.out ≡ 160) × ((os : List Operation) (ρ : Numbering) (i : ℕ) → l.operations ≡ length os → OperationsAt l.nodes l.spans ρ 0 i os → FewEach os → RowsAhead l.nodes l.spans ρ l.k os l.initial.out l.out)
+invariant-loop-k l = (l.k ≤ 16) × (length l.out ≡ 160) × ((os : List Operation) (ρ : Numbering) (i : ℕ) → l.p.operations ≡ length os → OperationsAt l.p.nodes.now l.p.spans.now ρ 0 i os → FewEach os → RowsAhead l.p.nodes.now l.p.spans.now ρ l.k os l.initial.out l.out)

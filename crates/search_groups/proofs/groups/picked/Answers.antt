@@ -8,10 +8,10 @@ pub returns-then-nodes-to : goal.returns-then-nodes-to
 returns-then-nodes-to c = record { few = omega arith; long = refl; right = λ codes qs s p l. let i = s.inside in absurd (omega arith) }
 
 pub loop-k-init : goal.loop-k-init
-loop-k-init c = (omega arith, refl, λ codes qs s p l. left-first _ _ _ _ _ _ codes qs _ (omega arith) s p)
+loop-k-init c = (omega arith, refl, λ codes qs s p l. left-first _ _ _ _ _ codes qs _ (omega arith) s p)
 
 pub loop-k-preserved : goal.loop-k-preserved
-loop-k-preserved c = (c.pick-c.ensures.few, c.pick-c.ensures.long ∙ c.loop-k.invariant.1, λ codes qs s p l. left-next (c.loop-k.invariant.2 codes qs s p l) c.pick-c.ensures (omega arith) (omega arith) l (omega arith))
+loop-k-preserved c = let p = c.pick-c.ensures.few in let q = c.pick-c.ensures.long in (omega arith, c.pick-c.ensures.long ∙ c.loop-k.invariant.1, λ codes qs s p l. left-next (c.loop-k.invariant.2 codes qs s p l) c.pick-c.ensures (omega arith) (omega arith) l c.loop-k.invariant.1)
 
 pub returns : goal.returns
 returns c = record { few = omega arith; long = c.loop-k.invariant.1; right = λ codes qs s p l. left-done (c.loop-k.invariant.2 codes qs s p l) (omega arith) }

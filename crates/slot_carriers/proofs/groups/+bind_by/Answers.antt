@@ -1,6 +1,5 @@
 -- `groups::bind_by` meets its contract: the first variable has the quotient's value, the others hold the remainder. Assumes nothing.
 use lib.IntN.{pos}
-use lib.ListN.{length-set}
 use mir.Facts.{to_z-of_z}
 use mathlib.Core.Path.{refl, ◌∙◌}
 use native.Mathlib.Omega.{arith}

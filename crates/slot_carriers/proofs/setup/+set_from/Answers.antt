@@ -1,5 +1,5 @@
 -- `setup::set_from` meets its contract: the first cell is kept by what the others write. Assumes nothing.
-use mathlib.Core.Path.{subst, sym, ◌∙◌}
+use mathlib.Core.Path.{subst, sym}
 use Prim.Native.Nat.{ℕ, ◌+◌}
 use native.Mathlib.Omega.{arith}
 use Rattle.slot_carriers.specs.TypeNodes.{Placed, CellMade}

@@ -1,6 +1,5 @@
 -- `setup::set_cells` meets its contract. Assumes nothing.
 use mathlib.Core.Path.{subst, sym}
-use borrow.Author.Rules.{rules}
 use Prim.Native.Nat.{ℕ, ◌+◌}
 use native.Mathlib.Omega.{arith}
 use Rattle.slot_carriers.specs.DeclaredGroups.{Declared, CellsMade}

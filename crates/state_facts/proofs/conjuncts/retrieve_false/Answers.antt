@@ -1,7 +1,9 @@
 -- `conjuncts::retrieve_false` meets its contract. Assumes nothing.
 use native.Mathlib.Omega.{arith}
 use Rattle.state_facts.proofs.SearchLaws.{both-sized}
-use Rattle.state_facts.proofs.ConjunctLaws.{pair-no-abstract, pair-no-concrete, retrieve-asked, pair-first}
+use mathlib.Core.Bool.{true}
+use Rattle.std.proofs.Common.{rules}
+use Rattle.state_facts.proofs.ConjunctLaws.{every-context, pair-no-abstract, pair-no-concrete, retrieve-asked, pair-first}
 use Rattle.state_facts.proofs.conjuncts.retrieve_false.Goals as goal
 
 pub returns-then-s-a : goal.returns-then-s-a
@@ -14,7 +16,7 @@ pub bind_pair-requires : goal.bind_pair-requires
 bind_pair-requires c = both-sized c.requires
 
 pub first_false-requires : goal.first_false-requires
-first_false-requires c = retrieve-asked c.bind_pair.ensures.values c.bind_pair.ensures.others.same_length (omega (arith, c.if-s-a.false)) (omega (arith, c.if-s-c.false)) c.requires
+first_false-requires c = record { counted = λ i h. search rules; asked = retrieve-asked c.bind_pair.ensures.values c.bind_pair.ensures.others.same_length (omega (arith, c.if-s-a.false)) (omega (arith, c.if-s-c.false)) c.requires }
 
 pub returns : goal.returns
-returns c = pair-first c.bind_pair.ensures.values c.bind_pair.ensures.others.same_length (omega (arith, c.if-s-a.false)) (omega (arith, c.if-s-c.false)) c.first_false.ensures
+returns c = pair-first c.bind_pair.ensures.values c.bind_pair.ensures.others.same_length (omega (arith, c.if-s-a.false)) (omega (arith, c.if-s-c.false)) (every-context (c.first_false.ensures.means (λ i. true) (λ i b h q. search (rules, q))))

@@ -1,7 +1,9 @@
 -- `conjuncts::step_false` meets its contract: a conjunct that counts does not depend on the outputs and the state after that are chosen. Assumes nothing.
 use mathlib.Core.Path.{refl}
 use native.Mathlib.Omega.{arith}
-use Rattle.state_facts.proofs.GuardLaws.{guard-states, guard-parameters, guard-context, step-first, step-no-concrete, step-no-inputs}
+use Rattle.std.proofs.Common.{rules}
+use Rattle.state_facts.specs.FalseConjuncts.{guard_test}
+use Rattle.state_facts.proofs.GuardLaws.{guard-context-first, guard-states, guard-parameters, guard-context, step-first, step-no-concrete, step-no-inputs}
 use Rattle.state_facts.proofs.conjuncts.step_false.Goals as goal
 
 pub returns-then-s-c : goal.returns-then-s-c
@@ -25,8 +27,8 @@ overflow_add-j c = omega (arith, c.requires.few)
 pub overflow_add-j-2 : goal.overflow_add-j-2
 overflow_add-j-2 c = omega (arith, c.requires.few)
 
-pub first_guard-requires : goal.first_guard-requires
-first_guard-requires c = guard-context c.put_states.ensures c.put_parameters.ensures refl (omega (arith, c.if-s-c.false)) (omega (arith, c.if-s-i.false)) c.requires
+pub first_false-requires : goal.first_false-requires
+first_false-requires c = record { counted = λ i h. search (rules, h); asked = guard-context c.put_states.ensures c.put_parameters.ensures refl (omega (arith, c.if-s-c.false)) (omega (arith, c.if-s-i.false)) c.requires }
 
 pub returns : goal.returns
-returns c = step-first c.put_states.ensures c.put_parameters.ensures refl (omega (arith, c.if-s-c.false)) (omega (arith, c.if-s-i.false)) c.first_guard.ensures
+returns c = step-first c.put_states.ensures c.put_parameters.ensures refl (omega (arith, c.if-s-c.false)) (omega (arith, c.if-s-i.false)) (guard-context-first (c.first_false.ensures.means (guard_test c.args.s.now.dossier.rows.now) (λ i b h q. search (rules, q))))

@@ -10,20 +10,14 @@ loop-i-init c = (c.requires, freed-none)
 pub overflow_add-end : goal.overflow_add-end
 overflow_add-end c = omega (arith, (stand-inside c.loop-i.invariant.0 c.loop-i-test.true))
 
-pub offset_bounds-rows-i : goal.offset_bounds-rows-i
-offset_bounds-rows-i c = omega (arith, (stand-inside c.loop-i.invariant.0 c.loop-i-test.true))
+pub offset_bounds-d-i : goal.offset_bounds-d-i
+offset_bounds-d-i c = omega (arith, (stand-inside c.loop-i.invariant.0 c.loop-i-test.true))
 
-pub bounds-rows-i : goal.bounds-rows-i
-bounds-rows-i c = omega (arith, (stand-inside c.loop-i.invariant.0 c.loop-i-test.true))
+pub bounds-d-i : goal.bounds-d-i
+bounds-d-i c = omega (arith, (stand-inside c.loop-i.invariant.0 c.loop-i-test.true))
 
 pub returns-then-not-free_pred : goal.returns-then-not-free_pred
 returns-then-not-free_pred c = rows_say_no
-
-pub overflow_add-i : goal.overflow_add-i
-overflow_add-i c = omega (arith, (stand-inside c.loop-i.invariant.0 c.loop-i-test.true))
-
-pub loop-i-smaller : goal.loop-i-smaller
-loop-i-smaller c = omega (arith, c.loop-i-test.true)
 
 pub loop-i-preserved : goal.loop-i-preserved
 loop-i-preserved c = (stand-rest c.loop-i.invariant.0 c.loop-i-test.true, freed-more c.loop-i.invariant.1 c.free_pred.ensures (not-false _ c.if-not-free_pred.false-raw))

@@ -1,16 +1,18 @@
 -- `bits::able` meets its contract: the search finds a step exactly if there is one. Assumes nothing.
 use native.Mathlib.Omega.{arith}
 use Rattle.step_facts.proofs.Masks.{abstract-low, concrete-low, abstract-able, concrete-able}
+use mathlib.Core.Path.{ap}
+use Rattle.step_facts.specs.Sides.{is_abstract}
 use Rattle.step_facts.proofs.bits.able.Goals as goal
 
 pub next_abstract_step-requires : goal.next_abstract_step-requires
-next_abstract_step-requires c = record { a_lt_na = (abstract-low c.args.s.now.part c.if-abstractly.true c.requires.s_bound.0, c.requires.s_bound.1, omega arith); steps_asked = c.requires.steps_asked; memo = c.requires.memo }
+next_abstract_step-requires c = record { a_lt_na = (abstract-low c.args.s.now.part (ap is_abstract c.in-Abstract.is) c.requires.s_bound.0, c.requires.s_bound.1, omega arith); steps_asked = c.requires.steps_asked; memo = c.requires.memo }
 
-pub returns-then-abstractly : goal.returns-then-abstractly
-returns-then-abstractly c = record { found = abstract-able c.next_abstract_step.result c.is_some.ensures c.if-abstractly.true c.requires.steps_asked c.next_abstract_step.ensures.low c.next_abstract_step.ensures.found; remembers = c.next_abstract_step.ensures.remembers }
+pub returns-in-Abstract : goal.returns-in-Abstract
+returns-in-Abstract c = record { found = abstract-able c.next_abstract_step.result c.is_some.ensures (ap is_abstract c.in-Abstract.is) c.requires.steps_asked c.next_abstract_step.ensures.low c.next_abstract_step.ensures.found; remembers = c.next_abstract_step.ensures.remembers }
 
 pub next_concrete_step-requires : goal.next_concrete_step-requires
-next_concrete_step-requires c = record { c_lt_nc = (concrete-low c.args.s.now.part c.if-abstractly.false c.requires.s_bound.0, c.requires.s_bound.1, omega arith); steps_asked = c.requires.steps_asked; memo = c.requires.memo }
+next_concrete_step-requires c = record { c_lt_nc = (concrete-low c.args.s.now.part (ap is_abstract c.in-Concrete.is) c.requires.s_bound.0, c.requires.s_bound.1, omega arith); steps_asked = c.requires.steps_asked; memo = c.requires.memo }
 
-pub returns : goal.returns
-returns c = record { found = concrete-able c.next_concrete_step.result c.is_some-2.ensures c.if-abstractly.false c.requires.steps_asked c.next_concrete_step.ensures.low c.next_concrete_step.ensures.found; remembers = c.next_concrete_step.ensures.remembers }
+pub returns-in-Concrete : goal.returns-in-Concrete
+returns-in-Concrete c = record { found = concrete-able c.next_concrete_step.result c.is_some-in-Concrete.ensures (ap is_abstract c.in-Concrete.is) c.requires.steps_asked c.next_concrete_step.ensures.low c.next_concrete_step.ensures.found; remembers = c.next_concrete_step.ensures.remembers }

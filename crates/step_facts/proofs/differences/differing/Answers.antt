@@ -5,21 +5,34 @@ use mathlib.Core.Path.{refl}
 use native.Mathlib.Omega.{arith}
 use Rattle.step_facts.proofs.AskedFacts.{prepare-asked, steps-asked}
 use Rattle.step_facts.proofs.Places.{place-unlisted, place_is}
-use Rattle.step_searches.proofs.PartsSetupLaws.{blank}
+use Rattle.step_searches.proofs.LentParts.{lent, returned}
 use Rattle.memo.proofs.Memos.{blank_memo}
+use Rattle.step_searches.specs.StepPromises.{StepsAsked}
+use Rattle.step_facts.specs.Sides.{is_abstract}
+use Rattle.step_facts.specs.FactPromises.{PlaceAmong}
 use Rattle.step_facts.proofs.differences.differing.Goals as goal
 
 pub returns-then-d-j : goal.returns-then-d-j
 returns-then-d-j c = place-unlisted (omega (arith, c.if-d-j.true))
 
-pub prepare-part-requires : goal.prepare-part-requires
-prepare-part-requires c = record { prepare_asked = prepare-asked c.requires (omega (arith, c.if-d-j.false)); blank = blank 9216 }
+pub prepare-ready-requires : goal.prepare-ready-requires
+prepare-ready-requires c = prepare-asked c.requires (omega (arith, c.if-d-j.false))
 
 pub fill_masks-requires : goal.fill_masks-requires
-fill_masks-requires c = record { masks_len = length-replicate {A = ℕ} 4096 0; steps_asked = (steps-asked c.requires (omega (arith, c.if-d-j.false)) c.prepare-part.ensures); memo = blank_memo 8098 refl }
+fill_masks-requires c = record {
+  masks_len = length-replicate {A = ℕ} 4096 0;
+  steps_asked = lent StepsAsked c.search-s.ensures.table c.search-s.ensures.plan c.search-s.ensures.cells c.search-s.ensures.part (steps-asked c.requires (omega (arith, c.if-d-j.false)) c.prepare-ready.ensures);
+  memo = blank_memo 8098 refl;
+}
 
 pub place_among-requires : goal.place_among-requires
-place_among-requires c = record { steps_asked = (steps-asked c.requires (omega (arith, c.if-d-j.false)) c.prepare-part.ensures); memo = c.fill_masks.ensures.remembers; masks_are = c.fill_masks.ensures.fills }
+place_among-requires c = record {
+  steps_asked = lent StepsAsked c.search-s.ensures.table c.search-s.ensures.plan c.search-s.ensures.cells c.search-s.ensures.part (steps-asked c.requires (omega (arith, c.if-d-j.false)) c.prepare-ready.ensures);
+  memo = c.fill_masks.ensures.remembers;
+  masks_are = c.fill_masks.ensures.fills;
+}
 
 pub returns : goal.returns
-returns c = place_is (omega (arith, c.if-d-j.false)) c.prepare-part.ensures c.place_among.result c.place_among.ensures.found
+returns c =
+    place_is (omega (arith, c.if-d-j.false)) c.prepare-ready.ensures c.place_among.result
+    (returned (λ t q x p. PlaceAmong t q x p (is_abstract c.args.side) c.place_among.result) c.search-s.ensures.table c.search-s.ensures.plan c.search-s.ensures.cells c.search-s.ensures.part c.place_among.ensures.found)

@@ -1,15 +1,17 @@
 -- `differences::first_difference` meets its contract. Assumes nothing.
 use Rattle.step_facts.proofs.Places.{narrowed-bit, widened-bit}
+use mathlib.Core.Path.{ap}
+use Rattle.step_facts.specs.Sides.{is_abstract}
 use Rattle.step_facts.proofs.differences.first_difference.Goals as goal
 
 pub first_more-requires : goal.first_more-requires
 first_more-requires c = c.requires
 
-pub returns-then-narrowed : goal.returns-then-narrowed
-returns-then-narrowed c = narrowed-bit c.if-narrowed.true c.first_more.ensures
+pub returns-in-Abstract : goal.returns-in-Abstract
+returns-in-Abstract c = narrowed-bit (ap is_abstract c.in-Abstract.is) c.first_more.ensures
 
-pub first_more-requires-2 : goal.first_more-requires-2
-first_more-requires-2 c = c.requires
+pub first_more-requires-in-Concrete : goal.first_more-requires-in-Concrete
+first_more-requires-in-Concrete c = c.requires
 
-pub returns : goal.returns
-returns c = widened-bit c.if-narrowed.false c.first_more-2.ensures
+pub returns-in-Concrete : goal.returns-in-Concrete
+returns-in-Concrete c = widened-bit (ap is_abstract c.in-Concrete.is) c.first_more-in-Concrete.ensures

@@ -2,24 +2,42 @@
 use mathlib.Core.Path.{refl}
 use native.Mathlib.Omega.{arith}
 use Rattle.step_facts.proofs.AskedFacts.{open-asked, opening-asked, no_beginning, unmatched-beginning, beginning}
-use Rattle.step_searches.proofs.PartsSetupLaws.{blank}
+use Rattle.step_searches.proofs.LentParts.{lent, returned}
 use Rattle.memo.proofs.Memos.{blank_memo}
+use Rattle.std.specs.Prelude.{◌<◌}
+use Rattle.step_searches.specs.StepPromises.{OpeningAsked, InitialStateFound, InitialMatchFound}
 use Rattle.step_facts.proofs.runs.begin.Goals as goal
 
-pub prepare_opening-part-requires : goal.prepare_opening-part-requires
-prepare_opening-part-requires c = record { open_asked = open-asked c.requires; blank = blank 9216 }
+pub prepare_opening-ready-requires : goal.prepare_opening-ready-requires
+prepare_opening-ready-requires c = open-asked c.requires
 
 pub next_initial_state-requires : goal.next_initial_state-requires
-next_initial_state-requires c = record { from_le_nc = omega arith; opening_asked = (opening-asked c.requires c.prepare_opening-part.ensures); memo = blank_memo 8098 refl }
+next_initial_state-requires c = record {
+  from_le_nc = omega arith;
+  opening_asked = lent OpeningAsked c.search-s.ensures.table c.search-s.ensures.plan c.search-s.ensures.cells c.search-s.ensures.part (opening-asked c.requires c.prepare_opening-ready.ensures);
+  memo = blank_memo 8098 refl;
+}
 
 pub next_initial_match-requires : goal.next_initial_match-requires
-next_initial_match-requires c = record { c_lt_nc = (c.in-Some.ensures.low, omega arith); opening_asked = (opening-asked c.requires c.prepare_opening-part.ensures); memo = c.next_initial_state.ensures.remembers }
+next_initial_match-requires c = record {
+  c_lt_nc = (c.in-Some.ensures.low, omega arith);
+  opening_asked = lent OpeningAsked c.search-s.ensures.table c.search-s.ensures.plan c.search-s.ensures.cells c.search-s.ensures.part (opening-asked c.requires c.prepare_opening-ready.ensures);
+  memo = c.next_initial_state.ensures.remembers;
+}
 
 pub returns-in-Some-next_initial_match : goal.returns-in-Some-next_initial_match
-returns-in-Some-next_initial_match c = beginning c.requires c.prepare_opening-part.ensures c.in-Some.ensures.found c.in-Some.ensures.low c.in-Some-next_initial_match.ensures.found c.in-Some-next_initial_match.ensures.low
+returns-in-Some-next_initial_match c =
+    beginning c.requires c.prepare_opening-ready.ensures (returned (λ t q x p. InitialStateFound t q x p 0 c.in-Some.c) c.search-s.ensures.table c.search-s.ensures.plan c.search-s.ensures.cells c.search-s.ensures.part c.in-Some.ensures.found)
+    (returned (λ t q x p. c.in-Some.c < p.nc) c.search-s.ensures.table c.search-s.ensures.plan c.search-s.ensures.cells c.search-s.ensures.part c.in-Some.ensures.low)
+    (returned (λ t q x p. InitialMatchFound t q x p c.in-Some.c 0 c.in-Some-next_initial_match.a) c.search-s.ensures.table c.search-s.ensures.plan c.search-s.ensures.cells c.search-s.ensures.part c.in-Some-next_initial_match.ensures.found)
+    (returned (λ t q x p. c.in-Some-next_initial_match.a < p.nm) c.search-s.ensures.table c.search-s.ensures.plan c.search-s.ensures.cells c.search-s.ensures.part c.in-Some-next_initial_match.ensures.low)
 
 pub returns-in_default : goal.returns-in_default
-returns-in_default c = no_beginning c.requires c.prepare_opening-part.ensures c.in_default.ensures.found (omega arith)
+returns-in_default c =
+    no_beginning c.requires c.prepare_opening-ready.ensures (returned (λ t q x p. InitialStateFound t q x p 0 p.nc) c.search-s.ensures.table c.search-s.ensures.plan c.search-s.ensures.cells c.search-s.ensures.part c.in_default.ensures.found) (omega arith)
 
 pub returns-in-None : goal.returns-in-None
-returns-in-None c = unmatched-beginning c.requires c.prepare_opening-part.ensures c.in-Some.ensures.found c.in-Some.ensures.low c.in-None.ensures.found (omega arith)
+returns-in-None c =
+    unmatched-beginning c.requires c.prepare_opening-ready.ensures (returned (λ t q x p. InitialStateFound t q x p 0 c.in-Some.c) c.search-s.ensures.table c.search-s.ensures.plan c.search-s.ensures.cells c.search-s.ensures.part c.in-Some.ensures.found)
+    (returned (λ t q x p. c.in-Some.c < p.nc) c.search-s.ensures.table c.search-s.ensures.plan c.search-s.ensures.cells c.search-s.ensures.part c.in-Some.ensures.low)
+    (returned (λ t q x p. InitialMatchFound t q x p c.in-Some.c 0 p.nm) c.search-s.ensures.table c.search-s.ensures.plan c.search-s.ensures.cells c.search-s.ensures.part c.in-None.ensures.found) (omega arith)

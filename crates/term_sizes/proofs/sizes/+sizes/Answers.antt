@@ -1,4 +1,5 @@
 -- The walk for sizes over the nodes of terms and predicates meets its contracts. Assumes nothing.
+use native.Mathlib.Omega.{arith}
 use Prim.Native.Nat.{◌+◌, ◌-◌}
 use mathlib.Core.Path.{refl}
 use lib.ListN.{get_or}
@@ -16,7 +17,7 @@ pub divided-returns : goal.divided-returns
 divided-returns t c = term-divided c.args.code.now c.args.end c.requires.0 c.args.bounds.now _ c.node_at-n.result c.term-t.result _ c.division_bound-m.result c.node_at-n.ensures c.requires.2 c.term-t.ensures c.division_bound-m.ensures c.unless_over.ensures refl refl
 
 pub items-returns-then-end-lt-SIZE : goal.items-returns-then-end-lt-SIZE
-items-returns-then-end-lt-SIZE t c = items-short c.args.code.now c.args.end c.requires c.args.bounds.now _ c.bare.ensures.2 c.if-end-lt-SIZE.true
+items-returns-then-end-lt-SIZE t c = items-short c.args.code.now c.args.end c.requires c.args.bounds.now _ c.bare.ensures.2 c.bare.ensures.0 c.if-end-lt-SIZE.true
 
 pub items-returns-then-code-at-eq-LAST : goal.items-returns-then-code-at-eq-LAST
 items-returns-then-code-at-eq-LAST t c = items-only c.args.code.now c.args.end c.requires c.args.bounds.now _ c.term-only.result _ c.term-only.ensures c.if-code-at-eq-LAST.true refl refl refl
@@ -24,20 +25,14 @@ items-returns-then-code-at-eq-LAST t c = items-only c.args.code.now c.args.end c
 pub items-returns : goal.items-returns
 items-returns t c = items-also c.args.code.now c.args.end c.requires c.args.bounds.now _ _ c.term-t.result c.items-l.result _ c.items-l.ensures c.term-t.ensures c.if-code-at-eq-LAST.false refl c.lesser_of-f.ensures refl
 
-pub listed-returns : goal.listed-returns
-listed-returns t c = term-listed c.args.code.now c.args.end c.requires.0 c.args.bounds.now _ c.items-t.result _ c.requires.2 c.items-t.ensures refl refl refl
-
 pub operated-returns : goal.operated-returns
 operated-returns t c = term-binary c.args.code.now c.args.end c.requires.0 c.args.bounds.now _ _ c.node_at-n.result c.term-t.result c.term-u.result _ c.operator_bound-m.result (fault_key c.lesser_of-parts.result) c.node_at-n.ensures c.requires.2 c.term-u.ensures c.term-t.ensures c.operator_bound-m.ensures c.lesser_of-parts.ensures c.over-f.ensures c.unless_over.ensures refl
 
 pub pair-returns : goal.pair-returns
 pair-returns t c = pair-sized c.args.code.now c.args.end c.requires c.args.bounds.now _ _ c.term-t.result c.term-u.result _ c.term-u.ensures c.term-t.ensures refl c.lesser_of-f.ensures refl
 
-pub paired-returns : goal.paired-returns
-paired-returns t c = term-pairs c.args.code.now c.args.end c.requires.0 c.args.bounds.now _ c.pairs-t.result _ c.requires.2 c.pairs-t.ensures refl refl refl
-
 pub pairs-returns-then-end-lt-SIZE : goal.pairs-returns-then-end-lt-SIZE
-pairs-returns-then-end-lt-SIZE t c = pairs-short c.args.code.now c.args.end c.requires c.args.bounds.now _ c.bare.ensures.2 c.if-end-lt-SIZE.true
+pairs-returns-then-end-lt-SIZE t c = pairs-short c.args.code.now c.args.end c.requires c.args.bounds.now _ c.bare.ensures.2 c.bare.ensures.0 c.if-end-lt-SIZE.true
 
 pub pairs-returns-then-code-at-eq-LAST : goal.pairs-returns-then-code-at-eq-LAST
 pairs-returns-then-code-at-eq-LAST t c = pairs-only c.args.code.now c.args.end c.requires c.args.bounds.now _ c.pair.result c.pair.ensures c.if-code-at-eq-LAST.true
@@ -73,7 +68,7 @@ pub pred-returns-in-8 : goal.pred-returns-in-8
 pred-returns-in-8 t c = c.quantified.ensures
 
 pub pred-returns-in_default : goal.pred-returns-in_default
-pred-returns-in_default t c = pred-rest c.args.code.now c.args.end c.requires c.args.bounds.now _ c.bare-in_default.ensures.2 (eight (get_or c.args.code.now (c.args.end - 4 + 3) 0) c.in_default.in_default-own.rest.0.0.0.0.0.0.0.1 c.in_default.in_default-own.rest.0.0.0.0.0.0.1 c.in_default.in_default-own.rest.0.0.0.0.0.1 c.in_default.in_default-own.rest.0.0.0.0.1 c.in_default.in_default-own.rest.0.0.0.1 c.in_default.in_default-own.rest.0.0.1 c.in_default.in_default-own.rest.0.1 c.in_default.in_default-own.rest.1)
+pred-returns-in_default t c = pred-rest c.args.code.now c.args.end c.requires c.args.bounds.now _ c.bare-in_default.ensures.2 (eight (get_or c.args.code.now (c.args.end - 4 + 3) 0) (λ s. omega arith) (λ s. omega arith) (λ s. omega arith) (λ s. omega arith) (λ s. omega arith) (λ s. omega arith) (λ s. omega arith) (λ s. omega arith))
 
 pub prefixed-returns : goal.prefixed-returns
 prefixed-returns t c = term-prefix c.args.code.now c.args.end c.requires.0 c.args.bounds.now _ c.node_at-n.result c.term-t.result _ c.prefix_bound-m.result c.node_at-n.ensures c.requires.2 c.term-t.ensures c.prefix_bound-m.ensures c.unless_over.ensures refl refl
@@ -109,10 +104,10 @@ pub term-returns-in-6 : goal.term-returns-in-6
 term-returns-in-6 t c = c.such.ensures
 
 pub term-returns-in-7 : goal.term-returns-in-7
-term-returns-in-7 t c = c.listed.ensures
+term-returns-in-7 t c = term-listed c.args.code.now c.args.end c.requires c.args.bounds.now _ c.items.result c.in-7.is c.items.ensures
 
 pub term-returns-in-8 : goal.term-returns-in-8
-term-returns-in-8 t c = c.paired.ensures
+term-returns-in-8 t c = term-pairs c.args.code.now c.args.end c.requires c.args.bounds.now _ c.pairs.result c.in-8.is c.pairs.ensures
 
 pub term-returns-in-9 : goal.term-returns-in-9
 term-returns-in-9 t c = term-empty c.args.code.now c.args.end c.requires c.args.bounds.now _ c.in-9.is c.bare-in-9.ensures
@@ -121,7 +116,7 @@ pub term-returns-in-10 : goal.term-returns-in-10
 term-returns-in-10 t c = term-empty-pairs c.args.code.now c.args.end c.requires c.args.bounds.now _ c.in-10.is c.bare-in-10.ensures
 
 pub term-returns-in_default : goal.term-returns-in_default
-term-returns-in_default t c = term-rest c.args.code.now c.args.end c.requires c.args.bounds.now _ c.bare-in_default.ensures.2 c.bare-in_default.ensures.0 (ten (get_or c.args.code.now (c.args.end - 4 + 3) 0) (eight (get_or c.args.code.now (c.args.end - 4 + 3) 0) c.in_default.in_default-own.rest.0.0.0.0.0.0.0.0.0.1 c.in_default.in_default-own.rest.0.0.0.0.0.0.0.0.1 c.in_default.in_default-own.rest.0.0.0.0.0.0.0.1 c.in_default.in_default-own.rest.0.0.0.0.0.0.1 c.in_default.in_default-own.rest.0.0.0.0.0.1 c.in_default.in_default-own.rest.0.0.0.0.1 c.in_default.in_default-own.rest.0.0.0.1 c.in_default.in_default-own.rest.0.0.1) c.in_default.in_default-own.rest.0.1 c.in_default.in_default-own.rest.1)
+term-returns-in_default t c = term-rest c.args.code.now c.args.end c.requires c.args.bounds.now _ c.bare-in_default.ensures.2 c.bare-in_default.ensures.0 (ten (get_or c.args.code.now (c.args.end - 4 + 3) 0) (eight (get_or c.args.code.now (c.args.end - 4 + 3) 0) (λ s. omega arith) (λ s. omega arith) (λ s. omega arith) (λ s. omega arith) (λ s. omega arith) (λ s. omega arith) (λ s. omega arith) (λ s. omega arith)) (λ s. omega arith) (λ s. omega arith))
 
 pub within-returns : goal.within-returns
 within-returns t c = pred-within c.args.code.now c.args.end c.requires.0 c.args.bounds.now _ c.term-t.result c.domain-d.result _ c.requires.2 c.domain-d.ensures c.term-t.ensures refl refl refl

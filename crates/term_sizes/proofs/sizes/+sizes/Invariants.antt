@@ -10,17 +10,11 @@ decreases-divided l = 3 * l.end
 abbrev pub decreases-items : goal.decreases-items
 decreases-items l = 3 * l.end + 1
 
-abbrev pub decreases-listed : goal.decreases-listed
-decreases-listed l = 3 * l.end
-
 abbrev pub decreases-operated : goal.decreases-operated
 decreases-operated l = 3 * l.end
 
 abbrev pub decreases-pair : goal.decreases-pair
 decreases-pair l = 3 * l.end + 2
-
-abbrev pub decreases-paired : goal.decreases-paired
-decreases-paired l = 3 * l.end
 
 abbrev pub decreases-pairs : goal.decreases-pairs
 decreases-pairs l = 3 * l.end + 1

@@ -16,4 +16,4 @@ pub returns-in-30 : goal.returns-in-30
 returns-in-30 c = times-bound c.args.o c.args.a c.args.b c.in-30.is
 
 pub returns-in_default : goal.returns-in_default
-returns-in_default c = sets-bound c.args.o c.args.a c.args.b c.in_default.in_default-own.rest.0.0.1 c.in_default.in_default-own.rest.0.1 c.in_default.in_default-own.rest.1
+returns-in_default c = sets-bound c.args.o c.args.a c.args.b (λ s. omega arith) (λ s. omega arith) (λ s. omega arith)

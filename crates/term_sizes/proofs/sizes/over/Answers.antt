@@ -2,7 +2,7 @@
 use lib.Dec.{leb}
 use Prim.Native.Nat.{ℕ}
 use mathlib.Core.Path.{ap, ◌∙◌}
-use Rattle.lexical.specs.Refusals.{number_of}
+use Rattle.refusals.specs.Refusals.{number_of}
 use Rattle.type_rules.specs.TypesByNumber.{key, fault_key, unless_key}
 use Rattle.type_rules.proofs.FaultOrder.{judged-first}
 use Rattle.term_sizes.proofs.sizes.over.Goals as goal

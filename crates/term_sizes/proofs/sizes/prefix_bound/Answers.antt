@@ -10,4 +10,4 @@ pub returns-in-31 : goal.returns-in-31
 returns-in-31 c = (count-bound c.args.o c.args.a c.in-31.is, omega arith)
 
 pub returns-in_default : goal.returns-in_default
-returns-in_default c = (side-bound c.args.o c.args.a c.in_default.in_default-own.rest.0.1 c.in_default.in_default-own.rest.1, omega arith)
+returns-in_default c = (side-bound c.args.o c.args.a (λ s. omega arith) (λ s. omega arith), omega arith)

@@ -1,7 +1,7 @@
 -- `kinds::bound_fault` meets its contract. Assumes nothing.
 use mathlib.Core.Path.{ap, ◌∙◌}
 use Prim.Native.Nat.{ℕ}
-use Rattle.lexical.specs.Refusals.{number_of}
+use Rattle.refusals.specs.Refusals.{number_of}
 use Rattle.type_rules.specs.TypesByNumber.{fault_key, inside_key}
 use Rattle.type_rules.proofs.FaultOrder.{first-key}
 use Rattle.type_rules.proofs.TypeNumbers.{binder}

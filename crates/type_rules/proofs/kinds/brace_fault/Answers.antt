@@ -1,5 +1,5 @@
 -- `kinds::brace_fault` meets its contract. Assumes nothing.
-use Rattle.lexical.specs.Refusals.{number_of}
+use Rattle.refusals.specs.Refusals.{number_of}
 use Rattle.type_rules.proofs.TypeNumbers.{brace-pairs, brace-other}
 use Rattle.type_rules.proofs.kinds.brace_fault.Goals as goal
 

@@ -1,7 +1,7 @@
 -- `kinds::judge` meets its contract. Assumes nothing.
 use mathlib.Core.Path.{ap, ◌∙◌}
 use Prim.Native.Nat.{ℕ}
-use Rattle.lexical.specs.Refusals.{number_of}
+use Rattle.refusals.specs.Refusals.{number_of}
 use Rattle.type_rules.specs.TypesByNumber.{key, fault_key, unless_key}
 use Rattle.type_rules.proofs.FaultOrder.{judged-first}
 use Rattle.type_rules.proofs.kinds.judge.Goals as goal

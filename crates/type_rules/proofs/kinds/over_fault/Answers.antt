@@ -1,7 +1,7 @@
 -- `kinds::over_fault` meets its contract. Assumes nothing.
 use mathlib.Core.Path.{refl}
 use native.Mathlib.Omega.{arith}
-use Rattle.lexical.specs.Refusals.{number_of}
+use Rattle.refusals.specs.Refusals.{number_of}
 use Rattle.type_rules.proofs.TypeNumbers.{givens-bounds, over-fault, over_none}
 use Rattle.type_rules.proofs.kinds.over_fault.Goals as goal
 

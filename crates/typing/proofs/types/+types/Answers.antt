@@ -1,8 +1,9 @@
 -- The walk over the nodes of terms and predicates meets its contracts. Assumes nothing.
+use native.Mathlib.Omega.{arith}
 use Prim.Native.Nat.{◌+◌, ◌-◌}
 use mathlib.Core.Path.{refl, ap, ◌∙◌}
 use lib.ListN.{get_or}
-use Rattle.lexical.specs.Refusals.{number_of}
+use Rattle.refusals.specs.Refusals.{number_of}
 use Rattle.type_rules.specs.TypesByNumber.{fault_key}
 use Rattle.type_rules.proofs.FaultOrder.{first-key}
 use Rattle.typing.proofs.LastNodes.{term-short, items-short, pairs-short, pred-short, term-rest, pred-rest, eight, ten}
@@ -81,7 +82,7 @@ pub pred-returns-in-8 : goal.pred-returns-in-8
 pred-returns-in-8 t c = c.quantified.ensures
 
 pub pred-returns-in_default : goal.pred-returns-in_default
-pred-returns-in_default t c = pred-rest c.args.code.now c.args.end c.requires c.args.names.now c.args.sizes.now _ c.nothing-in_default.ensures (eight (get_or c.args.code.now (c.args.end - 4 + 3) 0) c.in_default.in_default-own.rest.0.0.0.0.0.0.0.1 c.in_default.in_default-own.rest.0.0.0.0.0.0.1 c.in_default.in_default-own.rest.0.0.0.0.0.1 c.in_default.in_default-own.rest.0.0.0.0.1 c.in_default.in_default-own.rest.0.0.0.1 c.in_default.in_default-own.rest.0.0.1 c.in_default.in_default-own.rest.0.1 c.in_default.in_default-own.rest.1)
+pred-returns-in_default t c = pred-rest c.args.code.now c.args.end c.requires c.args.names.now c.args.sizes.now _ c.nothing-in_default.ensures (eight (get_or c.args.code.now (c.args.end - 4 + 3) 0) (λ s. omega arith) (λ s. omega arith) (λ s. omega arith) (λ s. omega arith) (λ s. omega arith) (λ s. omega arith) (λ s. omega arith) (λ s. omega arith))
 
 pub prefixed-returns : goal.prefixed-returns
 prefixed-returns t c = term-prefix c.args.code.now c.args.end c.requires.0 c.args.names.now c.args.sizes.now _ c.node_at-n.result c.term-t.result _ c.prefix_fits.result c.node_at-n.ensures c.requires.2 c.term-t.ensures c.prefix_fits.ensures c.prefix_type.ensures refl c.judge-f.ensures
@@ -129,7 +130,7 @@ pub term-returns-in-10 : goal.term-returns-in-10
 term-returns-in-10 t c = c.empty_pairs.ensures
 
 pub term-returns-in_default : goal.term-returns-in_default
-term-returns-in_default t c = term-rest c.args.code.now c.args.end c.requires c.args.names.now c.args.sizes.now _ c.nothing-in_default.ensures (ten (get_or c.args.code.now (c.args.end - 4 + 3) 0) (eight (get_or c.args.code.now (c.args.end - 4 + 3) 0) c.in_default.in_default-own.rest.0.0.0.0.0.0.0.0.0.1 c.in_default.in_default-own.rest.0.0.0.0.0.0.0.0.1 c.in_default.in_default-own.rest.0.0.0.0.0.0.0.1 c.in_default.in_default-own.rest.0.0.0.0.0.0.1 c.in_default.in_default-own.rest.0.0.0.0.0.1 c.in_default.in_default-own.rest.0.0.0.0.1 c.in_default.in_default-own.rest.0.0.0.1 c.in_default.in_default-own.rest.0.0.1) c.in_default.in_default-own.rest.0.1 c.in_default.in_default-own.rest.1)
+term-returns-in_default t c = term-rest c.args.code.now c.args.end c.requires c.args.names.now c.args.sizes.now _ c.nothing-in_default.ensures (ten (get_or c.args.code.now (c.args.end - 4 + 3) 0) (eight (get_or c.args.code.now (c.args.end - 4 + 3) 0) (λ s. omega arith) (λ s. omega arith) (λ s. omega arith) (λ s. omega arith) (λ s. omega arith) (λ s. omega arith) (λ s. omega arith) (λ s. omega arith)) (λ s. omega arith) (λ s. omega arith))
 
 pub within-returns : goal.within-returns
 within-returns t c = pred-within c.args.code.now c.args.end c.requires.0 c.args.names.now c.args.sizes.now _ c.node_at-n.result c.term-t.result c.domain-d.result _ (fault_key c.lesser_of-parts.result) c.node_at-n.ensures c.requires.2 c.domain-d.ensures c.term-t.ensures c.lesser_of-parts.ensures refl refl c.judge-f.ensures

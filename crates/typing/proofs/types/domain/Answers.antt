@@ -2,7 +2,7 @@
 use mathlib.Core.List.{[]}
 use mathlib.Core.Path.{refl}
 use native.Mathlib.Omega.{arith}
-use Rattle.lexical.specs.Refusals.{number_of}
+use Rattle.refusals.specs.Refusals.{number_of}
 use Rattle.typing.proofs.LastNodes.{domain-short}
 use Rattle.typing.proofs.TypeWalkTerms.{domain-given, domain-range}
 use Rattle.typing.proofs.types.domain.Goals as goal

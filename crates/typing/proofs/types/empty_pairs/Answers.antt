@@ -1,6 +1,6 @@
 -- `types::empty_pairs` meets its contract. Assumes nothing.
 use mathlib.Core.Path.{refl, ap, ◌∙◌}
-use Rattle.lexical.specs.Refusals.{number_of}
+use Rattle.refusals.specs.Refusals.{number_of}
 use Rattle.type_rules.specs.TypesByNumber.{fault_key, over_key}
 use Rattle.typing.proofs.TypeWalkTerms.{term-empty-pairs}
 use Rattle.typing.proofs.types.empty_pairs.Goals as goal

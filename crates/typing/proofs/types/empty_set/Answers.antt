@@ -1,6 +1,6 @@
 -- `types::empty_set` meets its contract. Assumes nothing.
 use mathlib.Core.Path.{refl}
-use Rattle.lexical.specs.Refusals.{number_of}
+use Rattle.refusals.specs.Refusals.{number_of}
 use Rattle.typing.proofs.TypeWalkTerms.{term-empty}
 use Rattle.typing.proofs.types.empty_set.Goals as goal
 

@@ -1,6 +1,6 @@
 -- `types::named` meets its contract. Assumes nothing.
 use mathlib.Core.Path.{refl}
-use Rattle.lexical.specs.Refusals.{number_of}
+use Rattle.refusals.specs.Refusals.{number_of}
 use Rattle.typing.proofs.TypeWalkTerms.{term-name}
 use Rattle.typing.proofs.types.named.Goals as goal
 

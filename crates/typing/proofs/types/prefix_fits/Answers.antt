@@ -1,4 +1,5 @@
 -- `types::prefix_fits` meets its contract. Assumes nothing.
+use native.Mathlib.Omega.{arith}
 use Rattle.type_rules.proofs.TypeNumbers.{negate-fits, size_fits, side-fits}
 use Rattle.typing.proofs.types.prefix_fits.Goals as goal
 
@@ -9,4 +10,4 @@ pub returns-in-31 : goal.returns-in-31
 returns-in-31 c = size_fits c.args.o c.args.k c.in-31.is
 
 pub returns-in_default : goal.returns-in_default
-returns-in_default c = side-fits c.args.o c.args.k c.in_default.in_default-own.rest.0.1 c.in_default.in_default-own.rest.1
+returns-in_default c = side-fits c.args.o c.args.k (λ s. omega arith) (λ s. omega arith)

@@ -1,4 +1,5 @@
 -- `types::prefix_type` meets its contract. Assumes nothing.
+use native.Mathlib.Omega.{arith}
 use Rattle.type_rules.proofs.TypeNumbers.{dom-type, ran-type, number-type}
 use Rattle.typing.proofs.types.prefix_type.Goals as goal
 
@@ -9,4 +10,4 @@ pub returns-in-64 : goal.returns-in-64
 returns-in-64 c = ran-type c.args.o c.args.k _ c.in-64.is c.ran_of.ensures
 
 pub returns-in_default : goal.returns-in_default
-returns-in_default c = number-type c.args.o c.args.k c.in_default.in_default-own.rest.0.1 c.in_default.in_default-own.rest.1
+returns-in_default c = number-type c.args.o c.args.k (λ s. omega arith) (λ s. omega arith)

@@ -22,7 +22,7 @@ struct Sets<'a> {
 }
 
 // A product of counts; the limit and one for all above it.
-// Form 5: the limit is one of two numbers of document 01, that of states or that of inputs and outputs.
+// Form 5: the limit is one of two numbers of document 01; each arm of an enum of both would be turned back into that number here.
 fn product(limit: u32, n: u32, m: u32) -> u32
     requires { (limit ≤ 4096) × (n ≤ limit + 1) × (m ≤ 65536) }
     ensures { (result ≡ cap limit (n * m)) × (result ≤ limit + 1) }
@@ -61,7 +61,7 @@ fn width(a: u16, b: u16) -> u32
 const IN_OR_OUT: u32 = 2;
 
 // How many values a declared type has, whose node begins at `at`.
-// Form 5: here and in the crates below a node is read in the midst of others, at a place and not as a slice of its own.
+// Form 5: a type's node is the second one of its declaration, and `type_kind` and `type_fault`, which are asked of the same places, take it so.
 fn type_count(code: &[u16], at: usize, limit: u32, g: &Sets<'_>) -> u32
     requires { (at + 4 ≤ length code.now) × (limit ≤ 4096) }
     ensures { TypeCounted code.now at limit g.now.names.now g.now.sizes.now result × (result ≤ 65536) }
@@ -147,7 +147,7 @@ fn operation(p: &Parts<'_>, k: usize, g: &Sets<'_>) -> Option<Fault>
 }
 
 // The first n operations, as many as the spans have room for.
-// Form 5: the spans come as an array of that length, and as a slice in `Parts` they no longer say it.
+// Form 5: tried: an array in `Parts`; of one behind a struct's reference the proof knows the length only where it is handed on as a slice, as here it is not.
 fn all_operations(p: &Parts<'_>, n: usize, g: &Sets<'_>) -> Option<Fault>
     requires { length p.now.spans.now ≡ 80 }
     ensures { OperationsBound p.now.nodes.now p.now.spans.now n g.now.names.now g.now.sizes.now (fault_key result) }

@@ -55,12 +55,9 @@ fn goes_on(kind: u8) -> bool {
 
 // On over the symbols that have no node.
 fn whole(y: &Symbols<'_>, s: usize) -> usize {
-    for k in s..SYMBOLS {
-        if !goes_on(y.kind(k + 1)) {
-            return k;
-        }
-    }
-    s.max(SYMBOLS)
+    (s..SYMBOLS)
+        .find(|&k| !goes_on(y.kind(k.saturating_add(1))))
+        .unwrap_or(s.max(SYMBOLS))
 }
 
 // The brackets that are wanting.

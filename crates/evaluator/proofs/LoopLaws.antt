@@ -2,8 +2,8 @@
 use mathlib.Core.Path.{◌≡◌, refl, sym, ap, subst, ◌∙◌}
 use mathlib.Core.Bool.{Bool, true, false}
 use mathlib.Core.List.{List}
-use Prim.Native.Nat.{ℕ, zero, suc, ◌+◌, ◌-◌, ◌*◌, ◌^◌, ◌<◌, ◌≤◌}
-use native.Mathlib.Nat.{sub_self, sub-zero, zero-add, pow-suc, lt_of_lt_of_le}
+use Prim.Native.Nat.{ℕ, suc, ◌+◌, ◌-◌, ◌*◌, ◌<◌, ◌≤◌}
+use native.Mathlib.Nat.{sub_self, sub-zero, zero-add, lt_of_lt_of_le}
 use native.Mathlib.Numerals.{add-one}
 use native.Mathlib.Omega.{arith}
 use lib.Dec.{eqb}
@@ -13,6 +13,7 @@ use lib.Seq.{set-set, set-get_or}
 use lib.IntN.{ℤ, pos, ◌+ℤ◌}
 use Rattle.std.specs.Int.{from_bool}
 use Rattle.sets.specs.Sets.{bit, set_from, set_of, some_from, count_from}
+use Rattle.sets.proofs.Members.{from-below}
 use Rattle.operators.specs.EvaluationOperatorsByNumber.{asked}
 use Rattle.operators.specs.EvaluationEvaluationByNumber.{Values, Inside, first_at, low_at, count_at, Bound, TruthIs}
 use Rattle.evaluator.specs.EvaluationPromises.{TruthRuns, TruthAnswers, SuchRuns, SuchAnswers, Tests, BoundRuns, SomeAnswers, OnceAnswers}
@@ -39,15 +40,6 @@ byte_small false = omega arith
 
 unfold-one : (n k : ℕ) → k < n → n - k ≡ suc (n - (k + 1))
 unfold-one n k h = omega arith
-
-set_below : (g : ℕ → Bool) (k n : ℕ) → set_from g k n < 2 ^ n
-unfolding set_from
-set_below g k zero = omega arith
-set_below g k (suc n) = rw pow-suc (lemma (g k) (set_below g (suc k) n))
-  where
-    lemma : (b : Bool) {m p : ℕ} → m < p → bit b + 2 * m < p * 2
-    lemma true h = omega arith
-    lemma false h = omega arith
 
 set-step : (g : ℕ → Bool) (n k s r : ℕ) (b : Bool) → r ≡ from_bool b → s ≡ set_from g k (n - k) → 0 < k → k ≤ n → b ≡ g (k - 1)
     → 2 * s + r ≡ set_from g (k - 1) (n - (k - 1))
@@ -129,7 +121,7 @@ module _ {t : List ℕ} {e : ℕ} {ρ : Values} where
   such-small {k} {s} r S =
       let few : count_at t (e - 4) ≤ 16 = r.is.few in
       subst (λ (x : ℕ). x < 65536) (sym (S.is r.fuel r.is.test r.is.bound))
-      (lt_of_lt_of_le (set_below r.is.test k (count_at t (e - 4) - k)) (pow_mono {i = count_at t (e - 4) - k} {j = 16} (omega arith)))
+      (lt_of_lt_of_le (from-below r.is.test k (count_at t (e - 4) - k)) (pow_mono {i = count_at t (e - 4) - k} {j = 16} (omega arith)))
 
   pub such-step : {σ : Values} {k s r : ℕ} {b : Bool} → r ≡ from_bool b → SuchSoFar t e ρ k s → 0 < k → k ≤ count_at t (e - 4) → σ ≡ set ρ (first_at t e) (pos (k - 1))
       → TruthAnswers t (e - 8) σ b → SuchSoFar t e ρ (k - 1) (2 * s + r)

@@ -1,6 +1,6 @@
 // A counterexample: the binding, what holds there, and what fails.
-// Form 5: tried: the text and its dossier as one struct with a ghost field `IsRead`; such a fact is no proposition, as a ghost field must be, and the borrow checker does not cover the function that
-// makes the struct of arrays of its own. The page is what is written, lent for one call (DECISIONS L7).
+// Form 5: tried: the text and its dossier as one struct with a ghost field `IsRead`; such a fact is no proposition, as a ghost field must be, and a struct of references to arrays
+// of the function that makes it is refused, "given one at other lifetimes". The page is what is written, lent for one call (DECISIONS L7).
 ghost use Rattle.std.specs.Prelude.{◌<◌};
 ghost use Rattle.explanations.specs.Asked.{IsRead};
 

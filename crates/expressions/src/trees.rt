@@ -54,7 +54,12 @@ fn operand(
     ensures { Reads y.now.kinds.now at n (an_operand d b ∷ []) [] result × Made y.now.kinds.now y.now.values.now an_operand at n code.old code.new result }
 {
     let k = kind_at(y.kinds, at);
-    let start = start_of(k);
+    let Some(start) = start_of(k) else {
+        return Err(Fault {
+            place: at,
+            refusal: Refusal::NoDossier,
+        });
+    };
     match start {
         Start::Leaf => {
             let m = leaf(y, at, code, n);
@@ -102,10 +107,6 @@ fn operand(
             brace(y, at, d + 1, b, code, n)
         }
         Start::Empty => empty(y, at, code, n),
-        Start::Nothing => Err(Fault {
-            place: at,
-            refusal: Refusal::NoDossier,
-        }),
     }
 }
 

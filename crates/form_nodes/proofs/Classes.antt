@@ -5,16 +5,16 @@ use mathlib.Core.List.{List, [], ◌∷◌}
 use Prim.Native.Nat.{ℕ, zero, suc, ◌+◌, ◌*◌, ◌≤◌, ◌<◌}
 use native.Mathlib.Omega.{arith}
 use lib.Dec.{eqb, leb}
+use Rattle.std.specs.Prelude.{Option, Some, None}
 use borrow.Author.Tests.{eqb-true, eqb-false, ne_eqb, leb-true}
 use Rattle.lexical.specs.Lists.{all}
 use Rattle.lexical.specs.Kinds as kind
 use Rattle.lexical.specs.Kinds.{Kind, code_of, is, lookup}
 use Rattle.lexical.specs.SymbolPromises.{is_name}
 use Rattle.lexical.proofs.NameCodes.{name-low, name-high, no-name}
-use Rattle.form_nodes.specs.FormPromises.{Classes, Starts, StartCode, start_as, level_of, bit, Named}
+use Rattle.form_nodes.specs.FormPromises.{Classes, Starts, StartCode, StartOf, start_as, level_of, bit, Named}
 use Rattle.form.specs.Machine.{starts, nothing}
 use Rattle.form_nodes.specs.declared.kinds.Start.{Start}
-use Rattle.form_nodes.specs.declared.kinds.Start.TheVariants.{Nothing}
 use Rattle.form.proofs.Table.{Each, kinds, kind_in, kind-back, is-equal}
 
 -- k is the code of no entry
@@ -110,8 +110,15 @@ pub started : {k : ℕ} {r : Start} (lo n : ℕ) → Same (λ (j : ℕ). lookup 
 started {k} {r} lo n h a b c =
     record { code = c; start = λ κ q. ap (lookup starts nothing) (told κ q) ∙ span (λ (j : ℕ). lookup starts nothing (kind_in kinds j)) (start_as r) lo n h k a b }
 
-pub unstarted : {k : ℕ} → Misses k starts → Starts k Nothing
-unstarted m = record { code = tt; start = λ κ q. lookup-miss starts nothing κ (subst (λ (j : ℕ). Misses j starts) (sym q) m) }
+pub unstarted : {k : ℕ} → Misses k starts → StartOf k None
+unstarted m κ q = lookup-miss starts nothing κ (subst (λ (j : ℕ). Misses j starts) (sym q) m)
+
+-- what begins a term, or that none begins, by what `start_of` answers
+pub begun : {k : ℕ} {r : Option Start} {v : Start} → r ≡ Some v → StartOf k r → Starts k v
+begun {k} q h = subst (λ (x : Option Start). StartOf k x) q h
+
+pub unbegun : {k : ℕ} {r : Option Start} → r ≡ None → StartOf k r → StartOf k None
+unbegun {k} q h = subst (λ (x : Option Start). StartOf k x) q h
 
 pub level-high : (o : ℕ) → 2 ≤ o → level_of o ≡ 2
 level-high zero h = absurd (omega arith)

@@ -1,6 +1,6 @@
 -- A - after in or notin, by the codes of the symbols around it.
 use mathlib.Core.Path.{◌≡◌, refl, ap, ◌∙◌, sym, subst}
-use mathlib.Core.Bool.{Bool, true, false, cond, not, ◌&&◌, ◌||◌}
+use mathlib.Core.Bool.{Bool, true, false, cond, not, ◌&&◌, ◌||◌, false≢true}
 use mathlib.Core.List.{List, [], ◌∷◌}
 use mathlib.Core.Option.{Option, none, some}
 use Prim.Native.Nat.{ℕ, zero, suc, ◌+◌, ◌-◌, ◌≤◌, ◌<◌}
@@ -9,18 +9,18 @@ use native.Mathlib.Numerals.{add-one}
 use lib.Dec.{eqb, leb}
 use lib.ListN.{drop, get_or, get_or-map}
 use lib.Seq.{get_or-drop}
-use borrow.Author.Tests.{eq-eqb, ne_eqb, le-leb, lt-leb, le-ltb, lt-ltb}
+use borrow.Author.Tests.{eq-eqb, ne_eqb, eqb-true, eqb-false, le-leb, lt-leb, leb-true, leb-false, le-ltb, lt-ltb}
 use Rattle.lexical.specs.Lists.{all}
 use Rattle.lexical.specs.Kinds as kind
-use Rattle.lexical.specs.Kinds.{Kind, code_of, is}
+use Rattle.lexical.specs.Kinds.{Kind, code_of, lookup, is}
 use Rattle.lexical.specs.Symbols.{Symbol, fixed, kind_of}
 use Rattle.refusals.specs.Refusals.{Refusal, deep}
 use Rattle.form.proofs.LexicalBooleanTests.{and-right-false}
 use Rattle.form.specs.Written.{opens, binds}
 use Rattle.form.specs.Form.{kind_at, is_range_end, is_used, settled, excess, refuse}
-use Rattle.form_nodes.specs.FormPromises.{codes, range_end_at, RangeEnd}
+use Rattle.form_nodes.specs.FormPromises.{codes, range_end_at, RangeEnd, range_below, Members, Ranged, positive, negative, unranged}
 use Rattle.form.specs.Machine.{kind_before}
-use Rattle.form_nodes.proofs.Classes.{every-kind}
+use Rattle.form_nodes.proofs.Classes.{every-kind, no-class}
 use Rattle.form_nodes.proofs.ReadParts.{Within}
 
 -- a test that takes `end` for 0 does not tell the two defaults apart
@@ -79,18 +79,39 @@ no_third true true y z = refl
 no_third true false y z = refl
 no_third false b y z = refl
 
-no-fourth : (a b x z : Bool) → five a b x false z ≡ false
-no-fourth true true true z = refl
-no-fourth true true false z = refl
-no-fourth true false x z = refl
-no-fourth false b x z = refl
+-- -, a number and .., together and each
+both-true : (a b : Bool) → (a && b) ≡ true → (a ≡ true) × (b ≡ true)
+both-true true b q = (refl, q)
+both-true false b q = absurd (false≢true q)
 
-no_fifth : (a b x y : Bool) → five a b x y false ≡ false
-no_fifth true true true true = refl
-no_fifth true true true false = refl
-no_fifth true true false y = refl
-no_fifth true false x y = refl
-no_fifth false b x y = refl
+pub below-parts : (s : List ℕ) (at : ℕ) → range_below s at ≡ true → (get_or s at 0 ≡ 29) × ((get_or s (at + 1) 0 ≡ 1) × (get_or s (at + 2) 0 ≡ 21))
+unfolding range_below
+below-parts s at q =
+    let a = both-true (eqb (get_or s at 0) 29 && eqb (get_or s (at + 1) 0) 1) (eqb (get_or s (at + 2) 0) 21) q in
+    let b = both-true (eqb (get_or s at 0) 29) (eqb (get_or s (at + 1) 0) 1) a.0 in
+    (eqb-true (get_or s at 0) 29 b.0, (eqb-true (get_or s (at + 1) 0) 1 b.1, eqb-true (get_or s (at + 2) 0) 21 a.1))
+
+pub below-holds : (s : List ℕ) (at : ℕ) → get_or s at 0 ≡ 29 → get_or s (at + 1) 0 ≡ 1 → get_or s (at + 2) 0 ≡ 21 → range_below s at ≡ true
+unfolding range_below
+below-holds s at x y z =
+    ap (λ (b : Bool). b && eqb (get_or s (at + 1) 0) 1 && eqb (get_or s (at + 2) 0) 21) (eq-eqb (get_or s at 0) 29 x)
+    ∙ ap (λ (b : Bool). b && eqb (get_or s (at + 2) 0) 21) (eq-eqb (get_or s (at + 1) 0) 1 y)
+    ∙ eq-eqb (get_or s (at + 2) 0) 21 z
+
+-- a test of three, by the outcome of the first two
+pub below-first : (s : List ℕ) (at : ℕ) → get_or s at 0 ≡ 29 → get_or s (at + 1) 0 ≡ 1 → eqb (get_or s (at + 2) 0) 21 ≡ range_below s at
+unfolding range_below
+below-first s at x y =
+    sym
+    (ap (λ (b : Bool). b && eqb (get_or s (at + 1) 0) 1 && eqb (get_or s (at + 2) 0) 21) (eq-eqb (get_or s at 0) 29 x)
+    ∙ ap (λ (b : Bool). b && eqb (get_or s (at + 2) 0) 21) (eq-eqb (get_or s (at + 1) 0) 1 y))
+
+pub below-fails : (s : List ℕ) (at : ℕ) → (get_or s at 0 ≡ 29 → get_or s (at + 1) 0 ≡ 1 → ⊥) → false ≡ range_below s at
+below-fails s at n = on (range_below s at) refl
+  where
+    on : (b : Bool) → range_below s at ≡ b → false ≡ range_below s at
+    on true q = let h = below-parts s at q in absurd (n h.0 h.1.0)
+    on false q = sym q
 
 -- each way in which the codes tell, where p stands before at
 module _ (s : List ℕ) (p at : ℕ) (e : at ≡ suc p) where
@@ -99,10 +120,10 @@ module _ (s : List ℕ) (p at : ℕ) (e : at ≡ suc p) where
   told =
       subst (λ (j : ℕ). range_end_at s j ≡ five (leb 56 (get_or s p 0)) (leb (get_or s p 0) 57) (eqb (get_or s j 0) 29) (eqb (get_or s (j + 1) 0) 1) (eqb (get_or s (j + 2) 0) 21)) (sym e) refl
 
-  pub below : get_or s p 0 < 56 → range_end_at s at ≡ false
+  below : get_or s p 0 < 56 → range_end_at s at ≡ false
   below h = told ∙ ap (λ (b : Bool). five b (leb (get_or s p 0) 57) (eqb (get_or s at 0) 29) (eqb (get_or s (at + 1) 0) 1) (eqb (get_or s (at + 2) 0) 21)) (lt-leb 56 (get_or s p 0) h)
 
-  pub above : 57 < get_or s p 0 → range_end_at s at ≡ false
+  above : 57 < get_or s p 0 → range_end_at s at ≡ false
   above h =
       told ∙ ap (λ (b : Bool). five (leb 56 (get_or s p 0)) b (eqb (get_or s at 0) 29) (eqb (get_or s (at + 1) 0) 1) (eqb (get_or s (at + 2) 0) 21)) (lt-leb (get_or s p 0) 57 h)
       ∙ no_second (leb 56 (get_or s p 0)) (eqb (get_or s at 0) 29) (eqb (get_or s (at + 1) 0) 1) (eqb (get_or s (at + 2) 0) 21)
@@ -112,23 +133,55 @@ module _ (s : List ℕ) (p at : ℕ) (e : at ≡ suc p) where
       told ∙ ap (λ (b : Bool). five (leb 56 (get_or s p 0)) (leb (get_or s p 0) 57) b (eqb (get_or s (at + 1) 0) 1) (eqb (get_or s (at + 2) 0) 21)) (ne_eqb (get_or s at 0) 29 h)
       ∙ no_third (leb 56 (get_or s p 0)) (leb (get_or s p 0) 57) (eqb (get_or s (at + 1) 0) 1) (eqb (get_or s (at + 2) 0) 21)
 
-  pub no_number : (get_or s (at + 1) 0 ≡ 1 → ⊥) → range_end_at s at ≡ false
-  no_number h =
-      told ∙ ap (λ (b : Bool). five (leb 56 (get_or s p 0)) (leb (get_or s p 0) 57) (eqb (get_or s at 0) 29) b (eqb (get_or s (at + 2) 0) 21)) (ne_eqb (get_or s (at + 1) 0) 1 h)
-      ∙ no-fourth (leb 56 (get_or s p 0)) (leb (get_or s p 0) 57) (eqb (get_or s at 0) 29) (eqb (get_or s (at + 2) 0) 21)
+  -- behind in or notin the rest tells
+  pub behind-member : 56 ≤ get_or s p 0 → get_or s p 0 ≤ 57 → range_end_at s at ≡ range_below s at
+  unfolding range_below
+  behind-member a b =
+      told
+      ∙ ap (λ (t : Bool). five t (leb (get_or s p 0) 57) (eqb (get_or s at 0) 29) (eqb (get_or s (at + 1) 0) 1) (eqb (get_or s (at + 2) 0) 21)) (le-leb 56 (get_or s p 0) a)
+      ∙ ap (λ (t : Bool). five true t (eqb (get_or s at 0) 29) (eqb (get_or s (at + 1) 0) 1) (eqb (get_or s (at + 2) 0) 21)) (le-leb (get_or s p 0) 57 b)
 
-  pub no_dots : (get_or s (at + 2) 0 ≡ 21 → ⊥) → range_end_at s at ≡ false
-  no_dots h =
-      told ∙ ap (λ (b : Bool). five (leb 56 (get_or s p 0)) (leb (get_or s p 0) 57) (eqb (get_or s at 0) 29) (eqb (get_or s (at + 1) 0) 1) b) (ne_eqb (get_or s (at + 2) 0) 21 h)
-      ∙ no_fifth (leb 56 (get_or s p 0)) (leb (get_or s p 0) 57) (eqb (get_or s at 0) 29) (eqb (get_or s (at + 1) 0) 1)
+  pub by-below : {r : Bool} → (56 ≤ get_or s p 0) × (get_or s p 0 ≤ 57) → r ≡ range_below s at → RangeEnd s at r
+  by-below a q = record {
+    test = behind-member a.0 a.1 ∙ sym q;
+    minus = λ e. let h = below-parts s at (sym q ∙ e) in (h.0, h.1.0);
+  }
+
+  pub no_member : (56 ≤ get_or s p 0 → get_or s p 0 ≤ 57 → ⊥) → range_end_at s at ≡ false
+  no_member h = on (leb 56 (get_or s p 0)) refl
+    where
+      on : (b : Bool) → leb 56 (get_or s p 0) ≡ b → range_end_at s at ≡ false
+      on true e = let l : 56 ≤ get_or s p 0 = leb-true 56 (get_or s p 0) e in let m : get_or s p 0 ≤ 57 → ⊥ = h l in above (omega arith)
+      on false e = let l = leb-false 56 (get_or s p 0) e in below (omega arith)
 
   pub is-end : 56 ≤ get_or s p 0 → get_or s p 0 ≤ 57 → get_or s at 0 ≡ 29 → get_or s (at + 1) 0 ≡ 1 → get_or s (at + 2) 0 ≡ 21 → range_end_at s at ≡ true
-  is-end a b x y z =
-      told
-      ∙ ap (λ (b : Bool). five b (leb (get_or s p 0) 57) (eqb (get_or s at 0) 29) (eqb (get_or s (at + 1) 0) 1) (eqb (get_or s (at + 2) 0) 21)) (le-leb 56 (get_or s p 0) a)
-      ∙ ap (λ (b : Bool). five true b (eqb (get_or s at 0) 29) (eqb (get_or s (at + 1) 0) 1) (eqb (get_or s (at + 2) 0) 21)) (le-leb (get_or s p 0) 57 b)
-      ∙ ap (λ (b : Bool). five true true b (eqb (get_or s (at + 1) 0) 1) (eqb (get_or s (at + 2) 0) 21)) (eq-eqb (get_or s at 0) 29 x)
-      ∙ ap (λ (b : Bool). five true true true b (eqb (get_or s (at + 2) 0) 21)) (eq-eqb (get_or s (at + 1) 0) 1 y) ∙ eq-eqb (get_or s (at + 2) 0) 21 z
+  is-end a b x y z = behind-member a b ∙ below-holds s at x y z
+
+-- what no membership is
+pub no-membership : (k : ℕ) {r : Bool} → Members k r → r ≡ false → 56 ≤ k → k ≤ 57 → ⊥
+unfolding code_of lookup is
+no-membership k h q a b = on (eqb k 56) refl
+  where
+    on : (t : Bool) → eqb k 56 ≡ t → ⊥
+    on true e = let w : ◌≡◌ {A = ℕ} 1 0 = no-class h.classes q kind.IN (sym (eqb-true k 56 e)) in omega arith
+    on false e = let n : k ≡ 56 → ⊥ = eqb-false k 56 e in let w : ◌≡◌ {A = ℕ} 1 0 = no-class h.classes q kind.NOTIN (omega arith) in omega arith
+
+-- a range, by whether it begins below 0
+pub ranged-below : (s : List ℕ) (at : ℕ) {r : Bool} → r ≡ range_below s at → r ≡ true → Ranged s at true
+ranged-below s at q e = let h = below-parts s at (sym q ∙ e) in negative h.0 h.1.0 (ap (λ (j : ℕ). get_or s j 0) (omega arith) ∙ h.1.1)
+
+not-below : (s : List ℕ) (at : ℕ) {r : Bool} → r ≡ range_below s at → r ≡ false → get_or s at 0 ≡ 29 → get_or s (at + 1) 0 ≡ 1 → get_or s (at + 1 + 1) 0 ≡ 21 → ⊥
+not-below s at q e x y z = false≢true (sym e ∙ q ∙ below-holds s at x y (ap (λ (j : ℕ). get_or s j 0) (omega arith) ∙ z))
+
+pub ranged-above : (s : List ℕ) (at : ℕ) → get_or s at 0 ≡ 1 → Ranged s at (eqb (get_or s (at + 1) 0) 21)
+ranged-above s at x = on (eqb (get_or s (at + 1) 0) 21) refl
+  where
+    on : (b : Bool) → eqb (get_or s (at + 1) 0) 21 ≡ b → Ranged s at b
+    on true e = positive x (eqb-true (get_or s (at + 1) 0) 21 e)
+    on false e = unranged (λ p q. eqb-false (get_or s (at + 1) 0) 21 e q) (λ p q r. absurd (omega arith))
+
+pub no-range : (s : List ℕ) (at : ℕ) {r : Bool} → r ≡ range_below s at → r ≡ false → (get_or s at 0 ≡ 1 → ⊥) → Ranged s at false
+no-range s at q e n = unranged (λ x y. n x) (λ x y z. not-below s at q e x y z)
 
 pub behind-first : (at : ℕ) → (at ≡ 0 → ⊥) → at ≡ suc (at - 1)
 behind-first at h = omega arith

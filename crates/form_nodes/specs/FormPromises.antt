@@ -7,7 +7,7 @@ use Rattle.lexical.specs.Promises.{Scans}
 use Rattle.form.specs.Machine as machine
 use Rattle.form.specs.Machine.{kind_before, Item, a_term_rest, a_pred_rest, Run, failed, run_from, starts}
 use Rattle.form_nodes.specs.declared.kinds.Start.{Start}
-use Rattle.form_nodes.specs.declared.kinds.Start.TheVariants.{Leaf, Prefix, Bracket, Brace, Empty, Nothing}
+use Rattle.form_nodes.specs.declared.kinds.Start.TheVariants.{Leaf, Prefix, Bracket, Brace, Empty}
 use Rattle.form_nodes.specs.declared.kinds.PredStart.{PredStart}
 use Rattle.form_nodes.specs.declared.kinds.PredStart.TheVariants.{Truth, Negation, Paren, Term}
 use Rattle.form_nodes.specs.declared.kinds.Relation.{Relation}
@@ -74,7 +74,6 @@ start_as Prefix = machine.prefixed
 start_as Bracket = machine.bracket
 start_as Brace = machine.brace
 start_as Empty = machine.emptied
-start_as Nothing = machine.nothing
 
 abbrev pub StartCode : ℕ → Start → Type 0
 StartCode k Leaf = 1 ≤ k
@@ -82,11 +81,14 @@ StartCode k Prefix = 1 ≤ k
 StartCode k Bracket = k ≡ 17
 StartCode k Brace = k ≡ 19
 StartCode k Empty = k ≡ 47
-StartCode k Nothing = Unit {0}
 
 pub record Starts (k : ℕ) (r : Start) : Type 0 where
   pub code : StartCode k r
   pub start : (κ : Kind) → code_of κ ≡ k → lookup starts machine.nothing κ ≡ start_as r
+
+abbrev pub StartOf : ℕ → Option Start → Type 0
+StartOf k (Some r) = Starts k r
+StartOf k None = (κ : Kind) → code_of κ ≡ k → lookup starts machine.nothing κ ≡ machine.nothing
 
 -- operators: 1 of the lower level, 2 of the higher, 3 with a number on its right
 abbrev pub operators : List (Kind × ℕ)
@@ -155,6 +157,10 @@ unfoldable pub range_end_at : List ℕ → ℕ → Bool
 range_end_at s zero = false
 range_end_at s (suc p) =
     (leb 56 (get_or s p 0) && leb (get_or s p 0) 57) && eqb (get_or s (suc p) 0) 29 && eqb (get_or s (suc p + 1) 0) 1 && eqb (get_or s (suc p + 2) 0) 21
+
+-- -, a number and .. stand at a place
+unfoldable pub range_below : List ℕ → ℕ → Bool
+range_below s at = eqb (get_or s at 0) 29 && eqb (get_or s (at + 1) 0) 1 && eqb (get_or s (at + 2) 0) 21
 
 pub record RangeEnd (s : List ℕ) (at : ℕ) (r : Bool) : Type 0 where
   pub test : range_end_at s at ≡ r

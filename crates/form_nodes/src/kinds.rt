@@ -1,11 +1,11 @@
 // The kinds of symbols, by their codes.
 ghost use Rattle.std.specs.Prelude.{◌≡◌, get_or};
-ghost use Rattle.form_nodes.specs.FormPromises.{KindAt, Classes, Starts, Begins, Members, Quantifies, Relates, operators, connectives, level_of};
+ghost use Rattle.form_nodes.specs.FormPromises.{KindAt, Classes, StartOf, Begins, Members, Quantifies, Relates, operators, connectives, level_of};
 
 use lexical::codes;
 
 // How a symbol begins a term.
-// Form 1: the six cases of the machine's `Start` (form/specs/Machine.antt), of which `Nothing` is one.
+// Form 1: five cases of the machine (form/specs/Machine.antt); that no term begins is the `None` of `start_of`.
 #[derive(Clone, Copy)]
 pub enum Start {
     Leaf,
@@ -13,7 +13,6 @@ pub enum Start {
     Bracket,
     Brace,
     Empty,
-    Nothing,
 }
 
 // How a symbol begins a predicate: any that is not a truth value, `not` or ( begins a term.
@@ -46,18 +45,18 @@ pub fn kind_at(s: &[u8], at: usize) -> u8
     0
 }
 
-pub fn start_of(k: u8) -> Start
-    ensures { Starts k result }
+pub fn start_of(k: u8) -> Option<Start>
+    ensures { StartOf k result }
 {
     match k {
-        codes::NUMBER..=codes::OUTPUT => Start::Leaf,
-        codes::DASH => Start::Prefix,
-        codes::SIZE => Start::Prefix,
-        codes::DOM..=codes::RAN => Start::Prefix,
-        codes::OPEN_BRACKET => Start::Bracket,
-        codes::OPEN_BRACE => Start::Brace,
-        codes::EMPTY => Start::Empty,
-        _ => Start::Nothing,
+        codes::NUMBER..=codes::OUTPUT => Some(Start::Leaf),
+        codes::DASH => Some(Start::Prefix),
+        codes::SIZE => Some(Start::Prefix),
+        codes::DOM..=codes::RAN => Some(Start::Prefix),
+        codes::OPEN_BRACKET => Some(Start::Bracket),
+        codes::OPEN_BRACE => Some(Start::Brace),
+        codes::EMPTY => Some(Start::Empty),
+        _ => None,
     }
 }
 

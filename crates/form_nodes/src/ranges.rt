@@ -1,13 +1,13 @@
 // Ends, ranges and what a bound name ranges over.
 // Form 5: the place moves with each symbol read; that there are at most 4,096 symbols, `Room` says to those that write.
-ghost use Rattle.std.specs.Prelude.{[], ◌∷◌, ◌≤◌, ◌<◌, length};
+ghost use Rattle.std.specs.Prelude.{◌≡◌, [], ◌∷◌, ◌≤◌, ◌<◌, length};
 ghost use Rattle.lexical.specs.Kinds as kind;
 ghost use Rattle.form.specs.Machine.{exact, an_end, a_domain};
-ghost use Rattle.form_nodes.specs.FormPromises.{Closes, Reads, Advances, Ranged, RangeEnd, Shown};
+ghost use Rattle.form_nodes.specs.FormPromises.{Closes, Reads, Advances, Ranged, RangeEnd, Shown, range_below};
 ghost use Rattle.form_nodes.specs.Derivations.{EndAt, RangeAt, DomainAt};
 
 use crate::Read;
-use crate::kinds::kind_at;
+use crate::kinds::{is_membership, kind_at};
 use lexical::codes;
 use lexical::codes::is_name;
 use refusals::{Fault, Refusal};
@@ -46,31 +46,22 @@ pub fn end(s: &[u8], at: usize, n: usize) -> Result<Read, Fault>
     close(s, at, codes::NUMBER, n)
 }
 
+// Do -, a number and .. stand here?
+fn is_below(s: &[u8], at: usize) -> bool
+    requires { (at ≤ length s.now) × (length s.now ≤ 4096) }
+    ensures { result ≡ range_below s.now at }
+{
+    kind_at(s, at) == codes::DASH
+        && kind_at(s, at + 1) == codes::NUMBER
+        && kind_at(s, at + 2) == codes::UP_TO
+}
+
 // Is the symbol the - of a range after `in` or `notin`?
 pub fn range_end(s: &[u8], at: usize) -> bool
     requires { (at < length s.now) × (length s.now ≤ 4096) }
     ensures { RangeEnd s.now at result }
 {
-    if at == 0 {
-        return false;
-    }
-    let k = kind_at(s, at - 1);
-    if k < codes::IN {
-        return false;
-    }
-    if codes::NOTIN < k {
-        return false;
-    }
-    if kind_at(s, at) == codes::DASH {
-        if kind_at(s, at + 1) == codes::NUMBER {
-            if kind_at(s, at + 2) == codes::UP_TO {
-                return true;
-            }
-            return false;
-        }
-        return false;
-    }
-    false
+    0 < at && is_membership(kind_at(s, at - 1)) && is_below(s, at)
 }
 
 // Does a range stand here, and no term?
@@ -78,23 +69,7 @@ pub fn is_range(s: &[u8], at: usize) -> bool
     requires { (at ≤ length s.now) × (length s.now ≤ 4096) }
     ensures { Ranged s.now at result }
 {
-    let k = kind_at(s, at);
-    if k == codes::DASH {
-        if kind_at(s, at + 1) == codes::NUMBER {
-            if kind_at(s, at + 1 + 1) == codes::UP_TO {
-                return true;
-            }
-            return false;
-        }
-        return false;
-    }
-    if k == codes::NUMBER {
-        if kind_at(s, at + 1) == codes::UP_TO {
-            return true;
-        }
-        return false;
-    }
-    false
+    is_below(s, at) || (kind_at(s, at) == codes::NUMBER && kind_at(s, at + 1) == codes::UP_TO)
 }
 
 // a..b

@@ -1,75 +1,108 @@
 -- What the functions that read and write the held bytes count on: numbers byte by byte, zeros, a text copied, a mark that fits.
-use mathlib.Core.Path.{◌≡◌, refl, sym, ap, ap₂, ◌∙◌, subst}
+use mathlib.Core.Path.{◌≡◌, refl, sym, ap, ap₂, ◌∙◌}
 use mathlib.Core.Bool.{Bool, true, false, ◌&&◌, ◌||◌}
 use mathlib.Core.List.{List, [], ◌∷◌, ◌++◌}
 use Prim.Native.Nat.{ℕ, zero, suc, ◌+◌, ◌-◌, ◌*◌, ◌/◌, ◌%◌, ◌^◌, ◌≤◌, ◌<◌}
 use native.Mathlib.Omega.{arith}
-use native.Mathlib.Nat.{pow-suc, pow-le-pow_right}
+use native.Mathlib.Nat.{pow-suc, div-div-eq-div-mul}
 use lib.Dec.{eqb, leb, ltb}
 use borrow.Author.Tests.{lt-ltb}
-use lib.ListN.{length, length-drop, take, drop, get_or, set, take-append-drop}
-use lib.Seq.{drop-cons, drop-drop, set_split, take_all}
+use lib.ListN.{length, length-append, length-replicate, length-take, length-drop, take, drop, get_or, replicate}
+use lib.Seq.{drop-cons, drop-drop, take_all}
 use borrow.Rule.Slice.PartMut.{put_mid}
 use Rattle.table_nodes.specs.TableWalkPromises.{patch}
-use Rattle.table_nodes.proofs.Pieces.{patch-behind}
+use Rattle.std.specs.Int.{w64, to_le_bytes, from_le_bytes, bytes_low_first}
 use Rattle.held_checks.specs.HeldBytes.{little_endian, from_bytes, fitting}
 use Rattle.held_checks.specs.BytePromises.{NumberAt}
 
--- a number, its lowest byte first
-pub number-none : (b : List ℕ) (at n : ℕ) → n ≡ 0 → NumberAt b at n 0
-unfolding from_bytes
-number-none b at zero h = record { is = refl; small = omega arith }
-number-none b at (suc n) h = absurd (omega arith)
+-- the number that bytes are: the library's of eight bytes, no more than the bytes tell, and the same with zeros behind them
+nested : (a b c d e f g h : ℕ) → a + b * 256 + c * 65536 + d * 16777216 + e * 4294967296 + f * 1099511627776 + g * 281474976710656 + h * 72057594037927936
+    ≡ a + 256 * (b + 256 * (c + 256 * (d + 256 * (e + 256 * (f + 256 * (g + 256 * (h + 256 * 0)))))))
+nested a b c d e f g h = omega arith
 
-pub number_more : (b : List ℕ) (at n r : ℕ) → (n ≡ 0 → ⊥) → at + n ≤ length b → get_or b at 0 < 256 → NumberAt b (at + 1) (n - 1) r
-    → NumberAt b at n (get_or b at 0 + 256 * r)
+read-eight : (w : List ℕ) → length w ≡ 8 → from_le_bytes w64 w ≡ from_bytes w
 unfolding from_bytes
-number_more b at zero r ne h k s = absurd (ne refl)
-number_more b at (suc n) r ne h k s =
-    let e : suc n - 1 ≡ n = omega arith in
-    let f : at + 1 ≡ suc at = omega arith in
-    let rest : r ≡ from_bytes (take n (drop (suc at) b)) = s.is ∙ ap₂ (λ (i j : ℕ). from_bytes (take i (drop j b))) e f in
-    let low : r < 256 ^ n = subst (λ (i : ℕ). r < 256 ^ i) e s.small in
+read-eight [] l = absurd (omega arith)
+read-eight (a ∷ []) l = absurd (omega arith)
+read-eight (a ∷ b ∷ []) l = absurd (omega arith)
+read-eight (a ∷ b ∷ c ∷ []) l = absurd (omega arith)
+read-eight (a ∷ b ∷ c ∷ d ∷ []) l = absurd (omega arith)
+read-eight (a ∷ b ∷ c ∷ d ∷ e ∷ []) l = absurd (omega arith)
+read-eight (a ∷ b ∷ c ∷ d ∷ e ∷ f ∷ []) l = absurd (omega arith)
+read-eight (a ∷ b ∷ c ∷ d ∷ e ∷ f ∷ g ∷ []) l = absurd (omega arith)
+read-eight (a ∷ b ∷ c ∷ d ∷ e ∷ f ∷ g ∷ h ∷ []) l = nested a b c d e f g h
+read-eight (a ∷ b ∷ c ∷ d ∷ e ∷ f ∷ g ∷ h ∷ x ∷ w) l = absurd (omega arith)
+
+zeros_none : (k n : ℕ) → from_bytes (drop k (replicate {A = ℕ} n 0)) ≡ 0
+unfolding from_bytes
+zeros_none zero zero = refl
+zeros_none zero (suc n) = let e = zeros_none zero n in omega arith
+zeros_none (suc k) zero = refl
+zeros_none (suc k) (suc n) = zeros_none k n
+
+zeros_behind : (w z : List ℕ) → from_bytes z ≡ 0 → from_bytes (w ++ z) ≡ from_bytes w
+unfolding from_bytes
+zeros_behind [] z e = e
+zeros_behind (b ∷ w) z e = ap (λ (x : ℕ). b + 256 * x) (zeros_behind w z e)
+
+number-small : (n at : ℕ) (b : List ℕ) → at + n ≤ length b → ((i : ℕ) → get_or b i 0 < 256) → from_bytes (take n (drop at b)) < 256 ^ n
+unfolding from_bytes
+number-small zero at b h k = omega arith
+number-small (suc n) at b h k =
+    let rest = number-small n (suc at) b (omega arith) k in
     let p = pow-suc 256 n in
-    record {
-      is = ap (λ (x : ℕ). get_or b at 0 + 256 * x) rest ∙ ap (λ (w : List ℕ). from_bytes (take (suc n) w)) (sym (drop-cons b at 0 (omega arith)));
-      small = omega arith;
-    }
+    let first = k at in
+    let e : from_bytes (take (suc n) (drop at b)) ≡ get_or b at 0 + 256 * from_bytes (take n (drop (suc at) b)) =
+    ap (λ (w : List ℕ). from_bytes (take (suc n) w)) (drop-cons b at 0 (omega arith)) in
+    omega arith
 
--- seven bytes leave room for an eighth
-pub number-room : (n r : ℕ) → (n ≡ 0 → ⊥) → n ≤ 8 → r < 256 ^ (n - 1) → r < 72057594037927936
-number-room n r ne h k = let p = pow-le-pow_right {n = 256} (omega arith) {i = n - 1} {j = 7} (omega arith) in omega arith
+pub number-read : (b v : List ℕ) (at n r : ℕ) → at + n ≤ length b → n ≤ 8 → ((i : ℕ) → get_or b i 0 < 256) → v ≡ take (at + n - at) (drop at b)
+    → r ≡ from_le_bytes w64 (v ++ drop n (replicate {A = ℕ} 8 0)) → NumberAt b at n r
+number-read b v at n r h m k e f =
+    let zeros = drop n (replicate {A = ℕ} 8 0) in
+    let c : at + n - at ≡ n = omega arith in
+    let whole : length (v ++ zeros) ≡ 8 =
+    omega (arith, length-append v zeros, ap length e, length-take (at + n - at) (drop at b), length-drop at b, length-drop n (replicate {A = ℕ} 8 0), length-replicate {A = ℕ} 8 0) in
+    let is : r ≡ from_bytes (take n (drop at b)) = f ∙ read-eight (v ++ zeros) whole ∙ zeros_behind v zeros (zeros_none n 8) ∙ ap from_bytes e ∙ ap (λ (k : ℕ). from_bytes (take k (drop at b))) c in
+    record { is = is; small = omega (arith, number-small n at b h k) }
 
-patch-none : (at : ℕ) (b : List ℕ) → b ≡ patch at [] b
-unfolding patch
-patch-none at b = let e : at ≡ at + 0 = omega arith in sym (take-append-drop at b) ∙ ap (λ (k : ℕ). take at b ++ drop k b) e
-
-pub put-none : (b : List ℕ) (at n x : ℕ) → n ≡ 0 → b ≡ patch at (little_endian n x) b
+-- a number in bytes: the first n of the library's eight
+low-bytes : (m k x : ℕ) → bytes_low_first (suc k) m x ≡ little_endian m (x / 256 ^ suc k)
 unfolding little_endian
-put-none b at zero x h = patch-none at b
-put-none b at (suc n) x h = absurd (omega arith)
+low-bytes zero k x = refl
+low-bytes (suc m) k x =
+    ap (λ (w : List ℕ). (x / 256 ^ suc k % 256) ∷ w)
+    (low-bytes m (suc k) x ∙ ap (little_endian m) (ap (λ (n : ℕ). x / n) (pow-suc 256 (suc k)) ∙ sym (div-div-eq-div-mul x (256 ^ suc k) 256)))
 
-pub put-more : (b after : List ℕ) (at n x : ℕ) → (n ≡ 0 → ⊥) → at + n ≤ length b
-    → after ≡ patch (at + 1) (little_endian (n - 1) (x / 256)) (set b at (x % 256)) → after ≡ patch at (little_endian n x) b
-unfolding little_endian patch
-put-more b after at zero x ne h s = absurd (ne refl)
-put-more b after at (suc n) x ne h s =
-    let e : suc n - 1 ≡ n = omega arith in
-    let f : suc at ≡ at + 1 = omega arith in
-    let one : set b at (x % 256) ≡ patch at ((x % 256) ∷ []) b = set_split b at (x % 256) (omega arith) ∙ ap (λ (k : ℕ). take at b ++ ((x % 256) ∷ drop k b)) f in
-    s ∙ ap₂ (λ (k : ℕ) (w : List ℕ). patch (at + 1) (little_endian k (x / 256)) w) e one
-    ∙ patch-behind at (at + 1) ((x % 256) ∷ []) (little_endian n (x / 256)) b refl (omega arith)
+first-bytes : (n m x : ℕ) → n ≤ m → take n (little_endian m x) ≡ little_endian n x
+unfolding little_endian
+first-bytes zero m x h = refl
+first-bytes (suc n) zero x h = absurd (omega arith)
+first-bytes (suc n) (suc m) x h = ap (λ (w : List ℕ). (x % 256) ∷ w) (first-bytes n m (x / 256) (omega arith))
+
+little_length : (n x : ℕ) → length (little_endian n x) ≡ n
+unfolding little_endian
+little_length zero x = refl
+little_length (suc n) x = let e = little_length n (x / 256) in omega arith
+
+-- bytes laid over others
+pub laid-at : (at n : ℕ) (piece b : List ℕ) {w : List ℕ} → w ≡ piece → length piece ≡ n → put_mid at (at + n - at) b w ≡ patch at piece b
+unfolding patch
+laid-at at n piece b e l =
+    let f : at + n - at ≡ length piece = omega arith in
+    ap₂ (λ (v u : List ℕ). take at b ++ (v ++ u)) e (drop-drop (at + n - at) at b ∙ ap (λ (k : ℕ). drop (at + k) b) f)
+
+pub number-put : (b w bytes : List ℕ) (at n x : ℕ) → n ≤ 8 → bytes ≡ to_le_bytes w64 x → w ≡ take n bytes
+    → put_mid at (at + n - at) b w ≡ patch at (little_endian n x) b
+unfolding little_endian
+number-put b w bytes at n x h e f =
+    laid-at at n (little_endian n x) b
+    (f ∙ ap (take n) (e ∙ ap (λ (v : List ℕ). (x % 256) ∷ v) (low-bytes 7 0 x)) ∙ first-bytes n 8 x h)
+    (little_length n x)
 
 -- the bytes from a place on
 pub rest-is : (b : List ℕ) (k : ℕ) → take (length b - k) (drop k b) ≡ drop k b
 rest-is b k = take_all (length b - k) (drop k b) (omega (arith, length-drop k b))
-
--- a text is copied
-pub copied : (text b : List ℕ) {w : List ℕ} → w ≡ text → put_mid 16 (16 + length text - 16) b w ≡ patch 16 text b
-unfolding patch
-copied text b e =
-    let f : 16 + length text - 16 ≡ length text = omega arith in
-    ap₂ (λ (v u : List ℕ). take 16 b ++ (v ++ u)) e (drop-drop (16 + length text - 16) 16 b ∙ ap (λ (n : ℕ). drop (16 + n) b) f)
 
 -- a mark that fits, by the mark
 or-false : (b : Bool) → (b || false) ≡ b

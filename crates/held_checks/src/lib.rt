@@ -1,6 +1,6 @@
 // The held check in lent bytes, and the answers of the calls. The bytes: 0 the mark, 1 the profile, 2 the operation, 3 spare (all three 0), from 4 on the text's length, from 8 on the
 // place, numbers with the lowest byte first, from 16 on the text, and zeros behind it. All zero is nothing held.
-// Form 1: the enums are the cases of document 01; the constants are places in the held bytes, and lengths.
+// Form 1: the enums are cases of their own, the answers of document 01 and the marks of the held bytes; the constants are places in these bytes, and lengths.
 // Form 5: that there are 32,784 bytes is asked where they come as a slice, since the laws of what is written speak of slices.
 #![tactic(auto)]
 
@@ -34,9 +34,6 @@ pub const TEXT: usize = 16;
 
 // How many bytes a held check has: 16, and those of the longest text.
 pub const HELD: usize = 32784;
-
-// How many values a byte has.
-const BYTE: usize = 256;
 
 // The parts of a check: one of the initialisation, then two of each operation.
 const OPENING: usize = 1;
@@ -105,27 +102,23 @@ impl Mark {
     }
 }
 
-// The number in n bytes. Form 4: `from_le_bytes` takes an array, so that each of the two widths would be read by a line of its own, byte after byte.
+// The number in n bytes.
 fn number(held: &[u8], at: usize, n: usize) -> usize
     requires { (at + n ≤ length held.now) × (n ≤ 8) }
     ensures { NumberAt held.now at n result }
 {
-    if n == 0 {
-        return 0;
-    }
-    held[at] as usize + BYTE * number(held, at + 1, n - 1)
+    let mut bytes = [0u8; 8];
+    bytes[..n].copy_from_slice(&held[at..at + n]);
+    usize::from_le_bytes(bytes)
 }
 
 // A number is written in n bytes, as `number` reads it.
 fn put_number(held: &mut [u8], at: usize, n: usize, x: usize)
-    requires { at + n ≤ length held.old }
+    requires { (at + n ≤ length held.old) × (n ≤ 8) }
     ensures { held.new ≡ patch at (little_endian n x) held.old }
 {
-    if n == 0 {
-        return;
-    }
-    held[at] = (x % BYTE) as u8;
-    put_number(held, at + 1, n - 1, x / BYTE)
+    let bytes = x.to_le_bytes();
+    held[at..at + n].copy_from_slice(&bytes[..n]);
 }
 
 // All bytes are 0.

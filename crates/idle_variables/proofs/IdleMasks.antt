@@ -1,63 +1,31 @@
 -- Masks of idle variables: one variable more in front doubles what is there. Assumes nothing.
 use mathlib.Core.Path.{◌≡◌, refl, sym, ap, subst, ◌∙◌}
-use mathlib.Core.Bool.{Bool, true, false}
+use mathlib.Core.Bool.{Bool, true}
 use mathlib.Core.List.{List}
-use Prim.Native.Nat.{ℕ, zero, suc, ◌+◌, ◌-◌, ◌*◌, ◌<◌, ◌≤◌, ◌^◌}
+use Prim.Native.Nat.{ℕ, zero, suc, ◌+◌, ◌-◌, ◌*◌, ◌<◌}
 use native.Mathlib.Omega.{arith}
 use mir.Val.{bool_byte}
-use lib.Dec.{eqb}
 use lib.ListN.{get_or, length}
 use Rattle.lexical.specs.Lists.{upward}
-use Rattle.sets.specs.Sets.{has, bit}
-use Rattle.sets.proofs.Members.{has-zero, has-suc, bit-half, bit-odd, bit-back}
+use Rattle.sets.proofs.MaskBits.{no-bits, more-bits}
 use Rattle.points.specs.Points.{Point}
 use Rattle.idle_variables.specs.KeyedNumbers.{Idle, Ignores}
 use Rattle.idle_variables.specs.IdlePromises.{SearchesIdle, SearchesSay, MaskSays}
 use Rattle.idle_variables.proofs.IdleSearches.{ignores}
 
-byte-bit : (b : Bool) (r : ℕ) → 2 * r + bool_byte b ≡ bit b + 2 * r
-byte-bit true r = omega arith
-byte-bit false r = omega arith
-
-pub byte_low : (b : Bool) → bool_byte b ≤ 1
-byte_low true = omega arith
-byte_low false = omega arith
-
-first_bit : (b : Bool) (r : ℕ) → has (2 * r + bool_byte b) 0 ≡ b
-first_bit b r = ap (λ (x : ℕ). has x 0) (byte-bit b r) ∙ has-zero (bit b + 2 * r) ∙ ap (λ (x : ℕ). eqb x 1) (bit-odd b r) ∙ bit-back b
-
-other-bit : (b : Bool) (r i : ℕ) → has (2 * r + bool_byte b) (suc i) ≡ has r i
-other-bit b r i = ap (λ (x : ℕ). has x (suc i)) (byte-bit b r) ∙ has-suc (bit b + 2 * r) i ∙ ap (λ (x : ℕ). has x i) (bit-half b r)
+-- what the bit of a slot says
+abbrev IdleBit : (table plan : List ℕ) (u k : ℕ) → Bool → Type 0
+IdleBit table plan u k b = b ≡ true → SearchesIdle table plan u k
 
 module _ {table plan : List ℕ} {u : ℕ} where
   pub no_mask : {s m : ℕ} → m ≡ 0 → MaskSays table plan u s m 0
-  no_mask {s} {m} e = record { small = subst (λ (n : ℕ). 0 < 2 ^ n) (sym e) (omega arith); each = λ i h _. absurd (none i h) }
-    where
-      none : (i : ℕ) → i < m → ⊥
-      none i h = omega arith
+  no_mask {s} e = let y = no-bits {R = IdleBit table plan u} {i = s} e in record { small = y.small; each = y.each }
 
-  pub more-mask : {s m r : ℕ} {b : Bool} → (m ≡ 0 → ⊥) → MaskSays table plan u (s + 1) (m - 1) r → SearchesSay table plan u s b → MaskSays table plan u s m (2 * r + bool_byte b)
-  more-mask {s} {m} {r} {b} n w t =
-      record {
-        small = subst (λ (k : ℕ). 2 * r + bool_byte b < 2 ^ k) (sym front) (twice (m - 1) w.small);
-        each = go;
-      }
-    where
-      front : m ≡ suc (m - 1)
-      front = omega arith
-
-      twice : (k : ℕ) → r < 2 ^ k → 2 * r + bool_byte b < 2 ^ suc k
-      twice k h = omega (arith, byte_low b)
-
-      go : (i : ℕ) → i < m → has (2 * r + bool_byte b) i ≡ true → SearchesIdle table plan u (s + i)
-      go zero h e = subst (λ (x : ℕ). SearchesIdle table plan u x) (at_first s) (t.means (sym (first_bit b r) ∙ e))
-        where
-          at_first : (s : ℕ) → s ≡ s + 0
-          at_first s = omega arith
-      go (suc i) h e = subst (λ (x : ℕ). SearchesIdle table plan u x) (behind s i) (w.each i (omega arith) (sym (other-bit b r i) ∙ e))
-        where
-          behind : (s i : ℕ) → s + 1 + i ≡ s + suc i
-          behind s i = omega arith
+  pub more-mask : {s m r x : ℕ} {b : Bool} → (m ≡ 0 → ⊥) → MaskSays table plan u (s + 1) (m - 1) r → SearchesSay table plan u s b → x ≡ bool_byte b
+      → MaskSays table plan u s m (2 * r + x)
+  more-mask {s} {m} {b = b} n w t e =
+      let y = more-bits {R = IdleBit table plan u} b {i = s} {m = m} (omega arith) (omega arith) t.means e (record { small = w.small; each = w.each }) in
+      record { small = y.small; each = y.each }
 
 -- ---- what ignores the variables of a mask
 

@@ -1,10 +1,8 @@
 -- Idle searches: a variable on which no test of a search depends does not matter for what it finds. Assumes nothing.
 use mathlib.Core.Path.{◌≡◌, refl, sym, ap, ap₂, subst, ◌∙◌}
 use mathlib.Core.Bool.{Bool, true, false, ◌&&◌}
-use mathlib.Core.Logic.{⊎_elim}
 use mathlib.Core.List.{List, [], ◌∷◌}
 use Prim.Native.Nat.{ℕ, zero, suc, ◌+◌, ◌*◌, ◌/◌, ◌%◌, ◌<◌, ◌≤◌}
-use native.Mathlib.Nat.{eq-or-lt_of_le}
 use native.Mathlib.Omega.{arith}
 use lib.ListN.{get_or, length}
 use Rattle.lexical.specs.Lists.{all}
@@ -14,7 +12,7 @@ use Rattle.mentions.specs.MentionPromises.{TruthSays}
 use Rattle.points.specs.Points.{Point, Tame}
 use Rattle.points.specs.Searches.{level_holds, levels_hold, mark_in, TestsAt, no_tests, more_tests, SearchOf}
 use Rattle.idle_variables.specs.KeyedNumbers.{Idle, Ignores, no_variables, more_variables}
-use Rattle.idle_variables.specs.IdlePromises.{TestIdle, LevelIdle, SearchIdle, TestSays, LevelSays, SearchSays, SearchesSay}
+use Rattle.idle_variables.specs.IdlePromises.{TestIdle, LevelIdle, SearchIdle, TestSays, LevelSays, SearchSays, PlanAsked}
 use Rattle.idle_variables.proofs.KeyedPoints.{tame-moved}
 use Rattle.idle_variables.proofs.FreeTests.{before-idle, after-idle}
 
@@ -32,32 +30,17 @@ module _ {table : List ℕ} {e s : ℕ} (low : s < 22) where
 
 -- ---- one after the other
 
--- the numbers of the plan from `from` up to k are idle tests
-pub record TestsPassed (table plan : List ℕ) (slot from k : ℕ) : Type 0 where
-  pub low : from ≤ k
-  pub each : (j : ℕ) → from ≤ j → j < k → TestIdle table (get_or plan j 0) slot
+pub test-passes : (table plan : List ℕ) (slot k e : ℕ) → e ≡ get_or plan k 0 → TestSays table e slot true → TestIdle table (get_or plan k 0) slot
+test-passes table plan slot k e q t = subst (λ (x : ℕ). TestIdle table x slot) q (t.means refl)
 
--- something is so from a number on up to another
-next-too : {P : ℕ → Type 0} {k : ℕ} → P k → ((j : ℕ) → j < k → P j) → (j : ℕ) → j < k + 1 → P j
-next-too {P} {k} here w j h = ⊎_elim (λ q. subst P (sym q) here) (λ q. w j q) (eq-or-lt_of_le (down j k h))
-  where
-    down : (j k : ℕ) → j < k + 1 → j ≤ k
-    down j k h = omega arith
+pub level-passes : {table plan : List ℕ} {u slot : ℕ} (l : ℕ) → LevelSays table plan u l slot true → LevelIdle table plan u l slot
+level-passes l t = t.means refl
 
-module _ {table plan : List ℕ} {slot : ℕ} where
-  pub no_test : {from k : ℕ} → k ≡ from → TestsPassed table plan slot from k
-  no_test {from} {k} e = record { low = omega arith; each = λ j g l. absurd (none j g l) }
-    where
-      none : (j : ℕ) → from ≤ j → j < k → ⊥
-      none j g l = omega arith
+pub search-passes : {table plan : List ℕ} {slot : ℕ} (u : ℕ) → SearchSays table plan u slot true → SearchIdle table plan u slot
+search-passes u t = t.means refl
 
-  pub one-test : {from k e : ℕ} {b : Bool} → TestsPassed table plan slot from k → e ≡ get_or plan k 0 → TestSays table e slot b → b ≡ true → TestsPassed table plan slot from (k + 1)
-  one-test {from} {k} w e t q =
-      record {
-        low = omega (arith, w.low);
-        each = λ j g l. next-too {P = λ (i : ℕ). from ≤ i → TestIdle table (get_or plan i 0) slot}
-            (λ _. subst (λ (x : ℕ). TestIdle table x slot) e (t.means q)) (λ i m n. w.each i n m) j l g;
-      }
+pub level_asked : {plan : List ℕ} {u slot : ℕ} → (u < 5) × (slot < 22) → PlanAsked plan → (l : ℕ) → l < 12 → (u < 5) × (l < 12) × (slot < 22) × (mark_in plan u (l + 1) ≤ 20560)
+level_asked {u = u} h a l g = (h.0, g, h.1, a.marks u (l + 1) h.0 (omega arith))
 
 both : Bool → Bool → Bool
 both b c = elim b [ true ↦ c | false ↦ false ]
@@ -74,43 +57,9 @@ tests-idle {cells = cells} {at = at} s h (more_tests {f = f} {fs = fs} l t r) =
 pub mark-next : (plan : List ℕ) (u l : ℕ) → get_or plan (16 * u + l + 1) 0 ≡ mark_in plan u (l + 1)
 mark-next plan u l = ap (λ (i : ℕ). get_or plan i 0) (let z : 16 * u + l + 1 ≡ 16 * u + (l + 1) = omega arith in z)
 
-pub level-says : {table plan : List ℕ} {u l slot to k : ℕ} {b : Bool} → to ≡ mark_in plan u (l + 1) → to ≤ k → TestsPassed table plan slot (mark_in plan u l) k
-    → LevelSays table plan u l slot b
-level-says {table} {plan} {u} {l} {slot} {to} {k} f g w =
-    record { means = λ _. record { each = λ cells fs t. tests-idle slot (λ j a b. w.each j a (omega (arith, f))) t } }
-
--- the levels before number l; the searches from u on before number v
-pub record LevelsPassed (table plan : List ℕ) (u slot l : ℕ) : Type 0 where
-  pub each : (m : ℕ) → m < l → LevelIdle table plan u m slot
-
-pub record SearchesPassed (table plan : List ℕ) (u slot v : ℕ) : Type 0 where
-  pub low : u ≤ v
-  pub each : (w : ℕ) → w < v → u ≤ w → SearchIdle table plan w slot
-
-module _ {table plan : List ℕ} {u slot : ℕ} where
-  pub no-level : LevelsPassed table plan u slot 0
-  no-level = record { each = λ m h. absurd (none m h) }
-    where
-      none : (m : ℕ) → m < 0 → ⊥
-      none m h = omega arith
-
-  pub one-level : {l : ℕ} {b : Bool} → LevelsPassed table plan u slot l → LevelSays table plan u l slot b → b ≡ true → LevelsPassed table plan u slot (l + 1)
-  one-level w t q = record { each = next-too (t.means q) w.each }
-
-  pub search-says : {l : ℕ} {b : Bool} → 12 ≤ l → LevelsPassed table plan u slot l → SearchSays table plan u slot b
-  search-says {l} h w = record { means = λ _. record { each = λ m g. w.each m (omega arith) } }
-
-  pub no_search : SearchesPassed table plan u slot u
-  no_search = record { low = omega arith; each = λ w h g. absurd (none w h g) }
-    where
-      none : (w : ℕ) → w < u → u ≤ w → ⊥
-      none w h g = omega arith
-
-  pub one-search : {v : ℕ} {b : Bool} → SearchesPassed table plan u slot v → SearchSays table plan v slot b → b ≡ true → SearchesPassed table plan u slot (v + 1)
-  one-search {v} w t q = record { low = omega (arith, w.low); each = next-too {P = λ (i : ℕ). u ≤ i → SearchIdle table plan i slot} (λ _. t.means q) w.each }
-
-  pub searches-say : {v : ℕ} {b : Bool} → 5 ≤ v → SearchesPassed table plan u slot v → SearchesSay table plan u slot b
-  searches-say {v} h w = record { means = λ _. record { each = λ i g l. w.each i (omega arith) g } }
+pub level-says : {table plan : List ℕ} {u l slot from to : ℕ} {b : Bool} → from ≡ mark_in plan u l → to ≡ mark_in plan u (l + 1)
+    → (b ≡ true → (j : ℕ) → from ≤ j → j < to → TestIdle table (get_or plan j 0) slot) → LevelSays table plan u l slot b
+level-says {slot = slot} f g h = record { means = λ e. record { each = λ cells fs t. tests-idle slot (λ j a b. h e j (omega (arith, f)) (omega (arith, g))) t } }
 
 -- ---- what a search finds
 

@@ -1,4 +1,5 @@
 pub mod KeyedPoints
+pub mod RangeWalks
 pub mod FreeTests
 pub mod IdleSearches
 pub mod IdleMasks

@@ -32,14 +32,13 @@ fn idle_level(s: &PartSearch<'_>, u: usize, l: usize, slot: usize) -> bool
     requires { (u < 5) × (l < 12) × (slot < 22) × (mark_in s.now.plan.now u (l + 1) ≤ 20560) }
     ensures { LevelSays s.now.table.now s.now.plan.now u l slot result }
 {
+    let from = usize::from(s.plan[HEAD * u + l]);
     let to = usize::from(s.plan[HEAD * u + l + 1]);
-    for k in usize::from(s.plan[HEAD * u + l])..to {
-        let e = usize::from(s.plan[k]);
-        if !idle_test(s.table, e, slot) {
-            return false;
-        }
-    }
-    true
+    (from..to).all(
+        |k|
+            requires { (k < 20560) × (slot < 22) }
+        { idle_test(s.table, usize::from(s.plan[k]), slot) },
+    )
 }
 
 // Does no test of the search u?
@@ -48,12 +47,7 @@ fn idle_search(s: &PartSearch<'_>, u: usize, slot: usize) -> bool
     requires plan_asked { PlanAsked s.now.plan.now }
     ensures { SearchSays s.now.table.now s.now.plan.now u slot result }
 {
-    for l in 0..LEVELS {
-        if !idle_level(s, u, l, slot) {
-            return false;
-        }
-    }
-    true
+    (0..LEVELS).all(|l| idle_level(s, u, l, slot))
 }
 
 // Does no test of the searches from u on?
@@ -62,12 +56,7 @@ fn idle_searches(s: &PartSearch<'_>, u: usize, slot: usize) -> bool
     requires plan_asked { PlanAsked s.now.plan.now }
     ensures { SearchesSay s.now.table.now s.now.plan.now u slot result }
 {
-    for v in u..SEARCHES {
-        if !idle_search(s, v, slot) {
-            return false;
-        }
-    }
-    true
+    (u..SEARCHES).all(|v| idle_search(s, v, slot))
 }
 
 // The m variables from the slot `first` on as bits, the first one's lowest: set where no test of the searches from u on depends on the variable.

@@ -1,5 +1,5 @@
 -- What the functions below `scan` promise each other. Nothing here need be believed: `Promises.Scans` names none of it.
-use Rattle.std.specs.Prelude.{◌≡◌, List, [], ◌∷◌, map, Bool, true, false, cond, ◌&&◌, ℕ, zero, suc, ◌+◌, ◌*◌, ◌-◌, ◌/◌, ◌%◌, ◌≤◌, ◌<◌, eqb, leb, length, take, drop, get_or, Some, None, Ok}
+use Rattle.std.specs.Prelude.{◌≡◌, List, [], ◌∷◌, map, Bool, true, false, cond, ◌&&◌, ℕ, zero, suc, ◌+◌, ◌*◌, ◌-◌, ◌/◌, ◌%◌, ◌≤◌, ◌<◌, eqb, leb, length, take, get_or, Some, None, Ok}
 use Rattle.std.specs.Prelude as prelude
 use Rattle.std.proofs.Math.Option.{Option, none, some}
 use Prim.Native.String.{String}
@@ -67,22 +67,14 @@ pub record Takes (text codes₀ starts₀ values₀ codes starts values : List �
 abbrev pub is_name : ℕ → Bool
 is_name c = leb 2 c && leb c 5
 
--- the letters of a name as two numbers; 0 for another symbol
-abbrev pub low_in : Symbol → ℕ
-low_in (fixed k) = 0
-low_in (numeral n) = 0
-low_in (symbol.name x) = packed 8 x.letters
+-- the letters of a name as one number; 0 for another symbol
+abbrev pub letters_in : Symbol → ℕ
+letters_in (fixed k) = 0
+letters_in (numeral n) = 0
+letters_in (symbol.name x) = packed 16 x.letters
 
-abbrev pub high_in : Symbol → ℕ
-high_in (fixed k) = 0
-high_in (numeral n) = 0
-high_in (symbol.name x) = packed 8 (drop 8 x.letters)
-
-abbrev pub filled_low : List ℕ → List ℕ → List ℕ
-filled_low s old = filled (λ (x : Placed). low_in x.symbol) (symbols (scan s)) old
-
-abbrev pub filled_high : List ℕ → List ℕ → List ℕ
-filled_high s old = filled (λ (x : Placed). high_in x.symbol) (symbols (scan s)) old
+abbrev pub filled_letters : List ℕ → List ℕ → List ℕ
+filled_letters s old = filled (λ (x : Placed). letters_in x.symbol) (symbols (scan s)) old
 
 abbrev pub filled_numbers : List ℕ → List ℕ
 filled_numbers s = map (λ (x : Placed). number_in x.symbol) (symbols (scan s))
@@ -103,28 +95,27 @@ abbrev pub visited : (t slot : ℕ) → (ℕ → Bool) → (ℕ → Stop) → St
 visited zero slot is rest = Free slot
 visited (suc m) slot is rest = elim (is m) [ true ↦ At m | false ↦ rest m ]
 
--- a walk for the letters a, b down a tree of symbols, by the bits of p, q
-unfoldable pub walk_from : ℕ → (low high tree : List ℕ) → (a b p q slot : ℕ) → Stop
-walk_from zero low high tree a b p q slot = Deep
-walk_from (suc f) low high tree a b p q slot =
-    visited (get_or tree slot 0) slot (λ (m : ℕ). eqb (get_or low m 0) a && eqb (get_or high m 0) b)
-    (λ (m : ℕ). walk_from f low high tree a b (p / 2 + (q % 2) * 9223372036854775808) (q / 2) (2 * m + p % 2))
+-- a walk for the letters a down a tree of symbols, by the bits of p
+unfoldable pub walk_from : ℕ → (letters tree : List ℕ) → (a p slot : ℕ) → Stop
+walk_from zero letters tree a p slot = Deep
+walk_from (suc f) letters tree a p slot =
+    visited (get_or tree slot 0) slot (λ (m : ℕ). eqb (get_or letters m 0) a)
+    (λ (m : ℕ). walk_from f letters tree a (p / 2) (2 * m + p % 2))
 
 -- m is the first symbol that has the letters of symbol i
-pub record IsFirst (low high : List ℕ) (i m : ℕ) : Type 0 where
+pub record IsFirst (letters : List ℕ) (i m : ℕ) : Type 0 where
   pub up_to : m ≤ i
-  pub same_low : get_or low m 0 ≡ get_or low i 0
-  pub same_high : get_or high m 0 ≡ get_or high i 0
-  pub none : (j : ℕ) → j < m → get_or low j 0 ≡ get_or low i 0 → get_or high j 0 ≡ get_or high i 0 → ⊥
+  pub same : get_or letters m 0 ≡ get_or letters i 0
+  pub none : (j : ℕ) → j < m → get_or letters j 0 ≡ get_or letters i 0 → ⊥
 
 -- what a walk says of symbol j: the first symbol with its letters, or nothing
-pub data Reached (low high : List ℕ) (j : ℕ) : Stop → Type 0 where
-  reached : {m : ℕ} → IsFirst low high j m → Reached low high j (At m)
-  deep : Reached low high j Deep
+pub data Reached (letters : List ℕ) (j : ℕ) : Stop → Type 0 where
+  reached : {m : ℕ} → IsFirst letters j m → Reached letters j (At m)
+  deep : Reached letters j Deep
 
 -- the tree of the names among the first i symbols
-pub record Tree (low high tree : List ℕ) (i : ℕ) : Type 0 where
+pub record Tree (letters tree : List ℕ) (i : ℕ) : Type 0 where
   pub below : (k : ℕ) → get_or tree k 0 ≤ i
-  pub firsts : (k v : ℕ) → get_or tree k 0 ≡ suc v → IsFirst low high v v
-  pub known : (j : ℕ) → j < i → (get_or low j 0 ≡ 0 → ⊥)
-      → Reached low high j (walk_from 128 low high tree (get_or low j 0) (get_or high j 0) (get_or low j 0) (get_or high j 0) 8192)
+  pub firsts : (k v : ℕ) → get_or tree k 0 ≡ suc v → IsFirst letters v v
+  pub known : (j : ℕ) → j < i → (get_or letters j 0 ≡ 0 → ⊥)
+      → Reached letters j (walk_from 128 letters tree (get_or letters j 0) (get_or letters j 0) 8192)

@@ -59,7 +59,8 @@ fn mark(code: &[u16], shift: u16, bounds: &mut [u16])
 }
 
 // They are taken away.
-// Form 2: `mark` with the size 0; one function for both would take a closure for the size, and promise of it what it may answer at each declaration.
+// Form 2: `mark` with the size 0; `declared_names::hide` with the entry 0 promises it of declarations' nodes alone, and `context` leaves the table clear
+// behind any nodes.
 fn clear(code: &[u16], shift: u16, bounds: &mut [u16])
     ensures { bounds.new ≡ marks false code.now shift bounds.old }
 {
@@ -153,7 +154,7 @@ fn operation(p: &Parts<'_>, s: &States<'_>, k: usize, bounds: &mut [u16]) -> Opt
 }
 
 // The first n operations.
-// Form 5: the spans come as an array of that length, and as a slice in `Parts` they no longer say it.
+// Form 5: tried: an array in `Parts`; of one behind a struct's reference the proof knows the length only where it is handed on as a slice, as here it is not.
 fn operations(p: &Parts<'_>, s: &States<'_>, n: usize, bounds: &mut [u16]) -> Option<Fault>
     requires { (n ≤ 18) × (length p.now.spans.now ≡ 80) }
     ensures { PartSeen p.now.nodes.now p.now.spans.now n s.now.abstracts.now s.now.concretes.now operations_over bounds.old bounds.new (fault_key result) }

@@ -7,10 +7,9 @@ use native.Mathlib.Nat.{add-zero, div-le_self, mod-le}
 use native.Mathlib.Numerals.{add-one}
 use native.Mathlib.Omega.{arith}
 use lib.Dec.{eqb}
-use lib.IntN.{ℤ, pos, negsuc, nat_abs}
-use lib.Signed.{lt_z}
+use lib.IntN.{ℤ, pos}
 use lib.ListN.{length, get_or, length-append}
-use borrow.Author.Tests.{eq-eqb, ne_eqb, ltb-true}
+use borrow.Author.Tests.{eq-eqb, ne_eqb}
 use mir.Syntax.{w64}
 use mir.Val.{SFits, of_z, to_z}
 use mir.Facts.{to_z-of_z}
@@ -62,25 +61,6 @@ unended e {r} {at} {a} p q = piece_is (sym (ap byte_piece q) ∙ p) (nothing_wri
 
 pub ended : (e : Ending) {r : Option ℕ} {x at m : ℕ} {a b : List ℕ} → byte_piece r ≡ ending_bytes e → r ≡ Some x → Writes at (x ∷ []) a b m → Writes at (ending_bytes e) a b m
 ended e p q v = piece_is (sym (ap byte_piece q) ∙ p) v
-
--- ---- a value as a natural number
-
-natural-none : (x : ℤ) → lt_z x (pos 0) ≡ true → (0 ≡ natural x) × (0 < 2 ^ 63)
-natural-none (pos n) h = let l = ltb-true n 0 h in absurd (omega arith)
-natural-none (negsuc n) h = (refl, omega arith)
-
-natural-some : (x : ℤ) → SFits w64 x → lt_z x (pos 0) ≡ false → (nat_abs x ≡ natural x) × (nat_abs x < 2 ^ 63)
-natural-some (pos n) f h = (refl, f.sfits)
-natural-some (negsuc n) f h = absurd (let z : ◌≡◌ {A = ℕ} 0 1 = cc in omega arith)
-
-module _ (x : ℤ) (f : SFits w64 x) where
-  pub natural-below : lt_z (to_z w64 (of_z w64 x)) (pos 0) ≡ true → (0 ≡ natural x) × (0 < 2 ^ 63)
-  natural-below h = natural-none x (ap (λ (z : ℤ). lt_z z (pos 0)) (sym (to_z-of_z f)) ∙ h)
-
-  pub natural-here : lt_z (to_z w64 (of_z w64 x)) (pos 0) ≡ false → (nat_abs (to_z w64 (of_z w64 x)) ≡ natural x) × (nat_abs (to_z w64 (of_z w64 x)) < 2 ^ 63)
-  natural-here h =
-      subst (λ (z : ℤ). (nat_abs z ≡ natural x) × (nat_abs z < 2 ^ 63)) (sym (to_z-of_z f))
-      (natural-some x f (ap (λ (z : ℤ). lt_z z (pos 0)) (sym (to_z-of_z f)) ∙ h))
 
 -- ---- the members of a set
 

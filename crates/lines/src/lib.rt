@@ -78,10 +78,7 @@ fn shape_of(names: &Names<'_>, i: usize) -> Shape
 fn natural_of(x: i64) -> usize
     ensures { (result ≡ natural x) × (result < 2 ^ 63) }
 {
-    if x < 0 {
-        return 0;
-    }
-    x as usize
+    x.max(0) as usize
 }
 
 // A set's bits.

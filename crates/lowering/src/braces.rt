@@ -2,6 +2,7 @@
 ghost use Rattle.std.specs.Prelude.{◌≡◌, ◌+◌, ◌-◌, ◌≤◌, get_or};
 ghost use Rattle.table_nodes.specs.TableWalkPromises.{WalkAsked, NodeAsked, TermMade, ItemsMade, PairsMade};
 
+use crate::Reading;
 use crate::walk::term;
 use form::{node, shapes};
 use table_nodes::nodes::{element_size, nothing, set_node};
@@ -11,19 +12,18 @@ use type_rules::kinds::{pair_of, set_of, shared_kind};
 // {t, ...}.
 #[cycle(walk)]
 pub(crate) fn listed(
-    code: &[u16],
+    r: &Reading<'_>,
     end: usize,
     slot: u16,
     names: &mut [u16],
     places: &mut [u16],
-    sizes: &[u16],
     out: &mut [u16],
 ) -> Made
-    requires { NodeAsked code.now end 7 out.old }
-    ensures { TermMade code.now end slot names.old names.new places.old places.new sizes.now out.old out.new result }
+    requires { NodeAsked r.now.code.now end 7 out.old }
+    ensures { TermMade r.now.code.now end slot names.old names.new places.old places.new r.now.sizes.now out.old out.new result }
 {
     let at = end - node::SIZE;
-    let t = items(code, at, slot, names, places, sizes, out);
+    let t = items(r, at, slot, names, places, out);
     set_node(out, at, table_shapes::LISTED, 0, 0, 0);
     Made {
         kind: set_of(t.kind),
@@ -34,19 +34,18 @@ pub(crate) fn listed(
 // {t |-> t, ...}.
 #[cycle(walk)]
 pub(crate) fn paired(
-    code: &[u16],
+    r: &Reading<'_>,
     end: usize,
     slot: u16,
     names: &mut [u16],
     places: &mut [u16],
-    sizes: &[u16],
     out: &mut [u16],
 ) -> Made
-    requires { NodeAsked code.now end 8 out.old }
-    ensures { TermMade code.now end slot names.old names.new places.old places.new sizes.now out.old out.new result }
+    requires { NodeAsked r.now.code.now end 8 out.old }
+    ensures { TermMade r.now.code.now end slot names.old names.new places.old places.new r.now.sizes.now out.old out.new result }
 {
     let at = end - node::SIZE;
-    let t = pairs(code, at, slot, names, places, sizes, out);
+    let t = pairs(r, at, slot, names, places, out);
     set_node(out, at, table_shapes::PAIRS, 0, 0, 0);
     Made {
         kind: t.kind,
@@ -57,31 +56,30 @@ pub(crate) fn paired(
 // The terms of a brace.
 #[cycle(walk)]
 fn items(
-    code: &[u16],
+    r: &Reading<'_>,
     end: usize,
     slot: u16,
     names: &mut [u16],
     places: &mut [u16],
-    sizes: &[u16],
     out: &mut [u16],
 ) -> Made
-    requires { WalkAsked code.now end out.old }
-    ensures { ItemsMade code.now end slot names.old names.new places.old places.new sizes.now out.old out.new result }
+    requires { WalkAsked r.now.code.now end out.old }
+    ensures { ItemsMade r.now.code.now end slot names.old names.new places.old places.new r.now.sizes.now out.old out.new result }
 {
     if end < node::SIZE {
         return nothing();
     }
     let at = end - node::SIZE;
-    if code[at + node::SHAPE] == shapes::LAST {
-        let t = term(code, at, slot, names, places, sizes, out);
+    if r.code[at + node::SHAPE] == shapes::LAST {
+        let t = term(r, at, slot, names, places, out);
         set_node(out, at, table_shapes::LAST_ITEM, 0, 0, 0);
         return Made {
             kind: t.kind,
             start: t.start,
         };
     }
-    let l = items(code, at, slot, names, places, sizes, out);
-    let t = term(code, l.start, slot, names, places, sizes, out);
+    let l = items(r, at, slot, names, places, out);
+    let t = term(r, l.start, slot, names, places, out);
     set_node(out, at, table_shapes::ALSO_ITEM, l.start as u16, 0, 0);
     Made {
         kind: shared_kind(t.kind, l.kind),
@@ -92,49 +90,47 @@ fn items(
 // The pairs of a brace.
 #[cycle(walk)]
 fn pairs(
-    code: &[u16],
+    r: &Reading<'_>,
     end: usize,
     slot: u16,
     names: &mut [u16],
     places: &mut [u16],
-    sizes: &[u16],
     out: &mut [u16],
 ) -> Made
-    requires { WalkAsked code.now end out.old }
-    ensures { PairsMade code.now end slot names.old names.new places.old places.new sizes.now out.old out.new result }
+    requires { WalkAsked r.now.code.now end out.old }
+    ensures { PairsMade r.now.code.now end slot names.old names.new places.old places.new r.now.sizes.now out.old out.new result }
 {
     if end < node::SIZE {
         return nothing();
     }
-    if code[end - node::SIZE + node::SHAPE] == shapes::LAST {
-        return last_pair(code, end, slot, names, places, sizes, out);
+    if r.code[end - node::SIZE + node::SHAPE] == shapes::LAST {
+        return last_pair(r, end, slot, names, places, out);
     }
-    next_pair(code, end, slot, names, places, sizes, out)
+    next_pair(r, end, slot, names, places, out)
 }
 
 // The last pair of a brace.
 #[cycle(walk)]
 fn last_pair(
-    code: &[u16],
+    r: &Reading<'_>,
     end: usize,
     slot: u16,
     names: &mut [u16],
     places: &mut [u16],
-    sizes: &[u16],
     out: &mut [u16],
 ) -> Made
-    requires { NodeAsked code.now end 1 out.old }
-    ensures { PairsMade code.now end slot names.old names.new places.old places.new sizes.now out.old out.new result }
+    requires { NodeAsked r.now.code.now end 1 out.old }
+    ensures { PairsMade r.now.code.now end slot names.old names.new places.old places.new r.now.sizes.now out.old out.new result }
 {
     let at = end - node::SIZE;
-    let u = term(code, at, slot, names, places, sizes, out);
-    let t = term(code, u.start, slot, names, places, sizes, out);
+    let u = term(r, at, slot, names, places, out);
+    let t = term(r, u.start, slot, names, places, out);
     set_node(
         out,
         at,
         table_shapes::LAST_PAIR,
         u.start as u16,
-        element_size(sizes, u.kind),
+        element_size(r.sizes, u.kind),
         0,
     );
     Made {
@@ -146,22 +142,21 @@ fn last_pair(
 // Another pair of a brace, before those that follow it.
 #[cycle(walk)]
 fn next_pair(
-    code: &[u16],
+    r: &Reading<'_>,
     end: usize,
     slot: u16,
     names: &mut [u16],
     places: &mut [u16],
-    sizes: &[u16],
     out: &mut [u16],
 ) -> Made
-    requires { WalkAsked code.now end out.old × (4 ≤ end) × (get_or code.now (end - 4 + 3) 0 ≡ 1 → ⊥) }
-    ensures { PairsMade code.now end slot names.old names.new places.old places.new sizes.now out.old out.new result }
+    requires { WalkAsked r.now.code.now end out.old × (4 ≤ end) × (get_or r.now.code.now (end - 4 + 3) 0 ≡ 1 → ⊥) }
+    ensures { PairsMade r.now.code.now end slot names.old names.new places.old places.new r.now.sizes.now out.old out.new result }
 {
     let at = end - node::SIZE;
-    let l = pairs(code, at, slot, names, places, sizes, out);
-    let u = term(code, l.start, slot, names, places, sizes, out);
-    let t = term(code, u.start, slot, names, places, sizes, out);
-    let n = element_size(sizes, u.kind);
+    let l = pairs(r, at, slot, names, places, out);
+    let u = term(r, l.start, slot, names, places, out);
+    let t = term(r, u.start, slot, names, places, out);
+    let n = element_size(r.sizes, u.kind);
     set_node(
         out,
         at,

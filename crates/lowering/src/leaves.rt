@@ -2,6 +2,7 @@
 ghost use Rattle.std.specs.Prelude.{List, ℕ};
 ghost use Rattle.table_nodes.specs.TableWalkPromises.{WalkAsked, NodeAsked, DomainMade, TermMade, PredMade};
 
+use crate::Reading;
 use form::{node, shapes};
 use lexical::bounds::LARGEST_NUMBER;
 use table_nodes::nodes::{given_size, nothing, range_count, set_node, truth_of};
@@ -10,31 +11,25 @@ use type_rules::entries;
 use type_rules::kinds::{element_of, index, look, pair_of, set_of};
 
 // What a name is bound over, or the range after `in`: the node that ends at `end`.
-pub(crate) fn domain(
-    code: &[u16],
-    end: usize,
-    names: &[u16],
-    sizes: &[u16],
-    out: &mut [u16],
-) -> Made
-    requires { WalkAsked code.now end out.old }
-    ensures { DomainMade code.now end names.now sizes.now out.old out.new result }
+pub(crate) fn domain(r: &Reading<'_>, end: usize, names: &[u16], out: &mut [u16]) -> Made
+    requires { WalkAsked r.now.code.now end out.old }
+    ensures { DomainMade r.now.code.now end names.now r.now.sizes.now out.old out.new result }
 {
     if end < node::SIZE {
         return nothing();
     }
     let at = end - node::SIZE;
-    let a = look(code, at + node::A);
-    if look(code, at + node::SHAPE) == shapes::SET {
+    let a = look(r.code, at + node::A);
+    if look(r.code, at + node::SHAPE) == shapes::SET {
         let e = look(names, index(a));
-        let n = given_size(sizes, e);
+        let n = given_size(r.sizes, e);
         set_node(out, at, table_shapes::OVER, 0, LARGEST_NUMBER, n);
         return Made {
             kind: element_of(e),
             start: at,
         };
     }
-    let b = look(code, at);
+    let b = look(r.code, at);
     let n = range_count(a, b);
     set_node(out, at, table_shapes::OVER, 0, a, n);
     Made {

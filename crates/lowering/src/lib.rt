@@ -1,8 +1,17 @@
 // Terms and predicates to nodes of the table.
-// Form 5: names, places and table are lent to be written, nodes and sizes to be read; a struct that lends what is written would have each function of the walk say
-// that it hands back the arrays it was given. That `end` lies inside the nodes is asked of each by itself, since it moves with every call.
+// Form 5: names, places and table are lent to be written. A struct of the three would spare each of the 18 functions of the walk two parameters, and have each promise
+// three equations more, that it hands back the arrays it was given; one of names and places would spare one for two, one with nodes and sizes four for five. And the
+// functions of `leaves` read names while they write the table, two fields of one struct lent in one call, which the checker of loans does not take. That `end` lies
+// inside the nodes is asked of each function by itself, since it moves with every call.
 #![tactic(auto)]
 
 mod braces;
 mod leaves;
 pub mod walk;
+
+// What the walk reads: the nodes of a dossier, and how many elements its given sets have.
+#[derive(Clone, Copy)]
+pub struct Reading<'a> {
+    pub code: &'a [u16],
+    pub sizes: &'a [u16],
+}

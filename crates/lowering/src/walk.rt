@@ -1,6 +1,7 @@
 // The walk over the nodes of terms and predicates, from their ends, that writes the table: a node for each node read, at the same place.
 ghost use Rattle.table_nodes.specs.TableWalkPromises.{WalkAsked, NodeAsked, SidesAsked, TermMade, PredMade};
 
+use crate::Reading;
 use crate::braces::{listed, paired};
 use crate::leaves::{constant, domain, empty_pairs, empty_set, named, number};
 use form::{node, shapes};
@@ -15,31 +16,30 @@ use typing::types::prefix_type;
 // The term whose nodes end at `end`.
 #[cycle(walk)]
 pub(crate) fn term(
-    code: &[u16],
+    r: &Reading<'_>,
     end: usize,
     slot: u16,
     names: &mut [u16],
     places: &mut [u16],
-    sizes: &[u16],
     out: &mut [u16],
 ) -> Made
-    requires { WalkAsked code.now end out.old }
-    ensures { TermMade code.now end slot names.old names.new places.old places.new sizes.now out.old out.new result }
+    requires { WalkAsked r.now.code.now end out.old }
+    ensures { TermMade r.now.code.now end slot names.old names.new places.old places.new r.now.sizes.now out.old out.new result }
 {
     if end < node::SIZE {
         return nothing();
     }
-    match code[end - node::SIZE + node::SHAPE] {
-        shapes::NUMBER => number(code, end, out),
-        shapes::NAME => named(code, end, names, places, out),
-        shapes::PREFIX => prefixed(code, end, slot, names, places, sizes, out),
-        shapes::DIVIDED => divided(code, end, slot, names, places, sizes, out),
-        shapes::BINARY => joined(code, end, slot, names, places, sizes, out),
-        shapes::SUCH => such(code, end, slot, names, places, sizes, out),
-        shapes::LISTED => listed(code, end, slot, names, places, sizes, out),
-        shapes::PAIRS => paired(code, end, slot, names, places, sizes, out),
-        shapes::EMPTY_SET => empty_set(code, end, names, out),
-        shapes::EMPTY_PAIRS => empty_pairs(code, end, names, out),
+    match r.code[end - node::SIZE + node::SHAPE] {
+        shapes::NUMBER => number(r.code, end, out),
+        shapes::NAME => named(r.code, end, names, places, out),
+        shapes::PREFIX => prefixed(r, end, slot, names, places, out),
+        shapes::DIVIDED => divided(r, end, slot, names, places, out),
+        shapes::BINARY => joined(r, end, slot, names, places, out),
+        shapes::SUCH => such(r, end, slot, names, places, out),
+        shapes::LISTED => listed(r, end, slot, names, places, out),
+        shapes::PAIRS => paired(r, end, slot, names, places, out),
+        shapes::EMPTY_SET => empty_set(r.code, end, names, out),
+        shapes::EMPTY_PAIRS => empty_pairs(r.code, end, names, out),
         _ => nothing(),
     }
 }
@@ -47,22 +47,21 @@ pub(crate) fn term(
 // A prefix before a term.
 #[cycle(walk)]
 fn prefixed(
-    code: &[u16],
+    r: &Reading<'_>,
     end: usize,
     slot: u16,
     names: &mut [u16],
     places: &mut [u16],
-    sizes: &[u16],
     out: &mut [u16],
 ) -> Made
-    requires { NodeAsked code.now end 3 out.old }
-    ensures { TermMade code.now end slot names.old names.new places.old places.new sizes.now out.old out.new result }
+    requires { NodeAsked r.now.code.now end 3 out.old }
+    ensures { TermMade r.now.code.now end slot names.old names.new places.old places.new r.now.sizes.now out.old out.new result }
 {
     let at = end - node::SIZE;
-    let a = look(code, at + node::A);
-    let t = term(code, at, slot, names, places, sizes, out);
-    let f = first_size(sizes, t.kind);
-    let g = second_size(sizes, t.kind);
+    let a = look(r.code, at + node::A);
+    let t = term(r, at, slot, names, places, out);
+    let f = first_size(r.sizes, t.kind);
+    let g = second_size(r.sizes, t.kind);
     set_node(out, at, table_shapes::PREFIX, f, a, g);
     Made {
         kind: prefix_type(a, t.kind),
@@ -73,21 +72,20 @@ fn prefixed(
 // t div n, t mod n.
 #[cycle(walk)]
 fn divided(
-    code: &[u16],
+    r: &Reading<'_>,
     end: usize,
     slot: u16,
     names: &mut [u16],
     places: &mut [u16],
-    sizes: &[u16],
     out: &mut [u16],
 ) -> Made
-    requires { NodeAsked code.now end 4 out.old }
-    ensures { TermMade code.now end slot names.old names.new places.old places.new sizes.now out.old out.new result }
+    requires { NodeAsked r.now.code.now end 4 out.old }
+    ensures { TermMade r.now.code.now end slot names.old names.new places.old places.new r.now.sizes.now out.old out.new result }
 {
     let at = end - node::SIZE;
-    let a = look(code, at + node::A);
-    let b = look(code, at);
-    let t = term(code, at, slot, names, places, sizes, out);
+    let a = look(r.code, at + node::A);
+    let b = look(r.code, at);
+    let t = term(r, at, slot, names, places, out);
     set_node(out, at, table_shapes::DIVIDED, 0, a, b);
     Made {
         kind: entries::NUMBER,
@@ -98,21 +96,20 @@ fn divided(
 // Two terms with an operator between them.
 #[cycle(walk)]
 fn joined(
-    code: &[u16],
+    r: &Reading<'_>,
     end: usize,
     slot: u16,
     names: &mut [u16],
     places: &mut [u16],
-    sizes: &[u16],
     out: &mut [u16],
 ) -> Made
-    requires { NodeAsked code.now end 5 out.old }
-    ensures { TermMade code.now end slot names.old names.new places.old places.new sizes.now out.old out.new result }
+    requires { NodeAsked r.now.code.now end 5 out.old }
+    ensures { TermMade r.now.code.now end slot names.old names.new places.old places.new r.now.sizes.now out.old out.new result }
 {
     let at = end - node::SIZE;
-    let a = look(code, at + node::A);
-    let u = term(code, at, slot, names, places, sizes, out);
-    let t = term(code, u.start, slot, names, places, sizes, out);
+    let a = look(r.code, at + node::A);
+    let u = term(r, at, slot, names, places, out);
+    let t = term(r, u.start, slot, names, places, out);
     set_node(out, at, table_shapes::BINARY, u.start as u16, a, 0);
     Made {
         kind: t.kind,
@@ -123,25 +120,24 @@ fn joined(
 // {x : G | p}.
 #[cycle(walk)]
 fn such(
-    code: &[u16],
+    r: &Reading<'_>,
     end: usize,
     slot: u16,
     names: &mut [u16],
     places: &mut [u16],
-    sizes: &[u16],
     out: &mut [u16],
 ) -> Made
-    requires { NodeAsked code.now end 6 out.old }
-    ensures { TermMade code.now end slot names.old names.new places.old places.new sizes.now out.old out.new result }
+    requires { NodeAsked r.now.code.now end 6 out.old }
+    ensures { TermMade r.now.code.now end slot names.old names.new places.old places.new r.now.sizes.now out.old out.new result }
 {
     let at = end - node::SIZE;
-    let x = index(look(code, at + node::A));
-    let d = domain(code, at, names, sizes, out);
+    let x = index(look(r.code, at + node::A));
+    let d = domain(r, at, names, out);
     let old = look(names, x);
     let was = look(places, x);
     put(names, x, d.kind);
     put(places, x, slot);
-    let p = pred(code, d.start, next_slot(slot), names, places, sizes, out);
+    let p = pred(r, d.start, next_slot(slot), names, places, out);
     put(names, x, old);
     put(places, x, was);
     set_node(out, at, table_shapes::SUCH, 0, slot, 0);
@@ -154,47 +150,28 @@ fn such(
 // The predicate whose nodes end at `end`.
 #[cycle(walk)]
 pub fn pred(
-    code: &[u16],
+    r: &Reading<'_>,
     end: usize,
     slot: u16,
     names: &mut [u16],
     places: &mut [u16],
-    sizes: &[u16],
     out: &mut [u16],
 ) -> Made
-    requires { WalkAsked code.now end out.old }
-    ensures { PredMade code.now end slot names.old names.new places.old places.new sizes.now out.old out.new result }
+    requires { WalkAsked r.now.code.now end out.old }
+    ensures { PredMade r.now.code.now end slot names.old names.new places.old places.new r.now.sizes.now out.old out.new result }
 {
     if end < node::SIZE {
         return nothing();
     }
-    match code[end - node::SIZE + node::SHAPE] {
-        shapes::TRUTH => constant(code, end, out),
-        shapes::NEGATION => negated(code, end, slot, names, places, sizes, out),
-        shapes::CONNECTED => connected(code, end, slot, names, places, sizes, out),
-        shapes::COMPARED => sides(
-            code,
-            end,
-            slot,
-            names,
-            places,
-            sizes,
-            out,
-            table_shapes::COMPARED,
-        ),
-        shapes::MEMBER => sides(
-            code,
-            end,
-            slot,
-            names,
-            places,
-            sizes,
-            out,
-            table_shapes::MEMBER,
-        ),
-        shapes::WITHIN => within(code, end, slot, names, places, sizes, out),
-        shapes::RELATED => related(code, end, slot, names, places, sizes, out),
-        shapes::QUANTIFIED => quantified(code, end, slot, names, places, sizes, out),
+    match r.code[end - node::SIZE + node::SHAPE] {
+        shapes::TRUTH => constant(r.code, end, out),
+        shapes::NEGATION => negated(r, end, slot, names, places, out),
+        shapes::CONNECTED => connected(r, end, slot, names, places, out),
+        shapes::COMPARED => sides(r, end, slot, names, places, out, table_shapes::COMPARED),
+        shapes::MEMBER => sides(r, end, slot, names, places, out, table_shapes::MEMBER),
+        shapes::WITHIN => within(r, end, slot, names, places, out),
+        shapes::RELATED => related(r, end, slot, names, places, out),
+        shapes::QUANTIFIED => quantified(r, end, slot, names, places, out),
         _ => nothing(),
     }
 }
@@ -202,19 +179,18 @@ pub fn pred(
 // not p.
 #[cycle(walk)]
 fn negated(
-    code: &[u16],
+    r: &Reading<'_>,
     end: usize,
     slot: u16,
     names: &mut [u16],
     places: &mut [u16],
-    sizes: &[u16],
     out: &mut [u16],
 ) -> Made
-    requires { NodeAsked code.now end 2 out.old }
-    ensures { PredMade code.now end slot names.old names.new places.old places.new sizes.now out.old out.new result }
+    requires { NodeAsked r.now.code.now end 2 out.old }
+    ensures { PredMade r.now.code.now end slot names.old names.new places.old places.new r.now.sizes.now out.old out.new result }
 {
     let at = end - node::SIZE;
-    let p = pred(code, at, slot, names, places, sizes, out);
+    let p = pred(r, at, slot, names, places, out);
     set_node(out, at, table_shapes::NEGATION, 0, 0, 0);
     Made {
         kind: entries::NONE,
@@ -225,21 +201,20 @@ fn negated(
 // Two predicates with a connective between them.
 #[cycle(walk)]
 fn connected(
-    code: &[u16],
+    r: &Reading<'_>,
     end: usize,
     slot: u16,
     names: &mut [u16],
     places: &mut [u16],
-    sizes: &[u16],
     out: &mut [u16],
 ) -> Made
-    requires { NodeAsked code.now end 3 out.old }
-    ensures { PredMade code.now end slot names.old names.new places.old places.new sizes.now out.old out.new result }
+    requires { NodeAsked r.now.code.now end 3 out.old }
+    ensures { PredMade r.now.code.now end slot names.old names.new places.old places.new r.now.sizes.now out.old out.new result }
 {
     let at = end - node::SIZE;
-    let a = look(code, at + node::A);
-    let q = pred(code, at, slot, names, places, sizes, out);
-    let p = pred(code, q.start, slot, names, places, sizes, out);
+    let a = look(r.code, at + node::A);
+    let q = pred(r, at, slot, names, places, out);
+    let p = pred(r, q.start, slot, names, places, out);
     set_node(out, at, table_shapes::CONNECTED, q.start as u16, a, 0);
     Made {
         kind: entries::NONE,
@@ -250,22 +225,21 @@ fn connected(
 // t = u and the other comparisons, t in u: two terms with a symbol between them; the shape is that of the node in the table.
 #[cycle(walk)]
 fn sides(
-    code: &[u16],
+    r: &Reading<'_>,
     end: usize,
     slot: u16,
     names: &mut [u16],
     places: &mut [u16],
-    sizes: &[u16],
     out: &mut [u16],
     shape: u16,
 ) -> Made
-    requires { SidesAsked code.now end shape out.old }
-    ensures { PredMade code.now end slot names.old names.new places.old places.new sizes.now out.old out.new result }
+    requires { SidesAsked r.now.code.now end shape out.old }
+    ensures { PredMade r.now.code.now end slot names.old names.new places.old places.new r.now.sizes.now out.old out.new result }
 {
     let at = end - node::SIZE;
-    let a = look(code, at + node::A);
-    let u = term(code, at, slot, names, places, sizes, out);
-    let t = term(code, u.start, slot, names, places, sizes, out);
+    let a = look(r.code, at + node::A);
+    let u = term(r, at, slot, names, places, out);
+    let t = term(r, u.start, slot, names, places, out);
     set_node(out, at, shape, u.start as u16, a, 0);
     Made {
         kind: entries::NONE,
@@ -276,21 +250,20 @@ fn sides(
 // t in a..b.
 #[cycle(walk)]
 fn within(
-    code: &[u16],
+    r: &Reading<'_>,
     end: usize,
     slot: u16,
     names: &mut [u16],
     places: &mut [u16],
-    sizes: &[u16],
     out: &mut [u16],
 ) -> Made
-    requires { NodeAsked code.now end 6 out.old }
-    ensures { PredMade code.now end slot names.old names.new places.old places.new sizes.now out.old out.new result }
+    requires { NodeAsked r.now.code.now end 6 out.old }
+    ensures { PredMade r.now.code.now end slot names.old names.new places.old places.new r.now.sizes.now out.old out.new result }
 {
     let at = end - node::SIZE;
-    let a = look(code, at + node::A);
-    let d = domain(code, at, names, sizes, out);
-    let t = term(code, d.start, slot, names, places, sizes, out);
+    let a = look(r.code, at + node::A);
+    let d = domain(r, at, names, out);
+    let t = term(r, d.start, slot, names, places, out);
     set_node(out, at, table_shapes::WITHIN, 0, a, 0);
     Made {
         kind: entries::NONE,
@@ -301,23 +274,22 @@ fn within(
 // t |-> u in v.
 #[cycle(walk)]
 fn related(
-    code: &[u16],
+    r: &Reading<'_>,
     end: usize,
     slot: u16,
     names: &mut [u16],
     places: &mut [u16],
-    sizes: &[u16],
     out: &mut [u16],
 ) -> Made
-    requires { NodeAsked code.now end 7 out.old }
-    ensures { PredMade code.now end slot names.old names.new places.old places.new sizes.now out.old out.new result }
+    requires { NodeAsked r.now.code.now end 7 out.old }
+    ensures { PredMade r.now.code.now end slot names.old names.new places.old places.new r.now.sizes.now out.old out.new result }
 {
     let at = end - node::SIZE;
-    let a = look(code, at + node::A);
-    let v = term(code, at, slot, names, places, sizes, out);
-    let u = term(code, v.start, slot, names, places, sizes, out);
-    let t = term(code, u.start, slot, names, places, sizes, out);
-    let n = element_size(sizes, u.kind);
+    let a = look(r.code, at + node::A);
+    let v = term(r, at, slot, names, places, out);
+    let u = term(r, v.start, slot, names, places, out);
+    let t = term(r, u.start, slot, names, places, out);
+    let n = element_size(r.sizes, u.kind);
     set_node(out, at, related_shape(a), u.start as u16, n, v.start as u16);
     Made {
         kind: entries::NONE,
@@ -328,26 +300,25 @@ fn related(
 // (forall x : T @ p), and the other quantifiers.
 #[cycle(walk)]
 fn quantified(
-    code: &[u16],
+    r: &Reading<'_>,
     end: usize,
     slot: u16,
     names: &mut [u16],
     places: &mut [u16],
-    sizes: &[u16],
     out: &mut [u16],
 ) -> Made
-    requires { NodeAsked code.now end 8 out.old }
-    ensures { PredMade code.now end slot names.old names.new places.old places.new sizes.now out.old out.new result }
+    requires { NodeAsked r.now.code.now end 8 out.old }
+    ensures { PredMade r.now.code.now end slot names.old names.new places.old places.new r.now.sizes.now out.old out.new result }
 {
     let at = end - node::SIZE;
-    let x = index(look(code, at + node::A));
-    let b = look(code, at);
-    let d = domain(code, at, names, sizes, out);
+    let x = index(look(r.code, at + node::A));
+    let b = look(r.code, at);
+    let d = domain(r, at, names, out);
     let old = look(names, x);
     let was = look(places, x);
     put(names, x, d.kind);
     put(places, x, slot);
-    let p = pred(code, d.start, next_slot(slot), names, places, sizes, out);
+    let p = pred(r, d.start, next_slot(slot), names, places, out);
     put(names, x, old);
     put(places, x, was);
     set_node(out, at, table_shapes::QUANTIFIED, 0, slot, b);

@@ -2,7 +2,7 @@
 use mathlib.Core.Path.{◌≡◌, refl, ap, ap₂, ◌∙◌, sym, subst}
 use mathlib.Core.Bool.{Bool, true, false, cond}
 use mathlib.Core.List.{List, [], ◌∷◌, map}
-use Prim.Native.Nat.{ℕ, zero, suc, ◌+◌, ◌≤◌, ◌<◌}
+use Prim.Native.Nat.{ℕ, zero, suc, ◌+◌, ◌*◌, ◌≤◌, ◌<◌}
 use native.Mathlib.Omega.{arith}
 use native.Mathlib.Numerals.{add-one}
 use lib.ListN.{length, take, drop, get_or, set, length-map, get_or-append}
@@ -11,7 +11,7 @@ use Rattle.lexical.specs.Lists.{same}
 use Rattle.lexical.specs.Kinds.{code_of}
 use Rattle.lexical.specs.Symbols.{run, Symbol, fixed, numeral, name, Name, Ending, no_ending, prime, query, shriek, kind_of_name, Placed, scan, symbols}
 use Rattle.lexical.specs.Promises.{code_in, number_in, filled, has_letters, first_named, value_in}
-use Rattle.lexical.specs.SymbolPromises.{packed, is_name, low_in, high_in, filled_low, filled_high, Rows, IsFirst}
+use Rattle.lexical.specs.SymbolPromises.{packed, is_name, letters_in, filled_letters, Rows, IsFirst}
 use Rattle.lexical.proofs.WordLaws.{Fits, packed-one, run_fits, same_refl, same_true}
 use Rattle.lexical.proofs.NameCodes.{name-above}
 use Rattle.name_numbers.proofs.ScanLaws.{filled_more}
@@ -41,30 +41,35 @@ filled-after f l old i h =
     ∙ get_or-append-add (map f (take i l)) (drop (length (take i l)) old) 0 0
     ∙ ap (λ (j : ℕ). get_or (drop j old) 0 0) n ∙ get_or-drop i old 0 0 ∙ ap (λ (j : ℕ). get_or old j 0) g
 
--- the letters of a symbol, by its code and what stands at its place
-letters-low : (w : List ℕ) (y : Symbol) → Sound w y → cond (is_name (code_in y)) (packed 8 (run w)) 0 ≡ low_in y
-unfolding code_of
-letters-low w (fixed k) h = ap (λ (b : Bool). cond b (packed 8 (run w)) 0) (sym (name-above (code_of k) (omega arith)))
-letters-low w (numeral n) h = refl
-letters-low w (name x) h = on x.ending
-  where
-    on : (e : Ending) → cond (is_name (code_of (kind_of_name e))) (packed 8 (run w)) 0 ≡ packed 8 x.letters
-    on no_ending = ap (packed 8) (sym h.0)
-    on prime = ap (packed 8) (sym h.0)
-    on query = ap (packed 8) (sym h.0)
-    on shriek = ap (packed 8) (sym h.0)
+-- sixteen letters as two numbers of eight
+packed-halves : (v : List ℕ) → packed 16 v ≡ packed 8 v + packed 8 (drop 8 v) * 18446744073709551616
+unfolding packed
+packed-halves [] = refl
+packed-halves (a ∷ []) = omega arith
+packed-halves (a ∷ b ∷ []) = omega arith
+packed-halves (a ∷ b ∷ c ∷ []) = omega arith
+packed-halves (a ∷ b ∷ c ∷ d ∷ []) = omega arith
+packed-halves (a ∷ b ∷ c ∷ d ∷ e ∷ []) = omega arith
+packed-halves (a ∷ b ∷ c ∷ d ∷ e ∷ f ∷ []) = omega arith
+packed-halves (a ∷ b ∷ c ∷ d ∷ e ∷ f ∷ g ∷ []) = omega arith
+packed-halves (a ∷ b ∷ c ∷ d ∷ e ∷ f ∷ g ∷ h ∷ w) = omega arith
 
-letters-high : (w : List ℕ) (y : Symbol) → Sound w y → cond (is_name (code_in y)) (packed 8 (drop 8 (run w))) 0 ≡ high_in y
+both-halves : (b : Bool) (w : List ℕ) → cond b (packed 8 (drop 0 w)) 0 + cond b (packed 8 (drop 8 w)) 0 * 18446744073709551616 ≡ cond b (packed 16 w) 0
+both-halves true w = sym (packed-halves w)
+both-halves false w = refl
+
+-- the letters of a symbol, by its code and what stands at its place
+letters-of : (w : List ℕ) (y : Symbol) → Sound w y → cond (is_name (code_in y)) (packed 16 (run w)) 0 ≡ letters_in y
 unfolding code_of
-letters-high w (fixed k) h = ap (λ (b : Bool). cond b (packed 8 (drop 8 (run w))) 0) (sym (name-above (code_of k) (omega arith)))
-letters-high w (numeral n) h = refl
-letters-high w (name x) h = on x.ending
+letters-of w (fixed k) h = ap (λ (b : Bool). cond b (packed 16 (run w)) 0) (sym (name-above (code_of k) (omega arith)))
+letters-of w (numeral n) h = refl
+letters-of w (name x) h = on x.ending
   where
-    on : (e : Ending) → cond (is_name (code_of (kind_of_name e))) (packed 8 (drop 8 (run w))) 0 ≡ packed 8 (drop 8 x.letters)
-    on no_ending = ap (λ (l : List ℕ). packed 8 (drop 8 l)) (sym h.0)
-    on prime = ap (λ (l : List ℕ). packed 8 (drop 8 l)) (sym h.0)
-    on query = ap (λ (l : List ℕ). packed 8 (drop 8 l)) (sym h.0)
-    on shriek = ap (λ (l : List ℕ). packed 8 (drop 8 l)) (sym h.0)
+    on : (e : Ending) → cond (is_name (code_of (kind_of_name e))) (packed 16 (run w)) 0 ≡ packed 16 x.letters
+    on no_ending = ap (packed 16) (sym h.0)
+    on prime = ap (packed 16) (sym h.0)
+    on query = ap (packed 16) (sym h.0)
+    on shriek = ap (packed 16) (sym h.0)
 
 module _ {s codes starts : List ℕ} {n : ℕ} (h : Rows s codes starts n) (i : ℕ) (lt : i < n) where
   pub inside : i < length (symbols (scan s))
@@ -88,83 +93,45 @@ module _ {s codes starts : List ℕ} {n : ℕ} (h : Rows s codes starts n) (i : 
   pub place_inside : get_or starts i 0 ≤ length s
   place_inside = let p = place_at in let q = stands.1 in omega arith
 
-  pub low-at : {r : ℕ} → r ≡ cond (is_name (get_or codes i 0)) (packed 8 (drop 0 (run (drop (get_or starts i 0) s)))) 0 → r ≡ low_in here.symbol
-  low-at e = e ∙ ap₂ (λ (c p : ℕ). cond (is_name c) (packed 8 (run (drop p s))) 0) code_at place_at ∙ letters-low (drop here.place s) here.symbol stands.0
-
-  pub high-at : {r : ℕ} → r ≡ cond (is_name (get_or codes i 0)) (packed 8 (drop 8 (run (drop (get_or starts i 0) s)))) 0 → r ≡ high_in here.symbol
-  high-at e = e ∙ ap₂ (λ (c p : ℕ). cond (is_name c) (packed 8 (drop 8 (run (drop p s)))) 0) code_at place_at ∙ letters-high (drop here.place s) here.symbol stands.0
+  letters-at : {u v : ℕ} → u ≡ cond (is_name (get_or codes i 0)) (packed 8 (drop 0 (run (drop (get_or starts i 0) s)))) 0
+      → v ≡ cond (is_name (get_or codes i 0)) (packed 8 (drop 8 (run (drop (get_or starts i 0) s)))) 0 → u + v * 18446744073709551616 ≡ letters_in here.symbol
+  letters-at p q =
+      ap₂ (λ (x y : ℕ). x + y * 18446744073709551616) p q
+      ∙ both-halves (is_name (get_or codes i 0)) (run (drop (get_or starts i 0) s))
+      ∙ ap₂ (λ (c p : ℕ). cond (is_name c) (packed 16 (run (drop p s))) 0) code_at place_at ∙ letters-of (drop here.place s) here.symbol stands.0
 
 -- one more row of the letters
-pub packed_step : {s codes starts : List ℕ} {n : ℕ} (h : Rows s codes starts n) (i : ℕ) → i < n → (old₁ old₂ : List ℕ) {u v : ℕ} → length old₁ ≡ 4096 → length old₂ ≡ 4096
+pub packed_step : {s codes starts : List ℕ} {n : ℕ} (h : Rows s codes starts n) (i : ℕ) → i < n → (old : List ℕ) {u v : ℕ} → length old ≡ 4096
     → u ≡ cond (is_name (get_or codes i 0)) (packed 8 (drop 0 (run (drop (get_or starts i 0) s)))) 0
     → v ≡ cond (is_name (get_or codes i 0)) (packed 8 (drop 8 (run (drop (get_or starts i 0) s)))) 0
-    → (set (filled (λ (x : Placed). low_in x.symbol) (take i (symbols (scan s))) old₁) i u ≡ filled (λ (x : Placed). low_in x.symbol) (take (i + 1) (symbols (scan s))) old₁)
-    × (set (filled (λ (x : Placed). high_in x.symbol) (take i (symbols (scan s))) old₂) i v ≡ filled (λ (x : Placed). high_in x.symbol) (take (i + 1) (symbols (scan s))) old₂)
+    → set (filled (λ (x : Placed). letters_in x.symbol) (take i (symbols (scan s))) old) i (u + v * 18446744073709551616) ≡ filled (λ (x : Placed). letters_in x.symbol) (take (i + 1) (symbols (scan s))) old
 unfolding here
-packed_step {s} h i lt old₁ old₂ {u} {v} l m p q =
-    let c = h.counted in let f = h.few in (
-      filled-step (λ (x : Placed). low_in x.symbol) (symbols (scan s)) i old₁ u (omega arith) (omega arith) (low-at h i lt p),
-      filled-step (λ (x : Placed). high_in x.symbol) (symbols (scan s)) i old₂ v (omega arith) (omega arith) (high-at h i lt q),
-    )
-
-abbrev Plain : List ℕ → Type 0
-Plain [] = Unit {0}
-Plain (b ∷ w) = (0 < b) × (b < 256) × Plain w
-
-plain : (k : ℕ) (w : List ℕ) → Fits k w → Plain w
-plain k [] h = tt
-plain zero (b ∷ w) h = absurd h
-plain (suc k) (b ∷ w) h = (h.0, h.1, plain k w h.2)
-
-packed-two : (k : ℕ) (v w : List ℕ) → Plain v → Plain w → packed k v ≡ packed k w → drop k v ≡ drop k w → v ≡ w
-unfolding packed
-packed-two zero v w f g e d = d
-packed-two (suc k) [] [] f g e d = refl
-packed-two (suc k) [] (b ∷ w) f g e d = let p = g.0 in absurd (omega arith)
-packed-two (suc k) (a ∷ v) [] f g e d = let p = f.0 in absurd (omega arith)
-packed-two (suc k) (a ∷ v) (b ∷ w) f g e d =
-    let p = f.1 in let q = g.1 in
-    let h : a ≡ b = omega arith in
-    let t : packed k v ≡ packed k w = omega arith in
-    ap₂ (λ (x : ℕ) (l : List ℕ). x ∷ l) h (packed-two k v w f.2 g.2 t d)
-
-fits-drop : (v : List ℕ) → Fits 16 v → Fits 8 (drop 8 v)
-fits-drop [] x = tt
-fits-drop (a ∷ []) x = tt
-fits-drop (a ∷ b ∷ []) x = tt
-fits-drop (a ∷ b ∷ c ∷ []) x = tt
-fits-drop (a ∷ b ∷ c ∷ d ∷ []) x = tt
-fits-drop (a ∷ b ∷ c ∷ d ∷ e ∷ []) x = tt
-fits-drop (a ∷ b ∷ c ∷ d ∷ e ∷ f ∷ []) x = tt
-fits-drop (a ∷ b ∷ c ∷ d ∷ e ∷ f ∷ g ∷ []) x = tt
-fits-drop (a ∷ b ∷ c ∷ d ∷ e ∷ f ∷ g ∷ h ∷ w) x = x.2.2.2.2.2.2.2.2
-
--- letters are packed in two numbers, one to one
-pub letters-one : (v w : List ℕ) → Fits 16 v → Fits 16 w → packed 8 v ≡ packed 8 w → packed 8 (drop 8 v) ≡ packed 8 (drop 8 w) → v ≡ w
-letters-one v w f g e d = packed-two 8 v w (plain 16 v f) (plain 16 w g) e (packed-one 8 (drop 8 v) (drop 8 w) (fits-drop v f) (fits-drop w g) d)
+packed_step {s} h i lt old {u} {v} l p q =
+    let c = h.counted in let f = h.few in
+    filled-step (λ (x : Placed). letters_in x.symbol) (symbols (scan s)) i old (u + v * 18446744073709551616) (omega arith) (omega arith) (letters-at h i lt p q)
 
 -- the letters of a name fit, and there are some
 letters-fit : (w : List ℕ) (x : Name) → Sound w (name x) → Fits 16 x.letters
 letters-fit w x h = let l : length (run w) ≤ 16 = subst (λ (r : List ℕ). length r ≤ 16) h.0 h.1 in subst (Fits 16) (sym h.0) (run_fits 16 w l)
 
-some-letters : (v : List ℕ) → Fits 16 v → 1 ≤ length v → 0 < packed 8 v
+some-letters : (v : List ℕ) → Fits 16 v → 1 ≤ length v → 0 < packed 16 v
 unfolding packed
 some-letters [] f l = absurd (omega arith)
 some-letters (b ∷ v) f l = let p = f.0 in omega arith
 
 module _ (a : List ℕ) (f : Fits 16 a) (l : 1 ≤ length a) where
-  has-yes : (w : List ℕ) (y : Symbol) → Sound w y → low_in y ≡ packed 8 a → high_in y ≡ packed 8 (drop 8 a) → has_letters a y ≡ true
-  has-yes w (fixed k) h p q = let m = some-letters a f l in absurd (omega arith)
-  has-yes w (numeral n) h p q = let m = some-letters a f l in absurd (omega arith)
-  has-yes w (name x) h p q = ap (same a) (sym (letters-one a x.letters f (letters-fit w x h) (sym p) (sym q))) ∙ same_refl a
+  has-yes : (w : List ℕ) (y : Symbol) → Sound w y → letters_in y ≡ packed 16 a → has_letters a y ≡ true
+  has-yes w (fixed k) h p = let m = some-letters a f l in absurd (omega arith)
+  has-yes w (numeral n) h p = let m = some-letters a f l in absurd (omega arith)
+  has-yes w (name x) h p = ap (same a) (sym (packed-one 16 a x.letters f (letters-fit w x h) (sym p))) ∙ same_refl a
 
-  has-not : (y : Symbol) → (low_in y ≡ packed 8 a → high_in y ≡ packed 8 (drop 8 a) → ⊥) → has_letters a y ≡ false
+  has-not : (y : Symbol) → (letters_in y ≡ packed 16 a → ⊥) → has_letters a y ≡ false
   has-not (fixed k) n = refl
   has-not (numeral m) n = refl
   has-not (name x) n = on (same a x.letters) refl
     where
       on : (b : Bool) → same a x.letters ≡ b → b ≡ false
-      on true q = let e : a ≡ x.letters = same_true a x.letters q in absurd (n (ap (packed 8) (sym e)) (ap (λ (t : List ℕ). packed 8 (drop 8 t)) (sym e)))
+      on true q = absurd (n (ap (packed 16) (sym (same_true a x.letters q))))
       on false q = refl
 
 first-named : (a : List ℕ) (l : List Placed) (m : ℕ) → m < length l → has_letters a (get_or l m nowhere).symbol ≡ true
@@ -177,35 +144,31 @@ first-named a (x ∷ l) (suc m) lt h n =
     ∙ ap suc (first-named a l m (omega arith) h (λ j k. n (suc j) (omega arith)))
 
 -- the value of a symbol, by the first symbol with its letters
-module _ (s zeros₁ zeros₂ : List ℕ) {low high : List ℕ} (p : low ≡ filled_low s zeros₁) (q : high ≡ filled_high s zeros₂) (i : ℕ) (lt : i < length (symbols (scan s))) where
+module _ (s zeros : List ℕ) {letters : List ℕ} (p : letters ≡ filled_letters s zeros) (i : ℕ) (lt : i < length (symbols (scan s))) where
   abbrev all : List Placed
   all = symbols (scan s)
 
   abbrev sym_at : ℕ → Symbol
   sym_at j = (get_or all j nowhere).symbol
 
-  low_of : (j : ℕ) → j < length all → get_or low j 0 ≡ low_in (sym_at j)
-  low_of j g = ap (λ (l : List ℕ). get_or l j 0) p ∙ filled_at (λ (x : Placed). low_in x.symbol) all zeros₁ j g
+  of-at : (j : ℕ) → j < length all → get_or letters j 0 ≡ letters_in (sym_at j)
+  of-at j g = ap (λ (l : List ℕ). get_or l j 0) p ∙ filled_at (λ (x : Placed). letters_in x.symbol) all zeros j g
 
-  high-of : (j : ℕ) → j < length all → get_or high j 0 ≡ high_in (sym_at j)
-  high-of j g = ap (λ (l : List ℕ). get_or l j 0) q ∙ filled_at (λ (x : Placed). high_in x.symbol) all zeros₂ j g
-
-  pub value-at : {r old : ℕ} → old ≡ number_in (sym_at i) → (get_or low i 0 ≡ 0 → r ≡ old) → ((get_or low i 0 ≡ 0 → ⊥) → IsFirst low high i r) → r ≡ value_in all (sym_at i)
+  pub value-at : {r old : ℕ} → old ≡ number_in (sym_at i) → (get_or letters i 0 ≡ 0 → r ≡ old) → ((get_or letters i 0 ≡ 0 → ⊥) → IsFirst letters i r) → r ≡ value_in all (sym_at i)
   value-at {r} {old} o f g = on (sym_at i) refl
     where
       on : (y : Symbol) → sym_at i ≡ y → r ≡ value_in all y
-      on (fixed k) e = f (low_of i lt ∙ ap low_in e) ∙ o ∙ ap number_in e
-      on (numeral n) e = f (low_of i lt ∙ ap low_in e) ∙ o ∙ ap number_in e
+      on (fixed k) e = f (of-at i lt ∙ ap letters_in e) ∙ o ∙ ap number_in e
+      on (numeral n) e = f (of-at i lt ∙ ap letters_in e) ∙ o ∙ ap number_in e
       on (name x) e =
           let w : List ℕ = drop (get_or all i nowhere).place s in
           let h : Sound w (name x) = subst (Sound w) e (stands_at s all i (all-stand s) lt).0 in
           let t : Fits 16 x.letters = letters-fit w x h in
-          let m : 0 < packed 8 x.letters = some-letters x.letters t h.2 in
-          let a : get_or low i 0 ≡ packed 8 x.letters = low_of i lt ∙ ap low_in e in
-          let b : get_or high i 0 ≡ packed 8 (drop 8 x.letters) = high-of i lt ∙ ap high_in e in
-          let c : IsFirst low high i r = g (λ z. let y : packed 8 x.letters ≡ 0 = sym a ∙ z in omega arith) in
+          let m : 0 < packed 16 x.letters = some-letters x.letters t h.2 in
+          let a : get_or letters i 0 ≡ packed 16 x.letters = of-at i lt ∙ ap letters_in e in
+          let c : IsFirst letters i r = g (λ z. let y : packed 16 x.letters ≡ 0 = sym a ∙ z in omega arith) in
           let u = c.up_to in
           let k : r < length all = omega arith in
           sym (first-named x.letters all r k
-          (has-yes x.letters t h.2 (drop (get_or all r nowhere).place s) (sym_at r) (stands_at s all r (all-stand s) k).0 (sym (low_of r k) ∙ c.same_low ∙ a) (sym (high-of r k) ∙ c.same_high ∙ b))
-          (λ j v. let d : j < length all = omega arith in has-not x.letters t h.2 (sym_at j) (λ y z. c.none j v (low_of j d ∙ y ∙ sym a) (high-of j d ∙ z ∙ sym b))))
+          (has-yes x.letters t h.2 (drop (get_or all r nowhere).place s) (sym_at r) (stands_at s all r (all-stand s) k).0 (sym (of-at r k) ∙ c.same ∙ a))
+          (λ j v. let d : j < length all = omega arith in has-not x.letters t h.2 (sym_at j) (λ y. c.none j v (of-at j d ∙ y ∙ sym a))))

@@ -1,7 +1,7 @@
 -- Signed numbers of 64 bits: what is written and read back, and what fits. Assumes nothing.
 use mathlib.Core.Path.{◌≡◌, refl, sym, ap, ap₂, subst, ◌∙◌}
 use mathlib.Core.Bool.{Bool, true, false, ◌&&◌}
-use Prim.Native.Nat.{ℕ, zero, suc, ◌+◌, ◌-◌, ◌*◌, ◌^◌, ◌<◌, ◌≤◌}
+use Prim.Native.Nat.{ℕ, suc, ◌+◌, ◌-◌, ◌*◌, ◌^◌, ◌<◌, ◌≤◌}
 use native.Mathlib.Nat.{lt_of_le_of_lt, lt_of_lt_of_le, le_of_lt, mul-le-mul}
 use native.Mathlib.Omega.{arith}
 use native.Mathlib.Decide.{ℕ_discrete}
@@ -13,36 +13,12 @@ use mir.Syntax.{Width, w16, w32, w64}
 use mir.Val.{Fits, SFits, of_z, to_z, bits}
 use mir.Facts.{to_z-of_z, to_z_pos}
 use Rattle.sets.specs.Sets as sets
-use Rattle.sets.proofs.Floor.{add-mag}
+use Rattle.sets.proofs.Floor.{add-mag, mag_abs, mag_neg_abs, times_abs}
 use Rattle.evaluation.specs.MeaningValues.{natural, same_integer}
 use Rattle.evaluation.specs.OperatorsByNumber.{Small, IsPlace, IsBits, in_range}
 
 pub read : {z : ℤ} → mag z < 2 ^ 63 → to_z w64 (of_z w64 z) ≡ z
 read h = to_z-of_z {w = w64} (record { sfits = h })
-
--- ---- magnitudes
-
-neg_abs : (n : ℕ) → nat_abs (neg_ℤ (pos n)) ≡ n
-neg_abs zero = refl
-neg_abs (suc n) = refl
-
-mag_abs : (z : ℤ) → mag z ≤ nat_abs z
-mag_abs (pos a) = omega arith
-mag_abs (negsuc a) = omega arith
-
-neg_mag : (n : ℕ) → mag (neg_ℤ (pos n)) ≤ n
-neg_mag zero = omega arith
-neg_mag (suc n) = omega arith
-
-mag_neg_abs : (z : ℤ) → mag (neg_ℤ z) ≤ nat_abs z
-mag_neg_abs (pos a) = neg_mag a
-mag_neg_abs (negsuc a) = omega arith
-
-times_abs : (x y : ℤ) → nat_abs (x *ℤ y) ≡ nat_abs x * nat_abs y
-times_abs (pos a) (pos b) = refl
-times_abs (pos a) (negsuc b) = neg_abs (a * suc b)
-times_abs (negsuc a) (pos b) = neg_abs (suc a * b)
-times_abs (negsuc a) (negsuc b) = refl
 
 -- ---- a number that is natural: an element's place, a set's bits
 
@@ -157,7 +133,7 @@ module _ (n : ℕ) (f : Fits w16 n) where
   below = ap (λ (z : ℤ). pos 0 -ℤ z) (of_16_in_32 n f) ∙ +ℤ_idl (neg_ℤ (pos n))
 
   pub below-fits : SFits w32 (pos 0 -ℤ to_z w32 n)
-  below-fits = rw below (record { sfits = lt_of_le_of_lt (neg_mag n) (lt_of_lt_of_le f.fits (lit≤ tt)) })
+  below-fits = rw below (record { sfits = lt_of_le_of_lt (mag_neg_abs (pos n)) (lt_of_lt_of_le f.fits (lit≤ tt)) })
 
   pub below-back : to_z w32 (of_z w32 (pos 0 -ℤ to_z w32 n)) ≡ neg_ℤ (pos n)
   below-back = to_z-of_z below-fits ∙ below

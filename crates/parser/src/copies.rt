@@ -6,7 +6,5 @@ pub(crate) fn copy_nodes(from: &[u16], to: &mut [u16], n: usize)
     requires { (n ≤ length from.now) × (n ≤ length to.old) }
     ensures { to.new ≡ take n from.now ++ drop n to.old }
 {
-    for i in 0..n {
-        to[i] = from[i];
-    }
+    to[..n].copy_from_slice(&from[..n]);
 }

@@ -43,7 +43,7 @@ pub fn parse(
 }
 
 // The structure of the n symbols of a text. The nodes are made in an array of their own, so that a refusal leaves the lent one as it was.
-// Form 5: symbols are cut to their number and become one value below, in `structure_by`; places of bytes are only looked up.
+// Form 5: the length of an array is known to a proof where it is handed on as a slice, so that the lent arrays come as slices here and become one value in `structure_by`.
 fn structure_of(
     text: &[u8],
     codes: &[u8],
@@ -60,7 +60,7 @@ fn structure_of(
 }
 
 // The same, by way of the array `made`.
-// Form 5: the symbols become one value here; places of bytes are only looked up.
+// Form 5: the symbols are cut to their number and become one value here; places of bytes are only looked up.
 fn structure_by(
     text: &[u8],
     codes: &[u8],

@@ -11,7 +11,7 @@ use Rattle.slot_carriers.specs.CellGroups.{CellsOf}
 use Rattle.slot_carriers.specs.TypeNodes.{ListBetween}
 use Rattle.slot_carriers.specs.DeclaredGroups.{Declared, CellsMade, Copied}
 use Rattle.slot_carriers.proofs.Halving.{either}
-use Rattle.slot_carriers.proofs.KeptCells.{SameCell, same-between, cells-again, copied-cells, kept-cells}
+use Rattle.slot_carriers.proofs.KeptCells.{SameCell, same-between, cells-again, copied-cells, beside-made, kept-cells}
 use Rattle.readings.specs.Readings.{GroupAt}
 use Rattle.part_setup.specs.SetupPromises.{Blank, FirstValues}
 use Rattle.part_setup.specs.SetupSteps.{ListsBelow}
@@ -43,24 +43,8 @@ declared-at table groups row vs many few from g room =
 
 module _ (table groups : List ℕ) (p n slot at : ℕ) (old new : List ℕ) (r : ℕ) (m : CellsMade table groups p n slot at old new r) (fit : slot + n ≤ 64) (behind : 256 ≤ at)
     (w : ListsBelow old at) where
-  beside : (s : ℕ) → s < 64 → (s < slot) ⊎ (slot + n ≤ s) → SameCell old s new s 256 at
-  beside s h (inl g) =
-      record {
-        count = m.below _ (omega arith);
-        shape = m.below _ (omega arith);
-        first = m.below _ (omega arith);
-        list = λ i k l. m.above i (omega arith) l;
-      }
-  beside s h (inr g) =
-      record {
-        count = m.above _ (omega arith) (omega arith);
-        shape = m.above _ (omega arith) (omega arith);
-        first = m.above _ (omega arith) (omega arith);
-        list = λ i k l. m.above i (omega arith) l;
-      }
-
   kept-list : (s : ℕ) → s < 64 → (s < slot) ⊎ (slot + n ≤ s) → ListBetween new s 256 r
-  kept-list s h g = same-between old s new s 256 at h (beside s h g) (w.each s h) 256 r (omega arith) m.onward
+  kept-list s h g = same-between old s new s 256 at h (beside-made m fit behind s h g) (w.each s h) 256 r (omega arith) m.onward
 
   list_at : (s : ℕ) → s < 64 → (s < slot) ⊎ (slot ≤ s) → (s < slot + n) ⊎ (slot + n ≤ s) → ListBetween new s 256 r
   list_at s h (inl g) k = kept-list s h (inl g)

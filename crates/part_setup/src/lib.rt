@@ -1,5 +1,5 @@
 // What a part of the check starts from: the cells of its variables' carriers, the sizes of its groups, and every variable's first value in the slots.
-// Form 5: cells are made here and then asked for sizes: what a function asks of them is what another has promised, and the callers hold groups and cells as arrays of their own.
+// Form 5: cells are made here and then asked for sizes: what a function asks of them is what another has promised. `search_groups::Dossier` has the rows too, which no function here reads.
 #![tactic(auto)]
 
 ghost use Rattle.std.specs.Prelude.{◌≡◌, ◌<◌};

@@ -103,8 +103,8 @@ fn look_correctness(d: &Dossier<'_>, j: usize, from: usize, end: usize) -> PartL
     sweep_part(&s, from, end)
 }
 
-// Form 1: a part is its number, which `search` counts on by; what it is, is asked here alone, and the enum that callers are told, `held_checks::Obligation`, stands by the bytes of a held check.
 // The k-th part: the opening obligations first, then two for each operation.
+// Form 1: `search` counts on by the number of a part, and each arm sets up what its part asks; what a part is, callers are told by `held_checks::obligation_of`.
 fn look(d: &Dossier<'_>, k: usize, from: usize, end: usize) -> PartLooked
     requires from_le_end { from ≤ end }
     requires look_asked { LookAsked d.now.table.now d.now.rows.now d.now.firsts.now d.now.groups.now k }

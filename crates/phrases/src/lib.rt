@@ -51,12 +51,10 @@ const DEEPER: usize = 2;
 
 // Behind the next newline.
 fn next_line(words: &[u8], from: usize) -> usize {
-    for k in from..words.len() {
-        if words[k] == NEWLINE {
-            return k + 1;
-        }
+    match words.iter().skip(from).position(|b| *b == NEWLINE) {
+        Some(k) => from + k + 1,
+        None => words.len(),
     }
-    words.len()
 }
 
 // The words of the n-th phrase: behind the n-th tilde's line, up to the next tilde.

@@ -1,8 +1,8 @@
 // Plans: for each of the five searches of a part its variables, and the conjuncts that it asks by level. Level 0: no variable of the search is mentioned; level l: the
 // last one mentioned is number l - 1, so that a conjunct is asked as soon as that one has its value. A conjunct is one number: twice the end of its nodes, and 1 more where it is
 // asked of the after state.
-// Form 5: the rows are only read and the plan is written, and the sizes of a search change with each call: a struct of rows, firsts and plan would have to promise that the first two are
-// as they were.
+// Form 5: the rows are only read and the plan is written, and the sizes of a search change with each call. Five functions go over rows and `firsts` together, ten over one of the two alone,
+// which a struct of both would hide from their promises.
 // Form 6: where the tests of a level begin is written among the plan's first numbers as the tests behind are appended: a writer that owned what is left of the plan could not reach them.
 #![tactic(auto)]
 
@@ -11,12 +11,11 @@ ghost use Rattle.plans.specs.PlansByNumber.{level_of, entries_from, entries_of, 
 ghost use Rattle.plans.specs.PlanPromises.{RowsOf, CommonRows, OperationRows, InitialisationPlan, ApplicabilityPlan, CorrectnessPlan};
 ghost use Rattle.plans.specs.PlanWriting.{asking, RowIn, Appended, Room, Laying, Headed, Searched, Between, many_by, over_by, after_by, step_by, Premises};
 
-use crate::contexts::OPERATIONS;
 use points::plan::MET;
 use points::{plan, slots};
-
-mod columns;
-mod contexts;
+use search_groups::conjuncts::ROW;
+use search_groups::contexts::{CONCRETE_SIDE, OPERATIONS, SIDES};
+use search_groups::{columns, contexts};
 
 // A part: how many variables its groups have, and how many bindings: abstract, concrete, inputs, outputs, concrete primed; then of the two searches for a step of the abstract operation
 // and for what must be there. `primed`: it goes over the concrete primed variables (correctness). What must be there then does not depend on the concrete state; else it depends on the
@@ -51,6 +50,7 @@ pub struct PartSearch<'a> {
 
 // A predicate that a search asks: where its rows begin, and how many they are; asked of the state before (0) or after (1); the column of the first group, how many variables that
 // group has, the column of the second.
+// Form 1: the side is the parity of a test in the plan (`points::slots::AFTER`), which is added to twice the end of its nodes; as an enum it would be turned back into that number where it is written.
 #[derive(Clone, Copy)]
 pub struct Asked {
     pub from: usize,
@@ -104,7 +104,7 @@ fn append(rows: &[u16; 16384], p: Asked, l: usize, plan: &mut [u16; 20560], at: 
 {
     let mut k = at;
     for i in 0..p.many {
-        k = append_row(rows, p.from + columns::ROW * i, p, l, plan, k);
+        k = append_row(rows, p.from + ROW * i, p, l, plan, k);
     }
     k
 }
@@ -165,7 +165,7 @@ fn rows_of(firsts: &[u16; 40], c: usize) -> usize
     requires { Between firsts.now c }
     ensures { result ≡ many_by firsts.now c }
 {
-    usize::from(firsts[c + 1] - firsts[c]) / columns::ROW
+    usize::from(firsts[c + 1] - firsts[c]) / ROW
 }
 
 // No predicate.
@@ -319,7 +319,7 @@ fn plan_premises(
         rows,
         plan::READY,
         after(firsts, contexts::ABSTRACT_STATE, n, columns::ABSTRACT),
-        step(firsts, OPERATIONS + 2 * j, n, columns::ABSTRACT_PRIMED),
+        step(firsts, OPERATIONS + SIDES * j, n, columns::ABSTRACT_PRIMED),
         none(),
         plan,
         k,
@@ -339,7 +339,15 @@ pub fn plan_applicability(
 {
     let k = plan_premises(rows, firsts, j, n, plan);
     let k = plan_nothing(rows, plan::STEPS, plan, k);
-    plan_steps(rows, firsts, OPERATIONS + 2 * j + 1, n, MET, plan, k);
+    plan_steps(
+        rows,
+        firsts,
+        OPERATIONS + SIDES * j + CONCRETE_SIDE,
+        n,
+        MET,
+        plan,
+        k,
+    );
 }
 
 // Correctness: some abstract after state that is related and reached.
@@ -357,7 +365,7 @@ pub fn plan_correctness(
     let k = plan_steps(
         rows,
         firsts,
-        OPERATIONS + 2 * j + 1,
+        OPERATIONS + SIDES * j + CONCRETE_SIDE,
         n,
         plan::STEPS,
         plan,
@@ -369,7 +377,7 @@ pub fn plan_correctness(
         MET,
         over(firsts, contexts::ABSTRACT_STATE, 1, columns::ABSTRACT),
         over(firsts, contexts::RETRIEVE, 1, columns::ABSTRACT),
-        over(firsts, OPERATIONS + 2 * j, 0, columns::ABSTRACT_PRIMED),
+        over(firsts, OPERATIONS + SIDES * j, 0, columns::ABSTRACT_PRIMED),
         plan,
         k,
     );

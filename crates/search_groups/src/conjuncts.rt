@@ -5,6 +5,7 @@ ghost use Rattle.search_groups.specs.GroupPromises.{slot_here, slots_at, piece, 
 ghost use Rattle.search_groups.specs.GroupPromises.{Place, ContextPut, ListPut, Listed};
 
 use crate::Parts;
+use crate::contexts::{OPERATIONS, SIDES};
 use form::node;
 use lexical::{bounds, codes};
 use node_spans::{LARGEST, span};
@@ -32,11 +33,7 @@ const A_BACK: usize = 3;
 
 const AND: u16 = codes::AND as u16;
 
-// How many predicates stand before those of the operations, and how many an operation has; which span the first of these begins at.
-const CONDITIONS: usize = 5;
-
-const SIDES: usize = 2;
-
+// Which span the first predicate of the operations begins at.
 const PARAMETERS_LAST: usize = span::OPERATIONS + span::LAST;
 
 // A number for each predicate and one behind them, with room to spare.
@@ -209,10 +206,10 @@ fn place(k: usize) -> usize
     if k == 0 {
         return span::ABSTRACT_LAST;
     }
-    if k < CONDITIONS {
+    if k < OPERATIONS {
         return k + span::CONCRETE_FIRST;
     }
-    PARAMETERS_LAST + span::OPERATION * ((k - CONDITIONS) / SIDES) + (k - CONDITIONS) % SIDES
+    PARAMETERS_LAST + span::OPERATION * ((k - OPERATIONS) / SIDES) + (k - OPERATIONS) % SIDES
 }
 
 // How many numbers stand before a predicate's rows. In the lent array 0 stands for what is no number of 16 bits: the rows of a dossier are never as many.
@@ -254,5 +251,5 @@ pub fn conjuncts(p: &Parts<'_>, out: &mut [u16; node::NUMBERS], firsts: &mut [u1
     if span::MOST < p.operations {
         return;
     }
-    contexts(p, CONDITIONS + SIDES * p.operations, out, firsts);
+    contexts(p, OPERATIONS + SIDES * p.operations, out, firsts);
 }

@@ -1,7 +1,9 @@
 // Groups of variables, and the conjuncts of predicates.
 #![tactic(auto)]
 
+pub mod columns;
 pub mod conjuncts;
+pub mod contexts;
 pub mod groups;
 
 use conjuncts::FIRSTS;

@@ -122,15 +122,15 @@ abs-small : (z : ℤ) (n : ℕ) → mag z < n → nat_abs z ≤ n
 abs-small (pos a) n h = omega arith
 abs-small (negsuc a) n h = omega arith
 
-neg_abs : (n : ℕ) → nat_abs (neg_ℤ (pos n)) ≡ n
+pub neg_abs : (n : ℕ) → nat_abs (neg_ℤ (pos n)) ≡ n
 neg_abs zero = refl
 neg_abs (suc n) = refl
 
-mag_abs : (z : ℤ) → mag z ≤ nat_abs z
+pub mag_abs : (z : ℤ) → mag z ≤ nat_abs z
 mag_abs (pos a) = omega arith
 mag_abs (negsuc a) = omega arith
 
-mag_neg_abs : (z : ℤ) → mag (neg_ℤ z) ≤ nat_abs z
+pub mag_neg_abs : (z : ℤ) → mag (neg_ℤ z) ≤ nat_abs z
 mag_neg_abs (pos a) = neg_mag a
 mag_neg_abs (negsuc a) = omega arith
 
@@ -145,14 +145,14 @@ up_small a b =
     let h : a ≤ a * suc b = le-mul_of_pos_right a (zero-lt-suc b) in
     le_of_suc-le-suc ((div-lt_iff_lt-mul (zero-lt-suc b)).1 (omega (arith, suc-mul a (suc b))))
 
-floor_abs : (x y : ℤ) → nat_abs (floor_div x y) ≤ nat_abs x
+pub floor_abs : (x y : ℤ) → nat_abs (floor_div x y) ≤ nat_abs x
 unfolding floor_div
 floor_abs (pos a) (pos b) = div-le_self a b
 floor_abs (pos a) (negsuc b) = subst (λ (n : ℕ). n ≤ a) (sym (neg_abs ((a + b) / suc b))) (up_small a b)
 floor_abs (negsuc a) (pos b) = omega (arith, div-le_self a b)
 floor_abs (negsuc a) (negsuc b) = div-le_self (suc a) (suc b)
 
-times_abs : (x y : ℤ) → nat_abs (x *ℤ y) ≡ nat_abs x * nat_abs y
+pub times_abs : (x y : ℤ) → nat_abs (x *ℤ y) ≡ nat_abs x * nat_abs y
 times_abs (pos a) (pos b) = refl
 times_abs (pos a) (negsuc b) = neg_abs (a * suc b)
 times_abs (negsuc a) (pos b) = neg_abs (suc a * b)

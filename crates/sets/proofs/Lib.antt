@@ -5,3 +5,4 @@ pub mod Operations
 pub mod Pairs
 pub mod Floor
 pub mod Divides
+pub mod MaskBits

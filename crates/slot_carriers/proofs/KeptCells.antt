@@ -252,25 +252,31 @@ copied-cells n base to old new vs low c e b w =
           list = λ i k l. c.others.above i (omega arith);
         }
 
+-- a cell beside a group that is made, and the lists before its lists
+pub beside-made : {table groups : List ℕ} {p n slot at : ℕ} {old new : List ℕ} {r : ℕ} → CellsMade table groups p n slot at old new r → slot + n ≤ 64 → 256 ≤ at
+    → (s : ℕ) → s < 64 → (s < slot) ⊎ (slot + n ≤ s) → SameCell old s new s 256 at
+beside-made m fit behind s h (inl g) =
+    record {
+      count = m.below _ (omega arith);
+      shape = m.below _ (omega arith);
+      first = m.below _ (omega arith);
+      list = λ i k l. m.above i (omega arith) l;
+    }
+beside-made m fit behind s h (inr g) =
+    record {
+      count = m.above _ (omega arith) (omega arith);
+      shape = m.above _ (omega arith) (omega arith);
+      first = m.above _ (omega arith) (omega arith);
+      list = λ i k l. m.above i (omega arith) l;
+    }
+
 -- a group beside one that is made, with lists before its lists
 pub kept-cells : (table groups : List ℕ) (p n slot at s : ℕ) (old new : List ℕ) (r : ℕ) (vs : List Variable) → CellsMade table groups p n slot at old new r
     → slot + n ≤ 64 → s + length vs ≤ 64 → (s + length vs ≤ slot) ⊎ (slot + n ≤ s) → 256 ≤ at
     → ((j : ℕ) → s ≤ j → j < s + length vs → ListBetween old j 256 at) → CellsOf old s vs → CellsOf new s vs
 kept-cells table groups p n slot at s old new r vs m fit low side behind b w =
-    cells-again old new 256 at vs s s low (λ j h. same j h side) (λ j h. b (s + j) (omega arith) (omega arith)) w
+    cells-again old new 256 at vs s s low (λ j h. beside-made m fit behind (s + j) (omega arith) (each j h side)) (λ j h. b (s + j) (omega arith) (omega arith)) w
   where
-    same : (j : ℕ) → j < length vs → (s + length vs ≤ slot) ⊎ (slot + n ≤ s) → SameCell old (s + j) new (s + j) 256 at
-    same j h (inl g) =
-        record {
-          count = m.below _ (omega arith);
-          shape = m.below _ (omega arith);
-          first = m.below _ (omega arith);
-          list = λ i k l. m.above i (omega arith) l;
-        }
-    same j h (inr g) =
-        record {
-          count = m.above _ (omega arith) (omega arith);
-          shape = m.above _ (omega arith) (omega arith);
-          first = m.above _ (omega arith) (omega arith);
-          list = λ i k l. m.above i (omega arith) l;
-        }
+    each : (j : ℕ) → j < length vs → (s + length vs ≤ slot) ⊎ (slot + n ≤ s) → (s + j < slot) ⊎ (slot + n ≤ s + j)
+    each j h (inl g) = inl (omega arith)
+    each j h (inr g) = inr (omega arith)

@@ -4,15 +4,14 @@ use mathlib.Core.Bool.{Bool, true, false}
 use mathlib.Core.Logic.{◌⊎◌, inl, inr}
 use mathlib.Core.List.{List}
 use Prim.Native.Nat.{ℕ, zero, suc, ◌+◌, ◌-◌, ◌*◌, ◌/◌, ◌%◌, ◌^◌, ◌<◌, ◌≤◌}
-use native.Mathlib.Nat.{pow-suc, mod-lt, zero-lt-suc}
+use native.Mathlib.Nat.{mod-lt, zero-lt-suc}
 use native.Mathlib.Omega.{arith}
 use mir.Val.{bool_byte}
-use lib.Dec.{eqb}
 use lib.ListN.{get_or, length}
 use lib.Pow.{pow_mono}
-use borrow.Author.Tests.{eqb-true}
 use Rattle.sets.specs.Sets.{has}
-use Rattle.sets.proofs.Members.{has-zero, has-suc, has-past, under-power}
+use Rattle.sets.proofs.MaskBits.{Bits, more-bits, member-below}
+use Rattle.sets.proofs.Members.{has-past, under-power}
 use Rattle.form.specs.Tree.{Pred, Dossier}
 use Rattle.static_rules.specs.Carriers.{Variable}
 use Rattle.static_rules.specs.Scope.{Scope}
@@ -78,11 +77,17 @@ module _ {table rows : List ℕ} {from slot : ℕ} where
 no_bits : (j : ℕ) → has 0 j ≡ true → ⊥
 no_bits j e = let z : false ≡ true = sym (has-past 0 0 j (omega arith) (omega arith)) ∙ e in refused z
 
-pub byte_small : (b : Bool) → bool_byte b < 2
-byte_small true = omega arith
-byte_small false = omega arith
+-- the bit k says of the slot behind `slot` by k
+abbrev FreeBit : (table rows : List ℕ) (from to slot k : ℕ) → Bool → Type 0
+FreeBit table rows from to slot k b = b ≡ true → RowsFree table rows from to (slot + k)
 
 module _ {table rows : List ℕ} {from to : ℕ} where
+  onward : (slot k j : ℕ) → RowsFree table rows from to (slot + k + j) → RowsFree table rows from to (slot + (k + j))
+  onward slot k j = let z : slot + k + j ≡ slot + (k + j) = omega arith in subst (RowsFree table rows from to) z
+
+  back : (slot k j : ℕ) → RowsFree table rows from to (slot + (k + j)) → RowsFree table rows from to (slot + k + j)
+  back slot k j = let z : slot + (k + j) ≡ slot + k + j = omega arith in subst (RowsFree table rows from to) z
+
   module _ {slot count : ℕ} where
     pub bits_none : BitsSay table rows from to slot count count 0
     bits_none = record { within = omega arith; low = omega (arith, under-power (count - count)); means = λ j e. absurd (no_bits j e) }
@@ -92,35 +97,10 @@ module _ {table rows : List ℕ} {from to : ℕ} where
 
     pub bits-more : {k r x : ℕ} {t : Bool} → 0 < k → BitsSay table rows from to slot count k r → RowsSay table rows from to (slot + (k - 1)) t → x ≡ bool_byte t
         → BitsSay table rows from to slot count (k - 1) (2 * r + x)
-    bits-more {k} {r} {x} {t} h b s u = record { within = omega (arith, b.within); low = double; means = go }
-      where
-        low : x < 2
-        low = omega (arith, u, byte_small t)
-
-        set : (c : Bool) → bool_byte c ≡ 1 → c ≡ true
-        set true e = refl
-        set false e = absurd (omega arith)
-
-        double : 2 * r + x < 2 ^ (count - (k - 1))
-        double =
-            let e : count - (k - 1) ≡ suc (count - k) = omega (arith, b.within) in
-            subst (λ (n : ℕ). 2 * r + x < 2 ^ n) (sym e) (omega (arith, b.low, low, pow-suc 2 (count - k)))
-
-        half : (2 * r + x) / 2 ≡ r
-        half = omega (arith, low)
-
-        odd : (2 * r + x) % 2 ≡ x
-        odd = omega (arith, low)
-
-        go : (j : ℕ) → has (2 * r + x) j ≡ true → RowsFree table rows from to (slot + (k - 1) + j)
-        go zero e =
-            let z : eqb x 1 ≡ true = sym (ap (λ (y : ℕ). eqb y 1) odd) ∙ sym (has-zero (2 * r + x)) ∙ e in
-            let p : slot + (k - 1) ≡ slot + (k - 1) + zero = omega arith in
-            subst (RowsFree table rows from to) p (s.means (set t (sym u ∙ eqb-true x 1 z)))
-        go (suc j) e =
-            let z : has r j ≡ true = sym (ap (λ (y : ℕ). has y j) half) ∙ sym (has-suc (2 * r + x) j) ∙ e in
-            let p : slot + k + j ≡ slot + (k - 1) + suc j = omega arith in
-            subst (RowsFree table rows from to) p (b.means j z)
+    bits-more {k} {r} {t = t} h b s u =
+        let rest : Bits (FreeBit table rows from to slot) k (count - k) r = record { small = b.low; each = λ j l e. onward slot k j (b.means j e) } in
+        let y = more-bits {R = FreeBit table rows from to slot} t {i = k - 1} {j = k} {m = count - (k - 1)} (omega arith) (omega (arith, b.within)) s.means u rest in
+        record { within = omega (arith, b.within); low = y.small; means = λ j e. back slot (k - 1) j (y.each j (member-below (count - (k - 1)) _ j y.small e) e) }
 
     pub bits-done : {k r : ℕ} → BitsSay table rows from to slot count k r → k ≤ 0 → BitsSay table rows from to slot count 0 r
     bits-done {k} {r} b h = let e : k ≡ 0 = omega arith in subst (λ (n : ℕ). BitsSay table rows from to slot count n r) e b
@@ -130,16 +110,9 @@ module _ {table rows : List ℕ} {from to : ℕ} where
 pub left_out : {table rows firsts : List ℕ} {context slot count r : ℕ} → BitsSay table rows (get_or firsts context 0) (get_or firsts (context + 1) 0) slot count 0 r
     → LeftOut table rows firsts context slot count r
 left_out {table} {rows} {firsts} {context} {slot} {count} {r} b = record {
-  low = λ k e. go k e (split_at k count);
+  low = λ k e. let n : count - 0 ≡ count = omega arith in member-below count r k (subst (λ (m : ℕ). r < 2 ^ m) n b.low) e;
   means = λ k e. let p : slot + 0 + k ≡ slot + k = omega arith in subst (RowsFree table rows (get_or firsts context 0) (get_or firsts (context + 1) 0)) p (b.means k e);
 }
-  where
-    go : (k : ℕ) → has r k ≡ true → (k < count) ⊎ (count ≤ k) → k < count
-    go k e (inl h) = h
-    go k e (inr h) =
-        let n : count - 0 ≡ count = omega arith in
-        let z : false ≡ true = sym (has-past count r k (subst (λ (m : ℕ). r < 2 ^ m) n b.low) h) ∙ e in
-        refused z
 
 pub left-none : {table rows firsts : List ℕ} {context slot count : ℕ} → LeftOut table rows firsts context slot count 0
 left-none = record { low = λ k e. absurd (no_bits k e); means = λ k e. absurd (no_bits k e) }

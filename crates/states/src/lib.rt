@@ -10,30 +10,12 @@ ghost use Rattle.states.specs.Promises.{AbstractStepAsked, AbstractStepAnswers, 
 
 use evaluator::SLOTS;
 use search_groups::Dossier;
+use search_groups::columns::END;
 use search_groups::conjuncts::ROW;
+use search_groups::contexts::{
+    ABSTRACT_STATE, AINIT, CINIT, CONCRETE_SIDE, CONCRETE_STATE, OPERATIONS, RETRIEVE, SIDES,
+};
 use truths::truth;
-
-// Form 1: places in a row and among `firsts`, and how many of them an operation has: no kinds.
-// Where a row has the end of its conjunct's table.
-const END: usize = 1;
-
-// The places of predicates among the contexts.
-const ABSTRACT: usize = 0;
-
-const CONCRETE: usize = 1;
-
-const AINIT: usize = 2;
-
-const CINIT: usize = 3;
-
-const RETRIEVE: usize = 4;
-
-// Two for each operation, its abstract and its concrete predicate.
-const OPERATIONS: usize = 5;
-
-const SIDES: usize = 2;
-
-const CONCRETE_SIDE: usize = 1;
 
 // Form 2: `rows_free` of state_facts walks the rows alike and asks the table alone; here the values are lent to be written, and a closure that lends them needs more clauses than the walk has lines.
 // Do all conjuncts of the rows between two places hold? The first that does not decides.
@@ -68,7 +50,7 @@ pub fn abstract_initial(d: &Dossier<'_>, slots: &mut [i64; SLOTS]) -> bool
     ensures answers { AbstractInitialAnswers d.now.table.now d.now.rows.now d.now.firsts.now slots.old result }
     ensures kept { slots.new ≡ slots.old }
 {
-    if !context_holds(d, ABSTRACT, slots) {
+    if !context_holds(d, ABSTRACT_STATE, slots) {
         return false;
     }
     context_holds(d, AINIT, slots)
@@ -81,7 +63,7 @@ pub fn concrete_initial(d: &Dossier<'_>, slots: &mut [i64; SLOTS]) -> bool
     ensures answers { ConcreteInitialAnswers d.now.table.now d.now.rows.now d.now.firsts.now slots.old result }
     ensures kept { slots.new ≡ slots.old }
 {
-    if !context_holds(d, CONCRETE, slots) {
+    if !context_holds(d, CONCRETE_STATE, slots) {
         return false;
     }
     context_holds(d, CINIT, slots)
@@ -93,10 +75,10 @@ pub fn related(d: &Dossier<'_>, slots: &mut [i64; SLOTS]) -> bool
     ensures answers { RelatedAnswers d.now.table.now d.now.rows.now d.now.firsts.now slots.old result }
     ensures kept { slots.new ≡ slots.old }
 {
-    if !context_holds(d, ABSTRACT, slots) {
+    if !context_holds(d, ABSTRACT_STATE, slots) {
         return false;
     }
-    if !context_holds(d, CONCRETE, slots) {
+    if !context_holds(d, CONCRETE_STATE, slots) {
         return false;
     }
     context_holds(d, RETRIEVE, slots)
@@ -115,10 +97,10 @@ pub fn abstract_step(
     ensures kept { slots.new ≡ slots.old }
     ensures later_kept { later.new ≡ later.old }
 {
-    if !context_holds(d, ABSTRACT, slots) {
+    if !context_holds(d, ABSTRACT_STATE, slots) {
         return false;
     }
-    if !context_holds(d, ABSTRACT, later) {
+    if !context_holds(d, ABSTRACT_STATE, later) {
         return false;
     }
     context_holds(d, OPERATIONS + SIDES * k, slots)
@@ -137,10 +119,10 @@ pub fn concrete_step(
     ensures kept { slots.new ≡ slots.old }
     ensures later_kept { later.new ≡ later.old }
 {
-    if !context_holds(d, CONCRETE, slots) {
+    if !context_holds(d, CONCRETE_STATE, slots) {
         return false;
     }
-    if !context_holds(d, CONCRETE, later) {
+    if !context_holds(d, CONCRETE_STATE, later) {
         return false;
     }
     context_holds(d, OPERATIONS + SIDES * k + CONCRETE_SIDE, slots)

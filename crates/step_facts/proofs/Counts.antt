@@ -15,7 +15,7 @@ use Rattle.step_searches.specs.StepPromises.{StepsAsked, ForSteps, Prepared}
 use Rattle.step_facts.specs.FactPromises.{if_so, weight, tally, Summed, one, state_test, ready_test, related_below, ready_below, AbleIs}
 use Rattle.step_facts.specs.FactPromises.{StatesCounted, PairsCounted, PromisesCounted}
 use Rattle.step_facts.proofs.AskedFacts.{na-is, nc-is, ni-is, unlisted}
-use Rattle.step_facts.proofs.Masks.{byte_low}
+use Rattle.sets.proofs.MaskBits.{byte_low}
 
 -- ---- sums
 

@@ -20,8 +20,8 @@ use Rattle.meaning.specs.Bindings.{Among}
 use Rattle.meaning.specs.Operations.{abstract_bindings, concrete_bindings, output_bindings}
 use Rattle.meaning.proofs.Members.{any-put, none_any}
 use Rattle.meaning.proofs.Places.{member-at, place-of}
-use Rattle.sets.specs.Sets.{has, bit, set_from, set_of}
-use Rattle.sets.proofs.Members.{from-below, has-set}
+use Rattle.sets.specs.Sets.{has}
+use Rattle.sets.proofs.MaskBits.{Bits, no-bits, more-bits, bits-fit}
 use Rattle.points.specs.Searches.{Sought}
 use Rattle.plans.specs.declared.Part.{Part}
 use Rattle.state_facts.specs.PartTestsPartsByNumber.{nth, abstract_at, concrete_at, output_at, abstractly, concretely, ready_at, stepping}
@@ -112,74 +112,27 @@ module _ {table plan cells : List ℕ} {p : Part} {s i : ℕ} {side : Bool} wher
 
 -- ---- the bits of all inputs, the last one's first
 
-byte-bit : (b : Bool) → bool_byte b ≡ bit b
-byte-bit true = refl
-byte-bit false = refl
-
-pub byte_low : (b : Bool) → bool_byte b ≤ 1
-byte_low true = omega arith
-byte_low false = omega arith
-
-no_bits : (f : ℕ → Bool) (i n : ℕ) → i + n ≡ i → 0 ≡ set_from f i n
-unfolding set_from
-no_bits f i zero e = refl
-no_bits f i (suc n) e = absurd (over i n e)
-  where
-    over : (i n : ℕ) → i + suc n ≡ i → ⊥
-    over i n e = omega arith
-
-all-bits : (f : ℕ → Bool) (s i m : ℕ) → i ≤ 0 → ((n : ℕ) → i + n ≡ m → s ≡ set_from f i n) → s ≡ set_of m f
-unfolding set_of
-all-bits f s i m h u = let z : i ≡ 0 = omega arith in u m (omega arith) ∙ ap (λ (t : ℕ). set_from f t m) z
-
-one_more : (f : ℕ → Bool) (s i m n : ℕ) (b : Bool) → 0 < i → i ≤ m → ((n : ℕ) → i + n ≡ m → s ≡ set_from f i n) → b ≡ f (i - 1) → i - 1 + n ≡ m
-    → 2 * s + bool_byte b ≡ set_from f (i - 1) n
-unfolding set_from
-one_more f s i m zero b h g w e l = absurd (none i m h g l)
-  where
-    none : (i m : ℕ) → 0 < i → i ≤ m → i - 1 + 0 ≡ m → ⊥
-    none i m h g l = omega arith
-one_more f s i m (suc n) b h g w e l =
-    let a : suc (i - 1) ≡ i = omega arith in
-    let q : s ≡ set_from f (suc (i - 1)) n = w n (omega arith) ∙ ap (λ (t : ℕ). set_from f t n) (sym a) in
-    let x : bool_byte b ≡ bit (f (i - 1)) = byte-bit b ∙ ap bit e in
-    ap₂ (λ (u v : ℕ). 2 * u + v) q x ∙ swap (set_from f (suc (i - 1)) n) (bit (f (i - 1)))
-  where
-    swap : (u v : ℕ) → 2 * u + v ≡ v + 2 * u
-    swap u v = omega arith
-
 -- those of the inputs from i on
 pub record BitsFrom (table plan cells : List ℕ) (p : Part) (side : Bool) (s m i : ℕ) : Type 0 where
   pub high : i ≤ p.ni
-  pub sum : ForSteps table plan cells p (λ (d : Dossier) (op : Operation). (n : ℕ) → i + n ≡ p.ni → m ≡ set_from (able_at d op side s) i n)
+  pub bits : ForSteps table plan cells p (λ (d : Dossier) (op : Operation). Bits (λ (j : ℕ) (b : Bool). b ≡ able_at d op side s j) i (p.ni - i) m)
 
 module _ {table plan cells : List ℕ} {p : Part} {side : Bool} {s : ℕ} where
   pub bits-start : BitsFrom table plan cells p side s 0 p.ni
-  bits-start = record { high = omega arith; sum = λ d op x n e. no_bits (able_at d op side s) p.ni n e }
+  bits-start = record { high = omega arith; bits = λ d op x. no-bits (omega arith) }
 
   pub bits-next : {m i x : ℕ} {b : Bool} → BitsFrom table plan cells p side s m i → 0 < i → AbleIs table plan cells p side s (i - 1) b → x ≡ bool_byte b
       → BitsFrom table plan cells p side s (2 * m + x) (i - 1)
-  bits-next {m} {i} {x = x} {b = b} w h a u = record {
-    high = omega (arith, w.high);
-    sum = λ d op y n e. ap (λ (z : ℕ). 2 * m + z) u ∙ one_more (able_at d op side s) m i p.ni n b h w.high (w.sum d op y) (a.is d op y) e;
-  }
+  bits-next {b = b} w h a u =
+      record { high = omega (arith, w.high); bits = λ d op y. more-bits b (omega arith) (omega (arith, w.high)) (a.is d op y) u (w.bits d op y) }
 
   -- the number stays small
   pub bits_small : {m i : ℕ} → StepsAsked table plan cells p → BitsFrom table plan cells p side s m i → 0 < i → 2 * m + 1 < 2 ^ 64
-  bits_small {m} {i} q w h =
-      small (p.ni - i) (omega (arith, w.high, (sizes-of q).2.1))
-      (subst (λ (t : ℕ). t < 2 ^ (p.ni - i)) (sym (w.sum q.dossier q.operation q.searches (p.ni - i) (omega (arith, w.high)))) (from-below _ i (p.ni - i)))
-    where
-      small : (n : ℕ) → n < 64 → m < 2 ^ n → 2 * m + 1 < 2 ^ 64
-      small n l g =
-          let k : 2 ^ suc n ≤ 2 ^ 64 = pow-le-pow_right {n = 2} (omega arith) {i = suc n} {j = 64} l in
-          let e : 2 * m + 1 < 2 ^ suc n = omega arith in
-          omega arith
+  bits_small q w h = bits-fit (w.bits q.dossier q.operation q.searches) (omega (arith, w.high, (sizes-of q).2.1))
 
   pub bits-done : {m i : ℕ} → BitsFrom table plan cells p side s m i → i ≤ 0 → BitsAre table plan cells p side s m
-  bits-done {m} {i} w h = record {
-    bits = λ d op x j l.
-        ap (λ (t : ℕ). has t j) (all-bits (able_at d op side s) m i p.ni h (w.sum d op x)) ∙ has-set p.ni (able_at d op side s) j l;
+  bits-done {i = i} w h = record {
+    bits = λ d op x j l. let z : i + j ≡ j = omega arith in (w.bits d op x).each j (omega arith) ∙ ap (able_at d op side s) z;
   }
 
 -- ---- the bits of all concrete states

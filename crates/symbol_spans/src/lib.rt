@@ -8,6 +8,9 @@ use lexical::bounds::SYMBOLS;
 use lexical::codes;
 use text_places::{Span, before, symbol_end};
 
+// Is a symbol of this kind a name?
+pub use lexical::codes::is_name;
+
 // How tight a symbol binds: what no atom goes past, comparisons, sums, products, what stands inside an operand.
 // Form 1: five levels that are compared, no Option or Result.
 #[derive(Clone, Copy, PartialEq, Eq, PartialOrd, Ord)]
@@ -31,9 +34,9 @@ pub enum Bracket {
 #[derive(Clone, Copy)]
 pub struct Symbols<'a> {
     pub text: &'a [u8],
-    pub kinds: &'a [u8; SYMBOLS],
-    pub starts: &'a [u16; SYMBOLS],
-    pub values: &'a [u16; SYMBOLS],
+    pub kinds: &'a [u8],
+    pub starts: &'a [u16],
+    pub values: &'a [u16],
 }
 
 // How tight a kind binds.
@@ -66,14 +69,6 @@ pub fn bracket_of(kind: u8) -> Option<Bracket>
     }
 }
 
-// Is the symbol a name?
-pub fn is_name(kind: u8) -> bool {
-    match kind {
-        codes::PLAIN..=codes::OUTPUT => true,
-        _ => false,
-    }
-}
-
 // Does an operand end with a symbol of this kind? A dash behind it is no prefix.
 fn ends_operand(kind: u8) -> bool {
     match kind {
@@ -83,7 +78,7 @@ fn ends_operand(kind: u8) -> bool {
 }
 
 // A number of each symbol, 0 past the last one.
-fn number_at(numbers: &[u16; SYMBOLS], s: usize) -> usize
+fn number_at(numbers: &[u16], s: usize) -> usize
     ensures value { result ≡ slice_index numbers.now s }
     ensures small { result < 65536 }
 {
@@ -256,12 +251,9 @@ impl Symbols<'_> {
     pub fn before_byte(&self, p: usize) -> usize
         ensures { result ≤ 4096 }
     {
-        for s in 0..SYMBOLS {
-            if self.kind(s) == 0 || p <= self.start(s) {
-                return s;
-            }
-        }
-        SYMBOLS
+        (0..SYMBOLS)
+            .find(|&s| self.kind(s) == 0 || p <= self.start(s))
+            .unwrap_or(SYMBOLS)
     }
 
     // How many symbols of a kind stand before symbol s.

@@ -27,7 +27,7 @@ pub(crate) fn token_at(s: &[u8], at: usize) -> Token
 }
 
 // The codes, the places and the values of the symbols of `s`; a name's value is left at 0.
-// Form 3: how far the next symbol is, says the one that is read; an iterator would own the place that a refusal names.
+// Form 3: how far the next symbol is, says the one that is read, and the promise speaks of the rest of the text at a place; an iterator of symbols would promise that of itself at each step.
 pub(crate) fn scan_symbols(
     s: &[u8],
     codes: &mut [u8],

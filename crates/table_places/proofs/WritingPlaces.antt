@@ -16,7 +16,8 @@ use Rattle.form.specs.Codes.{Numbering, node, name_number, number_of_name, endin
 use Rattle.type_rules.specs.TypesByNumber.{Names}
 use Rattle.names.specs.DeclaredNamesNamesByNumber.{Typed, parameters_of}
 use Rattle.names.specs.DeclaredNamesPassPromises.{typed_code}
-use Rattle.names.proofs.DeclaredNamesDeclarationNodes.{node-a, node-shape, Walked, on, finished}
+use Rattle.names.proofs.DeclaredNamesNodePieces.{Ends, place, whole}
+use Rattle.names.proofs.DeclaredNamesDeclarationNodes.{node-a, node-shape, Walked, start, on, finished}
 use Rattle.names.proofs.DeclaredNamesGivenSetNodes.{element-shape, behind, nothing_left}
 use Rattle.names.proofs.PassSteps.{parameters-codes}
 use Rattle.table_nodes.specs.TableByNumber.{Places}
@@ -32,6 +33,12 @@ pub on-next : {X : Type 0} (F : List Typed → ℕ → Names → Numbering → X
     → ((ρ : Numbering) (x : Typed) (xs : List Typed) (j : ℕ) (rest : List ℕ) → drop at code ≡ typed_code j x ρ ++ rest → F (x ∷ xs) j U ρ ≡ F xs (j + 3 + type_width x.type) U' ρ)
     → Walked F code next T U'
 on-next F code at next T U U' n w room change = subst (λ (m : ℕ). Walked F code m T U') (sym n) (on F code at T U U' w room change)
+
+-- of declarations that are cut off one by one, none is cut off yet
+pub walked-start : {X : Type 0} (F : List Typed → ℕ → Names → Numbering → X) (code rest : List ℕ) (T : Names) → rest ≡ code → Ends code rest × Walked F code (place code rest) T T
+walked-start F code rest T e =
+    let none : length code - length code ≡ 0 = omega arith in
+    subst (λ (l : List ℕ). Ends code l × Walked F code (place code l) T T) (sym e) (whole code, subst (λ (n : ℕ). Walked F code n T T) (sym none) (start F code T))
 
 -- variables
 abbrev pub slotting : ℕ → List Typed → ℕ → Names → Numbering → Places
@@ -129,6 +136,21 @@ ElementsOn code at j W₀ W = (gs : List Given) (i : ℕ) (ρ : Numbering) → c
 pub elements-start : (code : List ℕ) (W : Places) → ElementsOn code 0 64 W W
 unfolding element_codes elements_placed
 elements-start code W gs i ρ e = record { es = []; gs = gs; p = 0; l = i; m = 0; here = e; counted = refl; same = refl }
+
+-- of the nodes of given sets, none is cut off yet
+pub elements-begin : (code rest : List ℕ) (W : Places) → rest ≡ code → Ends code rest × ElementsOn code (place code rest) 64 W W
+elements-begin code rest W e =
+    let none : length code - length code ≡ 0 = omega arith in
+    subst (λ (l : List ℕ). Ends code l × ElementsOn code (place code l) 64 W W) (sym e) (whole code, subst (λ (n : ℕ). ElementsOn code n 64 W W) (sym none) (elements-start code W))
+
+-- a node by itself
+pub element-cut : (n code : List ℕ) (at j r : ℕ) (W Y : Places) → ((k : ℕ) → k < 4 → get_or n k 0 ≡ get_or code (at + k) 0) → ElementSet n 0 j W Y r → ElementSet code at j W Y r
+element-cut n code at j r W Y same is = record {
+  title = λ e. is.title (same 3 (omega arith) ∙ e);
+  element = λ e.
+      let t = is.element (λ h. e (sym (same 3 (omega arith)) ∙ h)) in (t.0 ∙ ap (λ (m : ℕ). set W m j) (same 1 (omega arith)), t.1);
+  near = is.near;
+}
 
 something-left : (code : List ℕ) (at k i a b : ℕ) (rest : List ℕ) → length code < at + 4 → drop at code ≡ node k i a b ++ rest → ⊥
 something-left code at k i a b rest room e =

@@ -67,6 +67,7 @@ fn set_type(s: &Declarations<'_>, n: &[u16], q: usize, out: &mut [u16])
 }
 
 // The carriers of declarations.
+// Form 3: the place of a type's node is where its carrier is written; with pieces it would be counted beside them.
 fn set_types(s: &Declarations<'_>, from: usize, to: usize, out: &mut [u16])
     requires { TableRoom s.now.nodes.now out.old }
     ensures { TypesSet s.now.nodes.now from to s.now.names.now s.now.sizes.now out.old out.new }

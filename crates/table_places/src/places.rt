@@ -14,20 +14,20 @@ fn place_elements(code: &[u16], places: &mut [u16])
     ensures { ElementsSet code.now places.old places.new }
 {
     let mut j: u16 = slots::ELEMENTS;
-    for k in 0..code.len() / node::SIZE {
-        j = place_element(code, node::SIZE * k, j, places);
+    for n in code.chunks_exact(node::SIZE) {
+        j = place_element(n, j, places);
     }
 }
 
 // The place of the next element: a given set's title has none, and its elements begin anew.
-fn place_element(code: &[u16], at: usize, j: u16, places: &mut [u16]) -> u16
-    requires { (at + 4 ≤ length code.now) × (64 ≤ j) × (j < 65535) }
-    ensures { ElementSet code.now at j places.old places.new result }
+fn place_element(n: &[u16], j: u16, places: &mut [u16]) -> u16
+    requires { (length n.now ≡ 4) × (64 ≤ j) × (j < 65535) }
+    ensures { ElementSet n.now 0 j places.old places.new result }
 {
-    if code[at + node::SHAPE] == shapes::GIVEN {
+    if n[node::SHAPE] == shapes::GIVEN {
         return slots::ELEMENTS;
     }
-    put(places, index(code[at + node::A]), j);
+    put(places, index(n[node::A]), j);
     j + 1
 }
 
@@ -37,9 +37,8 @@ fn place_variables(code: &[u16], shift: u16, slot: u16, places: &mut [u16])
     ensures { VariablesSet code.now shift slot places.old places.new }
 {
     let mut s: u16 = slot;
-    for k in 0..code.len() / node::DECLARATION {
-        let x = code[node::DECLARATION * k + node::A];
-        put(places, index(x) + shift as usize, s);
+    for d in code.chunks_exact(node::DECLARATION) {
+        put(places, index(d[node::A]) + shift as usize, s);
         s += 1;
     }
 }
@@ -58,8 +57,8 @@ pub fn place_parameters(code: &[u16], places: &mut [u16])
 {
     let mut i: u16 = slots::INPUTS;
     let mut o: u16 = slots::OUTPUTS;
-    for k in 0..code.len() / node::DECLARATION {
-        let x = code[node::DECLARATION * k + node::A];
+    for d in code.chunks_exact(node::DECLARATION) {
+        let x = d[node::A];
         if is_input(x) {
             put(places, index(x), i);
             i += 1;

@@ -5,6 +5,7 @@ ghost use Rattle.table_places.specs.TablePromises.{TableRoom, PredicateSet, Stat
 use declared_names::declared::{hide, show};
 use form::name_endings::{PLAIN, PRIMED};
 use form::node;
+use lowering::Reading;
 use lowering::walk::pred;
 use names::passes::part;
 use names::{NAMES, SIZES};
@@ -34,7 +35,11 @@ fn set_predicate(s: &Source<'_>, end: usize, names: &mut [u16], places: &mut [u1
     if s.nodes.len() < end {
         return;
     }
-    let made = pred(s.nodes, end, slots::BOUND, names, places, s.sizes, out);
+    let reading = Reading {
+        code: s.nodes,
+        sizes: s.sizes,
+    };
+    let made = pred(&reading, end, slots::BOUND, names, places, out);
 }
 
 // A state: its variables are in use behind it.

@@ -1,8 +1,8 @@
 // The walk over the nodes of terms and predicates, from their ends, with the size of each name in a table. One cycle of functions, in one file.
 // Form 5: `end` moves with each call, and where a part ends is known only behind the one that follows it; a struct of it and the nodes would be made
 // anew at each call. The shape in front of a function's node is asked of a function that one arm of `term` or `pred` calls.
-ghost use Rattle.std.specs.Prelude.{◌≡◌, cond, ◌+◌, ◌-◌, ◌≤◌, eqb, leb, length, get_or};
-ghost use Rattle.type_rules.specs.TypesByNumber.{fault_key, judged_key, key};
+ghost use Rattle.std.specs.Prelude.{◌≡◌, cond, ◌+◌, ◌-◌, ◌≤◌, eqb, length, get_or};
+ghost use Rattle.type_rules.specs.TypesByNumber.{fault_key};
 ghost use Rattle.term_sizes.specs.SizesByNumber.{absolute};
 ghost use Rattle.term_sizes.specs.SizeWalkPromises.{PrefixBound, OperatorBound, DivisionBound, DomainSized, TermSized, ItemsSized, PairSized, PairsSized, PredSized};
 
@@ -11,7 +11,7 @@ use form::{node, shapes};
 use lexical::bounds::{COUNT_SIZE, LARGEST_NUMBER, LARGEST_SIZE};
 use lexical::codes;
 use refusals::{Fault, Refusal};
-use type_rules::kinds::{lesser_of, look, node_at, put, unless};
+use type_rules::kinds::{judge, lesser_of, look, node_at, put};
 
 // Prefixes and operators by the code of their symbol. What is not a number has the size 0.
 // Form 1: a node is lent as numbers of 16 bits, and codes of symbols are bytes.
@@ -62,13 +62,6 @@ pub fn absolute_of(a: u16) -> u64
     ensures { (result ≡ absolute a) × (result ≤ 65535) }
 {
     u64::from(a.abs_diff(LARGEST_NUMBER))
-}
-
-// An operation of the size n at the place i, with the fault `parts` in its parts.
-fn over(n: u64, i: u16, parts: Option<Fault>) -> Option<Fault>
-    ensures { fault_key result ≡ judged_key (leb n 2147483647) (key i 13) (fault_key parts) }
-{
-    parts.or(unless(n <= LARGEST_SIZE, usize::from(i), Refusal::LargeSize))
 }
 
 // The size, where there is no fault.
@@ -211,7 +204,7 @@ fn operated(code: &[u16], end: usize, bounds: &mut [u16]) -> Sized
     let t = term(code, u.start, bounds);
     let m = operator_bound(n.a, t.bound, u.bound);
     let parts = lesser_of(t.fault, u.fault);
-    let f = over(m, n.place, parts);
+    let f = judge(m <= LARGEST_SIZE, n.place, Refusal::LargeSize, parts);
     Sized {
         bound: unless_over(f, m),
         fault: f,

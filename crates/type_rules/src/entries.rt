@@ -1,6 +1,6 @@
 // What a name is, by its number in the table of names (specs/TypesByNumber.antt).
-// Form 1: the table has a fixed length and is lent by the caller. The types of terms are numbered so as well, and no type is a number too, since a bound
-// name may have none and stands in that table.
+// Form 1: the table has a fixed length and is lent by the caller. The types of terms are numbered so as well; one number stands for no type, since a
+// bound name may have none and stands in that table.
 use lexical::bounds;
 
 // A name that is not in use; no type.

@@ -166,10 +166,10 @@ pub fn all_well(fault: Option<Fault>) -> Result<(), Fault>
 
 // A whole at the place i with the fault `parts` in its parts.
 // Form 7: `fits` is what a rule says, likewise.
-pub fn judge(fits: bool, i: u16, parts: Option<Fault>) -> Option<Fault>
-    ensures { fault_key result ≡ judged_key fits (key i 10) (fault_key parts) }
+pub fn judge(fits: bool, i: u16, refusal: Refusal, parts: Option<Fault>) -> Option<Fault>
+    ensures { fault_key result ≡ judged_key fits (key i (number_of (refusal_is refusal))) (fault_key parts) }
 {
-    parts.or(unless(fits, usize::from(i), Refusal::TypesMisfit))
+    parts.or(unless(fits, usize::from(i), refusal))
 }
 
 // The fault of a bound name, where it stands behind the symbol i: `old` is what it was, `over` the fault of what it is bound over, `body` that of its reach.

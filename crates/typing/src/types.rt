@@ -196,7 +196,12 @@ fn prefixed(code: &[u16], end: usize, names: &mut [u16], sizes: &[u16]) -> Seen
 {
     let n = node_at(code, end);
     let t = term(code, end - node::SIZE, names, sizes);
-    let f = judge(prefix_fits(n.a, t.kind), n.place, t.fault);
+    let f = judge(
+        prefix_fits(n.a, t.kind),
+        n.place,
+        Refusal::TypesMisfit,
+        t.fault,
+    );
     Seen {
         kind: prefix_type(n.a, t.kind),
         fault: f,
@@ -220,7 +225,12 @@ fn divided(code: &[u16], end: usize, names: &mut [u16], sizes: &[u16]) -> Seen
         usize::from(n.place) + 1 + usize::from(n.b) % REMAINDER,
         Refusal::ZeroDivisor,
     );
-    let f = judge(t.kind == entries::NUMBER, n.place, lesser_of(t.fault, zero));
+    let f = judge(
+        t.kind == entries::NUMBER,
+        n.place,
+        Refusal::TypesMisfit,
+        lesser_of(t.fault, zero),
+    );
     Seen {
         kind: entries::NUMBER,
         fault: f,
@@ -238,7 +248,12 @@ fn joined(code: &[u16], end: usize, names: &mut [u16], sizes: &[u16]) -> Seen
     let u = term(code, end - node::SIZE, names, sizes);
     let t = term(code, u.start, names, sizes);
     let parts = lesser_of(t.fault, u.fault);
-    let f = judge(operator_fits(n.a, t.kind, u.kind), n.place, parts);
+    let f = judge(
+        operator_fits(n.a, t.kind, u.kind),
+        n.place,
+        Refusal::TypesMisfit,
+        parts,
+    );
     Seen {
         kind: t.kind,
         fault: f,
@@ -275,7 +290,7 @@ fn listed(code: &[u16], end: usize, names: &mut [u16], sizes: &[u16]) -> Seen
 {
     let n = node_at(code, end);
     let t = items(code, end - node::SIZE, names, sizes);
-    let f = judge(is_element(t.kind), n.place, t.fault);
+    let f = judge(is_element(t.kind), n.place, Refusal::TypesMisfit, t.fault);
     Seen {
         kind: set_of(t.kind),
         fault: f,
@@ -416,7 +431,12 @@ fn compared(code: &[u16], end: usize, names: &mut [u16], sizes: &[u16]) -> Seen
     let u = term(code, end - node::SIZE, names, sizes);
     let t = term(code, u.start, names, sizes);
     let parts = lesser_of(t.fault, u.fault);
-    let f = judge(comparison_fits(n.a, t.kind, u.kind), n.place, parts);
+    let f = judge(
+        comparison_fits(n.a, t.kind, u.kind),
+        n.place,
+        Refusal::TypesMisfit,
+        parts,
+    );
     Seen {
         kind: entries::NONE,
         fault: f,
@@ -434,7 +454,12 @@ fn member(code: &[u16], end: usize, names: &mut [u16], sizes: &[u16]) -> Seen
     let u = term(code, end - node::SIZE, names, sizes);
     let t = term(code, u.start, names, sizes);
     let parts = lesser_of(t.fault, u.fault);
-    let f = judge(member_fits(t.kind, u.kind), n.place, parts);
+    let f = judge(
+        member_fits(t.kind, u.kind),
+        n.place,
+        Refusal::TypesMisfit,
+        parts,
+    );
     Seen {
         kind: entries::NONE,
         fault: f,
@@ -452,7 +477,12 @@ fn within(code: &[u16], end: usize, names: &mut [u16], sizes: &[u16]) -> Seen
     let d = domain(code, end - node::SIZE, names);
     let t = term(code, d.start, names, sizes);
     let parts = lesser_of(t.fault, d.fault);
-    let f = judge(t.kind == entries::NUMBER, n.place, parts);
+    let f = judge(
+        t.kind == entries::NUMBER,
+        n.place,
+        Refusal::TypesMisfit,
+        parts,
+    );
     Seen {
         kind: entries::NONE,
         fault: f,
@@ -471,7 +501,12 @@ fn related(code: &[u16], end: usize, names: &mut [u16], sizes: &[u16]) -> Seen
     let u = term(code, v.start, names, sizes);
     let t = term(code, u.start, names, sizes);
     let parts = lesser_of(lesser_of(t.fault, u.fault), v.fault);
-    let f = judge(related_fits(t.kind, u.kind, v.kind), n.place, parts);
+    let f = judge(
+        related_fits(t.kind, u.kind, v.kind),
+        n.place,
+        Refusal::TypesMisfit,
+        parts,
+    );
     Seen {
         kind: entries::NONE,
         fault: f,

@@ -1,21 +1,17 @@
--- Magnitudes of sums, differences, products, quotients and remainders, and of the numbers of a range. Assumes nothing.
-use mathlib.Core.Path.{◌≡◌, refl, sym, subst}
+-- Magnitudes of sums, differences and remainders, and of the numbers of a range. Assumes nothing.
+use mathlib.Core.Path.{◌≡◌, refl, subst}
 use mathlib.Core.Bool.{Bool, true, false, cond, false≢true}
-use Prim.Native.Nat.{ℕ, zero, suc, ◌+◌, ◌-◌, ◌*◌, ◌/◌, ◌<◌, ◌≤◌, max}
-use native.Mathlib.Nat.{suc-mul, div-le_self, div-lt_iff_lt-mul, le-mul_of_pos_right, le_of_suc-le-suc, zero-lt-suc}
+use Prim.Native.Nat.{ℕ, zero, suc, ◌+◌, ◌-◌, ◌<◌, ◌≤◌, max}
 use native.Mathlib.Omega.{arith}
 use lib.Dec.{ltb}
-use lib.IntN.{ℤ, pos, negsuc, neg_ℤ, nat_abs, sub_ℕ, ◌+ℤ◌, ◌-ℤ◌, ◌*ℤ◌}
+use lib.IntN.{ℤ, pos, negsuc, neg_ℤ, nat_abs, sub_ℕ, ◌+ℤ◌, ◌-ℤ◌}
 use lib.Signed.{le_z, lt_z}
 use borrow.Author.Tests.{ltb-true, ltb-false, leb-true, lt-ltb}
-use Rattle.sets.specs.Division.{floor_div, floor_mod}
+use Rattle.sets.specs.Division.{floor_mod}
 use Rattle.sets.proofs.Divides.{divides}
+use Rattle.sets.proofs.Floor.{neg_abs}
 use Rattle.meaning.proofs.LexicalBooleanTests.{and_left}
 use Rattle.meaning.specs.StaticRulesNames.{range_fits}
-
-neg_abs : (n : ℕ) → nat_abs (neg_ℤ (pos n)) ≡ n
-neg_abs zero = refl
-neg_abs (suc n) = refl
 
 pub negate_abs : (z : ℤ) → nat_abs (neg_ℤ z) ≡ nat_abs z
 negate_abs (pos n) = neg_abs n
@@ -40,24 +36,6 @@ plus_abs (negsuc a) (negsuc b) = omega arith
 
 pub minus-abs : (x y : ℤ) → nat_abs (x -ℤ y) ≤ nat_abs x + nat_abs y
 minus-abs x y = subst (λ (n : ℕ). nat_abs (x -ℤ y) ≤ nat_abs x + n) (negate_abs y) (plus_abs x (neg_ℤ y))
-
-pub times_abs : (x y : ℤ) → nat_abs (x *ℤ y) ≡ nat_abs x * nat_abs y
-times_abs (pos a) (pos b) = refl
-times_abs (pos a) (negsuc b) = neg_abs (a * suc b)
-times_abs (negsuc a) (pos b) = neg_abs (suc a * b)
-times_abs (negsuc a) (negsuc b) = refl
-
-up_small : (a b : ℕ) → (a + b) / suc b ≤ a
-up_small a b =
-    let h : a ≤ a * suc b = le-mul_of_pos_right a (zero-lt-suc b) in
-    le_of_suc-le-suc ((div-lt_iff_lt-mul (zero-lt-suc b)).1 (omega (arith, suc-mul a (suc b))))
-
-pub quotient_abs : (x y : ℤ) → nat_abs (floor_div x y) ≤ nat_abs x
-unfolding floor_div
-quotient_abs (pos a) (pos b) = div-le_self a b
-quotient_abs (pos a) (negsuc b) = subst (λ (n : ℕ). n ≤ a) (sym (neg_abs ((a + b) / suc b))) (up_small a b)
-quotient_abs (negsuc a) (pos b) = omega (arith, div-le_self a b)
-quotient_abs (negsuc a) (negsuc b) = div-le_self (suc a) (suc b)
 
 rest-above : (r : ℤ) (b : ℕ) → le_z (pos 0) r ≡ true → lt_z r (pos b) ≡ true → nat_abs r ≤ b
 rest-above (pos n) b h l = omega (arith, ltb-true n b l)

@@ -30,7 +30,8 @@ use Rattle.value_types.proofs.TypeTests.{sort-has, set-no-number, items_of, pair
 use Rattle.value_types.proofs.SetBounds.{size_few}
 use Rattle.value_types.proofs.Reach.{among-upward, Looked, nowhere, reached, looked}
 use Rattle.value_types.proofs.Binders.{end-abs}
-use Rattle.value_types.proofs.Magnitudes.{negate_abs, plus_abs, minus-abs, times_abs, quotient_abs, remainder_abs, range-abs}
+use Rattle.sets.proofs.Floor.{floor_abs, times_abs}
+use Rattle.value_types.proofs.Magnitudes.{negate_abs, plus_abs, minus-abs, remainder_abs, range-abs}
 use Rattle.value_types.proofs.TypedTerms.{type_found, value_found, term-typed}
 
 -- ---- operations
@@ -57,7 +58,7 @@ operator-sized inter t u v w a b e h k l = absurd (set-no-number t (and_left (is
 pub division-sized : (o : Division) (v : Value) (e : End) (a : ℕ) → 0 < e.magnitude → nat_abs v.code ≤ a
     → nat_abs (division_value o v (end_value e)).code ≤ division_size o a e
 unfolding division_value
-division-sized quotient v e a h k = omega (arith, quotient_abs v.code (end_value e))
+division-sized quotient v e a h k = omega (arith, floor_abs v.code (end_value e))
 division-sized remainder v e a h k = omega (arith, end-abs e, remainder_abs v.code (end_value e) (omega (arith, end-abs e)))
 
 -- ---- names

@@ -10,7 +10,7 @@ use Rattle.held_checks.proofs.LayoutLaws.{laid-anew}
 use Rattle.held_checks.proofs.put_held.Goals as goal
 
 pub put_number-requires : goal.put_number-requires
-put_number-requires c = omega (arith, (length-set c.fill_zero.new.held 0 c.byte.result ∙ c.fill_zero.auto.held))
+put_number-requires c = (omega (arith, (length-set c.fill_zero.new.held 0 c.byte.result ∙ c.fill_zero.auto.held)), omega arith)
 
 pub put_text-requires : goal.put_text-requires
 put_text-requires c = omega (arith, c.put_number.auto.held, (length-set c.fill_zero.new.held 0 c.byte.result ∙ c.fill_zero.auto.held))

@@ -10,7 +10,7 @@ use Rattle.held_checks.proofs.LayoutLaws.{turned}
 use Rattle.held_checks.proofs.put_turn.Goals as goal
 
 pub put_number-requires : goal.put_number-requires
-put_number-requires c = omega (arith, (length-set c.args.held.now 0 c.byte.result))
+put_number-requires c = (omega (arith, (length-set c.args.held.now 0 c.byte.result)), omega arith)
 
 pub returns : goal.returns
 returns c = turned c.args.held.now _ c.args.place (mark_byte c.args.mark) (c.put_number.ensures ∙ ap (λ (k : ℕ). patch 8 (little_endian 8 c.args.place) (set c.args.held.now 0 k)) c.byte.ensures)

@@ -1,8 +1,5 @@
 -- `idle_variables::idle_of` meets its contract: one variable more in front doubles what is there. Measure: the variables left. Assumes nothing.
-use Prim.Native.Nat.{ℕ, ◌+◌, ◌*◌}
-use mathlib.Core.Path.{sym, subst}
 use native.Mathlib.Omega.{arith}
-use Rattle.idle_variables.specs.IdlePromises.{MaskSays}
 use Rattle.idle_variables.proofs.IdleMasks.{no_mask, more-mask}
 use Rattle.idle_variables.proofs.+idle_of.Goals as goal
 
@@ -16,4 +13,4 @@ pub idle_searches-requires : goal.idle_searches-requires
 idle_searches-requires t c = record { slot_bound = omega (arith, c.requires.m_bound, c.if-m-eq0.false); plan_asked = c.requires.plan_asked }
 
 pub returns : goal.returns
-returns t c = subst (λ (k : ℕ). MaskSays c.args.s.now.table.now c.args.s.now.plan.now c.args.u c.args.first c.args.m (2 * c.idle_of-rest.result + k)) (sym c.from.ensures) (more-mask c.if-m-eq0.false c.idle_of-rest.ensures c.idle_searches.ensures)
+returns t c = more-mask c.if-m-eq0.false c.idle_of-rest.ensures c.idle_searches.ensures c.from.ensures

@@ -1,21 +1,19 @@
--- `idle_variables::idle_level` meets its contract: the tests before the present place are idle. Assumes nothing.
-use mathlib.Core.Bool.{false≢true}
-use mathlib.Core.Path.{◌∙◌}
-use borrow.Author.Tests.{not-false}
-use Rattle.idle_variables.proofs.IdleSearches.{no_test, one-test, level-says, mark-next}
+-- `idle_variables::idle_level` meets its contract: all tests of the level are idle. Assumes nothing.
+use lib.ListN.{get_or}
+use Prim.Native.Nat.{◌<◌}
+use mathlib.Core.Path.{refl, ◌∙◌}
+use Rattle.std.proofs.Common.{ℕ, ◌≡◌, rules, tests}
+use Rattle.std.proofs.lemmas.Iterator.{cases_from_all, YieldsList-from_range, serves_from_Range}
+use Rattle.idle_variables.specs.IdlePromises.{TestIdle}
+use Rattle.idle_variables.proofs.RangeWalks.{each-passes}
+use Rattle.idle_variables.proofs.IdleSearches.{test-passes, level-says, mark-next}
 use Rattle.idle_variables.proofs.idle_level.Goals as goal
 
-pub loop-k-init : goal.loop-k-init
-loop-k-init c = (no_test c.from-k.ensures, c.from-to.ensures ∙ mark-next c.args.s.now.plan.now c.args.u c.args.l)
-
-pub idle_test-requires : goal.idle_test-requires
-idle_test-requires c = c.requires.2
-
-pub returns-then-not-idle_test : goal.returns-then-not-idle_test
-returns-then-not-idle_test c = record { means = λ e. absurd (false≢true e) }
-
-pub loop-k-preserved : goal.loop-k-preserved
-loop-k-preserved c = (one-test c.loop-k.invariant.0 c.from-e.ensures c.idle_test.ensures (not-false _ c.if-not-idle_test.false-raw), c.loop-k.invariant.1)
+pub all-requires : goal.all-requires
+all-requires c = record { can = tt; finite = tt; callable = serves_from_Range (λ x q k. search (rules, tests)) (λ x low high. search (rules, c.requires.2)) }
 
 pub returns : goal.returns
-returns c = level-says c.loop-k.invariant.1 c.loop-k-test.false c.loop-k.invariant.0
+returns c = level-says c.from-from.ensures (c.from-to.ensures ∙ mark-next c.args.s.now.plan.now c.args.u c.args.l)
+    (each-passes c.from-from.result c.from-to.result _ (λ k. TestIdle c.args.s.now.table.now (get_or c.args.s.now.plan.now k 0) c.args.slot)
+    (cases_from_all _ _ _ (λ k. TestIdle c.args.s.now.table.now (get_or c.args.s.now.plan.now k 0) c.args.slot) (λ k. k ≡ k) c.all.ensures.ran (YieldsList-from_range c.from-from.result c.from-to.result _ refl refl)
+    (λ k q w. (search (rules, tests), search (rules, tests, test-passes c.args.s.now.table.now c.args.s.now.plan.now c.args.slot k))) (λ k q w. refl)))

@@ -1,22 +1,21 @@
--- `idle_variables::idle_search` meets its contract: the levels before l are idle. Assumes nothing.
-use mathlib.Core.Bool.{false≢true}
-use Prim.Native.Nat.{◌+◌}
+-- `idle_variables::idle_search` meets its contract: all levels are idle. Assumes nothing.
 use native.Mathlib.Omega.{arith}
-use borrow.Author.Tests.{not-false}
-use Rattle.idle_variables.proofs.IdleSearches.{no-level, one-level, search-says}
+use mathlib.Core.Path.{refl}
+use Rattle.std.proofs.Common.{ℕ, ◌≡◌, rules, tests}
+use Rattle.std.proofs.lemmas.Iterator.{cases_from_all, YieldsList-from_range, serves_from_Range}
+use Rattle.idle_variables.specs.IdlePromises.{LevelIdle}
+use Rattle.idle_variables.proofs.RangeWalks.{each-passes}
+use Rattle.idle_variables.proofs.IdleSearches.{level-passes, level_asked}
 use Rattle.idle_variables.proofs.idle_search.Goals as goal
 
-pub loop-l-init : goal.loop-l-init
-loop-l-init c = no-level
-
-pub idle_level-requires : goal.idle_level-requires
-idle_level-requires c = (c.requires.u_bound.0, c.loop-l-test.true, c.requires.u_bound.1, c.requires.plan_asked.marks c.args.u (c.loop-l.l + 1) c.requires.u_bound.0 (omega (arith, c.loop-l-test.true)))
-
-pub returns-then-not-idle_level : goal.returns-then-not-idle_level
-returns-then-not-idle_level c = record { means = λ e. absurd (false≢true e) }
-
-pub loop-l-preserved : goal.loop-l-preserved
-loop-l-preserved c = one-level c.loop-l.invariant c.idle_level.ensures (not-false _ c.if-not-idle_level.false-raw)
+pub all-requires : goal.all-requires
+all-requires c = record { can = tt; finite = tt; callable = serves_from_Range (λ x q k. search (rules, tests)) (λ x low high. search (rules, level_asked c.requires.u_bound c.requires.plan_asked x high)) }
 
 pub returns : goal.returns
-returns c = search-says c.loop-l-test.false c.loop-l.invariant
+returns c = record {
+  means = λ e. record {
+    each = λ m l. each-passes 0 12 _ (λ k. LevelIdle c.args.s.now.table.now c.args.s.now.plan.now c.args.u k c.args.slot)
+        (cases_from_all _ _ _ (λ k. LevelIdle c.args.s.now.table.now c.args.s.now.plan.now c.args.u k c.args.slot) (λ k. k ≡ k) c.all.ensures.ran (YieldsList-from_range 0 12 _ refl refl)
+        (λ k q w. (search (rules, tests), search (rules, tests, level-passes))) (λ k q w. refl)) e m (omega arith) l;
+  };
+}

@@ -1,21 +1,20 @@
--- `idle_variables::idle_searches` meets its contract: the searches from u on before v are idle. Assumes nothing.
-use mathlib.Core.Bool.{false≢true}
-use native.Mathlib.Omega.{arith}
-use borrow.Author.Tests.{not-false}
-use Rattle.idle_variables.proofs.IdleSearches.{no_search, one-search, searches-say}
+-- `idle_variables::idle_searches` meets its contract: all searches from u on are idle. Assumes nothing.
+use mathlib.Core.Path.{refl}
+use Rattle.std.proofs.Common.{ℕ, ◌≡◌, rules, tests}
+use Rattle.std.proofs.lemmas.Iterator.{cases_from_all, YieldsList-from_range, serves_from_Range}
+use Rattle.idle_variables.specs.IdlePromises.{SearchIdle}
+use Rattle.idle_variables.proofs.RangeWalks.{each-passes}
+use Rattle.idle_variables.proofs.IdleSearches.{search-passes}
 use Rattle.idle_variables.proofs.idle_searches.Goals as goal
 
-pub loop-v-init : goal.loop-v-init
-loop-v-init c = no_search
-
-pub idle_search-requires : goal.idle_search-requires
-idle_search-requires c = record { u_bound = (omega (arith, c.loop-v-test.true), c.requires.slot_bound); plan_asked = c.requires.plan_asked }
-
-pub returns-then-not-idle_search : goal.returns-then-not-idle_search
-returns-then-not-idle_search c = record { means = λ e. absurd (false≢true e) }
-
-pub loop-v-preserved : goal.loop-v-preserved
-loop-v-preserved c = one-search c.loop-v.invariant c.idle_search.ensures (not-false _ c.if-not-idle_search.false-raw)
+pub all-requires : goal.all-requires
+all-requires c = record { can = tt; finite = tt; callable = serves_from_Range (λ x q k. search (rules, tests)) (λ x low high. search (rules, high, c.requires.slot_bound, c.requires.plan_asked)) }
 
 pub returns : goal.returns
-returns c = searches-say (omega (arith, c.loop-v-test.false)) c.loop-v.invariant
+returns c = record {
+  means = λ e. record {
+    each = each-passes c.args.u 5 _ (λ k. SearchIdle c.args.s.now.table.now c.args.s.now.plan.now k c.args.slot)
+        (cases_from_all _ _ _ (λ k. SearchIdle c.args.s.now.table.now c.args.s.now.plan.now k c.args.slot) (λ k. k ≡ k) c.all.ensures.ran (YieldsList-from_range c.args.u 5 _ refl refl)
+        (λ k q w. (search (rules, tests), search (rules, tests, search-passes))) (λ k q w. refl)) e;
+  };
+}

@@ -10,82 +10,82 @@ use Rattle.lowering.proofs.TableWalkPreds.{pred-negation, pred-connected, pred-s
 use Rattle.lowering.proofs.+walk.Goals as goal
 
 pub walk::sides-returns : goal.walk::sides-returns
-walk::sides-returns t c = pred-sides c.args.code.now c.args.end c.args.slot c.requires.asked.inside c.requires.far c.args.names.now c.args.places.now c.args.sizes.now c.args.out.now c.requires.asked.fits _ _ _ _ _ _ _ c.term-u.result c.term-t.result _ _ c.look-a.result c.args.shape c.requires.shape c.term-u.ensures c.term-t.ensures refl c.look-a.ensures c.set_node.ensures refl refl
+walk::sides-returns t c = pred-sides c.args.r.now.code.now c.args.end c.args.slot c.requires.asked.inside c.requires.far c.args.names.now c.args.places.now c.args.r.now.sizes.now c.args.out.now c.requires.asked.fits _ _ _ _ _ _ _ c.term-u.result c.term-t.result _ _ c.look-a.result c.args.shape c.requires.shape c.term-u.ensures c.term-t.ensures refl c.look-a.ensures c.set_node.ensures refl refl
 
 pub walk::connected-returns : goal.walk::connected-returns
-walk::connected-returns t c = pred-connected c.args.code.now c.args.end c.args.slot c.requires.inside c.requires.far c.args.names.now c.args.places.now c.args.sizes.now c.args.out.now c.requires.fits _ _ _ _ _ _ _ c.pred-q.result c.pred-p.result _ _ c.look-a.result c.requires.shape c.pred-q.ensures c.pred-p.ensures refl c.look-a.ensures c.set_node.ensures refl refl
+walk::connected-returns t c = pred-connected c.args.r.now.code.now c.args.end c.args.slot c.requires.inside c.requires.far c.args.names.now c.args.places.now c.args.r.now.sizes.now c.args.out.now c.requires.fits _ _ _ _ _ _ _ c.pred-q.result c.pred-p.result _ _ c.look-a.result c.requires.shape c.pred-q.ensures c.pred-p.ensures refl c.look-a.ensures c.set_node.ensures refl refl
 
 pub walk::divided-returns : goal.walk::divided-returns
-walk::divided-returns t c = term-divided c.args.code.now c.args.end c.args.slot c.requires.inside c.requires.far c.args.names.now c.args.places.now c.args.sizes.now c.args.out.now c.requires.fits _ _ _ _ c.term-t.result _ c.look-a.result c.look-b.result c.requires.shape c.term-t.ensures c.look-a.ensures c.look-b.ensures c.set_node.ensures refl refl
+walk::divided-returns t c = term-divided c.args.r.now.code.now c.args.end c.args.slot c.requires.inside c.requires.far c.args.names.now c.args.places.now c.args.r.now.sizes.now c.args.out.now c.requires.fits _ _ _ _ c.term-t.result _ c.look-a.result c.look-b.result c.requires.shape c.term-t.ensures c.look-a.ensures c.look-b.ensures c.set_node.ensures refl refl
 
 pub braces::items-returns-then-end-lt-SIZE : goal.braces::items-returns-then-end-lt-SIZE
-braces::items-returns-then-end-lt-SIZE t c = items-short c.args.code.now c.args.end c.args.slot c.requires.inside c.args.names.now c.args.places.now c.args.sizes.now c.args.out.now _ c.nothing.ensures c.if-end-lt-SIZE.true
+braces::items-returns-then-end-lt-SIZE t c = items-short c.args.r.now.code.now c.args.end c.args.slot c.requires.inside c.args.names.now c.args.places.now c.args.r.now.sizes.now c.args.out.now _ c.nothing.ensures c.if-end-lt-SIZE.true
 
-pub braces::items-returns-then-code-at-eq-LAST : goal.braces::items-returns-then-code-at-eq-LAST
-braces::items-returns-then-code-at-eq-LAST t c = items-only c.args.code.now c.args.end c.args.slot c.requires.inside c.if-end-lt-SIZE.false c.args.names.now c.args.places.now c.args.sizes.now c.args.out.now c.requires.fits _ _ _ _ c.term-t.result _ c.if-code-at-eq-LAST.true c.term-t.ensures c.set_node.ensures refl refl
+pub braces::items-returns-then-r-at-eq-LAST : goal.braces::items-returns-then-r-at-eq-LAST
+braces::items-returns-then-r-at-eq-LAST t c = items-only c.args.r.now.code.now c.args.end c.args.slot c.requires.inside c.if-end-lt-SIZE.false c.args.names.now c.args.places.now c.args.r.now.sizes.now c.args.out.now c.requires.fits _ _ _ _ c.term-t.result _ c.if-r-at-eq-LAST.true c.term-t.ensures c.set_node.ensures refl refl
 
 pub braces::items-returns : goal.braces::items-returns
-braces::items-returns t c = items-also c.args.code.now c.args.end c.args.slot c.requires.inside c.if-end-lt-SIZE.false c.args.names.now c.args.places.now c.args.sizes.now c.args.out.now c.requires.fits _ _ _ _ _ _ _ c.items-l.result c.term-t-2.result _ _ c.if-code-at-eq-LAST.false c.items-l.ensures c.term-t-2.ensures refl c.set_node-2.ensures c.shared_kind.ensures refl
+braces::items-returns t c = items-also c.args.r.now.code.now c.args.end c.args.slot c.requires.inside c.if-end-lt-SIZE.false c.args.names.now c.args.places.now c.args.r.now.sizes.now c.args.out.now c.requires.fits _ _ _ _ _ _ _ c.items-l.result c.term-t-2.result _ _ c.if-r-at-eq-LAST.false c.items-l.ensures c.term-t-2.ensures refl c.set_node-2.ensures c.shared_kind.ensures refl
 
 pub walk::joined-returns : goal.walk::joined-returns
-walk::joined-returns t c = term-binary c.args.code.now c.args.end c.args.slot c.requires.inside c.requires.far c.args.names.now c.args.places.now c.args.sizes.now c.args.out.now c.requires.fits _ _ _ _ _ _ _ c.term-u.result c.term-t.result _ _ c.look-a.result c.requires.shape c.term-u.ensures c.term-t.ensures refl c.look-a.ensures c.set_node.ensures refl refl
+walk::joined-returns t c = term-binary c.args.r.now.code.now c.args.end c.args.slot c.requires.inside c.requires.far c.args.names.now c.args.places.now c.args.r.now.sizes.now c.args.out.now c.requires.fits _ _ _ _ _ _ _ c.term-u.result c.term-t.result _ _ c.look-a.result c.requires.shape c.term-u.ensures c.term-t.ensures refl c.look-a.ensures c.set_node.ensures refl refl
 
 pub braces::last_pair-returns : goal.braces::last_pair-returns
-braces::last_pair-returns t c = pairs-only c.args.code.now c.args.end c.args.slot c.requires.inside c.requires.far c.args.names.now c.args.places.now c.args.sizes.now c.args.out.now c.requires.fits _ _ _ _ _ _ _ c.term-u.result c.term-t.result _ _ c.element_size.result c.requires.shape c.term-u.ensures c.term-t.ensures refl c.element_size.ensures c.set_node.ensures c.pair_of.ensures refl
+braces::last_pair-returns t c = pairs-only c.args.r.now.code.now c.args.end c.args.slot c.requires.inside c.requires.far c.args.names.now c.args.places.now c.args.r.now.sizes.now c.args.out.now c.requires.fits _ _ _ _ _ _ _ c.term-u.result c.term-t.result _ _ c.element_size.result c.requires.shape c.term-u.ensures c.term-t.ensures refl c.element_size.ensures c.set_node.ensures c.pair_of.ensures refl
 
 pub braces::listed-returns : goal.braces::listed-returns
-braces::listed-returns t c = term-listed c.args.code.now c.args.end c.args.slot c.requires.inside c.requires.far c.args.names.now c.args.places.now c.args.sizes.now c.args.out.now c.requires.fits _ _ _ _ c.items-t.result _ c.requires.shape c.items-t.ensures c.set_node.ensures c.set_of.ensures refl
+braces::listed-returns t c = term-listed c.args.r.now.code.now c.args.end c.args.slot c.requires.inside c.requires.far c.args.names.now c.args.places.now c.args.r.now.sizes.now c.args.out.now c.requires.fits _ _ _ _ c.items-t.result _ c.requires.shape c.items-t.ensures c.set_node.ensures c.set_of.ensures refl
 
 pub walk::negated-returns : goal.walk::negated-returns
-walk::negated-returns t c = pred-negation c.args.code.now c.args.end c.args.slot c.requires.inside c.requires.far c.args.names.now c.args.places.now c.args.sizes.now c.args.out.now c.requires.fits _ _ _ _ c.pred-p.result _ c.requires.shape c.pred-p.ensures c.set_node.ensures refl refl
+walk::negated-returns t c = pred-negation c.args.r.now.code.now c.args.end c.args.slot c.requires.inside c.requires.far c.args.names.now c.args.places.now c.args.r.now.sizes.now c.args.out.now c.requires.fits _ _ _ _ c.pred-p.result _ c.requires.shape c.pred-p.ensures c.set_node.ensures refl refl
 
 pub braces::next_pair-returns : goal.braces::next_pair-returns
-braces::next_pair-returns t c = pairs-also c.args.code.now c.args.end c.args.slot c.requires.0.inside c.requires.1 c.args.names.now c.args.places.now c.args.sizes.now c.args.out.now c.requires.0.fits _ _ _ _ _ _ _ _ _ _ c.pairs-l.result c.term-u.result c.term-t.result _ c.pair_of-k.result _ c.element_size-n.result _ c.requires.2 c.pairs-l.ensures c.term-u.ensures c.term-t.ensures refl c.element_size-n.ensures refl c.pair_of-k.ensures c.set_node.ensures c.shared_kind.ensures refl
+braces::next_pair-returns t c = pairs-also c.args.r.now.code.now c.args.end c.args.slot c.requires.0.inside c.requires.1 c.args.names.now c.args.places.now c.args.r.now.sizes.now c.args.out.now c.requires.0.fits _ _ _ _ _ _ _ _ _ _ c.pairs-l.result c.term-u.result c.term-t.result _ c.pair_of-k.result _ c.element_size-n.result _ c.requires.2 c.pairs-l.ensures c.term-u.ensures c.term-t.ensures refl c.element_size-n.ensures refl c.pair_of-k.ensures c.set_node.ensures c.shared_kind.ensures refl
 
 pub braces::paired-returns : goal.braces::paired-returns
-braces::paired-returns t c = term-pairs c.args.code.now c.args.end c.args.slot c.requires.inside c.requires.far c.args.names.now c.args.places.now c.args.sizes.now c.args.out.now c.requires.fits _ _ _ _ c.pairs-t.result _ c.requires.shape c.pairs-t.ensures c.set_node.ensures refl refl
+braces::paired-returns t c = term-pairs c.args.r.now.code.now c.args.end c.args.slot c.requires.inside c.requires.far c.args.names.now c.args.places.now c.args.r.now.sizes.now c.args.out.now c.requires.fits _ _ _ _ c.pairs-t.result _ c.requires.shape c.pairs-t.ensures c.set_node.ensures refl refl
 
 pub braces::pairs-returns-then-end-lt-SIZE : goal.braces::pairs-returns-then-end-lt-SIZE
-braces::pairs-returns-then-end-lt-SIZE t c = pairs-short c.args.code.now c.args.end c.args.slot c.requires.inside c.args.names.now c.args.places.now c.args.sizes.now c.args.out.now _ c.nothing.ensures c.if-end-lt-SIZE.true
+braces::pairs-returns-then-end-lt-SIZE t c = pairs-short c.args.r.now.code.now c.args.end c.args.slot c.requires.inside c.args.names.now c.args.places.now c.args.r.now.sizes.now c.args.out.now _ c.nothing.ensures c.if-end-lt-SIZE.true
 
 pub walk::pred-returns-then-end-lt-SIZE : goal.walk::pred-returns-then-end-lt-SIZE
-walk::pred-returns-then-end-lt-SIZE t c = pred-short c.args.code.now c.args.end c.args.slot c.requires.inside c.args.names.now c.args.places.now c.args.sizes.now c.args.out.now _ c.nothing.ensures c.if-end-lt-SIZE.true
+walk::pred-returns-then-end-lt-SIZE t c = pred-short c.args.r.now.code.now c.args.end c.args.slot c.requires.inside c.args.names.now c.args.places.now c.args.r.now.sizes.now c.args.out.now _ c.nothing.ensures c.if-end-lt-SIZE.true
 
 pub walk::pred-returns-in-1 : goal.walk::pred-returns-in-1
-walk::pred-returns-in-1 t c = c.constant.ensures c.args.slot c.args.names.now c.args.places.now c.args.sizes.now
+walk::pred-returns-in-1 t c = c.constant.ensures c.args.slot c.args.names.now c.args.places.now c.args.r.now.sizes.now
 
 pub walk::pred-returns-in_default : goal.walk::pred-returns-in_default
-walk::pred-returns-in_default t c = pred_other c.args.code.now c.args.end c.args.slot c.requires.inside c.args.names.now c.args.places.now c.args.sizes.now c.args.out.now _ c.nothing-in_default.ensures (eight (get_or c.args.code.now (c.args.end - 4 + 3) 0) c.in_default.in_default-own.rest.0.0.0.0.0.0.0.1 c.in_default.in_default-own.rest.0.0.0.0.0.0.1 c.in_default.in_default-own.rest.0.0.0.0.0.1 c.in_default.in_default-own.rest.0.0.0.0.1 c.in_default.in_default-own.rest.0.0.0.1 c.in_default.in_default-own.rest.0.0.1 c.in_default.in_default-own.rest.0.1 c.in_default.in_default-own.rest.1)
+walk::pred-returns-in_default t c = pred_other c.args.r.now.code.now c.args.end c.args.slot c.requires.inside c.args.names.now c.args.places.now c.args.r.now.sizes.now c.args.out.now _ c.nothing-in_default.ensures (eight (get_or c.args.r.now.code.now (c.args.end - 4 + 3) 0) c.in_default.in_default-own.rest.0.0.0.0.0.0.0.1 c.in_default.in_default-own.rest.0.0.0.0.0.0.1 c.in_default.in_default-own.rest.0.0.0.0.0.1 c.in_default.in_default-own.rest.0.0.0.0.1 c.in_default.in_default-own.rest.0.0.0.1 c.in_default.in_default-own.rest.0.0.1 c.in_default.in_default-own.rest.0.1 c.in_default.in_default-own.rest.1)
 
 pub walk::prefixed-returns : goal.walk::prefixed-returns
-walk::prefixed-returns t c = term-prefix c.args.code.now c.args.end c.args.slot c.requires.inside c.requires.far c.args.names.now c.args.places.now c.args.sizes.now c.args.out.now c.requires.fits _ _ _ _ c.term-t.result _ c.look-a.result c.first_size-f.result c.second_size-g.result c.requires.shape c.term-t.ensures c.look-a.ensures c.first_size-f.ensures c.second_size-g.ensures c.set_node.ensures c.prefix_type.ensures refl
+walk::prefixed-returns t c = term-prefix c.args.r.now.code.now c.args.end c.args.slot c.requires.inside c.requires.far c.args.names.now c.args.places.now c.args.r.now.sizes.now c.args.out.now c.requires.fits _ _ _ _ c.term-t.result _ c.look-a.result c.first_size-f.result c.second_size-g.result c.requires.shape c.term-t.ensures c.look-a.ensures c.first_size-f.ensures c.second_size-g.ensures c.set_node.ensures c.prefix_type.ensures refl
 
 pub walk::quantified-returns : goal.walk::quantified-returns
-walk::quantified-returns t c = pred-quantified c.args.code.now c.args.end c.args.slot c.requires.inside c.requires.far c.args.names.now c.args.places.now c.args.sizes.now c.args.out.now c.requires.fits _ _ _ _ _ _ _ _ _ c.domain-d.result c.pred-p.result _ c.index-x.result c.look-old.result c.look-was.result c.next_slot.result c.look-b.result c.requires.shape c.domain-d.ensures c.pred-p.ensures c.next_slot.ensures c.put.ensures c.put-3.ensures c.put-2.ensures c.put-4.ensures (c.index-x.ensures.0 ∙ c.look.ensures) c.look-old.ensures c.look-was.ensures c.look-b.ensures c.set_node.ensures refl refl
+walk::quantified-returns t c = pred-quantified c.args.r.now.code.now c.args.end c.args.slot c.requires.inside c.requires.far c.args.names.now c.args.places.now c.args.r.now.sizes.now c.args.out.now c.requires.fits _ _ _ _ _ _ _ _ _ c.domain-d.result c.pred-p.result _ c.index-x.result c.look-old.result c.look-was.result c.next_slot.result c.look-b.result c.requires.shape c.domain-d.ensures c.pred-p.ensures c.next_slot.ensures c.put.ensures c.put-3.ensures c.put-2.ensures c.put-4.ensures (c.index-x.ensures.0 ∙ c.look.ensures) c.look-old.ensures c.look-was.ensures c.look-b.ensures c.set_node.ensures refl refl
 
 pub walk::related-returns : goal.walk::related-returns
-walk::related-returns t c = pred-related c.args.code.now c.args.end c.args.slot c.requires.inside c.requires.far c.args.names.now c.args.places.now c.args.sizes.now c.args.out.now c.requires.fits _ _ _ _ _ _ _ _ _ _ c.term-v.result c.term-u.result c.term-t.result _ c.look-a.result c.related_shape.result _ c.element_size-n.result _ c.requires.shape c.term-v.ensures c.term-u.ensures c.term-t.ensures c.look-a.ensures c.related_shape.ensures refl c.element_size-n.ensures refl c.set_node.ensures refl refl
+walk::related-returns t c = pred-related c.args.r.now.code.now c.args.end c.args.slot c.requires.inside c.requires.far c.args.names.now c.args.places.now c.args.r.now.sizes.now c.args.out.now c.requires.fits _ _ _ _ _ _ _ _ _ _ c.term-v.result c.term-u.result c.term-t.result _ c.look-a.result c.related_shape.result _ c.element_size-n.result _ c.requires.shape c.term-v.ensures c.term-u.ensures c.term-t.ensures c.look-a.ensures c.related_shape.ensures refl c.element_size-n.ensures refl c.set_node.ensures refl refl
 
 pub walk::such-returns : goal.walk::such-returns
-walk::such-returns t c = term-such c.args.code.now c.args.end c.args.slot c.requires.inside c.requires.far c.args.names.now c.args.places.now c.args.sizes.now c.args.out.now c.requires.fits _ _ _ _ _ _ _ _ _ c.domain-d.result c.pred-p.result _ c.index-x.result c.look-old.result c.look-was.result c.next_slot.result c.requires.shape c.domain-d.ensures c.pred-p.ensures c.next_slot.ensures c.put.ensures c.put-3.ensures c.put-2.ensures c.put-4.ensures (c.index-x.ensures.0 ∙ c.look.ensures) c.look-old.ensures c.look-was.ensures c.set_node.ensures c.set_of.ensures refl
+walk::such-returns t c = term-such c.args.r.now.code.now c.args.end c.args.slot c.requires.inside c.requires.far c.args.names.now c.args.places.now c.args.r.now.sizes.now c.args.out.now c.requires.fits _ _ _ _ _ _ _ _ _ c.domain-d.result c.pred-p.result _ c.index-x.result c.look-old.result c.look-was.result c.next_slot.result c.requires.shape c.domain-d.ensures c.pred-p.ensures c.next_slot.ensures c.put.ensures c.put-3.ensures c.put-2.ensures c.put-4.ensures (c.index-x.ensures.0 ∙ c.look.ensures) c.look-old.ensures c.look-was.ensures c.set_node.ensures c.set_of.ensures refl
 
 pub walk::term-returns-then-end-lt-SIZE : goal.walk::term-returns-then-end-lt-SIZE
-walk::term-returns-then-end-lt-SIZE t c = term-short c.args.code.now c.args.end c.args.slot c.requires.inside c.args.names.now c.args.places.now c.args.sizes.now c.args.out.now _ c.nothing.ensures c.if-end-lt-SIZE.true
+walk::term-returns-then-end-lt-SIZE t c = term-short c.args.r.now.code.now c.args.end c.args.slot c.requires.inside c.args.names.now c.args.places.now c.args.r.now.sizes.now c.args.out.now _ c.nothing.ensures c.if-end-lt-SIZE.true
 
 pub walk::term-returns-in-1 : goal.walk::term-returns-in-1
-walk::term-returns-in-1 t c = c.number.ensures c.args.slot c.args.names.now c.args.places.now c.args.sizes.now
+walk::term-returns-in-1 t c = c.number.ensures c.args.slot c.args.names.now c.args.places.now c.args.r.now.sizes.now
 
 pub walk::term-returns-in-2 : goal.walk::term-returns-in-2
-walk::term-returns-in-2 t c = c.named.ensures c.args.slot c.args.sizes.now
+walk::term-returns-in-2 t c = c.named.ensures c.args.slot c.args.r.now.sizes.now
 
 pub walk::term-returns-in-9 : goal.walk::term-returns-in-9
-walk::term-returns-in-9 t c = c.empty_set.ensures c.args.slot c.args.places.now c.args.sizes.now
+walk::term-returns-in-9 t c = c.empty_set.ensures c.args.slot c.args.places.now c.args.r.now.sizes.now
 
 pub walk::term-returns-in-10 : goal.walk::term-returns-in-10
-walk::term-returns-in-10 t c = c.empty_pairs.ensures c.args.slot c.args.places.now c.args.sizes.now
+walk::term-returns-in-10 t c = c.empty_pairs.ensures c.args.slot c.args.places.now c.args.r.now.sizes.now
 
 pub walk::term-returns-in_default : goal.walk::term-returns-in_default
-walk::term-returns-in_default t c = term-other c.args.code.now c.args.end c.args.slot c.requires.inside c.args.names.now c.args.places.now c.args.sizes.now c.args.out.now _ c.nothing-in_default.ensures (ten (get_or c.args.code.now (c.args.end - 4 + 3) 0) (eight (get_or c.args.code.now (c.args.end - 4 + 3) 0) c.in_default.in_default-own.rest.0.0.0.0.0.0.0.0.0.1 c.in_default.in_default-own.rest.0.0.0.0.0.0.0.0.1 c.in_default.in_default-own.rest.0.0.0.0.0.0.0.1 c.in_default.in_default-own.rest.0.0.0.0.0.0.1 c.in_default.in_default-own.rest.0.0.0.0.0.1 c.in_default.in_default-own.rest.0.0.0.0.1 c.in_default.in_default-own.rest.0.0.0.1 c.in_default.in_default-own.rest.0.0.1) c.in_default.in_default-own.rest.0.1 c.in_default.in_default-own.rest.1)
+walk::term-returns-in_default t c = term-other c.args.r.now.code.now c.args.end c.args.slot c.requires.inside c.args.names.now c.args.places.now c.args.r.now.sizes.now c.args.out.now _ c.nothing-in_default.ensures (ten (get_or c.args.r.now.code.now (c.args.end - 4 + 3) 0) (eight (get_or c.args.r.now.code.now (c.args.end - 4 + 3) 0) c.in_default.in_default-own.rest.0.0.0.0.0.0.0.0.0.1 c.in_default.in_default-own.rest.0.0.0.0.0.0.0.0.1 c.in_default.in_default-own.rest.0.0.0.0.0.0.0.1 c.in_default.in_default-own.rest.0.0.0.0.0.0.1 c.in_default.in_default-own.rest.0.0.0.0.0.1 c.in_default.in_default-own.rest.0.0.0.0.1 c.in_default.in_default-own.rest.0.0.0.1 c.in_default.in_default-own.rest.0.0.1) c.in_default.in_default-own.rest.0.1 c.in_default.in_default-own.rest.1)
 
 pub walk::within-returns : goal.walk::within-returns
-walk::within-returns t c = pred-within c.args.code.now c.args.end c.args.slot c.requires.inside c.requires.far c.args.names.now c.args.places.now c.args.sizes.now c.args.out.now c.requires.fits _ _ _ _ _ c.domain-d.result c.term-t.result _ c.look-a.result c.requires.shape c.domain-d.ensures c.term-t.ensures c.look-a.ensures c.set_node.ensures refl refl
+walk::within-returns t c = pred-within c.args.r.now.code.now c.args.end c.args.slot c.requires.inside c.requires.far c.args.names.now c.args.places.now c.args.r.now.sizes.now c.args.out.now c.requires.fits _ _ _ _ _ c.domain-d.result c.term-t.result _ c.look-a.result c.requires.shape c.domain-d.ensures c.term-t.ensures c.look-a.ensures c.set_node.ensures refl refl

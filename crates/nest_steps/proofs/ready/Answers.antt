@@ -2,7 +2,8 @@
 use Prim.Native.Nat.{ℕ, ◌+◌, ◌-◌, ◌*◌}
 use mathlib.Core.Path.{sym, subst}
 use native.Mathlib.Omega.{arith}
-use Rattle.nest_steps.proofs.ReadyInputs.{Readying, ready-start, ready-asked, ready-next, ready-small, ready-done, byte_low}
+use Rattle.sets.proofs.MaskBits.{byte_low}
+use Rattle.nest_steps.proofs.ReadyInputs.{Readying, ready-start, ready-asked, ready-next, ready-small, ready-done}
 use Rattle.nest_steps.proofs.ready.Goals as goal
 
 pub loop-i-init : goal.loop-i-init

@@ -9,7 +9,7 @@ use Rattle.lexical.specs.Kinds.{code_of}
 use Rattle.form.specs.Written.{opens, binds}
 use Rattle.form.specs.Machine.{exact, a_name, an_empty_rest, an_end, a_domain, a_term, an_operand, a_term_rest, a_rel, a_mem, a_right, a_brace, a_named, a_first, a_list, a_pairs, a_unary, a_paren, a_pred_rest, a_declared}
 use Rattle.form_nodes.specs.FormPromises.{Ranged, start_as, bit, start_class, relation_class}
-use Rattle.form_nodes.proofs.Classes.{named, no-class, some-class, class-code}
+use Rattle.form_nodes.proofs.Classes.{begun, unbegun, named, no-class, some-class, class-code}
 use Rattle.declarations.proofs.ListNodes.{more-none, more-then, more-made}
 use Rattle.expressions.proofs.Chains.{more-known, chain}
 use Rattle.form.specs.Computed.{compute_form}
@@ -150,82 +150,82 @@ unfolding compute_form
 member-returns-in_err-set t c = rw (exits c.from_residual-in_err-set.result c.from_residual-in_err-set.ensures.1) ((let room = c.requires.0 in right-term (subst (λ y. Ranged c.args.y.now.kinds.now (c.args.at + 1) y) c.if-is_range.false c.is_range.ensures) (fails (known c.in_err-set.was c.term.ensures.0)), tt))
 
 pub operand-leaf-m-requires : goal.operand-leaf-m-requires
-operand-leaf-m-requires t c = let room = c.requires.0 in let h = known-code c.kind_at-k.result c.in-Leaf.is c.start_of-start.ensures in let k = c.kind_at-k.ensures.is in search rules
+operand-leaf-m-requires t c = let room = c.requires.0 in let h = known-code c.kind_at-k.result c.in-Leaf.is (begun c.in-Some.is c.start_of.ensures) in let k = c.kind_at-k.ensures.is in search rules
 
 pub operand-range_end-requires : goal.operand-range_end-requires
-operand-range_end-requires t c = let room = c.requires.0 in let h = known-code c.kind_at-k.result c.in-Prefix.is c.start_of-start.ensures in let k = c.kind_at-k.ensures.is in search rules
+operand-range_end-requires t c = let room = c.requires.0 in let h = known-code c.kind_at-k.result c.in-Prefix.is (begun c.in-Some.is c.start_of.ensures) in let k = c.kind_at-k.ensures.is in search rules
 
 pub operand-leaf-m-requires-then-range_end : goal.operand-leaf-m-requires-then-range_end
-operand-leaf-m-requires-then-range_end t c = let room = c.requires.0 in let h = known-code c.kind_at-k.result c.in-Prefix.is c.start_of-start.ensures in let k = c.kind_at-k.ensures.is in search rules
+operand-leaf-m-requires-then-range_end t c = let room = c.requires.0 in let h = known-code c.kind_at-k.result c.in-Prefix.is (begun c.in-Some.is c.start_of.ensures) in let k = c.kind_at-k.ensures.is in search rules
 
 pub operand-put-c-requires : goal.operand-put-c-requires
-operand-put-c-requires t c = let room = c.requires.0 in let h = known-code c.kind_at-k.result c.in-Prefix.is c.start_of-start.ensures in let i = c.range_end.ensures.minus c.if-range_end.true in let j = inside c.args.y.now.kinds.now (c.args.at + 1) (omega (arith, i.1)) in search rules
+operand-put-c-requires t c = let room = c.requires.0 in let h = known-code c.kind_at-k.result c.in-Prefix.is (begun c.in-Some.is c.start_of.ensures) in let i = c.range_end.ensures.minus c.if-range_end.true in let j = inside c.args.y.now.kinds.now (c.args.at + 1) (omega (arith, i.1)) in search rules
 
 pub operand-returns-then-range_end : goal.operand-returns-then-range_end
 unfolding compute_form
-operand-returns-then-range_end t c = (let room = c.requires.0 in let h = known-code c.kind_at-k.result c.in-Prefix.is c.start_of-start.ensures in let i = c.range_end.ensures.minus c.if-range_end.true in let j = inside c.args.y.now.kinds.now (c.args.at + 1) (omega (arith, i.1)) in taken {μ = an_operand (suc c.args.d) c.args.b ∷ []} {m = c.args.n + 4} (opens (suc c.args.d)) (omega arith) (range-well c.args.y.now.kinds.now c.args.at (suc c.args.d) (c.range_end.ensures.test ∙ c.if-range_end.true)) (λ κ e γ. operand_step c.args.d c.args.b κ γ _ (c.start_of-start.ensures.start κ (e ∙ sym c.kind_at-k.ensures.is) ∙ ap start_as c.in-Prefix.is)) (takes {μ = []} (omega arith) (only _ kind.number i.1 (λ γ. refl)) (here (omega arith)) (omega arith)) (omega arith), makes (both (wrote c.leaf-m-then-range_end.ensures) (node_of (c.from.ensures ∙ c.kind_at-k.ensures.is) refl c.put-c.ensures)) (derived.prefixed (start-at c.kind_at-k.ensures.is c.in-Prefix.is c.start_of-start.ensures) (derived.leaf (number-start (c.range_end.ensures.minus c.if-range_end.true).1))))
+operand-returns-then-range_end t c = (let room = c.requires.0 in let h = known-code c.kind_at-k.result c.in-Prefix.is (begun c.in-Some.is c.start_of.ensures) in let i = c.range_end.ensures.minus c.if-range_end.true in let j = inside c.args.y.now.kinds.now (c.args.at + 1) (omega (arith, i.1)) in taken {μ = an_operand (suc c.args.d) c.args.b ∷ []} {m = c.args.n + 4} (opens (suc c.args.d)) (omega arith) (range-well c.args.y.now.kinds.now c.args.at (suc c.args.d) (c.range_end.ensures.test ∙ c.if-range_end.true)) (λ κ e γ. operand_step c.args.d c.args.b κ γ _ ((begun c.in-Some.is c.start_of.ensures).start κ (e ∙ sym c.kind_at-k.ensures.is) ∙ ap start_as c.in-Prefix.is)) (takes {μ = []} (omega arith) (only _ kind.number i.1 (λ γ. refl)) (here (omega arith)) (omega arith)) (omega arith), makes (both (wrote c.leaf-m-then-range_end.ensures) (node_of (c.from.ensures ∙ c.kind_at-k.ensures.is) refl c.put-c.ensures)) (derived.prefixed (start-at c.kind_at-k.ensures.is c.in-Prefix.is (begun c.in-Some.is c.start_of.ensures)) (derived.leaf (number-start (c.range_end.ensures.minus c.if-range_end.true).1))))
 
 pub operand-returns-then-d-ge-DEPTH : goal.operand-returns-then-d-ge-DEPTH
 unfolding compute_form
-operand-returns-then-d-ge-DEPTH t c = (let room = c.requires.0 in let h = known-code c.kind_at-k.result c.in-Prefix.is c.start_of-start.ensures in deeper (opens (suc c.args.d)) (omega arith) (open-deep c.args.y.now.kinds.now c.args.at (suc c.args.d) (omega arith) (c.range_end.ensures.test ∙ c.if-range_end.false)) (λ κ e γ. operand_step c.args.d c.args.b κ γ _ (c.start_of-start.ensures.start κ (e ∙ sym c.kind_at-k.ensures.is) ∙ ap start_as c.in-Prefix.is)), tt)
+operand-returns-then-d-ge-DEPTH t c = (let room = c.requires.0 in let h = known-code c.kind_at-k.result c.in-Prefix.is (begun c.in-Some.is c.start_of.ensures) in deeper (opens (suc c.args.d)) (omega arith) (open-deep c.args.y.now.kinds.now c.args.at (suc c.args.d) (omega arith) (c.range_end.ensures.test ∙ c.if-range_end.false)) (λ κ e γ. operand_step c.args.d c.args.b κ γ _ ((begun c.in-Some.is c.start_of.ensures).start κ (e ∙ sym c.kind_at-k.ensures.is) ∙ ap start_as c.in-Prefix.is)), tt)
 
 pub operand-operand-requires : goal.operand-operand-requires
-operand-operand-requires t c = let room = c.requires.0 in let h = known-code c.kind_at-k.result c.in-Prefix.is c.start_of-start.ensures in let k = c.kind_at-k.ensures.is in search rules
+operand-operand-requires t c = let room = c.requires.0 in let h = known-code c.kind_at-k.result c.in-Prefix.is (begun c.in-Some.is c.start_of.ensures) in let k = c.kind_at-k.ensures.is in search rules
 
 pub operand-put-count-requires : goal.operand-put-count-requires
-operand-put-count-requires t c = let room = c.requires.0 in let h = known-code c.kind_at-k.result c.in-Prefix.is c.start_of-start.ensures in let i = (known c.in_ok-inner-in-Prefix.was c.operand.ensures.0) in search rules
+operand-put-count-requires t c = let room = c.requires.0 in let h = known-code c.kind_at-k.result c.in-Prefix.is (begun c.in-Some.is c.start_of.ensures) in let i = (known c.in_ok-inner-in-Prefix.was c.operand.ensures.0) in search rules
 
 pub operand-returns-then-d-ge-DEPTH-2 : goal.operand-returns-then-d-ge-DEPTH-2
 unfolding compute_form
-operand-returns-then-d-ge-DEPTH-2 t c = (let room = c.requires.0 in let h = known-code c.kind_at-k.result c.in-Bracket.is c.start_of-start.ensures in deeper (opens (suc c.args.d)) (omega arith) (open-deep c.args.y.now.kinds.now c.args.at (suc c.args.d) (omega arith) (other-kind c.args.y.now.kinds.now c.args.at (λ q. let h = known-code c.kind_at-k.result c.in-Bracket.is c.start_of-start.ensures in absurd (omega (arith, c.kind_at-k.ensures.is))))) (λ κ e γ. operand_step c.args.d c.args.b κ γ _ (c.start_of-start.ensures.start κ (e ∙ sym c.kind_at-k.ensures.is) ∙ ap start_as c.in-Bracket.is)), tt)
+operand-returns-then-d-ge-DEPTH-2 t c = (let room = c.requires.0 in let h = known-code c.kind_at-k.result c.in-Bracket.is (begun c.in-Some.is c.start_of.ensures) in deeper (opens (suc c.args.d)) (omega arith) (open-deep c.args.y.now.kinds.now c.args.at (suc c.args.d) (omega arith) (other-kind c.args.y.now.kinds.now c.args.at (λ q. let h = known-code c.kind_at-k.result c.in-Bracket.is (begun c.in-Some.is c.start_of.ensures) in absurd (omega (arith, c.kind_at-k.ensures.is))))) (λ κ e γ. operand_step c.args.d c.args.b κ γ _ ((begun c.in-Some.is c.start_of.ensures).start κ (e ∙ sym c.kind_at-k.ensures.is) ∙ ap start_as c.in-Bracket.is)), tt)
 
 pub operand-term-requires : goal.operand-term-requires
-operand-term-requires t c = let room = c.requires.0 in let h = known-code c.kind_at-k.result c.in-Bracket.is c.start_of-start.ensures in let k = c.kind_at-k.ensures.is in search rules
+operand-term-requires t c = let room = c.requires.0 in let h = known-code c.kind_at-k.result c.in-Bracket.is (begun c.in-Some.is c.start_of.ensures) in let k = c.kind_at-k.ensures.is in search rules
 
 pub operand-close-requires : goal.operand-close-requires
 operand-close-requires t c = let room = c.requires.0 in let h = (known c.in_ok-bracketed-in-Bracket.was c.term.ensures.0) in search rules
 
 pub operand-returns-then-d-ge-DEPTH-3 : goal.operand-returns-then-d-ge-DEPTH-3
 unfolding compute_form
-operand-returns-then-d-ge-DEPTH-3 t c = (let room = c.requires.0 in let h = known-code c.kind_at-k.result c.in-Brace.is c.start_of-start.ensures in deeper (opens (suc c.args.d)) (omega arith) (open-deep c.args.y.now.kinds.now c.args.at (suc c.args.d) (omega arith) (other-kind c.args.y.now.kinds.now c.args.at (λ q. let h = known-code c.kind_at-k.result c.in-Brace.is c.start_of-start.ensures in absurd (omega (arith, c.kind_at-k.ensures.is))))) (λ κ e γ. operand_step c.args.d c.args.b κ γ _ (c.start_of-start.ensures.start κ (e ∙ sym c.kind_at-k.ensures.is) ∙ ap start_as c.in-Brace.is)), tt)
+operand-returns-then-d-ge-DEPTH-3 t c = (let room = c.requires.0 in let h = known-code c.kind_at-k.result c.in-Brace.is (begun c.in-Some.is c.start_of.ensures) in deeper (opens (suc c.args.d)) (omega arith) (open-deep c.args.y.now.kinds.now c.args.at (suc c.args.d) (omega arith) (other-kind c.args.y.now.kinds.now c.args.at (λ q. let h = known-code c.kind_at-k.result c.in-Brace.is (begun c.in-Some.is c.start_of.ensures) in absurd (omega (arith, c.kind_at-k.ensures.is))))) (λ κ e γ. operand_step c.args.d c.args.b κ γ _ ((begun c.in-Some.is c.start_of.ensures).start κ (e ∙ sym c.kind_at-k.ensures.is) ∙ ap start_as c.in-Brace.is)), tt)
 
 pub operand-brace-requires : goal.operand-brace-requires
-operand-brace-requires t c = let room = c.requires.0 in let h = known-code c.kind_at-k.result c.in-Brace.is c.start_of-start.ensures in let k = c.kind_at-k.ensures.is in search rules
+operand-brace-requires t c = let room = c.requires.0 in let h = known-code c.kind_at-k.result c.in-Brace.is (begun c.in-Some.is c.start_of.ensures) in let k = c.kind_at-k.ensures.is in search rules
 
 pub operand-empty-requires : goal.operand-empty-requires
-operand-empty-requires t c = let room = c.requires.0 in let h = known-code c.kind_at-k.result c.in-Empty.is c.start_of-start.ensures in let k = c.kind_at-k.ensures.is in search rules
+operand-empty-requires t c = let room = c.requires.0 in let h = known-code c.kind_at-k.result c.in-Empty.is (begun c.in-Some.is c.start_of.ensures) in let k = c.kind_at-k.ensures.is in search rules
 
 pub operand-returns-in-Leaf : goal.operand-returns-in-Leaf
 unfolding compute_form
-operand-returns-in-Leaf t c = (let room = c.requires.0 in let h = known-code c.kind_at-k.result c.in-Leaf.is c.start_of-start.ensures in takes {μ = []} (omega arith) (λ κ e γ. operand_step c.args.d c.args.b κ γ _ (c.start_of-start.ensures.start κ (e ∙ sym c.kind_at-k.ensures.is) ∙ ap start_as c.in-Leaf.is)) (here (omega arith)) (omega arith), makes (wrote c.leaf-m.ensures) (derived.leaf (start-at c.kind_at-k.ensures.is c.in-Leaf.is c.start_of-start.ensures)))
+operand-returns-in-Leaf t c = (let room = c.requires.0 in let h = known-code c.kind_at-k.result c.in-Leaf.is (begun c.in-Some.is c.start_of.ensures) in takes {μ = []} (omega arith) (λ κ e γ. operand_step c.args.d c.args.b κ γ _ ((begun c.in-Some.is c.start_of.ensures).start κ (e ∙ sym c.kind_at-k.ensures.is) ∙ ap start_as c.in-Leaf.is)) (here (omega arith)) (omega arith), makes (wrote c.leaf-m.ensures) (derived.leaf (start-at c.kind_at-k.ensures.is c.in-Leaf.is (begun c.in-Some.is c.start_of.ensures))))
 
 pub operand-returns-in_ok-inner-in-Prefix : goal.operand-returns-in_ok-inner-in-Prefix
 unfolding compute_form
-operand-returns-in_ok-inner-in-Prefix t c = (let room = c.requires.0 in let h = known-code c.kind_at-k.result c.in-Prefix.is c.start_of-start.ensures in let i = (known c.in_ok-inner-in-Prefix.was c.operand.ensures.0) in taken {μ = an_operand (suc c.args.d) c.args.b ∷ []} {m = c.args.n + 4} (opens (suc c.args.d)) (omega arith) (open_well c.args.y.now.kinds.now c.args.at (suc c.args.d) (omega arith)) (λ κ e γ. operand_step c.args.d c.args.b κ γ _ (c.start_of-start.ensures.start κ (e ∙ sym c.kind_at-k.ensures.is) ∙ ap start_as c.in-Prefix.is)) (counted {c = c.args.n + 4} (omega arith) (raised (λ x. an_operand x c.args.b ∷ []) c.args.d i)) (omega arith), let w₁ = (made c.in_ok-inner-in-Prefix.was c.operand.ensures.1) in makes (both (built w₁) (node_of (c.from-in-Prefix.ensures ∙ c.kind_at-k.ensures.is) refl c.put-count.ensures)) (derived.prefixed (start-at c.kind_at-k.ensures.is c.in-Prefix.is c.start_of-start.ensures) w₁.derives))
+operand-returns-in_ok-inner-in-Prefix t c = (let room = c.requires.0 in let h = known-code c.kind_at-k.result c.in-Prefix.is (begun c.in-Some.is c.start_of.ensures) in let i = (known c.in_ok-inner-in-Prefix.was c.operand.ensures.0) in taken {μ = an_operand (suc c.args.d) c.args.b ∷ []} {m = c.args.n + 4} (opens (suc c.args.d)) (omega arith) (open_well c.args.y.now.kinds.now c.args.at (suc c.args.d) (omega arith)) (λ κ e γ. operand_step c.args.d c.args.b κ γ _ ((begun c.in-Some.is c.start_of.ensures).start κ (e ∙ sym c.kind_at-k.ensures.is) ∙ ap start_as c.in-Prefix.is)) (counted {c = c.args.n + 4} (omega arith) (raised (λ x. an_operand x c.args.b ∷ []) c.args.d i)) (omega arith), let w₁ = (made c.in_ok-inner-in-Prefix.was c.operand.ensures.1) in makes (both (built w₁) (node_of (c.from-in-Prefix.ensures ∙ c.kind_at-k.ensures.is) refl c.put-count.ensures)) (derived.prefixed (start-at c.kind_at-k.ensures.is c.in-Prefix.is (begun c.in-Some.is c.start_of.ensures)) w₁.derives))
 
 pub operand-returns-in_err-inner-in-Prefix : goal.operand-returns-in_err-inner-in-Prefix
 unfolding compute_form
-operand-returns-in_err-inner-in-Prefix t c = rw (exits c.from_residual.result c.from_residual.ensures.1) ((let room = c.requires.0 in let h = known-code c.kind_at-k.result c.in-Prefix.is c.start_of-start.ensures in taken {μ = an_operand (suc c.args.d) c.args.b ∷ []} {m = c.args.n + 4} (opens (suc c.args.d)) (omega arith) (open_well c.args.y.now.kinds.now c.args.at (suc c.args.d) (omega arith)) (λ κ e γ. operand_step c.args.d c.args.b κ γ _ (c.start_of-start.ensures.start κ (e ∙ sym c.kind_at-k.ensures.is) ∙ ap start_as c.in-Prefix.is)) (fails (raised (λ x. an_operand x c.args.b ∷ []) c.args.d (known c.in_err-inner-in-Prefix.was c.operand.ensures.0))) (omega arith), tt))
+operand-returns-in_err-inner-in-Prefix t c = rw (exits c.from_residual.result c.from_residual.ensures.1) ((let room = c.requires.0 in let h = known-code c.kind_at-k.result c.in-Prefix.is (begun c.in-Some.is c.start_of.ensures) in taken {μ = an_operand (suc c.args.d) c.args.b ∷ []} {m = c.args.n + 4} (opens (suc c.args.d)) (omega arith) (open_well c.args.y.now.kinds.now c.args.at (suc c.args.d) (omega arith)) (λ κ e γ. operand_step c.args.d c.args.b κ γ _ ((begun c.in-Some.is c.start_of.ensures).start κ (e ∙ sym c.kind_at-k.ensures.is) ∙ ap start_as c.in-Prefix.is)) (fails (raised (λ x. an_operand x c.args.b ∷ []) c.args.d (known c.in_err-inner-in-Prefix.was c.operand.ensures.0))) (omega arith), tt))
 
 pub operand-returns-in_ok-bracketed-in-Bracket : goal.operand-returns-in_ok-bracketed-in-Bracket
 unfolding compute_form
-operand-returns-in_ok-bracketed-in-Bracket t c = (let room = c.requires.0 in let h = known-code c.kind_at-k.result c.in-Bracket.is c.start_of-start.ensures in taken {μ = a_term (suc c.args.d) c.args.b ∷ exact kind.close_bracket ∷ []} {m = c.args.n + 4} (opens (suc c.args.d)) (omega arith) (open_well c.args.y.now.kinds.now c.args.at (suc c.args.d) (omega arith)) (λ κ e γ. operand_step c.args.d c.args.b κ γ _ (c.start_of-start.ensures.start κ (e ∙ sym c.kind_at-k.ensures.is) ∙ ap start_as c.in-Bracket.is)) (wider (next (framed (exact kind.close_bracket ∷ []) (raised (λ x. a_term x c.args.b ∷ []) c.args.d (known c.in_ok-bracketed-in-Bracket.was c.term.ensures.0))) (c.close.ensures.reads kind.close_bracket refl)) (omega arith)) (omega arith), let w₁ = (made c.in_ok-bracketed-in-Bracket.was c.term.ensures.1) in let t₁ = known-code c.kind_at-k.result c.in-Bracket.is c.start_of-start.ensures in closing c.close.ensures (λ q. makes (built w₁) (derived.bracketed (sym c.kind_at-k.ensures.is ∙ t₁) w₁.derives q)))
+operand-returns-in_ok-bracketed-in-Bracket t c = (let room = c.requires.0 in let h = known-code c.kind_at-k.result c.in-Bracket.is (begun c.in-Some.is c.start_of.ensures) in taken {μ = a_term (suc c.args.d) c.args.b ∷ exact kind.close_bracket ∷ []} {m = c.args.n + 4} (opens (suc c.args.d)) (omega arith) (open_well c.args.y.now.kinds.now c.args.at (suc c.args.d) (omega arith)) (λ κ e γ. operand_step c.args.d c.args.b κ γ _ ((begun c.in-Some.is c.start_of.ensures).start κ (e ∙ sym c.kind_at-k.ensures.is) ∙ ap start_as c.in-Bracket.is)) (wider (next (framed (exact kind.close_bracket ∷ []) (raised (λ x. a_term x c.args.b ∷ []) c.args.d (known c.in_ok-bracketed-in-Bracket.was c.term.ensures.0))) (c.close.ensures.reads kind.close_bracket refl)) (omega arith)) (omega arith), let w₁ = (made c.in_ok-bracketed-in-Bracket.was c.term.ensures.1) in let t₁ = known-code c.kind_at-k.result c.in-Bracket.is (begun c.in-Some.is c.start_of.ensures) in closing c.close.ensures (λ q. makes (built w₁) (derived.bracketed (sym c.kind_at-k.ensures.is ∙ t₁) w₁.derives q)))
 
 pub operand-returns-in_err-bracketed-in-Bracket : goal.operand-returns-in_err-bracketed-in-Bracket
 unfolding compute_form
-operand-returns-in_err-bracketed-in-Bracket t c = rw (exits c.from_residual-in_err-bracketed-in-Bracket.result c.from_residual-in_err-bracketed-in-Bracket.ensures.1) ((let room = c.requires.0 in let h = known-code c.kind_at-k.result c.in-Bracket.is c.start_of-start.ensures in taken {μ = a_term (suc c.args.d) c.args.b ∷ exact kind.close_bracket ∷ []} {m = c.args.n + 4} (opens (suc c.args.d)) (omega arith) (open_well c.args.y.now.kinds.now c.args.at (suc c.args.d) (omega arith)) (λ κ e γ. operand_step c.args.d c.args.b κ γ _ (c.start_of-start.ensures.start κ (e ∙ sym c.kind_at-k.ensures.is) ∙ ap start_as c.in-Bracket.is)) (fails (framed (exact kind.close_bracket ∷ []) (raised (λ x. a_term x c.args.b ∷ []) c.args.d (known c.in_err-bracketed-in-Bracket.was c.term.ensures.0)))) (omega arith), tt))
+operand-returns-in_err-bracketed-in-Bracket t c = rw (exits c.from_residual-in_err-bracketed-in-Bracket.result c.from_residual-in_err-bracketed-in-Bracket.ensures.1) ((let room = c.requires.0 in let h = known-code c.kind_at-k.result c.in-Bracket.is (begun c.in-Some.is c.start_of.ensures) in taken {μ = a_term (suc c.args.d) c.args.b ∷ exact kind.close_bracket ∷ []} {m = c.args.n + 4} (opens (suc c.args.d)) (omega arith) (open_well c.args.y.now.kinds.now c.args.at (suc c.args.d) (omega arith)) (λ κ e γ. operand_step c.args.d c.args.b κ γ _ ((begun c.in-Some.is c.start_of.ensures).start κ (e ∙ sym c.kind_at-k.ensures.is) ∙ ap start_as c.in-Bracket.is)) (fails (framed (exact kind.close_bracket ∷ []) (raised (λ x. a_term x c.args.b ∷ []) c.args.d (known c.in_err-bracketed-in-Bracket.was c.term.ensures.0)))) (omega arith), tt))
 
 pub operand-returns-else-d-ge-DEPTH-3 : goal.operand-returns-else-d-ge-DEPTH-3
 unfolding compute_form
-operand-returns-else-d-ge-DEPTH-3 t c = (let room = c.requires.0 in let h = known-code c.kind_at-k.result c.in-Brace.is c.start_of-start.ensures in taken {μ = a_brace (suc c.args.d) c.args.b ∷ []} {m = c.args.n + 4} (opens (suc c.args.d)) (omega arith) (open_well c.args.y.now.kinds.now c.args.at (suc c.args.d) (omega arith)) (λ κ e γ. operand_step c.args.d c.args.b κ γ _ (c.start_of-start.ensures.start κ (e ∙ sym c.kind_at-k.ensures.is) ∙ ap start_as c.in-Brace.is)) (raised (λ x. a_brace x c.args.b ∷ []) c.args.d c.brace.ensures.0) (omega arith), c.brace.ensures.1)
+operand-returns-else-d-ge-DEPTH-3 t c = (let room = c.requires.0 in let h = known-code c.kind_at-k.result c.in-Brace.is (begun c.in-Some.is c.start_of.ensures) in taken {μ = a_brace (suc c.args.d) c.args.b ∷ []} {m = c.args.n + 4} (opens (suc c.args.d)) (omega arith) (open_well c.args.y.now.kinds.now c.args.at (suc c.args.d) (omega arith)) (λ κ e γ. operand_step c.args.d c.args.b κ γ _ ((begun c.in-Some.is c.start_of.ensures).start κ (e ∙ sym c.kind_at-k.ensures.is) ∙ ap start_as c.in-Brace.is)) (raised (λ x. a_brace x c.args.b ∷ []) c.args.d c.brace.ensures.0) (omega arith), c.brace.ensures.1)
 
 pub operand-returns-in-Empty : goal.operand-returns-in-Empty
 unfolding compute_form
-operand-returns-in-Empty t c = (let room = c.requires.0 in let h = known-code c.kind_at-k.result c.in-Empty.is c.start_of-start.ensures in takes {μ = a_name ∷ an_empty_rest ∷ []} (omega arith) (λ κ e γ. operand_step c.args.d c.args.b κ γ _ (c.start_of-start.ensures.start κ (e ∙ sym c.kind_at-k.ensures.is) ∙ ap start_as c.in-Empty.is)) c.empty.ensures.0 (omega arith), c.empty.ensures.1)
+operand-returns-in-Empty t c = (let room = c.requires.0 in let h = known-code c.kind_at-k.result c.in-Empty.is (begun c.in-Some.is c.start_of.ensures) in takes {μ = a_name ∷ an_empty_rest ∷ []} (omega arith) (λ κ e γ. operand_step c.args.d c.args.b κ γ _ ((begun c.in-Some.is c.start_of.ensures).start κ (e ∙ sym c.kind_at-k.ensures.is) ∙ ap start_as c.in-Empty.is)) c.empty.ensures.0 (omega arith), c.empty.ensures.1)
 
-pub operand-returns-in-Nothing : goal.operand-returns-in-Nothing
+pub operand-returns-in_default : goal.operand-returns-in_default
 unfolding compute_form
-operand-returns-in-Nothing t c = (let room = c.requires.0 in stops (omega arith) (λ κ e γ. operand_step c.args.d c.args.b κ γ _ (c.start_of-start.ensures.start κ (e ∙ sym c.kind_at-k.ensures.is) ∙ ap start_as c.in-Nothing.is)) (λ γ. refl), tt)
+operand-returns-in_default t c = (let room = c.requires.0 in stops (omega arith) (λ κ e γ. operand_step c.args.d c.args.b κ γ _ (unbegun c.in_default.is c.start_of.ensures κ (e ∙ sym c.kind_at-k.ensures.is))) (λ γ. refl), tt)
 
 pub pairs-close-requires : goal.pairs-close-requires
 unfolding code_of

@@ -10,10 +10,10 @@ pub returns-then-t-eq0 : goal.returns-then-t-eq0
 returns-then-t-eq0 c = tt
 
 pub same_letters-requires : goal.same_letters-requires
-same_letters-requires c = (omega (arith, c.requires.0.below (get_or c.args.y.now.low.now c.args.i 0 % 256)), omega (arith, c.requires.0.below (get_or c.args.y.now.low.now c.args.i 0 % 256)))
+same_letters-requires c = omega (arith, c.requires.0.below (get_or c.args.letters.now c.args.i 0 % 256))
 
 pub returns-then-same_letters : goal.returns-then-same_letters
-returns-then-same_letters c = recalls (get_or c.args.y.now.low.now c.args.i 0 % 256) c.requires.0 refl (omega arith) c.same_letters.ensures c.if-same_letters.true
+returns-then-same_letters c = recalls (get_or c.args.letters.now c.args.i 0 % 256) c.requires.0 refl (omega arith) c.same_letters.ensures c.if-same_letters.true
 
 pub returns : goal.returns
 returns c = tt

@@ -1,24 +1,19 @@
--- `copies::copy_nodes` meets its contract: up to i the array has the other's numbers, behind that its own.
-use mathlib.Core.List.{List, [], ◌∷◌, ◌++◌}
-use Prim.Native.Nat.{zero, suc, ℕ, ◌<◌}
-use native.Mathlib.Numerals.{add-one}
-use lib.ListN.{take, drop, set, length-set, length, get_or}
-use mathlib.Core.Path.{◌≡◌, refl, sym, ap, ◌∙◌}
-use native.Mathlib.Omega.{arith}
+-- `copies::copy_nodes` meets its contract. Assumes nothing.
+use mathlib.Core.Path.{sym, ap, ◌∙◌}
+use mathlib.Core.List.{List, ◌++◌}
+use Prim.Native.Nat.{ℕ}
+use lib.ListN.{drop}
+use lib.Seq.{length-take-le}
 use Rattle.parser.proofs.copies.copy_nodes.Goals as goal
 
--- one more number
-store : (from to : List ℕ) (i : ℕ) → i < length from → i < length to → set (take i from ++ drop i to) i (get_or from i 0) ≡ take (suc i) from ++ drop (suc i) to
-store [] to i h k = absurd (omega arith)
-store (x ∷ xs) [] i h k = absurd (omega arith)
-store (x ∷ xs) (y ∷ ys) zero h k = refl
-store (x ∷ xs) (y ∷ ys) (suc i) h k = ap (λ (l : List ℕ). x ∷ l) (store xs ys i (omega arith) (omega arith))
+pub copy_from_slice-requires : goal.copy_from_slice-requires
+copy_from_slice-requires c = length-take-le c.args.n c.args.to.now c.requires.1 ∙ sym (length-take-le c.args.n c.args.from.now c.requires.0)
 
-pub loop-i-init : goal.loop-i-init
-loop-i-init c = (omega arith, (refl, refl))
+pub slice_bounds-copy_from_slice-end-2 : goal.slice_bounds-copy_from_slice-end-2
+slice_bounds-copy_from_slice-end-2 c = sym (length-take-le c.args.n c.args.to.now c.requires.1)
 
-pub loop-i-preserved : goal.loop-i-preserved
-loop-i-preserved c = (omega arith, (ap (λ (l : List ℕ). set l c.loop-i.i (get_or c.args.from.now c.loop-i.i 0)) c.loop-i.invariant.1.0 ∙ store c.args.from.now c.args.to.now c.loop-i.i (omega arith) (omega arith) ∙ ap (λ (k : ℕ). take k c.args.from.now ++ drop k c.args.to.now) (sym (add-one c.loop-i.i)), length-set c.loop-i.to c.loop-i.i (get_or c.args.from.now c.loop-i.i 0) ∙ c.loop-i.invariant.1.1))
+pub slice_bounds-copy_from_slice-end-3 : goal.slice_bounds-copy_from_slice-end-3
+slice_bounds-copy_from_slice-end-3 c = sym (length-take-le c.args.n c.args.from.now c.requires.0)
 
 pub returns : goal.returns
-returns c = let h = c.loop-i.invariant.0 in let e : c.loop-i.i ≡ c.args.n = omega arith in c.loop-i.invariant.1.0 ∙ ap (λ (k : ℕ). take k c.args.from.now ++ drop k c.args.to.now) e
+returns c = ap (λ (l : List ℕ). l ++ drop c.args.n c.args.to.now) c.copy_from_slice.ensures.after

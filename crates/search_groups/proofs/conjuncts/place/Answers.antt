@@ -7,8 +7,8 @@ use Rattle.search_groups.proofs.conjuncts.place.Goals as goal
 pub returns-then-k-eq0 : goal.returns-then-k-eq0
 returns-then-k-eq0 c = record { right = place-first c.args.k (omega arith); within = λ h. omega arith }
 
-pub returns-then-k-lt-CONDITIONS : goal.returns-then-k-lt-CONDITIONS
-returns-then-k-lt-CONDITIONS c = record { right = place-state c.args.k (λ e. omega arith) (omega arith); within = λ h. omega arith }
+pub returns-then-k-lt-OPERATIONS : goal.returns-then-k-lt-OPERATIONS
+returns-then-k-lt-OPERATIONS c = record { right = place-state c.args.k (λ e. omega arith) (omega arith); within = λ h. omega arith }
 
 pub returns : goal.returns
 returns c = record { right = place-of c.args.k _ (omega arith) refl; within = λ h. omega arith }

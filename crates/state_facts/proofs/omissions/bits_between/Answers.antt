@@ -1,6 +1,7 @@
 -- `omissions::bits_between` meets its contract: the bit of the slot before goes below those that are there. Assumes nothing.
 use native.Mathlib.Omega.{arith}
-use Rattle.state_facts.proofs.OmissionLaws.{byte_small, bits_none, bits_small, bits-more, bits-done}
+use Rattle.sets.proofs.MaskBits.{byte_low}
+use Rattle.state_facts.proofs.OmissionLaws.{bits_none, bits_small, bits-more, bits-done}
 use Rattle.state_facts.proofs.omissions.bits_between.Goals as goal
 
 pub loop-k-init : goal.loop-k-init
@@ -16,7 +17,7 @@ pub overflow_mul-bits : goal.overflow_mul-bits
 overflow_mul-bits c = omega (arith, (bits_small c.loop-k.invariant c.requires.slot_bound.1))
 
 pub overflow_add-bits : goal.overflow_add-bits
-overflow_add-bits c = omega (arith, (bits_small c.loop-k.invariant c.requires.slot_bound.1), c.loop-k.invariant.within, c.requires.slot_bound.1, byte_small c.rows_free.result, c.from.ensures)
+overflow_add-bits c = omega (arith, (bits_small c.loop-k.invariant c.requires.slot_bound.1), c.loop-k.invariant.within, c.requires.slot_bound.1, byte_low c.rows_free.result, c.from.ensures)
 
 pub loop-k-preserved : goal.loop-k-preserved
 loop-k-preserved c = bits-more (omega arith) c.loop-k.invariant c.rows_free.ensures c.from.ensures

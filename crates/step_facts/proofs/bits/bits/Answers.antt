@@ -1,6 +1,7 @@
 -- `bits::bits` meets its contract: the bits so far are those of the inputs from i on. Assumes nothing.
 use native.Mathlib.Omega.{arith}
-use Rattle.step_facts.proofs.Masks.{bits-start, bits-next, bits_small, bits-done, byte_low}
+use Rattle.sets.proofs.MaskBits.{byte_low}
+use Rattle.step_facts.proofs.Masks.{bits-start, bits-next, bits_small, bits-done}
 use Rattle.step_facts.proofs.bits.bits.Goals as goal
 
 pub loop-i-init : goal.loop-i-init

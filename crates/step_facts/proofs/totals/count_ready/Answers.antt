@@ -1,7 +1,7 @@
 -- `totals::count_ready` meets its contract: so many of the inputs before i are ones with which it can. Assumes nothing.
 use native.Mathlib.Omega.{arith}
 use Rattle.step_facts.proofs.AskedFacts.{sizes-of}
-use Rattle.step_facts.proofs.Masks.{byte_low}
+use Rattle.sets.proofs.MaskBits.{byte_low}
 use Rattle.step_facts.proofs.Counts.{ready-start, ready-next, ready-done}
 use Rattle.step_facts.proofs.totals.count_ready.Goals as goal
 

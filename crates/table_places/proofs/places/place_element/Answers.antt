@@ -5,8 +5,8 @@ use mathlib.Core.Path.{refl, ap, ◌∙◌}
 use native.Mathlib.Omega.{arith}
 use Rattle.table_places.proofs.places.place_element.Goals as goal
 
-pub returns-then-code-at-eq-GIVEN : goal.returns-then-code-at-eq-GIVEN
-returns-then-code-at-eq-GIVEN c = record { title = λ e. (refl, refl); element = λ e. absurd (e c.if-code-at-eq-GIVEN.true); near = (omega arith, omega arith) }
+pub returns-then-n-eq-GIVEN : goal.returns-then-n-eq-GIVEN
+returns-then-n-eq-GIVEN c = record { title = λ e. (refl, refl); element = λ e. absurd (e c.if-n-eq-GIVEN.true); near = (omega arith, omega arith) }
 
 pub returns : goal.returns
-returns c = record { title = λ e. absurd (c.if-code-at-eq-GIVEN.false e); element = λ e. (c.put.ensures ∙ ap (λ (n : ℕ). set c.args.places.now n c.args.j) c.index.ensures.0, refl); near = (omega arith, omega arith) }
+returns c = record { title = λ e. absurd (c.if-n-eq-GIVEN.false e); element = λ e. (c.put.ensures ∙ ap (λ (n : ℕ). set c.args.places.now n c.args.j) c.index.ensures.0, refl); near = (omega arith, omega arith) }

@@ -3,6 +3,7 @@ use native.Mathlib.Omega.{arith}
 use Prim.Native.Nat.{◌+◌, ◌-◌}
 use mathlib.Core.Path.{refl}
 use lib.ListN.{get_or}
+use Rattle.refusals.specs.Refusals.{number_of}
 use Rattle.type_rules.specs.TypesByNumber.{fault_key}
 use Rattle.typing.proofs.LastNodes.{eight, ten}
 use Rattle.term_sizes.proofs.SizeWalk.{term-short, items-short, pairs-short, pred-short, term-rest, pred-rest}
@@ -26,7 +27,8 @@ pub items-returns : goal.items-returns
 items-returns t c = items-also c.args.code.now c.args.end c.requires c.args.bounds.now _ _ c.term-t.result c.items-l.result _ c.items-l.ensures c.term-t.ensures c.if-code-at-eq-LAST.false refl c.lesser_of-f.ensures refl
 
 pub operated-returns : goal.operated-returns
-operated-returns t c = term-binary c.args.code.now c.args.end c.requires.0 c.args.bounds.now _ _ c.node_at-n.result c.term-t.result c.term-u.result _ c.operator_bound-m.result (fault_key c.lesser_of-parts.result) c.node_at-n.ensures c.requires.2 c.term-u.ensures c.term-t.ensures c.operator_bound-m.ensures c.lesser_of-parts.ensures c.over-f.ensures c.unless_over.ensures refl
+unfolding number_of
+operated-returns t c = term-binary c.args.code.now c.args.end c.requires.0 c.args.bounds.now _ _ c.node_at-n.result c.term-t.result c.term-u.result _ c.operator_bound-m.result (fault_key c.lesser_of-parts.result) c.node_at-n.ensures c.requires.2 c.term-u.ensures c.term-t.ensures c.operator_bound-m.ensures c.lesser_of-parts.ensures c.judge-f.ensures c.unless_over.ensures refl
 
 pub pair-returns : goal.pair-returns
 pair-returns t c = pair-sized c.args.code.now c.args.end c.requires c.args.bounds.now _ _ c.term-t.result c.term-u.result _ c.term-u.ensures c.term-t.ensures refl c.lesser_of-f.ensures refl

@@ -12,6 +12,7 @@ use Rattle.typing.proofs.TypeWalkPreds.{pred_constant, pred-negation, pred-conne
 use Rattle.typing.proofs.types.+types.Goals as goal
 
 pub compared-returns : goal.compared-returns
+unfolding number_of
 compared-returns t c = pred-compared c.args.code.now c.args.end c.requires.0 c.args.names.now c.args.sizes.now _ _ c.node_at-n.result c.term-t.result c.term-u.result _ c.comparison_fits.result (fault_key c.lesser_of-parts.result) c.node_at-n.ensures c.requires.2 c.term-u.ensures c.term-t.ensures c.comparison_fits.ensures c.lesser_of-parts.ensures refl refl c.judge-f.ensures
 
 pub connected-returns : goal.connected-returns
@@ -31,12 +32,15 @@ pub items-returns : goal.items-returns
 items-returns t c = items-also c.args.code.now c.args.end c.requires c.args.names.now c.args.sizes.now _ _ c.term-t.result c.items-l.result _ c.items-l.ensures c.term-t.ensures c.if-code-at-eq-LAST.false c.shared_kind.ensures refl c.lesser_of-f.ensures
 
 pub joined-returns : goal.joined-returns
+unfolding number_of
 joined-returns t c = term-binary c.args.code.now c.args.end c.requires.0 c.args.names.now c.args.sizes.now _ _ c.node_at-n.result c.term-t.result c.term-u.result _ c.operator_fits.result (fault_key c.lesser_of-parts.result) c.node_at-n.ensures c.requires.2 c.term-u.ensures c.term-t.ensures c.operator_fits.ensures c.lesser_of-parts.ensures refl refl c.judge-f.ensures
 
 pub listed-returns : goal.listed-returns
+unfolding number_of
 listed-returns t c = term-listed c.args.code.now c.args.end c.requires.0 c.args.names.now c.args.sizes.now _ c.node_at-n.result c.items-t.result _ c.is_element.result c.node_at-n.ensures c.requires.2 c.items-t.ensures c.is_element.ensures c.set_of.ensures refl c.judge-f.ensures
 
 pub member-returns : goal.member-returns
+unfolding number_of
 member-returns t c = pred-member c.args.code.now c.args.end c.requires.0 c.args.names.now c.args.sizes.now _ _ c.node_at-n.result c.term-t.result c.term-u.result _ c.member_fits.result (fault_key c.lesser_of-parts.result) c.node_at-n.ensures c.requires.2 c.term-u.ensures c.term-t.ensures c.member_fits.ensures c.lesser_of-parts.ensures refl refl c.judge-f.ensures
 
 pub pair-returns : goal.pair-returns
@@ -85,12 +89,14 @@ pub pred-returns-in_default : goal.pred-returns-in_default
 pred-returns-in_default t c = pred-rest c.args.code.now c.args.end c.requires c.args.names.now c.args.sizes.now _ c.nothing-in_default.ensures (eight (get_or c.args.code.now (c.args.end - 4 + 3) 0) (λ s. omega arith) (λ s. omega arith) (λ s. omega arith) (λ s. omega arith) (λ s. omega arith) (λ s. omega arith) (λ s. omega arith) (λ s. omega arith))
 
 pub prefixed-returns : goal.prefixed-returns
+unfolding number_of
 prefixed-returns t c = term-prefix c.args.code.now c.args.end c.requires.0 c.args.names.now c.args.sizes.now _ c.node_at-n.result c.term-t.result _ c.prefix_fits.result c.node_at-n.ensures c.requires.2 c.term-t.ensures c.prefix_fits.ensures c.prefix_type.ensures refl c.judge-f.ensures
 
 pub quantified-returns : goal.quantified-returns
 quantified-returns t c = pred-quantified c.args.code.now c.args.end c.requires.0 c.args.names.now c.args.sizes.now _ _ _ c.node_at-n.result c.domain-d.result c.pred-p.result _ c.from-x.result c.look-old.result c.node_at-n.ensures c.requires.2 c.domain-d.ensures c.pred-p.ensures c.put.ensures c.put-2.ensures c.from-x.ensures c.look-old.ensures refl refl c.bound_fault-f.ensures
 
 pub related-returns : goal.related-returns
+unfolding number_of
 related-returns t c = pred-related c.args.code.now c.args.end c.requires.0 c.args.names.now c.args.sizes.now _ _ _ c.node_at-n.result c.term-t.result c.term-u.result c.term-v.result _ c.related_fits.result (fault_key c.lesser_of.result) (fault_key c.lesser_of-parts.result) c.node_at-n.ensures c.requires.2 c.term-v.ensures c.term-u.ensures c.term-t.ensures c.related_fits.ensures c.lesser_of.ensures c.lesser_of-parts.ensures refl refl c.judge-f.ensures
 
 pub such-returns : goal.such-returns
@@ -133,4 +139,5 @@ pub term-returns-in_default : goal.term-returns-in_default
 term-returns-in_default t c = term-rest c.args.code.now c.args.end c.requires c.args.names.now c.args.sizes.now _ c.nothing-in_default.ensures (ten (get_or c.args.code.now (c.args.end - 4 + 3) 0) (eight (get_or c.args.code.now (c.args.end - 4 + 3) 0) (λ s. omega arith) (λ s. omega arith) (λ s. omega arith) (λ s. omega arith) (λ s. omega arith) (λ s. omega arith) (λ s. omega arith) (λ s. omega arith)) (λ s. omega arith) (λ s. omega arith))
 
 pub within-returns : goal.within-returns
+unfolding number_of
 within-returns t c = pred-within c.args.code.now c.args.end c.requires.0 c.args.names.now c.args.sizes.now _ c.node_at-n.result c.term-t.result c.domain-d.result _ (fault_key c.lesser_of-parts.result) c.node_at-n.ensures c.requires.2 c.domain-d.ensures c.term-t.ensures c.lesser_of-parts.ensures refl refl c.judge-f.ensures

@@ -13,10 +13,22 @@ def home():
     return pathlib.Path(rt).resolve().parent.parent
 
 
-def depends():
-    """each crate and the crates that it stands on, as crates.txt has them"""
+def named():
+    """each crate and what crates.txt has behind it: the crates of the repository and the libraries of the kit that it stands on"""
     lines = (l.split('#')[0] for l in (root / 'crates.txt').read_text().splitlines())
     return {l.split(':')[0].strip(): l.split(':', 1)[1].split() for l in lines if ':' in l}
+
+
+def depends():
+    """each crate and the crates of the repository that it stands on"""
+    found = named()
+    return {crate: [c for c in of if c in found] for crate, of in found.items()}
+
+
+def libraries(crate):
+    """the libraries of the kit that a crate stands on"""
+    found = named()
+    return [c for c in found[crate] if c not in found]
 
 
 def below(names):
@@ -40,6 +52,11 @@ def sources():
     for f in [root / 'crates.txt', *files]:
         told.update(repr((str(f.relative_to(root)), f.read_bytes())).encode())
     return told.hexdigest()
+
+
+def source(crate):
+    """the folder of a crate's sources, in the repository or in the kit"""
+    return (root / 'crates' if crate in named() else home() / 'rattle') / crate / 'src'
 
 
 def rlib(crate):

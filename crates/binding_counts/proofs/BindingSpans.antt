@@ -2,7 +2,8 @@
 use mathlib.Core.Path.{◌≡◌, refl, ap, ap₂, sym, ◌∙◌, subst}
 use mathlib.Core.Bool.{Bool, ◌&&◌}
 use mathlib.Core.List.{List, [], ◌∷◌}
-use Prim.Native.Nat.{ℕ, suc, ◌+◌, ◌-◌, ◌*◌, ◌≤◌, ◌<◌}
+use Prim.Native.Nat.{ℕ, suc, ◌+◌, ◌-◌, ◌*◌, ◌≤◌, ◌<◌, min}
+use native.Mathlib.Decide.{dec_lt}
 use native.Mathlib.Omega.{arith}
 use lib.Dec.{leb}
 use lib.ListN.{length, get_or, get_or-eq_default}
@@ -118,8 +119,11 @@ module _ (nodes spans : List ℕ) (T : Names) (z : Sizes) (n : ℕ) where
   pub remains-on : (k f g f' : ℕ) → OperationBound nodes spans k T z g → f' ≡ lesser f g → k < n → Remains nodes spans T z n k f → Remains nodes spans T z n (k + 1) f'
   remains-on k f g f' b q l r os i ρ e w = let m = r os i ρ e w in one_on k f ρ (operations_over os T ρ z i) g f' b q l m.left m.place m.here m.count m.same
 
-  pub remains-full : (k f : ℕ) → length spans ≡ 80 → 18 ≤ k → k < n → Remains nodes spans T z n k f → OperationsBound nodes spans n T z f
-  remains-full k f e h l r os i ρ p w = let m = r os i ρ p w in absurd (no_room k f ρ (operations_over os T ρ z i) e h l m.left m.place m.here m.count)
-
-  pub remains-end : (k f : ℕ) → n ≤ k → Remains nodes spans T z n k f → OperationsBound nodes spans n T z f
-  remains-end k f h r os i ρ p w = let m = r os i ρ p w in all_done k f ρ (operations_over os T ρ z i) h m.left m.place m.count m.same
+  -- behind the last one, or behind the last one that the spans have room for
+  pub remains-end : (k f : ℕ) → length spans ≡ 80 → min n 18 ≤ k → Remains nodes spans T z n k f → OperationsBound nodes spans n T z f
+  remains-end k f e h r os i ρ p w =
+      let m = r os i ρ p w in
+      elim (dec_lt k n) [
+        | yes l ↦ absurd (no_room k f ρ (operations_over os T ρ z i) e (omega arith) l m.left m.place m.here m.count)
+        | no l ↦ all_done k f ρ (operations_over os T ρ z i) (omega arith) m.left m.place m.count m.same
+      ]

@@ -3,7 +3,7 @@
 use mathlib.Core.Path.{◌≡◌, refl, ap, ap₂, ◌∙◌, sym}
 use mathlib.Core.Bool.{Bool, true, false, ◌&&◌, cond}
 use mathlib.Core.List.{List, [], ◌∷◌, ◌++◌, map}
-use mathlib.Core.Option.{Option, none, some}
+use mathlib.Core.Option.{some}
 use Prim.Native.Nat.{ℕ, zero, suc, ◌+◌, ◌-◌, ◌*◌, ◌^◌, ◌%◌, ◌≤◌}
 use native.Mathlib.Omega.{arith}
 use lib.Dec.{eqb, leb}
@@ -12,7 +12,7 @@ use lib.Signed.{le_z, lt_z}
 use borrow.Author.Tests.{leb-true, le-ltb}
 use Rattle.lexical.specs.Lists.{filter}
 use Rattle.lexical.specs.Symbols.{Name, Ending, no_ending, prime, query, shriek}
-use Rattle.refusals.specs.Refusals.{fault, number_of, unless, many_bindings, name_unknown, wide_type}
+use Rattle.refusals.specs.Refusals.{fault, number_of, unless, many_bindings, wide_type, Fault}
 use Rattle.form.specs.Tree.{Letters, Range, Arrow, relation, partial, total, TypeForm, given_type, power_type, range_type, arrow_type, Given, Declaration, Direction, inward, outward, Parameter, Operation, Dossier}
 use Rattle.form.specs.Written.{ending_of}
 use Rattle.form.specs.Headings.{abstract_at, concrete_at, operations_at, operation_length}
@@ -24,10 +24,14 @@ use Rattle.static_rules.specs.Scope.{variables, is_input, is_output, unprimed, i
 use Rattle.static_rules.specs.Limits.{binding_count, operation_bindings, binding_faults}
 use Rattle.type_rules.specs.TypesByNumber.{Names, Sizes, key, unless_key, lesser, least_key}
 use Rattle.names.specs.DeclaredNamesNamesByNumber.{Typed, variables_of, parameters_of}
-use Rattle.names.proofs.TypesAgreeLeast.{Small, no_fault, small-append, small-unless, lesser-assoc, least-nil, unless-least, two-parts, unless-nil, not_nil, append_nil-both}
+use Rattle.names.proofs.TypesAgreeLeast.{lesser-assoc, least-nil, unless-least, two-parts}
 use Rattle.names.proofs.TypesAgreeTypes.{no-yes}
 use Rattle.binding_counts.specs.DeclaredTypesFit.{TypesFit, no_types, one_type, OperationsFit, no_operations, one_operation, DeclaredFit}
 use Rattle.binding_counts.specs.BindingsByNumber.{size_at, type_count, typed_count, state_over, operation_over, operations_over, StateBound, OperationsBound, TypeShown, TypesShown, one_shown, OperationsShown, operation_shown, GivensShown, BindingsSeen}
+use Rattle.refusals.proofs.FaultLists.{append_nil-both, unless-nil}
+use Rattle.static_rules.proofs.Faultless.{given-known}
+use Rattle.static_rules.proofs.FoundCarriers.{arrow-carrier, given-carrier, power-carrier}
+use Rattle.lexical.proofs.BooleanTests.{and_left}
 
 -- ---- ranges ----
 
@@ -51,16 +55,12 @@ range-width (above {a = a} {k = k} e) (below {a = b} {k = l} f) h = no-yes h
 range-width (below {a = a} {k = k} e) (above {a = b} {k = l} f) h = omega arith
 range-width (below {a = a} {k = k} e) (below {a = b} {k = l} f) h = let o = leb-true b a h in omega (arith, sub_abs (suc a) (suc b) (omega arith))
 
-both_left : (p q : Bool) → (p && q) ≡ true → p ≡ true
-both_left true q h = refl
-both_left false q h = h
-
 range-counts : (r : Range) (i : ℕ) → range_faults r i ≡ [] → r.lower.magnitude ≤ 1000 → r.upper.magnitude ≤ 1000
     → end_number r.upper - end_number r.lower + 1 ≡ nat_abs (end_value r.upper -ℤ end_value r.lower) + 1
 unfolding range_faults range_fits
 range-counts r i e p q =
     range-width (end-stands r.lower.negative r.lower.magnitude p) (end-stands r.upper.negative r.upper.magnitude q)
-    (both_left (le_z (end_value r.lower) (end_value r.upper)) (lt_z (end_value r.upper -ℤ end_value r.lower) (pos 64))
+    (and_left (le_z (end_value r.lower) (end_value r.upper)) (lt_z (end_value r.upper -ℤ end_value r.lower) (pos 64))
     (unless-nil (range_fits (end_value r.lower) (end_value r.upper)) (fault (i + end_length r.lower) wide_type) e))
 
 -- ---- types ----
@@ -72,22 +72,6 @@ module _ (T : Names) (z : Sizes) (gs : List Given) (ρ : Numbering) where
     carries : carrier_of gs t ≡ some carrier
     counts : type_count t T ρ z ≡ count_of carrier
 
-  known-given : (o : Option Given) (i : ℕ) → known o i ≡ [] → (x : Given) × (o ≡ some x)
-  known-given none i e = not_nil (fault i name_unknown) [] e
-  known-given (some x) i e = (x, refl)
-
-  given-carrier : (g : Name) (x : Given) → given_of gs g ≡ some x → carrier_of gs (given_type g) ≡ some (elements_of x)
-  unfolding carrier_of
-  given-carrier g x e = rw (carrier_of, e)
-
-  power-carrier : (g : Name) (x : Given) → given_of gs g ≡ some x → carrier_of gs (power_type g) ≡ some (subsets_of x)
-  unfolding carrier_of
-  power-carrier g x e = rw (carrier_of, e)
-
-  arrow-carrier : (a : Arrow) (g h : Name) (x y : Given) → given_of gs g ≡ some x → given_of gs h ≡ some y → carrier_of gs (arrow_type a g h) ≡ some (pairs_in a x y)
-  unfolding carrier_of
-  arrow-carrier a g h x y e f = rw (carrier_of, e, f)
-
   arrow-counts : (a : Arrow) (g h : Name) (n m : ℕ) → size_at T z (name_number ρ g) ≡ n → size_at T z (name_number ρ h) ≡ m → type_count (arrow_type a g h) T ρ z ≡ arrow_count a n m
   unfolding type_count arrow_count
   arrow-counts relation g h n m p q = ap₂ (λ (i j : ℕ). 2 ^ (i * j)) p q
@@ -97,19 +81,19 @@ module _ (T : Names) (z : Sizes) (gs : List Given) (ρ : Numbering) where
   type-counts : (t : TypeForm) (i : ℕ) → type_faults gs t i ≡ [] → TypeShown T z gs ρ t → Counts t
   unfolding type_faults carrier_of type_count count_of
   type-counts (given_type g) i e s =
-      let x = known-given (given_of gs g) i e in record { carrier = elements_of x.0; carries = given-carrier g x.0 x.1; counts = s x.0 x.1 }
+      let x = given-known (given_of gs g) i e in record { carrier = elements_of x.0; carries = given-carrier gs g x.0 x.1; counts = s x.0 x.1 }
   type-counts (power_type g) i e s =
-      let x = known-given (given_of gs g) (suc i) e in
-      record { carrier = subsets_of x.0; carries = power-carrier g x.0 x.1; counts = ap (λ (n : ℕ). 2 ^ n) (s x.0 x.1) }
+      let x = given-known (given_of gs g) (suc i) e in
+      record { carrier = subsets_of x.0; carries = power-carrier gs g x.0 x.1; counts = ap (λ (n : ℕ). 2 ^ n) (s x.0 x.1) }
   type-counts (range_type r) i e s = record { carrier = range_carrier r; carries = refl; counts = range-counts r i e s.0 s.1 }
   type-counts (arrow_type a g h) i e s =
       let l = append_nil-both (known (given_of gs g) i ++ known (given_of gs h) (i + 2)) (pairs_fault (given_of gs g) (given_of gs h) (suc i)) e in
       let m = append_nil-both (known (given_of gs g) i) (known (given_of gs h) (i + 2)) l.0 in
-      let x = known-given (given_of gs g) i m.0 in
-      let y = known-given (given_of gs h) (i + 2) m.1 in
+      let x = given-known (given_of gs g) i m.0 in
+      let y = given-known (given_of gs h) (i + 2) m.1 in
       record {
         carrier = pairs_in a x.0 y.0;
-        carries = arrow-carrier a g h x.0 y.0 x.1 y.1;
+        carries = arrow-carrier gs a g h x.0 y.0 x.1 y.1;
         counts = arrow-counts a g h (size_of x.0) (size_of y.0) (s.0 x.0 x.1) (s.1 y.0 y.1);
       }
 
@@ -220,15 +204,6 @@ module _ (T : Names) (z : Sizes) (d : Dossier) (ρ : Numbering) where
   unfolding number_of
   many ok i = unless-least ok i many_bindings
 
-  few-small : (ok : Bool) (i : ℕ) → Small (unless ok (fault i many_bindings))
-  unfolding number_of
-  few-small ok i = small-unless ok (fault i many_bindings) (omega arith)
-
-  operations-small : (i : ℕ) (os : List Operation) → Small (operation_bindings d i os)
-  unfolding operation_bindings
-  operations-small i [] = no_fault
-  operations-small i (o ∷ os) = small-append (few-small _ i) (operations-small (i + operation_length o) os)
-
   one-least : (o : Operation) → TypesFit d.givens (map (λ (x : Parameter). x.declaration) o.parameters) → TypesShown T z d.givens ρ (parameters_of o.parameters) → (i : ℕ)
       → operation_over o T ρ z i ≡ least_key (unless (leb (binding_count (inputs d o)) 64 && leb (binding_count (outputs d o)) 64) (fault i many_bindings))
   unfolding operation_over
@@ -244,18 +219,19 @@ module _ (T : Names) (z : Sizes) (d : Dossier) (ρ : Numbering) where
   operations-least no_operations s i = sym least-nil
   operations-least (one_operation {o = o} {os = os} f r) s i =
       let q = rest-shown s in
-      two-parts (few-small _ i) (operations-small (i + operation_length o) os) (one-least o f q.0 i) (operations-least r q.1 (i + operation_length o))
+      two-parts (unless (leb (binding_count (inputs d o)) 64 && leb (binding_count (outputs d o)) 64) (fault i many_bindings)) (operation_bindings d (i + operation_length o) os) (one-least o f q.0 i) (operations-least r q.1 (i + operation_length o))
 
   pub all-least : DeclaredFit d → GivensShown T z d ρ
       → lesser (state_over d.abstract T ρ z (abstract_at d)) (lesser (state_over d.concrete T ρ z (concrete_at d)) (operations_over d.operations T ρ z (operations_at d)))
       ≡ least_key (binding_faults d)
   unfolding state_over binding_faults
   all-least f s =
+      let x : List Fault = unless (leb (binding_count (unprimed d d.abstract)) 4096) (fault (abstract_at d) many_bindings) in
+      let y : List Fault = unless (leb (binding_count (unprimed d d.concrete)) 4096) (fault (concrete_at d) many_bindings) in
       let a = ap (λ (n : ℕ). unless_key (leb n 4096) (key (abstract_at d) 12)) (state-counts T z d.givens ρ f.abstracts s.abstracts) ∙ many (leb (binding_count (unprimed d d.abstract)) 4096) (abstract_at d) in
       let c = ap (λ (n : ℕ). unless_key (leb n 4096) (key (concrete_at d) 12)) (state-counts T z d.givens ρ f.concretes s.concretes) ∙ many (leb (binding_count (unprimed d d.concrete)) 4096) (concrete_at d) in
       sym (lesser-assoc (state_over d.abstract T ρ z (abstract_at d)) (state_over d.concrete T ρ z (concrete_at d)) (operations_over d.operations T ρ z (operations_at d)))
-      ∙ two-parts (small-append (few-small _ (abstract_at d)) (few-small _ (concrete_at d))) (operations-small (operations_at d) d.operations)
-      (two-parts (few-small _ (abstract_at d)) (few-small _ (concrete_at d)) a c) (operations-least f.parameters s.parameters (operations_at d))
+      ∙ two-parts (x ++ y) (operation_bindings d (operations_at d) d.operations) (two-parts x y a c) (operations-least f.parameters s.parameters (operations_at d))
 
 -- what the code makes of the two states and the operations
 pub bindings-seen : (nodes spans : List ℕ) (n : ℕ) (T : Names) (z : Sizes) (a c o m r : ℕ) → StateBound nodes spans 0 T z a → StateBound nodes spans 3 T z c → OperationsBound nodes spans n T z o

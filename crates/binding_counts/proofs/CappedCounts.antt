@@ -3,7 +3,7 @@ use mathlib.Core.Path.{◌≡◌, refl, ap, ap₂, sym, subst, ◌∙◌}
 use mathlib.Core.Bool.{Bool, true, false, cond}
 use mathlib.Core.List.{List, [], ◌∷◌, ◌++◌}
 use Prim.Native.Nat.{ℕ, zero, suc, ◌+◌, ◌-◌, ◌*◌, ◌^◌, ◌%◌, ◌≤◌, ◌<◌}
-use native.Mathlib.Nat.{pow-zero, pow-suc, mul-le-mul}
+use native.Mathlib.Nat.{mul-le-mul}
 use native.Mathlib.Omega.{arith}
 use lib.Dec.{eqb, leb}
 use lib.ListN.{length, drop, get_or}
@@ -74,16 +74,6 @@ product-fits c n m h p q = mul-le-mul {n₁ = n} {m₁ = m} {n₂ = 4097} {m₂ 
 
 pub squares-fit : (n m : ℕ) → n < 65536 → m < 65536 → n * m ≤ 4294836225
 squares-fit n m p q = mul-le-mul {n₁ = n} {m₁ = m} {n₂ = 65535} {m₂ = 65535} (omega arith) (omega arith)
-
--- one power more
-pub power-step : (c b i n r : ℕ) → n ≡ cap c (b ^ i) → r ≡ cap c (n * b) → r ≡ cap c (b ^ (i + 1))
-power-step c b i n r e q =
-    let one : i + 1 ≡ suc i = omega arith in
-    q ∙ ap (λ (k : ℕ). cap c (k * b)) e ∙ cap-step c (b ^ i) b ∙ sym (ap (cap c) (ap (λ (j : ℕ). b ^ j) one ∙ pow-suc b i))
-
-pub power-none : (c b : ℕ) → 1 ≡ cap c (b ^ 0)
-unfolding cap
-power-none c b = omega (arith, pow-zero b)
 
 -- ---- a type's node ----
 

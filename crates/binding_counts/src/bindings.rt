@@ -11,13 +11,13 @@ use names::SIZES;
 use names::passes::part;
 use node_spans::{Parts, span};
 use refusals::{Fault, Refusal};
-use type_rules::entries::FIRST_GIVEN;
-use type_rules::kinds::{lesser_of, look, size_in, unless};
+use type_rules::entries::Kind;
+use type_rules::kinds::{entry, lesser_of, look, size_in, unless};
 
 // What each name is, by its number, and how many elements each given set has.
 #[derive(Clone, Copy)]
 struct Sets<'a> {
-    names: &'a [u16],
+    names: &'a [Kind],
     sizes: &'a [u16],
 }
 
@@ -32,22 +32,18 @@ fn product(limit: u32, n: u32, m: u32) -> u32
 
 // A power, likewise.
 fn power(limit: u32, b: u32, k: u32) -> u32
-    requires { (limit ≤ 4096) × (b ≤ 65536) }
+    requires { limit ≤ 4096 }
     ensures { (result ≡ cap limit (b ^ k)) × (result ≤ limit + 1) }
 {
-    let mut n: u32 = 1;
-    for i in 0..k {
-        n = product(limit, n, b);
-    }
-    n
+    b.saturating_pow(k).min(limit + 1)
 }
 
 // How many elements the given set has whose name has the number x.
 fn size_of(g: &Sets<'_>, x: u16) -> u32
     ensures { (result ≡ size_at g.now.names.now g.now.sizes.now x) × (result < 65536) }
 {
-    let k = usize::from(look(g.names, usize::from(x)));
-    size_in(g.sizes, k.saturating_sub(FIRST_GIVEN))
+    let k = entry(g.names, usize::from(x));
+    size_in(g.sizes, usize::from(k.from_first_given()))
 }
 
 // How many numbers a range has.
@@ -147,16 +143,14 @@ fn operation(p: &Parts<'_>, k: usize, g: &Sets<'_>) -> Option<Fault>
 }
 
 // The first n operations, as many as the spans have room for.
-// Form 5: tried: an array in `Parts`; of one behind a struct's reference the proof knows the length only where it is handed on as a slice, as here it is not.
+// Form 5: tried: an array in `Parts`, as `search_groups` has it. The proof knows the length of one behind a struct's reference where a number of it is taken, as there; here none
+// is, and the length that the end of the walk asks for was not found.
 fn all_operations(p: &Parts<'_>, n: usize, g: &Sets<'_>) -> Option<Fault>
     requires { length p.now.spans.now ≡ 80 }
     ensures { OperationsBound p.now.nodes.now p.now.spans.now n g.now.names.now g.now.sizes.now (fault_key result) }
 {
     let mut f = None;
-    for k in 0..n {
-        if span::ROOM <= k {
-            return f;
-        }
+    for k in 0..n.min(span::ROOM) {
         f = lesser_of(f, operation(p, k, g));
     }
     f
@@ -169,7 +163,7 @@ pub fn bindings(
     nodes: &[u16],
     spans: &[u16; span::COUNT],
     operations: usize,
-    names: &[u16],
+    names: &[Kind],
     sizes: &[u16; SIZES],
 ) -> Option<Fault>
     ensures { BindingsSeen nodes.now spans.now operations names.now sizes.now (fault_key result) }

@@ -3,12 +3,11 @@
 // Form 1: the constants are lengths and a base, no kinds.
 #![tactic(auto)]
 
-ghost use Rattle.std.specs.Prelude.{◌≤◌, min};
+ghost use Rattle.std.specs.Prelude.{◌≡◌, ◌-◌, ◌<◌, ◌≤◌, length, MatchOption};
 
 use checker::{advance, drop, load, verdict, witness};
 use held_checks::{HELD, LoadRefusal, Obligation, TEXT, Verdict, length_in};
 use input_texts::read_front;
-use lexical::classes::byte_at;
 use refusals::Refusal;
 use reports::{FIRST_LINE, refuted_line};
 use std::io;
@@ -22,13 +21,6 @@ const LENT: usize = 65536;
 
 const TEN: usize = 10;
 
-// A number of the script, and the place behind it.
-#[derive(Clone, Copy)]
-struct Digits {
-    value: usize,
-    next: usize,
-}
-
 // The value of a digit.
 fn digit_of(b: u8) -> Option<usize> {
     match b {
@@ -37,174 +29,162 @@ fn digit_of(b: u8) -> Option<usize> {
     }
 }
 
-// The number whose digits begin at a place; the largest number where there is no room for it.
-fn number(script: &[u8], at: usize) -> Digits {
-    let mut value: usize = 0;
-    for next in at..script.len() {
-        let Some(digit) = digit_of(script[next]) else {
-            return Digits { value, next };
-        };
-        value = value.saturating_mul(TEN).saturating_add(digit);
+// The first n bytes, or all where there are fewer.
+fn front(bytes: &[u8], n: usize) -> &[u8] {
+    &bytes[..n.min(bytes.len())]
+}
+
+// What is left of a script.
+#[derive(Drop)]
+struct Script<'a> {
+    rest: &'a [u8],
+}
+
+impl<'a> Script<'a> {
+    // Takes n bytes, or all where there are fewer.
+    fn take(&mut self, n: usize) -> &'a [u8]
+        ensures { length self.new.rest.now ≡ length self.old.rest.now - n }
+    {
+        let (taken, rest) = self.rest.split_at(n.min(self.rest.len()));
+        self.rest = rest;
+        taken
     }
-    Digits {
-        value,
-        next: at.max(script.len()),
+
+    // Takes a number and the byte behind it; the largest number where there is no room for it.
+    fn number(&mut self) -> usize
+        ensures { length self.new.rest.now ≤ length self.old.rest.now }
+    {
+        let rest = self.rest;
+        let digits = || rest.iter().map_while(|b| digit_of(*b));
+        self.take(digits().count().saturating_add(1));
+        digits().fold(0, |value: usize, digit| {
+            value.saturating_mul(TEN).saturating_add(digit)
+        })
+    }
+
+    // Takes the letter of a call and the byte behind it, where the script goes on.
+    fn letter(&mut self) -> Option<u8>
+        ensures { MatchOption result Unit (λ _. length self.new.rest.now < length self.old.rest.now) }
+    {
+        let letter = self.rest.first().copied()?;
+        self.take(2);
+        Some(letter)
     }
 }
 
-// The place n behind another one, within the script.
-fn onward(at: usize, n: usize, length: usize) -> usize
-    ensures { (result ≤ length) × (min at length ≤ result) }
-{
-    at.saturating_add(n).min(length)
+// Where answers go, and the held check that is asked.
+#[derive(Drop)]
+struct Session<'a, W> {
+    output: &'a mut W,
+    held: &'a mut [u8; HELD],
 }
 
-fn print<W: Write>(output: &mut W, text: &[u8]) -> io::Result<()> {
-    output.write_all(text)
-}
+impl<W: Write> Session<'_, W> {
+    fn print(&mut self, text: &[u8]) -> io::Result<()> {
+        self.output.write_all(text)
+    }
 
-fn print_number<W: Write>(output: &mut W, n: usize) -> io::Result<()> {
-    writeln!(output, "{n}")
-}
+    fn print_number(&mut self, n: usize) -> io::Result<()> {
+        writeln!(self.output, "{n}")
+    }
 
-fn print_refused<W: Write>(output: &mut W, refusal: Refusal) -> io::Result<()> {
-    let n = refusal.number();
-    writeln!(output, "refused {n}")
-}
+    fn print_refused(&mut self, refusal: Refusal) -> io::Result<()> {
+        let n = refusal.number();
+        writeln!(self.output, "refused {n}")
+    }
 
-fn run_load<W: Write>(
-    output: &mut W,
-    script: &[u8],
-    at: usize,
-    held: &mut [u8; HELD],
-) -> io::Result<usize> {
-    let n = number(script, at);
-    let from = onward(n.next, 1, script.len());
-    let end = onward(from, n.value, script.len());
-    let answer = load(&script[from..end], held);
-    match answer {
-        Ok(()) => print(output, b"ok\n")?,
-        Err(LoadRefusal::Faulty(fault)) => {
-            let k = fault.refusal.number();
-            let p = fault.place;
-            writeln!(output, "refused {k} at {p}")?
+    fn load(&mut self, text: &[u8]) -> io::Result<()> {
+        match load(text, self.held) {
+            Ok(()) => self.print(b"ok\n"),
+            Err(LoadRefusal::Faulty(fault)) => {
+                let k = fault.refusal.number();
+                let p = fault.place;
+                writeln!(self.output, "refused {k} at {p}")
+            }
+            Err(LoadRefusal::SomethingHeld) => self.print_refused(Refusal::SomethingHeld),
         }
-        Err(LoadRefusal::SomethingHeld) => print_refused(output, Refusal::SomethingHeld)?,
     }
-    Ok(onward(end, 1, script.len()))
-}
 
-fn run_advance<W: Write>(output: &mut W, n: usize, held: &mut [u8; HELD]) -> io::Result<()> {
-    let answer = advance(n, held);
-    match answer {
-        Ok(k) => print_number(output, k),
-        Err(refusal) => print_refused(output, refusal),
-    }
-}
-
-// The first line of the report of the held text, of length n, in lent bytes. Form 6: the length stands among the held bytes, which the checker alone slices.
-fn put_line(held: &[u8], n: usize, o: Obligation, line: &mut [u8; FIRST_LINE]) -> usize {
-    if held.len() < TEXT {
-        return 0;
-    }
-    let end = onward(TEXT, n, held.len());
-    refuted_line(&held[TEXT..end], o, line)
-}
-
-// The first n bytes.
-fn print_front<W: Write>(output: &mut W, text: &[u8], n: usize) -> io::Result<()> {
-    let start: usize = 0;
-    let end = onward(start, n, text.len());
-    print(output, &text[start..end])
-}
-
-fn print_refuted<W: Write>(output: &mut W, held: &[u8; HELD], o: Obligation) -> io::Result<()> {
-    let mut line = [0u8; FIRST_LINE];
-    let n = put_line(held, length_in(held), o, &mut line);
-    print_front(output, &line, n)
-}
-
-fn print_verdict<W: Write>(output: &mut W, held: &[u8; HELD], v: Verdict) -> io::Result<()> {
-    match v {
-        Verdict::Unfinished => print(output, b"unfinished\n"),
-        Verdict::Accepted => print(output, b"accepted\n"),
-        Verdict::Refuted(o) => print_refuted(output, held, o),
-    }
-}
-
-fn run_verdict<W: Write>(output: &mut W, held: &[u8; HELD]) -> io::Result<()> {
-    let answer = verdict(held);
-    match answer {
-        Ok(v) => print_verdict(output, held, v),
-        Err(refusal) => print_refused(output, refusal),
-    }
-}
-
-// The witness in the first n of the bytes that there are.
-fn lend<W: Write>(output: &mut W, n: usize, held: &[u8; HELD], space: &mut [u8]) -> io::Result<()> {
-    let start: usize = 0;
-    let end = onward(start, n, space.len());
-    let answer = witness(held, &mut space[start..end]);
-    match answer {
-        Ok(k) => print_number(output, k)?,
-        Err(refusal) => print_refused(output, refusal)?,
-    }
-    print_front(output, space, end)?;
-    print(output, b"\n")
-}
-
-fn run_witness<W: Write>(output: &mut W, n: usize, held: &[u8; HELD]) -> io::Result<()> {
-    let mut space = [b'_'; LENT];
-    lend(output, n, held, &mut space)
-}
-
-// The call at a place; the place behind it.
-fn run_call<W: Write>(
-    output: &mut W,
-    script: &[u8],
-    at: usize,
-    held: &mut [u8; HELD],
-) -> io::Result<usize> {
-    let letter = byte_at(script, at);
-    let from = onward(at, 2, script.len());
-    if letter == b'l' {
-        return run_load(output, script, from, held);
-    }
-    if letter == b'v' {
-        run_verdict(output, held)?;
-        return Ok(from);
-    }
-    if letter == b'd' {
-        drop(held);
-        print(output, b"ok\n")?;
-        return Ok(from);
-    }
-    let n = number(script, from);
-    if letter == b'a' {
-        run_advance(output, n.value, held)?;
-    }
-    if letter == b'w' {
-        run_witness(output, n.value, held)?;
-    }
-    Ok(onward(n.next, 1, script.len()))
-}
-
-// The calls of a script, one behind the other. Form 3: where the next call begins the last one answers.
-fn run<W: Write>(output: &mut W, script: &[u8], held: &mut [u8; HELD]) -> io::Result<()> {
-    let mut at: usize = 0;
-    while at < script.len() {
-        let next = run_call(output, script, at, held)?;
-        if next <= at {
-            return Ok(());
+    fn advance(&mut self, n: usize) -> io::Result<()> {
+        match advance(n, self.held) {
+            Ok(k) => self.print_number(k),
+            Err(refusal) => self.print_refused(refusal),
         }
-        at = next;
     }
-    Ok(())
+
+    // The first line of the report of the held text.
+    fn print_refuted(&mut self, o: Obligation) -> io::Result<()> {
+        let mut line = [0u8; FIRST_LINE];
+        let held: &[u8; HELD] = self.held;
+        let text = front(&held[TEXT..], length_in(held));
+        let n = refuted_line(text, o, &mut line);
+        self.print(front(&line, n))
+    }
+
+    fn verdict(&mut self) -> io::Result<()> {
+        match verdict(self.held) {
+            Ok(Verdict::Unfinished) => self.print(b"unfinished\n"),
+            Ok(Verdict::Accepted) => self.print(b"accepted\n"),
+            Ok(Verdict::Refuted(o)) => self.print_refuted(o),
+            Err(refusal) => self.print_refused(refusal),
+        }
+    }
+
+    // The answer of a call for the witness, and the n bytes that it was lent, at most as many as there are here.
+    fn witness(&mut self, n: usize) -> io::Result<()> {
+        let mut space = [b'_'; LENT];
+        let lent = &mut space[..n.min(LENT)];
+        match witness(self.held, lent) {
+            Ok(k) => self.print_number(k)?,
+            Err(refusal) => self.print_refused(refusal)?,
+        }
+        self.print(lent)?;
+        self.print(b"\n")
+    }
+
+    fn release(&mut self) -> io::Result<()> {
+        drop(self.held);
+        self.print(b"ok\n")
+    }
+
+    // The call of a letter, the rest of which the script begins with.
+    fn call(&mut self, letter: u8, script: &mut Script<'_>) -> io::Result<()>
+        ensures { length script.new.rest.now ≤ length script.old.rest.now }
+    {
+        match letter {
+            b'l' => {
+                let n = script.number();
+                let text = script.take(n);
+                script.take(1);
+                self.load(text)
+            }
+            b'a' => self.advance(script.number()),
+            b'v' => self.verdict(),
+            b'w' => self.witness(script.number()),
+            b'd' => self.release(),
+            _ => {
+                script.number();
+                Ok(())
+            }
+        }
+    }
+
+    // The calls of a script, one behind the other. Form 3: how much of the script a call takes, says the call.
+    fn run(&mut self, script: &mut Script<'_>) -> io::Result<()> {
+        while let Some(letter) = script.letter() {
+            self.call(letter, script)?;
+        }
+        Ok(())
+    }
 }
 
 fn main(rt: HostRuntime) -> io::Result<()> {
     let mut script = [0u8; SCRIPT];
     let n = read_front(&mut rt.stdin(), &mut script)?;
     let mut held = [0u8; HELD];
-    run(&mut rt.stdout(), &script[..n], &mut held)
+    let mut session = Session {
+        output: &mut rt.stdout(),
+        held: &mut held,
+    };
+    session.run(&mut Script { rest: &script[..n] })
 }

@@ -14,6 +14,7 @@ pub fn number_at(a: i32, k: u32) -> i64
 }
 
 // How many bits a row of a partial function has at least, and one of a total function.
+// Form 1: numbers that are counted with, as in `mask_at` of the definitions and its laws; each function would turn an enum's arms back into them.
 const PARTIAL_LEAST: u32 = 0;
 
 const TOTAL_LEAST: u32 = 1;
@@ -21,17 +22,11 @@ const TOTAL_LEAST: u32 = 1;
 // How many bits a set has, as a place of a pair.
 const BITS: u64 = sets::BITS as u64;
 
-// Do n rows of m bits fit a set, and can a row have `least` bits, which is 0 or 1? Rows of more bits than a set has fit only where there are none.
+// Do n rows of m bits fit a set, and can a row have `least` bits? Rows of more bits than a set has fit only where there are none.
 fn room(least: u32, n: u32, m: u32) -> bool
-    ensures { (result ≡ true → Room least n m) × (result ≡ false → least ≤ 1 → least ≤ m → n * m ≤ 16 → n ≡ 0) }
+    ensures { (result ≡ true → least ≤ 1 → Room least n m) × (result ≡ false → least ≤ m → n * m ≤ 16 → n ≡ 0) }
 {
-    if least > TOTAL_LEAST {
-        return false;
-    }
-    if least > m {
-        return false;
-    }
-    if m > sets::BITS {
+    if m < least || sets::BITS < m {
         return false;
     }
     sets::pair(m, n, 0) <= BITS
@@ -39,7 +34,8 @@ fn room(least: u32, n: u32, m: u32) -> bool
 
 // The k-th set of n rows of m bits, each with one bit at most and `least` at least: the digits of k say which bit, the first row's the lowest.
 fn mask_at(least: u32, n: u32, m: u32, k: u32) -> u16
-    ensures { (least ≤ 1 → least ≤ m → n * m ≤ 16 → result ≡ mask_at least n m k) × (16 < n * m → result ≡ 0) × (m < least → result ≡ 0) }
+    requires { least ≤ 1 }
+    ensures { (least ≤ m → n * m ≤ 16 → result ≡ mask_at least n m k) × (16 < n * m → result ≡ 0) × (m < least → result ≡ 0) }
 {
     if !room(least, n, m) {
         return 0;
@@ -75,7 +71,8 @@ pub fn total_mask(n: u32, m: u32, k: u32) -> u16
 
 // How many sets of n rows of m bits there are, each row with one bit at most and `least` at least.
 fn count_at(least: u32, n: u32, m: u32) -> u32
-    ensures { (least ≤ 1 → least ≤ m → n * m ≤ 16 → result ≡ choices least m ^ n) × (16 < n * m → result ≡ 1) × (m < least → result ≡ 1) }
+    requires { least ≤ 1 }
+    ensures { (least ≤ m → n * m ≤ 16 → result ≡ choices least m ^ n) × (16 < n * m → result ≡ 1) × (m < least → result ≡ 1) }
 {
     if !room(least, n, m) {
         return 1;
@@ -103,12 +100,8 @@ pub fn total_count(n: u32, m: u32) -> u32
 pub fn digit(stride: u32, count: u32, k: u32) -> u32
     ensures { result ≡ digit stride count k }
 {
-    if stride == 0 {
+    let Some(q) = k.checked_div(stride) else {
         return 0;
-    }
-    let q = k / stride;
-    if count == 0 {
-        return q;
-    }
-    q % count
+    };
+    q.checked_rem(count).unwrap_or(q)
 }

@@ -12,17 +12,22 @@ use Rattle.obligations.specs.Report.{check_at}
 use Rattle.obligations.specs.Calls as calls
 use Rattle.obligations.specs.Calls.{Verdict, unfinished, accepted, refuted, Held, nothing, holding, Call, load, advance, verdict, witness, release, Outcome, outcome, loading, respond}
 use Rattle.obligations.proofs.PlainCalls.{drops}
-use Rattle.std.specs.Prelude.{Result, Ok, Err, IsErrAnd}
+use Rattle.std.specs.Prelude.{Result, Ok, Err, IsErrAnd, Option, Some, None}
+use Rattle.std.specs.Option.{ok_or}
+use Rattle.std.specs.Result.{result_ok}
 use Rattle.held_checks.specs.declared.LoadRefusal.{LoadRefusal}
 use Rattle.held_checks.specs.declared.LoadRefusal.TheVariants.{Faulty}
 use Rattle.refusals.specs.RefusalNames.{fault_is}
 use Rattle.refusals.specs.declared.Fault.{Fault}
+use Rattle.refusals.specs.declared.Refusal as name
 use Rattle.static_rules.specs.Read.{refusal, read}
 use Rattle.held_checks.specs.declared.Verdict as code
 use Rattle.held_checks.specs.HeldBytes.{bytes_of, none_held, verdict_marked, held_by}
 use Rattle.held_checks.specs.Answers.{Answer, refused, refused_at, loaded, verdict_is, dropped, answer_to, verdict_of, load_answer}
 use Rattle.held_checks.specs.CallPromises.{text_after, bytes_left, bytes_after, Responds}
-use Rattle.checker.specs.OpenPromises.{Opened}
+use Rattle.held_checks.specs.StepPromises.{mark_byte}
+use Rattle.checker.specs.declared.Opened as opened
+use Rattle.checker.specs.OpenPromises.{Opened, Opens}
 use Rattle.checker.proofs.OpenLaws.{TextHeld}
 use Rattle.checker.proofs.MarkLaws.{fits-accepted, marked-unfinished, marked-accepted, marked-refuted}
 
@@ -128,3 +133,28 @@ module _ {b table rows firsts groups labels : List ℕ} {mark place operations a
       some false q =
           let e = fits-accepted all place mark o.fits (eqb-false mark 1 q) t.2 in
           subst (λ (k : Verdict). Responds b verdict b [] (verdict_is k)) (sym (t.1 e)) (verdict-accepted e)
+
+-- what the bytes were opened as, by what `ok_or` makes of it; and where nothing is held, the refusal of it
+module _ {b table rows firsts groups labels : List ℕ} {r : Option opened.Opened} {x : Result opened.Opened name.Refusal} (h : Opens b table rows firsts groups labels r) (e : r ≡ result_ok x) where
+  pub opened-as : {o : opened.Opened} → x ≡ Ok o → Opened b table rows firsts groups labels (mark_byte o.mark) o.place o.operations o.all
+  opened-as {o} f = h.some o (e ∙ ap result_ok f)
+
+  pub opened-not : {k : name.Refusal} → x ≡ Err k → held_by b ≡ nothing
+  opened-not f = h.none (e ∙ ap result_ok f)
+
+abbrev refusal_or : name.Refusal → Result opened.Opened name.Refusal → name.Refusal
+refusal_or n (Ok o) = n
+refusal_or n (Err k) = k
+
+abbrev IsRefused : Result opened.Opened name.Refusal → Type 0
+IsRefused (Ok o) = ⊥
+IsRefused (Err k) = Unit {0}
+
+refused-so : (r : Option opened.Opened) {k n : name.Refusal} → Err k ≡ ok_or r n → k ≡ n
+refused-so None {k} e = ap (refusal_or k) e
+refused-so (Some o) {k} e = absurd (subst IsRefused e tt)
+
+pub refused-as : {A : Type 0} (r : Option opened.Opened) {x : Result opened.Opened name.Refusal} {k n : name.Refusal} (y : Result A name.Refusal) → IsErrAnd y (λ (l : name.Refusal). l ≡ k) → x ≡ Err k → x ≡ ok_or r n
+    → Err n ≡ y
+refused-as r (Ok a) f e g = absurd f
+refused-as r (Err l) f e g = sym (ap Err (f ∙ refused-so r (sym e ∙ g)))

@@ -2,10 +2,9 @@
 use mathlib.Core.Path.{◌≡◌, refl, sym, ap, ap₂, ◌∙◌, subst}
 use mathlib.Core.Bool.{Bool, cond}
 use mathlib.Core.List.{List, [], ◌++◌}
-use Prim.Native.Nat.{ℕ, zero, suc, pred, ◌+◌, ◌-◌, ◌*◌, ◌/◌, ◌%◌, ◌<◌, ◌≤◌}
+use Prim.Native.Nat.{ℕ, pred, ◌+◌, ◌-◌, ◌<◌, ◌≤◌}
 use native.Mathlib.Nat.{zero-add}
 use native.Mathlib.Omega.{arith}
-use native.Mathlib.Decide.{dec_lt}
 use lib.ListN.{length, take, drop}
 use lib.Seq.{take-append_seam}
 use borrow.Author.Tests.{lt-ltb, le-ltb}
@@ -28,6 +27,7 @@ use Rattle.held_checks.specs.HeldBytes.{held_text, held_by}
 use Rattle.held_checks.specs.Answers.{refused, verdict_is, written, obligation_is}
 use Rattle.held_checks.specs.CallPromises.{Responds}
 use Rattle.held_checks.specs.StepPromises.{PartTold}
+use Rattle.held_checks.proofs.StepLaws.{told-case}
 use Rattle.search_groups.specs.declared.Dossier as tables
 use Rattle.text_readings.specs.TextPromises.{Lent}
 use Rattle.text_readings.proofs.LentArrays.{given-back}
@@ -37,18 +37,9 @@ use Rattle.checker.proofs.CallLaws.{responds, refuses, held-as, verdict-is}
 
 -- the obligation of a part, by its number, is that of the checks at its places
 part-obligation : (d : Dossier) (part q : ℕ) {r : Obligation} → PartTold part r → part < parts d → q < part_size d part → obligation_is r ≡ obligation_of (check_at (subject_of d) (part_begin d part + q))
-part-obligation d zero q t h l = t.opening refl ∙ sym (obligation-opening d zero q l refl)
-part-obligation d (suc k) q t h l =
-    elim (dec_lt 0 (k % 2)) [
-      | yes e ↦ (
-          let s : suc k ≡ 2 + 2 * (k / 2) = omega arith in
-          t.correcting (k / 2) s ∙ sym (obligation-correcting d (suc k) q l (k / 2) s (omega arith))
-          )
-      | no e ↦ (
-          let s : suc k ≡ 1 + 2 * (k / 2) = omega arith in
-          t.applying (k / 2) s ∙ sym (obligation-applying d (suc k) q l (k / 2) s (omega arith))
-          )
-    ]
+part-obligation d part q t h l =
+    told-case (λ (o : order.Obligation). o ≡ obligation_of (check_at (subject_of d) (part_begin d part + q))) part t
+    (λ e. sym (obligation-opening d part q l e)) (λ j e. sym (obligation-applying d part q l j e (omega (arith, e, h)))) (λ j e. sym (obligation-correcting d part q l j e (omega (arith, e, h))))
 
 -- the place looked at last is asked for
 module _ {text labels table groups : List ℕ} {operations place : ℕ} (a : LastAsked text labels table groups operations place) where

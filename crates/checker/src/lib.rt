@@ -94,17 +94,11 @@ pub fn advance(n: usize, held: &mut [u8; HELD]) -> Result<usize, Refusal>
     ensures { Responds held.old (call.advance n) held.new [] (advance_answer result) }
 {
     let mut a = Arrays::new();
-    let o = open_bytes(held, &mut a);
-    let Some(o) = o else {
-        return Err(Refusal::NothingHeld);
-    };
+    let o = open_bytes(held, &mut a).ok_or(Refusal::NothingHeld)?;
     if o.mark != Mark::Unfinished {
         return Err(Refusal::CheckFinished);
     }
-    if n == 0 {
-        return Err(Refusal::AdvanceRange);
-    }
-    if n > LONGEST {
+    if n == 0 || LONGEST < n {
         return Err(Refusal::AdvanceRange);
     }
     let d = a.dossier(o.operations);
@@ -118,10 +112,7 @@ pub fn verdict(held: &[u8; HELD]) -> Result<Verdict, Refusal>
     ensures { Responds held.now call.verdict held.now [] (verdict_answer result) }
 {
     let mut a = Arrays::new();
-    let o = open_bytes(held, &mut a);
-    let Some(o) = o else {
-        return Err(Refusal::NothingHeld);
-    };
+    let o = open_bytes(held, &mut a).ok_or(Refusal::NothingHeld)?;
     if let Some(v) = told(o.mark) {
         return Ok(v);
     }
@@ -131,8 +122,7 @@ pub fn verdict(held: &[u8; HELD]) -> Result<Verdict, Refusal>
 }
 
 // The lines of the binding before the place of a held text, in bytes of their own.
-fn put_held(held: &[u8; HELD], a: &Arrays, o: Opened, out: &mut [u8]) -> usize
-    requires out_len { length out.old ≡ 19350 }
+fn put_held(held: &[u8; HELD], a: &Arrays, o: Opened, out: &mut [u8; WITNESS]) -> usize
     requires held_value { is_laid held.now ≡ true }
     requires last_asked { LastAsked (held_text held.now) a.now.labels a.now.table a.now.groups o.operations o.place }
     ensures { LastWritten (held_text held.now) a.now.labels a.now.table a.now.groups o.operations o.place out.new result }
@@ -154,10 +144,7 @@ pub fn witness(held: &[u8; HELD], lent: &mut [u8]) -> Result<usize, Refusal>
     ensures { Responds held.now (call.witness lent.old) held.now lent.new (witness_answer result) }
 {
     let mut a = Arrays::new();
-    let o = open_bytes(held, &mut a);
-    let Some(o) = o else {
-        return Err(Refusal::NothingHeld);
-    };
+    let o = open_bytes(held, &mut a).ok_or(Refusal::NothingHeld)?;
     if o.mark != Mark::Refuted {
         return Err(Refusal::NoCounterexample);
     }

@@ -25,32 +25,26 @@ struct Wanting {
 }
 
 // The ends of the symbols of some nodes, none where they have no symbol.
+// Form 1: nodes are lent as numbers; place 0, where the contents begin, is that of nodes that join others and have no symbol.
 fn ends_of(nodes: &[u16]) -> Option<Ends> {
-    let mut ends: Option<Ends> = None;
-    for n in nodes.chunks_exact(node::SIZE) {
-        let symbol = usize::from(n.get(node::PLACE).copied().unwrap_or(0));
-        if symbol != 0 {
-            ends = match ends {
-                Some(e) => Some(Ends {
-                    first: e.first.min(symbol),
-                    last: e.last.max(symbol),
-                }),
-                None => Some(Ends {
-                    first: symbol,
-                    last: symbol,
-                }),
-            };
-        }
-    }
-    ends
+    let symbols = || {
+        nodes
+            .chunks_exact(node::SIZE)
+            .filter_map(|n| n.get(node::PLACE).copied())
+            .filter(|s| *s != 0)
+    };
+    Some(Ends {
+        first: usize::from(symbols().min()?),
+        last: usize::from(symbols().max()?),
+    })
 }
 
 // Does a conjunct go on with such a symbol behind its last node: the number behind div, mod or .., the sets behind `empty`?
 fn goes_on(kind: u8) -> bool {
-    match kind {
-        codes::NUMBER | codes::PLAIN | codes::DASH | codes::UP_TO => true,
-        _ => false,
-    }
+    matches!(
+        kind,
+        codes::NUMBER | codes::PLAIN | codes::DASH | codes::UP_TO
+    )
 }
 
 // On over the symbols that have no node.

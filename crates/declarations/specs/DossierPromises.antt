@@ -1,7 +1,7 @@
 -- What the functions that read contents, bodies and declarations promise each other, and what a dossier that was read is. Nothing here need be believed.
 use Rattle.std.specs.Prelude.{◌≡◌, List, [], ◌∷◌, ◌++◌, ℕ, ◌+◌, ◌*◌, ◌≤◌, length, take, get_or, Ok, Err, Bool, true, Option, Some, None}
 use Rattle.lexical.specs.Kinds as kind
-use Rattle.lexical.specs.Kinds.{Kind, code_of}
+use Rattle.lexical.specs.Kinds.{Kind}
 use Rattle.lexical.specs.Symbols.{Symbol}
 use Rattle.form.specs.Written.{Mark, a_given, a_variable, an_input, an_output, an_operation}
 use Rattle.form.specs.Machine.{Item, exact, a_declared, a_type, a_unary, a_pred_rest, some_entries, some_op_entries, some_bodies, some_declarations, Run, complete, failed, run}
@@ -76,16 +76,6 @@ pub record ContentsAt (s ν code : List ℕ) (e m : ℕ) : Type 0 where
 abbrev pub ContentsMade : (s ν code : List ℕ) → Answer → Type 0
 ContentsMade s ν code (Ok e) = ContentsAt s ν code e.at e.count
 ContentsMade s ν code (Err f) = Unit {0}
-
--- some first ones of a list, up to the symbol j: what stands there from j on stands from i on with their nodes in front
-pub record MoreAt (s ν : List ℕ) (x : Part) (i n : ℕ) (a b : List ℕ) (j m : ℕ) : Type 0 where
-  pub nodes : List ℕ
-  pub more : (k : ℕ) (u : List ℕ) → Derives s ν x j k u → Derives s ν x i k (nodes ++ u)
-  pub written : take m b ≡ take n a ++ nodes
-
-abbrev pub More : (s ν : List ℕ) → Part → (i n : ℕ) → (a b : List ℕ) → Answer → Type 0
-More s ν x i n a b (Ok e) = MoreAt s ν x i n a b e.at e.count
-More s ν x i n a b (Err f) = Unit {0}
 
 -- parts one behind another
 pub data Sequence (s ν : List ℕ) : List Part → ℕ → ℕ → List ℕ → Type 0 where

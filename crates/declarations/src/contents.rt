@@ -6,8 +6,8 @@ ghost use Rattle.form.specs.Written.{an_element, a_variable};
 ghost use Rattle.form.specs.Machine.{exact, a_declared, a_type, a_type_rest, a_dossier, some_bodies, some_elements, some_declarations, some_operations, some_parameters};
 ghost use Rattle.form_nodes.specs.FormPromises.{Reads, Room, Shown};
 ghost use Rattle.form_nodes.specs.Derivations as part;
-ghost use Rattle.form_nodes.specs.Derivations.{Made, NameAt, a_declaration, some_givens};
-ghost use Rattle.declarations.specs.DossierPromises.{EntriesRead, five_words, WordsAt, ContentsMade, When, More, two_states, three_conditions, Arrows, Directs, a_typed, counted_by, inputs_by, outputs_by};
+ghost use Rattle.form_nodes.specs.Derivations.{Made, NameAt, a_declaration, some_givens, More};
+ghost use Rattle.declarations.specs.DossierPromises.{EntriesRead, five_words, WordsAt, ContentsMade, When, two_states, three_conditions, Arrows, Directs, a_typed, counted_by, inputs_by, outputs_by};
 
 use form::shapes;
 use form_nodes::kinds::kind_at;

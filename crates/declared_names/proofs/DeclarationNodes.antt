@@ -308,13 +308,12 @@ number-in d a p x i ρ r e = p ∙ node-a d 0 6 i (name_number ρ x.called) 0 (t
 
 -- the first fault of one declaration, by its parts
 pub declaration-fault : (code : List ℕ) (at : ℕ) (T : Names) (z : Sizes) (m old w here r f : ℕ) → m ≡ get_or code (at + 1) 0 → old ≡ entry T m
-    → w ≡ get_or code (at + 2) 0 → here ≡ unless_key (eqb old 0) (key w 8) → TypeFaulted code (at + 4) T z f → r ≡ lesser here f → DeclarationFaulted code at T z r
-unfolding is_free
+    → w ≡ get_or code (at + 2) 0 → here ≡ unless_key (is_free old) (key w 8) → TypeFaulted code (at + 4) T z f → r ≡ lesser here f → DeclarationFaulted code at T z r
 declaration-fault code at T z m old w here r f p q s t u v x i ρ rest e =
     let a = node-a code at 6 i (name_number ρ x.called) 0 (type_codes x.type (i + 2) ρ ++ rest) e in
     let b = node-place code at 6 i (name_number ρ x.called) 0 (type_codes x.type (i + 2) ρ ++ rest) e in
     let o : old ≡ entry T (name_number ρ x.called) = q ∙ ap (λ (n : ℕ). entry T n) (p ∙ a) in
-    v ∙ ap₂ lesser (t ∙ ap₂ (λ (n k : ℕ). unless_key (eqb n 0) (key k 8)) o (s ∙ b)) (u x.type (i + 2) ρ rest (typed-type code at x i ρ rest e))
+    v ∙ ap₂ lesser (t ∙ ap₂ (λ (n k : ℕ). unless_key (is_free n) (key k 8)) o (s ∙ b)) (u x.type (i + 2) ρ rest (typed-type code at x i ρ rest e))
 
 pub reached : (code : List ℕ) (at s : ℕ) (T U : Names) (m k : ℕ) → m ≡ get_or code (at + 1) 0 → TypeKinded code (at + 4) T k → U ≡ set T (m + s) k → Reached code at s T U
 reached code at s T U m k p q h x i ρ rest e =

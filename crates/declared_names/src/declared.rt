@@ -9,55 +9,53 @@ use form::{node, shapes};
 use lexical::bounds;
 use refusals::{Fault, Refusal};
 use type_rules::entries;
-use type_rules::kinds::{
-    all_well, element_of, is_given, lesser_of, look, over_fault, pair_of, put, range_fits, set_of,
-    unless,
-};
+use type_rules::entries::Kind;
+use type_rules::kinds::{all_well, entry, lesser_of, look, over_fault, put, range_fits, unless};
 
 // What a name of a declared type is: the type's node begins at `at`.
-pub fn type_kind(code: &[u16], at: usize, names: &[u16]) -> u16
+pub fn type_kind(code: &[u16], at: usize, names: &[Kind]) -> Kind
     requires { at + 4 ≤ length code.now }
     ensures { TypeKinded code.now at names.now result }
 {
-    let g = element_of(look(names, usize::from(code[at + node::A])));
+    let g = entry(names, usize::from(code[at + node::A])).element_of();
     match code[at + node::SHAPE] {
         shapes::SET => g,
         shapes::RANGE => entries::NUMBER,
-        shapes::POWER => set_of(g),
-        _ => pair_of(g, element_of(look(names, usize::from(code[at])))),
+        shapes::POWER => g.set_of(),
+        _ => g.pair_with(entry(names, usize::from(code[at])).element_of()),
     }
 }
 
 // The first fault of a declared type.
-pub fn type_fault(code: &[u16], at: usize, names: &[u16], sizes: &[u16]) -> Option<Fault>
+pub fn type_fault(code: &[u16], at: usize, names: &[Kind], sizes: &[u16]) -> Option<Fault>
     requires { at + 4 ≤ length code.now }
     ensures { TypeFaulted code.now at names.now sizes.now (fault_key result) }
 {
     let a = code[at + node::A];
     let b = code[at];
     let i = usize::from(code[at + node::PLACE]);
-    let g = look(names, usize::from(a));
+    let g = entry(names, usize::from(a));
     match code[at + node::SHAPE] {
-        shapes::SET => unless(is_given(g), i, Refusal::NameUnknown),
+        shapes::SET => unless(g.is_given(), i, Refusal::NameUnknown),
         shapes::RANGE => unless(range_fits(a, b), i, Refusal::WideType),
-        shapes::POWER => unless(is_given(g), i + 1, Refusal::NameUnknown),
-        _ => pairs_fault(i, g, look(names, usize::from(b)), sizes),
+        shapes::POWER => unless(g.is_given(), i + 1, Refusal::NameUnknown),
+        _ => pairs_fault(i, g, entry(names, usize::from(b)), sizes),
     }
 }
 
 // The first fault of a type of pairs, by what its two names are.
-fn pairs_fault(i: usize, g: u16, h: u16, sizes: &[u16]) -> Option<Fault>
+fn pairs_fault(i: usize, g: Kind, h: Kind, sizes: &[u16]) -> Option<Fault>
     requires { i < 65536 }
     ensures { fault_key result ≡ pairs_key_at i g h sizes.now }
 {
-    let first = unless(is_given(g), i, Refusal::NameUnknown);
-    let second = unless(is_given(h), i + 2, Refusal::NameUnknown);
+    let first = unless(g.is_given(), i, Refusal::NameUnknown);
+    let second = unless(h.is_given(), i + 2, Refusal::NameUnknown);
     let over = over_fault(sizes, g, h, i + 1);
     lesser_of(first, lesser_of(second, over))
 }
 
 // Declarations, each of which brings its name into reach: the first fault.
-pub fn declare(code: &[u16], names: &mut [u16], sizes: &[u16]) -> Result<(), Fault>
+pub fn declare(code: &[u16], names: &mut [Kind], sizes: &[u16]) -> Result<(), Fault>
     ensures { DeclaredSeen code.now names.old names.new sizes.now (refused_key result) }
 {
     for d in code.chunks_exact(node::DECLARATION) {
@@ -68,13 +66,13 @@ pub fn declare(code: &[u16], names: &mut [u16], sizes: &[u16]) -> Result<(), Fau
 }
 
 // The first fault of a declaration, by its nodes.
-fn declaration_fault(d: &[u16], names: &[u16], sizes: &[u16]) -> Option<Fault>
+fn declaration_fault(d: &[u16], names: &[Kind], sizes: &[u16]) -> Option<Fault>
     requires { length d.now ≡ 8 }
     ensures { DeclarationFaulted d.now 0 names.now sizes.now (fault_key result) }
 {
-    let old = look(names, usize::from(d[node::A]));
+    let old = entry(names, usize::from(d[node::A]));
     let here = unless(
-        old == entries::FREE,
+        old.is_free(),
         usize::from(d[node::PLACE]),
         Refusal::NameInUse,
     );
@@ -83,7 +81,7 @@ fn declaration_fault(d: &[u16], names: &[u16], sizes: &[u16]) -> Option<Fault>
 }
 
 // A declared name comes into reach, with `shift` added to its number.
-fn reach(d: &[u16], shift: u16, names: &mut [u16])
+fn reach(d: &[u16], shift: u16, names: &mut [Kind])
     requires { length d.now ≡ 8 }
     ensures { Reached d.now 0 shift names.old names.new }
 {
@@ -92,7 +90,7 @@ fn reach(d: &[u16], shift: u16, names: &mut [u16])
 }
 
 // Declared names come into reach.
-pub fn show(code: &[u16], shift: u16, names: &mut [u16])
+pub fn show(code: &[u16], shift: u16, names: &mut [Kind])
     ensures { ShownSeen code.now shift names.old names.new }
 {
     for d in code.chunks_exact(node::DECLARATION) {
@@ -101,7 +99,7 @@ pub fn show(code: &[u16], shift: u16, names: &mut [u16])
 }
 
 // Declared names become k.
-pub fn hide(code: &[u16], shift: u16, k: u16, names: &mut [u16])
+pub fn hide(code: &[u16], shift: u16, k: Kind, names: &mut [Kind])
     ensures { HiddenSeen code.now shift k names.old names.new }
 {
     for d in code.chunks_exact(node::DECLARATION) {
@@ -110,7 +108,7 @@ pub fn hide(code: &[u16], shift: u16, k: u16, names: &mut [u16])
 }
 
 // The given sets, and how many elements each has: the first fault.
-pub fn give(code: &[u16], names: &mut [u16], sizes: &mut [u16]) -> Result<(), Fault>
+pub fn give(code: &[u16], names: &mut [Kind], sizes: &mut [u16]) -> Result<(), Fault>
     requires { 8 ≤ length sizes.old }
     ensures { GivenSeen code.now names.old names.new sizes.new (refused_key result) }
 {
@@ -132,7 +130,8 @@ const GIVEN_SETS: u16 = bounds::GIVEN_SETS as u16;
 const ELEMENTS: u16 = bounds::ELEMENTS as u16;
 
 // How many given sets have begun behind a node.
-// Form 5: `chunks_exact` lends slices, of whose length only the cut speaks.
+// Form 5: `chunks_exact` lends slices, of whose length only the cut speaks. `as_chunks` would lend arrays, in a list of arrays: the laws of what is left behind a piece
+// (proofs/NodePieces), for the loops here and of two crates above, would speak of two lists and of four or eight times a number in place of one list and its length.
 fn counted(n: &[u16], g: u16) -> u16
     requires { (length n.now ≡ 4) × (g ≤ 8) }
     ensures { Counted n.now 0 g result }
@@ -144,32 +143,27 @@ fn counted(n: &[u16], g: u16) -> u16
 }
 
 // A title stands behind its heading, an element at its own place.
-fn given_fault(n: &[u16], names: &[u16]) -> Option<Fault>
+fn given_fault(n: &[u16], names: &[Kind]) -> Option<Fault>
     requires { length n.now ≡ 4 }
     ensures { GivenFaulted n.now 0 names.now (fault_key result) }
 {
-    let old = look(names, usize::from(n[node::A]));
+    let old = entry(names, usize::from(n[node::A]));
     let i = usize::from(n[node::PLACE]);
     if n[node::SHAPE] == shapes::GIVEN {
-        return unless(old == entries::FREE, i + 1, Refusal::NameInUse);
+        return unless(old.is_free(), i + 1, Refusal::NameInUse);
     }
-    unless(old == entries::FREE, i, Refusal::NameInUse)
+    unless(old.is_free(), i, Refusal::NameInUse)
 }
 
-// The given sets and their elements are counted from 1.
-const BEFORE_GIVEN: u16 = entries::GIVEN - 1;
-
-const BEFORE_ELEMENT: u16 = entries::ELEMENT - 1;
-
 // What the title of the given set g is, counted from 1, or one of its elements.
-fn given_kind(n: &[u16], g: u16) -> u16
+fn given_kind(n: &[u16], g: u16) -> Kind
     requires { (length n.now ≡ 4) × (g ≤ 8) }
     ensures { GivenKind n.now 0 g result }
 {
     if n[node::SHAPE] == shapes::GIVEN {
-        return BEFORE_GIVEN + g;
+        return entries::given_set(g);
     }
-    BEFORE_ELEMENT + g
+    entries::element_of_set(g)
 }
 
 // The given set g, counted from 1, has one more element, or begins.

@@ -7,7 +7,7 @@ use native.Mathlib.Omega.{arith}
 use borrow.Author.Tests.{ltb-true, leb-true, eqb-true, lt-ltb, le-leb, eq-eqb}
 use lib.Dec.{eqb, ltb, leb}
 use lib.ListN.{get_or-replicate}
-use Rattle.lexical.proofs.BooleanTests.{and_both, and_left, and_right, on-cond}
+use Rattle.lexical.proofs.BooleanTests.{and_both, and_left, and_right, on-cond, or-none}
 use Rattle.static_rules.specs.Read.{Reading, refusal, reading, read}
 use Rattle.obligations.specs.Subjects.{Subject, subject_of}
 use Rattle.obligations.specs.Order.{obligation_of, total}
@@ -25,10 +25,6 @@ Fits σ p accepted = p ≡ total σ
 Fits σ p (refuted o) = (0 < p) × (p ≤ total σ) × (o ≡ obligation_of (check_at σ (pred p)))
 
 -- ---- marks
-
-or-none : (t : Bool) → (t || false) ≡ t
-or-none true = refl
-or-none false = refl
 
 -- a place that fits the verdict fits its mark, and the mark's verdict is that one
 mark-fits : (σ : Subject) (p : ℕ) (v : Verdict) → Fits σ p v → fitting (total σ) p (mark_of v) ≡ true

@@ -1,9 +1,8 @@
 -- What a name is bound over: its node has the code of the first value, and how many there are. Assumes nothing.
 use mathlib.Core.Path.{◌≡◌, refl, sym, ap, subst}
-use mathlib.Core.Logic.{inl, inr}
 use mathlib.Core.List.{List, [], map}
 use mathlib.Core.Option.{Option, none, some}
-use Prim.Native.Nat.{ℕ, zero, suc, ◌+◌, ◌-◌, ◌<◌, ◌≤◌}
+use Prim.Native.Nat.{ℕ, ◌+◌, ◌-◌, ◌<◌, ◌≤◌}
 use native.Mathlib.Nat.{zero-add}
 use native.Mathlib.Omega.{arith}
 use lib.IntN.{ℤ, pos, ◌+ℤ◌, ◌-ℤ◌}
@@ -19,6 +18,7 @@ use Rattle.value_types.specs.MeaningValues.{Value}
 use Rattle.value_types.specs.MeaningBindings.{Among}
 use Rattle.value_types.specs.MeaningMeaning.{Environment, size_of_given, element_values, number_values, domain_values}
 use Rattle.value_types.proofs.MeaningMembers.{among-map}
+use Rattle.value_types.proofs.MeaningUpwardNumbers.{upward-among}
 use Rattle.value_types.specs.TypedValues.{InReach, Carried, DomainWithin}
 use Rattle.value_types.proofs.FaultlessParts.{range-known}
 use Rattle.value_types.proofs.Reach.{size_in, given_is}
@@ -68,16 +68,8 @@ domain-node Γ ρ (range r) i c e h =
       coded = λ k. ap (λ (z : ℤ). z +ℤ pos k) (sym (low_end r.lower h.0));
     }
 
-upward-among : (j k n : ℕ) → j < n → Among (k + j) (upward k n)
-unfolding Among upward
-upward-among j k zero h = absurd (omega arith)
-upward-among zero k (suc n) h = inl (omega arith)
-upward-among (suc j) k (suc n) h =
-    let e : suc k + j ≡ k + suc j = omega arith in
-    inr (subst (λ (x : ℕ). Among x (upward (suc k) n)) e (upward-among j (suc k) n (omega arith)))
-
 -- each of them is one of the values
 pub domain-among : (Γ : Scope) (ρ : Environment) (d : Domain) (n : DomainNode Γ ρ d) (k : ℕ) → k < n.count → Among (n.at k) (domain_values ρ d)
 domain-among Γ ρ d n k h =
     subst (λ (vs : List Value). Among (n.at k) vs) (sym n.values)
-    (among-map n.at k (upward 0 n.count) (subst (λ (j : ℕ). Among j (upward 0 n.count)) (zero-add k) (upward-among k 0 n.count h)))
+    (among-map n.at k (upward 0 n.count) (upward-among 0 n.count k (omega arith) (omega arith)))

@@ -4,7 +4,6 @@ pub mod RangesAgree
 pub mod StandingNodes
 pub mod SlotNames
 pub mod NodeValues
-pub mod TypePlaces
 pub mod TypedCodes
 pub mod SoundTrees
 pub mod DomainNodes

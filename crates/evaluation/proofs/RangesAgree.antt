@@ -15,6 +15,7 @@ use Rattle.value_types.specs.MeaningValues.{Value}
 use Rattle.value_types.specs.MeaningMeaning as mean
 use Rattle.value_types.specs.TypedValues.{RangeWithin}
 use Rattle.evaluation.specs.OperatorsByNumber.{in_range}
+use Rattle.lexical.proofs.BooleanTests.{and_left}
 
 -- the number k stands for the integer z: it is z + 1,000
 data Shifted : ℤ → ℕ → Type 0 where
@@ -71,10 +72,6 @@ below_next (negsuc a) (pos b) = refl
 below_next (negsuc a) (negsuc zero) = sym (leb-zero a)
 below_next (negsuc a) (negsuc (suc b)) = refl
 
-both_left : (p q : Bool) → (p && q) ≡ true → p ≡ true
-both_left true q h = refl
-both_left false q h = h
-
 -- ---- a range whose ends are at most 1,000 and in their order
 
 pub low_end : (e : End) → e.magnitude ≤ 1000 → pos (end_number e) -ℤ pos 1000 ≡ end_value e
@@ -82,7 +79,7 @@ low_end e h = shifted_back (shifted_end e.negative e.magnitude h)
 
 range-ordered : (r : Range) → range_fits (end_value r.lower) (end_value r.upper) ≡ true → le_z (end_value r.lower) (end_value r.upper) ≡ true
 unfolding range_fits
-range-ordered r h = both_left _ _ h
+range-ordered r h = and_left _ _ h
 
 pub range-count : (r : Range) → RangeWithin r → range_fits (end_value r.lower) (end_value r.upper) ≡ true
     → end_number r.upper + 1 - end_number r.lower ≡ nat_abs (end_value r.upper -ℤ end_value r.lower) + 1

@@ -25,7 +25,7 @@ use Rattle.evaluation.specs.EvaluationByNumber.{Values, Bound, TermIs, ItemsIs, 
 use Rattle.evaluation.specs.SlotValues.{bound_slot, Held}
 use Rattle.evaluation.specs.Heights.{height_term, height_items, height_pairs, height_pred}
 use Rattle.evaluation.proofs.SlotNames.{next-slot, held_with}
-use Rattle.evaluation.proofs.TypePlaces.{type-placed}
+use Rattle.value_types.proofs.StaticRulesTypePlaces.{type-placed}
 use Rattle.evaluation.proofs.SoundTrees.{SoundTerm, SoundItems, SoundPairs, SoundPred, Binder}
 use Rattle.evaluation.proofs.DomainNodes.{DomainNode, domain-among}
 

@@ -21,7 +21,7 @@ use Rattle.value_types.proofs.FaultlessParts.{group-sizes, prefix-sizes, binary-
 use Rattle.value_types.proofs.FaultlessParts.{negation-sizes, paren-sizes, quantified-bound, connected-sizes, compared-sizes, member-sizes, within-sizes, related-sizes}
 use Rattle.value_types.proofs.TypeTests.{ItemsOf, items_of, items-split, PairsOf, pairs_of, pairs-split}
 use Rattle.table_places.specs.ResolvedTable.{type_in}
-use Rattle.evaluation.proofs.TypePlaces.{type-placed}
+use Rattle.value_types.proofs.StaticRulesTypePlaces.{type-placed}
 
 -- in the reach of k bound names; it begins at the symbol `at`, number 13 looks at it from the symbol `sized_at` on
 pub record SoundTerm (t : Term) (Γ : Scope) (k : ℕ) : Type 0 where

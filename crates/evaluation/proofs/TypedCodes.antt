@@ -18,12 +18,13 @@ use Rattle.value_types.proofs.LexicalBooleanTests.{and_both, and_left, and_right
 use Rattle.value_types.specs.MeaningValues.{Value, natural, prefix_value, pair_bit}
 use Rattle.value_types.specs.MeaningMeaning.{Environment, size_of_given}
 use Rattle.value_types.specs.TypedValues.{IsElementOf, HasType, sizes_over, Carried}
-use Rattle.value_types.proofs.TypeTests.{same-type, type-refl}
+use Rattle.value_types.proofs.TypeTests.{type-refl}
 use Rattle.value_types.proofs.Reach.{named-size}
 use Rattle.value_types.proofs.Shapes.{element_place, set_word, pairs-word, pair_place, element-shape, pairs-shape, any-set-word, member-shapes, related-shapes}
 use Rattle.table_places.specs.ResolvedTable.{given_size, over_sizes, type_in, side_size, element_size}
 use Rattle.evaluation.specs.OperatorsByNumber.{Small, IsPlace, IsBits, prefixed, PrefixTakes, OperatorTakes}
 use Rattle.evaluation.specs.EvaluationByNumber.{Pair}
+use Rattle.value_types.proofs.StaticRulesSameTypes.{same-type}
 
 -- ---- codes
 

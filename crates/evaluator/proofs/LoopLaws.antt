@@ -14,6 +14,7 @@ use lib.IntN.{ℤ, pos, ◌+ℤ◌}
 use Rattle.std.specs.Int.{from_bool}
 use Rattle.sets.specs.Sets.{bit, set_from, set_of, some_from, count_from}
 use Rattle.sets.proofs.Members.{from-below}
+use Rattle.sets.proofs.MaskBits.{byte_low, byte-bit, set-more}
 use Rattle.operators.specs.EvaluationOperatorsByNumber.{asked}
 use Rattle.operators.specs.EvaluationEvaluationByNumber.{Values, Inside, first_at, low_at, count_at, Bound, TruthIs}
 use Rattle.evaluator.specs.EvaluationPromises.{TruthRuns, TruthAnswers, SuchRuns, SuchAnswers, Tests, BoundRuns, SomeAnswers, OnceAnswers}
@@ -30,27 +31,15 @@ given_back l l₀ s {z} same old = same z ∙ ap (set l₀ s) old ∙ set-get_or
 
 -- ---- sums over numbers
 
-byte-bit : (b : Bool) → from_bool b ≡ bit b
-byte-bit true = refl
-byte-bit false = refl
-
-byte_small : (b : Bool) → from_bool b ≤ 1
-byte_small true = omega arith
-byte_small false = omega arith
-
 unfold-one : (n k : ℕ) → k < n → n - k ≡ suc (n - (k + 1))
 unfold-one n k h = omega arith
 
 set-step : (g : ℕ → Bool) (n k s r : ℕ) (b : Bool) → r ≡ from_bool b → s ≡ set_from g k (n - k) → 0 < k → k ≤ n → b ≡ g (k - 1)
     → 2 * s + r ≡ set_from g (k - 1) (n - (k - 1))
-unfolding set_from
 set-step g n k s r b q e h l said =
-    let up : suc (k - 1) ≡ k = omega arith in
-    let more : n - (k - 1) ≡ suc (n - k) = omega arith in
-    let z : set_from g (k - 1) (n - (k - 1)) ≡ bit (g (k - 1)) + 2 * set_from g (suc (k - 1)) (n - k) = ap (set_from g (k - 1)) more in
-    let y : s ≡ set_from g (suc (k - 1)) (n - k) = e ∙ ap (λ (j : ℕ). set_from g j (n - k)) (sym up) in
-    let w : r ≡ bit (g (k - 1)) = q ∙ byte-bit b ∙ ap bit said in
-    omega arith
+    let up : k ≡ suc (k - 1) = omega arith in
+    let more : suc (n - k) ≡ n - (k - 1) = omega arith in
+    set-more g (k - 1) (n - k) s r b q (e ∙ ap (λ (j : ℕ). set_from g j (n - k)) up) said ∙ ap (set_from g (k - 1)) more
 
 set-end : (g : ℕ → Bool) (n k : ℕ) → k ≤ 0 → set_from g k (n - k) ≡ set_from g 0 n
 set-end g n k h = (let z : k ≡ 0 = omega arith in ap (λ (j : ℕ). set_from g j (n - j)) z) ∙ ap (set_from g 0) (sub-zero n)
@@ -189,7 +178,7 @@ module _ {t : List ℕ} {e : ℕ} {ρ : Values} where
 
 -- one more is counted, at most
 pub counted-small : {r : ℕ} (found k : ℕ) (b : Bool) → r ≡ from_bool b → found ≤ k → found + r ≤ k + 1
-counted-small found k b q h = let z : from_bool b ≤ 1 = byte_small b in omega arith
+counted-small found k b q h = let z : from_bool b ≤ 1 = byte_low b in omega arith
 
 pub doubled-small : {r : ℕ} (s : ℕ) (b : Bool) → r ≡ from_bool b → s < 65536 → 2 * s + r < 4294967296
-doubled-small s b q h = let z : from_bool b ≤ 1 = byte_small b in omega arith
+doubled-small s b q h = let z : from_bool b ≤ 1 = byte_low b in omega arith

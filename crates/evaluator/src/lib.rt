@@ -10,19 +10,13 @@ ghost use Rattle.evaluator.specs.EvaluationPromises.{TermRuns, TermAnswers, Item
 ghost use Rattle.evaluator.specs.EvaluationPromises.{SuchRuns, SuchAnswers, AskedRuns, AskedAnswers, QuantifierRuns, QuantifierAnswers, BoundRuns, SomeAnswers, OnceAnswers};
 
 use form::node;
-use lexical::{bounds, codes};
+use form::node::RAISED;
+use form::operator_codes::{EXISTS, FORALL, IN};
 use operators::{
     asked, compared, connected, divided, has, in_range, joined, operated, pair, prefixed, settles,
     single,
 };
 use table_nodes::table_shapes;
-
-// Form 1: codes of symbols as the table has them, as in `operators`.
-const FORALL: u16 = codes::FORALL as u16;
-
-const EXISTS: u16 = codes::EXISTS as u16;
-
-const IN: u16 = codes::IN as u16;
 
 // Form 1: a length and places in a node, no kinds. How many slots there are.
 pub const SLOTS: usize = table_nodes::slots::ELEMENTS as usize;
@@ -38,9 +32,7 @@ pub const SECOND_BACK: usize = 4;
 
 pub const TWO_NODES: usize = node::SIZE + node::SIZE;
 
-// How much more than the first number of a range its node has, which is then not negative; the number of `true`.
-const RAISED: i64 = bounds::LARGEST_NUMBER as i64;
-
+// The number of `true`.
 const HOLDS: u16 = 1;
 
 // The first number of a domain, of which its node has RAISED more, and the k-th one from there on.

@@ -4,8 +4,6 @@ use mathlib.Core.Path.{◌≡◌}
 use mathlib.Core.List.{List}
 use Prim.Native.Nat.{ℕ, ◌^◌, ◌<◌}
 use native.Mathlib.Omega.{arith}
-use lib.ListN.{length}
-use Rattle.form.specs.Tree.{Dossier}
 use Rattle.obligations.specs.Subjects.{subject_of}
 use Rattle.obligations.specs.Order.{total}
 use Rattle.parts.specs.SearchPromises.{SearchAsked, SearchAnswers}
@@ -17,7 +15,6 @@ use Rattle.reports.proofs.VerdictLaws.{found-at}
 use Rattle.state_facts.specs.Reads.{ReadAsked}
 use Rattle.text_readings.specs.TextPromises.{ReadsText}
 use Rattle.refusals.specs.declared.Fault.{Fault}
-use Rattle.reports.specs.ReportPromises.{VerdictAsked}
 use Rattle.reports.proofs.ReportAnswers.{verdict-asked}
 
 module _ {table rows firsts groups : List ℕ} {operations : ℕ} (k : ReadAsked table rows firsts groups operations) where

@@ -1,48 +1,25 @@
 // What an accepted dossier bought, in numbers, and a run of both machines side by side.
-ghost use Rattle.explanations.specs.Asked.{IsRead};
-
 use crate::bounds::{MOST_PAIRS, is_short, product};
-use crate::items::{NONE, say_at, say_for, states};
-use pages::Page;
+use crate::dossiers::ReadDossier;
+use crate::items::states;
+use pages::{Bindings, Page};
 use phrases::words;
-use search_groups::Dossier;
-use state_facts::Numbers;
-use state_facts::searches::{next_concrete_state, next_lonely_abstract, next_lonely_concrete};
+use state_facts::searches::{concrete_states, next_lonely_abstract, next_lonely_concrete};
 use step_facts::{
     Beginning, BothStep, Pair, abstract_states, begin, promises, related_pairs, spans, step,
 };
 
-// How many concrete states there are, counted one after the other; unlike the counts of `step_facts` this one has no promise.
-fn concrete_states(d: &Dossier<'_>, nc: usize) -> usize
-    requires { IsRead d.now }
-{
-    let mut many: usize = 0;
-    let mut next = next_concrete_state(d, 0);
-    for _ in 0..nc {
-        let Some(c) = next else {
-            return many;
-        };
-        many = many.saturating_add(1);
-        next = next_concrete_state(d, c.saturating_add(1));
-    }
-    many
-}
-
 // States that have no partner on the other side.
-fn say_lonely(d: &Dossier<'_>, page: &mut Page)
-    requires { IsRead d.now }
-{
-    if let Some(c) = next_lonely_concrete(d, 0) {
-        say_at(
-            page,
+fn say_lonely(r: &ReadDossier<'_, '_>, page: &mut Page) {
+    if let Some(c) = next_lonely_concrete(&r.dossier, 0) {
+        page.say_at(
             words::A_CONCRETE_STATE_THAT_STANDS_FOR_NOTHING,
             0,
             states(0, c),
         );
     }
-    if let Some(a) = next_lonely_abstract(d, 0) {
-        say_at(
-            page,
+    if let Some(a) = next_lonely_abstract(&r.dossier, 0) {
+        page.say_at(
             words::AN_ABSTRACT_STATE_THAT_NOTHING_STANDS_FOR,
             0,
             states(a, 0),
@@ -51,80 +28,70 @@ fn say_lonely(d: &Dossier<'_>, page: &mut Page)
 }
 
 // Where the abstract side of an operation promises to step, of `many` abstract states.
-fn say_promises(d: &Dossier<'_>, j: usize, many: usize, page: &mut Page)
-    requires { IsRead d.now }
-{
-    let s = spans(d, j);
+fn say_promises(r: &ReadDossier<'_, '_>, j: usize, many: usize, page: &mut Page) {
+    let s = spans(&r.dossier, j);
     if !is_short(s) {
-        say_for(page, words::PROMISES_LEFT_OUT, j);
+        page.say_for(words::PROMISES_LEFT_OUT, j);
         return;
     }
-    match promises(d, j) {
-        0 => say_for(page, words::NO_PROMISE, j),
+    match promises(&r.dossier, j) {
+        0 => page.say_for(words::NO_PROMISE, j),
         n => page.say_of(words::PROMISES, j, n, product(many, s.ni)),
     }
 }
 
 // States and related pairs, counted.
-fn say_counts(d: &Dossier<'_>, page: &mut Page)
-    requires { IsRead d.now }
-{
-    let s = spans(d, d.operations);
+fn say_counts(r: &ReadDossier<'_, '_>, page: &mut Page) {
+    let s = spans(&r.dossier, r.dossier.operations);
     let pairs = product(s.na, s.nc);
     if MOST_PAIRS < pairs {
         page.say_of(words::COUNTS_LEFT_OUT, 0, pairs, MOST_PAIRS);
         return;
     }
-    let a = abstract_states(d);
+    let a = abstract_states(&r.dossier);
     page.say_of(words::STATES, 0, a, 0);
-    let c = concrete_states(d, s.nc);
+    let c = concrete_states(&r.dossier);
     page.say_of(words::CONCRETE_STATES, 0, c, 0);
-    let n = related_pairs(d);
+    let n = related_pairs(&r.dossier);
     page.say_of(words::RELATED_PAIRS, 0, n, 0);
-    say_lonely(d, page);
-    for j in 0..d.operations {
-        say_promises(d, j, a, page);
+    say_lonely(r, page);
+    for j in 0..r.dossier.operations {
+        say_promises(r, j, a, page);
     }
 }
 
 // ---- a run
 
 fn say_step(page: &mut Page, j: usize, s: BothStep) {
-    let parameters = Numbers {
+    let parameters = Bindings {
         i: s.i,
         o: s.o,
-        ..NONE
+        ..Bindings::default()
     };
-    say_at(page, words::A_STEP_OF_THE_RUN, j, parameters);
-    say_at(page, words::THE_STATES_BEHIND_A_STEP, j, states(s.b, s.k));
+    page.say_at(words::A_STEP_OF_THE_RUN, j, parameters);
+    page.say_at(words::THE_STATES_BEHIND_A_STEP, j, states(s.b, s.k));
 }
 
 // The operations one after the other, each where the abstract side promises it.
-fn say_run(d: &Dossier<'_>, x: Pair, page: &mut Page)
-    requires { IsRead d.now }
-{
-    say_at(page, words::A_RUN, 0, states(x.a, x.c));
-    let mut a = x.a;
-    let mut c = x.c;
-    for j in 0..d.operations {
-        if let Some(s) = step(d, j, a, c) {
+fn say_run(r: &ReadDossier<'_, '_>, x: Pair, page: &mut Page) {
+    page.say_at(words::A_RUN, 0, states(x.a, x.c));
+    let mut at = x;
+    for j in 0..r.dossier.operations {
+        if let Some(s) = step(&r.dossier, j, at) {
             say_step(page, j, s);
-            a = s.b;
-            c = s.k;
+            at = Pair { a: s.b, c: s.k };
         }
     }
 }
 
-pub fn say_accepted(d: &Dossier<'_>, page: &mut Page)
-    requires { IsRead d.now }
-{
+pub fn say_accepted(r: &ReadDossier<'_, '_>, page: &mut Page) {
     page.say(words::ACCEPTED);
     page.say(words::WHAT_WAS_BOUGHT);
-    if d.operations == 0 {
+    if r.dossier.operations == 0 {
         page.say(words::NO_OPERATION);
         return;
     }
-    let run = match begin(d) {
+    let run = match begin(&r.dossier) {
         Beginning::Both(x) => Some(x),
         Beginning::Concrete(_) => None,
         Beginning::Nowhere => None,
@@ -132,8 +99,8 @@ pub fn say_accepted(d: &Dossier<'_>, page: &mut Page)
     if run.is_none() {
         page.say(words::NO_CONCRETE_INITIAL_STATE);
     }
-    say_counts(d, page);
+    say_counts(r, page);
     if let Some(x) = run {
-        say_run(d, x, page);
+        say_run(r, x, page);
     }
 }

@@ -6,13 +6,12 @@
 ghost use Rattle.std.specs.Prelude.{◌≡◌, [], ◌∷◌, ℕ, ◌+◌, ◌-◌, ◌*◌, ◌≤◌, ◌<◌, length, get_or};
 ghost use Rattle.lexical.specs.Kinds as kind;
 ghost use Rattle.form.specs.Machine.{exact, a_term, an_operand, a_term_rest, a_rel, a_mem, a_right, a_brace, a_list, a_pairs, a_unary, a_paren, a_pred_rest};
-ghost use Rattle.form_nodes.specs.FormPromises.{Reads, TermReads, PredReads, Room, Ahead, Classes, operators, connectives, level_of};
-ghost use Rattle.declarations.specs.DossierPromises.{More};
-ghost use Rattle.form_nodes.specs.Derivations.{Made, an_operand, a_term_from, a_term_rest, some_items, some_pairs, a_pred_from, a_pred_rest, a_unary, an_atom, some_related};
+ghost use Rattle.form_nodes.specs.FormPromises.{Reads, TermReads, PredReads, Room, Ahead, Classes, operators, connectives, operator_number, level_of};
+ghost use Rattle.form_nodes.specs.Derivations.{OperatorFrom, ConnectiveFrom, Made, an_operand, a_term_from, a_term_rest, some_items, some_pairs, a_pred_from, a_pred_rest, a_unary, an_atom, some_related, More};
 
 use form::shapes;
 use form_nodes::kinds::{
-    PredStart, Relation, Start, connective_of, is_membership, is_quantifier, kind_at, level_of,
+    Operator, PredStart, Relation, Start, connective_of, is_membership, is_quantifier, kind_at,
     operator_of, pred_start_of, relation_of, start_of,
 };
 use form_nodes::nodes::{
@@ -25,19 +24,19 @@ use lexical::codes;
 use lexical::codes::is_name;
 use refusals::{Fault, Refusal};
 
-// Which kind of operator stands at a place; what level of connective.
-fn operator_at(s: &[u8], at: usize) -> u8
-    ensures { Classes operators (get_or s.now at 0) result × (result ≤ 2295 * (length s.now - at)) }
+// The operator of the level min or a higher one that stands at a place; the level of the connective, likewise.
+fn operator_at(s: &[u8], at: usize, min: u8) -> Option<Operator>
+    requires { 1 ≤ min }
+    ensures { OperatorFrom s.now at min result }
 {
-    let k = kind_at(s, at);
-    operator_of(k)
+    operator_of(kind_at(s, at)).filter(|o| min <= o.level())
 }
 
-fn connective_at(s: &[u8], at: usize) -> u8
-    ensures { Classes connectives (get_or s.now at 0) result × (result ≤ 2295 * (length s.now - at)) }
+fn connective_at(s: &[u8], at: usize, min: u8) -> Option<u8>
+    requires { 1 ≤ min }
+    ensures { ConnectiveFrom s.now at min result }
 {
-    let k = kind_at(s, at);
-    connective_of(k)
+    connective_of(kind_at(s, at)).filter(|l| min <= *l)
 }
 
 // A term that no operator stands in, but in brackets.
@@ -151,39 +150,41 @@ fn term_rest(
     ensures { TermReads y.now.kinds.now at n d b min (a_term_rest d b ∷ []) result × Made y.now.kinds.now y.now.values.now (a_term_rest min) at n code.old code.new result }
 {
     let mut read = Read { at, count: n };
-    let mut o = operator_at(y.kinds, at);
-    while min <= level_of(o) {
+    while let Some(o) = operator_at(y.kinds, read.at, min) {
         read = term_more(y, read.at, d, b, o, code, read.count)?;
-        o = operator_at(y.kinds, read.at);
     }
     Ok(read)
 }
 
-// The operator of the kind o that stands behind a term, and its right side.
+// The operator o that stands behind a term, and its right side.
 #[cycle(trees)]
 fn term_more(
     y: &Symbols<'_>,
     at: usize,
     d: u8,
     b: u8,
-    o: u8,
+    o: Operator,
     code: &mut [u16],
     n: usize,
 ) -> Result<Read, Fault>
-    requires { Room y.now.kinds.now code.old at n × (d ≤ 24) × (b ≤ 3) × (1 ≤ o) × (at < length y.now.kinds.now) × Classes operators (get_or y.now.kinds.now at 0) o }
-    ensures { Reads y.now.kinds.now at n (a_term_rest d b ∷ []) (a_term_rest d b ∷ []) result × Ahead at result × ((min : ℕ) → min ≤ level_of o → More y.now.kinds.now y.now.values.now (a_term_rest min) at n code.old code.new result) }
+    requires { Room y.now.kinds.now code.old at n × (d ≤ 24) × (b ≤ 3) × (at < length y.now.kinds.now) × Classes operators (get_or y.now.kinds.now at 0) (operator_number o) }
+    ensures { Reads y.now.kinds.now at n (a_term_rest d b ∷ []) (a_term_rest d b ∷ []) result × Ahead at result × ((min : ℕ) → min ≤ level_of (operator_number o) → More y.now.kinds.now y.now.values.now (a_term_rest min) at n code.old code.new result) }
 {
-    if kinds::DIVIDES <= o {
-        let divisor = end(y.kinds, at + 1, n)?;
-        let x = magnitude(y, at + 1);
-        let kind = division(y.kinds, at);
-        let count = put(code, n, shapes::DIVIDED, at, x, kind);
-        return Ok(Read { count, ..divisor });
+    match o {
+        Operator::Division => {
+            let divisor = end(y.kinds, at + 1, n)?;
+            let x = magnitude(y, at + 1);
+            let kind = division(y.kinds, at);
+            let count = put(code, n, shapes::DIVIDED, at, x, kind);
+            Ok(Read { count, ..divisor })
+        }
+        Operator::Loose | Operator::Tight => {
+            let k = kind_at(y.kinds, at);
+            let right = term_from(y, at + 1, d, b, o.level() + 1, code, n)?;
+            let count = put(code, right.count, shapes::BINARY, at, u16::from(k), 0);
+            Ok(Read { count, ..right })
+        }
     }
-    let k = kind_at(y.kinds, at);
-    let right = term_from(y, at + 1, d, b, o + 1, code, n)?;
-    let count = put(code, right.count, shapes::BINARY, at, u16::from(k), 0);
-    Ok(Read { count, ..right })
 }
 
 // Behind the { at a place.
@@ -363,6 +364,8 @@ fn pred_from(
 }
 
 // Connectives behind a predicate, and their right sides: a chain, as long as it may be, is one loop.
+// Form 2: the loop of `term_rest` over links of the other kind, each a function of the cycle. Tried on a small cycle of this shape: a generic function over a trait that both
+// implement; the borrow checker does not cover a method of an implementation that leads back to its own cycle of calls. A flag would choose what is promised, too.
 #[cycle(trees)]
 fn pred_rest(
     y: &Symbols<'_>,
@@ -377,10 +380,8 @@ fn pred_rest(
     ensures { PredReads y.now.kinds.now at n d b min [] result × Made y.now.kinds.now y.now.values.now (a_pred_rest min) at n code.old code.new result }
 {
     let mut read = Read { at, count: n };
-    let mut l = connective_at(y.kinds, at);
-    while min <= l {
+    while let Some(l) = connective_at(y.kinds, read.at, min) {
         read = pred_more(y, read.at, d, b, l, code, read.count)?;
-        l = connective_at(y.kinds, read.at);
     }
     Ok(read)
 }

@@ -13,8 +13,8 @@ use Rattle.lexical.proofs.BooleanTests.{and_left, and_right, clash, or-false}
 use Rattle.lexical.specs.Kinds as kind
 use Rattle.lexical.specs.Kinds.{Kind, code_of, is, lookup}
 use Rattle.lexical.specs.Symbols.{Symbol, fixed}
-use Rattle.refusals.specs.Refusals.{Refusal, fault, number_of, before, long_text, unlisted_symbol, many_symbols, no_dossier, deep, many_declared, heading_differs, name_in_use, name_unknown}
-use Rattle.refusals.specs.Refusals.{types_misfit, wide_type, many_bindings, large_size, zero_divisor, advance_range, short_bytes, nothing_held, something_held, check_finished, no_counterexample}
+use Rattle.refusals.specs.Refusals.{Refusal, fault, number_of, before}
+use Rattle.refusals.proofs.RefusalNumbers.{number-decides}
 use Rattle.form.specs.Tree.{Dossier}
 use Rattle.form.specs.Written.{Mark, unmarked, written, write_contents}
 use Rattle.form.specs.Form as shape
@@ -144,39 +144,6 @@ not-before j i s r h g = ap (λ (x : Bool). x || eqb j i && ltb (number_of s) (n
     on true e = le-ltb (number_of s) (number_of r) (g (eqb-true j i e))
     on false e = refl
 
--- a refusal is told by its number
-refusals : List Refusal
-refusals =
-    long_text ∷ unlisted_symbol ∷ many_symbols ∷ no_dossier ∷ deep ∷ many_declared ∷ heading_differs ∷ name_in_use ∷ name_unknown ∷ types_misfit ∷ wide_type
-    ∷ many_bindings ∷ large_size ∷ zero_divisor ∷ advance_range ∷ short_bytes ∷ nothing_held ∷ something_held ∷ check_finished ∷ no_counterexample ∷ []
-
-refusal_in : List Refusal → ℕ → Refusal
-refusal_in [] n = long_text
-refusal_in (r ∷ rs) n = elim (eqb (number_of r) n) [ true ↦ r | false ↦ refusal_in rs n ]
-
-refusal-back : (r : Refusal) → refusal_in refusals (number_of r) ≡ r
-unfolding refusal_in refusals number_of
-refusal-back long_text = refl
-refusal-back unlisted_symbol = refl
-refusal-back many_symbols = refl
-refusal-back no_dossier = refl
-refusal-back deep = refl
-refusal-back many_declared = refl
-refusal-back heading_differs = refl
-refusal-back name_in_use = refl
-refusal-back name_unknown = refl
-refusal-back types_misfit = refl
-refusal-back wide_type = refl
-refusal-back many_bindings = refl
-refusal-back large_size = refl
-refusal-back zero_divisor = refl
-refusal-back advance_range = refl
-refusal-back short_bytes = refl
-refusal-back nothing_held = refl
-refusal-back something_held = refl
-refusal-back check_finished = refl
-refusal-back no_counterexample = refl
-
 -- of two faults neither of which is before the other both are one
 same_place : (i j : ℕ) (r s : Refusal) → before (fault i r) (fault j s) ≡ false → (j ≤ i) × (i ≡ j → number_of s ≤ number_of r)
 unfolding before
@@ -198,7 +165,7 @@ both i j r s a b =
     let x : number_of s ≤ number_of r = p.1 e in
     let y : number_of r ≤ number_of s = q.1 (sym e) in
     let n : number_of r ≡ number_of s = omega arith in
-    (e, sym (refusal-back r) ∙ ap (refusal_in refusals) n ∙ refusal-back s)
+    (e, number-decides r s n)
 
 -- at a symbol that the machine takes: the mark of every dossier that begins with the symbols up to it fits the machine's
 marked : (w : List Symbol) (j : ℕ) → j < length w → (b : Begins (take (suc j) w)) (γ ρ : List Item) (m : Mark) → feed (take j w) initial ≡ some γ → step γ (kind_at w j) ≡ go m ρ

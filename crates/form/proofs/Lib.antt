@@ -31,3 +31,5 @@ pub mod RelationsBehind
 pub mod FewBoundNames
 -- what crates above name of crates below
 pub use Rattle.lexical.proofs.BooleanTests as LexicalBooleanTests
+pub use Rattle.lexical.proofs.WordLaws as LexicalWordLaws
+pub use Rattle.refusals.proofs.FaultLists as RefusalsFaultLists

@@ -17,15 +17,12 @@ use Rattle.form.specs.Form.{kind_at, operator_level, division_level}
 use Rattle.form.specs.Parse.{got, parse_term, parse_term_rest, parse_operand, parse_brace, parse_items, parse_pairs, parse_pred, parse_end, parse_range, parse_empty}
 use Rattle.form.specs.Parse.{a_name, a_prefix, starts, Infix, between, divides, not_infix, infixes}
 use Rattle.form.proofs.Takes.{symbols_in}
+use Rattle.lexical.proofs.BooleanTests.{not-true}
 
 -- a test as a path
 T→true : (b : Bool) → T b → b ≡ true
 T→true true t = refl
 T→true false t = absurd t
-
-not-true : (b : Bool) → (b ≡ true → ⊥) → b ≡ false
-not-true true h = absurd (h refl)
-not-true false h = refl
 
 -- an order that holds passes its test, and one that does not fails it
 pub leb-true : (m n : ℕ) → m ≤ n → leb m n ≡ true

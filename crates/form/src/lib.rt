@@ -3,4 +3,5 @@
 
 pub mod name_endings;
 pub mod node;
+pub mod operator_codes;
 pub mod shapes;

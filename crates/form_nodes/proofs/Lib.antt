@@ -9,3 +9,4 @@ pub mod NodeWrites
 pub mod NodeNumbers
 pub mod SymbolSpans
 pub mod NodesOfParts
+pub mod FirstNodes

@@ -99,12 +99,7 @@ named-at e h = let l = h.0 in let m = h.1 in record { low = omega arith; high = 
 pub membership-at : {s : List ℕ} {i k : ℕ} → k ≡ get_or s i 0 → (56 ≤ k) × (k ≤ 57) → MemberAt s i
 membership-at e h = let l = h.0 in let m = h.1 in record { low = omega arith; high = omega arith }
 
--- an operator's level is at most its class, and at most 2
-pub level-class : (o : ℕ) → level_of o ≤ o
-level-class zero = omega arith
-level-class (suc zero) = omega arith
-level-class (suc (suc o)) = omega arith
-
+-- an operator's level is at most 2
 pub level-two : (o : ℕ) → level_of o ≤ 2
 level-two zero = omega arith
 level-two (suc zero) = omega arith

@@ -163,13 +163,6 @@ whole-pred {s} {at} {n} {d} {b} {r} h = on r (h.reads d (λ q. refl)) h.stops
 pub known-level : (s : List ℕ) (min : ℕ) {e : Read} {r : Answer} → r ≡ Ok e → PredStops s min r → (κ : Kind) → code_of κ ≡ get_or s e.at 0 → lookup connectives 0 κ < min
 known-level s min q h = subst (λ (x : Answer). PredStops s min x) q h
 
-pub below-level : (c o l min : ℕ) → c ≡ o → l ≡ level_of o → l < min → level_of c < min
-below-level c o l min e f h = subst (λ (x : ℕ). level_of x < min) (sym e) (subst (λ (x : ℕ). x < min) f h)
-
-pub level-positive : (o : ℕ) → 1 ≤ level_of o → 1 ≤ o
-level-positive zero h = absurd (omega arith)
-level-positive (suc o) h = omega arith
-
 pub rest-division : (d b o : ℕ) (κ : Kind) (γ : List Item) → lookup operators 0 κ ≡ o → 3 ≤ o → step (a_term_rest d b ∷ γ) κ ≡ go unmarked (an_end ∷ a_term_rest d b ∷ γ)
 rest-division d b o κ γ q l = rest-step d b κ γ q ∙ ap (λ (a : Act). does a γ (step γ κ)) (division d b o [] skip l)
 

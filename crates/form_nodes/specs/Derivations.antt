@@ -1,10 +1,11 @@
 -- What the form pass reads, by the codes s and the values ν of the symbols, and the nodes that it leaves of it. The trees that these are the nodes of are parser/proofs/DerivedTrees.
 -- Nothing here need be believed.
-use Rattle.std.specs.Prelude.{◌≡◌, Bool, false, cond, List, [], ◌++◌, ℕ, ◌+◌, ◌-◌, ◌*◌, ◌≤◌, ◌<◌, eqb, ltb, leb, length, take, get_or, Ok, Err}
+use Rattle.std.specs.Prelude.{◌≡◌, Bool, false, cond, List, [], ◌++◌, ℕ, ◌+◌, ◌-◌, ◌*◌, ◌≤◌, ◌<◌, eqb, ltb, leb, length, take, get_or, Ok, Err, Option, Some, None}
 use Rattle.lexical.specs.Kinds.{Kind, code_of, lookup}
 use Rattle.form.specs.Codes.{node}
-use Rattle.form_nodes.specs.FormPromises.{Answer, Classes, Starts, operators, connectives, pred_starts, relations, level_of}
+use Rattle.form_nodes.specs.FormPromises.{Answer, Classes, Starts, operators, connectives, pred_starts, relations, operator_number, level_of}
 use Rattle.form_nodes.specs.declared.kinds.Start.TheVariants.{Leaf, Prefix}
+use Rattle.form_nodes.specs.declared.kinds.Operator.{Operator}
 
 -- the number of the name at a symbol; 0 where none can stand
 unfoldable pub name_code : (s ν : List ℕ) → ℕ → ℕ
@@ -66,6 +67,15 @@ NoOperator s min i = (κ : Kind) → code_of κ ≡ get_or s i 0 → level_of (l
 
 abbrev pub NoConnective : List ℕ → (min i : ℕ) → Type 0
 NoConnective s min i = (κ : Kind) → code_of κ ≡ get_or s i 0 → lookup connectives 0 κ < min
+
+-- the operator of the level min or a higher one that stands at a symbol, or that none does; the level of the connective, likewise
+pub data OperatorFrom (s : List ℕ) (i min : ℕ) : Option Operator → Type 0 where
+  an_operator : {o : Operator} → Classes operators (get_or s i 0) (operator_number o) → min ≤ level_of (operator_number o) → i < length s → OperatorFrom s i min (Some o)
+  no_operator : NoOperator s min i → OperatorFrom s i min None
+
+pub data ConnectiveFrom (s : List ℕ) (i min : ℕ) : Option ℕ → Type 0 where
+  a_connective : {l : ℕ} → Classes connectives (get_or s i 0) l → min ≤ l → i < length s → ConnectiveFrom s i min (Some l)
+  no_connective : NoConnective s min i → ConnectiveFrom s i min None
 
 -- What is read. `min` is the least level; a rest stands behind a term or predicate already read; items and pairs behind their first term; `some_related` behind t |-> t;
 -- entries by their word and the shape of their nodes; a condition up to the symbol behind its predicate; a state, or a `where`, by its word
@@ -167,3 +177,13 @@ pub record MadeAt (s ν : List ℕ) (x : Part) (i n : ℕ) (a b : List ℕ) (j m
 abbrev pub Made : (s ν : List ℕ) → Part → (i n : ℕ) → (a b : List ℕ) → Answer → Type 0
 Made s ν x i n a b (Ok e) = MadeAt s ν x i n a b e.at e.count
 Made s ν x i n a b (Err f) = Unit {0}
+
+-- some first ones of a list, up to the symbol j: what stands there from j on stands from i on with their nodes in front
+pub record MoreAt (s ν : List ℕ) (x : Part) (i n : ℕ) (a b : List ℕ) (j m : ℕ) : Type 0 where
+  pub nodes : List ℕ
+  pub more : (k : ℕ) (u : List ℕ) → Derives s ν x j k u → Derives s ν x i k (nodes ++ u)
+  pub written : take m b ≡ take n a ++ nodes
+
+abbrev pub More : (s ν : List ℕ) → Part → (i n : ℕ) → (a b : List ℕ) → Answer → Type 0
+More s ν x i n a b (Ok e) = MoreAt s ν x i n a b e.at e.count
+More s ν x i n a b (Err f) = Unit {0}

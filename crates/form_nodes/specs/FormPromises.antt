@@ -12,6 +12,8 @@ use Rattle.form_nodes.specs.declared.kinds.PredStart.{PredStart}
 use Rattle.form_nodes.specs.declared.kinds.PredStart.TheVariants.{Truth, Negation, Paren, Term}
 use Rattle.form_nodes.specs.declared.kinds.Relation.{Relation}
 use Rattle.form_nodes.specs.declared.kinds.Relation.TheVariants.{Comparison, Membership, Pairing}
+use Rattle.form_nodes.specs.declared.kinds.Operator.{Operator}
+use Rattle.form_nodes.specs.declared.kinds.Operator.TheVariants.{Loose, Tight, Division}
 use Rattle.form_nodes.specs.declared.Read.{Read}
 use Rattle.refusals.specs.declared.Fault.{Fault}
 use Rattle.refusals.specs.RefusalNames.{refusal_is}
@@ -98,6 +100,20 @@ abbrev pub level_of : ℕ → ℕ
 level_of zero = 0
 level_of (suc zero) = 1
 level_of (suc (suc n)) = 2
+
+-- the three operators by their numbers in the table, and what stands at a place that may have none
+abbrev pub operator_number : Operator → ℕ
+operator_number Loose = 1
+operator_number Tight = 2
+operator_number Division = 3
+
+abbrev pub operator_class : Option Operator → ℕ
+operator_class None = 0
+operator_class (Some o) = operator_number o
+
+abbrev pub connective_class : Option ℕ → ℕ
+connective_class None = 0
+connective_class (Some l) = l
 
 -- connectives by their levels
 abbrev pub connectives : List (Kind × ℕ)

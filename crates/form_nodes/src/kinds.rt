@@ -1,7 +1,8 @@
 // The kinds of symbols, by their codes.
 ghost use Rattle.std.specs.Prelude.{◌≡◌, get_or};
-ghost use Rattle.form_nodes.specs.FormPromises.{KindAt, Classes, StartOf, Begins, Members, Quantifies, Relates, operators, connectives, level_of};
+ghost use Rattle.form_nodes.specs.FormPromises.{KindAt, Classes, StartOf, Begins, Members, Quantifies, Relates, operators, connectives, operator_number, operator_class, connective_class, level_of};
 
+use lexical::classes::at_or;
 use lexical::codes;
 
 // How a symbol begins a term.
@@ -34,15 +35,21 @@ pub enum Relation {
     Pairing,
 }
 
+// An operator: of the lower level, of the higher, or of the higher with a number on its right.
+// Form 1: three cases; that none stands there is the `None` of `operator_of`.
+#[derive(Clone, Copy)]
+pub enum Operator {
+    Loose,
+    Tight,
+    Division,
+}
+
 // The kind's code at a place.
-// Form 1: behind the end it is 0, no kind's code, so that a test is false there; with an Option each test would compare with `Some(..)`.
+// Form 2: `at_or` with what a code says of its place: 0 is no kind's code, so that any other stands inside.
 pub fn kind_at(s: &[u8], at: usize) -> u8
     ensures { KindAt s.now at result }
 {
-    if at < s.len() {
-        return s[at];
-    }
-    0
+    at_or(s, at, 0)
 }
 
 pub fn start_of(k: u8) -> Option<Start>
@@ -60,15 +67,11 @@ pub fn start_of(k: u8) -> Option<Start>
     }
 }
 
-// Operators of the lower level, of the higher, and those with a number on their right, which are of the higher; and the levels of connectives.
-// Form 1: levels are compared, none is below all, and a right side is read from the next level on (`o + 1`): they are numbers in the tables too.
-pub const NONE: u8 = 0;
-
+// The levels of operators and of connectives.
+// Form 1: levels are compared, and a right side is read from the next level on (`level + 1`): numbers, no kinds.
 pub const LOOSE: u8 = 1;
 
 pub const TIGHT: u8 = 2;
-
-pub const DIVIDES: u8 = 3;
 
 pub const IFF_LEVEL: u8 = 1;
 
@@ -78,40 +81,42 @@ pub const OR_LEVEL: u8 = 3;
 
 pub const AND_LEVEL: u8 = 4;
 
-// Which kind of operator it is.
-pub fn operator_of(k: u8) -> u8
-    ensures { Classes operators k result }
+// The operator that a kind is.
+pub fn operator_of(k: u8) -> Option<Operator>
+    ensures { Classes operators k (operator_class result) }
 {
     match k {
-        codes::PLUS..=codes::DASH => LOOSE,
-        codes::TIMES => TIGHT,
-        codes::UNION..=codes::MINUS => LOOSE,
-        codes::INTER => TIGHT,
-        codes::DIV..=codes::MOD => DIVIDES,
-        _ => NONE,
+        codes::PLUS..=codes::DASH => Some(Operator::Loose),
+        codes::TIMES => Some(Operator::Tight),
+        codes::UNION..=codes::MINUS => Some(Operator::Loose),
+        codes::INTER => Some(Operator::Tight),
+        codes::DIV..=codes::MOD => Some(Operator::Division),
+        _ => None,
     }
 }
 
-pub fn level_of(o: u8) -> u8
-    ensures { result ≡ level_of o }
-{
-    match o {
-        NONE => NONE,
-        LOOSE => LOOSE,
-        _ => TIGHT,
+impl Operator {
+    pub fn level(self) -> u8
+        ensures { result ≡ level_of (operator_number self) }
+    {
+        match self {
+            Operator::Loose => LOOSE,
+            Operator::Tight => TIGHT,
+            Operator::Division => TIGHT,
+        }
     }
 }
 
-// A connective's level.
-pub fn connective_of(k: u8) -> u8
-    ensures { Classes connectives k result }
+// The level of the connective that a kind is.
+pub fn connective_of(k: u8) -> Option<u8>
+    ensures { Classes connectives k (connective_class result) }
 {
     match k {
-        codes::IFF => IFF_LEVEL,
-        codes::IMPLIES => IMPLIES_LEVEL,
-        codes::OR => OR_LEVEL,
-        codes::AND => AND_LEVEL,
-        _ => NONE,
+        codes::IFF => Some(IFF_LEVEL),
+        codes::IMPLIES => Some(IMPLIES_LEVEL),
+        codes::OR => Some(OR_LEVEL),
+        codes::AND => Some(AND_LEVEL),
+        _ => None,
     }
 }
 
@@ -148,15 +153,4 @@ pub fn is_quantifier(k: u8) -> bool
     ensures { Quantifies k result }
 {
     matches!(k, codes::FORALL..=codes::EXISTS1)
-}
-
-// The value of a symbol, or a number of a node.
-// Form 1: behind the end it is 0, as `get_or` of the definitions; the places are those of symbols that were read, or tested by the caller.
-pub fn value_at(v: &[u16], at: usize) -> u16
-    ensures { result ≡ get_or v.now at 0 }
-{
-    if at < v.len() {
-        return v[at];
-    }
-    0
 }

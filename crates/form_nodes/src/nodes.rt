@@ -7,10 +7,11 @@ ghost use Rattle.form_nodes.specs.FormPromises.{Room, Writes, Reads};
 ghost use Rattle.form.specs.Codes.{node};
 ghost use Rattle.form_nodes.specs.Derivations.{Made, an_operand, name_code, end_code, magnitude_code, division_code, leaf_node, range_node, domain_node};
 
-use crate::kinds::{kind_at, value_at};
+use crate::kinds::kind_at;
 use crate::{Read, Symbols};
 use form::{node, shapes};
 use lexical::bounds::{LARGEST_NUMBER, SYMBOLS};
+use lexical::classes::at_or;
 use lexical::codes::is_name;
 use lexical::{codes, endings};
 use refusals::{Fault, Refusal};
@@ -37,7 +38,7 @@ pub fn name_number(y: &Symbols<'_>, at: usize) -> u16
     ensures { result ≡ name_code y.now.kinds.now y.now.values.now at }
 {
     let k = kind_at(y.kinds, at);
-    let x = value_at(y.values, at);
+    let x = at_or(y.values, at, 0);
     if LAST_SYMBOL < x {
         return 0;
     }
@@ -53,13 +54,13 @@ pub fn signed(y: &Symbols<'_>, at: usize) -> u16
     ensures { result ≡ end_code y.now.kinds.now y.now.values.now at }
 {
     if kind_at(y.kinds, at) == codes::DASH {
-        let x = value_at(y.values, at + 1);
+        let x = at_or(y.values, at + 1, 0);
         if LARGEST_NUMBER < x {
             return 0;
         }
         return LARGEST_NUMBER - x;
     }
-    let x = value_at(y.values, at);
+    let x = at_or(y.values, at, 0);
     if LARGEST_NUMBER < x {
         return 0;
     }
@@ -72,9 +73,9 @@ pub fn magnitude(y: &Symbols<'_>, at: usize) -> u16
     ensures { result ≡ magnitude_code y.now.kinds.now y.now.values.now at }
 {
     if kind_at(y.kinds, at) == codes::DASH {
-        return value_at(y.values, at + 1);
+        return at_or(y.values, at + 1, 0);
     }
-    value_at(y.values, at)
+    at_or(y.values, at, 0)
 }
 
 pub fn division(s: &[u8], at: usize) -> u16
@@ -99,7 +100,7 @@ pub fn leaf(y: &Symbols<'_>, at: usize, code: &mut [u16], n: usize) -> usize
     ensures { Writes code.old n (leaf_node y.now.kinds.now y.now.values.now at) code.new result }
 {
     if kind_at(y.kinds, at) == codes::NUMBER {
-        let x = value_at(y.values, at);
+        let x = at_or(y.values, at, 0);
         return put(code, n, shapes::NUMBER, at, x, 0);
     }
     let x = name_number(y, at);

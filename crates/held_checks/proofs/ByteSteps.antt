@@ -1,6 +1,6 @@
 -- What the functions that read and write the held bytes count on: numbers byte by byte, zeros, a text copied, a mark that fits.
 use mathlib.Core.Path.{◌≡◌, refl, sym, ap, ap₂, ◌∙◌}
-use mathlib.Core.Bool.{Bool, true, false, ◌&&◌, ◌||◌}
+use mathlib.Core.Bool.{Bool, ◌&&◌}
 use mathlib.Core.List.{List, [], ◌∷◌, ◌++◌}
 use Prim.Native.Nat.{ℕ, zero, suc, ◌+◌, ◌-◌, ◌*◌, ◌/◌, ◌%◌, ◌^◌, ◌≤◌, ◌<◌}
 use native.Mathlib.Omega.{arith}
@@ -14,6 +14,7 @@ use Rattle.table_nodes.specs.TableWalkPromises.{patch}
 use Rattle.std.specs.Int.{w64, to_le_bytes, from_le_bytes, bytes_low_first}
 use Rattle.held_checks.specs.HeldBytes.{little_endian, from_bytes, fitting}
 use Rattle.held_checks.specs.BytePromises.{NumberAt}
+use Rattle.lexical.proofs.BooleanTests.{or-none}
 
 -- the number that bytes are: the library's of eight bytes, no more than the bytes tell, and the same with zeros behind them
 nested : (a b c d e f g h : ℕ) → a + b * 256 + c * 65536 + d * 16777216 + e * 4294967296 + f * 1099511627776 + g * 281474976710656 + h * 72057594037927936
@@ -105,17 +106,13 @@ pub rest-is : (b : List ℕ) (k : ℕ) → take (length b - k) (drop k b) ≡ dr
 rest-is b k = take_all (length b - k) (drop k b) (omega (arith, length-drop k b))
 
 -- a mark that fits, by the mark
-or-false : (b : Bool) → (b || false) ≡ b
-or-false true = refl
-or-false false = refl
-
 pub fits-unfinished : (n p m : ℕ) → m ≡ 1 → ltb p n ≡ fitting n p m
 unfolding fitting
-fits-unfinished n p m e = sym (ap (fitting n p) e ∙ or-false (ltb p n))
+fits-unfinished n p m e = sym (ap (fitting n p) e ∙ or-none (ltb p n))
 
 pub fits-accepted : (n p m : ℕ) → m ≡ 2 → eqb p n ≡ fitting n p m
 unfolding fitting
-fits-accepted n p m e = sym (ap (fitting n p) e ∙ or-false (eqb p n))
+fits-accepted n p m e = sym (ap (fitting n p) e ∙ or-none (eqb p n))
 
 pub fits-first : (n p m : ℕ) → m ≡ 3 → p ≡ 0 → ltb 0 p ≡ fitting n p m
 unfolding fitting

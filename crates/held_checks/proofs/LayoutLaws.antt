@@ -2,10 +2,11 @@
 use mathlib.Core.Path.{◌≡◌, refl, sym, ap, ap₂, ◌∙◌}
 use mathlib.Core.Bool.{Bool, true, false, true≢false, ◌&&◌}
 use mathlib.Core.List.{List, [], ◌∷◌, ◌++◌}
+use mathlib.Core.Logic.{◌⊎◌, inl, inr}
 use Prim.Native.Nat.{ℕ, zero, suc, ◌+◌, ◌-◌, ◌*◌, ◌/◌, ◌%◌, ◌≤◌, ◌<◌}
 use native.Mathlib.Omega.{arith}
-use lib.Dec.{eqb}
-use borrow.Author.Tests.{eqb-true}
+use lib.Dec.{eqb, leb}
+use borrow.Author.Tests.{eqb-true, lt-leb}
 use lib.ListN.{length, take, drop, get_or, set, replicate, length-drop, take-append-drop, replicate-append-replicate}
 use lib.Seq.{drop_at, drop-drop, length-take-le, get_or-take, get_or-drop}
 use Rattle.lexical.specs.Lists.{same}
@@ -14,6 +15,7 @@ use Rattle.table_nodes.specs.TableWalkPromises.{patch}
 use Rattle.held_checks.specs.HeldBytes.{little_endian, from_bytes, bytes_of, none_held, held_mark, held_text, held_place, is_laid}
 use Rattle.held_checks.specs.BytePromises.{all_zero, Turned}
 use Rattle.held_checks.proofs.HeldBytesLaws.{laid-is, laid-length, laid-short}
+use Rattle.lexical.proofs.BooleanTests.{both-ways}
 
 -- bytes are told by the number that they are
 number-back : (n : ℕ) (w : List ℕ) → length w ≡ n → ((i : ℕ) → i < length w → get_or w i 0 < 256) → little_endian n (from_bytes w) ≡ w
@@ -69,15 +71,15 @@ laid-tail n r h f e k z =
     ∙ ap₂ (λ (v w : List ℕ). v ++ w) four (place ∙ ap (λ (w : List ℕ). little_endian 8 (from_bytes (take 8 (drop 4 r))) ++ w) text)
 
 laid-head : (b : List ℕ) (n : ℕ) → length b ≡ 32784 → ((i : ℕ) → get_or b i 0 < 256) → n ≡ from_bytes (take 4 (drop 4 b)) → n ≤ 32768
-    → get_or b 1 0 ≡ 0 → get_or b 2 0 ≡ 0 → get_or b 3 0 ≡ 0 → all_zero (drop n (drop 16 b)) ≡ true → b ≡ bytes_of (take n (drop 16 b)) (held_place b) (held_mark b)
+    → all_zero (take 3 (drop 1 b)) ≡ true → all_zero (drop n (drop 16 b)) ≡ true → b ≡ bytes_of (take n (drop 16 b)) (held_place b) (held_mark b)
 unfolding bytes_of held_place
-laid-head [] n h f e k a₁ a₂ a₃ z = absurd (omega arith)
-laid-head (x₀ ∷ []) n h f e k a₁ a₂ a₃ z = absurd (omega arith)
-laid-head (x₀ ∷ x₁ ∷ []) n h f e k a₁ a₂ a₃ z = absurd (omega arith)
-laid-head (x₀ ∷ x₁ ∷ x₂ ∷ []) n h f e k a₁ a₂ a₃ z = absurd (omega arith)
-laid-head (x₀ ∷ x₁ ∷ x₂ ∷ x₃ ∷ r) n h f e k a₁ a₂ a₃ z =
-    ap₂ (λ (x y : ℕ). x₀ ∷ x ∷ y ∷ x₃ ∷ r) a₁ a₂
-    ∙ ap₂ (λ (x : ℕ) (w : List ℕ). x₀ ∷ 0 ∷ 0 ∷ x ∷ w) a₃ (laid-tail n r (omega arith) (λ i. f (suc (suc (suc (suc i))))) e k z)
+laid-head [] n h f e k a z = absurd (omega arith)
+laid-head (x₀ ∷ []) n h f e k a z = absurd (omega arith)
+laid-head (x₀ ∷ x₁ ∷ []) n h f e k a z = absurd (omega arith)
+laid-head (x₀ ∷ x₁ ∷ x₂ ∷ []) n h f e k a z = absurd (omega arith)
+laid-head (x₀ ∷ x₁ ∷ x₂ ∷ x₃ ∷ r) n h f e k a z =
+    ap (λ (w : List ℕ). x₀ ∷ (w ++ r)) (zeros-are (x₁ ∷ x₂ ∷ x₃ ∷ []) a)
+    ∙ ap (λ (w : List ℕ). x₀ ∷ 0 ∷ 0 ∷ 0 ∷ w) (laid-tail n r (omega arith) (λ i. f (suc (suc (suc (suc i))))) e k z)
 
 is-laid : (b : List ℕ) → b ≡ bytes_of (held_text b) (held_place b) (held_mark b) → is_laid b ≡ true
 unfolding is_laid
@@ -90,19 +92,14 @@ zeros-laid b h e =
     ∙ ap all_zero (drop_at (held_text b) (replicate (32768 - length (held_text b)) 0) (length (held_text b)) refl)
     ∙ zeros_zero (32768 - length (held_text b))
 
-both_true : (x y : Bool) → (x ≡ true → y ≡ true) → (y ≡ true → x ≡ true) → x ≡ y
-both_true true y f g = sym (f refl)
-both_true false true f g = g refl
-both_true false false f g = refl
-
 -- the last test decides
 pub laid-zeros : (b : List ℕ) (n : ℕ) → length b ≡ 32784 → ((i : ℕ) → get_or b i 0 < 256) → n ≡ from_bytes (take 4 (drop 4 b)) → n ≤ 32768
-    → get_or b 1 0 ≡ 0 → get_or b 2 0 ≡ 0 → get_or b 3 0 ≡ 0 → all_zero (drop (16 + n) b) ≡ is_laid b
+    → all_zero (take 3 (drop 1 b)) ≡ true → all_zero (drop (16 + n) b) ≡ is_laid b
 unfolding held_text
-laid-zeros b n h f e k a₁ a₂ a₃ =
-    both_true (all_zero (drop (16 + n) b)) (is_laid b)
+laid-zeros b n h f e k a =
+    both-ways (all_zero (drop (16 + n) b)) (is_laid b)
     (λ z. is-laid b
-    (laid-head b n h f e k a₁ a₂ a₃ (ap all_zero (drop-drop n 16 b) ∙ z) ∙ ap (λ (j : ℕ). bytes_of (take j (drop 16 b)) (held_place b) (held_mark b)) e))
+    (laid-head b n h f e k a (ap all_zero (drop-drop n 16 b) ∙ z) ∙ ap (λ (j : ℕ). bytes_of (take j (drop 16 b)) (held_place b) (held_mark b)) e))
     (λ z. ap all_zero (sym (drop-drop n 16 b)) ∙ ap (λ (j : ℕ). all_zero (drop j (drop 16 b))) (e ∙ laid-length b h z) ∙ zeros-laid b h z)
 
 -- a test that fails decides
@@ -110,20 +107,17 @@ not-true : (x : Bool) → (x ≡ true → ⊥) → false ≡ x
 not-true true f = absurd (f refl)
 not-true false f = refl
 
-pub laid-not_1 : (b : List ℕ) → (get_or b 1 0 ≡ 0 → ⊥) → false ≡ is_laid b
+pub laid-not : (b : List ℕ) → all_zero (take 3 (drop 1 b)) ≡ false → false ≡ is_laid b
 unfolding bytes_of
-laid-not_1 b f = not-true (is_laid b) (λ z. f (ap (λ (w : List ℕ). get_or w 1 0) (laid-is b z)))
+laid-not b f = not-true (is_laid b) (λ z. true≢false (sym (ap (λ (w : List ℕ). all_zero (take 3 (drop 1 w))) (laid-is b z)) ∙ f))
 
-pub laid-not_2 : (b : List ℕ) → (get_or b 2 0 ≡ 0 → ⊥) → false ≡ is_laid b
-unfolding bytes_of
-laid-not_2 b f = not-true (is_laid b) (λ z. f (ap (λ (w : List ℕ). get_or w 2 0) (laid-is b z)))
-
-pub laid-not_3 : (b : List ℕ) → (get_or b 3 0 ≡ 0 → ⊥) → false ≡ is_laid b
-unfolding bytes_of
-laid-not_3 b f = not-true (is_laid b) (λ z. f (ap (λ (w : List ℕ). get_or w 3 0) (laid-is b z)))
-
-pub laid-long : (b : List ℕ) (n : ℕ) → length b ≡ 32784 → n ≡ from_bytes (take 4 (drop 4 b)) → 32768 < n → false ≡ is_laid b
+laid-long : (b : List ℕ) (n : ℕ) → length b ≡ 32784 → n ≡ from_bytes (take 4 (drop 4 b)) → 32768 < n → false ≡ is_laid b
 laid-long b n h e k = not-true (is_laid b) (λ z. let s = laid-short b h z in absurd (omega arith))
+
+-- the first two tests do not both hold, and the first one does
+pub laid-both_not : (b : List ℕ) (n : ℕ) {r t : Bool} → length b ≡ 32784 → n ≡ from_bytes (take 4 (drop 4 b)) → t ≡ leb n 32768 → r ≡ true → (r ≡ true × 32768 < n) ⊎ (r ≡ false) → t ≡ is_laid b
+laid-both_not b n h e l r (inl k) = l ∙ lt-leb n 32768 k.1 ∙ laid-long b n h e k.1
+laid-both_not b n h e l r (inr k) = absurd (true≢false (sym r ∙ k))
 
 -- the place and the mark anew
 pub turned : (b after : List ℕ) (place mark : ℕ) → after ≡ patch 8 (little_endian 8 place) (set b 0 mark) → Turned b place mark after

@@ -1,11 +1,14 @@
 -- The place and the mark after a search, what verdict answers by a mark, the obligation of a part as the code finds it. Assumes nothing.
-use mathlib.Core.Path.{◌≡◌, refl, ap, ap₂, ◌∙◌}
+use mathlib.Core.Path.{◌≡◌, refl, sym, ap, ap₂, subst, ◌∙◌}
 use mathlib.Core.Bool.{Bool, true, false}
 use mathlib.Core.List.{List}
-use Prim.Native.Nat.{ℕ, ◌-◌, ◌/◌, ◌%◌, ◌<◌, ◌≤◌}
+use Prim.Native.Nat.{ℕ, zero, suc, ◌+◌, ◌-◌, ◌*◌, ◌/◌, ◌%◌, ◌<◌, ◌≤◌}
 use native.Mathlib.Omega.{arith}
+use native.Mathlib.Decide.{dec_lt}
 use Rattle.obligations.specs.Order as order
+use Rattle.held_checks.specs.declared.Obligation.{Obligation}
 use Rattle.held_checks.specs.declared.Obligation.TheVariants.{Initialisation, Applicability, Correctness}
+use Rattle.held_checks.specs.Answers.{obligation_is}
 use Rattle.held_checks.specs.HeldBytes.{bytes_of}
 use Rattle.held_checks.specs.BytePromises.{Turned}
 use Rattle.held_checks.specs.StepPromises.{place_after, mark_after, PartTold}
@@ -39,3 +42,19 @@ told-correcting part h m =
       applying = λ j e. absurd (omega (arith, r, e));
       correcting = λ j e. (let s : (part - 1) / 2 ≡ j = omega (arith, r, e) in ap order.correctness s);
     }
+
+-- what holds of the obligation of every kind of part holds of the one that is told
+pub told-case : (P : order.Obligation → Type 0) (part : ℕ) {r : Obligation} → PartTold part r → (part ≡ 0 → P order.initialisation) → ((j : ℕ) → part ≡ 1 + 2 * j → P (order.applicability j))
+    → ((j : ℕ) → part ≡ 2 + 2 * j → P (order.correctness j)) → P (obligation_is r)
+told-case P zero t f g h = subst P (sym (t.opening refl)) (f refl)
+told-case P (suc k) t f g h =
+    elim (dec_lt 0 (k % 2)) [
+      | yes e ↦ (
+          let s : suc k ≡ 2 + 2 * (k / 2) = omega arith in
+          subst P (sym (t.correcting (k / 2) s)) (h (k / 2) s)
+          )
+      | no e ↦ (
+          let s : suc k ≡ 1 + 2 * (k / 2) = omega arith in
+          subst P (sym (t.applying (k / 2) s)) (g (k / 2) s)
+          )
+    ]

@@ -1,10 +1,10 @@
 // The held check in lent bytes, and the answers of the calls. The bytes: 0 the mark, 1 the profile, 2 the operation, 3 spare (all three 0), from 4 on the text's length, from 8 on the
 // place, numbers with the lowest byte first, from 16 on the text, and zeros behind it. All zero is nothing held.
 // Form 1: the enums are cases of their own, the answers of document 01 and the marks of the held bytes; the constants are places in these bytes, and lengths.
-// Form 5: that there are 32,784 bytes is asked where they come as a slice, since the laws of what is written speak of slices.
 #![tactic(auto)]
 
 ghost use Rattle.std.specs.Prelude.{◌≡◌, ◌+◌, ◌-◌, ◌^◌, ◌<◌, ◌≤◌, length, take, drop, is_some, unwrap_or};
+ghost use Rattle.std.specs.Result.{result_ok};
 ghost use Rattle.table_nodes.specs.TableWalkPromises.{patch};
 ghost use Rattle.held_checks.specs.HeldBytes.{little_endian, from_bytes, bytes_of, none_held, is_laid, held_mark, held_place, fitting};
 ghost use Rattle.held_checks.specs.BytePromises.{NumberAt, all_zero, Turned};
@@ -17,10 +17,6 @@ use refusals::Fault;
 const MARK: usize = 0;
 
 const PROFILE: usize = 1;
-
-const OPERATION: usize = 2;
-
-const SPARE: usize = 3;
 
 const LENGTH: usize = 4;
 
@@ -36,9 +32,9 @@ pub const TEXT: usize = 16;
 pub const HELD: usize = 32784;
 
 // The parts of a check: one of the initialisation, then two of each operation.
-const OPENING: usize = 1;
+pub const OPENING: usize = 1;
 
-const OBLIGATIONS: usize = 2;
+pub const OBLIGATIONS: usize = 2;
 
 // An obligation, the last two with the operation's index.
 #[derive(Clone, Copy)]
@@ -78,26 +74,33 @@ pub enum Mark {
     Refuted,
 }
 
-impl Mark {
-    fn byte(self) -> u8
-        ensures { result ≡ mark_byte self }
-    {
-        match self {
+impl From<Mark> for u8 {
+    ghost from_gives = { λ mark byte. byte ≡ mark_byte mark };
+
+    fn from(mark: Mark) -> u8 {
+        match mark {
             Mark::Unfinished => 1,
             Mark::Accepted => 2,
             Mark::Refuted => 3,
         }
     }
+}
 
-    // The mark whose byte this is.
-    fn from_byte(byte: u8) -> Option<Mark>
-        ensures { Marks byte result }
-    {
+// A byte that is of no mark.
+#[derive(Clone, Copy)]
+pub struct Unmarked;
+
+impl TryFrom<u8> for Mark {
+    type Error = Unmarked;
+
+    ghost try_from_gives = { λ byte mark. Marks byte (result_ok mark) };
+
+    fn try_from(byte: u8) -> Result<Mark, Unmarked> {
         match byte {
-            1 => Some(Mark::Unfinished),
-            2 => Some(Mark::Accepted),
-            3 => Some(Mark::Refuted),
-            _ => None,
+            1 => Ok(Mark::Unfinished),
+            2 => Ok(Mark::Accepted),
+            3 => Ok(Mark::Refuted),
+            _ => Err(Unmarked),
         }
     }
 }
@@ -142,37 +145,18 @@ pub fn place_in(held: &[u8; HELD]) -> usize
 }
 
 // The bytes have the layout: spare bytes 0, and zeros behind the text.
-fn has_layout(held: &[u8]) -> bool
-    requires { length held.now ≡ 32784 }
-    ensures { result ≡ is_laid held.now }
-{
-    if held[PROFILE] != 0 {
-        return false;
-    }
-    if held[OPERATION] != 0 {
-        return false;
-    }
-    if held[SPARE] != 0 {
-        return false;
-    }
-    let n = number(held, LENGTH, LENGTH_BYTES);
-    if n > TEXT_BYTES {
-        return false;
-    }
-    are_zero(&held[TEXT + n..])
-}
-
 pub fn laid(held: &[u8; HELD]) -> bool
     ensures { result ≡ is_laid held.now }
 {
-    has_layout(held)
+    let n = length_in(held);
+    are_zero(&held[PROFILE..LENGTH]) && n <= TEXT_BYTES && are_zero(&held[TEXT + n..])
 }
 
 // The mark of the bytes.
 pub fn mark_in(held: &[u8; HELD]) -> Option<Mark>
     ensures { Marks (held_mark held.now) result }
 {
-    Mark::from_byte(held[MARK])
+    Mark::try_from(held[MARK]).ok()
 }
 
 // A mark fits a place of an order of so many places.
@@ -186,19 +170,11 @@ pub fn fits(all: usize, place: usize, mark: Mark) -> bool
     }
 }
 
-// All bytes become 0.
-fn fill_zero(held: &mut [u8])
-    requires { length held.old ≡ 32784 }
-    ensures { held.new ≡ none_held }
-{
-    held.fill(0);
-}
-
 // Nothing is held.
 pub fn clear(held: &mut [u8; HELD])
     ensures { held.new ≡ none_held }
 {
-    fill_zero(held);
+    held.fill(0);
 }
 
 // The bytes of a text from the place TEXT on.
@@ -209,39 +185,23 @@ fn put_text(text: &[u8], held: &mut [u8])
     held[TEXT..TEXT + text.len()].copy_from_slice(text);
 }
 
-// All the bytes of a held text, at the beginning of its order.
-fn put_held(text: &[u8], held: &mut [u8])
-    requires { (length text.now ≤ 32768) × (length held.old ≡ 32784) }
-    ensures { held.new ≡ bytes_of text.now 0 1 }
-{
-    fill_zero(held);
-    held[MARK] = Mark::Unfinished.byte();
-    put_number(held, LENGTH, LENGTH_BYTES, text.len());
-    put_text(text, held);
-}
-
 // A text is held, at the beginning of its order.
 pub fn lay(text: &[u8], held: &mut [u8; HELD])
     requires { length text.now ≤ 32768 }
     ensures { held.new ≡ bytes_of text.now 0 1 }
 {
-    put_held(text, held);
-}
-
-// The place and the mark.
-fn put_turn(held: &mut [u8], place: usize, mark: Mark)
-    requires { length held.old ≡ 32784 }
-    ensures { Turned held.old place (mark_byte mark) held.new }
-{
-    held[MARK] = mark.byte();
-    put_number(held, PLACE, PLACE_BYTES, place);
+    clear(held);
+    held[MARK] = Mark::Unfinished.into();
+    put_number(held, LENGTH, LENGTH_BYTES, text.len());
+    put_text(text, held);
 }
 
 // The held check comes to a place, with a mark.
 fn turn(held: &mut [u8; HELD], place: usize, mark: Mark)
     ensures { Turned held.old place (mark_byte mark) held.new }
 {
-    put_turn(held, place, mark);
+    held[MARK] = mark.into();
+    put_number(held, PLACE, PLACE_BYTES, place);
 }
 
 // The place after a search up to an end: behind the binding that failed, if one did.

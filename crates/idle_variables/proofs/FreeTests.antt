@@ -13,10 +13,9 @@ use Rattle.mentions.specs.EvaluationEvaluationByNumber.{TruthIs}
 use Rattle.mentions.specs.MentionPromises.{Agree, TruthFree}
 use Rattle.points.specs.Points.{Point, moved, primed_slot, Tame, Shows}
 use Rattle.points.specs.PointTests.{Test}
-use Rattle.points.proofs.PointNumbers.{moved_other}
+use Rattle.points.proofs.PointNumbers.{moved_other, tame-moved}
 use Rattle.mentions.proofs.OneValue.{one_value}
 use Rattle.idle_variables.specs.KeyedNumbers.{Idle}
-use Rattle.idle_variables.proofs.KeyedPoints.{tame-moved}
 
 -- ---- the arrays that show a point
 

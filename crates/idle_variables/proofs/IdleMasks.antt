@@ -1,12 +1,12 @@
 -- Masks of idle variables: one variable more in front doubles what is there. Assumes nothing.
-use mathlib.Core.Path.{◌≡◌, refl, sym, ap, subst, ◌∙◌}
+use mathlib.Core.Path.{◌≡◌, sym, subst}
 use mathlib.Core.Bool.{Bool, true}
 use mathlib.Core.List.{List}
-use Prim.Native.Nat.{ℕ, zero, suc, ◌+◌, ◌-◌, ◌*◌, ◌<◌}
+use Prim.Native.Nat.{ℕ, ◌+◌, ◌-◌, ◌*◌, ◌<◌}
 use native.Mathlib.Omega.{arith}
 use mir.Val.{bool_byte}
-use lib.ListN.{get_or, length}
 use Rattle.lexical.specs.Lists.{upward}
+use Rattle.meaning.proofs.UpwardNumbers.{upward-long, upward-at}
 use Rattle.sets.proofs.MaskBits.{no-bits, more-bits}
 use Rattle.points.specs.Points.{Point}
 use Rattle.idle_variables.specs.KeyedNumbers.{Idle, Ignores}
@@ -28,17 +28,6 @@ module _ {table plan : List ℕ} {u : ℕ} where
       record { small = y.small; each = y.each }
 
 -- ---- what ignores the variables of a mask
-
-upward-long : (s m : ℕ) → length (upward s m) ≡ m
-unfolding upward
-upward-long s zero = refl
-upward-long s (suc m) = ap suc (upward-long (suc s) m)
-
-upward-at : (s m i : ℕ) → i < m → get_or (upward s m) i 0 ≡ s + i
-unfolding upward
-upward-at s zero i h = absurd (omega arith)
-upward-at s (suc m) zero h = let z : s ≡ s + 0 = omega arith in z
-upward-at s (suc m) (suc i) h = upward-at (suc s) m i (omega arith) ∙ (let z : suc s + i ≡ s + suc i = omega arith in z)
 
 pub mask_ignores : {table plan : List ℕ} {u s m r : ℕ} → MaskSays table plan u s m r → (cells : List ℕ) (P : Point → Bool)
     → ((i : ℕ) → i < m → SearchesIdle table plan u (s + i) → Idle cells P (s + i)) → Ignores cells P r (upward s m)

@@ -11,9 +11,9 @@ use Rattle.sets.proofs.Members.{has-suc}
 use Rattle.mentions.specs.MentionPromises.{TruthSays}
 use Rattle.points.specs.Points.{Point, Tame}
 use Rattle.points.specs.Searches.{level_holds, levels_hold, mark_in, TestsAt, no_tests, more_tests, SearchOf}
+use Rattle.points.proofs.PointNumbers.{tame-moved}
 use Rattle.idle_variables.specs.KeyedNumbers.{Idle, Ignores, no_variables, more_variables}
 use Rattle.idle_variables.specs.IdlePromises.{TestIdle, LevelIdle, SearchIdle, TestSays, LevelSays, SearchSays, PlanAsked}
-use Rattle.idle_variables.proofs.KeyedPoints.{tame-moved}
 use Rattle.idle_variables.proofs.FreeTests.{before-idle, after-idle}
 
 -- ---- one test

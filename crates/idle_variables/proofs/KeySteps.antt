@@ -1,7 +1,6 @@
 -- The key of a binding, one variable after the other. Assumes nothing.
 use mathlib.Core.Path.{◌≡◌, refl, sym, ap, ap₂, subst, ◌∙◌}
 use mathlib.Core.Bool.{Bool, false, cond}
-use mathlib.Core.Logic.{inl}
 use mathlib.Core.List.{List, [], ◌∷◌}
 use Prim.Native.Nat.{ℕ, zero, suc, ◌+◌, ◌-◌, ◌*◌, ◌/◌, ◌%◌, ◌<◌, ◌≤◌}
 use native.Mathlib.Nat.{mod-lt, div-add-mod'}
@@ -9,12 +8,12 @@ use native.Mathlib.Omega.{arith}
 use borrow.Author.Tests.{eq-eqb, ne_eqb}
 use lib.Arith.{digits_div}
 use Rattle.lexical.specs.Lists.{upward}
-use Rattle.meaning.specs.Bindings.{Among}
+use Rattle.meaning.proofs.UpwardNumbers.{upward-front}
 use Rattle.sets.specs.Sets.{has}
 use Rattle.sets.proofs.Members.{has-zero}
 use Rattle.slot_carriers.specs.Cells.{count_in}
 use Rattle.points.specs.Points.{span}
-use Rattle.points.proofs.PointNumbers.{Counts, counts-rest, span-some}
+use Rattle.points.proofs.PointNumbers.{Counts, counts-rest, span-some, counts-first}
 use Rattle.idle_variables.specs.declared.keys.KeyGroup.{KeyGroup}
 use Rattle.idle_variables.specs.KeyedNumbers.{keyed}
 use Rattle.idle_variables.specs.KeyPromises.{key_in, KeyAsked, Marked}
@@ -37,21 +36,6 @@ pub empty-key : (cells : List ℕ) (s m idle x : ℕ) → m ≡ 0 → 0 ≡ keye
 unfolding keyed upward
 empty-key cells s zero idle x e = refl
 empty-key cells s (suc m) idle x e = absurd (omega arith)
-
-front : (s m : ℕ) → (m ≡ 0 → ⊥) → upward s m ≡ s ∷ upward (s + 1) (m - 1)
-unfolding upward
-front s zero n = absurd (n refl)
-front s (suc m) n = ap₂ (λ (a b : ℕ). s ∷ upward a b) (up s) (down m)
-  where
-    up : (s : ℕ) → suc s ≡ s + 1
-    up s = omega arith
-
-    down : (m : ℕ) → m ≡ suc m - 1
-    down m = omega arith
-
-first_count : (cells : List ℕ) (s : ℕ) (ss : List ℕ) → Counts cells (s ∷ ss) → 0 < count_in cells s
-unfolding Among
-first_count cells s ss c = c s (inl refl)
 
 span-front : (cells : List ℕ) (s : ℕ) (ss : List ℕ) → span cells (s ∷ ss) ≡ count_in cells s * span cells ss
 unfolding span
@@ -85,13 +69,13 @@ module _ {cells : List ℕ} {g : KeyGroup} (q : KeyAsked cells g) where
 
   module _ (n : g.many ≡ 0 → ⊥) {d : ℕ} (k : d ≡ count_in cells g.first) where
     some : Counts cells (g.first ∷ behind g)
-    some = subst (Counts cells) (front g.first g.many n) q.some
+    some = subst (Counts cells) (upward-front g.first g.many n) q.some
 
     pub count-some : 0 < d
-    count-some = subst (λ (x : ℕ). 0 < x) (sym k) (first_count cells g.first (behind g) some)
+    count-some = subst (λ (x : ℕ). 0 < x) (sym k) (counts-first cells g.first (behind g) some)
 
     whole : g.count ≡ d * span cells (behind g)
-    whole = q.count ∙ ap (span cells) (front g.first g.many n) ∙ span-front cells g.first (behind g) ∙ ap (λ (x : ℕ). x * span cells (behind g)) (sym k)
+    whole = q.count ∙ ap (span cells) (upward-front g.first g.many n) ∙ span-front cells g.first (behind g) ∙ ap (λ (x : ℕ). x * span cells (behind g)) (sym k)
 
     rest-is : g.count / d ≡ span cells (behind g)
     rest-is = by_first g.count d (span cells (behind g)) count-some whole
@@ -112,7 +96,7 @@ module _ {cells : List ℕ} {g : KeyGroup} (q : KeyAsked cells g) where
     module _ (x : ℕ) {y : ℕ} (r : y ≡ keyed cells (behind g) (g.idle / 2) (x % (g.count / d))) where
       whole-key : key_in cells g x ≡ cond (has g.idle 0) 0 (x / (g.count / d)) * (g.count / d) + y
       whole-key =
-          ap (λ (ss : List ℕ). keyed cells ss g.idle x) (front g.first g.many n)
+          ap (λ (ss : List ℕ). keyed cells ss g.idle x) (upward-front g.first g.many n)
           ∙ key-front cells g.first (behind g) g.idle x
           ∙ ap (λ (w : ℕ). cond (has g.idle 0) 0 (x / w) * w + keyed cells (behind g) (g.idle / 2) (x % w)) (sym rest-is)
           ∙ ap (λ (z : ℕ). cond (has g.idle 0) 0 (x / (g.count / d)) * (g.count / d) + z) (sym r)

@@ -1,5 +1,5 @@
 -- Keyed points: where the variables whose digits it leaves out do not matter, a binding may be taken for that of its key. Assumes nothing.
-use mathlib.Core.Path.{◌≡◌, refl, sym, ap, ap₂, subst, ◌∙◌}
+use mathlib.Core.Path.{◌≡◌, refl, sym, ap, ap₂, ◌∙◌}
 use mathlib.Core.Bool.{Bool, true, false, cond}
 use mathlib.Core.Logic.{inl, inr}
 use mathlib.Core.List.{List, [], ◌∷◌}
@@ -12,7 +12,7 @@ use Rattle.meaning.specs.Bindings.{Among}
 use Rattle.sets.specs.Sets.{has}
 use Rattle.slot_carriers.specs.Cells.{count_in}
 use Rattle.points.specs.Points.{Point, moved, span, placed, Tame, Distinct, more_slots}
-use Rattle.points.proofs.PointNumbers.{Counts, counts-rest, span-some, moved_here, moved_other, tame-placed}
+use Rattle.points.proofs.PointNumbers.{Counts, counts-rest, span-some, moved_here, moved_other, tame-placed, tame-moved}
 use Rattle.idle_variables.specs.KeyedNumbers.{keyed, Idle, Ignores, no_variables, more_variables}
 
 -- the digit that a key has
@@ -56,14 +56,6 @@ moved-placed cells (r ∷ ss) δ s v y n t =
             ap (moved (moved δ s v) r (y / span cells ss)) f ∙ moved_here _ r _
             ∙ sym (moved_other (moved δ r (y / span cells ss)) s v u e ∙ ap (moved δ r (y / span cells ss)) f ∙ moved_here δ r _)
         at (no e) (no f) = moved_other (moved δ s v) r _ u f ∙ moved_other δ s v u e ∙ sym (moved_other (moved δ r (y / span cells ss)) s v u e ∙ moved_other δ r _ u f)
-
-pub tame-moved : (cells : List ℕ) (δ : Point) (s x : ℕ) → Tame cells δ → x < count_in cells s → Tame cells (moved δ s x)
-tame-moved cells δ s x τ h = record { low = λ t c. go t c (ℕ_discrete t s) }
-  where
-    go : (t : ℕ) → 0 < count_in cells t → Dec (t ≡ s) → moved δ s x t < count_in cells t
-    go t c (yes e) =
-        subst (λ (y : ℕ). moved δ s x y < count_in cells y) (sym e) (subst (λ (y : ℕ). y < count_in cells s) (sym (moved_here δ s x)) h)
-    go t c (no n) = subst (λ (y : ℕ). y < count_in cells t) (sym (moved_other δ s x t n)) (τ.low t c)
 
 module _ (cells : List ℕ) (P : Point → Bool) where
   -- its value does not matter behind the others

@@ -1,9 +1,9 @@
 // Keys of bindings: their numbers with the digits of idle variables 0, so that bindings that differ in those alone have one key; marks by keys.
 // Form 5: a group becomes a smaller one with each digit of a key, so that what is asked of it is shown anew at each call; in a type it would be shown as often.
-ghost use Rattle.std.specs.Prelude.{◌≡◌, ◌<◌, length};
+ghost use Rattle.std.specs.Prelude.{◌≡◌, ◌<◌};
 ghost use Rattle.idle_variables.specs.KeyPromises.{key_in, KeyAsked, MarkSays, Marked, Within};
 
-use slot_carriers::count_of;
+use slot_carriers::{CELLS, count_of};
 
 // How many places there are for marks: no state has more bindings.
 pub const KEYS: usize = 4096;
@@ -18,7 +18,7 @@ pub struct KeyGroup {
 }
 
 // The key of the x-th binding.
-pub fn key_at(cells: &[u32; 9216], g: KeyGroup, x: usize) -> usize
+pub fn key_at(cells: &[u32; CELLS], g: KeyGroup, x: usize) -> usize
     requires key_asked { KeyAsked cells.now g }
     requires x_lt_count { x < g.count }
     ensures is { result ≡ key_in cells.now g x }
@@ -45,9 +45,14 @@ pub fn key_at(cells: &[u32; 9216], g: KeyGroup, x: usize) -> usize
 }
 
 // Does the mark stand at the key of the x-th binding?
-pub fn is_marked(cells: &[u32; 9216], g: KeyGroup, x: usize, mark: u16, marks: &[u16]) -> bool
-    requires key_asked { KeyAsked cells.now g }
-    requires marks_len { length marks.now ≡ 4096 }
+pub fn is_marked(
+    cells: &[u32; CELLS],
+    g: KeyGroup,
+    x: usize,
+    mark: u16,
+    marks: &[u16; KEYS],
+) -> bool
+    requires { KeyAsked cells.now g }
     ensures { MarkSays cells.now g x mark marks.now result }
 {
     x < g.count && marks[key_at(cells, g, x)] == mark
@@ -56,16 +61,15 @@ pub fn is_marked(cells: &[u32; 9216], g: KeyGroup, x: usize, mark: u16, marks: &
 // Makes the mark there, if it may be made.
 // Form 7: with an `if` at the calls, each of the loops of `nest` would go on from two joined ways, and its invariant be shown for both.
 pub fn make_mark(
-    cells: &[u32; 9216],
+    cells: &[u32; CELLS],
     g: KeyGroup,
     x: usize,
     mark: u16,
     may: bool,
-    marks: &mut [u16],
+    marks: &mut [u16; KEYS],
 )
     requires key_asked { KeyAsked cells.now g }
     requires x_lt_count { x < g.count }
-    requires marks_len { length marks.old ≡ 4096 }
     ensures { Marked may (key_in cells.now g x) mark marks.old marks.new }
 {
     if may {

@@ -3,11 +3,12 @@
 
 ghost use Rattle.std.specs.Prelude.{◌≤◌, length, IfOk};
 
+use lexical::bounds::TEXT_BYTES;
 use std::io;
 use std::io::Read;
 
 // The longest text, and one byte more: a text that is longer is refused by these alone.
-pub const INPUT: usize = 32769;
+pub const INPUT: usize = TEXT_BYTES + 1;
 
 // Reads until the text is full or the input ends; how many bytes of it there are.
 // Form 3: how far a read goes is what the input answers.

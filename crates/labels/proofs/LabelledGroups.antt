@@ -13,13 +13,14 @@ use Rattle.static_rules.specs.Scope.{variables}
 use Rattle.parser.proofs.ItemNodes.{Split, split-next, split-as, split_at}
 use Rattle.declared_names.specs.NamesByNumber.{variables_of, parameters_of}
 use Rattle.node_spans.proofs.Structure.{split-move}
-use Rattle.value_types.proofs.DeclaredCarriers.{HaveCarriers, HasCarrier, declarations_of, variable_of, variables-one}
+use Rattle.value_types.proofs.DeclaredCarriers.{HaveCarriers, HasCarrier, declarations_of, variable_of}
 use Rattle.readings.specs.TablePlacesDossierTable.{type_table, row, state_row, parameter_row}
 use Rattle.readings.proofs.TablePatches.{TypesAt, no_types, more_types}
 use Rattle.labels.specs.Labels.{SpeltAt, Typed, LabelAt, LabelsFrom}
 use Rattle.labels.specs.LabelPromises.{name_byte, VariableGathered, VariablesGathered}
 use Rattle.labels.proofs.TypeLabels.{TypedBy, type-typed}
 use Rattle.labels.proofs.NamedNodes.{NamesAt, more_names}
+use Rattle.static_rules.proofs.FoundCarriers.{variables-one}
 
 -- the node of a variable's name stands at q, and in the table behind it the numbers of its type
 pub record VariableNode (text nodes starts table : List ℕ) (gs : List Given) (q : ℕ) (v : Variable) : Type 0 where

@@ -5,35 +5,33 @@ ghost use Rattle.std.specs.Prelude.{◌≡◌, ◌+◌, ◌-◌, ◌*◌, ◌<�
 ghost use Rattle.labels.specs.LabelPromises.{name_byte, names_from, variable_of, Stored, ElementsGathered, TitlesGathered, VariablesGathered};
 
 use form::{node, shapes};
-use lexical::endings;
+use lexical::{bounds, endings};
 use node_spans::span;
 use parser::sections::{run_from, sections, skip_from};
-use type_rules::kinds::{index, look, put};
+pub use search_groups::groups::GROUPS;
+use type_rules::kinds::{look, put};
 
 // Form 1: numbers of the lent array of labels and of nodes, no kinds.
-// How many labels there are; where those of operations and of variables begin, and how many a variable has.
-pub const LABELS: usize = 720;
+// Each given set has as many labels as it may have elements.
+pub const ELEMENTS: usize = bounds::ELEMENTS as usize;
 
-pub const TITLES: usize = 64;
+const GIVEN_SETS: usize = bounds::GIVEN_SETS as usize;
 
-pub const VARIABLES: usize = 80;
+// Where the labels of operations and of variables begin, how many a variable has, and how many there are.
+pub const TITLES: usize = ELEMENTS * GIVEN_SETS;
+
+pub const VARIABLES: usize = TITLES + span::MOST;
 
 pub const VARIABLE: usize = 4;
 
-// The places of the groups.
-const GROUPS: usize = 160;
-
-// Given sets, and elements of one, have eight labels each.
-const ELEMENTS: usize = 8;
-
-const GIVEN_SETS: usize = 8;
+pub const LABELS: usize = VARIABLES + VARIABLE * GROUPS;
 
 // Of a variable's node and of its type's, which is the next one: second size, given sets, shape.
-const TYPE_SIZE: usize = 4;
+const TYPE_SIZE: usize = node::SIZE;
 
-const TYPE_SIDES: usize = 6;
+const TYPE_SIDES: usize = node::SIZE + node::PLACE;
 
-const TYPE_SHAPE: usize = 7;
+const TYPE_SHAPE: usize = node::SIZE + node::SHAPE;
 
 // A text, and the labels of its names.
 #[derive(Clone, Copy)]
@@ -44,6 +42,7 @@ pub struct Names<'a> {
 
 impl Names<'_> {
     // The k-th label, 0 past their end.
+    // Form 1: each label that is asked for is before their end; with an Option each caller would have to name the 0 that the contracts have there.
     pub fn label(&self, k: usize) -> u16
         ensures { result ≡ get_or self.now.labels.now k 0 }
     {
@@ -67,13 +66,15 @@ fn name_byte(x: &Sources<'_>, q: usize) -> u16
     requires { q < 65536 }
     ensures { result ≡ name_byte x.now.nodes.now x.now.starts.now q }
 {
-    look(x.starts, index(look(x.nodes, q + node::A) / endings::COUNT))
+    look(
+        x.starts,
+        usize::from(look(x.nodes, q + node::A) / endings::COUNT),
+    )
 }
 
 // The eight labels of a given set whose elements' nodes stand from q on; if it has fewer, the last labels are of other nodes, and nobody reads them.
-// Form 5: these five and `gather` take all labels, so that each can say which it leaves as they are; `put` writes into a slice of any length.
-fn gather_set(x: &Sources<'_>, q: usize, at: usize, labels: &mut [u16])
-    requires { (q ≤ 16384) × (at ≤ 64) × (length labels.old ≡ 720) }
+fn gather_set(x: &Sources<'_>, q: usize, at: usize, labels: &mut [u16; LABELS])
+    requires { (q ≤ 16384) × (at ≤ 64) }
     ensures { Stored 8 at (names_from x.now.nodes.now x.now.starts.now q) labels.old labels.new }
 {
     for k in 0..ELEMENTS {
@@ -82,8 +83,8 @@ fn gather_set(x: &Sources<'_>, q: usize, at: usize, labels: &mut [u16])
 }
 
 // Of the elements: behind the heading of each given set; the first m numbers are the nodes of the dossier.
-pub fn gather_elements(x: &Sources<'_>, m: usize, labels: &mut [u16])
-    requires { (m ≤ 16384) × (length labels.old ≡ 720) }
+pub fn gather_elements(x: &Sources<'_>, m: usize, labels: &mut [u16; LABELS])
+    requires { m ≤ 16384 }
     ensures { ElementsGathered x.now.nodes.now x.now.starts.now m labels.old labels.new }
 {
     let mut q = sections(x.nodes, m).givens;
@@ -95,12 +96,11 @@ pub fn gather_elements(x: &Sources<'_>, m: usize, labels: &mut [u16])
 }
 
 // Of the operations' names.
-pub fn gather_titles(x: &Sources<'_>, labels: &mut [u16])
-    requires { length labels.old ≡ 720 }
+pub fn gather_titles(x: &Sources<'_>, labels: &mut [u16; LABELS])
     ensures { TitlesGathered x.now.nodes.now x.now.starts.now x.now.spans.now labels.old labels.new }
 {
     for j in 0..span::MOST {
-        let q = index(look(x.spans, span::OPERATIONS + span::OPERATION * j));
+        let q = usize::from(look(x.spans, span::OPERATIONS + span::OPERATION * j));
         put(
             labels,
             TITLES + j,
@@ -110,8 +110,8 @@ pub fn gather_titles(x: &Sources<'_>, labels: &mut [u16])
 }
 
 // The four labels of a place of the groups.
-fn gather_variable(x: &Sources<'_>, q: usize, at: usize, labels: &mut [u16])
-    requires { (q < 65536) × (at ≤ 716) × (length labels.old ≡ 720) }
+fn gather_variable(x: &Sources<'_>, q: usize, at: usize, labels: &mut [u16; LABELS])
+    requires { (q < 65536) × (at ≤ 716) }
     ensures { Stored 4 at (variable_of x.now.nodes.now x.now.starts.now x.now.table.now q) labels.old labels.new }
 {
     put(labels, at, name_byte(x, q));
@@ -121,12 +121,11 @@ fn gather_variable(x: &Sources<'_>, q: usize, at: usize, labels: &mut [u16])
 }
 
 // Of the variables in the groups.
-pub fn gather_variables(x: &Sources<'_>, labels: &mut [u16])
-    requires { length labels.old ≡ 720 }
+pub fn gather_variables(x: &Sources<'_>, labels: &mut [u16; LABELS])
     ensures { VariablesGathered x.now.nodes.now x.now.starts.now x.now.table.now x.now.groups.now labels.old labels.new }
 {
     for i in 0..GROUPS {
-        let q = index(look(x.groups, i));
+        let q = usize::from(look(x.groups, i));
         gather_variable(x, q, VARIABLES + VARIABLE * i, labels);
     }
 }

@@ -1,15 +1,14 @@
 -- Laws of the classes of bytes, and of runs.
 use mathlib.Core.Path.{◌≡◌, refl, ap, ◌∙◌, sym}
-use mathlib.Core.Bool.{Bool, true, false, ◌&&◌}
+use mathlib.Core.Bool.{Bool, true, false, cond, ◌&&◌}
 use mathlib.Core.List.{List, [], ◌∷◌}
 use mathlib.Core.Logic.{◌⊎◌, inl, inr}
 use Prim.Native.Nat.{ℕ, zero, suc, ◌+◌, ◌≤◌, ◌<◌}
 use native.Mathlib.Omega.{arith}
-use native.Mathlib.Numerals.{add-one}
 use lib.Dec.{eqb, leb}
 use borrow.Author.Tests.{leb-true, eqb-true, eqb-false, ne_eqb}
-use lib.ListN.{length, drop, get_or, drop_of_length-le}
-use lib.Seq.{drop-cons}
+use lib.ListN.{length, take}
+use Rattle.std.specs.List.{prefix_len}
 use Rattle.lexical.specs.Lists.{bytes, any}
 use Rattle.lexical.specs.Symbols.{Class, letter, digit, mark, other, between, class_of, in_run, run}
 
@@ -83,17 +82,17 @@ others b f g h paren colon brace blanks singles =
     misses : Misses b (bytes ":;,|@()[]{}.=/<>+-*#")
     misses = ((λ e. colon (omega arith) (omega arith)), ((λ e. colon (omega arith) (omega arith)), ((λ e. paren (omega arith) (omega arith)), ((λ e. brace (omega arith) (omega arith)), ((λ e. singles (inr (inl e))), ((λ e. paren (omega arith) (omega arith)), ((λ e. paren (omega arith) (omega arith)), ((λ e. singles (inr (inr (inl e)))), ((λ e. singles (inr (inr (inr e)))), ((λ e. brace (omega arith) (omega arith)), ((λ e. brace (omega arith) (omega arith)), ((λ e. paren (omega arith) (omega arith)), ((λ e. colon (omega arith) (omega arith)), ((λ e. paren (omega arith) (omega arith)), ((λ e. colon (omega arith) (omega arith)), ((λ e. colon (omega arith) (omega arith)), ((λ e. paren (omega arith) (omega arith)), ((λ e. paren (omega arith) (omega arith)), ((λ e. paren (omega arith) (omega arith)), ((λ e. singles (inl e)), tt))))))))))))))))))))
 
--- the run from a place goes on while bytes are in it
-pub run_more : (s : List ℕ) (i : ℕ) → i < length s → in_run (class_of (get_or s i 0)) ≡ true → run (drop i s) ≡ get_or s i 0 ∷ run (drop (i + 1) s)
-unfolding run
-run_more s i lt q =
-    ap run (drop-cons s i 0 lt) ∙ ap (λ (t : Bool). elim t [ true ↦ get_or s i 0 ∷ run (drop (suc i) s) | false ↦ [] ]) q
-    ∙ ap (λ (n : ℕ). get_or s i 0 ∷ run (drop n s)) (sym (add-one i))
+-- is a byte in a run
+abbrev pub inside : ℕ → Bool
+inside b = in_run (class_of b)
 
-pub run-stop : (s : List ℕ) (i : ℕ) → i < length s → in_run (class_of (get_or s i 0)) ≡ false → run (drop i s) ≡ []
+-- the run is the longest front of bytes that are in one
+pub run-front : (w : List ℕ) → length (take (prefix_len inside w) w) ≡ length (run w)
 unfolding run
-run-stop s i lt q = ap run (drop-cons s i 0 lt) ∙ ap (λ (t : Bool). elim t [ true ↦ get_or s i 0 ∷ run (drop (suc i) s) | false ↦ [] ]) q
-
-pub run_end : (s : List ℕ) (i : ℕ) → length s ≤ i → run (drop i s) ≡ []
-unfolding run
-run_end s i h = ap run (drop_of_length-le s h)
+run-front [] = refl
+run-front (b ∷ w) = on (in_run (class_of b)) (run-front w)
+  where
+    on : (t : Bool) → length (take (prefix_len inside w) w) ≡ length (run w)
+        → length (take (cond t (1 + prefix_len inside w) 0) (b ∷ w)) ≡ length {A = ℕ} (elim t [ true ↦ b ∷ run w | false ↦ [] ])
+    on true h = let one : 1 + prefix_len inside w ≡ suc (prefix_len inside w) = omega arith in ap (λ (n : ℕ). length (take n (b ∷ w))) one ∙ ap suc h
+    on false h = refl

@@ -4,5 +4,6 @@ pub mod ByteLaws
 pub mod MarkLaws
 pub mod WordLaws
 pub mod NumberLaws
+pub mod FoundSymbols
 pub mod Samples
 pub mod NameCodes

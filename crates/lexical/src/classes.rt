@@ -29,21 +29,20 @@ pub fn in_run(b: u8) -> bool
 }
 
 // How many letters and digits stand from `at` on.
+// Form 3: the rest of the text is taken first, since `skip(at)` passes over each byte before `at`: with it `read` took 22 to 63 times as long.
 pub fn run_from(s: &[u8], at: usize) -> usize
     ensures { result ≡ length (run (drop at s.now)) }
 {
-    for i in at..s.len() {
-        if !in_run(s[i]) {
-            return i - at;
-        }
-    }
-    s.len().saturating_sub(at)
+    let Some(rest) = s.get(at..) else {
+        return 0;
+    };
+    rest.iter().take_while(|b| in_run(**b)).count()
 }
 
-// The byte at a place.
-// Form 1: past the end it is 0, which no mark and no ending has, so that a test is false there; with an Option each would compare with `Some(..)`.
-pub fn byte_at(s: &[u8], at: usize) -> u8
-    ensures { result ≡ get_or s.now at 0 }
+// What stands at a place of a list, or `none` past its end.
+// Form 1: the lists are of bytes, codes and values, and `none` is 0, which no mark, no ending, no kind and no name has: with an Option each test would compare with `Some(..)`.
+pub fn at_or<T: Copy>(s: &[T], at: usize, none: T) -> T
+    ensures { result ≡ get_or s.now at none }
 {
-    s.get(at).copied().unwrap_or(0)
+    s.get(at).copied().unwrap_or(none)
 }

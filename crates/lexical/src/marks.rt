@@ -4,7 +4,7 @@ ghost use Rattle.lexical.specs.Kinds.{marks};
 ghost use Rattle.lexical.specs.Symbols.{longest};
 ghost use Rattle.lexical.specs.SymbolPromises.{token_of};
 
-use crate::classes::byte_at;
+use crate::classes::at_or;
 use crate::{Token, codes};
 
 fn after_less(b: u8, e: u8) -> Token
@@ -115,8 +115,8 @@ pub fn mark_at(s: &[u8], at: usize) -> Token
     requires { at < length s.now }
     ensures { result ≡ token_of (longest marks (drop at s.now)) }
 {
-    let a = byte_at(s, at);
-    let b = byte_at(s, at + 1);
-    let e = byte_at(s, at + 2);
+    let a = at_or(s, at, 0);
+    let b = at_or(s, at + 1, 0);
+    let e = at_or(s, at + 2, 0);
     mark_of(a, b, e)
 }

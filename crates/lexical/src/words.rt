@@ -6,7 +6,7 @@ ghost use Rattle.lexical.specs.Symbols.{ending_of, run, reserved, word_of, by_cl
 ghost use Rattle.lexical.specs.SymbolPromises.{token_of, packed, keyed, word_code, ending_is};
 
 use crate::bounds::NAME_LETTERS;
-use crate::classes::{byte_at, run_from};
+use crate::classes::{at_or, run_from};
 use crate::{Ending, Token, codes};
 
 // How many bytes the longest reserved word has.
@@ -131,7 +131,7 @@ pub fn word_at(s: &[u8], at: usize) -> Token
     ensures { result ≡ token_of (by_class letter (drop at s.now)) }
 {
     let n = run_from(s, at);
-    let ending = ending_of(byte_at(s, at + n));
+    let ending = ending_of(at_or(s, at + n, 0));
     let word = reserved_at(s, at, n);
     word_of(n, ending, word)
 }

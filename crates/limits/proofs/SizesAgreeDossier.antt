@@ -15,11 +15,11 @@ use Rattle.form.specs.Codes.{Numbering, name_number}
 use Rattle.static_rules.specs.Carriers.{Carrier, Variable, largest, same_name, carrier_of}
 use Rattle.static_rules.specs.Scope as scope
 use Rattle.static_rules.specs.Scope.{Context, variables, contexts, operation_contexts, operation_reach}
-use Rattle.static_rules.specs.Limits.{Sizes, context_sizes, size_faults}
+use Rattle.static_rules.specs.Limits.{Sizes, context_sizes, size_faults, size_pred}
 use Rattle.declared_names.specs.NamesByNumber.{Typed, variables_of, parameters_of}
 use Rattle.type_rules.specs.TypesByNumber.{least_key}
 use Rattle.names.proofs.ReachTables.{Numbered, PredIn}
-use Rattle.names.proofs.TypesAgreeLeast.{Small, no_fault, small-append, two-parts, least-nil}
+use Rattle.names.proofs.TypesAgreeLeast.{two-parts, least-nil}
 use Rattle.names.proofs.TypesAgreeScope.{find-here, find-there}
 use Rattle.names.proofs.PassAgreesTables.{name-refl, changed}
 use Rattle.names.proofs.PassAgreesTypes.{TypeIn}
@@ -32,7 +32,6 @@ use Rattle.binding_counts.specs.DeclaredTypesFit.{DeclaredFit}
 use Rattle.limits.specs.DossierSizesByNumber as near
 use Rattle.limits.specs.DossierSizesByNumber.{shown_sizes, context_over, least_over, EndsNear, TypesNear, OperationsNear, DeclaredNear, MeasuresSeen}
 use Rattle.limits.proofs.SizesAgreeScope.{SizesShown, size_found, size_of_name}
-use Rattle.limits.proofs.SizeWidths.{pred-steady}
 use Rattle.limits.proofs.SizesAgree.{measured_pred}
 use Rattle.limits.proofs.SizeMarks.{zeros-at}
 use Rattle.limits.proofs.ReachMarks.{carried}
@@ -144,18 +143,12 @@ module _ {P : Letters → Type 0} (d : Dossier) (h : DossierIn P d) where
       (one_context h.concrete_holds_lem c
       (one_context h.ainit_in a (one_context h.cinit_in c (one_context h.retrieve_in (names-append a c) (operations_in h.operations_in _ _)))))
 
--- every fault of a list of contexts has a number below keyRoom
-contexts-small : (cs : List Context) → Small (concat (map context_sizes cs))
-unfolding concat context_sizes
-contexts-small [] = no_fault
-contexts-small (c ∷ cs) = small-append (pred-steady c.predicate (sizes_of c.scope.reach) c.at).small (contexts-small cs)
-
 module _ (ρ : Numbering) (P : Letters → Type 0) (ν : Numbered ρ P) (n : ℕ) (l : 16384 ≤ n) where
   contexts-least : {cs : List Context} → ContextsIn P cs → least_over cs ρ n ≡ least_key (concat (map context_sizes cs))
   unfolding least_over context_over concat context_sizes
   contexts-least no_contexts = sym least-nil
   contexts-least (one_context {c = c} {cs = cs} p v h) =
-      two-parts (pred-steady c.predicate (sizes_of c.scope.reach) c.at).small (contexts-small cs)
+      two-parts (size_pred c.predicate (sizes_of c.scope.reach) c.at).faults (concat (map context_sizes cs))
       (measured_pred ρ P ν c.predicate (sizes_of c.scope.reach) (shown_sizes c.scope.reach ρ n) (reach-shown ρ P ν n l v) p c.at).0 (contexts-least h)
 
 -- the least fault of number 13 of a dossier whose letters the numbering tells apart

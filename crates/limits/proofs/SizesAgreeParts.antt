@@ -10,9 +10,9 @@ use Rattle.form.specs.Tree.{Term, Items, Pairs, Pred}
 use Rattle.form.specs.Codes.{Numbering, term_width, pred_width}
 use Rattle.static_rules.specs.Limits.{Sized, Sizes, operator_size, prefix_size, division_size, size_term, size_items, size_pairs, size_pred}
 use Rattle.type_rules.specs.TypesByNumber.{lesser, least_key}
-use Rattle.names.proofs.TypesAgreeLeast.{two-parts, whole-least, small-append}
+use Rattle.names.proofs.TypesAgreeLeast.{two-parts, whole-least}
 use Rattle.term_sizes.specs.SizesByNumber.{Bounds, prefix_bound, operator_bound, division_bound, term_bound, term_over, items_over, pairs_over, pred_over}
-use Rattle.limits.proofs.SizeWidths.{term-steady, items-steady, pairs-steady, pred-steady, term-next, pred-next}
+use Rattle.limits.proofs.SizeWidths.{term-next, pred-next}
 
 -- the size n and the least fault f of a term
 pub record TermIs (a : Sized) (n f : ℕ) : Type 0 where
@@ -58,7 +58,7 @@ module _ (ρ : Numbering) (Γ : Sizes) (S : Bounds) where
       → lesser (term_over t S ρ i) (term_over u S ρ (suc (i + term_width t)))
       ≡ least_key ((size_term t Γ i).faults ++ (size_term u Γ (suc (size_term t Γ i).next)).faults)
   two-least t u a b i =
-      two-parts (term-steady t Γ i).small (term-steady u Γ (suc (size_term t Γ i).next)).small (a i).least
+      two-parts (size_term t Γ i).faults (size_term u Γ (suc (size_term t Γ i).next)).faults (a i).least
       (ap (λ (n : ℕ). term_over u S ρ (suc n)) (sym (term-next t Γ i)) ∙ (b (suc (size_term t Γ i).next)).least)
 
   third_at : (t u : Term) (i : ℕ) → suc (i + term_width t) + term_width u ≡ (size_term u Γ (suc (size_term t Γ i).next)).next
@@ -69,8 +69,8 @@ module _ (ρ : Numbering) (Γ : Sizes) (S : Bounds) where
       ≡ least_key ((size_term t Γ i).faults ++ (size_term u Γ (suc (size_term t Γ i).next)).faults
       ++ (size_term v Γ (suc (size_term u Γ (suc (size_term t Γ i).next)).next)).faults)
   three-least t u v a b c i =
-      two-parts (small-append (term-steady t Γ i).small (term-steady u Γ (suc (size_term t Γ i).next)).small)
-      (term-steady v Γ (suc (size_term u Γ (suc (size_term t Γ i).next)).next)).small (two-least t u a b i)
+      two-parts ((size_term t Γ i).faults ++ (size_term u Γ (suc (size_term t Γ i).next)).faults)
+      (size_term v Γ (suc (size_term u Γ (suc (size_term t Γ i).next)).next)).faults (two-least t u a b i)
       (ap (λ (n : ℕ). term_over v S ρ (suc n)) (third_at t u i) ∙ (c (suc (size_term u Γ (suc (size_term t Γ i).next)).next)).least)
 
   -- a pair of terms, and the pairs behind it
@@ -79,8 +79,8 @@ module _ (ρ : Numbering) (Γ : Sizes) (S : Bounds) where
       ≡ least_key ((size_term t Γ i).faults ++ (size_term u Γ (suc (size_term t Γ i).next)).faults
       ++ (size_pairs ts Γ (suc (size_term u Γ (suc (size_term t Γ i).next)).next)).faults)
   pairs-least t u ts a b c i =
-      two-parts (small-append (term-steady t Γ i).small (term-steady u Γ (suc (size_term t Γ i).next)).small)
-      (pairs-steady ts Γ (suc (size_term u Γ (suc (size_term t Γ i).next)).next)).small (two-least t u a b i)
+      two-parts ((size_term t Γ i).faults ++ (size_term u Γ (suc (size_term t Γ i).next)).faults)
+      (size_pairs ts Γ (suc (size_term u Γ (suc (size_term t Γ i).next)).next)).faults (two-least t u a b i)
       (ap (λ (n : ℕ). pairs_over ts S ρ (suc n)) (third_at t u i) ∙ c (suc (size_term u Γ (suc (size_term t Γ i).next)).next))
 
   -- a term, and the items behind it
@@ -88,14 +88,14 @@ module _ (ρ : Numbering) (Γ : Sizes) (S : Bounds) where
       → lesser (term_over t S ρ i) (items_over ts S ρ (suc (i + term_width t)))
       ≡ least_key ((size_term t Γ i).faults ++ (size_items ts Γ (suc (size_term t Γ i).next)).faults)
   items-least t ts a b i =
-      two-parts (term-steady t Γ i).small (items-steady ts Γ (suc (size_term t Γ i).next)).small (a i).least
+      two-parts (size_term t Γ i).faults (size_items ts Γ (suc (size_term t Γ i).next)).faults (a i).least
       (ap (λ (n : ℕ). items_over ts S ρ (suc n)) (sym (term-next t Γ i)) ∙ b (suc (size_term t Γ i).next))
 
   pub preds-least : (p q : Pred) → PredHolds ρ Γ S p → PredHolds ρ Γ S q → (i : ℕ)
       → lesser (pred_over p S ρ i) (pred_over q S ρ (suc (i + pred_width p)))
       ≡ least_key ((size_pred p Γ i).faults ++ (size_pred q Γ (suc (size_pred p Γ i).next)).faults)
   preds-least p q a b i =
-      two-parts (pred-steady p Γ i).small (pred-steady q Γ (suc (size_pred p Γ i).next)).small (a i)
+      two-parts (size_pred p Γ i).faults (size_pred q Γ (suc (size_pred p Γ i).next)).faults (a i)
       (ap (λ (n : ℕ). pred_over q S ρ (suc n)) (sym (pred-next p Γ i)) ∙ b (suc (size_pred p Γ i).next))
 
   binary-size : (o : Operator) (t u : Term) → TermHolds ρ Γ S t → TermHolds ρ Γ S u → (i : ℕ)

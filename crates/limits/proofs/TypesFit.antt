@@ -13,8 +13,8 @@ use Rattle.static_rules.specs.Carriers.{same_name}
 use Rattle.static_rules.specs.Scope.{given_names, abstract_taken, concrete_taken}
 use Rattle.static_rules.specs.Names.{new_name, type_faults, declaration_faults, given_faults, parameter_name, parameter_faults, operation_faults, name_faults}
 use Rattle.names.proofs.FaultlessParts.{faultless}
-use Rattle.names.proofs.TypesAgreeLeast.{append_nil-both}
 use Rattle.binding_counts.specs.DeclaredTypesFit.{TypesFit, no_types, one_type, OperationsFit, no_operations, one_operation, DeclaredFit}
+use Rattle.refusals.proofs.FaultLists.{append_nil-both}
 
 declared-types : (gs : List Given) (xs : List Letters) (i : ℕ) (ds : List Declaration) → declaration_faults gs xs i ds ≡ [] → TypesFit gs ds
 unfolding declaration_faults

@@ -59,8 +59,8 @@ fn mark(code: &[u16], shift: u16, bounds: &mut [u16])
 }
 
 // They are taken away.
-// Form 2: `mark` with the size 0; `declared_names::hide` with the entry 0 promises it of declarations' nodes alone, and `context` leaves the table clear
-// behind any nodes.
+// Form 2: `mark` with the size 0. In one function of both the size would be what a closure answers, and each caller would read `marks` back from a promise over that
+// closure's answers; `declared_names::hide` with the entry 0 promises it of declarations' nodes alone, and `context` leaves the table clear behind any nodes.
 fn clear(code: &[u16], shift: u16, bounds: &mut [u16])
     ensures { bounds.new ≡ marks false code.now shift bounds.old }
 {
@@ -154,7 +154,7 @@ fn operation(p: &Parts<'_>, s: &States<'_>, k: usize, bounds: &mut [u16]) -> Opt
 }
 
 // The first n operations.
-// Form 5: tried: an array in `Parts`; of one behind a struct's reference the proof knows the length only where it is handed on as a slice, as here it is not.
+// Form 5: `Parts` has a slice, and its length is asked for, for the reason that stands at `binding_counts::bindings::all_operations`.
 fn operations(p: &Parts<'_>, s: &States<'_>, n: usize, bounds: &mut [u16]) -> Option<Fault>
     requires { (n ≤ 18) × (length p.now.spans.now ≡ 80) }
     ensures { PartSeen p.now.nodes.now p.now.spans.now n s.now.abstracts.now s.now.concretes.now operations_over bounds.old bounds.new (fault_key result) }

@@ -1,10 +1,9 @@
 -- What is written piece by piece are the pieces of a line, and how long these are. Assumes nothing.
-use mathlib.Core.Path.{◌≡◌, refl, sym, ap, subst, ◌∙◌}
+use mathlib.Core.Path.{◌≡◌, refl, sym, ap, ap₂, subst, ◌∙◌}
 use mathlib.Core.Bool.{Bool, true, false, cond}
 use mathlib.Core.List.{List, [], ◌∷◌, ◌++◌, map}
 use Prim.Native.Nat.{ℕ, suc, ◌+◌, ◌-◌, ◌*◌, ◌/◌, ◌%◌, ◌^◌, ◌≤◌, ◌<◌}
 use native.Mathlib.Nat.{add-zero, div-le_self, mod-le}
-use native.Mathlib.Numerals.{add-one}
 use native.Mathlib.Omega.{arith}
 use lib.Dec.{eqb}
 use lib.IntN.{ℤ, pos}
@@ -20,7 +19,8 @@ use Rattle.sets.specs.Sets.{has, members}
 use Rattle.meaning.specs.Values.{natural}
 use Rattle.obligations.specs.Report.{ending_bytes, signed_decimal, braced}
 use Rattle.labels.specs.Labels.{label_of}
-use Rattle.pieces.specs.PiecePromises.{Writes, letters_at}
+use Rattle.pieces.specs.PiecePromises.{Writes, Adds, letters_at}
+use Rattle.pieces.specs.declared.Writer.{Writer}
 use Rattle.pieces.proofs.WrittenPieces.{nothing_written, both-written, letters-length}
 use Rattle.pieces.proofs.Signs.{signed-length}
 use Rattle.lines.specs.LinesByNumber.{element_piece, pair_piece, member_piece, value_piece, ending_byte, byte_piece, ending_piece, line_piece, group_piece}
@@ -68,18 +68,34 @@ ended e p q v = piece_is (sym (ap byte_piece q) ∙ p) v
 pub sides-low : (k m : ℕ) → k < 16 → (k / m < 2 ^ 63) × (k % m < 2 ^ 63)
 sides-low k m h = (omega (arith, div-le_self k m), omega (arith, mod-le k m))
 
-module _ (f : ℕ → List ℕ) (s : ℕ) (p : List ℕ) (k : ℕ) where
-  pub none_written : 16 ≤ k → {at : ℕ} {a : List ℕ} → Writes at (members_piece f s p k (16 - k)) a a at
-  none_written h {at} {a} = piece_is (sym (members-none f s k p h)) (nothing_written at a)
+module _ (f : ℕ → List ℕ) (s : ℕ) (old : Writer) where
+  -- with the members from bit k on behind what was written all of them are, and there is room for them; p stands before the first one that is left
+  pub record MembersLeft (p : List ℕ) (k : ℕ) (now : Writer) : Type 0 where
+    pub same_bytes : now.out.ghost_name ≡ old.out.ghost_name
+    pub rest : (u : Writer) → Adds (members_piece f s p k (16 - k)) now u → Adds (members_piece f s [] 0 16) old u
+    pub room : now.at + length p + 39 * (16 - k) ≤ length now.out.now + 2
 
-  pub there-written : k < 16 → false ≡ has s k → {at r : ℕ} {a b : List ℕ} → Writes at (members_piece f s p (k + 1) (16 - (k + 1))) a b r
-      → Writes at (members_piece f s p k (16 - k)) a b r
-  there-written h e v = piece_is (sym (members-there f s k p h (sym e))) v
+  pub members-start : old.at + 622 ≤ length old.out.now → MembersLeft [] 0 old
+  members-start h = record { same_bytes = refl; rest = λ u v. v; room = omega arith }
 
-  pub here-written : k < 16 → true ≡ has s k → {at m n r : ℕ} {a b c d : List ℕ} → Writes at p a b m → Writes m (f k) b c n
-      → Writes n (members_piece f s (44 ∷ 32 ∷ []) (k + 1) (16 - (k + 1))) c d r → Writes at (members_piece f s p k (16 - k)) a d r
+  pub bit-skipped : (p : List ℕ) (k : ℕ) (now : Writer) → k < 16 → false ≡ has s k → MembersLeft p k now → MembersLeft p (k + 1) now
+  bit-skipped p k now h e m = record {
+    same_bytes = m.same_bytes;
+    rest = λ u v. m.rest u (piece_is (sym (members-there f s k p h (sym e))) v);
+    room = omega (arith, m.room);
+  }
+
+  pub member-added : (p : List ℕ) (k : ℕ) (now mid new : Writer) → k < 16 → true ≡ has s k → length (f k) ≤ 37 → mid.out.ghost_name ≡ now.out.ghost_name → Adds p now mid
+      → new.out.ghost_name ≡ mid.out.ghost_name → Adds (f k) mid new → MembersLeft p k now → MembersLeft (44 ∷ 32 ∷ []) (k + 1) new
   unfolding bytes
-  here-written h e u v w = piece_is (sym (members-here f s k p h (sym e))) (both-written u (both-written v w))
+  member-added p k now mid new h e short i v j w m = record {
+    same_bytes = j ∙ i ∙ m.same_bytes;
+    rest = λ u x. m.rest u (piece_is (sym (members-here f s k p h (sym e))) (both-written v (both-written w x)));
+    room = omega (arith, m.room, short, v.end, v.long, w.end, w.long);
+  }
+
+  pub members-added : (p : List ℕ) (k : ℕ) (now : Writer) → 16 ≤ k → MembersLeft p k now → Adds (members_piece f s [] 0 16) old now
+  members-added p k now h m = m.rest now (piece_is (sym (members-none f s k p h)) (nothing_written now.at now.out.now))
 
 module _ (f : ℕ → List ℕ) (s : ℕ) where
   pub set-written : {at m n r : ℕ} {a b c d : List ℕ} → Writes at (123 ∷ []) a b m → Writes m (members_piece f s [] 0 16) b c n → Writes n (125 ∷ []) c d r
@@ -133,16 +149,18 @@ module _ (text labels : List ℕ) where
 
   -- ---- what is written
 
-  pub element-written : (g k : ℕ) {from at r : ℕ} {a b : List ℕ} → from ≡ get_or labels (8 * g + k) 0 → Writes at (letters_at text from) a b r
+  pub element-written : (g k : ℕ) {from n i at r : ℕ} {a b : List ℕ} → from ≡ get_or labels (n * i + k) 0 → n ≡ 8 → i ≡ g → Writes at (letters_at text from) a b r
       → Writes at (element_piece text labels g k) a b r
   unfolding element_piece
-  element-written g k e v = piece_is (ap (letters_at text) e) v
+  element-written g k e en ei v = piece_is (ap (letters_at text) (e ∙ ap₂ (λ (n i : ℕ). get_or labels (n * i + k) 0) en ei)) v
 
-  pub pair-written : (n m k : ℕ) {at i j r : ℕ} {a b c d : List ℕ} → Writes at (element_piece text labels (n / 8) (k / m)) a b i
-      → Writes i (32 ∷ 124 ∷ 45 ∷ 62 ∷ 32 ∷ []) b c j → Writes j (element_piece text labels (n % 8) (k % m)) c d r
+  pub pair-written : (n m k : ℕ) {l at i j r : ℕ} {a b c d : List ℕ} → l ≡ m → Writes at (element_piece text labels (n / 8) (k / l)) a b i
+      → Writes i (32 ∷ 124 ∷ 45 ∷ 62 ∷ 32 ∷ []) b c j → Writes j (element_piece text labels (n % 8) (k % l)) c d r
       → Writes at (pair_piece text labels n m k) a d r
   unfolding pair_piece bytes
-  pair-written n m k u v w = both-written u (both-written v w)
+  pair-written n m k e u v w =
+      both-written (piece_is (ap (λ (i : ℕ). element_piece text labels (n / 8) (k / i)) e) u)
+      (both-written v (piece_is (ap (λ (i : ℕ). element_piece text labels (n % 8) (k % i)) e) w))
 
   pub single-written : (n m k : ℕ) {at r : ℕ} {a b : List ℕ} → m ≡ 0 → Writes at (element_piece text labels n k) a b r → Writes at (member_piece text labels n m k) a b r
   unfolding member_piece
@@ -153,28 +171,34 @@ module _ (text labels : List ℕ) where
   unfolding member_piece
   double-written n m k e v = when_false _ _ (ne_eqb m 0 e) v
 
+  -- of a subset the number of elements of a second set is not used
+  sets-value : (s n m : ℕ) (x : ℤ) → (s ≡ 1 → ⊥) → (s ≡ 2 → ⊥)
+      → value_piece text labels s n m x ≡ braced (map (member_piece text labels n (cond (eqb s 3) 0 m)) (members (natural x)))
+  unfolding value_piece
+  sets-value s n m x h₁ h₂ = rw (value_piece, ne_eqb s 1 h₁, ne_eqb s 2 h₂) (on (eqb s 3))
+    where
+      on : (t : Bool) → cond t (braced (map (member_piece text labels n 0) (members (natural x)))) (braced (map (member_piece text labels n m) (members (natural x))))
+          ≡ braced (map (member_piece text labels n (cond t 0 m)) (members (natural x)))
+      on true = refl
+      on false = refl
+
   module _ (s n m : ℕ) (x : ℤ) {at r : ℕ} {a b : List ℕ} where
     pub value-element : s ≡ 1 → {k : ℕ} → k ≡ natural x → Writes at (element_piece text labels n k) a b r → Writes at (value_piece text labels s n m x) a b r
     unfolding value_piece
     value-element h e v = when_true _ _ (eq-eqb s 1 h) (piece_is (ap (element_piece text labels n) e) v)
 
-    pub value-number : (s ≡ 1 → ⊥) → s ≡ 2 → {y : ℤ} → y ≡ x → Writes at (signed_decimal y) a b r → Writes at (value_piece text labels s n m x) a b r
+    pub value-number : s ≡ 2 → {y : ℤ} → y ≡ x → Writes at (signed_decimal y) a b r → Writes at (value_piece text labels s n m x) a b r
     unfolding value_piece
-    value-number h₁ h e v = when_false _ _ (ne_eqb s 1 h₁) (when_true _ _ (eq-eqb s 2 h) (piece_is (ap signed_decimal e) v))
+    value-number h e v = when_false _ _ (ne_eqb s 1 (λ f. (let z : ⊥ = omega arith in z))) (when_true _ _ (eq-eqb s 2 h) (piece_is (ap signed_decimal e) v))
 
-    pub value-subset : (s ≡ 1 → ⊥) → (s ≡ 2 → ⊥) → s ≡ 3 → {w : ℕ} → w ≡ natural x % 65536
-        → Writes at (braced (map (member_piece text labels n 0) (members w))) a b r → Writes at (value_piece text labels s n m x) a b r
-    unfolding value_piece
-    value-subset h₁ h₂ h e v =
-        when_false _ _ (ne_eqb s 1 h₁) (when_false _ _ (ne_eqb s 2 h₂) (when_true _ _ (eq-eqb s 3 h)
-        (piece_is (ap (λ (l : List ℕ). braced (map (member_piece text labels n 0) l)) (ap members e ∙ members-low (natural x))) v)))
-
-    pub value-pairs : (s ≡ 1 → ⊥) → (s ≡ 2 → ⊥) → (s ≡ 3 → ⊥) → {w : ℕ} → w ≡ natural x % 65536
-        → Writes at (braced (map (member_piece text labels n m) (members w))) a b r → Writes at (value_piece text labels s n m x) a b r
-    unfolding value_piece
-    value-pairs h₁ h₂ h₃ e v =
-        when_false _ _ (ne_eqb s 1 h₁) (when_false _ _ (ne_eqb s 2 h₂) (when_false _ _ (ne_eqb s 3 h₃)
-        (piece_is (ap (λ (l : List ℕ). braced (map (member_piece text labels n m) l)) (ap members e ∙ members-low (natural x))) v)))
+    pub value-set : (s ≡ 1 → ⊥) → (s ≡ 2 → ⊥) → {i l w : ℕ} → i ≡ n → l ≡ cond (eqb s 3) 0 m → w ≡ natural x % 65536
+        → Writes at (braced (map (member_piece text labels i l) (members w))) a b r → Writes at (value_piece text labels s n m x) a b r
+    value-set h₁ h₂ {i} {l} {w} ei el ew v =
+        let is : braced (map (member_piece text labels i l) (members w)) ≡ braced (map (member_piece text labels n (cond (eqb s 3) 0 m)) (members (natural x % 65536))) =
+        λ h. braced (map (member_piece text labels (ei h) (el h)) (members (ew h))) in
+        piece_is
+        (is ∙ ap (λ (y : List ℕ). braced (map (member_piece text labels n (cond (eqb s 3) 0 m)) y)) (members-low (natural x)) ∙ sym (sets-value s n m x h₁ h₂))
+        v
 
   pub line-written : (i : ℕ) (e : Ending) (x : ℤ) {from s n m : ℕ} {y : ℤ} {at j k l o r : ℕ} {a b c d f g : List ℕ}
       → from ≡ get_or labels (80 + 4 * i) 0 → s ≡ label_of labels i 1 → n ≡ label_of labels i 2 → m ≡ label_of labels i 3 → y ≡ x
@@ -190,17 +214,46 @@ module _ (text labels : List ℕ) where
 
   -- ---- the lines of a group
 
-  pub no_lines : (i n s e : ℕ) (σ : List ℤ) {at : ℕ} {a : List ℕ} → n ≡ 0 → Writes at (group_piece text labels i n s e σ) a a at
-  unfolding group_piece
-  no_lines i n s e σ {at} {a} h = subst (λ (k : ℕ). Writes at (group_piece text labels i k s e σ) a a at) (sym h) (nothing_written at a)
+  module _ (i n s e : ℕ) (σ : List ℤ) (old : Writer) where
+    -- with the lines from the k-th on behind what was written all of them are, and none so far is longer than a line
+    pub record LinesLeft (k : ℕ) (now : Writer) : Type 0 where
+      pub same_bytes : now.out.ghost_name ≡ old.out.ghost_name
+      pub rest : (u : Writer) → Adds (group_piece text labels (i + k) (n - k) (s + k) e σ) now u → Adds (group_piece text labels i n s e σ) old u
+      pub long : length now.out.now ≡ length old.out.now
+      pub short : now.at ≤ old.at + 645 * k
 
-  pub lines-written : (i n s e : ℕ) (σ : List ℤ) {j k l d : ℕ} {x : ℤ} {at m r : ℕ} {a b c : List ℕ} → 1 ≤ n → j ≡ i + 1 → k ≡ n - 1 → l ≡ s + 1 → d ≡ e
-      → x ≡ get_or σ s (pos 0) → Writes at (line_piece text labels i e x) a b m → Writes m (group_piece text labels j k l d σ) b c r
-      → Writes at (group_piece text labels i n s e σ) a c r
-  unfolding group_piece
-  lines-written i n s e σ {j} {k} {l} {d} {x} {at} {m} {r} {a} {b} {c} h hj hk hl hd hx v w =
-      let more : suc k ≡ n = omega arith in
-      let rest : group_piece text labels j k l d σ ≡ group_piece text labels (suc i) k (suc s) e σ =
-      λ h. group_piece text labels ((hj ∙ add-one i) h) k ((hl ∙ add-one s) h) (hd h) σ in
-      subst (λ (i' : ℕ). Writes at (group_piece text labels i i' s e σ) a c r) more
-      (both-written (piece_is (ap (line_piece text labels i e) hx) v) (piece_is rest w))
+    pub lines-start : LinesLeft 0 old
+    lines-start = record {
+      same_bytes = refl;
+      rest = λ u v.
+          let first : i + 0 ≡ i = add-zero i in
+          let all : n - 0 ≡ n = omega arith in
+          let slot : s + 0 ≡ s = add-zero s in
+          piece_is (λ h. group_piece text labels (first h) (all h) (slot h) e σ) v;
+      long = refl;
+      short = omega arith;
+    }
+
+    pub line-added : (k : ℕ) (x : ℤ) (now new : Writer) → k < n → x ≡ get_or σ (s + k) (pos 0) → length (line_piece text labels (i + k) e x) ≤ 645 → new.out.ghost_name ≡ now.out.ghost_name
+        → Adds (line_piece text labels (i + k) e x) now new → LinesLeft k now → LinesLeft (k + 1) new
+    unfolding group_piece
+    line-added k x now new h hx l g v m = record {
+      same_bytes = g ∙ m.same_bytes;
+      rest = λ u w.
+          let first : i + (k + 1) ≡ suc (i + k) = omega arith in
+          let slot : s + (k + 1) ≡ suc (s + k) = omega arith in
+          let more : suc (n - (k + 1)) ≡ n - k = omega arith in
+          let rest : group_piece text labels (i + (k + 1)) (n - (k + 1)) (s + (k + 1)) e σ ≡ group_piece text labels (suc (i + k)) (n - (k + 1)) (suc (s + k)) e σ =
+          λ h. group_piece text labels (first h) (n - (k + 1)) (slot h) e σ in
+          m.rest u
+          (subst (λ (left : ℕ). Adds (group_piece text labels (i + k) left (s + k) e σ) now u) more
+          (both-written (piece_is (ap (line_piece text labels (i + k) e) hx) v) (piece_is rest w)));
+      long = v.long ∙ m.long;
+      short = omega (arith, v.end, l, m.short);
+    }
+
+    pub lines-added : (k : ℕ) (now : Writer) → n ≤ k → LinesLeft k now → Adds (group_piece text labels i n s e σ) old now
+    unfolding group_piece
+    lines-added k now h m =
+        let none : n - k ≡ 0 = omega arith in
+        m.rest now (subst (λ (left : ℕ). Adds (group_piece text labels (i + k) left (s + k) e σ) now now) (sym none) (nothing_written now.at now.out.now))

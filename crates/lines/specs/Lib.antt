@@ -1,2 +1,3 @@
+pub mod GroupPlaces
 pub mod LinesByNumber
 pub mod MembersByNumber

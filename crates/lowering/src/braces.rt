@@ -1,4 +1,6 @@
 // The walk over the terms and the pairs of braces.
+// Form 2: `paired` and `pairs` are as `listed` and `items` over pairs, whose nodes have a size and two starts. Tried on a small cycle of this shape: a generic function over a trait
+// that both implement; the borrow checker does not cover a method of an implementation that leads back to its own cycle of calls.
 ghost use Rattle.std.specs.Prelude.{◌≡◌, ◌+◌, ◌-◌, ◌≤◌, get_or};
 ghost use Rattle.table_nodes.specs.TableWalkPromises.{WalkAsked, NodeAsked, TermMade, ItemsMade, PairsMade};
 
@@ -7,7 +9,8 @@ use crate::walk::term;
 use form::{node, shapes};
 use table_nodes::nodes::{element_size, nothing, set_node};
 use table_nodes::{Made, table_shapes};
-use type_rules::kinds::{pair_of, set_of, shared_kind};
+use type_rules::entries::Kind;
+use type_rules::kinds::shared_kind;
 
 // {t, ...}.
 #[cycle(walk)]
@@ -15,7 +18,7 @@ pub(crate) fn listed(
     r: &Reading<'_>,
     end: usize,
     slot: u16,
-    names: &mut [u16],
+    names: &mut [Kind],
     places: &mut [u16],
     out: &mut [u16],
 ) -> Made
@@ -26,7 +29,7 @@ pub(crate) fn listed(
     let t = items(r, at, slot, names, places, out);
     set_node(out, at, table_shapes::LISTED, 0, 0, 0);
     Made {
-        kind: set_of(t.kind),
+        kind: t.kind.set_of(),
         start: t.start,
     }
 }
@@ -37,7 +40,7 @@ pub(crate) fn paired(
     r: &Reading<'_>,
     end: usize,
     slot: u16,
-    names: &mut [u16],
+    names: &mut [Kind],
     places: &mut [u16],
     out: &mut [u16],
 ) -> Made
@@ -59,7 +62,7 @@ fn items(
     r: &Reading<'_>,
     end: usize,
     slot: u16,
-    names: &mut [u16],
+    names: &mut [Kind],
     places: &mut [u16],
     out: &mut [u16],
 ) -> Made
@@ -93,7 +96,7 @@ fn pairs(
     r: &Reading<'_>,
     end: usize,
     slot: u16,
-    names: &mut [u16],
+    names: &mut [Kind],
     places: &mut [u16],
     out: &mut [u16],
 ) -> Made
@@ -115,7 +118,7 @@ fn last_pair(
     r: &Reading<'_>,
     end: usize,
     slot: u16,
-    names: &mut [u16],
+    names: &mut [Kind],
     places: &mut [u16],
     out: &mut [u16],
 ) -> Made
@@ -134,7 +137,7 @@ fn last_pair(
         0,
     );
     Made {
-        kind: pair_of(t.kind, u.kind),
+        kind: t.kind.pair_with(u.kind),
         start: t.start,
     }
 }
@@ -145,7 +148,7 @@ fn next_pair(
     r: &Reading<'_>,
     end: usize,
     slot: u16,
-    names: &mut [u16],
+    names: &mut [Kind],
     places: &mut [u16],
     out: &mut [u16],
 ) -> Made
@@ -165,7 +168,7 @@ fn next_pair(
         n,
         l.start as u16,
     );
-    let k = pair_of(t.kind, u.kind);
+    let k = t.kind.pair_with(u.kind);
     Made {
         kind: shared_kind(k, l.kind),
         start: t.start,

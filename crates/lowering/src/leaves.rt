@@ -8,10 +8,11 @@ use lexical::bounds::LARGEST_NUMBER;
 use table_nodes::nodes::{given_size, nothing, range_count, set_node, truth_of};
 use table_nodes::{Made, slots, table_shapes};
 use type_rules::entries;
-use type_rules::kinds::{element_of, index, look, pair_of, set_of};
+use type_rules::entries::Kind;
+use type_rules::kinds::{entry, look};
 
 // What a name is bound over, or the range after `in`: the node that ends at `end`.
-pub(crate) fn domain(r: &Reading<'_>, end: usize, names: &[u16], out: &mut [u16]) -> Made
+pub(crate) fn domain(r: &Reading<'_>, end: usize, names: &[Kind], out: &mut [u16]) -> Made
     requires { WalkAsked r.now.code.now end out.old }
     ensures { DomainMade r.now.code.now end names.now r.now.sizes.now out.old out.new result }
 {
@@ -21,11 +22,11 @@ pub(crate) fn domain(r: &Reading<'_>, end: usize, names: &[u16], out: &mut [u16]
     let at = end - node::SIZE;
     let a = look(r.code, at + node::A);
     if look(r.code, at + node::SHAPE) == shapes::SET {
-        let e = look(names, index(a));
+        let e = entry(names, usize::from(a));
         let n = given_size(r.sizes, e);
         set_node(out, at, table_shapes::OVER, 0, LARGEST_NUMBER, n);
         return Made {
-            kind: element_of(e),
+            kind: e.element_of(),
             start: at,
         };
     }
@@ -56,7 +57,7 @@ pub(crate) fn number(code: &[u16], end: usize, out: &mut [u16]) -> Made
 pub(crate) fn named(
     code: &[u16],
     end: usize,
-    names: &[u16],
+    names: &[Kind],
     places: &[u16],
     out: &mut [u16],
 ) -> Made
@@ -64,8 +65,8 @@ pub(crate) fn named(
     ensures { (s : ℕ) (z : List ℕ) → TermMade code.now end s names.now names.now places.now places.now z out.old out.new result }
 {
     let at = end - node::SIZE;
-    let x = index(look(code, at + node::A));
-    let e = look(names, x);
+    let x = usize::from(look(code, at + node::A));
+    let e = entry(names, x);
     let w = look(places, x);
     if w < slots::ELEMENTS {
         set_node(out, at, table_shapes::SLOT, 0, w, 0);
@@ -76,30 +77,30 @@ pub(crate) fn named(
 }
 
 // empty G.
-pub(crate) fn empty_set(code: &[u16], end: usize, names: &[u16], out: &mut [u16]) -> Made
+pub(crate) fn empty_set(code: &[u16], end: usize, names: &[Kind], out: &mut [u16]) -> Made
     requires { NodeAsked code.now end 9 out.old }
     ensures { (s : ℕ) (W z : List ℕ) → TermMade code.now end s names.now names.now W W z out.old out.new result }
 {
     let at = end - node::SIZE;
-    let e = look(names, index(look(code, at + node::A)));
+    let e = entry(names, usize::from(look(code, at + node::A)));
     set_node(out, at, table_shapes::VALUE, 0, 0, 0);
     Made {
-        kind: set_of(element_of(e)),
+        kind: e.element_of().set_of(),
         start: at,
     }
 }
 
 // empty G H.
-pub(crate) fn empty_pairs(code: &[u16], end: usize, names: &[u16], out: &mut [u16]) -> Made
+pub(crate) fn empty_pairs(code: &[u16], end: usize, names: &[Kind], out: &mut [u16]) -> Made
     requires { NodeAsked code.now end 10 out.old }
     ensures { (s : ℕ) (W z : List ℕ) → TermMade code.now end s names.now names.now W W z out.old out.new result }
 {
     let at = end - node::SIZE;
-    let g = look(names, index(look(code, at + node::A)));
-    let h = look(names, index(look(code, at)));
+    let g = entry(names, usize::from(look(code, at + node::A)));
+    let h = entry(names, usize::from(look(code, at)));
     set_node(out, at, table_shapes::VALUE, 0, 0, 0);
     Made {
-        kind: pair_of(element_of(g), element_of(h)),
+        kind: g.element_of().pair_with(h.element_of()),
         start: at,
     }
 }

@@ -1,5 +1,8 @@
 // The walk over the nodes of terms and predicates, from their ends, that writes the table: a node for each node read, at the same place.
-ghost use Rattle.table_nodes.specs.TableWalkPromises.{WalkAsked, NodeAsked, SidesAsked, TermMade, PredMade};
+// Form 2: functions of one shape (`prefixed`, `divided`, `negated`; `joined`, `sides`, `connected`; `within`, `related`) differ in what they read, in the node that they write, and
+// in whether a term or a predicate is promised; one function for several would be told all three, and its promise would be chosen by them.
+ghost use Rattle.std.specs.Prelude.{◌≤◌};
+ghost use Rattle.table_nodes.specs.TableWalkPromises.{WalkAsked, NodeAsked, SidesAsked, TermMade, PredMade, BoundMade};
 
 use crate::Reading;
 use crate::braces::{listed, paired};
@@ -10,7 +13,8 @@ use table_nodes::nodes::{
 };
 use table_nodes::{Made, table_shapes};
 use type_rules::entries;
-use type_rules::kinds::{index, look, put, set_of};
+use type_rules::entries::Kind;
+use type_rules::kinds::{entry, look, put};
 use typing::types::prefix_type;
 
 // The term whose nodes end at `end`.
@@ -19,7 +23,7 @@ pub(crate) fn term(
     r: &Reading<'_>,
     end: usize,
     slot: u16,
-    names: &mut [u16],
+    names: &mut [Kind],
     places: &mut [u16],
     out: &mut [u16],
 ) -> Made
@@ -50,7 +54,7 @@ fn prefixed(
     r: &Reading<'_>,
     end: usize,
     slot: u16,
-    names: &mut [u16],
+    names: &mut [Kind],
     places: &mut [u16],
     out: &mut [u16],
 ) -> Made
@@ -75,7 +79,7 @@ fn divided(
     r: &Reading<'_>,
     end: usize,
     slot: u16,
-    names: &mut [u16],
+    names: &mut [Kind],
     places: &mut [u16],
     out: &mut [u16],
 ) -> Made
@@ -99,7 +103,7 @@ fn joined(
     r: &Reading<'_>,
     end: usize,
     slot: u16,
-    names: &mut [u16],
+    names: &mut [Kind],
     places: &mut [u16],
     out: &mut [u16],
 ) -> Made
@@ -123,7 +127,7 @@ fn such(
     r: &Reading<'_>,
     end: usize,
     slot: u16,
-    names: &mut [u16],
+    names: &mut [Kind],
     places: &mut [u16],
     out: &mut [u16],
 ) -> Made
@@ -131,18 +135,39 @@ fn such(
     ensures { TermMade r.now.code.now end slot names.old names.new places.old places.new r.now.sizes.now out.old out.new result }
 {
     let at = end - node::SIZE;
-    let x = index(look(r.code, at + node::A));
+    let p = bound(r, end, slot, names, places, out);
+    set_node(out, at, table_shapes::SUCH, 0, slot, 0);
+    Made {
+        kind: p.kind.set_of(),
+        start: p.start,
+    }
+}
+
+// A predicate with a name bound over a domain, both in front of the node that ends at `end` and has the name. The kind is what the name is.
+#[cycle(walk)]
+fn bound(
+    r: &Reading<'_>,
+    end: usize,
+    slot: u16,
+    names: &mut [Kind],
+    places: &mut [u16],
+    out: &mut [u16],
+) -> Made
+    requires { WalkAsked r.now.code.now end out.old × (4 ≤ end) }
+    ensures { BoundMade r.now.code.now end slot names.old names.new places.old places.new r.now.sizes.now out.old out.new result }
+{
+    let at = end - node::SIZE;
+    let x = usize::from(look(r.code, at + node::A));
     let d = domain(r, at, names, out);
-    let old = look(names, x);
+    let old = entry(names, x);
     let was = look(places, x);
     put(names, x, d.kind);
     put(places, x, slot);
     let p = pred(r, d.start, next_slot(slot), names, places, out);
     put(names, x, old);
     put(places, x, was);
-    set_node(out, at, table_shapes::SUCH, 0, slot, 0);
     Made {
-        kind: set_of(d.kind),
+        kind: d.kind,
         start: p.start,
     }
 }
@@ -153,7 +178,7 @@ pub fn pred(
     r: &Reading<'_>,
     end: usize,
     slot: u16,
-    names: &mut [u16],
+    names: &mut [Kind],
     places: &mut [u16],
     out: &mut [u16],
 ) -> Made
@@ -182,7 +207,7 @@ fn negated(
     r: &Reading<'_>,
     end: usize,
     slot: u16,
-    names: &mut [u16],
+    names: &mut [Kind],
     places: &mut [u16],
     out: &mut [u16],
 ) -> Made
@@ -204,7 +229,7 @@ fn connected(
     r: &Reading<'_>,
     end: usize,
     slot: u16,
-    names: &mut [u16],
+    names: &mut [Kind],
     places: &mut [u16],
     out: &mut [u16],
 ) -> Made
@@ -228,7 +253,7 @@ fn sides(
     r: &Reading<'_>,
     end: usize,
     slot: u16,
-    names: &mut [u16],
+    names: &mut [Kind],
     places: &mut [u16],
     out: &mut [u16],
     shape: u16,
@@ -253,7 +278,7 @@ fn within(
     r: &Reading<'_>,
     end: usize,
     slot: u16,
-    names: &mut [u16],
+    names: &mut [Kind],
     places: &mut [u16],
     out: &mut [u16],
 ) -> Made
@@ -277,7 +302,7 @@ fn related(
     r: &Reading<'_>,
     end: usize,
     slot: u16,
-    names: &mut [u16],
+    names: &mut [Kind],
     places: &mut [u16],
     out: &mut [u16],
 ) -> Made
@@ -303,7 +328,7 @@ fn quantified(
     r: &Reading<'_>,
     end: usize,
     slot: u16,
-    names: &mut [u16],
+    names: &mut [Kind],
     places: &mut [u16],
     out: &mut [u16],
 ) -> Made
@@ -311,16 +336,8 @@ fn quantified(
     ensures { PredMade r.now.code.now end slot names.old names.new places.old places.new r.now.sizes.now out.old out.new result }
 {
     let at = end - node::SIZE;
-    let x = index(look(r.code, at + node::A));
     let b = look(r.code, at);
-    let d = domain(r, at, names, out);
-    let old = look(names, x);
-    let was = look(places, x);
-    put(names, x, d.kind);
-    put(places, x, slot);
-    let p = pred(r, d.start, next_slot(slot), names, places, out);
-    put(names, x, old);
-    put(places, x, was);
+    let p = bound(r, end, slot, names, places, out);
     set_node(out, at, table_shapes::QUANTIFIED, 0, slot, b);
     Made {
         kind: entries::NONE,

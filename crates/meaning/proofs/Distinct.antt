@@ -3,7 +3,7 @@ use mathlib.Core.Path.{◌≡◌, refl, sym, ap, ◌∙◌, subst}
 use mathlib.Core.Bool.{Bool, true, false}
 use mathlib.Core.Logic.{◌⊎◌, inl, inr, ⊎_elim}
 use mathlib.Core.List.{List, [], ◌∷◌, ◌++◌, map}
-use Prim.Native.Nat.{ℕ, zero, suc, ◌<◌, ◌≤◌}
+use Prim.Native.Nat.{ℕ, zero, suc, ◌<◌}
 use native.Mathlib.Nat.{not-suc-le-zero, le_of_suc-le-suc}
 use native.Mathlib.Omega.{arith}
 use lib.ListN.{length, get_or}
@@ -11,6 +11,7 @@ use Rattle.static_rules.specs.LexicalLists.{filter, upward}
 use Rattle.meaning.specs.Bindings.{flat, Among}
 use Rattle.meaning.proofs.Members.{among-append, map-among, flat-among}
 use Rattle.meaning.proofs.Places.{member-at}
+use Rattle.meaning.proofs.UpwardNumbers.{among-upward}
 
 unfoldable pub Distinct : {A : Type 0} → List A → Type 0
 Distinct [] = Unit {0}
@@ -92,14 +93,7 @@ module _ {A B : Type 0} where
       let s : (w : A) × Among w xs × Among y (f w) = flat-among f xs y n in
       h.0 (subst (λ (w : A). Among w xs) (sym (r s.0 y s.2) ∙ r x y m) s.1))
 
--- "numbers upward"
-upward-from : (x k n : ℕ) → Among x (upward k n) → k ≤ x
-unfolding Among upward
-upward-from x k zero m = absurd m
-upward-from x k (suc n) (inl e) = omega arith
-upward-from x k (suc n) (inr m) = let h : suc k ≤ x = upward-from x (suc k) n m in omega arith
-
 pub distinct-upward : (k n : ℕ) → Distinct (upward k n)
 unfolding Distinct upward
 distinct-upward k zero = tt
-distinct-upward k (suc n) = (λ m. let h : suc k ≤ k = upward-from k (suc k) n m in omega arith, distinct-upward (suc k) n)
+distinct-upward k (suc n) = (λ m. let h = (among-upward (suc k) n k m).0 in omega arith, distinct-upward (suc k) n)

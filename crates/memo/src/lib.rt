@@ -42,12 +42,8 @@ const ALL_BLANK: u64 = 33554431;
 
 const ROOM: u64 = 127;
 
-// A value's room in a key, how much it is raised by, so that it is not negative, and the largest that has room.
+// A value's room in a key, where it is raised, so that it is not negative.
 const DIGIT: u64 = 4096;
-
-const RAISED: i64 = 1000;
-
-const LARGEST: i64 = 3095;
 
 // The list with a slot more, if the conjunct mentions it; none where there is no room for it.
 fn with_slot(t: &[u16; node::NUMBERS], end: usize, s: usize, list: u64) -> Option<u64>
@@ -96,14 +92,8 @@ fn pushed(k: u64, v: i64) -> Option<u64>
     requires { k < 2 ^ 52 }
     ensures { IfSome result (λ r. Behind k v r) }
 {
-    if LARGEST < v {
-        return None;
-    }
-    let x = v + RAISED;
-    if x < 0 {
-        return None;
-    }
-    Some(DIGIT * k + x as u64)
+    let x = u64::try_from(v.checked_add(node::RAISED)?).ok()?;
+    if x < DIGIT { Some(DIGIT * k + x) } else { None }
 }
 
 // The key of a conjunct with the values in the slots of its list; none where it has no list, or a value has no room.

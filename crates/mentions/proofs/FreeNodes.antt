@@ -1,6 +1,6 @@
 -- Nodes of terms and of the items of braces, by their shapes: where the parts are free of a slot, so is the node. Assumes nothing.
-use mathlib.Core.Path.{◌≡◌, sym, ap, subst, ◌∙◌}
-use mathlib.Core.Bool.{Bool, true, false, not}
+use mathlib.Core.Path.{◌≡◌, refl, sym, ap, subst, ◌∙◌}
+use mathlib.Core.Bool.{Bool, true, false, not, ◌&&◌, cond}
 use mathlib.Core.List.{List}
 use Prim.Native.Nat.{ℕ, zero, suc, ◌-◌, ◌<◌}
 use native.Mathlib.Omega.{arith}
@@ -11,12 +11,25 @@ use lib.ListN.{get_or, length, set, length-set}
 use lib.Seq.{get_or-set_same, get_or-set_other, ext_get_or}
 use lib.IntN.{ℤ, pos}
 use Rattle.evaluator.specs.EvaluationEvaluationByNumber.{Values, Truths, shape_at, end_at, first_at, second_at, TermIs, ItemsIs, TruthIs}
-use Rattle.evaluator.specs.EvaluationEvaluationByNumber.{Bound, TermNode, ItemsNode}
+use Rattle.std.specs.Ordering.{is_le, is_lt, nat_cmp}
+use Rattle.std.proofs.lemmas.Map.Keys.{le_from_is_le}
+use Rattle.evaluator.specs.EvaluationEvaluationByNumber.{Inside, Bound, TermNode, ItemsNode}
 use Rattle.mentions.specs.MentionPromises.{Agree, Frames, TermFree, ItemsFree, TruthFree, Earlier, TermSays}
 
 -- an answer no says nothing
 pub refused : {A : Type 0} → false ≡ true → A
 refused e = absurd (subst T (sym e) tt)
+
+-- what the `contains` of a range with its end answers: yes says that a node can end here
+both_yes : (a b : Bool) → a && b ≡ true → (a ≡ true) × (b ≡ true)
+both_yes true b e = (refl, e)
+both_yes false b e = refused e
+
+pub between : (x low high : ℕ) (past : Bool) → low ≡ 4 → high ≡ 16384 → past ≡ false
+    → is_le (nat_cmp low x) && cond past (is_lt (nat_cmp x high)) (is_le (nat_cmp x high)) ≡ true → Inside x
+between x low high past a b f e =
+    let w = both_yes _ _ (sym (ap (λ (p : Bool). is_le (nat_cmp low x) && cond p (is_lt (nat_cmp x high)) (is_le (nat_cmp x high))) f) ∙ e) in
+    record { some = omega (arith, le_from_is_le low x w.0); within = omega (arith, le_from_is_le x high w.1) }
 
 -- ---- values that are the same but in one slot stay so where both get a value
 

@@ -1,16 +1,25 @@
 // Which slots the nodes of the evaluator's table mention: whether a term or a predicate is free of a slot, so that its value does not depend on it; which term an equation says a variable to be.
 // Nodes as in `evaluator`. Nothing is asked of the table: where a part does not end before its node, the answer is no. A binder is free of its own slot, which it writes.
+// Form 5: table and slot go through the walks as what the callers have: `free_pred` and `solving` are called from other crates with the two apart, each for slots of their
+// own, so that a struct of both would be made at each call.
 #![tactic(auto)]
 
 pub mod equations;
 
-ghost use Rattle.std.specs.Prelude.{◌-◌, ◌<◌, ◌≤◌, IfSome, get_or};
+ghost use Rattle.std.specs.Prelude.{◌≡◌, true, ◌-◌, ◌<◌, ◌≤◌, IfSome, get_or};
 ghost use Rattle.evaluator.specs.EvaluationEvaluationByNumber.{Inside};
 ghost use Rattle.mentions.specs.MentionPromises.{Earlier, PartSays, TermSays, ItemsSay, TruthSays, AskedSays};
 
 use evaluator::{END_BACK, FIRST_BACK, SECOND_BACK, SHAPE_BACK, TWO_NODES};
 use form::node;
 use table_nodes::table_shapes;
+
+// Can a node end here?
+fn inside(end: usize) -> bool
+    ensures { result ≡ true → Inside end }
+{
+    (node::SIZE..=node::NUMBERS).contains(&end)
+}
 
 // Where an earlier part of a node ends, as the number so far before the node's end says; none if that is not before it.
 fn earlier(t: &[u16; node::NUMBERS], end: usize, back: usize) -> Option<usize>
@@ -38,10 +47,7 @@ fn free_part(t: &[u16; node::NUMBERS], end: usize, back: usize, slot: usize) -> 
 pub fn free_term(t: &[u16; node::NUMBERS], end: usize, slot: usize) -> bool
     ensures { TermSays t.now end slot result }
 {
-    if end < node::SIZE {
-        return false;
-    }
-    if node::NUMBERS < end {
+    if !inside(end) {
         return false;
     }
     let shape = t[end - SHAPE_BACK];
@@ -54,13 +60,8 @@ pub fn free_term(t: &[u16; node::NUMBERS], end: usize, slot: usize) -> bool
             free_part(t, end, END_BACK, slot) && free_term(t, end - node::SIZE, slot)
         }
         table_shapes::SUCH => {
-            if usize::from(t[end - FIRST_BACK]) == slot {
-                return true;
-            }
-            if end < TWO_NODES {
-                return false;
-            }
-            free_pred(t, end - TWO_NODES, slot)
+            usize::from(t[end - FIRST_BACK]) == slot
+                || TWO_NODES <= end && free_pred(t, end - TWO_NODES, slot)
         }
         _ => free_items(t, end - node::SIZE, slot),
     }
@@ -71,10 +72,7 @@ pub fn free_term(t: &[u16; node::NUMBERS], end: usize, slot: usize) -> bool
 fn free_items(t: &[u16; node::NUMBERS], end: usize, slot: usize) -> bool
     ensures { ItemsSay t.now end slot result }
 {
-    if end < node::SIZE {
-        return false;
-    }
-    if node::NUMBERS < end {
+    if !inside(end) {
         return false;
     }
     let shape = t[end - SHAPE_BACK];
@@ -96,10 +94,7 @@ fn free_items(t: &[u16; node::NUMBERS], end: usize, slot: usize) -> bool
 pub fn free_pred(t: &[u16; node::NUMBERS], end: usize, slot: usize) -> bool
     ensures { TruthSays t.now end slot result }
 {
-    if end < node::SIZE {
-        return false;
-    }
-    if node::NUMBERS < end {
+    if !inside(end) {
         return false;
     }
     let shape = t[end - SHAPE_BACK];
@@ -116,13 +111,8 @@ pub fn free_pred(t: &[u16; node::NUMBERS], end: usize, slot: usize) -> bool
             free_part(t, end, END_BACK, slot) && free_term(t, end - node::SIZE, slot)
         }
         table_shapes::QUANTIFIED => {
-            if usize::from(t[end - FIRST_BACK]) == slot {
-                return true;
-            }
-            if end < TWO_NODES {
-                return false;
-            }
-            free_pred(t, end - TWO_NODES, slot)
+            usize::from(t[end - FIRST_BACK]) == slot
+                || TWO_NODES <= end && free_pred(t, end - TWO_NODES, slot)
         }
         _ => free_asked(t, end, slot),
     }
@@ -139,17 +129,11 @@ fn free_asked(t: &[u16; node::NUMBERS], end: usize, slot: usize) -> bool
         table_shapes::MEMBER => {
             free_part(t, end, END_BACK, slot) && free_term(t, end - node::SIZE, slot)
         }
-        table_shapes::WITHIN => {
-            if end < TWO_NODES {
-                return false;
-            }
-            free_term(t, end - TWO_NODES, slot)
-        }
+        table_shapes::WITHIN => { TWO_NODES <= end && free_term(t, end - TWO_NODES, slot) }
         _ => {
-            if !free_part(t, end, END_BACK, slot) {
-                return false;
-            }
-            free_part(t, end, SECOND_BACK, slot) && free_term(t, end - node::SIZE, slot)
+            free_part(t, end, END_BACK, slot)
+                && free_part(t, end, SECOND_BACK, slot)
+                && free_term(t, end - node::SIZE, slot)
         }
     }
 }

@@ -61,8 +61,14 @@ pub fn letters_at(s: &[u8], at: usize, n: usize, skip: usize) -> u64
 
 // The letters of each name, packed as one number; 0 for another symbol.
 // Form 5: the scan lends codes and places to this function alone, which fills the array of letters.
-pub fn pack_names(s: &[u8], codes: &[u8], starts: &[u16], n: usize, letters: &mut [u128])
-    requires { Rows s.now codes.now starts.now n × (length codes.now ≡ 4096) × (length starts.now ≡ 4096) × (length letters.old ≡ 4096) }
+pub fn pack_names(
+    s: &[u8],
+    codes: &[u8; SYMBOLS],
+    starts: &[u16; SYMBOLS],
+    n: usize,
+    letters: &mut [u128; SYMBOLS],
+)
+    requires { Rows s.now codes.now starts.now n }
     ensures { letters.new ≡ filled_letters s.now letters.old }
 {
     for i in 0..n {
@@ -76,8 +82,8 @@ pub fn pack_names(s: &[u8], codes: &[u8], starts: &[u16], n: usize, letters: &mu
 }
 
 // The letters of symbol m are a.
-pub fn same_letters(letters: &[u128], m: usize, a: u128) -> bool
-    requires { m < length letters.now }
+pub fn same_letters(letters: &[u128; SYMBOLS], m: usize, a: u128) -> bool
+    requires { m < 4096 }
     ensures { result ≡ eqb (get_or letters.now m 0) a }
 {
     letters[m] == a
@@ -85,8 +91,8 @@ pub fn same_letters(letters: &[u128], m: usize, a: u128) -> bool
 
 // The walk by the letters of symbol i.
 // Form 5: i is another symbol's number at each call.
-pub fn walk(letters: &[u128; SYMBOLS], tree: &[u16], i: usize) -> Stop
-    requires { (i < 4096) × (length tree.now ≡ 8193) × ((k : ℕ) → get_or tree.now k 0 ≤ 4096) }
+pub fn walk(letters: &[u128; SYMBOLS], tree: &[u16; SLOTS], i: usize) -> Stop
+    requires { (i < 4096) × ((k : ℕ) → get_or tree.now k 0 ≤ 4096) }
     ensures { result ≡ walk_from 128 letters.now tree.now (get_or letters.now i 0) (get_or letters.now i 0) 8192 }
 {
     let a = letters[i];
@@ -109,22 +115,23 @@ pub fn walk(letters: &[u128; SYMBOLS], tree: &[u16], i: usize) -> Stop
 
 // The first symbol that has the letters of symbol i, one by one: for a walk that is too deep, which no letters make.
 pub fn first_like(letters: &[u128; SYMBOLS], i: usize) -> usize
-    requires { (i < 4096) }
+    requires { i < 4096 }
     ensures { IsFirst letters.now i result }
 {
     let a = letters[i];
-    for m in 0..i {
-        if same_letters(letters, m, a) {
-            return m;
-        }
-    }
-    i
+    (0..i)
+        .find(
+            |&m|
+                requires { m < 4096 }
+            { same_letters(letters, m, a) },
+        )
+        .unwrap_or(i)
 }
 
 // The value of symbol i: of a name the number of the first one with its letters, which is put into the tree if it is i; of another symbol `old`.
-pub fn number_of(letters: &[u128; SYMBOLS], tree: &mut [u16], i: usize, old: u16) -> u16
-    requires { Tree letters.now tree.old i × (i < 4096) × (length tree.old ≡ 8193) }
-    ensures { Tree letters.now tree.new (i + 1) × (length tree.new ≡ 8193) × (get_or letters.now i 0 ≡ 0 → result ≡ old) × ((get_or letters.now i 0 ≡ 0 → ⊥) → IsFirst letters.now i result) }
+pub fn number_of(letters: &[u128; SYMBOLS], tree: &mut [u16; SLOTS], i: usize, old: u16) -> u16
+    requires { Tree letters.now tree.old i × (i < 4096) }
+    ensures { Tree letters.now tree.new (i + 1) × (get_or letters.now i 0 ≡ 0 → result ≡ old) × ((get_or letters.now i 0 ≡ 0 → ⊥) → IsFirst letters.now i result) }
 {
     if letters[i] == 0 {
         return old;
@@ -141,8 +148,8 @@ pub fn number_of(letters: &[u128; SYMBOLS], tree: &mut [u16], i: usize, old: u16
 }
 
 // The first symbol with the letters of symbol i, where it was the last name looked for that begins like it.
-pub fn recalled(letters: &[u128; SYMBOLS], recent: &[u16], i: usize) -> Option<usize>
-    requires { Recent letters.now recent.now i × (i < 4096) × (length recent.now ≡ 256) }
+pub fn recalled(letters: &[u128; SYMBOLS], recent: &[u16; RECENT], i: usize) -> Option<usize>
+    requires { Recent letters.now recent.now i × (i < 4096) }
     ensures { Recalls letters.now i result }
 {
     let a = letters[i];
@@ -160,13 +167,13 @@ pub fn recalled(letters: &[u128; SYMBOLS], recent: &[u16], i: usize) -> Option<u
 // Form 5: the tree and what is remembered change with each name, and `number_of` promises of the tree alone.
 pub fn numbered(
     letters: &[u128; SYMBOLS],
-    tree: &mut [u16],
-    recent: &mut [u16],
+    tree: &mut [u16; SLOTS],
+    recent: &mut [u16; RECENT],
     i: usize,
     old: u16,
 ) -> u16
-    requires { Tree letters.now tree.old i × (i < 4096) × (length tree.old ≡ 8193) × (length recent.old ≡ 256) × Recent letters.now recent.old i }
-    ensures { Tree letters.now tree.new (i + 1) × (length tree.new ≡ 8193) × (get_or letters.now i 0 ≡ 0 → result ≡ old) × ((get_or letters.now i 0 ≡ 0 → ⊥) → IsFirst letters.now i result) × (length recent.new ≡ 256) × Recent letters.now recent.new (i + 1) }
+    requires { Tree letters.now tree.old i × (i < 4096) × Recent letters.now recent.old i }
+    ensures { Tree letters.now tree.new (i + 1) × (get_or letters.now i 0 ≡ 0 → result ≡ old) × ((get_or letters.now i 0 ≡ 0 → ⊥) → IsFirst letters.now i result) × Recent letters.now recent.new (i + 1) }
 {
     let a = letters[i];
     if a == 0 {
@@ -182,8 +189,14 @@ pub fn numbered(
 
 // The value of each name: the number of the first symbol that has its letters.
 // Form 5: the arrays that the scan lends, of which the values are written.
-pub fn number_names(s: &[u8], codes: &[u8], starts: &[u16], values: &mut [u16], n: usize)
-    requires { Rows s.now codes.now starts.now n × (length codes.now ≡ 4096) × (length starts.now ≡ 4096) × (length values.old ≡ 4096) × ((i : ℕ) → i < n → get_or values.old i 0 ≡ get_or (filled_numbers s.now) i 0) }
+pub fn number_names(
+    s: &[u8],
+    codes: &[u8; SYMBOLS],
+    starts: &[u16; SYMBOLS],
+    values: &mut [u16; SYMBOLS],
+    n: usize,
+)
+    requires { Rows s.now codes.now starts.now n × ((i : ℕ) → i < n → get_or values.old i 0 ≡ get_or (filled_numbers s.now) i 0) }
     ensures { values.new ≡ filled_values s.now values.old }
 {
     let mut letters = [0u128; SYMBOLS];

@@ -8,7 +8,7 @@ use Rattle.form.specs.Tree.{declarations, Dossier}
 use Rattle.form.specs.Headings.{givens_at, abstract_at, concrete_at, operations_at}
 use Rattle.declared_names.specs.StaticRulesScope.{given_names, abstract_taken, concrete_taken, contexts}
 use Rattle.declared_names.specs.StaticRulesNames.{declaration_faults, given_faults, operation_faults, context_faults, name_faults}
-use Rattle.names.proofs.TypesAgreeLeast.{append_nil-both}
+use Rattle.refusals.proofs.FaultLists.{append_nil-both}
 
 pub record Faultless (d : Dossier) : Type 0 where
   pub givens_new : given_faults [] (givens_at d) d.givens ≡ []

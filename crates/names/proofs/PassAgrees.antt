@@ -13,14 +13,12 @@ use Rattle.form.specs.Headings.{givens_at, abstract_at, concrete_at, ainit_at, c
 use Rattle.form.specs.Codes.{Numbering}
 use Rattle.form.proofs.Lengths.{givens-length}
 use Rattle.declared_names.specs.StaticRulesCarriers.{Variable, size_of}
-use Rattle.declared_names.specs.StaticRulesScope.{variables, given_names, state_names, abstract_taken, concrete_taken, contexts}
-use Rattle.declared_names.specs.StaticRulesNames.{given_faults, declaration_faults, context_faults, judge_pred, name_faults}
+use Rattle.declared_names.specs.StaticRulesScope.{variables, given_names, state_names, abstract_taken, concrete_taken, contexts, operation_contexts}
+use Rattle.declared_names.specs.StaticRulesNames.{given_faults, declaration_faults, context_faults, judge_pred, name_faults, operation_faults}
 use Rattle.type_rules.specs.TypesByNumber.{Names, Sizes, entry, is_free, least_key}
 use Rattle.declared_names.specs.NamesByNumber.{variables_of, predicate_at, dossier_key}
 use Rattle.names.proofs.ReachTables.{Numbered, PredIn}
-use Rattle.names.proofs.TypesAgreeLeast.{append_nil-both}
-use Rattle.names.proofs.TypesAgreeWidths.{pred-steady}
-use Rattle.names.proofs.PassAgreesPlaces.{Within, within-small, within-append, pred-within, wider}
+use Rattle.names.proofs.PassAgreesPlaces.{Within, within-append, pred-within, wider}
 use Rattle.names.proofs.PassAgreesOrder.{behind}
 use Rattle.names.proofs.PassAgreesTypes.{Sized}
 use Rattle.names.proofs.PassAgreesDeclared.{TypedIn}
@@ -31,7 +29,8 @@ use Rattle.names.proofs.PassAgreesStates.{typed-use, scope}
 use Rattle.names.proofs.PassAgreesScopes.{TitlesIn, titles-given, titles-more, group, state-named, state-least}
 use Rattle.names.proofs.PassAgreesConditions.{AreUsed, where-length, conditions-named, conditions-least}
 use Rattle.names.proofs.PassAgreesOperations.{texts_of, texts-within, operations_width, OperationsIn}
-use Rattle.names.proofs.PassAgreesDossier.{operations-least, heads-small, contexts-small, texts_order, declarations-within, state-within, parts-order}
+use Rattle.names.proofs.PassAgreesDossier.{operations-least, texts_order, state-within, parts-order}
+use Rattle.refusals.proofs.FaultLists.{append_nil-both}
 
 -- all letters of a dossier's bodies are the text's, and ends of ranges are numbers to 1,000
 pub record DossierIn (P : Letters → Type 0) (d : Dossier) : Type 0 where
@@ -138,10 +137,8 @@ module _ (d : Dossier) where
   list-order : least_key (givens_part d ++ ((abstract_declared d ++ abstract_holds d) ++ ((concrete_declared d ++ concrete_holds d) ++ (conditions_part d ++ operations_part d)))) ≡ least_key (name_faults d)
   unfolding name_faults contexts context_faults concat
   list-order =
-      parts-order (within-small givens-place) (within-small (declarations-within d.givens (given_names d.givens) (suc (abstract_at d)) (declarations d.abstract)))
-      (pred-steady d.abstract.predicate _ _).small (within-small (declarations-within d.givens (abstract_taken d) (suc (concrete_at d)) (declarations d.concrete)))
-      (pred-steady d.concrete.predicate _ _).small (pred-steady d.ainit _ _).small (pred-steady d.cinit _ _).small (pred-steady d.retrieve _ _).small
-      (within-small operations-place) (heads-small d (concrete_taken d) (operations_at d) d.operations) (contexts-small d (concrete_taken d) (operations_at d) d.operations)
+      parts-order (givens_part d) (abstract_declared d) (abstract_holds d) (concrete_declared d) (concrete_holds d) (ainit_part d) (cinit_part d) (retrieve_part d) (operations_part d)
+      (operation_faults d.givens (concrete_taken d) (operations_at d) d.operations) (concat (map context_faults (operation_contexts d (operations_at d) (concrete_taken d) d.operations)))
       (texts_order d (concrete_taken d) (operations_at d) d.operations)
 
 -- ---- names in use ----

@@ -3,7 +3,7 @@ use mathlib.Core.Path.{◌≡◌, refl, ap, ap₂, ◌∙◌, sym, subst}
 use mathlib.Core.Bool.{Bool, true, false, not, cond}
 use mathlib.Core.List.{List, [], ◌∷◌, ◌++◌}
 use mathlib.Core.Option.{Option, none, some}
-use Prim.Native.Nat.{ℕ, suc, ◌+◌}
+use Prim.Native.Nat.{ℕ, ◌+◌}
 use native.Mathlib.Omega.{arith}
 use lib.ListN.{set}
 use borrow.Author.Tests.{ne_eqb, not-true}
@@ -18,13 +18,14 @@ use Rattle.declared_names.specs.StaticRulesNames.{type_faults}
 use Rattle.type_rules.specs.TypesByNumber.{Names, Sizes, key, unless_key, is_free, is_given, least_key}
 use Rattle.declared_names.specs.NamesByNumber.{Typed, type_kind, shown, hidden, declared_key}
 use Rattle.names.proofs.ReachTables.{GivenIs, TypeIs, Numbered}
-use Rattle.names.proofs.TypesAgreeLeast.{two-parts, least-nil, unless-least, unless-nil, append_nil-both}
+use Rattle.names.proofs.TypesAgreeLeast.{two-parts, least-nil, unless-least}
 use Rattle.names.proofs.TypesAgreeTypes.{no-yes, code-positive, code-not-given}
 use Rattle.names.proofs.TypesAgreeScope.{any_here, any-there, find-here, find-there}
-use Rattle.names.proofs.PassAgreesPlaces.{Within, nowhere, within-small, within-append, within-used, wider}
+use Rattle.names.proofs.PassAgreesPlaces.{Within, nowhere, within-append, within-used, wider}
 use Rattle.names.proofs.PassAgreesOrder.{behind}
 use Rattle.names.proofs.PassAgreesTables.{Sees, Sits, same-name, name-refl, put, sees-same, unused}
 use Rattle.names.proofs.PassAgreesTypes.{TypeIn, Sized, type-within, type-carries, type-least, type-kind}
+use Rattle.refusals.proofs.FaultLists.{append_nil-both, unless-nil}
 
 -- one more name in use, and in reach
 abbrev pub use_of : Name → (Name → Bool) → Name → Bool
@@ -198,7 +199,7 @@ module _ (ρ : Numbering) (P : Letters → Type 0) (ν : Numbered ρ P) (gs : Li
   declared-least no_typed s i = sym least-nil
   declared-least (one_typed {x = x} {xs = xs} p q h) {T} {u} {r} s i =
       behind _ _ (head-within gs u i x) (typed-within gs (use_of x.called u) (i + 3 + type_width x.type) xs) (omega arith)
-      (two-parts (within-small (within-used {a = i} {b = suc i} (not (u x.called)) i (omega arith) (omega arith))) (within-small (type-within gs x.type (i + 2)))
+      (two-parts (unless (not (u x.called)) (fault i name_in_use)) (type_faults gs x.type (i + 2))
       (ap (λ (b : Bool). unless_key b (key i 8)) (s.uses x.called p) ∙ unless-least (not (u x.called)) i name_in_use)
       (type-least ρ P gs z d T u r s x.type q (i + 2)))
       (λ e. let b = append_nil-both (unless (not (u x.called)) (fault i name_in_use)) (type_faults gs x.type (i + 2)) e in

@@ -16,9 +16,9 @@ use Rattle.declared_names.specs.StaticRulesNames.{new_name, declaration_faults, 
 use Rattle.type_rules.specs.TypesByNumber.{Names, Sizes, lesser, least_key}
 use Rattle.declared_names.specs.NamesByNumber.{variables_of, predicate_at, operations_key}
 use Rattle.names.proofs.ReachTables.{Numbered}
-use Rattle.names.proofs.TypesAgreeLeast.{Small, no_fault, small-append, least-nil, two-parts, append_nil-both}
-use Rattle.names.proofs.TypesAgreeWidths.{wide_pred, small-new, pred-steady}
-use Rattle.names.proofs.PassAgreesPlaces.{Within, within-small, within-append, pred-within, wider}
+use Rattle.names.proofs.TypesAgreeLeast.{least-nil, two-parts}
+use Rattle.names.proofs.TypesAgreeWidths.{wide_pred}
+use Rattle.names.proofs.PassAgreesPlaces.{Within, within-append, pred-within, wider}
 use Rattle.names.proofs.PassAgreesOrder.{behind, operation-order, dossier-order}
 use Rattle.names.proofs.PassAgreesTypes.{Sized}
 use Rattle.names.proofs.PassAgreesDeclared.{typed_width, typed-within}
@@ -28,7 +28,8 @@ use Rattle.names.proofs.PassAgreesNamed.{Base}
 use Rattle.names.proofs.PassAgreesStates.{declarations-typed, declarations-length}
 use Rattle.names.proofs.PassAgreesScopes.{TitlesIn, titles-more, Group}
 use Rattle.names.proofs.PassAgreesConditions.{AreUsed, where-length}
-use Rattle.names.proofs.PassAgreesOperations.{text_of, texts_of, text-within, texts-within, parameters-within, OperationsIn, no_operations, one_operation, operation-named, operation-least}
+use Rattle.names.proofs.PassAgreesOperations.{text_of, texts_of, text-within, texts-within, OperationsIn, no_operations, one_operation, operation-named, operation-least, abstract_faults, concrete_faults}
+use Rattle.refusals.proofs.FaultLists.{append_nil-both}
 
 -- ---- all operations ----
 
@@ -46,38 +47,25 @@ module _ (ρ : Numbering) (P : Letters → Type 0) (ν : Numbered ρ P) {gs : Li
       operations-least h (o.title ∷ us) (λ y n. use-there o.title us y (ua y n)) (λ y n. use-there o.title us y (uc y n)) (titles-more gs (o.title ∷ []) us t)
       (operation-named ρ P ν p z d a c us ua uc t s i o po tp k.0 l.0) (i + operation_length o))
 
+-- the parts of an operation, and what stands behind it
+operation-parts : (N Q A C T F K : List Fault) → least_key T ≡ lesser (least_key F) (least_key K)
+    → least_key ((N ++ (Q ++ (A ++ C))) ++ T) ≡ lesser (least_key (N ++ Q ++ F)) (least_key (A ++ (C ++ K)))
+operation-parts N Q A C T F K e =
+    sym (two-parts (N ++ (Q ++ (A ++ C))) T (two-parts N (Q ++ (A ++ C)) refl (two-parts Q (A ++ C) refl (two-parts A C refl refl))) (sym e))
+    ∙ operation-order _ _ _ _ _ _ ∙ ap₂ lesser (two-parts (N ++ Q) F (two-parts N Q refl refl) refl) (two-parts A (C ++ K) refl (two-parts C K refl refl))
+
 module _ (D : Dossier) where
-  pub heads-small : (us : List Letters) (i : ℕ) (os : List Operation) → Small (operation_faults D.givens us i os)
-  unfolding operation_faults
-  heads-small us i [] = no_fault
-  heads-small us i (o ∷ os) =
-      small-append (small-append (small-new us o.title (suc i)) (within-small (parameters-within D.givens (declarations D.abstract) (declarations D.concrete) us i o)))
-      (heads-small (o.title ∷ us) (i + operation_length o) os)
-
-  pub contexts-small : (us : List Letters) (i : ℕ) (os : List Operation) → Small (concat (map context_faults (operation_contexts D i us os)))
-  unfolding operation_contexts context_faults concat
-  contexts-small us i [] = no_fault
-  contexts-small us i (o ∷ os) =
-      small-append (pred-steady o.abstractly _ _).small (small-append (pred-steady o.concretely _ _).small (contexts-small (o.title ∷ us) (i + operation_length o) os))
-
   -- the definitions list the heads of operations first, and the predicates behind them
   pub texts_order : (us : List Letters) (i : ℕ) (os : List Operation)
       → least_key (texts_of D.givens (declarations D.abstract) (declarations D.concrete) us i os)
       ≡ lesser (least_key (operation_faults D.givens us i os)) (least_key (concat (map context_faults (operation_contexts D i us os))))
   unfolding texts_of text_of operation_faults operation_contexts context_faults concat pred_width
-  texts_order us i [] = sym (two-parts no_fault no_fault refl refl)
+  texts_order us i [] = sym (two-parts [] [] refl refl)
   texts_order us i (o ∷ os) =
-      let n = small-new us o.title (suc i) in
-      let q = within-small (parameters-within D.givens (declarations D.abstract) (declarations D.concrete) us i o) in
-      let a = (pred-steady o.abstractly _ _).small in
-      let c = (pred-steady o.concretely _ _).small in
-      let t = within-small (texts-within D.givens (declarations D.abstract) (declarations D.concrete) (o.title ∷ us) (i + operation_length o) os) in
-      let f = heads-small (o.title ∷ us) (i + operation_length o) os in
-      let k = contexts-small (o.title ∷ us) (i + operation_length o) os in
-      sym (two-parts (small-append n (small-append q (small-append a c))) t (two-parts n (small-append q (small-append a c)) refl (two-parts q (small-append a c) refl (two-parts a c refl refl)))
-      (sym (texts_order (o.title ∷ us) (i + operation_length o) os)))
-      ∙ operation-order _ _ _ _ _ _
-      ∙ ap₂ lesser (two-parts (small-append n q) f (two-parts n q refl refl) refl) (two-parts a (small-append c k) refl (two-parts c k refl refl))
+      operation-parts (new_name us o.title (suc i)) (parameter_faults D.givens [] (i + 2) o.parameters) (abstract_faults D.givens (declarations D.abstract) us i o)
+      (concrete_faults D.givens (declarations D.concrete) us i o) (texts_of D.givens (declarations D.abstract) (declarations D.concrete) (o.title ∷ us) (i + operation_length o) os)
+      (operation_faults D.givens (o.title ∷ us) (i + operation_length o) os) (concat (map context_faults (operation_contexts D (i + operation_length o) (o.title ∷ us) os)))
+      (texts_order (o.title ∷ us) (i + operation_length o) os)
 
 -- ---- a state ----
 
@@ -98,19 +86,15 @@ state-within gs xs Γ i s =
 
 -- ---- the order of the parts ----
 
-pub parts-order : {G DA PA DC PC AI CI RE TX OF CF : List Fault} → Small G → Small DA → Small PA → Small DC → Small PC → Small AI → Small CI → Small RE → Small TX → Small OF → Small CF
-    → least_key TX ≡ lesser (least_key OF) (least_key CF)
+pub parts-order : (G DA PA DC PC AI CI RE TX OF CF : List Fault) → least_key TX ≡ lesser (least_key OF) (least_key CF)
     → least_key (G ++ ((DA ++ PA) ++ ((DC ++ PC) ++ ((AI ++ (CI ++ RE)) ++ TX)))) ≡ least_key (G ++ DA ++ DC ++ OF ++ (PA ++ (PC ++ (AI ++ (CI ++ (RE ++ CF))))))
-parts-order g da pa dc pc ai ci re tx f k e =
-    let c = small-append ai (small-append ci re) in
-    let s = small-append dc pc in
-    let r = small-append re k in
-    sym (two-parts g (small-append (small-append da pa) (small-append s (small-append c tx))) refl
-    (two-parts (small-append da pa) (small-append s (small-append c tx)) (two-parts da pa refl refl)
-    (two-parts s (small-append c tx) (two-parts dc pc refl refl)
-    (two-parts c tx (two-parts ai (small-append ci re) refl (two-parts ci re refl refl)) (sym e)))))
+parts-order G DA PA DC PC AI CI RE TX OF CF e =
+    let c : List Fault = AI ++ (CI ++ RE) in
+    let r : List Fault = AI ++ (CI ++ (RE ++ CF)) in
+    sym (two-parts G ((DA ++ PA) ++ ((DC ++ PC) ++ (c ++ TX))) refl
+    (two-parts (DA ++ PA) ((DC ++ PC) ++ (c ++ TX)) (two-parts DA PA refl refl)
+    (two-parts (DC ++ PC) (c ++ TX) (two-parts DC PC refl refl)
+    (two-parts c TX (two-parts AI (CI ++ RE) refl (two-parts CI RE refl refl)) (sym e)))))
     ∙ dossier-order _ _ _ _ _ _ _ _ _ _
-    ∙ two-parts (small-append (small-append (small-append g da) dc) f) (small-append pa (small-append pc (small-append ai (small-append ci r))))
-    (two-parts (small-append (small-append g da) dc) f (two-parts (small-append g da) dc (two-parts g da refl refl) refl) refl)
-    (two-parts pa (small-append pc (small-append ai (small-append ci r))) refl
-    (two-parts pc (small-append ai (small-append ci r)) refl (two-parts ai (small-append ci r) refl (two-parts ci r refl (two-parts re k refl refl)))))
+    ∙ two-parts (G ++ DA ++ DC ++ OF) (PA ++ (PC ++ r)) (two-parts (G ++ DA ++ DC) OF (two-parts (G ++ DA) DC (two-parts G DA refl refl) refl) refl)
+    (two-parts PA (PC ++ r) refl (two-parts PC r refl (two-parts AI (CI ++ (RE ++ CF)) refl (two-parts CI (RE ++ CF) refl (two-parts RE CF refl refl)))))

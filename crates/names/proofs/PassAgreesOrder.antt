@@ -6,10 +6,11 @@ use Prim.Native.Nat.{ℕ, zero, suc, ◌*◌, ◌≤◌, ◌<◌}
 use native.Mathlib.Omega.{arith}
 use lib.Dec.{ltb}
 use borrow.Author.Tests.{ne_eqb, ltb-true, ltb-false, lt-ltb, le-ltb}
-use Rattle.refusals.specs.Refusals.{Fault, number_of, least}
+use Rattle.refusals.specs.Refusals.{Fault, least}
+use Rattle.refusals.proofs.RefusalNumbers.{small-number}
 use Rattle.type_rules.specs.TypesByNumber.{key_room, lesser, inside_key, least_key}
-use Rattle.names.proofs.TypesAgreeLeast.{no_fault, one_more, lesser-zero, lesser-assoc, least-append, least-nil, one-fault}
-use Rattle.names.proofs.PassAgreesPlaces.{Within, nowhere, at_place, within-small}
+use Rattle.names.proofs.TypesAgreeLeast.{lesser-zero, lesser-assoc, least-append, least-nil, one-fault}
+use Rattle.names.proofs.PassAgreesPlaces.{Within, nowhere, at_place}
 
 zero-lesser : (b : ℕ) → lesser 0 b ≡ b
 unfolding lesser
@@ -82,17 +83,19 @@ lesser-between a b (suc k) (suc l) h m = on (ltb l k) refl
     on true e = subst (Between a b) (sym (sucs-right k l (ltb-true l k e))) m
     on false e = subst (Between a b) (sym (sucs-left k l (ltb-false l k e))) h
 
-fault-between : (a b : ℕ) (f : Fault) → a ≤ f.place → f.place < b → number_of f.refusal < key_room → Between a b (least_key (f ∷ []))
-fault-between a b f l r n = subst (Between a b) (one-fault f.place f.refusal) (record { high = omega arith; low = λ h. omega arith })
+fault-between : (a b : ℕ) (f : Fault) → a ≤ f.place → f.place < b → Between a b (least_key (f ∷ []))
+fault-between a b f l r =
+    let n = small-number f.refusal in
+    subst (Between a b) (one-fault f.place f.refusal) (record { high = omega arith; low = λ h. omega arith })
 
 none_between : (a b : ℕ) → Between a b 0
 none_between a b = record { high = omega arith; low = λ h. absurd (omega arith) }
 
 least-between : {a b : ℕ} {fs : List Fault} → Within a b fs → Between a b (least_key fs)
 least-between {a} {b} nowhere = subst (Between a b) (sym least-nil) (none_between a b)
-least-between {a} {b} (at_place {f = f} {fs = fs} l r n h) =
-    subst (Between a b) (sym (least-append (one_more {f = f} n no_fault) (within-small h)))
-    (lesser-between a b (least_key (f ∷ [])) (least_key fs) (fault-between a b f l r n) (least-between h))
+least-between {a} {b} (at_place {f = f} {fs = fs} l r h) =
+    subst (Between a b) (sym (least-append (f ∷ []) fs))
+    (lesser-between a b (least_key (f ∷ [])) (least_key fs) (fault-between a b f l r) (least-between h))
 
 ordered : (a b c d k l : ℕ) → Between a b k → Between c d l → b ≤ c → lesser k l ≡ inside_key k l
 ordered a b c d zero l h m o = zero-lesser l
@@ -102,7 +105,7 @@ ordered a b c d (suc k) (suc l) h m o =
 
 pub in_order : {a b c d : ℕ} {xs ys : List Fault} → Within a b xs → Within c d ys → b ≤ c → least_key (xs ++ ys) ≡ inside_key (least_key xs) (least_key ys)
 in_order {a} {b} {c} {d} {xs} {ys} h k o =
-    least-append (within-small h) (within-small k) ∙ ordered a b c d (least_key xs) (least_key ys) (least-between h) (least-between k) o
+    least-append xs ys ∙ ordered a b c d (least_key xs) (least_key ys) (least-between h) (least-between k) o
 
 least-positive : (x : Fault) (xs : List Fault) → 1 ≤ least_key (x ∷ xs)
 unfolding least
@@ -116,5 +119,5 @@ first-only (suc j) m n h = rw (ne_eqb (suc j) 0 (omega arith))
 pub behind : {a b c d : ℕ} (m n : ℕ) {xs ys : List Fault} → Within a b xs → Within c d ys → b ≤ c → m ≡ least_key xs → (xs ≡ [] → n ≡ least_key ys)
     → inside_key m n ≡ least_key (xs ++ ys)
 behind m n {ys = ys} nowhere k o e f = ap (λ (j : ℕ). inside_key j n) (e ∙ least-nil) ∙ f refl
-behind m n {ys = ys} (at_place {f = x} {fs = xs} l r q h) k o e f =
-    ap (λ (j : ℕ). inside_key j n) e ∙ first-only (least_key (x ∷ xs)) n (least_key ys) (least-positive x xs) ∙ sym (in_order (at_place {f = x} l r q h) k o)
+behind m n {ys = ys} (at_place {f = x} {fs = xs} l r h) k o e f =
+    ap (λ (j : ℕ). inside_key j n) e ∙ first-only (least_key (x ∷ xs)) n (least_key ys) (least-positive x xs) ∙ sym (in_order (at_place {f = x} l r h) k o)

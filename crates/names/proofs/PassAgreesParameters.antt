@@ -25,16 +25,13 @@ use Rattle.names.proofs.TypesAgreeScope.{find-there, ended}
 use Rattle.names.proofs.PassAgreesTables.{same-name}
 use Rattle.names.proofs.PassAgreesDeclared.{use_of, typed_faults, typed_width, Carried, no_carried, one_carried, Fresh, no_fresh, one_fresh, found, has_typed}
 use Rattle.names.proofs.PassAgreesUse.{in_use}
-use Rattle.names.proofs.PassAgreesStates.{variables-one}
+use Rattle.declared_names.proofs.StaticRulesFoundCarriers.{variables-one, variables-skip}
+use Rattle.lexical.proofs.BooleanTests.{not-true}
 
 abbrev pub name_of : Letters → Ending → Name
 name_of l e = record { letters = l; ending = e }
 
 -- ---- endings ----
-
-pub no_so : (b : Bool) → (b ≡ true → ⊥) → b ≡ false
-no_so true h = absurd (h refl)
-no_so false h = refl
 
 any-ending : {A : Type 0} (f : A → Name) (n : ℕ) → ((x : A) → ending_code (f x).ending ≡ n) → (xs : List A) (y : Name) → any (λ (x : A). same_name (f x) y) xs ≡ true → ending_code y.ending ≡ n
 unfolding any
@@ -72,10 +69,6 @@ parameters-ending (x ∷ ps) y h = on (same_name (parameter_name x) y) refl h (p
         → (has_typed (parameters_of ps) y ≡ true → 2 ≤ ending_code y.ending) → 2 ≤ ending_code y.ending
     on true k h r = omega (arith, ap (λ (m : Name). ending_code m.ending) (same-name (parameter_name x) y k), direction-ending x.direction)
     on false k h r = r h
-
-variables-skip : (gs : List Given) (e : Ending) (d : Declaration) (ds : List Declaration) → carrier_of gs d.type ≡ none → variables gs e (d ∷ ds) ≡ variables gs e ds
-unfolding variables
-variables-skip gs e d ds h = rw (variables, h)
 
 -- variables with one ending are not found by a name with another
 pub other_none : (gs : List Given) (e : Ending) (ds : List Declaration) (y : Name) → ((x : Letters) → same_name (name_of x e) y ≡ false) → found (variables gs e ds) y ≡ none
@@ -149,7 +142,7 @@ parameters-typed gs xs i (y ∷ ys) u h =
     on n false = h n
 
 pub parameter-unused : (xs : List Letters) (y : Parameter) → in_use xs (parameter_name y) ≡ false
-parameter-unused xs y = no_so (in_use xs (parameter_name y)) (λ e. omega (arith, use-ending xs (parameter_name y) e, direction-ending y.direction))
+parameter-unused xs y = not-true (in_use xs (parameter_name y)) (λ e. omega (arith, use-ending xs (parameter_name y) e, direction-ending y.direction))
 
 pub parameters-length : (m n : ℕ) (ps : List Parameter) (w : List Written) → length (write_parameters m n ps w) ≡ typed_width (parameters_of ps) + length w
 unfolding write_parameters typed_width parameters_of

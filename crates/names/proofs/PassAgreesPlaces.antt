@@ -4,7 +4,7 @@ use mathlib.Core.List.{List, [], ◌∷◌, ◌++◌}
 use mathlib.Core.Option.{Option, none, some}
 use Prim.Native.Nat.{ℕ, suc, ◌+◌, ◌≤◌, ◌<◌}
 use native.Mathlib.Omega.{arith}
-use Rattle.refusals.specs.Refusals.{Fault, fault, number_of, unless, name_in_use, name_unknown, types_misfit, wide_type, zero_divisor}
+use Rattle.refusals.specs.Refusals.{Fault, fault, unless, name_in_use, name_unknown, types_misfit, wide_type, zero_divisor}
 use Rattle.form.specs.Tree.{Letters, End, Range, given_set, range, Given}
 use Rattle.form.specs.Tree.{Term, number, name, group, prefix, binary, divided, listed, pairs, such, empty_set, empty_pairs, Items, only, also, Pairs, only_pair, also_pair}
 use Rattle.form.specs.Tree.{Pred, truth, falsity, negation, paren, quantified, connected, compared, member, within, related}
@@ -13,82 +13,56 @@ use Rattle.declared_names.specs.StaticRulesTypes.{Ty, pairs_fit, pairs_type}
 use Rattle.declared_names.specs.StaticRulesScope.{Scope, type_of_name, binding}
 use Rattle.declared_names.specs.StaticRulesNames.{Listing, whole, inside, of_name, known, end_length, range_length, range_faults, pairs_fault, divisor_faults, new_name, domain_carrier}
 use Rattle.declared_names.specs.StaticRulesNames.{over_fault, whole_pairs, judged_pairs, judge_term, judge_items, judge_pairs, judge_pred}
-use Rattle.type_rules.specs.TypesByNumber.{key_room}
-use Rattle.names.proofs.TypesAgreeLeast.{Small, no_fault, one_more}
-use Rattle.names.proofs.TypesAgreeWidths.{wide_term, wide_items, wide_pairs, wide_pred, term-steady, pred-steady}
+use Rattle.names.proofs.TypesAgreeWidths.{wide_term, wide_items, wide_pairs, wide_pred, term-ends, pred-ends}
 
--- every fault lies at a place from a on and below b, and its number is below keyRoom
+-- every fault lies at a place from a on and below b
 pub data Within (a b : ℕ) : List Fault → Type 0 where
   nowhere : Within a b []
-  at_place : {f : Fault} {fs : List Fault} → a ≤ f.place → f.place < b → number_of f.refusal < key_room → Within a b fs → Within a b (f ∷ fs)
-
-pub within-small : {a b : ℕ} {fs : List Fault} → Within a b fs → Small fs
-within-small nowhere = no_fault
-within-small (at_place l r n h) = one_more n (within-small h)
+  at_place : {f : Fault} {fs : List Fault} → a ≤ f.place → f.place < b → Within a b fs → Within a b (f ∷ fs)
 
 pub within-append : {a b : ℕ} {xs ys : List Fault} → Within a b xs → Within a b ys → Within a b (xs ++ ys)
 within-append nowhere k = k
-within-append (at_place l r n h) k = at_place l r n (within-append h k)
+within-append (at_place l r h) k = at_place l r (within-append h k)
 
 pub wider : {a b : ℕ} (c d : ℕ) {fs : List Fault} → Within a b fs → c ≤ a → b ≤ d → Within c d fs
 wider c d nowhere l r = nowhere
-wider c d (at_place {f = f} p q n h) l r = at_place {f = f} (omega arith) (omega arith) n (wider c d h l r)
+wider c d (at_place {f = f} p q h) l r = at_place {f = f} (omega arith) (omega arith) (wider c d h l r)
 
-pub within-unless : {a b : ℕ} (ok : Bool) (f : Fault) → number_of f.refusal < key_room → a ≤ f.place → f.place < b → Within a b (unless ok f)
+pub within-unless : {a b : ℕ} (ok : Bool) (f : Fault) → a ≤ f.place → f.place < b → Within a b (unless ok f)
 unfolding unless
-within-unless true f n l r = nowhere
-within-unless false f n l r = at_place l r n nowhere
+within-unless true f l r = nowhere
+within-unless false f l r = at_place l r nowhere
 
-within-whole : {a b : ℕ} (ok : Bool) (f : Fault) {parts : List Fault} → number_of f.refusal < key_room → a ≤ f.place → f.place < b → Within a b parts → Within a b (whole ok f parts)
+within-whole : {a b : ℕ} (ok : Bool) (f : Fault) {parts : List Fault} → a ≤ f.place → f.place < b → Within a b parts → Within a b (whole ok f parts)
 unfolding whole
-within-whole ok f n l r nowhere = within-unless ok f n l r
-within-whole ok f n l r (at_place p q m h) = at_place p q m h
+within-whole ok f l r nowhere = within-unless ok f l r
+within-whole ok f l r (at_place p q h) = at_place p q h
 
 within-inside : {a b : ℕ} {xs ys : List Fault} → Within a b xs → Within a b ys → Within a b (inside xs ys)
 unfolding inside
 within-inside nowhere k = k
-within-inside (at_place l r n h) k = at_place l r n h
-
-in_use : number_of name_in_use < key_room
-unfolding number_of
-in_use = omega arith
-
-unknown : number_of name_unknown < key_room
-unfolding number_of
-unknown = omega arith
-
-misfit : number_of types_misfit < key_room
-unfolding number_of
-misfit = omega arith
-
-wide : number_of wide_type < key_room
-unfolding number_of
-wide = omega arith
-
-divisor : number_of zero_divisor < key_room
-unfolding number_of
-divisor = omega arith
+within-inside (at_place l r h) k = at_place l r h
 
 pub within-used : {a b : ℕ} (ok : Bool) (i : ℕ) → a ≤ i → i < b → Within a b (unless ok (fault i name_in_use))
-within-used ok i l r = within-unless ok (fault i name_in_use) in_use l r
+within-used ok i l r = within-unless ok (fault i name_in_use) l r
 
 pub within_new : {a b : ℕ} (xs : List Letters) (x : Letters) (i : ℕ) → a ≤ i → i < b → Within a b (new_name xs x i)
 unfolding new_name
 within_new xs x i l r = within-used _ i l r
 
 pub within-known : {a b : ℕ} (g : Option Given) (i : ℕ) → a ≤ i → i < b → Within a b (known g i)
-within-known none i l r = at_place l r unknown nowhere
+within-known none i l r = at_place l r nowhere
 within-known (some g) i l r = nowhere
 
 pub within-range : {a b : ℕ} (r : Range) (i : ℕ) → a ≤ i → i + range_length r ≤ b → Within a b (range_faults r i)
 unfolding range_faults
-within-range r i l h = within-unless _ (fault (i + end_length r.lower) wide_type) wide (omega arith) (omega arith)
+within-range r i l h = within-unless _ (fault (i + end_length r.lower) wide_type) (omega arith) (omega arith)
 
 pub within-pairs : {a b : ℕ} (g h : Option Given) (i : ℕ) → a ≤ i → i < b → Within a b (pairs_fault g h i)
 unfolding pairs_fault
 within-pairs none h i l r = nowhere
 within-pairs (some g) none i l r = nowhere
-within-pairs (some g) (some h) i l r = within-unless _ (fault i wide_type) wide l r
+within-pairs (some g) (some h) i l r = within-unless _ (fault i wide_type) l r
 
 sign-short : (b : Bool) → cond b 1 0 < cond b 2 1
 sign-short true = omega arith
@@ -97,7 +71,7 @@ sign-short false = omega arith
 within-divisor : {a b : ℕ} (e : End) (i : ℕ) → a ≤ i → i + end_length e ≤ b → Within a b (divisor_faults e i)
 unfolding divisor_faults
 within-divisor e i l r =
-    within-unless _ (fault (i + cond e.negative 1 0) zero_divisor) divisor (omega arith) (omega (arith, sign-short e.negative))
+    within-unless _ (fault (i + cond e.negative 1 0) zero_divisor) (omega arith) (omega (arith, sign-short e.negative))
 
 within-over : {a b : ℕ} (gs : List Given) (xs : List Letters) (i : ℕ) → a ≤ i → i < b → Within a b (over_fault gs xs i)
 within-over gs [] i l r = nowhere
@@ -112,7 +86,7 @@ within-whole-pairs : {a b : ℕ} (gs : List Given) (ts : List (Ty × Ty)) (i : �
 unfolding whole_pairs
 within-whole-pairs gs ts i l r =
     within-cond (pairs_fit ts) (over_fault gs (pairs_type ts).over i) (fault i types_misfit ∷ []) (within-over gs (pairs_type ts).over i l r)
-    (at_place l r misfit nowhere)
+    (at_place l r nowhere)
 
 within-judged-pairs : {a b : ℕ} (gs : List Given) (l : Listing (Ty × Ty)) (i : ℕ) → a ≤ i → i < b → Within a b l.faults → Within a b (judged_pairs gs l i)
 unfolding judged_pairs
@@ -123,7 +97,7 @@ within-judged-pairs {a} {b} gs l i p q h = on l.faults h
     on (x ∷ xs) k = k
 
 within-name : (o : Option Ty) (i : ℕ) → Within i (i + 1) (of_name o i).faults
-within-name none i = at_place {f = fault i name_unknown} (omega arith) (omega arith) unknown nowhere
+within-name none i = at_place {f = fault i name_unknown} (omega arith) (omega arith) nowhere
 within-name (some t) i = nowhere
 
 within-empty : {a b : ℕ} (g h : Option Given) (i : ℕ) → a ≤ i → i + 3 ≤ b → Within a b (known g (suc i) ++ known h (i + 2) ++ pairs_fault g h i)
@@ -138,16 +112,16 @@ mutual
   term-within (number n) Γ i = nowhere
   term-within (name x) Γ i = within-name (type_of_name Γ x) i
   term-within (group t) Γ i = wider _ _ (term-within t Γ (suc i)) (omega arith) (omega arith)
-  term-within (prefix o t) Γ i = within-whole _ _ misfit (omega arith) (omega arith) (wider _ _ (term-within t Γ (suc i)) (omega arith) (omega arith))
+  term-within (prefix o t) Γ i = within-whole _ _ (omega arith) (omega arith) (wider _ _ (term-within t Γ (suc i)) (omega arith) (omega arith))
   term-within (binary o t u) Γ i =
-      let a = (term-steady t Γ i).next in
-      within-whole _ _ misfit (omega arith) (omega arith)
+      let a = term-ends t Γ i in
+      within-whole _ _ (omega arith) (omega arith)
       (within-append (wider _ _ (term-within t Γ i) (omega arith) (omega arith)) (wider _ _ (term-within u Γ (suc (judge_term t Γ i).next)) (omega arith) (omega arith)))
   term-within (divided o t e) Γ i =
-      let a = (term-steady t Γ i).next in
-      within-whole _ _ misfit (omega arith) (omega arith)
+      let a = term-ends t Γ i in
+      within-whole _ _ (omega arith) (omega arith)
       (within-append (wider _ _ (term-within t Γ i) (omega arith) (omega arith)) (within-divisor e (suc (judge_term t Γ i).next) (omega arith) (omega arith)))
-  term-within (listed ts) Γ i = within-whole _ _ misfit (omega arith) (omega arith) (wider _ _ (items-within ts Γ (suc i)) (omega arith) (omega arith))
+  term-within (listed ts) Γ i = within-whole _ _ (omega arith) (omega arith) (wider _ _ (items-within ts Γ (suc i)) (omega arith) (omega arith))
   term-within (pairs ts) Γ i =
       within-judged-pairs Γ.givens (judge_pairs ts Γ (suc i)) i (omega arith) (omega arith) (wider _ _ (pairs-within ts Γ (suc i)) (omega arith) (omega arith))
   term-within (such x g p) Γ i =
@@ -160,15 +134,15 @@ mutual
   pub items-within : (ts : Items) (Γ : Scope) (i : ℕ) → Within i (i + wide_items ts) (judge_items ts Γ i).faults
   items-within (only t) Γ i = term-within t Γ i
   items-within (also t ts) Γ i =
-      let a = (term-steady t Γ i).next in
+      let a = term-ends t Γ i in
       within-append (wider _ _ (term-within t Γ i) (omega arith) (omega arith)) (wider _ _ (items-within ts Γ (suc (judge_term t Γ i).next)) (omega arith) (omega arith))
 
   pub pairs-within : (ts : Pairs) (Γ : Scope) (i : ℕ) → Within i (i + wide_pairs ts) (judge_pairs ts Γ i).faults
   pairs-within (only_pair t u) Γ i =
-      let a = (term-steady t Γ i).next in
+      let a = term-ends t Γ i in
       within-append (wider _ _ (term-within t Γ i) (omega arith) (omega arith)) (wider _ _ (term-within u Γ (suc (judge_term t Γ i).next)) (omega arith) (omega arith))
   pairs-within (also_pair t u ts) Γ i =
-      let a = (term-steady t Γ i).next in let b = (term-steady u Γ (suc (judge_term t Γ i).next)).next in
+      let a = term-ends t Γ i in let b = term-ends u Γ (suc (judge_term t Γ i).next) in
       within-append
       (within-append (wider _ _ (term-within t Γ i) (omega arith) (omega arith)) (wider _ _ (term-within u Γ (suc (judge_term t Γ i).next)) (omega arith) (omega arith)))
       (wider _ _ (pairs-within ts Γ (suc (judge_term u Γ (suc (judge_term t Γ i).next)).next)) (omega arith) (omega arith))
@@ -186,23 +160,23 @@ mutual
       within-inside (within-append (within_new Γ.taken x (i + 2) (omega arith) (omega arith)) (within-range r (i + 4) (omega arith) (omega arith)))
       (wider _ _ (pred-within p (binding Γ x (domain_carrier Γ (range r))) (suc (i + 4 + range_length r))) (omega arith) (omega arith))
   pred-within (connected o p q) Γ i =
-      let a = (pred-steady p Γ i).next in
+      let a = pred-ends p Γ i in
       within-append (wider _ _ (pred-within p Γ i) (omega arith) (omega arith)) (wider _ _ (pred-within q Γ (suc (judge_pred p Γ i).next)) (omega arith) (omega arith))
   pred-within (compared o t u) Γ i =
-      let a = (term-steady t Γ i).next in
-      within-whole _ _ misfit (omega arith) (omega arith)
+      let a = term-ends t Γ i in
+      within-whole _ _ (omega arith) (omega arith)
       (within-append (wider _ _ (term-within t Γ i) (omega arith) (omega arith)) (wider _ _ (term-within u Γ (suc (judge_term t Γ i).next)) (omega arith) (omega arith)))
   pred-within (member o t u) Γ i =
-      let a = (term-steady t Γ i).next in
-      within-whole _ _ misfit (omega arith) (omega arith)
+      let a = term-ends t Γ i in
+      within-whole _ _ (omega arith) (omega arith)
       (within-append (wider _ _ (term-within t Γ i) (omega arith) (omega arith)) (wider _ _ (term-within u Γ (suc (judge_term t Γ i).next)) (omega arith) (omega arith)))
   pred-within (within o t r) Γ i =
-      let a = (term-steady t Γ i).next in
-      within-whole _ _ misfit (omega arith) (omega arith)
+      let a = term-ends t Γ i in
+      within-whole _ _ (omega arith) (omega arith)
       (within-append (wider _ _ (term-within t Γ i) (omega arith) (omega arith)) (within-range r (suc (judge_term t Γ i).next) (omega arith) (omega arith)))
   pred-within (related o t u v) Γ i =
-      let a = (term-steady t Γ i).next in let b = (term-steady u Γ (suc (judge_term t Γ i).next)).next in
-      within-whole _ _ misfit (omega arith) (omega arith)
+      let a = term-ends t Γ i in let b = term-ends u Γ (suc (judge_term t Γ i).next) in
+      within-whole _ _ (omega arith) (omega arith)
       (within-append
       (within-append (wider _ _ (term-within t Γ i) (omega arith) (omega arith)) (wider _ _ (term-within u Γ (suc (judge_term t Γ i).next)) (omega arith) (omega arith)))
       (wider _ _ (term-within v Γ (suc (judge_term u Γ (suc (judge_term t Γ i).next)).next)) (omega arith) (omega arith)))

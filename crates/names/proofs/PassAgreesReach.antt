@@ -27,7 +27,8 @@ use Rattle.names.proofs.PassAgreesGivens.{GivensIn}
 use Rattle.names.proofs.PassAgreesNamed.{element_type, Base}
 use Rattle.names.proofs.PassAgreesScopes.{Group, group-none, group-shown, group-hidden, used-sits, free-sits}
 use Rattle.names.proofs.PassAgreesConditions.{AreUsed, use-same, found-append}
-use Rattle.names.proofs.PassAgreesParameters.{name_of, no_so, use-ending, variables-ending, parameters-ending, other_none, inputs-none, outputs_none, Primed, primed, shown-primed, hidden-primed, inputs-found, outputs-found}
+use Rattle.names.proofs.PassAgreesParameters.{name_of, use-ending, variables-ending, parameters-ending, other_none, inputs-none, outputs_none, Primed, primed, shown-primed, hidden-primed, inputs-found, outputs-found}
+use Rattle.lexical.proofs.BooleanTests.{not-true}
 
 -- ---- the definitions' order of the lists ----
 
@@ -46,7 +47,7 @@ module _ (t : Option Ty) (a b v c d : Option Variable) where
 
 module _ (gs : List Given) (ds : List Declaration) (ps : List Parameter) {P : Letters → Type 0} (vs : List Variable) (k : Carried P gs (parameters_of ps) vs) where
   parameters-none : (y : Name) → ending_code y.ending < 2 → found vs y ≡ none
-  parameters-none y h = found_none vs y (sym (carried-names k y) ∙ no_so (has_typed (parameters_of ps) y) (λ e. omega (arith, parameters-ending ps y e)))
+  parameters-none y h = found_none vs y (sym (carried-names k y) ∙ not-true (has_typed (parameters_of ps) y) (λ e. omega (arith, parameters-ending ps y e)))
 
   at-ending : (l : Letters) (t : Option Ty) (e : Ending)
       → or_type (found (variables gs prime ds) (name_of l e)) (or_type (found (variables gs no_ending ds) (name_of l e)) (or_type (found vs (name_of l e)) t))
@@ -107,7 +108,7 @@ module _ (ρ : Numbering) (P : Letters → Type 0) (ν : Numbered ρ P) {gs : Li
 
     ended-unused : (y : Name) → P y.letters → 1 ≤ ending_code y.ending → (in_use us y ≡ false) × (given_of gs y ≡ none) × (element_type gs y ≡ none)
     ended-unused y py h =
-        let e = no_so (in_use us y) (λ k. omega (arith, use-ending us y k)) in
+        let e = not-true (in_use us y) (λ k. omega (arith, use-ending us y k)) in
         let w = unused ρ P ν gs d.few s y py e in
         (e, w.0, w.1)
 
@@ -148,9 +149,9 @@ module _ (ρ : Numbering) (P : Letters → Type 0) (ν : Numbered ρ P) {gs : Li
           → cond (has_name (variables gs prime ds) (plain l)) true (cond (has_typed (variables_of no_ending ds) (plain l)) true (cond (has_name c.variables (plain l)) true (in_use us (plain l))))
           ≡ in_use us (plain l)
       reaching-uses l =
-          let m = prime-none (plain l) (no_so (has_typed (variables_of prime ds) (plain l)) (λ h. omega (arith, variables-ending prime ds (plain l) h))) in
+          let m = prime-none (plain l) (not-true (has_typed (variables_of prime ds) (plain l)) (λ h. omega (arith, variables-ending prime ds (plain l) h))) in
           let n : has_name c.variables (plain l) ≡ false
-          = sym (carried-names c.carried (plain l)) ∙ no_so (has_typed (parameters_of ps) (plain l)) (λ h. omega (arith, parameters-ending ps (plain l) h)) in
+          = sym (carried-names c.carried (plain l)) ∙ not-true (has_typed (parameters_of ps) (plain l)) (λ h. omega (arith, parameters-ending ps (plain l) h)) in
           ap₂ (λ (x y : Bool). cond x true (cond (has_typed (variables_of no_ending ds) (plain l)) true (cond y true (in_use us (plain l))))) m n
           ∙ use-same (has_typed (variables_of no_ending ds) (plain l)) (in_use us (plain l)) (used (plain l))
 
@@ -158,7 +159,7 @@ module _ (ρ : Numbering) (P : Letters → Type 0) (ν : Numbered ρ P) {gs : Li
           → (cond (has_name (variables gs prime ds) y) true (cond (has_name c.variables y) true (in_use us y)) ≡ true)
           × (or_type (found (variables gs prime ds) y) (or_type (found c.variables y) (element_type gs y)) ≡ none)
       plain-left y e =
-          let n = prime-none y (no_so (has_typed (variables_of prime ds) y) (λ h. omega (arith, variables-ending prime ds y h, variables-ending no_ending ds y e))) in
+          let n = prime-none y (not-true (has_typed (variables_of prime ds) y) (λ h. omega (arith, variables-ending prime ds y h, variables-ending no_ending ds y e))) in
           let f = found_none (variables gs prime ds) y n in
           let v = fresh-none c.fresh y (used y e) in
           let w = (g.away y e).1 in (
@@ -171,7 +172,7 @@ module _ (ρ : Numbering) (P : Letters → Type 0) (ν : Numbered ρ P) {gs : Li
       prime-left y e =
           let k = variables-ending prime ds y e in
           let h = ended-unused y (carried-letters primes.carried y e) (omega arith) in
-          let n : has_name c.variables y ≡ false = sym (carried-names c.carried y) ∙ no_so (has_typed (parameters_of ps) y) (λ m. omega (arith, parameters-ending ps y m)) in
+          let n : has_name c.variables y ≡ false = sym (carried-names c.carried y) ∙ not-true (has_typed (parameters_of ps) y) (λ m. omega (arith, parameters-ending ps y m)) in
           free-sits gs (λ (y : Name). cond (has_name c.variables y) true (in_use us y)) (λ (y : Name). or_type (found c.variables y) (element_type gs y)) y
           (ap₂ (λ (a b : Bool). cond a true b) n h.0) (ap₂ (λ (o : Option Variable) (t : Option Ty). or_type o t) (found_none c.variables y n) h.2) h.1
 

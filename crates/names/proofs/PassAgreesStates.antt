@@ -14,7 +14,7 @@ use Rattle.form.specs.Tree.{Letters, Given, Declaration}
 use Rattle.form.specs.Written.{Written, bare, write_declarations}
 use Rattle.form.specs.Codes.{type_width}
 use Rattle.form.proofs.Lengths.{type-length}
-use Rattle.declared_names.specs.StaticRulesCarriers.{Carrier, Variable, same_name, plain, carrier_of}
+use Rattle.declared_names.specs.StaticRulesCarriers.{Variable, same_name, plain}
 use Rattle.declared_names.specs.StaticRulesTypes.{type_of}
 use Rattle.declared_names.specs.StaticRulesScope.{Scope, is_taken, type_of_name, variables}
 use Rattle.declared_names.specs.StaticRulesNames.{new_name, type_faults, declaration_faults}
@@ -23,6 +23,7 @@ use Rattle.names.proofs.PassAgreesDeclared.{use_of, typed_faults, typed_width, C
 use Rattle.names.proofs.PassAgreesDeclared.{found, or_type, has_typed}
 use Rattle.names.proofs.PassAgreesUse.{in_use, same-sym}
 use Rattle.names.proofs.PassAgreesNamed.{element_type}
+use Rattle.declared_names.proofs.StaticRulesFoundCarriers.{variables-one}
 
 -- ---- the definitions' declarations, as declared names ----
 
@@ -56,11 +57,6 @@ pub typed-use : (ds : List Declaration) (y : Name) → has_typed (variables_of n
 unfolding variables_of any
 typed-use [] y = refl
 typed-use (d ∷ ds) y = ap (λ (b : Bool). elim (same_name (plain d.declared) y) as (λ (c : Bool). Bool) [ true ↦ true | false ↦ b ]) (typed-use ds y)
-
-pub variables-one : (gs : List Given) (e : Ending) (d : Declaration) (ds : List Declaration) (c : Carrier) → carrier_of gs d.type ≡ some c
-    → variables gs e (d ∷ ds) ≡ record { called = record { letters = d.declared; ending = e }; carrier = c } ∷ variables gs e ds
-unfolding variables
-variables-one gs e d ds c h = rw (variables, h)
 
 pub carried-variables : {P : Letters → Type 0} (gs : List Given) (e : Ending) (ds : List Declaration) {vs : List Variable} → Carried P gs (variables_of e ds) vs → vs ≡ variables gs e ds
 unfolding variables_of variables

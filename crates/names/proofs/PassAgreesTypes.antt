@@ -7,8 +7,7 @@ use Prim.Native.Nat.{ℕ, suc, ◌+◌, ◌≤◌, ◌<◌}
 use native.Mathlib.Omega.{arith}
 use lib.ListN.{length, get_or}
 use Rattle.lexical.specs.Symbols.{Name}
-use Rattle.refusals.specs.Refusals.{fault, name_unknown}
-use Rattle.form.specs.Tree.{Letters, Given, Arrow, TypeForm, given_type, power_type, range_type, arrow_type}
+use Rattle.form.specs.Tree.{Letters, Given, TypeForm, given_type, power_type, range_type, arrow_type}
 use Rattle.form.specs.Written.{write_type}
 use Rattle.form.specs.Codes.{Numbering, name_number, type_width}
 use Rattle.form.proofs.Lengths.{range_length}
@@ -18,8 +17,7 @@ use Rattle.declared_names.specs.StaticRulesNames.{known, pairs_fault, type_fault
 use Rattle.type_rules.specs.TypesByNumber.{Names, Sizes, entry, key, unless_key, is_given, size_in, over_key, domain_key, least_key}
 use Rattle.declared_names.specs.NamesByNumber.{type_kind, type_key}
 use Rattle.names.proofs.ReachTables.{index_of, known_number, GivenIs, TypeIs, RangeIn}
-use Rattle.names.proofs.TypesAgreeLeast.{small-append, lesser-assoc, two-parts, not_nil, append_nil-both}
-use Rattle.names.proofs.TypesAgreeWidths.{small-known, small-pairs}
+use Rattle.names.proofs.TypesAgreeLeast.{lesser-assoc, two-parts}
 use Rattle.names.proofs.TypesAgreeRanges.{range-least}
 use Rattle.names.proofs.TypesAgreeTypes.{index_in}
 use Rattle.names.proofs.TypesAgreeScope.{found}
@@ -27,6 +25,9 @@ use Rattle.names.proofs.TypesAgreeBinders.{View, no_given, one_given, known-leas
 use Rattle.names.proofs.TypesAgreeParts.{set-over, pairs-over}
 use Rattle.names.proofs.PassAgreesPlaces.{Within, within-append, within-known, within-range, within-pairs}
 use Rattle.names.proofs.PassAgreesTables.{Sees}
+use Rattle.refusals.proofs.FaultLists.{append_nil-both}
+use Rattle.declared_names.proofs.StaticRulesFaultless.{given-known}
+use Rattle.declared_names.proofs.StaticRulesFoundCarriers.{arrow-carrier, given-carrier, power-carrier}
 
 -- all letters of a declared type are the text's
 abbrev pub TypeIn : (Letters → Type 0) → TypeForm → Type 0
@@ -49,38 +50,22 @@ type-within gs (arrow_type a g h) i =
 -- ---- carriers ----
 
 module _ (gs : List Given) where
-  given-carrier : (g : Name) (x : Given) → given_of gs g ≡ some x → carrier_of gs (given_type g) ≡ some (elements_of x)
-  unfolding carrier_of
-  given-carrier g x e = rw (carrier_of, e)
-
-  power-carrier : (g : Name) (x : Given) → given_of gs g ≡ some x → carrier_of gs (power_type g) ≡ some (subsets_of x)
-  unfolding carrier_of
-  power-carrier g x e = rw (carrier_of, e)
-
-  arrow-carrier : (a : Arrow) (g h : Name) (x y : Given) → given_of gs g ≡ some x → given_of gs h ≡ some y → carrier_of gs (arrow_type a g h) ≡ some (pairs_in a x y)
-  unfolding carrier_of
-  arrow-carrier a g h x y e f = rw (carrier_of, e, f)
-
   -- a declared type without faults has a carrier
   pub record Carries (t : TypeForm) : Type 0 where
     pub carrier : Carrier
     pub carries : carrier_of gs t ≡ some carrier
 
-  known-given : (o : Option Given) (i : ℕ) → known o i ≡ [] → (x : Given) × (o ≡ some x)
-  known-given none i e = not_nil (fault i name_unknown) [] e
-  known-given (some x) i e = (x, refl)
-
   pub type-carries : (t : TypeForm) (i : ℕ) → type_faults gs t i ≡ [] → Carries t
   unfolding type_faults carrier_of
-  type-carries (given_type g) i e = let x = known-given (given_of gs g) i e in record { carrier = elements_of x.0; carries = given-carrier g x.0 x.1 }
-  type-carries (power_type g) i e = let x = known-given (given_of gs g) (suc i) e in record { carrier = subsets_of x.0; carries = power-carrier g x.0 x.1 }
+  type-carries (given_type g) i e = let x = given-known (given_of gs g) i e in record { carrier = elements_of x.0; carries = given-carrier gs g x.0 x.1 }
+  type-carries (power_type g) i e = let x = given-known (given_of gs g) (suc i) e in record { carrier = subsets_of x.0; carries = power-carrier gs g x.0 x.1 }
   type-carries (range_type r) i e = record { carrier = range_carrier r; carries = refl }
   type-carries (arrow_type a g h) i e =
       let l = append_nil-both (known (given_of gs g) i ++ known (given_of gs h) (i + 2)) (pairs_fault (given_of gs g) (given_of gs h) (suc i)) e in
       let m = append_nil-both (known (given_of gs g) i) (known (given_of gs h) (i + 2)) l.0 in
-      let x = known-given (given_of gs g) i m.0 in
-      let y = known-given (given_of gs h) (i + 2) m.1 in
-      record { carrier = pairs_in a x.0 y.0; carries = arrow-carrier a g h x.0 y.0 x.1 y.1 }
+      let x = given-known (given_of gs g) i m.0 in
+      let y = given-known (given_of gs h) (i + 2) m.1 in
+      record { carrier = pairs_in a x.0 y.0; carries = arrow-carrier gs a g h x.0 y.0 x.1 y.1 }
 
 -- ---- by the table ----
 
@@ -119,8 +104,8 @@ module _ (ρ : Numbering) (P : Letters → Type 0) (gs : List Given) (z : Sizes)
       let w = (a-view h p.1).1 in
       sym (lesser-assoc (unless_key (is_given (entry T (name_number ρ g))) (key i 9)) (unless_key (is_given (entry T (name_number ρ h))) (key (i + 2) 9))
       (over_key z (entry T (name_number ρ g)) (entry T (name_number ρ h)) (i + 1)))
-      ∙ two-parts (small-append (small-known (given_of gs g) i) (small-known (given_of gs h) (i + 2))) (small-pairs (given_of gs g) (given_of gs h) (suc i))
-      (two-parts (small-known (given_of gs g) i) (small-known (given_of gs h) (i + 2)) (known-least gs z i v) (known-least gs z (i + 2) w))
+      ∙ two-parts (known (given_of gs g) i ++ known (given_of gs h) (i + 2)) (pairs_fault (given_of gs g) (given_of gs h) (suc i))
+      (two-parts (known (given_of gs g) i) (known (given_of gs h) (i + 2)) (known-least gs z i v) (known-least gs z (i + 2) w))
       (ap (over_key z (entry T (name_number ρ g)) (entry T (name_number ρ h))) e ∙ over-least gs z (suc i) v w)
 
   kind-of : (t : TypeForm) (c c' : Carrier) (k : ℕ) → carrier_of gs t ≡ some c → carrier_of gs t ≡ some c' → TypeIs gs (some (type_of c)) k → TypeIs gs (some (type_of c')) k
@@ -130,16 +115,16 @@ module _ (ρ : Numbering) (P : Letters → Type 0) (gs : List Given) (z : Sizes)
   pub type-kind : (t : TypeForm) → TypeIn P t → (i : ℕ) → type_faults gs t i ≡ [] → (c : Carrier) → carrier_of gs t ≡ some c → TypeIs gs (some (type_of c)) (type_kind t T ρ)
   unfolding type_kind type_faults carrier_of
   type-kind (given_type g) p i e c f =
-      let x = known-given gs (given_of gs g) i e in
+      let x = given-known (given_of gs g) i e in
       kind-of (given_type g) (elements_of x.0) c _ (given-carrier gs g x.0 x.1) f (element-type-is gs z i (given-view g x.0 x.1 p) refl)
   type-kind (power_type g) p i e c f =
-      let x = known-given gs (given_of gs g) (suc i) e in
+      let x = given-known (given_of gs g) (suc i) e in
       kind-of (power_type g) (subsets_of x.0) c _ (power-carrier gs g x.0 x.1) f (set-over gs z d.few i (given-view g x.0 x.1 p) refl)
   type-kind (range_type q) p i e c f = kind-of (range_type q) (range_carrier q) c _ refl f (refl, known_number)
   type-kind (arrow_type a g h) p i e c f =
       let l = append_nil-both (known (given_of gs g) i ++ known (given_of gs h) (i + 2)) (pairs_fault (given_of gs g) (given_of gs h) (suc i)) e in
       let m = append_nil-both (known (given_of gs g) i) (known (given_of gs h) (i + 2)) l.0 in
-      let x = known-given gs (given_of gs g) i m.0 in
-      let y = known-given gs (given_of gs h) (i + 2) m.1 in
+      let x = given-known (given_of gs g) i m.0 in
+      let y = given-known (given_of gs h) (i + 2) m.1 in
       kind-of (arrow_type a g h) (pairs_in a x.0 y.0) c _ (arrow-carrier gs a g h x.0 y.0 x.1 y.1) f
       (pairs-over gs z d.few i (i + 2) (given-view g x.0 x.1 p.0) (given-view h y.0 y.1 p.1) refl refl)

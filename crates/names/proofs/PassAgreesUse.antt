@@ -16,10 +16,10 @@ use Rattle.declared_names.specs.StaticRulesCarriers.{same_name, plain, given_of}
 use Rattle.declared_names.specs.StaticRulesScope.{is_taken, element_of, given_names}
 use Rattle.declared_names.specs.StaticRulesNames.{new_name, element_faults, given_faults}
 use Rattle.names.proofs.ReachTables.{titled}
-use Rattle.names.proofs.TypesAgreeLeast.{unless-nil, append_nil-both}
 use Rattle.names.proofs.TypesAgreeTypes.{no-yes}
 use Rattle.names.proofs.TypesAgreeScope.{any_here, any-there, find-there}
 use Rattle.names.proofs.PassAgreesTables.{same-name}
+use Rattle.refusals.proofs.FaultLists.{append_nil-both, unless-nil}
 
 abbrev pub in_use : List Letters → Name → Bool
 in_use xs y = any (λ (x : Letters). same_name (plain x) y) xs

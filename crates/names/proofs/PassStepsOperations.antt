@@ -121,7 +121,7 @@ operation-end code rest at d p r h rest-is de pe re =
 
 -- an operation: its title, its parameters, its predicates
 module _ (code A C : List ℕ) (T : Names) (z : Sizes) (x old w f : ℕ) (x-is : x ≡ get_or code 1 0) (old-is : old ≡ entry T x) (w-is : w ≡ get_or code 2 0)
-    (f-is : f ≡ unless_key (eqb old 0) (key (w + 1) 8)) where
+    (f-is : f ≡ unless_key (is_free old) (key (w + 1) 8)) where
   module _ (o : Operation) (i : ℕ) (ρ : Numbering) (e : code ≡ operation_code i o ρ) where
     title-number : x ≡ number_of_name ρ o.title no_ending
     title-number = x-is ∙ ap (λ (l : List ℕ). get_or l 1 0) e
@@ -130,7 +130,7 @@ module _ (code A C : List ℕ) (T : Names) (z : Sizes) (x old w f : ℕ) (x-is :
     unfolding is_free
     title-fault =
         f-is
-        ∙ ap₂ (λ (n m : ℕ). unless_key (eqb n 0) (key (m + 1) 8)) (old-is ∙ ap (λ (n : ℕ). entry T n) title-number) (w-is ∙ ap (λ (l : List ℕ). get_or l 2 0) e)
+        ∙ ap₂ (λ (n m : ℕ). unless_key (is_free n) (key (m + 1) 8)) (old-is ∙ ap (λ (n : ℕ). entry T n) title-number) (w-is ∙ ap (λ (l : List ℕ). get_or l 2 0) e)
 
   pub operation-titled : (f ≡ 0 → ⊥) → (U : Names) → OperationSeen code A C T U z f
   unfolding operation_key

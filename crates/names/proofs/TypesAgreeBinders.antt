@@ -18,12 +18,12 @@ use Rattle.declared_names.specs.StaticRulesScope.{Scope, is_taken, binding}
 use Rattle.declared_names.specs.StaticRulesNames.{Listing, inside, known, pairs_fault, new_name, domain_carrier, domain_faults, over_fault, whole_pairs, judged_pairs}
 use Rattle.type_rules.specs.TypesByNumber.{Names, Sizes, entry, key, unless_key, inside_key, lesser, is_free, is_given, is_pairs, element_of, size_in, product_fits, over_key, brace_key, domain_kind, domain_key, bound, least_key}
 use Rattle.names.proofs.ReachTables.{index_of, titled, known_number, known_element, GivenIs, TypeIs, Numbered, Shows, DomainIn}
-use Rattle.names.proofs.TypesAgreeLeast.{least-nil, one-fault, unless-least, two-parts, inside-least, append_nil-both, unless-nil, not_nil}
-use Rattle.names.proofs.TypesAgreeWidths.{small-new, small-domain}
+use Rattle.names.proofs.TypesAgreeLeast.{least-nil, one-fault, unless-least, two-parts, inside-least}
 use Rattle.names.proofs.TypesAgreeRanges.{range-least}
 use Rattle.names.proofs.TypesAgreeTypes.{index_in}
 use Rattle.names.proofs.TypesAgreeScope.{found, titled-finds, binding-shows}
 use Rattle.names.proofs.TypesAgreeBraces.{CommonPairs, PairsType, pairs-type, pairs-misfit}
+use Rattle.refusals.proofs.FaultLists.{append_nil-both, not_nil, unless-nil}
 
 -- the letters l stand for the given set o, and k is their entry
 pub data View (gs : List Given) (z : Sizes) (l : Letters) : Option Given → ℕ → Type 0 where
@@ -122,7 +122,7 @@ module _ (ρ : Numbering) (P : Letters → Type 0) (ν : Numbered ρ P) (Γ : Sc
       ≡ least_key (inside (new_name Γ.taken x i ++ domain_faults Γ d j) body)
   binder-least i j body n f =
       inside-least _ n (new_name Γ.taken x i ++ domain_faults Γ d j) body
-      (two-parts (small-new Γ.taken x i) (small-domain Γ d j) (new-least i) (domain-least ρ P Γ T z s d pd j))
+      (two-parts (new_name Γ.taken x i) (domain_faults Γ d j) (new-least i) (domain-least ρ P Γ T z s d pd j))
       (λ e. f (bound-shows i j e))
 
 -- ---- braces of pairs ----

@@ -14,7 +14,9 @@ use Rattle.declared_names.specs.StaticRulesTypes as ty
 use Rattle.declared_names.specs.StaticRulesTypes.{Ty, has, same_over_type, same_type, brace_type, brace_fits, pairs_type, pairs_fit}
 use Rattle.type_rules.specs.TypesByNumber.{is_element, set_of, pair_of, shared}
 use Rattle.names.proofs.ReachTables.{index_of, titled, type_code, Known, TypeIs}
-use Rattle.names.proofs.TypesAgreeTypes.{no-yes, and_both, and_true, type-same, ElementType, element_type, element-type, code-positive, is-element, same-types, two-givens, set-type}
+use Rattle.names.proofs.TypesAgreeTypes.{no-yes, and_true, ElementType, element_type, element-type, code-positive, is-element, same-types, two-givens, set-type}
+use Rattle.declared_names.proofs.StaticRulesSameTypes.{same-type}
+use Rattle.lexical.proofs.BooleanTests.{both-true}
 
 cond_same : (b : Bool) (n : ℕ) → cond b n n ≡ n
 cond_same true n = refl
@@ -83,7 +85,7 @@ module _ (gs : List Given) (few : length gs ≤ 8) where
   items-also {t = t} w (common {t = u} {ts = us} b e) =
       common w.1 (ap₂ shared w.0 e
       ∙ step true true (same_type t u) (type_code gs t) (type_code gs u) (all (same_type t) us) (all (same_type u) us) (code-positive gs few w.1)
-      (λ p q. same-types gs few w.1 b) (λ p. refl) (λ p. ap (λ (v : Ty). all (same_type v) us) (type-same t u p)))
+      (λ p q. same-types gs few w.1 b) (λ p. refl) (λ p. ap (λ (v : Ty). all (same_type v) us) (same-type t u p)))
 
   pub brace-fits : {ts : List Ty} {k : ℕ} → Common gs ts k → is_element k ≡ brace_fits ts
   unfolding brace_fits is_element
@@ -96,7 +98,7 @@ module _ (gs : List Given) (few : length gs ≤ 8) where
   pub brace-type : {ts : List Ty} {k : ℕ} → Common gs ts k → brace_fits ts ≡ true → TypeIs gs (some (brace_type ts)) (set_of k)
   unfolding brace_fits
   brace-type (common {t = t} {ts = ts} a e) f =
-      let h = and_both (has t ty.is_element) (all (same_type t) ts) f in
+      let h = both-true (has t ty.is_element) (all (same_type t) ts) f in
       let w = set-type gs few a h.0 in
       (ap set_of (e ∙ ap (λ (b : Bool). cond b (type_code gs t) 0) h.1) ∙ w.0, w.1)
 
@@ -117,7 +119,7 @@ module _ (gs : List Given) (few : length gs ≤ 8) where
       number g h = omega arith
 
   both-elements : {t u : Ty} → Known gs t → Known gs u → (has t ty.is_element && has u ty.is_element) ≡ true → ElementType gs t × ElementType gs u
-  both-elements {t} {u} a b e = let h = and_both (has t ty.is_element) (has u ty.is_element) e in (element-type a h.0, element-type b h.1)
+  both-elements {t} {u} a b e = let h = both-true (has t ty.is_element) (has u ty.is_element) e in (element-type a h.0, element-type b h.1)
 
   pub pairs-only : {t u : Ty} {k l : ℕ} → TypeIs gs (some t) k → TypeIs gs (some u) l → CommonPairs gs ((t, u) ∷ []) (pair_of k l)
   unfolding pairs_fit all
@@ -133,9 +135,9 @@ module _ (gs : List Given) (few : length gs ≤ 8) where
       ∙ step (has t ty.is_element && has u ty.is_element) (has x ty.is_element && has y ty.is_element) (same_type t x && same_type u y)
       (pair_number (type_code gs t) (type_code gs u)) (pair_number (type_code gs x) (type_code gs y)) (rest t u) (rest x y) (omega arith)
       (λ p q. let h = both-elements v.1 w.1 p in let k = both-elements a b q in same-pair h.0 h.1 k.0 k.1)
-      (λ p. let h = and_both (same_type t x) (same_type u y) p in
-      ap₂ (λ (r s : Ty). has r ty.is_element && has s ty.is_element) (type-same t x h.0) (type-same u y h.1))
-      (λ p. let h = and_both (same_type t x) (same_type u y) p in ap₂ rest (type-same t x h.0) (type-same u y h.1)))
+      (λ p. let h = both-true (same_type t x) (same_type u y) p in
+      ap₂ (λ (r s : Ty). has r ty.is_element && has s ty.is_element) (same-type t x h.0) (same-type u y h.1))
+      (λ p. let h = both-true (same_type t x) (same_type u y) p in ap₂ rest (same-type t x h.0) (same-type u y h.1)))
     where
       rest : Ty → Ty → Bool
       rest r s = all (λ (z : Ty × Ty). same_type r z.0 && same_type s z.1) ts
@@ -143,7 +145,7 @@ module _ (gs : List Given) (few : length gs ≤ 8) where
   pub pairs-type : {ts : List (Ty × Ty)} {k : ℕ} → CommonPairs gs ts k → pairs_fit ts ≡ true → PairsType gs ts k
   unfolding pairs_fit
   pairs-type (common_pairs {t = t} {u = u} {ts = ts} {k = k} a b e) f =
-      let h = both-elements a b (and_both (has t ty.is_element && has u ty.is_element) (all (λ (z : Ty × Ty). same_type t z.0 && same_type u z.1) ts) f).0 in
+      let h = both-elements a b (both-true (has t ty.is_element && has u ty.is_element) (all (λ (z : Ty × Ty). same_type t z.0 && same_type u z.1) ts) f).0 in
       on h.0 h.1 (e ∙ ap (λ (c : Bool). cond c (pair_number (type_code gs t) (type_code gs u)) 0) f)
     where
       on : {t u : Ty} → ElementType gs t → ElementType gs u → k ≡ pair_number (type_code gs t) (type_code gs u) → PairsType gs ((t, u) ∷ ts) k

@@ -17,11 +17,12 @@ use Rattle.declared_names.specs.StaticRulesNames.{Judged, Listing, of_name, know
 use Rattle.type_rules.specs.TypesByNumber.{Names, Sizes, key, unless_key, in_reach, element_of, set_of, pair_of, least_key}
 use Rattle.type_rules.specs.TypesByNumber.{term_kind, items_kind, pairs_kind, term_key, items_key, pairs_key, pred_key}
 use Rattle.names.proofs.ReachTables.{index_of, known_element, known_pairs, TypeIs}
-use Rattle.names.proofs.TypesAgreeLeast.{least-nil, one-fault, unless-least, not_nil}
-use Rattle.names.proofs.TypesAgreeWidths.{term-width, pred-width, term-steady, pred-steady}
+use Rattle.names.proofs.TypesAgreeLeast.{least-nil, one-fault, unless-least}
+use Rattle.names.proofs.TypesAgreeWidths.{term-width, pred-width, term-ends, pred-ends}
 use Rattle.names.proofs.TypesAgreeTypes.{code-in-reach, set-type, pair-of}
 use Rattle.names.proofs.TypesAgreeBraces.{Common, CommonPairs}
 use Rattle.names.proofs.TypesAgreeBinders.{View, no_given, one_given, element-is, bound_over}
+use Rattle.refusals.proofs.FaultLists.{not_nil}
 
 -- ---- what is claimed of a term, the items of a brace, its pairs, a predicate ----
 
@@ -50,10 +51,10 @@ abbrev pub PredHolds : Numbering → Sizes → Scope → Names → Pred → Type
 PredHolds ρ z Γ T p = (i : ℕ) → pred_key p T ρ z i ≡ least_key (judge_pred p Γ i).faults
 
 pub term-next : (t : Term) (Γ : Scope) (i : ℕ) → (judge_term t Γ i).next ≡ i + term_width t
-term-next t Γ i = omega (arith, (term-steady t Γ i).next, term-width t)
+term-next t Γ i = omega (arith, term-ends t Γ i, term-width t)
 
 pub pred-next : (p : Pred) (Γ : Scope) (i : ℕ) → (judge_pred p Γ i).next ≡ i + pred_width p
-pred-next p Γ i = omega (arith, (pred-steady p Γ i).next, pred-width p)
+pred-next p Γ i = omega (arith, pred-ends p Γ i, pred-width p)
 
 pub divisor-least : (e : End) (m n : ℕ) → m ≡ n → unless_key (ltb 0 e.magnitude) (key (n + 1 + sign_of e.negative) 14) ≡ least_key (divisor_faults e (suc m))
 unfolding divisor_faults number_of

@@ -13,12 +13,13 @@ use Rattle.declared_names.specs.StaticRulesNames.{range_faults, domain_carrier, 
 use Rattle.type_rules.specs.TypesByNumber as inner
 use Rattle.type_rules.specs.TypesByNumber.{Names, Sizes, lesser, domain_kind, domain_key, bound, term_kind, term_key, pred_key}
 use Rattle.names.proofs.ReachTables.{RangeIn, DomainIn, Numbered, Shows}
-use Rattle.names.proofs.TypesAgreeLeast.{least-nil, two-parts, whole-least, append_nil-both, small-append}
-use Rattle.names.proofs.TypesAgreeWidths.{domain-width, term-steady, pred-steady, small-range}
+use Rattle.names.proofs.TypesAgreeLeast.{least-nil, two-parts, whole-least}
+use Rattle.names.proofs.TypesAgreeWidths.{domain-width}
 use Rattle.names.proofs.TypesAgreeTypes.{comparison-fits, member-fits, related-fits}
 use Rattle.names.proofs.TypesAgreeBinders.{domain-least, binder-least}
 use Rattle.names.proofs.TypesAgreeParts.{TermHolds, PredHolds, term-next, pred-next}
 use Rattle.names.proofs.TypesAgreeTerms.{two-least, third_at, two-whole, number-whole}
+use Rattle.refusals.proofs.FaultLists.{append_nil-both}
 
 module _ (ρ : Numbering) (P : Letters → Type 0) (ν : Numbered ρ P) (z : Sizes) (Γ : Scope) (T : Names) (s : Shows ρ P Γ T z) where
   pub truth-holds : PredHolds ρ z Γ T truth
@@ -41,7 +42,7 @@ module _ (ρ : Numbering) (P : Letters → Type 0) (ν : Numbered ρ P) (z : Siz
   unfolding judge_pred pred_key
   connected-holds o p q a b i =
       let j : ℕ = suc (judge_pred p Γ i).next in
-      two-parts (pred-steady p Γ i).small (pred-steady q Γ j).small (a i) (ap (λ (n : ℕ). pred_key q T ρ z (suc n)) (sym (pred-next p Γ i)) ∙ b j)
+      two-parts (judge_pred p Γ i).faults (judge_pred q Γ j).faults (a i) (ap (λ (n : ℕ). pred_key q T ρ z (suc n)) (sym (pred-next p Γ i)) ∙ b j)
 
   pub compared-holds : (o : Comparison) (t u : Term) → TermHolds ρ z Γ T t → TermHolds ρ z Γ T u → PredHolds ρ z Γ T (compared o t u)
   unfolding judge_pred pred_key
@@ -56,7 +57,7 @@ module _ (ρ : Numbering) (P : Letters → Type 0) (ν : Numbered ρ P) (z : Siz
   within-holds o t r h a i =
       let j : ℕ = suc (judge_term t Γ i).next in
       number-whole ρ z Γ T s.few t a i (domain_key (range r) T ρ (suc (i + term_width t))) (range_faults r j)
-      (two-parts (term-steady t Γ i).small (small-range r j) (a i).least
+      (two-parts (judge_term t Γ i).faults (range_faults r j) (a i).least
       (ap (λ (n : ℕ). domain_key (range r) T ρ (suc n)) (sym (term-next t Γ i)) ∙ domain-least ρ P Γ T z s (range r) h j))
 
   pub related-holds : (o : Membership) (t u v : Term) → TermHolds ρ z Γ T t → TermHolds ρ z Γ T u → TermHolds ρ z Γ T v → PredHolds ρ z Γ T (related o t u v)
@@ -68,7 +69,7 @@ module _ (ρ : Numbering) (P : Letters → Type 0) (ν : Numbered ρ P) (z : Siz
       whole-least (inner.related_fits (term_kind t T ρ) (term_kind u T ρ) (term_kind v T ρ)) (ty.related_fits (judge_term t Γ i).type (judge_term u Γ j).type (judge_term v Γ m).type)
       (suc (i + term_width t) + term_width u) (judge_term u Γ j).next types_misfit
       (lesser (lesser (term_key t T ρ z i) (term_key u T ρ z (suc (i + term_width t)))) (term_key v T ρ z (suc (suc (i + term_width t) + term_width u)))) (xs ++ (judge_term v Γ m).faults)
-      (two-parts (small-append (term-steady t Γ i).small (term-steady u Γ j).small) (term-steady v Γ m).small (two-least ρ z Γ T t u a b i)
+      (two-parts ((judge_term t Γ i).faults ++ (judge_term u Γ j).faults) (judge_term v Γ m).faults (two-least ρ z Γ T t u a b i)
       (ap (λ (n : ℕ). term_key v T ρ z (suc n)) (sym (third_at ρ z Γ T t u i)) ∙ (c m).least))
       (third_at ρ z Γ T t u i)
       (λ e. let h = append_nil-both xs (judge_term v Γ m).faults e in let k = append_nil-both (judge_term t Γ i).faults (judge_term u Γ j).faults h.0 in

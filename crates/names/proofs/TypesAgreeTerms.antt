@@ -21,12 +21,13 @@ use Rattle.type_rules.specs.TypesByNumber as inner
 use Rattle.type_rules.specs.TypesByNumber.{Names, Sizes, entry, key, unless_key, judged_key, inside_key, lesser, is_free, is_given, is_number, is_element, domain_kind, domain_key, over_key, bound, least_key}
 use Rattle.type_rules.specs.TypesByNumber.{term_kind, items_kind, pairs_kind, term_key, items_key, pairs_key, pred_key}
 use Rattle.names.proofs.ReachTables.{type_code, Known, known_number, known_pairs, TypeIs, Numbered, Shows}
-use Rattle.names.proofs.TypesAgreeLeast.{least-nil, two-parts, lesser-assoc, whole-least, inside-least, whole-nil, inside-nil, append_nil-both, small-append}
-use Rattle.names.proofs.TypesAgreeWidths.{term-steady, items-steady, pairs-steady, small-divisor, small-known, small-pairs}
+use Rattle.names.proofs.TypesAgreeLeast.{least-nil, two-parts, lesser-assoc, whole-least, inside-least}
 use Rattle.names.proofs.TypesAgreeTypes.{is-number, prefix-fits, prefix-type, operator-fits}
 use Rattle.names.proofs.TypesAgreeBraces.{CommonPairs, items-only, items-also, brace-fits, brace-type, pairs-only, pairs-also, pairs-type}
 use Rattle.names.proofs.TypesAgreeParts.{TermHolds, ItemsHold, PairsHold, PredHolds, term-next, divisor-least, whole-pairs-fit, name-is, set-over, pairs-over}
 use Rattle.names.proofs.TypesAgreeBinders.{given-view, known-least, over-least, binder-least, judged-inside, brace-least}
+use Rattle.refusals.proofs.FaultLists.{append_nil-both}
+use Rattle.declared_names.proofs.StaticRulesFaultless.{inside-nil, whole-nil}
 
 -- terms one behind the other
 module _ (ρ : Numbering) (z : Sizes) (Γ : Scope) (T : Names) where
@@ -34,7 +35,7 @@ module _ (ρ : Numbering) (z : Sizes) (Γ : Scope) (T : Names) where
       → lesser (term_key t T ρ z i) (term_key u T ρ z (suc (i + term_width t)))
       ≡ least_key ((judge_term t Γ i).faults ++ (judge_term u Γ (suc (judge_term t Γ i).next)).faults)
   two-least t u a b i =
-      two-parts (term-steady t Γ i).small (term-steady u Γ (suc (judge_term t Γ i).next)).small (a i).least
+      two-parts (judge_term t Γ i).faults (judge_term u Γ (suc (judge_term t Γ i).next)).faults (a i).least
       (ap (λ (n : ℕ). term_key u T ρ z (suc n)) (sym (term-next t Γ i)) ∙ (b (suc (judge_term t Γ i).next)).least)
 
   pub third_at : (t u : Term) (i : ℕ) → (judge_term u Γ (suc (judge_term t Γ i).next)).next ≡ suc (i + term_width t) + term_width u
@@ -88,7 +89,7 @@ module _ (ρ : Numbering) (P : Letters → Type 0) (ν : Numbered ρ P) (z : Siz
             (a (suc i)).least refl (λ e. let w = (a (suc i)).typed e in ap (inner.prefix_fits o) w.0 ∙ prefix-fits Γ.givens s.few o w.1);
         typed =
             λ e. let h = whole-nil (ty.prefix_fits o (judge_term t Γ (suc i)).type) (fault i types_misfit) (judge_term t Γ (suc i)).faults e in
-            let w = (a (suc i)).typed h.none_in in let v = prefix-type Γ.givens s.few o w.1 h.fit in
+            let w = (a (suc i)).typed h.0 in let v = prefix-type Γ.givens s.few o w.1 h.1 in
             (ap (inner.prefix_type o) w.0 ∙ v.0, v.1);
       }
 
@@ -100,7 +101,7 @@ module _ (ρ : Numbering) (P : Letters → Type 0) (ν : Numbered ρ P) (z : Siz
         typed =
             λ e. (a i).typed (append_nil-both (judge_term t Γ i).faults (judge_term u Γ (suc (judge_term t Γ i).next)).faults
             (whole-nil (ty.operator_fits o (judge_term t Γ i).type (judge_term u Γ (suc (judge_term t Γ i).next)).type) (fault (judge_term t Γ i).next types_misfit)
-            ((judge_term t Γ i).faults ++ (judge_term u Γ (suc (judge_term t Γ i).next)).faults) e).none_in).0;
+            ((judge_term t Γ i).faults ++ (judge_term u Γ (suc (judge_term t Γ i).next)).faults) e).0).0;
       }
 
   pub divided-holds : (o : Division) (t : Term) (e : End) → TermHolds ρ z Γ T t → TermHolds ρ z Γ T (divided o t e)
@@ -109,7 +110,7 @@ module _ (ρ : Numbering) (P : Letters → Type 0) (ν : Numbered ρ P) (z : Siz
       record {
         least =
             number-whole ρ z Γ T s.few t a i (unless_key (ltb 0 e.magnitude) (key (i + term_width t + 1 + sign_of e.negative) 14)) (divisor_faults e (suc (judge_term t Γ i).next))
-            (two-parts (term-steady t Γ i).small (small-divisor e (suc (judge_term t Γ i).next)) (a i).least
+            (two-parts (judge_term t Γ i).faults (divisor_faults e (suc (judge_term t Γ i).next)) (a i).least
             (divisor-least e (judge_term t Γ i).next (i + term_width t) (term-next t Γ i)));
         typed = λ h. (refl, known_number);
       }
@@ -124,7 +125,7 @@ module _ (ρ : Numbering) (P : Letters → Type 0) (ν : Numbered ρ P) (z : Siz
       let j : ℕ = suc (judge_term t Γ i).next in
       record {
         least =
-            two-parts (term-steady t Γ i).small (items-steady ts Γ j).small (a i).least (ap (λ (n : ℕ). items_key ts T ρ z (suc n)) (sym (term-next t Γ i)) ∙ (b j).least);
+            two-parts (judge_term t Γ i).faults (judge_items ts Γ j).faults (a i).least (ap (λ (n : ℕ). items_key ts T ρ z (suc n)) (sym (term-next t Γ i)) ∙ (b j).least);
         typed =
             λ e. let h = append_nil-both (judge_term t Γ i).faults (judge_items ts Γ j).faults e in
             items-also Γ.givens s.few ((a i).typed h.0) ((b j).typed h.1);
@@ -147,7 +148,7 @@ module _ (ρ : Numbering) (P : Letters → Type 0) (ν : Numbered ρ P) (z : Siz
       let m : ℕ = suc (judge_term u Γ j).next in
       record {
         least =
-            two-parts (small-append (term-steady t Γ i).small (term-steady u Γ j).small) (pairs-steady ts Γ m).small (two-least ρ z Γ T t u a b i)
+            two-parts ((judge_term t Γ i).faults ++ (judge_term u Γ j).faults) (judge_pairs ts Γ m).faults (two-least ρ z Γ T t u a b i)
             (ap (λ (n : ℕ). pairs_key ts T ρ z (suc n)) (sym (third_at ρ z Γ T t u i)) ∙ (c m).least);
         typed =
             λ e. let h = append_nil-both ((judge_term t Γ i).faults ++ (judge_term u Γ j).faults) (judge_pairs ts Γ m).faults e in
@@ -164,7 +165,7 @@ module _ (ρ : Numbering) (P : Letters → Type 0) (ν : Numbered ρ P) (z : Siz
             whole-least (is_element (items_kind ts T ρ)) (brace_fits l.types) i i types_misfit (items_key ts T ρ z (suc i)) l.faults (a (suc i)).least refl
             (λ e. brace-fits Γ.givens s.few ((a (suc i)).typed e));
         typed =
-            λ e. let h = whole-nil (brace_fits l.types) (fault i types_misfit) l.faults e in brace-type Γ.givens s.few ((a (suc i)).typed h.none_in) h.fit;
+            λ e. let h = whole-nil (brace_fits l.types) (fault i types_misfit) l.faults e in brace-type Γ.givens s.few ((a (suc i)).typed h.0) h.1;
       }
 
   pairs-typed : (ts : List (Ty × Ty)) (k i : ℕ) → CommonPairs Γ.givens ts k → whole_pairs Γ.givens ts i ≡ [] → TypeIs Γ.givens (some (pairs_type ts)) k
@@ -223,8 +224,8 @@ module _ (ρ : Numbering) (P : Letters → Type 0) (ν : Numbered ρ P) (z : Siz
             ap (λ (n : ℕ). lesser (unless_key (is_given (entry T (name_number ρ g))) (key n 9))
             (lesser (unless_key (is_given (entry T (name_number ρ h))) (key (i + 2) 9)) (over_key z (entry T (name_number ρ g)) (entry T (name_number ρ h)) i))) (add-one i)
             ∙ sym (lesser-assoc _ _ _)
-            ∙ two-parts (small-append (small-known (given_of Γ.givens g) (suc i)) (small-known (given_of Γ.givens h) (i + 2))) (small-pairs (given_of Γ.givens g) (given_of Γ.givens h) i)
-            (two-parts (small-known (given_of Γ.givens g) (suc i)) (small-known (given_of Γ.givens h) (i + 2)) (known-least Γ.givens z (suc i) v) (known-least Γ.givens z (i + 2) w))
+            ∙ two-parts (a ++ b) c
+            (two-parts a b (known-least Γ.givens z (suc i) v) (known-least Γ.givens z (i + 2) w))
             (over-least Γ.givens z i v w);
         typed =
             λ e. let k = append_nil-both a b (append_nil-both (a ++ b) c e).0 in pairs-over Γ.givens z s.few (suc i) (i + 2) v w k.0 k.1;

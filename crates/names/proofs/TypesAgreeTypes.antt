@@ -3,7 +3,7 @@ use mathlib.Core.Path.{◌≡◌, refl, ap, ap₂, ◌∙◌, sym, subst}
 use mathlib.Core.Bool.{Bool, true, false, ◌&&◌, ◌||◌}
 use mathlib.Core.List.{List, [], ◌∷◌}
 use mathlib.Core.Option.{some}
-use Prim.Native.Nat.{ℕ, zero, suc, ◌+◌, ◌*◌, ◌≤◌, ◌<◌}
+use Prim.Native.Nat.{ℕ, suc, ◌+◌, ◌*◌, ◌≤◌, ◌<◌}
 use native.Mathlib.Omega.{arith}
 use lib.Dec.{eqb}
 use lib.ListN.{length}
@@ -12,11 +12,12 @@ use Rattle.lexical.specs.Lists.{same, any}
 use Rattle.lexical.proofs.WordLaws.{same_refl, same_true}
 use Rattle.form.specs.Tree.{Letters, Given, Prefix, negate, size, dom, ran, Operator, plus, minus, union, without, times, inter, Comparison, equals, differs, less, at_most}
 use Rattle.declared_names.specs.StaticRulesTypes as ty
-use Rattle.declared_names.specs.StaticRulesTypes.{Ty, Sort, sort_code, has, same_over_type, same_type, is_any_set, are_numbers}
+use Rattle.declared_names.specs.StaticRulesTypes.{Ty, has, same_over_type, same_type, is_any_set, are_numbers}
 use Rattle.type_rules.specs.TypesByNumber as inner
 use Rattle.type_rules.specs.TypesByNumber.{is_number, is_given, is_element, is_set, is_pairs, in_reach, set_of, pair_of, dom_of, ran_of}
 use Rattle.names.proofs.ReachTables.{index_of, titled, type_code, Known, known_number, known_element, known_set, known_pairs, TypeIs}
 use Rattle.names.proofs.TypesAgreeRanges.{both}
+use Rattle.lexical.proofs.BooleanTests.{both-true}
 
 abbrev Yes : Bool → Type 0
 Yes true = Unit {0}
@@ -24,10 +25,6 @@ Yes false = ⊥
 
 pub no-yes : {A : Type 0} → false ≡ true → A
 no-yes e = absurd (subst Yes (sym e) tt)
-
-pub and_both : (p q : Bool) → (p && q) ≡ true → (p ≡ true) × (q ≡ true)
-and_both true q e = (refl, e)
-and_both false q e = no-yes e
 
 -- ---- given sets by their index ----
 
@@ -55,37 +52,6 @@ index_same (g ∷ gs) x y h k e = on (same g.title x) refl (same g.title y) refl
     on true p false q r h k e = absurd (omega arith)
     on false p true q r h k e = absurd (omega arith)
     on false p false q r h k e = r h k (omega arith)
-
--- ---- two types that are the same are one ----
-
-unsort : ℕ → Sort
-unsort zero = ty.is_number
-unsort (suc zero) = ty.is_element
-unsort (suc (suc zero)) = ty.is_set
-unsort (suc (suc (suc n))) = ty.is_pairs
-
-unsorted : (s : Sort) → unsort (sort_code s) ≡ s
-unfolding unsort
-unsorted ty.is_number = refl
-unsorted ty.is_element = refl
-unsorted ty.is_set = refl
-unsorted ty.is_pairs = refl
-
-over-same : (xs ys : List Letters) → same_over_type xs ys ≡ true → xs ≡ ys
-unfolding same_over_type
-over-same [] [] e = refl
-over-same [] (y ∷ ys) e = no-yes e
-over-same (x ∷ xs) [] e = no-yes e
-over-same (x ∷ xs) (y ∷ ys) e =
-    let h = and_both (same x y) (same_over_type xs ys) e in ap₂ (λ (z : Letters) (zs : List Letters). z ∷ zs) (same_true x y h.0) (over-same xs ys h.1)
-
-pub type-same : (t u : Ty) → same_type t u ≡ true → t ≡ u
-unfolding same_type has
-type-same t u e =
-    let h = and_both (has t u.sort) (same_over_type t.over u.over) e in
-    let s : t.sort ≡ u.sort = sym (unsorted t.sort) ∙ ap unsort (eqb-true (sort_code t.sort) (sort_code u.sort) h.0) ∙ unsorted u.sort in
-    let o : t.over ≡ u.over = over-same t.over u.over h.1 in
-    λ i. record { sort = s i; over = o i }
 
 -- ---- numbers of types ----
 
@@ -264,7 +230,7 @@ module _ (gs : List Given) (few : length gs ≤ 8) where
   related-fits {t} {u} {v} a b c =
       both (is_element (type_code gs t) && is_element (type_code gs u)) (eqb (pair_of (type_code gs t) (type_code gs u)) (type_code gs v))
       (has t ty.is_element && has u ty.is_element) (same_type (ty.pairs_of_types t u) v) (ap₂ ◌&&◌ (is-element a) (is-element b))
-      (λ e. let h = and_both (is_element (type_code gs t)) (is_element (type_code gs u)) e in
+      (λ e. let h = both-true (is_element (type_code gs t)) (is_element (type_code gs u)) e in
       pairs-agree (element-type a (sym (is-element a) ∙ h.0)) (element-type b (sym (is-element b) ∙ h.1)) c)
 
   pub set-type : {t : Ty} → Known gs t → has t ty.is_element ≡ true → TypeIs gs (some (ty.set_of t)) (set_of (type_code gs t))

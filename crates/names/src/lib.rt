@@ -9,6 +9,8 @@ use crate::passes::check;
 use declared_names::declared::give;
 use lexical::{bounds, endings};
 use refusals::Fault;
+use type_rules::entries;
+use type_rules::entries::Kind;
 
 pub mod passes;
 
@@ -38,10 +40,10 @@ pub fn least_fault(
 // The given sets by name, and how many elements each has, from the nodes of their bodies: the first fault of number 8 among them.
 // `names` and `sizes` may hold anything. Left open: both where there is a fault, since the passes that take them come behind that for names; and the sizes
 // behind the last given set's, since nothing is looked up by the number of a given set that there is not.
-pub fn given_sets(code: &[u16], names: &mut [u16], sizes: &mut [u16; SIZES]) -> Result<(), Fault>
+pub fn given_sets(code: &[u16], names: &mut [Kind], sizes: &mut [u16; SIZES]) -> Result<(), Fault>
     ensures { GivenSeen code.now (replicate (length names.old) 0) names.new sizes.new (refused_key result) }
 {
-    names.fill(0);
+    names.fill(entries::FREE);
     sizes.fill(0);
     give(code, names, sizes)
 }

@@ -9,7 +9,8 @@ use form::name_endings::{PLAIN, PRIMED};
 use form::{node, shapes};
 use refusals::{Fault, Refusal};
 use type_rules::entries;
-use type_rules::kinds::{all_well, look, put, unless};
+use type_rules::entries::Kind;
+use type_rules::kinds::{all_well, entry, look, put, unless};
 use typing::types::pred;
 
 // The variables of the two states, by their nodes.
@@ -42,14 +43,14 @@ fn predicate_end(code: &[u16], at: usize) -> usize
 }
 
 // A predicate with its node in front.
-fn condition(code: &[u16], names: &mut [u16], sizes: &[u16]) -> Result<(), Fault>
+fn condition(code: &[u16], names: &mut [Kind], sizes: &[u16]) -> Result<(), Fault>
     ensures { ConditionSeen code.now names.old names.new sizes.now (refused_key result) }
 {
     all_well(pred(code, code.len(), names, sizes).fault)
 }
 
 // A state, from its heading on: its variables are in use behind it.
-fn state(code: &[u16], names: &mut [u16], sizes: &[u16]) -> Result<(), Fault>
+fn state(code: &[u16], names: &mut [Kind], sizes: &[u16]) -> Result<(), Fault>
     ensures { StateSeen code.now names.old names.new sizes.now (refused_key result) }
 {
     if code.len() < node::SIZE {
@@ -65,7 +66,7 @@ fn state(code: &[u16], names: &mut [u16], sizes: &[u16]) -> Result<(), Fault>
 }
 
 // The variables of a state come into reach, plain and primed.
-fn reach_all(variables: &[u16], names: &mut [u16])
+fn reach_all(variables: &[u16], names: &mut [Kind])
     ensures { ReachingSeen variables.now names.old names.new }
 {
     show(variables, PLAIN, names);
@@ -73,7 +74,7 @@ fn reach_all(variables: &[u16], names: &mut [u16])
 }
 
 // They are out of reach again, and their plain names in use.
-fn leave_all(variables: &[u16], names: &mut [u16])
+fn leave_all(variables: &[u16], names: &mut [Kind])
     ensures { LeavingSeen variables.now names.old names.new }
 {
     hide(variables, PLAIN, entries::USED, names);
@@ -81,7 +82,7 @@ fn leave_all(variables: &[u16], names: &mut [u16])
 }
 
 // A predicate of an operation, with the variables of its state.
-fn side(code: &[u16], variables: &[u16], names: &mut [u16], sizes: &[u16]) -> Result<(), Fault>
+fn side(code: &[u16], variables: &[u16], names: &mut [Kind], sizes: &[u16]) -> Result<(), Fault>
     ensures { SideSeen code.now variables.now names.old names.new sizes.now (refused_key result) }
 {
     reach_all(variables, names);
@@ -91,7 +92,7 @@ fn side(code: &[u16], variables: &[u16], names: &mut [u16], sizes: &[u16]) -> Re
 }
 
 // The two predicates of an operation.
-fn sides(code: &[u16], states: &States<'_>, names: &mut [u16], sizes: &[u16]) -> Result<(), Fault>
+fn sides(code: &[u16], states: &States<'_>, names: &mut [Kind], sizes: &[u16]) -> Result<(), Fault>
     ensures { SidesSeen code.now states.now.abstracts.now states.now.concretes.now names.old names.new sizes.now (refused_key result) }
 {
     let e = predicate_end(code, 0);
@@ -103,7 +104,7 @@ fn sides(code: &[u16], states: &States<'_>, names: &mut [u16], sizes: &[u16]) ->
 fn operation(
     code: &[u16],
     states: &States<'_>,
-    names: &mut [u16],
+    names: &mut [Kind],
     sizes: &[u16],
 ) -> Result<(), Fault>
     ensures { OperationSeen code.now states.now.abstracts.now states.now.concretes.now names.old names.new sizes.now (refused_key result) }
@@ -112,9 +113,9 @@ fn operation(
         return Ok(());
     }
     let x = usize::from(code[node::A]);
-    let old = look(names, x);
+    let old = entry(names, x);
     let titled = unless(
-        old == entries::FREE,
+        old.is_free(),
         usize::from(code[node::PLACE]) + 1,
         Refusal::NameInUse,
     );
@@ -145,7 +146,7 @@ fn operation_end(code: &[u16], at: usize) -> usize
 fn operations(
     code: &[u16],
     states: &States<'_>,
-    names: &mut [u16],
+    names: &mut [Kind],
     sizes: &[u16],
 ) -> Result<(), Fault>
     ensures { OperationsSeen code.now states.now.abstracts.now states.now.concretes.now names.old sizes.now (refused_key result) }
@@ -163,7 +164,7 @@ fn operations(
 fn conditions(
     code: &[u16],
     states: &States<'_>,
-    names: &mut [u16],
+    names: &mut [Kind],
     sizes: &[u16],
 ) -> Result<(), Fault>
     ensures { ConditionsSeen code.now states.now.abstracts.now states.now.concretes.now names.old names.new sizes.now (refused_key result) }
@@ -215,7 +216,7 @@ pub(crate) fn check(
     requires { 8 ≤ length sizes.old }
     ensures { CheckSeen nodes.now m givens abstracts concretes ainit after 16384 sizes.new (refused_key result) }
 {
-    let mut names = [0u16; NAMES];
+    let mut names = [entries::FREE; NAMES];
     sizes.fill(0);
     let first = part(nodes, givens, abstracts);
     give(first, &mut names, sizes)?;

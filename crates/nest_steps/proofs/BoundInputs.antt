@@ -1,8 +1,8 @@
 -- The inputs get the values of one of their bindings: the arrays then show the point with that binding. Assumes nothing.
-use mathlib.Core.Path.{◌≡◌, refl, sym, ap, ap₂, subst, ◌∙◌}
+use mathlib.Core.Path.{◌≡◌, sym, ap, subst, ◌∙◌}
 use mathlib.Core.Logic.{inl, inr}
 use mathlib.Core.List.{List, [], ◌∷◌}
-use Prim.Native.Nat.{ℕ, zero, suc, ◌+◌, ◌*◌, ◌/◌, ◌%◌, ◌<◌, ◌≤◌}
+use Prim.Native.Nat.{ℕ, suc, ◌+◌, ◌*◌, ◌/◌, ◌%◌, ◌<◌, ◌≤◌}
 use native.Mathlib.Nat.{mod-lt}
 use native.Mathlib.Decide.{dec_lt}
 use native.Mathlib.Omega.{arith}
@@ -14,53 +14,19 @@ use Rattle.lexical.specs.Lists.{upward}
 use Rattle.static_rules.specs.Carriers.{Variable, count_of}
 use Rattle.static_rules.specs.Limits.{binding_count}
 use Rattle.meaning.specs.Bindings.{Among}
+use Rattle.meaning.proofs.UpwardNumbers.{among-upward, upward-among}
 use Rattle.carriers.specs.ValuesByNumber.{value_at, digit, binding_at}
 use Rattle.carriers.proofs.Values.{count-some}
 use Rattle.carriers.proofs.Bindings.{bindings-some, bindings-at, digit-small, digit-below, again_rest}
-use Rattle.slot_carriers.specs.Cells.{count_in, value_in, CellOf}
+use Rattle.slot_carriers.specs.Cells.{value_in, CellOf}
 use Rattle.slot_carriers.specs.CellGroups as groups
 use Rattle.slot_carriers.specs.CellGroups.{CellsOf, Grouped, Holding, HoldsBinding, Others}
 use Rattle.slot_carriers.proofs.CarrierCells.{value_of}
-use Rattle.points.specs.Points.{Point, primed_slot, span, moved, placed, Shows, Distinct, no_slots, more_slots}
+use Rattle.points.specs.Points.{Point, primed_slot, span, moved, placed, Shows}
 use Rattle.points.proofs.PointNumbers.{Counts, moved_here, placed-other, tame-placed}
-
--- ---- slots one behind the other
-
-within : (a n t : ℕ) → Among t (upward a n) → (a ≤ t) × (t < a + n)
-unfolding Among upward
-within a zero t m = absurd m
-within a (suc n) t (inl e) = (omega arith, omega arith)
-within a (suc n) t (inr m) = let w = within (suc a) n t m in (omega arith, omega arith)
-
-pub among-upward : (a n t : ℕ) → a ≤ t → t < a + n → Among t (upward a n)
-unfolding Among upward
-among-upward a zero t h g = absurd (none a t h g)
-  where
-    none : (a t : ℕ) → a ≤ t → t < a + 0 → ⊥
-    none a t h g = omega arith
-among-upward a (suc n) t h g = elim (dec_lt a t) [ yes q ↦ inr (among-upward (suc a) n t (omega arith) (omega arith)) | no q ↦ inl (omega arith) ]
-
-pub upward-distinct : (a n : ℕ) → Distinct (upward a n)
-unfolding upward
-upward-distinct a zero = no_slots
-upward-distinct a (suc n) = more_slots (λ m. later a n (within (suc a) n a m).0) (upward-distinct (suc a) n)
-  where
-    later : (a n : ℕ) → suc a ≤ a → ⊥
-    later a n h = omega arith
+use Rattle.points.proofs.PointBindings.{span-count, group-counts}
 
 -- ---- the digits of a binding's number
-
-span-group : (cells : List ℕ) (s : ℕ) (vs : List Variable) → CellsOf cells s vs → span cells (upward s (length vs)) ≡ binding_count vs
-unfolding span upward binding_count CellsOf
-span-group cells s [] w = refl
-span-group cells s (v ∷ vs) w = ap₂ ◌*◌ w.0.count (span-group cells (suc s) vs w.1)
-
-group-counts : (cells : List ℕ) (s : ℕ) (vs : List Variable) → CellsOf cells s vs → Counts cells (upward s (length vs))
-unfolding upward CellsOf Among
-group-counts cells s [] w t m = absurd m
-group-counts cells s (v ∷ vs) w t (inl e) =
-    subst (λ (x : ℕ). 0 < count_in cells x) (sym e) (subst (λ (x : ℕ). 0 < x) (sym w.0.count) (count-some v.carrier))
-group-counts cells s (v ∷ vs) w t (inr m) = group-counts cells (suc s) vs w.1 t m
 
 pub upward-counts : (cells : List ℕ) (s n : ℕ) → Grouped cells s n → Counts cells (upward s n)
 upward-counts cells s n g = subst (λ (m : ℕ). Counts cells (upward s m)) g.long (group-counts cells s g.group g.each)
@@ -83,13 +49,13 @@ values-placed cells s (v ∷ vs) k δ σ w h b t (inl e) =
     (sym e)
     (first-digit cells s v (binding_count vs) k (get_or σ s (pos 0)) w.0 (bindings-some vs) h b.0
     ∙ ap (value_in cells s)
-    (ap (λ (x : ℕ). k / x) (sym (span-group cells (suc s) vs w.1))
-    ∙ sym (placed-other cells (upward (suc s) (length vs)) _ _ s (λ m. later s (within (suc s) (length vs) s m).0) ∙ moved_here δ s _)))
+    (ap (λ (x : ℕ). k / x) (sym (span-count cells (suc s) vs w.1))
+    ∙ sym (placed-other cells (upward (suc s) (length vs)) _ _ s (λ m. let l = (among-upward (suc s) (length vs) s m).0 in omega arith) ∙ moved_here δ s _)))
   where
     later : (s : ℕ) → suc s ≤ s → ⊥
     later s q = omega arith
 values-placed cells s (v ∷ vs) k δ σ w h b t (inr m) =
-    let e : span cells (upward (suc s) (length vs)) ≡ binding_count vs = span-group cells (suc s) vs w.1 in
+    let e : span cells (upward (suc s) (length vs)) ≡ binding_count vs = span-count cells (suc s) vs w.1 in
     values-placed cells (suc s) vs (k % span cells (upward (suc s) (length vs))) (moved δ s (k / span cells (upward (suc s) (length vs)))) σ w.1
     (subst (λ (x : ℕ). k % x < binding_count vs) (sym e) (mod-lt k (bindings-some vs)))
     (subst (Holding σ (suc s)) (sym (ap (λ (x : ℕ). binding_at vs (k % x)) e ∙ again_rest vs k)) b.1)
@@ -125,11 +91,11 @@ bound-shows cells n k δ before σ few g low holds others w =
     there = get_or-set_other before 0 1 σ [] (omega arith)
 
     beyond : (t : ℕ) → t < 16 → Among (primed_slot t) (upward 16 n) → ⊥
-    beyond t h m = let a = within 16 n (primed_slot t) m in let b = primed-high t h in omega arith
+    beyond t h m = let a = among-upward 16 n (primed_slot t) m in let b = primed-high t h in omega arith
 
     bound : (vs : List Variable) → CellsOf cells 16 vs → length vs ≡ n → (s : ℕ) → Among s (upward 16 n) → get_or σ s (pos 0) ≡ value_in cells s (placed cells (upward 16 n) δ k s)
     bound vs c e s m =
-        let l : k < binding_count vs = subst (λ (x : ℕ). k < x) (span-group cells 16 vs c) (subst (λ (x : ℕ). k < span cells (upward 16 x)) (sym e) low) in
+        let l : k < binding_count vs = subst (λ (x : ℕ). k < x) (span-count cells 16 vs c) (subst (λ (x : ℕ). k < span cells (upward 16 x)) (sym e) low) in
         subst (λ (x : ℕ). Among s (upward 16 x) → get_or σ s (pos 0) ≡ value_in cells s (placed cells (upward 16 x) δ k s)) e
         (values-placed cells 16 vs k δ σ c l (subst (Holding σ 16) (bindings-at vs k [] l) (holds vs c e)) s) m
 
@@ -140,13 +106,13 @@ bound-shows cells n k δ before σ few g low holds others w =
     value : (s : ℕ) → s < 38 → get_or σ s (pos 0) ≡ value_in cells s (placed cells (upward 16 n) δ k s)
     value s h =
         elim (dec_lt s 16) [
-          | yes l ↦ outside s h (λ m. (let a = within 16 n s m in omega arith)) (others.below s l)
+          | yes l ↦ outside s h (λ m. (let a = among-upward 16 n s m in omega arith)) (others.below s l)
           | no l ↦ elim (dec_lt s (16 + n)) [
-            | yes m ↦ bound g.group g.each g.long s (among-upward 16 n s (omega arith) m)
-            | no m ↦ outside s h (λ a. (let b = within 16 n s a in omega arith)) (others.above s (omega arith))
+            | yes m ↦ bound g.group g.each g.long s (upward-among 16 n s (omega arith) m)
+            | no m ↦ outside s h (λ a. (let b = among-upward 16 n s a in omega arith)) (others.above s (omega arith))
           ]
         ]
 
 -- how many bindings they have
 pub inputs-count : (cells : List ℕ) (n w : ℕ) → w ≡ span cells (upward 16 n) → groups.Counts cells 16 n w
-inputs-count cells n w e vs c l = e ∙ sym (ap (λ (x : ℕ). span cells (upward 16 x)) l) ∙ span-group cells 16 vs c
+inputs-count cells n w e vs c l = e ∙ sym (ap (λ (x : ℕ). span cells (upward 16 x)) l) ∙ span-count cells 16 vs c

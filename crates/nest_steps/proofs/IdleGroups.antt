@@ -1,11 +1,12 @@
 -- Idle variables of a part: where no search from a number on mentions a variable of a state, what these searches come to does not depend on it. Assumes nothing.
-use mathlib.Core.Path.{◌≡◌, refl, sym, ap, ap₂, subst, ◌∙◌}
-use mathlib.Core.Bool.{Bool, true, false}
+use mathlib.Core.Path.{◌≡◌, sym, ap, subst, ◌∙◌}
+use mathlib.Core.Bool.{Bool}
 use mathlib.Core.List.{List}
 use Prim.Native.Nat.{ℕ, zero, suc, ◌+◌, ◌<◌, ◌≤◌}
 use native.Mathlib.Omega.{arith}
-use Rattle.lexical.specs.Lists.{any, upward}
+use Rattle.lexical.specs.Lists.{upward}
 use Rattle.meaning.specs.Bindings.{Among}
+use Rattle.meaning.proofs.UpwardNumbers.{upward-among, any-same}
 use Rattle.points.specs.Points.{Point, moved, span, placed}
 use Rattle.points.specs.Searches.{mark_in}
 use Rattle.points.proofs.PointNumbers.{Counts, tame-placed}
@@ -24,22 +25,13 @@ use Rattle.nest_steps.specs.NestPromises.{Groups, Nest, some_binding}
 use Rattle.nest_steps.specs.IdleGroups.{related_of, ready_of, steps_of, met_of}
 use Rattle.nest_steps.specs.OpenBlocks.{MasksAnswers, pair_group, concrete_group, whole_group}
 use Rattle.nest_steps.proofs.KeptGroups.{abstracts-readying, abstracts-meeting, concretes-meeting}
-use Rattle.nest_steps.proofs.BoundInputs.{among-upward}
-
-abbrev or_else : Bool → Bool → Bool
-or_else b c = elim b [ true ↦ true | false ↦ c ]
-
-any_same : (f g : ℕ → Bool) (k n : ℕ) → ((i : ℕ) → k ≤ i → i < k + n → f i ≡ g i) → any f (upward k n) ≡ any g (upward k n)
-unfolding any upward
-any_same f g k zero h = refl
-any_same f g k (suc n) h = ap₂ or_else (h k (omega arith) (omega arith)) (any_same f g (suc k) n (λ i l m. h i (omega arith) (omega arith)))
 
 -- whether some binding of other variables has P
 some-idle : {cells : List ℕ} {s : ℕ} (ss : List ℕ) (P : Point → Bool) → Counts cells ss → (Among s ss → ⊥) → Idle cells P s → Idle cells (some_binding cells ss P) s
 unfolding some_binding
 some-idle {cells} {s} ss P c n w =
     record {
-      same = λ δ x τ h. any_same (λ (k : ℕ). P (placed cells ss (moved δ s x) k)) (λ (k : ℕ). P (placed cells ss δ k)) 0 (span cells ss)
+      same = λ δ x τ h. any-same (λ (k : ℕ). P (placed cells ss (moved δ s x) k)) (λ (k : ℕ). P (placed cells ss δ k)) 0 (span cells ss)
           (λ k l m. ap P (λ i t. moved-placed cells ss δ s x k n t i) ∙ w.same (placed cells ss δ k) x (tame-placed cells ss δ k τ c (omega arith)) h);
     }
 
@@ -62,10 +54,10 @@ module _ {table plan cells : List ℕ} {p : Part} {G : Groups} {T : PartTests} (
   -- ---- by the masks
 
   abstract_in : (i : ℕ) → i < p.va → Among (0 + i) G.abstracts
-  abstract_in i h = subst (Among (0 + i)) (sym N.sized.abstracts_are) (among-upward 0 p.va (0 + i) (omega arith) (omega arith))
+  abstract_in i h = subst (Among (0 + i)) (sym N.sized.abstracts_are) (upward-among 0 p.va (0 + i) (omega arith) (omega arith))
 
   concrete_in : (i : ℕ) → i < p.vc → Among (8 + i) G.concretes
-  concrete_in i h = subst (Among (8 + i)) (sym N.sized.concretes_are) (among-upward 8 p.vc (8 + i) (omega arith) (omega arith))
+  concrete_in i h = subst (Among (8 + i)) (sym N.sized.concretes_are) (upward-among 8 p.vc (8 + i) (omega arith) (omega arith))
 
   over-abstracts : {P : Point → Bool} {r : ℕ} → Ignores cells P r (upward 0 p.va) → Ignores cells P r G.abstracts
   over-abstracts {P} {r} w = subst (Ignores cells P r) (sym N.sized.abstracts_are) w

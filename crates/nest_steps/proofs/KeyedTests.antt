@@ -4,14 +4,14 @@ use mathlib.Core.Bool.{Bool}
 use mathlib.Core.List.{List}
 use Prim.Native.Nat.{ℕ, ◌<◌}
 use Rattle.points.specs.Points.{Point, span, number_of, placed, Tame, Apart, Distinct}
-use Rattle.points.proofs.PointNumbers.{Counts, number-apart, number-placed, beside_placed, tame-placed}
+use Rattle.points.proofs.PointNumbers.{Counts, number-apart, number-placed, beside_placed, tame-placed, distinct-upward}
 use Rattle.points.proofs.SearchLevels.{planned-counts, planned-front, planned-rest}
 use Rattle.plans.specs.declared.Part.{Part}
 use Rattle.nest_steps.specs.PartTests.{PartTests}
 use Rattle.nest_steps.specs.NestPromises.{Groups, Nest}
 use Rattle.nest_steps.proofs.KeptGroups.{abstracts-concretes, abstracts-inputs, abstracts-outputs, abstracts-primes, concretes-inputs, concretes-outputs, concretes-primes}
 use Rattle.nest_steps.proofs.KeptGroups.{inputs-outputs, inputs-primes, outputs-primes, distinct-left, distinct-right}
-use Rattle.nest_steps.proofs.BoundInputs.{upward-distinct, upward-counts}
+use Rattle.nest_steps.proofs.BoundInputs.{upward-counts}
 use Rattle.idle_variables.specs.KeyedNumbers.{keyed, Ignores}
 use Rattle.nest_steps.specs.PassedBlocks.{PairKeys, WholeKeys}
 use Rattle.nest_steps.specs.IdleGroups.{related_of, ready_of, steps_of, met_of, IdlePairs, IdleWholes}
@@ -57,7 +57,7 @@ module _ {table plan cells : List ℕ} {p : Part} {G : Groups} {T : PartTests} (
 
   pub place-i : Placing cells G.inputs p.ni
   place-i = record {
-    distinct = subst Distinct (sym N.sized.inputs_are) (upward-distinct 16 p.vi);
+    distinct = subst Distinct (sym N.sized.inputs_are) (distinct-upward 16 p.vi);
     counts = subst (Counts cells) (sym N.sized.inputs_are) (upward-counts cells 16 p.vi N.sized.grouped);
     many = N.sized.ni;
   }

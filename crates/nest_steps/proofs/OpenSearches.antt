@@ -7,9 +7,9 @@ use native.Mathlib.Decide.{dec_lt}
 use native.Mathlib.Omega.{arith}
 use lib.ListN.{get_or, replicate, length-replicate}
 use lib.IntN.{ℤ}
-use Rattle.points.specs.Points.{Point, number_of, Tame, Beside}
+use Rattle.points.specs.Points.{Point, number_of, Tame}
 use Rattle.points.specs.Searches.{Sought}
-use Rattle.points.proofs.PointNumbers.{number-apart, number-low}
+use Rattle.points.proofs.PointNumbers.{number-apart, number-low, beside-twice}
 use Rattle.points.proofs.SearchLevels.{planned-counts}
 use Rattle.plans.specs.declared.Part.{Part}
 use Rattle.idle_variables.specs.KeyPromises.{key_in, MarkSays}
@@ -20,9 +20,6 @@ use Rattle.nest_steps.specs.PassedBlocks.{PairPasses, WholePasses}
 use Rattle.nest_steps.specs.OpenBlocks.{pair_group, concrete_group, whole_group, PairsSeen, WholesSeen, OpenConcrete, OpenAbstract}
 use Rattle.nest_steps.proofs.PassingBlocks.{no-state, no-related}
 use Rattle.nest_steps.proofs.KeptGroups.{abstracts-concretes}
-
-twice : {ss : List ℕ} {δ ε φ : Point} → Beside ss δ ε → Beside ss ε φ → Beside ss δ φ
-twice u v = record { same = λ s m. v.same s m ∙ u.same s m }
 
 none : (c e : ℕ) → c ≤ e → e < c → ⊥
 none c e h g = omega arith
@@ -114,7 +111,7 @@ module _ {table plan cells : List ℕ} {p : Part} where
             found = λ G T δ N s. (sought-here G T δ N s).found;
             left = λ G T δ N s. (let z = w.left G T δ N s in
                 let y = v.left G T z.point N z.shows in
-                record { point = y.point; shows = y.shows; beside = twice z.beside y.beside; number = y.number });
+                record { point = y.point; shows = y.shows; beside = beside-twice z.beside y.beside; number = y.number });
           }
 
       pub concrete-passes : {seen : List ℕ} {b : Bool} → PairsSeen table plan cells p m seen → MarkSays cells (concrete_group p m) d mark seen b → b ≡ true
@@ -176,7 +173,7 @@ module _ {table plan cells : List ℕ} {p : Part} where
             found = λ G T N. (states-here G T N).found;
             left = λ G T δ N s. (let z = w.left G T δ N s in
                 let y = v.left G T z.point N z.shows in
-                record { point = y.point; shows = y.shows; beside = twice z.beside y.beside; number = y.number });
+                record { point = y.point; shows = y.shows; beside = beside-twice z.beside y.beside; number = y.number });
           }
 
       pub abstract-passes : {m : Masks} {done : List ℕ} {b : Bool} → WholesSeen table plan cells p m done → MarkSays cells (whole_group p m) d 1 done b → b ≡ true

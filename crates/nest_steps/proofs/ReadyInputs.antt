@@ -11,13 +11,13 @@ use Rattle.lexical.specs.Lists.{upward}
 use Rattle.sets.specs.Sets.{has}
 use Rattle.sets.proofs.MaskBits.{Bits, no-bits, more-bits, bits-fit}
 use Rattle.slot_carriers.specs.CellGroups.{HoldsBinding, Others}
-use Rattle.points.specs.Points.{Point, span, number_of, placed, Beside}
-use Rattle.points.proofs.PointNumbers.{number-apart, number-placed, beside_placed}
+use Rattle.points.specs.Points.{Point, span, number_of, placed}
+use Rattle.points.proofs.PointNumbers.{number-apart, number-placed, beside_placed, distinct-upward, beside-twice}
 use Rattle.plans.specs.declared.Part.{Part}
 use Rattle.nest_steps.specs.PartTests.{PartTests}
 use Rattle.nest_steps.specs.NestPromises.{Groups, NestAsked, Stepped, ForNest, AbstractPreAnswers, PreAnswers, ReadyAnswers}
 use Rattle.nest_steps.proofs.KeptGroups.{abstracts-inputs, abstracts-ready, beside-both, asked-after}
-use Rattle.nest_steps.proofs.BoundInputs.{upward-distinct, upward-counts, bound-shows}
+use Rattle.nest_steps.proofs.BoundInputs.{upward-counts, bound-shows}
 
 -- ---- the inputs have the values of a binding
 
@@ -36,7 +36,7 @@ bound-inputs {cells = cells} {p} {before} {i} {σ} h b o G T δ N w =
           point = placed cells (upward 16 p.vi) δ i;
           shows = bound-shows cells p.vi i δ before σ N.sized.inputs_few N.sized.grouped low b o w;
           beside = beside_placed cells (upward 16 p.vi) δ i;
-          number = λ _. number-placed cells (upward 16 p.vi) δ i (upward-distinct 16 p.vi) (upward-counts cells 16 p.vi N.sized.grouped) low;
+          number = λ _. number-placed cells (upward 16 p.vi) δ i (distinct-upward 16 p.vi) (upward-counts cells 16 p.vi N.sized.grouped) low;
         }
 
 never : 0 < 0 → ⊥
@@ -100,15 +100,12 @@ module _ {table plan cells : List ℕ} {p : Part} where
           let z = x.stepped in
           let y = a.left G T z.point N z.shows in
           record {
-            stepped = record { point = y.point; shows = y.shows; beside = twice z.beside y.beside; number = λ e. absurd (never e) };
+            stepped = record { point = y.point; shows = y.shows; beside = beside-twice z.beside y.beside; number = λ e. absurd (never e) };
             bits = more-bits b (omega arith) (omega (arith, r.high))
                 (a.is G T z.point N z.shows
                 ∙ ap (λ (t : ℕ). T.ready t (i - 1)) (number-apart cells G.abstracts (G.inputs ++ G.readying) δ z.point (abstracts-ready N) z.beside))
                 refl x.bits;
           }
-        where
-          twice : {ss : List ℕ} {δ ε φ : Point} → Beside ss δ ε → Beside ss ε φ → Beside ss δ φ
-          twice u v = record { same = λ s m. v.same s m ∙ u.same s m }
 
   -- the number stays small
   pub ready-small : {before slots : List (List ℤ)} {s i : ℕ} → Readying table plan cells p before slots s i → 0 < i → 2 * s + 1 < 2 ^ 64

@@ -8,10 +8,11 @@ ghost use Rattle.nest_steps.specs.OpenBlocks.{MasksAsked, MasksAnswers, pair_gro
 
 use crate::candidates::{next_abstract, next_concrete};
 use idle_variables::idle_of;
-use idle_variables::keys::{KeyGroup, is_marked, key_at};
+use idle_variables::keys::{KEYS, KeyGroup, is_marked, key_at};
 use plans::{Part, PartSearch};
 use points::plan::{READY, RELATED, STEPS};
 use points::slots::{ABSTRACT, CONCRETE};
+use slot_carriers::SLOTS;
 
 // The mark of an abstract state whose block passes.
 pub const PASSES: u16 = 1;
@@ -88,6 +89,7 @@ pub fn pair_mark(s: &PartSearch<'_>, m: Masks, a: usize) -> u16
 }
 
 // The next related concrete state from c on whose block with the abstract state of the mark is not known to pass.
+// Form 1: as in `candidates`, the number behind the last where there is none: all blocks before the answer pass.
 // Form 2: one function over both states would be handed the search, the group, the mark and what each of them means for what is passed over, and be no plainer than these two loops.
 // Form 3: the next place is what the search answers; an iterator over its answers would have to own the slots and the memory that the caller goes on with.
 pub fn next_open_concrete(
@@ -95,9 +97,9 @@ pub fn next_open_concrete(
     c: usize,
     m: Masks,
     mark: u16,
-    slots: &mut [[i64; 64]; 2],
+    slots: &mut [[i64; SLOTS]; 2],
     memo: &mut [u64; memo::NUMBERS],
-    seen: &[u16],
+    seen: &[u16; KEYS],
 ) -> usize
     requires c_le_nc { c ≤ s.now.part.nc }
     requires nest_asked { NestAsked s.now.table.now s.now.plan.now s.now.cells.now s.now.part slots.old }
@@ -119,15 +121,16 @@ pub fn next_open_concrete(
 }
 
 // The next abstract state from a on whose block is not known to pass.
+// Form 1: as `next_open_concrete`.
 // Form 2: as `next_open_concrete`.
 // Form 3: as `next_open_concrete`: the search answers the next place.
 pub fn next_open_abstract(
     s: &PartSearch<'_>,
     a: usize,
     m: Masks,
-    slots: &mut [[i64; 64]; 2],
+    slots: &mut [[i64; SLOTS]; 2],
     memo: &mut [u64; memo::NUMBERS],
-    done: &[u16],
+    done: &[u16; KEYS],
 ) -> usize
     requires a_le_na { a ≤ s.now.part.na }
     requires nest_asked { NestAsked s.now.table.now s.now.plan.now s.now.cells.now s.now.part slots.old }

@@ -1,4 +1,6 @@
 // The next candidate of each group that a search goes through.
+// Form 1: where there is none the answer is the number behind the last, as of `seek`: a loop goes on while the answer is below it, and what holds at all numbers before the answer holds
+// behind the last one too, with no case of its own.
 // Form 2: each is one call of `seek`; they stay four functions, since each promises what its own search finds, and one function over the
 // number of the search would promise that by cases.
 ghost use Rattle.std.specs.Prelude.{◌≤◌};
@@ -8,12 +10,13 @@ ghost use Rattle.nest_steps.specs.NestPromises.{NestAsked, AbstractAnswers, Conc
 use plans::PartSearch;
 use points::plan::{RELATED, STATES, STEPS};
 use seek::{Span, seek};
+use slot_carriers::SLOTS;
 
 // The next abstract state from a on.
 pub(crate) fn next_abstract(
     s: &PartSearch<'_>,
     a: usize,
-    slots: &mut [[i64; 64]; 2],
+    slots: &mut [[i64; SLOTS]; 2],
     memo: &mut [u64; memo::NUMBERS],
 ) -> usize
     requires a_le_na { a ≤ s.now.part.na }
@@ -36,7 +39,7 @@ pub(crate) fn next_abstract(
 pub(crate) fn next_concrete(
     s: &PartSearch<'_>,
     c: usize,
-    slots: &mut [[i64; 64]; 2],
+    slots: &mut [[i64; SLOTS]; 2],
     memo: &mut [u64; memo::NUMBERS],
 ) -> usize
     requires c_le_nc { c ≤ s.now.part.nc }
@@ -59,7 +62,7 @@ pub(crate) fn next_concrete(
 pub fn next_output(
     s: &PartSearch<'_>,
     o: usize,
-    slots: &mut [[i64; 64]; 2],
+    slots: &mut [[i64; SLOTS]; 2],
     memo: &mut [u64; memo::NUMBERS],
 ) -> usize
     requires o_le_nq { o ≤ s.now.part.nq }
@@ -82,7 +85,7 @@ pub fn next_output(
 pub fn next_after(
     s: &PartSearch<'_>,
     k: usize,
-    slots: &mut [[i64; 64]; 2],
+    slots: &mut [[i64; SLOTS]; 2],
     memo: &mut [u64; memo::NUMBERS],
 ) -> usize
     requires k_le_nk { k ≤ s.now.part.nk }

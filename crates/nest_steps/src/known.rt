@@ -1,5 +1,5 @@
 // Conclusions that are known to be true: inside one sweep what was found is not searched for again. Only truths are kept, since the first false one ends the sweep.
-ghost use Rattle.std.specs.Prelude.{◌≡◌, true, get_or, length};
+ghost use Rattle.std.specs.Prelude.{◌≡◌, true, get_or};
 ghost use Rattle.nest_steps.specs.Remembering.{key_of, mark_of, Inside, Noted};
 
 use plans::Part;
@@ -40,15 +40,14 @@ pub(crate) fn mark_of(p: &Part, b: Numbers) -> u16
 }
 
 // Does the mark stand there?
-pub(crate) fn is_known(known: &[u16], key: usize, mark: u16) -> bool
-    requires { length known.now ≡ 65536 }
+pub(crate) fn is_known(known: &[u16; KNOWN], key: usize, mark: u16) -> bool
     ensures { result ≡ true → get_or known.now key 0 ≡ mark }
 {
     key < KNOWN && known[key] == mark
 }
 
-pub(crate) fn remember(known: &mut [u16], key: usize, mark: u16)
-    requires { length known.old ≡ 65536 }
+// Makes the mark there, if there is a place for it.
+pub(crate) fn remember(known: &mut [u16; KNOWN], key: usize, mark: u16)
     ensures { Noted key mark known.old known.new }
 {
     if key < KNOWN {

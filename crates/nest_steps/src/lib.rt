@@ -11,11 +11,12 @@ ghost use Rattle.points.specs.Searches.{Sought};
 ghost use Rattle.nest_steps.specs.NestPromises.{NestAsked, AbstractPreAnswers, PreAnswers, ReadyAnswers, InputAsked, InputAnswers, MetAnswers};
 ghost use Rattle.nest_steps.specs.Remembering.{Remembered, BindingAsked, AgainAnswers};
 
-use crate::known::{Numbers, is_known, key_of, mark_of, remember};
+use crate::known::{KNOWN, Numbers, is_known, key_of, mark_of, remember};
 use plans::PartSearch;
 use points::plan::{MET, READY};
 use points::slots::{BEFORE, INPUTS};
 use seek::{Span, seek};
+use slot_carriers::SLOTS;
 use slot_carriers::groups::bind;
 
 pub mod blocks;
@@ -26,7 +27,7 @@ pub mod known;
 // Form 2: this and `passes` are each one call of `seek`, as the functions of `candidates`, with a promise of its own.
 fn abstract_pre(
     s: &PartSearch<'_>,
-    slots: &mut [[i64; 64]; 2],
+    slots: &mut [[i64; SLOTS]; 2],
     memo: &mut [u64; memo::NUMBERS],
 ) -> bool
     requires nest_asked { NestAsked s.now.table.now s.now.plan.now s.now.cells.now s.now.part slots.old }
@@ -46,7 +47,11 @@ fn abstract_pre(
 
 // Does a binding pass whose premises hold?
 // Form 2: as `abstract_pre`.
-fn passes(s: &PartSearch<'_>, slots: &mut [[i64; 64]; 2], memo: &mut [u64; memo::NUMBERS]) -> bool
+fn passes(
+    s: &PartSearch<'_>,
+    slots: &mut [[i64; SLOTS]; 2],
+    memo: &mut [u64; memo::NUMBERS],
+) -> bool
     requires nest_asked { NestAsked s.now.table.now s.now.plan.now s.now.cells.now s.now.part slots.old }
     requires memo { Memo s.now.table.now memo.old }
     ensures answers { MetAnswers s.now.table.now s.now.plan.now s.now.cells.now s.now.part slots.old slots.new result }
@@ -66,8 +71,8 @@ fn passes(s: &PartSearch<'_>, slots: &mut [[i64; 64]; 2], memo: &mut [u64; memo:
 pub fn passes_again(
     s: &PartSearch<'_>,
     b: Numbers,
-    slots: &mut [[i64; 64]; 2],
-    known: &mut [u16],
+    slots: &mut [[i64; SLOTS]; 2],
+    known: &mut [u16; KNOWN],
     memo: &mut [u64; memo::NUMBERS],
 ) -> bool
     requires binding_asked { BindingAsked s.now.table.now s.now.plan.now s.now.cells.now s.now.part b slots.old }
@@ -92,7 +97,7 @@ pub fn passes_again(
 fn pre_at(
     s: &PartSearch<'_>,
     i: usize,
-    slots: &mut [[i64; 64]; 2],
+    slots: &mut [[i64; SLOTS]; 2],
     memo: &mut [u64; memo::NUMBERS],
 ) -> bool
     requires i_lt_ni { i < s.now.part.ni }
@@ -106,7 +111,11 @@ fn pre_at(
 }
 
 // The inputs at which the abstract precondition holds at this abstract state, as bits; the last one's first, so that each one doubles what is there.
-pub fn ready(s: &PartSearch<'_>, slots: &mut [[i64; 64]; 2], memo: &mut [u64; memo::NUMBERS]) -> u64
+pub fn ready(
+    s: &PartSearch<'_>,
+    slots: &mut [[i64; SLOTS]; 2],
+    memo: &mut [u64; memo::NUMBERS],
+) -> u64
     requires nest_asked { NestAsked s.now.table.now s.now.plan.now s.now.cells.now s.now.part slots.old }
     requires memo { Memo s.now.table.now memo.old }
     ensures answers { ReadyAnswers s.now.table.now s.now.plan.now s.now.cells.now s.now.part slots.old slots.new result }
@@ -120,20 +129,22 @@ pub fn ready(s: &PartSearch<'_>, slots: &mut [[i64; 64]; 2], memo: &mut [u64; me
 }
 
 // The next one of these inputs from `from` on.
+// Form 1: as in `candidates`, the number behind the last where there is none.
 fn next_bit(mask: u64, from: usize, n: usize) -> usize
     requires { (from ≤ n) × (n ≤ 64) }
     ensures { Sought (has mask) from n result }
 {
-    for i in from..n {
-        if (mask >> i) % 2 == 1 {
-            return i;
-        }
-    }
-    n
+    (from..n).find(|&i| (mask >> i) % 2 == 1).unwrap_or(n)
 }
 
-// The inputs have its values then.
-pub fn next_input(s: &PartSearch<'_>, mask: u64, from: usize, slots: &mut [[i64; 64]; 2]) -> usize
+// The same, and the inputs have its values then.
+// Form 1: as `next_bit`.
+pub fn next_input(
+    s: &PartSearch<'_>,
+    mask: u64,
+    from: usize,
+    slots: &mut [[i64; SLOTS]; 2],
+) -> usize
     requires from_le_ni { from ≤ s.now.part.ni }
     requires input_asked { InputAsked s.now.cells.now s.now.part slots.old }
     ensures { InputAnswers s.now.cells.now s.now.part mask from slots.old slots.new result }

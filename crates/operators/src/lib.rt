@@ -9,34 +9,10 @@ ghost use Rattle.evaluation.specs.MeaningValues.{natural, same_integer};
 ghost use Rattle.evaluation.specs.OperatorsByNumber.{Small, IsPlace, IsBits, PrefixTakes, OperatorTakes};
 ghost use Rattle.evaluation.specs.OperatorsByNumber as numbered;
 
-use lexical::codes;
-
-// Form 1: codes of symbols once more, as the u16 that the table has: an arm of a `match` takes a constant and no conversion.
-const PLUS: u16 = codes::PLUS as u16;
-
-const DASH: u16 = codes::DASH as u16;
-
-const TIMES: u16 = codes::TIMES as u16;
-
-const SIZE: u16 = codes::SIZE as u16;
-
-const DOM: u16 = codes::DOM as u16;
-
-const UNION: u16 = codes::UNION as u16;
-
-const MINUS: u16 = codes::MINUS as u16;
-
-const EQUALS: u16 = codes::EQUALS as u16;
-
-const DIFFERS: u16 = codes::DIFFERS as u16;
-
-const LESS: u16 = codes::LESS as u16;
-
-const AND: u16 = codes::AND as u16;
-
-const OR: u16 = codes::OR as u16;
-
-const IMPLIES: u16 = codes::IMPLIES as u16;
+use form::operator_codes::{
+    AND, DASH, DIFFERS, DOM, EQUALS, IMPLIES, LESS, MINUS, OR, PLUS, SIZE, TIMES, UNION,
+};
+use form::shapes;
 
 // A set's bits, of a value that is one.
 fn bits(x: i64) -> u16
@@ -59,11 +35,11 @@ pub fn prefixed(code: u16, n: u16, m: u16, x: i64) -> i64
     }
 }
 
-// The divisor by its magnitude and whether a - stands before it: `how` is 1 for a -, and 2 more for mod.
+// The divisor by its magnitude and whether a - stands before it: `how` is NEGATIVE for a -, and REMAINDER more for mod.
 fn divisor(magnitude: u16, how: u16) -> i32
     ensures { result ≡ numbered.divisor magnitude how }
 {
-    if how % 2 == 1 {
+    if how % shapes::REMAINDER == shapes::NEGATIVE {
         return -(magnitude as i32);
     }
     magnitude as i32
@@ -74,7 +50,7 @@ pub fn divided(magnitude: u16, how: u16, x: i64) -> i64
     requires { Small x }
     ensures { result ≡ numbered.divided magnitude how x }
 {
-    if how < 2 {
+    if how < shapes::REMAINDER {
         return sets::floor_div(x as i32, divisor(magnitude, how));
     }
     sets::floor_mod(x as i32, divisor(magnitude, how))

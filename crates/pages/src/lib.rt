@@ -2,26 +2,34 @@
 #![tactic(auto)]
 
 ghost use Rattle.std.specs.Prelude.{◌≡◌, []};
-ghost use Rattle.pages.specs.PagePromises.{with_item, plain};
+ghost use Rattle.pages.specs.PagePromises.{with_item, plain, bound};
 
 use std::marker::Model;
 
 // How many items there may be.
 const ITEMS: usize = 400;
 
-// A phrase, an operation, two numbers, and numbers of bindings: the abstract and the concrete state, inputs, outputs, the concrete and the abstract state after.
-#[derive(Clone, Copy)]
-pub struct Item {
-    pub phrase: usize,
-    pub operation: usize,
-    pub n: usize,
-    pub m: usize,
+// The numbers of bindings: of the abstract and the concrete state, the inputs, the outputs, the concrete and the abstract state after.
+// Form 1: a group whose values the phrase does not show has the number 0, which is that of its first binding too: with an Option each number would have to be there again where its values are
+// put into their slots.
+#[derive(Clone, Copy, Default)]
+pub struct Bindings {
     pub a: usize,
     pub c: usize,
     pub i: usize,
     pub o: usize,
     pub k: usize,
     pub b: usize,
+}
+
+// A phrase, an operation, two numbers, and numbers of bindings.
+#[derive(Clone, Copy)]
+pub struct Item {
+    pub phrase: usize,
+    pub operation: usize,
+    pub n: usize,
+    pub m: usize,
+    pub bindings: Bindings,
 }
 
 // A phrase with an operation and two numbers, and no binding.
@@ -33,12 +41,7 @@ pub fn plain(phrase: usize, operation: usize, n: usize, m: usize) -> Item
         operation,
         n,
         m,
-        a: 0,
-        c: 0,
-        i: 0,
-        o: 0,
-        k: 0,
-        b: 0,
+        bindings: Bindings::default(),
     }
 }
 
@@ -98,5 +101,22 @@ impl Page {
         ensures { self.new ≡ with_item self.old (plain phrase operation n m) }
     {
         self.add(plain(phrase, operation, n, m));
+    }
+
+    // A phrase with an operation alone.
+    pub fn say_for(&mut self, phrase: usize, operation: usize)
+        ensures { self.new ≡ with_item self.old (plain phrase operation 0 0) }
+    {
+        self.say_of(phrase, operation, 0, 0);
+    }
+
+    // A phrase with an operation and bindings.
+    pub fn say_at(&mut self, phrase: usize, operation: usize, bindings: Bindings)
+        ensures { self.new ≡ with_item self.old (bound phrase operation bindings) }
+    {
+        self.add(Item {
+            bindings,
+            ..plain(phrase, operation, 0, 0)
+        });
     }
 }

@@ -11,14 +11,14 @@ use Rattle.form.specs.Codes.{node}
 use Rattle.form.specs.Machine.{Item, exact, a_dossier, ends, step, complete, failed, run}
 use Rattle.form_nodes.specs.FormPromises.{codes, run_at, after, Reads, Writes, Closes}
 use Rattle.form_nodes.specs.Derivations as part
-use Rattle.form_nodes.specs.Derivations.{Part, Derives, Made, MadeAt, name_code, a_pred_from, a_condition, a_state, a_where, some_givens, some_declarations, some_parameters, some_operations, condition, state, where_of, an_operation, dossier}
-use Rattle.declarations.specs.DossierPromises.{More, MoreAt, Sequence, nothing, behind, SequenceAt, Sequenced, ContentsAt, ContentsMade, When}
+use Rattle.form_nodes.specs.Derivations.{Part, Derives, Made, MadeAt, name_code, a_pred_from, a_condition, a_state, a_where, some_givens, some_declarations, some_parameters, some_operations, condition, state, where_of, an_operation, dossier, More}
+use Rattle.declarations.specs.DossierPromises.{Sequence, nothing, behind, SequenceAt, Sequenced, ContentsAt, ContentsMade, When}
 use Rattle.std.specs.Prelude.{Ok, Err}
 use Rattle.form_nodes.specs.declared.Read.{Read}
 use Rattle.form_nodes.specs.FormPromises.{Answer}
 use Rattle.form_nodes.proofs.ReadParts.{as_long, run-at, run_end, next}
 use Rattle.form_nodes.proofs.NodesOfParts.{from}
-use Rattle.declarations.proofs.ListNodes.{then-written}
+use Rattle.form_nodes.proofs.FirstNodes.{then-written}
 
 take-length : (m : ℕ) (b : List ℕ) → m ≤ length b → length (take m b) ≡ m
 take-length zero b l = refl
@@ -88,9 +88,6 @@ when-known P q h = subst (λ (y : Answer). When P y) q h
 
 module _ {s ν : List ℕ} where
   -- results that are known
-  pub more-known : {x : Part} {i n : ℕ} {a b : List ℕ} {r : Answer} {j : Read} → r ≡ Ok j → More s ν x i n a b r → MoreAt s ν x i n a b j.at j.count
-  more-known {x} {i} {n} {a} {b} q h = subst (λ (y : Answer). More s ν x i n a b y) q h
-
   pub sequence-known : {xs : List Part} {i n : ℕ} {a b : List ℕ} {r : Answer} {j : Read} → r ≡ Ok j → Sequenced s ν xs i n a b r → SequenceAt s ν xs i n a b j.at j.count
   sequence-known {xs} {i} {n} {a} {b} q h = subst (λ (y : Answer). Sequenced s ν xs i n a b y) q h
 

@@ -1,28 +1,27 @@
 -- What is known of the symbols of every text in which the scan finds no fault, and of the arrays that it leaves.
 use Prim.Native.Nat.{ℕ, zero, suc, ◌+◌, ◌≤◌, ◌<◌}
-use Prim.Native.String.{String}
 use Rattle.form.proofs.ScannedSymbols.{scan-spelled}
 use Rattle.form_nodes.specs.FormPromises.{codes}
 use Rattle.lexical.proofs.WordLaws.{same_refl}
 use Rattle.lexical.specs.Kinds as kind
-use Rattle.lexical.specs.Kinds.{Kind, code_of, marks, words}
-use Rattle.lexical.specs.Lists.{bytes, begins, all, any}
+use Rattle.lexical.specs.Kinds.{code_of}
+use Rattle.lexical.specs.Lists.{all, any}
 use Rattle.lexical.specs.Promises.{Scanned, code_in, taken, filled, first_of, fault_of, fault_in, written, has_letters, first_named, value_at, Scans}
 use Rattle.refusals.specs.Refusals.{Fault, fault, least, long_text, many_symbols}
-use Rattle.lexical.specs.Symbols.{Class, letter, digit, mark, blank, other, Ending, no_ending, prime, query, shriek, Name, Symbol, fixed, numeral, name, kind_of, Found, gap, unlisted, found}
-use Rattle.lexical.specs.Symbols.{Placed, Scan, done, stopped, next, scanned, scan_from, scan, symbols, length_faults, scan_faults}
-use Rattle.lexical.specs.Symbols.{class_of, is_digit, run, decimal_from, is_number, number_found, reserved, ending_of, ending_length, word_of, longer, longest, by_class, symbol_at}
+use Rattle.lexical.specs.Symbols.{Name, Symbol, fixed, numeral, name, kind_of}
+use Rattle.lexical.specs.Symbols.{Placed, Scan, done, stopped, next, scan, symbols, length_faults, scan_faults}
 use Rattle.std.specs.Prelude.{Ok, Err}
 use Rattle.parser.proofs.TextDossier.{value_by, values, Small, Text}
 use Rattle.parser.specs.Promises.{text_symbols, numbering}
 use Rattle.parser.specs.Sections.{Tells}
-use Rattle.lexical.proofs.BooleanTests.{and_right}
+use Rattle.lexical.proofs.FoundSymbols.{scan-has}
 use Rattle.symbols.proofs.ValueLaws.{Named, same-value}
-use borrow.Author.Tests.{leb-true, ltb-false, le-ltb, eqb-false}
-use lib.Dec.{eqb, leb, ltb}
+use Rattle.refusals.proofs.FaultLists.{none-least}
+use borrow.Author.Tests.{ltb-false, le-ltb, eqb-false}
+use lib.Dec.{eqb, ltb}
 use lib.ListN.{length, take, drop, get_or, length-map}
 use lib.Seq.{take_all, take_at}
-use mathlib.Core.Bool.{Bool, true, false, cond, true≢false, not, ◌&&◌, ◌||◌}
+use mathlib.Core.Bool.{Bool, true, false, cond, true≢false}
 use mathlib.Core.List.{List, [], ◌∷◌, map}
 use mathlib.Core.Option.{Option, none, some}
 use mathlib.Core.Path.{◌≡◌, refl, ap, ap₂, ◌∙◌, sym}
@@ -34,89 +33,18 @@ Below (fixed k) = Unit {0}
 Below (numeral n) = n ≤ 1000
 Below (name x) = Unit {0}
 
-abbrev BelowFound : Found → Type 0
-BelowFound gap = Unit {0}
-BelowFound unlisted = Unit {0}
-BelowFound (found s n) = Below s
-
 abbrev AllBelow : List Symbol → Type 0
 AllBelow [] = Unit {0}
 AllBelow (s ∷ w) = Below s × AllBelow w
 
-number-below : (r : List ℕ) → BelowFound (number_found r)
-unfolding number_found is_number
-number-below r =
-    on (is_number r)
-    (λ e.
-    leb-true (decimal_from 0 r) 1000
-    (and_right (all (λ (b : ℕ). is_digit (class_of b)) r && (eqb (length r) 1 || not (eqb (get_or r 0 48) 48))) (leb (decimal_from 0 r) 1000) e))
-  where
-    on : (b : Bool) → (b ≡ true → decimal_from 0 r ≤ 1000) → BelowFound (cond b (found (numeral (decimal_from 0 r)) (length r)) unlisted)
-    on true h = h refl
-    on false h = tt
-
-word_below : (r : List ℕ) (e : Ending) (k : Option Kind) → BelowFound (word_of r e k)
-unfolding word_of
-word_below r e none = on (leb (length r) 16)
-  where
-    on : (b : Bool) → BelowFound (cond b (found (name (record { letters = r; ending = e })) (length r + ending_length e)) unlisted)
-    on true = tt
-    on false = tt
-word_below r no_ending (some k) = tt
-word_below r prime (some k) = tt
-word_below r query (some k) = tt
-word_below r shriek (some k) = tt
-
-longer-below : (f : Found) (k : Kind) (n : ℕ) → BelowFound f → BelowFound (longer f k n)
-longer-below gap k n g = tt
-longer-below unlisted k n g = tt
-longer-below (found s m) k n g = on (ltb m n)
-  where
-    on : (b : Bool) → BelowFound (cond b (found (fixed k) n) (found s m))
-    on true = tt
-    on false = g
-
-longest-below : (t : List (String × Kind)) (w : List ℕ) → BelowFound (longest t w)
-unfolding longest
-longest-below [] w = tt
-longest-below (e ∷ t) w = on (begins (bytes e.0) w) (longest-below t w)
-  where
-    on : (b : Bool) → BelowFound (longest t w) → BelowFound (elim b as (λ (x : Bool). Found) [ true ↦ longer (longest t w) e.1 (length (bytes e.0)) | false ↦ longest t w ])
-    on true g = longer-below (longest t w) e.1 (length (bytes e.0)) g
-    on false g = g
-
-class-below : (c : Class) (w : List ℕ) → BelowFound (by_class c w)
-unfolding by_class
-class-below letter w = word_below (run w) (ending_of (drop (length (run w)) w)) (reserved words (run w))
-class-below digit w = number-below (run w)
-class-below mark w = longest-below marks w
-class-below blank w = tt
-class-below other w = tt
-
 abbrev symbols_of : List Placed → List Symbol
 symbols_of l = map (λ (x : Placed). x.symbol) l
 
-scanned-below : (w : List ℕ) (skip p : ℕ) → AllBelow (symbols_of (symbols (scan_from w skip p)))
-unfolding symbols scan_from symbol_at
-scanned-below [] skip p = tt
-scanned-below (b ∷ w) skip p = on skip (symbol_at (b ∷ w)) (class-below (class_of (get_or (b ∷ w) 0 0)) (b ∷ w)) (scanned-below w)
-  where
-    on : (skip : ℕ) (f : Found) → BelowFound f → ((k q : ℕ) → AllBelow (symbols_of (symbols (scan_from w k q)))) → AllBelow (symbols_of (symbols (scanned skip f (scan_from w) p)))
-    on (suc k) f h r = r k (p + 1)
-    on zero gap h r = r 0 (p + 1)
-    on zero unlisted h r = tt
-    on zero (found s n) h r = (h, r _ (p + 1))
-
 all-below : (text : List ℕ) → AllBelow (text_symbols text)
-unfolding scan
-all-below text = scanned-below text 0 0
+unfolding all
+all-below text = scan-has Below (λ k. true) (λ k h. tt) (λ n h. h) (λ x. tt) refl refl AllBelow tt (λ s w h r. (h, r)) text
 
 -- no fault: neither is the text too long, nor are there too many symbols
-pub none-least : (fs : List Fault) → least fs ≡ none → fs ≡ []
-unfolding least
-none-least [] e = refl
-none-least (f ∷ fs) e = let z : ◌≡◌ {A = ℕ} 0 1 = cc in absurd (omega arith)
-
 none_both : (f g : Option Fault) → first_of f g ≡ none → (f ≡ none) × (g ≡ none)
 none_both none g e = (refl, e)
 none_both (some f) g e = let z : ◌≡◌ {A = ℕ} 0 1 = cc in absurd (omega arith)

@@ -5,8 +5,8 @@ ghost use Rattle.lexical.specs.Kinds.{Kind, code_of};
 ghost use Rattle.form.specs.Machine.{exact, some_bodies, some_operations, some_parameters};
 ghost use Rattle.form_nodes.specs.FormPromises.{Reads, Room};
 ghost use Rattle.form_nodes.specs.Derivations as part;
-ghost use Rattle.form_nodes.specs.Derivations.{Made, a_condition, a_state, a_where, some_givens};
-ghost use Rattle.declarations.specs.DossierPromises.{a_condition_to, a_state_of, a_where_of, More, Sequenced, two_states, three_conditions, Formed};
+ghost use Rattle.form_nodes.specs.Derivations.{Made, a_condition, a_state, a_where, some_givens, More};
+ghost use Rattle.declarations.specs.DossierPromises.{a_condition_to, a_state_of, a_where_of, Sequenced, two_states, three_conditions, Formed};
 
 use declarations::contents::{contents, declarations, givens, parameters};
 use expressions::trees::pred;

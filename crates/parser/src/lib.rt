@@ -43,44 +43,27 @@ pub fn parse(
 }
 
 // The structure of the n symbols of a text. The nodes are made in an array of their own, so that a refusal leaves the lent one as it was.
-// Form 5: the length of an array is known to a proof where it is handed on as a slice, so that the lent arrays come as slices here and become one value in `structure_by`.
+// Form 5: what `scan` left in the arrays that `parse` is lent; the symbols are cut to their number and become one value here, the places of bytes are only looked up.
 fn structure_of(
     text: &[u8],
-    codes: &[u8],
-    starts: &[u16],
-    values: &[u16],
+    codes: &[u8; SYMBOLS],
+    starts: &[u16; SYMBOLS],
+    values: &[u16; SYMBOLS],
     n: usize,
-    nodes: &mut [u16],
+    nodes: &mut [u16; NUMBERS],
 ) -> Result<Structure, Fault>
-    requires { Left text.now codes.now starts.now values.now n × (length codes.now ≡ 4096) × (length starts.now ≡ 4096) × (length values.now ≡ 4096) × (length nodes.old ≡ 16384) }
-    ensures { Answers text.now none nodes.old nodes.new result }
-{
-    let mut made = [0u16; NUMBERS];
-    structure_by(text, codes, starts, values, n, &mut made, nodes)
-}
-
-// The same, by way of the array `made`.
-// Form 5: the symbols are cut to their number and become one value here; places of bytes are only looked up.
-fn structure_by(
-    text: &[u8],
-    codes: &[u8],
-    starts: &[u16],
-    values: &[u16],
-    n: usize,
-    made: &mut [u16],
-    nodes: &mut [u16],
-) -> Result<Structure, Fault>
-    requires { Left text.now codes.now starts.now values.now n × (length codes.now ≡ 4096) × (length starts.now ≡ 4096) × (length values.now ≡ 4096) × (length made.old ≡ 16384) × (length nodes.old ≡ 16384) }
+    requires { Left text.now codes.now starts.now values.now n }
     ensures { Answers text.now none nodes.old nodes.new result }
 {
     let y = Symbols {
         kinds: &codes[..n],
         values: &values[..n],
     };
-    match dossier(&y, made) {
-        Ok(read) => match headings(made, read.count, n) {
+    let mut made = [0u16; NUMBERS];
+    match dossier(&y, &mut made) {
+        Ok(read) => match headings(&made, read.count, n) {
             None => {
-                copy_nodes(made, nodes, read.count);
+                copy_nodes(&made, nodes, read.count);
                 Ok(Structure {
                     symbols: n,
                     numbers: read.count,

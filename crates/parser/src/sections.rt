@@ -4,7 +4,7 @@ ghost use Rattle.parser.specs.Sections.{Part, Sized, Skips, Inside, RunsTo, Behi
 
 use form::node;
 use form::shapes::{DECLARED, ELEMENT, GIVEN, GIVEN_ENTRY, OPERATION_ENTRY, PREDICATE};
-use form_nodes::kinds::value_at;
+use lexical::classes::at_or;
 
 // The numbers at which begin the contents' entries of operations, the given sets, the two states, the three conditions and the operations.
 #[derive(Clone, Copy)]
@@ -29,7 +29,7 @@ pub(crate) fn part(nodes: &[u16], at: usize, m: usize, k: usize) -> u16
     if m - at < node::SIZE {
         return 0;
     }
-    value_at(nodes, at + k)
+    at_or(nodes, at + k, 0)
 }
 
 // How many numbers the nodes of an item have: behind a declared name stands its type, and a predicate says how many follow.

@@ -3,7 +3,6 @@ use mathlib.Core.Path.{◌≡◌, sym, ◌∙◌, subst}
 use mathlib.Core.List.{List}
 use mathlib.Core.Option.{some}
 use Prim.Native.Nat.{ℕ, ◌+◌, ◌-◌, ◌*◌, ◌/◌, ◌%◌, ◌<◌, ◌≤◌}
-use native.Mathlib.Nat.{mul-le-mul}
 use native.Mathlib.Omega.{arith}
 use native.Mathlib.Decide.{dec_lt}
 use lib.ListN.{get_elem?}
@@ -16,11 +15,12 @@ use Rattle.part_setup.specs.PartTestsPartGroups.{opening_part, applicability_par
 use Rattle.part_setup.specs.PartTestsPartOrder.{part_size}
 use Rattle.parts.proofs.PartOrderLaws.{first-size, applicability-size, correctness-size}
 use Rattle.parts.proofs.ReadingSizes.{concretes-count, applicability-counts, correctness-counts}
-use Rattle.part_places.specs.Places.{GroupsOf, parts, PartSet, SizeIs}
+use Rattle.part_setup.specs.SetupPromises.{FewPlaces, places}
+use Rattle.part_places.specs.Places.{GroupsOf, parts, PartAsked, PartSet, SizeIs}
 
 -- the bindings of a part's groups: together its places, each few
 pub record Sized (d : Dossier) (k : ℕ) (p : Part) : Type 0 where
-  pub many : p.na * p.nc * p.ni * p.nq * p.nk ≡ part_size d k
+  pub many : places p ≡ part_size d k
   pub few_a : p.na ≤ 4096
   pub few_c : p.nc ≤ 4096
   pub few_i : p.ni ≤ 64
@@ -91,19 +91,10 @@ module _ {table groups cells : List ℕ} {k : ℕ} {p : Part} (w : PartSet table
                 )
           ]
 
-  pub size_is : SizeIs table groups k (p.na * p.nc * p.ni * p.nq * p.nk)
-  size_is = record { is = λ d G h. (sized d G h).many }
+  pub few-places : PartAsked table groups k → FewPlaces p
+  few-places a =
+      let z = sized a.dossier a.groups_are a.inside in
+      record { few_a = z.few_a; few_c = z.few_c; few_i = z.few_i; few_q = z.few_q; few_k = z.few_k }
 
--- the product of the first groups, group by group, in 64 bits
-module _ {d : Dossier} {k : ℕ} {p : Part} (s : Sized d k p) where
-  pub two-small : p.na * p.nc ≤ 16777216
-  two-small = mul-le-mul {n₂ = 4096} {m₂ = 4096} s.few_a s.few_c
-
-  pub three-small : p.na * p.nc * p.ni ≤ 1073741824
-  three-small = mul-le-mul {n₂ = 16777216} {m₂ = 64} two-small s.few_i
-
-  pub four-small : p.na * p.nc * p.ni * p.nq ≤ 68719476736
-  four-small = mul-le-mul {n₂ = 1073741824} {m₂ = 64} three-small s.few_q
-
-  pub five-small : p.na * p.nc * p.ni * p.nq * p.nk ≤ 281474976710656
-  five-small = mul-le-mul {n₂ = 68719476736} {m₂ = 4096} four-small s.few_k
+  pub size_is : {r : ℕ} → r ≡ places p → SizeIs table groups k r
+  size_is e = record { is = λ d G h. e ∙ (sized d G h).many }

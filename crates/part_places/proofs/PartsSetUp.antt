@@ -2,9 +2,9 @@
 use mathlib.Core.Path.{◌≡◌, subst}
 use mathlib.Core.List.{List}
 use mathlib.Core.Option.{some}
-use Prim.Native.Nat.{ℕ, ◌+◌, ◌-◌, ◌*◌, ◌/◌, ◌%◌, ◌<◌, ◌≤◌}
+use Prim.Native.Nat.{ℕ, ◌+◌, ◌*◌, ◌<◌}
 use native.Mathlib.Omega.{arith}
-use lib.ListN.{get_elem?}
+use lib.ListN.{length, get_elem?}
 use Rattle.form.specs.Tree.{Operation, Dossier}
 use Rattle.static_rules.specs.Scope.{unprimed, inputs, outputs}
 use Rattle.meaning.proofs.Places.{below-entry}
@@ -50,14 +50,14 @@ module _ {table groups : List ℕ} {k : ℕ} (a : PartAsked table groups k) wher
     counts = opening-counts a.groups_are s;
   }
 
-  module _ (h : 1 ≤ k) where
-    listed-operation : (op : Operation) × (get_elem? a.dossier.operations ((k - 1) / 2) ≡ some op)
-    listed-operation = below-entry a.dossier.operations ((k - 1) / 2) (omega (arith, a.inside))
+  module _ (j : ℕ) (h : j < length a.dossier.operations) where
+    listed-operation : (op : Operation) × (get_elem? a.dossier.operations j ≡ some op)
+    listed-operation = below-entry a.dossier.operations j h
 
-    pub operation-low : (k - 1) / 2 < 16
-    operation-low = omega (arith, a.inside, a.groups_are.operations)
+    operation-low : j < 16
+    operation-low = omega (arith, a.groups_are.operations)
 
-    pub operation-asked : OperationAsked table groups (18 + 8 * ((k - 1) / 2))
+    pub operation-asked : OperationAsked table groups (18 + 8 * j)
     operation-asked =
         let t = listed-operation in
         record {
@@ -65,11 +65,11 @@ module _ {table groups : List ℕ} {k : ℕ} (a : PartAsked table groups k) wher
           inward = inputs a.dossier t.0;
           outward = outputs a.dossier t.0;
           row_low = omega (arith, operation-low);
-          inputs = a.groups_are.inputs_at ((k - 1) / 2) t.0 t.1;
-          outputs = a.groups_are.outputs_at ((k - 1) / 2) t.0 t.1;
+          inputs = a.groups_are.inputs_at j t.0 t.1;
+          outputs = a.groups_are.outputs_at j t.0 t.1;
         }
 
-    pub operation-part-asked : {cells : List ℕ} → OperationSet table groups (18 + 8 * ((k - 1) / 2)) cells → OperationPartAsked groups (18 + 8 * ((k - 1) / 2)) cells
+    pub operation-part-asked : {cells : List ℕ} → OperationSet table groups (18 + 8 * j) cells → OperationPartAsked groups (18 + 8 * j) cells
     operation-part-asked s =
         let t = listed-operation in
         record {
@@ -78,8 +78,15 @@ module _ {table groups : List ℕ} {k : ℕ} (a : PartAsked table groups k) wher
           inward = inputs a.dossier t.0;
           outward = outputs a.dossier t.0;
           row_low = omega (arith, operation-low);
-          counts = operation-counts a.groups_are ((k - 1) / 2) t.0 t.1 s;
+          counts = operation-counts a.groups_are j t.0 t.1 s;
         }
+
+  -- its operation is one of the dossier's
+  pub applicability-low : (j : ℕ) → k ≡ 1 + 2 * j → j < length a.dossier.operations
+  applicability-low j e = omega (arith, a.inside)
+
+  pub correctness-low : (j : ℕ) → k ≡ 2 + 2 * j → j < length a.dossier.operations
+  correctness-low j e = omega (arith, a.inside)
 
 -- ---- promised
 
@@ -88,7 +95,7 @@ set_at : {table groups cells : List ℕ} {n j : ℕ} → OperationSet table grou
 set_at {table} {groups} {cells} s e = subst (λ (m : ℕ). OperationSet table groups (18 + 8 * m) cells) e s
 
 module _ {table groups cells : List ℕ} {k : ℕ} {p : Part} where
-  pub opening-set : k < 1 → StatesSet table groups cells → OpeningPartIs groups cells p → PartSet table groups k cells p
+  pub opening-set : k ≡ 0 → StatesSet table groups cells → OpeningPartIs groups cells p → PartSet table groups k cells p
   opening-set h s i = record {
     opening = λ d G e.
         let c = opening-counts G s in
@@ -97,23 +104,23 @@ module _ {table groups cells : List ℕ} {k : ℕ} {p : Part} where
     correcting = λ d G j op listed e. absurd (omega arith);
   }
 
-  module _ (h : 1 ≤ k) (s : OperationSet table groups (18 + 8 * ((k - 1) / 2)) cells) where
-    pub applicability-set : (k - 1) % 2 ≡ 0 → ApplicabilityPartIs groups (18 + 8 * ((k - 1) / 2)) cells p → PartSet table groups k cells p
+  module _ (n : ℕ) (s : OperationSet table groups (18 + 8 * n) cells) where
+    pub applicability-set : k ≡ 1 + 2 * n → ApplicabilityPartIs groups (18 + 8 * n) cells p → PartSet table groups k cells p
     applicability-set r i = record {
       opening = λ d G e. absurd (omega arith);
       applying = λ d G j op listed e.
-          let n : (k - 1) / 2 ≡ j = omega arith in
-          let c = operation-counts G j op listed (set_at s n) in
-          (c.cells_are, (subst (λ (m : ℕ). ApplicabilityPartIs groups (18 + 8 * m) cells p) n i).is (unprimed d d.abstract) (unprimed d d.concrete) (inputs d op) (outputs d op) c);
+          let m : n ≡ j = omega arith in
+          let c = operation-counts G j op listed (set_at s m) in
+          (c.cells_are, (subst (λ (x : ℕ). ApplicabilityPartIs groups (18 + 8 * x) cells p) m i).is (unprimed d d.abstract) (unprimed d d.concrete) (inputs d op) (outputs d op) c);
       correcting = λ d G j op listed e. absurd (omega arith);
     }
 
-    pub correctness-set : ((k - 1) % 2 ≡ 0 → ⊥) → CorrectnessPartIs groups (18 + 8 * ((k - 1) / 2)) cells p → PartSet table groups k cells p
+    pub correctness-set : k ≡ 2 + 2 * n → CorrectnessPartIs groups (18 + 8 * n) cells p → PartSet table groups k cells p
     correctness-set r i = record {
       opening = λ d G e. absurd (omega arith);
-      applying = λ d G j op listed e. absurd (r (omega arith));
+      applying = λ d G j op listed e. absurd (omega arith);
       correcting = λ d G j op listed e.
-          let n : (k - 1) / 2 ≡ j = omega arith in
-          let c = operation-counts G j op listed (set_at s n) in
-          (c.cells_are, (subst (λ (m : ℕ). CorrectnessPartIs groups (18 + 8 * m) cells p) n i).is (unprimed d d.abstract) (unprimed d d.concrete) (inputs d op) (outputs d op) c);
+          let m : n ≡ j = omega arith in
+          let c = operation-counts G j op listed (set_at s m) in
+          (c.cells_are, (subst (λ (x : ℕ). CorrectnessPartIs groups (18 + 8 * x) cells p) m i).is (unprimed d d.abstract) (unprimed d d.concrete) (inputs d op) (outputs d op) c);
     }

@@ -5,13 +5,14 @@ ghost use Rattle.std.specs.Prelude.{◌≡◌, ◌+◌, ◌*◌, ◌<◌, ◌≤
 ghost use Rattle.part_setup.specs.SetupPromises.{Blank};
 ghost use Rattle.part_places.specs.Places.{PartAsked, PartSet, SizeIs, AllAsked, TotalIs, PlaceAsked, PlaceFound};
 
-pub use part_setup::{OBLIGATIONS, OPENING};
+pub use held_checks::OBLIGATIONS;
+use held_checks::{OPENING, Obligation, obligation_of};
 use part_setup::{
-    OPERATION_ROW, OPERATION_ROWS, applicability_part, correctness_part, opening_cells,
-    opening_part, operation_cells,
+    applicability_part, correctness_part, opening_cells, opening_part, operation_cells, places,
 };
 use plans::Part;
 use search_groups::Dossier;
+use slot_carriers::CELLS;
 
 // A part, and a place in it.
 #[derive(Clone, Copy)]
@@ -21,37 +22,36 @@ pub struct Found {
 }
 
 // The cells of the k-th part, and its sizes.
-// Form 5: who makes the array knows it blank; with a type for blank cells each caller would make one in place of `[0u32; 9216]`.
-pub fn part_cells(
-    table: &[u16; 16384],
-    groups: &[u16; 160],
-    k: usize,
-    cells: &mut [u32; 9216],
-) -> Part
-    requires part_asked { PartAsked table.now groups.now k }
+// Form 5: the cells are lent blank, since large arrays are lent here and not copied: made in here and given back beside the part, their 36,864 bytes are copied again for each part.
+pub fn part_cells(d: &Dossier<'_>, k: usize, cells: &mut [u32; CELLS]) -> Part
+    requires part_asked { PartAsked d.now.table.now d.now.groups.now k }
     requires blank { Blank cells.old }
-    ensures { PartSet table.now groups.now k cells.new result }
+    ensures { PartSet d.now.table.now d.now.groups.now k cells.new result }
 {
-    if k < OPENING {
-        opening_cells(table, groups, cells);
-        return opening_part(groups, cells);
+    match obligation_of(k) {
+        Obligation::Initialisation => {
+            opening_cells(d, cells);
+            opening_part(d, cells)
+        }
+        Obligation::Applicability(j) => {
+            operation_cells(d, j, cells);
+            applicability_part(d, j, cells)
+        }
+        Obligation::Correctness(j) => {
+            operation_cells(d, j, cells);
+            correctness_part(d, j, cells)
+        }
     }
-    let row = OPERATION_ROWS + OPERATION_ROW * ((k - OPENING) / OBLIGATIONS);
-    operation_cells(table, groups, row, cells);
-    if (k - OPENING) % OBLIGATIONS == 0 {
-        return applicability_part(groups, row, cells);
-    }
-    correctness_part(groups, row, cells)
 }
 
 // How many places the k-th part has.
-fn part_size(table: &[u16; 16384], groups: &[u16; 160], k: usize) -> usize
-    requires { PartAsked table.now groups.now k }
-    ensures { SizeIs table.now groups.now k result }
+fn part_size(d: &Dossier<'_>, k: usize) -> usize
+    requires { PartAsked d.now.table.now d.now.groups.now k }
+    ensures { SizeIs d.now.table.now d.now.groups.now k result }
 {
-    let mut cells = [0u32; 9216];
-    let p = part_cells(table, groups, k, &mut cells);
-    p.na * p.nc * p.ni * p.nq * p.nk
+    let mut cells = [0u32; CELLS];
+    let p = part_cells(d, k, &mut cells);
+    places(&p)
 }
 
 // How many places all parts have.
@@ -62,7 +62,7 @@ pub fn total(d: &Dossier<'_>) -> usize
     let parts = OPENING + OBLIGATIONS * d.operations;
     let mut all: usize = 0;
     for k in 0..parts {
-        all += part_size(d.table, d.groups, k);
+        all += part_size(d, k);
     }
     all
 }
@@ -75,7 +75,7 @@ pub fn find(d: &Dossier<'_>, place: usize) -> Found
     let parts = OPENING + OBLIGATIONS * d.operations;
     let mut at = place;
     for part in 0..parts {
-        let size = part_size(d.table, d.groups, part);
+        let size = part_size(d, part);
         if at < size {
             return Found { part, at };
         }

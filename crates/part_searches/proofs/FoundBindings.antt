@@ -1,48 +1,35 @@
 -- Some binding of a group, or of two groups, found among the numbers of bindings at a point, is some binding of the fixed order.
-use mathlib.Core.Path.{◌≡◌, refl, sym, ap, ap₂, ◌∙◌, subst}
+use mathlib.Core.Path.{◌≡◌, refl, sym, ap, ap₂, ◌∙◌}
 use mathlib.Core.Bool.{Bool, true, false}
 use mathlib.Core.Logic.{◌⊎◌, inl, inr}
 use mathlib.Core.List.{List, [], ◌∷◌, ◌++◌, map}
-use Prim.Native.Nat.{ℕ, zero, suc, ◌+◌, ◌-◌, ◌*◌, ◌/◌, ◌%◌, ◌<◌, ◌≤◌}
+use Prim.Native.Nat.{ℕ, ◌+◌, ◌-◌, ◌*◌, ◌/◌, ◌%◌, ◌<◌}
 use native.Mathlib.Nat.{mod-lt, div-lt_iff_lt-mul}
 use native.Mathlib.Omega.{arith}
 use lib.Arith.{digits_lt, digits_div, digits_mod}
 use lib.ListN.{get_or, length}
 use Rattle.lexical.specs.Lists.{any, upward}
+use Rattle.lexical.proofs.BooleanTests.{both-ways}
 use Rattle.static_rules.specs.Carriers.{Variable}
 use Rattle.static_rules.specs.Limits.{binding_count}
 use Rattle.meaning.specs.Meaning.{Binding}
 use Rattle.meaning.specs.Bindings.{Among, bindings}
 use Rattle.meaning.proofs.Members.{among-append, any_found, any-put}
+use Rattle.meaning.proofs.UpwardNumbers.{among-upward, upward-among, any-same}
 use Rattle.carriers.specs.ValuesByNumber.{binding_at}
 use Rattle.carriers.proofs.Bindings.{bindings-are, bindings-at}
 use Rattle.slot_carriers.specs.Cells.{count_in}
 use Rattle.slot_carriers.specs.CellGroups.{CellsOf}
 use Rattle.part_tests.specs.PointsPoints.{Point, span, number_of, placed, Tame, Beside, Distinct}
-use Rattle.part_tests.proofs.PointsPointNumbers.{Counts, number-low, number_append, number-placed, span-append, span-some, tame-placed, beside_placed}
-use Rattle.part_tests.proofs.PointsPointBindings.{span-count}
+use Rattle.part_tests.proofs.PointsPointNumbers.{Counts, number-low, number_append, number-placed, span-append, span-some, tame-placed, beside_placed, distinct-upward}
+use Rattle.part_tests.proofs.PointsPointBindings.{span-count, group-counts}
 use Rattle.part_tests.specs.NestStepsNestPromises.{some_binding}
-use Rattle.part_searches.proofs.SlotGroups.{among-upward, upward-among, distinct-upward, filled}
 
 -- ---- some number
 
-abbrev or_else : Bool → Bool → Bool
-or_else b c = elim b [ true ↦ true | false ↦ c ]
-
-any_same : (f g : ℕ → Bool) (k n : ℕ) → ((i : ℕ) → k ≤ i → i < k + n → f i ≡ g i) → any f (upward k n) ≡ any g (upward k n)
-unfolding any upward
-any_same f g k zero h = refl
-any_same f g k (suc n) h =
-    ap₂ or_else (h k (omega arith) (omega arith)) (any_same f g (suc k) n (λ i l m. h i (omega arith) (omega arith)))
-
-both_ways : (x y : Bool) → (x ≡ true → y ≡ true) → (y ≡ true → x ≡ true) → x ≡ y
-both_ways true y f g = sym (f refl)
-both_ways false true f g = g refl
-both_ways false false f g = refl
-
 -- a number of two digits
 any-digits : (f : ℕ → ℕ → Bool) (a b : ℕ) → 0 < b → any (λ (n : ℕ). f (n / b) (n % b)) (upward 0 (a * b)) ≡ any (λ (i : ℕ). any (f i) (upward 0 b)) (upward 0 a)
-any-digits f a b p = both_ways (any (λ (n : ℕ). f (n / b) (n % b)) (upward 0 (a * b))) (any (λ (i : ℕ). any (f i) (upward 0 b)) (upward 0 a)) there back
+any-digits f a b p = both-ways (any (λ (n : ℕ). f (n / b) (n % b)) (upward 0 (a * b))) (any (λ (i : ℕ). any (f i) (upward 0 b)) (upward 0 a)) there back
   where
     there : any (λ (n : ℕ). f (n / b) (n % b)) (upward 0 (a * b)) ≡ true → any (λ (i : ℕ). any (f i) (upward 0 b)) (upward 0 a) ≡ true
     there e =
@@ -68,22 +55,14 @@ any-digits f a b p = both_ways (any (λ (n : ℕ). f (n / b) (n % b)) (upward 0 
 any-map : {A B : Type 0} (f : B → Bool) (h : A → B) (xs : List A) → any f (map h xs) ≡ any (λ (x : A). f (h x)) xs
 unfolding any
 any-map f h [] = refl
-any-map f h (x ∷ xs) = ap (or_else (f (h x))) (any-map f h xs)
+any-map f h (x ∷ xs) = ap (λ (c : Bool). elim (f (h x)) [ true ↦ true | false ↦ c ]) (any-map f h xs)
 
 -- of a list of bindings, by their numbers
 any-bindings : (g : Binding → Bool) (vs : List Variable) → any g (bindings vs) ≡ any (λ (k : ℕ). g (get_or (bindings vs) k [])) (upward 0 (binding_count vs))
 any-bindings g vs =
     ap (any g) (bindings-are vs) ∙ any-map g (binding_at vs) (upward 0 (binding_count vs))
-    ∙ any_same (λ (k : ℕ). g (binding_at vs k)) (λ (k : ℕ). g (get_or (bindings vs) k [])) 0 (binding_count vs)
+    ∙ any-same (λ (k : ℕ). g (binding_at vs k)) (λ (k : ℕ). g (get_or (bindings vs) k [])) 0 (binding_count vs)
     (λ k h l. ap g (sym (bindings-at vs k [] (omega arith))))
-
-pub group-counts : (cells : List ℕ) (base : ℕ) (vs : List Variable) → CellsOf cells base vs → Counts cells (upward base (length vs))
-group-counts cells base vs c s m =
-    let h = among-upward base (length vs) s m in
-    let l = h.0 in
-    let k = h.1 in
-    let e : base + (s - base) ≡ s = omega arith in
-    subst (λ (x : ℕ). 0 < count_in cells x) e (filled cells base vs c (s - base) (omega arith)).some
 
 pub counts-append : (cells os ks : List ℕ) → Counts cells os → Counts cells ks → Counts cells (os ++ ks)
 counts-append cells os ks f g s m = go (among-append s os ks m)
@@ -97,7 +76,7 @@ some_number : (cells ss : List ℕ) (P : Point → Bool) (δ : Point) → Tame c
     → ((ε : Point) → Tame cells ε → Beside ss δ ε → P ε ≡ f (number_of cells ss ε)) → some_binding cells ss P δ ≡ any f (upward 0 (span cells ss))
 unfolding some_binding
 some_number cells ss P δ τ d c f h =
-    any_same (λ (k : ℕ). P (placed cells ss δ k)) f 0 (span cells ss)
+    any-same (λ (k : ℕ). P (placed cells ss δ k)) f 0 (span cells ss)
     (λ k l m.
     let low : k < span cells ss = omega arith in
     h (placed cells ss δ k) (tame-placed cells ss δ k τ c low) (beside_placed cells ss δ k) ∙ ap f (number-placed cells ss δ k d c low))
@@ -132,6 +111,6 @@ some-groups cells a b us vs c e d P δ τ g h =
     ∙ ap (λ (n : ℕ). any (λ (n : ℕ). f (n / span cells ks) (n % span cells ks)) (upward 0 n)) (span-append cells os ks)
     ∙ any-digits f (span cells os) (span cells ks) p
     ∙ ap₂ (λ (m n : ℕ). any (λ (i : ℕ). any (f i) (upward 0 n)) (upward 0 m)) (span-count cells a us c) (span-count cells b vs e)
-    ∙ any_same (λ (i : ℕ). any (f i) (upward 0 (binding_count vs))) (λ (i : ℕ). any (g (get_or (bindings us) i [])) (bindings vs)) 0 (binding_count us)
+    ∙ any-same (λ (i : ℕ). any (f i) (upward 0 (binding_count vs))) (λ (i : ℕ). any (g (get_or (bindings us) i [])) (bindings vs)) 0 (binding_count us)
     (λ i l m. sym (any-bindings (g (get_or (bindings us) i [])) vs))
     ∙ sym (any-bindings (λ (z : Binding). any (g z) (bindings vs)) us)

@@ -14,6 +14,7 @@ use Rattle.static_rules.specs.Scope.{outputs}
 use Rattle.meaning.specs.Bindings.{Among}
 use Rattle.meaning.proofs.Members.{among-append}
 use Rattle.meaning.proofs.Places.{entry-below}
+use Rattle.meaning.proofs.UpwardNumbers.{among-upward}
 use Rattle.readings.specs.TablePlacesResolvedTable.{Slots}
 use Rattle.readings.specs.ReadPredicatesPredicateRows.{TestsOf}
 use Rattle.readings.proofs.ReadPredicatesCountedRows.{rows-many, rows-low}
@@ -23,7 +24,7 @@ use Rattle.part_tests.specs.PointsPoints.{Point, Tame, Apart, no_slots}
 use Rattle.part_tests.specs.PointsSearches.{SearchOf}
 use Rattle.part_tests.specs.PlansPlanPromises.{SlotsIn, RowsOf, CommonRows, OperationRows}
 use Rattle.part_searches.proofs.SearchPlans.{Searched}
-use Rattle.part_searches.proofs.SlotGroups.{among-upward, Filled, searched}
+use Rattle.part_searches.proofs.SlotGroups.{Filled, searched}
 
 -- ---- rows
 

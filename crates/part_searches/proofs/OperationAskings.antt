@@ -13,6 +13,7 @@ use Rattle.meaning.specs.Meaning.{Binding, holds}
 use Rattle.meaning.specs.Operations.{environment, is_state, after}
 use Rattle.meaning.specs.Bindings.{Among}
 use Rattle.meaning.proofs.Members.{among-left, among-right}
+use Rattle.meaning.proofs.UpwardNumbers.{upward-among}
 use Rattle.slot_carriers.specs.CellGroups.{CellsOf}
 use Rattle.readings.specs.TablePlacesResolvedTable.{Slots, slotted}
 use Rattle.readings.specs.TablePlacesDossierTable.{parameter_slots}
@@ -27,7 +28,6 @@ use Rattle.part_tests.specs.PlansPlanPromises.{RowsOf, over_asking, after_asking
 use Rattle.part_tests.specs.PartsByNumber.{abstract_at, concrete_at, input_at, output_at}
 use Rattle.part_searches.specs.PartCells.{OperationCelled}
 use Rattle.part_searches.proofs.SearchPlans.{AskedAs, asked-same}
-use Rattle.part_searches.proofs.SlotGroups.{upward-among}
 use Rattle.part_searches.proofs.UsedSlots.{Passing, pass-slotted, pass-append}
 use Rattle.part_searches.proofs.AskingKinds.{Anywhere, Using, NoOutput, over-asked, after-asked, step-asked}
 use Rattle.part_searches.proofs.PointStates.{abstract_group, concrete_group, input_group, output_group, concrete_after_group, abstract_after_group}

@@ -11,22 +11,24 @@ use Rattle.static_rules.specs.Scope.{unprimed, inputs, outputs}
 use Rattle.meaning.specs.Bindings.{Among}
 use Rattle.meaning.specs.Operations.{concrete_bindings, output_bindings, is_state}
 use Rattle.meaning.proofs.Members.{among-append}
+use Rattle.meaning.proofs.UpwardNumbers.{upward-long, among-upward}
 use Rattle.part_tests.specs.PointsPoints.{Point, span, number_of, placed, Tame, Apart, Distinct}
 use Rattle.part_tests.specs.PointsSearches.{levels_hold, Planned, SearchOf}
-use Rattle.part_tests.proofs.PointsPointNumbers.{Counts, number-apart, number_append, number-low, number-placed, same_number, tame-placed}
+use Rattle.part_tests.proofs.PointsPointNumbers.{Counts, number-apart, number_append, number-low, number-placed, same_number, tame-placed, distinct-upward}
 use Rattle.part_tests.specs.PlansPlanPromises.{StepsPlan}
 use Rattle.part_tests.specs.NestStepsNestPromises.{some_binding}
 use Rattle.part_tests.specs.PartsByNumber.{concrete_at, output_at, concretely, stepping}
 use Rattle.part_searches.proofs.LevelledTests.{Levelled, tests_by_level, levels-steady}
 use Rattle.part_searches.proofs.SearchPlans.{Searched, AskedAs, none-asked, asked_functions, asked-levellings, search-planned, search-whole}
-use Rattle.part_searches.proofs.SlotGroups.{upward-long, among-upward, distinct-upward, distinct_append, groups-long, groups-second, groups-distinct, filled, searched}
+use Rattle.part_searches.proofs.SlotGroups.{distinct_append, groups-long, groups-second, groups-distinct, filled, searched}
 use Rattle.part_searches.proofs.PointStates.{concrete_group, input_group, output_group, concrete_after_group}
 use Rattle.part_searches.proofs.OperationAskings.{step_groups, OfSteps, concrete_stepping, concrete-behind-asked, concrete-step-asked}
-use Rattle.part_searches.proofs.FoundBindings.{group-counts, counts-append, some-groups}
+use Rattle.part_searches.proofs.FoundBindings.{counts-append, some-groups}
 use Rattle.part_searches.proofs.NestParts.{and_true, outside-run, outside-append, run-apart}
 use Rattle.part_searches.proofs.OperationPremises.{OperationReading, small, planned-rows}
 use Rattle.part_tests.specs.PlansPlansByNumber.{no_asking}
 use Rattle.part_tests.specs.PlansPlanPromises.{after_asking, step_asking}
+use Rattle.part_tests.proofs.PointsPointBindings.{group-counts}
 
 module _ {table rows firsts groups cells : List ℕ} {d : Dossier} {op : Operation} {j : ℕ} (X : OperationReading table rows firsts groups cells d op j) where
   abbrev vc : ℕ

@@ -13,44 +13,18 @@ use Rattle.lexical.specs.Lists.{upward}
 use Rattle.static_rules.specs.Carriers.{Variable}
 use Rattle.meaning.specs.Bindings.{Among}
 use Rattle.meaning.proofs.Members.{among-append}
+use Rattle.meaning.proofs.UpwardNumbers.{upward-long, upward-at, among-upward}
 use Rattle.carriers.proofs.Values.{count-some}
 use Rattle.slot_carriers.specs.Cells.{count_in, Readable}
 use Rattle.slot_carriers.specs.CellGroups.{CellsOf}
 use Rattle.slot_carriers.proofs.CarrierCells.{readable}
-use Rattle.part_tests.specs.PointsPoints.{Distinct, no_slots, more_slots}
+use Rattle.part_tests.specs.PointsPoints.{Distinct, more_slots}
 use Rattle.part_tests.specs.PointsSearches.{slot_in}
 use Rattle.part_tests.specs.PlansPlanPromises.{SlotsIn}
+use Rattle.part_tests.proofs.PointsPointNumbers.{distinct-upward}
 use Rattle.part_searches.proofs.SearchPlans.{Searched}
-use Rattle.part_searches.proofs.LevelledTests.{by_level}
 
 -- ---- one group
-
-pub upward-long : (k n : ℕ) → length (upward k n) ≡ n
-unfolding upward
-upward-long k zero = refl
-upward-long k (suc n) = ap suc (upward-long (suc k) n)
-
-upward-at : (k n i : ℕ) → i < n → get_or (upward k n) i 0 ≡ k + i
-unfolding upward
-upward-at k zero i h = let z : ⊥ = omega arith in absurd z
-upward-at k (suc n) zero h = omega arith
-upward-at k (suc n) (suc i) h = let e = upward-at (suc k) n i (omega arith) in let z : suc k + i ≡ k + suc i = omega arith in e ∙ z
-
-pub among-upward : (k n s : ℕ) → Among s (upward k n) → (k ≤ s) × (s < k + n)
-unfolding upward Among
-among-upward k zero s m = absurd m
-among-upward k (suc n) s (inl e) = (omega arith, omega arith)
-among-upward k (suc n) s (inr m) = let h = among-upward (suc k) n s m in let i = h.0 in let j = h.1 in (omega arith, omega arith)
-
-pub upward-among : (k n s : ℕ) → k ≤ s → s < k + n → Among s (upward k n)
-unfolding upward Among
-upward-among k zero s h l = let z : ⊥ = omega arith in absurd z
-upward-among k (suc n) s h l = by_level s k (λ e. inl e) (λ e. inr (upward-among (suc k) n s (omega arith) (omega arith)))
-
-pub distinct-upward : (k n : ℕ) → Distinct (upward k n)
-unfolding upward
-distinct-upward k zero = no_slots
-distinct-upward k (suc n) = more_slots (λ m. let h = (among-upward (suc k) n k m).0 in omega arith) (distinct-upward (suc k) n)
 
 pub distinct_append : (xs ys : List ℕ) → Distinct xs → Distinct ys → ((s : ℕ) → Among s xs → Among s ys → ⊥) → Distinct (xs ++ ys)
 unfolding Among

@@ -1,8 +1,7 @@
--- What the inner functions of the set-up promise: cells of both states with the place behind their lists, an operation's sizes, one filled array. Nothing here need be believed.
-use Rattle.std.specs.Prelude.{◌≡◌, List, ℕ, ◌<◌, ◌≤◌, get_or, length, ℤ, pos}
+-- What the inner functions of the set-up promise: cells of both states with the place behind their lists, an operation's sizes. Nothing here need be believed.
+use Rattle.std.specs.Prelude.{◌≡◌, List, ℕ, ◌<◌, ◌≤◌, length}
 use Rattle.static_rules.specs.Carriers.{Variable}
 use Rattle.static_rules.specs.Limits.{binding_count}
-use Rattle.slot_carriers.specs.Cells.{value_in}
 use Rattle.slot_carriers.specs.TypeNodes.{ListBetween}
 use Rattle.part_tests.specs.PartGroups.{StateCells}
 use Rattle.readings.specs.Readings.{GroupAt}
@@ -36,8 +35,3 @@ pub record SizesAre (groups : List ℕ) (row : ℕ) (cells : List ℕ) (r : Size
   pub vc_low : r.vc < 65536
   pub vo_low : r.vo < 65536
   pub is : (us cs is os : List Variable) → OperationCounts groups row cells us cs is os → SizesOf us cs is os r
-
--- the first n of an array of slots have the first values, number t that of the slot f t
-pub record FirstsIn (cells : List ℕ) (f : ℕ → ℕ) (n : ℕ) (a : List ℤ) : Type 0 where
-  pub long : length a ≡ 64
-  pub each : (t : ℕ) → t < n → get_or a t (pos 0) ≡ value_in cells (f t) 0

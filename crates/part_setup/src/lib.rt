@@ -1,18 +1,20 @@
-// What a part of the check starts from: the cells of its variables' carriers, the sizes of its groups, and every variable's first value in the slots.
-// Form 5: cells are made here and then asked for sizes: what a function asks of them is what another has promised. `search_groups::Dossier` has the rows too, which no function here reads.
+// What a part of the check starts from: the cells of its variables' carriers, the sizes of its groups, how many places they make, and every variable's first value in the slots.
+// Form 5: cells are made here and then asked for sizes: what a function asks of them is what another has promised. `Sizes` as a public struct with a method for each part of an operation
+// would have each caller join the promise of the sizes and that of the method, where it has one now.
 #![tactic(auto)]
 
-ghost use Rattle.std.specs.Prelude.{◌≡◌, ◌<◌};
+ghost use Rattle.std.specs.Prelude.{◌≡◌, ◌+◌, ◌*◌, ◌<◌, ◌≤◌};
 ghost use Rattle.points.specs.Points.{primed_slot};
 ghost use Rattle.part_setup.specs.SetupPromises.{Blank, FirstValues, StatesAsked, StatesSet, OperationAsked, OperationSet, OpeningPartAsked, OpeningPartIs};
-ghost use Rattle.part_setup.specs.SetupPromises.{OperationPartAsked, ApplicabilityPartIs, CorrectnessPartIs, Filled};
-ghost use Rattle.part_setup.specs.SetupSteps.{StatesReady, SizesAre, FirstsIn};
+ghost use Rattle.part_setup.specs.SetupPromises.{OperationPartAsked, ApplicabilityPartIs, CorrectnessPartIs, FewPlaces, places, Filled};
+ghost use Rattle.part_setup.specs.SetupSteps.{StatesReady, SizesAre};
 
 use plans::Part;
 use points::slots;
+use search_groups::Dossier;
 use slot_carriers::groups::binding_count;
 use slot_carriers::setup::{copy_cells, set_cells};
-use slot_carriers::value_at;
+use slot_carriers::{CELLS, SLOTS, value_at};
 
 // Form 1: places and lengths among cells and groups, no kinds.
 // Where the lists of functions begin among the cells.
@@ -26,14 +28,9 @@ const CONCRETE_ROW: usize = 9;
 const PARAMETER_ROW: usize = 4;
 
 // The first row that is an operation's, and how many numbers an operation has there.
-pub const OPERATION_ROWS: usize = 18;
+const OPERATION_ROWS: usize = 18;
 
-pub const OPERATION_ROW: usize = 8;
-
-// How many opening obligations a check has, and how many an operation has: each is a part.
-pub const OPENING: usize = 1;
-
-pub const OBLIGATIONS: usize = 2;
+const OPERATION_ROW: usize = 8;
 
 // How many variables the groups of an operation have, and how many bindings.
 #[derive(Clone, Copy)]
@@ -49,21 +46,28 @@ struct Sizes {
 }
 
 // The cells of both states, plain and primed; the place behind their lists.
-fn set_states(table: &[u16; 16384], groups: &[u16; 160], cells: &mut [u32; 9216]) -> usize
-    requires states_asked { StatesAsked table.now groups.now }
+fn set_states(d: &Dossier<'_>, cells: &mut [u32; CELLS]) -> usize
+    requires states_asked { StatesAsked d.now.table.now d.now.groups.now }
     requires blank { Blank cells.old }
-    ensures { StatesReady table.now groups.now cells.new result }
+    ensures { StatesReady d.now.table.now d.now.groups.now cells.new result }
 {
-    let at = set_cells(table, groups, ABSTRACT_ROW, slots::ABSTRACT, LISTS, cells);
-    let end = set_cells(table, groups, CONCRETE_ROW, slots::CONCRETE, at, cells);
+    let at = set_cells(
+        d.table,
+        d.groups,
+        ABSTRACT_ROW,
+        slots::ABSTRACT,
+        LISTS,
+        cells,
+    );
+    let end = set_cells(d.table, d.groups, CONCRETE_ROW, slots::CONCRETE, at, cells);
     copy_cells(
-        usize::from(groups[ABSTRACT_ROW]),
+        usize::from(d.groups[ABSTRACT_ROW]),
         slots::ABSTRACT,
         slots::ABSTRACT_PRIMED,
         cells,
     );
     copy_cells(
-        usize::from(groups[CONCRETE_ROW]),
+        usize::from(d.groups[CONCRETE_ROW]),
         slots::CONCRETE,
         slots::CONCRETE_PRIMED,
         cells,
@@ -72,30 +76,34 @@ fn set_states(table: &[u16; 16384], groups: &[u16; 160], cells: &mut [u32; 9216]
 }
 
 // Those of initialisation.
-pub fn opening_cells(table: &[u16; 16384], groups: &[u16; 160], cells: &mut [u32; 9216])
-    requires states_asked { StatesAsked table.now groups.now }
+pub fn opening_cells(d: &Dossier<'_>, cells: &mut [u32; CELLS])
+    requires states_asked { StatesAsked d.now.table.now d.now.groups.now }
     requires blank { Blank cells.old }
-    ensures { StatesSet table.now groups.now cells.new }
+    ensures { StatesSet d.now.table.now d.now.groups.now cells.new }
 {
-    set_states(table, groups, cells);
+    set_states(d, cells);
 }
 
-// Those of an operation whose rows begin at `row`.
-pub fn operation_cells(
-    table: &[u16; 16384],
-    groups: &[u16; 160],
-    row: usize,
-    cells: &mut [u32; 9216],
-)
-    requires operation_asked { OperationAsked table.now groups.now row }
-    requires blank { Blank cells.old }
-    ensures { OperationSet table.now groups.now row cells.new }
+// Where the rows of operation j begin.
+fn operation_row(j: usize) -> usize
+    requires { j ≤ 16 }
+    ensures { result ≡ 18 + 8 * j }
 {
-    let lists = set_states(table, groups, cells);
-    let more = set_cells(table, groups, row, slots::INPUTS, lists, cells);
+    OPERATION_ROWS + OPERATION_ROW * j
+}
+
+// The cells of operation j.
+pub fn operation_cells(d: &Dossier<'_>, j: usize, cells: &mut [u32; CELLS])
+    requires operation_asked { OperationAsked d.now.table.now d.now.groups.now (18 + 8 * j) }
+    requires blank { Blank cells.old }
+    ensures { OperationSet d.now.table.now d.now.groups.now (18 + 8 * j) cells.new }
+{
+    let row = operation_row(j);
+    let lists = set_states(d, cells);
+    let more = set_cells(d.table, d.groups, row, slots::INPUTS, lists, cells);
     set_cells(
-        table,
-        groups,
+        d.table,
+        d.groups,
         row + PARAMETER_ROW,
         slots::OUTPUTS,
         more,
@@ -104,12 +112,12 @@ pub fn operation_cells(
 }
 
 // Initialisation goes over the concrete variables.
-pub fn opening_part(groups: &[u16; 160], cells: &[u32; 9216]) -> Part
-    requires { OpeningPartAsked groups.now cells.now }
-    ensures { OpeningPartIs groups.now cells.now result }
+pub fn opening_part(d: &Dossier<'_>, cells: &[u32; CELLS]) -> Part
+    requires { OpeningPartAsked d.now.groups.now cells.now }
+    ensures { OpeningPartIs d.now.groups.now cells.now result }
 {
-    let va = usize::from(groups[ABSTRACT_ROW]);
-    let vc = usize::from(groups[CONCRETE_ROW]);
+    let va = usize::from(d.groups[ABSTRACT_ROW]);
+    let vc = usize::from(d.groups[CONCRETE_ROW]);
     let na = binding_count(cells, slots::ABSTRACT, va);
     let nc = binding_count(cells, slots::CONCRETE, vc);
     Part {
@@ -131,15 +139,16 @@ pub fn opening_part(groups: &[u16; 160], cells: &[u32; 9216]) -> Part
     }
 }
 
-// The groups of the operation whose rows begin at `row`.
-fn group_sizes(groups: &[u16; 160], cells: &[u32; 9216], row: usize) -> Sizes
-    requires { OperationPartAsked groups.now row cells.now }
-    ensures { SizesAre groups.now row cells.now result }
+// The groups of operation j.
+fn group_sizes(d: &Dossier<'_>, j: usize, cells: &[u32; CELLS]) -> Sizes
+    requires { OperationPartAsked d.now.groups.now (18 + 8 * j) cells.now }
+    ensures { SizesAre d.now.groups.now (18 + 8 * j) cells.now result }
 {
-    let va = usize::from(groups[ABSTRACT_ROW]);
-    let vc = usize::from(groups[CONCRETE_ROW]);
-    let vi = usize::from(groups[row]);
-    let vo = usize::from(groups[row + PARAMETER_ROW]);
+    let row = operation_row(j);
+    let va = usize::from(d.groups[ABSTRACT_ROW]);
+    let vc = usize::from(d.groups[CONCRETE_ROW]);
+    let vi = usize::from(d.groups[row]);
+    let vo = usize::from(d.groups[row + PARAMETER_ROW]);
     let na = binding_count(cells, slots::ABSTRACT, va);
     let nc = binding_count(cells, slots::CONCRETE, vc);
     let ni = binding_count(cells, slots::INPUTS, vi);
@@ -157,11 +166,11 @@ fn group_sizes(groups: &[u16; 160], cells: &[u32; 9216], row: usize) -> Sizes
 }
 
 // Applicability over abstract, concrete, inputs.
-pub fn applicability_part(groups: &[u16; 160], row: usize, cells: &[u32; 9216]) -> Part
-    requires { OperationPartAsked groups.now row cells.now }
-    ensures { ApplicabilityPartIs groups.now row cells.now result }
+pub fn applicability_part(d: &Dossier<'_>, j: usize, cells: &[u32; CELLS]) -> Part
+    requires { OperationPartAsked d.now.groups.now (18 + 8 * j) cells.now }
+    ensures { ApplicabilityPartIs d.now.groups.now (18 + 8 * j) cells.now result }
 {
-    let s = group_sizes(groups, cells, row);
+    let s = group_sizes(d, j, cells);
     Part {
         va: s.va,
         vc: s.vc,
@@ -182,11 +191,11 @@ pub fn applicability_part(groups: &[u16; 160], row: usize, cells: &[u32; 9216]) 
 }
 
 // Correctness over abstract, concrete, inputs, outputs, concrete primed.
-pub fn correctness_part(groups: &[u16; 160], row: usize, cells: &[u32; 9216]) -> Part
-    requires { OperationPartAsked groups.now row cells.now }
-    ensures { CorrectnessPartIs groups.now row cells.now result }
+pub fn correctness_part(d: &Dossier<'_>, j: usize, cells: &[u32; CELLS]) -> Part
+    requires { OperationPartAsked d.now.groups.now (18 + 8 * j) cells.now }
+    ensures { CorrectnessPartIs d.now.groups.now (18 + 8 * j) cells.now result }
 {
-    let s = group_sizes(groups, cells, row);
+    let s = group_sizes(d, j, cells);
     Part {
         va: s.va,
         vc: s.vc,
@@ -206,6 +215,14 @@ pub fn correctness_part(groups: &[u16; 160], row: usize, cells: &[u32; 9216]) ->
     }
 }
 
+// How many places a part has: the bindings of its groups, one of each.
+pub fn places(p: &Part) -> usize
+    requires { FewPlaces p.now }
+    ensures { result ≡ places p.now }
+{
+    p.na * p.nc * p.ni * p.nq * p.nk
+}
+
 // The primed slot of a variable.
 fn primed_slot(s: usize) -> usize
     requires { s < 16 }
@@ -217,32 +234,17 @@ fn primed_slot(s: usize) -> usize
     s + slots::CONCRETE_PRIMED - slots::CONCRETE
 }
 
-// Every variable gets its first value; the primed ones under the plain slots in another array.
-// Form 2: one loop over both would be handed a function from slots to slots and clauses on what it gives, which is longer than the loop.
-fn fill_before(cells: &[u32; 9216], a: &mut [i64; 64])
+// Every variable has its first value; the primed ones under the plain slots in the second array.
+pub fn first_values(cells: &[u32; CELLS]) -> [[i64; SLOTS]; 2]
     requires { FirstValues cells.now }
-    ensures { FirstsIn cells.now (λ s. s) 38 a.new }
+    ensures { Filled cells.now result }
 {
+    let mut arrays = [[0i64; SLOTS]; 2];
     for s in 0..slots::COUNT {
-        a[s] = value_at(cells, s, 0);
+        arrays[slots::BEFORE][s] = value_at(cells, s, 0);
     }
-}
-
-// Form 2: as `fill_before`.
-fn fill_after(cells: &[u32; 9216], a: &mut [i64; 64])
-    requires { FirstValues cells.now }
-    ensures { FirstsIn cells.now primed_slot 16 a.new }
-{
     for s in 0..slots::INPUTS {
-        a[s] = value_at(cells, primed_slot(s), 0);
+        arrays[slots::AFTER][s] = value_at(cells, primed_slot(s), 0);
     }
-}
-
-// Both arrays have the first value of every variable.
-pub fn fill(cells: &[u32; 9216], arrays: &mut [[i64; 64]; 2])
-    requires { FirstValues cells.now }
-    ensures { Filled cells.now arrays.new }
-{
-    fill_before(cells, &mut arrays[slots::BEFORE]);
-    fill_after(cells, &mut arrays[slots::AFTER]);
+    arrays
 }

@@ -27,11 +27,11 @@ use Rattle.part_searches.proofs.OperationPremises.{OperationReading}
 use Rattle.part_searches.proofs.OperationSteps.{front_at}
 use Rattle.part_searches.proofs.ApplicabilityNest.{applicability_of, applicability-nest}
 use Rattle.part_searches.proofs.CorrectnessNest.{correctness_of, correctness-nest}
-use Rattle.part_setup.specs.SetupPromises.{StatesSet, OperationSet, OpeningPartIs, ApplicabilityPartIs, CorrectnessPartIs}
+use Rattle.part_setup.specs.SetupPromises.{OperationSet, ApplicabilityPartIs, CorrectnessPartIs}
 use Rattle.parts.proofs.PartOrderLaws.{first-size, first-begin, applicability-size, correctness-size, applicability-begin, correctness-begin}
 use Rattle.parts.proofs.ReadingSizes.{concretes-count, givens-count, results-count, applicability-counts, correctness-counts}
 use Rattle.parts.proofs.SizedParts.{opening-sized, applicability-sized, correctness-sized}
-use Rattle.parts.proofs.PartLaws.{PartFor}
+use Rattle.parts.specs.SearchPromises.{OpeningReady, ApplicabilityReady, CorrectnessReady, PartFor, PartReady}
 use Rattle.parts.proofs.SetupLaws.{opening-counts, OperationLook, us, cs, is, os, operation-counts, applicability-is, correctness-is, outputs-by-part}
 
 -- the cells of a dossier's variables, by the lists of its variables
@@ -56,11 +56,15 @@ opening-here {d = d} R C n =
           ∙ ap (passes_place (subject_of d)) s;
     }
 
-pub opening-for : {table rows firsts groups plan cells : List ℕ} {p : Part} → StatesSet table groups cells → InitialisationPlan rows firsts plan → OpeningPartIs groups cells p
-    → (d : Dossier) → ReadingOf table rows firsts groups d → PartFor table plan cells p d 0
-opening-for {table} {plan = plan} {cells = cells} s n i d R =
-    let c = opening-counts R s in
-    subst (λ (z : Part). PartFor table plan cells z d 0) (sym (i.is (unprimed d d.abstract) (unprimed d d.concrete) c)) (opening-here R (state-cells c.cells_are) n)
+pub opening-ready : {table rows firsts groups plan cells : List ℕ} {p : Part} → OpeningReady table rows firsts groups plan cells p
+    → PartReady table rows firsts groups 0 plan cells p
+opening-ready {table} {plan = plan} {cells = cells} r = record {
+  first_values = r.cells_set.first_values;
+  is_part = λ d R h.
+      let c = opening-counts R r.cells_set in
+      subst (λ (z : Part). PartFor table plan cells z d 0) (sym (r.part_is.is (unprimed d d.abstract) (unprimed d d.concrete) c))
+      (opening-here R (state-cells c.cells_are) r.plan_is);
+}
 
 -- ---- an operation's parts
 
@@ -131,15 +135,19 @@ module _ {table rows firsts groups : List ℕ} {j : ℕ} (x : OperationLook tabl
         (correctness-here (operation-counts x s).cells_are (subst (λ (z : Part). CorrectnessPlan rows firsts plan j z.vo) (correctness-is x s i) n))
 
 -- for every dossier
-module _ {table rows firsts groups plan cells : List ℕ} {p : Part} {j : ℕ} (s : OperationSet table groups (18 + 8 * j) cells) where
-  pub applicability-every : ApplicabilityPartIs groups (18 + 8 * j) cells p → ApplicabilityPlan rows firsts plan j (p.vr - p.va)
-      → (d : Dossier) → ReadingOf table rows firsts groups d → 1 + 2 * j < 1 + 2 * length d.operations → PartFor table plan cells p d (1 + 2 * j)
-  applicability-every i n d R h =
-      let t : (o : Operation) × (get_elem? d.operations j ≡ some o) = below-entry d.operations j (omega arith) in
-      applicability-for (record { dossier = d; operation = t.0; reading = R; listed = t.1 }) s i n
+module _ {table rows firsts groups plan cells : List ℕ} {p : Part} {j : ℕ} where
+  pub applicability-ready : ApplicabilityReady table rows firsts groups j plan cells p → PartReady table rows firsts groups (1 + 2 * j) plan cells p
+  applicability-ready r = record {
+    first_values = r.cells_set.first_values;
+    is_part = λ d R h.
+        let t : (o : Operation) × (get_elem? d.operations j ≡ some o) = below-entry d.operations j (omega arith) in
+        applicability-for (record { dossier = d; operation = t.0; reading = R; listed = t.1 }) r.cells_set r.part_is r.plan_is;
+  }
 
-  pub correctness-every : CorrectnessPartIs groups (18 + 8 * j) cells p → CorrectnessPlan rows firsts plan j p.vo
-      → (d : Dossier) → ReadingOf table rows firsts groups d → 2 + 2 * j < 1 + 2 * length d.operations → PartFor table plan cells p d (2 + 2 * j)
-  correctness-every i n d R h =
-      let t : (o : Operation) × (get_elem? d.operations j ≡ some o) = below-entry d.operations j (omega arith) in
-      correctness-for (record { dossier = d; operation = t.0; reading = R; listed = t.1 }) s i n
+  pub correctness-ready : CorrectnessReady table rows firsts groups j plan cells p → PartReady table rows firsts groups (2 + 2 * j) plan cells p
+  correctness-ready r = record {
+    first_values = r.cells_set.first_values;
+    is_part = λ d R h.
+        let t : (o : Operation) × (get_elem? d.operations j ≡ some o) = below-entry d.operations j (omega arith) in
+        correctness-for (record { dossier = d; operation = t.0; reading = R; listed = t.1 }) r.cells_set r.part_is r.plan_is;
+  }

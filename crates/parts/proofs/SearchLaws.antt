@@ -43,10 +43,6 @@ pub unfinished : {table rows firsts groups : List ℕ} {operations from end k be
     → at < end
 unfinished {end = end} {at = at} i e = let n : at ≡ end → ⊥ = e in omega (arith, i.high)
 
-pub not-failed : {table rows firsts groups : List ℕ} {operations from end : ℕ} {failing : Option ℕ} → failing ≡ None → SearchAnswers table rows firsts groups operations from end None
-    → SearchAnswers table rows firsts groups operations from end failing
-not-failed {table} {rows} {firsts} {groups} {operations} {from} {end} e w = subst (SearchAnswers table rows firsts groups operations from end) (sym e) w
-
 -- where the search of one part came to that went up to n: at m or n where all passed, else at the failing place
 abbrev come_to : (m n : ℕ) → Option ℕ → ℕ
 come_to m n None = max m n

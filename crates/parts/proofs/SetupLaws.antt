@@ -1,5 +1,4 @@
 -- What is asked where a part of a dossier's check is set up: the cells of its variables, the sizes of its groups, the rows of its predicates. Assumes nothing.
-use Rattle.std.specs.Prelude.{Option}
 use mathlib.Core.Path.{◌≡◌, refl, sym, subst}
 use mathlib.Core.List.{List}
 use mathlib.Core.Option.{some}
@@ -17,7 +16,7 @@ use Rattle.part_setup.specs.ReadingsReadings.{GroupAt, ReadingOf}
 use Rattle.part_searches.proofs.NestParts.{common-rows, operation-rows}
 use Rattle.part_setup.specs.SetupPromises.{Blank, StatesAsked, StatesSet, OperationAsked, OperationSet, CountedAt, OpeningCounts, OpeningPartAsked}
 use Rattle.part_setup.specs.SetupPromises.{OperationCounts, OperationPartAsked, ApplicabilityPartIs, CorrectnessPartIs}
-use Rattle.parts.specs.SearchPromises.{LookAsked, LookAnswers}
+use Rattle.parts.specs.SearchPromises.{LookAsked, PartReady}
 
 -- the cells before anything is written
 pub blank : (n : ℕ) → Blank (replicate n 0)
@@ -33,9 +32,8 @@ module _ {table rows firsts groups : List ℕ} {k m : ℕ} where
   pub asked-as : LookAsked table rows firsts groups k → k ≡ m → LookAsked table rows firsts groups m
   asked-as a e = subst (LookAsked table rows firsts groups) e a
 
-  pub answers-as : {from end size : ℕ} {failing : Option ℕ} → LookAnswers table rows firsts groups k from end size failing → k ≡ m
-      → LookAnswers table rows firsts groups m from end size failing
-  answers-as {from} {end} {size} {failing} w e = subst (λ (n : ℕ). LookAnswers table rows firsts groups n from end size failing) e w
+  pub ready-as : {plan cells : List ℕ} {p : Part} → PartReady table rows firsts groups m plan cells p → k ≡ m → PartReady table rows firsts groups k plan cells p
+  ready-as {plan} {cells} {p} r e = subst (λ (n : ℕ). PartReady table rows firsts groups n plan cells p) (sym e) r
 
 pub counted : {table groups : List ℕ} {row : ℕ} {vs : List Variable} {many few : ℕ} → GroupAt table groups row vs many few → CountedAt groups row vs few
 counted g = record { count = g.count; bindings = g.bindings }

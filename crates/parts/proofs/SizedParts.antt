@@ -7,6 +7,7 @@ use native.Mathlib.Nat.{mul-le-mul}
 use native.Mathlib.Omega.{arith}
 use lib.ListN.{length, get_elem?, length-append}
 use Rattle.lexical.specs.Lists.{upward}
+use Rattle.meaning.proofs.UpwardNumbers.{upward-long}
 use Rattle.form.specs.Tree.{Operation, Dossier}
 use Rattle.static_rules.specs.Carriers.{Variable}
 use Rattle.static_rules.specs.Scope.{unprimed, inputs, outputs}
@@ -20,7 +21,6 @@ use Rattle.nest.specs.NestStepsNestPromises.{Sized}
 use Rattle.part_setup.specs.PartTestsPartGroups.{opening_part, applicability_part, correctness_part}
 use Rattle.part_searches.specs.PartCells.{StatesCelled, OperationCelled}
 use Rattle.part_setup.specs.ReadingsReadings.{ReadingOf}
-use Rattle.part_searches.proofs.SlotGroups.{upward-long}
 use Rattle.part_searches.proofs.InitialisationNest.{initialisation_groups}
 use Rattle.part_searches.proofs.ApplicabilityNest.{applicability_of}
 use Rattle.part_searches.proofs.CorrectnessNest.{correctness_of}

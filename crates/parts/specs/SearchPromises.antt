@@ -2,6 +2,7 @@
 use Rattle.std.specs.Prelude.{◌≡◌, Bool, cond, Option, None, IfSome, is_some, List, ℕ, suc, ◌+◌, ◌-◌, ◌*◌, ◌<◌, ◌≤◌, min, length, take, drop}
 use Rattle.form.specs.Tree.{Dossier}
 use Rattle.plans.specs.declared.Part.{Part}
+use Rattle.plans.specs.PlanPromises.{InitialisationPlan, ApplicabilityPlan, CorrectnessPlan}
 use Rattle.nest.specs.NestStepsPartTests.{PartTests, passes_from, stopped_at, Looked}
 use Rattle.nest.specs.NestStepsNestPromises.{Groups, Nest}
 use Rattle.obligations.specs.Subjects.{subject_of}
@@ -9,7 +10,7 @@ use Rattle.obligations.specs.Order.{passes, checks, total, look}
 use Rattle.obligations.specs.Report.{check_at}
 use Rattle.part_setup.specs.PartTestsPartOrder.{part_size, part_begin}
 use Rattle.part_setup.specs.ReadingsReadings.{ReadingOf}
-use Rattle.part_setup.specs.SetupPromises.{FirstValues}
+use Rattle.part_setup.specs.SetupPromises.{FirstValues, StatesSet, OperationSet, OpeningPartIs, ApplicabilityPartIs, CorrectnessPartIs}
 
 -- how many places from `from` on were looked at, up to `at`; a failing one there too
 abbrev pub counted : (from at : ℕ) → Bool → ℕ
@@ -37,6 +38,34 @@ pub record LookAsked (table rows firsts groups : List ℕ) (k : ℕ) : Type 0 wh
   pub dossier : Dossier
   pub reading : ReadingOf table rows firsts groups dossier
   pub part : k < 1 + 2 * length dossier.operations
+
+-- the plan, the cells and the sizes that are made for initialisation, for applicability and correctness of operation j
+pub record OpeningReady (table rows firsts groups plan cells : List ℕ) (p : Part) : Type 0 where
+  pub cells_set : StatesSet table groups cells
+  pub part_is : OpeningPartIs groups cells p
+  pub plan_is : InitialisationPlan rows firsts plan
+
+pub record ApplicabilityReady (table rows firsts groups : List ℕ) (j : ℕ) (plan cells : List ℕ) (p : Part) : Type 0 where
+  pub cells_set : OperationSet table groups (18 + 8 * j) cells
+  pub part_is : ApplicabilityPartIs groups (18 + 8 * j) cells p
+  pub plan_is : ApplicabilityPlan rows firsts plan j (p.vr - p.va)
+
+pub record CorrectnessReady (table rows firsts groups : List ℕ) (j : ℕ) (plan cells : List ℕ) (p : Part) : Type 0 where
+  pub cells_set : OperationSet table groups (18 + 8 * j) cells
+  pub part_is : CorrectnessPartIs groups (18 + 8 * j) cells p
+  pub plan_is : CorrectnessPlan rows firsts plan j p.vo
+
+-- the k-th part of a dossier's check, as the nest goes through it
+pub record PartFor (table plan cells : List ℕ) (p : Part) (d : Dossier) (k : ℕ) : Type 0 where
+  pub groups : Groups
+  pub tests : PartTests
+  pub nest : Nest table plan cells p groups tests
+  pub many : p.na * p.nc * p.ni * p.nq * p.nk ≡ part_size d k
+  pub same : (q : ℕ) → q < part_size d k → passes_from tests p.nc p.ni p.nq p.nk q ≡ passes (subject_of d) (check_at (subject_of d) (part_begin d k + q))
+
+pub record PartReady (table rows firsts groups : List ℕ) (k : ℕ) (plan cells : List ℕ) (p : Part) : Type 0 where
+  pub first_values : FirstValues cells
+  pub is_part : (d : Dossier) → ReadingOf table rows firsts groups d → k < 1 + 2 * length d.operations → PartFor table plan cells p d k
 
 pub record LookAnswers (table rows firsts groups : List ℕ) (k from end size : ℕ) (failing : Option ℕ) : Type 0 where
   pub size_is : (d : Dossier) → ReadingOf table rows firsts groups d → k < 1 + 2 * length d.operations → size ≡ part_size d k

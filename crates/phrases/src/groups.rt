@@ -1,25 +1,14 @@
 // Groups of variables: their names, their values one behind the other or in columns.
-use crate::{Filling, SLOTS, Source};
-use labels::{Names, TITLES, VARIABLE, VARIABLES};
-use lexical::Ending;
-use lexical::bounds::NAME_LETTERS;
+ghost use Rattle.std.specs.Prelude.{◌≤◌};
+
+use crate::Source;
+use labels::{GROUPS, TITLES, VARIABLE, VARIABLES};
+use lexical::bounds::{NAME_LETTERS, OPERATIONS};
 use lexical::classes::run_from;
-use lines::{Group, LINE, byte_of, put_group};
+use lines::{Group, LINE, OPERATION_ROW, SLOTS, Side, byte_of, put_group};
 use pieces::Writer;
 use sheets::Sheet;
 use text_places::{Span, before, part};
-
-// The groups: the states, the inputs, the outputs, the states after.
-// Form 1: six cases of its own, no Option or Result.
-#[derive(Clone, Copy)]
-pub enum Side {
-    Abstract,
-    Concrete,
-    Inputs,
-    Outputs,
-    AbstractPrimed,
-    ConcretePrimed,
-}
 
 // The columns of the two sides.
 pub const LEFT: usize = 14;
@@ -29,97 +18,43 @@ pub const RIGHT: usize = 56;
 const SPACE: u8 = b' ';
 
 // How far a value goes in that is broken.
-// Form 1: an indent, and places in the labels and slots below, no kinds.
-const DEEPER: usize = 2;
-
-// The rows of the groups among the labels, and the numbers of a row.
-// Form 1: places in the labels that `read_text` fills, no kinds.
-const ABSTRACT_FIRST: usize = 1;
-
-const CONCRETE_FIRST: usize = 10;
-
-const INPUTS_FIRST: usize = 19;
-
-const OUTPUTS_FIRST: usize = 23;
-
-const OPERATION_ROW: usize = 8;
-
-const OPERATIONS: usize = 16;
-
-const ROWS: usize = 160;
-
-// The slots of the groups.
-// Form 1: places in the array of slots that is lent, no kinds.
-const ABSTRACT: usize = 0;
-
-const CONCRETE: usize = 8;
-
-const INPUTS: usize = 16;
-
-const OUTPUTS: usize = 19;
-
-const CONCRETE_PRIMED: usize = 22;
-
-const ABSTRACT_PRIMED: usize = 30;
+// Form 1: an indent, no kind.
+pub const DEEPER: usize = 2;
 
 // The group of a letter among the words.
-pub fn side_of(letter: Option<u8>) -> Side {
+pub fn side_of(letter: u8) -> Option<Side> {
     match letter {
-        Some(b'a') => Side::Abstract,
-        Some(b'c') => Side::Concrete,
-        Some(b'i') => Side::Inputs,
-        Some(b'q') => Side::Outputs,
-        Some(b'A') => Side::AbstractPrimed,
-        _ => Side::ConcretePrimed,
+        b'a' => Some(Side::Abstract),
+        b'c' => Some(Side::Concrete),
+        b'i' => Some(Side::Inputs),
+        b'q' => Some(Side::Outputs),
+        b'A' => Some(Side::AbstractPrimed),
+        b'C' => Some(Side::ConcretePrimed),
+        _ => None,
     }
 }
 
-// The row of an operation's group among the labels.
-fn row_of(first: usize, operation: usize) -> usize {
-    if operation < OPERATIONS {
-        return first.saturating_add(OPERATION_ROW * operation);
+// How far the rows of an operation are from the first operation's.
+fn row_of(operation: usize) -> usize
+    ensures { result ≤ 120 }
+{
+    if operation < OPERATIONS as usize {
+        return OPERATION_ROW * operation;
     }
-    first
+    0
 }
 
-pub fn group_of(side: Side, f: &Filling) -> Group {
-    match side {
-        Side::Abstract => Group {
-            first: ABSTRACT_FIRST,
-            count: f.va,
-            slot: ABSTRACT,
-            ending: Ending::Plain,
-        },
-        Side::Concrete => Group {
-            first: CONCRETE_FIRST,
-            count: f.vc,
-            slot: CONCRETE,
-            ending: Ending::Plain,
-        },
-        Side::Inputs => Group {
-            first: row_of(INPUTS_FIRST, f.operation),
-            count: f.vi,
-            slot: INPUTS,
-            ending: Ending::Query,
-        },
-        Side::Outputs => Group {
-            first: row_of(OUTPUTS_FIRST, f.operation),
-            count: f.vo,
-            slot: OUTPUTS,
-            ending: Ending::Shriek,
-        },
-        Side::AbstractPrimed => Group {
-            first: ABSTRACT_FIRST,
-            count: f.va,
-            slot: ABSTRACT_PRIMED,
-            ending: Ending::Prime,
-        },
-        Side::ConcretePrimed => Group {
-            first: CONCRETE_FIRST,
-            count: f.vc,
-            slot: CONCRETE_PRIMED,
-            ending: Ending::Prime,
-        },
+impl Source<'_> {
+    // The group of a side, of an operation.
+    pub fn group(&self, side: Side, operation: usize) -> Group {
+        let n = self.counts;
+        let count = match side {
+            Side::Abstract | Side::AbstractPrimed => n.va,
+            Side::Concrete | Side::ConcretePrimed => n.vc,
+            Side::Inputs => n.vi,
+            Side::Outputs => n.vo,
+        };
+        Group::of(side, row_of(operation), count)
     }
 }
 
@@ -130,8 +65,9 @@ pub struct Pen<'a> {
     pub sheet: &'a mut Sheet,
 }
 
+// Has a number the k-th bit?
 pub fn has_bit(bits: usize, k: usize) -> bool {
-    k < SLOTS && (bits >> k) % 2 == 1
+    k < usize::BITS as usize && (bits >> k) % 2 == 1
 }
 
 impl Pen<'_> {
@@ -140,7 +76,7 @@ impl Pen<'_> {
         let s = self.source;
         let first = g.first.saturating_add(k);
         let slot = g.slot.saturating_add(k);
-        if first < ROWS && slot < SLOTS {
+        if first < GROUPS && slot < SLOTS {
             let one = Group {
                 first,
                 count: 1,
@@ -148,15 +84,11 @@ impl Pen<'_> {
                 ending: g.ending,
             };
             let mut line = [0u8; LINE];
-            let names = Names {
-                text: s.text,
-                labels: s.labels,
-            };
             let mut w = Writer {
                 out: &mut line,
                 at: 0,
             };
-            put_group(&names, s.slots, one, &mut w);
+            put_group(&s.names, s.slots, one, &mut w);
             let end = w.at;
             self.sheet
                 .flow(before(&line, end.saturating_sub(1)), indent);
@@ -205,10 +137,10 @@ impl Pen<'_> {
     // The letters of a name of the text, by its label.
     fn put_name(&mut self, label: usize, indent: usize) {
         let s = self.source;
-        let labels = s.labels;
-        let from = usize::from(labels.get(label).copied().unwrap_or(0));
-        let to = from + run_from(s.text, from).min(NAME_LETTERS);
-        self.sheet.flow(part(s.text, Span { from, to }), indent);
+        let text = s.names.text;
+        let from = usize::from(s.names.label(label));
+        let to = from + run_from(text, from).min(NAME_LETTERS);
+        self.sheet.flow(part(text, Span { from, to }), indent);
     }
 
     // The name of an operation.
@@ -219,7 +151,7 @@ impl Pen<'_> {
     // The name of the k-th variable, and the group's ending.
     fn put_named(&mut self, g: &Group, k: usize) {
         let row = g.first.saturating_add(k);
-        if row < ROWS {
+        if row < GROUPS {
             self.put_name(VARIABLES + VARIABLE * row, DEEPER);
             if let Some(b) = byte_of(g.ending) {
                 self.sheet.put(b, DEEPER);

@@ -1,5 +1,6 @@
 // What a dollar sign among the words stands for.
-use crate::groups::{LEFT, RIGHT, Side, side_of};
+use crate::groups::{LEFT, RIGHT, side_of};
+use lines::Side;
 
 // The two numbers, the operation, a part of the text, symbols, a line underlined, an ending, the values of a group, names of its variables, the group in a column, both states side by side,
 // a condition that the group has variables, nothing.
@@ -21,23 +22,24 @@ pub enum Insert {
     Nothing,
 }
 
-// By the letters behind the dollar sign.
-pub fn insert_of(letters: &[u8]) -> Insert {
-    let side = side_of(letters.get(1).copied());
-    match letters.first().copied() {
-        Some(b'n') => Insert::First,
-        Some(b'm') => Insert::Second,
-        Some(b'o') => Insert::Operation,
-        Some(b'x') => Insert::Part,
-        Some(b's') => Insert::Symbols,
-        Some(b'u') => Insert::Underlined,
-        Some(b'e') => Insert::Ending,
-        Some(b'f') => Insert::Values(side),
-        Some(b'v') => Insert::Names(side),
-        Some(b'l') => Insert::Column(side, LEFT),
-        Some(b'r') => Insert::Column(side, RIGHT),
-        Some(b'b') => Insert::Both,
-        Some(b'?') => Insert::Where(side),
-        _ => Insert::Nothing,
+// By the letters behind the dollar sign; none where they name nothing, or no group.
+pub fn insert_of(letters: &[u8]) -> Option<Insert> {
+    let side = letters.get(1).and_then(|b| side_of(*b));
+    match *letters.first()? {
+        b'n' => Some(Insert::First),
+        b'm' => Some(Insert::Second),
+        b'o' => Some(Insert::Operation),
+        b'x' => Some(Insert::Part),
+        b's' => Some(Insert::Symbols),
+        b'u' => Some(Insert::Underlined),
+        b'e' => Some(Insert::Ending),
+        b'f' => Some(Insert::Values(side?)),
+        b'v' => Some(Insert::Names(side?)),
+        b'l' => Some(Insert::Column(side?, LEFT)),
+        b'r' => Some(Insert::Column(side?, RIGHT)),
+        b'b' => Some(Insert::Both),
+        b'?' => Some(Insert::Where(side?)),
+        b'.' => Some(Insert::Nothing),
+        _ => None,
     }
 }

@@ -1,11 +1,14 @@
-// Phrases: the words of explanations with what is filled in, written on a sheet. Facts come as numbers and as values in slots; what is written has no promise.
+// Phrases: the words of explanations with what is filled in, written on a sheet. Facts come as an item's numbers and as values in slots; what is written has no promise.
 #![tactic(auto)]
 
-use crate::groups::{Pen, Side, group_of};
+use crate::groups::{DEEPER, Pen};
 use crate::inserts::{Insert, insert_of};
 use crate::texts::{ending_byte, put_symbols, put_underlined};
 use crate::words::WORDS;
-use labels::LABELS;
+use labels::Names;
+pub use lines::SLOTS;
+use lines::Side;
+use pages::Item;
 use sheets::Sheet;
 use text_places::{Span, line_start, part};
 
@@ -14,40 +17,30 @@ mod inserts;
 pub mod texts;
 pub mod words;
 
-// How many slots there are.
-pub const SLOTS: usize = 64;
-
-// What is filled into a phrase: its number, two numbers, the operation, how many variables the groups have.
-#[derive(Clone, Copy)]
-pub struct Filling {
-    pub phrase: usize,
-    pub n: usize,
-    pub m: usize,
-    pub operation: usize,
+// How many variables the groups have: of the abstract and the concrete state, inputs, outputs.
+#[derive(Clone, Copy, Default)]
+pub struct Counts {
     pub va: usize,
     pub vc: usize,
     pub vi: usize,
     pub vo: usize,
 }
 
-// Where names and values come from: the text, its labels, the values in their slots.
+// Where names and values come from: the text with its labels, the values in their slots, and how many variables the groups have.
 #[derive(Clone, Copy)]
 pub struct Source<'a> {
-    pub text: &'a [u8],
-    pub labels: &'a [u16; LABELS],
+    pub names: Names<'a>,
     pub slots: &'a [i64; SLOTS],
+    pub counts: Counts,
 }
 
 const TILDE: u8 = b'~';
 
-const PLACE: u8 = b'$';
+const PLACE: &[u8] = b"$";
 
 const SPACE: u8 = b' ';
 
 const NEWLINE: u8 = b'\n';
-
-// How far a value goes in that is broken.
-const DEEPER: usize = 2;
 
 // Behind the next newline.
 fn next_line(words: &[u8], from: usize) -> usize {
@@ -82,27 +75,30 @@ fn margin(words: &[u8], at: usize) -> usize {
 }
 
 // What is filled in.
-fn put_insert(insert: Insert, indent: usize, f: &Filling, pen: &mut Pen<'_>) {
-    let text = pen.source.text;
+fn put_insert(insert: Insert, indent: usize, e: &Item, pen: &mut Pen<'_>) {
+    let s = pen.source;
     match insert {
-        Insert::First => pen.sheet.put_number(f.n, indent),
-        Insert::Second => pen.sheet.put_number(f.m, indent),
-        Insert::Operation => pen.put_title(f.operation, indent),
+        Insert::First => pen.sheet.put_number(e.n, indent),
+        Insert::Second => pen.sheet.put_number(e.m, indent),
+        Insert::Operation => pen.put_title(e.operation, indent),
         Insert::Part => pen.sheet.flow(
-            part(text, Span { from: f.n, to: f.m }),
+            part(s.names.text, Span { from: e.n, to: e.m }),
             indent.saturating_add(DEEPER),
         ),
-        Insert::Symbols => put_symbols(f.n, indent, pen.sheet),
-        Insert::Underlined => put_underlined(text, f.n, f.m, pen.sheet),
+        Insert::Symbols => put_symbols(e.n, indent, pen.sheet),
+        Insert::Underlined => put_underlined(s.names.text, e.n, e.m, pen.sheet),
         Insert::Ending => {
-            if let Some(b) = ending_byte(f.operation) {
+            if let Some(b) = ending_byte(e.operation) {
                 pen.sheet.put(b, indent);
             }
         }
-        Insert::Values(side) => pen.put_values(group_of(side, f), indent),
-        Insert::Names(side) => pen.put_names(group_of(side, f), f.n),
-        Insert::Column(side, column) => pen.put_column(group_of(side, f), column),
-        Insert::Both => pen.put_both(group_of(Side::Abstract, f), group_of(Side::Concrete, f)),
+        Insert::Values(side) => pen.put_values(s.group(side, e.operation), indent),
+        Insert::Names(side) => pen.put_names(s.group(side, e.operation), e.n),
+        Insert::Column(side, column) => pen.put_column(s.group(side, e.operation), column),
+        Insert::Both => pen.put_both(
+            s.group(Side::Abstract, e.operation),
+            s.group(Side::Concrete, e.operation),
+        ),
         Insert::Where(_) => (),
         Insert::Nothing => (),
     }
@@ -118,10 +114,10 @@ fn rest_of_line(words: &[u8], k: usize) -> usize {
 }
 
 // How many bytes behind a dollar sign are not written.
-fn width_of(insert: Insert, words: &[u8], k: usize, f: &Filling) -> usize {
+fn width_of(insert: Insert, words: &[u8], k: usize, operation: usize, s: &Source<'_>) -> usize {
     match insert {
         Insert::Where(side) => {
-            if group_of(side, f).count == 0 {
+            if s.group(side, operation).count == 0 {
                 return rest_of_line(words, k);
             }
             2
@@ -134,9 +130,15 @@ fn width_of(insert: Insert, words: &[u8], k: usize, f: &Filling) -> usize {
     }
 }
 
-// A phrase with what is filled in.
-pub fn put_phrase(f: &Filling, s: &Source<'_>, out: &mut Sheet) {
-    let words = phrase(f.phrase);
+// What is filled in at a byte, where it is a dollar sign with its letters.
+fn insert_at(words: &[u8], k: usize) -> Option<Insert> {
+    let letters = words.get(k..)?.strip_prefix(PLACE)?;
+    insert_of(letters)
+}
+
+// The phrase of an item with what is filled in.
+pub fn put_phrase(e: &Item, s: &Source<'_>, out: &mut Sheet) {
+    let words = phrase(e.phrase);
     let mut pen = Pen {
         source: *s,
         sheet: out,
@@ -145,16 +147,9 @@ pub fn put_phrase(f: &Filling, s: &Source<'_>, out: &mut Sheet) {
     for (k, b) in words.iter().enumerate() {
         if 0 < skip {
             skip -= 1;
-        } else if *b == PLACE {
-            let insert = insert_of(part(
-                words,
-                Span {
-                    from: k + 1,
-                    to: words.len(),
-                },
-            ));
-            put_insert(insert, margin(words, k), f, &mut pen);
-            skip = width_of(insert, words, k, f);
+        } else if let Some(insert) = insert_at(words, k) {
+            put_insert(insert, margin(words, k), e, &mut pen);
+            skip = width_of(insert, words, k, e.operation, s);
         } else {
             pen.sheet.put(*b, margin(words, k));
         }

@@ -3,7 +3,8 @@ ghost use Rattle.std.specs.Prelude.{◌≡◌, Some, None};
 
 use crate::groups::has_bit;
 use crate::words::SPELLINGS;
-use lexical::endings;
+use lexical::Ending;
+use lines::byte_of;
 use sheets::Sheet;
 use text_places::{Span, before, line_start, part};
 
@@ -12,7 +13,7 @@ const SPACE: u8 = b' ';
 const NEWLINE: u8 = b'\n';
 
 // How many codes of symbols there are.
-// Form 1: the constants from here on are a count, widths, and the endings' numbers of `lexical`, which stand on a page as numbers.
+// Form 1: the constants from here on are a count and widths.
 const SYMBOLS: usize = 64;
 
 // A line of the text is indented so far, shown so long, at most so much of it before the byte, and at most so many bytes are underlined.
@@ -24,25 +25,17 @@ const BEFORE: usize = 60;
 
 const UNDERLINE: usize = 20;
 
-const PRIME: usize = endings::PRIME as usize;
+// The endings of names. On a page an ending is its place among them.
+pub const ENDINGS: [Ending; 4] = [Ending::Plain, Ending::Prime, Ending::Query, Ending::Shriek];
 
-const QUERY: usize = endings::QUERY as usize;
-
-const SHRIEK: usize = endings::SHRIEK as usize;
-
-// The byte of an ending, by its number.
+// The byte of an ending, by its number on a page.
 pub fn ending_byte(ending: usize) -> Option<u8>
     ensures prime { ending ≡ 1 → result ≡ Some 39 }
     ensures query { ending ≡ 2 → result ≡ Some 63 }
     ensures shriek { ending ≡ 3 → result ≡ Some 33 }
     ensures none { ending ≡ 0 → result ≡ None }
 {
-    match ending {
-        PRIME => Some(b'\''),
-        QUERY => Some(b'?'),
-        SHRIEK => Some(b'!'),
-        _ => None,
-    }
+    byte_of(*ENDINGS.get(ending)?)
 }
 
 // The n-th of some words, with a space behind each.

@@ -3,8 +3,8 @@
 // $v the names of those variables of a group that the number n has the bits of; $? the rest of the line only where the group has variables; $s the symbols that n has the bits of;
 // $u the text's line at the byte n, with m bytes underlined; $e an ending, given as the operation; $. no newline behind the phrase.
 // The groups: a abstract, c concrete, i inputs, q outputs, A and C the primed ones.
-// Form 1: the constants count the phrases in the order of the words. An enum of them would ask more of who writes a page, whose items take any number, and a rule's phrase would need a `match`
-// over its number, where it stands now as many phrases behind `RULE_1` as the rule behind rule 1.
+// Form 1: the constants count the phrases in the order of the words. An item of a page is public: `phrase: usize` takes any number, which an enum would not, and a rule's phrase would need a
+// `match` over the rule's number, where it stands now as many phrases behind `RULE_1` as the rule behind rule 1.
 
 pub const REFUTED_INITIALISATION: usize = 0;
 

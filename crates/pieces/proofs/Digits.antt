@@ -1,17 +1,16 @@
--- A number in decimal: its last digit stands behind the digits of its tenth part, and a number below 10 ^ d has at most d digits.
-use mathlib.Core.Path.{◌≡◌, refl, sym, ap, ◌∙◌, subst}
-use mathlib.Core.Bool.{Bool, true, false, cond}
+-- A number in decimal: its last digit stands behind the digits of its tenth part, a number below 10 ^ d has at most d digits, and std prints the same.
+use mathlib.Core.Path.{◌≡◌, refl, sym, ap, ◌∙◌}
+use mathlib.Core.Bool.{Bool, true, false}
 use mathlib.Core.List.{List, [], ◌∷◌, ◌++◌, append_assoc}
-use Prim.Native.Nat.{ℕ, zero, suc, ◌+◌, ◌-◌, ◌/◌, ◌%◌, ◌^◌, ◌≤◌, ◌<◌}
+use Prim.Native.Nat.{ℕ, zero, suc, ◌+◌, ◌/◌, ◌%◌, ◌^◌, ◌≤◌, ◌<◌}
 use native.Mathlib.Omega.{arith}
 use native.Mathlib.Nat.{pow-suc}
 use lib.Dec.{ltb}
 use borrow.Author.Tests.{ltb-true, ltb-false, lt-ltb, le-ltb}
 use lib.ListN.{length, length-append}
 use Rattle.obligations.specs.Report.{decimal_before, decimal}
-use Rattle.pieces.specs.PiecePromises.{Writes, Adds}
-use Rattle.pieces.proofs.WrittenPieces.{nothing_written, both-written}
-use Rattle.pieces.specs.declared.Writer.{Writer}
+use Rattle.std.specs.Fmt as Fmt
+use Rattle.std.proofs.lemmas.Fmt.{decimal_by_steps}
 
 before-append : (f n : ℕ) (w : List ℕ) → decimal_before f n w ≡ decimal_before f n [] ++ w
 unfolding decimal_before
@@ -70,39 +69,8 @@ few-digits (suc (suc d)) n h k = on (ltb n 10) refl (few-digits (suc d) (n / 10)
 pub decimal-length : (n : ℕ) → n < 2 ^ 64 → length (decimal n) ≤ 20
 decimal-length n h = few-digits 20 n (omega arith) (omega arith)
 
--- a tenth of it has a digit less
-pub tenth : (d n : ℕ) → n < 10 ^ d → 10 ≤ n → (n / 10 < 10 ^ (d - 1)) × (1 ≤ d - 1)
-tenth zero n h k = absurd (omega arith)
-tenth (suc zero) n h k = absurd (omega arith)
-tenth (suc (suc d)) n h k =
-    let p = pow-suc 10 (suc d) in
-    let e : suc d ≡ suc (suc d) - 1 = omega arith in
-    (subst (λ (i : ℕ). n / 10 < 10 ^ i) e (omega arith), omega arith)
-
--- what stands in front of the last digit
-abbrev pub front : ℕ → List ℕ
-front n = cond (ltb n 10) [] (decimal (n / 10))
-
-pub no_front : (n : ℕ) {v w : Writer} → n < 10 → w ≡ v → Adds (front n) v w
-no_front n {v} {w} h e =
-    subst (λ (t : Bool). Adds (cond t [] (decimal (n / 10))) v w) (sym (lt-ltb n 10 h)) (subst (λ (k : Writer). Adds [] v k) (sym e) (nothing_written v.at v.out.now))
-
-pub front-written : (n : ℕ) {at : ℕ} {a : List ℕ} {w u : Writer} → 10 ≤ n → w ≡ u → Writes at (decimal (n / 10)) a u.out.now u.at → Writes at (front n) a w.out.now w.at
-front-written n {at} {a} {w} h e p =
-    subst (λ (t : Bool). Writes at (cond t [] (decimal (n / 10))) a w.out.now w.at) (sym (le-ltb n 10 h))
-    (subst (λ (k : Writer). Writes at (decimal (n / 10)) a k.out.now k.at) (sym e) p)
-
--- it is a digit shorter
-pub front-length : (d n : ℕ) → n < 10 ^ d → 1 ≤ d → length (front n) + 1 ≤ d
-front-length d n h k = on (ltb n 10) refl
-  where
-    on : (t : Bool) → ltb n 10 ≡ t → length (cond t [] (decimal (n / 10))) + 1 ≤ d
-    on true e = omega arith
-    on false e = let t = tenth d n h (ltb-false n 10 e) in let l = few-digits (d - 1) (n / 10) t.0 t.1 in omega arith
-
-pub digits-written : (n : ℕ) {at m r : ℕ} {a b c : List ℕ} → Writes at (front n) a b m → Writes m ((n % 10 + 48) ∷ []) b c r → Writes at (decimal n) a c r
-digits-written n {at} {m} {r} {a} {b} {c} v w = subst (λ (p : List ℕ). Writes at p a c r) (is (ltb n 10) refl) (both-written v w)
-  where
-    is : (t : Bool) → ltb n 10 ≡ t → cond t [] (decimal (n / 10)) ++ ((n % 10 + 48) ∷ []) ≡ decimal n
-    is true e = let l = ltb-true n 10 e in let s : n % 10 ≡ n = omega arith in ap (λ (k : ℕ). (k + 48) ∷ []) s ∙ sym (one-digit n l)
-    is false e = sym (last-digit n (ltb-false n 10 e))
+-- what std prints of it
+pub decimal-printed : (n : ℕ) → n < 2 ^ 64 → Fmt.decimal n ≡ decimal n
+decimal-printed =
+    decimal_by_steps (λ (m : ℕ) (w : List ℕ). w ≡ decimal m) (λ m l. let digit : 48 + m ≡ m + 48 = omega arith in ap (λ (k : ℕ). k ∷ []) digit ∙ sym (one-digit m l))
+    (λ m w l h. let digit : 48 + m % 10 ≡ m % 10 + 48 = omega arith in (λ i. h i ++ (digit i ∷ [])) ∙ sym (last-digit m l))

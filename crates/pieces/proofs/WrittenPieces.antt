@@ -5,22 +5,17 @@ use mathlib.Core.List.{List, [], ◌∷◌, ◌++◌}
 use Prim.Native.Nat.{ℕ, ◌+◌, ◌-◌, ◌≤◌, ◌<◌}
 use native.Mathlib.Omega.{arith}
 use native.Mathlib.Nat.{add-zero}
-use native.Mathlib.Numerals.{add-one}
 use lib.Dec.{leb}
 use Rattle.std.specs.Prelude.{min}
 use borrow.Author.Tests.{leb-true, leb-false}
-use lib.ListN.{length, take, drop, set, length-set, length-take, length-drop, length-append, take-append-drop}
-use lib.Seq.{take_all, drop-drop, take-take, set_split}
+use lib.ListN.{length, take, drop, set, length-set, length-take, length-drop, length-append}
+use lib.Seq.{take_all, drop-drop, take-take}
 use borrow.Rule.Slice.PartMut.{put_mid}
 use Rattle.lexical.specs.Symbols.{run}
 use Rattle.lexical.proofs.WordLaws.{run_take, run_length}
 use Rattle.table_nodes.specs.TableWalkPromises.{patch}
-use Rattle.table_nodes.proofs.Pieces.{patch-behind, patch-length}
+use Rattle.table_nodes.proofs.Pieces.{patch-none, patch-set, patch-behind, patch-length}
 use Rattle.pieces.specs.PiecePromises.{Writes, letters_at}
-
-patch-none : (at : ℕ) (a : List ℕ) → patch at [] a ≡ a
-unfolding patch
-patch-none at a = ap (λ (n : ℕ). take at a ++ drop n a) (add-zero at) ∙ take-append-drop at a
 
 -- no byte
 pub nothing_written : (at : ℕ) (a : List ℕ) → Writes at [] a a at
@@ -28,12 +23,7 @@ nothing_written at a = record { written = sym (patch-none at a); end = sym (add-
 
 -- one byte
 pub byte-written : (a : List ℕ) (at b : ℕ) → at < length a → Writes at (b ∷ []) a (set a at b) (at + 1)
-unfolding patch
-byte-written a at b h = record {
-  written = set_split a at b h ∙ ap (λ (n : ℕ). take at a ++ b ∷ drop n a) (sym (add-one at));
-  end = refl;
-  long = length-set a at b;
-}
+byte-written a at b h = record { written = patch-set at b a h; end = refl; long = length-set a at b }
 
 -- a piece that ends behind the bytes changes how many there are
 too_long : (at : ℕ) (s a : List ℕ) → 0 < length s → length a < at + length s → length (patch at s a) ≡ length a → ⊥

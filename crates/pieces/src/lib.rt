@@ -1,21 +1,18 @@
 // Pieces of text in lent bytes, one behind the other.
+// Form 5: that a writer goes on in the same bytes stands beside what is written, here and in the crates above: it proves alone at each call, and the laws, which join what is written, would
+// take a record of both apart and make it again.
 #![tactic(auto)]
 
 ghost use Rattle.std.specs.Prelude.{◌≡◌, [], ◌∷◌, ◌+◌, ◌^◌, ◌≤◌, ◌<◌, length, take, drop};
 ghost use Rattle.obligations.specs.Report.{decimal, signed_decimal};
 ghost use Rattle.pieces.specs.PiecePromises.{Adds, letters_at};
 
+use itoa::{Buffer, Integer};
 use lexical::bounds::NAME_LETTERS;
 use lexical::classes::run_from;
 
 // The greatest length of a number in decimal.
 pub const DIGITS: usize = 20;
-
-const TEN: u64 = 10;
-
-const ZERO: u8 = b'0';
-
-const MINUS: u8 = b'-';
 
 // Lent bytes, and the place behind what stands in them: each method writes from there on and touches no other byte.
 #[derive(Drop)]
@@ -58,16 +55,14 @@ impl<'a> Writer<'a> {
         }
     }
 
-    // The number n, of at most d digits: std prints into what may fail.
-    fn put_digits(&mut self, n: u64, d: usize)
-        requires { (n < 10 ^ d) × (1 ≤ d) × (self.old.at + d ≤ length self.old.out.now) }
+    // A number as std prints it.
+    fn put_number<I: Integer>(&mut self, n: I)
+        requires { self.old.at + length (I.text n) ≤ length self.old.out.now }
         ensures same_bytes { self.new.out.ghost_name ≡ self.old.out.ghost_name }
-        ensures written { Adds (decimal n) self.old self.new }
+        ensures written { Adds (I.text n) self.old self.new }
     {
-        if n >= TEN {
-            self.put_digits(n / TEN, d - 1);
-        }
-        self.put((n % TEN) as u8 + ZERO);
+        let mut digits = Buffer::new();
+        self.put_all(digits.format(n).as_bytes());
     }
 
     // A number in decimal.
@@ -76,18 +71,16 @@ impl<'a> Writer<'a> {
         ensures same_bytes { self.new.out.ghost_name ≡ self.old.out.ghost_name }
         ensures written { Adds (decimal n) self.old self.new }
     {
-        self.put_digits(n, DIGITS);
+        self.put_number(n);
     }
 
     // A number that may be below 0.
+    // Form 2: what it shares with `put_decimal` is `put_number`; each promises the definitions' word for its type, with room of its own.
     pub fn put_signed(&mut self, x: i64)
         requires { self.old.at + 21 ≤ length self.old.out.now }
         ensures same_bytes { self.new.out.ghost_name ≡ self.old.out.ghost_name }
         ensures written { Adds (signed_decimal x) self.old self.new }
     {
-        if x < 0 {
-            self.put(MINUS);
-        }
-        self.put_decimal(x.unsigned_abs());
+        self.put_number(x);
     }
 }

@@ -84,9 +84,10 @@ both {u = u} low h v =
       end = v.end;
     }
 
-pub searched_by : {rows a b c : List ℕ} {u first n second at k : ℕ} {p q r p' q' r' : Asking} → p ≡ p' → q ≡ q' → r ≡ r' → 80 ≤ at → Headed u first n second a b
-    → Laying rows u p q r at b c k → Searched rows u first n second p' q' r' at a c k
-searched_by e f g low h v = both low h (laying_by e f g v)
+pub searched_by : {rows a b c : List ℕ} {u first n second at on k : ℕ} {p q r p' q' r' : Asking} → p ≡ p' → q ≡ q' → r ≡ r' → on ≡ at → 80 ≤ at
+    → Headed u first n second a b → Laying rows u p q r on b c k → Searched rows u first n second p' q' r' at a c k
+searched_by {rows} {b = b} {c = c} {u = u} {k = k} {p' = p'} {q' = q'} {r' = r'} e f g s low h v =
+    both low h (subst (λ (x : ℕ). Laying rows u p' q' r' x b c k) s (laying_by e f g v))
 
 -- ---- what is kept
 

@@ -4,6 +4,7 @@ use mathlib.Core.Path.{◌≡◌, refl, sym, ap, ap₂, subst, ◌∙◌}
 use mathlib.Core.Bool.{Bool, cond}
 use mathlib.Core.List.{List, [], ◌∷◌, ◌++◌}
 use mathlib.Core.Option.{Option, none, some}
+use mathlib.Core.Logic.{inl, inr}
 use Prim.Native.Nat.{ℕ, suc, ◌+◌, ◌*◌, ◌<◌, ◌≤◌}
 use native.Mathlib.Nat.{zero-lt-suc}
 use native.Mathlib.Omega.{arith}
@@ -11,28 +12,37 @@ use lib.Arith.{digits_lt, digits_div, digits_mod}
 use lib.ListN.{length, get_or}
 use borrow.Author.Tests.{lt-ltb, le-ltb}
 use Rattle.lexical.specs.Lists.{upward}
-use Rattle.lexical.specs.Symbols.{no_ending, prime, Ending}
+use Rattle.lexical.specs.Symbols.{no_ending, prime}
 use Rattle.static_rules.specs.FormTree.{Given, Declaration, declarations, State, Dossier}
 use Rattle.static_rules.specs.Carriers.{Carrier, Variable, count_of, carrier_of}
 use Rattle.static_rules.specs.Limits.{binding_count}
 use Rattle.static_rules.specs.Scope.{variables, unprimed, primed}
 use Rattle.meaning.specs.Meaning.{Binding}
-use Rattle.meaning.specs.Bindings.{bindings}
+use Rattle.meaning.specs.Bindings.{bindings, Among}
 use Rattle.meaning.specs.Operations.{after}
 use Rattle.slot_carriers.specs.CarriersValuesByNumber.{value_at, binding_at}
 use Rattle.slot_carriers.proofs.CarriersValues.{count-some}
 use Rattle.slot_carriers.proofs.CarriersBindings.{bindings-some, bindings-at, digit-small, again_rest}
-use Rattle.slot_carriers.specs.Cells.{CellOf}
+use Rattle.slot_carriers.specs.Cells.{CellOf, count_in}
 use Rattle.slot_carriers.specs.CellGroups.{CellsOf}
 use Rattle.truths.specs.TablePlacesResolvedTable.{Slots, slotted}
 use Rattle.points.specs.Points.{Point, primed_slot, span, number_of, Tame}
 use Rattle.points.specs.PointTests.{binding_by, side_slot, side_of}
+use Rattle.points.proofs.PointNumbers.{Counts}
+use Rattle.static_rules.proofs.FoundCarriers.{variables-one, variables-skip}
 
 -- a group's slots have as many bindings as its variables
 pub span-count : (cells : List ℕ) (base : ℕ) (vs : List Variable) → CellsOf cells base vs → span cells (upward base (length vs)) ≡ binding_count vs
 unfolding CellsOf span upward binding_count
 span-count cells base [] h = refl
 span-count cells base (v ∷ vs) h = ap₂ ◌*◌ h.0.count (span-count cells (suc base) vs h.1)
+
+-- and their variables have values
+pub group-counts : (cells : List ℕ) (base : ℕ) (vs : List Variable) → CellsOf cells base vs → Counts cells (upward base (length vs))
+unfolding upward CellsOf Among
+group-counts cells base [] h s m = absurd m
+group-counts cells base (v ∷ vs) h s (inl e) = subst (λ (x : ℕ). 0 < count_in cells x) (sym e) (subst (λ (x : ℕ). 0 < x) (sym h.0.count) (count-some v.carrier))
+group-counts cells base (v ∷ vs) h s (inr m) = group-counts cells (suc base) vs h.1 s m
 
 -- a point has a value of the carrier in each slot that stands for one
 pub value_low : (cells : List ℕ) (s : ℕ) (c : Carrier) (δ : Point) → CellOf cells s c → Tame cells δ → δ s < count_of c
@@ -129,15 +139,6 @@ pub data Primes : List Variable → List Variable → Type 0 where
   more_primes : {v : Variable} {vs us : List Variable} → Primes vs us
       → Primes (v ∷ vs) (record { called = record { letters = v.called.letters; ending = prime }; carrier = v.carrier } ∷ us)
 
-one-variable : (gs : List Given) (e : Ending) (x : Declaration) (ds : List Declaration) (c : Carrier) → carrier_of gs x.type ≡ some c
-    → variables gs e (x ∷ ds) ≡ record { called = record { letters = x.declared; ending = e }; carrier = c } ∷ variables gs e ds
-unfolding variables
-one-variable gs e x ds c h = rw (variables, h)
-
-no_variable : (gs : List Given) (e : Ending) (x : Declaration) (ds : List Declaration) → carrier_of gs x.type ≡ none → variables gs e (x ∷ ds) ≡ variables gs e ds
-unfolding variables
-no_variable gs e x ds h = rw (variables, h)
-
 -- a type at fault has no variable in either list
 declared-primes : (gs : List Given) (ds : List Declaration) → Primes (variables gs no_ending ds) (variables gs prime ds)
 unfolding variables
@@ -147,12 +148,12 @@ declared-primes gs (x ∷ ds) = go (carrier_of gs x.type) refl (declared-primes 
     go : (o : Option Carrier) → carrier_of gs x.type ≡ o → Primes (variables gs no_ending ds) (variables gs prime ds)
         → Primes (variables gs no_ending (x ∷ ds)) (variables gs prime (x ∷ ds))
     go none e r =
-        subst (λ (v : List Variable). Primes v (variables gs prime (x ∷ ds))) (sym (no_variable gs no_ending x ds e))
-        (subst (λ (v : List Variable). Primes (variables gs no_ending ds) v) (sym (no_variable gs prime x ds e)) r)
+        subst (λ (v : List Variable). Primes v (variables gs prime (x ∷ ds))) (sym (variables-skip gs no_ending x ds e))
+        (subst (λ (v : List Variable). Primes (variables gs no_ending ds) v) (sym (variables-skip gs prime x ds e)) r)
     go (some c) e r =
-        subst (λ (v : List Variable). Primes v (variables gs prime (x ∷ ds))) (sym (one-variable gs no_ending x ds c e))
+        subst (λ (v : List Variable). Primes v (variables gs prime (x ∷ ds))) (sym (variables-one gs no_ending x ds c e))
         (subst (λ (v : List Variable). Primes (record { called = record { letters = x.declared; ending = no_ending }; carrier = c } ∷ variables gs no_ending ds) v)
-        (sym (one-variable gs prime x ds c e)) (more_primes r))
+        (sym (variables-one gs prime x ds c e)) (more_primes r))
 
 pub state-primes : (d : Dossier) (s : State) → Primes (unprimed d s) (primed d s)
 state-primes d s = declared-primes d.givens (declarations s)

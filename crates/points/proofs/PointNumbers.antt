@@ -12,8 +12,9 @@ use lib.Arith.{digits_lt, digits_div, digits_mod, mod-mul, lt-one}
 use lib.Dec.{eqb, ltb}
 use Rattle.lexical.specs.Lists.{any, upward}
 use Rattle.meaning.specs.Bindings.{Among}
+use Rattle.meaning.proofs.UpwardNumbers.{among-upward}
 use Rattle.slot_carriers.specs.Cells.{count_in}
-use Rattle.points.specs.Points.{Point, moved, span, number_of, placed, Tame, Beside, Apart, Distinct, more_slots}
+use Rattle.points.specs.Points.{Point, moved, span, number_of, placed, Tame, Beside, Apart, Distinct, more_slots, no_slots}
 use Rattle.points.specs.Searches.{Sought}
 
 -- the variables of all these slots have values
@@ -24,9 +25,18 @@ pub counts-rest : (cells : List ℕ) (s : ℕ) (ss : List ℕ) → Counts cells 
 unfolding Among
 counts-rest cells s ss c t m = c t (inr m)
 
-counts-first : (cells : List ℕ) (s : ℕ) (ss : List ℕ) → Counts cells (s ∷ ss) → 0 < count_in cells s
+pub counts-first : (cells : List ℕ) (s : ℕ) (ss : List ℕ) → Counts cells (s ∷ ss) → 0 < count_in cells s
 unfolding Among
 counts-first cells s ss c = c s (inl refl)
+
+pub distinct-upward : (k n : ℕ) → Distinct (upward k n)
+unfolding upward
+distinct-upward k zero = no_slots
+distinct-upward k (suc n) = more_slots (λ m. let h = (among-upward (suc k) n k m).0 in omega arith) (distinct-upward (suc k) n)
+
+-- points that differ from others that differ there
+pub beside-twice : {ss : List ℕ} {δ ε φ : Point} → Beside ss δ ε → Beside ss ε φ → Beside ss δ φ
+beside-twice u v = record { same = λ s m. v.same s m ∙ u.same s m }
 
 -- ---- one slot is moved
 
@@ -52,7 +62,7 @@ moved_same δ s x t h = go (ℕ_discrete t s)
     go (yes e) = ap (moved δ s x) e ∙ moved_here δ s x ∙ h ∙ ap δ (sym e)
     go (no n) = moved_other δ s x t n
 
-tame-moved : (cells : List ℕ) (δ : Point) (s x : ℕ) → Tame cells δ → x < count_in cells s → Tame cells (moved δ s x)
+pub tame-moved : (cells : List ℕ) (δ : Point) (s x : ℕ) → Tame cells δ → x < count_in cells s → Tame cells (moved δ s x)
 tame-moved cells δ s x τ h = record { low = λ t c. go t c (ℕ_discrete t s) }
   where
     go : (t : ℕ) → 0 < count_in cells t → Dec (t ≡ s) → moved δ s x t < count_in cells t

@@ -6,7 +6,6 @@ use Prim.Native.Nat.{ℕ, ◌+◌, ◌*◌, ◌<◌, ◌≤◌}
 use native.Mathlib.Nat.{div-add-mod', mul-le-mul}
 use native.Mathlib.Omega.{arith}
 use lib.Arith.{digits_div, digits_mod}
-use lib.ListN.{length}
 use borrow.Author.Rules.{rules}
 use Rattle.std.specs.Prelude.{Option, Some, None, IfSome}
 use Rattle.form.specs.Tree.{Dossier}
@@ -17,7 +16,8 @@ use Rattle.plans.specs.declared.Part.{Part}
 use Rattle.step_searches.specs.ReadingsReadings.{ReadingOf}
 use Rattle.step_searches.specs.PartTestsPartsByNumber.{abstract_at, initial, initial_match}
 use Rattle.step_searches.specs.StepPromises.{OpeningSearches, Opened, InitialStateFound, InitialMatchFound}
-use Rattle.reached_pairs.specs.Reached.{layer_of, layer_in}
+use Rattle.reached_pairs.specs.declared.marks.Mark.{Mark}
+use Rattle.reached_pairs.specs.Reached.{first_mark, layer_of, layer_in}
 use Rattle.reached_pairs.specs.ReachedByNumber.{many_abstract, many_concrete, many_pairs, abstract_of, concrete_of, MayBegin, Begins, Grown, Hits, Marked, Cleared}
 use Rattle.reached_pairs.specs.PairPromises.{PairsAre, open_test, BegunWith, MatchesBegun, MatchesBeginning, StatesBegun, StatesBeginning, Begun, Layers, ReachAnswers}
 use Rattle.reached_pairs.proofs.PairNumbers.{high_digit, low_digit, pair_inside}
@@ -74,18 +74,16 @@ module _ (d : Dossier) (c : ℕ) where
     matched = ap (λ (k : ℕ). initial_match d k (abstract_at d (abstract_of d y))) w.concrete_is ∙ w.matched;
   }
 
-module _ {table plan cells : List ℕ} {p : Part} {c m : ℕ} where
-  pub open-start : {x : ℕ} (a : List ℕ) → InitialMatchFound table plan cells p c 0 x → MatchesBeginning table plan cells p c m x a a
+module _ {table plan cells : List ℕ} {p : Part} {c : ℕ} {m : Mark} where
+  pub open-start : {x : ℕ} (a : List Mark) → InitialMatchFound table plan cells p c 0 x → MatchesBeginning table plan cells p c m x a a
   open-start {x = x} a f = record {
-    long = refl;
     found = λ d S. (f.sought d S).found;
     each = λ d S. scan-start (open_test d c) (λ (x z : ℕ). z ≡ x * p.nc + c) p.nm x a (f.sought d S);
   }
 
-  pub open_next : {x t : ℕ} {a b e : List ℕ} → MatchesBeginning table plan cells p c m x a b → c < p.nc → x < p.nm → Marked (x * p.nc + c) m b e
+  pub open_next : {x t : ℕ} {a b e : List Mark} → MatchesBeginning table plan cells p c m x a b → c < p.nc → x < p.nm → Marked (x * p.nc + c) m b e
       → InitialMatchFound table plan cells p c (x + 1) t → MatchesBeginning table plan cells p c m t a e
   open_next {x = x} {t = t} w l h g f = record {
-    long = g.long ∙ w.long;
     found = λ d S. (f.sought d S).found;
     each = λ d S. scan-next (open_test d c) (λ (x z : ℕ). z ≡ x * p.nc + c) p.nm x t (w.each d S)
         (grown_wider (λ (z : ℕ). z ≡ x * p.nc + c) g (λ y v z k. (k.1, subst (BegunWith d c) (sym k.0) (here d S))) (λ y k. k))
@@ -97,9 +95,8 @@ module _ {table plan cells : List ℕ} {p : Part} {c m : ℕ} where
           subst (λ (n : ℕ). BegunWith d c (x * n + c)) (sym (open-c S))
           (begun-here d c x (omega (arith, open-c S, l)) (omega (arith, open-a S, h)) (w.found d S h))
 
-  pub open_done : {x : ℕ} {a b : List ℕ} → MatchesBeginning table plan cells p c m x a b → p.nm ≤ x → MatchesBegun table plan cells p c m a b
+  pub open_done : {x : ℕ} {a b : List Mark} → MatchesBeginning table plan cells p c m x a b → p.nm ≤ x → MatchesBegun table plan cells p c m a b
   open_done {x = x} w h = record {
-    long = w.long;
     each = λ d S. grown_wider (BegunWith d c) (scan-done (open_test d c) (λ (x z : ℕ). z ≡ x * p.nc + c) p.nm x (w.each d S) h) (λ y v z k. k)
         (begun-found d c p.nm p.nc (open-a S) (open-c S));
   }
@@ -107,26 +104,23 @@ module _ {table plan cells : List ℕ} {p : Part} {c m : ℕ} where
 -- ---- concrete initial states
 
 module _ {table plan cells : List ℕ} {p : Part} where
-  pub states-start : {c : ℕ} (a : List ℕ) → InitialStateFound table plan cells p 0 c → StatesBeginning table plan cells p c a a
+  pub states-start : {c : ℕ} (a : List Mark) → InitialStateFound table plan cells p 0 c → StatesBeginning table plan cells p c a a
   states-start {c = c} a f = record {
-    long = refl;
     found = λ d S. (f.sought d S).found;
     each = λ d S. scan-start (initial d) (BegunWith d) p.nc c a (f.sought d S);
   }
 
-  pub states-next : {c t : ℕ} {a b e : List ℕ} → StatesBeginning table plan cells p c a b → c < p.nc → MatchesBegun table plan cells p c 1 b e
+  pub states-next : {c t : ℕ} {a b e : List Mark} → StatesBeginning table plan cells p c a b → c < p.nc → MatchesBegun table plan cells p c first_mark b e
       → InitialStateFound table plan cells p (c + 1) t → StatesBeginning table plan cells p t a e
   states-next {c = c} {t = t} w h g f = record {
-    long = g.long ∙ w.long;
     found = λ d S. (f.sought d S).found;
     each = λ d S. scan-next (initial d) (BegunWith d) p.nc c t (w.each d S)
         (grown_wider (BegunWith d c) (g.each d S) (λ y v z k. record { layer_is = ap layer_of k.0; begins = with-begins d c y (w.found d S h) k.1 }) (λ y k. k))
         (f.sought d S);
   }
 
-  pub states-done : {c : ℕ} {a b : List ℕ} → StatesBeginning table plan cells p c a b → p.nc ≤ c → StatesBegun table plan cells p a b
+  pub states-done : {c : ℕ} {a b : List Mark} → StatesBeginning table plan cells p c a b → p.nc ≤ c → StatesBegun table plan cells p a b
   states-done {c = c} w h = record {
-    long = w.long;
     each = λ d S. grown_wider (Begins d) (scan-done (initial d) (BegunWith d) p.nc c (w.each d S) h) (λ y v z k. k) (λ y k. found d S y k);
   }
     where
@@ -144,31 +138,29 @@ some_none : {n : ℕ} → Some n ≡ None → ⊥
 some_none e = search (e, rules)
 
 module _ {table rows firsts groups : List ℕ} where
-  pub begun-none : (a : List ℕ) → Begun table rows firsts groups a a None
-  begun-none a = record { long = refl; none = λ e. refl; pairs = tt; each = tt }
+  pub begun-none : (a : List Mark) → Begun table rows firsts groups a a None
+  begun-none a = record { none = λ e. refl; pairs = tt; each = tt }
 
-  pub begun_all : {plan cells : List ℕ} {p : Part} {a b : List ℕ} → Opened table rows firsts groups plan cells p → p.nm * p.nc ≤ 262144
+  pub begun_all : {plan cells : List ℕ} {p : Part} {a b : List Mark} → Opened table rows firsts groups plan cells p → p.nm * p.nc ≤ 262144
       → StatesBegun table plan cells p a b → Begun table rows firsts groups a b (Some (p.nm * p.nc))
   begun_all f l w = record {
-    long = w.long;
     none = λ e. absurd (some_none e);
     pairs = record { room = l; are = λ d R. open-pairs (f.searches d R) };
     each = λ d R. w.each d (f.searches d R);
   }
 
-  pub begun-pairs : {r : Option ℕ} {n : ℕ} {b c : List ℕ} → Begun table rows firsts groups b c r → r ≡ Some n → PairsAre table rows firsts groups n
+  pub begun-pairs : {r : Option ℕ} {n : ℕ} {b c : List Mark} → Begun table rows firsts groups b c r → r ≡ Some n → PairsAre table rows firsts groups n
   begun-pairs w e = subst (λ (o : Option ℕ). IfSome o (PairsAre table rows firsts groups)) e w.pairs
 
-  pub begun-layers : {operations n : ℕ} {r : Option ℕ} {a b c : List ℕ} → length a ≡ 262144 → Cleared a b → Begun table rows firsts groups b c r → r ≡ Some n
+  pub begun-layers : {operations n : ℕ} {r : Option ℕ} {a b c : List Mark} → Cleared a b → Begun table rows firsts groups b c r → r ≡ Some n
       → Layers table rows firsts groups operations 1 c
-  begun-layers {n = n} {b = b} {c = c} l k w e = record {
-    long = w.long ∙ k.long ∙ l;
+  begun-layers {n = n} {b = b} {c = c} k w e = record {
     each = λ d R h. layered-first d b c k.each
         (subst (λ (o : Option ℕ). IfSome o (λ (n : ℕ). (d : Dossier) → ReadingOf table rows firsts groups d → Grown (MayBegin d) (Begins d) b c)) e w.each d R);
   }
 
   -- without a mark nothing is said
-  pub begun-blank : {operations : ℕ} {r : Option ℕ} {a b c : List ℕ} → Cleared a b → Begun table rows firsts groups b c r → r ≡ None → ReachAnswers table rows firsts groups operations c false
+  pub begun-blank : {operations : ℕ} {r : Option ℕ} {a b c : List Mark} → Cleared a b → Begun table rows firsts groups b c r → r ≡ None → ReachAnswers table rows firsts groups operations c false
   begun-blank {b = b} {c = c} k w e = record {
     each = λ d R h. record {
       reached = λ x z n lx lz m. absurd (omega (arith, m, blank (x * many_concrete d + z)));
@@ -178,4 +170,4 @@ module _ {table rows firsts groups : List ℕ} where
   }
     where
       blank : (y : ℕ) → layer_in c y ≡ 0
-      blank y = ap (λ (l : List ℕ). layer_in l y) (w.none e) ∙ ap layer_of (k.each y)
+      blank y = ap (λ (l : List Mark). layer_in l y) (w.none e) ∙ ap layer_of (k.each y)

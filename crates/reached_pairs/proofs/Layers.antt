@@ -2,29 +2,30 @@
 use mathlib.Core.Path.{◌≡◌, refl, ◌∙◌}
 use mathlib.Core.Bool.{Bool, true}
 use mathlib.Core.List.{List, [], ◌∷◌}
-use Prim.Native.Nat.{ℕ, zero, suc, ◌+◌, ◌/◌, ◌%◌, ◌<◌, ◌≤◌}
+use Prim.Native.Nat.{ℕ, zero, suc, ◌+◌, ◌<◌, ◌≤◌}
 use native.Mathlib.Omega.{arith}
 use native.Mathlib.Decide.{dec_lt}
 use lib.ListN.{length, length-append}
 use Rattle.form.specs.Tree.{Dossier}
 use Rattle.obligations.specs.Machines.{Machine, abstract_side}
 use Rattle.step_searches.specs.PartTestsPartsByNumber.{abstract_at, concrete_at}
-use Rattle.reached_pairs.specs.Reached.{Reached, pair_before, entry_of, mark_in, layer_in, entry_at, spelled, PairsReached}
+use Rattle.reached_pairs.specs.declared.marks.Mark.{Mark}
+use Rattle.reached_pairs.specs.Reached.{Reached, mark_in, layer_in, entry_at, spelled, PairsReached}
 use Rattle.reached_pairs.specs.ReachedByNumber.{abstract_of, concrete_of, Goes, Chain, begun, gone, Layered}
 use Rattle.reached_pairs.proofs.ReachedPairs.{pair_of, begins-reached, goes-reached, reached-chain, at-digits}
 
 -- the list that the marks spell has one entry for each layer but the first
-pub spelled-long : (m : Machine) (marks : List ℕ) (n y : ℕ) → length (spelled m marks n y) ≡ n
+pub spelled-long : (m : Machine) (marks : List Mark) (n y : ℕ) → length (spelled m marks n y) ≡ n
 unfolding spelled
 spelled-long m marks zero y = refl
 spelled-long m marks (suc n) y =
-    let e : length (spelled m marks n (pair_before (mark_in marks y))) ≡ n = spelled-long m marks n (pair_before (mark_in marks y)) in
-    length-append (spelled m marks n (pair_before (mark_in marks y))) (entry_at m (entry_of (mark_in marks y)) ∷ []) ∙ more n _ e
+    let e : length (spelled m marks n (mark_in marks y).before) ≡ n = spelled-long m marks n (mark_in marks y).before in
+    length-append (spelled m marks n (mark_in marks y).before) (entry_at m (mark_in marks y) ∷ []) ∙ more n _ e
   where
     more : (n k : ℕ) → k ≡ n → k + 1 ≡ suc n
     more n k e = omega arith
 
-module _ (d : Dossier) (n : ℕ) (marks : List ℕ) (w : Layered d n marks) where
+module _ (d : Dossier) (n : ℕ) (marks : List Mark) (w : Layered d n marks) where
   -- a pair that few entries reach has its mark
   chain-marked : (m y : ℕ) → Chain d m y → m < n → (0 < layer_in marks y) × (layer_in marks y ≤ suc m)
   chain-marked m y (begun b) l = let e : layer_in marks y ≡ 1 = w.begun y b in (omega arith, omega arith)
@@ -55,10 +56,10 @@ module _ (d : Dossier) (n : ℕ) (marks : List ℕ) (w : Layered d n marks) wher
   unfolding spelled
   spelled-reached zero y e = begins-reached d y (w.begins y e)
   spelled-reached (suc k) y e =
-      let f : (layer_in marks (pair_before (mark_in marks y)) ≡ suc k) × Goes d (entry_of (mark_in marks y) / 64) (entry_of (mark_in marks y) % 64) (pair_before (mark_in marks y)) y
+      let f : (layer_in marks (mark_in marks y).before ≡ suc k) × Goes d (mark_in marks y).operation (mark_in marks y).input (mark_in marks y).before y
       = w.follows y k e in
-      goes-reached d (entry_of (mark_in marks y) / 64) (entry_of (mark_in marks y) % 64) (pair_before (mark_in marks y)) y f.1
-      (spelled (abstract_side d) marks k (pair_before (mark_in marks y))) (spelled-reached k (pair_before (mark_in marks y)) f.0)
+      goes-reached d (mark_in marks y).operation (mark_in marks y).input (mark_in marks y).before y f.1
+      (spelled (abstract_side d) marks k (mark_in marks y).before) (spelled-reached k (mark_in marks y).before f.0)
 
   -- the promise of the search, wherever it stops
   pub layered-reached : (whole : Bool) → (whole ≡ true → (y : ℕ) → layer_in marks y ≡ n → ⊥) → PairsReached d marks whole

@@ -2,18 +2,19 @@
 use mathlib.Core.Path.{◌≡◌, sym, ap, subst, ◌∙◌}
 use mathlib.Core.Logic.{◌⊎◌, inl, inr}
 use mathlib.Core.List.{List}
-use Prim.Native.Nat.{ℕ, suc, ◌/◌, ◌%◌, ◌<◌, ◌≤◌}
+use Prim.Native.Nat.{ℕ, suc, ◌<◌, ◌≤◌}
 use native.Mathlib.Omega.{arith}
 use native.Mathlib.Decide.{dec_lt}
 use lib.ListN.{length}
 use Rattle.form.specs.Tree.{Dossier}
 use Rattle.meaning.proofs.Places.{entry-below}
-use Rattle.reached_pairs.specs.Reached.{layer_of, pair_before, entry_of, mark_in, layer_in}
+use Rattle.reached_pairs.specs.declared.marks.Mark.{Mark}
+use Rattle.reached_pairs.specs.Reached.{no_mark, layer_of, mark_in, layer_in}
 use Rattle.reached_pairs.specs.ReachedByNumber.{Begins, Goes, Layered, Grown, MayBegin, MayFrom, MustBelow}
 use Rattle.reached_pairs.proofs.GrownMarks.{grown_stays}
 
 module _ (d : Dossier) where
-  pub layered-first : (a b : List ℕ) → ((y : ℕ) → mark_in a y ≡ 0) → Grown (MayBegin d) (Begins d) a b → Layered d 1 b
+  pub layered-first : (a b : List Mark) → ((y : ℕ) → mark_in a y ≡ no_mark) → Grown (MayBegin d) (Begins d) a b → Layered d 1 b
   layered-first a b blank g = record {
     begins = λ y e. is-begun y e (g.each y);
     follows = λ y k e. absurd (omega (arith, e, at_most y (g.each y)));
@@ -33,7 +34,7 @@ module _ (d : Dossier) where
       is-begun y e (inl f) = absurd (omega (arith, e, none y f))
       is-begun y e (inr f) = f.1.begins
 
-  module _ (n : ℕ) (some : 0 < n) (a b : List ℕ) (w : Layered d n a) (g : Grown (MayFrom d n a) (MustBelow d (length d.operations) n a) a b) where
+  module _ (n : ℕ) (some : 0 < n) (a b : List Mark) (w : Layered d n a) (g : Grown (MayFrom d n a) (MustBelow d (length d.operations) n a) a b) where
     -- a mark of b stood in a, or it is of the new layer
     abbrev Either : ℕ → Type 0
     Either y = (mark_in b y ≡ mark_in a y) ⊎ ((layer_in a y ≡ 0) × MayFrom d n a y (mark_in b y))
@@ -45,14 +46,14 @@ module _ (d : Dossier) where
     next-begins y e (inl f) = w.begins y (ap layer_of (sym f) ∙ e)
     next-begins y e (inr f) = absurd (omega (arith, e, some, f.1.layer_is))
 
-    abbrev Follows : (marks : List ℕ) (m k y : ℕ) → Type 0
-    Follows marks m k y = (layer_in marks (pair_before m) ≡ suc k) × Goes d (entry_of m / 64) (entry_of m % 64) (pair_before m) y
+    abbrev Follows : (marks : List Mark) (m : Mark) (k y : ℕ) → Type 0
+    Follows marks m k y = (layer_in marks m.before ≡ suc k) × Goes d m.operation m.input m.before y
 
-    later : (m k y : ℕ) → Follows a m k y → Follows b m k y
-    later m k y f = (stays (pair_before m) (omega (arith, f.0)) ∙ f.0, f.1)
+    later : (m : Mark) (k y : ℕ) → Follows a m k y → Follows b m k y
+    later m k y f = (stays m.before (omega (arith, f.0)) ∙ f.0, f.1)
 
     next-follows : (y k : ℕ) → layer_in b y ≡ suc (suc k) → Either y → Follows b (mark_in b y) k y
-    next-follows y k e (inl f) = later (mark_in b y) k y (subst (λ (m : ℕ). Follows a m k y) (sym f) (w.follows y k (ap layer_of (sym f) ∙ e)))
+    next-follows y k e (inl f) = later (mark_in b y) k y (subst (λ (m : Mark). Follows a m k y) (sym f) (w.follows y k (ap layer_of (sym f) ∙ e)))
     next-follows y k e (inr f) =
         let q : n ≡ suc k = omega (arith, e, f.1.layer_is) in
         later (mark_in b y) k y (f.1.before ∙ q, f.1.goes)

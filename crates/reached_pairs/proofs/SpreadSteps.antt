@@ -17,6 +17,7 @@ use Rattle.points.specs.Searches.{Sought}
 use Rattle.step_searches.specs.PartTestsPartsByNumber.{abstract_at, concrete_at, output_at, concretely, match}
 use Rattle.step_searches.specs.declared.Stepped.{Stepped}
 use Rattle.step_searches.specs.StepPromises.{StepSearches, MatchFound, ConcreteStepFound, Below}
+use Rattle.reached_pairs.specs.declared.marks.Mark.{Mark}
 use Rattle.reached_pairs.specs.ReachedByNumber.{many_abstract, many_concrete, many_pairs, abstract_of, concrete_of, Leads, Hits, Marked, MarkFrom}
 use Rattle.reached_pairs.specs.PairPromises.{stepped, match_test, MatchedBy, PairAt, step_test, StepTo, InputTo, MatchesSpread, MatchesSpreading, StepsSpread, StepsSpreading, InputsSpread}
 use Rattle.reached_pairs.proofs.PairNumbers.{high_digit, low_digit, pair_inside}
@@ -68,18 +69,16 @@ module _ (d : Dossier) (op : Operation) (b : Stepped) where
     there = sym (div-add-mod' y (many_concrete d)) ∙ ap₂ (λ (n k : ℕ). abstract_of d y * n + k) (sym ec) w.concrete_is;
   }
 
-module _ {table plan cells : List ℕ} {p : Part} {b : Stepped} {m : ℕ} where
-  pub matches-start : {x : ℕ} (a : List ℕ) → MatchFound table plan cells p b.a b.i b.o b.k 0 x → MatchesSpreading table plan cells p b m x a a
+module _ {table plan cells : List ℕ} {p : Part} {b : Stepped} {m : Mark} where
+  pub matches-start : {x : ℕ} (a : List Mark) → MatchFound table plan cells p b.a b.i b.o b.k 0 x → MatchesSpreading table plan cells p b m x a a
   matches-start {x = x} a f = record {
-    long = refl;
     found = λ d op S. (f.sought d op S).found;
     each = λ d op S. scan-start (match_test d op b) (PairAt d op p.nc b.k) p.na x a (f.sought d op S);
   }
 
-  pub matches-next : {x t : ℕ} {a c e : List ℕ} → MatchesSpreading table plan cells p b m x a c → Below p b → x < p.na → Marked (x * p.nc + b.k) m c e
+  pub matches-next : {x t : ℕ} {a c e : List Mark} → MatchesSpreading table plan cells p b m x a c → Below p b → x < p.na → Marked (x * p.nc + b.k) m c e
       → MatchFound table plan cells p b.a b.i b.o b.k (x + 1) t → MatchesSpreading table plan cells p b m t a e
   matches-next {x = x} {t = t} {a = a} {c = c} {e = e} w l h g f = record {
-    long = g.long ∙ w.long;
     found = λ d op S. (f.sought d op S).found;
     each = λ d op S. scan-next (match_test d op b) (PairAt d op p.nc b.k) p.na x t (w.each d op S)
         (grown_wider (PairAt d op p.nc b.k x) g (λ y v z k. (k.1, subst (MatchedBy d op b) (sym k.0) (here d op S))) (λ y k. k))
@@ -91,9 +90,8 @@ module _ {table plan cells : List ℕ} {p : Part} {b : Stepped} {m : ℕ} where
           subst (λ (n : ℕ). MatchedBy d op b (x * n + b.k)) (sym (size-c S))
           (match-here d op b x (omega (arith, size-c S, l.k_low)) (omega (arith, size-a S, h)) (w.found d op S h))
 
-  pub matches-done : {x : ℕ} {a c : List ℕ} → MatchesSpreading table plan cells p b m x a c → p.na ≤ x → MatchesSpread table plan cells p b m a c
+  pub matches-done : {x : ℕ} {a c : List Mark} → MatchesSpreading table plan cells p b m x a c → p.na ≤ x → MatchesSpread table plan cells p b m a c
   matches-done {x = x} w h = record {
-    long = w.long;
     each = λ d op S. grown_wider (MatchedBy d op b) (scan-done (match_test d op b) (PairAt d op p.nc b.k) p.na x (w.each d op S) h) (λ y v z k. k)
         (match-found d op b p.na p.nc (size-a S) (size-c S));
   }
@@ -130,19 +128,17 @@ module _ (d : Dossier) (op : Operation) (i x y : ℕ) where
         there = subst₂ (λ (o k : ℕ). MatchedBy d op (stepped (abstract_of d x) i o k) y) (sym eo) (sym ek) m;
       }
 
-module _ {table plan cells : List ℕ} {p : Part} {x i m : ℕ} where
-  pub steps-start : {r : ℕ} (a : List ℕ) → ConcreteStepFound table plan cells p (x % p.nc) i 0 r → StepsSpreading table plan cells p x i m r a a
+module _ {table plan cells : List ℕ} {p : Part} {x i : ℕ} {m : Mark} where
+  pub steps-start : {r : ℕ} (a : List Mark) → ConcreteStepFound table plan cells p (x % p.nc) i 0 r → StepsSpreading table plan cells p x i m r a a
   steps-start {r = r} a f = record {
-    long = refl;
     found = λ d op S. (f.sought d op S).found;
     each = λ d op S. scan-start (step_test d op p.nc (x % p.nc) i) (StepTo d op p.nc i x) (p.nq * p.nc) r a (f.sought d op S);
   }
 
-  pub steps_next : {r t : ℕ} {a c e : List ℕ} → StepsSpreading table plan cells p x i m r a c → r < p.nq * p.nc
+  pub steps_next : {r t : ℕ} {a c e : List Mark} → StepsSpreading table plan cells p x i m r a c → r < p.nq * p.nc
       → MatchesSpread table plan cells p (stepped (x / p.nc) i (r / p.nc) (r % p.nc)) m c e
       → ConcreteStepFound table plan cells p (x % p.nc) i (r + 1) t → StepsSpreading table plan cells p x i m t a e
   steps_next {r = r} {t = t} {a = a} {c = c} {e = e} w h g f = record {
-    long = g.long ∙ w.long;
     found = λ d op S. (f.sought d op S).found;
     each = λ d op S. scan-next (step_test d op p.nc (x % p.nc) i) (StepTo d op p.nc i x) (p.nq * p.nc) r t (w.each d op S)
         (grown_wider (StepTo d op p.nc i x r) (g.each d op S) (λ y v z k. (k.0, leads d op S y (w.found d op S h) k.1)) (λ y k. k))
@@ -152,9 +148,8 @@ module _ {table plan cells : List ℕ} {p : Part} {x i m : ℕ} where
       leads : (d : Dossier) (op : Operation) → StepSearches table plan cells p d op → (y : ℕ) → step_test d op p.nc (x % p.nc) i r ≡ true → StepTo d op p.nc i x r y → Leads d op i x y
       leads d op S y = subst₂ (StepLeads d op i x y r) (sym (size-o S)) (sym (size-c S)) (step-leads d op i x y r) h
 
-  pub steps-done : {r : ℕ} {a c : List ℕ} → StepsSpreading table plan cells p x i m r a c → p.nq * p.nc ≤ r → StepsSpread table plan cells p x i m a c
+  pub steps-done : {r : ℕ} {a c : List Mark} → StepsSpreading table plan cells p x i m r a c → p.nq * p.nc ≤ r → StepsSpread table plan cells p x i m a c
   steps-done {r = r} w h = record {
-    long = w.long;
     each = λ d op S. grown_wider (Leads d op i x) (scan-done (step_test d op p.nc (x % p.nc) i) (StepTo d op p.nc i x) (p.nq * p.nc) r (w.each d op S) h) (λ y v z k. k)
         (λ y. subst₂ (LeadsStep d op i x y) (sym (size-o S)) (sym (size-c S)) (leads-step d op i x y));
   }
@@ -162,18 +157,17 @@ module _ {table plan cells : List ℕ} {p : Part} {x i m : ℕ} where
 -- ---- inputs
 
 module _ {table plan cells : List ℕ} {p : Part} {x j n : ℕ} where
-  pub inputs-start : {i : ℕ} (a : List ℕ) → i ≡ 0 → InputsSpread table plan cells p x j n i a a
-  inputs-start {i = i} a e = record { long = refl; each = λ d op S. grown-none (Hits (λ (z : ℕ). true) (InputTo d op x) i) a (λ y k. omega (arith, k.low)) }
+  pub inputs-start : {i : ℕ} (a : List Mark) → i ≡ 0 → InputsSpread table plan cells p x j n i a a
+  inputs-start {i = i} a e = record { each = λ d op S. grown-none (Hits (λ (z : ℕ). true) (InputTo d op x) i) a (λ y k. omega (arith, k.low)) }
 
-  pub inputs-next : {i t m : ℕ} {a c e : List ℕ} → InputsSpread table plan cells p x j n i a c → i < p.ni → MarkFrom j i x n m → StepsSpread table plan cells p x i m c e
+  pub inputs-next : {i t : ℕ} {m : Mark} {a c e : List Mark} → InputsSpread table plan cells p x j n i a c → i < p.ni → MarkFrom j i x n m → StepsSpread table plan cells p x i m c e
       → t ≡ i + 1 → InputsSpread table plan cells p x j n t a e
   inputs-next {i = i} {t = t} {m = m} w h f g q = record {
-    long = g.long ∙ w.long;
     each = λ d op S. scan-next (λ (z : ℕ). true) (InputTo d op x) (i + 1) i t (w.each d op S)
         (grown_wider (InputTo d op x i) (g.each d op S)
         (λ y v z k. record { input = i; low = omega (arith, size-i S, h); from = subst (MarkFrom j i x n) (sym k.0) f; leads = k.1 }) (λ y k. k))
         (subst (Sought (λ (z : ℕ). true) (i + 1) (i + 1)) (sym q) (sought-each (i + 1) (i + 1) (omega arith)));
   }
 
-  pub inputs-done : {i : ℕ} {a c : List ℕ} → InputsSpread table plan cells p x j n i a c → p.ni ≤ i → InputsSpread table plan cells p x j n p.ni a c
-  inputs-done {i = i} w h = record { long = w.long; each = λ d op S. scan-done (λ (z : ℕ). true) (InputTo d op x) p.ni i (w.each d op S) h }
+  pub inputs-done : {i : ℕ} {a c : List Mark} → InputsSpread table plan cells p x j n i a c → p.ni ≤ i → InputsSpread table plan cells p x j n p.ni a c
+  inputs-done {i = i} w h = record { each = λ d op S. scan-done (λ (z : ℕ). true) (InputTo d op x) p.ni i (w.each d op S) h }

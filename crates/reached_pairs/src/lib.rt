@@ -1,19 +1,19 @@
 // The pairs of states that both machines of a dossier reach side by side, each with the shortest list of operations with inputs that leads to it. Layer by layer: the pairs of layer 1 are
 // the initial states; those of layer n + 1 are what the pairs of layer n lead to and what has no mark yet. There is no queue, and no layer is kept but in the marks.
 // Form 3: in the loops by `while` the next place is what a search answers, which is lent the memory that the body is lent too: an iterator would have to own it.
-// Form 5: what is asked of a part (`PairsAsked`) speaks of the marks too, which change; the dossier's arrays are also lent to functions that ask less, so that they were read is no invariant
-// of `Dossier`; memory and marks are lent for a call, and in one struct each function would have to promise the other's part of it unchanged. Numbers of pairs, operations and layers
-// change with each call.
+// Form 5: what is asked of a part (`PairsAsked`) is no invariant of `PartSearch`, which is that of every part; the dossier's arrays are also lent to functions that ask less, so that they
+// were read is no invariant of `Dossier`; memory and marks are lent for a call, and in one struct each function would have to promise the other's part of it unchanged. Numbers of pairs,
+// operations and layers change with each call.
 #![tactic(auto)]
 
-ghost use Rattle.std.specs.Prelude.{◌≡◌, ◌*◌, ◌<◌, ◌≤◌, length};
+ghost use Rattle.std.specs.Prelude.{◌*◌, ◌<◌};
 ghost use Rattle.memo.specs.MemoPromises.{Memo};
 ghost use Rattle.step_searches.specs.StepPromises.{Below, PrepareAsked, OpenAsked, ReadAsked};
-ghost use Rattle.reached_pairs.specs.Reached.{layer_of};
+ghost use Rattle.reached_pairs.specs.Reached.{layer_of, first_mark};
 ghost use Rattle.reached_pairs.specs.PairPromises.{PairsAsked, MatchesSpread, StepsSpread, InputsSpread, PairSpread, PairsSpread, OperationSpread, LayerSpread, Layers, PairsAre};
 ghost use Rattle.reached_pairs.specs.PairPromises.{OpenPairsAsked, MatchesBegun, StatesBegun, Begun, ReachAnswers};
 
-use crate::marks::{PAIRS, count_layer, is_of, mark, mark_from};
+use crate::marks::{INITIAL, Mark, NONE, PAIRS, count_layer, is_of, mark_from, put_mark};
 use plans::PartSearch;
 use search_groups::Dossier;
 use step_searches::{
@@ -24,28 +24,25 @@ use step_searches::{
 pub mod marks;
 
 // The most layers that are made: less than a mark has room for.
-const LAYERS: u64 = 4096;
-
-// The mark of the initial states.
-const INITIAL: u64 = 1;
+const LAYERS: u16 = 4096;
 
 // Beside a concrete step: the abstract states after that match it.
 fn spread_matches(
     s: &PartSearch<'_>,
     b: Stepped,
-    m: u64,
+    m: Mark,
     memo: &mut [u64; memo::NUMBERS],
-    marks: &mut [u64],
+    marks: &mut [Mark; PAIRS],
 )
     requires below { Below s.now.part b × (0 < layer_of m) }
-    requires pairs_asked { PairsAsked s.now.table.now s.now.plan.now s.now.cells.now s.now.part marks.old }
+    requires pairs_asked { PairsAsked s.now.table.now s.now.plan.now s.now.cells.now s.now.part }
     requires memo { Memo s.now.table.now memo.old }
     ensures grown { MatchesSpread s.now.table.now s.now.plan.now s.now.cells.now s.now.part b m marks.old marks.new }
     ensures remembers { Memo s.now.table.now memo.new }
 {
     let mut next = next_matching_state(s, b, 0, memo);
     while let Some(x) = next {
-        mark(marks, x * s.part.nc + b.k, m);
+        put_mark(marks, x * s.part.nc + b.k, m);
         next = next_matching_state(s, b, x + 1, memo);
     }
 }
@@ -55,12 +52,12 @@ fn spread_steps(
     s: &PartSearch<'_>,
     x: usize,
     i: usize,
-    m: u64,
+    m: Mark,
     memo: &mut [u64; memo::NUMBERS],
-    marks: &mut [u64],
+    marks: &mut [Mark; PAIRS],
 )
     requires x_bound { (x < s.now.part.na * s.now.part.nc) × (i < s.now.part.ni) × (0 < layer_of m) }
-    requires pairs_asked { PairsAsked s.now.table.now s.now.plan.now s.now.cells.now s.now.part marks.old }
+    requires pairs_asked { PairsAsked s.now.table.now s.now.plan.now s.now.cells.now s.now.part }
     requires memo { Memo s.now.table.now memo.old }
     ensures grown { StepsSpread s.now.table.now s.now.plan.now s.now.cells.now s.now.part x i m marks.old marks.new }
     ensures remembers { Memo s.now.table.now memo.new }
@@ -85,12 +82,12 @@ fn spread_inputs(
     s: &PartSearch<'_>,
     x: usize,
     j: usize,
-    n: u64,
+    n: u16,
     memo: &mut [u64; memo::NUMBERS],
-    marks: &mut [u64],
+    marks: &mut [Mark; PAIRS],
 )
     requires x_bound { (x < s.now.part.na * s.now.part.nc) × (j < 16) × (n < 4096) }
-    requires pairs_asked { PairsAsked s.now.table.now s.now.plan.now s.now.cells.now s.now.part marks.old }
+    requires pairs_asked { PairsAsked s.now.table.now s.now.plan.now s.now.cells.now s.now.part }
     requires memo { Memo s.now.table.now memo.old }
     ensures grown { InputsSpread s.now.table.now s.now.plan.now s.now.cells.now s.now.part x j n s.now.part.ni marks.old marks.new }
     ensures remembers { Memo s.now.table.now memo.new }
@@ -106,12 +103,12 @@ fn spread_pair(
     s: &PartSearch<'_>,
     x: usize,
     j: usize,
-    n: u64,
+    n: u16,
     memo: &mut [u64; memo::NUMBERS],
-    marks: &mut [u64],
+    marks: &mut [Mark; PAIRS],
 )
     requires x_bound { (x < s.now.part.na * s.now.part.nc) × (j < 16) × (n < 4096) }
-    requires pairs_asked { PairsAsked s.now.table.now s.now.plan.now s.now.cells.now s.now.part marks.old }
+    requires pairs_asked { PairsAsked s.now.table.now s.now.plan.now s.now.cells.now s.now.part }
     requires memo { Memo s.now.table.now memo.old }
     ensures grown { PairSpread s.now.table.now s.now.plan.now s.now.cells.now s.now.part x j n marks.old marks.new }
     ensures remembers { Memo s.now.table.now memo.new }
@@ -126,12 +123,12 @@ fn spread_pair(
 fn spread_pairs(
     s: &PartSearch<'_>,
     j: usize,
-    n: u64,
+    n: u16,
     memo: &mut [u64; memo::NUMBERS],
-    marks: &mut [u64],
+    marks: &mut [Mark; PAIRS],
 )
     requires j_bound { (j < 16) × (0 < n) × (n < 4096) }
-    requires pairs_asked { PairsAsked s.now.table.now s.now.plan.now s.now.cells.now s.now.part marks.old }
+    requires pairs_asked { PairsAsked s.now.table.now s.now.plan.now s.now.cells.now s.now.part }
     requires memo { Memo s.now.table.now memo.old }
     ensures { PairsSpread s.now.table.now s.now.plan.now s.now.cells.now s.now.part j n (s.now.part.na * s.now.part.nc) marks.old marks.new }
 {
@@ -142,8 +139,8 @@ fn spread_pairs(
 }
 
 // What operation j leads to from the pairs of layer n.
-fn spread(d: &Dossier<'_>, j: usize, n: u64, pairs: usize, marks: &mut [u64])
-    requires n_nonzero { (0 < n) × (n < 4096) × (length marks.old ≡ 262144) }
+fn spread(d: &Dossier<'_>, j: usize, n: u16, pairs: usize, marks: &mut [Mark; PAIRS])
+    requires n_nonzero { (0 < n) × (n < 4096) }
     requires prepare_asked { PrepareAsked d.now.table.now d.now.rows.now d.now.firsts.now d.now.groups.now j }
     requires pairs_are { PairsAre d.now.table.now d.now.rows.now d.now.firsts.now d.now.groups.now pairs }
     ensures { OperationSpread d.now.table.now d.now.rows.now d.now.firsts.now d.now.groups.now j n marks.old marks.new }
@@ -155,8 +152,8 @@ fn spread(d: &Dossier<'_>, j: usize, n: u64, pairs: usize, marks: &mut [u64])
 }
 
 // What all operations lead to from there.
-fn spread_layer(d: &Dossier<'_>, n: u64, pairs: usize, marks: &mut [u64])
-    requires n_nonzero { (0 < n) × (n < 4096) × (length marks.old ≡ 262144) }
+fn spread_layer(d: &Dossier<'_>, n: u16, pairs: usize, marks: &mut [Mark; PAIRS])
+    requires n_nonzero { (0 < n) × (n < 4096) }
     requires reach_asked { ReadAsked d.now.table.now d.now.rows.now d.now.firsts.now d.now.groups.now d.now.operations }
     requires pairs_are { PairsAre d.now.table.now d.now.rows.now d.now.firsts.now d.now.groups.now pairs }
     ensures { LayerSpread d.now.table.now d.now.rows.now d.now.firsts.now d.now.groups.now d.now.operations n marks.old marks.new }
@@ -167,7 +164,7 @@ fn spread_layer(d: &Dossier<'_>, n: u64, pairs: usize, marks: &mut [u64])
 }
 
 // One layer after the other. The whole search is done where a layer is empty; it is given up where the layers or the budget, a number of pairs, do not suffice.
-fn spread_all(d: &Dossier<'_>, budget: usize, pairs: usize, marks: &mut [u64]) -> bool
+fn spread_all(d: &Dossier<'_>, budget: usize, pairs: usize, marks: &mut [Mark; PAIRS]) -> bool
     requires reach_asked { ReadAsked d.now.table.now d.now.rows.now d.now.firsts.now d.now.groups.now d.now.operations }
     requires pairs_are { PairsAre d.now.table.now d.now.rows.now d.now.firsts.now d.now.groups.now pairs }
     requires layers { Layers d.now.table.now d.now.rows.now d.now.firsts.now d.now.groups.now d.now.operations 1 marks.old }
@@ -189,23 +186,28 @@ fn spread_all(d: &Dossier<'_>, budget: usize, pairs: usize, marks: &mut [u64]) -
 }
 
 // With the concrete initial state c: the abstract initial states that are related to it.
-fn begin_with(s: &PartSearch<'_>, c: usize, memo: &mut [u64; memo::NUMBERS], marks: &mut [u64])
+fn begin_with(
+    s: &PartSearch<'_>,
+    c: usize,
+    memo: &mut [u64; memo::NUMBERS],
+    marks: &mut [Mark; PAIRS],
+)
     requires c_lt_nc { c < s.now.part.nc }
-    requires open_pairs_asked { OpenPairsAsked s.now.table.now s.now.plan.now s.now.cells.now s.now.part marks.old }
+    requires open_pairs_asked { OpenPairsAsked s.now.table.now s.now.plan.now s.now.cells.now s.now.part }
     requires memo { Memo s.now.table.now memo.old }
-    ensures grown { MatchesBegun s.now.table.now s.now.plan.now s.now.cells.now s.now.part c 1 marks.old marks.new }
+    ensures grown { MatchesBegun s.now.table.now s.now.plan.now s.now.cells.now s.now.part c first_mark marks.old marks.new }
     ensures remembers { Memo s.now.table.now memo.new }
 {
     let mut next = next_initial_match(s, c, 0, memo);
     while let Some(a) = next {
-        mark(marks, a * s.part.nc + c, INITIAL);
+        put_mark(marks, a * s.part.nc + c, INITIAL);
         next = next_initial_match(s, c, a + 1, memo);
     }
 }
 
 // All pairs of initial states.
-fn begin_all(s: &PartSearch<'_>, memo: &mut [u64; memo::NUMBERS], marks: &mut [u64])
-    requires open_pairs_asked { OpenPairsAsked s.now.table.now s.now.plan.now s.now.cells.now s.now.part marks.old }
+fn begin_all(s: &PartSearch<'_>, memo: &mut [u64; memo::NUMBERS], marks: &mut [Mark; PAIRS])
+    requires open_pairs_asked { OpenPairsAsked s.now.table.now s.now.plan.now s.now.cells.now s.now.part }
     requires memo { Memo s.now.table.now memo.old }
     ensures { StatesBegun s.now.table.now s.now.plan.now s.now.cells.now s.now.part marks.old marks.new }
 {
@@ -217,8 +219,7 @@ fn begin_all(s: &PartSearch<'_>, memo: &mut [u64; memo::NUMBERS], marks: &mut [u
 }
 
 // The first layer; how many pairs there are, where there is room for them.
-fn begin(d: &Dossier<'_>, marks: &mut [u64]) -> Option<usize>
-    requires marks_len { length marks.old ≡ 262144 }
+fn begin(d: &Dossier<'_>, marks: &mut [Mark; PAIRS]) -> Option<usize>
     requires open_asked { OpenAsked d.now.table.now d.now.rows.now d.now.firsts.now d.now.groups.now }
     ensures { Begun d.now.table.now d.now.rows.now d.now.firsts.now d.now.groups.now marks.old marks.new result }
 {
@@ -235,19 +236,11 @@ fn begin(d: &Dossier<'_>, marks: &mut [u64]) -> Option<usize>
 
 // Every pair that is reached gets its mark; says whether the search was whole. Not where there are more pairs or more layers than there is room for, or more pairs to go on from than the
 // budget: then a pair without a mark may be reached too.
-pub fn reach(d: &Dossier<'_>, budget: usize, marks: &mut [u64; PAIRS]) -> bool
+pub fn reach(d: &Dossier<'_>, budget: usize, marks: &mut [Mark; PAIRS]) -> bool
     requires { ReadAsked d.now.table.now d.now.rows.now d.now.firsts.now d.now.groups.now d.now.operations }
     ensures { ReachAnswers d.now.table.now d.now.rows.now d.now.firsts.now d.now.groups.now d.now.operations marks.new result }
 {
-    reach_in(d, budget, marks)
-}
-
-fn reach_in(d: &Dossier<'_>, budget: usize, marks: &mut [u64]) -> bool
-    requires marks_len { length marks.old ≡ 262144 }
-    requires reach_asked { ReadAsked d.now.table.now d.now.rows.now d.now.firsts.now d.now.groups.now d.now.operations }
-    ensures { ReachAnswers d.now.table.now d.now.rows.now d.now.firsts.now d.now.groups.now d.now.operations marks.new result }
-{
-    marks.fill(0);
+    marks.fill(NONE);
     let Some(pairs) = begin(d, marks) else {
         return false;
     };

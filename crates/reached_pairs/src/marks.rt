@@ -1,73 +1,82 @@
-// Marks: one number for each pair of states. 0 is none; else the layer, which is one more than the number of entries that lead to the pair, and before it the pair and the entry from
-// which it was reached. An entry is one number too: the operation and the number of its inputs.
-ghost use Rattle.std.specs.Prelude.{◌≡◌, ◌+◌, ◌<◌, ◌≤◌, true, false, length};
-ghost use Rattle.reached_pairs.specs.Reached.{layer_of, pair_before, entry_of, layer_in};
-ghost use Rattle.reached_pairs.specs.ReachedByNumber.{Marked, MarkFrom, LayerCounted};
+// Marks: one for each pair of states, which says how the pair was reached.
+ghost use Rattle.std.specs.Prelude.{◌≡◌, ◌==◌, ◌+◌, ◌<◌, ◌≤◌, true, false, count_by, take};
+ghost use Rattle.reached_pairs.specs.Reached.{layer_of, layer_in};
+ghost use Rattle.reached_pairs.specs.ReachedByNumber.{Marked, MarkFrom, Entered};
 
 // How many pairs there is room for.
 pub const PAIRS: usize = 262144;
 
-// The room of a layer and of an entry in a mark, and that of the inputs in an entry.
-const LAYER: u64 = 8192;
-
-const ENTRY: u64 = 1024;
-
-pub const INPUTS: usize = 64;
-
-// What a mark says, for whoever reads the list that leads to a pair: its layer, the pair before, the entry.
-pub fn layer_of(m: u64) -> u64
-    ensures { result ≡ layer_of m }
-{
-    m % LAYER
+// The layer of a pair, which is one more than the number of entries that lead to it; the operation and the number of its inputs, which are the last entry; the pair before it.
+// Form 1: no mark has layer 0, since there is no heap: 262,144 of them stand in one array of the caller, and an `Option` would take 12 bytes of each in place of 8.
+#[derive(Clone, Copy)]
+pub struct Mark {
+    pub layer: u16,
+    pub operation: u8,
+    pub input: u8,
+    pub before: u32,
 }
 
-pub fn pair_before(m: u64) -> usize
-    ensures { result ≡ pair_before m }
-{
-    (m / LAYER / ENTRY) as usize
-}
+// No mark.
+pub const NONE: Mark = Mark {
+    layer: 0,
+    operation: 0,
+    input: 0,
+    before: 0,
+};
 
-pub fn entry_of(m: u64) -> usize
-    ensures { result ≡ entry_of m }
-{
-    (m / LAYER % ENTRY) as usize
+// The mark of the initial states.
+pub const INITIAL: Mark = Mark {
+    layer: 1,
+    operation: 0,
+    input: 0,
+    before: 0,
+};
+
+impl Mark {
+    // How many entries lead to a pair with this mark.
+    pub fn entries(self) -> Option<usize>
+        ensures { Entered self.layer result }
+    {
+        usize::from(self.layer).checked_sub(1)
+    }
 }
 
 // The pair y gets the mark m, if it has none: the first list that leads to it is the shortest.
-pub fn mark(marks: &mut [u64], y: usize, m: u64)
-    requires { (y < length marks.old) × (0 < layer_of m) }
+pub fn put_mark(marks: &mut [Mark; PAIRS], y: usize, m: Mark)
+    requires { (y < 262144) × (0 < layer_of m) }
     ensures { Marked y m marks.old marks.new }
 {
-    if marks[y] % LAYER != 0 {
+    if marks[y].layer != 0 {
         return;
     }
     marks[y] = m;
 }
 
 // The mark of layer n + 1 for what the pair x leads to by the i-th inputs of operation j.
-pub fn mark_from(x: usize, j: usize, i: usize, n: u64) -> u64
+pub fn mark_from(x: usize, j: usize, i: usize, n: u16) -> Mark
     requires { (x < 262144) × (j < 16) × (i < 64) × (n < 8191) }
     ensures { MarkFrom j i x n result }
 {
-    ((x as u64) * ENTRY + ((j * INPUTS + i) as u64)) * LAYER + (n + 1)
+    Mark {
+        layer: n + 1,
+        operation: j as u8,
+        input: i as u8,
+        before: x as u32,
+    }
 }
 
 // Is the pair y of layer n?
-pub fn is_of(marks: &[u64], y: usize, n: u64) -> bool
-    requires { y < length marks.now }
+pub fn is_of(marks: &[Mark; PAIRS], y: usize, n: u16) -> bool
+    requires { y < 262144 }
     ensures { (result ≡ true → layer_in marks.now y ≡ n) × (result ≡ false → layer_in marks.now y ≡ n → ⊥) }
 {
-    marks[y] % LAYER == n
+    marks[y].layer == n
 }
 
 // How many of the first pairs are of layer n.
-pub fn count_layer(marks: &[u64], pairs: usize, n: u64) -> usize
-    requires { pairs ≤ length marks.now }
-    ensures { LayerCounted marks.now pairs n result }
+pub fn count_layer(marks: &[Mark; PAIRS], pairs: usize, n: u16) -> usize
+    requires { pairs ≤ 262144 }
+    ensures { result ≡ count_by (λ m. layer_of m == n) (take pairs marks.now) }
 {
-    let mut many: usize = 0;
-    for y in 0..pairs {
-        many += usize::from(is_of(marks, y, n));
-    }
-    many
+    marks[..pairs].iter().filter(|m| m.layer == n).count()
 }

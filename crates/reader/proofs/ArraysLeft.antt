@@ -21,7 +21,7 @@ use Rattle.reader.specs.Promises.{Tabled, Leaves}
 use Rattle.reader.proofs.FewGivens.{forms-fewer, forms-few-operations}
 use Rattle.reader.proofs.FewVariables.{forms-few}
 use Rattle.reader.proofs.LeastNameFault.{letters-numbered, dossier-in}
-use Rattle.reader.proofs.LimitPasses.{none-least}
+use Rattle.refusals.proofs.FaultLists.{none-least}
 
 -- the parts of the dossier, by the places that the code found
 placed : (d : Dossier) (text nodes spans : List ℕ) (k : ℕ) (b : Bounds) → Ready nodes spans (length d.operations) (givens_from d (numbering text)) (abstract_from d (numbering text)) d (numbering text)

@@ -1,11 +1,11 @@
 -- The passes for bindings and sizes over the structure of a text: each finds the least of its faults, where that for names found none.
 use mathlib.Core.Path.{◌≡◌, refl, ap, ◌∙◌, sym, subst}
-use mathlib.Core.List.{List, [], ◌∷◌, map}
+use mathlib.Core.List.{List, map}
 use mathlib.Core.Option.{none}
 use Prim.Native.Nat.{ℕ, ◌≤◌, ◌<◌}
 use native.Mathlib.Omega.{arith}
 use lib.ListN.{length, get_or, replicate}
-use Rattle.refusals.specs.Refusals.{Fault, least}
+use Rattle.refusals.specs.Refusals.{least}
 use Rattle.form.specs.Tree.{Dossier}
 use Rattle.form.specs.Headings.{givens_at}
 use Rattle.form.specs.Codes.{given_codes}
@@ -31,11 +31,7 @@ use Rattle.reader.proofs.FewGivens.{forms-fewer, forms-few-operations}
 use Rattle.reader.proofs.LeastNameFault.{letters-numbered, dossier-in, names-from-free}
 use Rattle.reader.proofs.PartSections.{sectioned-placed}
 use Rattle.reader.proofs.PassAnswers.{givens-none}
-
-pub none-least : (fs : List Fault) → least fs ≡ none → fs ≡ []
-unfolding least
-none-least [] e = refl
-none-least (f ∷ fs) e = let z : ◌≡◌ {A = ℕ} 0 1 = cc in absurd (omega arith)
+use Rattle.refusals.proofs.FaultLists.{none-least}
 
 module _ {text starts nodes : List ℕ} {n m : ℕ} {d : Dossier} (st : Stands text starts nodes n m d) where
   -- the spans say where the parts of the dossier stand

@@ -19,7 +19,7 @@ use Rattle.static_rules.specs.Read.{Reading, refusal, reading, pass, located, re
 use Rattle.reader.specs.Gives.{Gives}
 use Rattle.reader.proofs.FewGivens.{forms-fewer}
 use Rattle.reader.proofs.FewVariables.{forms-few}
-use Rattle.reader.proofs.LimitPasses.{none-least}
+use Rattle.refusals.proofs.FaultLists.{none-least}
 
 abbrev IsRefusal : Reading → Type 0
 IsRefusal (refusal f) = Unit {0}

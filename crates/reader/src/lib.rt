@@ -23,6 +23,7 @@ use search_groups::Parts;
 use search_groups::conjuncts::{FIRSTS, conjuncts};
 use search_groups::groups::GROUPS;
 use tables::passes::write;
+use type_rules::entries::{FREE, Kind};
 use type_rules::kinds::all_well;
 
 // What a text is: how many symbols it has, and how many numbers the nodes of its dossier; or its refusal, with the place in bytes. Its symbols stand in the
@@ -120,7 +121,7 @@ fn names_pass(nodes: &[u16], m: usize) -> Result<(), Fault>
 }
 
 // The given sets by name, and their sizes.
-fn given_table(nodes: &[u16], m: usize, names: &mut [u16], sizes: &mut [u16; SIZES])
+fn given_table(nodes: &[u16], m: usize, names: &mut [Kind], sizes: &mut [u16; SIZES])
     ensures { Tabled nodes.now m (length names.old) names.new sizes.new }
 {
     let at = sections(nodes, m);
@@ -131,7 +132,7 @@ fn given_table(nodes: &[u16], m: usize, names: &mut [u16], sizes: &mut [u16; SIZ
 fn bindings_fault(nodes: &[u16], m: usize) -> Option<Fault>
     ensures { Finds binding_faults nodes.now m (fault_key result) }
 {
-    let mut names = [0u16; NAMES];
+    let mut names = [FREE; NAMES];
     let mut sizes = [0u16; SIZES];
     let mut places = [0u16; span::COUNT];
     given_table(nodes, m, &mut names, &mut sizes);
@@ -160,7 +161,7 @@ fn leave(
 )
     ensures { Leaves nodes.now m spans.old table.old groups.old rows.old firsts.old spans.new table.new groups.new rows.new firsts.new }
 {
-    let mut names = [0u16; NAMES];
+    let mut names = [FREE; NAMES];
     let mut sizes = [0u16; SIZES];
     given_table(nodes, m, &mut names, &mut sizes);
     let at = sections(nodes, m);

@@ -17,11 +17,12 @@ use Rattle.read_predicates.proofs.NodeSpansStructure.{split-move}
 use Rattle.slot_carriers.specs.TypeNodes.{Stands, TypeNode}
 use Rattle.slot_carriers.specs.DeclaredGroups.{NodesOf}
 use Rattle.value_types.specs.FaultlessContexts.{DeclarationsWithin}
-use Rattle.value_types.proofs.DeclaredCarriers.{HaveCarriers, HasCarrier, declarations_of, variable_of, variables-one}
+use Rattle.value_types.proofs.DeclaredCarriers.{HaveCarriers, HasCarrier, declarations_of, variable_of}
 use Rattle.read_predicates.specs.TablePlacesDossierTable.{type_table, row, state_row, parameter_row}
 use Rattle.readings.specs.Readings.{GroupAt}
 use Rattle.readings.proofs.TypeNumbers.{StandsFor, type-stands}
 use Rattle.readings.proofs.TablePatches.{TypesAt, no_types, more_types}
+use Rattle.static_rules.proofs.FoundCarriers.{variables-one}
 
 -- places and variables side by side
 pub data Noded (table : List ℕ) : List ℕ → List Variable → Type 0 where

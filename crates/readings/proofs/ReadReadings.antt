@@ -1,6 +1,6 @@
 -- The arrays that the reader leaves of a text hold what the search asks of its dossier: the rows of its predicates and the groups of its variables.
 use mathlib.Core.Path.{◌≡◌, refl, sym, ap, ◌∙◌, subst}
-use mathlib.Core.Bool.{Bool, true, false, ◌&&◌}
+use mathlib.Core.Bool.{true, ◌&&◌}
 use mathlib.Core.List.{List, [], ◌∷◌, ◌++◌, append_assoc}
 use mathlib.Core.Option.{some, none-ne-some, some-injective}
 use Prim.Native.Nat.{ℕ, zero, suc, ◌+◌, ◌*◌, ◌≤◌}
@@ -26,7 +26,6 @@ use Rattle.meaning.proofs.Places.{entry-member}
 use Rattle.read_predicates.specs.NodeSpansSpans.{spans_of, span}
 use Rattle.read_predicates.proofs.NodeSpansStructure.{split-move}
 use Rattle.value_types.specs.FaultlessContexts.{ParametersWithin, OperationsWithin, NumbersWithin}
-use Rattle.value_types.proofs.FaultlessParts.{unless-nil, append-nil, append_nil-three}
 use Rattle.value_types.proofs.GivenTitles.{few-elements, few-elements-of}
 use Rattle.value_types.proofs.DeclaredCarriers.{declarations_of, parameters-are}
 use Rattle.value_types.proofs.SymbolNumbers.{text-numbers}
@@ -46,20 +45,13 @@ use Rattle.readings.proofs.TablePatches.{TypesAt}
 use Rattle.readings.proofs.ArrangedParts.{Arranged, arranged}
 use Rattle.readings.proofs.DeclaredTypes.{abstract_types, concrete_types, operation-types, abstract-inside, concrete-inside, operation-inside}
 use Rattle.readings.proofs.GroupNodes.{group_at, state-noded, parameters-noded}
+use Rattle.refusals.proofs.FaultLists.{append_nil-three, unless-nil, append_nil-both}
+use Rattle.lexical.proofs.BooleanTests.{and_left, and_right}
 
 -- ---- numbers of bindings
 
 both-few : (n m k : ℕ) → (leb n k && leb m k) ≡ true → (n ≤ k) × (m ≤ k)
-both-few n m k e = (leb-true n k (left (leb n k) (leb m k) e), leb-true m k (right (leb n k) (leb m k) e))
-  where
-    left : (p q : Bool) → (p && q) ≡ true → p ≡ true
-    left true q h = refl
-    left false q h = h
-
-    right : (p q : Bool) → (p && q) ≡ true → q ≡ true
-    right true q h = h
-    right false true h = refl
-    right false false h = h
+both-few n m k e = (leb-true n k (and_left (leb n k) (leb m k) e), leb-true m k (and_right (leb n k) (leb m k) e))
 
 -- of the states; of the operation at a place
 pub state-bindings : (d : Dossier) → binding_faults d ≡ []
@@ -78,11 +70,11 @@ pub operation-bindings : (d : Dossier) (i : ℕ) (os : List Operation) → opera
 unfolding operation_bindings
 operation-bindings d i [] e j o s = absurd (none-ne-some o s)
 operation-bindings d i (p ∷ os) e zero o s =
-    let k = append-nil (unless (leb (binding_count (inputs d p)) 64 && leb (binding_count (outputs d p)) 64) (fault i many_bindings)) (operation_bindings d (i + operation_length p) os) e in
+    let k = append_nil-both (unless (leb (binding_count (inputs d p)) 64 && leb (binding_count (outputs d p)) 64) (fault i many_bindings)) (operation_bindings d (i + operation_length p) os) e in
     subst (λ (x : Operation). (binding_count (inputs d x) ≤ 64) × (binding_count (outputs d x) ≤ 64)) (some-injective p o s)
     (both-few (binding_count (inputs d p)) (binding_count (outputs d p)) 64 (unless-nil _ _ k.0))
 operation-bindings d i (p ∷ os) e (suc j) o s =
-    let k = append-nil (unless (leb (binding_count (inputs d p)) 64 && leb (binding_count (outputs d p)) 64) (fault i many_bindings)) (operation_bindings d (i + operation_length p) os) e in
+    let k = append_nil-both (unless (leb (binding_count (inputs d p)) 64 && leb (binding_count (outputs d p)) 64) (fault i many_bindings)) (operation_bindings d (i + operation_length p) os) e in
     operation-bindings d (i + operation_length p) os k.1 j o s
 
 -- ---- the operation at a place

@@ -15,6 +15,7 @@ use Rattle.value_types.specs.FaultlessContexts.{TypeWithin}
 use Rattle.read_predicates.specs.TablePlacesResolvedTable.{given_size}
 use Rattle.read_predicates.specs.TablePlacesDossierTable.{type_table}
 use Rattle.read_predicates.proofs.EvaluationRangesAgree.{low_end, range-count}
+use Rattle.static_rules.proofs.FoundCarriers.{arrow-carrier, given-carrier, power-carrier}
 
 -- the last, the second and the first number of the node
 abbrev pub StandsFor : (piece : List ℕ) → Carrier → Type 0
@@ -28,17 +29,9 @@ given-none : (gs : List Given) (x : Name) → given_of gs x ≡ none → carrier
 unfolding carrier_of
 given-none gs x e = rw (carrier_of, e)
 
-given-some : (gs : List Given) (x : Name) (g : Given) → given_of gs x ≡ some g → carrier_of gs (given_type x) ≡ some (elements_of g)
-unfolding carrier_of
-given-some gs x g e = rw (carrier_of, e)
-
 power-none : (gs : List Given) (x : Name) → given_of gs x ≡ none → carrier_of gs (power_type x) ≡ none
 unfolding carrier_of
 power-none gs x e = rw (carrier_of, e)
-
-power-some : (gs : List Given) (x : Name) (g : Given) → given_of gs x ≡ some g → carrier_of gs (power_type x) ≡ some (subsets_of g)
-unfolding carrier_of
-power-some gs x g e = rw (carrier_of, e)
 
 range-some : (gs : List Given) (r : Range) (c : Carrier) → carrier_of gs (range_type r) ≡ some c → some (range_carrier r) ≡ some c
 unfolding carrier_of
@@ -52,11 +45,6 @@ arrow_half : (gs : List Given) (a : Arrow) (x y : Name) (g : Given) → given_of
 unfolding carrier_of
 arrow_half gs a x y g e f = rw (carrier_of, e, f)
 
-arrow-some : (gs : List Given) (a : Arrow) (x y : Name) (g h : Given) → given_of gs x ≡ some g → given_of gs y ≡ some h
-    → carrier_of gs (arrow_type a x y) ≡ some (pairs_in a g h)
-unfolding carrier_of
-arrow-some gs a x y g h e f = rw (carrier_of, e, f)
-
 -- what holds of each type whose given sets are found, and of its carrier, holds of each type that has a carrier
 pub by-carrier : (gs : List Given) (Q : TypeForm → Carrier → Type 0) → ((x : Name) (g : Given) → given_of gs x ≡ some g → Q (given_type x) (elements_of g))
     → ((x : Name) (g : Given) → given_of gs x ≡ some g → Q (power_type x) (subsets_of g)) → ((r : Range) → Q (range_type r) (range_carrier r))
@@ -66,19 +54,19 @@ by-carrier gs Q given power ranged arrow (given_type x) c e = go (given_of gs x)
   where
     go : (o : Option Given) → given_of gs x ≡ o → Q (given_type x) c
     go none k = absurd (none-ne-some c (sym (given-none gs x k) ∙ e))
-    go (some g) k = subst (Q (given_type x)) (some-injective (elements_of g) c (sym (given-some gs x g k) ∙ e)) (given x g k)
+    go (some g) k = subst (Q (given_type x)) (some-injective (elements_of g) c (sym (given-carrier gs x g k) ∙ e)) (given x g k)
 by-carrier gs Q given power ranged arrow (power_type x) c e = go (given_of gs x) refl
   where
     go : (o : Option Given) → given_of gs x ≡ o → Q (power_type x) c
     go none k = absurd (none-ne-some c (sym (power-none gs x k) ∙ e))
-    go (some g) k = subst (Q (power_type x)) (some-injective (subsets_of g) c (sym (power-some gs x g k) ∙ e)) (power x g k)
+    go (some g) k = subst (Q (power_type x)) (some-injective (subsets_of g) c (sym (power-carrier gs x g k) ∙ e)) (power x g k)
 by-carrier gs Q given power ranged arrow (range_type r) c e = subst (Q (range_type r)) (some-injective (range_carrier r) c (range-some gs r c e)) (ranged r)
 by-carrier gs Q given power ranged arrow (arrow_type a x y) c e = go (given_of gs x) refl (given_of gs y) refl
   where
     go : (o : Option Given) → given_of gs x ≡ o → (p : Option Given) → given_of gs y ≡ p → Q (arrow_type a x y) c
     go none k p l = absurd (none-ne-some c (sym (arrow-none gs a x y k) ∙ e))
     go (some g) k none l = absurd (none-ne-some c (sym (arrow_half gs a x y g k l) ∙ e))
-    go (some g) k (some h) l = subst (Q (arrow_type a x y)) (some-injective (pairs_in a g h) c (sym (arrow-some gs a x y g h k l) ∙ e)) (arrow a x y g h k l)
+    go (some g) k (some h) l = subst (Q (arrow_type a x y)) (some-injective (pairs_in a g h) c (sym (arrow-carrier gs a x y g h k l) ∙ e)) (arrow a x y g h k l)
 
 module _ (gs : List Given) (few : (g : Given) → Among g gs → size_of g ≤ 8) where
   -- a type whose carrier is known

@@ -38,8 +38,8 @@ fn second_end(y: &Symbols<'_>, s: usize) -> usize {
     next
 }
 
-// Form 1: 0 is how many numbers such a range has; with an Option `type_values`, whose products take it so, would turn `None` back into 0.
 // How many numbers a range has, with its .. at symbol s; 0 where the first is the larger one.
+// Form 1: 0 is how many numbers such a range has; with an Option `type_values`, whose products take it so, would turn `None` back into 0.
 pub fn range_numbers(y: &Symbols<'_>, s: usize) -> usize {
     let a = end_at(y, s.saturating_sub(1));
     let b = end_at(y, second_end(y, s));
@@ -91,10 +91,7 @@ fn type_values(y: &Symbols<'_>, s: usize) -> usize {
 
 // Do the declarations end with a symbol of this kind?
 fn ends(kind: u8) -> bool {
-    match kind {
-        0 | codes::ABSTRACT | codes::WHERE => true,
-        _ => false,
-    }
+    matches!(kind, 0 | codes::ABSTRACT | codes::WHERE)
 }
 
 // Is a variable of a kind declared at symbol s?
@@ -104,16 +101,10 @@ fn is_variable(y: &Symbols<'_>, s: usize, kind: u8) -> bool {
 
 // How many bindings the variables of a kind have that are declared behind the heading at symbol s.
 pub fn bindings(y: &Symbols<'_>, s: usize, kind: u8) -> usize {
-    let mut r: usize = 1;
-    for k in s.saturating_add(1)..SYMBOLS {
-        if ends(y.kind(k)) {
-            return r;
-        }
-        if is_variable(y, k, kind) {
-            r = times(r, type_values(y, k + 2));
-        }
-    }
-    r
+    (s.saturating_add(1)..SYMBOLS)
+        .take_while(|&k| !ends(y.kind(k)))
+        .filter(|&k| is_variable(y, k, kind))
+        .fold(1, |r, k| times(r, type_values(y, k.saturating_add(2))))
 }
 
 // How many bindings the inputs have of the operation at symbol s, or the outputs where those are not too many.

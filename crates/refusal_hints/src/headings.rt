@@ -26,10 +26,7 @@ fn passed_behind(kind: u8) -> usize {
 
 // Does a heading begin with a symbol of this kind?
 fn begins(kind: u8) -> bool {
-    match kind {
-        codes::GIVEN..=codes::OP => true,
-        _ => false,
-    }
+    matches!(kind, codes::GIVEN..=codes::OP)
 }
 
 fn has_name(kind: u8) -> bool {

@@ -2,29 +2,32 @@
 // reach.
 use crate::samples::{Sample, is_past};
 use lexical::bounds::SYMBOLS;
-use lexical::{codes, endings};
+use lexical::{Ending, codes};
+use lines::byte_of;
 use pages::Page;
-use phrases::texts::ending_byte;
+use phrases::texts::ENDINGS;
 use phrases::words;
-use refusals::Refusal;
+use refusals::{Fault, Refusal};
 use symbol_spans::{Symbols, is_name};
 use text_places::{Span, part, run_end, symbol_end};
 use tried_texts::tried;
 
-const ENDINGS: usize = endings::COUNT as usize;
-
 // Are the letters of a span, with an ending, in reach in the place of the symbol at p? Refusals of passes before say nothing of it.
-fn reaches(text: &[u8], p: usize, letters: Span, ending: usize) -> bool {
+fn reaches(text: &[u8], p: usize, letters: Span, ending: Ending) -> bool {
     let mut sample = Sample::new();
     sample.put_all(part(text, letters));
-    if let Some(b) = ending_byte(ending) {
+    if let Some(b) = byte_of(ending) {
         sample.put(b);
     }
     let answer = tried(text, p, symbol_end(text, p), sample.as_slice());
-    is_past(answer, Refusal::NameInUse, Refusal::NameUnknown, p)
+    let unknown = Fault {
+        refusal: Refusal::NameUnknown,
+        place: p,
+    };
+    is_past(answer, Refusal::NameInUse, unknown)
 }
 
-// The next name on the page, which had so many items before the first one.
+// The next name on the page, which had so many items before the first one; its ending by the place among all endings, since a page has numbers.
 fn say_name(page: &mut Page, before: usize, ending: usize, letters: Span) {
     let phrase = if page.items().len() == before {
         words::A_FIRST_NAME
@@ -55,9 +58,9 @@ fn say_letters(y: &Symbols<'_>, p: usize, s: usize, before: usize, page: &mut Pa
         from,
         to: run_end(y.text, from),
     };
-    for ending in 0..ENDINGS {
-        if reaches(y.text, p, letters, ending) {
-            say_name(page, before, ending, letters);
+    for (n, ending) in ENDINGS.iter().enumerate() {
+        if reaches(y.text, p, letters, *ending) {
+            say_name(page, before, n, letters);
         }
     }
 }

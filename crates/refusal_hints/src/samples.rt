@@ -21,15 +21,12 @@ const FIRST_MARK: usize = 9;
 
 const CODES: usize = 64;
 
-// Is a text read on past a place, by this answer: is it not refused there so? Refusals before the least one say nothing of it.
-pub fn is_past(answer: Option<Fault>, least: Refusal, refused: Refusal, place: usize) -> bool
+// Is a text read on past a fault, by this answer: is it not refused so? Refusals before the least one say nothing of it.
+pub fn is_past(answer: Option<Fault>, least: Refusal, fault: Fault) -> bool
     ensures read { answer ≡ None → result ≡ true }
-    ensures refused_there { IfSome answer (λ f. (f.refusal ≡ refused) × (f.place ≡ place) → result ≡ false) }
+    ensures refused_there { IfSome answer (λ f. (f.refusal ≡ fault.refusal) × (f.place ≡ fault.place) → result ≡ false) }
 {
-    match answer {
-        Some(f) => least <= f.refusal && (f.refusal != refused || f.place != place),
-        None => true,
-    }
+    answer.is_none_or(|f| least <= f.refusal && f != fault)
 }
 
 // Could a symbol of the code that is one more stand there?
@@ -42,12 +39,11 @@ fn stands(text: &[u8], p: usize, code: usize) -> bool {
         sample.put_all(word(&SPELLINGS, code));
     }
     let answer = tried(text, p, text.len(), sample.as_slice());
-    is_past(
-        answer,
-        Refusal::NoDossier,
-        Refusal::NoDossier,
-        p.saturating_add(1),
-    )
+    let fault = Fault {
+        refusal: Refusal::NoDossier,
+        place: p.saturating_add(1),
+    };
+    is_past(answer, Refusal::NoDossier, fault)
 }
 
 // The bits of all that could stand there.

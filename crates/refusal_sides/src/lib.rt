@@ -14,6 +14,7 @@ pub mod trials;
 
 // What is said of the sides of an operator.
 // Form 1: two cases of its own, no Option or Result.
+// Form 7: what is said is chosen at one place, behind the walk to each side; a closure in its stead would go through the same functions, each of which would ask for what it needs (`F.pre`).
 #[derive(Clone, Copy, PartialEq, Eq)]
 pub enum Told {
     Types,

@@ -84,12 +84,11 @@ pub fn fits(text: &[u8], x: Side, t: Term) -> bool {
     let sign = x.atom.from.saturating_add(words.as_slice().len());
     words.put(b'=');
     put_term(text, t, &mut words);
-    is_past(
-        answer_with(text, x, &words),
-        Refusal::NameInUse,
-        Refusal::TypesMisfit,
-        sign,
-    )
+    let misfit = Fault {
+        refusal: Refusal::TypesMisfit,
+        place: sign,
+    };
+    is_past(answer_with(text, x, &words), Refusal::NameInUse, misfit)
 }
 
 // A digit as a byte.
@@ -129,12 +128,10 @@ fn is_over(text: &[u8], x: Side, number: usize) -> bool {
     let mut words = bracketed(text, x);
     put_sum(number, &mut words);
     words.put_all(b"=0");
-    let answer = answer_with(text, x, &words);
     let end = x.atom.from.saturating_add(words.as_slice().len());
-    match answer {
-        Some(f) => f.refusal == Refusal::LargeSize && x.atom.from <= f.place && f.place < end,
-        None => false,
-    }
+    answer_with(text, x, &words).is_some_and(|f| {
+        f.refusal == Refusal::LargeSize && x.atom.from <= f.place && f.place < end
+    })
 }
 
 // The size of the side: what the largest size is more than the largest number with which the side is not too large, found bit by bit.

@@ -3,28 +3,29 @@ ghost use Rattle.std.specs.Prelude.{◌≡◌};
 ghost use Rattle.refusals.specs.Refusals.{number_of};
 ghost use Rattle.refusals.specs.RefusalNames.{refusal_is};
 
+// Form 1: the refusals of document 01 are cases of their own, no Option or Result.
 #[derive(Clone, Copy, Debug, PartialEq, Eq, PartialOrd, Ord)]
 pub enum Refusal {
-    LongText,
-    UnlistedSymbol,
-    ManySymbols,
-    NoDossier,
-    Deep,
-    ManyDeclared,
-    HeadingDiffers,
-    NameInUse,
-    NameUnknown,
-    TypesMisfit,
-    WideType,
-    ManyBindings,
-    LargeSize,
-    ZeroDivisor,
-    AdvanceRange,
-    ShortBytes,
-    NothingHeld,
-    SomethingHeld,
-    CheckFinished,
-    NoCounterexample,
+    LongText = 1,
+    UnlistedSymbol = 2,
+    ManySymbols = 3,
+    NoDossier = 4,
+    Deep = 5,
+    ManyDeclared = 6,
+    HeadingDiffers = 7,
+    NameInUse = 8,
+    NameUnknown = 9,
+    TypesMisfit = 10,
+    WideType = 11,
+    ManyBindings = 12,
+    LargeSize = 13,
+    ZeroDivisor = 14,
+    AdvanceRange = 15,
+    ShortBytes = 16,
+    NothingHeld = 21,
+    SomethingHeld = 22,
+    CheckFinished = 23,
+    NoCounterexample = 24,
 }
 
 impl Refusal {
@@ -32,28 +33,7 @@ impl Refusal {
     pub fn number(self) -> u8
         ensures { result ≡ number_of (refusal_is self) }
     {
-        match self {
-            Refusal::LongText => 1,
-            Refusal::UnlistedSymbol => 2,
-            Refusal::ManySymbols => 3,
-            Refusal::NoDossier => 4,
-            Refusal::Deep => 5,
-            Refusal::ManyDeclared => 6,
-            Refusal::HeadingDiffers => 7,
-            Refusal::NameInUse => 8,
-            Refusal::NameUnknown => 9,
-            Refusal::TypesMisfit => 10,
-            Refusal::WideType => 11,
-            Refusal::ManyBindings => 12,
-            Refusal::LargeSize => 13,
-            Refusal::ZeroDivisor => 14,
-            Refusal::AdvanceRange => 15,
-            Refusal::ShortBytes => 16,
-            Refusal::NothingHeld => 21,
-            Refusal::SomethingHeld => 22,
-            Refusal::CheckFinished => 23,
-            Refusal::NoCounterexample => 24,
-        }
+        self as u8
     }
 }
 

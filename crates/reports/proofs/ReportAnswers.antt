@@ -1,9 +1,12 @@
 -- From what is read of a text and what is written of it to the promise of the report.
 use mathlib.Core.Path.{◌≡◌, refl, sym, ap, subst, ◌∙◌}
+use mathlib.Core.Bool.{true, false}
 use mathlib.Core.List.{List, ◌++◌}
-use Prim.Native.Nat.{ℕ, ◌<◌, ◌≤◌}
+use Prim.Native.Nat.{ℕ, ◌≤◌}
 use native.Mathlib.Nat.{zero-add}
 use native.Mathlib.Omega.{arith}
+use borrow.Author.Tests.{lt-ltb}
+use Rattle.std.proofs.lemmas.Bool.{true≢false}
 use lib.ListN.{length, drop}
 use Rattle.std.specs.Prelude.{Result, Ok, Err}
 use Rattle.refusals.specs.Refusals as refusals
@@ -13,15 +16,14 @@ use Rattle.refusals.specs.declared.Fault.{Fault}
 use Rattle.form.specs.Tree.{Dossier}
 use Rattle.static_rules.specs.Read.{Reading, refusal, reading, read}
 use Rattle.obligations.specs.Order.{Obligation, initialisation, applicability, correctness}
-use Rattle.obligations.specs.Report.{refuted_line, refused_line, reported, report}
+use Rattle.obligations.specs.Report.{refused_line, reported, report}
 use Rattle.held_checks.specs.declared.Obligation as code
 use Rattle.held_checks.specs.Answers.{obligation_is}
 use Rattle.labels.specs.Labels.{LabelsOf}
 use Rattle.table_nodes.specs.TableWalkPromises.{patch}
 use Rattle.pieces.specs.PiecePromises.{Writes}
 use Rattle.text_readings.specs.TextPromises.{ReadAs, ReadsText}
-use Rattle.reports.specs.ReportPromises.{Reported, ObligationIn, RefutedLine, part_of, refusal_piece, LineWritten, VerdictAsked, VerdictWritten}
-use Rattle.reports.proofs.LineRooms.{part-some}
+use Rattle.reports.specs.ReportPromises.{Reported, ObligationIn, RefutedLine, listed, refusal_piece, LineWritten, VerdictAsked, VerdictWritten}
 
 patch-front : (piece out : List ℕ) → patch 0 piece out ≡ piece ++ drop (length piece) out
 unfolding patch
@@ -48,17 +50,11 @@ not-ok e = subst IsErr e tt
 abbrev line_for : Fault → List ℕ
 line_for f = refusal_piece (number_of (fault_is f).refusal) (fault_is f).place
 
--- the part of an obligation that the dossier has, and its line
-inside : (d : Dossier) (o : Obligation) → length d.operations ≤ 16 → ObligationIn d o → part_of o < 33
-inside d initialisation h i = omega arith
-inside d (applicability j) h i = let e = part-some 0 j (omega arith) in omega arith
-inside d (correctness j) h i = let e = part-some 1 j (omega arith) in omega arith
-
-line_of : {text labels before after : List ℕ} {part r : ℕ} (d : Dossier) (o : Obligation) → LabelsOf text labels d → length d.operations ≤ 16 → ObligationIn d o → part ≡ part_of o
-    → LineWritten text labels part 0 before after r → Writes 0 (refuted_line d o) before after r
-line_of d initialisation l h i g w = w.opening d l g
-line_of d (applicability j) l h i g w = w.applying d l j i (let e = part-some 0 j (omega arith) in omega arith)
-line_of d (correctness j) l h i g w = w.correcting d l j i (let e = part-some 1 j (omega arith) in omega arith)
+-- the operation of an obligation that the dossier has is one of 16
+listed-in : (d : Dossier) (o : Obligation) → length d.operations ≤ 16 → ObligationIn d o → listed o ≡ true
+listed-in d initialisation h i = refl
+listed-in d (applicability j) h i = lt-ltb j 16 (omega arith)
+listed-in d (correctness j) h i = lt-ltb j 16 (omega arith)
 
 module _ {text table rows firsts groups labels : List ℕ} where
   -- the text is refused with this fault
@@ -120,16 +116,10 @@ module _ {text table rows firsts groups labels : List ℕ} where
       let h : ReadAs text table rows firsts groups labels (reading d) t = subst (λ (q : Reading). ReadAs text table rows firsts groups labels q t) s w.answer in
       (h.1.labelled, h.1.arrays.operations)
 
-  pub no_line : {t : Result ℕ Fault} {k part : ℕ} (o : code.Obligation) (before : List ℕ) → ReadsText text table rows firsts groups labels t → t ≡ Ok k
-      → part ≡ part_of (obligation_is o) → 33 ≤ part → RefutedLine text o before before 0
-  no_line {part = part} o before w e g h = record {
-    bytes = λ d s i. absurd (let f = inside d (obligation_is o) (few w e d s).1 i in omega arith);
-    short = omega arith;
-  }
+  pub no_line : {t : Result ℕ Fault} {k : ℕ} (o : code.Obligation) (before : List ℕ) → ReadsText text table rows firsts groups labels t → t ≡ Ok k
+      → listed (obligation_is o) ≡ false → RefutedLine text o before before 0
+  no_line o before w e g = record { bytes = λ d s i. absurd (true≢false (sym (listed-in d (obligation_is o) (few w e d s).1 i) ∙ g)); short = omega arith }
 
-  pub line-written : {t : Result ℕ Fault} {k part r : ℕ} {before after : List ℕ} (o : code.Obligation) → ReadsText text table rows firsts groups labels t → t ≡ Ok k
-      → part ≡ part_of (obligation_is o) → LineWritten text labels part 0 before after r → RefutedLine text o before after r
-  line-written o w e g v = record {
-    bytes = λ d s i. let f = few w e d s in line_of d (obligation_is o) f.0 f.1 i g v;
-    short = omega (arith, v.short);
-  }
+  pub line-written : {t : Result ℕ Fault} {k r : ℕ} {before after : List ℕ} (o : code.Obligation) → ReadsText text table rows firsts groups labels t → t ≡ Ok k
+      → LineWritten text labels (obligation_is o) 0 before after r → RefutedLine text o before after r
+  line-written o w e v = record { bytes = λ d s i. v.line d (few w e d s).0 i; short = omega (arith, v.short) }

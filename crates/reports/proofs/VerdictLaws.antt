@@ -1,12 +1,11 @@
 -- The lines of a verdict from what the search came to: those of a refuted check at the place where it failed, those of an accepted one.
 use mathlib.Core.Path.{◌≡◌, refl, sym, ap, subst, ◌∙◌}
 use Rattle.std.specs.Prelude.{Option, None, Some}
-use mathlib.Core.Bool.{Bool, true, false}
+use mathlib.Core.Bool.{true, false}
 use mathlib.Core.List.{List, ◌++◌}
-use Prim.Native.Nat.{ℕ, suc, min, ◌+◌, ◌-◌, ◌*◌, ◌/◌, ◌%◌, ◌^◌, ◌<◌, ◌≤◌}
+use Prim.Native.Nat.{ℕ, suc, min, ◌+◌, ◌^◌, ◌<◌, ◌≤◌}
 use native.Mathlib.Omega.{arith}
-use lib.Dec.{eqb}
-use borrow.Author.Tests.{eqb-true, eqb-false}
+use borrow.Author.Tests.{lt-ltb}
 use lib.ListN.{length, length-append}
 use Rattle.lexical.specs.Lists.{bytes}
 use Rattle.form.specs.Tree.{Dossier}
@@ -18,14 +17,18 @@ use Rattle.labels.specs.ReadingsReadings.{ReadingOf}
 use Rattle.parts.specs.SearchPromises.{SearchAsked, SearchAnswers}
 use Rattle.parts.proofs.ReadingSizes.{reading_small}
 use Rattle.pieces.specs.PiecePromises.{Writes}
+use Rattle.pieces.proofs.Digits.{decimal-length}
 use Rattle.pieces.proofs.WrittenPieces.{both-written}
 use Rattle.labels.specs.Labels.{LabelsOf}
 use Rattle.part_places.specs.Places.{parts, AllAsked, TotalIs, PlaceAsked, PlaceFound}
 use Rattle.part_places.proofs.PlaceObligations.{obligation-opening, obligation-applying, obligation-correcting}
 use Rattle.part_places.proofs.ReadingGroups.{reading-groups}
+use Rattle.held_checks.specs.declared.Obligation as code
+use Rattle.held_checks.specs.Answers.{obligation_is}
+use Rattle.held_checks.specs.StepPromises.{PartTold}
+use Rattle.held_checks.proofs.StepLaws.{told-case}
 use Rattle.witnesses.specs.WitnessPromises.{WitnessAsked, WitnessWritten}
-use Rattle.reports.specs.ReportPromises.{LineWritten, VerdictAsked, VerdictWritten}
-use Rattle.reports.proofs.LineRooms.{digits-short}
+use Rattle.reports.specs.ReportPromises.{ObligationIn, listed, LineWritten, VerdictAsked, VerdictWritten}
 use Rattle.reports.proofs.VerdictLines.{came, whole-look, failed-inside, refuted-lines, accepted-lines}
 
 module _ {text labels table rows firsts groups : List ℕ} {operations : ℕ} (k : VerdictAsked text labels table rows firsts groups operations) where
@@ -66,39 +69,25 @@ module _ {text labels table rows firsts groups : List ℕ} {operations : ℕ} (k
           low = p.low k.dossier (reading-groups k.arrays) k.many at-inside;
         }
 
-        pub part_small : part < 33
-        part_small =
+        pub told-listed : {o : code.Obligation} → PartTold part o → listed (obligation_is o) ≡ true
+        told-listed t =
             let h = p.within k.dossier (reading-groups k.arrays) k.many at-inside in
-            let o = k.arrays.operations in
-            omega arith
+            let n = k.arrays.operations in
+            told-case (λ (x : Obligation). listed x ≡ true) part t (λ e. refl) (λ j e. lt-ltb j 16 (omega arith)) (λ j e. lt-ltb j 16 (omega arith))
 
 pub found-at : {table rows firsts groups : List ℕ} {operations all : ℕ} {f g : Option ℕ} → f ≡ g → SearchAnswers table rows firsts groups operations 0 all f
     → SearchAnswers table rows firsts groups operations 0 all g
 found-at {table} {rows} {firsts} {groups} {operations} {all} e s = subst (λ (x : Option ℕ). SearchAnswers table rows firsts groups operations 0 all x) e s
 
 -- the first line of the obligation at a place of a part
-module _ {text labels before after : List ℕ} {part q x : ℕ} (d : Dossier) (l : LabelsOf text labels d) (h : part < parts d) (low : q < part_size d part)
-    (w : LineWritten text labels part 0 before after x) where
+module _ {text labels before after : List ℕ} {part q x : ℕ} {o : code.Obligation} (t : PartTold part o) (d : Dossier) (l : LabelsOf text labels d) (h : part < parts d) (low : q < part_size d part)
+    (w : LineWritten text labels (obligation_is o) 0 before after x) where
   first-line : Writes 0 (refuted_line d (obligation_of (check_at (subject_of d) (part_begin d part + q)))) before after x
-  first-line = on (eqb part 0) refl
-    where
-      even : (b : Bool) → eqb ((part - 1) % 2) 0 ≡ b → (part ≡ 0 → ⊥) → Writes 0 (refuted_line d (obligation_of (check_at (subject_of d) (part_begin d part + q)))) before after x
-      even true e n =
-          let f = eqb-true ((part - 1) % 2) 0 e in
-          let s : part ≡ 1 + 2 * ((part - 1) / 2) = omega (arith, n) in
-          let g : (part - 1) / 2 < length d.operations = omega arith in
-          subst (λ (o : Obligation). Writes 0 (refuted_line d o) before after x) (sym (obligation-applying d part q low ((part - 1) / 2) s g)) (w.applying d l ((part - 1) / 2) g s)
-      even false e n =
-          let f = eqb-false ((part - 1) % 2) 0 e in
-          let y : (part - 1) % 2 ≡ 1 = omega (arith, f) in
-          let s : part ≡ 2 + 2 * ((part - 1) / 2) = omega (arith, n) in
-          let g : (part - 1) / 2 < length d.operations = omega arith in
-          subst (λ (o : Obligation). Writes 0 (refuted_line d o) before after x) (sym (obligation-correcting d part q low ((part - 1) / 2) s g)) (w.correcting d l ((part - 1) / 2) g s)
-
-      on : (b : Bool) → eqb part 0 ≡ b → Writes 0 (refuted_line d (obligation_of (check_at (subject_of d) (part_begin d part + q)))) before after x
-      on true e =
-          let s = eqb-true part 0 e in subst (λ (o : Obligation). Writes 0 (refuted_line d o) before after x) (sym (obligation-opening d part q low s)) (w.opening d l s)
-      on false e = even (eqb ((part - 1) % 2) 0) refl (eqb-false part 0 e)
+  first-line =
+      subst (λ (y : Obligation). Writes 0 (refuted_line d y) before after x)
+      (told-case (λ (y : Obligation). y ≡ obligation_of (check_at (subject_of d) (part_begin d part + q))) part t (λ e. sym (obligation-opening d part q low e))
+      (λ j e. sym (obligation-applying d part q low j e (omega arith))) (λ j e. sym (obligation-correcting d part q low j e (omega arith))))
+      (w.line d l (told-case (ObligationIn d) part t (λ e. tt) (λ j e. omega arith) (λ j e. omega arith)))
 
 least-self : (n : ℕ) → min n n ≡ n
 least-self n = omega arith
@@ -108,26 +97,26 @@ unfolding bytes
 accepted-long = refl
 
 -- the line with the count
-count-short : (n : ℕ) → n < 18446744073709551616 → length (count_line n) ≤ 30
+count-short : (n : ℕ) → n < 2 ^ 64 → length (count_line n) ≤ 30
 unfolding count_line bytes
 count-short n h =
-    let e = digits-short n h in
+    let e = decimal-length n h in
     let s = length-append (bytes "bindings " ++ decimal n) (bytes "\n") in
     let t = length-append (bytes "bindings ") (decimal n) in
     omega arith
 
 module _ {text labels table rows firsts groups : List ℕ} {operations : ℕ} (k : VerdictAsked text labels table rows firsts groups operations) {all : ℕ}
     (t : TotalIs table groups operations all) {before after : List ℕ} {r : ℕ} where
-  pub refuted-written : {at part q x y n : ℕ} {a b : List ℕ} → SearchAnswers table rows firsts groups operations 0 all (Some at) → PlaceFound table groups operations at part q
-      → LineWritten text labels part 0 before a x → WitnessWritten text labels table groups part q x a b y → n ≡ suc at → Writes y (count_line n) b after r
+  pub refuted-written : {at part q x y n : ℕ} {a b : List ℕ} {o : code.Obligation} → SearchAnswers table rows firsts groups operations 0 all (Some at) → PlaceFound table groups operations at part q
+      → PartTold part o → LineWritten text labels (obligation_is o) 0 before a x → WitnessWritten text labels table groups part q x a b y → n ≡ suc at → Writes y (count_line n) b after r
       → VerdictWritten text labels table rows firsts groups operations before after r
-  refuted-written {at} {part} {q} {x} {y} {n} {a} {b} s p line lines looks count = record {
+  refuted-written {at} {part} {q} {x} {y} {n} {a} {b} s p told line lines looks count = record {
     lines = λ d g l m.
         let e = looked k t s d g m in
         let i = failed-inside d at e in
         let o = reading-groups g in
         let h : at ≡ part_begin d part + q = p.is d o m i in
-        let w = first-line d l (p.within d o m i) (p.low d o m i) line in
+        let w = first-line told d l (p.within d o m i) (p.low d o m i) line in
         let v = lines.lines d o l (p.within d o m i) (p.low d o m i) in
         let u : Writes y (count_line (suc at)) b after r = subst (λ (c : ℕ). Writes y (count_line c) b after r) looks count in
         subst (λ (z : List ℕ). Writes 0 z before after r) (sym (refuted-lines d at e))

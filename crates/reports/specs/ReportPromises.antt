@@ -1,5 +1,5 @@
 -- What the report of a text promises: the bytes of document 01's report stand in front, and no other byte is touched.
-use Rattle.std.specs.Prelude.{◌≡◌, cond, List, ◌++◌, ℕ, ◌+◌, ◌*◌, ◌<◌, ◌≤◌, ltb, length, drop}
+use Rattle.std.specs.Prelude.{◌≡◌, Bool, true, List, ◌++◌, ℕ, ◌+◌, ◌<◌, ◌≤◌, ltb, length, drop}
 use Rattle.lexical.specs.Lists.{bytes}
 use Rattle.form.specs.Tree.{Dossier}
 use Rattle.static_rules.specs.Read.{reading, read}
@@ -31,14 +31,11 @@ pub record RefutedLine (text : List ℕ) (o : code.Obligation) (before after : L
 
 -- What the functions promise each other. Nothing below need be believed.
 
--- the part of an obligation, 33 where its operation is none of 16
-abbrev pub operation_part : (which k : ℕ) → ℕ
-operation_part which k = cond (ltb k 16) (1 + 2 * k + which) 33
-
-abbrev pub part_of : Obligation → ℕ
-part_of initialisation = 0
-part_of (applicability k) = operation_part 0 k
-part_of (correctness k) = operation_part 1 k
+-- the operation of an obligation is one of 16
+abbrev pub listed : Obligation → Bool
+listed initialisation = true
+listed (applicability k) = ltb k 16
+listed (correctness k) = ltb k 16
 
 abbrev pub refusal_piece : (number place : ℕ) → List ℕ
 refusal_piece n p = bytes "refused " ++ decimal n ++ bytes " at " ++ decimal p ++ bytes "\n"
@@ -55,13 +52,9 @@ pub record VerdictWritten (text labels table rows firsts groups : List ℕ) (ope
       → Writes 0 (verdict_lines (subject_of d) (look (subject_of d) (checks (subject_of d)))) before after r
   pub short : r ≤ 19419
 
--- the first line of a refuted check, by its part
-pub record LineWritten (text labels : List ℕ) (part at : ℕ) (before after : List ℕ) (r : ℕ) : Type 0 where
-  pub opening : (d : Dossier) → LabelsOf text labels d → part ≡ 0 → Writes at (refuted_line d initialisation) before after r
-  pub applying : (d : Dossier) → LabelsOf text labels d → (j : ℕ) → j < length d.operations → part ≡ 1 + 2 * j
-      → Writes at (refuted_line d (applicability j)) before after r
-  pub correcting : (d : Dossier) → LabelsOf text labels d → (j : ℕ) → j < length d.operations → part ≡ 2 + 2 * j
-      → Writes at (refuted_line d (correctness j)) before after r
+-- the first line of a refuted check, by its obligation
+pub record LineWritten (text labels : List ℕ) (o : Obligation) (at : ℕ) (before after : List ℕ) (r : ℕ) : Type 0 where
+  pub line : (d : Dossier) → LabelsOf text labels d → ObligationIn d o → Writes at (refuted_line d o) before after r
   pub long : length after ≡ length before
   pub onward : at ≤ r
   pub short : r ≤ at + 39

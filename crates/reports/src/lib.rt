@@ -1,35 +1,31 @@
 // The report of a text: what the program prints.
 #![tactic(auto)]
 
-ghost use Rattle.std.specs.Prelude.{◌≡◌, ◌+◌, ◌≤◌, ◌<◌, length, get_or};
+ghost use Rattle.std.specs.Prelude.{◌≡◌, ◌+◌, ◌≤◌, ◌<◌, true, length, get_or};
 ghost use Rattle.refusals.specs.Refusals.{number_of};
 ghost use Rattle.refusals.specs.RefusalNames.{refusal_is};
 ghost use Rattle.obligations.specs.Report.{count_line};
 ghost use Rattle.pieces.specs.PiecePromises.{Writes, Adds, letters_at};
-ghost use Rattle.reports.specs.ReportPromises.{Reported, RefutedLine, LineWritten, VerdictAsked, VerdictWritten, refusal_piece, operation_part, part_of};
+ghost use Rattle.reports.specs.ReportPromises.{Reported, RefutedLine, LineWritten, VerdictAsked, VerdictWritten, refusal_piece, listed};
 ghost use Rattle.held_checks.specs.Answers.{obligation_is};
 
-use held_checks::Obligation;
+use held_checks::{Obligation, obligation_of};
 use labels::{Names, TITLES};
-use part_places::{OBLIGATIONS, OPENING, find, total};
+use lexical::bounds::OPERATIONS;
+use part_places::{find, total};
 use parts::search;
 use pieces::Writer;
-use refusals::Refusal;
+use refusals::Fault;
 use search_groups::Dossier;
 use text_readings::Arrays;
-use witnesses::put_witness;
+use witnesses::{WITNESS, put_witness};
 
-// Form 1: lengths and counts, no kinds.
-// The greatest length of a report: a first line of 39 bytes, a witness, a line with the count of 30.
-pub const REPORT: usize = 19419;
-
-// The greatest length of the first line.
+// The greatest length of the first line, of the line with the count, and of a report: the first line, a witness, the count.
 pub const FIRST_LINE: usize = 39;
 
-// How many parts there are at most.
-const PARTS: usize = 33;
+const COUNT_LINE: usize = 30;
 
-const OPERATIONS: usize = 16;
+pub const REPORT: usize = FIRST_LINE + WITNESS + COUNT_LINE;
 
 // The name of the k-th operation.
 fn put_title(names: &Names<'_>, k: usize, w: &mut Writer<'_>)
@@ -40,24 +36,26 @@ fn put_title(names: &Names<'_>, k: usize, w: &mut Writer<'_>)
     w.put_letters(names.text, usize::from(names.label(TITLES + k)));
 }
 
-// The first line of a refuted check.
-pub fn put_refuted(names: &Names<'_>, part: usize, w: &mut Writer<'_>)
-    requires { (part < 33) × (w.old.at + 39 ≤ length w.old.out.now) }
+// The first line of a refuted check, by its obligation.
+pub fn put_refuted(names: &Names<'_>, o: Obligation, w: &mut Writer<'_>)
+    requires listed { listed (obligation_is o) ≡ true }
+    requires room { w.old.at + 39 ≤ length w.old.out.now }
     ensures same_bytes { w.new.out.ghost_name ≡ w.old.out.ghost_name }
-    ensures written { LineWritten names.now.text.now names.now.labels.now part w.old.at w.old.out.now w.new.out.now w.new.at }
+    ensures written { LineWritten names.now.text.now names.now.labels.now (obligation_is o) w.old.at w.old.out.now w.new.out.now w.new.at }
 {
-    if part < OPENING {
-        return w.put_all(b"refuted initialisation\n");
+    match o {
+        Obligation::Initialisation => w.put_all(b"refuted initialisation\n"),
+        Obligation::Applicability(k) => {
+            w.put_all(b"refuted applicability ");
+            put_title(names, k, w);
+            w.put(b'\n');
+        }
+        Obligation::Correctness(k) => {
+            w.put_all(b"refuted correctness ");
+            put_title(names, k, w);
+            w.put(b'\n');
+        }
     }
-    let k = (part - OPENING) / OBLIGATIONS;
-    if (part - OPENING) % OBLIGATIONS == 0 {
-        w.put_all(b"refuted applicability ");
-        put_title(names, k, w);
-        return w.put(b'\n');
-    }
-    w.put_all(b"refuted correctness ");
-    put_title(names, k, w);
-    w.put(b'\n');
 }
 
 // The line with the count.
@@ -72,15 +70,15 @@ fn put_count(n: usize, w: &mut Writer<'_>)
 }
 
 // The line of a refusal.
-fn put_refusal(refusal: Refusal, place: usize, out: &mut [u8]) -> usize
+fn put_refusal(f: Fault, out: &mut [u8]) -> usize
     requires { 53 ≤ length out.old }
-    ensures { Writes 0 (refusal_piece (number_of (refusal_is refusal)) place) out.old out.new result × (result ≤ 53) }
+    ensures { Writes 0 (refusal_piece (number_of (refusal_is f.refusal)) f.place) out.old out.new result × (result ≤ 53) }
 {
     let mut w = Writer { out, at: 0 };
     w.put_all(b"refused ");
-    w.put_decimal(u64::from(refusal.number()));
+    w.put_decimal(u64::from(f.refusal.number()));
     w.put_all(b" at ");
-    w.put_decimal(place as u64);
+    w.put_decimal(f.place as u64);
     w.put(b'\n');
     w.at
 }
@@ -100,7 +98,7 @@ fn put_verdict(names: &Names<'_>, d: &Dossier<'_>, out: &mut [u8]) -> usize
         return w.at;
     };
     let f = find(d, place);
-    put_refuted(names, f.part, &mut w);
+    put_refuted(names, obligation_of(f.part), &mut w);
     put_witness(names, d, f, &mut w);
     put_count(place + 1, &mut w);
     w.at
@@ -113,7 +111,7 @@ pub fn report(text: &[u8], out: &mut [u8; REPORT]) -> usize
     let mut a = Arrays::new();
     let answer = a.read(text);
     match answer {
-        Err(fault) => put_refusal(fault.refusal, fault.place, out),
+        Err(f) => put_refusal(f, out),
         Ok(operations) => {
             let names = Names {
                 text,
@@ -125,35 +123,24 @@ pub fn report(text: &[u8], out: &mut [u8; REPORT]) -> usize
     }
 }
 
-// The part of an operation's obligation; one that no dossier has where the operation is none of 16.
-fn operation_part(k: usize, which: usize) -> usize
-    requires { which ≤ 1 }
-    ensures { result ≡ operation_part which k }
-{
-    if k >= OPERATIONS {
-        return PARTS;
-    }
-    OPENING + OBLIGATIONS * k + which
-}
-
-// The part of an obligation.
-fn part_of(o: Obligation) -> usize
-    ensures { result ≡ part_of (obligation_is o) }
+// Is the operation of an obligation one of the 16 that a dossier may have?
+fn is_listed(o: Obligation) -> bool
+    ensures { result ≡ listed (obligation_is o) }
 {
     match o {
-        Obligation::Initialisation => 0,
-        Obligation::Applicability(k) => operation_part(k, 0),
-        Obligation::Correctness(k) => operation_part(k, 1),
+        Obligation::Initialisation => true,
+        Obligation::Applicability(k) | Obligation::Correctness(k) => k < OPERATIONS as usize,
     }
 }
 
 // The first line of a refuted check, in front of the lent bytes.
-fn put_first_line(names: &Names<'_>, part: usize, out: &mut [u8]) -> usize
-    requires { (part < 33) × (39 ≤ length out.old) }
-    ensures { LineWritten names.now.text.now names.now.labels.now part 0 out.old out.new result }
+fn put_first_line(names: &Names<'_>, o: Obligation, out: &mut [u8]) -> usize
+    requires listed { listed (obligation_is o) ≡ true }
+    requires room { 39 ≤ length out.old }
+    ensures { LineWritten names.now.text.now names.now.labels.now (obligation_is o) 0 out.old out.new result }
 {
     let mut w = Writer { out, at: 0 };
-    put_refuted(names, part, &mut w);
+    put_refuted(names, o, &mut w);
     w.at
 }
 
@@ -166,15 +153,14 @@ pub fn refuted_line(text: &[u8], o: Obligation, out: &mut [u8; FIRST_LINE]) -> u
     match answer {
         Err(_) => 0,
         Ok(_) => {
-            let part = part_of(o);
-            if part >= PARTS {
+            if !is_listed(o) {
                 return 0;
             }
             let names = Names {
                 text,
                 labels: &a.labels,
             };
-            put_first_line(&names, part, out)
+            put_first_line(&names, o, out)
         }
     }
 }

@@ -10,8 +10,8 @@ use Rattle.table_nodes.specs.TableWalkPromises.{patch}
 use Rattle.table_places.specs.DossierTable.{slots_of, starts_of}
 use Rattle.search_groups.specs.Conjuncts.{context_rows, context_firsts}
 use Rattle.search_groups.specs.GroupPromises.{Conjoin, Conjoined, Wrote, place_of, RowsAt, no_rows, more_rows, Marked, ContextPut, ContextsAhead, ListPut, Standing, Listed}
-use Rattle.table_nodes.proofs.Pieces.{patch-length, patch-behind}
-use Rattle.search_groups.proofs.GroupPlaces.{patch-none, patch-more}
+use Rattle.table_nodes.proofs.Pieces.{patch-none, patch-length, patch-behind}
+use Rattle.search_groups.proofs.GroupPlaces.{patch-more}
 use Rattle.search_groups.proofs.ConjunctContexts.{twice, twice-is, starts_by, starts_are, dossier-rows}
 
 -- one context

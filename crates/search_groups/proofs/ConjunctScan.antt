@@ -8,6 +8,10 @@ use native.Mathlib.Omega.{arith}
 use lib.Dec.{leb, ltb}
 use lib.ListN.{length, get_or}
 use borrow.Author.Tests.{eq-eqb, ne_eqb, le-leb, lt-leb, lt-ltb, le-ltb}
+use Rattle.std.specs.declared.cmp.Ordering.{Ordering}
+use Rattle.std.specs.declared.cmp.Ordering.TheVariants.{Less, Equal, Greater}
+use Rattle.std.specs.Cmp.{ranks}
+use Rattle.std.specs.Ordering.{is_le, is_lt, nat_cmp, MatchOrdering}
 use Rattle.search_groups.specs.Conjuncts.{last_in}
 use Rattle.search_groups.specs.GroupPromises.{slot_here, slots_at, Noted, LastsOf, LastsAhead}
 use Rattle.search_groups.specs.declared.conjuncts.Mentioned.{Mentioned}
@@ -56,29 +60,35 @@ scan-done : (x : List ℕ) (base n best all : ℕ) → max best (last_in base n 
 unfolding last_in
 scan-done x base n best all g h = sym (max-zero best) ∙ ap (λ (x : List ℕ). max best (last_in base n x)) (sym (few-slots x h)) ∙ g
 
+-- what a range's `contains` answers
+at_most : (x y : ℕ) (r : Ordering) → MatchOrdering r (x < y) (x ≡ y) (y < x) → is_le r ≡ leb x y
+at_most x y Less h = sym (le-leb x y (omega arith))
+at_most x y Equal h = sym (le-leb x y (omega arith))
+at_most x y Greater h = sym (lt-leb x y h)
+
+below : (x y : ℕ) (r : Ordering) → MatchOrdering r (x < y) (x ≡ y) (y < x) → is_lt r ≡ ltb x y
+below x y Less h = sym (lt-ltb x y h)
+below x y Equal h = sym (le-ltb x y (omega arith))
+below x y Greater h = sym (le-ltb x y (omega arith))
+
 -- the place of a slot in its group, from 1; 0 where it is in another one
+pub ranked-slot : (a base n : ℕ) (t : Bool) → is_le (nat_cmp base a) && is_lt (nat_cmp a (base + n)) ≡ t → cond t (a - base + 1) 0 ≡ last_in base n (a ∷ [])
+unfolding last_in
+ranked-slot a base n t e =
+    sym (
+    ap (λ (x : Bool). max (cond x (a - base + 1) 0) 0)
+    (sym (ap₂ ◌&&◌ (at_most base a (nat_cmp base a) (ranks base a)) (below a (base + n) (nat_cmp a (base + n)) (ranks a (base + n)))) ∙ e)
+    ∙ max-zero (cond t (a - base + 1) 0)
+    )
+
+-- a node of shape 2 has one slot, another one none
+pub slot-one : (k a base n : ℕ) → k ≡ 2 → last_in base n (a ∷ []) ≡ last_in base n (slot_here k a)
+unfolding slot_here
+slot-one k a base n h = sym (ap (λ (t : Bool). last_in base n (cond t (a ∷ []) [])) (eq-eqb k 2 h))
+
 no_slot : (k a base n : ℕ) → (k ≡ 2 → ⊥) → 0 ≡ last_in base n (slot_here k a)
 unfolding slot_here last_in
 no_slot k a base n h = sym (ap (λ (t : Bool). last_in base n (cond t (a ∷ []) [])) (ne_eqb k 2 h))
-
-one-slot : (k a base n : ℕ) → k ≡ 2 → (t u : Bool) → leb base a ≡ t → ltb a (base + n) ≡ u → last_in base n (slot_here k a) ≡ cond (t && u) (a - base + 1) 0
-unfolding slot_here last_in
-one-slot k a base n h t u e f =
-    ap (λ (t : Bool). last_in base n (cond t (a ∷ []) [])) (eq-eqb k 2 h)
-    ∙ ap₂ (λ (x y : Bool). max (cond (x && y) (a - base + 1) 0) 0) e f
-    ∙ max-zero (cond (t && u) (a - base + 1) 0)
-
-pub rank-none : (k a base n : ℕ) → (k ≡ 2 → ⊥) → 0 ≡ last_in base n (slot_here k a)
-rank-none k a base n h = no_slot k a base n h
-
-pub rank-before : (k a base n : ℕ) → k ≡ 2 → a < base → 0 ≡ last_in base n (slot_here k a)
-rank-before k a base n e h = sym (one-slot k a base n e false _ (lt-leb base a h) refl)
-
-pub rank-behind : (k a base n : ℕ) → k ≡ 2 → base ≤ a → base + n ≤ a → 0 ≡ last_in base n (slot_here k a)
-rank-behind k a base n e g h = sym (one-slot k a base n e true false (le-leb base a g) (le-ltb a (base + n) h))
-
-pub rank-here : (k a base n : ℕ) → k ≡ 2 → base ≤ a → a < base + n → a - base + 1 ≡ last_in base n (slot_here k a)
-rank-here k a base n e g h = sym (one-slot k a base n e true true (le-leb base a g) (lt-ltb a (base + n) h))
 
 -- ---- all groups in one scan
 

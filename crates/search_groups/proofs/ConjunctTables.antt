@@ -5,7 +5,8 @@ use Prim.Native.Nat.{ℕ, ◌+◌, ◌-◌, ◌≤◌, ◌<◌}
 use native.Mathlib.Omega.{arith}
 use lib.ListN.{length, take, drop, get_or, length-append, length-drop}
 use lib.Seq.{length-take-le, take-take, take-append_seam, take-add, drop_at, drop-drop, get_or-append-add, get_or-take, get_or-drop}
-use Rattle.std.proofs.Common.{Option, Some, None}
+use Rattle.std.proofs.Common.{Option, Some, None, Bool, true, false}
+use Rattle.std.specs.Bool.{then_some}
 use Rattle.form.specs.Codes.{node}
 use Rattle.node_spans.specs.Spans.{Stands}
 use Rattle.table_nodes.specs.TableWalkPromises.{patch}
@@ -109,6 +110,15 @@ middle-found t from end m e f g h l =
       none = λ front k i a b s n. let w = last-node front k i a b s in absurd (n (sym w.shape ∙ e) (sym w.first ∙ f));
       found = λ x y s. ap (λ (i : ℕ). Some i) (g ∙ (last-of-two x y 18 (from + length x) 51 0 s).place);
     }
+
+-- what is found, if it is inside
+pub middle-picked : (t : List ℕ) (from end m : ℕ) (b : Bool) (r : Option ℕ) → r ≡ then_some b m → get_or t (end - 1) 0 ≡ 18 → get_or t (end - 3) 0 ≡ 51 → m ≡ get_or t (end - 2) 0
+    → (b ≡ true → (from ≤ m) × (m + 4 ≤ end)) → (b ≡ false → from ≤ m → m + 4 ≤ end → ⊥) → Middle t from end r
+middle-picked t from end m b r q e f g inside outside = subst (λ (o : Option ℕ). Middle t from end o) (sym q) (go b refl)
+  where
+    go : (x : Bool) → b ≡ x → Middle t from end (then_some x m)
+    go true h = let w = inside h in middle-found t from end m e f g w.0 w.1
+    go false h = middle-none t from end (λ n k l u. outside h (omega arith) (omega arith))
 
 -- what was found is inside
 pub middle-some : {t : List ℕ} {from end m : ℕ} {r : Option ℕ} → Middle t from end r → r ≡ Some m → Middle t from end (Some m)

@@ -3,24 +3,15 @@ use mathlib.Core.Path.{◌≡◌, refl, sym, ap, ap₂, ◌∙◌, subst}
 use mathlib.Core.List.{List, [], ◌∷◌, ◌++◌, append_assoc, append-nil}
 use Prim.Native.Nat.{ℕ, suc, ◌+◌, ◌-◌, ◌%◌, ◌≤◌, ◌<◌}
 use native.Mathlib.Omega.{arith}
-use lib.ListN.{length, take, drop, get_or, set, replicate, length-set, length-append, length-drop, length-replicate, take-append-drop, drop_of_length-le}
-use lib.Seq.{set_split, drop-drop, length-take-le}
+use lib.ListN.{length, take, drop, get_or, set, replicate, length-set, length-append, length-drop, length-replicate, drop_of_length-le}
+use lib.Seq.{drop-drop, length-take-le}
 use Rattle.node_spans.specs.Spans.{Stands, span}
 use Rattle.table_nodes.specs.TableWalkPromises.{patch}
 use Rattle.table_places.specs.DossierTable.{row}
 use Rattle.search_groups.specs.GroupPromises.{Picks, no_pick, pick, pass, Picked, Chosen, PickedAll, GroupPut, OperationPut}
-use Rattle.table_nodes.proofs.Pieces.{patch-length, patch-before, patch-behind}
+use Rattle.table_nodes.proofs.Pieces.{patch-none, patch-set, patch-length, patch-before, patch-behind}
 use Rattle.search_groups.proofs.ConjunctTables.{stands-length, stands-right, stands_at}
 use Rattle.search_groups.proofs.GroupPicks.{row-length}
-
--- nothing is written; one number is
-pub patch-none : (n : ℕ) (out : List ℕ) → patch n [] out ≡ out
-unfolding patch
-patch-none n out = let e : n + 0 ≡ n = omega arith in ap (λ (k : ℕ). take n out ++ drop k out) e ∙ take-append-drop n out
-
-patch-set : (n v : ℕ) (out : List ℕ) → n < length out → set out n v ≡ patch n (v ∷ []) out
-unfolding patch
-patch-set n v out h = let e : suc n ≡ n + 1 = omega arith in set_split out n v h ∙ ap (λ (k : ℕ). take n out ++ (v ∷ drop k out)) e
 
 -- one number more behind the piece
 pub patch-more : (n m v : ℕ) (x out : List ℕ) → m ≡ n + length x → m < length out → set (patch n x out) m v ≡ patch n (x ++ (v ∷ [])) out

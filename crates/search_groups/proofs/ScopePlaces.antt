@@ -21,13 +21,13 @@ use Rattle.table_places.specs.StaticRulesScope.{Scope, binding, type_of_name, el
 use Rattle.table_places.specs.StaticRulesNames.{of_name, judge_term}
 use Rattle.type_rules.specs.TypesByNumber.{entry}
 use Rattle.table_places.proofs.NamesReachTables.{Numbered}
-use Rattle.table_places.proofs.NamesTypesAgreeLeast.{not_nil}
 use Rattle.table_places.proofs.NamesTypesAgreeTypes.{no-yes}
 use Rattle.table_places.proofs.NamesTypesAgreeScope.{any-there, find-here, find-there}
 use Rattle.table_nodes.specs.TableByNumber as table
 use Rattle.table_nodes.specs.TableByNumber.{Places, next_slot}
 use Rattle.table_places.specs.ResolvedTable as resolved
 use Rattle.table_places.specs.ResolvedTable.{Slots}
+use Rattle.refusals.proofs.FaultLists.{not_nil}
 
 abbrev pub slot_of : Slots → Name → Option (Name × ℕ)
 slot_of W x = find (λ (w : Name × ℕ). same_name w.0 x) W

@@ -1,4 +1,5 @@
-// Form 1: places in a row, no kinds; `NO_COLUMN`, for a search of one group, is a column number of the definitions (`level_of` of plans).
+// Form 1: places in a row, no kinds. `NO_COLUMN` is what a search of one group has as its first column: the definition of a conjunct's level (`level_of` of
+// plans) has it as a number, and an Option would be turned back into that number wherever a promise speaks of the search.
 // In the row of a conjunct: where its nodes end, and from the third number on the last variable of each group that it mentions.
 pub const END: usize = 1;
 

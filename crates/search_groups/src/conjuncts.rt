@@ -1,5 +1,5 @@
 // The conjuncts of each predicate, read off the table: where each one's nodes are, and the last variable of every group that it mentions.
-ghost use Rattle.std.specs.Prelude.{◌≡◌, ◌+◌, ◌≤◌, ◌<◌, length};
+ghost use Rattle.std.specs.Prelude.{◌≡◌, [], ◌∷◌, ◌+◌, ◌≤◌, ◌<◌, length};
 ghost use Rattle.search_groups.specs.Conjuncts.{last_in, conjunct_row};
 ghost use Rattle.search_groups.specs.GroupPromises.{slot_here, slots_at, piece, Noted, LastsOf, Middle, RowPut, Conjoined, Marked};
 ghost use Rattle.search_groups.specs.GroupPromises.{Place, ContextPut, ListPut, Listed};
@@ -7,10 +7,10 @@ ghost use Rattle.search_groups.specs.GroupPromises.{Place, ContextPut, ListPut, 
 use crate::Parts;
 use crate::contexts::{OPERATIONS, SIDES};
 use form::node;
-use lexical::{bounds, codes};
+use form::operator_codes::AND;
+use lexical::bounds;
 use node_spans::{LARGEST, span};
 use table_nodes::{slots, table_shapes};
-use type_rules::kinds::index;
 
 // How many variables a state has at most; inputs and outputs an operation.
 // Form 1: limits of document 01, which are bytes, beside the table's numbers of 16 bits.
@@ -24,14 +24,12 @@ const OUTPUTS: u16 = bounds::OUTPUTS as u16;
 // Form 1: a length, and places in a node, no kinds.
 pub const ROW: usize = 8;
 
-// How far before its end a node's numbers stand; the code of `and`.
+// How far before its end a node's numbers stand.
 const SHAPE_BACK: usize = 1;
 
 const PLACE_BACK: usize = 2;
 
 const A_BACK: usize = 3;
-
-const AND: u16 = codes::AND as u16;
 
 // Which span the first predicate of the operations begins at.
 const PARAMETERS_LAST: usize = span::OPERATIONS + span::LAST;
@@ -39,22 +37,17 @@ const PARAMETERS_LAST: usize = span::OPERATIONS + span::LAST;
 // A number for each predicate and one behind them, with room to spare.
 pub const FIRSTS: usize = 40;
 
-// The place, counted from 1, that the slot of a node has in the group of n slots from `base` on.
-// Form 1: a node with none of them has 0, as the rows do, and `max` then leaves what was found before.
-fn rank(k: u16, a: u16, base: u16, n: u16) -> u16
+// The place, counted from 1, that a slot has in the group of n slots from `base` on.
+// Form 1: another slot has 0, as the rows do, and `max` then leaves what was found before.
+fn rank(a: u16, base: u16, n: u16) -> u16
     requires { base + n ≤ 64 }
-    ensures { result ≡ last_in base n (slot_here k a) }
+    ensures { result ≡ last_in base n (a ∷ []) }
 {
-    if k != table_shapes::SLOT {
-        return 0;
+    if (base..base + n).contains(&a) {
+        a - base + 1
+    } else {
+        0
     }
-    if a < base {
-        return 0;
-    }
-    if base + n <= a {
-        return 0;
-    }
-    a - base + 1
 }
 
 // The last variable of each group that some nodes mention, counted from 1. The last two are those of primed concrete and abstract variables.
@@ -77,12 +70,12 @@ fn noted(l: Mentioned, k: u16, a: u16) -> Mentioned
         return l;
     }
     Mentioned {
-        abstracts: l.abstracts.max(rank(k, a, slots::ABSTRACT, VARIABLES)),
-        concretes: l.concretes.max(rank(k, a, slots::CONCRETE, VARIABLES)),
-        inputs: l.inputs.max(rank(k, a, slots::INPUTS, INPUTS)),
-        outputs: l.outputs.max(rank(k, a, slots::OUTPUTS, OUTPUTS)),
-        cprimed: l.cprimed.max(rank(k, a, slots::CONCRETE_PRIMED, VARIABLES)),
-        aprimed: l.aprimed.max(rank(k, a, slots::ABSTRACT_PRIMED, VARIABLES)),
+        abstracts: l.abstracts.max(rank(a, slots::ABSTRACT, VARIABLES)),
+        concretes: l.concretes.max(rank(a, slots::CONCRETE, VARIABLES)),
+        inputs: l.inputs.max(rank(a, slots::INPUTS, INPUTS)),
+        outputs: l.outputs.max(rank(a, slots::OUTPUTS, OUTPUTS)),
+        cprimed: l.cprimed.max(rank(a, slots::CONCRETE_PRIMED, VARIABLES)),
+        aprimed: l.aprimed.max(rank(a, slots::ABSTRACT_PRIMED, VARIABLES)),
     }
 }
 
@@ -127,26 +120,15 @@ fn write(table: &[u16], from: usize, end: usize, row: &mut [u16])
 fn middle(table: &[u16], from: usize, end: usize) -> Option<usize>
     ensures { Middle table.now from end result }
 {
-    if table.len() < end {
+    if end < node::SIZE
+        || table.len() < end
+        || table[end - SHAPE_BACK] != table_shapes::CONNECTED
+        || table[end - A_BACK] != AND
+    {
         return None;
     }
-    if end < node::SIZE {
-        return None;
-    }
-    if table[end - SHAPE_BACK] != table_shapes::CONNECTED {
-        return None;
-    }
-    if table[end - A_BACK] != AND {
-        return None;
-    }
-    let m = index(table[end - PLACE_BACK]);
-    if m < from {
-        return None;
-    }
-    if end - node::SIZE < m {
-        return None;
-    }
-    Some(m)
+    let m = usize::from(table[end - PLACE_BACK]);
+    (from <= m && m <= end - node::SIZE).then_some(m)
 }
 
 // Rows in the lent array, and the place behind them.
@@ -162,26 +144,17 @@ impl<'a> Rows<'a> {
         ensures same_rows { self.new.out.ghost_name ≡ self.old.out.ghost_name }
         ensures put { RowPut table.now from end self.old.at self.old.out.now self.new.out.now self.new.at }
     {
-        if end < from {
-            return;
+        let room = self.out.len();
+        if from <= end
+            && end <= table.len()
+            && end <= LARGEST
+            && room <= LARGEST
+            && ROW <= room
+            && self.at <= room - ROW
+        {
+            write(table, from, end, &mut self.out[self.at..self.at + ROW]);
+            self.at += ROW;
         }
-        if table.len() < end {
-            return;
-        }
-        if LARGEST < end {
-            return;
-        }
-        if LARGEST < self.out.len() {
-            return;
-        }
-        if self.out.len() < ROW {
-            return;
-        }
-        if self.out.len() - ROW < self.at {
-            return;
-        }
-        write(table, from, end, &mut self.out[self.at..self.at + ROW]);
-        self.at += ROW;
     }
 
     // The rows of the conjuncts of the predicate whose nodes stand between two places.
@@ -226,8 +199,8 @@ fn context(p: &Parts<'_>, j: usize, rows: &mut Rows<'_>)
     ensures same_rows { rows.new.out.ghost_name ≡ rows.old.out.ghost_name }
     ensures put { ContextPut p.now.nodes.now p.now.spans.now j rows.old.at rows.old.out.now rows.new.out.now rows.new.at }
 {
-    let from = index(p.spans[j]);
-    let end = index(p.spans[j + 1]);
+    let from = usize::from(p.spans[j]);
+    let end = usize::from(p.spans[j + 1]);
     rows.conjoin(p.nodes, from + node::SIZE, end);
 }
 

@@ -7,7 +7,6 @@ use form::name_endings::{INPUT, OUTPUT, PLAIN};
 use form::node;
 use lexical::{bounds, endings};
 use node_spans::span;
-use type_rules::kinds::index;
 
 // How many variables a group has at most. A row has one number more; an operation has two rows, behind those of the two states.
 // Form 1: limits of document 01 and lengths made of them, no kinds.
@@ -73,8 +72,8 @@ fn operation(p: &Parts<'_>, j: usize, rows: &mut [u16])
     requires { (j + 2 ≤ 80) × (length rows.old ≡ 8) }
     ensures { OperationPut p.now.nodes.now p.now.spans.now j rows.old rows.new }
 {
-    let from = index(p.spans[j]);
-    let to = index(p.spans[j + 1]);
+    let from = usize::from(p.spans[j]);
+    let to = usize::from(p.spans[j + 1]);
     group(p.nodes, from, to, INPUT, &mut rows[..INPUTS_ROW]);
     group(p.nodes, from, to, OUTPUT, &mut rows[INPUTS_ROW..]);
 }
@@ -82,10 +81,7 @@ fn operation(p: &Parts<'_>, j: usize, rows: &mut [u16])
 fn operation_rows(p: &Parts<'_>, out: &mut [u16; GROUPS])
     ensures { RowsPut p.now.nodes.now p.now.spans.now p.now.operations out.old out.new }
 {
-    for k in 0..span::MOST {
-        if p.operations <= k {
-            return;
-        }
+    for k in 0..p.operations.min(span::MOST) {
         let at = STATES_ROWS + OPERATION_ROWS * k;
         operation(
             p,
@@ -99,10 +95,10 @@ fn operation_rows(p: &Parts<'_>, out: &mut [u16; GROUPS])
 pub fn groups(p: &Parts<'_>, out: &mut [u16; GROUPS])
     ensures { Grouped p.now.nodes.now p.now.spans.now p.now.operations out.old out.new }
 {
-    let a = index(p.spans[span::ABSTRACT_FIRST]);
-    let b = index(p.spans[span::ABSTRACT_LAST]);
-    let c = index(p.spans[span::CONCRETE_FIRST]);
-    let d = index(p.spans[span::CONCRETE_LAST]);
+    let a = usize::from(p.spans[span::ABSTRACT_FIRST]);
+    let b = usize::from(p.spans[span::ABSTRACT_LAST]);
+    let c = usize::from(p.spans[span::CONCRETE_FIRST]);
+    let d = usize::from(p.spans[span::CONCRETE_LAST]);
     group(p.nodes, a, b, PLAIN, &mut out[..STATE_ROW]);
     group(p.nodes, c, d, PLAIN, &mut out[STATE_ROW..STATES_ROWS]);
     operation_rows(p, out);

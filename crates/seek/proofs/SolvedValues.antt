@@ -25,6 +25,7 @@ use Rattle.seek.specs.AimPromises.{Says, Equates, AimAsked, AimAnswers}
 use Rattle.seek.proofs.LevelTests.{hold}
 use Rattle.seek.proofs.SlotPlaces.{concrete-plain, abstract-plain}
 use Rattle.seek.proofs.StoredPoints.{stored-plain, stored-primed}
+use Rattle.lexical.proofs.BooleanTests.{not-true}
 
 -- ---- arrays in which the variable has another value: in the array of a side only its own slot is changed
 
@@ -148,10 +149,6 @@ asks {table} {plan} {cells} {at = at} k (more_tests {f = f} {fs = fs} h t r) l m
           })
     ]
 
-not_so : (b : Bool) → (b ≡ true → ⊥) → b ≡ false
-not_so true n = absurd (n refl)
-not_so false n = refl
-
 -- ---- which values to look at
 
 module _ {table plan cells : List ℕ} {u l slot n : ℕ} {a : List (List ℤ)} (q : AimAsked table plan cells u l slot n a) where
@@ -179,7 +176,7 @@ module _ {table plan cells : List ℕ} {u l slot n : ℕ} {a : List (List ℤ)} 
       fails tests δ s t x h no_value =
           let k = asked-at t in
           k.decides (moved δ slot x)
-          (not_so (k.test (moved δ slot x)) (λ z. no_value (told w.says (test-is k.is) s q.slot_low v x (subst (λ (i : ℕ). x < i) q.count h) z)))
+          (not-true (k.test (moved δ slot x)) (λ z. no_value (told w.says (test-is k.is) s q.slot_low v x (subst (λ (i : ℕ). x < i) q.count h) z)))
 
       apart : (i j : ℕ) → i < j → j < count_in cells slot → value_in cells slot i ≡ y → value_in cells slot j ≡ y → ⊥
       apart i j o h e g =

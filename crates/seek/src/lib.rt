@@ -13,10 +13,10 @@ ghost use Rattle.seek.specs.SeekPromises.{StoreAsked, StoreAnswers, LevelAsked, 
 use evaluator::value;
 use memo::recall;
 use mentions::equations::solving;
-use plans::PartSearch;
+use plans::{PLAN, PartSearch};
 use points::plan::{FIRST_COUNT, FIRST_SLOT, HEAD, SECOND_SLOT};
 use points::slots::{ABSTRACT_PRIMED, AFTER, BEFORE, CONCRETE, CONCRETE_PRIMED};
-use slot_carriers::{count_of, place_of, value_at};
+use slot_carriers::{CELLS, SLOTS, count_of, place_of, value_at};
 
 // Bindings of the m variables of the search u from number j on: w in all; those from `from` on are looked at.
 #[derive(Clone, Copy)]
@@ -52,7 +52,7 @@ struct Bounds {
 }
 
 // The slot of variable j of the search u.
-fn slot_of(plan: &[u16; 20560], u: usize, j: usize) -> usize
+fn slot_of(plan: &[u16; PLAN], u: usize, j: usize) -> usize
     requires { (u < 5) × (j < 16) }
     ensures { result ≡ slot_in plan.now u j }
 {
@@ -78,7 +78,7 @@ fn plain_slot(slot: usize) -> Option<usize>
 }
 
 // Gives the variable of a slot its x-th value, a primed one in both arrays.
-pub fn store(cells: &[u32; 9216], slot: usize, x: usize, slots: &mut [[i64; 64]; 2])
+pub fn store(cells: &[u32; CELLS], slot: usize, x: usize, slots: &mut [[i64; SLOTS]; 2])
     requires { StoreAsked cells.now slot x slots.old }
     ensures { StoreAnswers cells.now slot x slots.old slots.new }
 {
@@ -94,7 +94,7 @@ fn level(
     s: &PartSearch<'_>,
     u: usize,
     l: usize,
-    slots: &mut [[i64; 64]; 2],
+    slots: &mut [[i64; SLOTS]; 2],
     memo: &mut [u64; memo::NUMBERS],
 ) -> bool
     requires level_asked { LevelAsked s.now.table.now s.now.plan.now u l slots.old }
@@ -149,7 +149,7 @@ fn equation(s: &PartSearch<'_>, u: usize, l: usize, slot: usize) -> Option<Told>
 }
 
 // Which of the variable's values to look at: all, or where a test says which it is, that one alone, if it is one of them. At all others that test fails.
-fn aim(s: &PartSearch<'_>, g: Target, slots: &mut [[i64; 64]; 2]) -> Bounds
+fn aim(s: &PartSearch<'_>, g: Target, slots: &mut [[i64; SLOTS]; 2]) -> Bounds
     requires { AimAsked s.now.table.now s.now.plan.now s.now.cells.now g.u g.l g.slot g.n slots.old }
     ensures answers { AimAnswers s.now.table.now s.now.plan.now s.now.cells.now g.u g.l g.slot g.n slots.old result.low result.high }
     ensures kept { slots.new ≡ slots.old }
@@ -176,7 +176,7 @@ fn aim(s: &PartSearch<'_>, g: Target, slots: &mut [[i64; 64]; 2]) -> Bounds
 pub fn seek(
     s: &PartSearch<'_>,
     span: Span,
-    slots: &mut [[i64; 64]; 2],
+    slots: &mut [[i64; SLOTS]; 2],
     memo: &mut [u64; memo::NUMBERS],
 ) -> usize
     requires seek_asked { SeekAsked s.now.table.now s.now.plan.now s.now.cells.now span.u span.j span.m span.w span.from slots.old }

@@ -1,21 +1,29 @@
 -- A mask made bit by bit, the highest bit first: one number more in front doubles what is there. Assumes nothing.
-use mathlib.Core.Path.{◌≡◌, sym, ap, subst, ◌∙◌}
+use mathlib.Core.Path.{◌≡◌, refl, sym, ap, ap₂, subst, ◌∙◌}
 use mathlib.Core.Bool.{Bool, true, false, false≢true}
 use Prim.Native.Nat.{ℕ, zero, suc, ◌+◌, ◌*◌, ◌<◌, ◌≤◌, ◌^◌}
 use native.Mathlib.Nat.{pow-suc, pow-le-pow_right}
 use native.Mathlib.Omega.{arith}
 use mir.Val.{bool_byte}
 use lib.Dec.{eqb}
-use Rattle.sets.specs.Sets.{has, bit}
+use Rattle.sets.specs.Sets.{has, bit, set_from}
 use Rattle.sets.proofs.Members.{has-zero, has-suc, has-past, bit-half, bit-odd, bit-back}
 
 pub byte_low : (b : Bool) → bool_byte b ≤ 1
 byte_low true = omega arith
 byte_low false = omega arith
 
+pub byte-bit : (b : Bool) → bool_byte b ≡ bit b
+byte-bit true = refl
+byte-bit false = refl
+
 doubled : (b : Bool) (r x : ℕ) → x ≡ bool_byte b → 2 * r + x ≡ bit b + 2 * r
-doubled true r x e = omega arith
-doubled false r x e = omega arith
+doubled b r x e = omega (arith, e, byte-bit b)
+
+-- one number more in front of a set by its test
+pub set-more : (f : ℕ → Bool) (k n r x : ℕ) (b : Bool) → x ≡ bool_byte b → r ≡ set_from f (suc k) n → b ≡ f k → 2 * r + x ≡ set_from f k (suc n)
+unfolding set_from
+set-more f k n r x b e q h = doubled b r x e ∙ ap₂ (λ (c : Bool) (s : ℕ). bit c + 2 * s) h q
 
 first-bit : (b : Bool) (r x : ℕ) → x ≡ bool_byte b → has (2 * r + x) 0 ≡ b
 first-bit b r x e = ap (λ (s : ℕ). has s 0) (doubled b r x e) ∙ has-zero (bit b + 2 * r) ∙ ap (λ (s : ℕ). eqb s 1) (bit-odd b r) ∙ bit-back b

@@ -1,4 +1,6 @@
 // A group of variables, whose cells stand one behind the other: how many bindings it has, and the values of one of them.
+// Form 5: base, n, w and k are other numbers at every call (a slot by its constant, two fields of `Part`, a digit): a struct of them would be made in each call by a function of the same
+// four, and again at each step of `bind_by`. `step_searches::Given` is one, since a list of groups is lent there.
 ghost use Rattle.std.specs.Prelude.{◌≡◌, ◌<◌, pos};
 ghost use Rattle.slot_carriers.specs.CellGroups.{Grouped, Counts, HoldsAt, HoldsBinding, Others};
 

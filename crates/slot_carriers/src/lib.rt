@@ -11,7 +11,7 @@ pub mod type_shapes;
 ghost use Rattle.std.specs.Prelude.{◌≡◌, ℕ, ◌<◌, ◌≤◌, get_or, length, pos, ◌+ℤ◌};
 ghost use Rattle.slot_carriers.specs.Cells.{count_in, shape_in, value_in, Reached, Readable, Rising, Sought};
 
-use lexical::bounds;
+use form::node::RAISED;
 
 // How many slots there are; how many numbers the cells have, those of the slots and room for the lists.
 pub const SLOTS: usize = 64;
@@ -24,9 +24,6 @@ const CELL: usize = 4;
 const SHAPE: usize = 1;
 
 const FIRST: usize = 2;
-
-// How much more than the first number of a range its cell has, which is then not negative.
-const RAISED: i64 = bounds::LARGEST_NUMBER as i64;
 
 // How many values the variable of a slot has.
 pub fn count_of(cells: &[u32; CELLS], slot: usize) -> usize

@@ -1,5 +1,5 @@
 -- The first conjunct that fails, row by row, and at the values of two states. Assumes nothing.
-use mathlib.Core.Path.{◌≡◌, refl, sym, ap, subst, ◌∙◌}
+use mathlib.Core.Path.{◌≡◌, refl, sym, ap, subst, subst₂, ◌∙◌}
 use mathlib.Core.Bool.{Bool, true, false}
 use mathlib.Core.List.{List, ◌++◌}
 use mathlib.Core.Option.{some-injective}
@@ -56,9 +56,12 @@ module _ {G : ℕ → Type 0} {table rows : List ℕ} {to : ℕ} {σ : Values} w
       go Γ W ρ _ (no_rows l) k = absurd (omega arith)
       go Γ W ρ _ (more_rows {from = f} {p = p} {ps = ps} l c o r) k = false_later (λ g. sym ((a g).means Γ W ρ p f c k)) (w.means Γ W ρ ps r k)
 
-pub context-first : {G : ℕ → Type 0} {table rows firsts : List ℕ} {n : ℕ} {σ : Values} {r : Option ℕ} → FirstIs G table rows (get_or firsts n 0) (get_or firsts (n + 1) 0) σ r
-    → ContextFirst G table rows firsts n σ r
-context-first w = record { means = λ K W ρ k h. w.means K.scope W ρ k.conjuncts k.stand h }
+-- a context's rows stand from its place to the next
+pub context-first : {G : ℕ → Type 0} {table rows firsts : List ℕ} {n from to : ℕ} {σ : Values} {r : Option ℕ} → from ≡ get_or firsts n 0 → to ≡ get_or firsts (n + 1) 0
+    → FirstIs G table rows from to σ r → ContextFirst G table rows firsts n σ r
+context-first {G} {table} {rows} {firsts} {n} {σ = σ} {r = r} e f w =
+    let v : FirstIs G table rows (get_or firsts n 0) (get_or firsts (n + 1) 0) σ r = subst₂ (λ (x y : ℕ). FirstIs G table rows x y σ r) e f w in
+    record { means = λ K W ρ k h. v.means K.scope W ρ k.conjuncts k.stand h }
 
 -- other rows are said to count, which are the same
 first-as : {G H : ℕ → Type 0} {T : Pred → Bool → Type 0} → ((i : ℕ) → G i → H i) → ((i : ℕ) → H i → G i) → {at : ℕ} {ps : List Pred} {r : Option ℕ} → FirstFalse G T at ps r
@@ -121,12 +124,6 @@ module _ {table rows firsts cells : List ℕ} {p : Part} {a c : ℕ} where
       no_abstract = λ l. absurd (omega arith);
       no_concrete = λ l. absurd (omega arith);
     }
-
-  pub pair-no-abstract : p.nm ≤ a → FalsePair table rows firsts cells p a c None
-  pair-no-abstract h = record { first = λ d R l m K W x k. absurd (omega arith); no_abstract = λ l. refl; no_concrete = λ l. refl }
-
-  pub pair-no-concrete : p.nc ≤ c → FalsePair table rows firsts cells p a c None
-  pair-no-concrete h = record { first = λ d R l m K W x k. absurd (omega arith); no_abstract = λ l. refl; no_concrete = λ l. refl }
 
   pub false_conjunct-is : {groups : List ℕ} {operations : ℕ} {r : Option ℕ} → PartSet table groups 0 cells p → FalsePair table rows firsts cells p a c r
       → FalseConjunct table rows firsts groups operations a c r

@@ -259,12 +259,6 @@ module _ {table rows firsts cells : List ℕ} {p : Part} {j c i : ℕ} where
       no_inputs = λ l. absurd (omega arith);
     }
 
-  pub step-no-concrete : p.nc ≤ c → FalseStep table rows firsts cells p j c i None
-  step-no-concrete h = record { first = λ d op R l m K W x k. absurd (omega arith); no_concrete = λ l. refl; no_inputs = λ l. refl }
-
-  pub step-no-inputs : p.ni ≤ i → FalseStep table rows firsts cells p j c i None
-  step-no-inputs h = record { first = λ d op R l m K W x k. absurd (omega arith); no_concrete = λ l. refl; no_inputs = λ l. refl }
-
 module _ {table rows firsts cells : List ℕ} {p : Part} {j : ℕ} (A : GuardAsked table rows firsts cells p j) where
   pub guard-states : StatesSized cells p
   guard-states = record { abstractly = unprimed A.dossier A.dossier.abstract; concretely = unprimed A.dossier A.dossier.concrete; are = A.read.states }
@@ -275,32 +269,32 @@ module _ {table rows firsts cells : List ℕ} {p : Part} {j : ℕ} (A : GuardAsk
 -- ---- of a dossier whose reading the arrays are
 
 module _ {table rows firsts groups : List ℕ} {operations j : ℕ} (a : ReadAsked table rows firsts groups operations) (h : j < operations) where
-  pub own-part-asked : PartAsked table groups (2 + 2 * j)
-  own-part-asked = record { dossier = a.dossier; groups_are = reading-groups a.reading; inside = omega (arith, a.many) }
+  pub own-part-asked : {k : ℕ} → k ≡ 2 + 2 * j → PartAsked table groups k
+  own-part-asked e = record { dossier = a.dossier; groups_are = reading-groups a.reading; inside = omega (arith, e, a.many) }
 
   pub own-low : j < 16
   own-low = omega (arith, a.many, a.reading.operations)
 
-operation-read : {table rows firsts groups cells : List ℕ} {p : Part} {j : ℕ} → PartSet table groups (2 + 2 * j) cells p → (d : Dossier) (op : Operation)
+operation-read : {table rows firsts groups cells : List ℕ} {p : Part} {j k : ℕ} → k ≡ 2 + 2 * j → PartSet table groups k cells p → (d : Dossier) (op : Operation)
     → ReadingOf table rows firsts groups d → get_elem? d.operations j ≡ some op → OperationRead table rows firsts cells p j d op
-operation-read {j = j} P d op R l = record {
+operation-read {j = j} e P d op R l = record {
   tests = R.tests;
   listed = l;
-  states = operation-states P d (reading-groups R) j op l refl;
-  parameters = operation-parameters P d (reading-groups R) j op l refl;
+  states = operation-states P d (reading-groups R) j op l e;
+  parameters = operation-parameters P d (reading-groups R) j op l e;
 }
 
-module _ {table rows firsts groups cells : List ℕ} {p : Part} {operations j : ℕ} (P : PartSet table groups (2 + 2 * j) cells p) where
+module _ {table rows firsts groups cells : List ℕ} {p : Part} {operations j part : ℕ} (o : part ≡ 2 + 2 * j) (P : PartSet table groups part cells p) where
   pub guard-asked : ReadAsked table rows firsts groups operations → j < operations → GuardAsked table rows firsts cells p j
   guard-asked a h =
       let t = below-entry a.dossier.operations j (subst (λ (n : ℕ). j < n) a.many h) in
-      record { dossier = a.dossier; operation = t.0; read = operation-read P a.dossier t.0 a.reading t.1; few = own-low a h }
+      record { dossier = a.dossier; operation = t.0; read = operation-read o P a.dossier t.0 a.reading t.1; few = own-low a h }
 
   pub false_guard-is : {c i : ℕ} {r : Option ℕ} → j < operations → FalseStep table rows firsts cells p j c i r → FalseGuard table rows firsts groups operations j c i r
   unfolding concrete_bindings
   false_guard-is {c} {i} {r} h w = record {
     first = λ d op R m l lc li K W x k.
-        w.first d op (operation-read P d op R l) (subst (λ (n : ℕ). c < n) (concretes d op R l) lc) (subst (λ (n : ℕ). i < n) (inward d op R l) li) K W x k;
+        w.first d op (operation-read o P d op R l) (subst (λ (n : ℕ). c < n) (concretes d op R l) lc) (subst (λ (n : ℕ). i < n) (inward d op R l) li) K W x k;
     no_operation = λ l. absurd (omega arith);
     no_concrete = λ d R m l.
         let t = below-entry d.operations j (subst (λ (n : ℕ). j < n) m h) in
@@ -309,10 +303,10 @@ module _ {table rows firsts groups cells : List ℕ} {p : Part} {operations j : 
   }
     where
       concretes : (d : Dossier) (op : Operation) → ReadingOf table rows firsts groups d → get_elem? d.operations j ≡ some op → concrete_count d ≡ p.nc
-      concretes d op R l = bindings-count (unprimed d d.concrete) ∙ sym (operation-read P d op R l).states.concretes.count
+      concretes d op R l = bindings-count (unprimed d d.concrete) ∙ sym (operation-read o P d op R l).states.concretes.count
 
       inward : (d : Dossier) (op : Operation) → ReadingOf table rows firsts groups d → get_elem? d.operations j ≡ some op → length (bindings (inputs d op)) ≡ p.ni
-      inward d op R l = bindings-count (inputs d op) ∙ sym (operation-read P d op R l).parameters.inputs.count
+      inward d op R l = bindings-count (inputs d op) ∙ sym (operation-read o P d op R l).parameters.inputs.count
 
 pub guard_no-operation : {table rows firsts groups : List ℕ} {operations j c i : ℕ} → operations ≤ j → FalseGuard table rows firsts groups operations j c i None
 guard_no-operation {j = j} h = record {

@@ -4,5 +4,6 @@ pub mod SearchParts
 pub mod SearchLaws
 pub mod ConjunctLaws
 pub mod GuardLaws
+pub mod StrideWalks
 pub mod OmissionLaws
 pub mod LonelyLaws

@@ -1,10 +1,12 @@
--- States that no state of the other side is related to: a walk over all bindings of the other side that finds none. Assumes nothing.
+-- States that no state of the other side is related to: a walk over the bindings of the other side that stops at the first that is related. Assumes nothing.
 use mathlib.Core.Path.{◌≡◌, refl, sym, ap, subst, ◌∙◌}
-use mathlib.Core.Bool.{Bool, true, false, ◌&&◌, not, true≢false}
+use mathlib.Core.Bool.{Bool, true, false, ◌&&◌, not}
 use mathlib.Core.List.{List, []}
 use Prim.Native.Nat.{ℕ, ◌<◌}
 use native.Mathlib.Omega.{arith}
-use Rattle.std.specs.Prelude.{Option, Some, None, is_some, is_none}
+use Rattle.std.specs.Prelude.{MatchBool}
+use Rattle.std.specs.List.{range_with_len, AllWithin, HoldsAt}
+use Rattle.std.proofs.lemmas.List.FromFn.{length-range_with_len, get_or-range_with_len}
 use lib.ListN.{get_or, length}
 use Rattle.lexical.specs.Lists.{any}
 use Rattle.form.specs.Tree.{Dossier}
@@ -19,7 +21,6 @@ use Rattle.plans.specs.declared.Part.{Part}
 use Rattle.part_places.specs.PartTestsPartsByNumber.{abstract_at, concrete_at}
 use Rattle.state_facts.specs.Reads.{abstract_count, concrete_count, abstract_state_at, concrete_state_at, related_at, unrelated_concrete, unrelated_abstract, lonely_concrete, lonely_abstract}
 use Rattle.state_facts.specs.Reads.{StatesRead, TestIs}
-use Rattle.step_searches.specs.StepPromises.{First}
 
 -- ---- over all places of a list
 
@@ -32,12 +33,19 @@ none_passes g xs h = sym (ap not (none_any g xs each))
     each : (x : Binding) → Among x xs → g x ≡ false
     each x m = let t = place-of x xs [] m in subst (λ (b : Binding). g b ≡ false) t.2 (h t.0 t.1)
 
--- nothing is found
-pub none-found : (o : Option ℕ) (r : Bool) → is_some o ≡ not r → r ≡ is_none o
-none-found None true e = refl
-none-found None false e = absurd (true≢false (sym e))
-none-found (Some x) true e = absurd (true≢false e)
-none-found (Some x) false e = refl
+-- a walk over the numbers below n that stops at the first that passes
+abbrev pub Walked : (f : ℕ → Bool) (n : ℕ) → Bool → Type 0
+Walked f n r = MatchBool r ((k : ℕ) × (k < length (range_with_len 0 n)) × HoldsAt (λ i. f i ≡ true) (range_with_len 0 n) k) (AllWithin (λ i. f i ≡ false) (range_with_len 0 n) 0 (length (range_with_len 0 n)))
+
+passes_at : (f : ℕ → Bool) (n : ℕ) → Walked f n true → (k : ℕ) × (k < n) × (f k ≡ true)
+passes_at f n w =
+    let l : w.0 < n = omega (arith, w.1, length-range_with_len 0 n) in
+    (w.0, l, subst (λ i. f i ≡ true) {x = get_or (range_with_len 0 n) w.0 0} {y = w.0} (omega (arith, get_or-range_with_len 0 n w.0 0 l)) (w.2 0))
+
+passes_nowhere : (f : ℕ → Bool) (n : ℕ) → Walked f n false → (k : ℕ) → k < n → f k ≡ false
+passes_nowhere f n w k l =
+    subst (λ i. f i ≡ false) {x = get_or (range_with_len 0 n) k 0} {y = k} (omega (arith, get_or-range_with_len 0 n k 0 l))
+    (w k 0 (omega arith) (omega (arith, length-range_with_len 0 n)))
 
 no-state : (x y : Bool) → false ≡ x → false ≡ (x && y)
 no-state x y e = subst (λ (b : Bool). false ≡ (b && y)) e refl
@@ -54,28 +62,30 @@ module _ {table rows firsts cells : List ℕ} {p : Part} where
   unfolding concrete_bindings
   concretes d R = R.are.concretes.count ∙ sym (bindings-count (unprimed d d.concrete))
 
-  -- ---- the first that is related, or none
+  -- ---- one that is related, or none
 
-  pub unmet-concrete : {c : ℕ} {r : Bool} (o : Option ℕ) → r ≡ is_none o → ((d : Dossier) → StatesRead table rows firsts cells p d → First (λ (a : ℕ). related_at d a c) 0 p.nm o)
-      → TestIs table rows firsts cells p unrelated_concrete c r
-  unmet-concrete {c} None e w = record {
+  pub unmet-concrete : {c : ℕ} (r : Bool) → ((d : Dossier) → StatesRead table rows firsts cells p d → Walked (λ (a : ℕ). related_at d a c) p.nm r)
+      → TestIs table rows firsts cells p unrelated_concrete c (not r)
+  unmet-concrete {c} false w = record {
     means = λ d R.
-        e ∙ none_passes (λ (b : Binding). related d b (concrete_at d c)) (abstract_bindings d) (λ i l. let n = abstracts d R in w d R i (omega arith) (omega arith));
+        none_passes (λ (b : Binding). related d b (concrete_at d c)) (abstract_bindings d) (λ i l. passes_nowhere (λ a. related_at d a c) p.nm (w d R) i (subst (λ (n : ℕ). i < n) (sym (abstracts d R)) l));
   }
-  unmet-concrete {c} (Some a) e w = record {
+  unmet-concrete {c} true w = record {
     means = λ d R.
-        e ∙ some-passes (λ (b : Binding). related d b (concrete_at d c)) (abstract_bindings d) a (subst (λ (n : ℕ). a < n) (abstracts d R) (w d R).1) (w d R).2;
+        let h = passes_at (λ a. related_at d a c) p.nm (w d R) in
+        some-passes (λ (b : Binding). related d b (concrete_at d c)) (abstract_bindings d) h.0 (subst (λ (n : ℕ). h.0 < n) (abstracts d R) h.1) h.2;
   }
 
-  pub unmet-abstract : {a : ℕ} {r : Bool} (o : Option ℕ) → r ≡ is_none o → ((d : Dossier) → StatesRead table rows firsts cells p d → First (λ (c : ℕ). related_at d a c) 0 p.nc o)
-      → TestIs table rows firsts cells p unrelated_abstract a r
-  unmet-abstract {a} None e w = record {
+  pub unmet-abstract : {a : ℕ} (r : Bool) → ((d : Dossier) → StatesRead table rows firsts cells p d → Walked (λ (c : ℕ). related_at d a c) p.nc r)
+      → TestIs table rows firsts cells p unrelated_abstract a (not r)
+  unmet-abstract {a} false w = record {
     means = λ d R.
-        e ∙ none_passes (λ (b : Binding). related d (abstract_at d a) b) (concrete_bindings d) (λ i l. let n = concretes d R in w d R i (omega arith) (omega arith));
+        none_passes (λ (b : Binding). related d (abstract_at d a) b) (concrete_bindings d) (λ i l. passes_nowhere (λ c. related_at d a c) p.nc (w d R) i (subst (λ (n : ℕ). i < n) (sym (concretes d R)) l));
   }
-  unmet-abstract {a} (Some c) e w = record {
+  unmet-abstract {a} true w = record {
     means = λ d R.
-        e ∙ some-passes (λ (b : Binding). related d (abstract_at d a) b) (concrete_bindings d) c (subst (λ (n : ℕ). c < n) (concretes d R) (w d R).1) (w d R).2;
+        let h = passes_at (λ c. related_at d a c) p.nc (w d R) in
+        some-passes (λ (b : Binding). related d (abstract_at d a) b) (concrete_bindings d) h.0 (subst (λ (n : ℕ). h.0 < n) (concretes d R) h.1) h.2;
   }
 
   -- ---- a state, and unrelated

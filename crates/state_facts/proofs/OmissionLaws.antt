@@ -1,7 +1,6 @@
 -- Slots that a predicate leaves out, row by row, and by bits. Assumes nothing.
-use mathlib.Core.Path.{◌≡◌, refl, sym, ap, subst, ◌∙◌}
+use mathlib.Core.Path.{◌≡◌, refl, sym, subst, ◌∙◌}
 use mathlib.Core.Bool.{Bool, true, false}
-use mathlib.Core.Logic.{◌⊎◌, inl, inr}
 use mathlib.Core.List.{List}
 use Prim.Native.Nat.{ℕ, zero, suc, ◌+◌, ◌-◌, ◌*◌, ◌/◌, ◌%◌, ◌^◌, ◌<◌, ◌≤◌}
 use native.Mathlib.Nat.{mod-lt, zero-lt-suc}
@@ -24,7 +23,6 @@ use Rattle.states.proofs.StateLaws.{ContextOf, abstract-context, concrete-contex
 use Rattle.states.proofs.StepLaws.{abstract-operation, concrete-operation}
 use Rattle.state_facts.specs.Reads.{ReadAsked}
 use Rattle.state_facts.specs.Omissions.{RowsStand, RowsFree, RowsSay, BitsSay, LeftOut, ContextStands}
-use Rattle.state_facts.proofs.PlacedGroups.{split_at}
 
 -- ---- row by row
 
@@ -47,30 +45,13 @@ module _ {table rows : List ℕ} {to : ℕ} where
     pub stand-rest : RowsStand table rows (at + 8) to
     stand-rest = rest_of a.scope a.slots at a.conjuncts a.low a.stand h
 
--- the rows from `from` up to i are free of the slot
-pub record Freed (table rows : List ℕ) (from slot i : ℕ) : Type 0 where
-  pub many : ℕ
-  pub at : i ≡ from + 8 * many
-  pub each : (n : ℕ) → n < many → TruthFree table (get_or rows (from + 8 * n + 1) 0) slot
+  pub stand-within : {at : ℕ} → RowsStand table rows at to → (n : ℕ) → at + 8 * n < to → at + 8 * n + 8 ≤ 16384
+  stand-within {at} a zero h = let l = stand-inside a (omega arith) in omega arith
+  stand-within {at} a (suc n) h = let l = stand-within {at = at + 8} (stand-rest a (omega arith)) n (omega arith) in omega arith
 
-module _ {table rows : List ℕ} {from slot : ℕ} where
-  pub freed-none : Freed table rows from slot from
-  freed-none = record { many = 0; at = omega arith; each = λ n h. absurd (omega arith) }
-
-  pub freed-more : {i : ℕ} {r : Bool} → Freed table rows from slot i → TruthSays table (get_or rows (i + 1) 0) slot r → r ≡ true → Freed table rows from slot (i + 8)
-  freed-more {i} {r} f s e = record { many = f.many + 1; at = omega (arith, f.at); each = λ n h. go n h (split_at n f.many) }
-    where
-      go : (n : ℕ) → n < f.many + 1 → (n < f.many) ⊎ (f.many ≤ n) → TruthFree table (get_or rows (from + 8 * n + 1) 0) slot
-      go n h (inl l) = f.each n l
-      go n h (inr l) =
-          let z : i + 1 ≡ from + 8 * n + 1 = omega (arith, f.at) in
-          subst (λ (m : ℕ). TruthFree table (get_or rows m 0) slot) z (s.means e)
-
-  pub rows_say : {i to : ℕ} → Freed table rows from slot i → to ≤ i → RowsSay table rows from to slot true
-  rows_say f h = record { means = λ e. record { each = λ n l. f.each n (omega (arith, f.at)) } }
-
-  pub rows_say_no : {to : ℕ} → RowsSay table rows from to slot false
-  rows_say_no = record { means = λ e. refused e }
+-- a row whose test says yes
+pub row-free : {table : List ℕ} {e slot : ℕ} → TruthSays table e slot true → TruthFree table e slot
+row-free s = s.means refl
 
 -- ---- as bits
 

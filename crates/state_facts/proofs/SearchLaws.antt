@@ -4,7 +4,9 @@ use mathlib.Core.Bool.{Bool, true, false}
 use mathlib.Core.List.{List, [], ◌∷◌}
 use Prim.Native.Nat.{ℕ, suc, ◌<◌, ◌≤◌}
 use native.Mathlib.Omega.{arith}
-use Rattle.std.specs.Prelude.{Option}
+use Rattle.std.specs.Prelude.{Option, count_by}
+use Rattle.std.specs.List.{filter, range_with_len}
+use Rattle.std.proofs.lemmas.List.Sums.{length-filter}
 use lib.ListN.{get_or, length}
 use Rattle.form.specs.Tree.{Dossier}
 use Rattle.static_rules.specs.Carriers.{Variable}
@@ -29,7 +31,7 @@ use Rattle.part_places.proofs.ReadingGroups.{reading-groups}
 use Rattle.state_facts.specs.Placings.{StatesSized, PairBound}
 use Rattle.step_searches.specs.StepPromises.{ReadAsked}
 use Rattle.state_facts.specs.Reads.{abstract_count, concrete_count, abstract_initial_at, abstract_state_at, concrete_state_at, related_at}
-use Rattle.state_facts.specs.Reads.{Next, StatesRead, SearchAsked, TestIs, PairIs}
+use Rattle.state_facts.specs.Reads.{Next, Counted, StatesRead, SearchAsked, TestIs, PairIs}
 use Rattle.step_searches.specs.StepPromises.{First, ConcreteStates, ConcreteAsked, StateAnswers}
 use Rattle.state_facts.proofs.PlacedGroups.{over-at}
 use Rattle.state_facts.proofs.ShownLaws.{opening-states}
@@ -122,6 +124,9 @@ module _ {table rows firsts cells : List ℕ} {p : Part} where
   pub concrete-test : {c : ℕ} {r : Bool} → StateAnswers table rows firsts cells p c r → TestIs table rows firsts cells p concrete_state_at c r
   concrete-test a = record { means = λ d R. a.is d (concretes-read R) }
 
+  pub concrete-is : {d : Dossier} → StatesRead table rows firsts cells p d → {c : ℕ} {r : Bool} → StateAnswers table rows firsts cells p c r → r ≡ concrete_state_at d c
+  concrete-is {d} R a = a.is d (concretes-read R)
+
 -- the cells are asked for
 module _ {table rows firsts cells : List ℕ} {p : Part} (A : SearchAsked table rows firsts cells p) where
   pub both-sized : StatesSized cells p
@@ -159,4 +164,13 @@ module _ {table rows firsts groups : List ℕ} {operations : ℕ} where
     unfolding concrete_bindings
     concrete-next {f} {from} {r} w = record {
       first = λ d R m. subst (λ (n : ℕ). First (f d) from n r) ((states-read P d R).are.concretes.count ∙ sym (bindings-count (unprimed d d.concrete))) (w d (states-read P d R));
+    }
+
+    -- those that a filter keeps are counted
+    pub concrete-counted : {r : ℕ} → ((d : Dossier) → StatesRead table rows firsts cells p d → r ≡ length (filter (concrete_state_at d) (range_with_len 0 p.nc)))
+        → Counted table rows firsts groups operations concrete_state_at concrete_count r
+    unfolding concrete_bindings
+    concrete-counted {r} w = record {
+      count = λ d R m. subst (λ (n : ℕ). r ≡ count_by (concrete_state_at d) (range_with_len 0 n)) ((states-read P d R).are.concretes.count ∙ sym (bindings-count (unprimed d d.concrete)))
+          (w d (states-read P d R) ∙ length-filter (concrete_state_at d) (range_with_len 0 p.nc));
     }

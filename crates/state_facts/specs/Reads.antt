@@ -1,5 +1,6 @@
 -- Facts of a dossier whose reading the arrays are: what is asked, and what a search among the numbers of bindings promises. Nothing here need be believed.
-use Rattle.std.specs.Prelude.{◌≡◌, Bool, ◌&&◌, not, Option, List, ℕ, length}
+use Rattle.std.specs.Prelude.{◌≡◌, Bool, ◌&&◌, not, Option, List, ℕ, length, count_by}
+use Rattle.std.specs.List.{range_with_len}
 use Rattle.lexical.specs.Lists.{any}
 use Rattle.form.specs.Tree.{Dossier}
 use Rattle.static_rules.specs.Scope.{unprimed}
@@ -51,6 +52,10 @@ lonely_abstract d a = abstract_state_at d a && unrelated_abstract d a
 -- of every dossier whose reading the arrays are: f is the test, n how many bindings there are
 pub record Next (table rows firsts groups : List ℕ) (operations : ℕ) (f : Dossier → ℕ → Bool) (n : Dossier → ℕ) (from : ℕ) (r : Option ℕ) : Type 0 where
   pub first : (d : Dossier) → ReadingOf table rows firsts groups d → operations ≡ length d.operations → First (f d) from (n d) r
+
+-- r is how many numbers of bindings pass the test
+pub record Counted (table rows firsts groups : List ℕ) (operations : ℕ) (f : Dossier → ℕ → Bool) (n : Dossier → ℕ) (r : ℕ) : Type 0 where
+  pub count : (d : Dossier) → ReadingOf table rows firsts groups d → operations ≡ length d.operations → r ≡ count_by (f d) (range_with_len 0 (n d))
 
 -- ---- over the cells of both states
 

@@ -6,34 +6,18 @@ ghost use Rattle.state_facts.specs.Reads.{ReadAsked, SearchAsked};
 ghost use Rattle.state_facts.specs.FalseConjuncts.{CountedFirst, guard_test, FalsePair, FalseConjunct};
 ghost use Rattle.state_facts.specs.FalseConjuncts.{GuardAsked, FalseStep, FalseGuard};
 
-use crate::placing::{bind_pair, put_parameters, put_states};
-use crate::{INITIALISATION, Numbers, StateSearch, state_search};
-use part_places::OBLIGATIONS;
+use crate::{INITIALISATION, Numbers, Pair, StateSearch, correctness_of, state_search};
+use form::node::NUMBERS;
 use search_groups::Dossier;
+use search_groups::columns::{ABSTRACT_PRIMED, CONCRETE_PRIMED, END, OUTPUTS};
 use search_groups::conjuncts::ROW;
+use search_groups::contexts::{CONCRETE_SIDE, OPERATIONS, RETRIEVE, SIDES};
 use slot_carriers::SLOTS;
 use truths::truth;
 
-// Form 1: places in a row, no kinds.
-// Where a row has the end of its conjunct's table, and the last variables that it mentions of the outputs and of the states after.
-const END: usize = 1;
-
-const OUTPUTS: usize = 5;
-
-const CONCRETE_PRIMED: usize = 6;
-
-const ABSTRACT_PRIMED: usize = 7;
-
-// The places of predicates among the contexts.
-const RETRIEVE: usize = 4;
-
-const OPERATIONS: usize = 5;
-
-const SIDES: usize = 2;
-
-const CONCRETE_SIDE: usize = 1;
-
 // The first conjunct of the n-th context's predicate that counts and fails.
+// Form 3: tried: `find` over a closure that is lent the slots: that they are at each of its turns what they were at the first did not close, since no law of the library goes through a
+// closure that changes what it captures.
 fn first_false<F: Fn(usize) -> bool>(
     d: &Dossier<'_>,
     n: usize,
@@ -44,47 +28,40 @@ fn first_false<F: Fn(usize) -> bool>(
     requires counted { (i : ℕ) → i + 8 ≤ 16384 → F.pre counts i }
     ensures { CountedFirst (F.post counts) d.now.table.now d.now.rows.now d.now.firsts.now n slots.old result }
 {
-    let from = d.firsts[n] as usize;
-    let to = d.firsts[n + 1] as usize;
+    let from = usize::from(d.firsts[n]);
+    let to = usize::from(d.firsts[n + 1]);
     for i in (from..to).step_by(ROW) {
-        if !counts(i) {
-            continue;
-        }
-        let end = d.rows[i + END] as usize;
-        if !truth(d.table, end, slots) {
+        if counts(i) && !truth(d.table, usize::from(d.rows[i + END]), slots) {
             return Some(i);
         }
     }
     None
 }
 
-// That of retrieve, for the a-th abstract and the c-th concrete state.
-fn retrieve_false(s: &StateSearch<'_>, a: usize, c: usize) -> Option<usize>
+// That of retrieve, for two states.
+fn retrieve_false(s: &StateSearch<'_>, x: Pair) -> Option<usize>
     requires { SearchAsked s.now.dossier.table.now s.now.dossier.rows.now s.now.dossier.firsts.now s.now.cells s.now.part }
-    ensures { FalsePair s.now.dossier.table.now s.now.dossier.rows.now s.now.dossier.firsts.now s.now.cells s.now.part a c result }
+    ensures { FalsePair s.now.dossier.table.now s.now.dossier.rows.now s.now.dossier.firsts.now s.now.cells s.now.part x.a x.c result }
 {
-    if s.part.nm <= a {
-        return None;
-    }
-    if s.part.nc <= c {
+    if s.part.nm <= x.a || s.part.nc <= x.c {
         return None;
     }
     let mut slots = [0i64; SLOTS];
-    bind_pair(&s.cells, s.part, a, c, &mut slots);
+    s.bind_pair(x, &mut slots);
     first_false(&s.dossier, RETRIEVE, |_| true, &mut slots)
 }
 
-// Where the first conjunct of retrieve stands that fails for the a-th abstract and the c-th concrete state.
-pub fn false_conjunct(d: &Dossier<'_>, a: usize, c: usize) -> Option<usize>
+// Where the first conjunct of retrieve stands that fails for two states.
+pub fn false_conjunct(d: &Dossier<'_>, x: Pair) -> Option<usize>
     requires { ReadAsked d.now.table.now d.now.rows.now d.now.firsts.now d.now.groups.now d.now.operations }
-    ensures { FalseConjunct d.now.table.now d.now.rows.now d.now.firsts.now d.now.groups.now d.now.operations a c result }
+    ensures { FalseConjunct d.now.table.now d.now.rows.now d.now.firsts.now d.now.groups.now d.now.operations x.a x.c result }
 {
     let s = state_search(d, INITIALISATION);
-    retrieve_false(&s, a, c)
+    retrieve_false(&s, x)
 }
 
 // Does the conjunct of a row mention no output and no variable of a state after?
-fn is_guard(rows: &[u16; 16384], i: usize) -> bool
+fn is_guard(rows: &[u16; NUMBERS], i: usize) -> bool
     requires { i + 8 ≤ 16384 }
     ensures { result ≡ guard_test rows.now i }
 {
@@ -97,10 +74,7 @@ fn step_false(s: &StateSearch<'_>, j: usize, c: usize, i: usize) -> Option<usize
     requires { GuardAsked s.now.dossier.table.now s.now.dossier.rows.now s.now.dossier.firsts.now s.now.cells s.now.part j }
     ensures { FalseStep s.now.dossier.table.now s.now.dossier.rows.now s.now.dossier.firsts.now s.now.cells s.now.part j c i result }
 {
-    if s.part.nc <= c {
-        return None;
-    }
-    if s.part.ni <= i {
+    if s.part.nc <= c || s.part.ni <= i {
         return None;
     }
     let mut slots = [0i64; SLOTS];
@@ -112,8 +86,8 @@ fn step_false(s: &StateSearch<'_>, j: usize, c: usize, i: usize) -> Option<usize
         k: c,
         b: 0,
     };
-    put_states(&s.cells, s.part, x, &mut slots);
-    put_parameters(&s.cells, s.part, x, &mut slots);
+    s.put_states(x, &mut slots);
+    s.put_parameters(x, &mut slots);
     first_false(
         &s.dossier,
         OPERATIONS + SIDES * j + CONCRETE_SIDE,
@@ -133,6 +107,6 @@ pub fn false_guard(d: &Dossier<'_>, j: usize, c: usize, i: usize) -> Option<usiz
     if d.operations <= j {
         return None;
     }
-    let s = state_search(d, OBLIGATIONS + OBLIGATIONS * j);
+    let s = state_search(d, correctness_of(j));
     step_false(&s, j, c, i)
 }

@@ -14,10 +14,16 @@ ghost use Rattle.part_places.specs.Places.{AllAsked, PartAsked, PartSet};
 ghost use Rattle.state_facts.specs.Shown.{PartOf, Shown};
 
 use part_places::{OBLIGATIONS, part_cells};
-use placing::{put_parameters, put_states};
 use plans::Part;
 use search_groups::Dossier;
 use slot_carriers::{CELLS, SLOTS};
+
+// An abstract state and a concrete one, by the numbers of their bindings.
+#[derive(Clone, Copy)]
+pub struct Pair {
+    pub a: usize,
+    pub c: usize,
+}
 
 // The numbers of bindings: of the abstract and the concrete state, the inputs, the outputs, the concrete and the abstract state after.
 #[derive(Clone, Copy)]
@@ -45,7 +51,7 @@ fn state_search<'a>(d: &Dossier<'a>, k: usize) -> StateSearch<'a>
     ensures cells { PartSet d.now.table.now d.now.groups.now k result.cells result.part }
 {
     let mut cells = [0u32; CELLS];
-    let part = part_cells(d.table, d.groups, k, &mut cells);
+    let part = part_cells(d, k, &mut cells);
     StateSearch {
         dossier: *d,
         cells,
@@ -65,13 +71,22 @@ pub struct Sizes {
 // The part of the check that has the groups of both states.
 const INITIALISATION: usize = 0;
 
+// The part of the check that is the correctness of operation j: behind initialisation each operation has two, its applicability and its correctness.
+// Form 1: parts are numbers in `part_places`, whose functions go through them by a `for`; which obligation a part is, `held_checks` says, and no one asks it here.
+fn correctness_of(j: usize) -> usize
+    requires { j < 16 }
+    ensures { result ≡ 2 + 2 * j }
+{
+    OBLIGATIONS + OBLIGATIONS * j
+}
+
 // The part of the check that has all groups of an operation, which is its correctness; without an operation the first one, which has those of both states.
 fn part_of(operations: usize, operation: usize) -> usize
     requires { operations ≤ 16 }
     ensures { PartOf operations operation result }
 {
     if operation < operations {
-        return OBLIGATIONS + OBLIGATIONS * operation;
+        return correctness_of(operation);
     }
     INITIALISATION
 }
@@ -83,8 +98,8 @@ pub fn show(d: &Dossier<'_>, operation: usize, x: Numbers, slots: &mut [i64; SLO
 {
     let s = state_search(d, part_of(d.operations, operation));
     let p = s.part;
-    put_states(&s.cells, p, x, slots);
-    put_parameters(&s.cells, p, x, slots);
+    s.put_states(x, slots);
+    s.put_parameters(x, slots);
     Sizes {
         va: p.vm,
         vc: p.vc,

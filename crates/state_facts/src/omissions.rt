@@ -1,24 +1,18 @@
 // Which variables a predicate leaves out: no conjunct of it mentions their slots.
-ghost use Rattle.std.specs.Prelude.{◌≡◌, ◌≤◌};
+ghost use Rattle.std.specs.Prelude.{◌≡◌, ◌+◌, ◌≤◌};
 ghost use Rattle.state_facts.specs.Reads.{ReadAsked};
 ghost use Rattle.state_facts.specs.Omissions.{RowsStand, RowsSay, BitsSay, LeftOut};
 
+use lexical::bounds;
 use mentions::free_pred;
 use search_groups::Dossier;
+use search_groups::columns::END;
 use search_groups::conjuncts::ROW;
+use search_groups::contexts::{OPERATIONS, SIDES};
 use slot_carriers::SLOTS;
 
-// Form 1: a place in a row, numbers of contexts and a base, no kinds.
-// Where a row has the end of its conjunct's table.
-const END: usize = 1;
-
-// How many contexts stand before those of operations, and how many an operation has.
-const CONDITIONS: usize = 5;
-
-const SIDES: usize = 2;
-
 // The greatest group has so many variables.
-const MOST: usize = 8;
+const MOST: usize = bounds::VARIABLES as usize;
 
 // The worth of a bit against the next lower one.
 const BASE: usize = 2;
@@ -28,13 +22,11 @@ fn rows_free(d: &Dossier<'_>, from: usize, to: usize, slot: usize) -> bool
     requires { RowsStand d.now.table.now d.now.rows.now from to }
     ensures { RowsSay d.now.table.now d.now.rows.now from to slot result }
 {
-    for i in (from..to).step_by(ROW) {
-        let end = d.rows[i + END] as usize;
-        if !free_pred(d.table, end, slot) {
-            return false;
-        }
-    }
-    true
+    (from..to).step_by(ROW).all(
+        |i|
+            requires { i + 8 ≤ 16384 }
+        { free_pred(d.table, usize::from(d.rows[i + END]), slot) },
+    )
 }
 
 // The bits of the slots from one on, the first one's the lowest.
@@ -50,22 +42,16 @@ fn bits_between(d: &Dossier<'_>, from: usize, to: usize, slot: usize, count: usi
     bits
 }
 
-// Form 1: 0 says nothing of any slot, so its caller would do the same for `None`.
-// Which of at most 8 slots from one on the predicate of a context leaves out, by bits, the first slot's the lowest; 0 where a number is out of range. A bit that is not set says nothing.
+// Which of at most 8 slots from one on the predicate of a context leaves out, by bits, the first slot's the lowest. A bit that is not set says nothing.
+// Form 1: where a number is out of range the answer is 0, which says nothing of any slot, so that its caller would do the same for `None`.
 pub fn left_out(d: &Dossier<'_>, context: usize, slot: usize, count: usize) -> usize
     requires { ReadAsked d.now.table.now d.now.rows.now d.now.firsts.now d.now.groups.now d.now.operations }
     ensures { LeftOut d.now.table.now d.now.rows.now d.now.firsts.now context slot count result }
 {
-    if CONDITIONS + SIDES * d.operations <= context {
+    if OPERATIONS + SIDES * d.operations <= context || SLOTS < slot || MOST < count {
         return 0;
     }
-    if SLOTS < slot {
-        return 0;
-    }
-    if MOST < count {
-        return 0;
-    }
-    let from = d.firsts[context] as usize;
-    let to = d.firsts[context + 1] as usize;
+    let from = usize::from(d.firsts[context]);
+    let to = usize::from(d.firsts[context + 1]);
     bits_between(d, from, to, slot, count)
 }

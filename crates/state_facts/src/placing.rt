@@ -3,13 +3,13 @@ ghost use Rattle.std.specs.Prelude.{◌≡◌, pos};
 ghost use Rattle.slot_carriers.specs.CellGroups.{Others};
 ghost use Rattle.state_facts.specs.Placings.{GroupAsked, GroupBound, StatesSized, StatesBound, PairBound, OthersFrom, ParametersSized, ParametersBound};
 
-use crate::Numbers;
-use plans::Part;
+use crate::{Numbers, Pair, StateSearch};
 use points::slots;
 use slot_carriers::groups::bind;
 use slot_carriers::{CELLS, SLOTS};
 
 // The n variables from a slot on get the values of their k-th binding; where there is none, they keep those that they have.
+// Form 5: as in `slot_carriers::groups`: each call below would make the struct by a function of the same four numbers.
 fn bind_below(
     cells: &[u32; CELLS],
     base: usize,
@@ -28,31 +28,36 @@ fn bind_below(
     bind(cells, base, n, w, k, slots)
 }
 
-// An abstract and a concrete state.
-pub fn bind_pair(cells: &[u32; CELLS], p: Part, a: usize, c: usize, slots: &mut [i64; SLOTS])
-    requires { StatesSized cells.now p }
-    ensures values { PairBound cells.now p a c slots.new }
-    ensures others { OthersFrom 16 slots.old slots.new }
-{
-    bind_below(cells, slots::ABSTRACT, p.vm, p.nm, a, slots);
-    bind_below(cells, slots::CONCRETE, p.vc, p.nc, c, slots);
-}
+impl StateSearch<'_> {
+    // An abstract and a concrete state.
+    pub fn bind_pair(&self, x: Pair, slots: &mut [i64; SLOTS])
+        requires { StatesSized self.now.cells self.now.part }
+        ensures values { PairBound self.now.cells self.now.part x.a x.c slots.new }
+        ensures others { OthersFrom 16 slots.old slots.new }
+    {
+        let p = self.part;
+        bind_below(&self.cells, slots::ABSTRACT, p.vm, p.nm, x.a, slots);
+        bind_below(&self.cells, slots::CONCRETE, p.vc, p.nc, x.c, slots);
+    }
 
-// Both states, and the states after them.
-pub fn put_states(cells: &[u32; CELLS], p: Part, x: Numbers, slots: &mut [i64; SLOTS])
-    requires { StatesSized cells.now p }
-    ensures { StatesBound cells.now p x slots.old slots.new }
-{
-    bind_pair(cells, p, x.a, x.c, slots);
-    bind_below(cells, slots::CONCRETE_PRIMED, p.vc, p.nc, x.k, slots);
-    bind_below(cells, slots::ABSTRACT_PRIMED, p.vm, p.nm, x.b, slots);
-}
+    // Both states, and the states after them.
+    pub fn put_states(&self, x: Numbers, slots: &mut [i64; SLOTS])
+        requires { StatesSized self.now.cells self.now.part }
+        ensures { StatesBound self.now.cells self.now.part x slots.old slots.new }
+    {
+        let p = self.part;
+        self.bind_pair(Pair { a: x.a, c: x.c }, slots);
+        bind_below(&self.cells, slots::CONCRETE_PRIMED, p.vc, p.nc, x.k, slots);
+        bind_below(&self.cells, slots::ABSTRACT_PRIMED, p.vm, p.nm, x.b, slots);
+    }
 
-// The inputs and the outputs of an operation.
-pub fn put_parameters(cells: &[u32; CELLS], p: Part, x: Numbers, slots: &mut [i64; SLOTS])
-    requires { ParametersSized cells.now p }
-    ensures { ParametersBound cells.now p x slots.old slots.new }
-{
-    bind_below(cells, slots::INPUTS, p.vi, p.ni, x.i, slots);
-    bind_below(cells, slots::OUTPUTS, p.vo, p.nq, x.o, slots);
+    // The inputs and the outputs of an operation.
+    pub fn put_parameters(&self, x: Numbers, slots: &mut [i64; SLOTS])
+        requires { ParametersSized self.now.cells self.now.part }
+        ensures { ParametersBound self.now.cells self.now.part x slots.old slots.new }
+    {
+        let p = self.part;
+        bind_below(&self.cells, slots::INPUTS, p.vi, p.ni, x.i, slots);
+        bind_below(&self.cells, slots::OUTPUTS, p.vo, p.nq, x.o, slots);
+    }
 }

@@ -1,18 +1,15 @@
 // Searches among the numbers of one state's bindings. Each goes from a number on to the next binding that passes; there is none behind the last one.
 ghost use Rattle.std.specs.Prelude.{◌<◌};
-ghost use Rattle.state_facts.specs.Reads.{ReadAsked, SearchAsked, TestIs, PairIs, Next};
+ghost use Rattle.state_facts.specs.Reads.{ReadAsked, SearchAsked, TestIs, PairIs, Next, Counted};
 ghost use Rattle.state_facts.specs.Reads.{abstract_count, concrete_count, abstract_initial_at, abstract_state_at, concrete_state_at, related_at};
 ghost use Rattle.state_facts.specs.Reads.{unrelated_concrete, unrelated_abstract, lonely_concrete, lonely_abstract};
 
-use crate::placing::bind_pair;
-use crate::{INITIALISATION, StateSearch, state_search};
+use crate::{INITIALISATION, Pair, StateSearch, state_search};
 use search_groups::Dossier;
+use search_groups::contexts::ABSTRACT_STATE;
 use slot_carriers::SLOTS;
 use states::{abstract_initial, context_holds, related};
 use step_searches::concrete_state_at;
-
-// The place of the abstract state's predicate among the contexts.
-const ABSTRACT: usize = 0;
 
 // Is the a-th abstract binding an initial state?
 fn initial_at(s: &StateSearch<'_>, a: usize) -> bool
@@ -21,7 +18,7 @@ fn initial_at(s: &StateSearch<'_>, a: usize) -> bool
     ensures { TestIs s.now.dossier.table.now s.now.dossier.rows.now s.now.dossier.firsts.now s.now.cells s.now.part abstract_initial_at a result }
 {
     let mut slots = [0i64; SLOTS];
-    bind_pair(&s.cells, s.part, a, 0, &mut slots);
+    s.bind_pair(Pair { a, c: 0 }, &mut slots);
     abstract_initial(&s.dossier, &mut slots)
 }
 
@@ -43,24 +40,37 @@ pub fn next_concrete_state(d: &Dossier<'_>, from: usize) -> Option<usize>
     step_searches::next_concrete_state(d, &s.cells, s.part, from)
 }
 
-// Are the a-th abstract and the c-th concrete binding states that retrieve relates?
-fn related_at(s: &StateSearch<'_>, a: usize, c: usize) -> bool
+// How many concrete states there are.
+pub fn concrete_states(d: &Dossier<'_>) -> usize
+    requires { ReadAsked d.now.table.now d.now.rows.now d.now.firsts.now d.now.groups.now d.now.operations }
+    ensures { Counted d.now.table.now d.now.rows.now d.now.firsts.now d.now.groups.now d.now.operations concrete_state_at concrete_count result }
+{
+    let s = state_search(d, INITIALISATION);
+    (0..s.part.nc)
+        .filter(|&c| concrete_state_at(&s.dossier, &s.cells, s.part, c))
+        .count()
+}
+
+// Are the two bindings states that retrieve relates?
+fn related_at(s: &StateSearch<'_>, x: Pair) -> bool
     requires search_asked { SearchAsked s.now.dossier.table.now s.now.dossier.rows.now s.now.dossier.firsts.now s.now.cells s.now.part }
-    requires a_lt_nm { (a < s.now.part.nm) × (c < s.now.part.nc) }
-    ensures { PairIs s.now.dossier.table.now s.now.dossier.rows.now s.now.dossier.firsts.now s.now.cells s.now.part related_at a c result }
+    requires x_bound { (x.a < s.now.part.nm) × (x.c < s.now.part.nc) }
+    ensures { PairIs s.now.dossier.table.now s.now.dossier.rows.now s.now.dossier.firsts.now s.now.cells s.now.part related_at x.a x.c result }
 {
     let mut slots = [0i64; SLOTS];
-    bind_pair(&s.cells, s.part, a, c, &mut slots);
+    s.bind_pair(x, &mut slots);
     related(&s.dossier, &mut slots)
 }
 
 // Is no abstract state related to the c-th concrete binding?
+// Form 2: what the two sides share from here on is `any` and `find` of the library. They differ in the test of a state, in how many there are of the other side and in the order of a
+// pair: a parameter for the side would be a `match` at each of the three.
 fn unrelated_concrete(s: &StateSearch<'_>, c: usize) -> bool
     requires search_asked { SearchAsked s.now.dossier.table.now s.now.dossier.rows.now s.now.dossier.firsts.now s.now.cells s.now.part }
     requires c_lt_nc { c < s.now.part.nc }
     ensures { TestIs s.now.dossier.table.now s.now.dossier.rows.now s.now.dossier.firsts.now s.now.cells s.now.part unrelated_concrete c result }
 {
-    (0..s.part.nm).find(|&a| related_at(s, a, c)).is_none()
+    !(0..s.part.nm).any(|a| related_at(s, Pair { a, c }))
 }
 
 // Is it a state that no abstract state is related to?
@@ -88,8 +98,8 @@ fn abstract_at(s: &StateSearch<'_>, a: usize) -> bool
     ensures { TestIs s.now.dossier.table.now s.now.dossier.rows.now s.now.dossier.firsts.now s.now.cells s.now.part abstract_state_at a result }
 {
     let mut slots = [0i64; SLOTS];
-    bind_pair(&s.cells, s.part, a, 0, &mut slots);
-    context_holds(&s.dossier, ABSTRACT, &mut slots)
+    s.bind_pair(Pair { a, c: 0 }, &mut slots);
+    context_holds(&s.dossier, ABSTRACT_STATE, &mut slots)
 }
 
 // Is no concrete state related to it?
@@ -98,7 +108,7 @@ fn unrelated_abstract(s: &StateSearch<'_>, a: usize) -> bool
     requires a_lt_nm { a < s.now.part.nm }
     ensures { TestIs s.now.dossier.table.now s.now.dossier.rows.now s.now.dossier.firsts.now s.now.cells s.now.part unrelated_abstract a result }
 {
-    (0..s.part.nc).find(|&c| related_at(s, a, c)).is_none()
+    !(0..s.part.nc).any(|c| related_at(s, Pair { a, c }))
 }
 
 // Is it a state that no concrete state is related to?

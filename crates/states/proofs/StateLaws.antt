@@ -1,6 +1,6 @@
 -- The contexts of a dossier, each at its number: what is asked where bindings stand in the slots, and what the answer means for initial states and retrieve.
 use mathlib.Core.Path.{◌≡◌, refl, sym, ap, ◌∙◌, subst}
-use mathlib.Core.Bool.{Bool, true, false, ◌&&◌}
+use mathlib.Core.Bool.{Bool, true, false, true≢false, ◌&&◌}
 use mathlib.Core.List.{List, [], ◌∷◌, ◌++◌}
 use mathlib.Core.Option.{some}
 use Prim.Native.Nat.{ℕ}
@@ -115,6 +115,22 @@ both-in d a c σ h k = record {
 }
 
 -- ---- one test after the other
+
+-- two tests, of which the second is asked where the first holds
+pub data Both (P Q : Bool → Type 0) : Bool → Type 0 where
+  first_holds : {r : Bool} → P true → Q r → Both P Q r
+  first_fails : P false → Both P Q false
+
+pub both-hold : {P Q : Bool → Type 0} {r : Bool} → Both P Q r → r ≡ true → P true × Q true
+both-hold {Q = Q} (first_holds p q) e = (p, subst Q e q)
+both-hold (first_fails p) e = absurd (true≢false (sym e))
+
+pub one-fails : {P Q : Bool → Type 0} {R : Type 0} {r : Bool} → Both P Q r → r ≡ false → (P false → R) → (P true → Q false → R) → R
+one-fails {Q = Q} (first_holds p q) e f g = g p (subst Q e q)
+one-fails (first_fails p) e f g = f p
+
+pub as-both : {P Q : Bool → Type 0} {x r : Bool} → x ≡ r → Both P Q r → Both P Q x
+as-both {P} {Q} e b = subst (Both P Q) (sym e) b
 
 two-first : (x y : Bool) → false ≡ x → false ≡ (x && y)
 two-first x y e = subst (λ (c : Bool). false ≡ (c && y)) e refl

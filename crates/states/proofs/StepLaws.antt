@@ -6,7 +6,7 @@ use mathlib.Core.Option.{Option, none, some, none-ne-some, some-injective}
 use Prim.Native.Nat.{ℕ, zero, suc, ◌+◌, ◌*◌, ◌<◌}
 use native.Mathlib.Omega.{arith}
 use lib.ListN.{get_elem?}
-use Rattle.lexical.specs.Symbols.{Name, Ending, no_ending, prime}
+use Rattle.lexical.specs.Symbols.{Name, no_ending, prime}
 use Rattle.form.specs.Tree.{Letters, Pred, Given, Declaration, declarations, State, Operation, Dossier}
 use Rattle.form.specs.Headings.{operations_at, operation_length}
 use Rattle.static_rules.specs.Carriers.{Carrier, Variable, carrier_of}
@@ -23,6 +23,7 @@ use Rattle.states.specs.Promises.{ContextAsked, ContextAnswers}
 use Rattle.states.specs.Promises.{AbstractStepAsked, AbstractStepAnswers, ConcreteStepAsked, ConcreteStepAnswers}
 use Rattle.states.proofs.StateLaws.{ContextOf, abstract-context, concrete-context, asked-at, answer_at, over-append, slotted-append}
 use Rattle.states.proofs.StateLaws.{three-first, three-second, three_third}
+use Rattle.static_rules.proofs.FoundCarriers.{variables-one, variables-skip}
 
 -- ---- the contexts of the k-th operation
 
@@ -123,15 +124,6 @@ module _ (d : Dossier) where
 
 -- ---- the bindings of a step
 
-one-variable : (gs : List Given) (e : Ending) (x : Declaration) (ds : List Declaration) (c : Carrier) → carrier_of gs x.type ≡ some c
-    → variables gs e (x ∷ ds) ≡ record { called = record { letters = x.declared; ending = e }; carrier = c } ∷ variables gs e ds
-unfolding variables
-one-variable gs e x ds c h = rw (variables, h)
-
-no_variable : (gs : List Given) (e : Ending) (x : Declaration) (ds : List Declaration) → carrier_of gs x.type ≡ none → variables gs e (x ∷ ds) ≡ variables gs e ds
-unfolding variables
-no_variable gs e x ds h = rw (variables, h)
-
 after_one : (gs : List Given) (x : Declaration) (ds : List Declaration) (c : Carrier) (b : Binding)
     → ((b : Binding) → Over (variables gs no_ending ds) b → Over (variables gs prime ds) (after b))
     → Over (record { called = record { letters = x.declared; ending = no_ending }; carrier = c } ∷ variables gs no_ending ds) b
@@ -149,11 +141,11 @@ after-over gs (x ∷ ds) b h = go (carrier_of gs x.type) refl (after-over gs ds)
     go : (o : Option Carrier) → carrier_of gs x.type ≡ o → ((b : Binding) → Over (variables gs no_ending ds) b → Over (variables gs prime ds) (after b))
         → Over (variables gs prime (x ∷ ds)) (after b)
     go none e r =
-        subst (λ (v : List Variable). Over v (after b)) (sym (no_variable gs prime x ds e))
-        (r b (subst (λ (v : List Variable). Over v b) (no_variable gs no_ending x ds e) h))
+        subst (λ (v : List Variable). Over v (after b)) (sym (variables-skip gs prime x ds e))
+        (r b (subst (λ (v : List Variable). Over v b) (variables-skip gs no_ending x ds e) h))
     go (some c) e r =
-        subst (λ (v : List Variable). Over v (after b)) (sym (one-variable gs prime x ds c e))
-        (after_one gs x ds c b r (subst (λ (v : List Variable). Over v b) (one-variable gs no_ending x ds c e) h))
+        subst (λ (v : List Variable). Over v (after b)) (sym (variables-one gs prime x ds c e))
+        (after_one gs x ds c b r (subst (λ (v : List Variable). Over v b) (variables-one gs no_ending x ds c e) h))
 
 step-placed : {d : Dossier} {s : State} {plain dashed : ℕ} {op : Operation} {b i o b' : Binding} {σ later : Values}
     → StepAt d s plain dashed op b i o b' σ later

@@ -17,7 +17,9 @@ use search_groups::contexts::{
 };
 use truths::truth;
 
-// Form 2: `rows_free` of state_facts walks the rows alike and asks the table alone; here the values are lent to be written, and a closure that lends them needs more clauses than the walk has lines.
+// Form 2: `rows_free` of state_facts walks the rows alike and asks the table alone. One walk for both would be handed the test as a closure; see Form 3.
+// Form 3: `all` over these places, with a closure that lends the values, was tried: it stays open that the closure may be called at each place. The library has laws of `all` over a range, and none
+// of what `step_by` yields.
 // Do all conjuncts of the rows between two places hold? The first that does not decides.
 fn all_hold(d: &Dossier<'_>, from: usize, to: usize, slots: &mut [i64; SLOTS]) -> bool
     requires { RowsAsked d.now.table.now d.now.rows.now from to slots.old }
@@ -50,10 +52,7 @@ pub fn abstract_initial(d: &Dossier<'_>, slots: &mut [i64; SLOTS]) -> bool
     ensures answers { AbstractInitialAnswers d.now.table.now d.now.rows.now d.now.firsts.now slots.old result }
     ensures kept { slots.new ≡ slots.old }
 {
-    if !context_holds(d, ABSTRACT_STATE, slots) {
-        return false;
-    }
-    context_holds(d, AINIT, slots)
+    context_holds(d, ABSTRACT_STATE, slots) && context_holds(d, AINIT, slots)
 }
 
 // The same of the concrete variables and cinit.
@@ -63,10 +62,7 @@ pub fn concrete_initial(d: &Dossier<'_>, slots: &mut [i64; SLOTS]) -> bool
     ensures answers { ConcreteInitialAnswers d.now.table.now d.now.rows.now d.now.firsts.now slots.old result }
     ensures kept { slots.new ≡ slots.old }
 {
-    if !context_holds(d, CONCRETE_STATE, slots) {
-        return false;
-    }
-    context_holds(d, CINIT, slots)
+    context_holds(d, CONCRETE_STATE, slots) && context_holds(d, CINIT, slots)
 }
 
 // Are both bindings states, and related by retrieve?
@@ -75,13 +71,9 @@ pub fn related(d: &Dossier<'_>, slots: &mut [i64; SLOTS]) -> bool
     ensures answers { RelatedAnswers d.now.table.now d.now.rows.now d.now.firsts.now slots.old result }
     ensures kept { slots.new ≡ slots.old }
 {
-    if !context_holds(d, ABSTRACT_STATE, slots) {
-        return false;
-    }
-    if !context_holds(d, CONCRETE_STATE, slots) {
-        return false;
-    }
-    context_holds(d, RETRIEVE, slots)
+    context_holds(d, ABSTRACT_STATE, slots)
+        && context_holds(d, CONCRETE_STATE, slots)
+        && context_holds(d, RETRIEVE, slots)
 }
 
 // Is it a step of the k-th operation's abstract side? `slots` has the state before, the state after under its primed slots, inputs and outputs; `later` has the
@@ -97,13 +89,9 @@ pub fn abstract_step(
     ensures kept { slots.new ≡ slots.old }
     ensures later_kept { later.new ≡ later.old }
 {
-    if !context_holds(d, ABSTRACT_STATE, slots) {
-        return false;
-    }
-    if !context_holds(d, ABSTRACT_STATE, later) {
-        return false;
-    }
-    context_holds(d, OPERATIONS + SIDES * k, slots)
+    context_holds(d, ABSTRACT_STATE, slots)
+        && context_holds(d, ABSTRACT_STATE, later)
+        && context_holds(d, OPERATIONS + SIDES * k, slots)
 }
 
 // The same of its concrete side.
@@ -119,11 +107,7 @@ pub fn concrete_step(
     ensures kept { slots.new ≡ slots.old }
     ensures later_kept { later.new ≡ later.old }
 {
-    if !context_holds(d, CONCRETE_STATE, slots) {
-        return false;
-    }
-    if !context_holds(d, CONCRETE_STATE, later) {
-        return false;
-    }
-    context_holds(d, OPERATIONS + SIDES * k + CONCRETE_SIDE, slots)
+    context_holds(d, CONCRETE_STATE, slots)
+        && context_holds(d, CONCRETE_STATE, later)
+        && context_holds(d, OPERATIONS + SIDES * k + CONCRETE_SIDE, slots)
 }

@@ -1,4 +1,8 @@
--- Reading computed on changed parts of BASE.
+-- Laws of names and types; reading computed on changed parts of BASE.
+pub mod TypePlaces
+pub mod Faultless
+pub mod FoundCarriers
+pub mod SameTypes
 pub mod Samples
 -- what crates above name of crates below
 pub use Rattle.form.proofs.PlainSymbols as FormPlainSymbols

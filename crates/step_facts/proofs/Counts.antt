@@ -10,11 +10,12 @@ use mir.Val.{bool_byte}
 use Rattle.form.specs.Tree.{Operation, Dossier}
 use Rattle.points.specs.Searches.{Sought}
 use Rattle.plans.specs.declared.Part.{Part}
-use Rattle.state_facts.specs.PartTestsPartsByNumber.{abstract_state, related_to, ready_at}
+use Rattle.state_facts.specs.PartTestsPartsByNumber.{abstract_state, ready_at}
 use Rattle.step_searches.specs.StepPromises.{StepsAsked, ForSteps, Prepared}
-use Rattle.step_facts.specs.FactPromises.{if_so, weight, tally, Summed, one, state_test, ready_test, related_below, ready_below, AbleIs}
-use Rattle.step_facts.specs.FactPromises.{StatesCounted, PairsCounted, PromisesCounted}
-use Rattle.step_facts.proofs.AskedFacts.{na-is, nc-is, ni-is, unlisted}
+use Rattle.step_facts.specs.declared.totals.Counted.{Counted}
+use Rattle.step_facts.specs.declared.totals.Counted.TheVariants.{States, Pairs, Promises}
+use Rattle.step_facts.specs.FactPromises.{if_so, weight, tally, Summed, one, state_test, related_test, ready_test, adds, AddedIs, TotalIs, AbleIs}
+use Rattle.step_facts.proofs.AskedFacts.{na-is, nc-is, ni-is, sizes-of, unlisted}
 use Rattle.sets.proofs.MaskBits.{byte_low}
 
 -- ---- sums
@@ -137,32 +138,31 @@ module _ {table plan cells : List ℕ} {p : Part} {a : ℕ} where
   pub ready-done : {n i : ℕ} → ReadyTo table plan cells p a n i → p.ni ≤ i → Summed table plan cells p (ready_test a) one p.ni n
   ready-done {n} {i} w h = let e : i ≡ p.ni = omega (arith, w.high) in record { is = λ d op x. w.sums d op x ∙ ap (tally (ready_at d op a)) e }
 
+-- ---- what an abstract state adds
+
+module _ {table plan cells : List ℕ} {p : Part} {c : Counted} {a : ℕ} where
+  pub adds-one : c ≡ States → AddedIs table plan cells p c a 1
+  adds-one e = subst (λ (z : Counted). AddedIs table plan cells p z a 1) (sym e) (record { is = λ d op x. refl; few = omega arith })
+
+  pub adds-pairs : {r : ℕ} → c ≡ Pairs → StepsAsked table plan cells p → Summed table plan cells p (related_test a) one p.nc r → AddedIs table plan cells p c a r
+  adds-pairs {r} e q w =
+      subst (λ (z : Counted). AddedIs table plan cells p z a r) (sym e)
+      (record { is = λ d op x. w.is d op x; few = omega (arith, few-pass (related_test a) q w, (sizes-of q).1.1) })
+
+  pub adds-promises : {r : ℕ} → c ≡ Promises → StepsAsked table plan cells p → Summed table plan cells p (ready_test a) one p.ni r → AddedIs table plan cells p c a r
+  adds-promises {r} e q w =
+      subst (λ (z : Counted). AddedIs table plan cells p z a r) (sym e)
+      (record { is = λ d op x. w.is d op x; few = omega (arith, few-pass (ready_test a) q w, (sizes-of q).2.1) })
+
 -- ---- of every dossier whose reading the arrays are
 
-module _ {table rows firsts groups : List ℕ} {operations j : ℕ} where
-  pub no_promises : operations ≤ j → PromisesCounted table rows firsts groups operations j 0
-  no_promises h = record { is = λ d op R m e. absurd (unlisted d h m e) }
+module _ {table rows firsts groups : List ℕ} {operations j : ℕ} {c : Counted} where
+  pub no_total : operations ≤ j → TotalIs table rows firsts groups operations j c 0
+  no_total h = record { is = λ d op R m e. absurd (unlisted d h m e) }
 
-  pub promises-counted : {plan cells : List ℕ} {p : Part} {r : ℕ} → Prepared table rows firsts groups j plan cells p
-      → Summed table plan cells p state_test (ready_below p.ni) p.na r → PromisesCounted table rows firsts groups operations j r
-  promises-counted {p = p} {r} w u = record {
+  pub total-is : {plan cells : List ℕ} {p : Part} {r : ℕ} → Prepared table rows firsts groups j plan cells p
+      → Summed table plan cells p state_test (adds c p.nc p.ni) p.na r → TotalIs table rows firsts groups operations j c r
+  total-is w u = record {
     is = λ d op R m e. (let x = w.searches d op R e in
-        u.is d op x ∙ (λ t. weight (abstract_state d) (λ (a : ℕ). tally (ready_at d op a) (ni-is x t)) (na-is x t)));
+        u.is d op x ∙ (λ t. weight (abstract_state d) (λ (a : ℕ). adds c (nc-is x t) (ni-is x t) d op a) (na-is x t)));
   }
-
-module _ {table rows firsts groups : List ℕ} {operations : ℕ} where
-  pub no-states : operations ≤ 0 → StatesCounted table rows firsts groups operations 0
-  no-states h = record { is = λ d op R m e. absurd (unlisted d h m e) }
-
-  pub no_pairs : operations ≤ 0 → PairsCounted table rows firsts groups operations 0
-  no_pairs h = record { is = λ d op R m e. absurd (unlisted d h m e) }
-
-  module _ {plan cells : List ℕ} {p : Part} {r : ℕ} (w : Prepared table rows firsts groups 0 plan cells p) where
-    pub states-counted : Summed table plan cells p state_test one p.na r → StatesCounted table rows firsts groups operations r
-    states-counted u = record { is = λ d op R m e. (let x = w.searches d op R e in u.is d op x ∙ ap (tally (abstract_state d)) (na-is x)) }
-
-    pub pairs-counted : Summed table plan cells p state_test (related_below p.nc) p.na r → PairsCounted table rows firsts groups operations r
-    pairs-counted u = record {
-      is = λ d op R m e. (let x = w.searches d op R e in
-          u.is d op x ∙ (λ t. weight (abstract_state d) (λ (a : ℕ). tally (related_to d a) (nc-is x t)) (na-is x t)));
-    }

@@ -3,8 +3,8 @@ use mathlib.Core.Path.{◌≡◌, refl, sym, ap, ap₂, subst, ◌∙◌}
 use mathlib.Core.Bool.{Bool, true, false}
 use mathlib.Core.Logic.{◌⊎◌, ⊎_elim}
 use mathlib.Core.List.{List, []}
-use Prim.Native.Nat.{ℕ, zero, suc, ◌+◌, ◌-◌, ◌*◌, ◌/◌, ◌%◌, ◌<◌, ◌≤◌, ◌^◌}
-use native.Mathlib.Nat.{pow-le-pow_right, eq-or-lt_of_le, mod-lt, div-lt_iff_lt-mul}
+use Prim.Native.Nat.{ℕ, ◌+◌, ◌-◌, ◌*◌, ◌/◌, ◌%◌, ◌<◌, ◌≤◌, ◌^◌}
+use native.Mathlib.Nat.{eq-or-lt_of_le, mod-lt, div-lt_iff_lt-mul}
 use native.Mathlib.Omega.{arith}
 use mir.Val.{bool_byte}
 use Rattle.std.specs.Prelude.{Option, Some, None, IfSome, unwrap_or, is_some}

@@ -1,6 +1,6 @@
 -- The first bit that one mask has and another has not; states and inputs at which one side can step and the other cannot. Assumes nothing.
 use mathlib.Core.Path.{◌≡◌, refl, sym, ap, ap₂, subst, ◌∙◌}
-use mathlib.Core.Bool.{Bool, true, false, ◌&&◌, not, true≢false}
+use mathlib.Core.Bool.{Bool, true, false, ◌&&◌, not}
 use mathlib.Core.Logic.{◌⊎◌, inl, inr, ⊎_elim}
 use mathlib.Core.List.{List}
 use Prim.Native.Nat.{ℕ, ◌+◌, ◌/◌, ◌%◌, ◌<◌, ◌≤◌, ◌^◌}
@@ -19,6 +19,7 @@ use Rattle.step_searches.specs.StepPromises.{StepSearches, StepsAsked, ForSteps,
 use Rattle.step_facts.specs.declared.differences.Place.{Place}
 use Rattle.step_facts.specs.FactPromises.{input_count, BitsAre, MasksAre, more, more_by, FirstMore, differs, differs_related, differs_at, FirstRelated, FirstPlace, PlaceHere, NowhereFrom, PlaceFrom, PlaceAmong, Within, PlaceIs}
 use Rattle.step_facts.proofs.AskedFacts.{na-is, nc-is, ni-is, unlisted}
+use Rattle.lexical.proofs.BooleanTests.{and-right-false, and-left-false}
 
 -- ---- from one number that passes to the next
 
@@ -69,14 +70,6 @@ module _ {narrowed : Bool} {s m n : ℕ} {r : Option ℕ} where
 
 -- ---- the concrete states related to an abstract one
 
-and_false : (b c : Bool) → c ≡ false → (b && c) ≡ false
-and_false true c e = e
-and_false false c e = refl
-
-false_and : (b c : Bool) → b ≡ false → (b && c) ≡ false
-false_and true c e = absurd (true≢false e)
-false_and false c e = refl
-
 true_and : (b c : Bool) → b ≡ true → c ≡ true → (b && c) ≡ true
 true_and b c e f = ap₂ (λ (x y : Bool). x && y) e f
 
@@ -109,7 +102,7 @@ module _ {table plan cells : List ℕ} {p : Part} {narrowed : Bool} {a : ℕ} wh
   pub relating-start : {c : ℕ} → RelatedStateFound table plan cells p a 0 c → StepsAsked table plan cells p → Relating table plan cells p narrowed a c
   relating-start {c} f q = record {
     high = (f.sought q.dossier q.operation q.searches).high;
-    none = λ d op x k i l h. false_and (related_to d a k) (differs d op narrowed a k i) ((f.sought d op x).past k (omega arith) l);
+    none = λ d op x k i l h. and-left-false (related_to d a k) (differs d op narrowed a k i) ((f.sought d op x).past k (omega arith) l);
     here = λ d op x l. (f.sought d op x).found l;
   }
 
@@ -122,7 +115,7 @@ module _ {table plan cells : List ℕ} {p : Part} {narrowed : Bool} {a : ℕ} wh
         here = λ d op x. true_and (related_to d a c) (differs d op narrowed a c i) (w.here d op x l) (at d op x).2;
         first = λ d op x. record {
           related = λ k j g t. w.none d op x k j g t;
-          inputs = λ j g. and_false (related_to d a c) (differs d op narrowed a c j) ((at d op x).3 j (omega arith) g);
+          inputs = λ j g. and-right-false (related_to d a c) (differs d op narrowed a c j) ((at d op x).3 j (omega arith) g);
         };
       };
     }
@@ -137,9 +130,9 @@ module _ {table plan cells : List ℕ} {p : Part} {narrowed : Bool} {a : ℕ} wh
       none = λ d op x k j g t.
           advance (λ (k : ℕ). (j : ℕ) → j < p.ni → differs_related d op narrowed a k j ≡ false) (related_to d a) c next p.nc
           (λ k g j t. w.none d op x k j g t)
-          (λ j t. and_false (related_to d a c) (differs d op narrowed a c j)
+          (λ j t. and-right-false (related_to d a c) (differs d op narrowed a c j)
           (subst (First (differs d op narrowed a c) 0 p.ni) h (differing narrowed b M e l u d op x) j (omega arith) t))
-          (λ k z j t. false_and (related_to d a k) (differs d op narrowed a k j) z) (f.sought d op x) k g j t;
+          (λ k z j t. and-left-false (related_to d a k) (differs d op narrowed a k j) z) (f.sought d op x) k g j t;
       here = λ d op x g. (f.sought d op x).found g;
     }
 
@@ -158,7 +151,7 @@ module _ {table plan cells : List ℕ} {p : Part} {narrowed : Bool} where
   pub going_start : {a : ℕ} → AbstractStateFound table plan cells p 0 a → StepsAsked table plan cells p → Going table plan cells p narrowed a
   going_start {a} f q = record {
     high = (f.sought q.dossier q.operation q.searches).high;
-    none = λ d op x k c i l g h. false_and (abstract_state d k) (differs_related d op narrowed k c i) ((f.sought d op x).past k (omega arith) l);
+    none = λ d op x k c i l g h. and-left-false (abstract_state d k) (differs_related d op narrowed k c i) ((f.sought d op x).past k (omega arith) l);
     here = λ d op x l. (f.sought d op x).found l;
   }
 
@@ -180,8 +173,8 @@ module _ {table plan cells : List ℕ} {p : Part} {narrowed : Bool} where
             → FirstPlace d op narrowed p.nc p.ni a t.c t.i
         before d op x v = record {
           states = λ k c i g h t. w.none d op x k c i g h t;
-          related = λ c i g h. and_false (abstract_state d a) (differs_related d op narrowed a c i) (v.related c i g h);
-          inputs = λ i g. and_false (abstract_state d a) (differs_related d op narrowed a t.c i) (v.inputs i g);
+          related = λ c i g h. and-right-false (abstract_state d a) (differs_related d op narrowed a c i) (v.related c i g h);
+          inputs = λ i g. and-right-false (abstract_state d a) (differs_related d op narrowed a t.c i) (v.inputs i g);
         }
 
     pub going_next : {next : ℕ} → r ≡ None → AbstractStateFound table plan cells p (a + 1) next → StepsAsked table plan cells p
@@ -193,8 +186,8 @@ module _ {table plan cells : List ℕ} {p : Part} {narrowed : Bool} where
           none = λ d op x k c i g h t.
               advance (λ (k : ℕ). (c i : ℕ) → c < p.nc → i < p.ni → differs_at d op narrowed k c i ≡ false) (abstract_state d) a next p.na
               (λ k g c i h t. w.none d op x k c i g h t)
-              (λ c i h t. and_false (abstract_state d a) (differs_related d op narrowed a c i) (z d op x c i h t))
-              (λ k z c i h t. false_and (abstract_state d k) (differs_related d op narrowed k c i) z) (f.sought d op x) k g c i h t;
+              (λ c i h t. and-right-false (abstract_state d a) (differs_related d op narrowed a c i) (z d op x c i h t))
+              (λ k z c i h t. and-left-false (abstract_state d k) (differs_related d op narrowed k c i) z) (f.sought d op x) k g c i h t;
           here = λ d op x g. (f.sought d op x).found g;
         }
 

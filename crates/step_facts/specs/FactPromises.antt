@@ -20,7 +20,9 @@ use Rattle.step_facts.specs.declared.NextStep.TheVariants.{Step, NoStep, Beyond}
 use Rattle.step_facts.specs.declared.runs.Beginning.{Beginning}
 use Rattle.step_facts.specs.declared.runs.Beginning.TheVariants.{Both, Concrete, Nowhere}
 use Rattle.step_facts.specs.declared.differences.Place.{Place}
-use Rattle.step_facts.specs.declared.runs.Pair.{Pair}
+use Rattle.step_facts.specs.declared.totals.Counted.{Counted}
+use Rattle.step_facts.specs.declared.totals.Counted.TheVariants.{States, Pairs, Promises}
+use Rattle.state_facts.specs.declared.Pair.{Pair}
 use Rattle.step_facts.specs.declared.runs.BothStep.{BothStep}
 
 -- of every dossier whose reading they are, and of its operation j
@@ -204,6 +206,11 @@ pub record StepOf (d : Dossier) (op : Operation) (a c i o k b : ℕ) : Type 0 wh
   pub steps : concretely d op c i (output_at d op o) (concrete_at d k) ≡ true
   pub met : match d op a i o k (abstract_at d b) ≡ true
 
+-- the states of a pair are some of the part's
+pub record PairLow (p : Part) (x : Pair) : Type 0 where
+  pub a_low : x.a < p.na
+  pub c_low : x.c < p.nc
+
 pub record StepLow (p : Part) (r : BothStep) : Type 0 where
   pub i_low : r.i < p.ni
   pub o_low : r.o < p.nq
@@ -261,11 +268,20 @@ related_test a d op c = related_to d a c
 abbrev pub ready_test : (a : ℕ) → Dossier → Operation → ℕ → Bool
 ready_test a d op i = ready_at d op a i
 
-abbrev pub related_below : (nc : ℕ) → Dossier → Operation → ℕ → ℕ
-related_below nc d op a = tally (related_to d a) nc
+-- what the abstract state a adds to a count, where there are so many concrete states and inputs
+abbrev pub adds : (c : Counted) (nc ni : ℕ) → Dossier → Operation → ℕ → ℕ
+adds States nc ni d op a = 1
+adds Pairs nc ni d op a = tally (related_to d a) nc
+adds Promises nc ni d op a = tally (ready_at d op a) ni
 
-abbrev pub ready_below : (ni : ℕ) → Dossier → Operation → ℕ → ℕ
-ready_below ni d op a = tally (ready_at d op a) ni
+pub record AddedIs (table plan cells : List ℕ) (p : Part) (c : Counted) (a r : ℕ) : Type 0 where
+  pub is : ForSteps table plan cells p (λ (d : Dossier) (op : Operation). r ≡ adds c p.nc p.ni d op a)
+  pub few : r ≤ 4096
+
+-- the count of operation j
+pub record TotalIs (table rows firsts groups : List ℕ) (operations j : ℕ) (c : Counted) (r : ℕ) : Type 0 where
+  pub is : ForOperation table rows firsts groups operations j
+      (λ (d : Dossier) (op : Operation). r ≡ weight (abstract_state d) (λ (a : ℕ). adds c (concrete_count d) (input_count d op) d op a) (abstract_count d))
 
 -- abstract_states(..), related_pairs(..), promises(.., j): of a dossier that has an operation, of which the first one is asked where none is given
 pub record StatesCounted (table rows firsts groups : List ℕ) (operations r : ℕ) : Type 0 where

@@ -1,14 +1,19 @@
 // The inputs with which a side can step, as bits.
-ghost use Rattle.std.specs.Prelude.{◌≡◌, ◌<◌, length, get_or};
+ghost use Rattle.std.specs.Prelude.{◌≡◌, ◌<◌, get_or};
 ghost use Rattle.memo.specs.MemoPromises.{Memo};
 ghost use Rattle.step_searches.specs.StepPromises.{StepsAsked};
 ghost use Rattle.step_facts.specs.Sides.{is_abstract};
 ghost use Rattle.step_facts.specs.FactPromises.{AbleIs, states_of, BitsAre, MasksAre};
 
+use lexical::bounds::STATE_BINDINGS;
 use plans::PartSearch;
 use step_searches::{next_abstract_step, next_concrete_step};
 
-// Form 1: one of the two machines, no result.
+// The most bindings that a state has.
+pub const STATES: usize = STATE_BINDINGS as usize;
+
+// One of the two machines.
+// Form 1: no result.
 #[derive(Clone, Copy)]
 pub enum Side {
     Abstract,
@@ -51,8 +56,7 @@ pub fn bits(s: &PartSearch<'_>, side: Side, x: usize, memo: &mut [u64; memo::NUM
 }
 
 // Those of all concrete states.
-pub fn fill_masks(s: &PartSearch<'_>, masks: &mut [u64], memo: &mut [u64; memo::NUMBERS])
-    requires masks_len { length masks.old ≡ 4096 }
+pub fn fill_masks(s: &PartSearch<'_>, masks: &mut [u64; STATES], memo: &mut [u64; memo::NUMBERS])
     requires steps_asked { StepsAsked s.now.table.now s.now.plan.now s.now.cells.now s.now.part }
     requires memo { Memo s.now.table.now memo.old }
     ensures fills { MasksAre s.now.table.now s.now.plan.now s.now.cells.now s.now.part s.now.part.nc masks.new }
@@ -65,8 +69,8 @@ pub fn fill_masks(s: &PartSearch<'_>, masks: &mut [u64], memo: &mut [u64; memo::
 }
 
 // Those of the concrete state c.
-pub fn mask_at(masks: &[u64], c: usize) -> u64
-    requires { c < length masks.now }
+pub fn mask_at(masks: &[u64; STATES], c: usize) -> u64
+    requires { c < 4096 }
     ensures { result ≡ get_or masks.now c 0 }
 {
     masks[c]

@@ -1,18 +1,15 @@
 // States and inputs at which one side can step and the other cannot.
-ghost use Rattle.std.specs.Prelude.{◌≡◌, true, false, ◌<◌, ◌≤◌};
+ghost use Rattle.std.specs.Prelude.{true, false, ◌<◌, ◌≤◌};
 ghost use Rattle.memo.specs.MemoPromises.{Memo};
 ghost use Rattle.step_searches.specs.StepPromises.{StepsAsked, First};
 ghost use Rattle.state_facts.specs.Reads.{ReadAsked};
 ghost use Rattle.step_facts.specs.Sides.{is_abstract};
 ghost use Rattle.step_facts.specs.FactPromises.{MasksAre, more, FirstMore, PlaceFrom, PlaceAmong, PlaceIs};
 
-use crate::bits::{Side, bits, fill_masks, mask_at};
+use crate::bits::{STATES, Side, bits, fill_masks, mask_at};
 use plans::PartSearch;
 use search_groups::Dossier;
 use step_searches::{next_abstract_state, next_related_state, prepare};
-
-// The most bindings that a state has.
-const STATES: usize = 4096;
 
 // An abstract state, a concrete one and inputs.
 #[derive(Clone, Copy)]
@@ -50,7 +47,7 @@ fn place_from(
     s: &PartSearch<'_>,
     side: Side,
     a: usize,
-    masks: &[u64],
+    masks: &[u64; STATES],
     memo: &mut [u64; memo::NUMBERS],
 ) -> Option<Place>
     requires a_lt_na { a < s.now.part.na }
@@ -75,7 +72,7 @@ fn place_from(
 fn place_among(
     s: &PartSearch<'_>,
     side: Side,
-    masks: &[u64],
+    masks: &[u64; STATES],
     memo: &mut [u64; memo::NUMBERS],
 ) -> Option<Place>
     requires steps_asked { StepsAsked s.now.table.now s.now.plan.now s.now.cells.now s.now.part }

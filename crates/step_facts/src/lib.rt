@@ -1,7 +1,8 @@
 // Facts about an operation of a dossier, by numbers of bindings, from the searches for single states and steps: for a program that explains counterexamples. A number that is out of range is
 // answered, never refused.
 // Form 3: in the loops by `while` the next place is what a search answers, which is lent the memory that the body is lent too: an iterator would have to own it.
-// Form 5: which operation a search goes over is no invariant of `PartSearch`, which is that of every part; masks and memory are lent for a call.
+// Form 5: which operation a search goes over is no invariant of `PartSearch`, which is that of every part. The memory goes with the search through each function: in one struct, lent to be written,
+// each would have to promise that the search is the same behind it, and would hand the two on one by one, since the functions of `step_searches` take them so.
 #![tactic(auto)]
 
 ghost use Rattle.std.specs.Prelude.{◌≡◌};
@@ -9,8 +10,9 @@ ghost use Rattle.state_facts.specs.Reads.{ReadAsked};
 ghost use Rattle.step_facts.specs.FactPromises.{SpansAre, AbstractStepIs, found_step};
 
 pub use differences::{Place, narrowed, widened};
-pub use runs::{Beginning, BothStep, Pair, begin, step};
+pub use runs::{Beginning, BothStep, begin, step};
 use search_groups::Dossier;
+pub use state_facts::Pair;
 use step_searches::{next_abstract_step, prepare, prepare_opening};
 pub use totals::{abstract_states, promises, related_pairs};
 
@@ -51,8 +53,8 @@ pub fn spans(d: &Dossier<'_>, j: usize) -> Widths
     }
 }
 
-// Form 1: three answers; an `Option` of an `Option` would not say which `None` is which.
 // The next step of an operation by its number, if there is one; `Beyond` where the numbers that it is asked for with are none of the operation's.
+// Form 1: three answers; an `Option` of an `Option` would not say which `None` is which.
 #[derive(Clone, Copy)]
 pub enum NextStep {
     Step(usize),
@@ -82,13 +84,7 @@ pub fn abstract_step(d: &Dossier<'_>, j: usize, a: usize, i: usize, from: usize)
         return NextStep::Beyond;
     }
     let ready = prepare(d, j);
-    if ready.part.na <= a {
-        return NextStep::Beyond;
-    }
-    if ready.part.ni <= i {
-        return NextStep::Beyond;
-    }
-    if ready.part.nr < from {
+    if ready.part.na <= a || ready.part.ni <= i || ready.part.nr < from {
         return NextStep::Beyond;
     }
     let s = ready.search(d.table);

@@ -3,25 +3,19 @@ ghost use Rattle.std.specs.Prelude.{◌<◌};
 ghost use Rattle.memo.specs.MemoPromises.{Memo};
 ghost use Rattle.step_searches.specs.StepPromises.{StepsAsked};
 ghost use Rattle.state_facts.specs.Reads.{ReadAsked};
-ghost use Rattle.step_facts.specs.FactPromises.{BeginIs, StepFound, StepIs};
+ghost use Rattle.step_facts.specs.FactPromises.{BeginIs, PairLow, StepFound, StepIs};
 
 use crate::bits::{Side, able};
 use plans::PartSearch;
 use search_groups::Dossier;
+use state_facts::Pair;
 use step_searches::{
     Stepped, next_concrete_step, next_initial_match, next_initial_state, next_matching_state,
     prepare, prepare_opening,
 };
 
-// An abstract state and a concrete one.
-#[derive(Clone, Copy)]
-pub struct Pair {
-    pub a: usize,
-    pub c: usize,
-}
-
-// Form 1: three cases with other contents each.
 // Where a run begins: in a concrete initial state and an abstract one that is related to it; in a concrete initial state that no abstract one is related to; nowhere.
+// Form 1: three cases with other contents each.
 #[derive(Clone, Copy)]
 pub enum Beginning {
     Both(Pair),
@@ -55,68 +49,60 @@ pub fn begin(d: &Dossier<'_>) -> Beginning
     }
 }
 
-// A step of both sides from the states a and c with the inputs i: the first concrete one, and an abstract state after it that matches.
+// A step of both sides from two states with the inputs i: the first concrete one, and an abstract state after it that matches.
 fn step_at(
     s: &PartSearch<'_>,
-    a: usize,
-    c: usize,
+    x: Pair,
     i: usize,
     memo: &mut [u64; memo::NUMBERS],
 ) -> Option<BothStep>
-    requires a_lt_na { (a < s.now.part.na) × (c < s.now.part.nc) × (i < s.now.part.ni) }
+    requires x_bound { PairLow s.now.part x × (i < s.now.part.ni) }
     requires steps_asked { StepsAsked s.now.table.now s.now.plan.now s.now.cells.now s.now.part }
     requires memo { Memo s.now.table.now memo.old }
-    ensures found { StepFound s.now.table.now s.now.plan.now s.now.cells.now s.now.part a c result }
+    ensures found { StepFound s.now.table.now s.now.plan.now s.now.cells.now s.now.part x.a x.c result }
     ensures remembers { Memo s.now.table.now memo.new }
 {
-    if !able(s, Side::Abstract, a, i, memo) {
+    if !able(s, Side::Abstract, x.a, i, memo) {
         return None;
     }
-    let x = next_concrete_step(s, c, i, 0, memo)?;
-    let o = x / s.part.nc;
-    let k = x % s.part.nc;
-    let b = next_matching_state(s, Stepped { a, i, o, k }, 0, memo)?;
+    let step = next_concrete_step(s, x.c, i, 0, memo)?;
+    let o = step / s.part.nc;
+    let k = step % s.part.nc;
+    let b = next_matching_state(s, Stepped { a: x.a, i, o, k }, 0, memo)?;
     Some(BothStep { i, o, k, b })
 }
 
 // One with any inputs.
-fn step_from(
-    s: &PartSearch<'_>,
-    a: usize,
-    c: usize,
-    memo: &mut [u64; memo::NUMBERS],
-) -> Option<BothStep>
-    requires a_lt_na { (a < s.now.part.na) × (c < s.now.part.nc) }
+// Form 3: tried: `find_map` over a closure that is lent the memory: that the memory is sound at each of its turns, and behind the last, did not close, since nothing is told of what it changes.
+fn step_from(s: &PartSearch<'_>, x: Pair, memo: &mut [u64; memo::NUMBERS]) -> Option<BothStep>
+    requires x_bound { PairLow s.now.part x }
     requires steps_asked { StepsAsked s.now.table.now s.now.plan.now s.now.cells.now s.now.part }
     requires memo { Memo s.now.table.now memo.old }
-    ensures found { StepFound s.now.table.now s.now.plan.now s.now.cells.now s.now.part a c result }
+    ensures found { StepFound s.now.table.now s.now.plan.now s.now.cells.now s.now.part x.a x.c result }
     ensures remembers { Memo s.now.table.now memo.new }
 {
     for i in 0..s.part.ni {
-        let x = step_at(s, a, c, i, memo);
-        if x.is_some() {
-            return x;
+        let step = step_at(s, x, i, memo);
+        if step.is_some() {
+            return step;
         }
     }
     None
 }
 
-// A step of both sides of operation j from the states a and c.
-pub fn step(d: &Dossier<'_>, j: usize, a: usize, c: usize) -> Option<BothStep>
+// A step of both sides of operation j from two states.
+pub fn step(d: &Dossier<'_>, j: usize, x: Pair) -> Option<BothStep>
     requires { ReadAsked d.now.table.now d.now.rows.now d.now.firsts.now d.now.groups.now d.now.operations }
-    ensures { StepIs d.now.table.now d.now.rows.now d.now.firsts.now d.now.groups.now d.now.operations j a c result }
+    ensures { StepIs d.now.table.now d.now.rows.now d.now.firsts.now d.now.groups.now d.now.operations j x.a x.c result }
 {
     if d.operations <= j {
         return None;
     }
     let ready = prepare(d, j);
-    if ready.part.na <= a {
-        return None;
-    }
-    if ready.part.nc <= c {
+    if ready.part.na <= x.a || ready.part.nc <= x.c {
         return None;
     }
     let s = ready.search(d.table);
     let mut memo = [0u64; memo::NUMBERS];
-    step_from(&s, a, c, &mut memo)
+    step_from(&s, x, &mut memo)
 }

@@ -1,11 +1,9 @@
 // How many states, related pairs and promised steps there are.
-// Form 2: the sums differ in what a state counts for. As a closure, which is lent the memory, each would need clauses of its own for what it is asked and what it leaves (a state of the
-// part, the operation of its searches, the memory): more lines than its loop.
 ghost use Rattle.std.specs.Prelude.{◌<◌};
 ghost use Rattle.memo.specs.MemoPromises.{Memo};
 ghost use Rattle.step_searches.specs.StepPromises.{StepsAsked};
 ghost use Rattle.state_facts.specs.Reads.{ReadAsked};
-ghost use Rattle.step_facts.specs.FactPromises.{Summed, one, state_test, related_test, ready_test, related_below, ready_below};
+ghost use Rattle.step_facts.specs.FactPromises.{Summed, one, state_test, related_test, ready_test, adds, AddedIs, TotalIs};
 ghost use Rattle.step_facts.specs.FactPromises.{StatesCounted, PairsCounted, PromisesCounted};
 
 use crate::bits::{Side, able};
@@ -16,20 +14,14 @@ use step_searches::{next_abstract_state, next_related_state, prepare};
 // The operation that is asked for what all of them have in common.
 const FIRST: usize = 0;
 
-// How many abstract states there are.
-fn count_states(s: &PartSearch<'_>, memo: &mut [u64; memo::NUMBERS]) -> usize
-    requires steps_asked { StepsAsked s.now.table.now s.now.plan.now s.now.cells.now s.now.part }
-    requires memo { Memo s.now.table.now memo.old }
-    ensures found { Summed s.now.table.now s.now.plan.now s.now.cells.now s.now.part state_test one s.now.part.na result }
-    ensures remembers { Memo s.now.table.now memo.new }
-{
-    let mut n = 0;
-    let mut next = next_abstract_state(s, 0, memo);
-    while let Some(a) = next {
-        n += 1;
-        next = next_abstract_state(s, a + 1, memo);
-    }
-    n
+// What is counted: abstract states; pairs of related states, so that an abstract state adds how many concrete states are related to it; pairs of an abstract state and inputs with which
+// the abstract side can step.
+// Form 1: kinds of a count, no result.
+#[derive(Clone, Copy)]
+pub enum Counted {
+    States,
+    Pairs,
+    Promises,
 }
 
 // How many concrete states are related to the abstract state a.
@@ -64,70 +56,46 @@ fn count_ready(s: &PartSearch<'_>, a: usize, memo: &mut [u64; memo::NUMBERS]) ->
     n
 }
 
-// How many pairs of related states there are.
-fn count_pairs(s: &PartSearch<'_>, memo: &mut [u64; memo::NUMBERS]) -> usize
+// How much the abstract state a adds to a count.
+fn count_at(
+    s: &PartSearch<'_>,
+    counted: Counted,
+    a: usize,
+    memo: &mut [u64; memo::NUMBERS],
+) -> usize
+    requires a_lt_na { a < s.now.part.na }
     requires steps_asked { StepsAsked s.now.table.now s.now.plan.now s.now.cells.now s.now.part }
     requires memo { Memo s.now.table.now memo.old }
-    ensures found { Summed s.now.table.now s.now.plan.now s.now.cells.now s.now.part state_test (related_below s.now.part.nc) s.now.part.na result }
+    ensures found { AddedIs s.now.table.now s.now.plan.now s.now.cells.now s.now.part counted a result }
+    ensures remembers { Memo s.now.table.now memo.new }
+{
+    match counted {
+        Counted::States => 1,
+        Counted::Pairs => count_related(s, a, memo),
+        Counted::Promises => count_ready(s, a, memo),
+    }
+}
+
+// What all abstract states come to.
+fn count_all(s: &PartSearch<'_>, counted: Counted, memo: &mut [u64; memo::NUMBERS]) -> usize
+    requires steps_asked { StepsAsked s.now.table.now s.now.plan.now s.now.cells.now s.now.part }
+    requires memo { Memo s.now.table.now memo.old }
+    ensures found { Summed s.now.table.now s.now.plan.now s.now.cells.now s.now.part state_test (adds counted s.now.part.nc s.now.part.ni) s.now.part.na result }
     ensures remembers { Memo s.now.table.now memo.new }
 {
     let mut n = 0;
     let mut next = next_abstract_state(s, 0, memo);
     while let Some(a) = next {
-        n += count_related(s, a, memo);
+        n += count_at(s, counted, a, memo);
         next = next_abstract_state(s, a + 1, memo);
     }
     n
 }
 
-// With how many states and inputs the abstract side can step.
-fn count_promises(s: &PartSearch<'_>, memo: &mut [u64; memo::NUMBERS]) -> usize
-    requires steps_asked { StepsAsked s.now.table.now s.now.plan.now s.now.cells.now s.now.part }
-    requires memo { Memo s.now.table.now memo.old }
-    ensures found { Summed s.now.table.now s.now.plan.now s.now.cells.now s.now.part state_test (ready_below s.now.part.ni) s.now.part.na result }
-    ensures remembers { Memo s.now.table.now memo.new }
-{
-    let mut n = 0;
-    let mut next = next_abstract_state(s, 0, memo);
-    while let Some(a) = next {
-        n += count_ready(s, a, memo);
-        next = next_abstract_state(s, a + 1, memo);
-    }
-    n
-}
-
-// The number of abstract states, of a dossier that has an operation.
-pub fn abstract_states(d: &Dossier<'_>) -> usize
+// What they come to for operation j of the arrays; nothing is counted where the dossier has no such operation.
+fn total(d: &Dossier<'_>, j: usize, counted: Counted) -> usize
     requires { ReadAsked d.now.table.now d.now.rows.now d.now.firsts.now d.now.groups.now d.now.operations }
-    ensures { StatesCounted d.now.table.now d.now.rows.now d.now.firsts.now d.now.groups.now d.now.operations result }
-{
-    if d.operations <= FIRST {
-        return 0;
-    }
-    let ready = prepare(d, FIRST);
-    let s = ready.search(d.table);
-    let mut memo = [0u64; memo::NUMBERS];
-    count_states(&s, &mut memo)
-}
-
-// The number of pairs of related states, of a dossier that has an operation.
-pub fn related_pairs(d: &Dossier<'_>) -> usize
-    requires { ReadAsked d.now.table.now d.now.rows.now d.now.firsts.now d.now.groups.now d.now.operations }
-    ensures { PairsCounted d.now.table.now d.now.rows.now d.now.firsts.now d.now.groups.now d.now.operations result }
-{
-    if d.operations <= FIRST {
-        return 0;
-    }
-    let ready = prepare(d, FIRST);
-    let s = ready.search(d.table);
-    let mut memo = [0u64; memo::NUMBERS];
-    count_pairs(&s, &mut memo)
-}
-
-// The number of pairs of an abstract state and inputs with which operation j can step.
-pub fn promises(d: &Dossier<'_>, j: usize) -> usize
-    requires { ReadAsked d.now.table.now d.now.rows.now d.now.firsts.now d.now.groups.now d.now.operations }
-    ensures { PromisesCounted d.now.table.now d.now.rows.now d.now.firsts.now d.now.groups.now d.now.operations j result }
+    ensures { TotalIs d.now.table.now d.now.rows.now d.now.firsts.now d.now.groups.now d.now.operations j counted result }
 {
     if d.operations <= j {
         return 0;
@@ -135,5 +103,29 @@ pub fn promises(d: &Dossier<'_>, j: usize) -> usize
     let ready = prepare(d, j);
     let s = ready.search(d.table);
     let mut memo = [0u64; memo::NUMBERS];
-    count_promises(&s, &mut memo)
+    count_all(&s, counted, &mut memo)
+}
+
+// The number of abstract states, of a dossier that has an operation.
+pub fn abstract_states(d: &Dossier<'_>) -> usize
+    requires { ReadAsked d.now.table.now d.now.rows.now d.now.firsts.now d.now.groups.now d.now.operations }
+    ensures { StatesCounted d.now.table.now d.now.rows.now d.now.firsts.now d.now.groups.now d.now.operations result }
+{
+    total(d, FIRST, Counted::States)
+}
+
+// The number of pairs of related states, of a dossier that has an operation.
+pub fn related_pairs(d: &Dossier<'_>) -> usize
+    requires { ReadAsked d.now.table.now d.now.rows.now d.now.firsts.now d.now.groups.now d.now.operations }
+    ensures { PairsCounted d.now.table.now d.now.rows.now d.now.firsts.now d.now.groups.now d.now.operations result }
+{
+    total(d, FIRST, Counted::Pairs)
+}
+
+// The number of pairs of an abstract state and inputs with which operation j can step.
+pub fn promises(d: &Dossier<'_>, j: usize) -> usize
+    requires { ReadAsked d.now.table.now d.now.rows.now d.now.firsts.now d.now.groups.now d.now.operations }
+    ensures { PromisesCounted d.now.table.now d.now.rows.now d.now.firsts.now d.now.groups.now d.now.operations j result }
+{
+    total(d, j, Counted::Promises)
 }

@@ -1,6 +1,10 @@
 -- What a search finds by the number of its group, at a point where other groups are at given numbers. Assumes nothing.
-use mathlib.Core.Path.{◌≡◌, sym, ap, ap₂, subst, ◌∙◌}
-use mathlib.Core.Bool.{Bool}
+use Rattle.std.specs.Prelude.{Option, IfSome, unwrap_or}
+use Rattle.std.specs.Bool.{then_some}
+use mathlib.Core.Path.{◌≡◌, refl, sym, ap, ap₂, subst, ◌∙◌}
+use mathlib.Core.Bool.{Bool, true, false}
+use lib.Dec.{ltb}
+use borrow.Author.Tests.{ltb-true, ltb-false}
 use mathlib.Core.List.{List, ◌++◌}
 use Prim.Native.Nat.{ℕ, ◌+◌, ◌-◌, ◌*◌, ◌/◌, ◌%◌, ◌<◌, ◌≤◌, ◌^◌}
 use native.Mathlib.Nat.{mod-lt, div-lt_iff_lt-mul, mul-le-mul}
@@ -8,18 +12,18 @@ use native.Mathlib.Omega.{arith}
 use lib.ListN.{length, length-append}
 use lib.IntN.{ℤ}
 use Rattle.lexical.specs.Lists.{upward}
+use Rattle.meaning.proofs.UpwardNumbers.{upward-long}
 use Rattle.static_rules.specs.Carriers.{Variable}
 use Rattle.static_rules.specs.Limits.{binding_count}
 use Rattle.carriers.proofs.Bindings.{bindings-some}
 use Rattle.slot_carriers.specs.CellGroups.{CellsOf}
 use Rattle.points.specs.Points.{Point, span, number_of, placed, Shows}
 use Rattle.points.specs.Searches.{under, Sought, SearchOf}
-use Rattle.points.proofs.PointNumbers.{number-apart, number-placed, beside_placed, placed-append, span-append, sought-same}
-use Rattle.points.proofs.PointBindings.{span-count}
+use Rattle.points.proofs.PointNumbers.{number-apart, number-placed, beside_placed, placed-append, span-append, sought-same, distinct-upward}
+use Rattle.points.proofs.PointBindings.{span-count, group-counts}
 use Rattle.points.proofs.SearchLevels.{search-finds}
 use Rattle.seek.specs.SeekPromises.{SeekAsked, SeekAnswers}
-use Rattle.parts.proofs.PartSearchesSlotGroups.{upward-long, distinct-upward, Filled, filled}
-use Rattle.parts.proofs.PartSearchesFoundBindings.{group-counts}
+use Rattle.parts.proofs.PartSearchesSlotGroups.{Filled, filled}
 use Rattle.parts.proofs.PartSearchesNestParts.{outside-run, run-apart}
 use Rattle.step_searches.specs.StepPromises.{Bindable}
 
@@ -57,11 +61,24 @@ module _ {table plan cells : List ℕ} {u : ℕ} {ss : List ℕ} {P : Point → 
       w
 
 -- a search that does not stop before the end of its span stops there
-pub ended : {table plan cells : List ℕ} {u j m w from r : ℕ} {before after : List (List ℤ)} → SeekAsked table plan cells u j m w from before
+ended : {table plan cells : List ℕ} {u j m w from r : ℕ} {before after : List (List ℤ)} → SeekAsked table plan cells u j m w from before
     → SeekAnswers table plan cells u j m w from before after r → w ≤ r → SeekAnswers table plan cells u j m w from before after w
 ended {table} {plan} {cells} {u} {j} {m} {w} {from} {r} {before} {after} q a h =
     let e : r ≡ w = omega (arith, (a.sought q.slots q.tests q.point q.planned q.shows q.many).high) in
     subst (λ (n : ℕ). SeekAnswers table plan cells u j m w from before after n) e a
+
+-- what it finds, if it stops before
+pub found-below : {table plan cells : List ℕ} {u j m w from r : ℕ} {before after : List (List ℤ)} {o : Option ℕ} → SeekAsked table plan cells u j m w from before
+    → SeekAnswers table plan cells u j m w from before after r → o ≡ then_some (ltb r w) r
+    → SeekAnswers table plan cells u j m w from before after (unwrap_or o w) × IfSome o (λ (k : ℕ). k < w)
+found-below {table} {plan} {cells} {u} {j} {m} {w} {from} {r} {before} {after} {o} q a e = go (ltb r w) refl e
+  where
+    Below : Option ℕ → Type 0
+    Below x = SeekAnswers table plan cells u j m w from before after (unwrap_or x w) × IfSome x (λ (k : ℕ). k < w)
+
+    go : (b : Bool) → ltb r w ≡ b → o ≡ then_some b r → Below o
+    go true h f = subst Below (sym f) (a, ltb-true r w h)
+    go false h f = subst Below (sym f) (ended q a (ltb-false r w h), tt)
 
 -- ---- the numbers of groups
 
@@ -95,14 +112,18 @@ module _ {cells : List ℕ} {base : ℕ} {vs : List Variable} (c : Group cells b
   has δ k h =
       number-placed cells run δ k (distinct-upward base (length vs)) (group-counts cells base vs c.each) (subst (λ (n : ℕ). k < n) (sym group-span) h)
 
--- and keeps it where a group with higher slots, or one with lower ones, is put to another
+-- and keeps it where a group that has no slot in common with it is put to another
+kept-apart : (cells : List ℕ) (a n b m : ℕ) (δ : Point) (k : ℕ) → ((s : ℕ) → b ≤ s → s < b + m → a ≤ s → s < a + n → ⊥)
+    → number_of cells (upward a n) (placed cells (upward b m) δ k) ≡ number_of cells (upward a n) δ
+kept-apart cells a n b m δ k apart =
+    number-apart cells (upward a n) (upward b m) δ (placed cells (upward b m) δ k) (run-apart (outside-run b m apart)) (beside_placed cells (upward b m) δ k)
+
+-- one with higher slots, or with lower ones
 pub kept-below : (cells : List ℕ) (a n b m : ℕ) (δ : Point) (k : ℕ) → a + n ≤ b → number_of cells (upward a n) (placed cells (upward b m) δ k) ≡ number_of cells (upward a n) δ
-kept-below cells a n b m δ k h =
-    number-apart cells (upward a n) (upward b m) δ (placed cells (upward b m) δ k) (run-apart (outside-run b m (λ s f g i j. omega arith))) (beside_placed cells (upward b m) δ k)
+kept-below cells a n b m δ k h = kept-apart cells a n b m δ k (λ s f g i j. omega arith)
 
 pub kept_above : (cells : List ℕ) (a n b m : ℕ) (δ : Point) (k : ℕ) → b + m ≤ a → number_of cells (upward a n) (placed cells (upward b m) δ k) ≡ number_of cells (upward a n) δ
-kept_above cells a n b m δ k h =
-    number-apart cells (upward a n) (upward b m) δ (placed cells (upward b m) δ k) (run-apart (outside-run b m (λ s f g i j. omega arith))) (beside_placed cells (upward b m) δ k)
+kept_above cells a n b m δ k h = kept-apart cells a n b m δ k (λ s f g i j. omega arith)
 
 -- ---- two groups one behind the other
 

@@ -16,10 +16,10 @@ use Rattle.seek.specs.SeekPromises.{SeekAsked, SeekAnswers}
 use Rattle.plans.specs.declared.Part.{Part}
 use Rattle.part_setup.specs.PartTestsPartGroups.{opening_part}
 use Rattle.part_setup.specs.PartTestsPartsByNumber.{abstract_at, initial, initial_match}
-use Rattle.parts.proofs.PartSearchesSlotGroups.{upward-long}
 use Rattle.step_searches.specs.StepPromises.{Bindable, OpeningSearches, abstract_group, concrete_group}
 use Rattle.step_searches.proofs.FoundNumbers.{origin, asks, finds, Group, group-span, bindable, has, kept_above}
 use Rattle.step_searches.proofs.FoundSteps.{low-enough, from_concrete}
+use Rattle.meaning.proofs.UpwardNumbers.{upward-long}
 
 module _ {table plan cells : List ℕ} {p : Part} {d : Dossier} (x : OpeningSearches table plan cells p d) where
   abbrev us : List Variable

@@ -8,6 +8,7 @@ use Rattle.std.specs.Prelude.{Option, unwrap_or, IfSome}
 use lib.ListN.{length}
 use lib.IntN.{ℤ}
 use Rattle.lexical.specs.Lists.{upward}
+use Rattle.meaning.proofs.UpwardNumbers.{upward-long}
 use Rattle.form.specs.Tree.{Operation, Dossier}
 use Rattle.static_rules.specs.Carriers.{Variable}
 use Rattle.static_rules.specs.Scope.{unprimed, inputs, outputs}
@@ -19,9 +20,8 @@ use Rattle.seek.specs.SeekPromises.{SeekAsked, SeekAnswers}
 use Rattle.plans.specs.declared.Part.{Part}
 use Rattle.part_setup.specs.PartTestsPartGroups.{correctness_part}
 use Rattle.part_setup.specs.PartTestsPartsByNumber.{abstract_at, concrete_at, output_at, abstract_state, related_to, abstractly, concretely, match}
-use Rattle.parts.proofs.PartSearchesSlotGroups.{upward-long}
 use Rattle.step_searches.specs.StepPromises.{Bindable, StepSearches}
-use Rattle.step_searches.specs.StepPromises.{abstract_group, concrete_group, concrete_after_group, abstract_after_group, input_group, output_group}
+use Rattle.step_searches.specs.StepPromises.{abstract_group, concrete_after_group, abstract_after_group, input_group, output_group}
 use Rattle.step_searches.proofs.FoundNumbers.{origin, asks, finds, Group, group-span, bindable, has, kept-below}
 use Rattle.step_searches.proofs.FoundNumbers.{both-few, both_long, both_span, both-placed, first_low, second_low}
 
@@ -154,69 +154,35 @@ module _ {table plan cells : List ℕ} {p : Part} {d : Dossier} {op : Operation}
 
   -- ---- what is tested at the points of numbers
 
-  -- a step of the abstract operation, at the numbers of a point
-  abbrev abstract_step : Point → Bool
-  abstract_step ε =
-      abstractly d op (number_of cells (abstract_group d) ε) (number_of cells (input_group d op) ε) (output_at d op (number_of cells (output_group d op) ε))
-      (abstract_at d (number_of cells (abstract_after_group d) ε))
+  -- a test of a step of one side, by the numbers of its state, of the inputs, of the outputs and of its state after
+  module _ (base after : ℕ) (vs : List Variable) (test : (s i o t : ℕ) → Bool) where
+    abbrev step_test : Point → Bool
+    step_test ε =
+        test (number_of cells (upward base (length vs)) ε) (number_of cells (input_group d op) ε) (number_of cells (output_group d op) ε) (number_of cells (upward after (length vs)) ε)
 
-  abstract-step : (a i k : ℕ) → a < binding_count us → i < binding_count is → k < binding_count os * binding_count us
-      → abstract_step (placed cells (output_group d op ++ abstract_after_group d) (with_inputs cells here (from_abstract cells here a) i) k)
-      ≡ abstractly d op a i (output_at d op (k / binding_count us)) (abstract_at d (k % binding_count us))
-  abstract-step a i k la li h =
-      let α : Point = from_abstract cells here a in
-      let δ : Point = with_inputs cells here α i in
-      let o : ℕ = k / binding_count us in
-      let ε : Point = placed cells (output_group d op) δ o in
-      let s : ℕ = k % binding_count us in
-      let va : ℕ = length us in
-      let vi : ℕ = length is in
-      let vo : ℕ = length os in
-      let fa = x.few.abstracts in
-      let fi = x.inputs_few in
-      let fo = x.outputs_few in
-      let ea : number_of cells (abstract_group d) (placed cells (abstract_after_group d) ε s) ≡ a = kept-below cells 0 va 30 va ε s (omega arith) ∙ kept-below cells 0 va 19 vo δ o (omega arith)
-      ∙ kept-below cells 0 va 16 vi α i (omega arith) ∙ has abstracts origin a la in
-      let ei : number_of cells (input_group d op) (placed cells (abstract_after_group d) ε s) ≡ i = kept-below cells 16 vi 30 va ε s (omega arith) ∙ kept-below cells 16 vi 19 vo δ o (omega arith)
-      ∙ has inward α i li in
-      let eo : number_of cells (output_group d op) (placed cells (abstract_after_group d) ε s) ≡ o = kept-below cells 19 vo 30 va ε s (omega arith)
-      ∙ has outward δ o (first_low outward abstracts-after δ k h) in
-      let es : number_of cells (abstract_after_group d) (placed cells (abstract_after_group d) ε s) ≡ s = has abstracts-after ε s
-      (second_low outward abstracts-after δ k h) in
-      ap abstract_step (both-placed outward abstracts-after δ k h)
-      ∙ (λ t. abstractly d op (ea t) (ei t) (output_at d op (eo t)) (abstract_at d (es t)))
-
-  -- and of the concrete one
-  abbrev concrete_step : Point → Bool
-  concrete_step ε =
-      concretely d op (number_of cells (concrete_group d) ε) (number_of cells (input_group d op) ε) (output_at d op (number_of cells (output_group d op) ε))
-      (concrete_at d (number_of cells (concrete_after_group d) ε))
-
-  concrete-step : (c i k : ℕ) → c < binding_count cs → i < binding_count is → k < binding_count os * binding_count cs
-      → concrete_step (placed cells (output_group d op ++ concrete_after_group d) (with_inputs cells here (from_concrete cells here c) i) k)
-      ≡ concretely d op c i (output_at d op (k / binding_count cs)) (concrete_at d (k % binding_count cs))
-  concrete-step c i k lc li h =
-      let α : Point = from_concrete cells here c in
-      let δ : Point = with_inputs cells here α i in
-      let o : ℕ = k / binding_count cs in
-      let ε : Point = placed cells (output_group d op) δ o in
-      let s : ℕ = k % binding_count cs in
-      let vc : ℕ = length cs in
-      let vi : ℕ = length is in
-      let vo : ℕ = length os in
-      let fc = x.few.concretes in
-      let fi = x.inputs_few in
-      let fo = x.outputs_few in
-      let ec : number_of cells (concrete_group d) (placed cells (concrete_after_group d) ε s) ≡ c = kept-below cells 8 vc 22 vc ε s (omega arith) ∙ kept-below cells 8 vc 19 vo δ o (omega arith)
-      ∙ kept-below cells 8 vc 16 vi α i (omega arith) ∙ has concretes origin c lc in
-      let ei : number_of cells (input_group d op) (placed cells (concrete_after_group d) ε s) ≡ i = kept-below cells 16 vi 22 vc ε s (omega arith) ∙ kept-below cells 16 vi 19 vo δ o (omega arith)
-      ∙ has inward α i li in
-      let eo : number_of cells (output_group d op) (placed cells (concrete_after_group d) ε s) ≡ o = kept-below cells 19 vo 22 vc ε s (omega arith)
-      ∙ has outward δ o (first_low outward concretes-after δ k h) in
-      let es : number_of cells (concrete_after_group d) (placed cells (concrete_after_group d) ε s) ≡ s = has concretes-after ε s
-      (second_low outward concretes-after δ k h) in
-      ap concrete_step (both-placed outward concretes-after δ k h)
-      ∙ (λ t. concretely d op (ec t) (ei t) (output_at d op (eo t)) (concrete_at d (es t)))
+    step-tested : Group cells base vs → Group cells after vs → base + length vs ≤ 16 → 22 ≤ after → (s i k : ℕ) → s < binding_count vs → i < binding_count is
+        → k < binding_count os * binding_count vs
+        → step_test (placed cells (output_group d op ++ upward after (length vs)) (with_inputs cells here (placed cells (upward base (length vs)) origin s) i) k)
+        ≡ test s i (k / binding_count vs) (k % binding_count vs)
+    step-tested state next low high s i k ls li h =
+        let α : Point = placed cells (upward base (length vs)) origin s in
+        let δ : Point = with_inputs cells here α i in
+        let o : ℕ = k / binding_count vs in
+        let t : ℕ = k % binding_count vs in
+        let ε : Point = placed cells (output_group d op) δ o in
+        let n : ℕ = length vs in
+        let vi : ℕ = length is in
+        let vo : ℕ = length os in
+        let fi = x.inputs_few in
+        let fo = x.outputs_few in
+        let es : number_of cells (upward base n) (placed cells (upward after n) ε t) ≡ s = kept-below cells base n after n ε t (omega arith) ∙ kept-below cells base n 19 vo δ o (omega arith)
+        ∙ kept-below cells base n 16 vi α i low ∙ has state origin s ls in
+        let ei : number_of cells (input_group d op) (placed cells (upward after n) ε t) ≡ i = kept-below cells 16 vi after n ε t (omega arith) ∙ kept-below cells 16 vi 19 vo δ o (omega arith)
+        ∙ has inward α i li in
+        let eo : number_of cells (output_group d op) (placed cells (upward after n) ε t) ≡ o = kept-below cells 19 vo after n ε t (omega arith)
+        ∙ has outward δ o (first_low outward next δ k h) in
+        let et : number_of cells (upward after n) (placed cells (upward after n) ε t) ≡ t = has next ε t (second_low outward next δ k h) in
+        ap step_test (both-placed outward next δ k h) ∙ (λ z. test (es z) (ei z) (eo z) (et z))
 
   -- an abstract after state that matches
   abbrev matching : Point → Bool
@@ -278,7 +244,7 @@ module _ {table plan cells : List ℕ} {p : Part} {d : Dossier} {op : Operation}
         → Sought (λ (k : ℕ). abstractly d op a i (output_at d op (k / z.na)) (abstract_at d (k % z.na))) from (z.nq * z.na) r)
         (λ la li σ. finds x.ready σ (both_long outward abstracts-after)
         (both_span outward abstracts-after)
-        (λ (k : ℕ). abstractly d op a i (output_at d op (k / binding_count us)) (abstract_at d (k % binding_count us))) (λ k h. abstract-step a i k la li h))
+        (λ (k : ℕ). abstractly d op a i (output_at d op (k / binding_count us)) (abstract_at d (k % binding_count us))) (λ k h. step-tested 0 30 us (λ (s i o t : ℕ). abstractly d op s i (output_at d op o) (abstract_at d t)) abstracts abstracts-after (omega (arith, x.few.abstracts)) (omega arith) a i k la li h))
 
     pub steps-found : {c i : ℕ} → c < p.nc → i < p.ni → Shows cells (with_inputs cells p (from_concrete cells p c) i) before
         → SeekAnswers table plan cells 3 0 (p.vo + p.vk) (p.nq * p.nc) from before after r
@@ -289,7 +255,7 @@ module _ {table plan cells : List ℕ} {p : Part} {d : Dossier} {op : Operation}
         → Sought (λ (k : ℕ). concretely d op c i (output_at d op (k / z.nc)) (concrete_at d (k % z.nc))) from (z.nq * z.nc) r)
         (λ lc li σ. finds x.steps σ (both_long outward concretes-after)
         (both_span outward concretes-after)
-        (λ (k : ℕ). concretely d op c i (output_at d op (k / binding_count cs)) (concrete_at d (k % binding_count cs))) (λ k h. concrete-step c i k lc li h))
+        (λ (k : ℕ). concretely d op c i (output_at d op (k / binding_count cs)) (concrete_at d (k % binding_count cs))) (λ k h. step-tested 8 22 cs (λ (s i o t : ℕ). concretely d op s i (output_at d op o) (concrete_at d t)) concretes concretes-after (omega (arith, x.few.concretes)) (omega arith) c i k lc li h))
 
     pub met-found : {a i o k : ℕ} → a < p.na → i < p.ni → o < p.nq → k < p.nc → Shows cells (stepped cells p a i o k) before
         → SeekAnswers table plan cells 4 0 p.vm p.nm from before after r → Sought (λ (s : ℕ). match d op a i o k (abstract_at d s)) from p.na r

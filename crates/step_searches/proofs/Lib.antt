@@ -6,6 +6,5 @@ pub mod FoundSteps
 pub mod FoundOpenings
 pub mod PreparedSearches
 pub mod ConcreteStates
-pub mod LentParts
 -- what crates above name of crates below
-pub use Rattle.parts.proofs.SetupLaws as PartsSetupLaws
+pub use Rattle.parts.proofs.LentParts as LentParts

@@ -1,16 +1,14 @@
 -- The cells, the plan and the sizes that are made for an operation's correctness part, or for initialisation, are those of its searches, for every dossier whose reading the arrays are.
 -- Assumes nothing.
-use mathlib.Core.Path.{◌≡◌, subst}
+use mathlib.Core.Path.{subst}
 use mathlib.Core.List.{List}
-use mathlib.Core.Option.{some}
 use Prim.Native.Nat.{ℕ, ◌+◌, ◌*◌}
 use native.Mathlib.Omega.{arith}
-use lib.ListN.{length, get_elem?}
+use lib.ListN.{length}
 use Rattle.form.specs.Tree.{Operation, Dossier}
 use Rattle.static_rules.specs.Scope.{unprimed, outputs}
-use Rattle.meaning.proofs.Places.{below-entry}
 use Rattle.plans.specs.declared.Part.{Part}
-use Rattle.plans.specs.PlanPromises.{InitialisationPlan, CorrectnessPlan}
+use Rattle.plans.specs.PlanPromises.{CorrectnessPlan}
 use Rattle.part_setup.specs.ReadingsReadings.{ReadingOf}
 use Rattle.part_setup.specs.PartTestsPartGroups.{StateCells}
 use Rattle.parts.specs.PartSearchesPartCells.{StatesCelled}
@@ -19,8 +17,7 @@ use Rattle.parts.proofs.PartSearchesOperationPremises.{OperationReading}
 use Rattle.parts.proofs.PartSearchesOperationSteps.{steps_search}
 use Rattle.parts.proofs.PartSearchesCorrectnessNest as correctness
 use Rattle.parts.proofs.PartSearchesInitialisationNest as initialisation
-use Rattle.part_setup.specs.SetupPromises.{StatesSet, OperationSet, OpeningPartIs, CorrectnessPartIs}
-use Rattle.parts.specs.SearchPromises.{LookAsked}
+use Rattle.parts.specs.SearchPromises.{OpeningReady, CorrectnessReady, LookAsked}
 use Rattle.parts.proofs.SetupLaws.{opening-counts, OperationLook, operation-counts, correctness-is}
 use Rattle.step_searches.specs.StepPromises.{StatesFew, StepSearches, PrepareAsked, Prepared, OpenAsked, Opened}
 
@@ -36,27 +33,23 @@ states-few R = record {
 }
 
 module _ {table rows firsts groups : List ℕ} {j : ℕ} where
-  -- the operation that is asked for
-  pub looked : PrepareAsked table rows firsts groups j → OperationLook table rows firsts groups j
-  looked q =
-      let t : (op : Operation) × (get_elem? q.dossier.operations j ≡ some op) = below-entry q.dossier.operations j q.listed in
-      record { dossier = q.dossier; operation = t.0; reading = q.reading; listed = t.1 }
+  pub correctness-look : PrepareAsked table rows firsts groups j → LookAsked table rows firsts groups (2 + 2 * j)
+  correctness-look q = record { dossier = q.dossier; reading = q.reading; part = omega (arith, q.listed) }
 
-  module _ {plan cells : List ℕ} {p : Part} (s : OperationSet table groups (18 + 8 * j) cells) (i : CorrectnessPartIs groups (18 + 8 * j) cells p)
-      (n : CorrectnessPlan rows firsts plan j p.vo) where
+  module _ {plan cells : List ℕ} {p : Part} (r : CorrectnessReady table rows firsts groups j plan cells p) where
     searches-of : (x : OperationLook table rows firsts groups j) → StepSearches table plan cells p x.dossier x.operation
     searches-of x =
         let d : Dossier = x.dossier in
         let op : Operation = x.operation in
         let R = x.reading in
-        let c = (operation-counts x s).cells_are in
+        let c = (operation-counts x r.cells_set).cells_are in
         let X : OperationReading table rows firsts groups cells d op j =
         record { reading = R; celled = record { states = state-cells c.states; inputs_in = c.inputs; outputs_in = c.outputs }; is = x.listed } in
-        let N : CorrectnessPlan rows firsts plan j (length (outputs d op)) = subst (λ (z : Part). CorrectnessPlan rows firsts plan j z.vo) (correctness-is x s i) n in
+        let N : CorrectnessPlan rows firsts plan j (length (outputs d op)) = subst (λ (z : Part). CorrectnessPlan rows firsts plan j z.vo) (correctness-is x r.cells_set r.part_is) r.plan_is in
         record {
-          part_is = correctness-is x s i;
+          part_is = correctness-is x r.cells_set r.part_is;
           celled = X.celled;
-          first_values = s.first_values;
+          first_values = r.cells_set.first_values;
           few = states-few R;
           inputs_few = (R.inputs_at j op x.listed).short;
           outputs_few = (R.outputs_at j op x.listed).short;
@@ -76,18 +69,17 @@ module _ {table rows firsts groups : List ℕ} where
   pub opening-look : OpenAsked table rows firsts groups → LookAsked table rows firsts groups 0
   opening-look q = record { dossier = q.dossier; reading = q.reading; part = omega arith }
 
-  pub opened : {plan cells : List ℕ} {p : Part} → StatesSet table groups cells → InitialisationPlan rows firsts plan → OpeningPartIs groups cells p
-      → Opened table rows firsts groups plan cells p
-  opened {plan} {cells} {p} s n i = record {
+  pub opened : {plan cells : List ℕ} {p : Part} → OpeningReady table rows firsts groups plan cells p → Opened table rows firsts groups plan cells p
+  opened {plan} {cells} {p} r = record {
     searches = λ d R.
-        let c = opening-counts R s in
+        let c = opening-counts R r.cells_set in
         let C : StatesCelled cells d = state-cells c.cells_are in
         record {
-          part_is = i.is (unprimed d d.abstract) (unprimed d d.concrete) c;
+          part_is = r.part_is.is (unprimed d d.abstract) (unprimed d d.concrete) c;
           celled = C;
-          first_values = s.first_values;
+          first_values = r.cells_set.first_values;
           few = states-few R;
-          initials = initialisation.related R C n;
-          met = initialisation.met R C n;
+          initials = initialisation.related R C r.plan_is;
+          met = initialisation.met R C r.plan_is;
         };
   }

@@ -1,26 +1,17 @@
 -- A group gets the values of one of its bindings, one variable after the other, by the digits of its number. Assumes nothing.
-use mathlib.Core.Path.{◌≡◌, refl, sym, ap, ap₂, subst, ◌∙◌}
-use mathlib.Core.List.{List, ◌∷◌}
-use Prim.Native.Nat.{ℕ, zero, suc, ◌+◌, ◌-◌, ◌*◌, ◌/◌, ◌%◌, ◌<◌}
+use mathlib.Core.Path.{◌≡◌, refl, sym, ap, subst, ◌∙◌}
+use mathlib.Core.List.{List}
+use Prim.Native.Nat.{ℕ, ◌+◌, ◌-◌, ◌*◌, ◌/◌, ◌%◌, ◌<◌, ◌≤◌}
 use native.Mathlib.Nat.{mod-lt, div-lt_iff_lt-mul, mul-div_cancel, mul_comm}
-use native.Mathlib.Numerals.{add-one}
 use native.Mathlib.Omega.{arith}
 use lib.IntN.{ℤ}
 use Rattle.lexical.specs.Lists.{upward}
+use Rattle.meaning.proofs.UpwardNumbers.{among-upward, upward-front}
 use Rattle.slot_carriers.specs.Cells.{count_in}
 use Rattle.points.specs.Points.{moved, span, placed, Shows}
 use Rattle.points.proofs.PointNumbers.{Counts, span-some}
 use Rattle.seek.specs.SeekPromises.{StoreAsked, StoreAnswers}
-use Rattle.parts.proofs.PartSearchesSlotGroups.{among-upward}
 use Rattle.step_searches.specs.StepPromises.{PutAsked, PutAnswers}
-
-one_less : (n : ℕ) → n ≡ suc n - 1
-one_less n = omega arith
-
-split : (base n : ℕ) → (n ≡ 0 → ⊥) → upward base n ≡ base ∷ upward (base + 1) (n - 1)
-unfolding upward
-split base zero h = absurd (h refl)
-split base (suc n) h = ap₂ (λ (s m : ℕ). base ∷ upward s m) (sym (add-one base)) (one_less n)
 
 pub none-put : {cells : List ℕ} {base n k : ℕ} {before : List (List ℤ)} → n ≡ 0 → PutAnswers cells base n k before before
 unfolding upward placed
@@ -48,7 +39,7 @@ module _ {cells : List ℕ} {base n w k : ℕ} {before : List (List ℤ)} (q : P
 
     whole : w ≡ c * span cells rest
     unfolding span
-    whole = q.group.counted ∙ ap (span cells) (split base n h) ∙ ap (λ (x : ℕ). x * span cells rest) (sym e)
+    whole = q.group.counted ∙ ap (span cells) (upward-front base n h) ∙ ap (λ (x : ℕ). x * span cells rest) (sym e)
 
     rest-span : w / c ≡ span cells rest
     rest-span = ap (λ (x : ℕ). x / c) (whole ∙ mul_comm c (span cells rest)) ∙ mul-div_cancel (span cells rest) count-positive
@@ -82,7 +73,34 @@ module _ {cells : List ℕ} {base n w k : ℕ} {before : List (List ℤ)} (q : P
       pub more-put : {after : List (List ℤ)} → PutAnswers cells (base + 1) (n - 1) (k % (w / c)) mid after → PutAnswers cells base n k before after
       unfolding placed
       more-put {after} t = record {
-        means = λ δ x. subst (λ (ss : List ℕ). Shows cells (placed cells ss δ k) after) (sym (split base n h))
+        means = λ δ x. subst (λ (ss : List ℕ). Shows cells (placed cells ss δ k) after) (sym (upward-front base n h))
             (subst (λ (v : ℕ). Shows cells (placed cells rest (moved δ base (k / v)) (k % v)) after) rest-span
             (t.means (moved δ base (k / (w / c))) (s.means δ x digit_low)));
+      }
+
+-- the first slots have their values: what is left of the group is to be put from the slot s on, at the l-th of v bindings
+pub record Putting (cells : List ℕ) (base n k : ℕ) (before : List (List ℤ)) (s v l : ℕ) (now : List (List ℤ)) : Type 0 where
+  pub left : ℕ
+  pub ends : s + left ≡ base + n
+  pub asked : PutAsked cells s left v l now
+  pub rest : (after : List (List ℤ)) → PutAnswers cells s left l now after → PutAnswers cells base n k before after
+
+pub putting-first : {cells : List ℕ} {base n w k : ℕ} {before : List (List ℤ)} → PutAsked cells base n w k before → Putting cells base n k before base w k before
+putting-first {n = n} q = record { left = n; ends = refl; asked = q; rest = λ after t. t }
+
+module _ {cells : List ℕ} {base n k : ℕ} {before : List (List ℤ)} {s v l : ℕ} {now : List (List ℤ)} (p : Putting cells base n k before s v l now) where
+  pub putting-last : base + n ≤ s → PutAnswers cells base n k before now
+  putting-last h = p.rest now (none-put (omega (arith, p.ends)))
+
+  module _ (h : s < base + n) where
+    pub some-left : p.left ≡ 0 → ⊥
+    some-left e = omega (arith, p.ends)
+
+    module _ {c : ℕ} (e : c ≡ count_in cells s) {mid : List (List ℤ)} (w : StoreAnswers cells s (l / (v / c)) now mid) where
+      pub putting-next : Putting cells base n k before (s + 1) (v / c) (l % (v / c)) mid
+      putting-next = record {
+        left = p.left - 1;
+        ends = omega (arith, p.ends, some-left);
+        asked = rest-asked p.asked some-left e w;
+        rest = λ after t. p.rest after (more-put p.asked some-left e w t);
       }

@@ -3,29 +3,24 @@
 // Form 5: which dossier and operation a search goes over is asked of each function (`StepsAsked`), since `PartSearch` is that of every part: no invariant of it.
 #![tactic(auto)]
 
-ghost use Rattle.std.specs.Prelude.{◌≡◌, ◌*◌, ◌<◌, ◌≤◌, IfSome, unwrap_or};
+ghost use Rattle.std.specs.Prelude.{◌*◌, ◌<◌, ◌≤◌, IfSome, unwrap_or};
 ghost use Rattle.memo.specs.MemoPromises.{Memo};
-ghost use Rattle.seek.specs.SeekPromises.{SeekAsked, SeekAnswers};
 ghost use Rattle.step_searches.specs.StepPromises.{PutAsked, PutAnswers, PrepareAsked, Prepared, OpenAsked, Opened, StepsAsked, OpeningAsked, Below};
 ghost use Rattle.step_searches.specs.StepPromises.{GroupIs, GivenAsked, GivenAnswers};
 ghost use Rattle.step_searches.specs.StepPromises.{AbstractStateFound, RelatedStateFound, AbstractStepFound, ConcreteStepFound, MatchFound};
 ghost use Rattle.step_searches.specs.StepPromises.{InitialStateFound, InitialMatchFound, ConcreteAsked, StateAnswers, ConcreteStateFound};
 
-use part_setup::{
-    OPERATION_ROW, OPERATION_ROWS, correctness_part, fill, opening_cells, opening_part,
-    operation_cells,
-};
-use plans::{Part, PartSearch, plan_correctness, plan_initialisation};
+use part_setup::first_values;
+use parts::{ReadyPart, ready_correctness, ready_opening};
+use plans::{Part, PartSearch};
 use points::plan::{MET, READY, RELATED, STATES, STEPS};
 use points::slots;
 use search_groups::Dossier;
+use search_groups::contexts::CONCRETE_STATE;
 use seek::{Span, seek, store};
-use slot_carriers::count_of;
 use slot_carriers::groups::bind;
+use slot_carriers::{CELLS, SLOTS, count_of};
 use states::context_holds;
-
-// The place of the concrete state's predicate among the contexts.
-const CONCRETE_STATE: usize = 1;
 
 // A concrete step beside an abstract state: the abstract state before, inputs, outputs, the concrete state after.
 #[derive(Clone, Copy)]
@@ -51,48 +46,17 @@ fn group_at(base: usize, n: usize, w: usize, k: usize) -> Given
     Given { base, n, w, k }
 }
 
-// What the searches of a part go over and what is made of a dossier for them: the cells of the variables, the plans, the part's sizes.
-#[derive(Drop)]
-pub struct ReadyPart {
-    pub cells: [u32; 9216],
-    pub plan: [u16; 20560],
-    pub part: Part,
-}
-
-impl ReadyPart {
-    // With the dossier's table, what the searches are lent.
-    pub fn search<'a>(&'a self, table: &'a [u16; 16384]) -> PartSearch<'a>
-        ensures table { result.table.now ≡ table.now }
-        ensures plan { result.plan.now ≡ self.now.plan }
-        ensures cells { result.cells.now ≡ self.now.cells }
-        ensures part { result.part ≡ self.now.part }
-    {
-        PartSearch {
-            table,
-            plan: &self.plan,
-            cells: &self.cells,
-            part: self.part,
-        }
-    }
-}
-
 // The variables of a group get the values of its binding, primed ones in both arrays.
-fn put_group(cells: &[u32; 9216], g: Given, arrays: &mut [[i64; 64]; 2])
+fn put_group(cells: &[u32; CELLS], g: Given, arrays: &mut [[i64; SLOTS]; 2])
     requires { PutAsked cells.now g.base g.n g.w g.k arrays.old }
     ensures { PutAnswers cells.now g.base g.n g.k arrays.old arrays.new }
 {
-    if g.n == 0 {
-        return;
+    let (mut w, mut k) = (g.w, g.k);
+    for slot in g.base..g.base + g.n {
+        w /= count_of(cells, slot);
+        store(cells, slot, k / w, arrays);
+        k %= w;
     }
-    let v = g.w / count_of(cells, g.base);
-    store(cells, g.base, g.k / v, arrays);
-    let rest = Given {
-        base: g.base + 1,
-        n: g.n - 1,
-        w: v,
-        k: g.k % v,
-    };
-    put_group(cells, rest, arrays);
 }
 
 // Operation j's correctness part.
@@ -100,13 +64,7 @@ pub fn prepare(d: &Dossier<'_>, j: usize) -> ReadyPart
     requires { PrepareAsked d.now.table.now d.now.rows.now d.now.firsts.now d.now.groups.now j }
     ensures { Prepared d.now.table.now d.now.rows.now d.now.firsts.now d.now.groups.now j result.plan result.cells result.part }
 {
-    let mut cells = [0u32; 9216];
-    let mut plan = [0u16; 20560];
-    let row = OPERATION_ROWS + OPERATION_ROW * j;
-    operation_cells(d.table, d.groups, row, &mut cells);
-    let part = correctness_part(d.groups, row, &cells);
-    plan_correctness(d.rows, d.firsts, j, part.vo, &mut plan);
-    ReadyPart { cells, plan, part }
+    ready_correctness(d, j)
 }
 
 // That of initialisation.
@@ -114,12 +72,7 @@ pub fn prepare_opening(d: &Dossier<'_>) -> ReadyPart
     requires { OpenAsked d.now.table.now d.now.rows.now d.now.firsts.now d.now.groups.now }
     ensures { Opened d.now.table.now d.now.rows.now d.now.firsts.now d.now.groups.now result.plan result.cells result.part }
 {
-    let mut cells = [0u32; 9216];
-    let mut plan = [0u16; 20560];
-    opening_cells(d.table, d.groups, &mut cells);
-    plan_initialisation(d.rows, d.firsts, &mut plan);
-    let part = opening_part(d.groups, &cells);
-    ReadyPart { cells, plan, part }
+    ready_opening(d)
 }
 
 // The next number of a span that the search finds, with some groups at the bindings that are given and all other variables at their first values.
@@ -135,16 +88,12 @@ fn next_with(
     ensures low { IfSome result (λ k. k < span.w) }
     ensures remembers { Memo s.now.table.now memo.new }
 {
-    let mut arrays = [[0i64; 64]; 2];
-    fill(s.cells, &mut arrays);
+    let mut arrays = first_values(s.cells);
     for g in given {
         put_group(s.cells, *g, &mut arrays);
     }
     let r = seek(s, span, &mut arrays, memo);
-    if r < span.w {
-        return Some(r);
-    }
-    None
+    (r < span.w).then_some(r)
 }
 
 // The next abstract state.
@@ -334,12 +283,12 @@ pub fn next_initial_match(
 }
 
 // Is the c-th binding of the concrete variables a state?
-pub fn concrete_state_at(d: &Dossier<'_>, cells: &[u32; 9216], p: Part, c: usize) -> bool
+pub fn concrete_state_at(d: &Dossier<'_>, cells: &[u32; CELLS], p: Part, c: usize) -> bool
     requires c_lt_nc { c < p.nc }
     requires concrete_asked { ConcreteAsked d.now.table.now d.now.rows.now d.now.firsts.now cells.now p }
     ensures { StateAnswers d.now.table.now d.now.rows.now d.now.firsts.now cells.now p c result }
 {
-    let mut values = [0i64; 64];
+    let mut values = [0i64; SLOTS];
     bind(cells, slots::CONCRETE, p.vc, p.nc, c, &mut values);
     context_holds(d, CONCRETE_STATE, &mut values)
 }
@@ -347,7 +296,7 @@ pub fn concrete_state_at(d: &Dossier<'_>, cells: &[u32; 9216], p: Part, c: usize
 // The next concrete state, related or not; the part is any of the dossier's.
 pub fn next_concrete_state(
     d: &Dossier<'_>,
-    cells: &[u32; 9216],
+    cells: &[u32; CELLS],
     p: Part,
     from: usize,
 ) -> Option<usize>

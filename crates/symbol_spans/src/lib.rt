@@ -5,6 +5,7 @@ ghost use Rattle.std.specs.Prelude.{◌≡◌, ◌==◌, ◌≤◌, ◌<◌, ◌
 ghost use Rattle.symbol_spans.specs.declared.Bracket.TheVariants.{Open, Close};
 
 use lexical::bounds::SYMBOLS;
+use lexical::classes::at_or;
 use lexical::codes;
 use text_places::{Span, before, symbol_end};
 
@@ -71,30 +72,28 @@ pub fn bracket_of(kind: u8) -> Option<Bracket>
 
 // Does an operand end with a symbol of this kind? A dash behind it is no prefix.
 fn ends_operand(kind: u8) -> bool {
-    match kind {
-        codes::NUMBER..=codes::OUTPUT => true,
-        _ => bracket_of(kind) == Some(Bracket::Close),
-    }
+    matches!(kind, codes::NUMBER..=codes::OUTPUT) || bracket_of(kind) == Some(Bracket::Close)
 }
 
 // A number of each symbol, 0 past the last one.
+// Form 1: who asks for a start or a value has seen by the kinds that the symbol is there, so that with an Option each would unwrap it; 0 is what the definitions' look-up has there.
 fn number_at(numbers: &[u16], s: usize) -> usize
     ensures value { result ≡ slice_index numbers.now s }
     ensures small { result < 65536 }
 {
-    usize::from(numbers.get(s).copied().unwrap_or(0))
+    usize::from(at_or(numbers, s, 0))
 }
 
 impl Symbols<'_> {
-    // The kind of a symbol, 0 past the last one: codes begin with 1, and the scanner leaves 0 behind them.
+    // The kind of a symbol, 0 past the last one, as the scanner leaves it there.
+    // Form 1: 0 is no kind's code, so that each test of a kind is false there, as it would be for `None`.
     pub fn kind(&self, s: usize) -> u8
         ensures { result ≡ slice_index self.now.kinds.now s }
     {
-        let kinds = self.kinds;
-        kinds.get(s).copied().unwrap_or(0)
+        at_or(self.kinds, s, 0)
     }
 
-    // The kind of the symbol before s, 0 before the first one.
+    // The kind of the symbol before s, 0 before the first one. Form 1: as `kind` past the last one.
     pub fn kind_before(&self, s: usize) -> u8 {
         match s.checked_sub(1) {
             Some(k) => self.kind(k),
@@ -205,10 +204,10 @@ impl Symbols<'_> {
 
     // Does a term go on around what begins at s: a bracket, or a brace that lists?
     fn is_enclosed(&self, s: usize) -> bool {
-        match self.kind_before(s) {
-            codes::OPEN_BRACKET | codes::OPEN_BRACE | codes::COMMA => true,
-            _ => false,
-        }
+        matches!(
+            self.kind_before(s),
+            codes::OPEN_BRACKET | codes::OPEN_BRACE | codes::COMMA
+        )
     }
 
     // One step around it: what a brace lists is taken whole before the brace is left.

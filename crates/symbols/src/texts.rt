@@ -30,11 +30,11 @@ pub(crate) fn token_at(s: &[u8], at: usize) -> Token
 // Form 3: how far the next symbol is, says the one that is read, and the promise speaks of the rest of the text at a place; an iterator of symbols would promise that of itself at each step.
 pub(crate) fn scan_symbols(
     s: &[u8],
-    codes: &mut [u8],
-    starts: &mut [u16],
-    values: &mut [u16],
+    codes: &mut [u8; SYMBOLS],
+    starts: &mut [u16; SYMBOLS],
+    values: &mut [u16; SYMBOLS],
 ) -> Result<usize, Fault>
-    requires { (length s.now ≤ 32768) × (length codes.old ≡ 4096) × (length starts.old ≡ 4096) × (length values.old ≡ 4096) }
+    requires { length s.now ≤ 32768 }
     ensures { Takes s.now codes.old starts.old values.old codes.new starts.new values.new result }
 {
     let mut at = 0;

@@ -1,12 +1,21 @@
 -- Pieces written side by side are one piece, whichever of them is written first.
 use mathlib.Core.Path.{◌≡◌, sym, ap, ap₂, ◌∙◌}
-use mathlib.Core.List.{List, ◌++◌, append_assoc}
-use Prim.Native.Nat.{ℕ, ◌+◌, ◌≤◌}
+use mathlib.Core.List.{List, [], ◌∷◌, ◌++◌, append_assoc}
+use Prim.Native.Nat.{ℕ, suc, ◌+◌, ◌≤◌, ◌<◌}
 use native.Mathlib.Omega.{arith}
-use lib.ListN.{length, take, drop, length-append, length-drop}
-use lib.Seq.{take_at, drop_at, take-take, take-append-le, drop-drop, length-take-le}
+use lib.ListN.{length, take, drop, set, length-append, length-drop, take-append-drop}
+use lib.Seq.{set_split, take_at, drop_at, take-take, take-append-le, drop-drop, length-take-le}
 use borrow.Rule.Slice.PartMut.{put_mid}
 use Rattle.table_nodes.specs.TableWalkPromises.{patch}
+
+-- nothing is written; one number is
+pub patch-none : (n : ℕ) (out : List ℕ) → patch n [] out ≡ out
+unfolding patch
+patch-none n out = let e : n + 0 ≡ n = omega arith in ap (λ (k : ℕ). take n out ++ drop k out) e ∙ take-append-drop n out
+
+pub patch-set : (n v : ℕ) (out : List ℕ) → n < length out → set out n v ≡ patch n (v ∷ []) out
+unfolding patch
+patch-set n v out h = let e : suc n ≡ n + 1 = omega arith in set_split out n v h ∙ ap (λ (k : ℕ). take n out ++ (v ∷ drop k out)) e
 
 -- a piece that fits leaves the length as it was
 pub patch-length : (b : ℕ) (t out : List ℕ) → b + length t ≤ length out → length (patch b t out) ≡ length out

@@ -1,20 +1,21 @@
 -- Laws of the numbers in the table that the code computes one by one.
-use mathlib.Core.Path.{◌≡◌, refl, sym, ap, ◌∙◌}
+use mathlib.Core.Path.{◌≡◌, refl, sym, ap, ap₂, ◌∙◌}
 use mathlib.Core.Bool.{Bool, true, false, cond}
-use mathlib.Core.List.{List}
-use Prim.Native.Nat.{ℕ, ◌+◌, ◌-◌, ◌*◌, ◌/◌, ◌%◌, ◌≤◌, ◌<◌, min}
+use Prim.Native.Nat.{ℕ, ◌+◌, ◌-◌, ◌≤◌, ◌<◌, min}
 use native.Mathlib.Omega.{arith}
 use lib.Dec.{eqb, leb, ltb}
 use mir.Val.{bool_byte}
-use borrow.Author.Tests.{eq-eqb, ne_eqb, le-leb, lt-leb, lt-ltb, le-ltb, leb-true, ltb-true, ltb-false}
+use borrow.Author.Tests.{eq-eqb, ne_eqb, lt-ltb, le-ltb, leb-true, ltb-true, ltb-false}
 use Rattle.form.proofs.LexicalBooleanTests.{and_left, and_right}
+use Rattle.std.specs.Prelude.{Some}
+use Rattle.std.specs.Bool.{then_some}
 use Rattle.lexical.specs.Kinds.{code_of}
 use Rattle.form.specs.Tree.{Membership, is_in, not_in}
 use Rattle.form.specs.Written.{membership_kind}
 use Rattle.form.specs.Codes.{node}
-use Rattle.type_rules.specs.TypesByNumber.{Sizes, entry, is_given, is_element, is_pairs, range_fits, size_in}
-use Rattle.type_rules.proofs.TypeNumbers.{cond_yes, cond_no}
-use Rattle.table_nodes.specs.TableByNumber.{next_slot, given_size, element_size, first_size, second_size, range_count, related_shape, placed}
+use Rattle.type_rules.specs.TypesByNumber.{Sizes, entry, range_fits, size_in}
+use Rattle.type_rules.proofs.TypeNumbers.{cond_yes, cond_no, some-of}
+use Rattle.table_nodes.specs.TableByNumber.{next_slot, range_count, related_shape, placed}
 use Rattle.table_nodes.specs.TableWalkPromises.{TruthOf}
 
 pub slot-next : (s r : ℕ) → r ≡ min s 62 + 1 → r ≡ next_slot s
@@ -50,39 +51,19 @@ pub count_none : (a b : ℕ) (f : Bool) → f ≡ range_fits a b → f ≡ false
 unfolding range_count
 count_none a b f e h = sym (cond_no f (range_fits a b) (b + 1 - a) 0 e h)
 
-pub given-some : (z : Sizes) (k x r : ℕ) (f : Bool) → f ≡ is_given k → f ≡ true → x ≡ k → r ≡ entry z (x - 8) → r ≡ given_size z k
-unfolding given_size size_in
-given-some z k x r f e h xq rq = rq ∙ ap (λ (y : ℕ). entry z (y - 8)) xq ∙ sym (cond_yes f (is_given k) (entry z (k - 8)) 0 e h)
+-- how many elements a set has that a kind tells of, and 0 where it tells of none
+pub size-some : (z : Sizes) (b : Bool) (x g m r : ℕ) → then_some b x ≡ Some g → m ≡ g → r ≡ entry z m → r ≡ cond b (size_in z x) 0
+unfolding size_in
+size-some z b x g m r e p q = let u = some-of b x g e in q ∙ ap (λ (n : ℕ). entry z n) (p ∙ u.1) ∙ sym (cond_yes b b (entry z x) 0 refl u.0)
 
-pub given-none : (z : Sizes) (k : ℕ) (f : Bool) → f ≡ is_given k → f ≡ false → 0 ≡ given_size z k
-unfolding given_size
-given-none z k f e h = sym (cond_no f (is_given k) (size_in z (k - 8)) 0 e h)
+pub size-none : (z : Sizes) (b : Bool) (x : ℕ) → b ≡ false → 0 ≡ cond b (size_in z x) 0
+size-none z b x h = sym (cond_no b b (size_in z x) 0 refl h)
 
-pub element-some : (z : Sizes) (k x r : ℕ) (f : Bool) → f ≡ is_element k → f ≡ true → x ≡ k → r ≡ entry z (x - 16) → r ≡ element_size z k
-unfolding element_size size_in
-element-some z k x r f e h xq rq = rq ∙ ap (λ (y : ℕ). entry z (y - 16)) xq ∙ sym (cond_yes f (is_element k) (entry z (k - 16)) 0 e h)
-
-pub element-none : (z : Sizes) (k : ℕ) (f : Bool) → f ≡ is_element k → f ≡ false → 0 ≡ element_size z k
-unfolding element_size
-element-none z k f e h = sym (cond_no f (is_element k) (size_in z (k - 16)) 0 e h)
-
-pub first_some : (z : Sizes) (k x r : ℕ) → 64 ≤ k → x ≡ k → r ≡ entry z ((x - 64) / 8) → r ≡ first_size z k
-unfolding first_size size_in is_pairs
-first_some z k x r h xq rq =
-    rq ∙ ap (λ (y : ℕ). entry z ((y - 64) / 8)) xq ∙ sym (ap (λ (t : Bool). cond t (entry z ((k - 64) / 8)) 0) (le-leb 64 k h))
-
-pub first-none : (z : Sizes) (k : ℕ) → k < 64 → 0 ≡ first_size z k
-unfolding first_size is_pairs
-first-none z k h = sym (ap (λ (t : Bool). cond t (size_in z ((k - 64) / 8)) 0) (lt-leb 64 k h))
-
-pub second-some : (z : Sizes) (k x r : ℕ) → 64 ≤ k → x ≡ k → r ≡ entry z ((x - 64) % 8) → r ≡ second_size z k
-unfolding second_size size_in is_pairs
-second-some z k x r h xq rq =
-    rq ∙ ap (λ (y : ℕ). entry z ((y - 64) % 8)) xq ∙ sym (ap (λ (t : Bool). cond t (entry z ((k - 64) % 8)) 0) (le-leb 64 k h))
-
-pub second_none : (z : Sizes) (k : ℕ) → k < 64 → 0 ≡ second_size z k
-unfolding second_size is_pairs
-second_none z k h = sym (ap (λ (t : Bool). cond t (size_in z ((k - 64) % 8)) 0) (lt-leb 64 k h))
+pub both-some : (b : Bool) (x y : ℕ) (p : ℕ × ℕ) → then_some {T = ℕ × ℕ} b (x, y) ≡ Some p → (then_some b x ≡ Some p.0) × (then_some b y ≡ Some p.1)
+both-some b x y p e =
+    let q : ℕ × ℕ = (x, y) in
+    let u : (b ≡ true) × (p ≡ q) = some-of b q p e in
+    (ap₂ (λ (t : Bool) (w : ℕ × ℕ). then_some t w.0) u.0 (sym u.1), ap₂ (λ (t : Bool) (w : ℕ × ℕ). then_some t w.1) u.0 (sym u.1))
 
 -- memberships, and true and false, by the codes of their symbols
 pub shape-in : (o : ℕ) → o ≡ 56 → (m : Membership) → code_of (membership_kind m) ≡ o → 22 ≡ related_shape m

@@ -1,12 +1,12 @@
 -- What the walk that writes the table promises of whatever tree the nodes are those of. Nothing here need be believed.
-use Rattle.std.specs.Prelude.{◌≡◌, ◌⊎◌, List, ◌++◌, ℕ, ◌+◌, ◌-◌, ◌≤◌, length, take, drop, get_or}
+use Rattle.std.specs.Prelude.{◌≡◌, ◌⊎◌, List, ◌++◌, ℕ, ◌+◌, ◌-◌, ◌≤◌, length, take, drop, get_or, set}
 use Rattle.lexical.specs.Kinds as kind
 use Rattle.lexical.specs.Kinds.{code_of}
 use Rattle.form.specs.Tree.{Membership, Domain, Term, Items, Pairs, Pred}
 use Rattle.form.specs.Written.{membership_kind}
 use Rattle.form.specs.Codes.{Numbering, domain_codes, term_codes, items_codes, pairs_codes, pred_codes}
-use Rattle.type_rules.specs.TypesByNumber.{Names, Sizes, domain_kind, term_kind, items_kind, pairs_kind}
-use Rattle.table_nodes.specs.TableByNumber.{Places, related_shape, domain_table, term_table, items_table, pairs_table, pred_table}
+use Rattle.type_rules.specs.TypesByNumber.{Names, Sizes, entry, domain_kind, term_kind, items_kind, pairs_kind}
+use Rattle.table_nodes.specs.TableByNumber.{Places, next_slot, related_shape, domain_table, term_table, items_table, pairs_table, pred_table}
 use Rattle.table_nodes.specs.declared.Made.{Made}
 
 -- the code tells memberships, and true from false, by their symbols' codes
@@ -79,3 +79,32 @@ pub record PredMade (code : List ℕ) (e s : ℕ) (T U : Names) (W Y : Places) (
   pub walked : Walked e T U W Y out after r
   pub right : (p : Pred) (i : ℕ) (ρ : Numbering) (base : List ℕ) → take e code ≡ base ++ pred_codes p i ρ
       → Makes r 0 (length base) e (pred_table p T W z ρ s (length base)) out after
+
+-- a predicate with a name bound over a domain, both in front of the node that ends at e and has the name: what its parts made, with the name's type and slot set
+-- for the predicate and put back behind it
+pub record BoundMade (code : List ℕ) (e s : ℕ) (T U : Names) (W Y : Places) (z : Sizes) (out after : List ℕ) (r : Made) : Type 0 where
+  pub over : Made
+  pub body : Made
+  pub x : ℕ
+  pub old : ℕ
+  pub was : ℕ
+  pub next : ℕ
+  pub typed : Names
+  pub behind : Names
+  pub slotted : Places
+  pub left : Places
+  pub between : List ℕ
+  pub domain : DomainMade code (e - 4) T z out between over
+  pub pred : PredMade code over.start next typed behind slotted left z between after body
+  pub next_is : next ≡ next_slot s
+  pub typed_is : typed ≡ set T x over.kind
+  pub names_back : U ≡ set behind x old
+  pub slotted_is : slotted ≡ set W x s
+  pub places_back : Y ≡ set left x was
+  pub x_is : x ≡ get_or code (e - 4 + 1) 0
+  pub old_is : old ≡ entry T x
+  pub was_is : was ≡ entry W x
+  pub kind_is : r.kind ≡ over.kind
+  pub start_is : r.start ≡ body.start
+  pub falls : r.start ≤ e
+  pub long : length after ≡ length out

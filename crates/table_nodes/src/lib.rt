@@ -5,9 +5,11 @@ pub mod nodes;
 pub mod slots;
 pub mod table_shapes;
 
+use type_rules::entries::Kind;
+
 // The type of a tree, and where its nodes begin.
 #[derive(Drop)]
 pub struct Made {
-    pub kind: u16,
+    pub kind: Kind,
     pub start: usize,
 }

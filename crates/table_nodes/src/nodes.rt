@@ -6,9 +6,10 @@ ghost use Rattle.table_nodes.specs.TableWalkPromises.{RelatedShape, TruthOf, pat
 
 use crate::{Made, slots, table_shapes};
 use form::node;
-use lexical::codes;
+use form::operator_codes::{IN, TRUE};
 use type_rules::entries;
-use type_rules::kinds::{index, is_element, is_given, look, range_fits};
+use type_rules::entries::Kind;
+use type_rules::kinds::{look, range_fits};
 
 // One node, from the place `at` on.
 pub fn set_node(out: &mut [u16], at: usize, shape: u16, i: u16, a: u16, b: u16)
@@ -39,40 +40,40 @@ pub fn next_slot(s: u16) -> u16
 
 // How many elements the given set has that a name is; that elements are of; that the first and the second sides of pairs are of.
 // Form 1: a node has 0 in the place of no such set; with an Option each caller would turn `None` back into it.
-pub fn given_size(sizes: &[u16], k: u16) -> u16
+pub fn given_size(sizes: &[u16], k: Kind) -> u16
     ensures { result ≡ given_size sizes.now k }
 {
-    if is_given(k) {
-        return look(sizes, index(k) - entries::FIRST_GIVEN);
+    match k.given() {
+        Some(g) => look(sizes, usize::from(g)),
+        None => 0,
     }
-    0
 }
 
-pub fn element_size(sizes: &[u16], k: u16) -> u16
+pub fn element_size(sizes: &[u16], k: Kind) -> u16
     ensures { result ≡ element_size sizes.now k }
 {
-    if is_element(k) {
-        return look(sizes, index(k) - entries::FIRST_ELEMENT);
+    match k.element() {
+        Some(g) => look(sizes, usize::from(g)),
+        None => 0,
     }
-    0
 }
 
-pub fn first_size(sizes: &[u16], k: u16) -> u16
+pub fn first_size(sizes: &[u16], k: Kind) -> u16
     ensures { result ≡ first_size sizes.now k }
 {
-    if entries::PAIRS <= k {
-        return look(sizes, (index(k) - entries::FIRST_PAIRS) / entries::ROW_SETS);
+    match k.pairs() {
+        Some((g, _)) => look(sizes, usize::from(g)),
+        None => 0,
     }
-    0
 }
 
-pub fn second_size(sizes: &[u16], k: u16) -> u16
+pub fn second_size(sizes: &[u16], k: Kind) -> u16
     ensures { result ≡ second_size sizes.now k }
 {
-    if entries::PAIRS <= k {
-        return look(sizes, (index(k) - entries::FIRST_PAIRS) % entries::ROW_SETS);
+    match k.pairs() {
+        Some((_, h)) => look(sizes, usize::from(h)),
+        None => 0,
     }
-    0
 }
 
 // How many numbers a range has that is not at fault.
@@ -86,11 +87,6 @@ pub fn range_count(a: u16, b: u16) -> u16
 }
 
 // Memberships and truth values, by the codes of their symbols.
-// Form 1: a node has its symbol's code as a number of 16 bits, where the code itself is a byte.
-const IN: u16 = codes::IN as u16;
-
-const TRUE: u16 = codes::TRUE as u16;
-
 pub fn related_shape(o: u16) -> u16
     ensures { RelatedShape o result }
 {

@@ -17,7 +17,7 @@ use Rattle.type_rules.specs.TypesByNumber.{Names}
 use Rattle.names.specs.DeclaredNamesNamesByNumber.{Typed, parameters_of}
 use Rattle.names.specs.DeclaredNamesPassPromises.{typed_code}
 use Rattle.names.proofs.DeclaredNamesNodePieces.{Ends, place, whole}
-use Rattle.names.proofs.DeclaredNamesDeclarationNodes.{node-a, node-shape, Walked, start, on, finished}
+use Rattle.names.proofs.DeclaredNamesDeclarationNodes.{node-a, node-shape, Walked, start, finished}
 use Rattle.names.proofs.DeclaredNamesGivenSetNodes.{element-shape, behind, nothing_left}
 use Rattle.names.proofs.PassSteps.{parameters-codes}
 use Rattle.table_nodes.specs.TableByNumber.{Places}
@@ -27,12 +27,6 @@ use Rattle.table_places.specs.TablePromises.{ElementSet, ElementsSet, VariablesS
 -- the number of a declared name is the second one of its node
 named-at : (code : List ℕ) (at : ℕ) (x : Typed) (j : ℕ) (ρ : Numbering) (rest : List ℕ) → drop at code ≡ typed_code j x ρ ++ rest → get_or code (at + 1) 0 ≡ name_number ρ x.called
 named-at code at x j ρ rest e = node-a code at 6 j (name_number ρ x.called) 0 (type_codes x.type (j + 2) ρ ++ rest) e
-
--- one declaration further, where the next one stands at `next`
-pub on-next : {X : Type 0} (F : List Typed → ℕ → Names → Numbering → X) (code : List ℕ) (at next : ℕ) (T U U' : Names) → next ≡ at + 8 → Walked F code at T U → at + 8 ≤ length code
-    → ((ρ : Numbering) (x : Typed) (xs : List Typed) (j : ℕ) (rest : List ℕ) → drop at code ≡ typed_code j x ρ ++ rest → F (x ∷ xs) j U ρ ≡ F xs (j + 3 + type_width x.type) U' ρ)
-    → Walked F code next T U'
-on-next F code at next T U U' n w room change = subst (λ (m : ℕ). Walked F code m T U') (sym n) (on F code at T U U' w room change)
 
 -- of declarations that are cut off one by one, none is cut off yet
 pub walked-start : {X : Type 0} (F : List Typed → ℕ → Names → Numbering → X) (code rest : List ℕ) (T : Names) → rest ≡ code → Ends code rest × Walked F code (place code rest) T T

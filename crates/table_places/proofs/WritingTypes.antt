@@ -1,20 +1,23 @@
 -- The carriers of declarations: what the code writes for a type's node, and a walk over declarations, with the place of the next one in front of the table.
 use mathlib.Core.Path.{◌≡◌, refl, ap, ap₂, sym, ◌∙◌, subst}
 use mathlib.Core.Bool.{Bool, true, false, cond}
-use mathlib.Core.List.{List, [], ◌∷◌, ◌++◌, map, append-nil}
+use mathlib.Core.List.{List, [], ◌∷◌, ◌++◌, map, append-nil, append_assoc}
 use Prim.Native.Nat.{ℕ, zero, suc, ◌+◌, ◌-◌, ◌*◌, ◌≤◌, ◌<◌}
 use native.Mathlib.Nat.{add-zero, zero-add}
 use native.Mathlib.Numerals.{add-one}
 use native.Mathlib.Omega.{arith}
 use lib.Dec.{eqb, ltb}
-use lib.ListN.{length, take, drop, get_or}
-use lib.Seq.{take_at}
+use lib.ListN.{length, take, drop, get_or, length-drop, take-append-drop}
+use lib.Seq.{take_at, drop_at, drop-drop, length-take-le}
+use Rattle.names.proofs.DeclaredNamesNodePieces.{Ends, place}
 use borrow.Author.Tests.{ne_eqb, lt-ltb, le-ltb}
 use Rattle.form.specs.Tree.{TypeForm, given_type, power_type, range_type, arrow_type, relation, partial, total, Declaration, declarations, Parameter, Operation}
 use Rattle.form.specs.Headings.{abstract_at, concrete_at, operations_at, operation_length}
 use Rattle.form.specs.Codes.{Numbering, node, type_codes, type_width, declaration_codes, parameter_codes}
 use Rattle.lexical.specs.Symbols.{no_ending}
-use Rattle.type_rules.specs.TypesByNumber.{Names, Sizes, entry, is_given}
+use Rattle.std.specs.Bool.{then_some}
+use Rattle.std.specs.Option.{unwrap_or}
+use Rattle.type_rules.specs.TypesByNumber.{Names, Sizes, entry, is_given, given_in}
 use Rattle.names.specs.DeclaredNamesNamesByNumber.{Typed, typed_codes, variables_of, parameters_of}
 use Rattle.names.specs.DeclaredNamesPassPromises.{PartOf, typed_code}
 use Rattle.names.proofs.DeclaredNamesDeclarationNodes.{node-a, node-b, node-shape, shape_of, place_of, left_of, right_of, as-node, typed-type, Walked, finished}
@@ -27,16 +30,16 @@ use Rattle.table_places.specs.DossierTableByNumber.{given_index, type_node, with
 use Rattle.table_places.specs.TablePromises.{TypeSet, with_types, TypesSet, OperationTypesSet, declared_by, DeclaredSet}
 
 -- the number of a given set
-pub index-some : (k : ℕ) (f : Bool) → f ≡ is_given k → f ≡ true → (k - 8 ≡ given_index k) × (k - 8 < 8)
+pub index-of : (k r : ℕ) → r ≡ unwrap_or (given_in k) 0 → (r ≡ given_index k) × (r < 8)
 unfolding given_index
-index-some k f e h = (sym (cond_yes f (is_given k) (k - 8) 0 e h), let b = given-bounds k (sym e ∙ h) in omega arith)
-
-pub index-none : (k : ℕ) (f : Bool) → f ≡ is_given k → f ≡ false → (0 ≡ given_index k) × (0 < 8)
-unfolding given_index
-index-none k f e h = (sym (cond_no f (is_given k) (k - 8) 0 e h), omega arith)
-
-pub index-above : (k : ℕ) (f : Bool) → f ≡ is_given k → f ≡ true → 8 ≤ k
-index-above k f e h = (given-bounds k (sym e ∙ h)).0
+index-of k r e = go (is_given k) refl
+  where
+    go : (f : Bool) → is_given k ≡ f → (r ≡ cond (is_given k) (k - 8) 0) × (r < 8)
+    go true h =
+        let i : r ≡ k - 8 = e ∙ ap (λ (t : Bool). unwrap_or (then_some t (k - 8)) 0) h in
+        let b = given-bounds k h in (i ∙ sym (cond_yes (is_given k) (is_given k) (k - 8) 0 refl h), omega arith)
+    go false h =
+        let i : r ≡ 0 = e ∙ ap (λ (t : Bool). unwrap_or (then_some t (k - 8)) 0) h in (i ∙ sym (cond_no (is_given k) (is_given k) (k - 8) 0 refl h), omega arith)
 
 -- some of the nodes
 pub part-short : (nodes : List ℕ) (from to n : ℕ) (r : List ℕ) → PartOf nodes from to r → length nodes ≤ n → length r ≤ n
@@ -117,6 +120,30 @@ type-moved code at m q T z out after h s t i ρ rest d =
     ∙ take_at (node (shape_of t) (place_of t i) (left_of t ρ) (right_of t ρ)) rest 4 refl
     ∙ sym e
     ∙ sym (append-nil (type_codes t i ρ)))
+
+-- a type's node behind its name's in a piece that is cut off
+pub type-behind : (code d rest behind : List ℕ) (q : ℕ) (T : Names) (z : Sizes) (out after : List ℕ) → rest ≡ d ++ behind → length d ≡ 8 → Ends code rest
+    → TypeSet (take (length d - 4) (drop 4 d)) 0 q T z out after → TypeSet code (place code rest + 4) q T z out after
+type-behind code d rest behind q T z out after cut long e s =
+    type-moved code (place code rest + 4) 4 q T z out after refl (subst (λ (l : List ℕ). TypeSet l 0 q T z out after) same s)
+  where
+    four : length (drop 4 d) ≡ 4
+    four = length-drop 4 d ∙ (let n : length d - 4 ≡ 4 = omega (arith, long) in n)
+
+    front : length (take 4 d) ≡ 4
+    front = length-take-le 4 d (omega arith)
+
+    left : drop (place code rest + 4) code ≡ drop 4 d ++ behind
+    left =
+        sym (drop-drop 4 (place code rest) code)
+        ∙ ap (drop 4) (e.here ∙ cut ∙ ap (λ (l : List ℕ). l ++ behind) (sym (take-append-drop 4 d)) ∙ append_assoc (take 4 d) (drop 4 d) behind)
+        ∙ drop_at (take 4 d) (drop 4 d ++ behind) 4 front
+
+    all : (n : ℕ) (l : List ℕ) → length l ≡ n → take n l ≡ l
+    all n l h = ap (take n) (sym (append-nil l)) ∙ take_at l [] n h
+
+    same : take (length d - 4) (drop 4 d) ≡ take 4 (drop (place code rest + 4) code)
+    same = all (length d - 4) (drop 4 d) (length-drop 4 d) ∙ sym (ap (take 4) left ∙ take_at (drop 4 d) behind 4 four)
 
 pub types-set : (nodes : List ℕ) (from to : ℕ) (T : Names) (z : Sizes) (code : List ℕ) (at q : ℕ) (out after : List ℕ) → PartOf nodes from to code
     → Walked (typing T z) code at (from ∷ out) (q ∷ after) → length code < at + 8 → TypesSet nodes from to T z out after

@@ -8,23 +8,21 @@ use names::passes::part;
 use node_spans::span;
 use table_nodes::nodes::{given_size, range_count, set_node};
 use type_rules::entries;
-use type_rules::kinds::{index, is_given, look};
+use type_rules::entries::Kind;
+use type_rules::kinds::{entry, look};
 
 // A number of the spans.
 pub fn span_at(spans: &[u16], k: usize) -> usize
     ensures { (result ≡ get_or spans.now k 0) × (result < 65536) }
 {
-    index(look(spans, k))
+    usize::from(look(spans, k))
 }
 
 // The number of the given set that a name is.
-fn given_index(k: u16) -> u16
+fn given_index(k: Kind) -> u16
     ensures { (result ≡ given_index k) × (result < 8) }
 {
-    if is_given(k) {
-        return k - entries::GIVEN;
-    }
-    0
+    k.given().unwrap_or(0)
 }
 
 // What is read: the nodes of a dossier, where its parts stand among them, the names of its given sets, and how many elements these have.
@@ -32,7 +30,7 @@ fn given_index(k: u16) -> u16
 pub struct Declarations<'a> {
     pub nodes: &'a [u16],
     pub spans: &'a [u16],
-    pub names: &'a [u16],
+    pub names: &'a [Kind],
     pub sizes: &'a [u16],
 }
 
@@ -48,12 +46,12 @@ fn set_type(s: &Declarations<'_>, n: &[u16], q: usize, out: &mut [u16])
         set_node(out, q, shapes::RANGE, 0, a, range_count(a, b));
         return;
     }
-    let k = look(s.names, index(a));
+    let k = entry(s.names, usize::from(a));
     if shape < shapes::RELATION {
         set_node(out, q, shape, given_index(k), given_size(s.sizes, k), 0);
         return;
     }
-    let l = look(s.names, index(b));
+    let l = entry(s.names, usize::from(b));
     // the two given sets of an arrow in one number, as in the kind of its pairs
     let i = entries::ROW * given_index(k) + given_index(l);
     set_node(
@@ -67,16 +65,19 @@ fn set_type(s: &Declarations<'_>, n: &[u16], q: usize, out: &mut [u16])
 }
 
 // The carriers of declarations.
-// Form 3: the place of a type's node is where its carrier is written; with pieces it would be counted beside them.
 fn set_types(s: &Declarations<'_>, from: usize, to: usize, out: &mut [u16])
     requires { TableRoom s.now.nodes.now out.old }
     ensures { TypesSet s.now.nodes.now from to s.now.names.now s.now.sizes.now out.old out.new }
 {
     let code = part(s.nodes, from, to);
-    for k in 0..code.len() / node::DECLARATION {
+    for (k, d) in code.chunks_exact(node::DECLARATION).enumerate() {
         // the type's node stands behind the name's
-        let at = node::DECLARATION * k + node::SIZE;
-        set_type(s, &code[at..at + node::SIZE], from + at, out);
+        set_type(
+            s,
+            &d[node::SIZE..],
+            from + node::DECLARATION * k + node::SIZE,
+            out,
+        );
     }
 }
 

@@ -6,7 +6,7 @@ use form::name_endings::{INPUT, PLAIN, PRIMED};
 use form::{node, shapes};
 use lexical::endings;
 use table_nodes::slots;
-use type_rules::kinds::{index, put};
+use type_rules::kinds::put;
 
 // Elements have their places in their given sets, above all slots.
 fn place_elements(code: &[u16], places: &mut [u16])
@@ -27,18 +27,19 @@ fn place_element(n: &[u16], j: u16, places: &mut [u16]) -> u16
     if n[node::SHAPE] == shapes::GIVEN {
         return slots::ELEMENTS;
     }
-    put(places, index(n[node::A]), j);
+    put(places, usize::from(n[node::A]), j);
     j + 1
 }
 
 // Variables have slots from `slot` on.
+// Form 3: with `enumerate` the slot would be `slot + k as u16`, a conversion and a sum at each declaration in the place of one more.
 fn place_variables(code: &[u16], shift: u16, slot: u16, places: &mut [u16])
     requires { (length code.now ≤ 16384) × (slot < 64) }
     ensures { VariablesSet code.now shift slot places.old places.new }
 {
     let mut s: u16 = slot;
     for d in code.chunks_exact(node::DECLARATION) {
-        put(places, index(d[node::A]) + shift as usize, s);
+        put(places, usize::from(d[node::A]) + shift as usize, s);
         s += 1;
     }
 }
@@ -60,10 +61,10 @@ pub fn place_parameters(code: &[u16], places: &mut [u16])
     for d in code.chunks_exact(node::DECLARATION) {
         let x = d[node::A];
         if is_input(x) {
-            put(places, index(x), i);
+            put(places, usize::from(x), i);
             i += 1;
         } else {
-            put(places, index(x), o);
+            put(places, usize::from(x), o);
             o += 1;
         }
     }

@@ -16,20 +16,22 @@ use Rattle.static_rules.specs.Scope.{variables}
 use Rattle.static_rules.specs.Names.{new_name, type_faults, declaration_faults}
 use Rattle.declared_names.specs.NamesByNumber.{variables_of}
 use Rattle.names.proofs.ReachTables.{Numbered}
-use Rattle.names.proofs.TypesAgreeLeast.{append_nil-both}
 use Rattle.names.proofs.TypesAgreeTypes.{no-yes}
 use Rattle.names.proofs.PassAgreesTables.{same-name, name-refl}
 use Rattle.names.proofs.PassAgreesTypes.{type-carries}
 use Rattle.names.proofs.PassAgreesDeclared.{TypedIn, no_typed, one_typed}
 use Rattle.names.proofs.PassAgreesUse.{in_use, use-here, use-there, new_unused}
 use Rattle.names.proofs.PassAgreesGivens.{Holds, entered}
-use Rattle.names.proofs.PassAgreesStates.{names_of, variables-one}
-use Rattle.names.proofs.PassAgreesParameters.{name_of, no_so}
+use Rattle.names.proofs.PassAgreesStates.{names_of}
+use Rattle.names.proofs.PassAgreesParameters.{name_of}
 use Rattle.table_nodes.specs.TableByNumber.{Places}
 use Rattle.table_places.specs.ResolvedTable.{Slots, slotted}
 use Rattle.table_places.specs.DossierTableByNumber.{placing}
 use Rattle.search_groups.proofs.ScopePlaces.{slot_of}
 use Rattle.tables.proofs.SlotPlaces.{slot-there, Named, no_named, one_named, named-map, Once, no_once, one_once, into, write}
+use Rattle.refusals.proofs.FaultLists.{append_nil-both}
+use Rattle.static_rules.proofs.FoundCarriers.{variables-one}
+use Rattle.lexical.proofs.BooleanTests.{not-true}
 
 -- declarations without faults, where the names xs are in use: each name is new, and each type has its carrier
 pub data Declared (gs : List Given) : List Letters → List Declaration → Type 0 where
@@ -60,7 +62,7 @@ declared-off none_declared e s y u = refl
 declared-off {gs = gs} (one_declared {xs = xs} {d = d} {ds = ds} c f g h) e s y u =
     ap (λ (W : Slots). slot_of W y) (group-one gs e s d ds c g)
     ∙ slot-there (name_of d.declared e, s) (slotted (suc s) (variables gs e ds)) y
-    (no_so (same_name (name_of d.declared e) y) (λ k. no-yes (sym f ∙ ap (λ (n : Name). in_use xs (plain n.letters)) (same-name (name_of d.declared e) y k) ∙ u)))
+    (not-true (same_name (name_of d.declared e) y) (λ k. no-yes (sym f ∙ ap (λ (n : Name). in_use xs (plain n.letters)) (same-name (name_of d.declared e) y k) ∙ u)))
     ∙ declared-off h e (suc s) y (use-there d.declared xs (plain y.letters) u)
 
 pub declared-once : {gs : List Given} {xs : List Letters} {ds : List Declaration} → Declared gs xs ds → (e : Ending) (s : ℕ) → Once (slotted s (variables gs e ds))

@@ -14,7 +14,6 @@ use Rattle.static_rules.specs.Names.{context_faults, name_faults}
 use Rattle.type_rules.specs.TypesByNumber.{Names, Sizes}
 use Rattle.declared_names.specs.NamesByNumber.{givens_named}
 use Rattle.names.proofs.ReachTables.{Numbered, Shows, PredIn}
-use Rattle.names.proofs.TypesAgreeLeast.{append_nil-both}
 use Rattle.names.proofs.PassAgreesTypes.{Sized}
 use Rattle.names.proofs.PassAgreesGivens.{GivensIn}
 use Rattle.names.proofs.PassAgreesNamed.{Base}
@@ -32,6 +31,7 @@ use Rattle.tables.proofs.TableAgrees.{resolved_pred}
 use Rattle.tables.proofs.DossierTableShown.{AllShown, none_shown, one_shown, free-sees, contexts-shown}
 use Rattle.tables.proofs.ContextPlaces.{AllPlaced, none_placed, one_placed}
 use Rattle.tables.proofs.DossierTableTypes.{declared-written}
+use Rattle.refusals.proofs.FaultLists.{append_nil-both}
 
 -- ---- the predicates are the text's ----
 

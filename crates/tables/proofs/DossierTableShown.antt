@@ -15,7 +15,6 @@ use Rattle.static_rules.specs.Names.{new_name, given_faults, parameter_faults, o
 use Rattle.type_rules.specs.TypesByNumber.{Names, Sizes, entry}
 use Rattle.declared_names.specs.NamesByNumber.{variables_of, parameters_of, shown, hidden, reaching, leaving, title_named, parameters_shown, givens_named}
 use Rattle.names.proofs.ReachTables.{Numbered, Shows}
-use Rattle.names.proofs.TypesAgreeLeast.{append_nil-both}
 use Rattle.names.proofs.PassAgreesTables.{Sees, unused}
 use Rattle.names.proofs.PassAgreesTypes.{Sized}
 use Rattle.names.proofs.PassAgreesDeclared.{TypedIn, Clear, clear, found, or_type}
@@ -31,6 +30,7 @@ use Rattle.names.proofs.PassAgreesOperations.{reach_in, OperationsIn, no_operati
 use Rattle.names.proofs.FaultlessParts.{Faultless, faultless}
 use Rattle.names.proofs.PassAgrees.{DossierIn}
 use Rattle.table_places.specs.DossierTableByNumber.{operation_kinds, kinds_of}
+use Rattle.refusals.proofs.FaultLists.{append_nil-both}
 
 -- each context with its table of names
 pub data AllShown (ρ : Numbering) (P : Letters → Type 0) (z : Sizes) : List Context → List Names → Type 0 where

@@ -20,7 +20,6 @@ use Rattle.static_rules.specs.Names.{known, type_faults, new_name, declaration_f
 use Rattle.type_rules.specs.TypesByNumber.{Names, Sizes, entry}
 use Rattle.declared_names.specs.NamesByNumber.{variables_of, parameters_of}
 use Rattle.names.proofs.ReachTables.{index_of, Shows}
-use Rattle.names.proofs.TypesAgreeLeast.{append_nil-both, not_nil}
 use Rattle.names.proofs.TypesAgreeScope.{index-here, index-there}
 use Rattle.names.proofs.TypesAgreeBinders.{given-view}
 use Rattle.names.proofs.PassAgreesTables.{same-name}
@@ -37,6 +36,7 @@ use Rattle.table_places.specs.DossierTable.{given_place, type_table, with_carrie
 use Rattle.table_places.specs.DossierTableByNumber.{given_index, type_node, with_nodes, with_operations, declared_nodes}
 use Rattle.tables.proofs.TableAgreesSizes.{view-size, view-index, index_found, range-counted}
 use Rattle.tables.proofs.DossierTableShown.{head_new}
+use Rattle.refusals.proofs.FaultLists.{append_nil-both, not_nil}
 
 -- ---- the place of a given set ----
 

@@ -14,7 +14,6 @@ use Rattle.static_rules.specs.Carriers.{ending_code, same_name, plain}
 use Rattle.static_rules.specs.Scope.{element_of, place_in, given_names}
 use Rattle.static_rules.specs.Names.{new_name, element_faults, given_faults}
 use Rattle.names.proofs.ReachTables.{Numbered}
-use Rattle.names.proofs.TypesAgreeLeast.{append_nil-both}
 use Rattle.names.proofs.TypesAgreeTypes.{no-yes}
 use Rattle.names.proofs.PassAgreesUse.{in_use, use-left, use-right, use-here, use-there, elements-new, given-new, givens_new, element-use}
 use Rattle.names.proofs.PassAgreesGivens.{AllIn, none_in, one_in, GivensIn, no_givens, one_given, Holds, entered}
@@ -24,6 +23,7 @@ use Rattle.table_places.specs.ResolvedTable.{Slots}
 use Rattle.table_places.specs.DossierTableByNumber.{elements_placed, givens_placed}
 use Rattle.search_groups.proofs.ScopePlaces.{slot_of}
 use Rattle.tables.proofs.SlotPlaces.{none-some, slot-there, into, into-none, Elements, write}
+use Rattle.refusals.proofs.FaultLists.{append_nil-both}
 
 -- the places of elements, as slots from 64 on
 unfoldable pub element_slots : (j : ℕ) → List Letters → Slots

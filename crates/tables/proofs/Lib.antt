@@ -1,5 +1,4 @@
 -- The table by numbers is the table by the definitions.
-pub mod TableAgreesTypes
 pub mod TableAgreesSizes
 pub mod TableAgreesParts
 pub mod TableAgrees

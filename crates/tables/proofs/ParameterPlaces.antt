@@ -19,20 +19,21 @@ use Rattle.static_rules.specs.Scope.{variables, is_input, is_output}
 use Rattle.static_rules.specs.Names.{type_faults, parameter_name, parameter_faults}
 use Rattle.declared_names.specs.NamesByNumber.{parameters_of}
 use Rattle.names.proofs.ReachTables.{Numbered}
-use Rattle.names.proofs.TypesAgreeLeast.{unless-nil, append_nil-both}
 use Rattle.names.proofs.TypesAgreeTypes.{no-yes}
 use Rattle.names.proofs.TypesAgreeScope.{any_here}
 use Rattle.names.proofs.PassAgreesTables.{same-name, name-refl}
 use Rattle.names.proofs.PassAgreesTypes.{type-carries}
 use Rattle.names.proofs.PassAgreesDeclared.{TypedIn, no_typed, one_typed}
 use Rattle.names.proofs.PassAgreesGivens.{Holds}
-use Rattle.names.proofs.PassAgreesParameters.{name_of, no_so}
+use Rattle.names.proofs.PassAgreesParameters.{name_of}
 use Rattle.table_nodes.specs.TableByNumber.{Places}
 use Rattle.table_places.specs.ResolvedTable.{Slots, slotted}
 use Rattle.table_places.specs.DossierTableByNumber.{parameter_slot, next_input, next_output, parameters_placed}
 use Rattle.search_groups.proofs.ScopePlaces.{slot_of}
 use Rattle.tables.proofs.SlotPlaces.{none-some, slot-here, slot-there, first-or_later, Named, no_named, one_named, Once, no_once, one_once, into, into-some, Slotted, Below, write}
 use Rattle.tables.proofs.DeclaredPlaces.{group-one, variables-few}
+use Rattle.refusals.proofs.FaultLists.{append_nil-both, unless-nil}
+use Rattle.lexical.proofs.BooleanTests as tests
 
 -- the slots in declared order: the next input has the slot i, the next output the slot o
 unfoldable pub numbered : List Parameter → (i o : ℕ) → Slots
@@ -73,7 +74,7 @@ unfolding numbered find
 numbered-off no_parameters i o y u = refl
 numbered-off (one_parameter {xs = xs} {y = x} {ys = ys} c f g h) i o y u =
     slot-there (parameter_name x, parameter_slot x.direction i o) (numbered ys (next_input x.direction i) (next_output x.direction o)) y
-    (no_so (same_name (parameter_name x) y) (λ k. no-yes (sym f ∙ ap (λ (n : Name). called xs n) (same-name (parameter_name x) y k) ∙ u)))
+    (tests.not-true (same_name (parameter_name x) y) (λ k. no-yes (sym f ∙ ap (λ (n : Name). called xs n) (same-name (parameter_name x) y k) ∙ u)))
     ∙ numbered-off h (next_input x.direction i) (next_output x.direction o) y (called-there x xs y u)
 
 -- no later parameter has the name of an earlier one
@@ -100,7 +101,7 @@ numbered-ended (x ∷ ps) i o = one_named (direction-ending x.direction) (number
 -- a slot that is found behind another name's is found
 behind : (v : Name × ℕ) (N : Slots) (y : Name) (w : Name × ℕ) → slot_of N v.0 ≡ none → slot_of N y ≡ some w → slot_of (v ∷ N) y ≡ some w
 behind v N y w n e =
-    slot-there v N y (no_so (same_name v.0 y) (λ k. none-some (sym (ap (λ (x : Name). slot_of N x) (sym (same-name v.0 y k)) ∙ n) ∙ e))) ∙ e
+    slot-there v N y (tests.not-true (same_name v.0 y) (λ k. none-some (sym (ap (λ (x : Name). slot_of N x) (sym (same-name v.0 y k)) ∙ n) ∙ e))) ∙ e
 
 front : (v : Name × ℕ) (W N : Slots) (y : Name) (w : Name × ℕ) → slot_of (v ∷ W) y ≡ some w → (slot_of W y ≡ some w → slot_of N y ≡ some w) → slot_of (v ∷ N) y ≡ some w
 front v W N y w e r = first-or_later v W y w e (λ k l. slot-here v N y k ∙ l) (λ k l. slot-there v N y k ∙ r l)

@@ -13,7 +13,6 @@ use Rattle.static_rules.specs.Carriers.{Variable, ending_code, plain}
 use Rattle.static_rules.specs.Scope.{given_names, state_names, abstract_taken, concrete_taken, unprimed, primed, variables}
 use Rattle.static_rules.specs.Names.{new_name, given_faults, parameter_faults, operation_faults, name_faults}
 use Rattle.names.proofs.ReachTables.{Numbered}
-use Rattle.names.proofs.TypesAgreeLeast.{append_nil-both}
 use Rattle.names.proofs.PassAgreesUse.{in_use, use-left, use-right}
 use Rattle.names.proofs.PassAgreesGivens.{Holds}
 use Rattle.names.proofs.FaultlessParts as parts
@@ -28,6 +27,7 @@ use Rattle.tables.proofs.SlotPlaces.{no_slot, Named, named-slot, into, Slotted, 
 use Rattle.tables.proofs.DeclaredPlaces.{Declared, faultless, declared-off, declared-once, declared-ended, declared-used, variables-few, placing-holds}
 use Rattle.tables.proofs.ElementPlaces.{into_givens, givens-hold, givens-at, element-plain, element-letters}
 use Rattle.tables.proofs.ParameterPlaces.{Parametrised, parametrised, numbered, numbered-ended}
+use Rattle.refusals.proofs.FaultLists.{append_nil-both}
 
 -- ---- a dossier without faults ----
 

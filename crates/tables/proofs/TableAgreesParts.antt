@@ -1,6 +1,6 @@
 -- What is claimed of a tree: its table by numbers is the one by the definitions, where it has no faults. Parts one behind the other.
 use mathlib.Core.Path.{◌≡◌, refl, ap, ap₂, ◌∙◌, sym}
-use mathlib.Core.Bool.{Bool, true, false, ◌&&◌}
+use mathlib.Core.Bool.{Bool, true, ◌&&◌}
 use mathlib.Core.List.{List, [], ◌∷◌, ◌++◌}
 use Prim.Native.Nat.{ℕ, suc, ◌+◌}
 use lib.ListN.{length, set}
@@ -19,8 +19,7 @@ use Rattle.static_rules.specs.Scope.{Scope, binding}
 use Rattle.static_rules.specs.Names.{Listing, whole, whole_pairs, known, new_name, divisor_faults, range_faults, domain_faults, domain_carrier, domain_length, judge_term, judge_items, judge_pairs, judge_pred}
 use Rattle.type_rules.specs.TypesByNumber.{Names, Sizes, bound, domain_kind}
 use Rattle.names.proofs.ReachTables.{Numbered, Shows, RangeIn, DomainIn, TermIn}
-use Rattle.names.proofs.TypesAgreeLeast.{whole-nil, inside-nil, append_nil-both}
-use Rattle.names.proofs.TypesAgreeTypes.{no-yes, and_both, type-same}
+use Rattle.names.proofs.TypesAgreeTypes.{no-yes}
 use Rattle.names.proofs.TypesAgreeParts.{whole-pairs-fit}
 use Rattle.names.proofs.TypesAgreeBinders.{judged-inside, bound-shows}
 use Rattle.table_nodes.specs.TableByNumber as table
@@ -28,6 +27,10 @@ use Rattle.table_nodes.specs.TableByNumber.{Places, next_slot, related_shape}
 use Rattle.table_places.specs.ResolvedTable as resolved
 use Rattle.table_places.specs.ResolvedTable.{Slots}
 use Rattle.tables.proofs.TableAgreesSizes.{domain_resolved, first-side, second-side, element-side}
+use Rattle.refusals.proofs.FaultLists.{append_nil-both}
+use Rattle.static_rules.proofs.Faultless.{inside-nil, whole-nil}
+use Rattle.lexical.proofs.BooleanTests.{all-parts, all-more, both-true}
+use Rattle.static_rules.proofs.SameTypes.{same-type}
 
 -- ---- parts one behind the other: where each begins is told by the lengths of those before ----
 
@@ -67,38 +70,26 @@ PredResolved ρ z Γ T W' W s p = (i : ℕ) → (judge_pred p Γ i).faults ≡ [
 
 -- ---- braces of pairs ----
 
-all_both : {A : Type 0} (f : A → Bool) (x : A) (xs : List A) → all f (x ∷ xs) ≡ true → (f x ≡ true) × (all f xs ≡ true)
-unfolding all
-all_both {A} f x xs e = on (f x) e
-  where
-    on : (b : Bool) → ◌≡◌ {A = Bool} (elim b [ true ↦ all f xs | false ↦ false ]) true → (b ≡ true) × (all f xs ≡ true)
-    on true h = (refl, h)
-    on false h = no-yes h
-
-all_here : {A : Type 0} (f : A → Bool) (x : A) (xs : List A) → f x ≡ true → all f xs ≡ true → all f (x ∷ xs) ≡ true
-unfolding all
-all_here f x xs e h = ap (λ (b : Bool). elim b [ true ↦ all f xs | false ↦ false ]) e ∙ h
-
 all_from : {A : Type 0} (f g : A → Bool) → ((x : A) → f x ≡ true → g x ≡ true) → (xs : List A) → all f xs ≡ true → all g xs ≡ true
 unfolding all
 all_from f g h [] e = refl
-all_from f g h (x ∷ xs) e = let k = all_both f x xs e in all_here g x xs (h x k.0) (all_from f g h xs k.1)
+all_from f g h (x ∷ xs) e = let k = all-parts f x xs e in all-more g x xs (h x k.0) (all_from f g h xs k.1)
 
 -- pairs that fit have elements on their second sides
 fit-elements : (ts : List (Ty × Ty)) → pairs_fit ts ≡ true → Elements ts
 unfolding pairs_fit
 fit-elements [] e = no-yes e
 fit-elements (t ∷ ts) e =
-    let h = and_both (has t.0 ty.is_element && has t.1 ty.is_element) (all (λ (u : Ty × Ty). same_type t.0 u.0 && same_type t.1 u.1) ts) e in
-    let k = and_both (has t.0 ty.is_element) (has t.1 ty.is_element) h.0 in
-    all_here (λ (u : Ty × Ty). has u.1 ty.is_element) t ts k.1
+    let h = both-true (has t.0 ty.is_element && has t.1 ty.is_element) (all (λ (u : Ty × Ty). same_type t.0 u.0 && same_type t.1 u.1) ts) e in
+    let k = both-true (has t.0 ty.is_element) (has t.1 ty.is_element) h.0 in
+    all-more (λ (u : Ty × Ty). has u.1 ty.is_element) t ts k.1
     (all_from (λ (u : Ty × Ty). same_type t.0 u.0 && same_type t.1 u.1) (λ (u : Ty × Ty). has u.1 ty.is_element)
-    (λ u q. ap (λ (v : Ty). has v ty.is_element) (sym (type-same t.1 u.1 (and_both (same_type t.0 u.0) (same_type t.1 u.1) q).1)) ∙ k.1) ts h.1)
+    (λ u q. ap (λ (v : Ty). has v ty.is_element) (sym (same-type t.1 u.1 (both-true (same_type t.0 u.0) (same_type t.1 u.1) q).1)) ∙ k.1) ts h.1)
 
 -- ---- no faults in the whole: none in the parts ----
 
 two-nil : (fits : Bool) (f : Fault) (xs ys : List Fault) → whole fits f (xs ++ ys) ≡ [] → (xs ≡ []) × (ys ≡ [])
-two-nil fits f xs ys e = append_nil-both xs ys (whole-nil fits f (xs ++ ys) e).none_in
+two-nil fits f xs ys e = append_nil-both xs ys (whole-nil fits f (xs ++ ys) e).0
 
 module _ (ρ : Numbering) (P : Letters → Type 0) (ν : Numbered ρ P) (z : Sizes) (Γ : Scope) (T : Names) (sh : Shows ρ P Γ T z) (W' : Slots) (W : Places) (s : ℕ) where
   -- two terms, one behind the other, and a node with where the second one begins
@@ -114,7 +105,7 @@ module _ (ρ : Numbering) (P : Letters → Type 0) (ν : Numbered ρ P) (z : Siz
   pub prefix-resolved : (o : Prefix) (t : Term) → TermIn P t → TermResolved ρ z Γ T W' W s t → TermResolved ρ z Γ T W' W s (prefix o t)
   unfolding judge_term table.term_table resolved.term_table
   prefix-resolved o t h a i e q =
-      let n = (whole-nil (ty.prefix_fits o (judge_term t Γ (suc i)).type) (fault i types_misfit) (judge_term t Γ (suc i)).faults e).none_in in
+      let n = (whole-nil (ty.prefix_fits o (judge_term t Γ (suc i)).type) (fault i types_misfit) (judge_term t Γ (suc i)).faults e).0 in
       ap₂ (λ (x y : List ℕ). x ++ y) (a (suc i) n q)
       (ap₂ (λ (m n : ℕ). node 3 m (code_of (prefix_kind o)) n) (first-side ρ P Γ T z sh ν t h (suc i) n) (second-side ρ P Γ T z sh ν t h (suc i) n))
 
@@ -137,7 +128,7 @@ module _ (ρ : Numbering) (P : Letters → Type 0) (ν : Numbered ρ P) (z : Siz
   unfolding judge_term table.term_table resolved.term_table
   listed-resolved ts a i e q =
       let l : Listing Ty = judge_items ts Γ (suc i) in
-      let n = (whole-nil (ty.brace_fits l.types) (fault i types_misfit) l.faults e).none_in in
+      let n = (whole-nil (ty.brace_fits l.types) (fault i types_misfit) l.faults e).0 in
       ap (λ (x : List ℕ). x ++ node 7 0 0 0) (a (suc i) n q)
 
   pub pairs-resolved : (ts : Pairs) → PairsResolved ρ z Γ T W' W s ts → TermResolved ρ z Γ T W' W s (pairs ts)
@@ -173,7 +164,7 @@ module _ (ρ : Numbering) (P : Letters → Type 0) (ν : Numbered ρ P) (z : Siz
   only-pair-resolved t u k a b i e f q =
       let j : ℕ = suc (judge_term t Γ i).next in
       let h = append_nil-both (judge_term t Γ i).faults (judge_term u Γ j).faults e in
-      let d = all_both (λ (v : Ty × Ty). has v.1 ty.is_element) ((judge_term t Γ i).type, (judge_term u Γ j).type) [] f in
+      let d = all-parts (λ (v : Ty × Ty). has v.1 ty.is_element) ((judge_term t Γ i).type, (judge_term u Γ j).type) [] f in
       two-terms t u a b (λ (n m : ℕ). node 11 n m 0) (element-side ρ P Γ T z sh ν u k j h.1 d.0) i h.0 h.1 q
 
   pub also-pair-resolved : (t u : Term) (ts : Pairs) → TermIn P u → TermResolved ρ z Γ T W' W s t → TermResolved ρ z Γ T W' W s u → PairsResolved ρ z Γ T W' W s ts
@@ -184,7 +175,7 @@ module _ (ρ : Numbering) (P : Letters → Type 0) (ν : Numbered ρ P) (z : Siz
       let l : ℕ = suc (judge_term u Γ j).next in
       let h = append_nil-both ((judge_term t Γ i).faults ++ (judge_term u Γ j).faults) (judge_pairs ts Γ l).faults e in
       let n = append_nil-both (judge_term t Γ i).faults (judge_term u Γ j).faults h.0 in
-      let d = all_both (λ (v : Ty × Ty). has v.1 ty.is_element) ((judge_term t Γ i).type, (judge_term u Γ j).type) (judge_pairs ts Γ l).types f in
+      let d = all-parts (λ (v : Ty × Ty). has v.1 ty.is_element) ((judge_term t Γ i).type, (judge_term u Γ j).type) (judge_pairs ts Γ l).types f in
       three-parts {b = λ (n : ℕ). table.term_table u T W z ρ s n} {b' = λ (n : ℕ). resolved.term_table u Γ W' s n}
       {c = λ (n : ℕ). table.pairs_table ts T W z ρ s n} {c' = λ (n : ℕ). resolved.pairs_table ts Γ W' s n} (λ (n m o : ℕ). node 12 n m o) q
       (a i n.0 q) (b j n.1) (c l h.1 d.1) (element-side ρ P Γ T z sh ν u k j n.1 d.0)
@@ -231,11 +222,11 @@ module _ (ρ : Numbering) (P : Letters → Type 0) (ν : Numbered ρ P) (z : Siz
       let l : ℕ = suc (judge_term u Γ j).next in
       let w = whole-nil (ty.related_fits (judge_term t Γ i).type (judge_term u Γ j).type (judge_term v Γ l).type) (fault (judge_term u Γ j).next types_misfit)
       ((judge_term t Γ i).faults ++ (judge_term u Γ j).faults ++ (judge_term v Γ l).faults) e in
-      let h = append_nil-both ((judge_term t Γ i).faults ++ (judge_term u Γ j).faults) (judge_term v Γ l).faults w.none_in in
+      let h = append_nil-both ((judge_term t Γ i).faults ++ (judge_term u Γ j).faults) (judge_term v Γ l).faults w.0 in
       let n = append_nil-both (judge_term t Γ i).faults (judge_term u Γ j).faults h.0 in
-      let d = and_both (has (judge_term t Γ i).type ty.is_element) (has (judge_term u Γ j).type ty.is_element)
-      (and_both (has (judge_term t Γ i).type ty.is_element && has (judge_term u Γ j).type ty.is_element)
-      (same_type (ty.pairs_of_types (judge_term t Γ i).type (judge_term u Γ j).type) (judge_term v Γ l).type) w.fit).0 in
+      let d = both-true (has (judge_term t Γ i).type ty.is_element) (has (judge_term u Γ j).type ty.is_element)
+      (both-true (has (judge_term t Γ i).type ty.is_element && has (judge_term u Γ j).type ty.is_element)
+      (same_type (ty.pairs_of_types (judge_term t Γ i).type (judge_term u Γ j).type) (judge_term v Γ l).type) w.1).0 in
       three-parts {b = λ (n : ℕ). table.term_table u T W z ρ s n} {b' = λ (n : ℕ). resolved.term_table u Γ W' s n}
       {c = λ (n : ℕ). table.term_table v T W z ρ s n} {c' = λ (n : ℕ). resolved.term_table v Γ W' s n} (λ (n m p : ℕ). node (related_shape o) n m p) q
       (a i n.0 q) (b j n.1) (c l h.1) (element-side ρ P Γ T z sh ν u k j n.1 d.1)

@@ -26,7 +26,7 @@ use Rattle.table_nodes.specs.TableByNumber as table
 use Rattle.table_places.specs.DossierTableByNumber.{given_index}
 use Rattle.table_places.specs.ResolvedTable as resolved
 use Rattle.table_places.specs.ResolvedTable.{over_sizes}
-use Rattle.tables.proofs.TableAgreesTypes.{type-placed}
+use Rattle.static_rules.proofs.TypePlaces.{type-placed}
 
 -- sizeOr of table_places/specs/ResolvedTable, which is private there
 abbrev size_found : Option Given → ℕ

@@ -13,8 +13,8 @@ use node_spans::span;
 use table_nodes::slots;
 use table_places::declared_types::{Declarations, set_declared, span_at};
 use table_places::places::{place_all, place_parameters};
-use type_rules::entries::{FREE, USED};
-use type_rules::kinds::{index, look, put};
+use type_rules::entries::{FREE, Kind, USED};
+use type_rules::kinds::{look, put};
 
 // What is read: the nodes of a dossier, where its parts stand among them, how many elements its given sets have, and the variables of both states, which stand
 // among the nodes too.
@@ -28,7 +28,13 @@ struct Source<'a> {
 }
 
 // A predicate that ends at a place.
-fn set_predicate(s: &Source<'_>, end: usize, names: &mut [u16], places: &mut [u16], out: &mut [u16])
+fn set_predicate(
+    s: &Source<'_>,
+    end: usize,
+    names: &mut [Kind],
+    places: &mut [u16],
+    out: &mut [u16],
+)
     requires { TableRoom s.now.nodes.now out.old }
     ensures { PredicateSet s.now.nodes.now end names.old names.new places.old places.new s.now.sizes.now out.old out.new }
 {
@@ -48,7 +54,7 @@ fn set_state(
     first: usize,
     last: usize,
     end: usize,
-    names: &mut [u16],
+    names: &mut [Kind],
     places: &mut [u16],
     out: &mut [u16],
 )
@@ -62,7 +68,7 @@ fn set_state(
 }
 
 // The two states.
-fn set_states(s: &Source<'_>, names: &mut [u16], places: &mut [u16], out: &mut [u16])
+fn set_states(s: &Source<'_>, names: &mut [Kind], places: &mut [u16], out: &mut [u16])
     requires { TableRoom s.now.nodes.now out.old }
     ensures { StatesSet s.now.nodes.now s.now.spans.now names.old names.new places.old places.new s.now.sizes.now out.old out.new }
 {
@@ -82,7 +88,7 @@ fn set_conditions(
     e1: usize,
     e2: usize,
     e3: usize,
-    names: &mut [u16],
+    names: &mut [Kind],
     places: &mut [u16],
     out: &mut [u16],
 )
@@ -105,7 +111,7 @@ fn set_side(
     s: &Source<'_>,
     end: usize,
     variables: &[u16],
-    names: &mut [u16],
+    names: &mut [Kind],
     places: &mut [u16],
     out: &mut [u16],
 )
@@ -126,7 +132,7 @@ fn title_at(nodes: &[u16], first: usize) -> usize
     if first < node::SIZE {
         return 0;
     }
-    index(look(nodes, first - node::SIZE + node::A))
+    usize::from(look(nodes, first - node::SIZE + node::A))
 }
 
 // An operation, with the variables of both states.
@@ -136,7 +142,7 @@ fn set_operation(
     last: usize,
     middle: usize,
     end: usize,
-    names: &mut [u16],
+    names: &mut [Kind],
     places: &mut [u16],
     out: &mut [u16],
 )
@@ -152,7 +158,7 @@ fn set_operation(
     hide(parameters, PLAIN, FREE, names);
 }
 
-fn set_operations(s: &Source<'_>, n: usize, names: &mut [u16], places: &mut [u16], out: &mut [u16])
+fn set_operations(s: &Source<'_>, n: usize, names: &mut [Kind], places: &mut [u16], out: &mut [u16])
     requires { (n ≤ 16) × TableRoom s.now.nodes.now out.old }
     ensures { OperationsSet s.now.nodes.now s.now.spans.now s.now.abstracts.now s.now.concretes.now n names.old places.old s.now.sizes.now out.old out.new }
 {
@@ -169,7 +175,7 @@ fn set_operations(s: &Source<'_>, n: usize, names: &mut [u16], places: &mut [u16
 }
 
 // All predicates, each with the names in its reach.
-fn set_contexts(s: &Source<'_>, n: usize, names: &mut [u16], places: &mut [u16], out: &mut [u16])
+fn set_contexts(s: &Source<'_>, n: usize, names: &mut [Kind], places: &mut [u16], out: &mut [u16])
     requires { (n ≤ 16) × TableRoom s.now.nodes.now out.old }
     ensures { ContextsSet s.now.nodes.now s.now.spans.now s.now.abstracts.now s.now.concretes.now n names.old places.old s.now.sizes.now out.old out.new }
 {
@@ -192,7 +198,7 @@ fn set_table(
     operations: usize,
     givens: usize,
     abstracts: usize,
-    names: &mut [u16],
+    names: &mut [Kind],
     places: &mut [u16],
     sizes: &[u16],
     out: &mut [u16],
@@ -239,7 +245,7 @@ pub fn write(
     operations: usize,
     givens: usize,
     abstracts: usize,
-    names: &mut [u16],
+    names: &mut [Kind],
     sizes: &[u16; SIZES],
     out: &mut [u16; node::NUMBERS],
 )

@@ -4,10 +4,10 @@ use mathlib.Core.List.{List, ◌++◌}
 use Prim.Native.Nat.{ℕ, ◌+◌, ◌-◌, ◌≤◌, ◌<◌}
 use native.Mathlib.Omega.{arith}
 use lib.ListN.{length, take, get_or}
-use Rattle.form.specs.Tree.{Term, number, name, group, prefix, binary, divided, listed, pairs, such, empty_set, empty_pairs}
-use Rattle.form.specs.Tree.{Pred, truth, falsity, negation, paren, quantified, connected, compared, member, within, related}
+use Rattle.form.specs.Tree.{Term}
+use Rattle.form.specs.Tree.{Pred}
 use Rattle.form.specs.Codes.{Numbering, term_codes, pred_codes}
-use Rattle.typing.proofs.LastNodes.{shape_t, shape_p, ends_d, ends_t, ends_i, ends_q, ends_p, CaseT, pick_t, CaseP, pick_p, shape_is, too_short}
+use Rattle.typing.proofs.LastNodes.{no-term, no-pred, ends_d, ends_t, ends_i, ends_q, ends_p, CaseT, pick_t, CaseP, pick_p, shape_is, too_short}
 use Rattle.term_sizes.specs.declared.Sized.{Sized}
 use Rattle.term_sizes.specs.SizesByNumber.{Bounds, term_bound, term_over, pred_over}
 use Rattle.term_sizes.specs.SizeWalkPromises.{Saw, DomainSized, TermSized, ItemsSized, PairsSized, PredSized}
@@ -18,33 +18,6 @@ RightT code e S r t i = (ρ : Numbering) (base : List ℕ) → take e code ≡ b
 
 abbrev pub RightP : List ℕ → ℕ → Bounds → Sized → Pred → ℕ → Type 0
 RightP code e S r p i = (ρ : Numbering) (base : List ℕ) → take e code ≡ base ++ pred_codes p i ρ → Saw r 0 (pred_over p S ρ i) (length base)
-
-in_t : (t : Term) → (1 ≤ shape_t t) × (shape_t t ≤ 10)
-unfolding shape_t
-in_t (number n) = (omega arith, omega arith)
-in_t (name x) = (omega arith, omega arith)
-in_t (group t) = in_t t
-in_t (prefix o t) = (omega arith, omega arith)
-in_t (divided o t e) = (omega arith, omega arith)
-in_t (binary o t u) = (omega arith, omega arith)
-in_t (such x g p) = (omega arith, omega arith)
-in_t (listed ts) = (omega arith, omega arith)
-in_t (pairs ts) = (omega arith, omega arith)
-in_t (empty_set g) = (omega arith, omega arith)
-in_t (empty_pairs g h) = (omega arith, omega arith)
-
-in_p : (p : Pred) → (1 ≤ shape_p p) × (shape_p p ≤ 8)
-unfolding shape_p
-in_p truth = (omega arith, omega arith)
-in_p falsity = (omega arith, omega arith)
-in_p (negation p) = (omega arith, omega arith)
-in_p (paren p) = in_p p
-in_p (connected o p q) = (omega arith, omega arith)
-in_p (compared o t u) = (omega arith, omega arith)
-in_p (member o t u) = (omega arith, omega arith)
-in_p (within o t r) = (omega arith, omega arith)
-in_p (related o t u v) = (omega arith, omega arith)
-in_p (quantified q x d p) = (omega arith, omega arith)
 
 module _ (code : List ℕ) (e : ℕ) (l : e ≤ length code) (S : Bounds) where
   pub term-from : (k : ℕ) (U : Bounds) (r : Sized) → r.start ≤ e → r.bound ≤ 2147483647 → U ≡ S → get_or code (e - 4 + 3) 0 ≡ k → CaseT k (RightT code e S r) → TermSized code e S U r
@@ -86,13 +59,7 @@ module _ (code : List ℕ) (e : ℕ) (l : e ≤ length code) (S : Bounds) where
   -- no tree ends in a node of this shape
   pub term-rest : (r : Sized) → r.start ≡ 0 → r.bound ≡ 0 → (1 ≤ get_or code (e - 4 + 3) 0 → get_or code (e - 4 + 3) 0 ≤ 10 → ⊥) → TermSized code e S S r
   term-rest r s b n =
-      record { falls = omega arith; small = omega arith; kept = refl; right = λ t i ρ base y. absurd (none t (in_t t) (shape_is code e l base (ends_t t i ρ) y)) }
-    where
-      none : (t : Term) → (1 ≤ shape_t t) × (shape_t t ≤ 10) → get_or code (e - 4 + 3) 0 ≡ shape_t t → ⊥
-      none t h q = n (omega arith) (omega arith)
+      record { falls = omega arith; small = omega arith; kept = refl; right = λ t i ρ base y. absurd (no-term t _ n (shape_is code e l base (ends_t t i ρ) y)) }
 
   pub pred-rest : (r : Sized) → r.start ≡ 0 → (1 ≤ get_or code (e - 4 + 3) 0 → get_or code (e - 4 + 3) 0 ≤ 8 → ⊥) → PredSized code e S S r
-  pred-rest r s n = record { falls = omega arith; kept = refl; right = λ p i ρ base y. absurd (none p (in_p p) (shape_is code e l base (ends_p p i ρ) y)) }
-    where
-      none : (p : Pred) → (1 ≤ shape_p p) × (shape_p p ≤ 8) → get_or code (e - 4 + 3) 0 ≡ shape_p p → ⊥
-      none p h q = n (omega arith) (omega arith)
+  pred-rest r s n = record { falls = omega arith; kept = refl; right = λ p i ρ base y. absurd (no-pred p _ n (shape_is code e l base (ends_p p i ρ) y)) }

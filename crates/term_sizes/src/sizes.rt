@@ -261,8 +261,8 @@ fn items(code: &[u16], end: usize, bounds: &mut [u16]) -> Sized
 }
 
 // The pairs of a brace, which is no number; the last two terms before the node of the last pair.
-// Form 2: `items` with `pair` for `term`. Both go on in a cycle with these; one function for both would be told at each call which of them it is to
-// call, by a switch (Form 7) or a closure that calls back into the cycle.
+// Form 2: `items` with `pair` for `term`. Tried on a small cycle of this shape: a generic function over a trait that `term` and `pair` implement; the borrow checker does not
+// cover a method of an implementation that leads back to its own cycle of calls. A switch or a closure would tell at each call which of them is meant.
 #[cycle(sizes)]
 fn pairs(code: &[u16], end: usize, bounds: &mut [u16]) -> Sized
     requires { end ≤ length code.now }

@@ -3,23 +3,38 @@ use mathlib.Core.Path.{◌≡◌, refl, sym, ap, ◌∙◌}
 use mathlib.Core.Bool.{Bool, true, false}
 use mathlib.Core.Logic.{◌⊎◌, inl, inr}
 use mathlib.Core.List.{List}
-use Prim.Native.Nat.{ℕ, ◌+◌, ◌-◌, ◌<◌, ◌≤◌}
+use Prim.Native.Nat.{ℕ, ◌+◌, ◌-◌, ◌<◌}
 use native.Mathlib.Omega.{arith}
 use lib.Dec.{leb}
 use borrow.Author.Tests.{leb-true, leb-false}
-use lib.ListN.{get_or}
+use lib.ListN.{get_or, length, take}
+use Rattle.std.proofs.lemmas.List.{get_or-take, get_or_past, length-take}
 use Rattle.text_places.specs.PlacePromises.{LineStart}
 
-pub none_below : (text : List ℕ) (k p : ℕ) → 0 < k → (get_or text (k - 1) 0 ≡ 10 → ⊥) → ((j : ℕ) → k ≤ j → j < p → get_or text j 0 ≡ 10 → ⊥)
-    → (j : ℕ) → k - 1 ≤ j → j < p → get_or text j 0 ≡ 10 → ⊥
-none_below text k p h n all j l m e = on (leb k j) refl
+-- a newline stands inside its text; before a place p it stands in the front of length p
+inside : (text : List ℕ) (j : ℕ) → get_or text j 0 ≡ 10 → j < length text
+inside text j e = on (leb (length text) j) refl
   where
-    on : (t : Bool) → leb k j ≡ t → ⊥
-    on true b = all j (leb-true k j b) m e
-    on false b = let x = leb-false k j b in let s : j ≡ k - 1 = omega arith in n (ap (λ (i : ℕ). get_or text i 0) (sym s) ∙ e)
+    on : (t : Bool) → leb (length text) j ≡ t → j < length text
+    on true b = let z = get_or_past text j 0 (leb-true (length text) j b) in absurd (omega arith)
+    on false b = leb-false (length text) j b
 
-pub line-starts : (text : List ℕ) (p k : ℕ) → 0 < k → k ≤ p → get_or text (k - 1) 0 ≡ 10 → ((j : ℕ) → k ≤ j → j < p → get_or text j 0 ≡ 10 → ⊥) → LineStart text p (k - 1 + 1)
-line-starts text p k h l e n = record { low = omega arith; behind = inr (λ j f. let s : j ≡ k - 1 = omega arith in ap (λ (i : ℕ). get_or text i 0) s ∙ e); none = λ j a m q. n j (omega arith) m q }
+in-front : (text : List ℕ) (p j : ℕ) → j < p → get_or text j 0 ≡ 10 → (j < length (take p text)) × (get_or (take p text) j 0 ≡ 10)
+in-front text p j l e = (omega (arith, length-take p text, inside text j e), get_or-take p text j 0 l ∙ e)
+
+-- behind the last newline before a place, or where there is none
+pub behind-last : (text : List ℕ) (p i : ℕ) → i < length (take p text) → get_or (take p text) i 0 ≡ 10
+    → ((j : ℕ) → i < j → j < length (take p text) → get_or (take p text) j 0 ≡ 10 → ⊥) → LineStart text p (i + 1)
+behind-last text p i l e n =
+    let m : i < p = omega (arith, length-take p text) in
+    record {
+      low = omega arith;
+      behind = inr (λ j f. let s : j ≡ i = omega arith in ap (λ (k : ℕ). get_or text k 0) s ∙ sym (get_or-take p text i 0 m) ∙ e);
+      none = λ j a b q. let h = in-front text p j b q in n j (omega arith) h.0 h.1;
+    }
+
+pub no-line : (text : List ℕ) (p : ℕ) → ((j : ℕ) → j < length (take p text) → get_or (take p text) j 0 ≡ 10 → ⊥) → LineStart text p 0
+no-line text p n = record { low = omega arith; behind = inl refl; none = λ j a b q. let h = in-front text p j b q in n j h.0 h.1 }
 
 not-behind : {text : List ℕ} {p r q : ℕ} → LineStart text p r → LineStart text p q → r < q → ⊥
 not-behind {text = text} {p = p} {r = r} {q = q} a b l = on b.behind

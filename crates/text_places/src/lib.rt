@@ -1,10 +1,10 @@
 // Where a byte of a text stands: its line and column, where that line begins, where the symbol ends that begins there.
 #![tactic(auto)]
 
-ghost use Rattle.std.specs.Prelude.{◌≡◌, ◌+◌, ◌≤◌, take, drop, min, ◌==◌, ◌||◌};
+ghost use Rattle.std.specs.Prelude.{◌≡◌, ◌+◌, ◌≤◌, take, drop, ◌==◌, ◌||◌};
 ghost use Rattle.text_places.specs.PlacePromises.{newlines, LineStart};
 
-use lexical::classes::{byte_at, run_from};
+use lexical::classes::{at_or, run_from};
 use lexical::marks::mark_of;
 use lexical::words::ending_of;
 use lexical::{Ending, Token};
@@ -13,9 +13,6 @@ const NEWLINE: u8 = b'\n';
 
 // The number of the first line, and of the first column.
 const FIRST: usize = 1;
-
-// The greatest place that is counted on; it is behind every text.
-const FARTHEST: usize = 65535;
 
 // Does a byte part symbols?
 pub fn is_blank(b: u8) -> bool
@@ -57,24 +54,15 @@ pub fn line_of(text: &[u8], p: usize) -> usize
 pub fn line_start(text: &[u8], p: usize) -> usize
     ensures { LineStart text.now p result }
 {
-    for k in (0..p).rev() {
-        if byte_at(text, k) == NEWLINE {
-            return k + 1;
-        }
+    match before(text, p).iter().rposition(|b| *b == NEWLINE) {
+        Some(k) => k + 1,
+        None => 0,
     }
-    0
-}
-
-// A place of a text: what is farther off counts as this.
-fn place(p: usize) -> usize
-    ensures { result ≡ min p 65535 }
-{
-    p.min(FARTHEST)
 }
 
 // The column of a byte.
 pub fn column_of(text: &[u8], p: usize) -> usize {
-    place(p - line_start(text, p)) + FIRST
+    (p - line_start(text, p)).saturating_add(FIRST)
 }
 
 // How many bytes the mark has that three bytes begin with; a byte that begins none is shown alone.
@@ -89,21 +77,24 @@ fn mark_length(a: u8, b: u8, e: u8) -> usize {
 
 // Behind the last byte of the symbol that begins at a byte.
 pub fn symbol_end(text: &[u8], p: usize) -> usize
-    ensures { min p 65535 ≤ result }
+    ensures { p ≤ result }
 {
-    let q = place(p);
-    let n = place(run_from(text, q));
+    let n = run_from(text, p);
     if n == 0 {
-        return q + place(mark_length(byte_at(text, q), byte_at(text, q + 1), byte_at(text, q + 2)));
+        return p.saturating_add(mark_length(
+            at_or(text, p, 0),
+            at_or(text, p.saturating_add(1), 0),
+            at_or(text, p.saturating_add(2), 0),
+        ));
     }
-    if ending_of(byte_at(text, q + n)) == Ending::Plain {
-        return q + n;
+    let end = p.saturating_add(n);
+    if ending_of(at_or(text, end, 0)) == Ending::Plain {
+        return end;
     }
-    q + n + 1
+    end.saturating_add(1)
 }
 
 // Behind the last letter or digit of the run that begins at a byte.
 pub fn run_end(text: &[u8], p: usize) -> usize {
-    let q = place(p);
-    q + place(run_from(text, q))
+    p.saturating_add(run_from(text, p))
 }

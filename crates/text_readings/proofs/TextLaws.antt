@@ -82,14 +82,13 @@ module _ {text codes₀ starts₀ values₀ nodes₀ codes starts values nodes s
       let j : s.numbers ≡ length (dossier_codes d (numbering text)) = numbers-of i in
       omega arith
 
-  held : {m : ℕ} (d : Dossier) {old labels : List ℕ} → length nodes ≡ 16384 → length table₀ ≡ 16384 → read text ≡ reading d → m ≡ length (dossier_codes d (numbering text))
+  held : {m : ℕ} (d : Dossier) {old labels : List ℕ} → length nodes ≡ 16384 → length table₀ ≡ 16384 → length table ≡ 16384 → read text ≡ reading d → m ≡ length (dossier_codes d (numbering text))
       → Written text d spans₀ table₀ groups₀ rows₀ firsts₀ spans table groups rows firsts → Gathered nodes starts spans table groups m old labels
       → Held text table rows firsts groups labels d
-  held {m} d {old} {labels} n l h j w g =
+  held {m} d {old} {labels} n l t h j w g =
       let o = nodes-of q.parsed d n h (read_is q.parses) in
       let s : Stands text starts nodes o.symbols_count m d = subst (λ (k : ℕ). Stands text starts nodes o.symbols_count k d) (sym j) o.stands in
       let b = s.short in
-      let t = g.table_long in
       record {
         arrays = read-reading text nodes spans₀ table₀ groups₀ rows₀ firsts₀ spans table groups rows firsts d m h s.inside s.nodes_are b (omega arith) (omega arith) w;
         labelled =
@@ -104,14 +103,14 @@ module _ {text codes₀ starts₀ values₀ nodes₀ codes starts values nodes s
       let b = s.short in
       c.exact d (numbering text) s.inside s.nodes_are (read-gives text d h).variables.operations (omega arith)
 
-  read_as : {s : Structure} {k : ℕ} {old labels : List ℕ} (x : definition.Reading) → read text ≡ x → Leaves x → length table₀ ≡ 16384 → r ≡ Ok s
+  read_as : {s : Structure} {k : ℕ} {old labels : List ℕ} (x : definition.Reading) → read text ≡ x → Leaves x → length table₀ ≡ 16384 → length table ≡ 16384 → r ≡ Ok s
       → Gathered nodes starts spans table groups s.numbers old labels → Counted nodes s.numbers k → ReadAs text table rows firsts groups labels x (Ok k)
   unfolding ReadAs
-  read_as (refusal f) h a l e g c = absurd (as-is (refusal f) e a).0
-  read_as {s} (reading d) h a l e g c =
+  read_as (refusal f) h a l t e g c = absurd (as-is (refusal f) e a).0
+  read_as {s} (reading d) h a l t e g c =
       let i = sym e ∙ a.0 in
       let j : s.numbers ≡ length (dossier_codes d (numbering text)) = numbers-of i in
-      (ap Ok (counted d h j c), held d c.long l h j a.1 g)
+      (ap Ok (counted d h j c), held d c.long l t h j a.1 g)
 
   -- a refusal
   pub text-refused : {f : refusals.Fault} (labels : List ℕ) → r ≡ Err f → ReadsText text table rows firsts groups labels (Err f)
@@ -121,6 +120,6 @@ module _ {text codes₀ starts₀ values₀ nodes₀ codes starts values nodes s
   pub nodes-few : {s : Structure} → length nodes ≡ 16384 → r ≡ Ok s → s.numbers ≤ 16384
   nodes-few l e = few-as (read text) refl q.answers l e
 
-  pub text-read : {s : Structure} {k : ℕ} {old labels : List ℕ} → length table₀ ≡ 16384 → r ≡ Ok s → Gathered nodes starts spans table groups s.numbers old labels → Counted nodes s.numbers k
+  pub text-read : {s : Structure} {k : ℕ} {old labels : List ℕ} → length table₀ ≡ 16384 → length table ≡ 16384 → r ≡ Ok s → Gathered nodes starts spans table groups s.numbers old labels → Counted nodes s.numbers k
       → ReadsText text table rows firsts groups labels (Ok k)
-  text-read l e g c = record { answer = read_as (read text) refl q.answers l e g c }
+  text-read l t e g c = record { answer = read_as (read text) refl q.answers l t e g c }

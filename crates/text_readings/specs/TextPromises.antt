@@ -46,7 +46,6 @@ pub record Counted (nodes : List ℕ) (m r : ℕ) : Type 0 where
 
 -- the labels, one kind behind another
 pub record Gathered (nodes starts places table groups : List ℕ) (m : ℕ) (old new : List ℕ) : Type 0 where
-  pub table_long : length table ≡ 16384
   pub first : List ℕ
   pub second : List ℕ
   pub elements : ElementsGathered nodes starts m old first

@@ -1,7 +1,7 @@
 // A text read for the calls and the report: its fault, or the arrays of its dossier.
 #![tactic(auto)]
 
-ghost use Rattle.std.specs.Prelude.{◌≡◌, ◌≤◌, length, replicate};
+ghost use Rattle.std.specs.Prelude.{◌≡◌, ◌≤◌, replicate};
 ghost use Rattle.text_readings.specs.TextPromises.{ReadsText, Lent, Counted, Gathered};
 
 use form::node::NUMBERS;
@@ -14,24 +14,17 @@ use search_groups::Dossier;
 use search_groups::conjuncts::FIRSTS;
 use search_groups::groups::GROUPS;
 
-// Does nothing: the length of an array is known behind a call that takes it as a slice.
-fn measured(numbers: &[u16])
-    requires { length numbers.now ≡ 16384 }
-    ensures { length numbers.now ≡ 16384 }
-{}
-
 // How many operations the dossier has whose nodes these are.
 fn operations(nodes: &[u16; NUMBERS], m: usize) -> usize
     ensures { Counted nodes.now m result }
 {
     let mut places = [0u16; span::COUNT];
-    measured(nodes);
     spans(nodes, m, &mut places)
 }
 
 // The labels of the dossier whose nodes these are.
-fn gather(x: &Sources<'_>, m: usize, labels: &mut [u16])
-    requires { (m ≤ 16384) × (length x.now.table.now ≡ 16384) × (length labels.old ≡ 720) }
+fn gather(x: &Sources<'_>, m: usize, labels: &mut [u16; LABELS])
+    requires { m ≤ 16384 }
     ensures { Gathered x.now.nodes.now x.now.starts.now x.now.spans.now x.now.table.now x.now.groups.now m labels.old labels.new }
 {
     gather_elements(x, m, labels);
@@ -71,7 +64,6 @@ impl Arrays {
         let mut values = [0u16; SYMBOLS];
         let mut nodes = [0u16; NUMBERS];
         let mut places = [0u16; span::COUNT];
-        measured(&self.table);
         let answer = read(
             text,
             &mut codes,

@@ -6,11 +6,12 @@ ghost use Rattle.std.specs.Prelude.{length, take, min};
 ghost use Rattle.tried_texts.specs.TrialPromises.{AnswerOf, instead};
 
 use bounded_texts::BoundedText;
+use lexical::bounds::TEXT_BYTES;
 use refusals::Fault;
 use text_readings::Arrays;
 
 // The longest text, and one byte more: a text that is longer is refused by these alone.
-pub const TRIAL: usize = 32769;
+pub const TRIAL: usize = TEXT_BYTES + 1;
 
 // The fault of a text, if it is not read.
 pub fn answer_of(text: &[u8]) -> Option<Fault>

@@ -19,6 +19,7 @@ use Rattle.std.proofs.lemmas.List.Folds.{list_all_at}
 use Rattle.refusals.specs.Refusals as definition
 use Rattle.refusals.specs.Refusals.{number_of}
 use Rattle.refusals.specs.RefusalNames.{refusal_is}
+use Rattle.refusals.proofs.RefusalNumbers.{small-number, number-decides}
 use Rattle.refusals.specs.declared.Fault.{Fault}
 use Rattle.refusals.specs.declared.Refusal.{Refusal}
 use Rattle.refusals.specs.declared.Refusal.TheVariants.{LongText, UnlistedSymbol, ManySymbols, NoDossier, Deep, ManyDeclared, HeadingDiffers, NameInUse, NameUnknown, TypesMisfit, WideType, ManyBindings, LargeSize, ZeroDivisor}
@@ -94,10 +95,6 @@ in-order r s =
     (of_all (λ (y : Refusal). same (is_lt (RefusalOrder.cmp-value.it r y)) (ltb (number r) (number y)))
     (of_all (λ (x : Refusal). list_all (λ (y : Refusal). same (is_lt (RefusalOrder.cmp-value.it x y)) (ltb (number x) (number y))) all_refusals) refl r) s)
 
-number-small : (r : Refusal) → number r < key_room
-unfolding all_refusals number number_of
-number-small r = ltb-true (number r) 32 (of_all (λ (x : Refusal). ltb (number x) 32) refl r)
-
 -- ---- faults by their keys ----
 
 equal-places : (p q m n : ℕ) → p ≡ q → ltb m n ≡ ltb (key p m) (key q n)
@@ -113,10 +110,10 @@ unfolding number
 keys-in-order f g = on (nat_cmp f.place g.place) (ranks f.place g.place)
   where
     m : number_of (refusal_is f.refusal) < 32
-    m = number-small f.refusal
+    m = small-number (refusal_is f.refusal)
 
     n : number_of (refusal_is g.refusal) < 32
-    n = number-small g.refusal
+    n = small-number (refusal_is g.refusal)
 
     on : (o : Ordering) → MatchOrdering o (f.place < g.place) (f.place ≡ g.place) (g.place < f.place)
         → is_lt (ordering_then o (RefusalOrder.cmp-value.it f.refusal g.refusal)) ≡ ltb (fault_key (Some f)) (fault_key (Some g))
@@ -160,50 +157,6 @@ pub judged-first : (a b : Option Fault) (ok : Bool) (k : ℕ) → fault_key b �
 judged-first a b ok k e = first-key a b ∙ ap (inside_key (fault_key a)) e
 
 -- ---- no two faults have one key ----
-
-by_number : List definition.Refusal
-by_number =
-    definition.long_text ∷ definition.long_text ∷ definition.unlisted_symbol ∷ definition.many_symbols ∷ definition.no_dossier ∷ definition.deep ∷ definition.many_declared
-    ∷ definition.heading_differs ∷ definition.name_in_use ∷ definition.name_unknown ∷ definition.types_misfit ∷ definition.wide_type ∷ definition.many_bindings
-    ∷ definition.large_size ∷ definition.zero_divisor ∷ definition.advance_range ∷ definition.short_bytes ∷ definition.short_bytes ∷ definition.short_bytes
-    ∷ definition.short_bytes ∷ definition.short_bytes ∷ definition.nothing_held ∷ definition.something_held ∷ definition.check_finished ∷ definition.no_counterexample ∷ []
-
-numbered : ℕ → definition.Refusal
-numbered n = get_or by_number n definition.long_text
-
--- a refusal is told by its number, which is small
-record Told (r : definition.Refusal) : Type 0 where
-  small : number_of r < key_room
-  back : numbered (number_of r) ≡ r
-
-told : (r : definition.Refusal) → Told r
-unfolding number_of numbered by_number
-told definition.long_text = record { small = omega arith; back = refl }
-told definition.unlisted_symbol = record { small = omega arith; back = refl }
-told definition.many_symbols = record { small = omega arith; back = refl }
-told definition.no_dossier = record { small = omega arith; back = refl }
-told definition.deep = record { small = omega arith; back = refl }
-told definition.many_declared = record { small = omega arith; back = refl }
-told definition.heading_differs = record { small = omega arith; back = refl }
-told definition.name_in_use = record { small = omega arith; back = refl }
-told definition.name_unknown = record { small = omega arith; back = refl }
-told definition.types_misfit = record { small = omega arith; back = refl }
-told definition.wide_type = record { small = omega arith; back = refl }
-told definition.many_bindings = record { small = omega arith; back = refl }
-told definition.large_size = record { small = omega arith; back = refl }
-told definition.zero_divisor = record { small = omega arith; back = refl }
-told definition.advance_range = record { small = omega arith; back = refl }
-told definition.short_bytes = record { small = omega arith; back = refl }
-told definition.nothing_held = record { small = omega arith; back = refl }
-told definition.something_held = record { small = omega arith; back = refl }
-told definition.check_finished = record { small = omega arith; back = refl }
-told definition.no_counterexample = record { small = omega arith; back = refl }
-
-pub small-number : (r : definition.Refusal) → number_of r < key_room
-small-number r = (told r).small
-
-number-decides : (r s : definition.Refusal) → number_of r ≡ number_of s → r ≡ s
-number-decides r s e = sym (told r).back ∙ ap numbered e ∙ (told s).back
 
 place-decides : (p q m n : ℕ) → m < key_room → n < key_room → key p m ≡ key q n → (p ≡ q) × (m ≡ n)
 place-decides p q m n h k e = (omega arith, omega arith)

@@ -9,6 +9,7 @@ use Rattle.refusals.specs.RefusalNames.{fault_is}
 use Rattle.refusals.specs.declared.Fault as code
 use Rattle.std.specs.Prelude as rust
 use Rattle.std.specs.Prelude.{None, Some}
+use Rattle.std.specs.Bool.{then_some}
 use Rattle.form.specs.Tree.{Prefix, negate, size, dom, ran, Operator, plus, minus, union, without, times, inter, Comparison, equals, differs, less, at_most, Domain, given_set, range}
 use Rattle.form.specs.Tree.{Term, number, name, group, prefix, binary, divided, listed, pairs, such, empty_set, empty_pairs, Items, only, also, Pairs, only_pair, also_pair}
 use Rattle.form.specs.Tree.{Pred, truth, falsity, negation, paren, quantified, connected, compared, member, within, related}
@@ -66,6 +67,16 @@ dom_of k = cond (is_pairs k) (32 + (k - 64) / 8) 0
 
 unfoldable pub ran_of : ℕ → ℕ
 ran_of k = cond (is_pairs k) (32 + (k - 64) % 8) 0
+
+-- which given set it is; of which one it is an element; of which two elements it has pairs
+abbrev pub given_in : ℕ → rust.Option ℕ
+given_in k = then_some (is_given k) (k - 8)
+
+abbrev pub element_in : ℕ → rust.Option ℕ
+element_in k = then_some (is_element k) (k - 16)
+
+abbrev pub pairs_in : ℕ → rust.Option (ℕ × ℕ)
+pairs_in k = then_some (is_pairs k) ((k - 64) / 8, (k - 64) % 8)
 
 unfoldable pub prefix_fits : Prefix → ℕ → Bool
 prefix_fits negate k = is_number k

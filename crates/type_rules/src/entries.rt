@@ -1,36 +1,202 @@
-// What a name is, by its number in the table of names (specs/TypesByNumber.antt).
-// Form 1: the table has a fixed length and is lent by the caller. The types of terms are numbered so as well; one number stands for no type, since a
-// bound name may have none and stands in that table.
+// What a name is in the table of names, and the type of a term: both are a `Kind`, by numbers in contracts (specs/TypesByNumber.antt).
+ghost use Rattle.std.specs.Prelude.{◌≡◌, ◌&&◌, ◌+◌, ◌*◌, ◌-◌, ◌/◌, ◌%◌, ◌≤◌, ◌<◌};
+ghost use Rattle.type_rules.specs.TypesByNumber.{is_free, is_number, is_given, is_element, is_set, is_pairs, in_reach, element_of, set_of, pair_of, dom_of, ran_of, given_in, element_in, pairs_in};
+
 use lexical::bounds;
+use std::marker::Model;
 
-// A name that is not in use; no type.
-pub const FREE: u16 = 0;
+// The numbers: 0 for a name that is not in use, and no type; 1 a number; 2 in use and out of reach; from each of the four below on, a row of as many as
+// there are given sets: these; their elements; sets of them; pairs, which have a row for each set.
+#[derive(Clone, Copy, PartialEq, Eq, Drop)]
+pub struct Kind {
+    code: u16,
+}
 
-pub const NONE: u16 = 0;
+impl Model for Kind {
+    ghost use Rattle.std.specs.Prelude.{ℕ};
 
-// A number.
-pub const NUMBER: u16 = 1;
+    ghost Value = { ℕ };
 
-// In use, and out of reach.
-pub const USED: u16 = 2;
+    ghost view = { λ k. k.code };
 
-// The first given set; an element of it; a set over it; a set of pairs of its elements.
-pub const GIVEN: u16 = 8;
+    ghost inverse = { λ n. record { code = n } };
+}
 
-pub const ELEMENT: u16 = 16;
+// Where the rows begin.
+// Form 1: the numbers are seen in this file alone; of which two given sets a type has pairs is computed from its number, and the number from them.
+const GIVEN: u16 = 8;
 
-pub const SET: u16 = 32;
+const ELEMENT: u16 = 16;
 
-pub const PAIRS: u16 = 64;
+const SET: u16 = 32;
 
-// How many given sets there are at most, each with a number of its own in each of these rows; the pairs have a row for each.
+const PAIRS: u16 = 64;
+
+// How many given sets there are at most.
 pub const ROW: u16 = bounds::GIVEN_SETS as u16;
 
-// The same as indices, which a table of sizes is looked up by.
-pub const FIRST_GIVEN: usize = GIVEN as usize;
+// From a given set to its elements, and from an element to the sets over its given set.
+const TO_ELEMENT: u16 = ELEMENT - GIVEN;
 
-pub const FIRST_ELEMENT: usize = ELEMENT as usize;
+const TO_SET: u16 = SET - ELEMENT;
 
-pub const FIRST_PAIRS: usize = PAIRS as usize;
+// A name that is not in use.
+pub const FREE: Kind = Kind { code: 0 };
 
-pub const ROW_SETS: usize = ROW as usize;
+// No type.
+pub const NONE: Kind = FREE;
+
+pub const NUMBER: Kind = Kind { code: 1 };
+
+// In use, and out of reach.
+pub const USED: Kind = Kind { code: 2 };
+
+impl Kind {
+    pub fn is_free(self) -> bool
+        ensures { result ≡ is_free self }
+    {
+        self == FREE
+    }
+
+    pub fn is_number(self) -> bool
+        ensures { result ≡ is_number self }
+    {
+        self == NUMBER
+    }
+
+    pub fn is_given(self) -> bool
+        ensures { result ≡ is_given self }
+    {
+        GIVEN <= self.code && self.code < ELEMENT
+    }
+
+    pub fn is_element(self) -> bool
+        ensures { result ≡ is_element self }
+    {
+        ELEMENT <= self.code && self.code < SET
+    }
+
+    // A set, of elements or of pairs.
+    pub fn is_set(self) -> bool
+        ensures { result ≡ is_set self }
+    {
+        SET <= self.code
+    }
+
+    pub fn is_pairs(self) -> bool
+        ensures { result ≡ is_pairs self }
+    {
+        PAIRS <= self.code
+    }
+
+    // A name of this kind stands for a value.
+    pub fn in_reach(self) -> bool
+        ensures { result ≡ in_reach self }
+    {
+        self.is_number() || ELEMENT <= self.code
+    }
+
+    // Elements of a given set; sets of such elements; sets of pairs of two elements; the sets of the two sides of pairs. Others are of no type.
+    pub fn element_of(self) -> Kind
+        ensures { result ≡ element_of self }
+    {
+        if self.is_given() {
+            return Kind {
+                code: self.code + TO_ELEMENT,
+            };
+        }
+        NONE
+    }
+
+    // Form 2: `element_of` with another test and another step; one function for both would be handed the two.
+    pub fn set_of(self) -> Kind
+        ensures { result ≡ set_of self }
+    {
+        if self.is_element() {
+            return Kind {
+                code: self.code + TO_SET,
+            };
+        }
+        NONE
+    }
+
+    pub fn pair_with(self, second: Kind) -> Kind
+        ensures { result ≡ pair_of self second }
+    {
+        if self.is_element() && second.is_element() {
+            return Kind {
+                code: PAIRS + ROW * (self.code - ELEMENT) + (second.code - ELEMENT),
+            };
+        }
+        NONE
+    }
+
+    pub fn dom_of(self) -> Kind
+        ensures { result ≡ dom_of self }
+    {
+        if self.is_pairs() {
+            return Kind {
+                code: SET + (self.code - PAIRS) / ROW,
+            };
+        }
+        NONE
+    }
+
+    pub fn ran_of(self) -> Kind
+        ensures { result ≡ ran_of self }
+    {
+        if self.is_pairs() {
+            return Kind {
+                code: SET + (self.code - PAIRS) % ROW,
+            };
+        }
+        NONE
+    }
+
+    // Which given set it is; of which one it is an element; of which two elements it has pairs.
+    pub fn given(self) -> Option<u16>
+        ensures { result ≡ given_in self }
+    {
+        self.is_given().then_some(self.code.saturating_sub(GIVEN))
+    }
+
+    pub fn element(self) -> Option<u16>
+        ensures { result ≡ element_in self }
+    {
+        self.is_element()
+            .then_some(self.code.saturating_sub(ELEMENT))
+    }
+
+    pub fn pairs(self) -> Option<(u16, u16)>
+        ensures { result ≡ pairs_in self }
+    {
+        let x = self.code.saturating_sub(PAIRS);
+        self.is_pairs().then_some((x / ROW, x % ROW))
+    }
+
+    // How far behind the first given set it stands; what stands in front of that one has 0.
+    pub fn from_first_given(self) -> u16
+        ensures { result ≡ self - 8 }
+    {
+        self.code.saturating_sub(GIVEN)
+    }
+}
+
+// The given set g, counted from 1, and an element of it.
+pub fn given_set(g: u16) -> Kind
+    requires { g ≤ 8 }
+    ensures { result ≡ 7 + g }
+{
+    Kind {
+        code: GIVEN - 1 + g,
+    }
+}
+
+pub fn element_of_set(g: u16) -> Kind
+    requires { g ≤ 8 }
+    ensures { result ≡ 15 + g }
+{
+    Kind {
+        code: ELEMENT - 1 + g,
+    }
+}

@@ -1,133 +1,54 @@
-// What names and terms are, by numbers (specs/TypesByNumber.antt).
-ghost use Rattle.std.specs.Prelude.{◌≡◌, ◌&&◌, ◌+◌, ◌≤◌, ◌<◌, length, set};
+// Which types fit, and the faults where they do not (specs/TypesByNumber.antt).
+ghost use Rattle.std.specs.Prelude.{◌≡◌, ◌&&◌, ◌+◌, ◌≤◌, ◌<◌, length, get_or, set};
 ghost use Rattle.refusals.specs.Refusals.{number_of};
 ghost use Rattle.refusals.specs.RefusalNames.{refusal_is};
 ghost use Rattle.type_rules.specs.Passes.{refused_key};
-ghost use Rattle.type_rules.specs.TypesByNumber.{entry, is_given, is_element, in_reach, element_of, set_of, pair_of, dom_of, ran_of, member_fits, related_fits, shared, key, fault_key, unless_key, lesser, judged_key, inside_key, is_free, range_fits, size_in, product_fits, over_key, brace_key, NodeAt};
+ghost use Rattle.type_rules.specs.TypesByNumber.{entry, member_fits, related_fits, shared, key, fault_key, unless_key, lesser, judged_key, inside_key, is_free, range_fits, size_in, product_fits, over_key, brace_key, NodeAt};
 
+use crate::entries::Kind;
 use crate::{Node, entries};
 use form::node;
 use lexical::bounds;
+use lexical::classes::at_or;
 use refusals::{Fault, Refusal};
 
-// Form 4: `usize::from` with the bound that sums of indices need.
-pub fn index(x: u16) -> usize
-    ensures { (result ≡ x) × (result < 65536) }
-{
-    usize::from(x)
-}
-
-// What the name x is.
-// Form 1: behind the end of the table a name is free, which the code's tests say of it; with an Option each of them would turn none back into that.
-pub fn look(names: &[u16], x: usize) -> u16
+// What the name x is; behind the end of the table it is free.
+pub fn entry(names: &[Kind], x: usize) -> Kind
     ensures { result ≡ entry names.now x }
 {
-    names.get(x).copied().unwrap_or(0)
+    at_or(names, x, entries::FREE)
 }
 
-pub fn put(names: &mut [u16], x: usize, k: u16)
-    ensures { names.new ≡ set names.old x k }
+// The number at a place.
+// Form 1: behind the end it is 0, which the walks take as they find it; with an Option each of them would turn none back into that.
+pub fn look(numbers: &[u16], x: usize) -> u16
+    ensures { result ≡ get_or numbers.now x 0 }
 {
-    if x < names.len() {
-        names[x] = k;
+    at_or(numbers, x, 0)
+}
+
+pub fn put<T: Copy>(table: &mut [T], x: usize, k: T)
+    ensures { table.new ≡ set table.old x k }
+{
+    if x < table.len() {
+        table[x] = k;
     }
 }
 
-pub fn is_given(k: u16) -> bool
-    ensures { result ≡ is_given k }
-{
-    entries::GIVEN <= k && k < entries::ELEMENT
-}
-
-pub fn is_element(k: u16) -> bool
-    ensures { result ≡ is_element k }
-{
-    entries::ELEMENT <= k && k < entries::SET
-}
-
-pub fn in_reach(k: u16) -> bool
-    ensures { result ≡ in_reach k }
-{
-    k == entries::NUMBER || entries::ELEMENT <= k
-}
-
-// From a given set to its elements, and from an element to the sets over its given set.
-const TO_ELEMENT: u16 = entries::ELEMENT - entries::GIVEN;
-
-const TO_SET: u16 = entries::SET - entries::ELEMENT;
-
-pub fn element_of(k: u16) -> u16
-    ensures { result ≡ element_of k }
-{
-    if is_given(k) {
-        return k + TO_ELEMENT;
-    }
-    entries::NONE
-}
-
-pub fn set_of(k: u16) -> u16
-    ensures { result ≡ set_of k }
-{
-    if is_element(k) {
-        return k + TO_SET;
-    }
-    entries::NONE
-}
-
-// Two elements; two given sets.
-pub fn both_elements(k: u16, l: u16) -> bool
-    ensures { result ≡ (is_element k && is_element l) }
-{
-    is_element(k) && is_element(l)
-}
-
-pub fn both_given(k: u16, l: u16) -> bool
-    ensures { result ≡ (is_given k && is_given l) }
-{
-    is_given(k) && is_given(l)
-}
-
-pub fn pair_of(k: u16, l: u16) -> u16
-    ensures { result ≡ pair_of k l }
-{
-    if both_elements(k, l) {
-        return entries::PAIRS + entries::ROW * (k - entries::ELEMENT) + (l - entries::ELEMENT);
-    }
-    entries::NONE
-}
-
-pub fn dom_of(k: u16) -> u16
-    ensures { result ≡ dom_of k }
-{
-    if entries::PAIRS <= k {
-        return entries::SET + (k - entries::PAIRS) / entries::ROW;
-    }
-    entries::NONE
-}
-
-pub fn ran_of(k: u16) -> u16
-    ensures { result ≡ ran_of k }
-{
-    if entries::PAIRS <= k {
-        return entries::SET + (k - entries::PAIRS) % entries::ROW;
-    }
-    entries::NONE
-}
-
-pub fn member_fits(k: u16, l: u16) -> bool
+pub fn member_fits(k: Kind, l: Kind) -> bool
     ensures { result ≡ member_fits k l }
 {
-    is_element(k) && k + TO_SET == l
+    k.is_element() && k.set_of() == l
 }
 
-pub fn related_fits(k: u16, l: u16, m: u16) -> bool
+pub fn related_fits(k: Kind, l: Kind, m: Kind) -> bool
     ensures { result ≡ related_fits k l m }
 {
-    both_elements(k, l) && pair_of(k, l) == m
+    k.is_element() && l.is_element() && k.pair_with(l) == m
 }
 
 // What two items of a brace have in common.
-pub fn shared_kind(k: u16, l: u16) -> u16
+pub fn shared_kind(k: Kind, l: Kind) -> Kind
     ensures { result ≡ shared k l }
 {
     if k == l {
@@ -173,10 +94,10 @@ pub fn judge(fits: bool, i: u16, refusal: Refusal, parts: Option<Fault>) -> Opti
 }
 
 // The fault of a bound name, where it stands behind the symbol i: `old` is what it was, `over` the fault of what it is bound over, `body` that of its reach.
-pub fn bound_fault(i: u16, old: u16, over: Option<Fault>, body: Option<Fault>) -> Option<Fault>
+pub fn bound_fault(i: u16, old: Kind, over: Option<Fault>, body: Option<Fault>) -> Option<Fault>
     ensures { fault_key result ≡ inside_key (lesser (unless_key (is_free old) (key (i + 1) 8)) (fault_key over)) (fault_key body) }
 {
-    let here = unless(old == entries::FREE, usize::from(i) + 1, Refusal::NameInUse);
+    let here = unless(old.is_free(), usize::from(i) + 1, Refusal::NameInUse);
     lesser_of(here, over).or(body)
 }
 
@@ -202,30 +123,29 @@ pub fn product_fits(sizes: &[u16], g: usize, h: usize) -> bool
 }
 
 // The fault at the place i of pairs over two names, by what these are.
-pub fn over_fault(sizes: &[u16], k: u16, l: u16, i: usize) -> Option<Fault>
+pub fn over_fault(sizes: &[u16], k: Kind, l: Kind, i: usize) -> Option<Fault>
     ensures { fault_key result ≡ over_key sizes.now k l i }
 {
-    if both_given(k, l) {
-        let fits = product_fits(
-            sizes,
-            usize::from(k) - entries::FIRST_GIVEN,
-            usize::from(l) - entries::FIRST_GIVEN,
-        );
-        return unless(fits, i, Refusal::WideType);
+    match (k.given(), l.given()) {
+        (Some(g), Some(h)) => {
+            let fits = product_fits(sizes, usize::from(g), usize::from(h));
+            unless(fits, i, Refusal::WideType)
+        }
+        _ => None,
     }
-    None
 }
 
 // The fault of a brace of pairs of the type k, whose parts have none.
-pub fn brace_fault(sizes: &[u16], k: u16, i: u16) -> Option<Fault>
+pub fn brace_fault(sizes: &[u16], k: Kind, i: u16) -> Option<Fault>
     ensures { fault_key result ≡ brace_key sizes.now k i }
 {
-    if entries::PAIRS <= k {
-        let x = usize::from(k) - entries::FIRST_PAIRS;
-        let fits = product_fits(sizes, x / entries::ROW_SETS, x % entries::ROW_SETS);
-        return unless(fits, usize::from(i), Refusal::WideType);
+    match k.pairs() {
+        Some((g, h)) => {
+            let fits = product_fits(sizes, usize::from(g), usize::from(h));
+            unless(fits, usize::from(i), Refusal::WideType)
+        }
+        None => unless(false, usize::from(i), Refusal::TypesMisfit),
     }
-    unless(false, usize::from(i), Refusal::TypesMisfit)
 }
 
 // The place of the node that ends at `end`, and its two numbers.

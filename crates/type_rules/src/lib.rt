@@ -1,6 +1,7 @@
 // Types and faults by numbers: which types fit, and which fault stands where they do not.
 #![tactic(auto)]
 
+use crate::entries::Kind;
 use refusals::Fault;
 
 pub mod entries;
@@ -9,7 +10,7 @@ pub mod kinds;
 // The type of a tree, its least fault, with the place by symbols, and where its nodes begin.
 #[derive(Clone, Copy)]
 pub struct Seen {
-    pub kind: u16,
+    pub kind: Kind,
     pub fault: Option<Fault>,
     pub start: usize,
 }

@@ -249,6 +249,13 @@ in_p (within o t r) = (omega arith, omega arith)
 in_p (related o t u v) = (omega arith, omega arith)
 in_p (quantified q x d p) = (omega arith, omega arith)
 
+-- no tree ends in a node of another shape
+pub no-term : (t : Term) (k : ℕ) → (1 ≤ k → k ≤ 10 → ⊥) → k ≡ shape_t t → ⊥
+no-term t k n q = let h = in_t t in n (omega arith) (omega arith)
+
+pub no-pred : (p : Pred) (k : ℕ) → (1 ≤ k → k ≤ 8 → ⊥) → k ≡ shape_p p → ⊥
+no-pred p k n q = let h = in_p p in n (omega arith) (omega arith)
+
 -- none of the shapes of predicates; none of those of terms
 pub eight : (k : ℕ) → (k ≡ 1 → ⊥) → (k ≡ 2 → ⊥) → (k ≡ 3 → ⊥) → (k ≡ 4 → ⊥) → (k ≡ 5 → ⊥) → (k ≡ 6 → ⊥) → (k ≡ 7 → ⊥) → (k ≡ 8 → ⊥) → 1 ≤ k → k ≤ 8 → ⊥
 eight zero a b c d f g h j p q = omega arith
@@ -309,13 +316,7 @@ module _ (code : List ℕ) (e : ℕ) (l : e ≤ length code) (T : Names) (z : Si
 
   -- no tree ends in a node of this shape
   pub term-rest : (r : Seen) → r.start ≡ 0 → (1 ≤ get_or code (e - 4 + 3) 0 → get_or code (e - 4 + 3) 0 ≤ 10 → ⊥) → TermSeen code e T T z r
-  term-rest r s n = record { falls = omega arith; kept = refl; right = λ t i ρ base y. absurd (none t (in_t t) (shape_is code e l base (ends_t t i ρ) y)) }
-    where
-      none : (t : Term) → (1 ≤ shape_t t) × (shape_t t ≤ 10) → get_or code (e - 4 + 3) 0 ≡ shape_t t → ⊥
-      none t h q = n (omega arith) (omega arith)
+  term-rest r s n = record { falls = omega arith; kept = refl; right = λ t i ρ base y. absurd (no-term t _ n (shape_is code e l base (ends_t t i ρ) y)) }
 
   pub pred-rest : (r : Seen) → r.start ≡ 0 → (1 ≤ get_or code (e - 4 + 3) 0 → get_or code (e - 4 + 3) 0 ≤ 8 → ⊥) → PredSeen code e T T z r
-  pred-rest r s n = record { falls = omega arith; kept = refl; right = λ p i ρ base y. absurd (none p (in_p p) (shape_is code e l base (ends_p p i ρ) y)) }
-    where
-      none : (p : Pred) → (1 ≤ shape_p p) × (shape_p p ≤ 8) → get_or code (e - 4 + 3) 0 ≡ shape_p p → ⊥
-      none p h q = n (omega arith) (omega arith)
+  pred-rest r s n = record { falls = omega arith; kept = refl; right = λ p i ρ base y. absurd (no-pred p _ n (shape_is code e l base (ends_p p i ρ) y)) }

@@ -4,7 +4,6 @@ use mathlib.Core.Bool.{Bool}
 use mathlib.Core.List.{List, ◌++◌}
 use Prim.Native.Nat.{ℕ, suc, ◌+◌, ◌-◌, ◌≤◌}
 use native.Mathlib.Omega.{arith}
-use lib.Dec.{eqb}
 use lib.ListN.{length, get_or, set}
 use Rattle.lexical.specs.Kinds as kind
 use Rattle.lexical.specs.Kinds.{code_of}
@@ -90,9 +89,9 @@ module _ (code : List ℕ) (e : ℕ) (l : e ≤ length code) (T : Names) (z : Si
 
   pub pred-within : (W : Names) (n : Node) (v d r : Seen) (m : ℕ) → NodeAt code e n → get_or code (e - 4 + 3) 0 ≡ 6
       → DomainSeen code (e - 4) T d → TermSeen code d.start T W z v → m ≡ lesser (fault_key v.fault) (fault_key d.fault)
-      → r.kind ≡ 0 → r.start ≡ v.start → fault_key r.fault ≡ judged_key (eqb v.kind 1) (key n.place 10) m
+      → r.kind ≡ 0 → r.start ≡ v.start → fault_key r.fault ≡ judged_key (is_number v.kind) (key n.place 10) m
       → PredSeen code e T W z r
-  unfolding term_codes term_key is_number
+  unfolding term_codes term_key
   pred-within W n v d r m hn q hd hv mq kq sq fq =
       pred-from code e l T z 6 W r (let f = hd.falls in let g = hv.falls in omega arith) hv.kept q
       (λ o t c i ρ base y.
@@ -102,7 +101,7 @@ module _ (code : List ℕ) (e : ℕ) (l : e ≤ length code) (T : Names) (z : Si
       let s₁ = hv.right t i ρ base (middle code (e - 4) d.start (base ++ term_codes t i ρ) (range_codes c j) h.before hd.falls s₂.start_is) in
       record {
         kind_is = kq;
-        fault_is = fq ∙ seen-judged (ap (λ (x : ℕ). eqb x 1) s₁.kind_is) (hn.place_is ∙ h.is_place) (mq ∙ ap₂ lesser s₁.fault_is s₂.fault_is);
+        fault_is = fq ∙ seen-judged (ap (λ (x : ℕ). is_number x) s₁.kind_is) (hn.place_is ∙ h.is_place) (mq ∙ ap₂ lesser s₁.fault_is s₂.fault_is);
         start_is = sq ∙ s₁.start_is;
       })
 

@@ -4,7 +4,7 @@ use mathlib.Core.Bool.{Bool, true, false}
 use mathlib.Core.List.{List, ◌++◌}
 use Prim.Native.Nat.{ℕ, suc, ◌+◌, ◌-◌, ◌%◌, ◌≤◌}
 use native.Mathlib.Omega.{arith}
-use lib.Dec.{eqb, ltb}
+use lib.Dec.{ltb}
 use lib.ListN.{length, take, get_or, set}
 use lib.Seq.{set-get_or, set-set}
 use Rattle.lexical.specs.Kinds.{code_of}
@@ -143,9 +143,9 @@ module _ (code : List ℕ) (e : ℕ) (l : e ≤ length code) (T : Names) (z : Si
 
   pub term-divided : (U : Names) (n : Node) (v r : Seen) (w₁ w₂ g m : ℕ) → NodeAt code e n → get_or code (e - 4 + 3) 0 ≡ 4 → TermSeen code (e - 4) T U z v
       → w₁ ≡ n.place → w₂ ≡ n.b → g ≡ unless_key (ltb 0 n.a) (key (w₁ + 1 + w₂ % 2) 14) → m ≡ lesser (fault_key v.fault) g
-      → r.kind ≡ 1 → r.start ≡ v.start → fault_key r.fault ≡ judged_key (eqb v.kind 1) (key n.place 10) m
+      → r.kind ≡ 1 → r.start ≡ v.start → fault_key r.fault ≡ judged_key (is_number v.kind) (key n.place 10) m
       → TermSeen code e T U z r
-  unfolding term_codes term_kind term_key is_number
+  unfolding term_codes term_kind term_key
   term-divided U n v r w₁ w₂ g m hn q hv wq₁ wq₂ gq mq kq sq fq = term-from code e l T z 4 U r (let f = hv.falls in omega arith) hv.kept q
       (λ o t d i ρ base y.
       let h = one-part code e l base (term_codes t i ρ) 4 (i + term_width t) d.magnitude (sign_of d.negative + division_number o) y in
@@ -154,7 +154,7 @@ module _ (code : List ℕ) (e : ℕ) (l : e ≤ length code) (T : Names) (z : Si
       let sign : w₂ % 2 ≡ sign_of d.negative = ap (λ (x : ℕ). x % 2) (wq₂ ∙ hn.second_is ∙ h.is_second) ∙ sign-of d.negative o in
       record {
         kind_is = kq;
-        fault_is = fq ∙ seen-judged (ap (λ (x : ℕ). eqb x 1) s.kind_is) at
+        fault_is = fq ∙ seen-judged (ap (λ (x : ℕ). is_number x) s.kind_is) at
             (mq ∙ ap₂ lesser s.fault_is (gq ∙ seen-unless 14 (ap (ltb 0) (hn.first_is ∙ h.is_first)) (ap₂ (λ (x j : ℕ). x + 1 + j) (wq₁ ∙ at) sign)));
         start_is = sq ∙ s.start_is;
       })

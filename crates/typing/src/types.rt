@@ -7,10 +7,10 @@ ghost use Rattle.type_rules.specs.TypesByNumber.{DomainSeen, TermSeen, ItemsSeen
 use form::{node, shapes};
 use lexical::codes;
 use refusals::Refusal;
+use type_rules::entries::Kind;
 use type_rules::kinds::{
-    bound_fault, brace_fault, dom_of, element_of, in_reach, is_element, is_given, judge, lesser_of,
-    look, member_fits, node_at, over_fault, pair_of, put, ran_of, range_fits, related_fits, set_of,
-    shared_kind, unless,
+    bound_fault, brace_fault, entry, judge, lesser_of, member_fits, node_at, over_fault, put,
+    range_fits, related_fits, shared_kind, unless,
 };
 use type_rules::{Seen, entries};
 
@@ -24,46 +24,46 @@ const DOM: u16 = codes::DOM as u16;
 
 const RAN: u16 = codes::RAN as u16;
 
-fn prefix_fits(o: u16, k: u16) -> bool
+fn prefix_fits(o: u16, k: Kind) -> bool
     ensures { PrefixFits o k result }
 {
     match o {
-        MINUS => k == entries::NUMBER,
-        COUNT => entries::SET <= k,
-        _ => entries::PAIRS <= k,
+        MINUS => k.is_number(),
+        COUNT => k.is_set(),
+        _ => k.is_pairs(),
     }
 }
 
-pub fn prefix_type(o: u16, k: u16) -> u16
+pub fn prefix_type(o: u16, k: Kind) -> Kind
     ensures { PrefixType o k result }
 {
     match o {
-        DOM => dom_of(k),
-        RAN => ran_of(k),
+        DOM => k.dom_of(),
+        RAN => k.ran_of(),
         _ => entries::NUMBER,
     }
 }
 
 // Operators by the code of their symbol: those of numbers, + - *, have codes below that of #, and those of sets, union minus inter, codes above it.
-fn operator_fits(o: u16, k: u16, l: u16) -> bool
+fn operator_fits(o: u16, k: Kind, l: Kind) -> bool
     ensures { OperatorFits o k l result }
 {
     if o < COUNT {
-        return k == entries::NUMBER && l == entries::NUMBER;
+        return k.is_number() && l.is_number();
     }
-    entries::SET <= k && k == l
+    k.is_set() && k == l
 }
 
 // Comparisons by the code of their symbol: = and /= have codes below that of <, and <= the one above it.
 const LESS: u16 = codes::LESS as u16;
 
-fn comparison_fits(o: u16, k: u16, l: u16) -> bool
+fn comparison_fits(o: u16, k: Kind, l: Kind) -> bool
     ensures { ComparisonFits o k l result }
 {
     if o < LESS {
         return k == l;
     }
-    k == entries::NUMBER && l == entries::NUMBER
+    k.is_number() && l.is_number()
 }
 
 // No nodes of a tree end here.
@@ -79,7 +79,7 @@ fn nothing() -> Seen
 }
 
 // What a name is bound over, or the range after `in`: the node that ends at `end`.
-fn domain(code: &[u16], end: usize, names: &[u16]) -> Seen
+fn domain(code: &[u16], end: usize, names: &[Kind]) -> Seen
     requires { end ≤ length code.now }
     ensures { DomainSeen code.now end names.now result }
 {
@@ -89,10 +89,10 @@ fn domain(code: &[u16], end: usize, names: &[u16]) -> Seen
     let at = end - node::SIZE;
     let n = node_at(code, end);
     if code[at + node::SHAPE] == shapes::SET {
-        let e = look(names, usize::from(n.a));
-        let f = unless(is_given(e), usize::from(n.place), Refusal::NameUnknown);
+        let e = entry(names, usize::from(n.a));
+        let f = unless(e.is_given(), usize::from(n.place), Refusal::NameUnknown);
         return Seen {
-            kind: element_of(e),
+            kind: e.element_of(),
             fault: f,
             start: at,
         };
@@ -111,7 +111,7 @@ fn domain(code: &[u16], end: usize, names: &[u16]) -> Seen
 
 // The term whose nodes end at `end`.
 #[cycle(types)]
-fn term(code: &[u16], end: usize, names: &mut [u16], sizes: &[u16]) -> Seen
+fn term(code: &[u16], end: usize, names: &mut [Kind], sizes: &[u16]) -> Seen
     requires { end ≤ length code.now }
     ensures { TermSeen code.now end names.old names.new sizes.now result }
 {
@@ -139,13 +139,13 @@ fn term(code: &[u16], end: usize, names: &mut [u16], sizes: &[u16]) -> Seen
 }
 
 // A name.
-fn named(code: &[u16], end: usize, names: &[u16], sizes: &[u16]) -> Seen
+fn named(code: &[u16], end: usize, names: &[Kind], sizes: &[u16]) -> Seen
     requires { (end ≤ length code.now) × (4 ≤ end) × (get_or code.now (end - 4 + 3) 0 ≡ 2) }
     ensures { TermSeen code.now end names.now names.now sizes.now result }
 {
     let n = node_at(code, end);
-    let e = look(names, usize::from(n.a));
-    let f = unless(in_reach(e), usize::from(n.place), Refusal::NameUnknown);
+    let e = entry(names, usize::from(n.a));
+    let f = unless(e.in_reach(), usize::from(n.place), Refusal::NameUnknown);
     Seen {
         kind: e,
         fault: f,
@@ -154,35 +154,35 @@ fn named(code: &[u16], end: usize, names: &[u16], sizes: &[u16]) -> Seen
 }
 
 // empty G.
-fn empty_set(code: &[u16], end: usize, names: &[u16], sizes: &[u16]) -> Seen
+fn empty_set(code: &[u16], end: usize, names: &[Kind], sizes: &[u16]) -> Seen
     requires { (end ≤ length code.now) × (4 ≤ end) × (get_or code.now (end - 4 + 3) 0 ≡ 9) }
     ensures { TermSeen code.now end names.now names.now sizes.now result }
 {
     let n = node_at(code, end);
-    let e = look(names, usize::from(n.a));
-    let f = unless(is_given(e), usize::from(n.place) + 1, Refusal::NameUnknown);
+    let e = entry(names, usize::from(n.a));
+    let f = unless(e.is_given(), usize::from(n.place) + 1, Refusal::NameUnknown);
     Seen {
-        kind: set_of(element_of(e)),
+        kind: e.element_of().set_of(),
         fault: f,
         start: end - node::SIZE,
     }
 }
 
 // empty G H.
-fn empty_pairs(code: &[u16], end: usize, names: &[u16], sizes: &[u16]) -> Seen
+fn empty_pairs(code: &[u16], end: usize, names: &[Kind], sizes: &[u16]) -> Seen
     requires { (end ≤ length code.now) × (4 ≤ end) × (get_or code.now (end - 4 + 3) 0 ≡ 10) }
     ensures { TermSeen code.now end names.now names.now sizes.now result }
 {
     let n = node_at(code, end);
-    let g = look(names, usize::from(n.a));
-    let h = look(names, usize::from(n.b));
+    let g = entry(names, usize::from(n.a));
+    let h = entry(names, usize::from(n.b));
     let i = usize::from(n.place);
-    let first = unless(is_given(g), i + 1, Refusal::NameUnknown);
-    let second = unless(is_given(h), i + 2, Refusal::NameUnknown);
+    let first = unless(g.is_given(), i + 1, Refusal::NameUnknown);
+    let second = unless(h.is_given(), i + 2, Refusal::NameUnknown);
     let over = over_fault(sizes, g, h, i);
     let f = lesser_of(first, lesser_of(second, over));
     Seen {
-        kind: pair_of(element_of(g), element_of(h)),
+        kind: g.element_of().pair_with(h.element_of()),
         fault: f,
         start: end - node::SIZE,
     }
@@ -190,7 +190,7 @@ fn empty_pairs(code: &[u16], end: usize, names: &[u16], sizes: &[u16]) -> Seen
 
 // A prefix before a term.
 #[cycle(types)]
-fn prefixed(code: &[u16], end: usize, names: &mut [u16], sizes: &[u16]) -> Seen
+fn prefixed(code: &[u16], end: usize, names: &mut [Kind], sizes: &[u16]) -> Seen
     requires { (end ≤ length code.now) × (4 ≤ end) × (get_or code.now (end - 4 + 3) 0 ≡ 3) }
     ensures { TermSeen code.now end names.old names.new sizes.now result }
 {
@@ -214,7 +214,7 @@ const REMAINDER: usize = shapes::REMAINDER as usize;
 
 // t div n, t mod n.
 #[cycle(types)]
-fn divided(code: &[u16], end: usize, names: &mut [u16], sizes: &[u16]) -> Seen
+fn divided(code: &[u16], end: usize, names: &mut [Kind], sizes: &[u16]) -> Seen
     requires { (end ≤ length code.now) × (4 ≤ end) × (get_or code.now (end - 4 + 3) 0 ≡ 4) }
     ensures { TermSeen code.now end names.old names.new sizes.now result }
 {
@@ -226,7 +226,7 @@ fn divided(code: &[u16], end: usize, names: &mut [u16], sizes: &[u16]) -> Seen
         Refusal::ZeroDivisor,
     );
     let f = judge(
-        t.kind == entries::NUMBER,
+        t.kind.is_number(),
         n.place,
         Refusal::TypesMisfit,
         lesser_of(t.fault, zero),
@@ -240,7 +240,7 @@ fn divided(code: &[u16], end: usize, names: &mut [u16], sizes: &[u16]) -> Seen
 
 // Two terms with an operator between them.
 #[cycle(types)]
-fn joined(code: &[u16], end: usize, names: &mut [u16], sizes: &[u16]) -> Seen
+fn joined(code: &[u16], end: usize, names: &mut [Kind], sizes: &[u16]) -> Seen
     requires { (end ≤ length code.now) × (4 ≤ end) × (get_or code.now (end - 4 + 3) 0 ≡ 5) }
     ensures { TermSeen code.now end names.old names.new sizes.now result }
 {
@@ -263,20 +263,20 @@ fn joined(code: &[u16], end: usize, names: &mut [u16], sizes: &[u16]) -> Seen
 
 // {x : G | p}.
 #[cycle(types)]
-fn such(code: &[u16], end: usize, names: &mut [u16], sizes: &[u16]) -> Seen
+fn such(code: &[u16], end: usize, names: &mut [Kind], sizes: &[u16]) -> Seen
     requires { (end ≤ length code.now) × (4 ≤ end) × (get_or code.now (end - 4 + 3) 0 ≡ 6) }
     ensures { TermSeen code.now end names.old names.new sizes.now result }
 {
     let n = node_at(code, end);
     let x = usize::from(n.a);
     let d = domain(code, end - node::SIZE, names);
-    let was = look(names, x);
+    let was = entry(names, x);
     put(names, x, d.kind);
     let p = pred(code, d.start, names, sizes);
     put(names, x, was);
     let f = bound_fault(n.place, was, d.fault, p.fault);
     Seen {
-        kind: set_of(d.kind),
+        kind: d.kind.set_of(),
         fault: f,
         start: p.start,
     }
@@ -284,15 +284,15 @@ fn such(code: &[u16], end: usize, names: &mut [u16], sizes: &[u16]) -> Seen
 
 // {t, ...}.
 #[cycle(types)]
-fn listed(code: &[u16], end: usize, names: &mut [u16], sizes: &[u16]) -> Seen
+fn listed(code: &[u16], end: usize, names: &mut [Kind], sizes: &[u16]) -> Seen
     requires { (end ≤ length code.now) × (4 ≤ end) × (get_or code.now (end - 4 + 3) 0 ≡ 7) }
     ensures { TermSeen code.now end names.old names.new sizes.now result }
 {
     let n = node_at(code, end);
     let t = items(code, end - node::SIZE, names, sizes);
-    let f = judge(is_element(t.kind), n.place, Refusal::TypesMisfit, t.fault);
+    let f = judge(t.kind.is_element(), n.place, Refusal::TypesMisfit, t.fault);
     Seen {
-        kind: set_of(t.kind),
+        kind: t.kind.set_of(),
         fault: f,
         start: t.start,
     }
@@ -300,7 +300,7 @@ fn listed(code: &[u16], end: usize, names: &mut [u16], sizes: &[u16]) -> Seen
 
 // {t |-> t, ...}.
 #[cycle(types)]
-fn paired(code: &[u16], end: usize, names: &mut [u16], sizes: &[u16]) -> Seen
+fn paired(code: &[u16], end: usize, names: &mut [Kind], sizes: &[u16]) -> Seen
     requires { (end ≤ length code.now) × (4 ≤ end) × (get_or code.now (end - 4 + 3) 0 ≡ 8) }
     ensures { TermSeen code.now end names.old names.new sizes.now result }
 {
@@ -316,7 +316,7 @@ fn paired(code: &[u16], end: usize, names: &mut [u16], sizes: &[u16]) -> Seen
 
 // The terms of a brace.
 #[cycle(types)]
-fn items(code: &[u16], end: usize, names: &mut [u16], sizes: &[u16]) -> Seen
+fn items(code: &[u16], end: usize, names: &mut [Kind], sizes: &[u16]) -> Seen
     requires { end ≤ length code.now }
     ensures { ItemsSeen code.now end names.old names.new sizes.now result }
 {
@@ -338,10 +338,10 @@ fn items(code: &[u16], end: usize, names: &mut [u16], sizes: &[u16]) -> Seen
 }
 
 // The pairs of a brace; the last two terms before the node of the last pair.
-// Form 2: `items` with `pair` for `term`. Both go on in a cycle with these; one function for both would be told at each call which of them it is to
-// call, by a switch (Form 7) or a closure that calls back into the cycle.
+// Form 2: `items` with `pair` for `term`. Tried on a small cycle of this shape: a generic function over a trait that `term` and `pair` implement; the borrow checker does not
+// cover a method of an implementation that leads back to its own cycle of calls. A switch or a closure would tell at each call which of them is meant.
 #[cycle(types)]
-fn pairs(code: &[u16], end: usize, names: &mut [u16], sizes: &[u16]) -> Seen
+fn pairs(code: &[u16], end: usize, names: &mut [Kind], sizes: &[u16]) -> Seen
     requires { end ≤ length code.now }
     ensures { PairsSeen code.now end names.old names.new sizes.now result }
 {
@@ -364,7 +364,7 @@ fn pairs(code: &[u16], end: usize, names: &mut [u16], sizes: &[u16]) -> Seen
 
 // Two terms, one behind the other.
 #[cycle(types)]
-fn pair(code: &[u16], end: usize, names: &mut [u16], sizes: &[u16]) -> Seen
+fn pair(code: &[u16], end: usize, names: &mut [Kind], sizes: &[u16]) -> Seen
     requires { end ≤ length code.now }
     ensures { PairSeen code.now end names.old names.new sizes.now result }
 {
@@ -372,7 +372,7 @@ fn pair(code: &[u16], end: usize, names: &mut [u16], sizes: &[u16]) -> Seen
     let t = term(code, u.start, names, sizes);
     let f = lesser_of(t.fault, u.fault);
     Seen {
-        kind: pair_of(t.kind, u.kind),
+        kind: t.kind.pair_with(u.kind),
         fault: f,
         start: t.start,
     }
@@ -380,7 +380,7 @@ fn pair(code: &[u16], end: usize, names: &mut [u16], sizes: &[u16]) -> Seen
 
 // The predicate whose nodes end at `end`.
 #[cycle(types)]
-pub fn pred(code: &[u16], end: usize, names: &mut [u16], sizes: &[u16]) -> Seen
+pub fn pred(code: &[u16], end: usize, names: &mut [Kind], sizes: &[u16]) -> Seen
     requires { end ≤ length code.now }
     ensures { PredSeen code.now end names.old names.new sizes.now result }
 {
@@ -407,7 +407,7 @@ pub fn pred(code: &[u16], end: usize, names: &mut [u16], sizes: &[u16]) -> Seen
 
 // Two predicates with a connective between them.
 #[cycle(types)]
-fn connected(code: &[u16], end: usize, names: &mut [u16], sizes: &[u16]) -> Seen
+fn connected(code: &[u16], end: usize, names: &mut [Kind], sizes: &[u16]) -> Seen
     requires { (end ≤ length code.now) × (4 ≤ end) × (get_or code.now (end - 4 + 3) 0 ≡ 3) }
     ensures { PredSeen code.now end names.old names.new sizes.now result }
 {
@@ -423,7 +423,7 @@ fn connected(code: &[u16], end: usize, names: &mut [u16], sizes: &[u16]) -> Seen
 
 // t = u, and the other comparisons.
 #[cycle(types)]
-fn compared(code: &[u16], end: usize, names: &mut [u16], sizes: &[u16]) -> Seen
+fn compared(code: &[u16], end: usize, names: &mut [Kind], sizes: &[u16]) -> Seen
     requires { (end ≤ length code.now) × (4 ≤ end) × (get_or code.now (end - 4 + 3) 0 ≡ 4) }
     ensures { PredSeen code.now end names.old names.new sizes.now result }
 {
@@ -446,7 +446,7 @@ fn compared(code: &[u16], end: usize, names: &mut [u16], sizes: &[u16]) -> Seen
 
 // t in u.
 #[cycle(types)]
-fn member(code: &[u16], end: usize, names: &mut [u16], sizes: &[u16]) -> Seen
+fn member(code: &[u16], end: usize, names: &mut [Kind], sizes: &[u16]) -> Seen
     requires { (end ≤ length code.now) × (4 ≤ end) × (get_or code.now (end - 4 + 3) 0 ≡ 5) }
     ensures { PredSeen code.now end names.old names.new sizes.now result }
 {
@@ -469,7 +469,7 @@ fn member(code: &[u16], end: usize, names: &mut [u16], sizes: &[u16]) -> Seen
 
 // t in a..b.
 #[cycle(types)]
-fn within(code: &[u16], end: usize, names: &mut [u16], sizes: &[u16]) -> Seen
+fn within(code: &[u16], end: usize, names: &mut [Kind], sizes: &[u16]) -> Seen
     requires { (end ≤ length code.now) × (4 ≤ end) × (get_or code.now (end - 4 + 3) 0 ≡ 6) }
     ensures { PredSeen code.now end names.old names.new sizes.now result }
 {
@@ -477,12 +477,7 @@ fn within(code: &[u16], end: usize, names: &mut [u16], sizes: &[u16]) -> Seen
     let d = domain(code, end - node::SIZE, names);
     let t = term(code, d.start, names, sizes);
     let parts = lesser_of(t.fault, d.fault);
-    let f = judge(
-        t.kind == entries::NUMBER,
-        n.place,
-        Refusal::TypesMisfit,
-        parts,
-    );
+    let f = judge(t.kind.is_number(), n.place, Refusal::TypesMisfit, parts);
     Seen {
         kind: entries::NONE,
         fault: f,
@@ -492,7 +487,7 @@ fn within(code: &[u16], end: usize, names: &mut [u16], sizes: &[u16]) -> Seen
 
 // t |-> u in v.
 #[cycle(types)]
-fn related(code: &[u16], end: usize, names: &mut [u16], sizes: &[u16]) -> Seen
+fn related(code: &[u16], end: usize, names: &mut [Kind], sizes: &[u16]) -> Seen
     requires { (end ≤ length code.now) × (4 ≤ end) × (get_or code.now (end - 4 + 3) 0 ≡ 7) }
     ensures { PredSeen code.now end names.old names.new sizes.now result }
 {
@@ -516,14 +511,14 @@ fn related(code: &[u16], end: usize, names: &mut [u16], sizes: &[u16]) -> Seen
 
 // (forall x : T @ p), and the other quantifiers.
 #[cycle(types)]
-fn quantified(code: &[u16], end: usize, names: &mut [u16], sizes: &[u16]) -> Seen
+fn quantified(code: &[u16], end: usize, names: &mut [Kind], sizes: &[u16]) -> Seen
     requires { (end ≤ length code.now) × (4 ≤ end) × (get_or code.now (end - 4 + 3) 0 ≡ 8) }
     ensures { PredSeen code.now end names.old names.new sizes.now result }
 {
     let n = node_at(code, end);
     let x = usize::from(n.a);
     let d = domain(code, end - node::SIZE, names);
-    let old = look(names, x);
+    let old = entry(names, x);
     put(names, x, d.kind);
     let p = pred(code, d.start, names, sizes);
     put(names, x, old);

@@ -1,11 +1,9 @@
 -- The scope inside a binder, and its environments. Cited by proofs over predicates too.
 use mathlib.Core.Path.{◌≡◌, refl, sym, subst}
 use mathlib.Core.Bool.{Bool, true, false}
-use mathlib.Core.Logic.{inl, inr}
 use mathlib.Core.List.{List, []}
 use mathlib.Core.Option.{Option, none, some}
-use Prim.Native.Nat.{ℕ, zero, suc, ◌+◌, ◌<◌, ◌≤◌}
-use native.Mathlib.Nat.{zero-add}
+use Prim.Native.Nat.{ℕ, zero, suc, ◌<◌, ◌≤◌}
 use native.Mathlib.Omega.{arith}
 use lib.IntN.{nat_abs}
 use Rattle.lexical.specs.Lists.{upward}
@@ -19,9 +17,11 @@ use Rattle.meaning.specs.Values.{Value}
 use Rattle.meaning.specs.Meaning.{Environment, with, size_of_given, element_values, domain_values}
 use Rattle.meaning.specs.Bindings.{values_of, Among, Over}
 use Rattle.meaning.proofs.Members.{among-map}
+use Rattle.meaning.proofs.UpwardNumbers.{upward-among}
 use Rattle.value_types.specs.TypedValues.{CarrierFits, CarriersFit, InReach, Carried, RangeWithin, DomainWithin}
-use Rattle.value_types.proofs.FaultlessParts.{not_nil, bound_over, range-known}
+use Rattle.value_types.proofs.FaultlessParts.{bound_over, range-known}
 use Rattle.value_types.proofs.Reach.{size_in, named-size, given_is}
+use Rattle.refusals.proofs.FaultLists.{not_nil}
 
 signed-abs : (b : Bool) (n : ℕ) → nat_abs (signed b n) ≡ n
 signed-abs true zero = refl
@@ -70,18 +70,10 @@ pub binding-carried : (Γ : Scope) (ρ : Environment) (x : Letters) (t : Domain)
 unfolding Over
 binding-carried Γ ρ x t v c m = record { givens = c.givens; over = (refl, domain-among Γ ρ t v c m, c.over) }
 
-upward-among : (j k n : ℕ) → j < n → Among (k + j) (upward k n)
-unfolding Among upward
-upward-among j k zero h = absurd (omega arith)
-upward-among zero k (suc n) h = inl (omega arith)
-upward-among (suc j) k (suc n) h =
-    let e : suc k + j ≡ k + suc j = omega arith in
-    inr (subst (λ (x : ℕ). Among x (upward (suc k) n)) e (upward-among j (suc k) n (omega arith)))
-
 -- the elements of a given set, as {x : G | p} runs through them
 pub element-among : (n k : ℕ) → k < n → Among (val.element n k) (element_values n)
 unfolding element_values
-element-among n k h = among-map (val.element n) k (upward 0 n) (subst (λ (j : ℕ). Among j (upward 0 n)) (zero-add k) (upward-among k 0 n h))
+element-among n k h = among-map (val.element n) k (upward 0 n) (upward-among 0 n k (omega arith) (omega arith))
 
 pub such_carried : (Γ : Scope) (ρ : Environment) (x : Letters) (g : Name) (k : ℕ) → Carried Γ ρ → k < size_of_given ρ g
     → Carried (binding Γ x (domain_carrier Γ (given_set g))) (with ρ x (val.element (size_of_given ρ g) k))

@@ -20,9 +20,11 @@ use Rattle.meaning.specs.StaticRulesNames.{known, pairs_fault, new_name, type_fa
 use Rattle.meaning.specs.Bindings.{Among}
 use Rattle.value_types.specs.TypedValues.{CarrierFits, CarriersFit}
 use Rattle.value_types.specs.FaultlessContexts.{TypeWithin, DeclarationsWithin, ParametersWithin}
-use Rattle.value_types.proofs.FaultlessParts.{unless-nil, append_nil-three, given-known}
 use Rattle.value_types.proofs.Reach.{given_is}
 use Rattle.value_types.proofs.Binders.{range-fits}
+use Rattle.refusals.proofs.FaultLists.{append_nil-three, unless-nil}
+use Rattle.meaning.proofs.StaticRulesFaultless.{given-known}
+use Rattle.meaning.proofs.StaticRulesFoundCarriers.{arrow-carrier, given-carrier, power-carrier, variables-one}
 
 -- a declared type whose given sets are known, and which fits if its numbers are at most 1,000
 pub record HasCarrier (gs : List Given) (t : TypeForm) : Type 0 where
@@ -35,19 +37,6 @@ HaveCarriers gs [] = Unit {0}
 HaveCarriers gs (d ∷ ds) = HasCarrier gs d.type × HaveCarriers gs ds
 
 -- ---- types
-
-given-carrier : (gs : List Given) (x : Name) (g : Given) → given_of gs x ≡ some g → carrier_of gs (given_type x) ≡ some (elements_of g)
-unfolding carrier_of
-given-carrier gs x g e = rw (carrier_of, e)
-
-power-carrier : (gs : List Given) (x : Name) (g : Given) → given_of gs x ≡ some g → carrier_of gs (power_type x) ≡ some (subsets_of g)
-unfolding carrier_of
-power-carrier gs x g e = rw (carrier_of, e)
-
-arrow-carrier : (gs : List Given) (a : Arrow) (x y : Name) (g h : Given) → given_of gs x ≡ some g → given_of gs y ≡ some h
-    → carrier_of gs (arrow_type a x y) ≡ some (pairs_in a g h)
-unfolding carrier_of
-arrow-carrier gs a x y g h e f = rw (carrier_of, e, f)
 
 pairs-known : (g h : Given) (i : ℕ) → pairs_fault (some g) (some h) i ≡ [] → size_of g * size_of h ≤ 16
 unfolding pairs_fault
@@ -174,11 +163,6 @@ declared-in gs δ ys h = filter-carry (λ (x : Parameter). goes δ x.direction) 
 -- the variable that stands for a declaration
 abbrev pub variable_of : Ending → Declaration → Carrier → Variable
 variable_of e d c = record { called = record { letters = d.declared; ending = e }; carrier = c }
-
-pub variables-one : (gs : List Given) (e : Ending) (d : Declaration) (ds : List Declaration) (c : Carrier) → carrier_of gs d.type ≡ some c
-    → variables gs e (d ∷ ds) ≡ variable_of e d c ∷ variables gs e ds
-unfolding variables
-variables-one gs e d ds c h = rw (variables, h)
 
 pub declared-length : (gs : List Given) (e : Ending) (ds : List Declaration) → HaveCarriers gs ds → length (variables gs e ds) ≡ length ds
 unfolding variables HaveCarriers

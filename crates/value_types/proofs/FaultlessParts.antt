@@ -7,7 +7,7 @@ use Prim.Native.Nat.{ℕ, suc, ◌+◌, ◌<◌, ◌≤◌}
 use lib.IntN.{pos}
 use borrow.Author.Tests.{ltb-true, leb-true}
 use Rattle.lexical.specs.Symbols.{Name}
-use Rattle.refusals.specs.Refusals.{Fault, fault, unless, types_misfit}
+use Rattle.refusals.specs.Refusals.{Fault, fault, types_misfit}
 use Rattle.meaning.specs.FormTree.{Letters, End, Range, Domain, given_set, range, Given, Prefix, Operator, Division, Quantifier, Connective, Comparison, Membership}
 use Rattle.meaning.specs.FormTree.{Term, name, group, prefix, binary, divided, listed, pairs, such, empty_set, empty_pairs, Items, only, also, Pairs, only_pair, also_pair}
 use Rattle.meaning.specs.FormTree.{Pred, negation, paren, quantified, connected, compared, member, within, related}
@@ -18,50 +18,27 @@ use Rattle.meaning.specs.StaticRulesNames.{Listing, whole, inside, of_name, know
 use Rattle.meaning.specs.StaticRulesNames.{judge_term, judge_items, judge_pairs, judge_pred}
 use Rattle.meaning.specs.StaticRulesLimits.{Sizes, operator_size, size_term, size_items, size_pairs, size_pred, domain_size}
 use Rattle.value_types.specs.TypedValues.{sizes_in}
+use Rattle.refusals.proofs.FaultLists.{append_nil-both, append_nil-three, not_nil, unless-nil}
+use Rattle.meaning.proofs.StaticRulesFaultless.{inside-nil, whole-nil}
 
--- ---- lists of faults
-
-abbrev Filled : List Fault → Type 0
-Filled [] = ⊥
-Filled (x ∷ xs) = Unit {0}
-
-pub not_nil : {A : Type 0} (x : Fault) (xs : List Fault) → (x ∷ xs) ≡ [] → A
-not_nil x xs e = absurd (subst Filled e tt)
-
-pub unless-nil : (fits : Bool) (f : Fault) → unless fits f ≡ [] → fits ≡ true
-unfolding unless
-unless-nil true f e = refl
-unless-nil false f e = not_nil f [] e
-
-pub append-nil : (xs ys : List Fault) → (xs ++ ys) ≡ [] → (xs ≡ []) × (ys ≡ [])
-append-nil [] ys e = (refl, e)
-append-nil (x ∷ xs) ys e = not_nil x (xs ++ ys) e
-
-pub append_nil-three : (xs ys zs : List Fault) → (xs ++ ys ++ zs) ≡ [] → (xs ≡ []) × (ys ≡ []) × (zs ≡ [])
-append_nil-three xs ys zs e =
-    let h = append-nil (xs ++ ys) zs e in
-    let k = append-nil xs ys h.0 in
+-- those of two parts one behind the other, in a whole and in a binder
+pub whole_two : (fits : Bool) (f : Fault) (xs ys : List Fault) → whole fits f (xs ++ ys) ≡ [] → (xs ≡ []) × (ys ≡ []) × (fits ≡ true)
+whole_two fits f xs ys e =
+    let h = whole-nil fits f (xs ++ ys) e in
+    let k = append_nil-both xs ys h.0 in
     (k.0, k.1, h.1)
 
-pub whole-nil : (fits : Bool) (f : Fault) (parts : List Fault) → whole fits f parts ≡ [] → (parts ≡ []) × (fits ≡ true)
-unfolding whole
-whole-nil fits f [] e = (refl, unless-nil fits f e)
-whole-nil fits f (x ∷ parts) e = not_nil x parts e
-
-pub inside-nil : (binder body : List Fault) → inside binder body ≡ [] → (binder ≡ []) × (body ≡ [])
-unfolding inside
-inside-nil [] body e = (refl, e)
-inside-nil (x ∷ binder) body e = not_nil x binder e
+inside_two : (xs ys body : List Fault) → inside (xs ++ ys) body ≡ [] → (xs ≡ []) × (ys ≡ []) × (body ≡ [])
+inside_two xs ys body e =
+    let h = inside-nil (xs ++ ys) body e in
+    let k = append_nil-both xs ys h.0 in
+    (k.0, k.1, h.1)
 
 -- ---- names, given sets, ranges, divisors
 
 pub name-known : (o : Option Ty) (i : ℕ) → (of_name o i).faults ≡ [] → (t : Ty) × (o ≡ some t) × ((of_name o i).type ≡ t)
 name-known none i e = not_nil _ _ e
 name-known (some t) i e = (t, refl, refl)
-
-pub given-known : (o : Option Given) (i : ℕ) → known o i ≡ [] → (g : Given) × (o ≡ some g)
-given-known none i e = not_nil _ _ e
-given-known (some g) i e = (g, refl)
 
 pub range-known : (r : Range) (i : ℕ) → range_faults r i ≡ [] → range_fits (end_value r.lower) (end_value r.upper) ≡ true
 unfolding range_faults
@@ -108,18 +85,14 @@ pub binary-parts : (o : Operator) (t u : Term) (Γ : Scope) (i : ℕ) → (judge
     → ((judge_term t Γ i).faults ≡ []) × ((judge_term u Γ (suc (judge_term t Γ i).next)).faults ≡ [])
     × (operator_fits o (judge_term t Γ i).type (judge_term u Γ (suc (judge_term t Γ i).next)).type ≡ true)
 unfolding judge_term
-binary-parts o t u Γ i e =
-    let h = whole-nil _ _ _ e in
-    let k = append-nil _ _ h.0 in
-    (k.0, k.1, h.1)
+binary-parts o t u Γ i e = whole_two _ _ _ _ e
 
 pub divided-parts : (o : Division) (t : Term) (e : End) (Γ : Scope) (i : ℕ) → (judge_term (divided o t e) Γ i).faults ≡ []
     → ((judge_term t Γ i).faults ≡ []) × (has (judge_term t Γ i).type is_number ≡ true) × (0 < e.magnitude)
 unfolding judge_term
 divided-parts o t e Γ i q =
-    let h = whole-nil _ _ _ q in
-    let k = append-nil _ _ h.0 in
-    (k.0, h.1, divisor-known e _ k.1)
+    let h = whole_two _ _ _ _ q in
+    (h.0, h.2, divisor-known e _ h.1)
 
 pub listed-parts : (ts : Items) (Γ : Scope) (i : ℕ) → (judge_term (listed ts) Γ i).faults ≡ []
     → ((judge_items ts Γ (suc i)).faults ≡ []) × (brace_fits (judge_items ts Γ (suc i)).types ≡ true)
@@ -136,10 +109,7 @@ pub such-parts : (x : Letters) (g : Name) (p : Pred) (Γ : Scope) (i : ℕ) → 
     → (new_name Γ.taken x (suc i) ≡ []) × (known (given_of Γ.givens g) (i + 3) ≡ [])
     × ((judge_pred p (binding Γ x (domain_carrier Γ (given_set g))) (i + 5)).faults ≡ [])
 unfolding judge_term
-such-parts x g p Γ i e =
-    let h = inside-nil _ _ e in
-    let k = append-nil _ _ h.0 in
-    (k.0, k.1, h.1)
+such-parts x g p Γ i e = inside_two _ _ _ e
 
 pub empty-set-parts : (g : Name) (Γ : Scope) (i : ℕ) → (judge_term (empty_set g) Γ i).faults ≡ [] → known (given_of Γ.givens g) (suc i) ≡ []
 unfolding judge_term
@@ -160,12 +130,12 @@ only_parts t Γ i e = e
 pub also-parts : (t : Term) (ts : Items) (Γ : Scope) (i : ℕ) → (judge_items (also t ts) Γ i).faults ≡ []
     → ((judge_term t Γ i).faults ≡ []) × ((judge_items ts Γ (suc (judge_term t Γ i).next)).faults ≡ [])
 unfolding judge_term
-also-parts t ts Γ i e = append-nil _ _ e
+also-parts t ts Γ i e = append_nil-both _ _ e
 
 pub only-pair-parts : (t u : Term) (Γ : Scope) (i : ℕ) → (judge_pairs (only_pair t u) Γ i).faults ≡ []
     → ((judge_term t Γ i).faults ≡ []) × ((judge_term u Γ (suc (judge_term t Γ i).next)).faults ≡ [])
 unfolding judge_term
-only-pair-parts t u Γ i e = append-nil _ _ e
+only-pair-parts t u Γ i e = append_nil-both _ _ e
 
 pub also-pair-parts : (t u : Term) (ts : Pairs) (Γ : Scope) (i : ℕ) → (judge_pairs (also_pair t u ts) Γ i).faults ≡ []
     → ((judge_term t Γ i).faults ≡ []) × ((judge_term u Γ (suc (judge_term t Γ i).next)).faults ≡ [])
@@ -187,41 +157,31 @@ pub quantified-parts : (q : Quantifier) (x : Letters) (t : Domain) (p : Pred) (�
     → (new_name Γ.taken x (i + 2) ≡ []) × (domain_faults Γ t (i + 4) ≡ [])
     × ((judge_pred p (binding Γ x (domain_carrier Γ t)) (suc (i + 4 + domain_length t))).faults ≡ [])
 unfolding judge_term
-quantified-parts q x t p Γ i e =
-    let h = inside-nil _ _ e in
-    let k = append-nil _ _ h.0 in
-    (k.0, k.1, h.1)
+quantified-parts q x t p Γ i e = inside_two _ _ _ e
 
 pub connected-parts : (o : Connective) (p q : Pred) (Γ : Scope) (i : ℕ) → (judge_pred (connected o p q) Γ i).faults ≡ []
     → ((judge_pred p Γ i).faults ≡ []) × ((judge_pred q Γ (suc (judge_pred p Γ i).next)).faults ≡ [])
 unfolding judge_term
-connected-parts o p q Γ i e = append-nil _ _ e
+connected-parts o p q Γ i e = append_nil-both _ _ e
 
 pub compared-parts : (o : Comparison) (t u : Term) (Γ : Scope) (i : ℕ) → (judge_pred (compared o t u) Γ i).faults ≡ []
     → ((judge_term t Γ i).faults ≡ []) × ((judge_term u Γ (suc (judge_term t Γ i).next)).faults ≡ [])
     × (comparison_fits o (judge_term t Γ i).type (judge_term u Γ (suc (judge_term t Γ i).next)).type ≡ true)
 unfolding judge_term
-compared-parts o t u Γ i e =
-    let h = whole-nil _ _ _ e in
-    let k = append-nil _ _ h.0 in
-    (k.0, k.1, h.1)
+compared-parts o t u Γ i e = whole_two _ _ _ _ e
 
 pub member-parts : (o : Membership) (t u : Term) (Γ : Scope) (i : ℕ) → (judge_pred (member o t u) Γ i).faults ≡ []
     → ((judge_term t Γ i).faults ≡ []) × ((judge_term u Γ (suc (judge_term t Γ i).next)).faults ≡ [])
     × (member_fits (judge_term t Γ i).type (judge_term u Γ (suc (judge_term t Γ i).next)).type ≡ true)
 unfolding judge_term
-member-parts o t u Γ i e =
-    let h = whole-nil _ _ _ e in
-    let k = append-nil _ _ h.0 in
-    (k.0, k.1, h.1)
+member-parts o t u Γ i e = whole_two _ _ _ _ e
 
 pub within-parts : (o : Membership) (t : Term) (r : Range) (Γ : Scope) (i : ℕ) → (judge_pred (within o t r) Γ i).faults ≡ []
     → ((judge_term t Γ i).faults ≡ []) × (has (judge_term t Γ i).type is_number ≡ true) × (range_fits (end_value r.lower) (end_value r.upper) ≡ true)
 unfolding judge_term
 within-parts o t r Γ i e =
-    let h = whole-nil _ _ _ e in
-    let k = append-nil _ _ h.0 in
-    (k.0, h.1, range-known r _ k.1)
+    let h = whole_two _ _ _ _ e in
+    (h.0, h.2, range-known r _ h.1)
 
 pub related-parts : (o : Membership) (t u v : Term) (Γ : Scope) (i : ℕ) → (judge_pred (related o t u v) Γ i).faults ≡ []
     → ((judge_term t Γ i).faults ≡ []) × ((judge_term u Γ (suc (judge_term t Γ i).next)).faults ≡ [])
@@ -249,9 +209,8 @@ pub binary-sizes : (o : Operator) (t u : Term) (Z : Sizes) (i : ℕ) → (size_t
     × (operator_size o (size_term t Z i).bound (size_term u Z (suc (size_term t Z i).next)).bound ≤ 2147483647)
 unfolding size_term
 binary-sizes o t u Z i e =
-    let h = whole-nil _ _ _ e in
-    let k = append-nil _ _ h.0 in
-    (k.0, k.1, leb-true _ _ h.1)
+    let h = whole_two _ _ _ _ e in
+    (h.0, h.1, leb-true _ _ h.2)
 
 pub divided-sizes : (o : Division) (t : Term) (e : End) (Z : Sizes) (i : ℕ) → (size_term (divided o t e) Z i).faults ≡ [] → (size_term t Z i).faults ≡ []
 unfolding size_term
@@ -279,12 +238,12 @@ only-sizes t Z i e = e
 pub also-sizes : (t : Term) (ts : Items) (Z : Sizes) (i : ℕ) → (size_items (also t ts) Z i).faults ≡ []
     → ((size_term t Z i).faults ≡ []) × ((size_items ts Z (suc (size_term t Z i).next)).faults ≡ [])
 unfolding size_term
-also-sizes t ts Z i e = append-nil _ _ e
+also-sizes t ts Z i e = append_nil-both _ _ e
 
 pub only-pair-sizes : (t u : Term) (Z : Sizes) (i : ℕ) → (size_pairs (only_pair t u) Z i).faults ≡ []
     → ((size_term t Z i).faults ≡ []) × ((size_term u Z (suc (size_term t Z i).next)).faults ≡ [])
 unfolding size_term
-only-pair-sizes t u Z i e = append-nil _ _ e
+only-pair-sizes t u Z i e = append_nil-both _ _ e
 
 pub also-pair-sizes : (t u : Term) (ts : Pairs) (Z : Sizes) (i : ℕ) → (size_pairs (also_pair t u ts) Z i).faults ≡ []
     → ((size_term t Z i).faults ≡ []) × ((size_term u Z (suc (size_term t Z i).next)).faults ≡ [])
@@ -310,17 +269,17 @@ quantified-sizes q x t p Z i e = e
 pub connected-sizes : (o : Connective) (p q : Pred) (Z : Sizes) (i : ℕ) → (size_pred (connected o p q) Z i).faults ≡ []
     → ((size_pred p Z i).faults ≡ []) × ((size_pred q Z (suc (size_pred p Z i).next)).faults ≡ [])
 unfolding size_term
-connected-sizes o p q Z i e = append-nil _ _ e
+connected-sizes o p q Z i e = append_nil-both _ _ e
 
 pub compared-sizes : (o : Comparison) (t u : Term) (Z : Sizes) (i : ℕ) → (size_pred (compared o t u) Z i).faults ≡ []
     → ((size_term t Z i).faults ≡ []) × ((size_term u Z (suc (size_term t Z i).next)).faults ≡ [])
 unfolding size_term
-compared-sizes o t u Z i e = append-nil _ _ e
+compared-sizes o t u Z i e = append_nil-both _ _ e
 
 pub member-sizes : (o : Membership) (t u : Term) (Z : Sizes) (i : ℕ) → (size_pred (member o t u) Z i).faults ≡ []
     → ((size_term t Z i).faults ≡ []) × ((size_term u Z (suc (size_term t Z i).next)).faults ≡ [])
 unfolding size_term
-member-sizes o t u Z i e = append-nil _ _ e
+member-sizes o t u Z i e = append_nil-both _ _ e
 
 pub within-sizes : (o : Membership) (t : Term) (r : Range) (Z : Sizes) (i : ℕ) → (size_pred (within o t r) Z i).faults ≡ [] → (size_term t Z i).faults ≡ []
 unfolding size_term

@@ -21,9 +21,9 @@ use Rattle.meaning.proofs.Places.{entry-member}
 use Rattle.value_types.specs.TypedValues.{CarriersFit, InReach, PredWithin}
 use Rattle.meaning.specs.FormBoundNames.{PredBindsFew, OperationsBindFew, BindsFew}
 use Rattle.value_types.specs.FaultlessContexts.{ContextFine, FewElements, DeclarationsWithin, ParametersWithin, OperationsWithin, NumbersWithin}
-use Rattle.value_types.proofs.FaultlessParts.{append-nil}
 use Rattle.value_types.proofs.GivenTitles.{few-elements, title-finds}
 use Rattle.value_types.proofs.DeclaredCarriers.{HaveCarriers, declarations_of, declarations-carry, operations-carry, variables-fit, parameters-fit, fit_append}
+use Rattle.refusals.proofs.FaultLists.{append_nil-both}
 
 -- ---- a dossier's parts
 
@@ -41,10 +41,10 @@ dossier-faultless d e =
     let a : List Fault = declaration_faults d.givens (given_names d.givens) (suc (abstract_at d)) (declarations d.abstract) in
     let c : List Fault = declaration_faults d.givens (abstract_taken d) (suc (concrete_at d)) (declarations d.concrete) in
     let o : List Fault = operation_faults d.givens (concrete_taken d) (operations_at d) d.operations in
-    let s = append-nil (g ++ a ++ c ++ o) (concat (map context_faults (contexts d))) e in
-    let r = append-nil (g ++ a ++ c) o s.0 in
-    let q = append-nil (g ++ a) c r.0 in
-    let p = append-nil g a q.0 in
+    let s = append_nil-both (g ++ a ++ c ++ o) (concat (map context_faults (contexts d))) e in
+    let r = append_nil-both (g ++ a ++ c) o s.0 in
+    let q = append_nil-both (g ++ a) c r.0 in
+    let p = append_nil-both g a q.0 in
     record {
       givens = p.0;
       abstract = declarations-carry d.givens (given_names d.givens) (suc (abstract_at d)) (declarations d.abstract) p.1;
@@ -57,8 +57,8 @@ dossier-faultless d e =
 part-nil : {A : Type 0} (f : A → List Fault) (xs : List A) → concat (map f xs) ≡ [] → (x : A) → Among x xs → f x ≡ []
 unfolding concat Among
 part-nil f [] e x m = absurd m
-part-nil {A = A} f (y ∷ xs) e x (inl k) = subst (λ (z : A). f z ≡ []) (sym k) (append-nil (f y) (concat (map f xs)) e).0
-part-nil f (y ∷ xs) e x (inr m) = part-nil f xs (append-nil (f y) (concat (map f xs)) e).1 x m
+part-nil {A = A} f (y ∷ xs) e x (inl k) = subst (λ (z : A). f z ≡ []) (sym k) (append_nil-both (f y) (concat (map f xs)) e).0
+part-nil f (y ∷ xs) e x (inr m) = part-nil f xs (append_nil-both (f y) (concat (map f xs)) e).1 x m
 
 -- ---- the contexts
 

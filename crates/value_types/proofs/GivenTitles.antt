@@ -17,7 +17,7 @@ use Rattle.meaning.specs.StaticRulesNames.{new_name, element_faults, given_fault
 use Rattle.meaning.specs.Bindings.{Among}
 use Rattle.meaning.proofs.Members.{any_none, among-right}
 use Rattle.value_types.specs.FaultlessContexts.{FewElements}
-use Rattle.value_types.proofs.FaultlessParts.{unless-nil, append_nil-three}
+use Rattle.refusals.proofs.FaultLists.{append_nil-three, unless-nil}
 
 pub few-elements : (gs : List Given) → FewElements gs → (g : Given) → Among g gs → size_of g ≤ 8
 unfolding FewElements Among

@@ -18,4 +18,7 @@ pub use Rattle.meaning.proofs.ConjunctsHold as MeaningConjunctsHold
 pub use Rattle.meaning.proofs.Distinct as MeaningDistinct
 pub use Rattle.meaning.proofs.Frame as MeaningFrame
 pub use Rattle.meaning.proofs.Members as MeaningMembers
+pub use Rattle.meaning.proofs.UpwardNumbers as MeaningUpwardNumbers
+pub use Rattle.meaning.proofs.StaticRulesTypePlaces as StaticRulesTypePlaces
+pub use Rattle.meaning.proofs.StaticRulesSameTypes as StaticRulesSameTypes
 pub use Rattle.meaning.proofs.LexicalBooleanTests as LexicalBooleanTests

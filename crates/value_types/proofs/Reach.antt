@@ -4,7 +4,7 @@ use mathlib.Core.Bool.{Bool, true, false, false≢true}
 use mathlib.Core.Logic.{inl, inr}
 use mathlib.Core.List.{List, [], ◌∷◌, map}
 use mathlib.Core.Option.{Option, none, some, none-ne-some, some-injective}
-use Prim.Native.Nat.{ℕ, zero, suc, ◌+◌, ◌*◌, ◌^◌, ◌<◌, ◌≤◌}
+use Prim.Native.Nat.{ℕ, suc, ◌*◌, ◌^◌, ◌<◌, ◌≤◌}
 use native.Mathlib.Omega.{arith}
 use lib.ListN.{length}
 use Rattle.lexical.specs.Lists.{any, find, upward}
@@ -21,6 +21,7 @@ use Rattle.meaning.specs.Meaning.{Binding, Environment, size_of_given, element_v
 use Rattle.meaning.specs.Bindings.{pair_sets, values_of, Among, Over}
 use Rattle.meaning.proofs.Members.{map-among}
 use Rattle.meaning.proofs.Distinct.{filter-among}
+use Rattle.meaning.proofs.UpwardNumbers.{among-upward}
 use Rattle.value_types.specs.TypedValues.{IsElementOf, IsSetOver, IsPairsOver, OfSort, HasType, CarrierFits, CarriersFit, InReach, Carried}
 
 -- ---- lists
@@ -34,12 +35,6 @@ find-among {A = A} f x (y ∷ ys) e = on (f y) refl (find-among f x ys) e
         → Among x (y ∷ ys) × (f x ≡ true)
     on true p r h = let q : y ≡ x = some-injective y x h in (inl (sym q), ap f (sym q) ∙ p)
     on false p r h = let k = r h in (inr k.0, k.1)
-
-pub among-upward : (x k n : ℕ) → Among x (upward k n) → x < k + n
-unfolding Among upward
-among-upward x k zero m = absurd m
-among-upward x k (suc n) (inl e) = omega arith
-among-upward x k (suc n) (inr m) = let h : x < suc k + n = among-upward x (suc k) n m in omega arith
 
 -- ---- given sets by their names
 
@@ -80,9 +75,9 @@ size_in (some g) = size_of g
 
 pair-sets-below : (a : Arrow) (n m s : ℕ) → Among s (pair_sets a n m) → s < 2 ^ (n * m)
 unfolding pair_sets
-pair-sets-below relation n m s h = omega (arith, among-upward s 0 (2 ^ (n * m)) h)
-pair-sets-below partial n m s h = omega (arith, among-upward s 0 (2 ^ (n * m)) (filter-among (sets.is_partial n m) s (upward 0 (2 ^ (n * m))) h))
-pair-sets-below total n m s h = omega (arith, among-upward s 0 (2 ^ (n * m)) (filter-among (sets.is_total n m) s (upward 0 (2 ^ (n * m))) h))
+pair-sets-below relation n m s h = omega (arith, (among-upward 0 (2 ^ (n * m)) s h).1)
+pair-sets-below partial n m s h = omega (arith, (among-upward 0 (2 ^ (n * m)) s (filter-among (sets.is_partial n m) s (upward 0 (2 ^ (n * m))) h)).1)
+pair-sets-below total n m s h = omega (arith, (among-upward 0 (2 ^ (n * m)) s (filter-among (sets.is_total n m) s (upward 0 (2 ^ (n * m))) h)).1)
 
 pub named-size : (Γ : Scope) (ρ : Environment) → Carried Γ ρ → (x : Name) → size_of_given ρ x ≡ size_in (given_of Γ.givens x)
 unfolding size_of_given
@@ -121,11 +116,11 @@ module _ (Γ : Scope) (ρ : Environment) (s : InReach Γ) (c : Carried Γ ρ) wh
   unfolding CarrierFits values_of element_values OfSort
   carrier-value (elements_of g) v f m =
       let r = map-among (val.element (size_of g)) v (upward 0 (size_of g)) m in
-      subst (HasType ρ (type_of (elements_of g))) (sym r.2) (element-value g r.0 f (omega (arith, among-upward r.0 0 (size_of g) r.1)))
+      subst (HasType ρ (type_of (elements_of g))) (sym r.2) (element-value g r.0 f (omega (arith, (among-upward 0 (size_of g) r.0 r.1).1)))
   carrier-value (numbers a b) v f m = tt
   carrier-value (subsets_of g) v f m =
       let r = map-among (val.set (size_of g)) v (upward 0 (2 ^ size_of g)) m in
-      subst (HasType ρ (type_of (subsets_of g))) (sym r.2) (set_value g r.0 f (omega (arith, among-upward r.0 0 (2 ^ size_of g) r.1)))
+      subst (HasType ρ (type_of (subsets_of g))) (sym r.2) (set_value g r.0 f (omega (arith, (among-upward 0 (2 ^ size_of g) r.0 r.1).1)))
   carrier-value (pairs_in a g h) v f m =
       let r = map-among (val.pairs (size_of g) (size_of h)) v (pair_sets a (size_of g) (size_of h)) m in
       subst (HasType ρ (type_of (pairs_in a g h))) (sym r.2)

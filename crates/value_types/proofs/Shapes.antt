@@ -16,9 +16,10 @@ use Rattle.sets.specs.Sets.{pair}
 use Rattle.meaning.specs.Values.{Value, natural, bits, pair_bit}
 use Rattle.meaning.specs.Meaning.{Environment}
 use Rattle.value_types.specs.TypedValues.{IsElementOf, IsSetOver, IsPairsOver, OfSort, HasType, Carried}
-use Rattle.value_types.proofs.TypeTests.{same-type, ItemsOf, items-split, PairsOf, pairs-split}
+use Rattle.value_types.proofs.TypeTests.{ItemsOf, items-split, PairsOf, pairs-split}
 use Rattle.value_types.proofs.SetBounds.{pair-below}
 use Rattle.value_types.proofs.TypedOperations.{sizes, as-sort, over-few}
+use Rattle.meaning.proofs.StaticRulesSameTypes.{same-type}
 
 pub element_place : {n : ℕ} {v : Value} → IsElementOf n v → (k : ℕ) × (v.code ≡ pos k) × (k < 8)
 element_place h = (h.place, h.is, omega (arith, h.below, h.few))

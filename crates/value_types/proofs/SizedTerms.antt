@@ -24,11 +24,12 @@ use Rattle.meaning.specs.Values.{Value, bits, prefix_value, operator_value, divi
 use Rattle.meaning.specs.Meaning.{Environment, element_value, value_of, size_of_given, number_values, value}
 use Rattle.meaning.specs.Bindings.{values_of, Among}
 use Rattle.meaning.proofs.Members.{map-among}
+use Rattle.meaning.proofs.UpwardNumbers.{among-upward}
 use Rattle.value_types.specs.TypedValues.{OfSort, CarrierFits, CarriersFit, InReach, Carried, TermWithin, sizes_in}
 use Rattle.value_types.proofs.FaultlessParts as parts
 use Rattle.value_types.proofs.TypeTests.{sort-has, set-no-number, items_of, pairs_of}
 use Rattle.value_types.proofs.SetBounds.{size_few}
-use Rattle.value_types.proofs.Reach.{among-upward, Looked, nowhere, reached, looked}
+use Rattle.value_types.proofs.Reach.{Looked, nowhere, reached, looked}
 use Rattle.value_types.proofs.Binders.{end-abs}
 use Rattle.sets.proofs.Floor.{floor_abs, times_abs}
 use Rattle.value_types.proofs.Magnitudes.{negate_abs, plus_abs, minus-abs, remainder_abs, range-abs}
@@ -74,7 +75,7 @@ carrier-sized gs (elements_of g) v f m e = absurd (false≢true e)
 carrier-sized gs (numbers a b) v f m e =
     let r = map-among (λ (k : ℕ). val.number (a +ℤ pos k)) v (upward 0 (nat_abs (b -ℤ a) + 1)) m in
     subst (λ (w : Value). nat_abs w.code ≤ largest (numbers a b)) (sym r.2)
-    (range-abs a b r.0 f.2 (omega (arith, among-upward r.0 0 (nat_abs (b -ℤ a) + 1) r.1)))
+    (range-abs a b r.0 f.2 (omega (arith, (among-upward 0 (nat_abs (b -ℤ a) + 1) r.0 r.1).1)))
 carrier-sized gs (subsets_of g) v f m e = absurd (false≢true e)
 carrier-sized gs (pairs_in a g h) v f m e = absurd (false≢true e)
 

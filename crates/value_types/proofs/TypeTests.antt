@@ -1,31 +1,16 @@
 -- Tests on types: types that pass as the same are one, and the items of a brace that fit have one type.
-use mathlib.Core.Path.{◌≡◌, refl, sym, ap, ap₂, ◌∙◌}
+use mathlib.Core.Path.{◌≡◌, refl, ap}
 use mathlib.Core.Bool.{Bool, true, false, ◌&&◌, false≢true}
 use mathlib.Core.List.{List, [], ◌∷◌}
-use Prim.Native.Nat.{ℕ, zero, suc}
-use borrow.Author.Tests.{eqb-true, eq-eqb}
-use Rattle.lexical.specs.Lists.{same, all}
-use Rattle.lexical.proofs.WordLaws.{same_refl, same_true}
+use Prim.Native.Nat.{ℕ}
+use borrow.Author.Tests.{eq-eqb}
+use Rattle.lexical.specs.Lists.{all}
+use Rattle.lexical.proofs.WordLaws.{same_refl}
 use Rattle.meaning.proofs.LexicalBooleanTests.{and_both, and_left, and_right}
 use Rattle.meaning.specs.FormTree.{Letters}
 use Rattle.meaning.specs.StaticRulesTypes.{Sort, is_number, is_element, is_set, is_pairs, Ty, sort_code, has, same_over_type, same_type, set_of, pairs_of_types, is_any_set, brace_type, brace_fits, pairs_type, pairs_fit}
-
-unsort : ℕ → Sort
-unsort zero = is_number
-unsort (suc zero) = is_element
-unsort (suc (suc zero)) = is_set
-unsort (suc (suc (suc n))) = is_pairs
-
-unsorted : (s : Sort) → unsort (sort_code s) ≡ s
-unfolding unsort
-unsorted is_number = refl
-unsorted is_element = refl
-unsorted is_set = refl
-unsorted is_pairs = refl
-
-pub has-sort : (t : Ty) (s : Sort) → has t s ≡ true → t.sort ≡ s
-unfolding has
-has-sort t s e = sym (unsorted t.sort) ∙ ap unsort (eqb-true (sort_code t.sort) (sort_code s) e) ∙ unsorted s
+use Rattle.meaning.proofs.StaticRulesSameTypes.{has-sort, same-type}
+use Rattle.lexical.proofs.BooleanTests.{all-parts, all-more}
 
 pub sort-has : (t : Ty) (s : Sort) → t.sort ≡ s → has t s ≡ true
 unfolding has
@@ -42,44 +27,16 @@ set-no-number t e h = on t.sort (has-sort t is_number h) e
     on is_set p q = let z : ◌≡◌ {A = ℕ} 2 0 = ap sort_code p in false≢true (eq-eqb 2 0 z)
     on is_pairs p q = let z : ◌≡◌ {A = ℕ} 3 0 = ap sort_code p in false≢true (eq-eqb 3 0 z)
 
-same_over : (xs ys : List Letters) → same_over_type xs ys ≡ true → xs ≡ ys
-unfolding same_over_type
-same_over [] [] e = refl
-same_over [] (y ∷ ys) e = absurd (false≢true e)
-same_over (x ∷ xs) [] e = absurd (false≢true e)
-same_over (x ∷ xs) (y ∷ ys) e =
-    ap₂ (λ (z : Letters) (zs : List Letters). z ∷ zs) (same_true x y (and_left (same x y) (same_over_type xs ys) e))
-    (same_over xs ys (and_right (same x y) (same_over_type xs ys) e))
-
 over-refl : (xs : List Letters) → same_over_type xs xs ≡ true
 unfolding same_over_type
 over-refl [] = refl
 over-refl (x ∷ xs) = and_both (same_refl x) (over-refl xs)
-
-pub same-type : (t u : Ty) → same_type t u ≡ true → t ≡ u
-unfolding same_type
-same-type t u e =
-    let s : t.sort ≡ u.sort = has-sort t u.sort (and_left (has t u.sort) (same_over_type t.over u.over) e) in
-    let o : t.over ≡ u.over = same_over t.over u.over (and_right (has t u.sort) (same_over_type t.over u.over) e) in
-    λ i. record { sort = s i; over = o i }
 
 pub type-refl : (t : Ty) → same_type t t ≡ true
 unfolding same_type
 type-refl t = and_both (sort-has t t.sort refl) (over-refl t.over)
 
 -- ---- the items of a brace
-
-pub all-parts : {A : Type 0} (f : A → Bool) (x : A) (xs : List A) → all f (x ∷ xs) ≡ true → (f x ≡ true) × (all f xs ≡ true)
-unfolding all
-all-parts f x xs e = on (f x) e
-  where
-    on : (b : Bool) → ◌≡◌ {A = Bool} (elim b [ true ↦ all f xs | false ↦ false ]) true → (b ≡ true) × (all f xs ≡ true)
-    on true h = (refl, h)
-    on false h = absurd (false≢true h)
-
-pub all_more : {A : Type 0} (f : A → Bool) (x : A) (xs : List A) → f x ≡ true → all f xs ≡ true → all f (x ∷ xs) ≡ true
-unfolding all
-all_more f x xs e h = ap (λ (b : Bool). elim b [ true ↦ all f xs | false ↦ false ]) e ∙ h
 
 -- all items are of the type t of elements
 pub record ItemsOf (t : Ty) (ts : List Ty) : Type 0 where
@@ -93,7 +50,7 @@ items_of (t ∷ ts) e = (
   t,
   record {
     element = and_left (has t is_element) (all (same_type t) ts) e;
-    alike = all_more (same_type t) t ts (type-refl t) (and_right (has t is_element) (all (same_type t) ts) e);
+    alike = all-more (same_type t) t ts (type-refl t) (and_right (has t is_element) (all (same_type t) ts) e);
   },
   refl,
 )
@@ -125,7 +82,7 @@ pairs_of (p ∷ ps) e =
       record {
         first = and_left (has t is_element) (has u is_element) f;
         second = and_right (has t is_element) (has u is_element) f;
-        alike = all_more (same_pair t u) p ps (and_both (type-refl t) (type-refl u)) r;
+        alike = all-more (same_pair t u) p ps (and_both (type-refl t) (type-refl u)) r;
       },
       refl,
     )

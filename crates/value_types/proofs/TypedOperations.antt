@@ -17,10 +17,10 @@ use Rattle.meaning.proofs.LexicalBooleanTests.{and_left, and_right}
 use Rattle.meaning.specs.Values.{Value, bits, with_bits, prefix_value, operator_value, singleton, single_pair}
 use Rattle.meaning.specs.Meaning.{Environment, size_of_given}
 use Rattle.value_types.specs.TypedValues.{OfSort, HasType, Carried}
-use Rattle.value_types.proofs.FaultlessParts.{unless-nil}
-use Rattle.value_types.proofs.TypeTests.{has-sort, same-type}
 use Rattle.value_types.proofs.SetBounds.{union-below, inter-below, without-below, dom-set, ran-set, single-set, single-pairs, both-sets, both-pairs}
 use Rattle.value_types.proofs.Reach.{size_in, named-size}
+use Rattle.refusals.proofs.FaultLists.{unless-nil}
+use Rattle.meaning.proofs.StaticRulesSameTypes.{has-sort, same-type}
 
 -- of types over at most 16 pairs
 pub pairs-few : (o p : Option Given) (i : ℕ) → pairs_fault o p i ≡ [] → size_in o * size_in p ≤ 16

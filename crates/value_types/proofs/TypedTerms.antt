@@ -21,10 +21,11 @@ use Rattle.meaning.specs.Values.{Value, operator_value, singleton, single_pair}
 use Rattle.meaning.specs.Meaning.{Environment, element_value, value_of, with, size_of_given, value, items_value, pairs_value, holds}
 use Rattle.value_types.specs.TypedValues.{OfSort, HasType, InReach, Carried, TermWithin, ItemsWithin, PairsWithin}
 use Rattle.value_types.proofs.FaultlessParts as parts
-use Rattle.value_types.proofs.FaultlessParts.{bound_over, given-known}
+use Rattle.value_types.proofs.FaultlessParts.{bound_over}
 use Rattle.value_types.proofs.TypeTests.{type-refl, ItemsOf, items_of, items-split, PairsOf, pairs_of, pairs-split}
 use Rattle.value_types.proofs.Reach.{size_in, given_is, element-is, place-below, given-size, element-value, set_value, pairs-value, carrier-value, Looked, nowhere, reached, looked}
 use Rattle.value_types.proofs.TypedOperations.{pairs-few, prefix-value, operator-value, single-typed, pair_typed}
+use Rattle.meaning.proofs.StaticRulesFaultless.{given-known}
 
 -- the type and the value of a name: a variable's or bound one's, else an element's
 abbrev pub type_found : Option Variable → Option Given → Option Ty

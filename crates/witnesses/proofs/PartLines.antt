@@ -1,5 +1,6 @@
 -- The lines of a part's groups written one group behind the other, and what is asked of a part that is set up. Assumes nothing.
 use mathlib.Core.Path.{◌≡◌, refl, sym, subst}
+use mathlib.Core.Logic.{◌⊎◌, inl, inr}
 use mathlib.Core.List.{List, [], ◌++◌}
 use mathlib.Core.Option.{some}
 use Prim.Native.Nat.{ℕ, ◌-◌, ◌/◌, ◌%◌, ◌<◌, ◌≤◌}
@@ -23,6 +24,10 @@ use Rattle.lexical.specs.declared.Ending.{Ending}
 use Rattle.lines.specs.LinesByNumber.{ending_byte, group_piece}
 use Rattle.part_places.specs.Places.{GroupsOf, parts, PartAsked, PartSet}
 use Rattle.part_places.proofs.PartCounts.{sized}
+use Rattle.part_places.proofs.PartsPartNumbers.{part-applies, part-corrects}
+use Rattle.held_checks.specs.declared.Obligation.{Obligation}
+use Rattle.held_checks.specs.declared.Obligation.TheVariants.{Applicability, Correctness}
+use Rattle.held_checks.specs.StepPromises.{PartTold}
 use Rattle.witnesses.specs.WitnessPromises.{WitnessAsked}
 use Rattle.witnesses.specs.WitnessSteps.{SizedAt, PartSized, BindAsked, LinesAsked}
 
@@ -91,6 +96,11 @@ parted {cells = cells} {k = k} {p = p} P d G h = elim (dec_lt k 1) [ yes e ↦ o
           | yes e ↦ (let t = P.applying d G n o.0 o.1 (omega arith) in subst (PartSized cells) (sym t.1) (applicability-parted G n o.0 o.1 t.0))
           | no e ↦ (let t = P.correcting d G n o.0 o.1 (omega arith) in subst (PartSized cells) (sym t.1) (correctness-parted G n o.0 o.1 t.0))
         ]
+
+-- the operation of a part by its obligation
+pub operation-of : {k : ℕ} {r : Obligation} → PartTold k r → (j : ℕ) → (r ≡ Applicability j) ⊎ (r ≡ Correctness j) → j ≡ (k - 1) / 2
+operation-of t j (inl e) = omega (arith, part-applies t j e)
+operation-of t j (inr e) = omega (arith, part-corrects t j e)
 
 module _ {table groups : List ℕ} {k q : ℕ} (a : WitnessAsked table groups k q) where
   pub part-asked : PartAsked table groups k

@@ -1,5 +1,5 @@
 // The binding at a place of a part, a line for each variable.
-// Form 1: the constants are lengths and places among the labels, no kinds.
+// Form 1: the constant is a length, no kind.
 #![tactic(auto)]
 
 ghost use Rattle.std.specs.Prelude.{◌≡◌, ◌+◌, ◌-◌, ◌*◌, ◌/◌, ◌≤◌, length};
@@ -7,32 +7,22 @@ ghost use Rattle.pieces.specs.PiecePromises.{Adds};
 ghost use Rattle.witnesses.specs.WitnessPromises.{WitnessAsked, WitnessWritten};
 ghost use Rattle.witnesses.specs.WitnessSteps.{BindAsked, BoundAt, LinesAsked, part_piece};
 
+use held_checks::{Obligation, obligation_of};
 use labels::Names;
-use lexical::Ending;
-use lines::{Group, put_group};
-use part_places::{Found, OBLIGATIONS, OPENING, part_cells};
+use lines::{Group, OPERATION_ROW, Side, put_group};
+use part_places::{Found, part_cells};
 use pieces::Writer;
 use plans::Part;
 use points::slots;
 use search_groups::Dossier;
 use slot_carriers::groups::bind;
+use slot_carriers::{CELLS, SLOTS};
 
 // The greatest length of a witness: 30 lines.
 pub const WITNESS: usize = 19350;
 
-// The first places of the groups: of both states, and of an operation's inputs and outputs.
-const ABSTRACT_FIRST: usize = 1;
-
-const CONCRETE_FIRST: usize = 10;
-
-const INPUTS_FIRST: usize = 19;
-
-const OUTPUTS_FIRST: usize = 23;
-
-const OPERATION_ROW: usize = 8;
-
 // The binding at a place, by its digits.
-fn bind_place(cells: &[u32; 9216], p: Part, at: usize, values: &mut [i64; 64])
+fn bind_place(cells: &[u32; CELLS], p: Part, at: usize, values: &mut [i64; SLOTS])
     requires { BindAsked cells.now p at }
     ensures { BoundAt cells.now p at values.new }
 {
@@ -46,36 +36,24 @@ fn bind_place(cells: &[u32; 9216], p: Part, at: usize, values: &mut [i64; 64])
     bind(cells, slots::CONCRETE_PRIMED, p.vk, p.nk, at % p.nk, values);
 }
 
-// A group by its first place, how many variables it has, the slot of its first value and the ending of its names.
-fn group(first: usize, count: usize, slot: usize, ending: Ending) -> Group
-    ensures { (result.first ≡ first) × (result.count ≡ count) × (result.slot ≡ slot) × (result.ending ≡ ending) }
-{
-    Group {
-        first,
-        count,
-        slot,
-        ending,
-    }
-}
-
 // The lines of all groups of a part; `row` is how far its operation's rows are from the first operation's. A group without variables leaves no line.
 // Form 5: the names, the values and the part are each made or lent by another; a struct of the three would be made for this one call.
-fn put_groups(names: &Names<'_>, values: &[i64; 64], p: Part, row: usize, w: &mut Writer<'_>)
+fn put_groups(names: &Names<'_>, values: &[i64; SLOTS], p: Part, row: usize, w: &mut Writer<'_>)
     requires at_in_bounds { w.old.at + 19350 ≤ length w.old.out.now }
     requires lines_asked { LinesAsked p row }
     ensures same_bytes { w.new.out.ghost_name ≡ w.old.out.ghost_name }
     ensures lines { Adds (part_piece names.now.text.now names.now.labels.now p row values.now) w.old w.new }
     ensures short { w.new.at ≤ w.old.at + 19350 }
 {
-    let abstracts = group(ABSTRACT_FIRST, p.va, slots::ABSTRACT, Ending::Plain);
+    let abstracts = Group::of(Side::Abstract, row, p.va);
     put_group(names, values, abstracts, w);
-    let concretes = group(CONCRETE_FIRST, p.vc, slots::CONCRETE, Ending::Plain);
+    let concretes = Group::of(Side::Concrete, row, p.vc);
     put_group(names, values, concretes, w);
-    let inputs = group(INPUTS_FIRST + row, p.vi, slots::INPUTS, Ending::Query);
+    let inputs = Group::of(Side::Inputs, row, p.vi);
     put_group(names, values, inputs, w);
-    let outputs = group(OUTPUTS_FIRST + row, p.vo, slots::OUTPUTS, Ending::Shriek);
+    let outputs = Group::of(Side::Outputs, row, p.vo);
     put_group(names, values, outputs, w);
-    let primes = group(CONCRETE_FIRST, p.vk, slots::CONCRETE_PRIMED, Ending::Prime);
+    let primes = Group::of(Side::ConcretePrimed, row, p.vk);
     put_group(names, values, primes, w);
 }
 
@@ -84,10 +62,10 @@ fn operation_row(k: usize) -> usize
     requires { k ≤ 32 }
     ensures { (result ≡ 8 * ((k - 1) / 2)) × (result ≤ 120) }
 {
-    if k < OPENING {
-        return 0;
+    match obligation_of(k) {
+        Obligation::Initialisation => 0,
+        Obligation::Applicability(j) | Obligation::Correctness(j) => OPERATION_ROW * j,
     }
-    OPERATION_ROW * ((k - OPENING) / OBLIGATIONS)
 }
 
 // The witness at a place of a part.
@@ -97,9 +75,9 @@ pub fn put_witness(names: &Names<'_>, d: &Dossier<'_>, f: Found, w: &mut Writer<
     ensures same_bytes { w.new.out.ghost_name ≡ w.old.out.ghost_name }
     ensures written { WitnessWritten names.now.text.now names.now.labels.now d.now.table.now d.now.groups.now f.part f.at w.old.at w.old.out.now w.new.out.now w.new.at }
 {
-    let mut cells = [0u32; 9216];
-    let mut values = [0i64; 64];
-    let p = part_cells(d.table, d.groups, f.part, &mut cells);
+    let mut cells = [0u32; CELLS];
+    let mut values = [0i64; SLOTS];
+    let p = part_cells(d, f.part, &mut cells);
     bind_place(&cells, p, f.at, &mut values);
     put_groups(names, &values, p, operation_row(f.part), w);
 }

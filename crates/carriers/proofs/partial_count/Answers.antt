@@ -6,4 +6,4 @@ use Rattle.carriers.proofs.partial_count.Goals as goal
 
 pub returns : goal.returns
 unfolding arrow_count choices
-returns c = (λ h. c.count_at.ensures.0 (omega arith) (omega arith) h, λ h. c.count_at.ensures.1 h)
+returns c = (λ h. c.count_at.ensures.0 (omega arith) h, λ h. c.count_at.ensures.1 h)

@@ -3,4 +3,4 @@ use native.Mathlib.Omega.{arith}
 use Rattle.carriers.proofs.partial_mask.Goals as goal
 
 pub returns : goal.returns
-returns c = (λ h. c.mask_at.ensures.0 (omega arith) (omega arith) h, λ h. c.mask_at.ensures.1 h)
+returns c = (λ h. c.mask_at.ensures.0 (omega arith) h, λ h. c.mask_at.ensures.1 h)

@@ -18,7 +18,7 @@ pub text_in-requires : goal.text_in-requires
 text_in-requires c = let l : length c.args.held.now ≡ 32784 = search rules in omega (arith, l, laid-short c.args.held.now l c.requires.held_value, c.length_in-n.ensures)
 
 pub put_witness-requires : goal.put_witness-requires
-put_witness-requires c = record { at_in_bounds = omega (arith, c.requires.out_len); witness_asked = last_found (lent c.dossier-d.ensures (λ t r f g n. LastAsked (held_text c.args.held.now) c.args.a.now.labels t g n c.args.o.place) c.requires.last_asked) c.find-f.ensures }
+put_witness-requires c = record { at_in_bounds = let l : length c.args.out.now ≡ 19350 = search rules in omega (arith, l); witness_asked = last_found (lent c.dossier-d.ensures (λ t r f g n. LastAsked (held_text c.args.held.now) c.args.a.now.labels t g n c.args.o.place) c.requires.last_asked) c.find-f.ensures }
 
 pub returns : goal.returns
 returns c = last_back c.dossier-d.ensures (last_written (text-is c.args.held.now c.text_in.ensures c.length_in-n.ensures) c.find-f.ensures c.put_witness.ensures.written (search rules))

@@ -1,21 +1,31 @@
 -- `checker::verdict` meets its contract.
+use mathlib.Core.Path.{subst}
 use Rattle.checker.proofs.OpenLaws.{opened_lent}
 use Rattle.checker.proofs.MarkLaws.{not-one, not-two}
-use Rattle.checker.proofs.CallLaws.{nothing-verdict, verdict-told}
+use mathlib.Core.List.{[]}
+use Rattle.held_checks.specs.declared.Verdict.{Verdict}
+use Rattle.std.specs.Prelude.{Result}
+use Rattle.refusals.specs.declared.Refusal.{Refusal}
+use Rattle.obligations.specs.Calls as calls
+use Rattle.held_checks.specs.Answers.{verdict_answer}
+use Rattle.held_checks.specs.CallPromises.{Responds}
+use Rattle.checker.proofs.CallLaws.{nothing-verdict, opened-as, opened-not, refused-as, verdict-told}
 use Rattle.checker.proofs.RefutedLaws.{last-asked, last-place, verdict-refuted}
 use Rattle.checker.proofs.verdict.Goals as goal
 
-pub returns-in_default : goal.returns-in_default
-returns-in_default c = nothing-verdict (c.open_bytes-o.ensures.none c.in_default.is)
+pub returns-in_err-o : goal.returns-in_err-o
+returns-in_err-o c =
+    subst (λ (y : Result Verdict Refusal). Responds c.args.held.now calls.verdict c.args.held.now [] (verdict_answer y)) (refused-as c.open_bytes.result c.from_residual.result c.from_residual.ensures.1 c.in_err-o.was c.ok_or.ensures.value)
+    (nothing-verdict (opened-not c.open_bytes.ensures c.ok_or.ensures.ok_part c.in_err-o.was))
 
-pub returns-in-Some-told : goal.returns-in-Some-told
-returns-in-Some-told c = verdict-told (c.open_bytes-o.ensures.some _ c.in-Some.is) c.in-Some-told.v c.in-Some-told.ensures
+pub returns-in-Some : goal.returns-in-Some
+returns-in-Some c = verdict-told (opened-as c.open_bytes.ensures c.ok_or.ensures.ok_part c.in_ok-o.was) c.in-Some.v c.in-Some.ensures
 
 pub overflow_sub-o : goal.overflow_sub-o
-overflow_sub-o c = (last-asked (c.open_bytes-o.ensures.some _ c.in-Some.is) (not-one c.in_default-told.ensures) (not-two c.in_default-told.ensures)).positive
+overflow_sub-o c = (last-asked (opened-as c.open_bytes.ensures c.ok_or.ensures.ok_part c.in_ok-o.was) (not-one c.in_default.ensures) (not-two c.in_default.ensures)).positive
 
 pub find-f-requires : goal.find-f-requires
-find-f-requires c = last-place (last-asked (opened_lent (c.open_bytes-o.ensures.some _ c.in-Some.is) c.dossier-d.ensures) (not-one c.in_default-told.ensures) (not-two c.in_default-told.ensures))
+find-f-requires c = last-place (last-asked (opened_lent (opened-as c.open_bytes.ensures c.ok_or.ensures.ok_part c.in_ok-o.was) c.dossier-d.ensures) (not-one c.in_default.ensures) (not-two c.in_default.ensures))
 
 pub returns : goal.returns
-returns c = verdict-refuted (opened_lent (c.open_bytes-o.ensures.some _ c.in-Some.is) c.dossier-d.ensures) (not-one c.in_default-told.ensures) (not-two c.in_default-told.ensures) c.find-f.ensures c.obligation_of.ensures
+returns c = verdict-refuted (opened_lent (opened-as c.open_bytes.ensures c.ok_or.ensures.ok_part c.in_ok-o.was) c.dossier-d.ensures) (not-one c.in_default.ensures) (not-two c.in_default.ensures) c.find-f.ensures c.obligation_of.ensures

@@ -1,8 +1,7 @@
 -- `idle_variables::idle_level` meets its contract: all tests of the level are idle. Assumes nothing.
 use lib.ListN.{get_or}
-use Prim.Native.Nat.{◌<◌}
 use mathlib.Core.Path.{refl, ◌∙◌}
-use Rattle.std.proofs.Common.{ℕ, ◌≡◌, rules, tests}
+use Rattle.std.proofs.Common.{◌≡◌, rules, tests}
 use Rattle.std.proofs.lemmas.Iterator.{cases_from_all, YieldsList-from_range, serves_from_Range}
 use Rattle.idle_variables.specs.IdlePromises.{TestIdle}
 use Rattle.idle_variables.proofs.RangeWalks.{each-passes}

@@ -1,7 +1,7 @@
 -- `idle_variables::idle_search` meets its contract: all levels are idle. Assumes nothing.
 use native.Mathlib.Omega.{arith}
 use mathlib.Core.Path.{refl}
-use Rattle.std.proofs.Common.{ℕ, ◌≡◌, rules, tests}
+use Rattle.std.proofs.Common.{◌≡◌, rules, tests}
 use Rattle.std.proofs.lemmas.Iterator.{cases_from_all, YieldsList-from_range, serves_from_Range}
 use Rattle.idle_variables.specs.IdlePromises.{LevelIdle}
 use Rattle.idle_variables.proofs.RangeWalks.{each-passes}

@@ -1,6 +1,6 @@
 -- `idle_variables::idle_searches` meets its contract: all searches from u on are idle. Assumes nothing.
 use mathlib.Core.Path.{refl}
-use Rattle.std.proofs.Common.{ℕ, ◌≡◌, rules, tests}
+use Rattle.std.proofs.Common.{◌≡◌, rules, tests}
 use Rattle.std.proofs.lemmas.Iterator.{cases_from_all, YieldsList-from_range, serves_from_Range}
 use Rattle.idle_variables.specs.IdlePromises.{SearchIdle}
 use Rattle.idle_variables.proofs.RangeWalks.{each-passes}

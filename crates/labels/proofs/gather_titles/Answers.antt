@@ -10,7 +10,7 @@ pub loop-j-init : goal.loop-j-init
 loop-j-init c = (omega arith, stored-none _ _ _)
 
 pub loop-j-preserved : goal.loop-j-preserved
-loop-j-preserved c = (omega arith, stored_next c.loop-j.invariant.1 (omega arith) (c.name_byte.ensures ∙ ap (λ (n : ℕ). name_byte c.args.x.now.nodes.now c.args.x.now.starts.now n) (c.saturating_sub.ensures ∙ ap (λ (n : ℕ). n - 4) (c.index-q.ensures.0 ∙ c.look.ensures))) c.put.ensures)
+loop-j-preserved c = (omega arith, stored_next c.loop-j.invariant.1 (omega arith) (c.name_byte.ensures ∙ ap (λ (n : ℕ). name_byte c.args.x.now.nodes.now c.args.x.now.starts.now n) (c.saturating_sub.ensures ∙ ap (λ (n : ℕ). n - 4) (c.from-q.ensures ∙ c.look.ensures))) c.put.ensures)
 
 pub returns : goal.returns
 returns c = titles-gathered (omega arith) c.loop-j.invariant.1

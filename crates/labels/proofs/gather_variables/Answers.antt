@@ -8,7 +8,7 @@ pub loop-i-init : goal.loop-i-init
 loop-i-init c = (omega arith, variables-none _)
 
 pub loop-i-preserved : goal.loop-i-preserved
-loop-i-preserved c = (omega arith, variables-next (omega arith) (c.index-q.ensures.0 ∙ c.look.ensures) c.loop-i.invariant.1 c.gather_variable.ensures)
+loop-i-preserved c = (omega arith, variables-next (omega arith) (c.from-q.ensures ∙ c.look.ensures) c.loop-i.invariant.1 c.gather_variable.ensures)
 
 pub returns : goal.returns
 returns c = variables-gathered (omega arith) c.loop-i.invariant.1

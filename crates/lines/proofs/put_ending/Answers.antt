@@ -6,5 +6,5 @@ use Rattle.lines.proofs.put_ending.Goals as goal
 pub returns-in_default-clause-written : goal.returns-in_default-clause-written
 returns-in_default-clause-written c = unended (ending_is c.args.ending) c.byte_of.ensures c.in_default.is
 
-pub returns-clause-written : goal.returns-clause-written
-returns-clause-written c = ended (ending_is c.args.ending) c.byte_of.ensures c.in-Some.is c.put.ensures.written
+pub returns-in-Some-clause-written : goal.returns-in-Some-clause-written
+returns-in-Some-clause-written c = ended (ending_is c.args.ending) c.byte_of.ensures c.in-Some.is c.put.ensures.written

@@ -14,7 +14,7 @@ pub put_all-requires : goal.put_all-requires
 put_all-requires c = omega (arith, c.put_letters.ensures.written.end, c.put_letters.ensures.written.long, letters-length c.args.names.now.text.now c.from.result, c.put_ending.ensures.written.end, c.put_ending.ensures.written.long, ended-length (ending_is c.args.ending))
 
 pub put_value-requires : goal.put_value-requires
-put_value-requires c = (c.shape_of-t.ensures.3, omega (arith, c.put_letters.ensures.written.end, c.put_letters.ensures.written.long, letters-length c.args.names.now.text.now c.from.result, c.put_ending.ensures.written.end, c.put_ending.ensures.written.long, ended-length (ending_is c.args.ending), c.put_all.ensures.written.end, c.put_all.ensures.written.long))
+put_value-requires c = omega (arith, c.put_letters.ensures.written.end, c.put_letters.ensures.written.long, letters-length c.args.names.now.text.now c.from.result, c.put_ending.ensures.written.end, c.put_ending.ensures.written.long, ended-length (ending_is c.args.ending), c.put_all.ensures.written.end, c.put_all.ensures.written.long)
 
 pub put-requires : goal.put-requires
 put-requires c = omega (arith, c.put_letters.ensures.written.end, c.put_letters.ensures.written.long, letters-length c.args.names.now.text.now c.from.result, c.put_ending.ensures.written.end, c.put_ending.ensures.written.long, ended-length (ending_is c.args.ending), c.put_all.ensures.written.end, c.put_all.ensures.written.long, c.put_value.ensures.written.end, c.put_value.ensures.written.long, value-back c.args.names.now.text.now c.args.names.now.labels.now c.args.x c.ranges.x c.shape_of-t.result.shape c.shape_of-t.result.sides c.shape_of-t.result.size)

@@ -5,13 +5,13 @@ use Rattle.lines.proofs.LineLaws.{sides-low, element-length, pair-written}
 use Rattle.lines.proofs.put_pair.Goals as goal
 
 pub put_element-requires : goal.put_element-requires
-put_element-requires c = (omega arith, (sides-low c.args.k c.args.m c.requires.2).0, omega arith)
+put_element-requires c = ((sides-low c.args.k c.from-m.result c.requires.1).0, omega arith)
 
 pub put_all-requires : goal.put_all-requires
-put_all-requires c = omega (arith, c.put_element.ensures.written.end, c.put_element.ensures.written.long, element-length c.args.names.now.text.now c.args.names.now.labels.now (c.args.sides / 8) (c.args.k / c.args.m))
+put_all-requires c = omega (arith, c.put_element.ensures.written.end, c.put_element.ensures.written.long, element-length c.args.names.now.text.now c.args.names.now.labels.now (c.args.t.sides / 8) (c.args.k / c.from-m.result))
 
 pub put_element-requires-2 : goal.put_element-requires-2
-put_element-requires-2 c = (omega arith, (sides-low c.args.k c.args.m c.requires.2).1, omega (arith, c.put_element.ensures.written.end, c.put_element.ensures.written.long, element-length c.args.names.now.text.now c.args.names.now.labels.now (c.args.sides / 8) (c.args.k / c.args.m), c.put_all.ensures.written.end, c.put_all.ensures.written.long))
+put_element-requires-2 c = ((sides-low c.args.k c.from-m.result c.requires.1).1, omega (arith, c.put_element.ensures.written.end, c.put_element.ensures.written.long, element-length c.args.names.now.text.now c.args.names.now.labels.now (c.args.t.sides / 8) (c.args.k / c.from-m.result), c.put_all.ensures.written.end, c.put_all.ensures.written.long))
 
 pub returns-clause-written : goal.returns-clause-written
-returns-clause-written c = pair-written c.args.names.now.text.now c.args.names.now.labels.now c.args.sides c.args.m c.args.k c.put_element.ensures.written c.put_all.ensures.written c.put_element-2.ensures.written
+returns-clause-written c = pair-written c.args.names.now.text.now c.args.names.now.labels.now c.args.t.sides c.args.t.size c.args.k c.from-m.ensures c.put_element.ensures.written c.put_all.ensures.written c.put_element-2.ensures.written

@@ -1,7 +1,9 @@
 -- The walk that writes the table meets its contracts. Assumes nothing.
 use Prim.Native.Nat.{◌+◌, ◌-◌}
-use mathlib.Core.Path.{refl, ◌∙◌}
+use mathlib.Core.Path.{refl, ap, ◌∙◌}
+use native.Mathlib.Omega.{arith}
 use lib.ListN.{get_or}
+use Rattle.type_rules.specs.TypesByNumber.{set_of}
 use Rattle.typing.proofs.LastNodes.{eight, ten}
 use Rattle.lowering.proofs.TableWalk.{term-short, items-short, pairs-short, pred-short, term-other, pred_other}
 use Rattle.lowering.proofs.TableWalkTerms.{term-prefix, term-divided, term-binary, term-such, term-listed, term-pairs}
@@ -11,6 +13,35 @@ use Rattle.lowering.proofs.+walk.Goals as goal
 
 pub walk::sides-returns : goal.walk::sides-returns
 walk::sides-returns t c = pred-sides c.args.r.now.code.now c.args.end c.args.slot c.requires.asked.inside c.requires.far c.args.names.now c.args.places.now c.args.r.now.sizes.now c.args.out.now c.requires.asked.fits _ _ _ _ _ _ _ c.term-u.result c.term-t.result _ _ c.look-a.result c.args.shape c.requires.shape c.term-u.ensures c.term-t.ensures refl c.look-a.ensures c.set_node.ensures refl refl
+
+pub walk::bound-returns : goal.walk::bound-returns
+walk::bound-returns t c = record {
+  over = c.domain-d.result;
+  body = c.pred-p.result;
+  x = c.from-x.result;
+  old = c.entry-old.result;
+  was = c.look-was.result;
+  next = c.next_slot.result;
+  typed = _;
+  behind = _;
+  slotted = _;
+  left = _;
+  between = _;
+  domain = c.domain-d.ensures;
+  pred = c.pred-p.ensures;
+  next_is = c.next_slot.ensures;
+  typed_is = c.put.ensures;
+  names_back = c.put-3.ensures;
+  slotted_is = c.put-2.ensures;
+  places_back = c.put-4.ensures;
+  x_is = c.from-x.ensures ∙ c.look.ensures;
+  old_is = c.entry-old.ensures;
+  was_is = c.look-was.ensures;
+  kind_is = refl;
+  start_is = refl;
+  falls = (let f = c.pred-p.ensures.walked.falls in let g = c.domain-d.ensures.falls in omega arith);
+  long = c.pred-p.ensures.walked.long ∙ c.domain-d.ensures.long;
+}
 
 pub walk::connected-returns : goal.walk::connected-returns
 walk::connected-returns t c = pred-connected c.args.r.now.code.now c.args.end c.args.slot c.requires.inside c.requires.far c.args.names.now c.args.places.now c.args.r.now.sizes.now c.args.out.now c.requires.fits _ _ _ _ _ _ _ c.pred-q.result c.pred-p.result _ _ c.look-a.result c.requires.shape c.pred-q.ensures c.pred-p.ensures refl c.look-a.ensures c.set_node.ensures refl refl
@@ -31,7 +62,7 @@ pub walk::joined-returns : goal.walk::joined-returns
 walk::joined-returns t c = term-binary c.args.r.now.code.now c.args.end c.args.slot c.requires.inside c.requires.far c.args.names.now c.args.places.now c.args.r.now.sizes.now c.args.out.now c.requires.fits _ _ _ _ _ _ _ c.term-u.result c.term-t.result _ _ c.look-a.result c.requires.shape c.term-u.ensures c.term-t.ensures refl c.look-a.ensures c.set_node.ensures refl refl
 
 pub braces::last_pair-returns : goal.braces::last_pair-returns
-braces::last_pair-returns t c = pairs-only c.args.r.now.code.now c.args.end c.args.slot c.requires.inside c.requires.far c.args.names.now c.args.places.now c.args.r.now.sizes.now c.args.out.now c.requires.fits _ _ _ _ _ _ _ c.term-u.result c.term-t.result _ _ c.element_size.result c.requires.shape c.term-u.ensures c.term-t.ensures refl c.element_size.ensures c.set_node.ensures c.pair_of.ensures refl
+braces::last_pair-returns t c = pairs-only c.args.r.now.code.now c.args.end c.args.slot c.requires.inside c.requires.far c.args.names.now c.args.places.now c.args.r.now.sizes.now c.args.out.now c.requires.fits _ _ _ _ _ _ _ c.term-u.result c.term-t.result _ _ c.element_size.result c.requires.shape c.term-u.ensures c.term-t.ensures refl c.element_size.ensures c.set_node.ensures c.pair_with.ensures refl
 
 pub braces::listed-returns : goal.braces::listed-returns
 braces::listed-returns t c = term-listed c.args.r.now.code.now c.args.end c.args.slot c.requires.inside c.requires.far c.args.names.now c.args.places.now c.args.r.now.sizes.now c.args.out.now c.requires.fits _ _ _ _ c.items-t.result _ c.requires.shape c.items-t.ensures c.set_node.ensures c.set_of.ensures refl
@@ -40,7 +71,7 @@ pub walk::negated-returns : goal.walk::negated-returns
 walk::negated-returns t c = pred-negation c.args.r.now.code.now c.args.end c.args.slot c.requires.inside c.requires.far c.args.names.now c.args.places.now c.args.r.now.sizes.now c.args.out.now c.requires.fits _ _ _ _ c.pred-p.result _ c.requires.shape c.pred-p.ensures c.set_node.ensures refl refl
 
 pub braces::next_pair-returns : goal.braces::next_pair-returns
-braces::next_pair-returns t c = pairs-also c.args.r.now.code.now c.args.end c.args.slot c.requires.0.inside c.requires.1 c.args.names.now c.args.places.now c.args.r.now.sizes.now c.args.out.now c.requires.0.fits _ _ _ _ _ _ _ _ _ _ c.pairs-l.result c.term-u.result c.term-t.result _ c.pair_of-k.result _ c.element_size-n.result _ c.requires.2 c.pairs-l.ensures c.term-u.ensures c.term-t.ensures refl c.element_size-n.ensures refl c.pair_of-k.ensures c.set_node.ensures c.shared_kind.ensures refl
+braces::next_pair-returns t c = pairs-also c.args.r.now.code.now c.args.end c.args.slot c.requires.0.inside c.requires.1 c.args.names.now c.args.places.now c.args.r.now.sizes.now c.args.out.now c.requires.0.fits _ _ _ _ _ _ _ _ _ _ c.pairs-l.result c.term-u.result c.term-t.result _ c.pair_with-k.result _ c.element_size-n.result _ c.requires.2 c.pairs-l.ensures c.term-u.ensures c.term-t.ensures refl c.element_size-n.ensures refl c.pair_with-k.ensures c.set_node.ensures c.shared_kind.ensures refl
 
 pub braces::paired-returns : goal.braces::paired-returns
 braces::paired-returns t c = term-pairs c.args.r.now.code.now c.args.end c.args.slot c.requires.inside c.requires.far c.args.names.now c.args.places.now c.args.r.now.sizes.now c.args.out.now c.requires.fits _ _ _ _ c.pairs-t.result _ c.requires.shape c.pairs-t.ensures c.set_node.ensures refl refl
@@ -61,13 +92,13 @@ pub walk::prefixed-returns : goal.walk::prefixed-returns
 walk::prefixed-returns t c = term-prefix c.args.r.now.code.now c.args.end c.args.slot c.requires.inside c.requires.far c.args.names.now c.args.places.now c.args.r.now.sizes.now c.args.out.now c.requires.fits _ _ _ _ c.term-t.result _ c.look-a.result c.first_size-f.result c.second_size-g.result c.requires.shape c.term-t.ensures c.look-a.ensures c.first_size-f.ensures c.second_size-g.ensures c.set_node.ensures c.prefix_type.ensures refl
 
 pub walk::quantified-returns : goal.walk::quantified-returns
-walk::quantified-returns t c = pred-quantified c.args.r.now.code.now c.args.end c.args.slot c.requires.inside c.requires.far c.args.names.now c.args.places.now c.args.r.now.sizes.now c.args.out.now c.requires.fits _ _ _ _ _ _ _ _ _ c.domain-d.result c.pred-p.result _ c.index-x.result c.look-old.result c.look-was.result c.next_slot.result c.look-b.result c.requires.shape c.domain-d.ensures c.pred-p.ensures c.next_slot.ensures c.put.ensures c.put-3.ensures c.put-2.ensures c.put-4.ensures (c.index-x.ensures.0 ∙ c.look.ensures) c.look-old.ensures c.look-was.ensures c.look-b.ensures c.set_node.ensures refl refl
+walk::quantified-returns t c = let h = c.bound-p.ensures in pred-quantified c.args.r.now.code.now c.args.end c.args.slot c.requires.inside c.requires.far c.args.names.now c.args.places.now c.args.r.now.sizes.now c.args.out.now c.requires.fits _ _ _ _ _ _ _ _ _ h.over h.body _ h.x h.old h.was h.next c.look-b.result c.requires.shape h.domain h.pred h.next_is h.typed_is h.names_back h.slotted_is h.places_back h.x_is h.old_is h.was_is c.look-b.ensures c.set_node.ensures refl h.start_is
 
 pub walk::related-returns : goal.walk::related-returns
 walk::related-returns t c = pred-related c.args.r.now.code.now c.args.end c.args.slot c.requires.inside c.requires.far c.args.names.now c.args.places.now c.args.r.now.sizes.now c.args.out.now c.requires.fits _ _ _ _ _ _ _ _ _ _ c.term-v.result c.term-u.result c.term-t.result _ c.look-a.result c.related_shape.result _ c.element_size-n.result _ c.requires.shape c.term-v.ensures c.term-u.ensures c.term-t.ensures c.look-a.ensures c.related_shape.ensures refl c.element_size-n.ensures refl c.set_node.ensures refl refl
 
 pub walk::such-returns : goal.walk::such-returns
-walk::such-returns t c = term-such c.args.r.now.code.now c.args.end c.args.slot c.requires.inside c.requires.far c.args.names.now c.args.places.now c.args.r.now.sizes.now c.args.out.now c.requires.fits _ _ _ _ _ _ _ _ _ c.domain-d.result c.pred-p.result _ c.index-x.result c.look-old.result c.look-was.result c.next_slot.result c.requires.shape c.domain-d.ensures c.pred-p.ensures c.next_slot.ensures c.put.ensures c.put-3.ensures c.put-2.ensures c.put-4.ensures (c.index-x.ensures.0 ∙ c.look.ensures) c.look-old.ensures c.look-was.ensures c.set_node.ensures c.set_of.ensures refl
+walk::such-returns t c = let h = c.bound-p.ensures in term-such c.args.r.now.code.now c.args.end c.args.slot c.requires.inside c.requires.far c.args.names.now c.args.places.now c.args.r.now.sizes.now c.args.out.now c.requires.fits _ _ _ _ _ _ _ _ _ h.over h.body _ h.x h.old h.was h.next c.requires.shape h.domain h.pred h.next_is h.typed_is h.names_back h.slotted_is h.places_back h.x_is h.old_is h.was_is c.set_node.ensures (c.set_of.ensures ∙ ap set_of h.kind_is) h.start_is
 
 pub walk::term-returns-then-end-lt-SIZE : goal.walk::term-returns-then-end-lt-SIZE
 walk::term-returns-then-end-lt-SIZE t c = term-short c.args.r.now.code.now c.args.end c.args.slot c.requires.inside c.args.names.now c.args.places.now c.args.r.now.sizes.now c.args.out.now _ c.nothing.ensures c.if-end-lt-SIZE.true

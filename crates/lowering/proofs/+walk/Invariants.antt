@@ -1,8 +1,11 @@
-use Prim.Native.Nat.{◌+◌, ◌*◌}
+use Prim.Native.Nat.{◌+◌, ◌-◌, ◌*◌}
 use Rattle.lowering.proofs.+walk.Given as goal
 
 abbrev pub decreases-walk::sides : goal.decreases-walk::sides
 decreases-walk::sides l = 3 * l.end
+
+abbrev pub decreases-walk::bound : goal.decreases-walk::bound
+decreases-walk::bound l = 3 * l.end - 1
 
 abbrev pub decreases-walk::connected : goal.decreases-walk::connected
 decreases-walk::connected l = 3 * l.end

@@ -159,7 +159,7 @@ pub loop-i-preserved : goal.loop-i-preserved
 loop-i-preserved c = (again-inputs c.loop-i.invariant.0 c.loop-o.invariant.0 (omega (arith, c.loop-o-test.false)) c.next_input-i-in-loop-i.ensures, c.loop-o.invariant.1, c.loop-o.invariant.2, c.loop-o.invariant.3, c.loop-o.invariant.4, c.loop-o.invariant.5)
 
 pub make_mark-requires : goal.make_mark-requires
-make_mark-requires c = record { key_asked = asked-in c.concrete_group-concretes.ensures (concrete-asked c.requires.nest_asked.nest c.masks_of-masks.result); x_lt_count = omega (arith, c.loop-c-test.true, ap (λ (g : KeyGroup). g.count) c.concrete_group-concretes.ensures); marks_len = c.loop-i.invariant.5.long }
+make_mark-requires c = record { key_asked = asked-in c.concrete_group-concretes.ensures (concrete-asked c.requires.nest_asked.nest c.masks_of-masks.result); x_lt_count = omega (arith, c.loop-c-test.true, ap (λ (g : KeyGroup). g.count) c.concrete_group-concretes.ensures) }
 
 pub overflow_add-c : goal.overflow_add-c
 overflow_add-c c = omega (arith, c.loop-c-test.true, c.requires.nest_asked.nest.sized.few_c.1)
@@ -174,7 +174,7 @@ pub loop-c-preserved : goal.loop-c-preserved
 loop-c-preserved c = (again-concretes c.loop-c.invariant.0 c.loop-i.invariant.0 (omega (arith, c.loop-i-test.false)) c.pair_mark-mark.ensures c.next_open_concrete-c-in-loop-c.ensures.answers, c.loop-i.invariant.1, c.loop-i.invariant.2, c.next_open_concrete-c-in-loop-c.ensures.remembers, c.loop-i.invariant.4, (pair-marked c.masks_of-masks.ensures c.abstracts-test.true c.loop-i.invariant.5 c.loop-i.invariant.0 (omega (arith, c.loop-i-test.false)) c.loop-c-test.true c.pair_mark-mark.ensures c.is_within-whole.ensures (marked-in _ _ c.concrete_group-concretes.ensures c.make_mark.ensures)))
 
 pub make_mark-requires-in-abstracts : goal.make_mark-requires-in-abstracts
-make_mark-requires-in-abstracts c = record { key_asked = asked-in c.whole_group-wholes.ensures (whole-asked c.requires.nest_asked.nest c.masks_of-masks.result); x_lt_count = omega (arith, c.abstracts-test.true, ap (λ (g : KeyGroup). g.count) c.whole_group-wholes.ensures); marks_len = c.loop-c.invariant.4.long }
+make_mark-requires-in-abstracts c = record { key_asked = asked-in c.whole_group-wholes.ensures (whole-asked c.requires.nest_asked.nest c.masks_of-masks.result); x_lt_count = omega (arith, c.abstracts-test.true, ap (λ (g : KeyGroup). g.count) c.whole_group-wholes.ensures) }
 
 pub overflow_add-a : goal.overflow_add-a
 overflow_add-a c = omega (arith, c.abstracts-test.true, c.requires.nest_asked.nest.sized.few_a.1)

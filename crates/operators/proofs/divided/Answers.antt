@@ -10,13 +10,13 @@ use Rattle.operators.proofs.divided.Goals as goal
 pub overflow_cast-x : goal.overflow_cast-x
 overflow_cast-x c = narrow-fits c.args.x c.ranges.x c.requires
 
-pub returns-then-how-lt2 : goal.returns-then-how-lt2
-returns-then-how-lt2 c = read c.floor_div.type_inv ∙ c.floor_div.ensures ∙ ap₂ floor_div (narrow_back c.args.x c.ranges.x c.requires) (to_z-of_z {w = w32} (record { sfits = c.divisor.type_inv }) ∙ c.divisor.ensures)
-    ∙ is-quotient c.args.magnitude c.args.how c.args.x c.if-how-lt2.true
+pub returns-then-how-lt-REMAINDER : goal.returns-then-how-lt-REMAINDER
+returns-then-how-lt-REMAINDER c = read c.floor_div.type_inv ∙ c.floor_div.ensures ∙ ap₂ floor_div (narrow_back c.args.x c.ranges.x c.requires) (to_z-of_z {w = w32} (record { sfits = c.divisor.type_inv }) ∙ c.divisor.ensures)
+    ∙ is-quotient c.args.magnitude c.args.how c.args.x c.if-how-lt-REMAINDER.true
 
 pub overflow_cast-x-2 : goal.overflow_cast-x-2
 overflow_cast-x-2 c = narrow-fits c.args.x c.ranges.x c.requires
 
 pub returns : goal.returns
 returns c = read c.floor_mod.type_inv ∙ c.floor_mod.ensures ∙ ap₂ floor_mod (narrow_back c.args.x c.ranges.x c.requires) (to_z-of_z {w = w32} (record { sfits = c.divisor-2.type_inv }) ∙ c.divisor-2.ensures)
-    ∙ is-remainder c.args.magnitude c.args.how c.args.x c.if-how-lt2.false
+    ∙ is-remainder c.args.magnitude c.args.how c.args.x c.if-how-lt-REMAINDER.false

@@ -7,8 +7,8 @@ use Rattle.operators.proofs.divisor.Goals as goal
 pub overflow_sub-result : goal.overflow_sub-result
 overflow_sub-result c = below-fits c.args.magnitude c.ranges.magnitude
 
-pub returns-then-how-eq1 : goal.returns-then-how-eq1
-returns-then-how-eq1 c = below-back c.args.magnitude c.ranges.magnitude ∙ below-divisor c.args.magnitude c.args.how c.if-how-eq1.true
+pub returns-then-how-eq-NEGATIVE : goal.returns-then-how-eq-NEGATIVE
+returns-then-how-eq-NEGATIVE c = below-back c.args.magnitude c.ranges.magnitude ∙ below-divisor c.args.magnitude c.args.how c.if-how-eq-NEGATIVE.true
 
 pub returns : goal.returns
-returns c = of_16_in_32 c.args.magnitude c.ranges.magnitude ∙ plain-divisor c.args.magnitude c.args.how c.if-how-eq1.false
+returns c = of_16_in_32 c.args.magnitude c.ranges.magnitude ∙ plain-divisor c.args.magnitude c.args.how c.if-how-eq-NEGATIVE.false

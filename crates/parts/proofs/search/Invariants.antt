@@ -1,7 +1,5 @@
-use mathlib.Core.Path.{◌≡◌}
-use Rattle.std.specs.Prelude.{None}
 use Rattle.parts.proofs.SearchLaws.{Gone}
 use Rattle.parts.proofs.search.Given as goal
 
-abbrev pub invariant-parts : goal.invariant-parts
-invariant-parts l = Gone l.d.table.now l.d.rows.now l.d.firsts.now l.d.groups.now l.d.operations l.from l.end l.k l.begin l.at × (l.failing ≡ None)
+abbrev pub invariant-loop-k : goal.invariant-loop-k
+invariant-loop-k l = Gone l.d.table.now l.d.rows.now l.d.firsts.now l.d.groups.now l.d.operations l.from l.end l.k l.begin l.at

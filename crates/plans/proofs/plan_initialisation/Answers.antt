@@ -1,37 +1,53 @@
 -- `plans::plan_initialisation` meets its contract: five searches, one behind the other. Assumes nothing.
+use mathlib.Core.List.{List}
+use mathlib.Core.Path.{sym, subst, ◌∙◌}
+use Prim.Native.Nat.{ℕ}
 use native.Mathlib.Omega.{arith}
+use borrow.Author.Rules.{rules}
+use Rattle.plans.specs.PlanPromises.{InitialisationPlan}
 use Rattle.plans.proofs.LaidSearches.{between, rows_by, many-low, rows-nothing, room_of, searched_by}
 use Rattle.plans.proofs.FinishedPlans.{initialisation-plan}
 use Rattle.plans.proofs.plan_initialisation.Goals as goal
 
 pub over-requires : goal.over-requires
-over-requires c = between c.args.rows.now c.args.firsts.now 1 c.requires.concretely
+over-requires c = between c.args.d.now.rows.now c.args.d.now.firsts.now 1 c.requires.concretely
 
 pub over-requires-2 : goal.over-requires-2
-over-requires-2 c = between c.args.rows.now c.args.firsts.now 3 c.requires.cinit
+over-requires-2 c = between c.args.d.now.rows.now c.args.d.now.firsts.now 3 c.requires.cinit
 
-pub plan_search-k-requires : goal.plan_search-k-requires
-plan_search-k-requires c = room_of c.over.ensures c.over-2.ensures c.none.ensures (rows_by c.args.rows.now c.args.firsts.now 1 c.requires.concretely _ _ _ _ (omega arith) (omega arith) (omega arith) (omega arith)) (rows_by c.args.rows.now c.args.firsts.now 3 c.requires.cinit _ _ _ _ (omega arith) (omega arith) (omega arith) (omega arith)) (rows-nothing c.args.rows.now) (omega arith) (omega (arith, c.plan_nothing-k.ensures.onward))
-    (omega (arith, c.plan_nothing-k.ensures.end, many-low c.args.rows.now c.args.firsts.now 1 c.requires.concretely, many-low c.args.rows.now c.args.firsts.now 3 c.requires.cinit))
+pub search-requires : goal.search-requires
+search-requires c = room_of c.over.ensures c.over-2.ensures c.none.ensures (rows_by c.args.d.now.rows.now c.args.d.now.firsts.now 1 c.requires.concretely _ _ _ _ (omega arith) (omega arith) (omega arith) (omega arith)) (rows_by c.args.d.now.rows.now c.args.d.now.firsts.now 3 c.requires.cinit _ _ _ _ (omega arith) (omega arith) (omega arith) (omega arith)) (rows-nothing c.args.d.now.rows.now) (omega arith) (omega (arith, c.head.ensures.same_place, c.nothing.ensures.laying.onward))
+    (omega (arith, c.head.ensures.same_place, c.nothing.ensures.laying.end, many-low c.args.d.now.rows.now c.args.d.now.firsts.now 1 c.requires.concretely, many-low c.args.d.now.rows.now c.args.d.now.firsts.now 3 c.requires.cinit))
 
-pub plan_nothing-k-requires-2 : goal.plan_nothing-k-requires-2
-plan_nothing-k-requires-2 c = (omega arith, omega (arith, c.plan_nothing-k.ensures.onward, c.plan_nothing-k.ensures.end, (searched_by c.over.ensures c.over-2.ensures c.none.ensures (omega (arith, c.plan_nothing-k.ensures.onward)) c.head.ensures c.plan_search-k.ensures).onward, (searched_by c.over.ensures c.over-2.ensures c.none.ensures (omega (arith, c.plan_nothing-k.ensures.onward)) c.head.ensures c.plan_search-k.ensures).end, many-low c.args.rows.now c.args.firsts.now 1 c.requires.concretely, many-low c.args.rows.now c.args.firsts.now 3 c.requires.cinit), omega (arith, c.plan_nothing-k.ensures.onward, c.plan_nothing-k.ensures.end, (searched_by c.over.ensures c.over-2.ensures c.none.ensures (omega (arith, c.plan_nothing-k.ensures.onward)) c.head.ensures c.plan_search-k.ensures).onward, (searched_by c.over.ensures c.over-2.ensures c.none.ensures (omega (arith, c.plan_nothing-k.ensures.onward)) c.head.ensures c.plan_search-k.ensures).end, many-low c.args.rows.now c.args.firsts.now 1 c.requires.concretely, many-low c.args.rows.now c.args.firsts.now 3 c.requires.cinit))
+pub nothing-requires-2 : goal.nothing-requires-2
+nothing-requires-2 c =
+    let related = searched_by c.over.ensures c.over-2.ensures c.none.ensures c.head.ensures.same_place (omega (arith, c.nothing.ensures.laying.onward)) c.head.ensures.headed c.search.ensures.laying in
+    (omega arith, omega (arith, c.nothing.ensures.laying.onward, related.onward), omega (arith, c.nothing.ensures.laying.end, related.end, many-low c.args.d.now.rows.now c.args.d.now.firsts.now 1 c.requires.concretely, many-low c.args.d.now.rows.now c.args.d.now.firsts.now 3 c.requires.cinit))
 
-pub plan_nothing-k-requires-3 : goal.plan_nothing-k-requires-3
-plan_nothing-k-requires-3 c = (omega arith, omega (arith, c.plan_nothing-k.ensures.onward, c.plan_nothing-k.ensures.end, (searched_by c.over.ensures c.over-2.ensures c.none.ensures (omega (arith, c.plan_nothing-k.ensures.onward)) c.head.ensures c.plan_search-k.ensures).onward, (searched_by c.over.ensures c.over-2.ensures c.none.ensures (omega (arith, c.plan_nothing-k.ensures.onward)) c.head.ensures c.plan_search-k.ensures).end, many-low c.args.rows.now c.args.firsts.now 1 c.requires.concretely, many-low c.args.rows.now c.args.firsts.now 3 c.requires.cinit, c.plan_nothing-k-2.ensures.onward, c.plan_nothing-k-2.ensures.end), omega (arith, c.plan_nothing-k.ensures.onward, c.plan_nothing-k.ensures.end, (searched_by c.over.ensures c.over-2.ensures c.none.ensures (omega (arith, c.plan_nothing-k.ensures.onward)) c.head.ensures c.plan_search-k.ensures).onward, (searched_by c.over.ensures c.over-2.ensures c.none.ensures (omega (arith, c.plan_nothing-k.ensures.onward)) c.head.ensures c.plan_search-k.ensures).end, many-low c.args.rows.now c.args.firsts.now 1 c.requires.concretely, many-low c.args.rows.now c.args.firsts.now 3 c.requires.cinit, c.plan_nothing-k-2.ensures.onward, c.plan_nothing-k-2.ensures.end))
+pub nothing-requires-3 : goal.nothing-requires-3
+nothing-requires-3 c =
+    let related = searched_by c.over.ensures c.over-2.ensures c.none.ensures c.head.ensures.same_place (omega (arith, c.nothing.ensures.laying.onward)) c.head.ensures.headed c.search.ensures.laying in
+    (omega arith, omega (arith, c.nothing.ensures.laying.onward, related.onward, c.nothing-2.ensures.laying.onward), omega (arith, c.nothing.ensures.laying.end, related.end, c.nothing-2.ensures.laying.end, many-low c.args.d.now.rows.now c.args.d.now.firsts.now 1 c.requires.concretely, many-low c.args.d.now.rows.now c.args.d.now.firsts.now 3 c.requires.cinit))
 
 pub over-requires-3 : goal.over-requires-3
-over-requires-3 c = between c.args.rows.now c.args.firsts.now 0 c.requires.abstractly
+over-requires-3 c = between c.args.d.now.rows.now c.args.d.now.firsts.now 0 c.requires.abstractly
 
 pub over-requires-4 : goal.over-requires-4
-over-requires-4 c = between c.args.rows.now c.args.firsts.now 2 c.requires.ainit
+over-requires-4 c = between c.args.d.now.rows.now c.args.d.now.firsts.now 2 c.requires.ainit
 
 pub over-requires-5 : goal.over-requires-5
-over-requires-5 c = between c.args.rows.now c.args.firsts.now 4 c.requires.retrieve
+over-requires-5 c = between c.args.d.now.rows.now c.args.d.now.firsts.now 4 c.requires.retrieve
 
-pub plan_search-requires : goal.plan_search-requires
-plan_search-requires c = room_of c.over-3.ensures c.over-4.ensures c.over-5.ensures (rows_by c.args.rows.now c.args.firsts.now 0 c.requires.abstractly _ _ _ _ (omega arith) (omega arith) (omega arith) (omega arith)) (rows_by c.args.rows.now c.args.firsts.now 2 c.requires.ainit _ _ _ _ (omega arith) (omega arith) (omega arith) (omega arith)) (rows_by c.args.rows.now c.args.firsts.now 4 c.requires.retrieve _ _ _ _ (omega arith) (omega arith) (omega arith) (omega arith)) (omega arith)
-    (omega (arith, c.plan_nothing-k.ensures.onward, c.plan_nothing-k.ensures.end, (searched_by c.over.ensures c.over-2.ensures c.none.ensures (omega (arith, c.plan_nothing-k.ensures.onward)) c.head.ensures c.plan_search-k.ensures).onward, (searched_by c.over.ensures c.over-2.ensures c.none.ensures (omega (arith, c.plan_nothing-k.ensures.onward)) c.head.ensures c.plan_search-k.ensures).end, many-low c.args.rows.now c.args.firsts.now 1 c.requires.concretely, many-low c.args.rows.now c.args.firsts.now 3 c.requires.cinit, c.plan_nothing-k-2.ensures.onward, c.plan_nothing-k-2.ensures.end, c.plan_nothing-k-3.ensures.onward, c.plan_nothing-k-3.ensures.end)) (omega (arith, c.plan_nothing-k.ensures.onward, c.plan_nothing-k.ensures.end, (searched_by c.over.ensures c.over-2.ensures c.none.ensures (omega (arith, c.plan_nothing-k.ensures.onward)) c.head.ensures c.plan_search-k.ensures).onward, (searched_by c.over.ensures c.over-2.ensures c.none.ensures (omega (arith, c.plan_nothing-k.ensures.onward)) c.head.ensures c.plan_search-k.ensures).end, many-low c.args.rows.now c.args.firsts.now 1 c.requires.concretely, many-low c.args.rows.now c.args.firsts.now 3 c.requires.cinit, c.plan_nothing-k-2.ensures.onward, c.plan_nothing-k-2.ensures.end, c.plan_nothing-k-3.ensures.onward, c.plan_nothing-k-3.ensures.end, many-low c.args.rows.now c.args.firsts.now 0 c.requires.abstractly, many-low c.args.rows.now c.args.firsts.now 2 c.requires.ainit, many-low c.args.rows.now c.args.firsts.now 4 c.requires.retrieve))
+pub search-requires-2 : goal.search-requires-2
+search-requires-2 c =
+    let related = searched_by c.over.ensures c.over-2.ensures c.none.ensures c.head.ensures.same_place (omega (arith, c.nothing.ensures.laying.onward)) c.head.ensures.headed c.search.ensures.laying in
+    room_of c.over-3.ensures c.over-4.ensures c.over-5.ensures (rows_by c.args.d.now.rows.now c.args.d.now.firsts.now 0 c.requires.abstractly _ _ _ _ (omega arith) (omega arith) (omega arith) (omega arith)) (rows_by c.args.d.now.rows.now c.args.d.now.firsts.now 2 c.requires.ainit _ _ _ _ (omega arith) (omega arith) (omega arith) (omega arith)) (rows_by c.args.d.now.rows.now c.args.d.now.firsts.now 4 c.requires.retrieve _ _ _ _ (omega arith) (omega arith) (omega arith) (omega arith)) (omega arith)
+    (omega (arith, c.head-2.ensures.same_place, c.nothing.ensures.laying.onward, related.onward, c.nothing-2.ensures.laying.onward, c.nothing-3.ensures.laying.onward))
+    (omega (arith, c.head-2.ensures.same_place, c.nothing.ensures.laying.end, related.end, c.nothing-2.ensures.laying.end, c.nothing-3.ensures.laying.end, many-low c.args.d.now.rows.now c.args.d.now.firsts.now 1 c.requires.concretely, many-low c.args.d.now.rows.now c.args.d.now.firsts.now 3 c.requires.cinit, many-low c.args.d.now.rows.now c.args.d.now.firsts.now 0 c.requires.abstractly, many-low c.args.d.now.rows.now c.args.d.now.firsts.now 2 c.requires.ainit, many-low c.args.d.now.rows.now c.args.d.now.firsts.now 4 c.requires.retrieve))
 
 pub returns : goal.returns
-returns c = initialisation-plan c.args.rows.now c.args.firsts.now c.plan_nothing-k.ensures (searched_by c.over.ensures c.over-2.ensures c.none.ensures (omega (arith, c.plan_nothing-k.ensures.onward)) c.head.ensures c.plan_search-k.ensures) c.plan_nothing-k-2.ensures c.plan_nothing-k-3.ensures (searched_by c.over-3.ensures c.over-4.ensures c.over-5.ensures (omega (arith, c.plan_nothing-k.ensures.onward, c.plan_nothing-k.ensures.end, (searched_by c.over.ensures c.over-2.ensures c.none.ensures (omega (arith, c.plan_nothing-k.ensures.onward)) c.head.ensures c.plan_search-k.ensures).onward, (searched_by c.over.ensures c.over-2.ensures c.none.ensures (omega (arith, c.plan_nothing-k.ensures.onward)) c.head.ensures c.plan_search-k.ensures).end, many-low c.args.rows.now c.args.firsts.now 1 c.requires.concretely, many-low c.args.rows.now c.args.firsts.now 3 c.requires.cinit, c.plan_nothing-k-2.ensures.onward, c.plan_nothing-k-2.ensures.end, c.plan_nothing-k-3.ensures.onward, c.plan_nothing-k-3.ensures.end)) c.head-2.ensures c.plan_search.ensures)
+returns c =
+    let related = searched_by c.over.ensures c.over-2.ensures c.none.ensures c.head.ensures.same_place (omega (arith, c.nothing.ensures.laying.onward)) c.head.ensures.headed c.search.ensures.laying in
+    subst (λ (plan : List ℕ). InitialisationPlan c.args.d.now.rows.now c.args.d.now.firsts.now plan) (sym (search (rules, c.search-2.ensures.same_plan ∙ c.head-2.ensures.same_plan ∙ c.nothing-3.ensures.same_plan ∙ c.nothing-2.ensures.same_plan ∙ c.search.ensures.same_plan ∙ c.head.ensures.same_plan ∙ c.nothing.ensures.same_plan)))
+    (initialisation-plan c.args.d.now.rows.now c.args.d.now.firsts.now c.nothing.ensures.laying related c.nothing-2.ensures.laying c.nothing-3.ensures.laying
+    (searched_by c.over-3.ensures c.over-4.ensures c.over-5.ensures c.head-2.ensures.same_place (omega (arith, c.nothing.ensures.laying.onward, related.onward, c.nothing-2.ensures.laying.onward, c.nothing-3.ensures.laying.onward)) c.head-2.ensures.headed c.search-2.ensures.laying))

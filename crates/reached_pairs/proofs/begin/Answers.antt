@@ -18,14 +18,13 @@ returns-then-pairs-gt-PAIRS c = begun-none _
 
 pub begin_all-requires : goal.begin_all-requires
 begin_all-requires c = record {
-  open_pairs_asked = lent (λ t q x p. OpenPairsAsked t q x p c.args.marks.now) c.search-s.ensures.table c.search-s.ensures.plan c.search-s.ensures.cells c.search-s.ensures.part
+  open_pairs_asked = lent OpenPairsAsked c.search-s.ensures.table c.search-s.ensures.plan c.search-s.ensures.cells c.search-s.ensures.part
       (record {
         opening = record {
           dossier = c.requires.open_asked.dossier;
           searches = c.prepare_opening-ready.ensures.searches c.requires.open_asked.dossier c.requires.open_asked.reading;
         };
         room = omega (arith, c.if-pairs-gt-PAIRS.false);
-        long = c.requires.marks_len;
       });
   memo = blank_memo 8098 refl;
 }

@@ -1,5 +1,4 @@
 -- `begin_all` meets its contract: the pairs with the concrete initial states before c have their marks. Assumes nothing.
-use mathlib.Core.Path.{◌∙◌}
 use native.Mathlib.Omega.{arith}
 use Rattle.std.proofs.Common.{ap}
 use Rattle.std.specs.Prelude.{ℕ, Option, unwrap_or}
@@ -13,7 +12,7 @@ pub loop-next-init : goal.loop-next-init
 loop-next-init c = (states-start _ c.next_initial_state-next.ensures.found, c.next_initial_state-next.ensures.remembers, c.next_initial_state-next.ensures.low)
 
 pub begin_with-requires : goal.begin_with-requires
-begin_with-requires c = record { c_lt_nc = (rw c.in-Some.is at c.loop-next.invariant.2); open_pairs_asked = record { opening = c.requires.open_pairs_asked.opening; room = c.requires.open_pairs_asked.room; long = c.loop-next.invariant.0.long ∙ c.requires.open_pairs_asked.long }; memo = c.loop-next.invariant.1 }
+begin_with-requires c = record { c_lt_nc = (rw c.in-Some.is at c.loop-next.invariant.2); open_pairs_asked = c.requires.open_pairs_asked; memo = c.loop-next.invariant.1 }
 
 pub overflow_add-c : goal.overflow_add-c
 overflow_add-c c = omega (arith, (rw c.in-Some.is at c.loop-next.invariant.2), (few_c c.requires.open_pairs_asked.opening.searches).1)

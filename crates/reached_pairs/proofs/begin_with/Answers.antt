@@ -18,8 +18,8 @@ overflow_mul-a c = omega (arith, (pair_inside c.in-Some.a c.args.c c.args.s.now.
 pub overflow_add-a : goal.overflow_add-a
 overflow_add-a c = omega (arith, (pair_inside c.in-Some.a c.args.c c.args.s.now.part.nm c.args.s.now.part.nc (rw c.in-Some.is at c.loop-next.invariant.2) c.requires.c_lt_nc), c.requires.open_pairs_asked.room)
 
-pub mark-requires : goal.mark-requires
-mark-requires c = (omega (arith, (pair_inside c.in-Some.a c.args.c c.args.s.now.part.nm c.args.s.now.part.nc (rw c.in-Some.is at c.loop-next.invariant.2) c.requires.c_lt_nc), c.requires.open_pairs_asked.room, c.requires.open_pairs_asked.long, c.loop-next.invariant.0.long), omega arith)
+pub put_mark-requires : goal.put_mark-requires
+put_mark-requires c = (omega (arith, (pair_inside c.in-Some.a c.args.c c.args.s.now.part.nm c.args.s.now.part.nc (rw c.in-Some.is at c.loop-next.invariant.2) c.requires.c_lt_nc), c.requires.open_pairs_asked.room), omega arith)
 
 pub overflow_add-a-in-Some : goal.overflow_add-a-in-Some
 overflow_add-a-in-Some c = omega (arith, (rw c.in-Some.is at c.loop-next.invariant.2), (few_a c.requires.open_pairs_asked.opening.searches).1)
@@ -31,7 +31,7 @@ pub loop-next-smaller : goal.loop-next-smaller
 loop-next-smaller c = omega (arith, ap (λ (o : Option ℕ). unwrap_or o c.args.s.now.part.nm) c.in-Some.is, (rw c.in-Some.is at c.loop-next.invariant.2), (c.next_initial_match-next-in-Some.ensures.found.sought _ c.requires.open_pairs_asked.opening.searches).low)
 
 pub loop-next-preserved : goal.loop-next-preserved
-loop-next-preserved c = (open_next (rw c.in-Some.is at c.loop-next.invariant.0) c.requires.c_lt_nc (rw c.in-Some.is at c.loop-next.invariant.2) c.mark.ensures c.next_initial_match-next-in-Some.ensures.found, c.next_initial_match-next-in-Some.ensures.remembers, c.next_initial_match-next-in-Some.ensures.low)
+loop-next-preserved c = (open_next (rw c.in-Some.is at c.loop-next.invariant.0) c.requires.c_lt_nc (rw c.in-Some.is at c.loop-next.invariant.2) c.put_mark.ensures c.next_initial_match-next-in-Some.ensures.found, c.next_initial_match-next-in-Some.ensures.remembers, c.next_initial_match-next-in-Some.ensures.low)
 
 pub returns : goal.returns
 returns c = record { grown = open_done (rw c.in_default.is at c.loop-next.invariant.0) (omega arith); remembers = c.loop-next.invariant.1 }

@@ -13,8 +13,8 @@ prepare-ready-requires c = c.requires.prepare_asked
 pub spread_pairs-requires : goal.spread_pairs-requires
 spread_pairs-requires c = record {
   j_bound = (operation-few c.requires.prepare_asked, c.requires.n_nonzero.0, c.requires.n_nonzero.1);
-  pairs_asked = lent (λ t q x p. PairsAsked t q x p c.args.marks.now) c.search-s.ensures.table c.search-s.ensures.plan c.search-s.ensures.cells c.search-s.ensures.part
-      (pairs-asked c.requires.prepare_asked c.requires.pairs_are c.prepare-ready.ensures c.requires.n_nonzero.2);
+  pairs_asked = lent PairsAsked c.search-s.ensures.table c.search-s.ensures.plan c.search-s.ensures.cells c.search-s.ensures.part
+      (pairs-asked c.requires.prepare_asked c.requires.pairs_are c.prepare-ready.ensures);
   memo = blank_memo 8098 refl;
 }
 

@@ -1,5 +1,4 @@
 -- `spread_layer` meets its contract: what the operations before j lead to has its marks. Assumes nothing.
-use mathlib.Core.Path.{◌∙◌}
 use native.Mathlib.Omega.{arith}
 use Rattle.reached_pairs.proofs.SpreadLayers.{layer-start, layer-next, layer-done, layer_prepare}
 use Rattle.reached_pairs.proofs.spread_layer.Goals as goal
@@ -8,7 +7,7 @@ pub loop-j-init : goal.loop-j-init
 loop-j-init c = (layer-start _, omega arith)
 
 pub spread-requires : goal.spread-requires
-spread-requires c = record { n_nonzero = (c.requires.n_nonzero.0, c.requires.n_nonzero.1, c.loop-j.invariant.0.long ∙ c.requires.n_nonzero.2); prepare_asked = layer_prepare c.requires.reach_asked c.loop-j-test.true; pairs_are = c.requires.pairs_are }
+spread-requires c = record { n_nonzero = (c.requires.n_nonzero.0, c.requires.n_nonzero.1); prepare_asked = layer_prepare c.requires.reach_asked c.loop-j-test.true; pairs_are = c.requires.pairs_are }
 
 pub loop-j-preserved : goal.loop-j-preserved
 loop-j-preserved c = (layer-next c.requires.n_nonzero.0 c.loop-j.invariant.0 c.spread.ensures, omega (arith, c.loop-j-test.true))

@@ -19,8 +19,8 @@ overflow_mul-x c = omega (arith, (pair_inside c.in-Some.x c.args.b.k c.args.s.no
 pub overflow_add-x : goal.overflow_add-x
 overflow_add-x c = omega (arith, (pair_inside c.in-Some.x c.args.b.k c.args.s.now.part.na c.args.s.now.part.nc (rw c.in-Some.is at c.loop-next.invariant.2) c.requires.below.0.k_low), c.requires.pairs_asked.room)
 
-pub mark-requires : goal.mark-requires
-mark-requires c = (omega (arith, (pair_inside c.in-Some.x c.args.b.k c.args.s.now.part.na c.args.s.now.part.nc (rw c.in-Some.is at c.loop-next.invariant.2) c.requires.below.0.k_low), c.requires.pairs_asked.room, c.requires.pairs_asked.long, c.loop-next.invariant.0.long), c.requires.below.1)
+pub put_mark-requires : goal.put_mark-requires
+put_mark-requires c = (omega (arith, (pair_inside c.in-Some.x c.args.b.k c.args.s.now.part.na c.args.s.now.part.nc (rw c.in-Some.is at c.loop-next.invariant.2) c.requires.below.0.k_low), c.requires.pairs_asked.room), c.requires.below.1)
 
 pub overflow_add-x-in-Some : goal.overflow_add-x-in-Some
 overflow_add-x-in-Some c = omega (arith, (rw c.in-Some.is at c.loop-next.invariant.2), (sizes c.requires.pairs_asked.steps.searches).0.1)
@@ -32,7 +32,7 @@ pub loop-next-smaller : goal.loop-next-smaller
 loop-next-smaller c = omega (arith, ap (λ (o : Option ℕ). unwrap_or o c.args.s.now.part.na) c.in-Some.is, (rw c.in-Some.is at c.loop-next.invariant.2), (c.next_matching_state-next-in-Some.ensures.found.sought _ _ c.requires.pairs_asked.steps.searches).low)
 
 pub loop-next-preserved : goal.loop-next-preserved
-loop-next-preserved c = (matches-next (rw c.in-Some.is at c.loop-next.invariant.0) c.requires.below.0 (rw c.in-Some.is at c.loop-next.invariant.2) c.mark.ensures c.next_matching_state-next-in-Some.ensures.found, c.next_matching_state-next-in-Some.ensures.remembers, c.next_matching_state-next-in-Some.ensures.low)
+loop-next-preserved c = (matches-next (rw c.in-Some.is at c.loop-next.invariant.0) c.requires.below.0 (rw c.in-Some.is at c.loop-next.invariant.2) c.put_mark.ensures c.next_matching_state-next-in-Some.ensures.found, c.next_matching_state-next-in-Some.ensures.remembers, c.next_matching_state-next-in-Some.ensures.low)
 
 pub returns : goal.returns
 returns c = record { grown = matches-done (rw c.in_default.is at c.loop-next.invariant.0) (omega arith); remembers = c.loop-next.invariant.1 }

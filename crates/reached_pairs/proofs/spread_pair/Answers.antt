@@ -5,7 +5,7 @@ use Rattle.reached_pairs.proofs.SpreadLayers.{pair-other, pair-spread}
 use Rattle.reached_pairs.proofs.spread_pair.Goals as goal
 
 pub is_of-requires : goal.is_of-requires
-is_of-requires c = omega (arith, c.requires.x_bound.0, c.requires.pairs_asked.room, c.requires.pairs_asked.long)
+is_of-requires c = omega (arith, c.requires.x_bound.0, c.requires.pairs_asked.room)
 
 pub returns-then-not-is_of : goal.returns-then-not-is_of
 returns-then-not-is_of c = record { grown = pair-other _ (c.is_of.ensures.1 (not-true c.is_of.result c.if-not-is_of.true-raw)); remembers = c.requires.memo }

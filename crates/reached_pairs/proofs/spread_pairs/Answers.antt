@@ -1,5 +1,4 @@
 -- `spread_pairs` meets its contract: what the pairs before x lead to has its marks. Assumes nothing.
-use mathlib.Core.Path.{◌∙◌}
 use native.Mathlib.Omega.{arith}
 use Rattle.reached_pairs.proofs.SpreadLayers.{pairs_start, pairs_next, pairs-done}
 use Rattle.reached_pairs.proofs.spread_pairs.Goals as goal
@@ -11,7 +10,7 @@ pub loop-x-init : goal.loop-x-init
 loop-x-init c = (pairs_start _, c.requires.memo)
 
 pub spread_pair-requires : goal.spread_pair-requires
-spread_pair-requires c = record { x_bound = (c.loop-x-test.true, c.requires.j_bound.0, c.requires.j_bound.2); pairs_asked = record { steps = c.requires.pairs_asked.steps; room = c.requires.pairs_asked.room; long = c.loop-x.invariant.0.long ∙ c.requires.pairs_asked.long }; memo = c.loop-x.invariant.1 }
+spread_pair-requires c = record { x_bound = (c.loop-x-test.true, c.requires.j_bound.0, c.requires.j_bound.2); pairs_asked = c.requires.pairs_asked; memo = c.loop-x.invariant.1 }
 
 pub loop-x-preserved : goal.loop-x-preserved
 loop-x-preserved c = (pairs_next c.requires.j_bound.1 c.loop-x.invariant.0 c.spread_pair.ensures.grown, c.spread_pair.ensures.remembers)

@@ -1,6 +1,5 @@
 -- `spread_steps` meets its contract: what the concrete steps before r lead to has its marks. Assumes nothing.
 use Prim.Native.Nat.{◌*◌}
-use mathlib.Core.Path.{◌∙◌}
 use native.Mathlib.Omega.{arith}
 use Rattle.std.proofs.Common.{ap}
 use Rattle.std.specs.Prelude.{ℕ, Option, unwrap_or}
@@ -27,7 +26,7 @@ pub nonzero_rem-b : goal.nonzero_rem-b
 nonzero_rem-b c = omega (arith, (low_digit c.args.x c.args.s.now.part.na c.args.s.now.part.nc c.requires.x_bound.0))
 
 pub spread_matches-requires : goal.spread_matches-requires
-spread_matches-requires c = record { below = (record { a_low = (high_digit c.args.x c.args.s.now.part.na c.args.s.now.part.nc c.requires.x_bound.0); i_low = c.requires.x_bound.1; o_low = high_digit _ _ _ (rw c.in-Some.is at c.loop-next.invariant.2); k_low = low_digit _ c.args.s.now.part.nq _ (rw c.in-Some.is at c.loop-next.invariant.2) }, c.requires.x_bound.2); pairs_asked = record { steps = c.requires.pairs_asked.steps; room = c.requires.pairs_asked.room; long = c.loop-next.invariant.0.long ∙ c.requires.pairs_asked.long }; memo = c.loop-next.invariant.1 }
+spread_matches-requires c = record { below = (record { a_low = (high_digit c.args.x c.args.s.now.part.na c.args.s.now.part.nc c.requires.x_bound.0); i_low = c.requires.x_bound.1; o_low = high_digit _ _ _ (rw c.in-Some.is at c.loop-next.invariant.2); k_low = low_digit _ c.args.s.now.part.nq _ (rw c.in-Some.is at c.loop-next.invariant.2) }, c.requires.x_bound.2); pairs_asked = c.requires.pairs_asked; memo = c.loop-next.invariant.1 }
 
 pub overflow_add-r : goal.overflow_add-r
 overflow_add-r c = omega (arith, (rw c.in-Some.is at c.loop-next.invariant.2), (few-steps c.requires.pairs_asked.steps.searches))

@@ -16,8 +16,8 @@ put_decimal-requires-2 c = place-room c.from.result c.put_all.ensures.written c.
 
 pub put-requires : goal.put-requires
 unfolding bytes
-put-requires c = newline-room c.from.result c.put_all.ensures.written c.put_decimal.ensures.written (omega (arith, c.from.ensures, c.number.type_inv)) c.requires c.put_all-2.ensures.written c.args.place c.put_decimal-2.ensures.written (omega (arith, c.ranges.place))
+put-requires c = newline-room c.from.result c.put_all.ensures.written c.put_decimal.ensures.written (omega (arith, c.from.ensures, c.number.type_inv)) c.requires c.put_all-2.ensures.written c.args.f.place c.put_decimal-2.ensures.written (search rules)
 
 pub returns : goal.returns
 unfolding bytes
-returns c = let w = refusal-written c.from.result c.put_all.ensures.written c.put_decimal.ensures.written (omega (arith, c.from.ensures, c.number.type_inv)) c.requires c.put_all-2.ensures.written c.args.place c.put_decimal-2.ensures.written (omega (arith, c.ranges.place)) c.put.ensures.written in (refusal_in c.args.place (c.from.ensures ∙ c.number.ensures) w (search rules), omega (arith, w.end, refusal-short c.from.result c.args.place (omega (arith, c.from.ensures, c.number.type_inv)) (omega (arith, c.ranges.place))))
+returns c = let w = refusal-written c.from.result c.put_all.ensures.written c.put_decimal.ensures.written (omega (arith, c.from.ensures, c.number.type_inv)) c.requires c.put_all-2.ensures.written c.args.f.place c.put_decimal-2.ensures.written (search rules) c.put.ensures.written in (refusal_in c.args.f.place (c.from.ensures ∙ c.number.ensures) w (search rules), omega (arith, w.end, refusal-short c.from.result c.args.f.place (omega (arith, c.from.ensures, c.number.type_inv)) (search rules)))

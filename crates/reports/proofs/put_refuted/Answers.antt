@@ -1,29 +1,28 @@
--- `reports::put_refuted` meets its contract: the first line of a refuted check, by its part. Assumes nothing.
-use Prim.Native.Nat.{◌/◌, ◌+◌, ◌-◌}
-use mathlib.Core.Path.{refl}
+-- `reports::put_refuted` meets its contract: the first line of a refuted check, by its obligation. Assumes nothing.
+use Prim.Native.Nat.{◌+◌}
 use native.Mathlib.Omega.{arith}
 use lib.ListN.{get_or}
 use Rattle.lexical.specs.Lists.{bytes}
 use Rattle.reports.proofs.LineRooms.{title-room}
-use Rattle.reports.proofs.LineLaws.{opening-line, applying-line, correcting-line}
+use Rattle.reports.proofs.LineLaws.{opening-line, applying-line, correcting-line, line-for}
 use Rattle.reports.proofs.put_refuted.Goals as goal
-
-pub returns-then-part-lt-OPENING-clause-written : goal.returns-then-part-lt-OPENING-clause-written
-unfolding bytes
-returns-then-part-lt-OPENING-clause-written c = opening-line (omega arith) c.put_all.ensures.written
 
 pub put-requires : goal.put-requires
 unfolding bytes
-put-requires c = title-room c.args.names.now.text.now (get_or c.args.names.now.labels.now (64 + ((c.args.part - 1) / 2)) 0) 22 c.put_all-then-part-eq0.ensures.written c.put_title.ensures.written (omega arith) (omega arith)
+put-requires c = title-room c.args.names.now.text.now (get_or c.args.names.now.labels.now (64 + c.in-Applicability.k) 0) 22 c.put_all-in-Applicability.ensures.written c.put_title.ensures.written (omega arith) (omega arith)
 
-pub returns-then-part-eq0-clause-written : goal.returns-then-part-eq0-clause-written
+pub put-requires-in-Correctness : goal.put-requires-in-Correctness
 unfolding bytes
-returns-then-part-eq0-clause-written c = applying-line {k = ((c.args.part - 1) / 2)} c.put_title.ensures.written c.put.ensures.written (omega arith) refl (omega arith) c.put_all-then-part-eq0.ensures.written
+put-requires-in-Correctness c = title-room c.args.names.now.text.now (get_or c.args.names.now.labels.now (64 + c.in-Correctness.k) 0) 22 c.put_all-in-Correctness.ensures.written c.put_title-in-Correctness.ensures.written (omega arith) (omega arith)
 
-pub put-requires-2 : goal.put-requires-2
+pub returns-in-Initialisation-clause-written : goal.returns-in-Initialisation-clause-written
 unfolding bytes
-put-requires-2 c = title-room c.args.names.now.text.now (get_or c.args.names.now.labels.now (64 + ((c.args.part - 1) / 2)) 0) 22 c.put_all-2.ensures.written c.put_title-2.ensures.written (omega arith) (omega arith)
+returns-in-Initialisation-clause-written c = line-for c.in-Initialisation.is (opening-line c.put_all.ensures.written)
 
-pub returns-clause-written : goal.returns-clause-written
+pub returns-in-Applicability-clause-written : goal.returns-in-Applicability-clause-written
 unfolding bytes
-returns-clause-written c = correcting-line {k = ((c.args.part - 1) / 2)} c.put_title-2.ensures.written c.put-2.ensures.written (omega arith) refl c.if-part-eq0.false c.put_all-2.ensures.written
+returns-in-Applicability-clause-written c = line-for c.in-Applicability.is (applying-line {k = c.in-Applicability.k} c.put_title.ensures.written c.put.ensures.written c.put_all-in-Applicability.ensures.written)
+
+pub returns-in-Correctness-clause-written : goal.returns-in-Correctness-clause-written
+unfolding bytes
+returns-in-Correctness-clause-written c = line-for c.in-Correctness.is (correcting-line {k = c.in-Correctness.k} c.put_title-in-Correctness.ensures.written c.put-in-Correctness.ensures.written c.put_all-in-Correctness.ensures.written)

@@ -2,7 +2,7 @@
 use borrow.Author.Rules.{rules}
 use native.Mathlib.Omega.{arith}
 use Rattle.lexical.specs.Lists.{bytes}
-use Rattle.reports.proofs.VerdictLaws.{all_asked, all_small, search-asked, place_small, place-asked, witness-asked, part_small, refuted-written, accepted-written, found-at}
+use Rattle.reports.proofs.VerdictLaws.{all_asked, all_small, search-asked, place_small, place-asked, witness-asked, told-listed, refuted-written, accepted-written, found-at}
 use Rattle.reports.proofs.LineRooms.{verdict_in}
 use Rattle.reports.proofs.put_verdict.Goals as goal
 
@@ -15,8 +15,8 @@ search-found-requires c = record { from_le_end = (omega arith, omega (arith, all
 pub find-f-requires : goal.find-f-requires
 find-f-requires c = place-asked c.requires.asked c.total-all.ensures (found-at c.in-Some.is c.search-found.ensures)
 
-pub put_refuted-requires : goal.put_refuted-requires
-put_refuted-requires c = (part_small c.requires.asked c.total-all.ensures (found-at c.in-Some.is c.search-found.ensures) c.find-f.ensures, omega (arith, c.requires.room))
+pub put_refuted-requires-clause-listed : goal.put_refuted-requires-clause-listed
+put_refuted-requires-clause-listed c = told-listed c.requires.asked c.total-all.ensures (found-at c.in-Some.is c.search-found.ensures) c.find-f.ensures c.obligation_of.ensures
 
 pub put_witness-requires : goal.put_witness-requires
 put_witness-requires c = record { at_in_bounds = omega (arith, c.put_refuted.ensures.written.short, c.put_refuted.ensures.written.long); witness_asked = witness-asked c.requires.asked c.total-all.ensures (found-at c.in-Some.is c.search-found.ensures) c.find-f.ensures }
@@ -25,7 +25,7 @@ pub overflow_add-place : goal.overflow_add-place
 overflow_add-place c = omega (arith, place_small c.requires.asked c.total-all.ensures (found-at c.in-Some.is c.search-found.ensures))
 
 pub returns : goal.returns
-returns c = verdict_in (refuted-written c.requires.asked c.total-all.ensures (found-at c.in-Some.is c.search-found.ensures) c.find-f.ensures c.put_refuted.ensures.written c.put_witness.ensures.written (omega arith) c.put_count-2.ensures.written) (search rules)
+returns c = verdict_in (refuted-written c.requires.asked c.total-all.ensures (found-at c.in-Some.is c.search-found.ensures) c.find-f.ensures c.obligation_of.ensures c.put_refuted.ensures.written c.put_witness.ensures.written (omega arith) c.put_count-2.ensures.written) (search rules)
 
 pub returns-in_default : goal.returns-in_default
 unfolding bytes

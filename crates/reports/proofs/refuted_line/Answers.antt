@@ -1,13 +1,16 @@
--- `reports::refuted_line` meets its contract: nothing of a text that is refused, the line of the obligation's part of one that is read. Assumes nothing.
-use native.Mathlib.Omega.{arith}
+-- `reports::refuted_line` meets its contract: nothing of a text that is refused, or for an operation that no dossier has, else the line of the obligation. Assumes nothing.
+use mathlib.Core.Path.{sym, ◌∙◌}
 use Rattle.reports.proofs.ReportAnswers.{refused-line, no_line, line-written}
 use Rattle.reports.proofs.refuted_line.Goals as goal
-
-pub returns-then-part-ge-PARTS : goal.returns-then-part-ge-PARTS
-returns-then-part-ge-PARTS c = no_line c.args.o _ c.read-answer.ensures c.in-Ok.is c.part_of-part.ensures (omega arith)
 
 pub returns-in-Err : goal.returns-in-Err
 returns-in-Err c = refused-line c.args.o _ c.read-answer.ensures c.in-Err.is
 
-pub returns-else-part-ge-PARTS : goal.returns-else-part-ge-PARTS
-returns-else-part-ge-PARTS c = line-written c.args.o c.read-answer.ensures c.in-Ok.is c.part_of-part.ensures c.put_first_line.ensures
+pub returns-then-not-is_listed : goal.returns-then-not-is_listed
+returns-then-not-is_listed c = no_line c.args.o _ c.read-answer.ensures c.in-Ok.is (sym c.is_listed.ensures ∙ c.if-not-is_listed.true)
+
+pub put_first_line-requires-clause-listed : goal.put_first_line-requires-clause-listed
+put_first_line-requires-clause-listed c = sym c.is_listed.ensures ∙ c.if-not-is_listed.false
+
+pub returns-else-not-is_listed : goal.returns-else-not-is_listed
+returns-else-not-is_listed c = line-written c.args.o c.read-answer.ensures c.in-Ok.is c.put_first_line.ensures

@@ -2,7 +2,6 @@
 -- arrays show a point that differs from the first one only in the search's slots; nothing is found from the block where the loop ends on. Measures: the variables left; the values left. Assumes nothing.
 use mathlib.Core.Path.{◌∙◌}
 use native.Mathlib.Omega.{arith}
-use borrow.Author.Tests.{not-true, not-false}
 use Rattle.seek.proofs.WaysOut as ways
 use Rattle.seek.proofs.EverySearch as searches
 use Rattle.seek.proofs.+seek.Goals as goal
@@ -14,10 +13,10 @@ pub level-requires : goal.level-requires
 level-requires t c = record { level_asked = ways.level-asked c.requires.seek_asked; memo = c.requires.memo }
 
 pub returns-then-not-level : goal.returns-then-not-level
-returns-then-not-level t c = record { answers = ways.level-fails c.requires.seek_asked c.level.ensures.answers (not-true _ c.if-not-level.true-raw) c.level.ensures.kept; remembers = c.level.ensures.remembers }
+returns-then-not-level t c = record { answers = ways.level-fails c.requires.seek_asked c.level.ensures.answers c.if-not-level.true c.level.ensures.kept; remembers = c.level.ensures.remembers }
 
 pub returns-then-span-eq0 : goal.returns-then-span-eq0
-returns-then-span-eq0 t c = record { answers = ways.no_more c.requires.seek_asked c.level.ensures.answers (not-false _ c.if-not-level.false-raw) c.level.ensures.kept c.if-span-eq0.true; remembers = c.level.ensures.remembers }
+returns-then-span-eq0 t c = record { answers = ways.no_more c.requires.seek_asked c.level.ensures.answers c.if-not-level.false c.level.ensures.kept c.if-span-eq0.true; remembers = c.level.ensures.remembers }
 
 pub slot_of-slot-requires : goal.slot_of-slot-requires
 slot_of-slot-requires t c = (c.requires.seek_asked.planned.search_low, omega (arith, c.requires.seek_asked.planned.few))
@@ -35,7 +34,7 @@ pub nonzero_rem-r : goal.nonzero_rem-r
 nonzero_rem-r t c = searches.v_pos c.requires.seek_asked c.if-span-eq0.false c.slot_of-slot.ensures c.count_of-n.ensures c.if-span.false
 
 pub loop-x-init : goal.loop-x-init
-loop-x-init t c = (searches.entered c.requires.seek_asked c.if-span-eq0.false c.slot_of-slot.ensures c.count_of-n.ensures c.if-span.false c.level.ensures.kept c.aim-b.ensures.answers c.level.ensures.answers (not-false _ c.if-not-level.false-raw) c.aim-b.ensures.kept c.max-first.ensures, c.level.ensures.remembers)
+loop-x-init t c = (searches.entered c.requires.seek_asked c.if-span-eq0.false c.slot_of-slot.ensures c.count_of-n.ensures c.if-span.false c.level.ensures.kept c.aim-b.ensures.answers c.level.ensures.answers c.if-not-level.false c.aim-b.ensures.kept c.max-first.ensures, c.level.ensures.remembers)
 
 pub store-requires : goal.store-requires
 store-requires t c = searches.store-asked c.loop-x.invariant.0 (searches.below-high c.loop-x.invariant.0 (omega (arith, c.loop-x-test.true)))

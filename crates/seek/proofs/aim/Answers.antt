@@ -4,7 +4,6 @@ use mathlib.Core.List.{[]}
 use lib.ListN.{set}
 use lib.Seq.{set-get_or}
 use mathlib.Core.Path.{refl, ap, ◌∙◌}
-use native.Mathlib.Omega.{arith}
 use Rattle.evaluator.proofs.NodeLaws.{heard}
 use Rattle.seek.proofs.SolvedValues.{aim-all, value-asked, aim-one, aim-none}
 use Rattle.seek.proofs.aim.Goals as goal

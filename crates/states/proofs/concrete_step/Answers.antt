@@ -1,22 +1,18 @@
 -- `states::concrete_step` meets its contract: the state before, the state after, the operation's predicate. Assumes nothing.
+use mathlib.Core.Bool.{Bool}
 use mathlib.Core.Path.{refl, ◌∙◌}
 use native.Mathlib.Omega.{arith}
-use borrow.Author.Tests.{not-true, not-false}
-use Rattle.states.proofs.StateLaws.{asked-as, answers-as}
+use Rattle.states.specs.Promises.{ContextAnswers}
+use Rattle.states.proofs.StateLaws.{Both, first_holds, first_fails, both-hold, one-fails, as-both, asked-as, answers-as}
 use Rattle.states.proofs.StepLaws.{concrete-step-before, concrete-step-behind, concrete-step-whole, concrete-step-inside, concrete-step-no, concrete-step-not, concrete-step-is}
+use Rattle.states.proofs.concrete_step.Goals.{then-context_holds, else-context_holds}
 use Rattle.states.proofs.concrete_step.Goals as goal
 
 pub context_holds-requires : goal.context_holds-requires
 context_holds-requires c = concrete-step-before c.requires
 
-pub returns-then-not-context_holds : goal.returns-then-not-context_holds
-returns-then-not-context_holds c = record { answers = concrete-step-no (answers-as refl (not-true _ c.if-not-context_holds.true-raw) c.context_holds.ensures.answers); kept = c.context_holds.ensures.kept; later_kept = refl }
-
-pub context_holds-requires-2 : goal.context_holds-requires-2
-context_holds-requires-2 c = concrete-step-behind c.requires
-
-pub returns-then-not-context_holds-2 : goal.returns-then-not-context_holds-2
-returns-then-not-context_holds-2 c = record { answers = concrete-step-not (answers-as refl (not-false _ c.if-not-context_holds.false-raw) c.context_holds.ensures.answers) (answers-as refl (not-true _ c.if-not-context_holds-2.true-raw) c.context_holds-2.ensures.answers); kept = c.context_holds.ensures.kept; later_kept = c.context_holds-2.ensures.kept }
+pub context_holds-requires-then-context_holds : goal.context_holds-requires-then-context_holds
+context_holds-requires-then-context_holds c = concrete-step-behind c.requires
 
 pub overflow_mul-k : goal.overflow_mul-k
 overflow_mul-k c = let inside = concrete-step-inside c.requires in omega arith
@@ -24,11 +20,25 @@ overflow_mul-k c = let inside = concrete-step-inside c.requires in omega arith
 pub overflow_add-k : goal.overflow_add-k
 overflow_add-k c = let inside = concrete-step-inside c.requires in omega arith
 
-pub overflow_add-k-2 : goal.overflow_add-k-2
-overflow_add-k-2 c = let inside = concrete-step-inside c.requires in omega arith
+pub overflow_add-k-then-context_holds-2 : goal.overflow_add-k-then-context_holds-2
+overflow_add-k-then-context_holds-2 c = let inside = concrete-step-inside c.requires in omega arith
 
-pub context_holds-requires-3 : goal.context_holds-requires-3
-context_holds-requires-3 c = asked-as c.context_holds.ensures.kept (concrete-step-whole c.requires)
+pub context_holds-requires-then-context_holds-2 : goal.context_holds-requires-then-context_holds-2
+context_holds-requires-then-context_holds-2 c = asked-as c.context_holds.ensures.kept (concrete-step-whole c.requires)
 
-pub returns : goal.returns
-returns c = record { answers = concrete-step-is (answers-as refl (not-false _ c.if-not-context_holds.false-raw) c.context_holds.ensures.answers) (answers-as refl (not-false _ c.if-not-context_holds-2.false-raw) c.context_holds-2.ensures.answers) (answers-as c.context_holds.ensures.kept refl c.context_holds-3.ensures.answers); kept = c.context_holds-3.ensures.kept ∙ c.context_holds.ensures.kept; later_kept = c.context_holds-2.ensures.kept }
+pub returns-then-context_holds-2-clause-answers : goal.returns-then-context_holds-2-clause-answers
+returns-then-context_holds-2-clause-answers c =
+    let two : Both (λ (r : Bool). ContextAnswers c.args.d.now.table.now c.args.d.now.rows.now c.args.d.now.firsts.now 1 c.args.slots.now r) (λ (r : Bool). ContextAnswers c.args.d.now.table.now c.args.d.now.rows.now c.args.d.now.firsts.now 1 c.args.later.now r) c.if-context_holds.value = elim c.if-context_holds.branch [
+      | then-context_holds w ↦ as-both w.value-is (first_holds w.if-context_holds.ensures.answers w.context_holds-then-context_holds.ensures.answers)
+      | else-context_holds w ↦ as-both (w.value-is ∙ w.if-context_holds.false) (first_fails w.if-context_holds.ensures.answers)
+    ] in
+    let w = both-hold two c.if-context_holds-2.true in
+    concrete-step-is w.0 w.1 (answers-as c.context_holds.ensures.kept refl c.context_holds-then-context_holds-2.ensures.answers)
+
+pub returns-else-context_holds-2-clause-answers : goal.returns-else-context_holds-2-clause-answers
+returns-else-context_holds-2-clause-answers c =
+    let two : Both (λ (r : Bool). ContextAnswers c.args.d.now.table.now c.args.d.now.rows.now c.args.d.now.firsts.now 1 c.args.slots.now r) (λ (r : Bool). ContextAnswers c.args.d.now.table.now c.args.d.now.rows.now c.args.d.now.firsts.now 1 c.args.later.now r) c.if-context_holds.value = elim c.if-context_holds.branch [
+      | then-context_holds w ↦ as-both w.value-is (first_holds w.if-context_holds.ensures.answers w.context_holds-then-context_holds.ensures.answers)
+      | else-context_holds w ↦ as-both (w.value-is ∙ w.if-context_holds.false) (first_fails w.if-context_holds.ensures.answers)
+    ] in
+    rw c.if-context_holds-2.false (one-fails two c.if-context_holds-2.false concrete-step-no concrete-step-not)

@@ -8,6 +8,7 @@ use Rattle.step_facts.specs.declared.NextStep.TheVariants.{Step, NoStep}
 use Rattle.std.specs.Prelude.{◌*◌, ◌<◌, ◌≤◌, IfSome, unwrap_or}
 use Rattle.step_searches.specs.StepPromises.{StepsAsked, AbstractStepFound}
 use Rattle.step_facts.proofs.abstract_step.Goals as goal
+use Rattle.step_facts.proofs.abstract_step.Goals.{then-ready-a-via-then-ready-a, then-ready-a-via-else-ready-a+then-ready-i, then-ready-a-via-else-ready-a+else-ready-i+then-ready-from}
 
 pub returns-then-d-j : goal.returns-then-d-j
 returns-then-d-j c = step-unlisted (omega (arith, c.if-d-j.true))
@@ -16,13 +17,12 @@ pub prepare-ready-requires : goal.prepare-ready-requires
 prepare-ready-requires c = prepare-asked c.requires (omega (arith, c.if-d-j.false))
 
 pub returns-then-ready-a : goal.returns-then-ready-a
-returns-then-ready-a c = state-beyond c.prepare-ready.ensures (omega (arith, c.if-ready-a.true))
-
-pub returns-then-ready-i : goal.returns-then-ready-i
-returns-then-ready-i c = input-beyond c.prepare-ready.ensures (omega (arith, c.if-ready-i.true))
-
-pub returns-then-ready-from : goal.returns-then-ready-from
-returns-then-ready-from c = start-beyond c.prepare-ready.ensures (omega (arith, c.if-ready-from.true))
+returns-then-ready-a c =
+    elim c.then-ready-a.branch [
+      | then-ready-a-via-then-ready-a w ↦ state-beyond c.prepare-ready.ensures (omega (arith, w.if-ready-a.true))
+      | then-ready-a-via-else-ready-a+then-ready-i w ↦ input-beyond c.prepare-ready.ensures (omega (arith, w.if-ready-i.true))
+      | then-ready-a-via-else-ready-a+else-ready-i+then-ready-from w ↦ start-beyond c.prepare-ready.ensures (omega (arith, w.if-ready-from.true))
+    ]
 
 pub next_abstract_step-step-requires : goal.next_abstract_step-step-requires
 next_abstract_step-step-requires c = record {

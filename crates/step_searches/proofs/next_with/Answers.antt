@@ -1,15 +1,15 @@
 -- `step_searches::next_with` meets its contract: the groups are at their bindings one after the other, and the primitive search stops at the end of the span where it finds nothing.
 -- Assumes nothing.
 use native.Mathlib.Omega.{arith}
-use Rattle.step_searches.proofs.FoundNumbers.{ended}
+use Rattle.step_searches.proofs.FoundNumbers.{found-below}
 use Rattle.step_searches.proofs.GivenGroups.{given-first, given-group, given-next, given-all}
 use Rattle.step_searches.proofs.next_with.Goals as goal
 
-pub fill-requires : goal.fill-requires
-fill-requires c = c.requires.given_asked.first_values
+pub first_values-arrays-requires : goal.first_values-arrays-requires
+first_values-arrays-requires c = c.requires.given_asked.first_values
 
 pub loop-g-init : goal.loop-g-init
-loop-g-init c = given-first c.args.given.now c.fill.ensures.shows
+loop-g-init c = given-first c.args.given.now c.first_values-arrays.ensures.shows
 
 pub put_group-requires : goal.put_group-requires
 put_group-requires c = given-group c.args.given.now c.requires.given_asked.groups c.loop-g-test.true c.loop-g.invariant
@@ -23,27 +23,12 @@ seek-r-requires c = record {
   memo = c.requires.memo;
 }
 
-pub returns-then-r-span : goal.returns-then-r-span
-returns-then-r-span c = record {
-  answers = record {
-    before = _;
-    after = _;
-    shows = given-all c.args.given.now c.loop-g.invariant c.loop-g.auto.g-index-end (omega (arith, c.loop-g-test.false));
-    answers = c.seek-r.ensures.answers;
-  };
-  low = c.if-r-span.true;
-  remembers = c.seek-r.ensures.remembers;
-}
-
 pub returns : goal.returns
-returns c = record {
-  answers = record {
-    before = _;
-    after = _;
-    shows = given-all c.args.given.now c.loop-g.invariant c.loop-g.auto.g-index-end (omega (arith, c.loop-g-test.false));
-    answers = ended (c.requires.given_asked.seeks _ (given-all c.args.given.now c.loop-g.invariant c.loop-g.auto.g-index-end (omega (arith, c.loop-g-test.false)))) c.seek-r.ensures.answers
-        (omega (arith, c.if-r-span.false));
-  };
-  low = tt;
-  remembers = c.seek-r.ensures.remembers;
-}
+returns c =
+    let shows = given-all c.args.given.now c.loop-g.invariant c.loop-g.auto.g-index-end (omega (arith, c.loop-g-test.false)) in
+    let found = found-below (c.requires.given_asked.seeks _ shows) c.seek-r.ensures.answers c.then_some.ensures in
+    record {
+      answers = record { before = _; after = _; shows = shows; answers = found.0 };
+      low = found.1;
+      remembers = c.seek-r.ensures.remembers;
+    }

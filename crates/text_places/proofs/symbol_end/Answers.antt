@@ -3,4 +3,4 @@ use native.Mathlib.Omega.{arith}
 use Rattle.text_places.proofs.symbol_end.Goals as goal
 
 pub returns-then-eq : goal.returns-then-eq
-returns-then-eq c = omega (arith, c.place-q.ensures)
+returns-then-eq c = omega (arith, c.saturating_add-end.ensures)

@@ -1,7 +1,7 @@
-use Prim.Native.Nat.{◌≤◌}
+use Prim.Native.Nat.{◌≤◌, min}
 use Rattle.type_rules.specs.TypesByNumber.{fault_key}
 use Rattle.binding_counts.proofs.BindingSpans.{Remains}
 use Rattle.binding_counts.proofs.bindings.all_operations.Given as goal
 
 abbrev pub invariant-loop-k : goal.invariant-loop-k
-invariant-loop-k l = (l.k ≤ l.n) × ((l.k ≤ 18) × Remains l.p.nodes.now l.p.spans.now l.g.names.now l.g.sizes.now l.n l.k (fault_key l.f))
+invariant-loop-k l = (l.k ≤ min l.n 18) × Remains l.p.nodes.now l.p.spans.now l.g.names.now l.g.sizes.now l.n l.k (fault_key l.f)

@@ -7,4 +7,4 @@ use Rattle.binding_counts.proofs.bindings.size_of.Goals as goal
 
 pub returns : goal.returns
 unfolding size_at
-returns c = (c.size_in.ensures.0 ∙ ap (size_in c.args.g.now.sizes.now) (c.saturating_sub.ensures ∙ ap (λ (n : ℕ). n - 8) (c.from-k.ensures ∙ (c.look.ensures ∙ ap (λ (n : ℕ). entry c.args.g.now.names.now n) c.from.ensures))), c.size_in.ensures.1)
+returns c = (c.size_in.ensures.0 ∙ ap (size_in c.args.g.now.sizes.now) (c.from-2.ensures ∙ c.from_first_given.ensures ∙ ap (λ (n : ℕ). n - 8) (c.entry-k.ensures ∙ ap (λ (n : ℕ). entry c.args.g.now.names.now n) c.from.ensures)), c.size_in.ensures.1)

@@ -12,7 +12,8 @@ use Rattle.form_nodes.specs.Derivations.{NameAt, Made, a_declaration, no_declara
 use Rattle.declarations.specs.DossierPromises.{a_typed}
 use Rattle.form_nodes.proofs.ReadParts.{exits, only, here, next, taken, stops, likewise, fails, framed, known}
 use Rattle.declarations.proofs.ListItems.{count-well, count-over, variables, crowded, declared-stops, declaration-first, declaration-takes, declarations-behind}
-use Rattle.declarations.proofs.ListNodes.{more-none, more-then, more-made, more-part}
+use Rattle.declarations.proofs.ListNodes.{more-part}
+use Rattle.form_nodes.proofs.FirstNodes.{more-none, more-then, more-made}
 use Rattle.lexical.specs.Kinds as kind
 use Rattle.declarations.proofs.contents.declarations.Goals as goal
 

@@ -6,8 +6,8 @@ use Rattle.form.specs.Written.{a_variable}
 use Rattle.form.specs.Machine.{a_declared, some_declarations}
 use Rattle.form_nodes.specs.FormPromises.{Reads}
 use Rattle.form_nodes.proofs.ReadParts.{read}
-use Rattle.form_nodes.specs.Derivations.{NameAt, Made, a_declaration, no_declarations, declares_more}
-use Rattle.declarations.specs.DossierPromises.{MoreAt, a_typed}
+use Rattle.form_nodes.specs.Derivations.{MoreAt}
+use Rattle.declarations.specs.DossierPromises.{a_typed}
 use Rattle.form_nodes.specs.Derivations as part
 use Rattle.declarations.proofs.contents.declarations.Given as goal
 

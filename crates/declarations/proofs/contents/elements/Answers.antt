@@ -11,7 +11,8 @@ use Rattle.form.specs.Codes.{node}
 use Rattle.form_nodes.specs.Derivations.{no_elements}
 use Rattle.form_nodes.proofs.ReadParts.{only, here, next, taken, stops, likewise}
 use Rattle.declarations.proofs.ListItems.{count-well, count-over, elements, crowded, declared-stops, element-first, element-takes, elements-behind}
-use Rattle.declarations.proofs.ListNodes.{more-none, more-then, more-made, more-node}
+use Rattle.declarations.proofs.ListNodes.{more-node}
+use Rattle.form_nodes.proofs.FirstNodes.{more-none, more-then, more-made}
 use Rattle.lexical.specs.Kinds as kind
 use Rattle.form_nodes.specs.Derivations as part
 use Rattle.declarations.proofs.contents.elements.Goals as goal

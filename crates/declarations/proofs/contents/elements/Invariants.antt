@@ -6,8 +6,7 @@ use Rattle.form.specs.Written.{an_element}
 use Rattle.form.specs.Machine.{a_declared, some_elements}
 use Rattle.form_nodes.specs.FormPromises.{Reads}
 use Rattle.form_nodes.proofs.ReadParts.{read}
-use Rattle.form_nodes.specs.Derivations.{no_elements}
-use Rattle.declarations.specs.DossierPromises.{MoreAt}
+use Rattle.form_nodes.specs.Derivations.{MoreAt}
 use Rattle.form_nodes.specs.Derivations as part
 use Rattle.declarations.proofs.contents.elements.Given as goal
 

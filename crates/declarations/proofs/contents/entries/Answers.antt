@@ -10,7 +10,8 @@ use Rattle.form.specs.Codes.{node}
 use Rattle.form_nodes.specs.Derivations.{no_entries, an_entry}
 use Rattle.form_nodes.proofs.ReadParts.{only, here, next, takes, taken, stops, likewise}
 use Rattle.declarations.proofs.ListItems.{count-well, count-over, entry-counts, crowded, declared-takes, declared-stops, entry-word, entry-behind, entry-ends}
-use Rattle.declarations.proofs.ListNodes.{more-none, more-then, more-made, more-node}
+use Rattle.declarations.proofs.ListNodes.{more-node}
+use Rattle.form_nodes.proofs.FirstNodes.{more-none, more-then, more-made}
 use Rattle.lexical.specs.Kinds as kind
 use Rattle.declarations.proofs.contents.entries.Goals as goal
 

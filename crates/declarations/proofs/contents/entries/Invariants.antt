@@ -6,8 +6,8 @@ use Rattle.form.specs.Written.{Mark}
 use Rattle.form.specs.Machine.{Item}
 use Rattle.form_nodes.specs.FormPromises.{Reads}
 use Rattle.form_nodes.proofs.ReadParts.{read}
-use Rattle.form_nodes.specs.Derivations.{no_entries, an_entry}
-use Rattle.declarations.specs.DossierPromises.{EntriesOf, MoreAt}
+use Rattle.form_nodes.specs.Derivations.{MoreAt}
+use Rattle.declarations.specs.DossierPromises.{EntriesOf}
 use Rattle.form_nodes.specs.Derivations as part
 use Rattle.declarations.proofs.contents.entries.Given as goal
 

@@ -8,11 +8,10 @@ use Rattle.form.specs.Written.{a_given, an_element}
 use Rattle.form.specs.Machine.{a_declared, some_bodies, some_elements}
 use Rattle.form.specs.Computed.{compute_form}
 use Rattle.form_nodes.specs.FormPromises.{Answer}
-use Rattle.form_nodes.specs.Derivations.{some_givens, no_givens}
-use Rattle.declarations.specs.DossierPromises.{More}
+use Rattle.form_nodes.specs.Derivations.{some_givens, no_givens, More}
 use Rattle.form_nodes.proofs.ReadParts.{exits, only, here, next, takes, taken, stops, likewise, fails, framed, known}
 use Rattle.declarations.proofs.ListItems.{count-well, count-over, givens, crowded, declared-takes, declared-stops, given_word, givens-behind}
-use Rattle.declarations.proofs.ListNodes.{more-none, more-then, more-made}
+use Rattle.form_nodes.proofs.FirstNodes.{more-none, more-then, more-made}
 use Rattle.lexical.specs.Kinds as kind
 use Rattle.declarations.proofs.contents.givens.Goals as goal
 

@@ -5,8 +5,7 @@ use lib.ListN.{length}
 use Rattle.form.specs.Machine.{some_bodies}
 use Rattle.form_nodes.specs.FormPromises.{Reads}
 use Rattle.form_nodes.proofs.ReadParts.{read}
-use Rattle.form_nodes.specs.Derivations.{some_givens}
-use Rattle.declarations.specs.DossierPromises.{MoreAt}
+use Rattle.form_nodes.specs.Derivations.{some_givens, MoreAt}
 use Rattle.declarations.proofs.contents.givens.Given as goal
 
 abbrev pub invariant-loop-start : goal.invariant-loop-start

@@ -16,7 +16,8 @@ use Rattle.declarations.specs.DossierPromises.{direction_class, a_typed, counted
 use Rattle.form_nodes.proofs.ReadParts.{exits, here, next, taken, likewise, fails, framed, known}
 use Rattle.declarations.proofs.ListItems.{crowded, parameter-takes, parameters-behind, parameter-well, parameter-over, inputs_few, outputs_few}
 use Rattle.form_nodes.proofs.RightSides.{inside}
-use Rattle.declarations.proofs.ListNodes.{more-none, more-then, more-made, more-part}
+use Rattle.declarations.proofs.ListNodes.{more-part}
+use Rattle.form_nodes.proofs.FirstNodes.{more-none, more-then, more-made}
 use Rattle.declarations.proofs.contents.parameters.Goals as goal
 
 pub kind_at-requires : goal.kind_at-requires

@@ -5,8 +5,7 @@ use lib.ListN.{length}
 use Rattle.form.specs.Machine.{some_parameters}
 use Rattle.form_nodes.specs.FormPromises.{Reads}
 use Rattle.form_nodes.proofs.ReadParts.{read}
-use Rattle.form_nodes.specs.Derivations.{NameAt, Made, a_declaration, no_parameters, takes_more}
-use Rattle.declarations.specs.DossierPromises.{MoreAt}
+use Rattle.form_nodes.specs.Derivations.{MoreAt}
 use Rattle.form_nodes.specs.Derivations as part
 use Rattle.declarations.proofs.contents.parameters.Given as goal
 

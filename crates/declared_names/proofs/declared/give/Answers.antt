@@ -47,7 +47,7 @@ loop-n-preserved c =
     let g = c.counted-g.result in
     let k = c.given_kind-k.result in
     let on = given-on code at c.loop-n.g g c.args.names.now c.loop-n.names _ c.loop-n.sizes _ k (fault_key c.given_fault.result) (room code n rest _ 4 cut long e) (rw c.loop-n.auto.sizes c.requires) (counted-at n code at same c.loop-n.g g c.counted-g.ensures) (kind-at n code at same g k c.given_kind-k.ensures) (sized-at n code at same g c.loop-n.sizes _ c.count_given.ensures) (c.put.ensures ∙ ap (λ (m : ℕ). set c.loop-n.names m k) (c.from.ensures ∙ same 1 (omega arith))) (faulted-at n code at same c.loop-n.names (fault_key c.given_fault.result) c.given_fault.ensures) (sym c.in_ok-all_well.ensures) c.loop-n.invariant.1.1.1 in
-    (c.in-Some.ensures.steps.0 ∙ c.loop-n.invariant.0, (c.counted-g.ensures.few, (ends-on code n rest _ 4 cut long e, subst (λ (m : ℕ). GivenOn code m g c.args.names.now c.put.new.names c.count_given.new.sizes) (place-on code n rest _ 4 cut long e) on)))
+    (c.in-Some.ensures.steps.0 ∙ c.loop-n.invariant.0, (c.counted-g.ensures.few, (ends-on code n rest _ 4 cut long e, subst (λ (m : ℕ). GivenOn code m g c.args.names.now c.put.new.table c.count_given.new.sizes) (place-on code n rest _ 4 cut long e) on)))
 
 pub returns : goal.returns
 returns c =

@@ -10,7 +10,7 @@ use Rattle.declared_names.proofs.declared.type_fault.Goals as goal
 
 pub returns-in-1 : goal.returns-in-1
 unfolding number_of
-returns-in-1 c = faulted c.args.code.now c.args.at c.args.names.now c.args.sizes.now _ (c.unless.ensures ∙ (rw (c.from-i.ensures, c.is_given.ensures, c.look-g.ensures, c.from.ensures) (key_one (get_or c.args.code.now (c.args.at + 3) 0) (get_or c.args.code.now (c.args.at + 2) 0) (get_or c.args.code.now (c.args.at + 1) 0) (get_or c.args.code.now c.args.at 0) (entry c.args.names.now (get_or c.args.code.now (c.args.at + 1) 0)) (entry c.args.names.now (get_or c.args.code.now c.args.at 0)) c.args.sizes.now c.in-1.is)))
+returns-in-1 c = faulted c.args.code.now c.args.at c.args.names.now c.args.sizes.now _ (c.unless.ensures ∙ (rw (c.from-i.ensures, c.is_given.ensures, c.entry-g.ensures, c.from.ensures) (key_one (get_or c.args.code.now (c.args.at + 3) 0) (get_or c.args.code.now (c.args.at + 2) 0) (get_or c.args.code.now (c.args.at + 1) 0) (get_or c.args.code.now c.args.at 0) (entry c.args.names.now (get_or c.args.code.now (c.args.at + 1) 0)) (entry c.args.names.now (get_or c.args.code.now c.args.at 0)) c.args.sizes.now c.in-1.is)))
 
 pub returns-in-2 : goal.returns-in-2
 unfolding number_of
@@ -18,7 +18,7 @@ returns-in-2 c = faulted c.args.code.now c.args.at c.args.names.now c.args.sizes
 
 pub returns-in-3 : goal.returns-in-3
 unfolding number_of
-returns-in-3 c = faulted c.args.code.now c.args.at c.args.names.now c.args.sizes.now _ (c.unless-in-3.ensures ∙ (rw (c.from-i.ensures, c.is_given-in-3.ensures, c.look-g.ensures, c.from.ensures) (key-three (get_or c.args.code.now (c.args.at + 3) 0) (get_or c.args.code.now (c.args.at + 2) 0) (get_or c.args.code.now (c.args.at + 1) 0) (get_or c.args.code.now c.args.at 0) (entry c.args.names.now (get_or c.args.code.now (c.args.at + 1) 0)) (entry c.args.names.now (get_or c.args.code.now c.args.at 0)) c.args.sizes.now c.in-3.is)))
+returns-in-3 c = faulted c.args.code.now c.args.at c.args.names.now c.args.sizes.now _ (c.unless-in-3.ensures ∙ (rw (c.from-i.ensures, c.is_given-in-3.ensures, c.entry-g.ensures, c.from.ensures) (key-three (get_or c.args.code.now (c.args.at + 3) 0) (get_or c.args.code.now (c.args.at + 2) 0) (get_or c.args.code.now (c.args.at + 1) 0) (get_or c.args.code.now c.args.at 0) (entry c.args.names.now (get_or c.args.code.now (c.args.at + 1) 0)) (entry c.args.names.now (get_or c.args.code.now c.args.at 0)) c.args.sizes.now c.in-3.is)))
 
 pub returns-in_default : goal.returns-in_default
-returns-in_default c = faulted c.args.code.now c.args.at c.args.names.now c.args.sizes.now _ (c.pairs_fault.ensures ∙ (rw (c.from-i.ensures, c.look-g.ensures, c.from.ensures, c.look.ensures, c.from-in_default.ensures) (sym (key-else (get_or c.args.code.now (c.args.at + 3) 0) (get_or c.args.code.now (c.args.at + 2) 0) (get_or c.args.code.now (c.args.at + 1) 0) (get_or c.args.code.now c.args.at 0) (entry c.args.names.now (get_or c.args.code.now (c.args.at + 1) 0)) (entry c.args.names.now (get_or c.args.code.now c.args.at 0)) c.args.sizes.now (λ s. omega arith) (λ s. omega arith) (λ s. omega arith)))))
+returns-in_default c = faulted c.args.code.now c.args.at c.args.names.now c.args.sizes.now _ (c.pairs_fault.ensures ∙ (rw (c.from-i.ensures, c.entry-g.ensures, c.from.ensures, c.entry.ensures, c.from-in_default.ensures) (sym (key-else (get_or c.args.code.now (c.args.at + 3) 0) (get_or c.args.code.now (c.args.at + 2) 0) (get_or c.args.code.now (c.args.at + 1) 0) (get_or c.args.code.now c.args.at 0) (entry c.args.names.now (get_or c.args.code.now (c.args.at + 1) 0)) (entry c.args.names.now (get_or c.args.code.now c.args.at 0)) c.args.sizes.now (λ s. omega arith) (λ s. omega arith) (λ s. omega arith)))))

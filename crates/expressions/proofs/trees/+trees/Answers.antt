@@ -8,18 +8,18 @@ use borrow.Author.Rules.{rules}
 use Rattle.lexical.specs.Kinds.{code_of}
 use Rattle.form.specs.Written.{opens, binds}
 use Rattle.form.specs.Machine.{exact, a_name, an_empty_rest, an_end, a_domain, a_term, an_operand, a_term_rest, a_rel, a_mem, a_right, a_brace, a_named, a_first, a_list, a_pairs, a_unary, a_paren, a_pred_rest, a_declared}
-use Rattle.form_nodes.specs.FormPromises.{Ranged, start_as, bit, start_class, relation_class}
+use Rattle.form_nodes.specs.FormPromises.{operator_number, Ranged, start_as, bit, start_class, relation_class}
 use Rattle.form_nodes.proofs.Classes.{begun, unbegun, named, no-class, some-class, class-code}
-use Rattle.declarations.proofs.ListNodes.{more-none, more-then, more-made}
-use Rattle.expressions.proofs.Chains.{more-known, chain}
+use Rattle.form_nodes.proofs.FirstNodes.{more-then, more-made, more-known}
+use Rattle.expressions.proofs.Chains.{chain, operator-some, operator-none, connective-some, connective-none, not-division, at-level}
 use Rattle.form.specs.Computed.{compute_form}
 use Rattle.form_nodes.proofs.ReadParts.{exits, only, here, next, takes, taken, deeper, stops, likewise, fails, framed, known, counted, alike, wider, raised, known-ahead}
 use Rattle.form_nodes.proofs.RangeEnds.{open_well, open-deep, range-well, other-kind, bind_well, bound-deep, bound-elsewhere}
 use Rattle.form_nodes.proofs.ItemSteps.{name-step, name-taken, rel-step, mem-step, unary-step, pred-rest-step}
-use Rattle.form_nodes.proofs.SameSteps.{operand_step, as-operand, as-term, as_pred, quantifier-step, as-list, list-stops, pairs-stop, whole-term, whole-pred, known-level, below-level, rest-division, rest-binary, rest-connective, rest-depth, paren-opens, rel-pair, mem-some, quantifier-code, declared-stops, known-code}
+use Rattle.form_nodes.proofs.SameSteps.{operand_step, as-operand, as-term, as_pred, quantifier-step, as-list, list-stops, pairs-stop, whole-term, whole-pred, known-level, rest-division, rest-binary, rest-connective, rest-depth, paren-opens, rel-pair, mem-some, quantifier-code, declared-stops, known-code}
 use Rattle.form_nodes.proofs.RightSides.{inside, as-listed, right-term, right-range}
 use Rattle.form_nodes.specs.Derivations.{EndAt, RangeAt, DomainAt}
-use Rattle.form_nodes.proofs.NodesOfParts.{both, wrote, node_of, made, built, makes, onward, closing, from, ranging, closed, showing, start-at, class-at, number-start, named-at, membership-at, level-class, level-two}
+use Rattle.form_nodes.proofs.NodesOfParts.{both, wrote, node_of, made, built, makes, onward, closing, from, ranging, closed, showing, start-at, class-at, number-start, named-at, membership-at, level-two}
 use Rattle.lexical.specs.Kinds as kind
 use Rattle.form_nodes.specs.Derivations as derived
 use Rattle.expressions.proofs.trees.+trees.Goals as goal
@@ -345,27 +345,6 @@ pub pred_more-returns-in_err-right : goal.pred_more-returns-in_err-right
 unfolding compute_form
 pred_more-returns-in_err-right t c = rw (exits c.from_residual-in_err-right.result c.from_residual-in_err-right.ensures.1) (let room = c.requires.0 in let positive = c.requires.3 in let ahead = c.requires.4 in let small = c.requires.5.small in (λ base q. takes {μ = a_unary c.args.d c.args.b ∷ a_pred_rest base c.args.d c.args.b ∷ []} {m = c.args.n + 4} (omega arith) (λ κ e γ. rest-connective base c.args.d c.args.b c.args.l κ γ (c.requires.5.class κ e) (omega arith) c.if-l-eq-IMPLIES_LEVEL.false q) (fails (known c.in_err-right.was (c.pred_from-2.ensures.0.reads base (λ z. absurd (omega arith))))) (omega arith), tt, λ min q. tt))
 
-pub pred_rest-loop-l-init : goal.pred_rest-loop-l-init
-pred_rest-loop-l-init t c = let room = c.requires.0 in (λ base q. here (omega arith), more-none _ _ _, refl, c.connective_at-l.ensures.0, c.connective_at-l.ensures.1)
-
-pub pred_rest-pred_more-requires : goal.pred_rest-pred_more-requires
-pred_rest-pred_more-requires t c = let room = c.requires.0 in let so = c.loop-l.invariant.0 c.args.d (λ z. refl) in let long = c.loop-l.invariant.2 in let behind = c.loop-l.invariant.4 in (omega arith, (record { inside = omega arith; few = omega arith; written = omega arith; long = omega arith }, omega arith, omega arith, omega arith, omega arith, c.loop-l.invariant.3))
-
-pub pred_rest-loop-l-smaller : goal.pred_rest-loop-l-smaller
-pred_rest-loop-l-smaller t c = let room = c.requires.0 in let so = c.loop-l.invariant.0 c.args.d (λ z. refl) in let long = c.loop-l.invariant.2 in let behind = c.loop-l.invariant.4 in let h = known-ahead _ c.in_ok-read.was c.pred_more.ensures.1 in let i = known c.in_ok-read.was (c.pred_more.ensures.0 c.args.d (λ z. refl)) in omega arith
-
-pub pred_rest-loop-l-preserved : goal.pred_rest-loop-l-preserved
-unfolding compute_form
-pred_rest-loop-l-preserved t c = let room = c.requires.0 in let so = c.loop-l.invariant.0 c.args.d (λ z. refl) in let long = c.loop-l.invariant.2 in let behind = c.loop-l.invariant.4 in (λ base q. next (c.loop-l.invariant.0 base q) (known c.in_ok-read.was (c.pred_more.ensures.0 base (λ z. q (omega arith)))), more-then c.loop-l.invariant.1 (more-known c.in_ok-read.was (c.pred_more.ensures.2 c.args.min (omega arith))), search rules, c.connective_at-l-in-loop-l.ensures.0, c.connective_at-l-in-loop-l.ensures.1)
-
-pub pred_rest-returns-in_err-read : goal.pred_rest-returns-in_err-read
-unfolding compute_form
-pred_rest-returns-in_err-read t c = rw (exits c.from_residual.result c.from_residual.ensures.1) (let room = c.requires.0 in let so = c.loop-l.invariant.0 c.args.d (λ z. refl) in let long = c.loop-l.invariant.2 in let behind = c.loop-l.invariant.4 in (record { reads = λ base q. next (c.loop-l.invariant.0 base q) (known c.in_err-read.was (c.pred_more.ensures.0 base (λ z. q (omega arith)))); stops = tt }, tt))
-
-pub pred_rest-returns : goal.pred_rest-returns
-unfolding compute_form
-pred_rest-returns t c = (record { reads = c.loop-l.invariant.0; stops = (λ κ e. omega (arith, c.loop-l.invariant.3.class κ e)) }, more-made c.loop-l.invariant.1 (derived.pred_stops (λ κ e. omega (arith, c.loop-l.invariant.3.class κ e))))
-
 pub quantified-kind_at-requires : goal.quantified-kind_at-requires
 unfolding code_of
 quantified-kind_at-requires t c = search rules
@@ -539,52 +518,6 @@ pub term_from-returns-in_err-first : goal.term_from-returns-in_err-first
 unfolding compute_form
 term_from-returns-in_err-first t c = rw (exits c.from_residual.result c.from_residual.ensures.1) ((record { reads = likewise (λ κ e γ. as-operand c.args.d c.args.b κ γ) (λ γ. refl) (fails (framed (a_term_rest c.args.d c.args.b ∷ []) (known c.in_err-first.was c.operand.ensures.0))); stops = tt }, tt))
 
-pub term_more-put-count-requires : goal.term_more-put-count-requires
-term_more-put-count-requires t c = let room = c.requires.0 in let positive = c.requires.3 in let ahead = c.requires.4 in let small = c.requires.5.small in let h = (known c.in_ok-divisor.was c.end.ensures.0.reads) in search rules
-
-pub term_more-returns-then-o-ge-DIVIDES : goal.term_more-returns-then-o-ge-DIVIDES
-unfolding compute_form
-term_more-returns-then-o-ge-DIVIDES t c = let room = c.requires.0 in let positive = c.requires.3 in let ahead = c.requires.4 in let small = c.requires.5.small in let h = (known c.in_ok-divisor.was c.end.ensures.0.reads) in let i = known-ahead _ c.in_ok-divisor.was c.end.ensures.0.ahead in let c₁ = c.put-count.ensures.count in (takes {μ = an_end ∷ a_term_rest c.args.d c.args.b ∷ []} {m = c.args.n} (omega arith) (λ κ e γ. rest-division c.args.d c.args.b c.args.o κ γ (c.requires.5.class κ e) (omega arith)) (counted {c = c.args.n} (omega arith) (framed (a_term_rest c.args.d c.args.b ∷ []) h)) (omega arith), omega arith, λ min q. chain (node_of c.magnitude-x.ensures c.division-kind.ensures c.put-count.ensures) (λ k u x. derived.divided c.requires.5 (omega arith) (omega (arith, level-two c.args.o)) (showing (EndAt c.args.y.now.kinds.now (c.args.at + 1)) _ c.in_ok-divisor.was c.end.ensures.1) x))
-
-pub term_more-returns-in_err-divisor : goal.term_more-returns-in_err-divisor
-unfolding compute_form
-term_more-returns-in_err-divisor t c = rw (exits c.from_residual.result c.from_residual.ensures.1) (let room = c.requires.0 in let positive = c.requires.3 in let ahead = c.requires.4 in let small = c.requires.5.small in (takes {μ = an_end ∷ a_term_rest c.args.d c.args.b ∷ []} {m = c.args.n} (omega arith) (λ κ e γ. rest-division c.args.d c.args.b c.args.o κ γ (c.requires.5.class κ e) (omega arith)) (fails (framed (a_term_rest c.args.d c.args.b ∷ []) (known c.in_err-divisor.was c.end.ensures.0.reads))) (omega arith), tt, λ min q. tt))
-
-pub term_more-term_from-requires : goal.term_more-term_from-requires
-term_more-term_from-requires t c = let room = c.requires.0 in let positive = c.requires.3 in let ahead = c.requires.4 in let small = c.requires.5.small in search rules
-
-pub term_more-put-count-requires-2 : goal.term_more-put-count-requires-2
-term_more-put-count-requires-2 t c = let room = c.requires.0 in let positive = c.requires.3 in let ahead = c.requires.4 in let small = c.requires.5.small in let h = (known c.in_ok-right.was c.term_from.ensures.0.reads) in search rules
-
-pub term_more-returns : goal.term_more-returns
-unfolding compute_form
-term_more-returns t c = let room = c.requires.0 in let positive = c.requires.3 in let ahead = c.requires.4 in let small = c.requires.5.small in let h = (known c.in_ok-right.was c.term_from.ensures.0.reads) in let c₁ = c.put-count-2.ensures.count in (takes {μ = a_term c.args.d c.args.b ∷ []} {m = c.args.n + 4} (omega arith) (λ κ e γ. rest-binary c.args.d c.args.b c.args.o κ γ (c.requires.5.class κ e) (omega arith) (omega arith)) (counted {c = c.args.n + 4} (omega arith) h) (omega arith), (let f = h.from in omega arith), λ min q. let w₁ = made c.in_ok-right.was c.term_from.ensures.1 in chain (both (built w₁) (node_of (c.from.ensures ∙ c.kind_at-k.ensures.is) refl c.put-count-2.ensures)) (λ k u x. derived.operated c.requires.5 (omega arith) (omega arith) (omega (arith, level-class c.args.o)) w₁.derives x))
-
-pub term_more-returns-in_err-right : goal.term_more-returns-in_err-right
-unfolding compute_form
-term_more-returns-in_err-right t c = rw (exits c.from_residual-in_err-right.result c.from_residual-in_err-right.ensures.1) (let room = c.requires.0 in let positive = c.requires.3 in let ahead = c.requires.4 in let small = c.requires.5.small in (takes {μ = a_term c.args.d c.args.b ∷ []} {m = c.args.n + 4} (omega arith) (λ κ e γ. rest-binary c.args.d c.args.b c.args.o κ γ (c.requires.5.class κ e) (omega arith) (omega arith)) (fails (known c.in_err-right.was c.term_from.ensures.0.reads)) (omega arith), tt, λ min q. tt))
-
-pub term_rest-loop-code-init : goal.term_rest-loop-code-init
-term_rest-loop-code-init t c = let room = c.requires.0 in (here (omega arith), more-none _ _ _, refl, c.operator_at-o.ensures.0, c.operator_at-o.ensures.1)
-
-pub term_rest-term_more-requires : goal.term_rest-term_more-requires
-term_rest-term_more-requires t c = let room = c.requires.0 in let so = c.loop-code.invariant.0 in let long = c.loop-code.invariant.2 in let behind = c.loop-code.invariant.4 in let positive = level-class c.loop-code.o in let level = c.level_of.ensures in (omega arith, (record { inside = omega arith; few = omega arith; written = omega arith; long = omega arith }, omega arith, omega arith, omega arith, omega arith, c.loop-code.invariant.3))
-
-pub term_rest-loop-code-smaller : goal.term_rest-loop-code-smaller
-term_rest-loop-code-smaller t c = let room = c.requires.0 in let so = c.loop-code.invariant.0 in let long = c.loop-code.invariant.2 in let behind = c.loop-code.invariant.4 in let positive = level-class c.loop-code.o in let level = c.level_of.ensures in let h = known-ahead _ c.in_ok-read.was c.term_more.ensures.1 in let i = (known c.in_ok-read.was c.term_more.ensures.0) in omega arith
-
-pub term_rest-loop-code-preserved : goal.term_rest-loop-code-preserved
-unfolding compute_form
-term_rest-loop-code-preserved t c = let room = c.requires.0 in let so = c.loop-code.invariant.0 in let long = c.loop-code.invariant.2 in let behind = c.loop-code.invariant.4 in let positive = level-class c.loop-code.o in let level = c.level_of.ensures in (next c.loop-code.invariant.0 (known c.in_ok-read.was c.term_more.ensures.0), more-then c.loop-code.invariant.1 (more-known c.in_ok-read.was (c.term_more.ensures.2 c.args.min (omega arith))), search rules, c.operator_at-o-in-loop-code.ensures.0, c.operator_at-o-in-loop-code.ensures.1)
-
-pub term_rest-returns-in_err-read : goal.term_rest-returns-in_err-read
-unfolding compute_form
-term_rest-returns-in_err-read t c = rw (exits c.from_residual.result c.from_residual.ensures.1) ((record { reads = next c.loop-code.invariant.0 (known c.in_err-read.was c.term_more.ensures.0); stops = tt }, tt))
-
-pub term_rest-returns : goal.term_rest-returns
-unfolding compute_form
-term_rest-returns t c = (record { reads = c.loop-code.invariant.0; stops = (λ κ e. below-level _ c.loop-code.o c.level_of.result c.args.min (c.loop-code.invariant.3.class κ e) c.level_of.ensures (omega arith)) }, more-made c.loop-code.invariant.1 (derived.term_stops (λ κ e. below-level _ c.loop-code.o c.level_of.result c.args.min (c.loop-code.invariant.3.class κ e) c.level_of.ensures (omega arith))))
-
 pub unary-atom-requires : goal.unary-atom-requires
 unary-atom-requires t c = let room = c.requires.0 in let h = (known c.in_ok-first-in-Term.was c.term.ensures.0) in search rules
 
@@ -625,3 +558,42 @@ unary-paren-requires t c = let room = c.requires.0 in let i = c.pred_start_of-st
 pub unary-returns-else-d-ge-DEPTH-2 : goal.unary-returns-else-d-ge-DEPTH-2
 unfolding compute_form
 unary-returns-else-d-ge-DEPTH-2 t c = let r = ap start_class c.in-Paren.is in let g : 3 ≤ 9 * c.kind_at-k.result = class-code c.pred_start_of-start.ensures.classes r in (taken {μ = a_paren (suc c.args.d) c.args.b ∷ []} (opens (suc c.args.d)) (omega arith) (open_well c.args.y.now.kinds.now c.args.at (suc c.args.d) (omega arith)) (λ κ e γ. paren-opens c.args.d c.args.b 3 κ γ (c.pred_start_of-start.ensures.classes.class κ (e ∙ sym c.kind_at-k.ensures.is) ∙ r) (omega arith)) (raised (λ x. a_paren x c.args.b ∷ []) c.args.d c.paren.ensures.0) (omega arith), c.paren.ensures.1)
+
+pub term_more-returns-in_ok-divisor-in-Division : goal.term_more-returns-in_ok-divisor-in-Division
+unfolding compute_form
+term_more-returns-in_ok-divisor-in-Division t c = let room = c.requires.0 in let ahead = c.requires.3 in let small = c.requires.4.small in let three : operator_number c.args.o ≡ 3 = ap operator_number c.in-Division.is in let h = (known c.in_ok-divisor-in-Division.was c.end.ensures.0.reads) in let i = known-ahead _ c.in_ok-divisor-in-Division.was c.end.ensures.0.ahead in let c₁ = c.put-count.ensures.count in (takes {μ = an_end ∷ a_term_rest c.args.d c.args.b ∷ []} {m = c.args.n} (omega arith) (λ κ e γ. rest-division c.args.d c.args.b (operator_number c.args.o) κ γ (c.requires.4.class κ e) (omega arith)) (counted {c = c.args.n} (omega arith) (framed (a_term_rest c.args.d c.args.b ∷ []) h)) (omega arith), omega arith, λ min q. chain (node_of c.magnitude-x.ensures c.division-kind.ensures c.put-count.ensures) (λ k u x. derived.divided c.requires.4 (omega arith) (omega (arith, level-two (operator_number c.args.o))) (showing (EndAt c.args.y.now.kinds.now (c.args.at + 1)) _ c.in_ok-divisor-in-Division.was c.end.ensures.1) x))
+
+pub term_more-returns-in_err-divisor-in-Division : goal.term_more-returns-in_err-divisor-in-Division
+unfolding compute_form
+term_more-returns-in_err-divisor-in-Division t c = rw (exits c.from_residual.result c.from_residual.ensures.1) (let room = c.requires.0 in let ahead = c.requires.3 in let small = c.requires.4.small in let three : operator_number c.args.o ≡ 3 = ap operator_number c.in-Division.is in (takes {μ = an_end ∷ a_term_rest c.args.d c.args.b ∷ []} {m = c.args.n} (omega arith) (λ κ e γ. rest-division c.args.d c.args.b (operator_number c.args.o) κ γ (c.requires.4.class κ e) (omega arith)) (fails (framed (a_term_rest c.args.d c.args.b ∷ []) (known c.in_err-divisor-in-Division.was c.end.ensures.0.reads))) (omega arith), tt, λ min q. tt))
+
+pub term_more-returns-in_ok-right-in-Loose : goal.term_more-returns-in_ok-right-in-Loose
+unfolding compute_form
+term_more-returns-in_ok-right-in-Loose t c = let room = c.requires.0 in let ahead = c.requires.3 in let small = c.requires.4.small in let side = not-division c.args.o (search rules) in let level : c.level.result ≡ operator_number c.args.o = c.level.ensures ∙ side.2 in let h = (known c.in_ok-right-in-Loose.was c.term_from.ensures.0.reads) in let c₁ = c.put-count-in-Loose.ensures.count in (takes {μ = a_term c.args.d c.args.b ∷ []} {m = c.args.n + 4} (omega arith) (λ κ e γ. rest-binary c.args.d c.args.b (operator_number c.args.o) κ γ (c.requires.4.class κ e) side.0 (omega (arith, side.1))) (counted {c = c.args.n + 4} (omega arith) h) (omega arith), (let f = h.from in omega arith), λ min q. let w₁ = made c.in_ok-right-in-Loose.was c.term_from.ensures.1 in chain (both (built w₁) (node_of (c.from.ensures ∙ c.kind_at-k.ensures.is) refl c.put-count-in-Loose.ensures)) (λ k u x. derived.operated c.requires.4 side.0 side.1 (omega arith) (at-level level w₁.derives) x))
+
+pub term_more-returns-in_err-right-in-Loose : goal.term_more-returns-in_err-right-in-Loose
+unfolding compute_form
+term_more-returns-in_err-right-in-Loose t c = rw (exits c.from_residual-in_err-right-in-Loose.result c.from_residual-in_err-right-in-Loose.ensures.1) (let room = c.requires.0 in let ahead = c.requires.3 in let small = c.requires.4.small in let side = not-division c.args.o (search rules) in (takes {μ = a_term c.args.d c.args.b ∷ []} {m = c.args.n + 4} (omega arith) (λ κ e γ. rest-binary c.args.d c.args.b (operator_number c.args.o) κ γ (c.requires.4.class κ e) side.0 (omega (arith, side.1))) (fails (known c.in_err-right-in-Loose.was c.term_from.ensures.0.reads)) (omega arith), tt, λ min q. tt))
+
+pub term_rest-loop-o-preserved : goal.term_rest-loop-o-preserved
+unfolding compute_form
+term_rest-loop-o-preserved t c = let found = operator-some c.in-Some.is c.operator_at.ensures in (next c.loop-o.invariant.0 (known c.in_ok-read.was c.term_more.ensures.0), more-then c.loop-o.invariant.1 (more-known c.in_ok-read.was (c.term_more.ensures.2 c.args.min found.1)), search rules)
+
+pub term_rest-returns : goal.term_rest-returns
+unfolding compute_form
+term_rest-returns t c = let none = operator-none c.in_default.is c.operator_at.ensures in (record { reads = c.loop-o.invariant.0; stops = none }, more-made c.loop-o.invariant.1 (derived.term_stops none))
+
+pub pred_rest-pred_more-requires : goal.pred_rest-pred_more-requires
+pred_rest-pred_more-requires t c = let room = c.requires.0 in let so = c.loop-l.invariant.0 c.args.d (λ z. refl) in let long = c.loop-l.invariant.2 in let found = connective-some c.in-Some.is c.connective_at.ensures in (omega arith, (record { inside = omega arith; few = omega arith; written = omega arith; long = omega arith }, omega arith, omega arith, omega (arith, found.1), found.2, found.0))
+
+pub pred_rest-loop-l-preserved : goal.pred_rest-loop-l-preserved
+unfolding compute_form
+pred_rest-loop-l-preserved t c = let room = c.requires.0 in let so = c.loop-l.invariant.0 c.args.d (λ z. refl) in let long = c.loop-l.invariant.2 in let found = connective-some c.in-Some.is c.connective_at.ensures in let least = found.1 in (λ base q. next (c.loop-l.invariant.0 base q) (known c.in_ok-read.was (c.pred_more.ensures.0 base (λ z. q (omega arith)))), more-then c.loop-l.invariant.1 (more-known c.in_ok-read.was (c.pred_more.ensures.2 c.args.min least)), search rules)
+
+pub pred_rest-returns-in_err-read : goal.pred_rest-returns-in_err-read
+unfolding compute_form
+pred_rest-returns-in_err-read t c = rw (exits c.from_residual.result c.from_residual.ensures.1) (let room = c.requires.0 in let so = c.loop-l.invariant.0 c.args.d (λ z. refl) in let long = c.loop-l.invariant.2 in let found = connective-some c.in-Some.is c.connective_at.ensures in let least = found.1 in (record { reads = λ base q. next (c.loop-l.invariant.0 base q) (known c.in_err-read.was (c.pred_more.ensures.0 base (λ z. q (omega arith)))); stops = tt }, tt))
+
+pub pred_rest-returns : goal.pred_rest-returns
+unfolding compute_form
+pred_rest-returns t c = let none = connective-none c.in_default.is c.connective_at.ensures in (record { reads = c.loop-l.invariant.0; stops = none }, more-made c.loop-l.invariant.1 (derived.pred_stops none))

@@ -1,12 +1,11 @@
 use mathlib.Core.List.{[], ◌∷◌}
-use Prim.Native.Nat.{ℕ, ◌+◌, ◌-◌, ◌*◌, ◌≤◌}
+use Prim.Native.Nat.{ℕ, ◌+◌, ◌-◌, ◌*◌}
 use mathlib.Core.Path.{◌≡◌}
-use lib.ListN.{length, get_or}
+use lib.ListN.{length}
 use Rattle.form.specs.Machine.{a_term_rest, a_pred_rest}
-use Rattle.form_nodes.specs.FormPromises.{Reads, Classes, operators, connectives}
+use Rattle.form_nodes.specs.FormPromises.{Reads}
 use Rattle.std.specs.Prelude.{Ok}
-use Rattle.declarations.specs.DossierPromises.{MoreAt}
-use Rattle.form_nodes.specs.Derivations.{EndAt, RangeAt, DomainAt}
+use Rattle.form_nodes.specs.Derivations.{MoreAt}
 use Rattle.form_nodes.specs.Derivations as derived
 use Rattle.expressions.proofs.trees.+trees.Given as goal
 
@@ -71,13 +70,13 @@ abbrev pub decreases-unary : goal.decreases-unary
 decreases-unary l = 8 * (length l.y.now.kinds.now - l.at) + 5
 
 abbrev pub invariant-pred_rest-loop-l : goal.invariant-pred_rest-loop-l
-invariant-pred_rest-loop-l l = ((base : ℕ) → (l.min ≡ 1 → base ≡ l.d) → Reads l.y.kinds.now l.at l.n (a_pred_rest base l.d l.b ∷ []) (a_pred_rest base l.d l.b ∷ []) (Ok l.read)) × MoreAt l.y.kinds.now l.y.values.now (derived.a_pred_rest l.min) l.at l.n l.initial.code l.code l.read.at l.read.count × (length l.code ≡ length l.initial.code) × Classes connectives (get_or l.y.kinds.now l.read.at 0) l.l × (l.l ≤ 2295 * (length l.y.kinds.now - l.read.at))
+invariant-pred_rest-loop-l l = ((base : ℕ) → (l.min ≡ 1 → base ≡ l.d) → Reads l.y.kinds.now l.at l.n (a_pred_rest base l.d l.b ∷ []) (a_pred_rest base l.d l.b ∷ []) (Ok l.read)) × MoreAt l.y.kinds.now l.y.values.now (derived.a_pred_rest l.min) l.at l.n l.initial.code l.code l.read.at l.read.count × (length l.code ≡ length l.initial.code)
 
 abbrev pub decreases-pred_rest-loop-l : goal.decreases-pred_rest-loop-l
 decreases-pred_rest-loop-l l = length l.y.kinds.now - l.read.at
 
-abbrev pub invariant-term_rest-loop-code : goal.invariant-term_rest-loop-code
-invariant-term_rest-loop-code l = Reads l.y.kinds.now l.at l.n (a_term_rest l.d l.b ∷ []) (a_term_rest l.d l.b ∷ []) (Ok l.read) × MoreAt l.y.kinds.now l.y.values.now (derived.a_term_rest l.min) l.at l.n l.initial.code l.code l.read.at l.read.count × (length l.code ≡ length l.initial.code) × Classes operators (get_or l.y.kinds.now l.read.at 0) l.o × (l.o ≤ 2295 * (length l.y.kinds.now - l.read.at))
+abbrev pub invariant-term_rest-loop-o : goal.invariant-term_rest-loop-o
+invariant-term_rest-loop-o l = Reads l.y.kinds.now l.at l.n (a_term_rest l.d l.b ∷ []) (a_term_rest l.d l.b ∷ []) (Ok l.read) × MoreAt l.y.kinds.now l.y.values.now (derived.a_term_rest l.min) l.at l.n l.initial.code l.code l.read.at l.read.count × (length l.code ≡ length l.initial.code)
 
-abbrev pub decreases-term_rest-loop-code : goal.decreases-term_rest-loop-code
-decreases-term_rest-loop-code l = length l.y.kinds.now - l.read.at
+abbrev pub decreases-term_rest-loop-o : goal.decreases-term_rest-loop-o
+decreases-term_rest-loop-o l = length l.y.kinds.now - l.read.at

@@ -1,8 +1,7 @@
 -- `trees::operator_at` meets its contract. Assumes nothing.
-use mathlib.Core.Path.{refl}
-use native.Mathlib.Omega.{arith}
-use Rattle.form_nodes.proofs.NodesOfParts.{class-at}
+use borrow.Author.Rules.{rules}
+use Rattle.expressions.proofs.Chains.{operator-kept}
 use Rattle.expressions.proofs.trees.operator_at.Goals as goal
 
 pub returns : goal.returns
-returns c = (class-at c.kind_at-k.ensures.is refl c.operator_of.ensures, omega (arith, c.kind_at-k.ensures.inside, c.operator_of.ensures.none))
+returns c = operator-kept c.operator_of.result c.filter.result c.requires c.kind_at.ensures c.operator_of.ensures (λ o b k. search rules) c.filter.ensures

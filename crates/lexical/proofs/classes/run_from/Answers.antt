@@ -1,20 +1,28 @@
--- `lexical::classes::run_from` meets its contract: the run from the start is what was passed and the run from here. Assumes nothing.
-use lib.ListN.{length}
-use mathlib.Core.Path.{sym, ap, ◌∙◌}
+-- `lexical::classes::run_from` meets its contract: the bytes of the rest that pass in front are the run, and past the end there are none. Assumes nothing.
+use mathlib.Core.Path.{ap, sym, ◌∙◌}
+use mathlib.Core.Logic.{inl, inr}
+use mathlib.Core.List.{List}
+use Prim.Native.Nat.{ℕ, ◌-◌, ◌≤◌}
 use native.Mathlib.Omega.{arith}
-use borrow.Author.Rules.{rules}
-use borrow.Author.Tests.{not-true, not-false}
-use Rattle.lexical.proofs.ByteLaws.{run_more, run-stop, run_end}
+use lib.ListN.{length, drop, length-drop, drop_of_length-le}
+use lib.Seq.{take_all}
+use Rattle.std.proofs.Common.{rules, Iter}
+use Rattle.std.proofs.lemmas.Iterator.{YieldsList-from_slice}
+use Rattle.std.proofs.lemmas.Iterator.Consumers.{count_from_yields_List}
+use Rattle.std.proofs.lemmas.Iterator.Search.{YieldsList-from_take_while}
+use Rattle.lexical.specs.Symbols.{run}
+use Rattle.lexical.proofs.ByteLaws.{inside, run-front}
 use Rattle.lexical.proofs.classes.run_from.Goals as goal
 
-pub loop-i-init : goal.loop-i-init
-loop-i-init c = (omega arith, (λ l. omega arith), (λ l. omega arith), omega arith)
-
-pub returns-then-not-in_run : goal.returns-then-not-in_run
-returns-then-not-in_run c = omega (arith, ap length (run-stop c.args.s.now c.loop-i.i c.loop-i-test.true (sym c.in_run.ensures ∙ not-true _ c.if-not-in_run.true-raw)))
-
-pub loop-i-preserved : goal.loop-i-preserved
-loop-i-preserved c = (omega arith, (λ l. omega arith), (λ l. omega arith), omega (arith, ap length (run_more c.args.s.now c.loop-i.i c.loop-i-test.true (sym c.in_run.ensures ∙ not-false _ c.if-not-in_run.false-raw))))
+pub returns-in_default : goal.returns-in_default
+unfolding run
+returns-in_default c =
+    let past : length c.args.s.now ≤ c.args.at = elim c.in_default.ensures.lookup.0 [ inl w ↦ omega (arith, w) | inr w ↦ absurd (omega (arith, w)) ] in
+    sym (ap (λ (w : List ℕ). length (run w)) (drop_of_length-le c.args.s.now past))
 
 pub returns : goal.returns
-returns c = let e = ap length (run_end c.args.s.now c.loop-i.i c.loop-i-test.false) in search rules
+returns c =
+    let d = length-drop c.args.at c.args.s.now in
+    let short : length (drop c.args.at c.args.s.now) ≤ length c.args.s.now - c.args.at = omega (arith, d) in
+    let e = c.iter.ensures.rest ∙ c.in-Some.ensures.lookup.0.2 ∙ take_all _ (drop c.args.at c.args.s.now) short in
+    count_from_yields_List _ c.count.result c.count.ensures.ran (YieldsList-from_take_while _ inside (YieldsList-from_slice (drop c.args.at c.args.s.now) (ap (λ (i : Iter ℕ). i.rest.now) c.take_while.ensures.source ∙ e)) (search rules) (search rules) (λ x b q k. (search rules, search rules))) ∙ run-front (drop c.args.at c.args.s.now)

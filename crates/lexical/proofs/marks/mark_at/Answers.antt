@@ -5,4 +5,4 @@ use Rattle.lexical.proofs.MarkLaws.{bytes-at}
 use Rattle.lexical.proofs.marks.mark_at.Goals as goal
 
 pub returns : goal.returns
-returns c = c.mark_of.ensures ∙ ap token_of (bytes-at c.args.s.now c.args.at c.byte_at-a.ensures c.byte_at-b.ensures c.byte_at-e.ensures)
+returns c = c.mark_of.ensures ∙ ap token_of (bytes-at c.args.s.now c.args.at c.at_or-a.ensures c.at_or-b.ensures c.at_or-e.ensures)

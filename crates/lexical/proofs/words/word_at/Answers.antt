@@ -11,4 +11,4 @@ pub word_of-requires : goal.word_of-requires
 word_of-requires c = omega (arith, run_length (drop c.args.at c.args.s.now), length-drop c.args.at c.args.s.now)
 
 pub returns : goal.returns
-returns c = word-here c.args.s.now c.args.at c.run_from-n.ensures c.byte_at.ensures c.ending_of-ending.ensures c.reserved_at-word.ensures c.word_of.ensures
+returns c = word-here c.args.s.now c.args.at c.run_from-n.ensures c.at_or.ensures c.ending_of-ending.ensures c.reserved_at-word.ensures c.word_of.ensures

@@ -4,10 +4,10 @@ use Rattle.mentions.proofs.SolvedTerms.{left-solves, right-solves}
 use Rattle.mentions.proofs.equations.solving.Goals as goal
 
 pub earlier-requires : goal.earlier-requires
-earlier-requires c = (record { some = c.if-end-lt-SIZE.false; within = c.if-end-gt-NUMBERS.false }, omega arith, omega arith)
+earlier-requires c = let w = c.inside.ensures c.if-not-inside.false in (w, omega arith, omega arith)
 
 pub returns-then-tells : goal.returns-then-tells
-returns-then-tells c = left-solves c.if-t-end-ne-COMPARED.false (omega (arith, c.if-t-end-ne-EQUALS.false)) c.in_ok-left.ensures (c.tells.ensures.means c.if-tells.true)
+returns-then-tells c = left-solves c.if-t-end-ne-COMPARED.false (omega arith) c.in_ok-left.ensures (c.tells.ensures.means c.if-tells.true)
 
 pub returns-then-tells-2 : goal.returns-then-tells-2
-returns-then-tells-2 c = right-solves c.if-t-end-ne-COMPARED.false (omega (arith, c.if-t-end-ne-EQUALS.false)) c.in_ok-left.ensures (c.tells-2.ensures.means c.if-tells-2.true)
+returns-then-tells-2 c = right-solves c.if-t-end-ne-COMPARED.false (omega arith) c.in_ok-left.ensures (c.tells-2.ensures.means c.if-tells-2.true)

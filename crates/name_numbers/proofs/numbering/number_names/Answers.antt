@@ -1,6 +1,7 @@
 -- `symbols::names::number_names` meets its contract: the tree of the names passed, and their values. Assumes nothing.
 use mathlib.Core.List.{List}
-use lib.ListN.{set, length-set, length-replicate, length, get_or}
+use borrow.Author.Rules.{rules}
+use lib.ListN.{set, length, get_or}
 use Prim.Native.Nat.{ℕ, ◌<◌, ◌≤◌}
 use mathlib.Core.Path.{◌≡◌, refl, ap, ◌∙◌}
 use native.Mathlib.Omega.{arith}
@@ -13,17 +14,17 @@ use Rattle.name_numbers.proofs.SoundLaws.{map_at, nowhere}
 use Rattle.name_numbers.proofs.numbering.number_names.Goals as goal
 
 pub loop-i-init : goal.loop-i-init
-loop-i-init c = (tree-start c.pack_names.new.letters 8193, refl, omega arith, length-replicate {A = ℕ} 8193 0, refl, length-replicate {A = ℕ} 256 0, recent-start 256)
+loop-i-init c = (tree-start c.pack_names.new.letters 8193, refl, omega arith, recent-start 256)
 
 pub numbered-requires : goal.numbered-requires
-numbered-requires c = (c.loop-i.invariant.0, (let f = c.requires.0.few in omega arith), c.loop-i.invariant.3, c.loop-i.invariant.5, c.loop-i.invariant.6)
+numbered-requires c = (c.loop-i.invariant.0, (let f = c.requires.0.few in omega arith), c.loop-i.invariant.3)
 
 pub loop-i-preserved : goal.loop-i-preserved
-loop-i-preserved c = let k = c.requires.0.counted in let f = c.requires.0.few in let m = c.requires.3 in
+loop-i-preserved c = let k = c.requires.0.counted in let f = c.requires.0.few in let m : length c.args.values.now ≡ 4096 = search rules in
     let t : c.loop-i.i < length (symbols (scan c.args.s.now)) = omega arith in
     let u : length (symbols (scan c.args.s.now)) ≤ length c.args.values.now = omega arith in
-    let o : get_or c.loop-i.values c.loop-i.i 0 ≡ number_in (get_or (symbols (scan c.args.s.now)) c.loop-i.i nowhere).symbol = ap (λ (l : List ℕ). get_or l c.loop-i.i 0) c.loop-i.invariant.1 ∙ filled-after (λ (x : Placed). value_in (symbols (scan c.args.s.now)) x.symbol) (symbols (scan c.args.s.now)) c.args.values.now c.loop-i.i (omega arith) ∙ c.requires.4 c.loop-i.i c.loop-i-test.true ∙ map_at (λ (x : Placed). number_in x.symbol) (symbols (scan c.args.s.now)) c.loop-i.i t in
-    (c.numbered.ensures.0, ap (λ (l : List ℕ). set l c.loop-i.i c.numbered.result) c.loop-i.invariant.1 ∙ filled-step (λ (x : Placed). value_in (symbols (scan c.args.s.now)) x.symbol) (symbols (scan c.args.s.now)) c.loop-i.i c.args.values.now c.numbered.result t u (value-at c.args.s.now _ c.pack_names.ensures c.loop-i.i t o c.numbered.ensures.2 c.numbered.ensures.3), omega arith, c.numbered.ensures.1, length-set c.loop-i.values c.loop-i.i c.numbered.result ∙ c.loop-i.invariant.4, c.numbered.ensures.4, c.numbered.ensures.5)
+    let o : get_or c.loop-i.values c.loop-i.i 0 ≡ number_in (get_or (symbols (scan c.args.s.now)) c.loop-i.i nowhere).symbol = ap (λ (l : List ℕ). get_or l c.loop-i.i 0) c.loop-i.invariant.1 ∙ filled-after (λ (x : Placed). value_in (symbols (scan c.args.s.now)) x.symbol) (symbols (scan c.args.s.now)) c.args.values.now c.loop-i.i (omega arith) ∙ c.requires.1 c.loop-i.i c.loop-i-test.true ∙ map_at (λ (x : Placed). number_in x.symbol) (symbols (scan c.args.s.now)) c.loop-i.i t in
+    (c.numbered.ensures.0, ap (λ (l : List ℕ). set l c.loop-i.i c.numbered.result) c.loop-i.invariant.1 ∙ filled-step (λ (x : Placed). value_in (symbols (scan c.args.s.now)) x.symbol) (symbols (scan c.args.s.now)) c.loop-i.i c.args.values.now c.numbered.result t u (value-at c.args.s.now _ c.pack_names.ensures c.loop-i.i t o c.numbered.ensures.1 c.numbered.ensures.2), omega arith, c.numbered.ensures.3)
 
 pub returns : goal.returns
 returns c = let k = c.requires.0.counted in c.loop-i.invariant.1 ∙ filled-all (λ (x : Placed). value_in (symbols (scan c.args.s.now)) x.symbol) (symbols (scan c.args.s.now)) c.loop-i.i c.args.values.now (omega arith)

@@ -7,4 +7,4 @@ pub returns-else-key-lt-KNOWN : goal.returns-else-key-lt-KNOWN
 returns-else-key-lt-KNOWN c = no_place
 
 pub returns-then-key-lt-KNOWN : goal.returns-then-key-lt-KNOWN
-returns-then-key-lt-KNOWN c = noted (omega (arith, c.if-key-lt-KNOWN.true, c.requires))
+returns-then-key-lt-KNOWN c = noted (omega (arith, c.if-key-lt-KNOWN.true))

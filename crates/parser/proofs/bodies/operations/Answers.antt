@@ -11,8 +11,7 @@ use Rattle.form_nodes.specs.Derivations.{no_operations}
 use Rattle.declarations.specs.DossierPromises.{a_condition_to}
 use Rattle.form_nodes.proofs.ReadParts.{exits, only, here, next, takes, taken, stops, likewise, fails, framed, known}
 use Rattle.declarations.proofs.ListItems.{count-well, count-over, operations, crowded, declared-takes, declared-stops, operation-word, operations_behind}
-use Rattle.declarations.proofs.ListNodes.{more-none, more-then, more-made}
-use Rattle.parser.proofs.BodyNodes.{more-known}
+use Rattle.form_nodes.proofs.FirstNodes.{more-none, more-then, more-made, more-known}
 use Rattle.lexical.specs.Kinds as kind
 use Rattle.parser.proofs.bodies.operations.Goals as goal
 

@@ -5,8 +5,7 @@ use lib.ListN.{length}
 use Rattle.form.specs.Machine.{some_operations}
 use Rattle.form_nodes.specs.FormPromises.{Reads}
 use Rattle.form_nodes.proofs.ReadParts.{read}
-use Rattle.form_nodes.specs.Derivations.{no_operations}
-use Rattle.declarations.specs.DossierPromises.{MoreAt}
+use Rattle.form_nodes.specs.Derivations.{MoreAt}
 use Rattle.form_nodes.specs.Derivations as part
 use Rattle.parser.proofs.bodies.operations.Given as goal
 

@@ -1,86 +1,84 @@
 -- `refusals::Refusal::number` meets its contract: each name has the number of the definition. Assumes nothing.
-use mathlib.Core.Path.{sym, ap}
+use borrow.Author.Rules.{rules}
 use Rattle.refusals.specs.Refusals.{number_of}
-use Rattle.refusals.specs.RefusalNames.{refusal_is}
-use Rattle.refusals.specs.declared.Refusal.{Refusal}
 use Rattle.refusals.proofs.Refusal.number.Goals as goal
 
-pub returns-in-LongText : goal.returns-in-LongText
+pub returns : goal.returns
 unfolding number_of
-returns-in-LongText c = sym (ap (λ (r : Refusal). number_of (refusal_is r)) c.in-LongText.is)
+returns c = search rules
 
-pub returns-in-UnlistedSymbol : goal.returns-in-UnlistedSymbol
+pub returns-2 : goal.returns-2
 unfolding number_of
-returns-in-UnlistedSymbol c = sym (ap (λ (r : Refusal). number_of (refusal_is r)) c.in-UnlistedSymbol.is)
+returns-2 c = search rules
 
-pub returns-in-ManySymbols : goal.returns-in-ManySymbols
+pub returns-3 : goal.returns-3
 unfolding number_of
-returns-in-ManySymbols c = sym (ap (λ (r : Refusal). number_of (refusal_is r)) c.in-ManySymbols.is)
+returns-3 c = search rules
 
-pub returns-in-NoDossier : goal.returns-in-NoDossier
+pub returns-4 : goal.returns-4
 unfolding number_of
-returns-in-NoDossier c = sym (ap (λ (r : Refusal). number_of (refusal_is r)) c.in-NoDossier.is)
+returns-4 c = search rules
 
-pub returns-in-Deep : goal.returns-in-Deep
+pub returns-5 : goal.returns-5
 unfolding number_of
-returns-in-Deep c = sym (ap (λ (r : Refusal). number_of (refusal_is r)) c.in-Deep.is)
+returns-5 c = search rules
 
-pub returns-in-ManyDeclared : goal.returns-in-ManyDeclared
+pub returns-6 : goal.returns-6
 unfolding number_of
-returns-in-ManyDeclared c = sym (ap (λ (r : Refusal). number_of (refusal_is r)) c.in-ManyDeclared.is)
+returns-6 c = search rules
 
-pub returns-in-HeadingDiffers : goal.returns-in-HeadingDiffers
+pub returns-7 : goal.returns-7
 unfolding number_of
-returns-in-HeadingDiffers c = sym (ap (λ (r : Refusal). number_of (refusal_is r)) c.in-HeadingDiffers.is)
+returns-7 c = search rules
 
-pub returns-in-NameInUse : goal.returns-in-NameInUse
+pub returns-8 : goal.returns-8
 unfolding number_of
-returns-in-NameInUse c = sym (ap (λ (r : Refusal). number_of (refusal_is r)) c.in-NameInUse.is)
+returns-8 c = search rules
 
-pub returns-in-NameUnknown : goal.returns-in-NameUnknown
+pub returns-9 : goal.returns-9
 unfolding number_of
-returns-in-NameUnknown c = sym (ap (λ (r : Refusal). number_of (refusal_is r)) c.in-NameUnknown.is)
+returns-9 c = search rules
 
-pub returns-in-TypesMisfit : goal.returns-in-TypesMisfit
+pub returns-10 : goal.returns-10
 unfolding number_of
-returns-in-TypesMisfit c = sym (ap (λ (r : Refusal). number_of (refusal_is r)) c.in-TypesMisfit.is)
+returns-10 c = search rules
 
-pub returns-in-WideType : goal.returns-in-WideType
+pub returns-11 : goal.returns-11
 unfolding number_of
-returns-in-WideType c = sym (ap (λ (r : Refusal). number_of (refusal_is r)) c.in-WideType.is)
+returns-11 c = search rules
 
-pub returns-in-ManyBindings : goal.returns-in-ManyBindings
+pub returns-12 : goal.returns-12
 unfolding number_of
-returns-in-ManyBindings c = sym (ap (λ (r : Refusal). number_of (refusal_is r)) c.in-ManyBindings.is)
+returns-12 c = search rules
 
-pub returns-in-LargeSize : goal.returns-in-LargeSize
+pub returns-13 : goal.returns-13
 unfolding number_of
-returns-in-LargeSize c = sym (ap (λ (r : Refusal). number_of (refusal_is r)) c.in-LargeSize.is)
+returns-13 c = search rules
 
-pub returns-in-ZeroDivisor : goal.returns-in-ZeroDivisor
+pub returns-14 : goal.returns-14
 unfolding number_of
-returns-in-ZeroDivisor c = sym (ap (λ (r : Refusal). number_of (refusal_is r)) c.in-ZeroDivisor.is)
+returns-14 c = search rules
 
-pub returns-in-AdvanceRange : goal.returns-in-AdvanceRange
+pub returns-15 : goal.returns-15
 unfolding number_of
-returns-in-AdvanceRange c = sym (ap (λ (r : Refusal). number_of (refusal_is r)) c.in-AdvanceRange.is)
+returns-15 c = search rules
 
-pub returns-in-ShortBytes : goal.returns-in-ShortBytes
+pub returns-16 : goal.returns-16
 unfolding number_of
-returns-in-ShortBytes c = sym (ap (λ (r : Refusal). number_of (refusal_is r)) c.in-ShortBytes.is)
+returns-16 c = search rules
 
-pub returns-in-NothingHeld : goal.returns-in-NothingHeld
+pub returns-17 : goal.returns-17
 unfolding number_of
-returns-in-NothingHeld c = sym (ap (λ (r : Refusal). number_of (refusal_is r)) c.in-NothingHeld.is)
+returns-17 c = search rules
 
-pub returns-in-SomethingHeld : goal.returns-in-SomethingHeld
+pub returns-18 : goal.returns-18
 unfolding number_of
-returns-in-SomethingHeld c = sym (ap (λ (r : Refusal). number_of (refusal_is r)) c.in-SomethingHeld.is)
+returns-18 c = search rules
 
-pub returns-in-CheckFinished : goal.returns-in-CheckFinished
+pub returns-19 : goal.returns-19
 unfolding number_of
-returns-in-CheckFinished c = sym (ap (λ (r : Refusal). number_of (refusal_is r)) c.in-CheckFinished.is)
+returns-19 c = search rules
 
-pub returns-in-NoCounterexample : goal.returns-in-NoCounterexample
+pub returns-20 : goal.returns-20
 unfolding number_of
-returns-in-NoCounterexample c = sym (ap (λ (r : Refusal). number_of (refusal_is r)) c.in-NoCounterexample.is)
+returns-20 c = search rules

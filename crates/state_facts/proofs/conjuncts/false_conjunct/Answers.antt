@@ -12,4 +12,4 @@ pub retrieve_false-requires : goal.retrieve_false-requires
 retrieve_false-requires c = state-searched c.state_search-s.ensures.dossier (search-asked c.state_search-s.ensures.cells c.requires)
 
 pub returns : goal.returns
-returns c = false_conjunct-is c.state_search-s.ensures.cells (to-dossier c.state_search-s.ensures.dossier (λ t r f. FalsePair t r f c.state_search-s.result.cells c.state_search-s.result.part c.args.a c.args.c c.retrieve_false.result) c.retrieve_false.ensures)
+returns c = false_conjunct-is c.state_search-s.ensures.cells (to-dossier c.state_search-s.ensures.dossier (λ t r f. FalsePair t r f c.state_search-s.result.cells c.state_search-s.result.part c.args.x.a c.args.x.c c.retrieve_false.result) c.retrieve_false.ensures)

@@ -3,20 +3,14 @@ use native.Mathlib.Omega.{arith}
 use Rattle.state_facts.proofs.SearchLaws.{both-sized}
 use mathlib.Core.Bool.{true}
 use Rattle.std.proofs.Common.{rules}
-use Rattle.state_facts.proofs.ConjunctLaws.{every-context, pair-no-abstract, pair-no-concrete, retrieve-asked, pair-first}
+use Rattle.state_facts.proofs.ConjunctLaws.{every-context, retrieve-asked, pair-first}
 use Rattle.state_facts.proofs.conjuncts.retrieve_false.Goals as goal
-
-pub returns-then-s-a : goal.returns-then-s-a
-returns-then-s-a c = pair-no-abstract c.if-s-a.true
-
-pub returns-then-s-c : goal.returns-then-s-c
-returns-then-s-c c = pair-no-concrete c.if-s-c.true
 
 pub bind_pair-requires : goal.bind_pair-requires
 bind_pair-requires c = both-sized c.requires
 
 pub first_false-requires : goal.first_false-requires
-first_false-requires c = record { counted = λ i h. search rules; asked = retrieve-asked c.bind_pair.ensures.values c.bind_pair.ensures.others.same_length (omega (arith, c.if-s-a.false)) (omega (arith, c.if-s-c.false)) c.requires }
+first_false-requires c = record { counted = λ i h. search rules; asked = retrieve-asked c.bind_pair.ensures.values c.bind_pair.ensures.others.same_length (omega (arith, c.if-s-x.false)) (omega (arith, c.if-s-x-2.false)) c.requires }
 
 pub returns : goal.returns
-returns c = pair-first c.bind_pair.ensures.values c.bind_pair.ensures.others.same_length (omega (arith, c.if-s-a.false)) (omega (arith, c.if-s-c.false)) (every-context (c.first_false.ensures.means (λ i. true) (λ i b h q. search (rules, q))))
+returns c = pair-first c.bind_pair.ensures.values c.bind_pair.ensures.others.same_length (omega (arith, c.if-s-x.false)) (omega (arith, c.if-s-x-2.false)) (every-context (c.first_false.ensures.means (λ i. true) (λ i b h q. search (rules, q))))

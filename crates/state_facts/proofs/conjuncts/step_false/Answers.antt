@@ -3,14 +3,8 @@ use mathlib.Core.Path.{refl}
 use native.Mathlib.Omega.{arith}
 use Rattle.std.proofs.Common.{rules}
 use Rattle.state_facts.specs.FalseConjuncts.{guard_test}
-use Rattle.state_facts.proofs.GuardLaws.{guard-context-first, guard-states, guard-parameters, guard-context, step-first, step-no-concrete, step-no-inputs}
+use Rattle.state_facts.proofs.GuardLaws.{guard-context-first, guard-states, guard-parameters, guard-context, step-first}
 use Rattle.state_facts.proofs.conjuncts.step_false.Goals as goal
-
-pub returns-then-s-c : goal.returns-then-s-c
-returns-then-s-c c = step-no-concrete c.if-s-c.true
-
-pub returns-then-s-i : goal.returns-then-s-i
-returns-then-s-i c = step-no-inputs c.if-s-i.true
 
 pub put_states-requires : goal.put_states-requires
 put_states-requires c = guard-states c.requires

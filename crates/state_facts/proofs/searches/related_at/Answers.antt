@@ -6,7 +6,7 @@ pub bind_pair-requires : goal.bind_pair-requires
 bind_pair-requires c = both-sized c.requires.search_asked
 
 pub related-requires : goal.related-requires
-related-requires c = related-asked c.bind_pair.ensures.values c.bind_pair.ensures.others.same_length c.requires.search_asked c.requires.a_lt_nm.0 c.requires.a_lt_nm.1
+related-requires c = related-asked c.bind_pair.ensures.values c.bind_pair.ensures.others.same_length c.requires.search_asked c.requires.x_bound.0 c.requires.x_bound.1
 
 pub returns : goal.returns
-returns c = related-is c.bind_pair.ensures.values c.bind_pair.ensures.others.same_length c.requires.a_lt_nm.0 c.requires.a_lt_nm.1 c.related.ensures.answers
+returns c = related-is c.bind_pair.ensures.values c.bind_pair.ensures.others.same_length c.requires.x_bound.0 c.requires.x_bound.1 c.related.ensures.answers

@@ -1,11 +1,12 @@
 -- `bits::fill_masks` meets its contract: the masks so far are those of the concrete states up to c. Assumes nothing.
+use borrow.Author.Rules.{rules}
 use native.Mathlib.Omega.{arith}
 use Rattle.step_facts.proofs.AskedFacts.{sizes-of}
 use Rattle.step_facts.proofs.Masks.{masks-start, masks-next, masks-done}
 use Rattle.step_facts.proofs.bits.fill_masks.Goals as goal
 
 pub loop-c-init : goal.loop-c-init
-loop-c-init c = (masks-start c.requires.masks_len, c.requires.memo)
+loop-c-init c = (masks-start (search rules), c.requires.memo)
 
 pub bits-m-requires : goal.bits-m-requires
 bits-m-requires c = record { s_bound = c.loop-c-test.true; steps_asked = c.requires.steps_asked; memo = c.loop-c.invariant.1 }

@@ -1,6 +1,4 @@
 -- `differences::differing` meets its contract. Assumes nothing.
-use lib.ListN.{length-replicate}
-use Prim.Native.Nat.{ℕ}
 use mathlib.Core.Path.{refl}
 use native.Mathlib.Omega.{arith}
 use Rattle.step_facts.proofs.AskedFacts.{prepare-asked, steps-asked}
@@ -20,7 +18,6 @@ prepare-ready-requires c = prepare-asked c.requires (omega (arith, c.if-d-j.fals
 
 pub fill_masks-requires : goal.fill_masks-requires
 fill_masks-requires c = record {
-  masks_len = length-replicate {A = ℕ} 4096 0;
   steps_asked = lent StepsAsked c.search-s.ensures.table c.search-s.ensures.plan c.search-s.ensures.cells c.search-s.ensures.part (steps-asked c.requires (omega (arith, c.if-d-j.false)) c.prepare-ready.ensures);
   memo = blank_memo 8098 refl;
 }

@@ -16,7 +16,7 @@ pub loop-next-init : goal.loop-next-init
 loop-next-init c = (relating-start c.next_related_state-next.ensures.found c.requires.steps_asked, c.next_related_state-next.ensures.remembers, c.next_related_state-next.ensures.low)
 
 pub mask_at-requires : goal.mask_at-requires
-mask_at-requires c = omega (arith, c.requires.masks_are.long, (sizes-of c.requires.steps_asked).1.1, (rw c.in-Some.is at c.loop-next.invariant.2))
+mask_at-requires c = omega (arith, (sizes-of c.requires.steps_asked).1.1, (rw c.in-Some.is at c.loop-next.invariant.2))
 
 pub first_difference-requires : goal.first_difference-requires
 first_difference-requires c = omega (arith, (sizes-of c.requires.steps_asked).2.1)

@@ -6,10 +6,10 @@ use Rattle.step_facts.proofs.BothSteps.{below_step, step-here}
 use Rattle.step_facts.proofs.runs.step_at.Goals as goal
 
 pub able-requires : goal.able-requires
-able-requires c = record { s_bound = (c.requires.a_lt_na.0, c.requires.a_lt_na.2); steps_asked = c.requires.steps_asked; memo = c.requires.memo }
+able-requires c = record { s_bound = (c.requires.x_bound.0.a_low, c.requires.x_bound.1); steps_asked = c.requires.steps_asked; memo = c.requires.memo }
 
 pub next_concrete_step-requires : goal.next_concrete_step-requires
-next_concrete_step-requires c = record { c_lt_nc = (c.requires.a_lt_na.1, c.requires.a_lt_na.2, omega arith); steps_asked = c.requires.steps_asked; memo = c.able.ensures.remembers }
+next_concrete_step-requires c = record { c_lt_nc = (c.requires.x_bound.0.c_low, c.requires.x_bound.1, omega arith); steps_asked = c.requires.steps_asked; memo = c.able.ensures.remembers }
 
 pub nonzero_div-o : goal.nonzero_div-o
 nonzero_div-o c = omega (arith, (sizes-of c.requires.steps_asked).1.0)
@@ -18,7 +18,7 @@ pub nonzero_rem-k : goal.nonzero_rem-k
 nonzero_rem-k c = omega (arith, (sizes-of c.requires.steps_asked).1.0)
 
 pub next_matching_state-requires : goal.next_matching_state-requires
-next_matching_state-requires c = record { below = below_step c.requires.a_lt_na.0 c.requires.a_lt_na.2 c.requires.steps_asked c.in_ok-x.ensures.low; from_le_na = omega arith; steps_asked = c.requires.steps_asked; memo = c.next_concrete_step.ensures.remembers }
+next_matching_state-requires c = record { below = below_step c.requires.x_bound.0.a_low c.requires.x_bound.1 c.requires.steps_asked c.in_ok-step.ensures.low; from_le_na = omega arith; steps_asked = c.requires.steps_asked; memo = c.next_concrete_step.ensures.remembers }
 
 pub returns : goal.returns
-returns c = record { found = step-here c.requires.a_lt_na.0 c.requires.a_lt_na.2 c.requires.steps_asked c.in_ok-x.ensures.low c.able.ensures.found (not-false _ c.if-not-able.false-raw) c.in_ok-x.ensures.found c.in_ok-b.ensures.found c.in_ok-b.ensures.low; remembers = c.next_matching_state.ensures.remembers }
+returns c = record { found = step-here c.requires.x_bound.0.a_low c.requires.x_bound.1 c.requires.steps_asked c.in_ok-step.ensures.low c.able.ensures.found (not-false _ c.if-not-able.false-raw) c.in_ok-step.ensures.found c.in_ok-b.ensures.found c.in_ok-b.ensures.low; remembers = c.next_matching_state.ensures.remembers }

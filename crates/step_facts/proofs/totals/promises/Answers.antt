@@ -1,22 +1,8 @@
--- `totals::promises` meets its contract. Assumes nothing.
-use mathlib.Core.Path.{refl}
-use native.Mathlib.Omega.{arith}
-use Rattle.step_facts.proofs.AskedFacts.{prepare-asked, steps-asked}
-use Rattle.step_facts.proofs.Counts.{no_promises, promises-counted}
-use Rattle.step_searches.proofs.LentParts.{lent, returned}
-use Rattle.memo.proofs.Memos.{blank_memo}
-use Rattle.step_searches.specs.StepPromises.{StepsAsked}
-use Rattle.step_facts.specs.FactPromises.{Summed, state_test, ready_below}
+-- `totals::promises` meets its contract: an abstract state adds the inputs with which it can. Assumes nothing.
 use Rattle.step_facts.proofs.totals.promises.Goals as goal
 
-pub returns-then-d-j : goal.returns-then-d-j
-returns-then-d-j c = no_promises (omega (arith, c.if-d-j.true))
-
-pub prepare-ready-requires : goal.prepare-ready-requires
-prepare-ready-requires c = prepare-asked c.requires (omega (arith, c.if-d-j.false))
-
-pub count_promises-requires : goal.count_promises-requires
-count_promises-requires c = record { steps_asked = lent StepsAsked c.search-s.ensures.table c.search-s.ensures.plan c.search-s.ensures.cells c.search-s.ensures.part (steps-asked c.requires (omega (arith, c.if-d-j.false)) c.prepare-ready.ensures); memo = blank_memo 8098 refl }
+pub total-requires : goal.total-requires
+total-requires c = c.requires
 
 pub returns : goal.returns
-returns c = promises-counted c.prepare-ready.ensures (returned (λ t q x p. Summed t q x p state_test (ready_below p.ni) p.na c.count_promises.result) c.search-s.ensures.table c.search-s.ensures.plan c.search-s.ensures.cells c.search-s.ensures.part c.count_promises.ensures.found)
+returns c = record { is = λ d op R m e. c.total.ensures.is d op R m e }

@@ -26,7 +26,7 @@ loop-d-preserved-then-is_input c =
     let on = place-on code d rest _ 8 cut long e in
     let x = piece-at code d rest _ 8 cut long e 1 (omega arith) in
     let input = c.is_input.ensures ∙ ap (λ (m : ℕ). eqb (m % 4) 2) x in
-    (c.in-Some.ensures.steps.0 ∙ c.loop-d.invariant.0, (omega arith, (omega arith, (ends-on code d rest _ 8 cut long e, walked-on code d rest _ cut long e parametering (16 ∷ 19 ∷ c.args.places.now) (c.loop-d.i ∷ c.loop-d.o ∷ c.loop-d.places) _ c.loop-d.invariant.1.1.1.1 (parameter-on code (place code rest) c.loop-d.i c.loop-d.o c.index.result c.loop-d.i _ _ true c.loop-d.places _ (c.index.ensures.0 ∙ x) (sym c.if-is_input.true ∙ input) refl c.put.ensures refl refl)))))
+    (c.in-Some.ensures.steps.0 ∙ c.loop-d.invariant.0, (omega arith, (omega arith, (ends-on code d rest _ 8 cut long e, walked-on code d rest _ cut long e parametering (16 ∷ 19 ∷ c.args.places.now) (c.loop-d.i ∷ c.loop-d.o ∷ c.loop-d.places) _ c.loop-d.invariant.1.1.1.1 (parameter-on code (place code rest) c.loop-d.i c.loop-d.o c.from.result c.loop-d.i _ _ true c.loop-d.places _ (c.from.ensures ∙ x) (sym c.if-is_input.true ∙ input) refl c.put.ensures refl refl)))))
 
 pub loop-d-preserved : goal.loop-d-preserved
 loop-d-preserved c =
@@ -39,7 +39,7 @@ loop-d-preserved c =
     let on = place-on code d rest _ 8 cut long e in
     let x = piece-at code d rest _ 8 cut long e 1 (omega arith) in
     let input = c.is_input.ensures ∙ ap (λ (m : ℕ). eqb (m % 4) 2) x in
-    (c.in-Some.ensures.steps.0 ∙ c.loop-d.invariant.0, (omega arith, (omega arith, (ends-on code d rest _ 8 cut long e, walked-on code d rest _ cut long e parametering (16 ∷ 19 ∷ c.args.places.now) (c.loop-d.i ∷ c.loop-d.o ∷ c.loop-d.places) _ c.loop-d.invariant.1.1.1.1 (parameter-on code (place code rest) c.loop-d.i c.loop-d.o c.index-else-is_input.result c.loop-d.o _ _ false c.loop-d.places _ (c.index-else-is_input.ensures.0 ∙ x) (sym c.if-is_input.false ∙ input) refl c.put-else-is_input.ensures refl refl)))))
+    (c.in-Some.ensures.steps.0 ∙ c.loop-d.invariant.0, (omega arith, (omega arith, (ends-on code d rest _ 8 cut long e, walked-on code d rest _ cut long e parametering (16 ∷ 19 ∷ c.args.places.now) (c.loop-d.i ∷ c.loop-d.o ∷ c.loop-d.places) _ c.loop-d.invariant.1.1.1.1 (parameter-on code (place code rest) c.loop-d.i c.loop-d.o c.from-else-is_input.result c.loop-d.o _ _ false c.loop-d.places _ (c.from-else-is_input.ensures ∙ x) (sym c.if-is_input.false ∙ input) refl c.put-else-is_input.ensures refl refl)))))
 
 pub returns : goal.returns
 returns c = parameters-set c.args.code.now (place c.args.code.now c.loop-d.d-iterator.rest.now) c.loop-d.i c.loop-d.o c.args.places.now c.loop-d.places c.loop-d.invariant.1.1.1.1 (none-left c.args.code.now c.loop-d.d-iterator.rest.now 8 _ c.loop-d.invariant.1.1.1.0 c.in-None.ensures.steps.1.0 c.loop-d.invariant.0)

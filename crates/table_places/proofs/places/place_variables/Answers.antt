@@ -21,7 +21,7 @@ loop-d-preserved c =
     let long = c.in-Some.ensures.steps.1.1 ∙ c.loop-d.invariant.0 in
     let e = c.loop-d.invariant.1.1.0 in
     let on = place-on code d rest _ 8 cut long e in
-    (c.in-Some.ensures.steps.0 ∙ c.loop-d.invariant.0, (omega arith, (ends-on code d rest _ 8 cut long e, walked-on code d rest _ cut long e (slotting c.args.shift) (c.args.slot ∷ c.args.places.now) (c.loop-d.s ∷ c.loop-d.places) _ c.loop-d.invariant.1.1.1 (slot-on code (place code rest) c.args.shift c.loop-d.s c.index.result c.loop-d.places _ (c.index.ensures.0 ∙ piece-at code d rest _ 8 cut long e 1 (omega arith)) c.put.ensures))))
+    (c.in-Some.ensures.steps.0 ∙ c.loop-d.invariant.0, (omega arith, (ends-on code d rest _ 8 cut long e, walked-on code d rest _ cut long e (slotting c.args.shift) (c.args.slot ∷ c.args.places.now) (c.loop-d.s ∷ c.loop-d.places) _ c.loop-d.invariant.1.1.1 (slot-on code (place code rest) c.args.shift c.loop-d.s c.from.result c.loop-d.places _ (c.from.ensures ∙ piece-at code d rest _ 8 cut long e 1 (omega arith)) c.put.ensures))))
 
 pub returns : goal.returns
 returns c = variables-set c.args.code.now (place c.args.code.now c.loop-d.d-iterator.rest.now) c.args.shift c.args.slot c.loop-d.s c.args.places.now c.loop-d.places c.loop-d.invariant.1.1.1 (none-left c.args.code.now c.loop-d.d-iterator.rest.now 8 _ c.loop-d.invariant.1.1.0 c.in-None.ensures.steps.1.0 c.loop-d.invariant.0)

@@ -1,12 +1,14 @@
 -- `kinds::shared_kind` meets its contract. Assumes nothing.
-use borrow.Author.Tests.{eq-eqb, ne_eqb}
+use mathlib.Core.Path.{sym}
+use lib.Dec.{eqb}
 use Rattle.type_rules.specs.TypesByNumber.{shared}
+use Rattle.type_rules.proofs.TypeNumbers.{cond_yes, cond_no}
 use Rattle.type_rules.proofs.kinds.shared_kind.Goals as goal
 
-pub returns-then-k-l : goal.returns-then-k-l
+pub returns-then-eq : goal.returns-then-eq
 unfolding shared
-returns-then-k-l c = rw (shared, eq-eqb c.args.k c.args.l c.if-k-l.true)
+returns-then-eq c = sym (cond_yes c.eq.result (eqb c.args.k c.args.l) c.args.k 0 c.eq.ensures c.if-eq.true)
 
 pub returns : goal.returns
 unfolding shared
-returns c = rw (shared, ne_eqb c.args.k c.args.l c.if-k-l.false)
+returns c = sym (cond_no c.eq.result (eqb c.args.k c.args.l) c.args.k 0 c.eq.ensures c.if-eq.false)

@@ -4,7 +4,8 @@ use Prim.Native.Nat.{◌+◌, ◌-◌}
 use mathlib.Core.Path.{refl, ap, ◌∙◌}
 use lib.ListN.{get_or}
 use Rattle.refusals.specs.Refusals.{number_of}
-use Rattle.type_rules.specs.TypesByNumber.{fault_key}
+use mathlib.Core.Bool.{Bool}
+use Rattle.type_rules.specs.TypesByNumber.{key, fault_key, judged_key}
 use Rattle.type_rules.proofs.FaultOrder.{first-key}
 use Rattle.typing.proofs.LastNodes.{term-short, items-short, pairs-short, pred-short, term-rest, pred-rest, eight, ten}
 use Rattle.typing.proofs.TypeWalkTerms.{term-number, term-prefix, term-divided, term-binary, term-such, term-listed, term-pairs, items-only, items-also, pair-seen, pairs-only, pairs-also}
@@ -20,7 +21,7 @@ connected-returns t c = pred-connected c.args.code.now c.args.end c.requires.0 c
 
 pub divided-returns : goal.divided-returns
 unfolding number_of
-divided-returns t c = term-divided c.args.code.now c.args.end c.requires.0 c.args.names.now c.args.sizes.now _ c.node_at-n.result c.term-t.result _ c.from.result c.from-2.result (fault_key c.unless-zero.result) (fault_key c.lesser_of.result) c.node_at-n.ensures c.requires.2 c.term-t.ensures c.from.ensures c.from-2.ensures c.unless-zero.ensures c.lesser_of.ensures refl refl c.judge-f.ensures
+divided-returns t c = term-divided c.args.code.now c.args.end c.requires.0 c.args.names.now c.args.sizes.now _ c.node_at-n.result c.term-t.result _ c.from.result c.from-2.result (fault_key c.unless-zero.result) (fault_key c.lesser_of.result) c.node_at-n.ensures c.requires.2 c.term-t.ensures c.from.ensures c.from-2.ensures c.unless-zero.ensures c.lesser_of.ensures refl refl (c.judge-f.ensures ∙ ap (λ (b : Bool). judged_key b (key c.node_at-n.result.place 10) (fault_key c.lesser_of.result)) c.is_number.ensures)
 
 pub items-returns-then-end-lt-SIZE : goal.items-returns-then-end-lt-SIZE
 items-returns-then-end-lt-SIZE t c = items-short c.args.code.now c.args.end c.requires c.args.names.now c.args.sizes.now _ c.nothing.ensures c.if-end-lt-SIZE.true
@@ -44,7 +45,7 @@ unfolding number_of
 member-returns t c = pred-member c.args.code.now c.args.end c.requires.0 c.args.names.now c.args.sizes.now _ _ c.node_at-n.result c.term-t.result c.term-u.result _ c.member_fits.result (fault_key c.lesser_of-parts.result) c.node_at-n.ensures c.requires.2 c.term-u.ensures c.term-t.ensures c.member_fits.ensures c.lesser_of-parts.ensures refl refl c.judge-f.ensures
 
 pub pair-returns : goal.pair-returns
-pair-returns t c = pair-seen c.args.code.now c.args.end c.requires c.args.names.now c.args.sizes.now _ _ c.term-t.result c.term-u.result _ c.term-u.ensures c.term-t.ensures c.pair_of.ensures refl c.lesser_of-f.ensures
+pair-returns t c = pair-seen c.args.code.now c.args.end c.requires c.args.names.now c.args.sizes.now _ _ c.term-t.result c.term-u.result _ c.term-u.ensures c.term-t.ensures c.pair_with.ensures refl c.lesser_of-f.ensures
 
 pub paired-returns : goal.paired-returns
 paired-returns t c = term-pairs c.args.code.now c.args.end c.requires.0 c.args.names.now c.args.sizes.now _ c.node_at-n.result c.pairs-t.result _ (fault_key c.brace_fault.result) c.node_at-n.ensures c.requires.2 c.pairs-t.ensures c.brace_fault.ensures refl refl (ap fault_key c.or-f.ensures ∙ first-key c.pairs-t.result.fault c.brace_fault.result)
@@ -93,14 +94,14 @@ unfolding number_of
 prefixed-returns t c = term-prefix c.args.code.now c.args.end c.requires.0 c.args.names.now c.args.sizes.now _ c.node_at-n.result c.term-t.result _ c.prefix_fits.result c.node_at-n.ensures c.requires.2 c.term-t.ensures c.prefix_fits.ensures c.prefix_type.ensures refl c.judge-f.ensures
 
 pub quantified-returns : goal.quantified-returns
-quantified-returns t c = pred-quantified c.args.code.now c.args.end c.requires.0 c.args.names.now c.args.sizes.now _ _ _ c.node_at-n.result c.domain-d.result c.pred-p.result _ c.from-x.result c.look-old.result c.node_at-n.ensures c.requires.2 c.domain-d.ensures c.pred-p.ensures c.put.ensures c.put-2.ensures c.from-x.ensures c.look-old.ensures refl refl c.bound_fault-f.ensures
+quantified-returns t c = pred-quantified c.args.code.now c.args.end c.requires.0 c.args.names.now c.args.sizes.now _ _ _ c.node_at-n.result c.domain-d.result c.pred-p.result _ c.from-x.result c.entry-old.result c.node_at-n.ensures c.requires.2 c.domain-d.ensures c.pred-p.ensures c.put.ensures c.put-2.ensures c.from-x.ensures c.entry-old.ensures refl refl c.bound_fault-f.ensures
 
 pub related-returns : goal.related-returns
 unfolding number_of
 related-returns t c = pred-related c.args.code.now c.args.end c.requires.0 c.args.names.now c.args.sizes.now _ _ _ c.node_at-n.result c.term-t.result c.term-u.result c.term-v.result _ c.related_fits.result (fault_key c.lesser_of.result) (fault_key c.lesser_of-parts.result) c.node_at-n.ensures c.requires.2 c.term-v.ensures c.term-u.ensures c.term-t.ensures c.related_fits.ensures c.lesser_of.ensures c.lesser_of-parts.ensures refl refl c.judge-f.ensures
 
 pub such-returns : goal.such-returns
-such-returns t c = term-such c.args.code.now c.args.end c.requires.0 c.args.names.now c.args.sizes.now _ _ _ c.node_at-n.result c.domain-d.result c.pred-p.result _ c.from-x.result c.look-was.result c.node_at-n.ensures c.requires.2 c.domain-d.ensures c.pred-p.ensures c.put.ensures c.put-2.ensures c.from-x.ensures c.look-was.ensures c.set_of.ensures refl c.bound_fault-f.ensures
+such-returns t c = term-such c.args.code.now c.args.end c.requires.0 c.args.names.now c.args.sizes.now _ _ _ c.node_at-n.result c.domain-d.result c.pred-p.result _ c.from-x.result c.entry-was.result c.node_at-n.ensures c.requires.2 c.domain-d.ensures c.pred-p.ensures c.put.ensures c.put-2.ensures c.from-x.ensures c.entry-was.ensures c.set_of.ensures refl c.bound_fault-f.ensures
 
 pub term-returns-then-end-lt-SIZE : goal.term-returns-then-end-lt-SIZE
 term-returns-then-end-lt-SIZE t c = term-short c.args.code.now c.args.end c.requires c.args.names.now c.args.sizes.now _ c.nothing.ensures c.if-end-lt-SIZE.true
@@ -140,4 +141,4 @@ term-returns-in_default t c = term-rest c.args.code.now c.args.end c.requires c.
 
 pub within-returns : goal.within-returns
 unfolding number_of
-within-returns t c = pred-within c.args.code.now c.args.end c.requires.0 c.args.names.now c.args.sizes.now _ c.node_at-n.result c.term-t.result c.domain-d.result _ (fault_key c.lesser_of-parts.result) c.node_at-n.ensures c.requires.2 c.domain-d.ensures c.term-t.ensures c.lesser_of-parts.ensures refl refl c.judge-f.ensures
+within-returns t c = pred-within c.args.code.now c.args.end c.requires.0 c.args.names.now c.args.sizes.now _ c.node_at-n.result c.term-t.result c.domain-d.result _ (fault_key c.lesser_of-parts.result) c.node_at-n.ensures c.requires.2 c.domain-d.ensures c.term-t.ensures c.lesser_of-parts.ensures refl refl (c.judge-f.ensures ∙ ap (λ (b : Bool). judged_key b (key c.node_at-n.result.place 10) (fault_key c.lesser_of-parts.result)) c.is_number.ensures)

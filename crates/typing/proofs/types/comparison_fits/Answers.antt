@@ -1,13 +1,14 @@
 -- `types::comparison_fits` meets its contract. Assumes nothing.
-use borrow.Author.Tests.{eq-eqb, ne_eqb}
-use Rattle.type_rules.proofs.TypeNumbers.{equal-fits, order-fits}
+use mathlib.Core.Path.{◌∙◌}
+use Rattle.type_rules.proofs.TypeNumbers.{and_yes, and_no, equal-fits, order-fits}
+use Rattle.type_rules.specs.TypesByNumber.{is_number}
 use Rattle.typing.proofs.types.comparison_fits.Goals as goal
 
 pub returns-then-o-lt-LESS : goal.returns-then-o-lt-LESS
-returns-then-o-lt-LESS c = equal-fits c.args.o c.args.k c.args.l c.if-o-lt-LESS.true
+returns-then-o-lt-LESS c p e = c.eq.ensures ∙ equal-fits c.args.o c.args.k c.args.l c.if-o-lt-LESS.true p e
 
-pub returns-then-k-eq-NUMBER : goal.returns-then-k-eq-NUMBER
-returns-then-k-eq-NUMBER c = order-fits c.args.o c.args.k c.args.l _ c.if-o-lt-LESS.false (rw (eq-eqb c.args.k 1 c.if-k-eq-NUMBER.true))
+pub returns-then-is_number : goal.returns-then-is_number
+returns-then-is_number c = order-fits c.args.o c.args.k c.args.l _ c.if-o-lt-LESS.false (and_yes c.is_number.result c.is_number-then-is_number.result (is_number c.args.k) (is_number c.args.l) c.is_number.ensures c.is_number-then-is_number.ensures c.if-is_number.true)
 
-pub returns-else-k-eq-NUMBER : goal.returns-else-k-eq-NUMBER
-returns-else-k-eq-NUMBER c = order-fits c.args.o c.args.k c.args.l _ c.if-o-lt-LESS.false (rw (ne_eqb c.args.k 1 c.if-k-eq-NUMBER.false))
+pub returns-else-is_number : goal.returns-else-is_number
+returns-else-is_number c = order-fits c.args.o c.args.k c.args.l _ c.if-o-lt-LESS.false (and_no c.is_number.result (is_number c.args.k) (is_number c.args.l) c.is_number.ensures c.if-is_number.false)

@@ -12,7 +12,7 @@ returns-then-end-lt-SIZE c = domain-short c.args.code.now c.args.end (omega arit
 
 pub returns-then-code-at-eq-SET : goal.returns-then-code-at-eq-SET
 unfolding number_of
-returns-then-code-at-eq-SET c = domain-given c.args.code.now c.args.end (omega arith) c.args.names.now [] c.node_at-n.result _ c.from.result c.look-e.result c.from-then-code-at-eq-SET.result c.is_given.result c.node_at-n.ensures c.if-code-at-eq-SET.true refl c.from.ensures c.look-e.ensures c.from-then-code-at-eq-SET.ensures c.is_given.ensures c.element_of.ensures c.unless-f.ensures
+returns-then-code-at-eq-SET c = domain-given c.args.code.now c.args.end (omega arith) c.args.names.now [] c.node_at-n.result _ c.from.result c.entry-e.result c.from-then-code-at-eq-SET.result c.is_given.result c.node_at-n.ensures c.if-code-at-eq-SET.true refl c.from.ensures c.entry-e.ensures c.from-then-code-at-eq-SET.ensures c.is_given.ensures c.element_of.ensures c.unless-f.ensures
 
 pub returns : goal.returns
 unfolding number_of

@@ -1,16 +1,17 @@
 -- `types::operator_fits` meets its contract. Assumes nothing.
-use borrow.Author.Tests.{le-leb, lt-leb, eq-eqb, ne_eqb}
-use Rattle.type_rules.proofs.TypeNumbers.{numbers_fit, sets-fit}
+use lib.Dec.{eqb}
+use Rattle.type_rules.proofs.TypeNumbers.{and_yes, and_no, numbers_fit, sets-fit}
+use Rattle.type_rules.specs.TypesByNumber.{is_number, is_set}
 use Rattle.typing.proofs.types.operator_fits.Goals as goal
 
-pub returns-then-k-eq-NUMBER : goal.returns-then-k-eq-NUMBER
-returns-then-k-eq-NUMBER c = numbers_fit c.args.o c.args.k c.args.l _ c.if-o-lt-COUNT.true (rw (eq-eqb c.args.k 1 c.if-k-eq-NUMBER.true))
+pub returns-then-is_number : goal.returns-then-is_number
+returns-then-is_number c = numbers_fit c.args.o c.args.k c.args.l _ c.if-o-lt-COUNT.true (and_yes c.is_number.result c.is_number-then-is_number.result (is_number c.args.k) (is_number c.args.l) c.is_number.ensures c.is_number-then-is_number.ensures c.if-is_number.true)
 
-pub returns-else-k-eq-NUMBER : goal.returns-else-k-eq-NUMBER
-returns-else-k-eq-NUMBER c = numbers_fit c.args.o c.args.k c.args.l _ c.if-o-lt-COUNT.true (rw (ne_eqb c.args.k 1 c.if-k-eq-NUMBER.false))
+pub returns-else-is_number : goal.returns-else-is_number
+returns-else-is_number c = numbers_fit c.args.o c.args.k c.args.l _ c.if-o-lt-COUNT.true (and_no c.is_number.result (is_number c.args.k) (is_number c.args.l) c.is_number.ensures c.if-is_number.false)
 
-pub returns-then-k-ge-SET : goal.returns-then-k-ge-SET
-returns-then-k-ge-SET c = sets-fit c.args.o c.args.k c.args.l _ c.if-o-lt-COUNT.false (rw (le-leb 32 c.args.k c.if-k-ge-SET.true))
+pub returns-then-is_set : goal.returns-then-is_set
+returns-then-is_set c = sets-fit c.args.o c.args.k c.args.l _ c.if-o-lt-COUNT.false (and_yes c.is_set.result c.eq.result (is_set c.args.k) (eqb c.args.k c.args.l) c.is_set.ensures c.eq.ensures c.if-is_set.true)
 
-pub returns-else-k-ge-SET : goal.returns-else-k-ge-SET
-returns-else-k-ge-SET c = sets-fit c.args.o c.args.k c.args.l _ c.if-o-lt-COUNT.false (rw (lt-leb 32 c.args.k c.if-k-ge-SET.false))
+pub returns-else-is_set : goal.returns-else-is_set
+returns-else-is_set c = sets-fit c.args.o c.args.k c.args.l _ c.if-o-lt-COUNT.false (and_no c.is_set.result (is_set c.args.k) (eqb c.args.k c.args.l) c.is_set.ensures c.if-is_set.false)

@@ -1,0 +1,2 @@
+-- Phrases.
+pub mod EndingBytes

@@ -1,0 +1,22 @@
+-- `totals::total` meets its contract. Assumes nothing.
+use mathlib.Core.Path.{refl}
+use native.Mathlib.Omega.{arith}
+use Rattle.step_facts.proofs.AskedFacts.{prepare-asked, steps-asked}
+use Rattle.step_facts.proofs.Counts.{no_total, total-is}
+use Rattle.step_searches.proofs.LentParts.{lent, returned}
+use Rattle.memo.proofs.Memos.{blank_memo}
+use Rattle.step_searches.specs.StepPromises.{StepsAsked}
+use Rattle.step_facts.specs.FactPromises.{Summed, state_test, adds}
+use Rattle.step_facts.proofs.totals.total.Goals as goal
+
+pub returns-then-d-j : goal.returns-then-d-j
+returns-then-d-j c = no_total (omega (arith, c.if-d-j.true))
+
+pub prepare-ready-requires : goal.prepare-ready-requires
+prepare-ready-requires c = prepare-asked c.requires (omega (arith, c.if-d-j.false))
+
+pub count_all-requires : goal.count_all-requires
+count_all-requires c = record { steps_asked = lent StepsAsked c.search-s.ensures.table c.search-s.ensures.plan c.search-s.ensures.cells c.search-s.ensures.part (steps-asked c.requires (omega (arith, c.if-d-j.false)) c.prepare-ready.ensures); memo = blank_memo 8098 refl }
+
+pub returns : goal.returns
+returns c = total-is c.prepare-ready.ensures (returned (λ t q x p. Summed t q x p state_test (adds c.args.counted p.nc p.ni) p.na c.count_all.result) c.search-s.ensures.table c.search-s.ensures.plan c.search-s.ensures.cells c.search-s.ensures.part c.count_all.ensures.found)

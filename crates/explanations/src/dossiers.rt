@@ -2,7 +2,7 @@
 use search_groups::Dossier;
 use std::marker::Model;
 
-// Its arrays are what is read of a text, and so many operations it has.
+// Its arrays, and how many operations it has, are what `read` leaves of a text.
 #[derive(Drop)]
 pub struct ReadDossier<'a, 'b> {
     pub text: &'a [u8],

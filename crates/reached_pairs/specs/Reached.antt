@@ -28,10 +28,11 @@ Reached d es a c = ReachedBy (abstract_side d) (concrete_side d) (related d) es 
 
 -- ---- the marks: one for each pair; that of the a-th abstract and the c-th concrete binding of the fixed order stands at a * (how many concrete ones there are) + c
 
--- a mark: its layer, and the entry and the pair before that led there. No mark has layer 0; layer 1 are the pairs that the list without entries reaches.
+-- A mark has a layer, and the entry and the pair before that led there. The layer 0 says that none stands there.
 abbrev pub no_mark : Mark
 no_mark = record { layer = 0; operation = 0; input = 0; before = 0 }
 
+-- layer 1: the pairs that the list without entries reaches
 abbrev pub first_mark : Mark
 first_mark = record { layer = 1; operation = 0; input = 0; before = 0 }
 

@@ -13,7 +13,7 @@ use step_searches::{next_abstract_step, next_concrete_step};
 pub const STATES: usize = STATE_BINDINGS as usize;
 
 // One of the two machines.
-// Form 1: no result.
+// Form 1: two cases of their own, no Option or Result.
 #[derive(Clone, Copy)]
 pub enum Side {
     Abstract,

@@ -1,6 +1,6 @@
 -- States and operations by where they stand among the nodes: their faults by the counts of their groups, and a walk over the operations.
 use mathlib.Core.Path.{◌≡◌, refl, ap, ap₂, sym, ◌∙◌, subst}
-use mathlib.Core.Bool.{Bool, ◌&&◌}
+use mathlib.Core.Bool.{Bool, true, false, ◌&&◌}
 use mathlib.Core.List.{List, [], ◌∷◌}
 use Prim.Native.Nat.{ℕ, suc, ◌+◌, ◌-◌, ◌*◌, ◌≤◌, ◌<◌, min}
 use native.Mathlib.Decide.{dec_lt}
@@ -31,6 +31,12 @@ module _ (nodes : List ℕ) (from : ℕ) (ok : Bool) where
 
   pub heading-over : (w l r : ℕ) → w ≡ l → l ≡ get_or nodes (from - 4 + 2) 0 → r ≡ unless_key ok (key w 12) → HeadingFaulted nodes from ok r
   heading-over w l r p q s i h = s ∙ ap (λ (j : ℕ). unless_key ok (key j 12)) (p ∙ (q ∙ h.place))
+
+  pub heading-well : ok ≡ true → HeadingFaulted nodes from ok 0
+  heading-well e i h = sym (ap (λ (b : Bool). unless_key b (key i 12)) e)
+
+  pub heading-ill : (r : ℕ) → ok ≡ false → HeadingFaulted nodes from false r → HeadingFaulted nodes from ok r
+  heading-ill r e f i h = f i h ∙ sym (ap (λ (b : Bool). unless_key b (key i 12)) e)
 
 -- ---- a group ----
 

@@ -6,6 +6,7 @@ ghost use Rattle.std.specs.Prelude.{◌≡◌, [], ◌∷◌, ◌++◌, ◌<◌,
 use std::marker::Model;
 
 // The first `len` bytes are those that are written.
+// Form 6: an array with a length beside it needs no heap, which the programs do without, and so `new`, `put` and `put_all` cannot fail.
 #[derive(Drop)]
 pub struct BoundedText<const N: usize> {
     bytes: [u8; N],

@@ -14,8 +14,23 @@ use lib.Count.{ones_in}
 use lib.Pow.{pow_pos, pow-add, pow_mono}
 use Rattle.sets.specs.Sets.{pair}
 use Rattle.carriers.specs.ValuesByNumber.{word, row_of, choices, mask_at}
+use Rattle.carriers.specs.FunctionKinds.{least_of}
+use Rattle.carriers.specs.declared.Functions.{Functions}
+use Rattle.carriers.specs.declared.Functions.TheVariants.{Partial, Total}
 use Rattle.carriers.proofs.Words.{word_below}
 use Rattle.carriers.proofs.Rows.{partial_rows, total-rows, pow_rows}
+
+-- what kind of functions it is, a row has one bit at least or none
+pub least_fits : (f : Functions) (least : ℕ) → least ≡ least_of f → least ≤ 1
+least_fits Partial least e = omega (arith, e)
+least_fits Total least e = omega (arith, e)
+
+-- what `mask_at` and `count_at` promise, by that number
+abbrev pub MaskIs : (n m k r least : ℕ) → Type 0
+MaskIs n m k r least = (least ≤ m → n * m ≤ 16 → r ≡ mask_at least n m k) × (16 < n * m → r ≡ 0) × (m < least → r ≡ 0)
+
+abbrev pub CountIs : (n m r least : ℕ) → Type 0
+CountIs n m r least = (least ≤ m → n * m ≤ 16 → r ≡ choices least m ^ n) × (16 < n * m → r ≡ 1) × (m < least → r ≡ 1)
 
 -- as many choices for a row as the code counts
 base-is : (least m : ℕ) → least ≤ 1 → m + 1 - least ≡ choices least m

@@ -5,6 +5,7 @@ ghost use Rattle.std.specs.Prelude.{◌≡◌, true, false, ◌*◌, ◌^◌, �
 ghost use Rattle.meaning.specs.FormTree.{partial, total};
 ghost use Rattle.meaning.specs.StaticRulesCarriers.{arrow_count};
 ghost use Rattle.carriers.specs.ValuesByNumber.{Room, choices, mask_at, partial_mask, total_mask, digit};
+ghost use Rattle.carriers.specs.FunctionKinds.{least_of};
 
 // The k-th number of a range from a on.
 pub fn number_at(a: i32, k: u32) -> i64
@@ -13,11 +14,25 @@ pub fn number_at(a: i32, k: u32) -> i64
     a as i64 + k as i64
 }
 
-// How many bits a row of a partial function has at least, and one of a total function.
-// Form 1: numbers that are counted with, as in `mask_at` of the definitions and its laws; each function would turn an enum's arms back into them.
-const PARTIAL_LEAST: u32 = 0;
+// Which functions: a row of a partial one may be without a bit.
+// Form 1: two cases of its own, no Option or Result.
+#[derive(Clone, Copy)]
+enum Functions {
+    Partial,
+    Total,
+}
 
-const TOTAL_LEAST: u32 = 1;
+impl Functions {
+    // How many bits a row has at least.
+    fn least(self) -> u32
+        ensures { result ≡ least_of self }
+    {
+        match self {
+            Functions::Partial => 0,
+            Functions::Total => 1,
+        }
+    }
+}
 
 // How many bits a set has, as a place of a pair.
 const BITS: u64 = sets::BITS as u64;
@@ -32,11 +47,12 @@ fn room(least: u32, n: u32, m: u32) -> bool
     sets::pair(m, n, 0) <= BITS
 }
 
-// The k-th set of n rows of m bits, each with one bit at most and `least` at least: the digits of k say which bit, the first row's the lowest.
-fn mask_at(least: u32, n: u32, m: u32, k: u32) -> u16
-    requires { least ≤ 1 }
-    ensures { (least ≤ m → n * m ≤ 16 → result ≡ mask_at least n m k) × (16 < n * m → result ≡ 0) × (m < least → result ≡ 0) }
+// The k-th set of n rows of m bits, each with one bit at most and as many at least as the functions ask: the digits of k say which bit, the first row's the
+// lowest.
+fn mask_at(f: Functions, n: u32, m: u32, k: u32) -> u16
+    ensures { (least_of f ≤ m → n * m ≤ 16 → result ≡ mask_at (least_of f) n m k) × (16 < n * m → result ≡ 0) × (m < least_of f → result ≡ 0) }
 {
+    let least = f.least();
     if !room(least, n, m) {
         return 0;
     }
@@ -59,21 +75,21 @@ fn mask_at(least: u32, n: u32, m: u32, k: u32) -> u16
 pub fn partial_mask(n: u32, m: u32, k: u32) -> u16
     ensures { (n * m ≤ 16 → result ≡ partial_mask n m k) × (16 < n * m → result ≡ 0) }
 {
-    mask_at(PARTIAL_LEAST, n, m, k)
+    mask_at(Functions::Partial, n, m, k)
 }
 
 // The k-th total function from n elements to m; where a set cannot hold the pairs, or there is nothing to go to, none.
 pub fn total_mask(n: u32, m: u32, k: u32) -> u16
     ensures { (0 < m → n * m ≤ 16 → result ≡ total_mask n m k) × (16 < n * m → result ≡ 0) × (m ≡ 0 → result ≡ 0) }
 {
-    mask_at(TOTAL_LEAST, n, m, k)
+    mask_at(Functions::Total, n, m, k)
 }
 
-// How many sets of n rows of m bits there are, each row with one bit at most and `least` at least.
-fn count_at(least: u32, n: u32, m: u32) -> u32
-    requires { least ≤ 1 }
-    ensures { (least ≤ m → n * m ≤ 16 → result ≡ choices least m ^ n) × (16 < n * m → result ≡ 1) × (m < least → result ≡ 1) }
+// How many sets of n rows of m bits there are, each row with one bit at most and as many at least as the functions ask.
+fn count_at(f: Functions, n: u32, m: u32) -> u32
+    ensures { (least_of f ≤ m → n * m ≤ 16 → result ≡ choices (least_of f) m ^ n) × (16 < n * m → result ≡ 1) × (m < least_of f → result ≡ 1) }
 {
+    let least = f.least();
     if !room(least, n, m) {
         return 1;
     }
@@ -85,18 +101,19 @@ fn count_at(least: u32, n: u32, m: u32) -> u32
 pub fn partial_count(n: u32, m: u32) -> u32
     ensures { (n * m ≤ 16 → result ≡ arrow_count partial n m) × (16 < n * m → result ≡ 1) }
 {
-    count_at(PARTIAL_LEAST, n, m)
+    count_at(Functions::Partial, n, m)
 }
 
 // How many total functions, with the same for what a set cannot hold.
 pub fn total_count(n: u32, m: u32) -> u32
     ensures { (0 < m → n * m ≤ 16 → result ≡ arrow_count total n m) × (16 < n * m → result ≡ 1) × (m ≡ 0 → result ≡ 1) }
 {
-    count_at(TOTAL_LEAST, n, m)
+    count_at(Functions::Total, n, m)
 }
 
 // The digit of a variable with `count` values in the number k of a binding, where those after it have `stride` bindings.
-// Form 1: no variable has 0 of either; the definitions' numbers are total, and by 0 a quotient is 0 and all is left as the remainder.
+// Form 1: the answer where stride or count is 0, which no variable has, is no sign of none: the definitions' numbers are total, and by 0 a quotient is 0 and
+// all is left as the remainder. An Option would ask each caller for a case that it does not have.
 pub fn digit(stride: u32, count: u32, k: u32) -> u32
     ensures { result ≡ digit stride count k }
 {

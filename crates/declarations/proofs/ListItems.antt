@@ -1,5 +1,5 @@
 -- What the machine's items do in contents, bodies and declarations, and how the counts of number 6 are kept.
-use mathlib.Core.Path.{◌≡◌, refl, ap, ◌∙◌, sym}
+use mathlib.Core.Path.{◌≡◌, refl, ap, ◌∙◌, sym, subst}
 use mathlib.Core.Bool.{Bool}
 use mathlib.Core.List.{List, [], ◌∷◌, ◌++◌}
 use mathlib.Core.Option.{Option, none, some}
@@ -18,14 +18,17 @@ use Rattle.form.specs.Computed.{compute_form}
 use Rattle.form.specs.Machine.{Item, exact, a_name, an_end, a_type, a_type_rest, a_dossier, a_declared, some_entries, some_op_entries, some_bodies, some_elements, some_declarations, some_operations, some_parameters}
 use Rattle.form.specs.Machine.{Act, take, skip, stuck, then, act, on_name, go, halt, does, step, ends, unless_over}
 use Rattle.form_nodes.specs.FormPromises.{run_at, Reads, names}
-use Rattle.declarations.specs.DossierPromises.{EntriesOf, of_givens, of_operations, a_typed, a_condition_to, two_states, three_conditions, arrows, directions, direction_class, counted_by, inputs_by, outputs_by, mark_by}
+use Rattle.declarations.specs.DossierPromises.{Few, few, over, Titled, titled, nameless, too_many, EntriesOf, of_givens, of_operations, a_typed, a_condition_to, two_states, three_conditions, Arrows, arrows, arrow_class, directions, direction_class, counted_by, inputs_by, outputs_by, more_by, mark_by}
 use Rattle.declarations.specs.declared.contents.Direction.{Direction}
 use Rattle.declarations.specs.declared.contents.Direction.TheVariants.{Input, Output}
 use Rattle.std.specs.Prelude as prelude
-use Rattle.std.specs.Prelude.{Err, Some, None}
+use Rattle.std.specs.Prelude.{Result, Ok, Err, Some, None}
+use Rattle.declarations.specs.declared.contents.Taken.{Taken}
+use Rattle.refusals.specs.declared.Fault.{Fault}
 use Rattle.refusals.specs.declared.Refusal.TheVariants.{ManyDeclared}
 use Rattle.form_nodes.proofs.Classes.{lookup-miss, by-table-or}
-use Rattle.form_nodes.proofs.ReadParts.{only, Within, step-at}
+use Rattle.form_nodes.proofs.ReadParts.{only, Within, step-at, stops}
+use Rattle.form_nodes.proofs.RightSides.{inside}
 use Rattle.form_nodes.proofs.ItemSteps.{by-act, exact-takes, exact-stops, lookup-mapped, either, naming, either-some}
 use Rattle.form.proofs.Table.{◌&◌}
 
@@ -89,6 +92,41 @@ declared-takes m γ = refl
 pub declared-stops : (m : Mark) (κ : Kind) (γ : List Item) → (code_of κ ≡ 2 → ⊥) → step (a_declared m ∷ γ) κ ≡ halt
 unfolding act code_of
 declared-stops m κ γ f = by-act (a_declared m) γ κ stuck (lookup-miss ((kind.plain, take m []) ∷ []) stuck κ (f, tt))
+
+-- one more than k is within the limit; or it is one too many
+pub is-few : {p k l : ℕ} {u : Unit {0}} {r : Result Unit Fault} → r ≡ Ok u → Few p k l r → k < l
+is-few {p} {k} {l} q h = on (subst (λ (x : Result Unit Fault). Few p k l x) q h)
+  where
+    on : {u : Unit {0}} → Few p k l (Ok u) → k < l
+    on (few m) = m
+
+pub one-over : {s : List ℕ} {at n k limit : ℕ} {ι ο : List Item} {x : ℕ → Mark} {f : Fault} {r : Result Unit Fault} (ρ : List Item → List Item) → Counts x limit → at < length s
+    → r ≡ Err f → Few at k limit r → ((κ : Kind) → code_of κ ≡ get_or s at 0 → (γ : List Item) → step (ι ++ γ) κ ≡ go (x (k + 1)) (ρ γ)) → Reads s at n ι ο (Err f)
+one-over {s} {at} {n} {k} {limit} {ι} {ο} {x} ρ c l q h g = on (subst (λ (y : Result Unit Fault). Few at k limit y) q h)
+  where
+    on : {f : Fault} → Few at k limit (Err f) → Reads s at n ι ο (Err f)
+    on (over m) = crowded ρ (x (k + 1)) l (count-over s at (k + 1) c (omega arith)) g
+
+-- a name that is declared, or none
+pub as-titled : {s : List ℕ} {at k l : ℕ} {r : Result Unit Fault} → get_or s at 0 ≡ 2 → Few at k l r → Titled s at k l r
+as-titled g (few h) = titled g h
+as-titled g (over h) = too_many g h
+
+pub is-titled : {s : List ℕ} {at k l : ℕ} {u : Unit {0}} {r : Result Unit Fault} → r ≡ Ok u → Titled s at k l r → (get_or s at 0 ≡ 2) × ((k < l) × (at < length s))
+is-titled {s} {at} {k} {l} q h = on (subst (λ (y : Result Unit Fault). Titled s at k l y) q h)
+  where
+    on : {u : Unit {0}} → Titled s at k l (Ok u) → (get_or s at 0 ≡ 2) × ((k < l) × (at < length s))
+    on (titled g m) = (g, (m, inside s at (omega arith)))
+
+pub not-titled : {s : List ℕ} {at n k limit : ℕ} {ο ρ : List Item} {x : ℕ → Mark} {f : Fault} {r : Result Unit Fault} → Counts x limit → at ≤ length s
+    → r ≡ Err f → Titled s at k limit r → Reads s at n (a_declared (x (k + 1)) ∷ ρ) ο (Err f)
+unfolding compute_form
+not-titled {s} {at} {n} {k} {limit} {ο} {ρ} {x} c l q h = on (subst (λ (y : Result Unit Fault). Titled s at k limit y) q h)
+  where
+    on : {f : Fault} → Titled s at k limit (Err f) → Reads s at n (a_declared (x (k + 1)) ∷ ρ) ο (Err f)
+    on (nameless g) = stops l (λ κ e γ. declared-stops (x (k + 1)) κ (ρ ++ γ) (λ y. g (sym e ∙ y))) (λ γ. refl)
+    on (too_many g m) =
+        crowded (λ γ. ρ ++ γ) (x (k + 1)) (inside s at (omega arith)) (count-over s at (k + 1) c (omega arith)) (only _ kind.plain g (λ γ. declared-takes (x (k + 1)) (ρ ++ γ)))
 
 -- entries of the contents: one more, and what stands behind all
 pub entry-word : {word limit : ℕ} {f : ℕ → Item} {ο : List Item} {x : ℕ → Mark} → EntriesOf word limit f ο x → (k : ℕ) (κ : Kind) (γ : List Item) → code_of κ ≡ word
@@ -244,14 +282,27 @@ pub undirected : (c : Direction) → ◌≡◌ {A = prelude.Option Direction} No
 undirected Input q = let z : ◌≡◌ {A = ℕ} 0 1 = ap direction_class q in omega arith
 undirected Output q = let z : ◌≡◌ {A = ℕ} 0 2 = ap direction_class q in omega arith
 
--- one more parameter, where there are fewer than three of its direction
-pub inputs_few : (c : Direction) (i o : ℕ) → counted_by c i o < 3 → i ≤ 3 → inputs_by c i ≤ 3
-inputs_few Input i o h l = omega arith
-inputs_few Output i o h l = l
+-- what `arrow_of` answers: the shape, and the class of the symbol
+abbrev shape_or : prelude.Option ℕ → ℕ
+shape_or None = 0
+shape_or (Some s) = s
 
-pub outputs_few : (c : Direction) (i o : ℕ) → counted_by c i o < 3 → o ≤ 3 → outputs_by c o ≤ 3
-outputs_few Input i o h l = l
-outputs_few Output i o h l = omega arith
+pub arrow-shape : {r s : ℕ} → ◌≡◌ {A = prelude.Option ℕ} (Some r) (Some s) → r ≡ s
+arrow-shape q = ap shape_or q
+
+pub no-shape : {s : ℕ} → ◌≡◌ {A = prelude.Option ℕ} None (Some s) → ⊥
+no-shape q = let z : ◌≡◌ {A = ℕ} 0 1 = ap arrow_class q in omega arith
+
+pub no-arrow : {k : ℕ} {r : prelude.Option ℕ} → Arrows k r → r ≡ None → (κ : Kind) → code_of κ ≡ k → lookup arrows 0 κ ≡ 0
+no-arrow h q κ e = h.classes.class κ e ∙ ap arrow_class q
+
+pub some-arrow : {k s : ℕ} {r : prelude.Option ℕ} → Arrows k r → r ≡ Some s → (κ : Kind) → code_of κ ≡ k → lookup arrows 0 κ ≡ 0 → ⊥
+some-arrow h q κ e z = let w : ◌≡◌ {A = ℕ} 0 1 = sym z ∙ h.classes.class κ e ∙ ap arrow_class q in omega arith
+
+-- one more parameter, where there are fewer than three of its direction
+pub more-few : (c : Direction) (t : Taken) → counted_by c t.inputs t.outputs < 3 → t.inputs ≤ 3 → t.outputs ≤ 3 → ((more_by c t).inputs ≤ 3) × ((more_by c t).outputs ≤ 3)
+more-few Input t h i o = (omega arith, o)
+more-few Output t h i o = (i, omega arith)
 
 -- the first word
 pub dossier-first : (κ : Kind) (γ : List Item) → step (a_dossier ∷ γ) κ ≡ step (exact kind.CONTENTS ∷ some_entries 0 ∷ γ) κ

@@ -1,13 +1,16 @@
 -- What the functions that read contents, bodies and declarations promise each other, and what a dossier that was read is. Nothing here need be believed.
-use Rattle.std.specs.Prelude.{◌≡◌, List, [], ◌∷◌, ◌++◌, ℕ, ◌+◌, ◌*◌, ◌≤◌, length, take, get_or, Ok, Err, Bool, true, Option, Some, None}
+use Rattle.std.specs.Prelude.{◌≡◌, List, [], ◌∷◌, ◌++◌, ℕ, ◌+◌, ◌*◌, ◌≤◌, ◌<◌, length, take, get_or, Result, Ok, Err, Option, Some, None}
 use Rattle.lexical.specs.Kinds as kind
 use Rattle.lexical.specs.Kinds.{Kind}
 use Rattle.lexical.specs.Symbols.{Symbol}
 use Rattle.form.specs.Written.{Mark, a_given, a_variable, an_input, an_output, an_operation}
 use Rattle.form.specs.Machine.{Item, exact, a_declared, a_type, a_unary, a_pred_rest, some_entries, some_op_entries, some_bodies, some_declarations, Run, complete, failed, run}
-use Rattle.form_nodes.specs.FormPromises.{codes, Answer, Reads, Classes, bit}
+use Rattle.form_nodes.specs.FormPromises.{codes, Answer, Reads, Classes}
 use Rattle.declarations.specs.declared.contents.Direction.{Direction}
 use Rattle.declarations.specs.declared.contents.Direction.TheVariants.{Input, Output}
+use Rattle.declarations.specs.declared.contents.Taken.{Taken}
+use Rattle.refusals.specs.declared.Fault.{Fault}
+use Rattle.refusals.specs.declared.Refusal.TheVariants.{NoDossier, ManyDeclared}
 use Rattle.form_nodes.specs.Derivations as part
 use Rattle.form_nodes.specs.Derivations.{Part, Derives, Made}
 use Rattle.refusals.specs.RefusalNames.{refusal_is}
@@ -36,6 +39,17 @@ two_states = a_state_of kind.ABSTRACT ++ a_state_of kind.CONCRETE
 
 abbrev pub three_conditions : List Item
 three_conditions = a_where_of kind.AINIT ++ (a_where_of kind.CINIT ++ a_where_of kind.RETRIEVE)
+
+-- one more than k read ones is within a limit
+pub data Few (p k limit : ℕ) : Result Unit Fault → Type 0 where
+  few : {u : Unit {0}} → k < limit → Few p k limit (Ok u)
+  over : limit ≤ k → Few p k limit (Err (record { place = p; refusal = ManyDeclared }))
+
+-- a name is declared at a place, behind k others
+pub data Titled (s : List ℕ) (at k limit : ℕ) : Result Unit Fault → Type 0 where
+  titled : {u : Unit {0}} → get_or s at 0 ≡ 2 → k < limit → Titled s at k limit (Ok u)
+  nameless : (get_or s at 0 ≡ 2 → ⊥) → Titled s at k limit (Err (record { place = at; refusal = NoDossier }))
+  too_many : get_or s at 0 ≡ 2 → limit ≤ k → Titled s at k limit (Err (record { place = at; refusal = ManyDeclared }))
 
 -- entries of the contents: their word, how many there may be, what is expected before one and behind all, and the mark of one
 pub data EntriesOf : (word limit : ℕ) → (ℕ → Item) → List Item → (ℕ → Mark) → Type 0 where
@@ -95,9 +109,13 @@ Sequenced s ν xs i n a b (Err f) = Unit {0}
 abbrev pub arrows : List (Kind × ℕ)
 arrows = (kind.relation, 1) ∷ (kind.partial, 1) ∷ (kind.total, 1) ∷ []
 
-pub record Arrows (k : ℕ) (r : Bool) : Type 0 where
-  pub classes : Classes arrows k (bit r)
-  pub arrow : r ≡ true → (33 ≤ k) × (k ≤ 35)
+abbrev pub arrow_class : Option ℕ → ℕ
+arrow_class None = 0
+arrow_class (Some shape) = 1
+
+pub record Arrows (k : ℕ) (r : Option ℕ) : Type 0 where
+  pub classes : Classes arrows k (arrow_class r)
+  pub arrow : (shape : ℕ) → r ≡ Some shape → (33 ≤ k) × (k ≤ 35) × (k ≡ shape + 29)
 
 -- 1 an input, 2 an output
 abbrev pub directions : List (Kind × ℕ)
@@ -138,6 +156,9 @@ inputs_by Output i = i
 abbrev pub outputs_by : Direction → (o : ℕ) → ℕ
 outputs_by Input o = o
 outputs_by Output o = o + 1
+
+abbrev pub more_by : Direction → Taken → Taken
+more_by c t = record { inputs = inputs_by c t.inputs; outputs = outputs_by c t.outputs }
 
 abbrev pub mark_by : Direction → (i o : ℕ) → Mark
 mark_by Input i o = an_input (i + 1)

@@ -1,5 +1,6 @@
 // The contents of a dossier, given sets and declarations: numbers 4 and 6 of document 01, and their nodes.
-// Form 5: the place and the numbers written change with each symbol read; `Room` says of both what a function that writes may count on.
+// Form 5: a value of the symbols, the lent nodes, the place and the count, with `Room` as its invariant, would be changed by each function: one that refuses
+// would have to show the invariant of what it leaves half read, and a promise would name four fields before and after for a place, a count and the answer.
 ghost use Rattle.std.specs.Prelude.{◌≡◌, [], ◌∷◌, ◌++◌, ◌+◌, ◌*◌, ◌≤◌, ◌<◌, leb, length, get_or};
 ghost use Rattle.lexical.specs.Kinds as kind;
 ghost use Rattle.form.specs.Written.{an_element, a_variable};
@@ -7,7 +8,7 @@ ghost use Rattle.form.specs.Machine.{exact, a_declared, a_type, a_type_rest, a_d
 ghost use Rattle.form_nodes.specs.FormPromises.{Reads, Room, Shown};
 ghost use Rattle.form_nodes.specs.Derivations as part;
 ghost use Rattle.form_nodes.specs.Derivations.{Made, NameAt, a_declaration, some_givens, More};
-ghost use Rattle.declarations.specs.DossierPromises.{EntriesRead, five_words, WordsAt, ContentsMade, When, two_states, three_conditions, Arrows, Directs, a_typed, counted_by, inputs_by, outputs_by};
+ghost use Rattle.declarations.specs.DossierPromises.{EntriesRead, Few, Titled, five_words, WordsAt, ContentsMade, When, two_states, three_conditions, Arrows, Directs, a_typed, counted_by, more_by};
 
 use form::shapes;
 use form_nodes::kinds::kind_at;
@@ -17,6 +18,32 @@ use form_nodes::{Read, Symbols};
 use lexical::codes::is_name;
 use lexical::{bounds, codes};
 use refusals::{Fault, Refusal};
+
+// Is one more than k read ones within the limit?
+fn few(place: usize, k: u8, limit: u8) -> Result<(), Fault>
+    ensures { Few place k limit result }
+{
+    if limit <= k {
+        return Err(Fault {
+            place,
+            refusal: Refusal::ManyDeclared,
+        });
+    }
+    Ok(())
+}
+
+// A name that is declared here, behind k others of its kind.
+pub fn title(s: &[u8], at: usize, k: u8, limit: u8) -> Result<(), Fault>
+    ensures { Titled s.now at k limit result }
+{
+    if kind_at(s, at) != codes::PLAIN {
+        return Err(Fault {
+            place: at,
+            refusal: Refusal::NoDossier,
+        });
+    }
+    few(at, k, limit)
+}
 
 // `word NAME` again and again, at most as many as the limit; a node of the shape for each.
 // Form 3: an entry is two symbols, and the place of a wrong one or of one too many is a fault of the form.
@@ -36,23 +63,11 @@ fn entries(
     let mut n = from;
     let mut k: u8 = 0;
     while kind_at(y.kinds, at) == word {
-        if kind_at(y.kinds, at + 1) == codes::PLAIN {
-            if limit <= k {
-                return Err(Fault {
-                    place: at + 1,
-                    refusal: Refusal::ManyDeclared,
-                });
-            }
-            let x = name_number(y, at + 1);
-            n = put(code, n, shape, at + 1, x, 0);
-            at = at + 1 + 1;
-            k += 1;
-        } else {
-            return Err(Fault {
-                place: at + 1,
-                refusal: Refusal::NoDossier,
-            });
-        }
+        title(y.kinds, at + 1, k, limit)?;
+        let x = name_number(y.kinds, y.values, at + 1);
+        n = put(code, n, shape, at + 1, x, 0);
+        at = at + 1 + 1;
+        k += 1;
     }
     Ok(Read { at, count: n })
 }
@@ -70,7 +85,7 @@ fn words(s: &[u8], at: usize, n: usize) -> Result<Read, Fault>
 }
 
 pub fn contents(y: &Symbols<'_>, code: &mut [u16]) -> Result<Read, Fault>
-    requires { (length y.now.kinds.now ≤ 4096) × (4 * length y.now.kinds.now ≤ length code.old) }
+    requires { 4 * length y.now.kinds.now ≤ length code.old }
     ensures { Reads y.now.kinds.now 0 0 (a_dossier ∷ []) (some_bodies 0 ∷ []) result × ContentsMade y.now.kinds.now y.now.values.now code.new result }
 {
     let word = close(y.kinds, 0, codes::CONTENTS, 0)?;
@@ -102,28 +117,23 @@ fn elements(y: &Symbols<'_>, start: usize, code: &mut [u16], from: usize) -> Res
     requires { Room y.now.kinds.now code.old start from }
     ensures { Reads y.now.kinds.now start from (a_declared (an_element 1) ∷ some_elements 1 ∷ []) (exact kind.END ∷ []) result × Made y.now.kinds.now y.now.values.now part.some_elements start from code.old code.new result × When (get_or y.now.kinds.now start 0 ≡ 2) result }
 {
-    if kind_at(y.kinds, start) == codes::PLAIN {
-        let mut at = start;
-        let mut n = from;
-        let mut k: u8 = 0;
-        while kind_at(y.kinds, at) == codes::PLAIN {
-            if bounds::ELEMENTS <= k {
-                return Err(Fault {
-                    place: at,
-                    refusal: Refusal::ManyDeclared,
-                });
-            }
-            let x = name_number(y, at);
-            n = put(code, n, shapes::ELEMENT, at, x, 0);
-            at += 1;
-            k += 1;
-        }
-        return Ok(Read { at, count: n });
+    if kind_at(y.kinds, start) != codes::PLAIN {
+        return Err(Fault {
+            place: start,
+            refusal: Refusal::NoDossier,
+        });
     }
-    Err(Fault {
-        place: start,
-        refusal: Refusal::NoDossier,
-    })
+    let mut at = start;
+    let mut n = from;
+    let mut k: u8 = 0;
+    while kind_at(y.kinds, at) == codes::PLAIN {
+        few(at, k, bounds::ELEMENTS)?;
+        let x = name_number(y.kinds, y.values, at);
+        n = put(code, n, shapes::ELEMENT, at, x, 0);
+        at += 1;
+        k += 1;
+    }
+    Ok(Read { at, count: n })
 }
 
 // The body of a given set behind its name, with the `end`.
@@ -131,51 +141,43 @@ fn given(y: &Symbols<'_>, at: usize, code: &mut [u16], n: usize) -> Result<Read,
     requires { Room y.now.kinds.now code.old at n × (at + 1 < length y.now.kinds.now) × (get_or y.now.kinds.now at 0 ≡ 37) × (get_or y.now.kinds.now (at + 1) 0 ≡ 2) }
     ensures { Reads y.now.kinds.now (at + 1 + 1) (n + 4) (a_declared (an_element 1) ∷ some_elements 1 ∷ []) ([]) result × More y.now.kinds.now y.now.values.now some_givens at n code.old code.new result }
 {
-    let x = name_number(y, at + 1);
+    let x = name_number(y.kinds, y.values, at + 1);
     let m = put(code, n, shapes::GIVEN, at, x, 0);
     let body = elements(y, at + 1 + 1, code, m)?;
     close(y.kinds, body.at, codes::END, body.count)
 }
 
 // The bodies of given sets.
+// Form 2: `operations` of parser walks alike. One walk for both would take a trait of a word, a limit and a reader, and as ghost members the machine's item for
+// each count, the mark of a name, what is expected behind it and behind all, and the part, with laws of each: more than these nine lines twice.
 // Form 3: where the next body stands, says the one that is read.
 pub fn givens(y: &Symbols<'_>, start: usize, code: &mut [u16], from: usize) -> Result<Read, Fault>
     requires { Room y.now.kinds.now code.old start from }
     ensures { Reads y.now.kinds.now start from (some_bodies 0 ∷ []) (two_states ++ (three_conditions ++ (some_operations 0 ∷ []))) result × Made y.now.kinds.now y.now.values.now some_givens start from code.old code.new result }
 {
-    let mut at = start;
-    let mut n = from;
+    let mut read = Read {
+        at: start,
+        count: from,
+    };
     let mut k: u8 = 0;
-    while kind_at(y.kinds, at) == codes::GIVEN {
-        if kind_at(y.kinds, at + 1) == codes::PLAIN {
-            if bounds::GIVEN_SETS <= k {
-                return Err(Fault {
-                    place: at + 1,
-                    refusal: Refusal::ManyDeclared,
-                });
-            }
-            let read = given(y, at, code, n)?;
-            at = read.at;
-            n = read.count;
-            k += 1;
-        } else {
-            return Err(Fault {
-                place: at + 1,
-                refusal: Refusal::NoDossier,
-            });
-        }
+    while kind_at(y.kinds, read.at) == codes::GIVEN {
+        title(y.kinds, read.at + 1, k, bounds::GIVEN_SETS)?;
+        read = given(y, read.at, code, read.count)?;
+        k += 1;
     }
-    Ok(Read { at, count: n })
+    Ok(read)
 }
 
-// The shape of an arrow type is its symbol's code less this.
-const ARROW_CODE: u16 = codes::RELATION as u16 - shapes::RELATION;
-
-// Is the symbol an arrow between two given sets?
-fn is_arrow(k: u8) -> bool
+// The shape of the type that a symbol makes of two given sets, if it is an arrow.
+fn arrow_of(k: u8) -> Option<u16>
     ensures { Arrows k result }
 {
-    matches!(k, codes::RELATION..=codes::TOTAL)
+    match k {
+        codes::RELATION => Some(shapes::RELATION),
+        codes::PARTIAL => Some(shapes::PARTIAL),
+        codes::TOTAL => Some(shapes::TOTAL),
+        _ => None,
+    }
 }
 
 // A type that begins with a name: a given set, or an arrow between two.
@@ -183,12 +185,11 @@ fn named(y: &Symbols<'_>, at: usize, code: &mut [u16], n: usize) -> Result<Read,
     requires { Room y.now.kinds.now code.old at n × NameAt y.now.kinds.now at × (at < length y.now.kinds.now) }
     ensures { Reads y.now.kinds.now (at + 1) (n + 4) (a_type_rest ∷ []) ([]) result × Made y.now.kinds.now y.now.values.now part.a_type at n code.old code.new result }
 {
-    let x = name_number(y, at);
-    let k = kind_at(y.kinds, at + 1);
-    if !is_arrow(k) {
+    let x = name_number(y.kinds, y.values, at);
+    let Some(shape) = arrow_of(kind_at(y.kinds, at + 1)) else {
         let count = put(code, n, shapes::SET, at, x, 0);
         return Ok(Read { at: at + 1, count });
-    }
+    };
     let j = kind_at(y.kinds, at + 1 + 1);
     if !is_name(j) {
         return Err(Fault {
@@ -196,8 +197,8 @@ fn named(y: &Symbols<'_>, at: usize, code: &mut [u16], n: usize) -> Result<Read,
             refusal: Refusal::NoDossier,
         });
     }
-    let second = name_number(y, at + 1 + 1);
-    let count = put(code, n, u16::from(k) - ARROW_CODE, at, x, second);
+    let second = name_number(y.kinds, y.values, at + 1 + 1);
+    let count = put(code, n, shape, at, x, second);
     let at = at + 1 + 1 + 1;
     Ok(Read { at, count })
 }
@@ -215,14 +216,14 @@ fn type_form(y: &Symbols<'_>, at: usize, code: &mut [u16], n: usize) -> Result<R
                 refusal: Refusal::NoDossier,
             });
         }
-        let x = name_number(y, at + 1);
+        let x = name_number(y.kinds, y.values, at + 1);
         let count = put(code, n, shapes::POWER, at, x, 0);
         let at = at + 1 + 1;
         return Ok(Read { at, count });
     }
     if !is_name(k) {
-        let ends = range(y.kinds, at, n)?;
-        let count = put_range(y, at, code, n);
+        let ends = range(y, at, n)?;
+        let count = put_range(y.kinds, y.values, at, code, n);
         return Ok(Read { count, ..ends });
     }
     named(y, at, code, n)
@@ -233,7 +234,7 @@ fn declaration(y: &Symbols<'_>, at: usize, code: &mut [u16], n: usize) -> Result
     requires { Room y.now.kinds.now code.old at n × NameAt y.now.kinds.now at × (at < length y.now.kinds.now) }
     ensures { Reads y.now.kinds.now (at + 1) (n + 4) a_typed [] result × Made y.now.kinds.now y.now.values.now a_declaration at n code.old code.new result }
 {
-    let x = name_number(y, at);
+    let x = name_number(y.kinds, y.values, at);
     let m = put(code, n, shapes::DECLARED, at, x, 0);
     let colon = close(y.kinds, at + 1, codes::COLON, m)?;
     let typed = type_form(y, colon.at, code, colon.count)?;
@@ -241,6 +242,7 @@ fn declaration(y: &Symbols<'_>, at: usize, code: &mut [u16], n: usize) -> Result
 }
 
 // The declarations of a state, one or more, up to its `where`.
+// Form 2: `elements` walks alike, but writes a node of its own for each name; one walk for both would take a trait as at `givens`.
 // Form 3: where the next declaration stands, says the one that is read.
 pub fn declarations(
     y: &Symbols<'_>,
@@ -251,28 +253,23 @@ pub fn declarations(
     requires { Room y.now.kinds.now code.old start from }
     ensures { Reads y.now.kinds.now start from (a_declared (a_variable 1) ∷ a_typed ++ (some_declarations 1 ∷ [])) (exact kind.WHERE ∷ []) result × Made y.now.kinds.now y.now.values.now part.some_declarations start from code.old code.new result × When (get_or y.now.kinds.now start 0 ≡ 2) result }
 {
-    if kind_at(y.kinds, start) == codes::PLAIN {
-        let mut at = start;
-        let mut n = from;
-        let mut k: u8 = 0;
-        while kind_at(y.kinds, at) == codes::PLAIN {
-            if bounds::VARIABLES <= k {
-                return Err(Fault {
-                    place: at,
-                    refusal: Refusal::ManyDeclared,
-                });
-            }
-            let read = declaration(y, at, code, n)?;
-            at = read.at;
-            n = read.count;
-            k += 1;
-        }
-        return Ok(Read { at, count: n });
+    if kind_at(y.kinds, start) != codes::PLAIN {
+        return Err(Fault {
+            place: start,
+            refusal: Refusal::NoDossier,
+        });
     }
-    Err(Fault {
-        place: start,
-        refusal: Refusal::NoDossier,
-    })
+    let mut read = Read {
+        at: start,
+        count: from,
+    };
+    let mut k: u8 = 0;
+    while kind_at(y.kinds, read.at) == codes::PLAIN {
+        few(read.at, k, bounds::VARIABLES)?;
+        read = declaration(y, read.at, code, read.count)?;
+        k += 1;
+    }
+    Ok(read)
 }
 
 // The direction of a parameter.
@@ -294,34 +291,39 @@ fn direction_of(k: u8) -> Option<Direction>
     }
 }
 
-// Are there three parameters of this direction, after i inputs and o outputs?
-fn full(c: Direction, i: u8, o: u8) -> bool
-    ensures { result ≡ leb 3 (counted_by c i o) }
-{
-    match c {
-        Direction::Input => bounds::INPUTS <= i,
-        Direction::Output => bounds::OUTPUTS <= o,
-    }
+// How many parameters of each direction there are.
+#[derive(Clone, Copy)]
+struct Taken {
+    inputs: u8,
+    outputs: u8,
 }
 
-// How many inputs there are with one more parameter; how many outputs.
-fn inputs(c: Direction, i: u8) -> u8
-    requires { i ≤ 3 }
-    ensures { result ≡ inputs_by c i }
-{
-    match c {
-        Direction::Input => i + 1,
-        Direction::Output => i,
+impl Taken {
+    // Are there three of this direction?
+    fn full(self, c: Direction) -> bool
+        ensures { result ≡ leb 3 (counted_by c self.inputs self.outputs) }
+    {
+        match c {
+            Direction::Input => bounds::INPUTS <= self.inputs,
+            Direction::Output => bounds::OUTPUTS <= self.outputs,
+        }
     }
-}
 
-fn outputs(c: Direction, o: u8) -> u8
-    requires { o ≤ 3 }
-    ensures { result ≡ outputs_by c o }
-{
-    match c {
-        Direction::Input => o,
-        Direction::Output => o + 1,
+    // With one more.
+    fn more(self, c: Direction) -> Taken
+        requires { (self.inputs ≤ 3) × (self.outputs ≤ 3) }
+        ensures { result ≡ more_by c self }
+    {
+        match c {
+            Direction::Input => Taken {
+                inputs: self.inputs + 1,
+                ..self
+            },
+            Direction::Output => Taken {
+                outputs: self.outputs + 1,
+                ..self
+            },
+        }
     }
 }
 
@@ -336,22 +338,23 @@ pub fn parameters(
     requires { Room y.now.kinds.now code.old start from }
     ensures { Reads y.now.kinds.now start from (some_parameters 0 0 ∷ []) (exact kind.ABSTRACT ∷ []) result × Made y.now.kinds.now y.now.values.now part.some_parameters start from code.old code.new result }
 {
-    let mut at = start;
-    let mut n = from;
-    let mut i: u8 = 0;
-    let mut o: u8 = 0;
-    while let Some(c) = direction_of(kind_at(y.kinds, at)) {
-        if full(c, i, o) {
+    let mut read = Read {
+        at: start,
+        count: from,
+    };
+    let mut taken = Taken {
+        inputs: 0,
+        outputs: 0,
+    };
+    while let Some(c) = direction_of(kind_at(y.kinds, read.at)) {
+        if taken.full(c) {
             return Err(Fault {
-                place: at,
+                place: read.at,
                 refusal: Refusal::ManyDeclared,
             });
         }
-        let read = declaration(y, at, code, n)?;
-        at = read.at;
-        n = read.count;
-        i = inputs(c, i);
-        o = outputs(c, o);
+        read = declaration(y, read.at, code, read.count)?;
+        taken = taken.more(c);
     }
-    Ok(Read { at, count: n })
+    Ok(read)
 }

@@ -13,6 +13,8 @@ use type_rules::entries::Kind;
 use type_rules::kinds::{all_well, entry, lesser_of, look, over_fault, put, range_fits, unless};
 
 // What a name of a declared type is: the type's node begins at `at`.
+// Form 5: a slice from the node on would be asked to have four numbers in the place of this clause; an array of the four, each caller would have to cut out of a slice,
+// and to show there what it shows for the clause now.
 pub fn type_kind(code: &[u16], at: usize, names: &[Kind]) -> Kind
     requires { at + 4 ≤ length code.now }
     ensures { TypeKinded code.now at names.now result }
@@ -123,12 +125,6 @@ pub fn give(code: &[u16], names: &mut [Kind], sizes: &mut [u16]) -> Result<(), F
     Ok(())
 }
 
-// How many given sets there are at most, and how many elements each has.
-// Form 1: limits of document 01 as the table's numbers, no kinds.
-const GIVEN_SETS: u16 = bounds::GIVEN_SETS as u16;
-
-const ELEMENTS: u16 = bounds::ELEMENTS as u16;
-
 // How many given sets have begun behind a node.
 // Form 5: `chunks_exact` lends slices, of whose length only the cut speaks. `as_chunks` would lend arrays, in a list of arrays: the laws of what is left behind a piece
 // (proofs/NodePieces), for the loops here and of two crates above, would speak of two lists and of four or eight times a number in place of one list and its length.
@@ -139,7 +135,7 @@ fn counted(n: &[u16], g: u16) -> u16
     if n[node::SHAPE] != shapes::GIVEN {
         return g;
     }
-    (g + 1).min(GIVEN_SETS)
+    (g + 1).min(entries::ROW)
 }
 
 // A title stands behind its heading, an element at its own place.
@@ -180,7 +176,7 @@ fn count_given(n: &[u16], g: u16, sizes: &mut [u16])
         return;
     }
     let m = look(sizes, x);
-    if m < ELEMENTS {
+    if m < u16::from(bounds::ELEMENTS) {
         put(sizes, x, m + 1);
     }
 }

@@ -17,8 +17,8 @@ use Rattle.value_types.specs.TypedValues.{TermWithin, ItemsWithin, PairsWithin, 
 use Rattle.table_places.specs.FormBoundNames.{TermBindsFew, ItemsBindFew, PairsBindFew, PredBindsFew}
 use Rattle.value_types.proofs.FaultlessParts.{group-parts, prefix-parts, binary-parts, divided-parts, listed-parts, pairs-parts, such-parts, only_parts, also-parts, only-pair-parts, also-pair-parts}
 use Rattle.value_types.proofs.FaultlessParts.{negation-parts, paren-parts, quantified-parts, connected-parts, compared-parts, member-parts, within-parts, related-parts}
-use Rattle.value_types.proofs.FaultlessParts.{group-sizes, prefix-sizes, binary-sizes, divided-sizes, listed-sizes, pairs-sizes, such-bound, only-sizes, also-sizes, only-pair-sizes, also-pair-sizes}
-use Rattle.value_types.proofs.FaultlessParts.{negation-sizes, paren-sizes, quantified-bound, connected-sizes, compared-sizes, member-sizes, within-sizes, related-sizes}
+use Rattle.value_types.proofs.FaultlessParts.{group-sizes, prefix-sizes, binary-sizes, divided-sizes, listed-sizes, pairs-sizes, such-sizes, bound-sizes, only-sizes, also-sizes, only-pair-sizes, also-pair-sizes}
+use Rattle.value_types.proofs.FaultlessParts.{negation-sizes, paren-sizes, quantified-sizes, connected-sizes, compared-sizes, member-sizes, within-sizes, related-sizes}
 use Rattle.value_types.proofs.TypeTests.{ItemsOf, items_of, items-split, PairsOf, pairs_of, pairs-split}
 use Rattle.table_places.specs.ResolvedTable.{type_in}
 use Rattle.value_types.proofs.StaticRulesTypePlaces.{type-placed}
@@ -145,7 +145,7 @@ module _ (Γ : Scope) (k : ℕ) where
         known = q.1;
         ends = tt;
         few = s.few.0;
-        body = record { at = _; sized_at = _; judged = q.2; sized = such-bound x g p Γ s.sized_at s.sized; within = s.within; few = s.few.1 };
+        body = record { at = _; sized_at = _; judged = q.2; sized = bound-sizes x (given_set g) p Γ _ (such-sizes x g p (sizes_in Γ) s.sized_at s.sized); within = s.within; few = s.few.1 };
       }
 
   -- ---- items and pairs of a brace
@@ -248,7 +248,7 @@ module _ (Γ : Scope) (k : ℕ) where
         known = r.1;
         ends = s.within.0;
         few = s.few.0;
-        body = record { at = _; sized_at = _; judged = r.2; sized = quantified-bound q x d p Γ s.sized_at s.sized; within = s.within.1; few = s.few.1 };
+        body = record { at = _; sized_at = _; judged = r.2; sized = bound-sizes x d p Γ _ (quantified-sizes q x d p (sizes_in Γ) s.sized_at s.sized); within = s.within.1; few = s.few.1 };
       }
 
   pub sound-connected : (o : Connective) (p q : Pred) → SoundPred (connected o p q) Γ k → SoundPred p Γ k × SoundPred q Γ k

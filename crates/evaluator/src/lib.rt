@@ -1,10 +1,11 @@
 // The evaluator: values of terms and predicates over the table that the reader leaves (table_places/specs/ResolvedTable). A node is four numbers, second, first,
 // end, shape, and stands behind its parts; `end` is the place behind a node, its last part ends where the node begins, an earlier one where the node says.
 // A slot has the value of a variable or of a bound name; every function leaves the slots as they were. The caller lends the table: shapes and codes are numbers in it.
-// Form 5: each walk asks `Inside end` for itself, since `end` moves at each call: a struct of table and `end` would be made anew, and its fact shown, for each part.
+// Form 5: each walk asks `Inside end` for itself, since `end` is another one at each call: with a struct of table and `end` that has the fact, each of some
+// thirty calls would write the struct with its two fields where it writes two arguments, and the fact would be shown there as it is now.
 #![tactic(auto)]
 
-ghost use Rattle.std.specs.Prelude.{◌≡◌, ℕ, ◌<◌, ◌≤◌, ℤ, pos, nat_abs, ◌+ℤ◌, ◌-ℤ◌};
+ghost use Rattle.std.specs.Prelude.{◌≡◌, ◌<◌, pos, nat_abs, ◌+ℤ◌, ◌-ℤ◌};
 ghost use Rattle.operators.specs.EvaluationEvaluationByNumber.{Inside};
 ghost use Rattle.evaluator.specs.EvaluationPromises.{TermRuns, TermAnswers, ItemsRun, ItemsAnswer, TruthRuns, TruthAnswers};
 ghost use Rattle.evaluator.specs.EvaluationPromises.{SuchRuns, SuchAnswers, AskedRuns, AskedAnswers, QuantifierRuns, QuantifierAnswers, BoundRuns, SomeAnswers, OnceAnswers};

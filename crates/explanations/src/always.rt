@@ -70,7 +70,8 @@ fn say_left_out(r: &ReadDossier<'_, '_>, j: usize, page: &mut Page) {
     }
 }
 
-// What the predicates of all operations leave out. What is listed is left out; that what is not listed is mentioned rests on `mentions::free_pred`, whose promise is one-sided.
+// What the predicates of all operations leave out. What is listed is left out; that what is not listed is mentioned rests on `mentions::Mention::free_pred`,
+// whose promise is one-sided.
 pub fn say_omissions(r: &ReadDossier<'_, '_>, page: &mut Page) {
     page.say(words::WHAT_PREDICATES_LEAVE_OUT);
     let told = page.items().len();

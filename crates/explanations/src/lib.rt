@@ -6,17 +6,17 @@ ghost use Rattle.std.specs.Prelude.{◌≤◌};
 use crate::accepted::say_accepted;
 use crate::always::{say_omissions, say_preconditions};
 use crate::dossiers::ReadDossier;
-use crate::items::show_bindings;
 use crate::refuted::{say_applicability, say_correctness, say_initialisation};
 use held_checks::{Obligation, obligation_of};
 use labels::{LABELS, Names};
-use pages::Page;
+use pages::{Counts, Page};
 use part_places::{Found, find, total};
 use parts::search;
-use phrases::{Counts, SLOTS, Source, put_phrase};
+use phrases::{SLOTS, Source, put_phrase};
 use refusal_pages::say_refusal;
 use refusals::Fault;
 use sheets::{SHEET, Sheet};
+use state_facts::show;
 use text_readings::Arrays;
 
 mod accepted;
@@ -75,7 +75,7 @@ fn explain_dossier(r: &ReadDossier<'_, '_>, labels: &[u16; LABELS], out: &mut [u
     let mut sheet = Sheet::new();
     for e in page.items() {
         let mut slots = [0i64; SLOTS];
-        let counts = show_bindings(r, e.operation, e.bindings, &mut slots);
+        let counts = show(&r.dossier, e.operation, e.bindings, &mut slots);
         let s = Source {
             names: Names {
                 text: r.text,

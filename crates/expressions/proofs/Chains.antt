@@ -4,17 +4,16 @@ use mathlib.Core.Bool.{Bool, true, false}
 use mathlib.Core.List.{List, ◌++◌}
 use Prim.Native.Nat.{ℕ, ◌+◌, ◌*◌, ◌≤◌, ◌<◌}
 use native.Mathlib.Omega.{arith}
-use lib.Dec.{leb}
+use lib.Dec.{ltb}
 use lib.ListN.{length, get_or}
-use borrow.Author.Tests.{leb-true, leb-false}
+use borrow.Author.Tests.{ltb-true, ltb-false}
 use Rattle.form_nodes.specs.Derivations.{Part, a_term_from, Derives, OperatorFrom, an_operator, no_operator, ConnectiveFrom, a_connective, no_connective, MoreAt, NoOperator, NoConnective}
-use Rattle.std.specs.Prelude.{Option, Some, None, Ok}
+use Rattle.std.specs.Prelude.{Option, Some, None}
 use Rattle.std.specs.Bool.{then_some}
 use Rattle.std.specs.Option.{MatchOption}
-use Rattle.form_nodes.specs.declared.Read.{Read}
 use Rattle.form_nodes.specs.declared.kinds.Operator.{Operator}
 use Rattle.form_nodes.specs.declared.kinds.Operator.TheVariants.{Loose, Tight, Division}
-use Rattle.form_nodes.specs.FormPromises.{Answer, KindAt, Classes, operators, connectives, operator_number, operator_class, connective_class, level_of}
+use Rattle.form_nodes.specs.FormPromises.{KindAt, Classes, operators, connectives, operator_number, operator_class, connective_class, level_of}
 use Rattle.form_nodes.proofs.NodesOfParts.{Built, class-at}
 
 module _ {s ν : List ℕ} {x : Part} where
@@ -55,30 +54,30 @@ operator-inside Loose at n = omega (arith, at.inside)
 operator-inside Tight at n = omega (arith, at.inside)
 operator-inside Division at n = omega (arith, at.inside)
 
-pub operator-kept : {s : List ℕ} {i k min : ℕ} {R : Operator → Bool → Type 0} (r f : Option Operator) → 1 ≤ min → KindAt s i k → Classes operators k (operator_class r)
-    → ((o : Operator) (b : Bool) → R o b → b ≡ leb min (level_of (operator_number o)))
-    → MatchOption r (f ≡ None) (λ o. (b : Bool) × R o b × (f ≡ then_some b o)) → OperatorFrom s i min f
-operator-kept {s} {i} {k} {min} None f p at c t m =
-    subst (λ (x : Option Operator). OperatorFrom s i min x) (sym m)
+pub operator-kept : {s : List ℕ} {i k : ℕ} (below : ℕ) {R : Operator → Bool → Type 0} (r f : Option Operator) → KindAt s i k → Classes operators k (operator_class r)
+    → ((o : Operator) (b : Bool) → R o b → b ≡ ltb below (level_of (operator_number o)))
+    → MatchOption r (f ≡ None) (λ o. (b : Bool) × R o b × (f ≡ then_some b o)) → OperatorFrom s i (below + 1) f
+operator-kept {s} {i} {k} below None f at c t m =
+    subst (λ (x : Option Operator). OperatorFrom s i (below + 1) x) (sym m)
     (no_operator (λ κ e. let z = ap level_of (c.class κ (e ∙ sym at.is)) in omega arith))
-operator-kept {s} {i} {k} {min} (Some o) f p at c t (true, h, q) =
-    subst (λ (x : Option Operator). OperatorFrom s i min x) (sym q)
-    (an_operator (class-at at.is refl c) (leb-true min (level_of (operator_number o)) (sym (t o true h))) (operator-inside o at c.none))
-operator-kept {s} {i} {k} {min} (Some o) f p at c t (false, h, q) =
-    subst (λ (x : Option Operator). OperatorFrom s i min x) (sym q)
-    (no_operator (λ κ e. let z = ap level_of (c.class κ (e ∙ sym at.is)) in let w = leb-false min (level_of (operator_number o)) (sym (t o false h)) in omega arith))
+operator-kept {s} {i} {k} below (Some o) f at c t (true, h, q) =
+    subst (λ (x : Option Operator). OperatorFrom s i (below + 1) x) (sym q)
+    (an_operator (class-at at.is refl c) (let m = ltb-true below (level_of (operator_number o)) (sym (t o true h)) in omega arith) (operator-inside o at c.none))
+operator-kept {s} {i} {k} below (Some o) f at c t (false, h, q) =
+    subst (λ (x : Option Operator). OperatorFrom s i (below + 1) x) (sym q)
+    (no_operator (λ κ e. let z = ap level_of (c.class κ (e ∙ sym at.is)) in let w = ltb-false below (level_of (operator_number o)) (sym (t o false h)) in omega arith))
 
-pub connective-kept : {s : List ℕ} {i k min : ℕ} {R : ℕ → Bool → Type 0} (r f : Option ℕ) → 1 ≤ min → KindAt s i k → Classes connectives k (connective_class r)
-    → ((l : ℕ) (b : Bool) → R l b → b ≡ leb min l)
-    → MatchOption r (f ≡ None) (λ l. (b : Bool) × R l b × (f ≡ then_some b l)) → ConnectiveFrom s i min f
-connective-kept {s} {i} {k} {min} None f p at c t m =
-    subst (λ (x : Option ℕ). ConnectiveFrom s i min x) (sym m) (no_connective (λ κ e. omega (arith, c.class κ (e ∙ sym at.is))))
-connective-kept {s} {i} {k} {min} (Some l) f p at c t (true, h, q) =
-    let m : min ≤ l = leb-true min l (sym (t l true h)) in
-    subst (λ (x : Option ℕ). ConnectiveFrom s i min x) (sym q) (a_connective (class-at at.is refl c) m (omega (arith, at.inside, c.none)))
-connective-kept {s} {i} {k} {min} (Some l) f p at c t (false, h, q) =
-    subst (λ (x : Option ℕ). ConnectiveFrom s i min x) (sym q)
-    (no_connective (λ κ e. omega (arith, c.class κ (e ∙ sym at.is), leb-false min l (sym (t l false h)))))
+pub connective-kept : {s : List ℕ} {i k : ℕ} (below : ℕ) {R : ℕ → Bool → Type 0} (r f : Option ℕ) → KindAt s i k → Classes connectives k (connective_class r)
+    → ((l : ℕ) (b : Bool) → R l b → b ≡ ltb below l)
+    → MatchOption r (f ≡ None) (λ l. (b : Bool) × R l b × (f ≡ then_some b l)) → ConnectiveFrom s i (below + 1) f
+connective-kept {s} {i} {k} below None f at c t m =
+    subst (λ (x : Option ℕ). ConnectiveFrom s i (below + 1) x) (sym m) (no_connective (λ κ e. omega (arith, c.class κ (e ∙ sym at.is))))
+connective-kept {s} {i} {k} below (Some l) f at c t (true, h, q) =
+    let m : below < l = ltb-true below l (sym (t l true h)) in
+    subst (λ (x : Option ℕ). ConnectiveFrom s i (below + 1) x) (sym q) (a_connective (class-at at.is refl c) (omega arith) (omega (arith, at.inside, c.none)))
+connective-kept {s} {i} {k} below (Some l) f at c t (false, h, q) =
+    subst (λ (x : Option ℕ). ConnectiveFrom s i (below + 1) x) (sym q)
+    (no_connective (λ κ e. omega (arith, c.class κ (e ∙ sym at.is), ltb-false below l (sym (t l false h)))))
 
 -- an operator that is no division is of a level of its own number
 pub not-division : (o : Operator) → (o ≡ Division → ⊥) → (1 ≤ operator_number o) × (operator_number o ≤ 2) × (level_of (operator_number o) ≡ operator_number o)

@@ -2,13 +2,15 @@
 //
 // Terms contain predicates and predicates terms, so the functions are one cycle, which stands in one file.
 // Form 3: where the next operator or connective stands, says the right side that is read.
-// Form 5: depth, bound names and the least level are document 01's limits, and change with each call, as the place and the numbers written do.
-ghost use Rattle.std.specs.Prelude.{◌≡◌, [], ◌∷◌, ℕ, ◌+◌, ◌-◌, ◌*◌, ◌≤◌, ◌<◌, length, get_or};
+// Form 5: that there is room for what is written (`Room`) is of the symbols, the place and the lent array together: a struct of the three would carry the
+// clause more that the array stays the same. What stands at the place, a {, a ( or `in`, is asked by those that go on where it was seen.
+ghost use Rattle.std.specs.Prelude.{◌≡◌, [], ◌∷◌, ℕ, ◌+◌, ◌≤◌, ◌<◌, length, get_or};
 ghost use Rattle.lexical.specs.Kinds as kind;
 ghost use Rattle.form.specs.Machine.{exact, a_term, an_operand, a_term_rest, a_rel, a_mem, a_right, a_brace, a_list, a_pairs, a_unary, a_paren, a_pred_rest};
 ghost use Rattle.form_nodes.specs.FormPromises.{Reads, TermReads, PredReads, Room, Ahead, Classes, operators, connectives, operator_number, level_of};
 ghost use Rattle.form_nodes.specs.Derivations.{OperatorFrom, ConnectiveFrom, Made, an_operand, a_term_from, a_term_rest, some_items, some_pairs, a_pred_from, a_pred_rest, a_unary, an_atom, some_related, More};
 
+use crate::Reach;
 use form::shapes;
 use form_nodes::kinds::{
     Operator, PredStart, Relation, Start, connective_of, is_membership, is_quantifier, kind_at,
@@ -19,139 +21,111 @@ use form_nodes::nodes::{
 };
 use form_nodes::ranges::{close, domain, end, is_range, range, range_end};
 use form_nodes::{Read, Symbols, kinds};
-use lexical::bounds::{BOUND_NAMES, DEPTH};
+use lexical::bounds::DEPTH;
 use lexical::codes;
 use lexical::codes::is_name;
 use refusals::{Fault, Refusal};
 
-// The operator of the level min or a higher one that stands at a place; the level of the connective, likewise.
-fn operator_at(s: &[u8], at: usize, min: u8) -> Option<Operator>
-    requires { 1 ≤ min }
-    ensures { OperatorFrom s.now at min result }
+// The operator of a level above the given one that stands at a place; the level of the connective, likewise.
+fn operator_at(s: &[u8], at: usize, above: u8) -> Option<Operator>
+    ensures { OperatorFrom s.now at (above + 1) result }
 {
-    operator_of(kind_at(s, at)).filter(|o| min <= o.level())
+    operator_of(kind_at(s, at)).filter(|o| above < o.level())
 }
 
-fn connective_at(s: &[u8], at: usize, min: u8) -> Option<u8>
-    requires { 1 ≤ min }
-    ensures { ConnectiveFrom s.now at min result }
+fn connective_at(s: &[u8], at: usize, above: u8) -> Option<u8>
+    ensures { ConnectiveFrom s.now at (above + 1) result }
 {
-    connective_of(kind_at(s, at)).filter(|l| min <= *l)
+    connective_of(kind_at(s, at)).filter(|l| above < *l)
 }
 
 // A term that no operator stands in, but in brackets.
 #[cycle(trees)]
-fn operand(
-    y: &Symbols<'_>,
-    at: usize,
-    d: u8,
-    b: u8,
-    code: &mut [u16],
-    n: usize,
-) -> Result<Read, Fault>
-    requires { Room y.now.kinds.now code.old at n × (d ≤ 24) × (b ≤ 3) }
-    ensures { Reads y.now.kinds.now at n (an_operand d b ∷ []) [] result × Made y.now.kinds.now y.now.values.now an_operand at n code.old code.new result }
+fn operand(y: &Symbols<'_>, from: Read, reach: Reach, code: &mut [u16]) -> Result<Read, Fault>
+    requires { Room y.now.kinds.now code.old from.at from.count }
+    ensures { Reads y.now.kinds.now from.at from.count (an_operand reach.depth reach.names ∷ []) [] result × Made y.now.kinds.now y.now.values.now an_operand from.at from.count code.old code.new result }
 {
-    let k = kind_at(y.kinds, at);
+    let k = kind_at(y.kinds, from.at);
     let Some(start) = start_of(k) else {
         return Err(Fault {
-            place: at,
+            place: from.at,
             refusal: Refusal::NoDossier,
         });
     };
     match start {
         Start::Leaf => {
-            let m = leaf(y, at, code, n);
+            let m = leaf(y.kinds, y.values, from.at, code, from.count);
             Ok(Read {
-                at: at + 1,
+                at: from.at + 1,
                 count: m,
             })
         }
         Start::Prefix => {
-            if DEPTH <= d {
-                if range_end(y.kinds, at) {
-                    let m = leaf(y, at + 1, code, n);
-                    let c = put(code, m, shapes::PREFIX, at, u16::from(k), 0);
-                    return Ok(Read {
-                        at: at + 1 + 1,
-                        count: c,
-                    });
-                }
-                return Err(Fault {
-                    place: at,
-                    refusal: Refusal::Deep,
+            if DEPTH <= reach.depth && range_end(y, from.at) {
+                let m = leaf(y.kinds, y.values, from.at + 1, code, from.count);
+                let c = put(code, m, shapes::PREFIX, from.at, u16::from(k), 0);
+                return Ok(Read {
+                    at: from.at + 1 + 1,
+                    count: c,
                 });
             }
-            let inner = operand(y, at + 1, d + 1, b, code, n)?;
-            let count = put(code, inner.count, shapes::PREFIX, at, u16::from(k), 0);
+            let within = reach.deeper(from.at)?;
+            let inner = operand(y, from.skip(), within, code)?;
+            let count = put(code, inner.count, shapes::PREFIX, from.at, u16::from(k), 0);
             Ok(Read { count, ..inner })
         }
         Start::Bracket => {
-            if DEPTH <= d {
-                return Err(Fault {
-                    place: at,
-                    refusal: Refusal::Deep,
-                });
-            }
-            let bracketed = term(y, at + 1, d + 1, b, code, n)?;
+            let within = reach.deeper(from.at)?;
+            let bracketed = term(y, from.skip(), within, code)?;
             close(y.kinds, bracketed.at, codes::CLOSE_BRACKET, bracketed.count)
         }
         Start::Brace => {
-            if DEPTH <= d {
-                return Err(Fault {
-                    place: at,
-                    refusal: Refusal::Deep,
-                });
-            }
-            brace(y, at, d + 1, b, code, n)
+            let within = reach.deeper(from.at)?;
+            brace(y, from, within, code)
         }
-        Start::Empty => empty(y, at, code, n),
+        Start::Empty => empty(y, from.at, code, from.count),
     }
 }
 
 #[cycle(trees)]
-fn term(y: &Symbols<'_>, at: usize, d: u8, b: u8, code: &mut [u16], n: usize) -> Result<Read, Fault>
-    requires { Room y.now.kinds.now code.old at n × (d ≤ 24) × (b ≤ 3) }
-    ensures { Reads y.now.kinds.now at n (a_term d b ∷ []) [] result × Made y.now.kinds.now y.now.values.now (a_term_from 1) at n code.old code.new result }
+fn term(y: &Symbols<'_>, from: Read, reach: Reach, code: &mut [u16]) -> Result<Read, Fault>
+    requires { Room y.now.kinds.now code.old from.at from.count }
+    ensures { Reads y.now.kinds.now from.at from.count (a_term reach.depth reach.names ∷ []) [] result × Made y.now.kinds.now y.now.values.now (a_term_from 1) from.at from.count code.old code.new result }
 {
-    term_from(y, at, d, b, kinds::LOOSE, code, n)
+    term_from(y, from, reach, 0, code)
 }
 
-// A term with operators of the level min and higher ones.
+// A term with operators of the levels above the given one; of 0, with all.
 #[cycle(trees)]
 fn term_from(
     y: &Symbols<'_>,
-    at: usize,
-    d: u8,
-    b: u8,
-    min: u8,
+    from: Read,
+    reach: Reach,
+    above: u8,
     code: &mut [u16],
-    n: usize,
 ) -> Result<Read, Fault>
-    requires { Room y.now.kinds.now code.old at n × (d ≤ 24) × (b ≤ 3) × (1 ≤ min) × (min ≤ 10) }
-    ensures { TermReads y.now.kinds.now at n d b min (a_term d b ∷ []) result × Made y.now.kinds.now y.now.values.now (a_term_from min) at n code.old code.new result }
+    requires { Room y.now.kinds.now code.old from.at from.count }
+    ensures { TermReads y.now.kinds.now from.at from.count reach.depth reach.names (above + 1) (a_term reach.depth reach.names ∷ []) result × Made y.now.kinds.now y.now.values.now (a_term_from (above + 1)) from.at from.count code.old code.new result }
 {
-    let first = operand(y, at, d, b, code, n)?;
-    term_rest(y, first.at, d, b, min, code, first.count)
+    let first = operand(y, from, reach, code)?;
+    term_rest(y, first, reach, above, code)
 }
 
 // Operators behind a term, and their right sides: a chain, as long as it may be, is one loop.
 #[cycle(trees)]
 fn term_rest(
     y: &Symbols<'_>,
-    at: usize,
-    d: u8,
-    b: u8,
-    min: u8,
+    from: Read,
+    reach: Reach,
+    above: u8,
     code: &mut [u16],
-    n: usize,
 ) -> Result<Read, Fault>
-    requires { Room y.now.kinds.now code.old at n × (d ≤ 24) × (b ≤ 3) × (1 ≤ min) × (min ≤ 10) }
-    ensures { TermReads y.now.kinds.now at n d b min (a_term_rest d b ∷ []) result × Made y.now.kinds.now y.now.values.now (a_term_rest min) at n code.old code.new result }
+    requires { Room y.now.kinds.now code.old from.at from.count }
+    ensures { TermReads y.now.kinds.now from.at from.count reach.depth reach.names (above + 1) (a_term_rest reach.depth reach.names ∷ []) result × Made y.now.kinds.now y.now.values.now (a_term_rest (above + 1)) from.at from.count code.old code.new result }
 {
-    let mut read = Read { at, count: n };
-    while let Some(o) = operator_at(y.kinds, read.at, min) {
-        read = term_more(y, read.at, d, b, o, code, read.count)?;
+    let mut read = from;
+    while let Some(o) = operator_at(y.kinds, read.at, above) {
+        read = term_more(y, read, reach, o, code)?;
     }
     Ok(read)
 }
@@ -160,28 +134,26 @@ fn term_rest(
 #[cycle(trees)]
 fn term_more(
     y: &Symbols<'_>,
-    at: usize,
-    d: u8,
-    b: u8,
+    from: Read,
+    reach: Reach,
     o: Operator,
     code: &mut [u16],
-    n: usize,
 ) -> Result<Read, Fault>
-    requires { Room y.now.kinds.now code.old at n × (d ≤ 24) × (b ≤ 3) × (at < length y.now.kinds.now) × Classes operators (get_or y.now.kinds.now at 0) (operator_number o) }
-    ensures { Reads y.now.kinds.now at n (a_term_rest d b ∷ []) (a_term_rest d b ∷ []) result × Ahead at result × ((min : ℕ) → min ≤ level_of (operator_number o) → More y.now.kinds.now y.now.values.now (a_term_rest min) at n code.old code.new result) }
+    requires { Room y.now.kinds.now code.old from.at from.count × (from.at < length y.now.kinds.now) × Classes operators (get_or y.now.kinds.now from.at 0) (operator_number o) }
+    ensures { Reads y.now.kinds.now from.at from.count (a_term_rest reach.depth reach.names ∷ []) (a_term_rest reach.depth reach.names ∷ []) result × Ahead from.at result × ((min : ℕ) → min ≤ level_of (operator_number o) → More y.now.kinds.now y.now.values.now (a_term_rest min) from.at from.count code.old code.new result) }
 {
     match o {
         Operator::Division => {
-            let divisor = end(y.kinds, at + 1, n)?;
-            let x = magnitude(y, at + 1);
-            let kind = division(y.kinds, at);
-            let count = put(code, n, shapes::DIVIDED, at, x, kind);
+            let divisor = end(y, from.at + 1, from.count)?;
+            let x = magnitude(y.kinds, y.values, from.at + 1);
+            let kind = division(y.kinds, from.at);
+            let count = put(code, from.count, shapes::DIVIDED, from.at, x, kind);
             Ok(Read { count, ..divisor })
         }
         Operator::Loose | Operator::Tight => {
-            let k = kind_at(y.kinds, at);
-            let right = term_from(y, at + 1, d, b, o.level() + 1, code, n)?;
-            let count = put(code, right.count, shapes::BINARY, at, u16::from(k), 0);
+            let k = kind_at(y.kinds, from.at);
+            let right = term_from(y, from.skip(), reach, o.level(), code)?;
+            let count = put(code, right.count, shapes::BINARY, from.at, u16::from(k), 0);
             Ok(Read { count, ..right })
         }
     }
@@ -189,63 +161,43 @@ fn term_more(
 
 // Behind the { at a place.
 #[cycle(trees)]
-fn brace(
-    y: &Symbols<'_>,
-    at: usize,
-    d: u8,
-    b: u8,
-    code: &mut [u16],
-    n: usize,
-) -> Result<Read, Fault>
-    requires { Room y.now.kinds.now code.old at n × (d ≤ 24) × (b ≤ 3) × (at < length y.now.kinds.now) × (get_or y.now.kinds.now at 0 ≡ 19) }
-    ensures { Reads y.now.kinds.now (at + 1) (n + 4) (a_brace d b ∷ []) [] result × Made y.now.kinds.now y.now.values.now an_operand at n code.old code.new result }
+fn brace(y: &Symbols<'_>, from: Read, reach: Reach, code: &mut [u16]) -> Result<Read, Fault>
+    requires { Room y.now.kinds.now code.old from.at from.count × (get_or y.now.kinds.now from.at 0 ≡ 19) }
+    ensures { Reads y.now.kinds.now (from.at + 1) (from.count + 4) (a_brace reach.depth reach.names ∷ []) [] result × Made y.now.kinds.now y.now.values.now an_operand from.at from.count code.old code.new result }
 {
-    if kind_at(y.kinds, at + 1) == codes::PLAIN {
-        if kind_at(y.kinds, at + 1 + 1) == codes::COLON {
-            return such(y, at, d, b, code, n);
-        }
-        return listed(y, at, d, b, code, n);
+    if kind_at(y.kinds, from.at + 1) == codes::PLAIN
+        && kind_at(y.kinds, from.at + 1 + 1) == codes::COLON
+    {
+        return such(y, from, reach, code);
     }
-    listed(y, at, d, b, code, n)
+    listed(y, from, reach, code)
 }
 
 // {t, ..} or {t |-> t, ..}.
 #[cycle(trees)]
-fn listed(
-    y: &Symbols<'_>,
-    at: usize,
-    d: u8,
-    b: u8,
-    code: &mut [u16],
-    n: usize,
-) -> Result<Read, Fault>
-    requires { Room y.now.kinds.now code.old at n × (d ≤ 24) × (b ≤ 3) × (at < length y.now.kinds.now) × (get_or y.now.kinds.now at 0 ≡ 19) × (get_or y.now.kinds.now (at + 1) 0 ≡ 2 → get_or y.now.kinds.now (at + 1 + 1) 0 ≡ 10 → ⊥) }
-    ensures { Reads y.now.kinds.now (at + 1) (n + 4) (a_brace d b ∷ []) [] result × Made y.now.kinds.now y.now.values.now an_operand at n code.old code.new result }
+fn listed(y: &Symbols<'_>, from: Read, reach: Reach, code: &mut [u16]) -> Result<Read, Fault>
+    requires { Room y.now.kinds.now code.old from.at from.count × (get_or y.now.kinds.now from.at 0 ≡ 19) × (get_or y.now.kinds.now (from.at + 1) 0 ≡ 2 → get_or y.now.kinds.now (from.at + 1 + 1) 0 ≡ 10 → ⊥) }
+    ensures { Reads y.now.kinds.now (from.at + 1) (from.count + 4) (a_brace reach.depth reach.names ∷ []) [] result × Made y.now.kinds.now y.now.values.now an_operand from.at from.count code.old code.new result }
 {
-    let first = term(y, at + 1, d, b, code, n)?;
+    let first = term(y, from.skip(), reach, code)?;
     if kind_at(y.kinds, first.at) == codes::MAPLET {
-        let sides = pairs(y, first.at, d, b, code, first.count)?;
-        let count = put(code, sides.count, shapes::PAIRS, at, 0, 0);
+        let sides = pairs(y, first, reach, code)?;
+        let count = put(code, sides.count, shapes::PAIRS, from.at, 0, 0);
         return Ok(Read { count, ..sides });
     }
-    let rest = items(y, first.at, d, b, code, first.count)?;
-    let count = put(code, rest.count, shapes::LISTED, at, 0, 0);
+    let rest = items(y, first, reach, code)?;
+    let count = put(code, rest.count, shapes::LISTED, from.at, 0, 0);
     Ok(Read { count, ..rest })
 }
 
 // {x : G | p}.
 #[cycle(trees)]
-fn such(y: &Symbols<'_>, at: usize, d: u8, b: u8, code: &mut [u16], n: usize) -> Result<Read, Fault>
-    requires { Room y.now.kinds.now code.old at n × (d ≤ 24) × (b ≤ 3) × (at < length y.now.kinds.now) × (get_or y.now.kinds.now at 0 ≡ 19) × (get_or y.now.kinds.now (at + 1) 0 ≡ 2) × (get_or y.now.kinds.now (at + 1 + 1) 0 ≡ 10) }
-    ensures { Reads y.now.kinds.now (at + 1) (n + 4) (a_brace d b ∷ []) [] result × Made y.now.kinds.now y.now.values.now an_operand at n code.old code.new result }
+fn such(y: &Symbols<'_>, from: Read, reach: Reach, code: &mut [u16]) -> Result<Read, Fault>
+    requires { Room y.now.kinds.now code.old from.at from.count × (get_or y.now.kinds.now from.at 0 ≡ 19) × (get_or y.now.kinds.now (from.at + 1) 0 ≡ 2) × (get_or y.now.kinds.now (from.at + 1 + 1) 0 ≡ 10) }
+    ensures { Reads y.now.kinds.now (from.at + 1) (from.count + 4) (a_brace reach.depth reach.names ∷ []) [] result × Made y.now.kinds.now y.now.values.now an_operand from.at from.count code.old code.new result }
 {
-    if BOUND_NAMES <= b {
-        return Err(Fault {
-            place: at + 1,
-            refusal: Refusal::Deep,
-        });
-    }
-    let g = at + 1 + 1 + 1;
+    let within = reach.with_name(from.at + 1)?;
+    let g = from.at + 1 + 1 + 1;
     let k = kind_at(y.kinds, g);
     if !is_name(k) {
         return Err(Fault {
@@ -253,135 +205,113 @@ fn such(y: &Symbols<'_>, at: usize, d: u8, b: u8, code: &mut [u16], n: usize) ->
             refusal: Refusal::NoDossier,
         });
     }
-    let bar = close(y.kinds, g + 1, codes::BAR, n)?;
-    let body = pred(y, bar.at, d, b + 1, code, n)?;
-    let over = name_number(y, g);
+    let bar = close(y.kinds, g + 1, codes::BAR, from.count)?;
+    let body = pred(y, bar, within, code)?;
+    let over = name_number(y.kinds, y.values, g);
     let h = put(code, body.count, shapes::SET, g, over, 0);
-    let x = name_number(y, at + 1);
-    let i = put(code, h, shapes::SUCH, at, x, 0);
+    let x = name_number(y.kinds, y.values, from.at + 1);
+    let i = put(code, h, shapes::SUCH, from.at, x, 0);
     close(y.kinds, body.at, codes::CLOSE_BRACE, i)
 }
 
 // Behind the first term of {t, ..}.
 #[cycle(trees)]
-fn items(
-    y: &Symbols<'_>,
-    at: usize,
-    d: u8,
-    b: u8,
-    code: &mut [u16],
-    n: usize,
-) -> Result<Read, Fault>
-    requires { Room y.now.kinds.now code.old at n × (d ≤ 24) × (b ≤ 3) }
-    ensures { Reads y.now.kinds.now at n (a_list d b ∷ []) [] result × Made y.now.kinds.now y.now.values.now some_items at n code.old code.new result }
+fn items(y: &Symbols<'_>, from: Read, reach: Reach, code: &mut [u16]) -> Result<Read, Fault>
+    requires { Room y.now.kinds.now code.old from.at from.count }
+    ensures { Reads y.now.kinds.now from.at from.count (a_list reach.depth reach.names ∷ []) [] result × Made y.now.kinds.now y.now.values.now some_items from.at from.count code.old code.new result }
 {
-    let k = kind_at(y.kinds, at);
-    if k == codes::CLOSE_BRACE {
-        let c = put(code, n, shapes::LAST, 0, 0, 0);
-        return Ok(Read {
-            at: at + 1,
-            count: c,
-        });
+    match kind_at(y.kinds, from.at) {
+        codes::CLOSE_BRACE => {
+            let c = put(code, from.count, shapes::LAST, 0, 0, 0);
+            Ok(Read {
+                at: from.at + 1,
+                count: c,
+            })
+        }
+        codes::COMMA => {
+            let item = term(y, from.skip(), reach, code)?;
+            let rest = items(y, item, reach, code)?;
+            let count = put(code, rest.count, shapes::ALSO, 0, 0, 0);
+            Ok(Read { count, ..rest })
+        }
+        _ => Err(Fault {
+            place: from.at,
+            refusal: Refusal::NoDossier,
+        }),
     }
-    if k == codes::COMMA {
-        let item = term(y, at + 1, d, b, code, n)?;
-        let rest = items(y, item.at, d, b, code, item.count)?;
-        let count = put(code, rest.count, shapes::ALSO, 0, 0, 0);
-        return Ok(Read { count, ..rest });
-    }
-    Err(Fault {
-        place: at,
-        refusal: Refusal::NoDossier,
-    })
 }
 
 // Behind the first side of {t |-> t, ..}.
 #[cycle(trees)]
-fn pairs(
-    y: &Symbols<'_>,
-    at: usize,
-    d: u8,
-    b: u8,
-    code: &mut [u16],
-    n: usize,
-) -> Result<Read, Fault>
-    requires { Room y.now.kinds.now code.old at n × (d ≤ 24) × (b ≤ 3) }
-    ensures { Reads y.now.kinds.now at n (exact kind.maplet ∷ a_term d b ∷ a_pairs d b ∷ []) [] result × Made y.now.kinds.now y.now.values.now some_pairs at n code.old code.new result }
+fn pairs(y: &Symbols<'_>, from: Read, reach: Reach, code: &mut [u16]) -> Result<Read, Fault>
+    requires { Room y.now.kinds.now code.old from.at from.count }
+    ensures { Reads y.now.kinds.now from.at from.count (exact kind.maplet ∷ a_term reach.depth reach.names ∷ a_pairs reach.depth reach.names ∷ []) [] result × Made y.now.kinds.now y.now.values.now some_pairs from.at from.count code.old code.new result }
 {
-    let arrow = close(y.kinds, at, codes::MAPLET, n)?;
-    let right = term(y, arrow.at, d, b, code, n)?;
-    let k = kind_at(y.kinds, right.at);
-    if k == codes::CLOSE_BRACE {
-        let c = put(code, right.count, shapes::LAST, 0, 0, 0);
-        return Ok(Read {
-            at: right.at + 1,
-            count: c,
-        });
+    let arrow = close(y.kinds, from.at, codes::MAPLET, from.count)?;
+    let right = term(y, arrow, reach, code)?;
+    match kind_at(y.kinds, right.at) {
+        codes::CLOSE_BRACE => {
+            let c = put(code, right.count, shapes::LAST, 0, 0, 0);
+            Ok(Read {
+                at: right.at + 1,
+                count: c,
+            })
+        }
+        codes::COMMA => {
+            let left = term(y, right.skip(), reach, code)?;
+            let rest = pairs(y, left, reach, code)?;
+            let count = put(code, rest.count, shapes::ALSO, 0, 0, 0);
+            Ok(Read { count, ..rest })
+        }
+        _ => Err(Fault {
+            place: right.at,
+            refusal: Refusal::NoDossier,
+        }),
     }
-    if k == codes::COMMA {
-        let left = term(y, right.at + 1, d, b, code, right.count)?;
-        let rest = pairs(y, left.at, d, b, code, left.count)?;
-        let count = put(code, rest.count, shapes::ALSO, 0, 0, 0);
-        return Ok(Read { count, ..rest });
-    }
-    Err(Fault {
-        place: right.at,
-        refusal: Refusal::NoDossier,
-    })
 }
 
 #[cycle(trees)]
-pub fn pred(
-    y: &Symbols<'_>,
-    at: usize,
-    d: u8,
-    b: u8,
-    code: &mut [u16],
-    n: usize,
-) -> Result<Read, Fault>
-    requires { Room y.now.kinds.now code.old at n × (d ≤ 24) × (b ≤ 3) }
-    ensures { Reads y.now.kinds.now at n (a_unary d b ∷ a_pred_rest d d b ∷ []) [] result × Made y.now.kinds.now y.now.values.now (a_pred_from 1) at n code.old code.new result }
+pub fn pred(y: &Symbols<'_>, from: Read, reach: Reach, code: &mut [u16]) -> Result<Read, Fault>
+    requires { Room y.now.kinds.now code.old from.at from.count }
+    ensures { Reads y.now.kinds.now from.at from.count (a_unary reach.depth reach.names ∷ a_pred_rest reach.depth reach.depth reach.names ∷ []) [] result × Made y.now.kinds.now y.now.values.now (a_pred_from 1) from.at from.count code.old code.new result }
 {
-    pred_from(y, at, d, b, kinds::IFF_LEVEL, code, n)
+    pred_from(y, from, reach, 0, code)
 }
 
-// A predicate with connectives of the level min and higher ones.
+// A predicate with connectives of the levels above the given one; of 0, with all.
 #[cycle(trees)]
 fn pred_from(
     y: &Symbols<'_>,
-    at: usize,
-    d: u8,
-    b: u8,
-    min: u8,
+    from: Read,
+    reach: Reach,
+    above: u8,
     code: &mut [u16],
-    n: usize,
 ) -> Result<Read, Fault>
-    requires { Room y.now.kinds.now code.old at n × (d ≤ 24) × (b ≤ 3) × (1 ≤ min) × (min ≤ 10) }
-    ensures { PredReads y.now.kinds.now at n d b min (a_unary d b ∷ []) result × Made y.now.kinds.now y.now.values.now (a_pred_from min) at n code.old code.new result }
+    requires { Room y.now.kinds.now code.old from.at from.count }
+    ensures { PredReads y.now.kinds.now from.at from.count reach.depth reach.names (above + 1) (a_unary reach.depth reach.names ∷ []) result × Made y.now.kinds.now y.now.values.now (a_pred_from (above + 1)) from.at from.count code.old code.new result }
 {
-    let first = unary(y, at, d, b, code, n)?;
-    pred_rest(y, first.at, d, b, min, code, first.count)
+    let first = unary(y, from, reach, code)?;
+    pred_rest(y, first, reach, above, code)
 }
 
 // Connectives behind a predicate, and their right sides: a chain, as long as it may be, is one loop.
-// Form 2: the loop of `term_rest` over links of the other kind, each a function of the cycle. Tried on a small cycle of this shape: a generic function over a trait that both
-// implement; the borrow checker does not cover a method of an implementation that leads back to its own cycle of calls. A flag would choose what is promised, too.
+// Form 2: the loop of `term_rest` over links of the other kind, each a function of the cycle. Tried on a small cycle of this shape: a generic function over a
+// trait that both implement; the borrow checker does not cover a method of an implementation that leads back to its own cycle of calls. A flag would choose
+// what is promised, too.
 #[cycle(trees)]
 fn pred_rest(
     y: &Symbols<'_>,
-    at: usize,
-    d: u8,
-    b: u8,
-    min: u8,
+    from: Read,
+    reach: Reach,
+    above: u8,
     code: &mut [u16],
-    n: usize,
 ) -> Result<Read, Fault>
-    requires { Room y.now.kinds.now code.old at n × (d ≤ 24) × (b ≤ 3) × (1 ≤ min) × (min ≤ 10) }
-    ensures { PredReads y.now.kinds.now at n d b min [] result × Made y.now.kinds.now y.now.values.now (a_pred_rest min) at n code.old code.new result }
+    requires { Room y.now.kinds.now code.old from.at from.count }
+    ensures { PredReads y.now.kinds.now from.at from.count reach.depth reach.names (above + 1) [] result × Made y.now.kinds.now y.now.values.now (a_pred_rest (above + 1)) from.at from.count code.old code.new result }
 {
-    let mut read = Read { at, count: n };
-    while let Some(l) = connective_at(y.kinds, read.at, min) {
-        read = pred_more(y, read.at, d, b, l, code, read.count)?;
+    let mut read = from;
+    while let Some(l) = connective_at(y.kinds, read.at, above) {
+        read = pred_more(y, read, reach, l, code)?;
     }
     Ok(read)
 }
@@ -390,25 +320,19 @@ fn pred_rest(
 #[cycle(trees)]
 fn pred_more(
     y: &Symbols<'_>,
-    at: usize,
-    d: u8,
-    b: u8,
+    from: Read,
+    reach: Reach,
     l: u8,
     code: &mut [u16],
-    n: usize,
 ) -> Result<Read, Fault>
-    requires { Room y.now.kinds.now code.old at n × (d ≤ 24) × (b ≤ 3) × (1 ≤ l) × (at < length y.now.kinds.now) × Classes connectives (get_or y.now.kinds.now at 0) l }
-    ensures { ((base : ℕ) → (l ≡ 1 → base ≡ d) → Reads y.now.kinds.now at n (a_pred_rest base d b ∷ []) (a_pred_rest base d b ∷ []) result) × Ahead at result × ((min : ℕ) → min ≤ l → More y.now.kinds.now y.now.values.now (a_pred_rest min) at n code.old code.new result) }
+    requires { Room y.now.kinds.now code.old from.at from.count × (1 ≤ l) × (from.at < length y.now.kinds.now) × Classes connectives (get_or y.now.kinds.now from.at 0) l }
+    ensures { ((base : ℕ) → (l ≡ 1 → base ≡ reach.depth) → Reads y.now.kinds.now from.at from.count (a_pred_rest base reach.depth reach.names ∷ []) (a_pred_rest base reach.depth reach.names ∷ []) result) × Ahead from.at result × ((min : ℕ) → min ≤ l → More y.now.kinds.now y.now.values.now (a_pred_rest min) from.at from.count code.old code.new result) }
 {
+    let at = from.at;
     let k = kind_at(y.kinds, at);
     if l == kinds::IMPLIES_LEVEL {
-        if DEPTH <= d {
-            return Err(Fault {
-                place: at,
-                refusal: Refusal::Deep,
-            });
-        }
-        let conclusion = pred_from(y, at + 1, d + 1, b, kinds::IMPLIES_LEVEL, code, n)?;
+        let within = reach.deeper(at)?;
+        let conclusion = pred_from(y, from.skip(), within, kinds::IFF_LEVEL, code)?;
         let count = put(
             code,
             conclusion.count,
@@ -422,192 +346,148 @@ fn pred_more(
             ..conclusion
         });
     }
-    let right = pred_from(y, at + 1, d, b, l + 1, code, n)?;
+    let right = pred_from(y, from.skip(), reach, l, code)?;
     let count = put(code, right.count, shapes::CONNECTED, at, u16::from(k), 0);
     Ok(Read { count, ..right })
 }
 
 // A predicate that no connective stands in, but in parentheses.
 #[cycle(trees)]
-fn unary(
-    y: &Symbols<'_>,
-    at: usize,
-    d: u8,
-    b: u8,
-    code: &mut [u16],
-    n: usize,
-) -> Result<Read, Fault>
-    requires { Room y.now.kinds.now code.old at n × (d ≤ 24) × (b ≤ 3) }
-    ensures { Reads y.now.kinds.now at n (a_unary d b ∷ []) [] result × Made y.now.kinds.now y.now.values.now a_unary at n code.old code.new result }
+fn unary(y: &Symbols<'_>, from: Read, reach: Reach, code: &mut [u16]) -> Result<Read, Fault>
+    requires { Room y.now.kinds.now code.old from.at from.count }
+    ensures { Reads y.now.kinds.now from.at from.count (a_unary reach.depth reach.names ∷ []) [] result × Made y.now.kinds.now y.now.values.now a_unary from.at from.count code.old code.new result }
 {
-    let k = kind_at(y.kinds, at);
+    let k = kind_at(y.kinds, from.at);
     let start = pred_start_of(k);
     match start {
         PredStart::Term => {
-            let first = term(y, at, d, b, code, n)?;
-            atom(y, first.at, d, b, code, first.count)
+            let first = term(y, from, reach, code)?;
+            atom(y, first, reach, code)
         }
         PredStart::Truth => {
-            let m = put(code, n, shapes::TRUTH, at, u16::from(k), 0);
+            let m = put(code, from.count, shapes::TRUTH, from.at, u16::from(k), 0);
             Ok(Read {
-                at: at + 1,
+                at: from.at + 1,
                 count: m,
             })
         }
         PredStart::Negation => {
-            if DEPTH <= d {
-                return Err(Fault {
-                    place: at,
-                    refusal: Refusal::Deep,
-                });
-            }
-            let denied = unary(y, at + 1, d + 1, b, code, n)?;
-            let count = put(code, denied.count, shapes::NEGATION, at, 0, 0);
+            let within = reach.deeper(from.at)?;
+            let denied = unary(y, from.skip(), within, code)?;
+            let count = put(code, denied.count, shapes::NEGATION, from.at, 0, 0);
             Ok(Read { count, ..denied })
         }
         PredStart::Paren => {
-            if DEPTH <= d {
-                return Err(Fault {
-                    place: at,
-                    refusal: Refusal::Deep,
-                });
-            }
-            paren(y, at, d + 1, b, code, n)
+            let within = reach.deeper(from.at)?;
+            paren(y, from, within, code)
         }
     }
 }
 
 // Behind the ( at a place.
 #[cycle(trees)]
-fn paren(
-    y: &Symbols<'_>,
-    at: usize,
-    d: u8,
-    b: u8,
-    code: &mut [u16],
-    n: usize,
-) -> Result<Read, Fault>
-    requires { Room y.now.kinds.now code.old at n × (d ≤ 24) × (b ≤ 3) × (at < length y.now.kinds.now) × (get_or y.now.kinds.now at 0 ≡ 15) }
-    ensures { Reads y.now.kinds.now (at + 1) (n + 4) (a_paren d b ∷ []) [] result × Made y.now.kinds.now y.now.values.now a_unary at n code.old code.new result }
+fn paren(y: &Symbols<'_>, from: Read, reach: Reach, code: &mut [u16]) -> Result<Read, Fault>
+    requires { Room y.now.kinds.now code.old from.at from.count × (get_or y.now.kinds.now from.at 0 ≡ 15) }
+    ensures { Reads y.now.kinds.now (from.at + 1) (from.count + 4) (a_paren reach.depth reach.names ∷ []) [] result × Made y.now.kinds.now y.now.values.now a_unary from.at from.count code.old code.new result }
 {
-    let k = kind_at(y.kinds, at + 1);
-    if is_quantifier(k) {
-        return quantified(y, at, d, b, code, n);
+    if is_quantifier(kind_at(y.kinds, from.at + 1)) {
+        return quantified(y, from, reach, code);
     }
-    let inner = pred(y, at + 1, d, b, code, n)?;
+    let inner = pred(y, from.skip(), reach, code)?;
     close(y.kinds, inner.at, codes::CLOSE_PAREN, inner.count)
 }
 
 // Behind ( and a quantifier.
 #[cycle(trees)]
-fn quantified(
-    y: &Symbols<'_>,
-    at: usize,
-    d: u8,
-    b: u8,
-    code: &mut [u16],
-    n: usize,
-) -> Result<Read, Fault>
-    requires { Room y.now.kinds.now code.old at n × (d ≤ 24) × (b ≤ 3) × (at + 1 < length y.now.kinds.now) × (53 ≤ get_or y.now.kinds.now (at + 1) 0) × (get_or y.now.kinds.now (at + 1) 0 ≤ 55) × (get_or y.now.kinds.now at 0 ≡ 15) }
-    ensures { Reads y.now.kinds.now (at + 1) (n + 4) (a_paren d b ∷ []) [] result × Made y.now.kinds.now y.now.values.now a_unary at n code.old code.new result }
+fn quantified(y: &Symbols<'_>, from: Read, reach: Reach, code: &mut [u16]) -> Result<Read, Fault>
+    requires { Room y.now.kinds.now code.old from.at from.count × (53 ≤ get_or y.now.kinds.now (from.at + 1) 0) × (get_or y.now.kinds.now (from.at + 1) 0 ≤ 55) × (get_or y.now.kinds.now from.at 0 ≡ 15) }
+    ensures { Reads y.now.kinds.now (from.at + 1) (from.count + 4) (a_paren reach.depth reach.names ∷ []) [] result × Made y.now.kinds.now y.now.values.now a_unary from.at from.count code.old code.new result }
 {
-    let x = at + 1 + 1;
-    if kind_at(y.kinds, x) == codes::PLAIN {
-        if BOUND_NAMES <= b {
-            return Err(Fault {
-                place: x,
-                refusal: Refusal::Deep,
-            });
-        }
-        let colon = close(y.kinds, x + 1, codes::COLON, n)?;
-        let over = domain(y.kinds, colon.at, n)?;
-        let spot = close(y.kinds, over.at, codes::SPOT, n)?;
-        let body = pred(y, spot.at, d, b + 1, code, n)?;
-        let h = put_domain(y, colon.at, code, body.count);
-        let i = name_number(y, x);
-        let j = kind_at(y.kinds, at + 1);
-        let c = put(code, h, shapes::QUANTIFIED, at + 1, i, u16::from(j));
-        return close(y.kinds, body.at, codes::CLOSE_PAREN, c);
+    let x = from.at + 1 + 1;
+    if kind_at(y.kinds, x) != codes::PLAIN {
+        return Err(Fault {
+            place: x,
+            refusal: Refusal::NoDossier,
+        });
     }
-    Err(Fault {
-        place: x,
-        refusal: Refusal::NoDossier,
-    })
+    let within = reach.with_name(x)?;
+    let colon = close(y.kinds, x + 1, codes::COLON, from.count)?;
+    let over = domain(y, colon.at, from.count)?;
+    let spot = close(y.kinds, over.at, codes::SPOT, from.count)?;
+    let body = pred(y, spot, within, code)?;
+    let h = put_domain(y.kinds, y.values, colon.at, code, body.count);
+    let i = name_number(y.kinds, y.values, x);
+    let j = kind_at(y.kinds, from.at + 1);
+    let c = put(code, h, shapes::QUANTIFIED, from.at + 1, i, u16::from(j));
+    close(y.kinds, body.at, codes::CLOSE_PAREN, c)
 }
 
 // What stands behind the first term of a predicate.
 #[cycle(trees)]
-fn atom(y: &Symbols<'_>, at: usize, d: u8, b: u8, code: &mut [u16], n: usize) -> Result<Read, Fault>
-    requires { Room y.now.kinds.now code.old at n × (d ≤ 24) × (b ≤ 3) }
-    ensures { Reads y.now.kinds.now at n (a_rel d b ∷ []) [] result × Made y.now.kinds.now y.now.values.now an_atom at n code.old code.new result }
+fn atom(y: &Symbols<'_>, from: Read, reach: Reach, code: &mut [u16]) -> Result<Read, Fault>
+    requires { Room y.now.kinds.now code.old from.at from.count }
+    ensures { Reads y.now.kinds.now from.at from.count (a_rel reach.depth reach.names ∷ []) [] result × Made y.now.kinds.now y.now.values.now an_atom from.at from.count code.old code.new result }
 {
-    let k = kind_at(y.kinds, at);
+    let k = kind_at(y.kinds, from.at);
     let Some(relation) = relation_of(k) else {
         return Err(Fault {
-            place: at,
+            place: from.at,
             refusal: Refusal::NoDossier,
         });
     };
     match relation {
-        Relation::Membership => member(y, at, d, b, code, n),
+        Relation::Membership => member(y, from, reach, code),
         Relation::Comparison => {
-            let right = term(y, at + 1, d, b, code, n)?;
-            let count = put(code, right.count, shapes::COMPARED, at, u16::from(k), 0);
+            let right = term(y, from.skip(), reach, code)?;
+            let count = put(
+                code,
+                right.count,
+                shapes::COMPARED,
+                from.at,
+                u16::from(k),
+                0,
+            );
             Ok(Read { count, ..right })
         }
         Relation::Pairing => {
-            let second = term(y, at + 1, d, b, code, n)?;
-            related(y, second.at, d, b, code, second.count)
+            let second = term(y, from.skip(), reach, code)?;
+            related(y, second, reach, code)
         }
     }
 }
 
 // Behind `in` or `notin`.
 #[cycle(trees)]
-fn member(
-    y: &Symbols<'_>,
-    at: usize,
-    d: u8,
-    b: u8,
-    code: &mut [u16],
-    n: usize,
-) -> Result<Read, Fault>
-    requires { Room y.now.kinds.now code.old at n × (d ≤ 24) × (b ≤ 3) × (at < length y.now.kinds.now) × (56 ≤ get_or y.now.kinds.now at 0) × (get_or y.now.kinds.now at 0 ≤ 57) }
-    ensures { Reads y.now.kinds.now (at + 1) (n + 4) (a_right d b ∷ []) [] result × Made y.now.kinds.now y.now.values.now an_atom at n code.old code.new result }
+fn member(y: &Symbols<'_>, from: Read, reach: Reach, code: &mut [u16]) -> Result<Read, Fault>
+    requires { Room y.now.kinds.now code.old from.at from.count × (56 ≤ get_or y.now.kinds.now from.at 0) × (get_or y.now.kinds.now from.at 0 ≤ 57) }
+    ensures { Reads y.now.kinds.now (from.at + 1) (from.count + 4) (a_right reach.depth reach.names ∷ []) [] result × Made y.now.kinds.now y.now.values.now an_atom from.at from.count code.old code.new result }
 {
-    let k = kind_at(y.kinds, at);
-    if is_range(y.kinds, at + 1) {
-        let ends = range(y.kinds, at + 1, n)?;
-        let m = put_range(y, at + 1, code, n);
-        let count = put(code, m, shapes::WITHIN, at, u16::from(k), 0);
+    let k = kind_at(y.kinds, from.at);
+    if is_range(y, from.at + 1) {
+        let ends = range(y, from.at + 1, from.count)?;
+        let m = put_range(y.kinds, y.values, from.at + 1, code, from.count);
+        let count = put(code, m, shapes::WITHIN, from.at, u16::from(k), 0);
         return Ok(Read { count, ..ends });
     }
-    let set = term(y, at + 1, d, b, code, n)?;
-    let count = put(code, set.count, shapes::MEMBER, at, u16::from(k), 0);
+    let set = term(y, from.skip(), reach, code)?;
+    let count = put(code, set.count, shapes::MEMBER, from.at, u16::from(k), 0);
     Ok(Read { count, ..set })
 }
 
 // Behind t |-> t.
 #[cycle(trees)]
-fn related(
-    y: &Symbols<'_>,
-    at: usize,
-    d: u8,
-    b: u8,
-    code: &mut [u16],
-    n: usize,
-) -> Result<Read, Fault>
-    requires { Room y.now.kinds.now code.old at n × (d ≤ 24) × (b ≤ 3) }
-    ensures { Reads y.now.kinds.now at n (a_mem d b ∷ []) [] result × Made y.now.kinds.now y.now.values.now some_related at n code.old code.new result }
+fn related(y: &Symbols<'_>, from: Read, reach: Reach, code: &mut [u16]) -> Result<Read, Fault>
+    requires { Room y.now.kinds.now code.old from.at from.count }
+    ensures { Reads y.now.kinds.now from.at from.count (a_mem reach.depth reach.names ∷ []) [] result × Made y.now.kinds.now y.now.values.now some_related from.at from.count code.old code.new result }
 {
-    let k = kind_at(y.kinds, at);
+    let k = kind_at(y.kinds, from.at);
     if !is_membership(k) {
         return Err(Fault {
-            place: at,
+            place: from.at,
             refusal: Refusal::NoDossier,
         });
     }
-    let set = term(y, at + 1, d, b, code, n)?;
-    let count = put(code, set.count, shapes::RELATED, at, u16::from(k), 0);
+    let set = term(y, from.skip(), reach, code)?;
+    let count = put(code, set.count, shapes::RELATED, from.at, u16::from(k), 0);
     Ok(Read { count, ..set })
 }

@@ -4,9 +4,9 @@ use mathlib.Core.Bool.{Bool, true, false, cond}
 use mathlib.Core.List.{List}
 use Prim.Native.Nat.{ℕ, ◌+◌, ◌-◌, ◌*◌, ◌≤◌, ◌<◌}
 use native.Mathlib.Omega.{arith}
-use lib.Dec.{leb}
+use lib.Dec.{leb, ltb}
 use lib.ListN.{get_or}
-use borrow.Author.Tests.{leb-true, lt-ltb, le-ltb, le-leb, eq-eqb, ne_eqb}
+use borrow.Author.Tests.{leb-true, ltb-true, lt-ltb, le-ltb, le-leb, eq-eqb, ne_eqb}
 use Rattle.form.specs.Codes.{node}
 use Rattle.form_nodes.specs.FormPromises.{Writes}
 use Rattle.form_nodes.specs.Derivations.{name_code, end_code, magnitude_code, division_code, leaf_node, range_node, domain_node}
@@ -27,13 +27,13 @@ module _ (s ν : List ℕ) (i : ℕ) where
       ∙ rw (name_code, le-ltb 4095 (get_or ν i 0) (omega arith), le-ltb (get_or s i 0) 2 (omega arith))
 
   -- an end with -, and one without
-  pub large-lower : get_or s i 0 ≡ 29 → 1000 < get_or ν (i + 1) 0 → 0 ≡ end_code s ν i
+  pub lower : {x : ℕ} → get_or s i 0 ≡ 29 → x ≡ get_or ν (i + 1) 0 → 1000 - x ≡ end_code s ν i
   unfolding end_code
-  large-lower q l = rw (end_code, eq-eqb (get_or s i 0) 29 q, lt-ltb 1000 (get_or ν (i + 1) 0) l)
-
-  pub lower : {x : ℕ} → get_or s i 0 ≡ 29 → x ≡ get_or ν (i + 1) 0 → x ≤ 1000 → 1000 - x ≡ end_code s ν i
-  unfolding end_code
-  lower q f l = ap (λ (y : ℕ). 1000 - y) f ∙ rw (end_code, eq-eqb (get_or s i 0) 29 q, le-ltb 1000 (get_or ν (i + 1) 0) (omega arith))
+  lower q f = ap (λ (y : ℕ). 1000 - y) f ∙ on (ltb 1000 (get_or ν (i + 1) 0)) refl ∙ rw (end_code, eq-eqb (get_or s i 0) 29 q)
+    where
+      on : (b : Bool) → ltb 1000 (get_or ν (i + 1) 0) ≡ b → 1000 - get_or ν (i + 1) 0 ≡ cond (ltb 1000 (get_or ν (i + 1) 0)) 0 (1000 - get_or ν (i + 1) 0)
+      on true t = let l = ltb-true 1000 (get_or ν (i + 1) 0) t in rw t (omega arith)
+      on false t = rw t
 
   pub large-upper : (get_or s i 0 ≡ 29 → ⊥) → 1000 < get_or ν i 0 → 0 ≡ end_code s ν i
   unfolding end_code

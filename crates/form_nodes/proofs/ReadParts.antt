@@ -230,10 +230,6 @@ wider {at = at} {n} {m} {r = r} a l = record { from = a.from; within = a.within;
     on (Ok e) h = omega arith
     on (Err f) h = tt
 
--- the machine's successor for the code's sum
-pub raised : {s : List ℕ} {at n : ℕ} {ο : List Item} {r : Answer} (f : ℕ → List Item) (d : ℕ) → Reads s at n (f (d + 1)) ο r → Reads s at n (f (suc d)) ο r
-raised {s} {at} {n} {ο} {r} f d h = subst (λ (x : ℕ). Reads s at n (f x) ο r) (add-one d) h
-
 -- what a result that is known says
 pub known-ahead : (at : ℕ) {e : Read} {r : Answer} → r ≡ Ok e → Ahead at r → at < e.at
 known-ahead at q h = subst (λ (x : Answer). Ahead at x) q h

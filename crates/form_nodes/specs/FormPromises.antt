@@ -55,7 +55,6 @@ pub record Reads (s : List ℕ) (at n : ℕ) (ι ο : List Item) (r : Answer) : 
 -- what a function that writes may count on
 pub record Room (s code : List ℕ) (at n : ℕ) : Type 0 where
   pub inside : at ≤ length s
-  pub few : length s ≤ 4096
   pub written : n ≤ 4 * at
   pub long : 4 * length s ≤ length code
 

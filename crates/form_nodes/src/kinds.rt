@@ -45,7 +45,8 @@ pub enum Operator {
 }
 
 // The kind's code at a place.
-// Form 2: `at_or` with what a code says of its place: 0 is no kind's code, so that any other stands inside.
+// Form 2: `at_or` of lexical for codes, with one promise more, which callers count on (`inside` of `KindAt`): a code that is not 0 stands inside. `at_or`, of
+// any type, cannot say so.
 pub fn kind_at(s: &[u8], at: usize) -> u8
     ensures { KindAt s.now at result }
 {
@@ -68,7 +69,7 @@ pub fn start_of(k: u8) -> Option<Start>
 }
 
 // The levels of operators and of connectives.
-// Form 1: levels are compared, and a right side is read from the next level on (`level + 1`): numbers, no kinds.
+// Form 1: levels are compared, and a right side has operators and connectives of the levels above one (`above` in expressions): numbers, no kinds.
 pub const LOOSE: u8 = 1;
 
 pub const TIGHT: u8 = 2;

@@ -1,6 +1,9 @@
 // The nodes of a tree, four numbers each (form/specs/Codes.antt).
-// Form 5: the place of a symbol and the numbers written so far change with each node.
-// Form 6: the node in front of a predicate counts its numbers and is written behind them (`condition` of parser): a writer that appends cannot.
+// Form 5: that a node fits behind the first n numbers is the clause of the writer below. That places are small (`at ≤ 4100`) is one comparison, for the sums
+// alone; from `Symbols` it would follow with the clause that the place is inside, which asks more of callers.
+// Form 5: what asks no bound on the symbols takes their two lists; `Symbols`, which has one, would ask it of callers.
+// Form 6: a writer of `code` and `n` (as `pieces::Writer`) would carry in each contract of the form pass the clause more that it is still of the same array;
+// and `Read`, which `?` hands on, has the count as well as the place, since the laws compare the two.
 ghost use Rattle.std.specs.Prelude.{◌≡◌, [], ◌∷◌, ◌+◌, ◌≤◌, ◌<◌, length, get_or};
 ghost use Rattle.form.specs.Machine.{a_name, an_empty_rest};
 ghost use Rattle.form_nodes.specs.FormPromises.{Room, Writes, Reads};
@@ -22,45 +25,42 @@ const LAST_SYMBOL: u16 = SYMBOLS as u16 - 1;
 const PLAIN: u16 = codes::PLAIN as u16;
 
 // A node behind the first n numbers.
+// Form 2: `set_node` of table_nodes is the same copy, one call of the library in both. One function would stand in `form`, below both, with its definition
+// (`patch`); here would stay a function that answers the place behind, and a law more, from `patch` to `Writes`, where none is needed now.
 pub fn put(code: &mut [u16], n: usize, shape: u16, place: usize, x: u16, y: u16) -> usize
     requires { (n + 4 ≤ length code.old) × (place < 65536) }
     ensures { Writes code.old n (node shape place x y) code.new result }
 {
-    code[n] = y;
-    code[n + node::A] = x;
-    code[n + node::PLACE] = place as u16;
-    code[n + node::SHAPE] = shape;
-    n + node::SIZE
+    let end = n + node::SIZE;
+    code[n..end].copy_from_slice(&[y, x, place as u16, shape]);
+    end
 }
 
 // The number of a name: of its letters, and its ending.
-pub fn name_number(y: &Symbols<'_>, at: usize) -> u16
-    ensures { result ≡ name_code y.now.kinds.now y.now.values.now at }
+// Form 1: a node has 0 where no name stands. Each of the 15 calls is for a place where one stands and writes what it gets: with an Option each would turn a
+// `None` that does not come into 0.
+pub fn name_number(kinds: &[u8], values: &[u16], at: usize) -> u16
+    ensures { result ≡ name_code kinds.now values.now at }
 {
-    let k = kind_at(y.kinds, at);
-    let x = at_or(y.values, at, 0);
-    if LAST_SYMBOL < x {
-        return 0;
-    }
-    if k < codes::PLAIN {
+    let k = kind_at(kinds, at);
+    let x = at_or(values, at, 0);
+    if LAST_SYMBOL < x || k < codes::PLAIN {
         return 0;
     }
     endings::COUNT * x + (u16::from(k) - PLAIN)
 }
 
 // An end of a range, plus 1,000.
-pub fn signed(y: &Symbols<'_>, at: usize) -> u16
+// Form 1: 0 for a number over 1,000, which no symbol has (`lexical::numbers`): with an Option the three calls would turn a `None` that does not come into 0,
+// since a node has a number there.
+pub fn signed(kinds: &[u8], values: &[u16], at: usize) -> u16
     requires { at ≤ 4100 }
-    ensures { result ≡ end_code y.now.kinds.now y.now.values.now at }
+    ensures { result ≡ end_code kinds.now values.now at }
 {
-    if kind_at(y.kinds, at) == codes::DASH {
-        let x = at_or(y.values, at + 1, 0);
-        if LARGEST_NUMBER < x {
-            return 0;
-        }
-        return LARGEST_NUMBER - x;
+    if kind_at(kinds, at) == codes::DASH {
+        return LARGEST_NUMBER.saturating_sub(at_or(values, at + 1, 0));
     }
-    let x = at_or(y.values, at, 0);
+    let x = at_or(values, at, 0);
     if LARGEST_NUMBER < x {
         return 0;
     }
@@ -68,68 +68,66 @@ pub fn signed(y: &Symbols<'_>, at: usize) -> u16
 }
 
 // A divisor's magnitude; the sign, and which of the two divisions it is.
-pub fn magnitude(y: &Symbols<'_>, at: usize) -> u16
+pub fn magnitude(kinds: &[u8], values: &[u16], at: usize) -> u16
     requires { at ≤ 4100 }
-    ensures { result ≡ magnitude_code y.now.kinds.now y.now.values.now at }
+    ensures { result ≡ magnitude_code kinds.now values.now at }
 {
-    if kind_at(y.kinds, at) == codes::DASH {
-        return at_or(y.values, at + 1, 0);
+    if kind_at(kinds, at) == codes::DASH {
+        return at_or(values, at + 1, 0);
     }
-    at_or(y.values, at, 0)
+    at_or(values, at, 0)
 }
 
 pub fn division(s: &[u8], at: usize) -> u16
     requires { at ≤ 4100 }
     ensures { result ≡ division_code s.now at }
 {
-    if kind_at(s, at) == codes::MOD {
-        if kind_at(s, at + 1) == codes::DASH {
-            return shapes::NEGATIVE_REMAINDER;
-        }
-        return shapes::REMAINDER;
+    let remainder = kind_at(s, at) == codes::MOD;
+    let negative = kind_at(s, at + 1) == codes::DASH;
+    match (remainder, negative) {
+        (true, true) => shapes::NEGATIVE_REMAINDER,
+        (true, false) => shapes::REMAINDER,
+        (false, true) => shapes::NEGATIVE,
+        (false, false) => 0,
     }
-    if kind_at(s, at + 1) == codes::DASH {
-        return shapes::NEGATIVE;
-    }
-    0
 }
 
 // The node of a number or a name.
-pub fn leaf(y: &Symbols<'_>, at: usize, code: &mut [u16], n: usize) -> usize
+pub fn leaf(kinds: &[u8], values: &[u16], at: usize, code: &mut [u16], n: usize) -> usize
     requires { (n + 4 ≤ length code.old) × (at < 65536) }
-    ensures { Writes code.old n (leaf_node y.now.kinds.now y.now.values.now at) code.new result }
+    ensures { Writes code.old n (leaf_node kinds.now values.now at) code.new result }
 {
-    if kind_at(y.kinds, at) == codes::NUMBER {
-        let x = at_or(y.values, at, 0);
+    if kind_at(kinds, at) == codes::NUMBER {
+        let x = at_or(values, at, 0);
         return put(code, n, shapes::NUMBER, at, x, 0);
     }
-    let x = name_number(y, at);
+    let x = name_number(kinds, values, at);
     put(code, n, shapes::NAME, at, x, 0)
 }
 
 // The node of a..b.
-pub fn put_range(y: &Symbols<'_>, at: usize, code: &mut [u16], n: usize) -> usize
+pub fn put_range(kinds: &[u8], values: &[u16], at: usize, code: &mut [u16], n: usize) -> usize
     requires { (n + 4 ≤ length code.old) × (at ≤ 4096) }
-    ensures { Writes code.old n (range_node y.now.kinds.now y.now.values.now at) code.new result }
+    ensures { Writes code.old n (range_node kinds.now values.now at) code.new result }
 {
-    let x = signed(y, at);
-    if kind_at(y.kinds, at) == codes::DASH {
-        let upper = signed(y, at + 3);
+    let x = signed(kinds, values, at);
+    if kind_at(kinds, at) == codes::DASH {
+        let upper = signed(kinds, values, at + 3);
         return put(code, n, shapes::RANGE, at + 2, x, upper);
     }
-    let upper = signed(y, at + 2);
+    let upper = signed(kinds, values, at + 2);
     put(code, n, shapes::RANGE, at + 1, x, upper)
 }
 
-pub fn put_domain(y: &Symbols<'_>, at: usize, code: &mut [u16], n: usize) -> usize
+pub fn put_domain(kinds: &[u8], values: &[u16], at: usize, code: &mut [u16], n: usize) -> usize
     requires { (n + 4 ≤ length code.old) × (at ≤ 4096) }
-    ensures { Writes code.old n (domain_node y.now.kinds.now y.now.values.now at) code.new result }
+    ensures { Writes code.old n (domain_node kinds.now values.now at) code.new result }
 {
-    let k = kind_at(y.kinds, at);
+    let k = kind_at(kinds, at);
     if !is_name(k) {
-        return put_range(y, at, code, n);
+        return put_range(kinds, values, at, code, n);
     }
-    let x = name_number(y, at);
+    let x = name_number(kinds, values, at);
     put(code, n, shapes::SET, at, x, 0)
 }
 
@@ -145,7 +143,7 @@ pub fn empty(y: &Symbols<'_>, at: usize, code: &mut [u16], n: usize) -> Result<R
             refusal: Refusal::NoDossier,
         });
     }
-    let x = name_number(y, at + 1);
+    let x = name_number(y.kinds, y.values, at + 1);
     let j = kind_at(y.kinds, at + 1 + 1);
     if !is_name(j) {
         let m = put(code, n, shapes::EMPTY_SET, at, x, 0);
@@ -154,7 +152,7 @@ pub fn empty(y: &Symbols<'_>, at: usize, code: &mut [u16], n: usize) -> Result<R
             count: m,
         });
     }
-    let second = name_number(y, at + 1 + 1);
+    let second = name_number(y.kinds, y.values, at + 1 + 1);
     let m = put(code, n, shapes::EMPTY_PAIRS, at, x, second);
     Ok(Read {
         at: at + 1 + 1 + 1,

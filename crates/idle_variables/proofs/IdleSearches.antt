@@ -54,9 +54,6 @@ tests-idle {cells = cells} {at = at} s h (more_tests {f = f} {fs = fs} l t r) =
       same = λ δ x τ g. ap₂ both (((h at (omega arith) l).each cells f t).same δ x τ g) ((tests-idle s (λ j a b. h j (omega arith) b) r).same δ x τ g);
     }
 
-pub mark-next : (plan : List ℕ) (u l : ℕ) → get_or plan (16 * u + l + 1) 0 ≡ mark_in plan u (l + 1)
-mark-next plan u l = ap (λ (i : ℕ). get_or plan i 0) (let z : 16 * u + l + 1 ≡ 16 * u + (l + 1) = omega arith in z)
-
 pub level-says : {table plan : List ℕ} {u l slot from to : ℕ} {b : Bool} → from ≡ mark_in plan u l → to ≡ mark_in plan u (l + 1)
     → (b ≡ true → (j : ℕ) → from ≤ j → j < to → TestIdle table (get_or plan j 0) slot) → LevelSays table plan u l slot b
 level-says {slot = slot} f g h = record { means = λ e. record { each = λ cells fs t. tests-idle slot (λ j a b. h e j (omega (arith, f)) (omega (arith, g))) t } }

@@ -16,7 +16,7 @@ use Rattle.points.specs.Points.{span}
 use Rattle.points.proofs.PointNumbers.{Counts, counts-rest, span-some, counts-first}
 use Rattle.idle_variables.specs.declared.keys.KeyGroup.{KeyGroup}
 use Rattle.idle_variables.specs.KeyedNumbers.{keyed}
-use Rattle.idle_variables.specs.KeyPromises.{key_in, KeyAsked, Marked}
+use Rattle.idle_variables.specs.KeyPromises.{key_in, KeyAsked}
 use Rattle.idle_variables.proofs.KeyedPoints.{keyed-low}
 
 zero_bit : has 0 0 ≡ false
@@ -110,6 +110,87 @@ module _ {cells : List ℕ} {g : KeyGroup} (q : KeyAsked cells g) where
       pub key-kept : (g.idle % 2 ≡ 1 → ⊥) → x / (g.count / d) * (g.count / d) + y ≡ key_in cells g x
       key-kept o = sym (whole-key ∙ ap (λ (b : Bool). cond b 0 (x / (g.count / d)) * (g.count / d) + y) (has-zero g.idle ∙ ne_eqb _ _ o))
 
--- a mark at the place that is the key
-pub marked-there : {may : Bool} {key place mark : ℕ} {before after : List ℕ} → place ≡ key → Marked may place mark before after → Marked may key mark before after
-marked-there {may} {mark = mark} {before} {after} e w = subst (λ (k : ℕ). Marked may k mark before after) e w
+empty-span : (cells : List ℕ) (s m : ℕ) → m ≡ 0 → span cells (upward s m) ≡ 1
+unfolding span upward
+empty-span cells s zero e = refl
+empty-span cells s (suc m) e = absurd (omega arith)
+
+-- ---- the digits one after the other: the key so far, and what is left of the number
+
+abbrev pub group_from : (i left stride idle : ℕ) → KeyGroup
+group_from i left stride idle = record { first = i; many = left; count = stride; idle = idle }
+
+pub record Keying (cells : List ℕ) (g : KeyGroup) (x i stride idle rest key : ℕ) : Type 0 where
+  pub left : ℕ
+  pub ends : i + left ≡ g.first + g.many
+  pub asked : KeyAsked cells (group_from i left stride idle)
+  pub low : rest < stride
+  pub total : key + key_in cells (group_from i left stride idle) rest ≡ key_in cells g x
+
+pub keying-start : {cells : List ℕ} {g : KeyGroup} (q : KeyAsked cells g) {x : ℕ} → x < g.count → Keying cells g x g.first g.count g.idle x 0
+keying-start {cells} {g} q {x} h = record { left = g.many; ends = refl; asked = q; low = h; total = z }
+  where
+    z : 0 + key_in cells g x ≡ key_in cells g x
+    z = omega arith
+
+module _ {cells : List ℕ} {g : KeyGroup} (q : KeyAsked cells g) {x i stride idle rest key : ℕ} (h : x < g.count) (k : Keying cells g x i stride idle rest key) where
+  -- where none is idle that is left, and where none is left
+  whole-number : rest ≡ key_in cells (group_from i k.left stride idle) rest → key + rest ≡ key_in cells g x
+  whole-number e = ap (λ (y : ℕ). key + y) e ∙ k.total
+
+  pub keyed-early : idle ≡ 0 → key + rest ≡ key_in cells g x
+  keyed-early e = whole-number (no_idle k.asked rest k.low e)
+
+  pub keyed-late : g.first + g.many ≤ i → key + rest ≡ key_in cells g x
+  keyed-late e = whole-number (none-left k.left (omega (arith, k.ends, e)) k.asked)
+    where
+      none-left : (m : ℕ) → m ≡ 0 → KeyAsked cells (group_from i m stride idle) → rest ≡ key_in cells (group_from i m stride idle) rest
+      none-left m e a = omega (arith, k.low, a.count, empty-span cells i m e, empty-key cells i m idle rest e)
+
+  pub key-bound : {y : ℕ} → y ≡ key_in cells g x → y < g.count
+  key-bound e = subst (λ (z : ℕ). z < g.count) (sym e) (key-low q x h)
+
+  module _ (more : i < g.first + g.many) where
+    pub left-some : k.left ≡ 0 → ⊥
+    left-some e = omega (arith, k.ends, more, e)
+
+    pub slot-low : i < 64
+    slot-low = omega (arith, k.asked.low, left-some)
+
+    module _ {d : ℕ} (f : d ≡ count_in cells i) where
+      pub digit-some : 0 < d
+      digit-some = count-some k.asked left-some f
+
+      pub stride-some : 0 < stride / d
+      stride-some = rest_some k.asked left-some f
+
+      abbrev behind-key : ℕ
+      behind-key = keyed cells (behind (group_from i k.left stride idle)) (idle / 2) (rest % (stride / d))
+
+      next : (more : ℕ) → more + behind-key ≡ key_in cells (group_from i k.left stride idle) rest → Keying cells g x (i + 1) (stride / d) (idle / 2) (rest % (stride / d)) (key + more)
+      next more e =
+          record {
+            left = k.left - 1;
+            ends = omega (arith, k.ends, left-some);
+            asked = rest-asked k.asked left-some f (idle / 2);
+            low = mod-lt rest stride-some;
+            total = sum key more behind-key _ e ∙ k.total;
+          }
+        where
+          sum : (a b c d : ℕ) → b + c ≡ d → a + b + c ≡ a + d
+          sum a b c d e = omega arith
+
+      pub key-passed : idle % 2 ≡ 1 → Keying cells g x (i + 1) (stride / d) (idle / 2) (rest % (stride / d)) key
+      key-passed o =
+          subst (Keying cells g x (i + 1) (stride / d) (idle / 2) (rest % (stride / d))) {x = key + 0} {y = key} (omega arith)
+          (next 0 (zero-first behind-key ∙ key-idle k.asked left-some f rest refl o))
+        where
+          zero-first : (a : ℕ) → 0 + a ≡ a
+          zero-first a = omega arith
+
+      pub key-taken : (idle % 2 ≡ 1 → ⊥) → Keying cells g x (i + 1) (stride / d) (idle / 2) (rest % (stride / d)) (key + rest / (stride / d) * (stride / d))
+      key-taken o = next (rest / (stride / d) * (stride / d)) (key-kept k.asked left-some f rest refl o)
+
+      -- what is taken is no more than the key
+      pub taken-low : (idle % 2 ≡ 1 → ⊥) → key + rest / (stride / d) * (stride / d) ≤ 4096
+      taken-low o = omega (arith, (key-taken o).total, key-low q x h, q.few)

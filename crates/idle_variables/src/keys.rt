@@ -1,7 +1,9 @@
 // Keys of bindings: their numbers with the digits of idle variables 0, so that bindings that differ in those alone have one key; marks by keys.
-// Form 5: a group becomes a smaller one with each digit of a key, so that what is asked of it is shown anew at each call; in a type it would be shown as often.
-ghost use Rattle.std.specs.Prelude.{◌≡◌, ◌<◌};
-ghost use Rattle.idle_variables.specs.KeyPromises.{key_in, KeyAsked, MarkSays, Marked, Within};
+// Form 5: `KeyAsked` is asked of a group and of the cells together, so that a type with it would carry both; callers make a group of a part's sizes in one
+// function (`blocks`) and lend the cells in another, where what is asked is shown: with the type it would be shown where the group is made, and that function
+// would ask for all that shows it.
+ghost use Rattle.std.specs.Prelude.{◌≡◌, ◌<◌, set};
+ghost use Rattle.idle_variables.specs.KeyPromises.{key_in, KeyAsked, MarkSays, Within};
 
 use slot_carriers::{CELLS, count_of};
 
@@ -24,24 +26,22 @@ pub fn key_at(cells: &[u32; CELLS], g: KeyGroup, x: usize) -> usize
     ensures is { result ≡ key_in cells.now g x }
     ensures low { result < g.count }
 {
-    if g.idle == 0 {
-        return x;
+    let mut stride = g.count;
+    let mut idle = g.idle;
+    let mut rest = x;
+    let mut key = 0;
+    for slot in g.first..g.first + g.many {
+        if idle == 0 {
+            break;
+        }
+        stride /= count_of(cells, slot);
+        if idle % 2 == 0 {
+            key += rest / stride * stride;
+        }
+        rest %= stride;
+        idle /= 2;
     }
-    if g.many == 0 {
-        return 0;
-    }
-    let v = g.count / count_of(cells, g.first);
-    let rest = KeyGroup {
-        first: g.first + 1,
-        many: g.many - 1,
-        count: v,
-        idle: g.idle / 2,
-    };
-    let key = key_at(cells, rest, x % v);
-    if g.idle % 2 == 1 {
-        return key;
-    }
-    x / v * v + key
+    key + rest
 }
 
 // Does the mark stand at the key of the x-th binding?
@@ -58,23 +58,13 @@ pub fn is_marked(
     x < g.count && marks[key_at(cells, g, x)] == mark
 }
 
-// Makes the mark there, if it may be made.
-// Form 7: with an `if` at the calls, each of the loops of `nest` would go on from two joined ways, and its invariant be shown for both.
-pub fn make_mark(
-    cells: &[u32; CELLS],
-    g: KeyGroup,
-    x: usize,
-    mark: u16,
-    may: bool,
-    marks: &mut [u16; KEYS],
-)
+// Makes the mark there.
+pub fn make_mark(cells: &[u32; CELLS], g: KeyGroup, x: usize, mark: u16, marks: &mut [u16; KEYS])
     requires key_asked { KeyAsked cells.now g }
     requires x_lt_count { x < g.count }
-    ensures { Marked may (key_in cells.now g x) mark marks.old marks.new }
+    ensures { marks.new ≡ set marks.old (key_in cells.now g x) mark }
 {
-    if may {
-        marks[key_at(cells, g, x)] = mark;
-    }
+    marks[key_at(cells, g, x)] = mark;
 }
 
 // Does the block of `size` places from `first` on lie between two places? Only then is it looked at as a whole.

@@ -1,16 +1,18 @@
 // Variables that do not matter: no test of some searches of a part mentions them. Of the state before only; a test of the state after does not read them.
-// Form 5: the numbers of searches, levels and slots change with each call, since these functions go over them; what holds of the plan at all calls is `PlanAsked`.
+// Form 5: u, l and slot are what these functions go over: a type for each bound would be made in each of the walks, and be shown there as the clause is.
+// `PlanAsked` is a part of what the callers in `nest_steps` ask of the plan: a type with it would be made of the `PartSearch` for these three calls alone, and
+// stand beside it.
 #![tactic(auto)]
 
 pub mod keys;
 
-ghost use Rattle.std.specs.Prelude.{◌≡◌, ◌+◌, ◌<◌, ◌≤◌};
+ghost use Rattle.std.specs.Prelude.{◌+◌, ◌<◌, ◌≤◌};
 ghost use Rattle.points.specs.Searches.{mark_in};
 ghost use Rattle.idle_variables.specs.IdlePromises.{TestSays, LevelSays, SearchSays, SearchesSay, PlanAsked, MaskSays};
 
-use mentions::free_pred;
+use mentions::Mention;
 use plans::PartSearch;
-use points::plan::{HEAD, LEVELS};
+use points::plan::LEVELS;
 use points::slots::AFTER;
 
 // How many searches a plan has.
@@ -24,7 +26,8 @@ fn idle_test(t: &[u16; 16384], e: usize, slot: usize) -> bool
     if e % 2 == AFTER {
         return true;
     }
-    free_pred(t, e / 2, slot)
+    let mention = Mention { table: t, slot };
+    mention.free_pred(e / 2)
 }
 
 // Does no test of a level?
@@ -32,9 +35,7 @@ fn idle_level(s: &PartSearch<'_>, u: usize, l: usize, slot: usize) -> bool
     requires { (u < 5) × (l < 12) × (slot < 22) × (mark_in s.now.plan.now u (l + 1) ≤ 20560) }
     ensures { LevelSays s.now.table.now s.now.plan.now u l slot result }
 {
-    let from = usize::from(s.plan[HEAD * u + l]);
-    let to = usize::from(s.plan[HEAD * u + l + 1]);
-    (from..to).all(
+    s.tests(u, l).all(
         |k|
             requires { (k < 20560) × (slot < 22) }
         { idle_test(s.table, usize::from(s.plan[k]), slot) },
@@ -65,9 +66,9 @@ pub fn idle_of(s: &PartSearch<'_>, u: usize, first: usize, m: usize) -> u64
     requires plan_asked { PlanAsked s.now.plan.now }
     ensures { MaskSays s.now.table.now s.now.plan.now u first m result }
 {
-    if m == 0 {
-        return 0;
+    let mut mask: u64 = 0;
+    for slot in (first..first + m).rev() {
+        mask = 2 * mask + u64::from(idle_searches(s, u, slot));
     }
-    let rest = idle_of(s, u, first + 1, m - 1);
-    2 * rest + u64::from(idle_searches(s, u, first))
+    mask
 }

@@ -110,7 +110,7 @@ sets-start {nodes} {m} starts labels r x d ρ l e =
       done = λ n h u. absurd (omega arith);
     }
 
--- what `skip_from` and `run_from` find, and the eight labels
+-- what `skip` and `run` find, and the eight labels
 module _ (nodes starts : List ℕ) (m q g from to : ℕ) (old new : List ℕ) (ρ : Numbering) (skip : Skips nodes m q from) (run : RunsTo nodes m 4 4 from to)
     (stored : Stored 8 (8 * g) (names_from nodes starts from) old new) where
   labelled-kept : (n : ℕ) (h : Given) → n < g → ElementsLabelled starts ρ old n h → ElementsLabelled starts ρ new n h

@@ -6,8 +6,8 @@ ghost use Rattle.labels.specs.LabelPromises.{name_byte, names_from, variable_of,
 
 use form::{node, shapes};
 use lexical::{bounds, endings};
-use node_spans::span;
-use parser::sections::{run_from, sections, skip_from};
+use node_spans::{span, span_at};
+use parser::sections::Nodes;
 pub use search_groups::groups::GROUPS;
 use type_rules::kinds::{look, put};
 
@@ -87,11 +87,15 @@ pub fn gather_elements(x: &Sources<'_>, m: usize, labels: &mut [u16; LABELS])
     requires { m ≤ 16384 }
     ensures { ElementsGathered x.now.nodes.now x.now.starts.now m labels.old labels.new }
 {
-    let mut q = sections(x.nodes, m).givens;
+    let made = Nodes {
+        numbers: x.nodes,
+        end: m,
+    };
+    let mut q = made.sections().givens;
     for g in 0..GIVEN_SETS {
-        let from = skip_from(x.nodes, q, m);
+        let from = made.skip(q);
         gather_set(x, from, ELEMENTS * g, labels);
-        q = run_from(x.nodes, from, m, shapes::ELEMENT, shapes::ELEMENT);
+        q = made.run(from, shapes::ELEMENT, shapes::ELEMENT);
     }
 }
 
@@ -100,7 +104,7 @@ pub fn gather_titles(x: &Sources<'_>, labels: &mut [u16; LABELS])
     ensures { TitlesGathered x.now.nodes.now x.now.starts.now x.now.spans.now labels.old labels.new }
 {
     for j in 0..span::MOST {
-        let q = usize::from(look(x.spans, span::OPERATIONS + span::OPERATION * j));
+        let q = span_at(x.spans, span::of_operation(j));
         put(
             labels,
             TITLES + j,

@@ -2,6 +2,7 @@
 pub mod BooleanTests
 pub mod ByteLaws
 pub mod MarkLaws
+pub mod PackedLaws
 pub mod WordLaws
 pub mod NumberLaws
 pub mod FoundSymbols

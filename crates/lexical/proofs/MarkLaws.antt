@@ -14,6 +14,7 @@ use Rattle.lexical.specs.Lists.{bytes, begins}
 use Rattle.lexical.specs.Kinds.{Kind, marks, code_of}
 use Rattle.lexical.specs.Symbols.{Found, longest, longer, unlisted}
 use Rattle.lexical.specs.SymbolPromises.{token_of}
+use Rattle.lexical.specs.declared.Token.{Token}
 use Rattle.lexical.specs.declared.Token.TheVariants.{Unlisted, Listed}
 
 abbrev Each : (String → Type 0) → List (String × Kind) → Type 0
@@ -56,6 +57,10 @@ bytes-at s at {a} {b} {e} p q r =
     ∙ ap (λ (x : ℕ). longest marks (get_or (drop at s) 0 0 ∷ x ∷ e ∷ [])) (q ∙ sym (get_or-drop at s 1 0))
     ∙ ap (λ (x : ℕ). longest marks (get_or (drop at s) 0 0 ∷ get_or (drop at s) 1 0 ∷ x ∷ [])) (r ∙ sym (get_or-drop at s 2 0))
     ∙ three-bytes (drop at s)
+
+-- what is found behind a first byte that is known
+pub at-first : {a k : ℕ} (b e : ℕ) {t : Token} → a ≡ k → t ≡ token_of (longest marks (k ∷ b ∷ e ∷ [])) → t ≡ token_of (longest marks (a ∷ b ∷ e ∷ []))
+at-first b e q h = h ∙ sym (ap (λ (x : ℕ). token_of (longest marks (x ∷ b ∷ e ∷ []))) q)
 
 -- a byte that no mark begins with
 pub no_mark : (a : ℕ) (w : List ℕ) → (a ≡ 35 → ⊥) → (a ≡ 40 → ⊥) → (a ≡ 41 → ⊥) → (a ≡ 42 → ⊥) → (a ≡ 43 → ⊥) → (a ≡ 44 → ⊥) → (a ≡ 45 → ⊥) → (a ≡ 46 → ⊥) → (a ≡ 47 → ⊥) → (a ≡ 58 → ⊥) → (a ≡ 59 → ⊥) → (a ≡ 60 → ⊥) → (a ≡ 61 → ⊥) → (a ≡ 64 → ⊥) → (a ≡ 91 → ⊥) → (a ≡ 93 → ⊥) → (a ≡ 123 → ⊥) → (a ≡ 124 → ⊥) → (a ≡ 125 → ⊥)

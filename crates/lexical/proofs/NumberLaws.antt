@@ -7,6 +7,7 @@ use native.Mathlib.Omega.{arith}
 use native.Mathlib.Numerals.{add-one}
 use lib.Dec.{eqb, leb}
 use Rattle.std.specs.Prelude.{Option, Some, None}
+use Rattle.std.specs.Bool.{then_some}
 use borrow.Author.Tests.{leb-true, leb-false, le-leb, lt-leb, eq-eqb, ne_eqb}
 use lib.ListN.{length, take, drop, get_or, drop_of_length-le}
 use lib.Seq.{drop-cons}
@@ -40,11 +41,13 @@ more-digit : (v b : ℕ) → 48 ≤ b → b < 58 → cond (leb (v * 10 + (b - 48
 unfolding more_of
 more-digit v b p q = sym (ap (λ (x : Bool). cond x (cond (leb (v * 10 + (b - 48)) 1000) (Some (v * 10 + (b - 48))) None) None) (digit-yes b p q))
 
-pub more-over : (v b : ℕ) → 48 ≤ b → b < 58 → 1000 < v * 10 + (b - 48) → None ≡ more_of v b
-more-over v b p q h = sym (ap (λ (x : Bool). cond x (Some (v * 10 + (b - 48))) None) (lt-leb (v * 10 + (b - 48)) 1000 h)) ∙ more-digit v b p q
-
-pub more-is : (v b : ℕ) → 48 ≤ b → b < 58 → v * 10 + (b - 48) ≤ 1000 → Some (v * 10 + (b - 48)) ≡ more_of v b
-more-is v b p q h = sym (ap (λ (x : Bool). cond x (Some (v * 10 + (b - 48))) None) (le-leb (v * 10 + (b - 48)) 1000 h)) ∙ more-digit v b p q
+-- what more of a number is, of a digit
+pub more-is : (v b : ℕ) {m : ℕ} → m ≡ v * 10 + (b - 48) → 48 ≤ b → b < 58 → then_some (leb m 1000) m ≡ more_of v b
+more-is v b {m} e p q = on (leb m 1000) ∙ ap (λ (x : ℕ). cond (leb x 1000) (Some x) None) e ∙ more-digit v b p q
+  where
+    on : (x : Bool) → then_some x m ≡ cond x (Some m) None
+    on true = refl
+    on false = refl
 
 -- what a digit makes of a number is at most 1,000
 pub more-small : (v b : ℕ) {m : ℕ} → Some m ≡ more_of v b → m ≤ 1000

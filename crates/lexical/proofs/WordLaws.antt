@@ -3,7 +3,7 @@ use mathlib.Core.Path.{◌≡◌, refl, ap, ap₂, ◌∙◌, sym}
 use mathlib.Core.Bool.{Bool, true, false, cond}
 use mathlib.Core.List.{List, [], ◌∷◌}
 use mathlib.Core.Option.{Option, none, some}
-use Prim.Native.Nat.{ℕ, zero, suc, ◌+◌, ◌-◌, ◌*◌, ◌≤◌, ◌<◌}
+use Prim.Native.Nat.{ℕ, zero, suc, ◌+◌, ◌-◌, ◌≤◌, ◌<◌}
 use Prim.Native.String.{String}
 use native.Mathlib.Omega.{arith}
 use native.Mathlib.Nat.{add-zero}
@@ -23,18 +23,7 @@ use Rattle.lexical.specs.SymbolPromises.{token_of, packed, keyed, word_code, end
 use Rattle.lexical.specs.declared.Token.{Token}
 use Rattle.lexical.specs.declared.Token.TheVariants.{Unlisted, Listed}
 use Rattle.lexical.proofs.ByteLaws.{others}
-
-pub packed-eight : (v : List ℕ) → packed 8 v ≡ get_or v 0 0 + 256 * (get_or v 1 0 + 256 * (get_or v 2 0 + 256 * (get_or v 3 0 + 256 * (get_or v 4 0 + 256 * (get_or v 5 0 + 256 * (get_or v 6 0 + 256 * get_or v 7 0))))))
-unfolding packed
-packed-eight [] = refl
-packed-eight (a ∷ []) = refl
-packed-eight (a ∷ b ∷ []) = refl
-packed-eight (a ∷ b ∷ c ∷ []) = refl
-packed-eight (a ∷ b ∷ c ∷ d ∷ []) = refl
-packed-eight (a ∷ b ∷ c ∷ d ∷ e ∷ []) = refl
-packed-eight (a ∷ b ∷ c ∷ d ∷ e ∷ f ∷ []) = refl
-packed-eight (a ∷ b ∷ c ∷ d ∷ e ∷ f ∷ g ∷ []) = refl
-packed-eight (a ∷ b ∷ c ∷ d ∷ e ∷ f ∷ g ∷ h ∷ w) = omega arith
+use Rattle.lexical.proofs.PackedLaws.{packed-enough}
 
 -- at most k bytes, none of them 0
 abbrev pub Fits : ℕ → List ℕ → Type 0
@@ -173,14 +162,17 @@ run_length (b ∷ w) = on (in_run (class_of b)) (run_length w)
     on true r = omega arith
     on false r = omega arith
 
+-- the run from a place on, as a part of the text
+pub run-here : (s : List ℕ) (at n : ℕ) → n ≡ length (run (drop at s)) → take ((at + n) - at) (drop at s) ≡ run (drop at s)
+run-here s at n l = let m : (at + n) - at ≡ length (run (drop at s)) = omega arith in ap (λ (i : ℕ). take i (drop at s)) m ∙ run_take (drop at s)
+
 -- the reserved word from a place on
-pub reserved-key : (s : List ℕ) (at n : ℕ) {k : ℕ} {c : prelude.Option ℕ} → n ≡ length (run (drop at s)) → n ≤ 8 → k ≡ packed 8 (take ((at + n) - at) (drop at s)) → c ≡ keyed words k
+pub reserved-key : (s : List ℕ) (at n : ℕ) {k : ℕ} {c : prelude.Option ℕ} → n ≡ length (run (drop at s)) → n ≤ 8 → k ≡ packed 16 (take ((at + n) - at) (drop at s)) → c ≡ keyed words k
     → c ≡ word_code (reserved words (run (drop at s)))
 reserved-key s at n {k} {c} l h p q =
     let r : List ℕ = run (drop at s) in
     let j : length r ≤ 8 = omega arith in
-    let m : (at + n) - at ≡ length r = omega arith in
-    q ∙ ap (keyed words) (p ∙ ap (λ (i : ℕ). packed 8 (take i (drop at s))) m ∙ ap (packed 8) (run_take (drop at s)))
+    q ∙ ap (keyed words) (p ∙ ap (packed 16) (run-here s at n l) ∙ packed-enough 16 r (omega arith) ∙ sym (packed-enough 8 r j))
     ∙ keyed-reserved words r words-fit (run_fits 8 (drop at s) j)
 
 pub reserved-none : (s : List ℕ) (at n : ℕ) → n ≡ length (run (drop at s)) → 8 < n → None ≡ word_code (reserved words (run (drop at s)))

@@ -22,10 +22,7 @@ pub fn class_of(b: u8) -> Class
 pub fn in_run(b: u8) -> bool
     ensures { result ≡ in_run (class_of b) }
 {
-    match class_of(b) {
-        Class::Letter | Class::Digit => true,
-        Class::Mark | Class::Blank | Class::Other => false,
-    }
+    matches!(class_of(b), Class::Letter | Class::Digit)
 }
 
 // How many letters and digits stand from `at` on.
@@ -40,7 +37,7 @@ pub fn run_from(s: &[u8], at: usize) -> usize
 }
 
 // What stands at a place of a list, or `none` past its end.
-// Form 1: the lists are of bytes, codes and values, and `none` is 0, which no mark, no ending, no kind and no name has: with an Option each test would compare with `Some(..)`.
+// Form 1: every call goes on with a value, of which `none` is one: with an Option each of them would carry `.unwrap_or(none)` behind it.
 pub fn at_or<T: Copy>(s: &[T], at: usize, none: T) -> T
     ensures { result ≡ get_or s.now at none }
 {

@@ -11,7 +11,7 @@ pub mod words;
 
 // The class of a byte.
 // Form 1: five classes, none of which says that there is no byte.
-#[derive(Clone, Copy, PartialEq, Eq)]
+#[derive(Clone, Copy)]
 pub enum Class {
     Letter,
     Digit,
@@ -29,7 +29,7 @@ pub enum Token {
     Listed(u8, usize, u16),
 }
 
-// What ends a name: nothing, ', ? or !.
+// What ends a name: nothing, ', ? or !. As numbers they are what a name's number leaves when divided by `endings::COUNT`.
 // Form 1: the four endings of document 01; a plain name is one of four kinds of names there.
 #[derive(Clone, Copy, PartialEq, Eq)]
 pub enum Ending {

@@ -1,5 +1,5 @@
 // Runs that start with a digit: numbers.
-ghost use Rattle.std.specs.Prelude.{◌≡◌, ◌-◌, ◌≤◌, ◌<◌, length, take, drop, get_or};
+ghost use Rattle.std.specs.Prelude.{◌≡◌, ◌≤◌, ◌<◌, length, drop, get_or};
 ghost use Rattle.lexical.specs.Symbols.{class_of, by_class, digit};
 ghost use Rattle.lexical.specs.SymbolPromises.{token_of, more_of, decimal_after};
 
@@ -12,24 +12,19 @@ pub fn more(v: u16, b: u8) -> Option<u16>
     requires { v ≤ 1000 }
     ensures { result ≡ more_of v b }
 {
-    if b < b'0' || b'9' < b {
+    if !b.is_ascii_digit() {
         return None;
     }
     let m = v * 10 + u16::from(b - b'0');
-    if LARGEST_NUMBER < m {
-        return None;
-    }
-    Some(m)
+    (m <= LARGEST_NUMBER).then_some(m)
 }
 
-// The number that the bytes from `at` to `e` write; none where they are not digits or it is over 1,000.
-// Form 5: the end of a run is inside the text, wherever the run begins; a struct of both would be made for each symbol.
-pub fn decimal(s: &[u8], at: usize, e: usize) -> Option<u16>
-    requires { (at ≤ e) × (e ≤ length s.now) }
-    ensures { result ≡ decimal_after 0 (take (e - at) (drop at s.now)) }
+// The number that these bytes write; none where they are not digits or it is over 1,000.
+pub fn decimal(digits: &[u8]) -> Option<u16>
+    ensures { result ≡ decimal_after 0 digits.now }
 {
-    let mut v: u16 = 0;
-    for b in &s[at..e] {
+    let mut v = 0;
+    for b in digits {
         v = more(v, *b)?;
     }
     Some(v)
@@ -44,7 +39,7 @@ pub fn number_at(s: &[u8], at: usize) -> Token
     if n != 1 && s[at] == b'0' {
         return Token::Unlisted;
     }
-    match decimal(s, at, at + n) {
+    match decimal(&s[at..at + n]) {
         Some(v) => Token::Listed(codes::NUMBER, n, v),
         None => Token::Unlisted,
     }

@@ -1,5 +1,5 @@
 // Runs that start with a letter: names and reserved words.
-ghost use Rattle.std.specs.Prelude.{◌≡◌, List, [], ◌∷◌, ℕ, ◌+◌, ◌-◌, ◌≤◌, ◌<◌, length, take, drop, get_or};
+ghost use Rattle.std.specs.Prelude.{◌≡◌, List, [], ◌∷◌, ℕ, ◌≤◌, length, drop};
 ghost use Rattle.std.proofs.Math.Option.{Option};
 ghost use Rattle.lexical.specs.Kinds.{Kind, words};
 ghost use Rattle.lexical.specs.Symbols.{ending_of, run, reserved, word_of, by_class, letter};
@@ -13,6 +13,8 @@ use crate::{Ending, Token, codes};
 const LONGEST_WORD: usize = 8;
 
 // The reserved word whose bytes are packed in `key`, the first one lowest.
+// Form 1: keys, and no words. With a table of words and codes that `iter().find(..)` searches by `==`, which is proved as well, the scan of a text took 1.4 to
+// 2.0 times as long. Of a `match` on byte strings the kit makes 245 goals, 109 of them for `_`: each knows some bytes, and has to refute 29 words by them.
 pub fn word_code(key: u64) -> Option<u8>
     ensures { result ≡ keyed words key }
 {
@@ -50,33 +52,19 @@ pub fn word_code(key: u64) -> Option<u8>
     }
 }
 
-// Byte k of the run from `at` to `e`.
-// Form 1: past its end it is 0, which a word of less than eight bytes is packed with.
-pub fn run_byte(s: &[u8], at: usize, e: usize, k: usize) -> u64
-    requires { (e ≤ length s.now) × (at ≤ 65536) × (k ≤ 8) }
-    ensures { (result ≡ get_or (take (e - at) (drop at s.now)) k 0) × (result < 256) }
+// The bytes of a run packed as one number, the first one lowest: there is room for sixteen. Most names have one letter, which is its own number.
+pub fn packed(run: &[u8]) -> u128
+    ensures { result ≡ packed 16 run.now }
 {
-    let i = at + k;
-    if i < e {
-        return s[i] as u64;
+    if let [b] = run {
+        return u128::from(*b);
     }
-    0
-}
-
-// The first eight bytes of the run from `at` to `e`, packed, the first one lowest.
-pub fn eight(s: &[u8], at: usize, e: usize) -> u64
-    requires { (e ≤ length s.now) × (at ≤ 65536) }
-    ensures { result ≡ packed 8 (take (e - at) (drop at s.now)) }
-{
-    let a = run_byte(s, at, e, 0);
-    let b = run_byte(s, at, e, 1);
-    let c = run_byte(s, at, e, 2);
-    let d = run_byte(s, at, e, 3);
-    let f = run_byte(s, at, e, 4);
-    let g = run_byte(s, at, e, 5);
-    let h = run_byte(s, at, e, 6);
-    let i = run_byte(s, at, e, 7);
-    a + 256 * (b + 256 * (c + 256 * (d + 256 * (f + 256 * (g + 256 * (h + 256 * i))))))
+    let n = run.len().min(NAME_LETTERS);
+    let mut key = 0;
+    for b in run[..n].iter().rev() {
+        key = 256 * key + u128::from(*b);
+    }
+    key
 }
 
 // What ends a name.
@@ -92,20 +80,18 @@ pub fn ending_of(b: u8) -> Ending
 }
 
 // The reserved word that the run of n bytes from `at` on is: none is longer than eight bytes.
-// Form 5: that a text has at most 32,768 bytes is a fact of the caller's slice; a struct around it would be made anew for each symbol.
 pub fn reserved_at(s: &[u8], at: usize, n: usize) -> Option<u8>
-    requires { (at ≤ length s.now) × (length s.now ≤ 32768) × (n ≡ length (run (drop at s.now))) }
+    requires { (at ≤ length s.now) × (n ≡ length (run (drop at s.now))) }
     ensures { result ≡ word_code (reserved words (run (drop at s.now))) }
 {
     if LONGEST_WORD < n {
         return None;
     }
-    word_code(eight(s, at, at + n))
+    word_code(packed(&s[at..at + n]) as u64)
 }
 
 // The name of n letters with that ending, or the reserved word, which takes no ending.
 pub fn word_of(n: usize, ending: Ending, word: Option<u8>) -> Token
-    requires { n ≤ 32768 }
     ensures { (r : List ℕ) (o : Option Kind) → n ≡ length r → word ≡ word_code o → result ≡ token_of (word_of r (ending_is ending) o) }
 {
     if let Some(code) = word {
@@ -127,7 +113,7 @@ pub fn word_of(n: usize, ending: Ending, word: Option<u8>) -> Token
 
 // The name or reserved word from `at` on.
 pub fn word_at(s: &[u8], at: usize) -> Token
-    requires { (at ≤ length s.now) × (length s.now ≤ 32768) }
+    requires { at ≤ length s.now }
     ensures { result ≡ token_of (by_class letter (drop at s.now)) }
 {
     let n = run_from(s, at);

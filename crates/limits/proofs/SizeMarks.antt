@@ -1,13 +1,13 @@
 -- Marks in a table of sizes: a loop over declarations from their end, and marks that are taken away again.
-use mathlib.Core.Path.{◌≡◌, refl, ap, ap₂, sym, ◌∙◌}
-use mathlib.Core.Bool.{Bool, true, false}
-use mathlib.Core.List.{List, [], ◌∷◌}
+use mathlib.Core.Path.{◌≡◌, refl, ap, ap₂, sym, subst, ◌∙◌}
+use mathlib.Core.Bool.{Bool, true, false, cond}
+use mathlib.Core.List.{List, [], ◌∷◌, ◌++◌, append_assoc, append-nil}
 use mathlib.Core.Logic.{◌⊎◌, inl, inr}
-use Prim.Native.Nat.{ℕ, zero, suc, ◌+◌, ◌-◌, ◌*◌, ◌/◌, ◌≤◌, ◌<◌, max}
+use Prim.Native.Nat.{ℕ, zero, suc, ◌+◌, ◌-◌, ◌*◌, ◌/◌, ◌%◌, ◌≤◌, ◌<◌, max}
 use native.Mathlib.Omega.{arith}
 use lib.Dec.{eqb}
-use lib.ListN.{length, drop, get_or, set, replicate, length-set}
-use lib.Seq.{get_or-drop, drop-drop, get_or-set_other, ext_get_or}
+use lib.ListN.{length, drop, get_or, set, replicate, length-set, length-append, get_or-append}
+use lib.Seq.{get_or-drop, drop_at, drop-drop, get_or-set_other, ext_get_or}
 use borrow.Author.Tests.{eqb-true, eqb-false, ne_eqb}
 use Rattle.term_sizes.specs.SizesByNumber.{Bounds, absolute}
 use Rattle.limits.specs.DossierSizesByNumber.{entry_size, type_size, marks_of, marks, marked, Clear}
@@ -75,6 +75,77 @@ less_none n = omega arith
 pub mark-end : (on : Bool) (code : List ℕ) (s n : ℕ) (S U : Bounds) → n ≤ 0 → MarkedFrom on code s n S U → U ≡ marks on code s S
 mark-end on code s zero S U h w = w ∙ ap (λ (k : ℕ). marks_of on k code s S) (less_none (length code / 8))
 mark-end on code s (suc n) S U h w = absurd (omega arith)
+
+-- ---- declarations from the last to the first ----
+
+-- what is left is the beginning of `code`
+pub record Begins (code rest : List ℕ) : Type 0 where
+  pub left : List ℕ
+  pub here : code ≡ rest ++ left
+
+pub begins-whole : (code rest : List ℕ) → rest ≡ code → Begins code rest
+begins-whole code rest e = record { left = []; here = sym e ∙ sym (append-nil rest) }
+
+-- a piece comes off the end, in front of what makes no whole piece
+module _ (code d rest behind after : List ℕ) (cut : rest ≡ (behind ++ d) ++ after) where
+  pub begins-on : Begins code rest → Begins code behind
+  begins-on b = record {
+    left = d ++ (after ++ b.left);
+    here = b.here ∙ (ap (λ (l : List ℕ). l ++ b.left) cut ∙ (append_assoc (behind ++ d) after b.left ∙ append_assoc behind d (after ++ b.left)));
+  }
+
+  back-length : length rest ≡ length behind + length d + length after
+  back-length = ap length cut ∙ (length-append (behind ++ d) after ∙ ap (λ (n : ℕ). n + length after) (length-append behind d))
+
+  back-fits : Begins code rest → length rest ≤ length code
+  back-fits b = let e = ap length b.here ∙ length-append rest b.left in omega arith
+
+  -- its numbers are those of `code` from its place on
+  back-piece : Begins code rest → (k : ℕ) → k < length d → get_or d k 0 ≡ get_or code (length behind + k) 0
+  unfolding begins-on
+  back-piece b k h =
+      sym (get_or-append d (after ++ b.left) 0 k h)
+      ∙ (ap (λ (l : List ℕ). get_or l k 0) (sym (drop_at behind (d ++ (after ++ b.left)) (length behind) refl) ∙ ap (drop (length behind)) (sym (begins-on b).here))
+      ∙ get_or-drop (length behind) code k 0)
+
+sized : (on : Bool) (x y z a b c : ℕ) → x ≡ a → y ≡ b → z ≡ c → cond on (type_size x y z) 0 ≡ cond on (type_size a b c) 0
+sized on x y z a b c p q r =
+    ap (λ (n : ℕ). cond on (type_size n y z) 0) p ∙ (ap (λ (n : ℕ). cond on (type_size a n z) 0) q ∙ ap (λ (n : ℕ). cond on (type_size a b n) 0) r)
+
+number-at : (code : List ℕ) (m n : ℕ) → m ≡ n → get_or code m 0 ≡ get_or code n 0
+number-at code m n e = ap (λ (k : ℕ). get_or code k 0) e
+
+pub mark-back : (on : Bool) (code : List ℕ) (s : ℕ) (d rest behind after : List ℕ) (S U W : Bounds) → rest ≡ (behind ++ d) ++ after → length d ≡ 8 → length after ≡ length rest % 8
+    → Begins code rest → MarkedFrom on code s (length rest / 8) S U → W ≡ set U (get_or d 1 0 + s) (entry_size on d 4) → MarkedFrom on code s (length behind / 8) S W
+mark-back on code s d rest behind after S U W cut long over b w e =
+    subst (λ (k : ℕ). MarkedFrom on code s k S W) (sym one)
+    (mark-step on code s n S U W some few w (e ∙ ap₂ (λ (x y : ℕ). set U (x + s) y) (piece 1 (omega arith) ∙ number-at code (length behind + 1) ((n - 1) * 8 + 1) (omega (arith, at))) size))
+  where
+    n : ℕ
+    n = length rest / 8
+
+    sum : length rest ≡ length behind + 8 + length after
+    sum = let l = back-length code d rest behind after cut in omega (arith, long)
+
+    at : length behind ≡ (n - 1) * 8
+    at = omega (arith, sum, over)
+
+    one : length behind / 8 ≡ n - 1
+    one = omega (arith, at)
+
+    some : 0 < n
+    some = omega (arith, sum)
+
+    few : n ≤ length code / 8
+    few = omega (arith, back-fits code d rest behind after cut b)
+
+    piece : (k : ℕ) → k < 8 → get_or d k 0 ≡ get_or code (length behind + k) 0
+    piece k h = back-piece code d rest behind after cut b k (omega (arith, long))
+
+    size : entry_size on d 4 ≡ entry_size on code ((n - 1) * 8 + 4)
+    size = sized on _ _ _ _ _ _ (piece 7 (omega arith) ∙ number-at code (length behind + 7) ((n - 1) * 8 + 4 + 3) (omega (arith, at)))
+        (piece 5 (omega arith) ∙ number-at code (length behind + 5) ((n - 1) * 8 + 4 + 1) (omega (arith, at)))
+        (piece 4 (omega arith) ∙ number-at code (length behind + 4) ((n - 1) * 8 + 4) (omega (arith, at)))
 
 -- three groups, one behind the other
 pub three-marked : (on : Bool) (a b : List ℕ) (s : ℕ) (c : List ℕ) (S T U V : Bounds) → T ≡ marks on c 0 S → U ≡ marks on b s T → V ≡ marks on a 0 U → V ≡ marked on a b s c S

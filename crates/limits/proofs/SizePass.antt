@@ -30,6 +30,13 @@ pub context-none : (nodes a b : List ℕ) (s : ℕ) (c : List ℕ) (end : ℕ) (
 context-none nodes a b s c end S U h u =
     record { kept = λ k. u; right = λ p i ρ base k e. elim (not-below end (length nodes) k h) [ ] }
 
+-- the groups by what they are
+pub reach-as : {nodes a a' b b' c c' : List ℕ} {s s' end : ℕ} {S U : Bounds} {f : ℕ} → a' ≡ a → b' ≡ b → s' ≡ s → c' ≡ c → ContextSeen nodes a' b' s' c' end S U f → ContextSeen nodes a b s c end S U f
+reach-as {nodes = nodes} {a = a} {b = b} {b' = b'} {c = c} {c' = c'} {s = s} {s' = s'} {end = end} {S = S} {U = U} {f = f} p q r t k =
+    subst (λ (x : List ℕ). ContextSeen nodes a b s x end S U f) t
+    (subst (λ (x : ℕ). ContextSeen nodes a b x c' end S U f) r
+    (subst (λ (x : List ℕ). ContextSeen nodes a x s' c' end S U f) q (subst (λ (x : List ℕ). ContextSeen nodes x b' s' c' end S U f) p k)))
+
 -- the table with marks is M, and N behind the walk
 pub context-seen : (nodes a b : List ℕ) (s : ℕ) (c : List ℕ) (end : ℕ) (S M N U : Bounds) (w : Sized) → M ≡ marked true a b s c S → PredSized nodes end M N w
     → U ≡ marked false a b s c N → ContextSeen nodes a b s c end S U (fault_key w.fault)

@@ -1,4 +1,5 @@
--- How far the sizes of a tree go: as many symbols as it has.
+-- How far the sizes of a tree go: as many symbols as it has. The laws of judgements (names' TypesAgreeWidths) go the same way over another definition; one law for both
+-- would take from each side an equation for each of the 24 clauses, which the two inductions find by computing.
 use mathlib.Core.Path.{◌≡◌}
 use mathlib.Core.List.{◌∷◌}
 use Prim.Native.Nat.{ℕ, suc, ◌+◌}

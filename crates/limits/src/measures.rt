@@ -1,8 +1,7 @@
 // The pass for number 13 over a whole dossier: every predicate with the sizes of the variables in its reach in a table.
-ghost use Rattle.std.specs.Prelude.{◌≡◌, true, false, ℕ, ◌+◌, ◌*◌, ◌≤◌, length, get_or};
+ghost use Rattle.std.specs.Prelude.{◌≡◌, [], ℕ, ◌+◌, ◌≤◌, length};
 ghost use Rattle.type_rules.specs.TypesByNumber.{fault_key};
-ghost use Rattle.node_spans.specs.Spans.{span};
-ghost use Rattle.limits.specs.DossierSizesByNumber.{entry_size, marks, ContextSeen, PartSeen, states_over, conditions_over, operations_over, OperationSeen, MeasuresSeen};
+ghost use Rattle.limits.specs.DossierSizesByNumber.{entry_size, marks, marked, ContextSeen, PartSeen, states_over, conditions_over, operations_over, OperationSeen, MeasuresSeen};
 
 use form::name_endings::{PLAIN, PRIMED};
 use form::{node, shapes};
@@ -11,7 +10,7 @@ use names::passes::{States, part};
 use node_spans::{Parts, span};
 use refusals::Fault;
 use term_sizes::sizes::{absolute_of, pred};
-use type_rules::kinds::{lesser_of, look, put};
+use type_rules::kinds::{lesser_of, put};
 
 // The names in reach of a predicate, by the nodes of their declarations: three groups, of which the second has `shift` added to the names' numbers.
 #[derive(Clone, Copy)]
@@ -22,51 +21,52 @@ struct Reach<'a> {
     third: &'a [u16],
 }
 
-// The number k of the spans.
-fn place(spans: &[u16], k: usize) -> usize
-    ensures { result ≡ span spans.now k }
-{
-    usize::from(look(spans, k))
+impl Reach<'_> {
+    // One group alone.
+    fn of(first: &[u16]) -> Reach<'_>
+        ensures { (result.first.now ≡ first.now) × (result.second.now ≡ []) × (result.shift ≡ 0) × (result.third.now ≡ []) }
+    {
+        let none: &[u16] = &[];
+        Reach {
+            first,
+            second: none,
+            shift: PLAIN,
+            third: none,
+        }
+    }
 }
 
-// The size of a variable by its type's node, which begins at `at`: only a range has one.
-fn size_at(code: &[u16], at: usize) -> u16
+// What the table then has of a variable by its type's node, which begins at `at`: a range has a size, and only where names come into reach.
+fn size_at<const ON: bool>(code: &[u16], at: usize) -> u16
     requires { at + 4 ≤ length code.now }
-    ensures { result ≡ entry_size true code.now at }
+    ensures { result ≡ entry_size ON code.now at }
 {
+    if !ON {
+        return 0;
+    }
     if code[at + node::SHAPE] != shapes::RANGE {
         return 0;
     }
     absolute_of(code[at + node::A]).max(absolute_of(code[at])) as u16
 }
 
-// Where the table has the name of the declaration k, with `shift` added to its number.
-fn entry(code: &[u16], k: usize, shift: u16) -> usize
-    requires { k * 8 + 8 ≤ length code.now }
-    ensures { result ≡ get_or code.now (k * 8 + 1) 0 + shift }
+// The sizes of declared names come into the table, or leave it, from the last to the first: of two with one name the first decides.
+fn mark<const ON: bool>(code: &[u16], shift: u16, bounds: &mut [u16])
+    ensures { bounds.new ≡ marks ON code.now shift bounds.old }
 {
-    usize::from(code[k * node::DECLARATION + node::A]) + usize::from(shift)
-}
-
-// The sizes of declared names, from the last to the first: of two with one name the first decides.
-fn mark(code: &[u16], shift: u16, bounds: &mut [u16])
-    ensures { bounds.new ≡ marks true code.now shift bounds.old }
-{
-    for k in (0..code.len() / node::DECLARATION).rev() {
-        let n = size_at(code, k * node::DECLARATION + node::SIZE);
-        put(bounds, entry(code, k, shift), n);
+    for d in code.chunks_exact(node::DECLARATION).rev() {
+        let n = size_at::<ON>(d, node::SIZE);
+        put(bounds, usize::from(d[node::A]) + usize::from(shift), n);
     }
 }
 
-// They are taken away.
-// Form 2: `mark` with the size 0. In one function of both the size would be what a closure answers, and each caller would read `marks` back from a promise over that
-// closure's answers; `declared_names::hide` with the entry 0 promises it of declarations' nodes alone, and `context` leaves the table clear behind any nodes.
-fn clear(code: &[u16], shift: u16, bounds: &mut [u16])
-    ensures { bounds.new ≡ marks false code.now shift bounds.old }
+// The names of a predicate come into reach, or are out of it again.
+fn mark_all<const ON: bool>(r: &Reach<'_>, bounds: &mut [u16])
+    ensures { bounds.new ≡ marked ON r.now.first.now r.now.second.now r.now.shift r.now.third.now bounds.old }
 {
-    for k in (0..code.len() / node::DECLARATION).rev() {
-        put(bounds, entry(code, k, shift), 0);
-    }
+    mark::<ON>(r.third, PLAIN, bounds);
+    mark::<ON>(r.second, r.shift, bounds);
+    mark::<ON>(r.first, PLAIN, bounds);
 }
 
 // The predicate whose nodes end at `end`.
@@ -76,13 +76,9 @@ fn context(nodes: &[u16], r: &Reach<'_>, end: usize, bounds: &mut [u16]) -> Opti
     if nodes.len() < end {
         return None;
     }
-    mark(r.third, PLAIN, bounds);
-    mark(r.second, r.shift, bounds);
-    mark(r.first, PLAIN, bounds);
-    let p = pred(nodes, end, bounds);
-    clear(r.third, PLAIN, bounds);
-    clear(r.second, r.shift, bounds);
-    clear(r.first, PLAIN, bounds);
+    mark_all::<true>(r, bounds);
+    let p = pred(&nodes[..end], bounds);
+    mark_all::<false>(r, bounds);
     p.fault
 }
 
@@ -90,19 +86,10 @@ fn context(nodes: &[u16], r: &Reach<'_>, end: usize, bounds: &mut [u16]) -> Opti
 fn states(p: &Parts<'_>, s: &States<'_>, bounds: &mut [u16]) -> Option<Fault>
     ensures { (m : ℕ) → PartSeen p.now.nodes.now p.now.spans.now m s.now.abstracts.now s.now.concretes.now states_over bounds.old bounds.new (fault_key result) }
 {
-    let none = part(p.nodes, 0, 0);
-    let a = Reach {
-        first: s.abstracts,
-        second: none,
-        shift: PLAIN,
-        third: none,
-    };
-    let c = Reach {
-        first: s.concretes,
-        ..a
-    };
-    let f = context(p.nodes, &a, place(p.spans, span::ABSTRACT_END), bounds);
-    let g = context(p.nodes, &c, place(p.spans, span::CONCRETE_END), bounds);
+    let a = Reach::of(s.abstracts);
+    let c = Reach::of(s.concretes);
+    let f = context(p.nodes, &a, p.span(span::ABSTRACT_END), bounds);
+    let g = context(p.nodes, &c, p.span(span::CONCRETE_END), bounds);
     lesser_of(f, g)
 }
 
@@ -110,24 +97,15 @@ fn states(p: &Parts<'_>, s: &States<'_>, bounds: &mut [u16]) -> Option<Fault>
 fn conditions(p: &Parts<'_>, s: &States<'_>, bounds: &mut [u16]) -> Option<Fault>
     ensures { (m : ℕ) → PartSeen p.now.nodes.now p.now.spans.now m s.now.abstracts.now s.now.concretes.now conditions_over bounds.old bounds.new (fault_key result) }
 {
-    let none = part(p.nodes, 0, 0);
-    let a = Reach {
-        first: s.abstracts,
-        second: none,
-        shift: PLAIN,
-        third: none,
-    };
-    let c = Reach {
-        first: s.concretes,
-        ..a
-    };
+    let a = Reach::of(s.abstracts);
+    let c = Reach::of(s.concretes);
     let both = Reach {
         second: s.concretes,
         ..a
     };
-    let f = context(p.nodes, &a, place(p.spans, span::AINIT_END), bounds);
-    let g = context(p.nodes, &c, place(p.spans, span::CINIT_END), bounds);
-    let h = context(p.nodes, &both, place(p.spans, span::RETRIEVE_END), bounds);
+    let f = context(p.nodes, &a, p.span(span::AINIT_END), bounds);
+    let g = context(p.nodes, &c, p.span(span::CINIT_END), bounds);
+    let h = context(p.nodes, &both, p.span(span::RETRIEVE_END), bounds);
     lesser_of(f, lesser_of(g, h))
 }
 
@@ -136,67 +114,58 @@ fn operation(p: &Parts<'_>, s: &States<'_>, k: usize, bounds: &mut [u16]) -> Opt
     requires { k ≤ 18 }
     ensures { OperationSeen p.now.nodes.now p.now.spans.now k s.now.abstracts.now s.now.concretes.now bounds.old bounds.new (fault_key result) }
 {
-    let at = span::OPERATIONS + span::OPERATION * k;
+    let o = p.operation(k);
     let a = Reach {
         first: s.abstracts,
         second: s.abstracts,
         shift: PRIMED,
-        third: part(p.nodes, place(p.spans, at), place(p.spans, at + span::LAST)),
+        third: part(p.nodes, o.first, o.last),
     };
     let c = Reach {
         first: s.concretes,
         second: s.concretes,
         ..a
     };
-    let f = context(p.nodes, &a, place(p.spans, at + span::MIDDLE), bounds);
-    let g = context(p.nodes, &c, place(p.spans, at + span::END), bounds);
+    let f = context(p.nodes, &a, o.middle, bounds);
+    let g = context(p.nodes, &c, o.end, bounds);
     lesser_of(f, g)
 }
 
-// The first n operations.
-// Form 5: `Parts` has a slice, and its length is asked for, for the reason that stands at `binding_counts::bindings::all_operations`.
-fn operations(p: &Parts<'_>, s: &States<'_>, n: usize, bounds: &mut [u16]) -> Option<Fault>
-    requires { (n ≤ 18) × (length p.now.spans.now ≡ 80) }
-    ensures { PartSeen p.now.nodes.now p.now.spans.now n s.now.abstracts.now s.now.concretes.now operations_over bounds.old bounds.new (fault_key result) }
+// The operations.
+fn operations(p: &Parts<'_>, s: &States<'_>, bounds: &mut [u16]) -> Option<Fault>
+    requires { p.now.operations ≤ 18 }
+    ensures { PartSeen p.now.nodes.now p.now.spans.now p.now.operations s.now.abstracts.now s.now.concretes.now operations_over bounds.old bounds.new (fault_key result) }
 {
     let mut f = None;
-    for k in 0..n {
+    for k in 0..p.operations {
         let g = operation(p, s, k, bounds);
         f = lesser_of(f, g);
     }
     f
 }
 
-// The least fault of number 13, with a table for the sizes of names.
-fn measure(p: &Parts<'_>, n: usize) -> Option<Fault>
-    requires { length p.now.spans.now ≡ 80 }
-    ensures { MeasuresSeen p.now.nodes.now p.now.spans.now n 16384 (fault_key result) }
+// The least fault of number 13, with its place by symbols. The spans say where the parts of the dossier stand among the nodes.
+pub fn measures(p: &Parts<'_>) -> Option<Fault>
+    ensures { MeasuresSeen p.now.nodes.now p.now.spans.now p.now.operations 16384 (fault_key result) }
 {
-    if span::ROOM < n {
+    if span::ROOM < p.operations {
         return None;
     }
     let mut bounds = [0u16; NAMES];
     let s = States {
         abstracts: part(
             p.nodes,
-            place(p.spans, span::ABSTRACT_FIRST),
-            place(p.spans, span::ABSTRACT_LAST),
+            p.span(span::ABSTRACT_FIRST),
+            p.span(span::ABSTRACT_LAST),
         ),
         concretes: part(
             p.nodes,
-            place(p.spans, span::CONCRETE_FIRST),
-            place(p.spans, span::CONCRETE_LAST),
+            p.span(span::CONCRETE_FIRST),
+            p.span(span::CONCRETE_LAST),
         ),
     };
     let f = states(p, &s, &mut bounds);
     let g = conditions(p, &s, &mut bounds);
-    let h = operations(p, &s, n, &mut bounds);
+    let h = operations(p, &s, &mut bounds);
     lesser_of(f, lesser_of(g, h))
-}
-
-// The least fault of number 13, with its place by symbols. The spans say where the parts of the dossier stand among the nodes.
-pub fn measures(nodes: &[u16], spans: &[u16; span::COUNT], operations: usize) -> Option<Fault>
-    ensures { MeasuresSeen nodes.now spans.now operations 16384 (fault_key result) }
-{
-    measure(&Parts { nodes, spans }, operations)
 }

@@ -19,23 +19,23 @@ use Rattle.sets.specs.Sets.{has, members}
 use Rattle.meaning.specs.Values.{natural}
 use Rattle.obligations.specs.Report.{ending_bytes, signed_decimal, braced}
 use Rattle.labels.specs.Labels.{label_of}
-use Rattle.pieces.specs.PiecePromises.{Writes, Adds, letters_at}
+use Rattle.pieces.specs.PiecePromises.{Adds, letters_at}
 use Rattle.pieces.specs.declared.Writer.{Writer}
-use Rattle.pieces.proofs.WrittenPieces.{nothing_written, both-written, letters-length}
+use Rattle.pieces.proofs.WrittenPieces.{nothing_added, both-added, letters-length}
 use Rattle.pieces.proofs.Signs.{signed-length}
 use Rattle.lines.specs.LinesByNumber.{element_piece, pair_piece, member_piece, value_piece, ending_byte, byte_piece, ending_piece, line_piece, group_piece}
 use Rattle.lines.specs.MembersByNumber.{members_piece}
 use Rattle.lines.proofs.MemberLaws.{braced-are, members-here, members-there, members-none, braced-length, members-low}
 
 -- a piece chosen by a test
-pub when_true : (p q : List ℕ) {t : Bool} {at r : ℕ} {a b : List ℕ} → t ≡ true → Writes at p a b r → Writes at (cond t p q) a b r
-when_true p q {t} {at} {r} {a} {b} e v = subst (λ (x : Bool). Writes at (cond x p q) a b r) (sym e) v
+pub when_true : (p q : List ℕ) {t : Bool} {v w : Writer} → t ≡ true → Adds p v w → Adds (cond t p q) v w
+when_true p q {t} {v} {w} e a = subst (λ (x : Bool). Adds (cond x p q) v w) (sym e) a
 
-pub when_false : (p q : List ℕ) {t : Bool} {at r : ℕ} {a b : List ℕ} → t ≡ false → Writes at q a b r → Writes at (cond t p q) a b r
-when_false p q {t} {at} {r} {a} {b} e v = subst (λ (x : Bool). Writes at (cond x p q) a b r) (sym e) v
+pub when_false : (p q : List ℕ) {t : Bool} {v w : Writer} → t ≡ false → Adds q v w → Adds (cond t p q) v w
+when_false p q {t} {v} {w} e a = subst (λ (x : Bool). Adds (cond x p q) v w) (sym e) a
 
-piece_is : {at r : ℕ} {p q a b : List ℕ} → p ≡ q → Writes at p a b r → Writes at q a b r
-piece_is {at} {r} {p} {q} {a} {b} e v = subst (λ (w : List ℕ). Writes at w a b r) e v
+piece_is : {p q : List ℕ} {v w : Writer} → p ≡ q → Adds p v w → Adds q v w
+piece_is {v = v} {w} e a = subst (λ (s : List ℕ). Adds s v w) e a
 
 cond-length : (t : Bool) (p q : List ℕ) (n : ℕ) → length p ≤ n → length q ≤ n → length (cond t p q) ≤ n
 cond-length true p q n h k = h
@@ -56,10 +56,10 @@ ending-piece shriek = refl
 pub ended-length : (e : Ending) → length (ending_bytes e) ≤ 1
 ended-length e = subst (λ (w : List ℕ). length w ≤ 1) (ending-piece e) (ending-length (ending_byte e))
 
-pub unended : (e : Ending) {r : Option ℕ} {at : ℕ} {a : List ℕ} → byte_piece r ≡ ending_bytes e → r ≡ None → Writes at (ending_bytes e) a a at
-unended e {r} {at} {a} p q = piece_is (sym (ap byte_piece q) ∙ p) (nothing_written at a)
+pub unended : (e : Ending) {r : Option ℕ} {v : Writer} → byte_piece r ≡ ending_bytes e → r ≡ None → Adds (ending_bytes e) v v
+unended e {v = v} p q = piece_is (sym (ap byte_piece q) ∙ p) (nothing_added v)
 
-pub ended : (e : Ending) {r : Option ℕ} {x at m : ℕ} {a b : List ℕ} → byte_piece r ≡ ending_bytes e → r ≡ Some x → Writes at (x ∷ []) a b m → Writes at (ending_bytes e) a b m
+pub ended : (e : Ending) {r : Option ℕ} {x : ℕ} {v w : Writer} → byte_piece r ≡ ending_bytes e → r ≡ Some x → Adds (x ∷ []) v w → Adds (ending_bytes e) v w
 ended e p q v = piece_is (sym (ap byte_piece q) ∙ p) v
 
 -- ---- the members of a set
@@ -71,37 +71,33 @@ sides-low k m h = (omega (arith, div-le_self k m), omega (arith, mod-le k m))
 module _ (f : ℕ → List ℕ) (s : ℕ) (old : Writer) where
   -- with the members from bit k on behind what was written all of them are, and there is room for them; p stands before the first one that is left
   pub record MembersLeft (p : List ℕ) (k : ℕ) (now : Writer) : Type 0 where
-    pub same_bytes : now.out.ghost_name ≡ old.out.ghost_name
     pub rest : (u : Writer) → Adds (members_piece f s p k (16 - k)) now u → Adds (members_piece f s [] 0 16) old u
     pub room : now.at + length p + 39 * (16 - k) ≤ length now.out.now + 2
 
   pub members-start : old.at + 622 ≤ length old.out.now → MembersLeft [] 0 old
-  members-start h = record { same_bytes = refl; rest = λ u v. v; room = omega arith }
+  members-start h = record { rest = λ u v. v; room = omega arith }
 
   pub bit-skipped : (p : List ℕ) (k : ℕ) (now : Writer) → k < 16 → false ≡ has s k → MembersLeft p k now → MembersLeft p (k + 1) now
   bit-skipped p k now h e m = record {
-    same_bytes = m.same_bytes;
     rest = λ u v. m.rest u (piece_is (sym (members-there f s k p h (sym e))) v);
     room = omega (arith, m.room);
   }
 
-  pub member-added : (p : List ℕ) (k : ℕ) (now mid new : Writer) → k < 16 → true ≡ has s k → length (f k) ≤ 37 → mid.out.ghost_name ≡ now.out.ghost_name → Adds p now mid
-      → new.out.ghost_name ≡ mid.out.ghost_name → Adds (f k) mid new → MembersLeft p k now → MembersLeft (44 ∷ 32 ∷ []) (k + 1) new
+  pub member-added : (p : List ℕ) (k : ℕ) (now mid new : Writer) → k < 16 → true ≡ has s k → length (f k) ≤ 37 → Adds p now mid → Adds (f k) mid new
+      → MembersLeft p k now → MembersLeft (44 ∷ 32 ∷ []) (k + 1) new
   unfolding bytes
-  member-added p k now mid new h e short i v j w m = record {
-    same_bytes = j ∙ i ∙ m.same_bytes;
-    rest = λ u x. m.rest u (piece_is (sym (members-here f s k p h (sym e))) (both-written v (both-written w x)));
-    room = omega (arith, m.room, short, v.end, v.long, w.end, w.long);
+  member-added p k now mid new h e short v w m = record {
+    rest = λ u x. m.rest u (piece_is (sym (members-here f s k p h (sym e))) (both-added v (both-added w x)));
+    room = omega (arith, m.room, short, v.written.end, v.written.long, w.written.end, w.written.long);
   }
 
   pub members-added : (p : List ℕ) (k : ℕ) (now : Writer) → 16 ≤ k → MembersLeft p k now → Adds (members_piece f s [] 0 16) old now
-  members-added p k now h m = m.rest now (piece_is (sym (members-none f s k p h)) (nothing_written now.at now.out.now))
+  members-added p k now h m = m.rest now (piece_is (sym (members-none f s k p h)) (nothing_added now))
 
 module _ (f : ℕ → List ℕ) (s : ℕ) where
-  pub set-written : {at m n r : ℕ} {a b c d : List ℕ} → Writes at (123 ∷ []) a b m → Writes m (members_piece f s [] 0 16) b c n → Writes n (125 ∷ []) c d r
-      → Writes at (braced (map f (members s))) a d r
+  pub set-written : {a b c d : Writer} → Adds (123 ∷ []) a b → Adds (members_piece f s [] 0 16) b c → Adds (125 ∷ []) c d → Adds (braced (map f (members s))) a d
   unfolding bytes
-  set-written u v w = piece_is (braced-are f s) (both-written u (both-written v w))
+  set-written u v w = piece_is (braced-are f s) (both-added u (both-added v w))
 
 module _ (text labels : List ℕ) where
   -- ---- how long the pieces are
@@ -149,25 +145,23 @@ module _ (text labels : List ℕ) where
 
   -- ---- what is written
 
-  pub element-written : (g k : ℕ) {from n i at r : ℕ} {a b : List ℕ} → from ≡ get_or labels (n * i + k) 0 → n ≡ 8 → i ≡ g → Writes at (letters_at text from) a b r
-      → Writes at (element_piece text labels g k) a b r
+  pub element-written : (g k : ℕ) {from n i : ℕ} {v w : Writer} → from ≡ get_or labels (n * i + k) 0 → n ≡ 8 → i ≡ g → Adds (letters_at text from) v w
+      → Adds (element_piece text labels g k) v w
   unfolding element_piece
   element-written g k e en ei v = piece_is (ap (letters_at text) (e ∙ ap₂ (λ (n i : ℕ). get_or labels (n * i + k) 0) en ei)) v
 
-  pub pair-written : (n m k : ℕ) {l at i j r : ℕ} {a b c d : List ℕ} → l ≡ m → Writes at (element_piece text labels (n / 8) (k / l)) a b i
-      → Writes i (32 ∷ 124 ∷ 45 ∷ 62 ∷ 32 ∷ []) b c j → Writes j (element_piece text labels (n % 8) (k % l)) c d r
-      → Writes at (pair_piece text labels n m k) a d r
+  pub pair-written : (n m k : ℕ) {l : ℕ} {a b c d : Writer} → l ≡ m → Adds (element_piece text labels (n / 8) (k / l)) a b
+      → Adds (32 ∷ 124 ∷ 45 ∷ 62 ∷ 32 ∷ []) b c → Adds (element_piece text labels (n % 8) (k % l)) c d → Adds (pair_piece text labels n m k) a d
   unfolding pair_piece bytes
   pair-written n m k e u v w =
-      both-written (piece_is (ap (λ (i : ℕ). element_piece text labels (n / 8) (k / i)) e) u)
-      (both-written v (piece_is (ap (λ (i : ℕ). element_piece text labels (n % 8) (k % i)) e) w))
+      both-added (piece_is (ap (λ (i : ℕ). element_piece text labels (n / 8) (k / i)) e) u)
+      (both-added v (piece_is (ap (λ (i : ℕ). element_piece text labels (n % 8) (k % i)) e) w))
 
-  pub single-written : (n m k : ℕ) {at r : ℕ} {a b : List ℕ} → m ≡ 0 → Writes at (element_piece text labels n k) a b r → Writes at (member_piece text labels n m k) a b r
+  pub single-written : (n m k : ℕ) {v w : Writer} → m ≡ 0 → Adds (element_piece text labels n k) v w → Adds (member_piece text labels n m k) v w
   unfolding member_piece
   single-written n m k e v = when_true _ _ (eq-eqb m 0 e) v
 
-  pub double-written : (n m k : ℕ) {at r : ℕ} {a b : List ℕ} → (m ≡ 0 → ⊥) → Writes at (pair_piece text labels n m k) a b r
-      → Writes at (member_piece text labels n m k) a b r
+  pub double-written : (n m k : ℕ) {v w : Writer} → (m ≡ 0 → ⊥) → Adds (pair_piece text labels n m k) v w → Adds (member_piece text labels n m k) v w
   unfolding member_piece
   double-written n m k e v = when_false _ _ (ne_eqb m 0 e) v
 
@@ -182,49 +176,47 @@ module _ (text labels : List ℕ) where
       on true = refl
       on false = refl
 
-  module _ (s n m : ℕ) (x : ℤ) {at r : ℕ} {a b : List ℕ} where
-    pub value-element : s ≡ 1 → {k : ℕ} → k ≡ natural x → Writes at (element_piece text labels n k) a b r → Writes at (value_piece text labels s n m x) a b r
+  module _ (s n m : ℕ) (x : ℤ) {u w : Writer} where
+    pub value-element : s ≡ 1 → {k : ℕ} → k ≡ natural x → Adds (element_piece text labels n k) u w → Adds (value_piece text labels s n m x) u w
     unfolding value_piece
     value-element h e v = when_true _ _ (eq-eqb s 1 h) (piece_is (ap (element_piece text labels n) e) v)
 
-    pub value-number : s ≡ 2 → {y : ℤ} → y ≡ x → Writes at (signed_decimal y) a b r → Writes at (value_piece text labels s n m x) a b r
+    pub value-number : s ≡ 2 → {y : ℤ} → y ≡ x → Adds (signed_decimal y) u w → Adds (value_piece text labels s n m x) u w
     unfolding value_piece
     value-number h e v = when_false _ _ (ne_eqb s 1 (λ f. (let z : ⊥ = omega arith in z))) (when_true _ _ (eq-eqb s 2 h) (piece_is (ap signed_decimal e) v))
 
-    pub value-set : (s ≡ 1 → ⊥) → (s ≡ 2 → ⊥) → {i l w : ℕ} → i ≡ n → l ≡ cond (eqb s 3) 0 m → w ≡ natural x % 65536
-        → Writes at (braced (map (member_piece text labels i l) (members w))) a b r → Writes at (value_piece text labels s n m x) a b r
-    value-set h₁ h₂ {i} {l} {w} ei el ew v =
-        let is : braced (map (member_piece text labels i l) (members w)) ≡ braced (map (member_piece text labels n (cond (eqb s 3) 0 m)) (members (natural x % 65536))) =
-        λ h. braced (map (member_piece text labels (ei h) (el h)) (members (ew h))) in
+    pub value-set : (s ≡ 1 → ⊥) → (s ≡ 2 → ⊥) → {i l y : ℕ} → i ≡ n → l ≡ cond (eqb s 3) 0 m → y ≡ natural x % 65536
+        → Adds (braced (map (member_piece text labels i l) (members y))) u w → Adds (value_piece text labels s n m x) u w
+    value-set h₁ h₂ {i} {l} {y} ei el ey v =
+        let is : braced (map (member_piece text labels i l) (members y)) ≡ braced (map (member_piece text labels n (cond (eqb s 3) 0 m)) (members (natural x % 65536))) =
+        λ h. braced (map (member_piece text labels (ei h) (el h)) (members (ey h))) in
         piece_is
-        (is ∙ ap (λ (y : List ℕ). braced (map (member_piece text labels n (cond (eqb s 3) 0 m)) y)) (members-low (natural x)) ∙ sym (sets-value s n m x h₁ h₂))
+        (is ∙ ap (λ (z : List ℕ). braced (map (member_piece text labels n (cond (eqb s 3) 0 m)) z)) (members-low (natural x)) ∙ sym (sets-value s n m x h₁ h₂))
         v
 
-  pub line-written : (i : ℕ) (e : Ending) (x : ℤ) {from s n m : ℕ} {y : ℤ} {at j k l o r : ℕ} {a b c d f g : List ℕ}
+  pub line-written : (i : ℕ) (e : Ending) (x : ℤ) {from s n m : ℕ} {y : ℤ} {a b c d f g : Writer}
       → from ≡ get_or labels (80 + 4 * i) 0 → s ≡ label_of labels i 1 → n ≡ label_of labels i 2 → m ≡ label_of labels i 3 → y ≡ x
-      → Writes at (letters_at text from) a b j → Writes j (ending_bytes e) b c k → Writes k (32 ∷ 61 ∷ 32 ∷ []) c d l
-      → Writes l (value_piece text labels s n m y) d f o → Writes o (10 ∷ []) f g r → Writes at (line_piece text labels i (ending_byte e) x) a g r
+      → Adds (letters_at text from) a b → Adds (ending_bytes e) b c → Adds (32 ∷ 61 ∷ 32 ∷ []) c d → Adds (value_piece text labels s n m y) d f → Adds (10 ∷ []) f g
+      → Adds (line_piece text labels i (ending_byte e) x) a g
   unfolding line_piece bytes
   line-written i e x {from} {s} {n} {m} {y} hf hs hn hm hy u v w z t =
       let name : letters_at text from ≡ letters_at text (label_of labels i 0) =
       ap (letters_at text) (hf ∙ ap (λ (k : ℕ). get_or labels k 0) (sym (add-zero (80 + 4 * i)))) in
       let value : value_piece text labels s n m y ≡ value_piece text labels (label_of labels i 1) (label_of labels i 2) (label_of labels i 3) x =
       λ h. value_piece text labels (hs h) (hn h) (hm h) (hy h) in
-      both-written (piece_is name u) (both-written (piece_is (sym (ending-piece e)) v) (both-written w (both-written (piece_is value z) t)))
+      both-added (piece_is name u) (both-added (piece_is (sym (ending-piece e)) v) (both-added w (both-added (piece_is value z) t)))
 
   -- ---- the lines of a group
 
   module _ (i n s e : ℕ) (σ : List ℤ) (old : Writer) where
     -- with the lines from the k-th on behind what was written all of them are, and none so far is longer than a line
     pub record LinesLeft (k : ℕ) (now : Writer) : Type 0 where
-      pub same_bytes : now.out.ghost_name ≡ old.out.ghost_name
       pub rest : (u : Writer) → Adds (group_piece text labels (i + k) (n - k) (s + k) e σ) now u → Adds (group_piece text labels i n s e σ) old u
       pub long : length now.out.now ≡ length old.out.now
       pub short : now.at ≤ old.at + 645 * k
 
     pub lines-start : LinesLeft 0 old
     lines-start = record {
-      same_bytes = refl;
       rest = λ u v.
           let first : i + 0 ≡ i = add-zero i in
           let all : n - 0 ≡ n = omega arith in
@@ -234,11 +226,10 @@ module _ (text labels : List ℕ) where
       short = omega arith;
     }
 
-    pub line-added : (k : ℕ) (x : ℤ) (now new : Writer) → k < n → x ≡ get_or σ (s + k) (pos 0) → length (line_piece text labels (i + k) e x) ≤ 645 → new.out.ghost_name ≡ now.out.ghost_name
+    pub line-added : (k : ℕ) (x : ℤ) (now new : Writer) → k < n → x ≡ get_or σ (s + k) (pos 0) → length (line_piece text labels (i + k) e x) ≤ 645
         → Adds (line_piece text labels (i + k) e x) now new → LinesLeft k now → LinesLeft (k + 1) new
     unfolding group_piece
-    line-added k x now new h hx l g v m = record {
-      same_bytes = g ∙ m.same_bytes;
+    line-added k x now new h hx l v m = record {
       rest = λ u w.
           let first : i + (k + 1) ≡ suc (i + k) = omega arith in
           let slot : s + (k + 1) ≡ suc (s + k) = omega arith in
@@ -247,13 +238,13 @@ module _ (text labels : List ℕ) where
           λ h. group_piece text labels (first h) (n - (k + 1)) (slot h) e σ in
           m.rest u
           (subst (λ (left : ℕ). Adds (group_piece text labels (i + k) left (s + k) e σ) now u) more
-          (both-written (piece_is (ap (line_piece text labels (i + k) e) hx) v) (piece_is rest w)));
-      long = v.long ∙ m.long;
-      short = omega (arith, v.end, l, m.short);
+          (both-added (piece_is (ap (line_piece text labels (i + k) e) hx) v) (piece_is rest w)));
+      long = v.written.long ∙ m.long;
+      short = omega (arith, v.written.end, l, m.short);
     }
 
     pub lines-added : (k : ℕ) (now : Writer) → n ≤ k → LinesLeft k now → Adds (group_piece text labels i n s e σ) old now
     unfolding group_piece
     lines-added k now h m =
         let none : n - k ≡ 0 = omega arith in
-        m.rest now (subst (λ (left : ℕ). Adds (group_piece text labels (i + k) left (s + k) e σ) now now) (sym none) (nothing_written now.at now.out.now))
+        m.rest now (subst (λ (left : ℕ). Adds (group_piece text labels (i + k) left (s + k) e σ) now now) (sym none) (nothing_added now))

@@ -147,19 +147,18 @@ fn natural_of(x: i64) -> usize
 // Element k of the given set g.
 fn put_element(names: &Names<'_>, g: u16, k: usize, w: &mut Writer<'_>)
     requires { (k < 2 ^ 63) × (w.old.at + 16 ≤ length w.old.out.now) }
-    ensures same_bytes { w.new.out.ghost_name ≡ w.old.out.ghost_name }
-    ensures written { Adds (element_piece names.now.text.now names.now.labels.now g k) w.old w.new }
+    ensures { Adds (element_piece names.now.text.now names.now.labels.now g k) w.old w.new }
 {
     let first = usize::from(ELEMENTS) * usize::from(g);
     w.put_letters(names.text, usize::from(names.label(first + k)));
 }
 
 // Pair k of two given sets.
-// Form 5: that k is one of 16 bits is asked of a pair and of a member; a type for it would be made anew at each bit.
+// Form 5: that k is one of 16 bits is asked of a pair and of a member. A type for it is a struct with a ghost field, four lines for the two clauses, and what
+// is divided here, and asked of the bits there, would be its field instead of k.
 fn put_pair(names: &Names<'_>, t: Set, k: usize, w: &mut Writer<'_>)
     requires { (1 ≤ t.size) × (k < 16) × (w.old.at + 37 ≤ length w.old.out.now) }
-    ensures same_bytes { w.new.out.ghost_name ≡ w.old.out.ghost_name }
-    ensures written { Adds (pair_piece names.now.text.now names.now.labels.now t.sides t.size k) w.old w.new }
+    ensures { Adds (pair_piece names.now.text.now names.now.labels.now t.sides t.size k) w.old w.new }
 {
     let m = usize::from(t.size);
     put_element(names, t.sides / ELEMENTS, k / m, w);
@@ -170,8 +169,7 @@ fn put_pair(names: &Names<'_>, t: Set, k: usize, w: &mut Writer<'_>)
 // A member of a set: an element or a pair.
 fn put_member(names: &Names<'_>, t: Set, k: usize, w: &mut Writer<'_>)
     requires { (k < 16) × (w.old.at + 37 ≤ length w.old.out.now) }
-    ensures same_bytes { w.new.out.ghost_name ≡ w.old.out.ghost_name }
-    ensures written { Adds (member_piece names.now.text.now names.now.labels.now t.sides t.size k) w.old w.new }
+    ensures { Adds (member_piece names.now.text.now names.now.labels.now t.sides t.size k) w.old w.new }
 {
     if t.size == 0 {
         return put_element(names, t.sides, k, w);
@@ -182,8 +180,7 @@ fn put_member(names: &Names<'_>, t: Set, k: usize, w: &mut Writer<'_>)
 // The members of a set, lowest bit first, a comma between any two.
 fn put_members(names: &Names<'_>, t: Set, w: &mut Writer<'_>)
     requires { w.old.at + 622 ≤ length w.old.out.now }
-    ensures same_bytes { w.new.out.ghost_name ≡ w.old.out.ghost_name }
-    ensures written { Adds (members_piece (member_piece names.now.text.now names.now.labels.now t.sides t.size) t.bits [] 0 16) w.old w.new }
+    ensures { Adds (members_piece (member_piece names.now.text.now names.now.labels.now t.sides t.size) t.bits [] 0 16) w.old w.new }
 {
     let mut before: &[u8] = b"";
     for k in 0..BITS {
@@ -198,8 +195,7 @@ fn put_members(names: &Names<'_>, t: Set, w: &mut Writer<'_>)
 // A set in braces.
 fn put_set(names: &Names<'_>, t: Set, w: &mut Writer<'_>)
     requires { w.old.at + 624 ≤ length w.old.out.now }
-    ensures same_bytes { w.new.out.ghost_name ≡ w.old.out.ghost_name }
-    ensures written { Adds (braced (map (member_piece names.now.text.now names.now.labels.now t.sides t.size) (members t.bits))) w.old w.new }
+    ensures { Adds (braced (map (member_piece names.now.text.now names.now.labels.now t.sides t.size) (members t.bits))) w.old w.new }
 {
     w.put(b'{');
     put_members(names, t, w);
@@ -223,8 +219,7 @@ fn set_of(t: Shape, x: i64) -> Set
 // A value of a type.
 fn put_value(names: &Names<'_>, t: Shape, x: i64, w: &mut Writer<'_>)
     requires { w.old.at + 624 ≤ length w.old.out.now }
-    ensures same_bytes { w.new.out.ghost_name ≡ w.old.out.ghost_name }
-    ensures written { Adds (value_piece names.now.text.now names.now.labels.now t.shape t.sides t.size x) w.old w.new }
+    ensures { Adds (value_piece names.now.text.now names.now.labels.now t.shape t.sides t.size x) w.old w.new }
 {
     match t.shape {
         SET => put_element(names, t.sides, natural_of(x), w),
@@ -248,8 +243,7 @@ pub fn byte_of(ending: Ending) -> Option<u8>
 // The ending of a name.
 fn put_ending(ending: Ending, w: &mut Writer<'_>)
     requires { w.old.at < length w.old.out.now }
-    ensures same_bytes { w.new.out.ghost_name ≡ w.old.out.ghost_name }
-    ensures written { Adds (ending_bytes (ending_is ending)) w.old w.new }
+    ensures { Adds (ending_bytes (ending_is ending)) w.old w.new }
 {
     if let Some(b) = byte_of(ending) {
         w.put(b);
@@ -259,8 +253,7 @@ fn put_ending(ending: Ending, w: &mut Writer<'_>)
 // A line: name, ending, value.
 fn put_line(names: &Names<'_>, i: usize, ending: Ending, x: i64, w: &mut Writer<'_>)
     requires { (i < 160) × (w.old.at + 645 ≤ length w.old.out.now) }
-    ensures same_bytes { w.new.out.ghost_name ≡ w.old.out.ghost_name }
-    ensures written { Adds (line_piece names.now.text.now names.now.labels.now i (ending_byte (ending_is ending)) x) w.old w.new }
+    ensures { Adds (line_piece names.now.text.now names.now.labels.now i (ending_byte (ending_is ending)) x) w.old w.new }
 {
     let t = shape_of(names, i);
     w.put_letters(
@@ -276,7 +269,6 @@ fn put_line(names: &Names<'_>, i: usize, ending: Ending, x: i64, w: &mut Writer<
 // The lines of a group.
 pub fn put_group(names: &Names<'_>, slots: &[i64; SLOTS], g: Group, w: &mut Writer<'_>)
     requires { (g.first + g.count ≤ 160) × (g.slot + g.count ≤ 64) × (w.old.at + 645 * g.count ≤ length w.old.out.now) }
-    ensures same_bytes { w.new.out.ghost_name ≡ w.old.out.ghost_name }
     ensures lines { Adds (group_piece names.now.text.now names.now.labels.now g.first g.count g.slot (ending_byte (ending_is g.ending)) slots.now) w.old w.new }
     ensures short { w.new.at ≤ w.old.at + 645 * g.count }
 {

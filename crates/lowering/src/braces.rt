@@ -1,6 +1,6 @@
 // The walk over the terms and the pairs of braces.
-// Form 2: `paired` and `pairs` are as `listed` and `items` over pairs, whose nodes have a size and two starts. Tried on a small cycle of this shape: a generic function over a trait
-// that both implement; the borrow checker does not cover a method of an implementation that leads back to its own cycle of calls.
+// Form 2: `paired` and `pairs` are as `listed` and `items` over pairs, whose nodes have a size and two starts. Tried on a small cycle of this shape: a generic
+// function over a trait that both implement; the borrow checker does not cover a method of an implementation that leads back to its own cycle of calls.
 ghost use Rattle.std.specs.Prelude.{◌≡◌, ◌+◌, ◌-◌, ◌≤◌, get_or};
 ghost use Rattle.table_nodes.specs.TableWalkPromises.{WalkAsked, NodeAsked, TermMade, ItemsMade, PairsMade};
 
@@ -50,10 +50,7 @@ pub(crate) fn paired(
     let at = end - node::SIZE;
     let t = pairs(r, at, slot, names, places, out);
     set_node(out, at, table_shapes::PAIRS, 0, 0, 0);
-    Made {
-        kind: t.kind,
-        start: t.start,
-    }
+    t
 }
 
 // The terms of a brace.
@@ -76,10 +73,7 @@ fn items(
     if r.code[at + node::SHAPE] == shapes::LAST {
         let t = term(r, at, slot, names, places, out);
         set_node(out, at, table_shapes::LAST_ITEM, 0, 0, 0);
-        return Made {
-            kind: t.kind,
-            start: t.start,
-        };
+        return t;
     }
     let l = items(r, at, slot, names, places, out);
     let t = term(r, l.start, slot, names, places, out);

@@ -1,8 +1,7 @@
 // Terms and predicates to nodes of the table.
-// Form 5: names, places and table are lent to be written. A struct of the three would spare each of the 18 functions of the walk two parameters, and have each promise
-// three equations more, that it hands back the arrays it was given; one of names and places would spare one for two, one with nodes and sizes four for five. And the
-// functions of `leaves` read names while they write the table, two fields of one struct lent in one call, which the checker of loans does not take. That `end` lies
-// inside the nodes is asked of each function by itself, since it moves with every call.
+// Form 5: names, places and table are lent to be written. A struct of the three would spare each of the 19 functions of the walk two parameters, and have each
+// promise three equations more, that it hands back the arrays it was given; one of names and places alone would spare one parameter for two equations. That
+// `end` lies inside the nodes is asked of each function by itself, since it moves with every call.
 #![tactic(auto)]
 
 mod braces;

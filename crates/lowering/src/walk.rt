@@ -1,6 +1,6 @@
 // The walk over the nodes of terms and predicates, from their ends, that writes the table: a node for each node read, at the same place.
-// Form 2: functions of one shape (`prefixed`, `divided`, `negated`; `joined`, `sides`, `connected`; `within`, `related`) differ in what they read, in the node that they write, and
-// in whether a term or a predicate is promised; one function for several would be told all three, and its promise would be chosen by them.
+// Form 2: functions of one shape (`prefixed`, `divided`, `negated`; `joined`, `sides`, `connected`; `within`, `related`) differ in what they read, in the node
+// that they write, and in whether a term or a predicate is promised; one function for several would be told all three, and its promise would be chosen by them.
 ghost use Rattle.std.specs.Prelude.{◌≤◌};
 ghost use Rattle.table_nodes.specs.TableWalkPromises.{WalkAsked, NodeAsked, SidesAsked, TermMade, PredMade, BoundMade};
 
@@ -115,10 +115,7 @@ fn joined(
     let u = term(r, at, slot, names, places, out);
     let t = term(r, u.start, slot, names, places, out);
     set_node(out, at, table_shapes::BINARY, u.start as u16, a, 0);
-    Made {
-        kind: t.kind,
-        start: t.start,
-    }
+    t
 }
 
 // {x : G | p}.

@@ -1,7 +1,8 @@
 // Truths that are remembered: what a conjunct whose last node is a quantifier comes to, by the conjunct and by the values of the at most four slots that it mentions.
 // `memo` has for each place where a conjunct can end the list of its slots; behind these the cells, each twice a whole key, and 1 more where the conjunct is true. 0 is nothing:
-// the caller lends the numbers, and they are all 0 at first.
-// Form 1: the constants are sizes of what is packed into the memory, and marks in it, which are numbers as all that the caller lends.
+// who searches (`nest::sweep` and others) makes the memory, of 0s.
+// Form 1: the constants are sizes of what is packed into the memory, and marks in it. 0 is what the memory is made with; an Option of a number takes 16 bytes for 8, so that the 64,784 bytes
+// that stand on the stack of each search would be 129,568.
 // Form 5: the memory is lent to be written beside a table that is only read: in a struct of both each function would have to promise that the table is as it was.
 #![tactic(auto)]
 
@@ -13,7 +14,7 @@ ghost use Rattle.memo.specs.MemoPromises.{Memo, Lists, Behind, KeyOf, AgainAsked
 
 use evaluator::{SHAPE_BACK, SLOTS, holds};
 use form::node;
-use mentions::free_pred;
+use mentions::Mention;
 use table_nodes::table_shapes;
 use truths::truth;
 
@@ -50,7 +51,8 @@ fn with_slot(t: &[u16; node::NUMBERS], end: usize, s: usize, list: u64) -> Optio
     requires { (s < 63) × TruthFree t.now end 63 × Lists t.now end (s + 1) list }
     ensures { IfSome result (λ r. Lists t.now end s r) }
 {
-    if free_pred(t, end, s) {
+    let mention = Mention { table: t, slot: s };
+    if mention.free_pred(end) {
         return Some(list);
     }
     if list / THREE_SLOTS != ROOM {
@@ -63,7 +65,11 @@ fn with_slot(t: &[u16; node::NUMBERS], end: usize, s: usize, list: u64) -> Optio
 fn described(t: &[u16; node::NUMBERS], end: usize) -> Option<u64>
     ensures { IfSome result (λ list. Lists t.now end 0 list) }
 {
-    if !free_pred(t, end, BLANK) {
+    let blank = Mention {
+        table: t,
+        slot: BLANK,
+    };
+    if !blank.free_pred(end) {
         return None;
     }
     let mut list = ALL_BLANK;
@@ -146,10 +152,7 @@ pub fn recall(
     ensures kept { slots.new ≡ slots.old }
     ensures remembers { Memo t.now memo.new }
 {
-    if t[end - SHAPE_BACK] != table_shapes::QUANTIFIED {
-        return truth(t, end, slots);
-    }
-    if end % node::SIZE != 0 {
+    if t[end - SHAPE_BACK] != table_shapes::QUANTIFIED || end % node::SIZE != 0 {
         return truth(t, end, slots);
     }
     let number = end / node::SIZE;

@@ -2,7 +2,7 @@
 use mathlib.Core.Path.{◌≡◌, refl, ap, ◌∙◌, sym, subst}
 use mathlib.Core.Bool.{Bool, true, false}
 use mathlib.Core.List.{List}
-use Prim.Native.Nat.{ℕ, suc, ◌+◌, ◌-◌, ◌≤◌, ◌<◌}
+use Prim.Native.Nat.{ℕ, zero, suc, ◌+◌, ◌≤◌, ◌<◌}
 use native.Mathlib.Omega.{arith}
 use lib.Dec.{eqb}
 use borrow.Author.Tests.{eqb-true, eqb-false}
@@ -11,8 +11,18 @@ use lib.Seq.{get_or-set_same, get_or-set_other}
 use Rattle.lexical.specs.SymbolPromises.{walk_from, IsFirst, Reached, reached, deep, Tree}
 use Rattle.lexical.specs.declared.Stop.{Stop}
 use Rattle.name_numbers.specs.RecentNames.{Recent, Earlier, Recalls}
-use Rattle.std.specs.Prelude.{Option, Some}
-use Rattle.name_numbers.proofs.NumberingLaws.{walk_of, grown, zero-at}
+use Rattle.std.specs.Prelude.{Option, Some, None}
+use Rattle.std.specs.Bool.{then_some}
+use Rattle.std.proofs.lemmas.Option.{none-some}
+use Rattle.name_numbers.proofs.NumberingLaws.{walk_of, grown}
+
+abbrev none : Option ℕ
+none = None
+
+none-at : (n k : ℕ) → get_or (replicate n none) k none ≡ none
+none-at zero k = refl
+none-at (suc n) zero = refl
+none-at (suc n) (suc k) = none-at n k
 
 module _ {letters : List ℕ} where
   -- the first symbol with the letters of v, of one that has the same letters
@@ -29,13 +39,10 @@ module _ {letters : List ℕ} where
   reached-like _ l e deep = deep
 
   -- a name that is recalled
-  pub recalls : {recent : List ℕ} {i t : ℕ} {b : Bool} (k : ℕ) → Recent letters recent i → t ≡ get_or recent k 0 → 0 < t
-      → b ≡ eqb (get_or letters (t - 1) 0) (get_or letters i 0) → b ≡ true → Earlier letters i (t - 1)
-  recalls {recent} {i} {t} k h e l p q =
-      let o = eqb-true (get_or letters (t - 1) 0) (get_or letters i 0) (sym p ∙ q) in
-      let s : t ≡ suc (t - 1) = omega arith in
-      let b : t ≤ i = subst (λ (x : ℕ). x ≤ i) (sym e) (h.below k) in
-      record { before = omega arith; first = h.firsts k (t - 1) (sym e ∙ s); same = o }
+  pub recalls : {recent : List (Option ℕ)} {i : ℕ} (k m : ℕ) (b : Bool) → Recent letters recent i → get_or recent k None ≡ Some m
+      → b ≡ eqb (get_or letters m 0) (get_or letters i 0) → Recalls letters i (then_some b m)
+  recalls k m false h e p = tt
+  recalls {recent} {i} k m true h e p = record { before = h.before k m e; first = h.firsts k m e; same = eqb-true (get_or letters m 0) (get_or letters i 0) (sym p) }
 
   pub earlier : {i m : ℕ} {r : Option ℕ} → r ≡ Some m → Recalls letters i r → Earlier letters i m
   earlier {i} q h = subst (λ (x : Option ℕ). Recalls letters i x) q h
@@ -51,27 +58,29 @@ module _ {letters : List ℕ} where
       grown h (subst (Reached letters i) e (reached-like (walk_of letters tree m) (omega arith) r.same k))
 
   -- what is remembered
-  pub recent-start : (n : ℕ) → Recent letters (replicate n 0) 0
-  recent-start n = record { below = λ k. let z = zero-at n k in omega arith; firsts = λ k v e. let z = zero-at n k in absurd (omega arith) }
+  pub recent-start : (n : ℕ) → Recent letters (replicate n none) 0
+  recent-start n = record { before = λ k v e. let z = none-at n k in absurd (none-some v (sym z ∙ e)); firsts = λ k v e. let z = none-at n k in absurd (none-some v (sym z ∙ e)) }
 
-  pub recent-on : {recent : List ℕ} {i : ℕ} → Recent letters recent i → Recent letters recent (i + 1)
-  recent-on h = record { below = λ k. let b = h.below k in omega arith; firsts = h.firsts }
+  pub recent-on : {recent : List (Option ℕ)} {i : ℕ} → Recent letters recent i → Recent letters recent (i + 1)
+  recent-on h = record { before = λ k v e. let b = h.before k v e in omega arith; firsts = h.firsts }
 
-  pub recent-more : {recent : List ℕ} {i k r : ℕ} → Recent letters recent i → IsFirst letters i r → k < length recent → Recent letters (set recent k (r + 1)) (i + 1)
-  recent-more {recent} {i} {k} {r} h f l = record { below = below; firsts = firsts }
+  pub recent-more : {recent : List (Option ℕ)} {i k r : ℕ} → Recent letters recent i → IsFirst letters i r → k < length recent → Recent letters (set recent k (Some r)) (i + 1)
+  recent-more {recent} {i} {k} {r} h f l = record { before = before; firsts = firsts }
     where
-      pick : (s : ℕ) (P : ℕ → Type 0) → P (r + 1) → P (get_or recent s 0) → P (get_or (set recent k (r + 1)) s 0)
+      pick : (s : ℕ) (P : Option ℕ → Type 0) → P (Some r) → P (get_or recent s none) → P (get_or (set recent k (Some r)) s none)
       pick s P a b = on (eqb s k) refl
         where
-          on : (x : Bool) → eqb s k ≡ x → P (get_or (set recent k (r + 1)) s 0)
-          on true e = subst P (sym (ap (λ (y : ℕ). get_or (set recent k (r + 1)) y 0) (eqb-true s k e) ∙ get_or-set_same recent k (r + 1) 0 l)) a
-          on false e = subst P (sym (get_or-set_other recent k s (r + 1) 0 (eqb-false s k e))) b
+          on : (x : Bool) → eqb s k ≡ x → P (get_or (set recent k (Some r)) s none)
+          on true e = subst P (sym (ap (λ (y : ℕ). get_or (set recent k (Some r)) y none) (eqb-true s k e) ∙ get_or-set_same recent k (Some r) none l)) a
+          on false e = subst P (sym (get_or-set_other recent k s (Some r) none (eqb-false s k e))) b
 
-      below : (s : ℕ) → get_or (set recent k (r + 1)) s 0 ≤ i + 1
-      below s = let u = f.up_to in pick s (λ (x : ℕ). x ≤ i + 1) (omega arith) (let b = h.below s in omega arith)
+      before : (s v : ℕ) → get_or (set recent k (Some r)) s none ≡ Some v → v < i + 1
+      before s v =
+          let u = f.up_to in
+          pick s (λ (x : Option ℕ). x ≡ Some v → v < i + 1) (λ e. let d : r ≡ v = cc in omega arith) (λ e. let b = h.before s v e in omega arith)
 
-      firsts : (s v : ℕ) → get_or (set recent k (r + 1)) s 0 ≡ suc v → IsFirst letters v v
+      firsts : (s v : ℕ) → get_or (set recent k (Some r)) s none ≡ Some v → IsFirst letters v v
       firsts s v =
-          pick s (λ (x : ℕ). x ≡ suc v → IsFirst letters v v)
-          (λ e. let d : r ≡ v = omega arith in subst (λ (x : ℕ). IsFirst letters x x) d (first-self f))
+          pick s (λ (x : Option ℕ). x ≡ Some v → IsFirst letters v v)
+          (λ e. let d : r ≡ v = cc in subst (λ (x : ℕ). IsFirst letters x x) d (first-self f))
           (h.firsts s v)

@@ -2,7 +2,7 @@
 use mathlib.Core.Path.{◌≡◌, refl, ap, ap₂, ◌∙◌, sym, subst}
 use mathlib.Core.Bool.{Bool, true, false, cond}
 use mathlib.Core.List.{List, [], ◌∷◌, map}
-use Prim.Native.Nat.{ℕ, zero, suc, ◌+◌, ◌*◌, ◌≤◌, ◌<◌}
+use Prim.Native.Nat.{ℕ, zero, suc, ◌+◌, ◌-◌, ◌≤◌, ◌<◌}
 use native.Mathlib.Omega.{arith}
 use native.Mathlib.Numerals.{add-one}
 use lib.ListN.{length, take, drop, get_or, set, length-map, get_or-append}
@@ -12,7 +12,7 @@ use Rattle.lexical.specs.Kinds.{code_of}
 use Rattle.lexical.specs.Symbols.{run, Symbol, fixed, numeral, name, Name, Ending, no_ending, prime, query, shriek, kind_of_name, Placed, scan, symbols}
 use Rattle.lexical.specs.Promises.{code_in, number_in, filled, has_letters, first_named, value_in}
 use Rattle.lexical.specs.SymbolPromises.{packed, is_name, letters_in, filled_letters, Rows, IsFirst}
-use Rattle.lexical.proofs.WordLaws.{Fits, packed-one, run_fits, same_refl, same_true}
+use Rattle.lexical.proofs.WordLaws.{Fits, packed-one, run_fits, run_take, same_refl, same_true}
 use Rattle.lexical.proofs.NameCodes.{name-above}
 use Rattle.name_numbers.proofs.ScanLaws.{filled_more}
 use Rattle.name_numbers.proofs.SoundLaws.{Sound, Stands, all-stand, nowhere, stands_at, map_at}
@@ -41,22 +41,14 @@ filled-after f l old i h =
     ∙ get_or-append-add (map f (take i l)) (drop (length (take i l)) old) 0 0
     ∙ ap (λ (j : ℕ). get_or (drop j old) 0 0) n ∙ get_or-drop i old 0 0 ∙ ap (λ (j : ℕ). get_or old j 0) g
 
--- sixteen letters as two numbers of eight
-packed-halves : (v : List ℕ) → packed 16 v ≡ packed 8 v + packed 8 (drop 8 v) * 18446744073709551616
+-- the part of a text that is a name
+pub name-part : (s : List ℕ) (at n : ℕ) (b : Bool) → n ≡ cond b (length (run (drop at s))) 0 → packed 16 (take ((at + n) - at) (drop at s)) ≡ cond b (packed 16 (run (drop at s))) 0
 unfolding packed
-packed-halves [] = refl
-packed-halves (a ∷ []) = omega arith
-packed-halves (a ∷ b ∷ []) = omega arith
-packed-halves (a ∷ b ∷ c ∷ []) = omega arith
-packed-halves (a ∷ b ∷ c ∷ d ∷ []) = omega arith
-packed-halves (a ∷ b ∷ c ∷ d ∷ e ∷ []) = omega arith
-packed-halves (a ∷ b ∷ c ∷ d ∷ e ∷ f ∷ []) = omega arith
-packed-halves (a ∷ b ∷ c ∷ d ∷ e ∷ f ∷ g ∷ []) = omega arith
-packed-halves (a ∷ b ∷ c ∷ d ∷ e ∷ f ∷ g ∷ h ∷ w) = omega arith
-
-both-halves : (b : Bool) (w : List ℕ) → cond b (packed 8 (drop 0 w)) 0 + cond b (packed 8 (drop 8 w)) 0 * 18446744073709551616 ≡ cond b (packed 16 w) 0
-both-halves true w = sym (packed-halves w)
-both-halves false w = refl
+name-part s at n b e = let m : (at + n) - at ≡ n = omega arith in ap (λ (i : ℕ). packed 16 (take i (drop at s))) (m ∙ e) ∙ on b
+  where
+    on : (x : Bool) → packed 16 (take (cond x (length (run (drop at s))) 0) (drop at s)) ≡ cond x (packed 16 (run (drop at s))) 0
+    on true = ap (packed 16) (run_take (drop at s))
+    on false = refl
 
 -- the letters of a symbol, by its code and what stands at its place
 letters-of : (w : List ℕ) (y : Symbol) → Sound w y → cond (is_name (code_in y)) (packed 16 (run w)) 0 ≡ letters_in y
@@ -93,22 +85,17 @@ module _ {s codes starts : List ℕ} {n : ℕ} (h : Rows s codes starts n) (i : 
   pub place_inside : get_or starts i 0 ≤ length s
   place_inside = let p = place_at in let q = stands.1 in omega arith
 
-  letters-at : {u v : ℕ} → u ≡ cond (is_name (get_or codes i 0)) (packed 8 (drop 0 (run (drop (get_or starts i 0) s)))) 0
-      → v ≡ cond (is_name (get_or codes i 0)) (packed 8 (drop 8 (run (drop (get_or starts i 0) s)))) 0 → u + v * 18446744073709551616 ≡ letters_in here.symbol
-  letters-at p q =
-      ap₂ (λ (x y : ℕ). x + y * 18446744073709551616) p q
-      ∙ both-halves (is_name (get_or codes i 0)) (run (drop (get_or starts i 0) s))
-      ∙ ap₂ (λ (c p : ℕ). cond (is_name c) (packed 16 (run (drop p s))) 0) code_at place_at ∙ letters-of (drop here.place s) here.symbol stands.0
+  letters-at : cond (is_name (get_or codes i 0)) (packed 16 (run (drop (get_or starts i 0) s))) 0 ≡ letters_in here.symbol
+  letters-at = ap₂ (λ (c p : ℕ). cond (is_name c) (packed 16 (run (drop p s))) 0) code_at place_at ∙ letters-of (drop here.place s) here.symbol stands.0
 
 -- one more row of the letters
-pub packed_step : {s codes starts : List ℕ} {n : ℕ} (h : Rows s codes starts n) (i : ℕ) → i < n → (old : List ℕ) {u v : ℕ} → length old ≡ 4096
-    → u ≡ cond (is_name (get_or codes i 0)) (packed 8 (drop 0 (run (drop (get_or starts i 0) s)))) 0
-    → v ≡ cond (is_name (get_or codes i 0)) (packed 8 (drop 8 (run (drop (get_or starts i 0) s)))) 0
-    → set (filled (λ (x : Placed). letters_in x.symbol) (take i (symbols (scan s))) old) i (u + v * 18446744073709551616) ≡ filled (λ (x : Placed). letters_in x.symbol) (take (i + 1) (symbols (scan s))) old
+pub packed_step : {s codes starts : List ℕ} {n : ℕ} (h : Rows s codes starts n) (i : ℕ) → i < n → (old : List ℕ) {u : ℕ} → length old ≡ 4096
+    → u ≡ cond (is_name (get_or codes i 0)) (packed 16 (run (drop (get_or starts i 0) s))) 0
+    → set (filled (λ (x : Placed). letters_in x.symbol) (take i (symbols (scan s))) old) i u ≡ filled (λ (x : Placed). letters_in x.symbol) (take (i + 1) (symbols (scan s))) old
 unfolding here
-packed_step {s} h i lt old {u} {v} l p q =
+packed_step {s} h i lt old {u} l p =
     let c = h.counted in let f = h.few in
-    filled-step (λ (x : Placed). letters_in x.symbol) (symbols (scan s)) i old (u + v * 18446744073709551616) (omega arith) (omega arith) (letters-at h i lt p q)
+    filled-step (λ (x : Placed). letters_in x.symbol) (symbols (scan s)) i old u (omega arith) (omega arith) (p ∙ letters-at h i lt)
 
 -- the letters of a name fit, and there are some
 letters-fit : (w : List ℕ) (x : Name) → Sound w (name x) → Fits 16 x.letters

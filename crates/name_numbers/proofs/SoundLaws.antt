@@ -1,58 +1,19 @@
 -- Laws of the symbols of a text: what stands at the place of each, its code, and the letters of names.
-use mathlib.Core.Path.{◌≡◌, refl, ap, ap₂, ◌∙◌, sym, subst}
+use mathlib.Core.Path.{◌≡◌, refl, ap, ◌∙◌, sym, subst}
 use mathlib.Core.Bool.{Bool, true, false, cond}
 use mathlib.Core.List.{List, [], ◌∷◌, map}
 use mathlib.Core.Option.{Option, none, some}
-use Prim.Native.Nat.{ℕ, zero, suc, pred, ◌+◌, ◌-◌, ◌≤◌, ◌<◌}
+use Prim.Native.Nat.{ℕ, zero, suc, pred, ◌+◌, ◌≤◌, ◌<◌}
 use Prim.Native.String.{String}
 use native.Mathlib.Omega.{arith}
 use lib.Dec.{leb, ltb}
 use borrow.Author.Tests.{leb-true, ltb-true, ltb-false}
-use lib.ListN.{length, take, drop, get_or, drop_of_length-le}
-use lib.Seq.{drop-cons, drop-drop}
+use lib.ListN.{length, drop, get_or, drop_of_length-le}
+use lib.Seq.{drop-drop}
 use Rattle.lexical.specs.Lists.{bytes, begins, same}
 use Rattle.lexical.specs.Kinds.{Kind, marks, words, code_of}
 use Rattle.lexical.specs.Symbols.{Class, letter, digit, mark, blank, other, class_of, in_run, run, Symbol, fixed, numeral, name, Found, gap, unlisted, found, Ending, no_ending, prime, query, shriek, ending_of, ending_length}
 use Rattle.lexical.specs.Symbols.{reserved, word_of, is_number, number_found, decimal_from, longer, longest, by_class, symbol_at, Placed, scanned, scan_from, scan, symbols}
-use Rattle.lexical.specs.SymbolPromises.{packed}
-use Rattle.lexical.proofs.WordLaws.{run_take}
-
-drop-take : (k n : ℕ) (l : List ℕ) → drop k (take n l) ≡ take (n - k) (drop k l)
-drop-take zero n l = let e : n - 0 ≡ n = omega arith in sym (ap (λ (i : ℕ). take i l) e)
-drop-take (suc k) zero l = let e : zero - suc k ≡ 0 = omega arith in sym (ap (λ (i : ℕ). take i (drop (suc k) l)) e)
-drop-take (suc k) (suc n) [] = on (suc n - suc k)
-  where
-    on : (i : ℕ) → ◌≡◌ {A = List ℕ} [] (take i [])
-    on zero = refl
-    on (suc i) = refl
-drop-take (suc k) (suc n) (b ∷ l) = let e : n - k ≡ suc n - suc k = omega arith in drop-take k n l ∙ ap (λ (i : ℕ). take i (drop k l)) e
-
--- a part of the run from a place on
-pub run-part : (s : List ℕ) (at k : ℕ) {n r : ℕ} → n ≡ length (run (drop at s)) → r ≡ packed 8 (take ((at + n) - (at + k)) (drop (at + k) s)) → r ≡ packed 8 (drop k (run (drop at s)))
-run-part s at k {n} {r} l h =
-    let e : (at + n) - (at + k) ≡ length (run (drop at s)) - k = omega arith in
-    h ∙ ap₂ (λ (i : ℕ) (w : List ℕ). packed 8 (take i w)) e (sym (drop-drop k at s))
-    ∙ ap (packed 8) (sym (drop-take k (length (run (drop at s))) (drop at s)) ∙ ap (drop k) (run_take (drop at s)))
-
--- the letters from k on of a name, by how many it has: none, and some
-pub letters-none : (w : List ℕ) (n k : ℕ) (b : Bool) → n ≡ cond b (length w) 0 → n ≤ k → 0 ≡ cond b (packed 8 (drop k w)) 0
-unfolding packed
-letters-none w n k true e h = sym (ap (packed 8) (drop_of_length-le w {i = k} (omega arith)))
-letters-none w n k false e h = refl
-
-pub letters-some : (s : List ℕ) (at k n : ℕ) {r : ℕ} (b : Bool) → k < n → r ≡ packed 8 (take ((at + n) - (at + k)) (drop (at + k) s))
-    → n ≡ cond b (length (run (drop at s))) 0 → r ≡ cond b (packed 8 (drop k (run (drop at s)))) 0
-letters-some s at k n true l h e = run-part s at k e h
-letters-some s at k n false l h e = absurd (omega arith)
-
--- one letter
-pub letters-one : (s : List ℕ) (at k n : ℕ) → n ≡ k + 1 → at + n ≤ length s → get_or s (at + k) 0 ≡ packed 8 (take ((at + n) - (at + k)) (drop (at + k) s))
-unfolding packed
-letters-one s at k n e h =
-    let i : (at + n) - (at + k) ≡ 1 = omega arith in
-    let x : ℕ = get_or s (at + k) 0 in
-    let z : x ≡ x + 0 = omega arith in
-    z ∙ sym (ap₂ (λ (j : ℕ) (w : List ℕ). packed 8 (take j w)) i (drop-cons s (at + k) 0 (omega arith)))
 
 -- what is so of a symbol, where the text goes on by w
 abbrev pub Sound : List ℕ → Symbol → Type 0

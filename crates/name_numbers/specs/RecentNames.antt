@@ -1,11 +1,11 @@
 -- Names that were looked for before, so that most are found without a walk down the tree. Nothing here need be believed.
-use Rattle.std.specs.Prelude.{◌≡◌, List, ℕ, suc, ◌≤◌, ◌<◌, get_or, Option, Some, None}
+use Rattle.std.specs.Prelude.{◌≡◌, List, ℕ, ◌<◌, get_or, Option, Some, None}
 use Rattle.lexical.specs.SymbolPromises.{IsFirst}
 
--- each number is 0, or one more than that of a symbol before i that is the first with its letters
-pub record Recent (letters recent : List ℕ) (i : ℕ) : Type 0 where
-  pub below : (k : ℕ) → get_or recent k 0 ≤ i
-  pub firsts : (k v : ℕ) → get_or recent k 0 ≡ suc v → IsFirst letters v v
+-- each number is that of a symbol before i that is the first with its letters
+pub record Recent (letters : List ℕ) (recent : List (Option ℕ)) (i : ℕ) : Type 0 where
+  pub before : (k v : ℕ) → get_or recent k None ≡ Some v → v < i
+  pub firsts : (k v : ℕ) → get_or recent k None ≡ Some v → IsFirst letters v v
 
 -- m is before symbol i, has its letters, and is the first that has them
 pub record Earlier (letters : List ℕ) (i m : ℕ) : Type 0 where

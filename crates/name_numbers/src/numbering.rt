@@ -2,10 +2,13 @@
 //
 // The numbers of names that differ stand in a digital tree: slot 2m or 2m + 1 is below node m, by one bit of the letters, and slot 8192 is above all.
 // A slot holds a symbol's number and one, or 0. A walk takes a bit of the letters at each node, so it ends within the 128 bits of 16 letters.
-// Form 1: 0 is a free slot, as `walk_from` of lexical/specs/SymbolPromises.antt defines a tree of numbers, and 0 are the letters of no name: a name has one.
-ghost use Rattle.std.specs.Prelude.{◌≡◌, cond, ℕ, ◌+◌, ◌≤◌, ◌<◌, eqb, length, take, drop, get_or};
-ghost use Rattle.lexical.specs.Symbols.{run, scan, symbols};
-ghost use Rattle.lexical.specs.Promises.{filled, value_in, number_in};
+// Form 1: 0 is a free slot: with an `Option<u16>` in each of the 8,193 slots a scan took up to 1.06 times as long. 0 are also the letters of a symbol that is
+// no name, since a name has one; the letters of 4,096 symbols as `Option<u128>` would take 128 KB in place of 64.
+// Form 5: that i is below 4,096 is asked by five functions. A type for it would be made of the counter of the one loop that asks them, and turned back to a
+// number at each place of an array. Letters, tree and what is remembered in one struct would have a fourth part, how many symbols are in it, since `Tree` and
+// `Recent` speak of the first i symbols, and each method a clause more, which says what that number is behind it.
+ghost use Rattle.std.specs.Prelude.{◌≡◌, cond, ℕ, ◌+◌, ◌≤◌, ◌<◌, eqb, length, drop, get_or};
+ghost use Rattle.lexical.specs.Symbols.{run};
 ghost use Rattle.lexical.specs.SymbolPromises.{packed, is_name, Rows, walk_from, IsFirst, Tree};
 ghost use Rattle.lexical.specs.SymbolPromises.{filled_letters, filled_numbers, filled_values};
 ghost use Rattle.name_numbers.specs.RecentNames.{Recent, Recalls};
@@ -14,13 +17,9 @@ use lexical::Stop;
 use lexical::bounds::SYMBOLS;
 use lexical::classes::run_from;
 use lexical::codes::is_name;
-use lexical::words::eight;
+use lexical::words::packed;
 
-// How many letters a number of 64 bits holds, what the ninth letter counts for in one of 128, and how many bits the letters of a name have.
-const PACKED: usize = 8;
-
-const NINTH: u128 = 0x10000000000000000;
-
+// How many bits the letters of a name have.
 const DEEPEST: usize = 128;
 
 // The slot above all, and how many slots the tree has.
@@ -45,22 +44,9 @@ pub fn name_letters(s: &[u8], code: u8, at: usize) -> usize
     0
 }
 
-// Eight of the n letters from `at` on, from letter `skip` on, packed: most names have one, and none behind the first eight.
-pub fn letters_at(s: &[u8], at: usize, n: usize, skip: usize) -> u64
-    requires { (at + n ≤ length s.now) × (length s.now ≤ 32768) × (skip ≤ 8) }
-    ensures { (c : ℕ) → n ≡ cond (is_name c) (length (run (drop at s.now))) 0 → result ≡ cond (is_name c) (packed 8 (drop skip (run (drop at s.now)))) 0 }
-{
-    if n <= skip {
-        return 0;
-    }
-    if n == skip + 1 {
-        return s[at + skip] as u64;
-    }
-    eight(s, at + skip, at + n)
-}
-
 // The letters of each name, packed as one number; 0 for another symbol.
-// Form 5: the scan lends codes and places to this function alone, which fills the array of letters.
+// Form 6: codes and places are two arrays of fixed length, which the caller of `read` lends (document 01).
+// Form 5: text, codes, places and their number go together in `number_names` and here: a struct of these four would be a type more, for this one call.
 pub fn pack_names(
     s: &[u8],
     codes: &[u8; SYMBOLS],
@@ -72,25 +58,21 @@ pub fn pack_names(
     ensures { letters.new ≡ filled_letters s.now letters.old }
 {
     for i in 0..n {
-        let code = codes[i];
         let at = starts[i] as usize;
-        let count = name_letters(s, code, at);
-        let low = letters_at(s, at, count, 0);
-        let high = letters_at(s, at, count, PACKED);
-        letters[i] = low as u128 + high as u128 * NINTH;
+        let count = name_letters(s, codes[i], at);
+        letters[i] = packed(&s[at..at + count]);
     }
 }
 
 // The letters of symbol m are a.
-pub fn same_letters(letters: &[u128; SYMBOLS], m: usize, a: u128) -> bool
-    requires { m < 4096 }
+pub fn same_letters(letters: &[u128], m: usize, a: u128) -> bool
+    requires { m < length letters.now }
     ensures { result ≡ eqb (get_or letters.now m 0) a }
 {
     letters[m] == a
 }
 
 // The walk by the letters of symbol i.
-// Form 5: i is another symbol's number at each call.
 pub fn walk(letters: &[u128; SYMBOLS], tree: &[u16; SLOTS], i: usize) -> Stop
     requires { (i < 4096) × ((k : ℕ) → get_or tree.now k 0 ≤ 4096) }
     ensures { result ≡ walk_from 128 letters.now tree.now (get_or letters.now i 0) (get_or letters.now i 0) 8192 }
@@ -148,27 +130,24 @@ pub fn number_of(letters: &[u128; SYMBOLS], tree: &mut [u16; SLOTS], i: usize, o
 }
 
 // The first symbol with the letters of symbol i, where it was the last name looked for that begins like it.
-pub fn recalled(letters: &[u128; SYMBOLS], recent: &[u16; RECENT], i: usize) -> Option<usize>
+pub fn recalled(
+    letters: &[u128; SYMBOLS],
+    recent: &[Option<u16>; RECENT],
+    i: usize,
+) -> Option<usize>
     requires { Recent letters.now recent.now i × (i < 4096) }
     ensures { Recalls letters.now i result }
 {
     let a = letters[i];
-    let t = recent[(a % LETTERS) as usize] as usize;
-    if t == 0 {
-        return None;
-    }
-    if same_letters(letters, t - 1, a) {
-        return Some(t - 1);
-    }
-    None
+    let m = recent[(a % LETTERS) as usize]? as usize;
+    same_letters(letters, m, a).then_some(m)
 }
 
 // The same as `number_of`: most names were looked for before, and are found without a walk.
-// Form 5: the tree and what is remembered change with each name, and `number_of` promises of the tree alone.
 pub fn numbered(
     letters: &[u128; SYMBOLS],
     tree: &mut [u16; SLOTS],
-    recent: &mut [u16; RECENT],
+    recent: &mut [Option<u16>; RECENT],
     i: usize,
     old: u16,
 ) -> u16
@@ -183,12 +162,12 @@ pub fn numbered(
         return m as u16;
     }
     let r = number_of(letters, tree, i, old);
-    recent[(a % LETTERS) as usize] = r + 1;
+    recent[(a % LETTERS) as usize] = Some(r);
     r
 }
 
 // The value of each name: the number of the first symbol that has its letters.
-// Form 5: the arrays that the scan lends, of which the values are written.
+// Form 6: codes, places and values are three arrays of fixed length, which the caller of `read` lends (document 01).
 pub fn number_names(
     s: &[u8],
     codes: &[u8; SYMBOLS],
@@ -202,7 +181,7 @@ pub fn number_names(
     let mut letters = [0u128; SYMBOLS];
     pack_names(s, codes, starts, n, &mut letters);
     let mut tree = [0u16; SLOTS];
-    let mut recent = [0u16; RECENT];
+    let mut recent = [None; RECENT];
     for i in 0..n {
         let old = values[i];
         values[i] = numbered(&letters, &mut tree, &mut recent, i, old);

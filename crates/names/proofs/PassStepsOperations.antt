@@ -4,7 +4,6 @@ use mathlib.Core.List.{List, [], ◌∷◌, ◌++◌, append_assoc}
 use Prim.Native.Nat.{ℕ, suc, ◌+◌, ◌-◌, ◌≤◌, ◌<◌}
 use native.Mathlib.Nat.{zero-add}
 use native.Mathlib.Omega.{arith}
-use lib.Dec.{eqb}
 use Rattle.form.specs.Headings.{operation_length}
 use lib.ListN.{length, take, drop, get_or, set, length-drop, length-append}
 use lib.Seq.{drop-drop}

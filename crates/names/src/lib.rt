@@ -8,6 +8,7 @@ ghost use Rattle.declared_names.specs.PassPromises.{GivenSeen, CheckSeen};
 use crate::passes::check;
 use declared_names::declared::give;
 use lexical::{bounds, endings};
+use parser::sections::{Bounds, Nodes};
 use refusals::Fault;
 use type_rules::entries;
 use type_rules::entries::Kind;
@@ -19,22 +20,13 @@ pub const NAMES: usize = bounds::SYMBOLS * endings::COUNT as usize;
 
 pub const SIZES: usize = bounds::GIVEN_SETS as usize;
 
-// The least fault of the pass, with its place by symbols. The nodes are a dossier's, up to m; the places are where its parts begin.
+// The least fault of the pass, with its place by symbols. The nodes are a dossier's, and `at` says where its parts begin.
 // `sizes` may hold anything. Left open: the sizes where the given sets have a fault, and those behind the last given set's, since nothing is looked up by
 // the number of a given set that there is not.
-pub fn least_fault(
-    nodes: &[u16],
-    m: usize,
-    givens: usize,
-    abstracts: usize,
-    concretes: usize,
-    ainit: usize,
-    after: usize,
-    sizes: &mut [u16; SIZES],
-) -> Result<(), Fault>
-    ensures { CheckSeen nodes.now m givens abstracts concretes ainit after 16384 sizes.new (refused_key result) }
+pub fn least_fault(made: &Nodes<'_>, at: &Bounds, sizes: &mut [u16; SIZES]) -> Result<(), Fault>
+    ensures { CheckSeen made.now.numbers.now made.now.end at.now.givens at.now.abstracts at.now.concretes at.now.ainit at.now.operations 16384 sizes.new (refused_key result) }
 {
-    check(nodes, m, givens, abstracts, concretes, ainit, after, sizes)
+    check(made, at, sizes)
 }
 
 // The given sets by name, and how many elements each has, from the nodes of their bodies: the first fault of number 8 among them.

@@ -1,5 +1,5 @@
 // The pass over a whole dossier, in the order of the text: the first fault is the least.
-ghost use Rattle.std.specs.Prelude.{◌≡◌, ◌+◌, ◌*◌, ◌≤◌, length};
+ghost use Rattle.std.specs.Prelude.{◌+◌, ◌*◌, ◌≤◌, length};
 ghost use Rattle.type_rules.specs.Passes.{refused_key};
 ghost use Rattle.declared_names.specs.PassPromises.{DeclaredEnd, PredicateEnd, OperationEnd, ConditionSeen, StateSeen, ReachingSeen, LeavingSeen, SideSeen, SidesSeen, OperationSeen, OperationsSeen, ConditionsSeen, PartOf, VariablesOf, CheckSeen};
 
@@ -7,6 +7,7 @@ use crate::NAMES;
 use declared_names::declared::{declare, give, hide, show};
 use form::name_endings::{PLAIN, PRIMED};
 use form::{node, shapes};
+use parser::sections::{Bounds, Nodes};
 use refusals::{Fault, Refusal};
 use type_rules::entries;
 use type_rules::entries::Kind;
@@ -46,7 +47,7 @@ fn predicate_end(code: &[u16], at: usize) -> usize
 fn condition(code: &[u16], names: &mut [Kind], sizes: &[u16]) -> Result<(), Fault>
     ensures { ConditionSeen code.now names.old names.new sizes.now (refused_key result) }
 {
-    all_well(pred(code, code.len(), names, sizes).fault)
+    all_well(pred(code, names, sizes).fault)
 }
 
 // A state, from its heading on: its variables are in use behind it.
@@ -202,34 +203,26 @@ fn variables_of(code: &[u16]) -> &[u16]
     &rest[..e]
 }
 
-// The least fault of the pass, with its place by symbols. The nodes are a dossier's, up to m; the places are where its parts begin.
-pub(crate) fn check(
-    nodes: &[u16],
-    m: usize,
-    givens: usize,
-    abstracts: usize,
-    concretes: usize,
-    ainit: usize,
-    after: usize,
-    sizes: &mut [u16],
-) -> Result<(), Fault>
+// The least fault of the pass, with its place by symbols.
+pub(crate) fn check(made: &Nodes<'_>, at: &Bounds, sizes: &mut [u16]) -> Result<(), Fault>
     requires { 8 ≤ length sizes.old }
-    ensures { CheckSeen nodes.now m givens abstracts concretes ainit after 16384 sizes.new (refused_key result) }
+    ensures { CheckSeen made.now.numbers.now made.now.end at.now.givens at.now.abstracts at.now.concretes at.now.ainit at.now.operations 16384 sizes.new (refused_key result) }
 {
+    let nodes = made.numbers;
     let mut names = [entries::FREE; NAMES];
     sizes.fill(0);
-    let first = part(nodes, givens, abstracts);
+    let first = part(nodes, at.givens, at.abstracts);
     give(first, &mut names, sizes)?;
-    let one = part(nodes, abstracts, concretes);
+    let one = part(nodes, at.abstracts, at.concretes);
     state(one, &mut names, sizes)?;
-    let two = part(nodes, concretes, ainit);
+    let two = part(nodes, at.concretes, at.ainit);
     state(two, &mut names, sizes)?;
     let states = States {
         abstracts: variables_of(one),
         concretes: variables_of(two),
     };
-    let three = part(nodes, ainit, after);
-    let last = part(nodes, after, m);
+    let three = part(nodes, at.ainit, at.operations);
+    let last = part(nodes, at.operations, made.end);
     conditions(three, &states, &mut names, sizes)?;
     operations(last, &states, &mut names, sizes)
 }

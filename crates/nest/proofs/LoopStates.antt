@@ -83,36 +83,36 @@ stands-out n s m y b c h g w k q =
 
 -- how many places a binding of each group has
 abbrev pub per_input : Part → ℕ
-per_input p = p.nq * p.nk
+per_input p = p.outputs.bindings * p.primes.bindings
 
 abbrev pub per_concrete : Part → ℕ
-per_concrete p = p.ni * (p.nq * p.nk)
+per_concrete p = p.inputs.bindings * (p.outputs.bindings * p.primes.bindings)
 
 abbrev pub per_abstract : Part → ℕ
-per_abstract p = p.nc * (p.ni * (p.nq * p.nk))
+per_abstract p = p.concretes.bindings * (p.inputs.bindings * (p.outputs.bindings * p.primes.bindings))
 
 abbrev pub passing : Part → PartTests → ℕ → Bool
-passing p T = passes_from T p.nc p.ni p.nq p.nk
+passing p T = passes_from T p.concretes.bindings p.inputs.bindings p.outputs.bindings p.primes.bindings
 
 -- the premises of what is chosen
 pub record StateHolds (p : Part) (T : PartTests) (a mask : ℕ) : Type 0 where
   pub state : T.state a ≡ true
-  pub bits : (i : ℕ) → i < p.ni → has mask i ≡ T.ready a i
+  pub bits : (i : ℕ) → i < p.inputs.bindings → has mask i ≡ T.ready a i
 
 pub record RelatedHolds (p : Part) (T : PartTests) (a mask c : ℕ) : Type 0 where
   pub up : StateHolds p T a mask
   pub related : T.related a c ≡ true
-  pub low : c < p.nc
+  pub low : c < p.concretes.bindings
 
 pub record ReadyHolds (p : Part) (T : PartTests) (a mask c i : ℕ) : Type 0 where
   pub up : RelatedHolds p T a mask c
   pub ready : T.ready a i ≡ true
-  pub low : i < p.ni
+  pub low : i < p.inputs.bindings
 
 pub record FrontHolds (p : Part) (T : PartTests) (a mask c i o : ℕ) : Type 0 where
   pub up : ReadyHolds p T a mask c i
   pub front : T.front c i o ≡ true
-  pub low : o < p.nq
+  pub low : o < p.outputs.bindings
 
 -- the numbers that the groups have
 pub record OfAbstract (cells : List ℕ) (G : Groups) (a : ℕ) (δ : Point) : Type 0 where
@@ -134,36 +134,36 @@ pub record OfOutput (cells : List ℕ) (G : Groups) (a c i o : ℕ) (δ : Point)
 pub record InAbstracts (table plan cells : List ℕ) (p : Part) (from end a : ℕ) (slots : List (List ℤ)) : Type 0 where
   pub asked : NestAsked table plan cells p slots
   pub low : from / per_abstract p ≤ a
-  pub high : a ≤ p.na
+  pub high : a ≤ p.abstracts.bindings
   pub each : (G : Groups) (T : PartTests) → Nest table plan cells p G T
-      → At cells slots G.abstracts (λ (δ : Point). Unit {0}) (Unit {0}) T.state (passing p T) from end p.na (per_abstract p) 0 a
+      → At cells slots G.abstracts (λ (δ : Point). Unit {0}) (Unit {0}) T.state (passing p T) from end p.abstracts.bindings (per_abstract p) 0 a
 
 pub record InConcretes (table plan cells : List ℕ) (p : Part) (from end a mask c : ℕ) (slots : List (List ℤ)) : Type 0 where
   pub asked : NestAsked table plan cells p slots
-  pub low : from / per_concrete p ≤ a * p.nc + c
-  pub high : c ≤ p.nc
+  pub low : from / per_concrete p ≤ a * p.concretes.bindings + c
+  pub high : c ≤ p.concretes.bindings
   pub each : (G : Groups) (T : PartTests) → Nest table plan cells p G T
-      → At cells slots G.concretes (OfAbstract cells G a) (StateHolds p T a mask) (T.related a) (passing p T) from end p.nc (per_concrete p) a c
+      → At cells slots G.concretes (OfAbstract cells G a) (StateHolds p T a mask) (T.related a) (passing p T) from end p.concretes.bindings (per_concrete p) a c
 
 pub record InInputs (table plan cells : List ℕ) (p : Part) (from end a mask c i : ℕ) (slots : List (List ℤ)) : Type 0 where
   pub asked : NestAsked table plan cells p slots
-  pub low : from / per_input p ≤ (a * p.nc + c) * p.ni + i
-  pub high : i ≤ p.ni
+  pub low : from / per_input p ≤ (a * p.concretes.bindings + c) * p.inputs.bindings + i
+  pub high : i ≤ p.inputs.bindings
   pub each : (G : Groups) (T : PartTests) → Nest table plan cells p G T
-      → At cells slots G.inputs (OfConcrete cells G a c) (RelatedHolds p T a mask c) (T.ready a) (passing p T) from end p.ni (per_input p) (a * p.nc + c) i
+      → At cells slots G.inputs (OfConcrete cells G a c) (RelatedHolds p T a mask c) (T.ready a) (passing p T) from end p.inputs.bindings (per_input p) (a * p.concretes.bindings + c) i
 
 pub record InOutputs (table plan cells : List ℕ) (p : Part) (from end a mask c i o : ℕ) (slots : List (List ℤ)) : Type 0 where
   pub asked : NestAsked table plan cells p slots
-  pub low : from / p.nk ≤ ((a * p.nc + c) * p.ni + i) * p.nq + o
-  pub high : o ≤ p.nq
+  pub low : from / p.primes.bindings ≤ ((a * p.concretes.bindings + c) * p.inputs.bindings + i) * p.outputs.bindings + o
+  pub high : o ≤ p.outputs.bindings
   pub each : (G : Groups) (T : PartTests) → Nest table plan cells p G T
-      → At cells slots G.outputs (OfInput cells G a c i) (ReadyHolds p T a mask c i) (T.front c i) (passing p T) from end p.nq p.nk
-      ((a * p.nc + c) * p.ni + i) o
+      → At cells slots G.outputs (OfInput cells G a c i) (ReadyHolds p T a mask c i) (T.front c i) (passing p T) from end p.outputs.bindings p.primes.bindings
+      ((a * p.concretes.bindings + c) * p.inputs.bindings + i) o
 
 pub record InAfters (table plan cells : List ℕ) (p : Part) (from end a mask c i o k : ℕ) (slots : List (List ℤ)) : Type 0 where
   pub asked : NestAsked table plan cells p slots
-  pub low : from ≤ (((a * p.nc + c) * p.ni + i) * p.nq + o) * p.nk + k
-  pub high : k ≤ p.nk
+  pub low : from ≤ (((a * p.concretes.bindings + c) * p.inputs.bindings + i) * p.outputs.bindings + o) * p.primes.bindings + k
+  pub high : k ≤ p.primes.bindings
   pub each : (G : Groups) (T : PartTests) → Nest table plan cells p G T
-      → At cells slots G.primes (OfOutput cells G a c i o) (FrontHolds p T a mask c i o) (T.steps c i o) (passing p T) from end p.nk 1
-      (((a * p.nc + c) * p.ni + i) * p.nq + o) k
+      → At cells slots G.primes (OfOutput cells G a c i o) (FrontHolds p T a mask c i o) (T.steps c i o) (passing p T) from end p.primes.bindings 1
+      (((a * p.concretes.bindings + c) * p.inputs.bindings + i) * p.outputs.bindings + o) k

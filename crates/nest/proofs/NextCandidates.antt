@@ -68,7 +68,7 @@ afters_of T c i o u v w b n d e f g h r =
 module _ {table plan cells : List ℕ} {p : Part} {from end : ℕ} {before after : List (List ℤ)} (q : NestAsked table plan cells p before) where
   pub step-abstracts : {b d : ℕ} → from / per_abstract p ≤ b
       → ((G : Groups) (T : PartTests) → Nest table plan cells p G T
-      → Standing cells before (λ (δ : Point). Unit {0}) (Unit {0}) (passing p T) from end ((0 * p.na + b) * per_abstract p))
+      → Standing cells before (λ (δ : Point). Unit {0}) (Unit {0}) (passing p T) from end ((0 * p.abstracts.bindings + b) * per_abstract p))
       → OpenAbstract table plan cells p b before after d
       → InAbstracts table plan cells p from end d after
   step-abstracts {b} {d} low w r =
@@ -77,15 +77,15 @@ module _ {table plan cells : List ℕ} {p : Part} {from end : ℕ} {before after
         low = le_trans low r.low;
         high = r.high;
         each = λ G T N. (let z = N.sized in
-            at_open G.abstracts T.state p.na (per_abstract p) 0 b d after (some-abstract z) (w G T N) (r.found G T N)
+            at_open G.abstracts T.state p.abstracts.bindings (per_abstract p) 0 b d after (some-abstract z) (w G T N) (r.found G T N)
             (r.left G T (w G T N).point N (w G T N).shows) (λ ε _. tt)
-            (λ e l g j h. whole-places p T z.few_i.0 z.few_o.0 z.few_k.0 z.few_c.0 e (r.past G T N e l g) j (h ∙ no_outer p.na e)));
+            (λ e l g j h. whole-places p T z.few_i.0 z.few_o.0 z.few_k.0 z.few_c.0 e (r.past G T N e l g) j (h ∙ no_outer p.abstracts.bindings e)));
       }
 
   -- with the mark of the abstract state
-  pub step-concretes : {a mask b d mark : ℕ} {m : Masks} → from / per_concrete p ≤ a * p.nc + b
+  pub step-concretes : {a mask b d mark : ℕ} {m : Masks} → from / per_concrete p ≤ a * p.concretes.bindings + b
       → ((G : Groups) (T : PartTests) → Nest table plan cells p G T
-      → Standing cells before (OfAbstract cells G a) (StateHolds p T a mask) (passing p T) from end ((a * p.nc + b) * per_concrete p))
+      → Standing cells before (OfAbstract cells G a) (StateHolds p T a mask) (passing p T) from end ((a * p.concretes.bindings + b) * per_concrete p))
       → mark ≡ key_in cells (pair_group p m) a + 1
       → OpenConcrete table plan cells p m mark b before after d
       → InConcretes table plan cells p from end a mask d after
@@ -94,14 +94,14 @@ module _ {table plan cells : List ℕ} {p : Part} {from end : ℕ} {before after
         asked = asked-after (λ G. G.concretes) q r.left;
         low = lower _ _ _ _ low r.low;
         high = r.high;
-        each = λ G T N. at_open G.concretes (T.related a) p.nc (per_concrete p) a b d after (some-concrete N.sized) (w G T N)
+        each = λ G T N. at_open G.concretes (T.related a) p.concretes.bindings (per_concrete p) a b d after (some-concrete N.sized) (w G T N)
             (λ h. sym (ap (λ (t : ℕ). T.related t d) (w G T N).numbers.abstract_is) ∙ r.found G T (w G T N).point N (w G T N).shows h)
             (r.left G T (w G T N).point N (w G T N).shows)
             (λ ε h. keep-abstract G.concretes h (abstracts-concretes N) (w G T N).numbers)
             (λ e l g j h. pair-places p T N.sized.few_i.0 N.sized.few_o.0 N.sized.few_k.0 a e (inside e g) (over G T N e l g) j h);
       }
     where
-      inside : (e : ℕ) → e < d → e < p.nc
+      inside : (e : ℕ) → e < d → e < p.concretes.bindings
       inside e g = omega (arith, r.high)
 
       over : (G : Groups) (T : PartTests) → Nest table plan cells p G T → (e : ℕ) → b ≤ e → e < d → PairPasses p T a e
@@ -110,9 +110,9 @@ module _ {table plan cells : List ℕ} {p : Part} {from end : ℕ} {before after
           subst (λ (t : ℕ). PairPasses p T t e) v.numbers.abstract_is
           (r.past G T v.point N v.shows (k ∙ sym (ap (λ (t : ℕ). key_in cells (pair_group p m) t + 1) v.numbers.abstract_is)) e l g)
 
-  pub step-inputs : {a mask c b d : ℕ} → from / per_input p ≤ (a * p.nc + c) * p.ni + b
+  pub step-inputs : {a mask c b d : ℕ} → from / per_input p ≤ (a * p.concretes.bindings + c) * p.inputs.bindings + b
       → ((G : Groups) (T : PartTests) → Nest table plan cells p G T
-      → Standing cells before (OfConcrete cells G a c) (RelatedHolds p T a mask c) (passing p T) from end (((a * p.nc + c) * p.ni + b) * per_input p))
+      → Standing cells before (OfConcrete cells G a c) (RelatedHolds p T a mask c) (passing p T) from end (((a * p.concretes.bindings + c) * p.inputs.bindings + b) * per_input p))
       → InputAnswers cells p mask b before after d
       → InInputs table plan cells p from end a mask c d after
   step-inputs {a} {mask} {c} {b} {d} low w r =
@@ -120,16 +120,16 @@ module _ {table plan cells : List ℕ} {p : Part} {from end : ℕ} {before after
         asked = asked-after (λ G. G.inputs) q (r.left table plan);
         low = lower _ _ _ _ low r.sought.low;
         high = r.sought.high;
-        each = λ G T N. at-step G.inputs (T.ready a) p.ni (per_input p) (a * p.nc + c) b d after (some-input N.sized) (w G T N)
+        each = λ G T N. at-step G.inputs (T.ready a) p.inputs.bindings (per_input p) (a * p.concretes.bindings + c) b d after (some-input N.sized) (w G T N)
             (sought-same r.sought (w G T N).fixed.up.bits)
             (r.left table plan G T (w G T N).point N (w G T N).shows)
             (λ ε h. keep-concrete G.inputs h (abstracts-inputs N) (concretes-inputs N) (w G T N).numbers)
-            (λ j e l h. ready-block T p.nc p.ni p.nq p.nk a c j (w G T N).fixed.low e h);
+            (λ j e l h. ready-block T p.concretes.bindings p.inputs.bindings p.outputs.bindings p.primes.bindings a c j (w G T N).fixed.low e h);
       }
 
-  pub step-outputs : {a mask c i b d : ℕ} → from / p.nk ≤ ((a * p.nc + c) * p.ni + i) * p.nq + b
+  pub step-outputs : {a mask c i b d : ℕ} → from / p.primes.bindings ≤ ((a * p.concretes.bindings + c) * p.inputs.bindings + i) * p.outputs.bindings + b
       → ((G : Groups) (T : PartTests) → Nest table plan cells p G T
-      → Standing cells before (OfInput cells G a c i) (ReadyHolds p T a mask c i) (passing p T) from end ((((a * p.nc + c) * p.ni + i) * p.nq + b) * p.nk))
+      → Standing cells before (OfInput cells G a c i) (ReadyHolds p T a mask c i) (passing p T) from end ((((a * p.concretes.bindings + c) * p.inputs.bindings + i) * p.outputs.bindings + b) * p.primes.bindings))
       → OutputAnswers table plan cells p b before after d
       → InOutputs table plan cells p from end a mask c i d after
   step-outputs {a} {mask} {c} {i} {b} {d} low w r =
@@ -138,21 +138,21 @@ module _ {table plan cells : List ℕ} {p : Part} {from end : ℕ} {before after
         asked = asked-after (λ G. G.outputs) q r.left;
         low = lower _ _ _ _ low s.low;
         high = s.high;
-        each = λ G T N. at-step G.outputs (T.front c i) p.nq p.nk ((a * p.nc + c) * p.ni + i) b d after N.sized.few_k.0 (w G T N)
+        each = λ G T N. at-step G.outputs (T.front c i) p.outputs.bindings p.primes.bindings ((a * p.concretes.bindings + c) * p.inputs.bindings + i) b d after N.sized.few_k.0 (w G T N)
             (here G T N) (r.left G T (w G T N).point N (w G T N).shows)
             (λ ε h. keep-input G.outputs h (abstracts-outputs N) (concretes-outputs N) (inputs-outputs N) (w G T N).numbers)
-            (λ j e l h. front-block T p.nc p.ni p.nq p.nk a c i j (w G T N).fixed.up.low (w G T N).fixed.low N.sized.few_k.0 e
-            (λ k g. excluded G T N (j / p.nk % p.nq) k l g h));
+            (λ j e l h. front-block T p.concretes.bindings p.inputs.bindings p.outputs.bindings p.primes.bindings a c i j (w G T N).fixed.up.low (w G T N).fixed.low N.sized.few_k.0 e
+            (λ k g. excluded G T N (j / p.primes.bindings % p.outputs.bindings) k l g h));
       }
     where
-      here : (G : Groups) (T : PartTests) (N : Nest table plan cells p G T) → Sought (T.front c i) b p.nq d
+      here : (G : Groups) (T : PartTests) (N : Nest table plan cells p G T) → Sought (T.front c i) b p.outputs.bindings d
       here G T N =
           let v = (w G T N).numbers in
-          subst (λ (t : ℕ). Sought (T.front c t) b p.nq d) v.input_is
-          (subst (λ (t : ℕ). Sought (T.front t (number_of cells G.inputs (w G T N).point)) b p.nq d) v.up.concrete_is
+          subst (λ (t : ℕ). Sought (T.front c t) b p.outputs.bindings d) v.input_is
+          (subst (λ (t : ℕ). Sought (T.front t (number_of cells G.inputs (w G T N).point)) b p.outputs.bindings d) v.up.concrete_is
           (r.sought G T (w G T N).point N (w G T N).shows))
 
-      excluded : (G : Groups) (T : PartTests) (N : Nest table plan cells p G T) (o k : ℕ) → o < p.nq → k < p.nk → T.front c i o ≡ false → T.steps c i o k ≡ false
+      excluded : (G : Groups) (T : PartTests) (N : Nest table plan cells p G T) (o k : ℕ) → o < p.outputs.bindings → k < p.primes.bindings → T.front c i o ≡ false → T.steps c i o k ≡ false
       excluded G T N o k l g h =
           let v = (w G T N).numbers in
           sym (ap₂ (λ (x y : ℕ). T.steps x y o k) v.up.concrete_is v.input_is)
@@ -161,15 +161,15 @@ module _ {table plan cells : List ℕ} {p : Part} {from end : ℕ} {before after
   -- what the search for after states found, by the numbers that are chosen
   pub sought-afters : {G : Groups} {T : PartTests} {a mask c i o b d x : ℕ} {f : ℕ → Bool} → Nest table plan cells p G T
       → Standing cells before (OfOutput cells G a c i o) (FrontHolds p T a mask c i o) f from end x → AfterAnswers table plan cells p b before after d
-      → Sought (T.steps c i o) b p.nk d
+      → Sought (T.steps c i o) b p.primes.bindings d
   sought-afters {G} {T} {a} {mask} {c} {i} {o} {b} {d} N w r =
-      afters_of T c i o _ _ _ b p.nk d w.numbers.up.up.concrete_is w.numbers.up.input_is w.numbers.output_is w.fixed.front
+      afters_of T c i o _ _ _ b p.primes.bindings d w.numbers.up.up.concrete_is w.numbers.up.input_is w.numbers.output_is w.fixed.front
       (r.sought G T w.point N w.shows)
 
-  pub step-afters : {a mask c i o b d : ℕ} → from ≤ (((a * p.nc + c) * p.ni + i) * p.nq + o) * p.nk + b
+  pub step-afters : {a mask c i o b d : ℕ} → from ≤ (((a * p.concretes.bindings + c) * p.inputs.bindings + i) * p.outputs.bindings + o) * p.primes.bindings + b
       → ((G : Groups) (T : PartTests) → Nest table plan cells p G T
       → Standing cells before (OfOutput cells G a c i o) (FrontHolds p T a mask c i o) (passing p T) from end
-      (((((a * p.nc + c) * p.ni + i) * p.nq + o) * p.nk + b) * 1))
+      (((((a * p.concretes.bindings + c) * p.inputs.bindings + i) * p.outputs.bindings + o) * p.primes.bindings + b) * 1))
       → AfterAnswers table plan cells p b before after d
       → InAfters table plan cells p from end a mask c i o d after
   step-afters {a} {mask} {c} {i} {o} {b} {d} low w r =
@@ -178,10 +178,10 @@ module _ {table plan cells : List ℕ} {p : Part} {from end : ℕ} {before after
         asked = asked-after (λ G. G.primes) q r.left;
         low = lower _ _ _ _ low s.low;
         high = s.high;
-        each = λ G T N. at-step G.primes (T.steps c i o) p.nk 1 (((a * p.nc + c) * p.ni + i) * p.nq + o) b d after (omega arith) (w G T N)
+        each = λ G T N. at-step G.primes (T.steps c i o) p.primes.bindings 1 (((a * p.concretes.bindings + c) * p.inputs.bindings + i) * p.outputs.bindings + o) b d after (omega arith) (w G T N)
             (sought-afters N (w G T N) r) (r.left G T (w G T N).point N (w G T N).shows)
             (λ ε h. keep-output G.primes h (abstracts-primes N) (concretes-primes N) (inputs-primes N) (outputs-primes N) (w G T N).numbers)
-            (λ j e l h. steps-block T p.nc p.ni p.nq p.nk a c i o j (w G T N).fixed.up.up.low (w G T N).fixed.up.low (w G T N).fixed.low e h);
+            (λ j e l h. steps-block T p.concretes.bindings p.inputs.bindings p.outputs.bindings p.primes.bindings a c i o j (w G T N).fixed.up.up.low (w G T N).fixed.up.low (w G T N).fixed.low e h);
       }
 
 -- ---- a search goes forward

@@ -7,4 +7,4 @@ use Rattle.nest_steps.specs.NestPromises.{Groups, Nest}
 -- the whole part: the first place that fails, if one does
 pub record SweepAnswers (table plan cells : List ℕ) (p : Part) (from end : ℕ) (failing : Option ℕ) : Type 0 where
   pub looked : (G : Groups) (T : PartTests) → Nest table plan cells p G T
-      → Looked (passes_from T p.nc p.ni p.nq p.nk) from end (stopped_at end failing) (is_some failing)
+      → Looked (passes_from T p.concretes.bindings p.inputs.bindings p.outputs.bindings p.primes.bindings) from end (stopped_at end failing) (is_some failing)

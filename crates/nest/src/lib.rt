@@ -5,7 +5,7 @@
 // Form 5: the slots are lent to be written beside a search that is only read; the two places of a sweep are other ones for each part.
 #![tactic(auto)]
 
-ghost use Rattle.std.specs.Prelude.{◌≡◌, ◌*◌, ◌≤◌};
+ghost use Rattle.std.specs.Prelude.{◌*◌, ◌≤◌};
 ghost use Rattle.nest_steps.specs.NestPromises.{NestAsked};
 ghost use Rattle.nest.specs.SweepPromises.{SweepAnswers};
 
@@ -26,15 +26,15 @@ pub fn sweep(
     end: usize,
     slots: &mut [[i64; 64]; 2],
 ) -> Option<usize>
-    requires from_le_end { (from ≤ end) × (end ≤ s.now.part.na * s.now.part.nc * s.now.part.ni * s.now.part.nq * s.now.part.nk) }
+    requires from_le_end { (from ≤ end) × (end ≤ s.now.part.abstracts.bindings * s.now.part.concretes.bindings * s.now.part.inputs.bindings * s.now.part.outputs.bindings * s.now.part.primes.bindings) }
     requires nest_asked { NestAsked s.now.table.now s.now.plan.now s.now.cells.now s.now.part slots.old }
     ensures { SweepAnswers s.now.table.now s.now.plan.now s.now.cells.now s.now.part from end result }
 {
     let p = &s.part;
-    // How many places a binding of each group has: of outputs nk, of inputs by_input, ..
-    let by_input = p.nq * p.nk;
-    let by_concrete = p.ni * by_input;
-    let by_abstract = p.nc * by_concrete;
+    // How many places a binding of each group has: of outputs as many as `primes` has bindings, of inputs by_input, ..
+    let by_input = p.outputs.bindings * p.primes.bindings;
+    let by_concrete = p.inputs.bindings * by_input;
+    let by_abstract = p.concretes.bindings * by_concrete;
     let mut known = [0u16; KNOWN];
     let mut memo = [0u64; memo::NUMBERS];
     let masks = masks_of(s);
@@ -44,33 +44,33 @@ pub fn sweep(
     let mut seen = [0u16; KEYS];
     let mut failing = None;
     let mut a = next_open_abstract(s, from / by_abstract, masks, slots, &mut memo, &done);
-    'abstracts: while a < p.na {
+    'abstracts: while a < p.abstracts.bindings {
         let first = a * by_abstract;
         if end <= first {
             break 'abstracts;
         }
         let mark = pair_mark(s, masks, a);
         let mask = ready(s, slots, &mut memo);
-        let start = (from / by_concrete).saturating_sub(a * p.nc);
+        let start = (from / by_concrete).saturating_sub(a * p.concretes.bindings);
         let mut c = next_open_concrete(s, start, masks, mark, slots, &mut memo, &seen);
-        while c < p.nc {
-            let x = a * p.nc + c;
+        while c < p.concretes.bindings {
+            let x = a * p.concretes.bindings + c;
             let within = x * by_concrete;
             if end <= within {
                 break 'abstracts;
             }
-            let start = (from / by_input).saturating_sub(x * p.ni);
+            let start = (from / by_input).saturating_sub(x * p.inputs.bindings);
             let mut i = next_input(s, mask, start, slots);
-            while i < p.ni {
-                let y = x * p.ni + i;
-                let start = (from / p.nk).saturating_sub(y * p.nq);
+            while i < p.inputs.bindings {
+                let y = x * p.inputs.bindings + i;
+                let start = (from / p.primes.bindings).saturating_sub(y * p.outputs.bindings);
                 let mut o = next_output(s, start, slots, &mut memo);
-                while o < p.nq {
-                    let z = y * p.nq + o;
-                    let start = from.saturating_sub(z * p.nk);
+                while o < p.outputs.bindings {
+                    let z = y * p.outputs.bindings + o;
+                    let start = from.saturating_sub(z * p.primes.bindings);
                     let mut k = next_after(s, start, slots, &mut memo);
-                    while k < p.nk {
-                        let place = z * p.nk + k;
+                    while k < p.primes.bindings {
+                        let place = z * p.primes.bindings + k;
                         if end <= place {
                             break 'abstracts;
                         }
@@ -85,12 +85,14 @@ pub fn sweep(
                 }
                 i = next_input(s, mask, i + 1, slots);
             }
-            let whole = is_within(from, end, within, by_concrete);
-            make_mark(s.cells, concretes, c, mark, whole, &mut seen);
+            if is_within(from, end, within, by_concrete) {
+                make_mark(s.cells, concretes, c, mark, &mut seen);
+            }
             c = next_open_concrete(s, c + 1, masks, mark, slots, &mut memo, &seen);
         }
-        let whole = is_within(from, end, first, by_abstract);
-        make_mark(s.cells, wholes, a, PASSES, whole, &mut done);
+        if is_within(from, end, first, by_abstract) {
+            make_mark(s.cells, wholes, a, PASSES, &mut done);
+        }
         a = next_open_abstract(s, a + 1, masks, slots, &mut memo, &done);
     }
     failing

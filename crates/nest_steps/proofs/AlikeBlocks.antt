@@ -52,20 +52,20 @@ module _ {p : Part} {T : PartTests} where
       }
 
   -- one mark more
-  pub pair-seen : {ka kc : ℕ → ℕ} {seen : List ℕ} (a c : ℕ) → PairKeys p T ka kc → SeenPairs p T ka kc seen → a < p.na → c < p.nc → kc c < length seen
+  pub pair-seen : {ka kc : ℕ → ℕ} {seen : List ℕ} (a c : ℕ) → PairKeys p T ka kc → SeenPairs p T ka kc seen → a < p.abstracts.bindings → c < p.concretes.bindings → kc c < length seen
       → T.state a ≡ true → T.related a c ≡ true → PairPasses p T a c → SeenPairs p T ka kc (set seen (kc c) (ka a + 1))
   pair-seen {ka} {kc} {seen} a c keys w ha hc l e f q = record { passes = λ b d hb hd m. go b d hb hd m (ℕ_discrete (kc d) (kc c)) }
     where
-      go : (b d : ℕ) → b < p.na → d < p.nc → get_or (set seen (kc c) (ka a + 1)) (kc d) 0 ≡ ka b + 1 → Dec (kc d ≡ kc c) → PairPasses p T b d
+      go : (b d : ℕ) → b < p.abstracts.bindings → d < p.concretes.bindings → get_or (set seen (kc c) (ka a + 1)) (kc d) 0 ≡ ka b + 1 → Dec (kc d ≡ kc c) → PairPasses p T b d
       go b d hb hd m (yes s) =
           let t : ka a + 1 ≡ ka b + 1 = sym (get_or-set_same seen (kc c) (ka a + 1) 0 l) ∙ ap (λ (x : ℕ). get_or (set seen (kc c) (ka a + 1)) x 0) (sym s) ∙ m in
           pair-too e f (keys.alike a c b d ha hc hb hd (omega (arith, t)) s) q
       go b d hb hd m (no n) = w.passes b d hb hd (sym (get_or-set_other seen (kc c) (kc d) (ka a + 1) 0 n) ∙ m)
 
-  pub whole-seen : {ka : ℕ → ℕ} {done : List ℕ} (a : ℕ) → WholeKeys p T ka → SeenWholes p T ka done → a < p.na → T.state a ≡ true → WholePasses p T a
+  pub whole-seen : {ka : ℕ → ℕ} {done : List ℕ} (a : ℕ) → WholeKeys p T ka → SeenWholes p T ka done → a < p.abstracts.bindings → T.state a ≡ true → WholePasses p T a
       → SeenWholes p T ka (set done (ka a) 1)
   whole-seen {ka} {done} a keys w ha e q = record { passes = λ b hb m. go b hb m (ℕ_discrete (ka b) (ka a)) }
     where
-      go : (b : ℕ) → b < p.na → get_or (set done (ka a) 1) (ka b) 0 ≡ 1 → Dec (ka b ≡ ka a) → WholePasses p T b
+      go : (b : ℕ) → b < p.abstracts.bindings → get_or (set done (ka a) 1) (ka b) 0 ≡ 1 → Dec (ka b ≡ ka a) → WholePasses p T b
       go b hb m (yes s) = whole-too e (keys.alike a b ha hb s) q
       go b hb m (no n) = w.passes b hb (sym (get_or-set_other done (ka a) (ka b) 1 0 n) ∙ m)

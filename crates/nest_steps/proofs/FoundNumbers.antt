@@ -60,7 +60,7 @@ module _ {table plan cells : List ℕ} {p : Part} {G : Groups} {T : PartTests} (
   front-plan : Planned table plan cells 3 0 G.outputs N.steps.tests
   front-plan = planned-front G.outputs G.primes N.steps.planned
 
-  rest-plan : Planned table plan cells 3 p.vo G.primes N.steps.tests
+  rest-plan : Planned table plan cells 3 p.outputs.variables G.primes N.steps.tests
   rest-plan =
       subst (λ (j : ℕ). Planned table plan cells 3 j G.primes N.steps.tests) N.sized.vo (planned-rest G.outputs G.primes N.steps.planned)
 
@@ -70,11 +70,11 @@ module _ {table plan cells : List ℕ} {p : Part} {G : Groups} {T : PartTests} (
   prime-distinct : Distinct G.primes
   prime-distinct = distinct-right G.outputs G.primes N.steps.distinct
 
-  output-sought : {from r : ℕ} (δ : Point) → Tame cells δ → Sought (under cells N.steps.tests 0 G.outputs δ) from p.nq r
-      → Sought (T.front (number_of cells G.concretes δ) (number_of cells G.inputs δ)) from p.nq r
+  output-sought : {from r : ℕ} (δ : Point) → Tame cells δ → Sought (under cells N.steps.tests 0 G.outputs δ) from p.outputs.bindings r
+      → Sought (T.front (number_of cells G.concretes δ) (number_of cells G.inputs δ)) from p.outputs.bindings r
   output-sought δ τ s = sought-same (front-finds front-plan δ s) by
     where
-      by : (k : ℕ) → k < p.nq → levels_hold N.steps.tests 0 (length G.outputs) (placed cells G.outputs δ k)
+      by : (k : ℕ) → k < p.outputs.bindings → levels_hold N.steps.tests 0 (length G.outputs) (placed cells G.outputs δ k)
           ≡ T.front (number_of cells G.concretes δ) (number_of cells G.inputs δ) k
       by k h =
           let l : k < span cells G.outputs = subst (λ (t : ℕ). k < t) N.sized.nq h in
@@ -86,14 +86,14 @@ module _ {table plan cells : List ℕ} {p : Part} {G : Groups} {T : PartTests} (
           (number-apart cells G.inputs G.outputs δ _ (inputs-outputs N) b)
 
   after-sought : {from r : ℕ} (δ : Point) → Tame cells δ → T.front (number_of cells G.concretes δ) (number_of cells G.inputs δ) (number_of cells G.outputs δ) ≡ true
-      → Sought (under cells N.steps.tests p.vo G.primes δ) from p.nk r
-      → Sought (T.steps (number_of cells G.concretes δ) (number_of cells G.inputs δ) (number_of cells G.outputs δ)) from p.nk r
+      → Sought (under cells N.steps.tests p.outputs.variables G.primes δ) from p.primes.bindings r
+      → Sought (T.steps (number_of cells G.concretes δ) (number_of cells G.inputs δ) (number_of cells G.outputs δ)) from p.primes.bindings r
   after-sought {from} {r} δ τ e s =
       subst (λ (t : ℕ). Sought g from t r) (sym N.sized.nk)
       (sought-same
       (rest-finds G.outputs G.primes N.steps δ τ (N.front_is δ τ ∙ e)
       (subst (λ (t : ℕ). Sought (under cells N.steps.tests (length G.outputs) G.primes δ) from t r) N.sized.nk
-      (subst (λ (j : ℕ). Sought (under cells N.steps.tests j G.primes δ) from p.nk r) (sym N.sized.vo) s)))
+      (subst (λ (j : ℕ). Sought (under cells N.steps.tests j G.primes δ) from p.primes.bindings r) (sym N.sized.vo) s)))
       by)
     where
       g : ℕ → Bool
@@ -114,7 +114,7 @@ module _ {table plan cells : List ℕ} {p : Part} {G : Groups} {T : PartTests} (
 -- ---- the five searches
 
 module _ {table plan cells : List ℕ} {p : Part} {before : List (List ℤ)} (q : NestAsked table plan cells p before) where
-  pub ask-states : {a : ℕ} → a ≤ p.na → SeekAsked table plan cells 0 0 p.va p.na a before
+  pub ask-states : {a : ℕ} → a ≤ p.abstracts.bindings → SeekAsked table plan cells 0 0 p.abstracts.variables p.abstracts.bindings a before
   ask-states h =
       let N = q.nest in
       record {
@@ -129,7 +129,7 @@ module _ {table plan cells : List ℕ} {p : Part} {before : List (List ℤ)} (q 
         inside = h;
       }
 
-  pub ask-related : {c : ℕ} → c ≤ p.nc → SeekAsked table plan cells 1 0 p.vc p.nc c before
+  pub ask-related : {c : ℕ} → c ≤ p.concretes.bindings → SeekAsked table plan cells 1 0 p.concretes.variables p.concretes.bindings c before
   ask-related h =
       let N = q.nest in
       record {
@@ -144,7 +144,7 @@ module _ {table plan cells : List ℕ} {p : Part} {before : List (List ℤ)} (q 
         inside = h;
       }
 
-  pub ask-ready : SeekAsked table plan cells 2 0 p.vr p.nr 0 before
+  pub ask-ready : SeekAsked table plan cells 2 0 p.readying.variables p.readying.bindings 0 before
   ask-ready =
       let N = q.nest in
       record {
@@ -159,7 +159,7 @@ module _ {table plan cells : List ℕ} {p : Part} {before : List (List ℤ)} (q 
         inside = omega arith;
       }
 
-  pub ask-outputs : {o : ℕ} → o ≤ p.nq → SeekAsked table plan cells 3 0 p.vo p.nq o before
+  pub ask-outputs : {o : ℕ} → o ≤ p.outputs.bindings → SeekAsked table plan cells 3 0 p.outputs.variables p.outputs.bindings o before
   ask-outputs h =
       let N = q.nest in
       record {
@@ -174,7 +174,7 @@ module _ {table plan cells : List ℕ} {p : Part} {before : List (List ℤ)} (q 
         inside = h;
       }
 
-  pub ask_afters : {k : ℕ} → k ≤ p.nk → SeekAsked table plan cells 3 p.vo p.vk p.nk k before
+  pub ask_afters : {k : ℕ} → k ≤ p.primes.bindings → SeekAsked table plan cells 3 p.outputs.variables p.primes.variables p.primes.bindings k before
   ask_afters h =
       let N = q.nest in
       record {
@@ -190,7 +190,7 @@ module _ {table plan cells : List ℕ} {p : Part} {before : List (List ℤ)} (q 
         inside = h;
       }
 
-  pub ask-met : SeekAsked table plan cells 4 0 p.vm p.nm 0 before
+  pub ask-met : SeekAsked table plan cells 4 0 p.meeting.variables p.meeting.bindings 0 before
   ask-met =
       let N = q.nest in
       record {
@@ -206,24 +206,24 @@ module _ {table plan cells : List ℕ} {p : Part} {before : List (List ℤ)} (q 
       }
 
 module _ {table plan cells : List ℕ} {p : Part} {before after : List (List ℤ)} {from r : ℕ} where
-  pub states-found : SeekAnswers table plan cells 0 0 p.va p.na from before after r → AbstractAnswers table plan cells p from before after r
+  pub states-found : SeekAnswers table plan cells 0 0 p.abstracts.variables p.abstracts.bindings from before after r → AbstractAnswers table plan cells p from before after r
   states-found s =
       record {
         sought = λ G T δ N w.
             let c : Counts cells G.abstracts = planned-counts N.states.planned in
-            found N.states δ w.tame p.na N.sized.na T.state
+            found N.states δ w.tame p.abstracts.bindings N.sized.na T.state
             (λ k h. ap T.state (number-placed cells G.abstracts δ k N.states.distinct c h))
             (s.sought G.abstracts N.states.tests δ N.states.planned w N.sized.va);
         left = λ G T δ N w. stepped N.states.distinct (planned-counts N.states.planned) N.sized.na
             (s.left G.abstracts N.states.tests δ N.states.planned w N.sized.va);
       }
 
-  pub related-found : SeekAnswers table plan cells 1 0 p.vc p.nc from before after r → ConcreteAnswers table plan cells p from before after r
+  pub related-found : SeekAnswers table plan cells 1 0 p.concretes.variables p.concretes.bindings from before after r → ConcreteAnswers table plan cells p from before after r
   related-found s =
       record {
         sought = λ G T δ N w.
             let c : Counts cells G.concretes = planned-counts N.related.planned in
-            found N.related δ w.tame p.nc N.sized.nc (T.related (number_of cells G.abstracts δ))
+            found N.related δ w.tame p.concretes.bindings N.sized.nc (T.related (number_of cells G.abstracts δ))
             (λ k h. ap₂ T.related (number-apart cells G.abstracts G.concretes δ _ (abstracts-concretes N) (beside_placed cells G.concretes δ k))
             (number-placed cells G.concretes δ k N.related.distinct c h))
             (s.sought G.concretes N.related.tests δ N.related.planned w N.sized.vc);
@@ -231,7 +231,7 @@ module _ {table plan cells : List ℕ} {p : Part} {before after : List (List ℤ
             (s.left G.concretes N.related.tests δ N.related.planned w N.sized.vc);
       }
 
-  pub outputs-found : SeekAnswers table plan cells 3 0 p.vo p.nq from before after r → OutputAnswers table plan cells p from before after r
+  pub outputs-found : SeekAnswers table plan cells 3 0 p.outputs.variables p.outputs.bindings from before after r → OutputAnswers table plan cells p from before after r
   outputs-found s =
       record {
         sought = λ G T δ N w. output-sought N δ w.tame (s.sought G.outputs N.steps.tests δ (front-plan N) w N.sized.vo);
@@ -239,7 +239,7 @@ module _ {table plan cells : List ℕ} {p : Part} {before after : List (List ℤ
             (s.left G.outputs N.steps.tests δ (front-plan N) w N.sized.vo);
       }
 
-  pub afters-found : SeekAnswers table plan cells 3 p.vo p.vk p.nk from before after r → AfterAnswers table plan cells p from before after r
+  pub afters-found : SeekAnswers table plan cells 3 p.outputs.variables p.primes.variables p.primes.bindings from before after r → AfterAnswers table plan cells p from before after r
   afters-found s =
       record {
         sought = λ G T δ N w e. after-sought N δ w.tame e (s.sought G.primes N.steps.tests δ (rest-plan N) w N.sized.vk);
@@ -248,18 +248,18 @@ module _ {table plan cells : List ℕ} {p : Part} {before after : List (List ℤ
       }
 
 module _ {table plan cells : List ℕ} {p : Part} {before after : List (List ℤ)} {r : ℕ} where
-  pub ready-found : SeekAnswers table plan cells 2 0 p.vr p.nr 0 before after r → AbstractPreAnswers table plan cells p before after (ltb r p.nr)
+  pub ready-found : SeekAnswers table plan cells 2 0 p.readying.variables p.readying.bindings 0 before after r → AbstractPreAnswers table plan cells p before after (ltb r p.readying.bindings)
   ready-found s =
       record {
-        is = λ G T δ N w. some-found N.ready δ w.tame p.nr N.sized.nr (s.sought G.readying N.ready.tests δ N.ready.planned w N.sized.vr)
+        is = λ G T δ N w. some-found N.ready δ w.tame p.readying.bindings N.sized.nr (s.sought G.readying N.ready.tests δ N.ready.planned w N.sized.vr)
             ∙ N.ready_is δ w.tame;
         left = λ G T δ N w. only-left (s.left G.readying N.ready.tests δ N.ready.planned w N.sized.vr);
       }
 
-  pub met-found : SeekAnswers table plan cells 4 0 p.vm p.nm 0 before after r → MetAnswers table plan cells p before after (ltb r p.nm)
+  pub met-found : SeekAnswers table plan cells 4 0 p.meeting.variables p.meeting.bindings 0 before after r → MetAnswers table plan cells p before after (ltb r p.meeting.bindings)
   met-found s =
       record {
-        is = λ G T δ N w. some-found N.met δ w.tame p.nm N.sized.nm (s.sought G.meeting N.met.tests δ N.met.planned w N.sized.vm)
+        is = λ G T δ N w. some-found N.met δ w.tame p.meeting.bindings N.sized.nm (s.sought G.meeting N.met.tests δ N.met.planned w N.sized.vm)
             ∙ N.met_is δ w.tame;
         left = λ G T δ N w. only-left (s.left G.meeting N.met.tests δ N.met.planned w N.sized.vm);
       }

@@ -53,19 +53,19 @@ module _ {table plan cells : List ℕ} {p : Part} {G : Groups} {T : PartTests} (
 
   -- ---- by the masks
 
-  abstract_in : (i : ℕ) → i < p.va → Among (0 + i) G.abstracts
-  abstract_in i h = subst (Among (0 + i)) (sym N.sized.abstracts_are) (upward-among 0 p.va (0 + i) (omega arith) (omega arith))
+  abstract_in : (i : ℕ) → i < p.abstracts.variables → Among (0 + i) G.abstracts
+  abstract_in i h = subst (Among (0 + i)) (sym N.sized.abstracts_are) (upward-among 0 p.abstracts.variables (0 + i) (omega arith) (omega arith))
 
-  concrete_in : (i : ℕ) → i < p.vc → Among (8 + i) G.concretes
-  concrete_in i h = subst (Among (8 + i)) (sym N.sized.concretes_are) (upward-among 8 p.vc (8 + i) (omega arith) (omega arith))
+  concrete_in : (i : ℕ) → i < p.concretes.variables → Among (8 + i) G.concretes
+  concrete_in i h = subst (Among (8 + i)) (sym N.sized.concretes_are) (upward-among 8 p.concretes.variables (8 + i) (omega arith) (omega arith))
 
-  over-abstracts : {P : Point → Bool} {r : ℕ} → Ignores cells P r (upward 0 p.va) → Ignores cells P r G.abstracts
+  over-abstracts : {P : Point → Bool} {r : ℕ} → Ignores cells P r (upward 0 p.abstracts.variables) → Ignores cells P r G.abstracts
   over-abstracts {P} {r} w = subst (Ignores cells P r) (sym N.sized.abstracts_are) w
 
-  over-concretes : {P : Point → Bool} {r : ℕ} → Ignores cells P r (upward 8 p.vc) → Ignores cells P r G.concretes
+  over-concretes : {P : Point → Bool} {r : ℕ} → Ignores cells P r (upward 8 p.concretes.variables) → Ignores cells P r G.concretes
   over-concretes {P} {r} w = subst (Ignores cells P r) (sym N.sized.concretes_are) w
 
-  module _ {u r : ℕ} (w : MaskSays table plan u 0 p.va r) where
+  module _ {u r : ℕ} (w : MaskSays table plan u 0 p.abstracts.variables r) where
     related-by : u ≤ 1 → Ignores cells (related_of cells G T) r G.abstracts
     related-by h = over-abstracts (mask_ignores w cells (related_of cells G T) (λ i l v. related-idle v h))
 
@@ -75,7 +75,7 @@ module _ {table plan cells : List ℕ} {p : Part} {G : Groups} {T : PartTests} (
     met_by : u ≤ 4 → Ignores cells (met_of cells G T) r G.abstracts
     met_by h = over-abstracts (mask_ignores w cells (met_of cells G T) (λ i l v. met-idle v h (λ n. (abstracts-meeting N).none (0 + i) (abstract_in i l) n)))
 
-  module _ {u r : ℕ} (w : MaskSays table plan u 8 p.vc r) where
+  module _ {u r : ℕ} (w : MaskSays table plan u 8 p.concretes.variables r) where
     steps-by : u ≤ 3 → Ignores cells (steps_of cells G T) r G.concretes
     steps-by h = over-concretes (mask_ignores w cells (steps_of cells G T) (λ i l v. steps-idle v h))
 
@@ -84,10 +84,10 @@ module _ {table plan cells : List ℕ} {p : Part} {G : Groups} {T : PartTests} (
 
   -- ---- what is asked
 
-  pub few-abstracts : p.va ≤ 11
+  pub few-abstracts : p.abstracts.variables ≤ 11
   few-abstracts = omega (arith, N.sized.va, N.states.planned.few)
 
-  pub few-concretes : p.vc ≤ 11
+  pub few-concretes : p.concretes.variables ≤ 11
   few-concretes = omega (arith, N.sized.vc, N.related.planned.few)
 
   pub plan-asked : PlanAsked plan
@@ -126,7 +126,7 @@ module _ {table plan cells : List ℕ} {p : Part} {G : Groups} {T : PartTests} (
   }
 
 -- the masks from the searches for what is inside a block on
-pub masks-found : {table plan : List ℕ} {p : Part} {x y z : ℕ} → MaskSays table plan 2 0 p.va x → MaskSays table plan 1 0 p.va y → MaskSays table plan 3 8 p.vc z
+pub masks-found : {table plan : List ℕ} {p : Part} {x y z : ℕ} → MaskSays table plan 2 0 p.abstracts.variables x → MaskSays table plan 1 0 p.abstracts.variables y → MaskSays table plan 3 8 p.concretes.variables z
     → MasksAnswers table plan p (record { pairs = x; wholes = y; concretes = z })
 masks-found a b c =
     record {

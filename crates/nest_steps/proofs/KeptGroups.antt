@@ -123,7 +123,7 @@ module _ {table plan cells : List ℕ} {p : Part} {G : Groups} {T : PartTests} (
   outputs-meeting = apart-right G.outputs G.primes G.meeting N.apart_outputs
 
   -- outputs that the front excludes allow no after state
-  pub front_out : (δ : Point) → Tame cells δ → (o k : ℕ) → o < p.nq → k < p.nk → T.front (number_of cells G.concretes δ) (number_of cells G.inputs δ) o ≡ false
+  pub front_out : (δ : Point) → Tame cells δ → (o k : ℕ) → o < p.outputs.bindings → k < p.primes.bindings → T.front (number_of cells G.concretes δ) (number_of cells G.inputs δ) o ≡ false
       → T.steps (number_of cells G.concretes δ) (number_of cells G.inputs δ) o k ≡ false
   front_out δ τ o k ho hk h = sym (ap₂ (λ (c i : ℕ). T.steps c i o k) c_is i-is) ∙ (sym (ap₂ (λ (x y : ℕ). T.steps c' i' x y) o_is k-is) ∙ out)
     where

@@ -49,27 +49,27 @@ module _ {cells ss : List ℕ} {n : ℕ} (w : Placing cells ss n) (δ : Point) (
   placed-apart us a = number-apart cells us ss δ _ a (beside_placed cells ss δ x)
 
 module _ {table plan cells : List ℕ} {p : Part} {G : Groups} {T : PartTests} (N : Nest table plan cells p G T) where
-  place-a : Placing cells G.abstracts p.na
+  place-a : Placing cells G.abstracts p.abstracts.bindings
   place-a = record { distinct = N.states.distinct; counts = planned-counts N.states.planned; many = N.sized.na }
 
-  place-c : Placing cells G.concretes p.nc
+  place-c : Placing cells G.concretes p.concretes.bindings
   place-c = record { distinct = N.related.distinct; counts = planned-counts N.related.planned; many = N.sized.nc }
 
-  pub place-i : Placing cells G.inputs p.ni
+  pub place-i : Placing cells G.inputs p.inputs.bindings
   place-i = record {
-    distinct = subst Distinct (sym N.sized.inputs_are) (distinct-upward 16 p.vi);
-    counts = subst (Counts cells) (sym N.sized.inputs_are) (upward-counts cells 16 p.vi N.sized.grouped);
+    distinct = subst Distinct (sym N.sized.inputs_are) (distinct-upward 16 p.inputs.variables);
+    counts = subst (Counts cells) (sym N.sized.inputs_are) (upward-counts cells 16 p.inputs.variables N.sized.grouped);
     many = N.sized.ni;
   }
 
-  place-o : Placing cells G.outputs p.nq
+  place-o : Placing cells G.outputs p.outputs.bindings
   place-o = record {
     distinct = distinct-left G.outputs G.primes N.steps.distinct;
     counts = planned-counts (planned-front G.outputs G.primes N.steps.planned);
     many = N.sized.nq;
   }
 
-  place-k : Placing cells G.primes p.nk
+  place-k : Placing cells G.primes p.primes.bindings
   place-k = record {
     distinct = distinct-right G.outputs G.primes N.steps.distinct;
     counts = planned-counts (planned-rest G.outputs G.primes N.steps.planned);
@@ -77,7 +77,7 @@ module _ {table plan cells : List ℕ} {p : Part} {G : Groups} {T : PartTests} (
   }
 
   -- another abstract state, another concrete state
-  put-abstract : {a c i o k : ℕ} (b : ℕ) → b < p.na → (δ : Point) → AtNumbers cells G a c i o k δ → AtNumbers cells G b c i o k (placed cells G.abstracts δ b)
+  put-abstract : {a c i o k : ℕ} (b : ℕ) → b < p.abstracts.bindings → (δ : Point) → AtNumbers cells G a c i o k δ → AtNumbers cells G b c i o k (placed cells G.abstracts δ b)
   put-abstract b h δ w = record {
     tame = placed-tame place-a δ w.tame b h;
     abstract_is = placed-is place-a δ w.tame b h;
@@ -87,7 +87,7 @@ module _ {table plan cells : List ℕ} {p : Part} {G : Groups} {T : PartTests} (
     prime_is = placed-apart place-a δ w.tame b h G.primes (apart-back (abstracts-primes N)) ∙ w.prime_is;
   }
 
-  put-concrete : {a c i o k : ℕ} (d : ℕ) → d < p.nc → (δ : Point) → AtNumbers cells G a c i o k δ → AtNumbers cells G a d i o k (placed cells G.concretes δ d)
+  put-concrete : {a c i o k : ℕ} (d : ℕ) → d < p.concretes.bindings → (δ : Point) → AtNumbers cells G a c i o k δ → AtNumbers cells G a d i o k (placed cells G.concretes δ d)
   put-concrete d h δ w = record {
     tame = placed-tame place-c δ w.tame d h;
     abstract_is = placed-apart place-c δ w.tame d h G.abstracts (abstracts-concretes N) ∙ w.abstract_is;
@@ -97,7 +97,7 @@ module _ {table plan cells : List ℕ} {p : Part} {G : Groups} {T : PartTests} (
     prime_is = placed-apart place-c δ w.tame d h G.primes (apart-back (concretes-primes N)) ∙ w.prime_is;
   }
 
-  put-input : {a c i o k : ℕ} (j : ℕ) → j < p.ni → (δ : Point) → AtNumbers cells G a c i o k δ → AtNumbers cells G a c j o k (placed cells G.inputs δ j)
+  put-input : {a c i o k : ℕ} (j : ℕ) → j < p.inputs.bindings → (δ : Point) → AtNumbers cells G a c i o k δ → AtNumbers cells G a c j o k (placed cells G.inputs δ j)
   put-input j h δ w = record {
     tame = placed-tame place-i δ w.tame j h;
     abstract_is = placed-apart place-i δ w.tame j h G.abstracts (abstracts-inputs N) ∙ w.abstract_is;
@@ -107,7 +107,7 @@ module _ {table plan cells : List ℕ} {p : Part} {G : Groups} {T : PartTests} (
     prime_is = placed-apart place-i δ w.tame j h G.primes (apart-back (inputs-primes N)) ∙ w.prime_is;
   }
 
-  put-output : {a c i o k : ℕ} (q : ℕ) → q < p.nq → (δ : Point) → AtNumbers cells G a c i o k δ → AtNumbers cells G a c i q k (placed cells G.outputs δ q)
+  put-output : {a c i o k : ℕ} (q : ℕ) → q < p.outputs.bindings → (δ : Point) → AtNumbers cells G a c i o k δ → AtNumbers cells G a c i q k (placed cells G.outputs δ q)
   put-output q h δ w = record {
     tame = placed-tame place-o δ w.tame q h;
     abstract_is = placed-apart place-o δ w.tame q h G.abstracts (abstracts-outputs N) ∙ w.abstract_is;
@@ -117,7 +117,7 @@ module _ {table plan cells : List ℕ} {p : Part} {G : Groups} {T : PartTests} (
     prime_is = placed-apart place-o δ w.tame q h G.primes (apart-back (outputs-primes N)) ∙ w.prime_is;
   }
 
-  put_prime : {a c i o k : ℕ} (l : ℕ) → l < p.nk → (δ : Point) → AtNumbers cells G a c i o k δ → AtNumbers cells G a c i o l (placed cells G.primes δ l)
+  put_prime : {a c i o k : ℕ} (l : ℕ) → l < p.primes.bindings → (δ : Point) → AtNumbers cells G a c i o k δ → AtNumbers cells G a c i o l (placed cells G.primes δ l)
   put_prime l h δ w = record {
     tame = placed-tame place-k δ w.tame l h;
     abstract_is = placed-apart place-k δ w.tame l h G.abstracts (abstracts-primes N) ∙ w.abstract_is;
@@ -134,7 +134,7 @@ module _ {table plan cells : List ℕ} {p : Part} {G : Groups} {T : PartTests} (
       pub abstract : ℕ
       pub at : AtNumbers cells G abstract c i o k point
 
-    somewhere : (c i o k : ℕ) → c < p.nc → i < p.ni → o < p.nq → k < p.nk → Somewhere c i o k
+    somewhere : (c i o k : ℕ) → c < p.concretes.bindings → i < p.inputs.bindings → o < p.outputs.bindings → k < p.primes.bindings → Somewhere c i o k
     somewhere c i o k hc hi ho hk = record {
       point = _;
       abstract = _;
@@ -162,47 +162,47 @@ module _ {table plan cells : List ℕ} {p : Part} {G : Groups} {T : PartTests} (
         by a c i o k a' c' i' o' k' h₁ h₂ h₃ h₄ h₅ = cc
 
     -- the same test at two abstract states with one key, and at two concrete states
-    by-abstract : (P : Point → Bool) (idle a b : ℕ) → a < p.na → b < p.na → Ignores cells P idle G.abstracts → keyed cells G.abstracts idle b ≡ keyed cells G.abstracts idle a
+    by-abstract : (P : Point → Bool) (idle a b : ℕ) → a < p.abstracts.bindings → b < p.abstracts.bindings → Ignores cells P idle G.abstracts → keyed cells G.abstracts idle b ≡ keyed cells G.abstracts idle a
         → (ε : Point) → Tame cells ε → P (placed cells G.abstracts ε b) ≡ P (placed cells G.abstracts ε a)
     by-abstract P idle a b ha hb f e ε υ =
         same_key cells P G.abstracts idle b a ε υ place-a.distinct place-a.counts (low place-a ε υ b hb) (low place-a ε υ a ha) f e
 
-    by-concrete : (P : Point → Bool) (idle c d : ℕ) → c < p.nc → d < p.nc → Ignores cells P idle G.concretes → keyed cells G.concretes idle d ≡ keyed cells G.concretes idle c
+    by-concrete : (P : Point → Bool) (idle c d : ℕ) → c < p.concretes.bindings → d < p.concretes.bindings → Ignores cells P idle G.concretes → keyed cells G.concretes idle d ≡ keyed cells G.concretes idle c
         → (ε : Point) → Tame cells ε → P (placed cells G.concretes ε d) ≡ P (placed cells G.concretes ε c)
     by-concrete P idle c d hc hd f e ε υ =
         same_key cells P G.concretes idle d c ε υ place-c.distinct place-c.counts (low place-c ε υ d hd) (low place-c ε υ c hc) f e
 
-    module _ (idle a b : ℕ) (ha : a < p.na) (hb : b < p.na) (e : keyed cells G.abstracts idle b ≡ keyed cells G.abstracts idle a) where
-      ready-same : Ignores cells (ready_of cells G T) idle G.abstracts → (i : ℕ) → i < p.ni → T.ready b i ≡ T.ready a i
+    module _ (idle a b : ℕ) (ha : a < p.abstracts.bindings) (hb : b < p.abstracts.bindings) (e : keyed cells G.abstracts idle b ≡ keyed cells G.abstracts idle a) where
+      ready-same : Ignores cells (ready_of cells G T) idle G.abstracts → (i : ℕ) → i < p.inputs.bindings → T.ready b i ≡ T.ready a i
       ready-same f i hi =
           let s = somewhere 0 i 0 0 N.sized.few_c.0 hi N.sized.few_o.0 N.sized.few_k.0 in
           sym (ready_at (put-abstract b hb s.point s.at))
           ∙ by-abstract (ready_of cells G T) idle a b ha hb f e s.point s.at.tame
           ∙ ready_at (put-abstract a ha s.point s.at)
 
-      related_same : Ignores cells (related_of cells G T) idle G.abstracts → (c : ℕ) → c < p.nc → T.related b c ≡ T.related a c
+      related_same : Ignores cells (related_of cells G T) idle G.abstracts → (c : ℕ) → c < p.concretes.bindings → T.related b c ≡ T.related a c
       related_same f c hc =
           let s = somewhere c 0 0 0 hc N.sized.few_i.0 N.sized.few_o.0 N.sized.few_k.0 in
           sym (related-at (put-abstract b hb s.point s.at))
           ∙ by-abstract (related_of cells G T) idle a b ha hb f e s.point s.at.tame
           ∙ related-at (put-abstract a ha s.point s.at)
 
-      met-same : Ignores cells (met_of cells G T) idle G.abstracts → (c i o k : ℕ) → c < p.nc → i < p.ni → o < p.nq → k < p.nk → T.met b c i o k ≡ T.met a c i o k
+      met-same : Ignores cells (met_of cells G T) idle G.abstracts → (c i o k : ℕ) → c < p.concretes.bindings → i < p.inputs.bindings → o < p.outputs.bindings → k < p.primes.bindings → T.met b c i o k ≡ T.met a c i o k
       met-same f c i o k hc hi ho hk =
           let s = somewhere c i o k hc hi ho hk in
           sym (met_at (put-abstract b hb s.point s.at))
           ∙ by-abstract (met_of cells G T) idle a b ha hb f e s.point s.at.tame
           ∙ met_at (put-abstract a ha s.point s.at)
 
-    module _ (idle c d : ℕ) (hc : c < p.nc) (hd : d < p.nc) (e : keyed cells G.concretes idle d ≡ keyed cells G.concretes idle c) where
-      steps-same : Ignores cells (steps_of cells G T) idle G.concretes → (i o k : ℕ) → i < p.ni → o < p.nq → k < p.nk → T.steps d i o k ≡ T.steps c i o k
+    module _ (idle c d : ℕ) (hc : c < p.concretes.bindings) (hd : d < p.concretes.bindings) (e : keyed cells G.concretes idle d ≡ keyed cells G.concretes idle c) where
+      steps-same : Ignores cells (steps_of cells G T) idle G.concretes → (i o k : ℕ) → i < p.inputs.bindings → o < p.outputs.bindings → k < p.primes.bindings → T.steps d i o k ≡ T.steps c i o k
       steps-same f i o k hi ho hk =
           let s = somewhere c i o k hc hi ho hk in
           sym (steps-at (put-concrete d hd s.point s.at))
           ∙ by-concrete (steps_of cells G T) idle c d hc hd f e s.point s.at.tame
           ∙ steps-at (put-concrete c hc s.point s.at)
 
-      met_concrete : Ignores cells (met_of cells G T) idle G.concretes → (a i o k : ℕ) → a < p.na → i < p.ni → o < p.nq → k < p.nk → T.met a d i o k ≡ T.met a c i o k
+      met_concrete : Ignores cells (met_of cells G T) idle G.concretes → (a i o k : ℕ) → a < p.abstracts.bindings → i < p.inputs.bindings → o < p.outputs.bindings → k < p.primes.bindings → T.met a d i o k ≡ T.met a c i o k
       met_concrete f a i o k ha hi ho hk =
           let s = somewhere c i o k hc hi ho hk in
           let v = put-abstract a ha s.point s.at in

@@ -44,7 +44,7 @@ module _ {p : Part} {T : PartTests} where
 -- the blocks from c on up to number x pass, and only the slots of the concrete state have changed
 pub record ConcretesPassed (table plan cells : List ℕ) (p : Part) (m : Masks) (mark c : ℕ) (before now : List (List ℤ)) (x : ℕ) : Type 0 where
   pub low : c ≤ x
-  pub high : x ≤ p.nc
+  pub high : x ≤ p.concretes.bindings
   pub past : ForNest table plan cells p before
       (λ (G : Groups) (T : PartTests) (δ : Point).
       (mark ≡ key_in cells (pair_group p m) (number_of cells G.abstracts δ) + 1) → (e : ℕ) → c ≤ e → e < x → PairPasses p T (number_of cells G.abstracts δ) e)
@@ -52,18 +52,18 @@ pub record ConcretesPassed (table plan cells : List ℕ) (p : Part) (m : Masks) 
 
 pub record AbstractsPassed (table plan cells : List ℕ) (p : Part) (a : ℕ) (before now : List (List ℤ)) (x : ℕ) : Type 0 where
   pub low : a ≤ x
-  pub high : x ≤ p.na
+  pub high : x ≤ p.abstracts.bindings
   pub past : (G : Groups) (T : PartTests) → Nest table plan cells p G T → (e : ℕ) → a ≤ e → e < x → WholePasses p T e
   pub left : ForNest table plan cells p before (λ (G : Groups) (T : PartTests) (δ : Point). Stepped cells G.abstracts δ 0 0 now)
 
 module _ {table plan cells : List ℕ} {p : Part} where
-  abstract-low : {G : Groups} {T : PartTests} → Nest table plan cells p G T → (δ : Point) → Tame cells δ → number_of cells G.abstracts δ < p.na
+  abstract-low : {G : Groups} {T : PartTests} → Nest table plan cells p G T → (δ : Point) → Tame cells δ → number_of cells G.abstracts δ < p.abstracts.bindings
   abstract-low {G} N δ τ = subst (λ (n : ℕ). number_of cells G.abstracts δ < n) (sym N.sized.na) (number-low cells G.abstracts δ τ (planned-counts N.states.planned))
 
   -- ---- concrete states
 
   module _ {m : Masks} {mark c : ℕ} {before : List (List ℤ)} where
-    pub no-concrete-yet : c ≤ p.nc → ConcretesPassed table plan cells p m mark c before before c
+    pub no-concrete-yet : c ≤ p.concretes.bindings → ConcretesPassed table plan cells p m mark c before before c
     no-concrete-yet h =
         record {
           low = omega arith;
@@ -72,29 +72,29 @@ module _ {table plan cells : List ℕ} {p : Part} where
           left = λ G T δ N s. record { point = δ; shows = s; beside = record { same = λ t _. refl }; number = λ l. absurd (never l) };
         }
 
-    pub concretes-through : {now : List (List ℤ)} {x : ℕ} → ConcretesPassed table plan cells p m mark c before now x → p.nc ≤ x → OpenConcrete table plan cells p m mark c before now p.nc
+    pub concretes-through : {now : List (List ℤ)} {x : ℕ} → ConcretesPassed table plan cells p m mark c before now x → p.concretes.bindings ≤ x → OpenConcrete table plan cells p m mark c before now p.concretes.bindings
     concretes-through {x = x} w h =
         record {
           low = omega (arith, w.low, w.high);
           high = omega arith;
           past = λ G T δ N s k e l g. w.past G T δ N s k e l (omega arith);
-          found = λ G T δ N s l. absurd (less p.nc l);
-          left = λ G T δ N s. (let z = w.left G T δ N s in record { point = z.point; shows = z.shows; beside = z.beside; number = λ l. absurd (less p.nc l) });
+          found = λ G T δ N s l. absurd (less p.concretes.bindings l);
+          left = λ G T δ N s. (let z = w.left G T δ N s in record { point = z.point; shows = z.shows; beside = z.beside; number = λ l. absurd (less p.concretes.bindings l) });
         }
 
     module _ (q : NestAsked table plan cells p before) {now after : List (List ℤ)} {x d : ℕ} (w : ConcretesPassed table plan cells p m mark c before now x)
         (v : ConcreteAnswers table plan cells p x now after d) where
-      forward : (x ≤ d) × (d ≤ p.nc)
+      forward : (x ≤ d) × (d ≤ p.concretes.bindings)
       forward =
           let l = w.left q.groups q.tests q.point q.nest q.shows in
           let s = v.sought q.groups q.tests l.point q.nest l.shows in
           (s.low, s.high)
 
       -- what the search found, by the abstract state at entry
-      sought-here : ForNest table plan cells p before (λ (G : Groups) (T : PartTests) (δ : Point). Sought (T.related (number_of cells G.abstracts δ)) x p.nc d)
+      sought-here : ForNest table plan cells p before (λ (G : Groups) (T : PartTests) (δ : Point). Sought (T.related (number_of cells G.abstracts δ)) x p.concretes.bindings d)
       sought-here G T δ N s =
           let z = w.left G T δ N s in
-          subst (λ (n : ℕ). Sought (T.related n) x p.nc d) (number-apart cells G.abstracts G.concretes δ z.point (abstracts-concretes N) z.beside)
+          subst (λ (n : ℕ). Sought (T.related n) x p.concretes.bindings d) (number-apart cells G.abstracts G.concretes δ z.point (abstracts-concretes N) z.beside)
           (v.sought G T z.point N z.shows)
 
       over : ForNest table plan cells p before
@@ -134,7 +134,7 @@ module _ {table plan cells : List ℕ} {p : Part} where
   -- ---- abstract states
 
   module _ {a : ℕ} {before : List (List ℤ)} where
-    pub no-abstract-yet : a ≤ p.na → AbstractsPassed table plan cells p a before before a
+    pub no-abstract-yet : a ≤ p.abstracts.bindings → AbstractsPassed table plan cells p a before before a
     no-abstract-yet h =
         record {
           low = omega arith;
@@ -143,19 +143,19 @@ module _ {table plan cells : List ℕ} {p : Part} where
           left = λ G T δ N s. record { point = δ; shows = s; beside = record { same = λ t _. refl }; number = λ l. absurd (never l) };
         }
 
-    pub abstracts-through : {now : List (List ℤ)} {x : ℕ} → AbstractsPassed table plan cells p a before now x → p.na ≤ x → OpenAbstract table plan cells p a before now p.na
+    pub abstracts-through : {now : List (List ℤ)} {x : ℕ} → AbstractsPassed table plan cells p a before now x → p.abstracts.bindings ≤ x → OpenAbstract table plan cells p a before now p.abstracts.bindings
     abstracts-through {x = x} w h =
         record {
           low = omega (arith, w.low, w.high);
           high = omega arith;
           past = λ G T N e l g. w.past G T N e l (omega arith);
-          found = λ G T N l. absurd (less p.na l);
-          left = λ G T δ N s. (let z = w.left G T δ N s in record { point = z.point; shows = z.shows; beside = z.beside; number = λ l. absurd (less p.na l) });
+          found = λ G T N l. absurd (less p.abstracts.bindings l);
+          left = λ G T δ N s. (let z = w.left G T δ N s in record { point = z.point; shows = z.shows; beside = z.beside; number = λ l. absurd (less p.abstracts.bindings l) });
         }
 
     module _ (q : NestAsked table plan cells p before) {now after : List (List ℤ)} {x d : ℕ} (w : AbstractsPassed table plan cells p a before now x)
         (v : AbstractAnswers table plan cells p x now after d) where
-      states-here : (G : Groups) (T : PartTests) → Nest table plan cells p G T → Sought T.state x p.na d
+      states-here : (G : Groups) (T : PartTests) → Nest table plan cells p G T → Sought T.state x p.abstracts.bindings d
       states-here G T N = let z = w.left G T q.point N q.shows in v.sought G T z.point N z.shows
 
       pub abstract-forward : x ≤ d

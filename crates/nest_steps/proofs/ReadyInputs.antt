@@ -21,29 +21,29 @@ use Rattle.nest_steps.proofs.BoundInputs.{upward-counts, bound-shows}
 
 -- ---- the inputs have the values of a binding
 
-pub bound-inputs : {table plan cells : List ℕ} {p : Part} {before : List (List ℤ)} {i : ℕ} {σ : List ℤ} → i < p.ni → HoldsBinding cells 16 p.vi i σ
-    → Others (pos 0) (get_or before 0 []) 16 p.vi σ
-    → ForNest table plan cells p before (λ (G : Groups) (T : PartTests) (δ : Point). Stepped cells G.inputs δ p.ni i (set before 0 σ))
+pub bound-inputs : {table plan cells : List ℕ} {p : Part} {before : List (List ℤ)} {i : ℕ} {σ : List ℤ} → i < p.inputs.bindings → HoldsBinding cells 16 p.inputs.variables i σ
+    → Others (pos 0) (get_or before 0 []) 16 p.inputs.variables σ
+    → ForNest table plan cells p before (λ (G : Groups) (T : PartTests) (δ : Point). Stepped cells G.inputs δ p.inputs.bindings i (set before 0 σ))
 bound-inputs {cells = cells} {p} {before} {i} {σ} h b o G T δ N w =
-    subst (λ (ss : List ℕ). Stepped cells ss δ p.ni i (set before 0 σ)) (sym N.sized.inputs_are) step
+    subst (λ (ss : List ℕ). Stepped cells ss δ p.inputs.bindings i (set before 0 σ)) (sym N.sized.inputs_are) step
   where
-    low : i < span cells (upward 16 p.vi)
+    low : i < span cells (upward 16 p.inputs.variables)
     low = subst (λ (n : ℕ). i < n) (N.sized.ni ∙ ap (span cells) N.sized.inputs_are) h
 
-    step : Stepped cells (upward 16 p.vi) δ p.ni i (set before 0 σ)
+    step : Stepped cells (upward 16 p.inputs.variables) δ p.inputs.bindings i (set before 0 σ)
     step =
         record {
-          point = placed cells (upward 16 p.vi) δ i;
-          shows = bound-shows cells p.vi i δ before σ N.sized.inputs_few N.sized.grouped low b o w;
-          beside = beside_placed cells (upward 16 p.vi) δ i;
-          number = λ _. number-placed cells (upward 16 p.vi) δ i (distinct-upward 16 p.vi) (upward-counts cells 16 p.vi N.sized.grouped) low;
+          point = placed cells (upward 16 p.inputs.variables) δ i;
+          shows = bound-shows cells p.inputs.variables i δ before σ N.sized.inputs_few N.sized.grouped low b o w;
+          beside = beside_placed cells (upward 16 p.inputs.variables) δ i;
+          number = λ _. number-placed cells (upward 16 p.inputs.variables) δ i (distinct-upward 16 p.inputs.variables) (upward-counts cells 16 p.inputs.variables N.sized.grouped) low;
         }
 
 never : 0 < 0 → ⊥
 never h = omega arith
 
 module _ {table plan cells : List ℕ} {p : Part} {before mid after : List (List ℤ)} {i : ℕ} where
-  pub pre-here : {r : Bool} → i < p.ni → ForNest table plan cells p before (λ (G : Groups) (T : PartTests) (δ : Point). Stepped cells G.inputs δ p.ni i mid)
+  pub pre-here : {r : Bool} → i < p.inputs.bindings → ForNest table plan cells p before (λ (G : Groups) (T : PartTests) (δ : Point). Stepped cells G.inputs δ p.inputs.bindings i mid)
       → AbstractPreAnswers table plan cells p mid after r → PreAnswers table plan cells p i before after r
   pre-here h l a =
       record {
@@ -56,26 +56,26 @@ module _ {table plan cells : List ℕ} {p : Part} {before mid after : List (List
       }
 
 -- no input is left
-pub no-input : {table plan cells : List ℕ} {p : Part} {before : List (List ℤ)} {i : ℕ} → p.ni ≤ i
-    → ForNest table plan cells p before (λ (G : Groups) (T : PartTests) (δ : Point). Stepped cells G.inputs δ p.ni i before)
+pub no-input : {table plan cells : List ℕ} {p : Part} {before : List (List ℤ)} {i : ℕ} → p.inputs.bindings ≤ i
+    → ForNest table plan cells p before (λ (G : Groups) (T : PartTests) (δ : Point). Stepped cells G.inputs δ p.inputs.bindings i before)
 no-input {p = p} {i = i} h G T δ N w = record { point = δ; shows = w; beside = record { same = λ s _. refl }; number = λ l. absurd (over l) }
   where
-    over : i < p.ni → ⊥
+    over : i < p.inputs.bindings → ⊥
     over l = omega arith
 
 -- ---- all inputs, the last one first
 
 pub record ReadyFrom (cells : List ℕ) (p : Part) (G : Groups) (T : PartTests) (δ : Point) (slots : List (List ℤ)) (s i : ℕ) : Type 0 where
   pub stepped : Stepped cells (G.inputs ++ G.readying) δ 0 0 slots
-  pub bits : Bits (λ (j : ℕ) (b : Bool). b ≡ T.ready (number_of cells G.abstracts δ) j) i (p.ni - i) s
+  pub bits : Bits (λ (j : ℕ) (b : Bool). b ≡ T.ready (number_of cells G.abstracts δ) j) i (p.inputs.bindings - i) s
 
 pub record Readying (table plan cells : List ℕ) (p : Part) (before slots : List (List ℤ)) (s i : ℕ) : Type 0 where
   pub asked : NestAsked table plan cells p before
-  pub high : i ≤ p.ni
+  pub high : i ≤ p.inputs.bindings
   pub each : ForNest table plan cells p before (λ (G : Groups) (T : PartTests) (δ : Point). ReadyFrom cells p G T δ slots s i)
 
 module _ {table plan cells : List ℕ} {p : Part} where
-  pub ready-start : {before : List (List ℤ)} → NestAsked table plan cells p before → Readying table plan cells p before before 0 p.ni
+  pub ready-start : {before : List (List ℤ)} → NestAsked table plan cells p before → Readying table plan cells p before before 0 p.inputs.bindings
   ready-start q =
       record {
         asked = q;
@@ -116,7 +116,7 @@ module _ {table plan cells : List ℕ} {p : Part} where
   ready-done {before} {slots} {s} {i} r h =
       record { bits = λ G T δ N w j l. bits G T δ N w j l; left = λ G T δ N w. (r.each G T δ N w).stepped }
     where
-      bits : ForNest table plan cells p before (λ (G : Groups) (T : PartTests) (δ : Point). (j : ℕ) → j < p.ni → has s j ≡ T.ready (number_of cells G.abstracts δ) j)
+      bits : ForNest table plan cells p before (λ (G : Groups) (T : PartTests) (δ : Point). (j : ℕ) → j < p.inputs.bindings → has s j ≡ T.ready (number_of cells G.abstracts δ) j)
       bits G T δ N w j l =
           let z : i + j ≡ j = omega arith in
           (r.each G T δ N w).bits.each j (omega arith) ∙ ap (T.ready (number_of cells G.abstracts δ)) z

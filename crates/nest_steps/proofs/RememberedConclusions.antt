@@ -46,19 +46,19 @@ module _ {table plan cells : List ℕ} {p : Part} {G : Groups} {T : PartTests} (
   unfolding key_at mark_at
   alike-primed b d h g q e m =
       let a_is : b.a ≡ d.a = omega (arith, m) in
-      let front : b.i * p.nq + b.o ≡ d.i * p.nq + d.o = same-high p.nk _ _ b.k d.k h.low_k.0 g.low_k.0 e in
+      let front : b.i * p.outputs.bindings + b.o ≡ d.i * p.outputs.bindings + d.o = same-high p.primes.bindings _ _ b.k d.k h.low_k.0 g.low_k.0 e in
       met_by T b.a b.c b.i b.o b.k d.a d.i d.o d.k a_is
-      (same-high p.nq b.i d.i b.o d.o h.low_o.0 g.low_o.0 front)
-      (same_low p.nq b.i d.i b.o d.o h.low_o.0 g.low_o.0 front)
-      (same_low p.nk (b.i * p.nq + b.o) (d.i * p.nq + d.o) b.k d.k h.low_k.0 g.low_k.0 e)
+      (same-high p.outputs.bindings b.i d.i b.o d.o h.low_o.0 g.low_o.0 front)
+      (same_low p.outputs.bindings b.i d.i b.o d.o h.low_o.0 g.low_o.0 front)
+      (same_low p.primes.bindings (b.i * p.outputs.bindings + b.o) (d.i * p.outputs.bindings + d.o) b.k d.k h.low_k.0 g.low_k.0 e)
       ∙ N.met_primed q d.a b.c d.c d.i d.o d.k
 
   alike-plain : (b d : Numbers) → Inside p b → Inside p d → p.primed ≡ false → key_at false p b ≡ key_at false p d → met_at T b ≡ met_at T d
   unfolding key_at
   alike-plain b d h g q e =
-      let key : b.c * p.ni + b.i ≡ d.c * p.ni + d.i = omega (arith, e) in
-      ap (λ (t : ℕ). T.met b.a t b.i b.o b.k) (same-high p.ni b.c d.c b.i d.i h.low_i.0 g.low_i.0 key)
-      ∙ ap (λ (t : ℕ). T.met b.a d.c t b.o b.k) (same_low p.ni b.c d.c b.i d.i h.low_i.0 g.low_i.0 key)
+      let key : b.c * p.inputs.bindings + b.i ≡ d.c * p.inputs.bindings + d.i = omega (arith, e) in
+      ap (λ (t : ℕ). T.met b.a t b.i b.o b.k) (same-high p.inputs.bindings b.c d.c b.i d.i h.low_i.0 g.low_i.0 key)
+      ∙ ap (λ (t : ℕ). T.met b.a d.c t b.o b.k) (same_low p.inputs.bindings b.c d.c b.i d.i h.low_i.0 g.low_i.0 key)
       ∙ N.met_plain q b.a d.a d.c d.i b.o d.o b.k d.k
 
   alike : (b d : Numbers) → Inside p b → Inside p d → key_of p b ≡ key_of p d → mark_of p b ≡ mark_of p d → met_at T b ≡ met_at T d

@@ -24,32 +24,32 @@ some_binding cells ss P δ = any (λ (k : ℕ). P (placed cells ss δ k)) (upwar
 
 -- how many variables and bindings the groups have
 pub record Sized (cells : List ℕ) (p : Part) (G : Groups) : Type 0 where
-  pub va : length G.abstracts ≡ p.va
-  pub vc : length G.concretes ≡ p.vc
-  pub vi : length G.inputs ≡ p.vi
-  pub vo : length G.outputs ≡ p.vo
-  pub vk : length G.primes ≡ p.vk
-  pub vr : length G.readying ≡ p.vr
-  pub vm : length G.meeting ≡ p.vm
-  pub na : p.na ≡ span cells G.abstracts
-  pub nc : p.nc ≡ span cells G.concretes
-  pub ni : p.ni ≡ span cells G.inputs
-  pub nq : p.nq ≡ span cells G.outputs
-  pub nk : p.nk ≡ span cells G.primes
-  pub nr : p.nr ≡ span cells G.readying
-  pub nm : p.nm ≡ span cells G.meeting
-  pub few_a : (0 < p.na) × (p.na ≤ 4096)
-  pub few_c : (0 < p.nc) × (p.nc ≤ 4096)
-  pub few_i : (0 < p.ni) × (p.ni ≤ 64)
-  pub few_o : (0 < p.nq) × (p.nq ≤ 64)
-  pub few_k : (0 < p.nk) × (p.nk ≤ 4096)
-  pub few_r : p.nr ≤ 2 ^ 18
-  pub few_m : p.nm ≤ 2 ^ 18
-  pub abstracts_are : G.abstracts ≡ upward 0 p.va
-  pub concretes_are : G.concretes ≡ upward 8 p.vc
-  pub inputs_are : G.inputs ≡ upward 16 p.vi
-  pub inputs_few : p.vi ≤ 3
-  pub grouped : Grouped cells 16 p.vi
+  pub va : length G.abstracts ≡ p.abstracts.variables
+  pub vc : length G.concretes ≡ p.concretes.variables
+  pub vi : length G.inputs ≡ p.inputs.variables
+  pub vo : length G.outputs ≡ p.outputs.variables
+  pub vk : length G.primes ≡ p.primes.variables
+  pub vr : length G.readying ≡ p.readying.variables
+  pub vm : length G.meeting ≡ p.meeting.variables
+  pub na : p.abstracts.bindings ≡ span cells G.abstracts
+  pub nc : p.concretes.bindings ≡ span cells G.concretes
+  pub ni : p.inputs.bindings ≡ span cells G.inputs
+  pub nq : p.outputs.bindings ≡ span cells G.outputs
+  pub nk : p.primes.bindings ≡ span cells G.primes
+  pub nr : p.readying.bindings ≡ span cells G.readying
+  pub nm : p.meeting.bindings ≡ span cells G.meeting
+  pub few_a : (0 < p.abstracts.bindings) × (p.abstracts.bindings ≤ 4096)
+  pub few_c : (0 < p.concretes.bindings) × (p.concretes.bindings ≤ 4096)
+  pub few_i : (0 < p.inputs.bindings) × (p.inputs.bindings ≤ 64)
+  pub few_o : (0 < p.outputs.bindings) × (p.outputs.bindings ≤ 64)
+  pub few_k : (0 < p.primes.bindings) × (p.primes.bindings ≤ 4096)
+  pub few_r : p.readying.bindings ≤ 2 ^ 18
+  pub few_m : p.meeting.bindings ≤ 2 ^ 18
+  pub abstracts_are : G.abstracts ≡ upward 0 p.abstracts.variables
+  pub concretes_are : G.concretes ≡ upward 8 p.concretes.variables
+  pub inputs_are : G.inputs ≡ upward 16 p.inputs.variables
+  pub inputs_few : p.inputs.variables ≤ 3
+  pub grouped : Grouped cells 16 p.inputs.variables
 
 -- the searches of a part find its tests, at every point; on which groups what must be there depends; no search writes a slot of a group before it
 pub record Nest (table plan cells : List ℕ) (p : Part) (G : Groups) (T : PartTests) : Type 0 where
@@ -94,12 +94,12 @@ abbrev pub ForNest : (table plan cells : List ℕ) (p : Part) (before : List (Li
 ForNest table plan cells p before X = (G : Groups) (T : PartTests) (δ : Point) → Nest table plan cells p G T → Shows cells δ before → X G T δ
 
 pub record AbstractAnswers (table plan cells : List ℕ) (p : Part) (a : ℕ) (before after : List (List ℤ)) (r : ℕ) : Type 0 where
-  pub sought : ForNest table plan cells p before (λ (G : Groups) (T : PartTests) (δ : Point). Sought T.state a p.na r)
-  pub left : ForNest table plan cells p before (λ (G : Groups) (T : PartTests) (δ : Point). Stepped cells G.abstracts δ p.na r after)
+  pub sought : ForNest table plan cells p before (λ (G : Groups) (T : PartTests) (δ : Point). Sought T.state a p.abstracts.bindings r)
+  pub left : ForNest table plan cells p before (λ (G : Groups) (T : PartTests) (δ : Point). Stepped cells G.abstracts δ p.abstracts.bindings r after)
 
 pub record ConcreteAnswers (table plan cells : List ℕ) (p : Part) (c : ℕ) (before after : List (List ℤ)) (r : ℕ) : Type 0 where
-  pub sought : ForNest table plan cells p before (λ (G : Groups) (T : PartTests) (δ : Point). Sought (T.related (number_of cells G.abstracts δ)) c p.nc r)
-  pub left : ForNest table plan cells p before (λ (G : Groups) (T : PartTests) (δ : Point). Stepped cells G.concretes δ p.nc r after)
+  pub sought : ForNest table plan cells p before (λ (G : Groups) (T : PartTests) (δ : Point). Sought (T.related (number_of cells G.abstracts δ)) c p.concretes.bindings r)
+  pub left : ForNest table plan cells p before (λ (G : Groups) (T : PartTests) (δ : Point). Stepped cells G.concretes δ p.concretes.bindings r after)
 
 -- the abstract precondition at the abstract state and the inputs that the slots have
 pub record AbstractPreAnswers (table plan cells : List ℕ) (p : Part) (before after : List (List ℤ)) (r : Bool) : Type 0 where
@@ -113,7 +113,7 @@ pub record PreAnswers (table plan cells : List ℕ) (p : Part) (i : ℕ) (before
 
 -- of all inputs, as bits
 pub record ReadyAnswers (table plan cells : List ℕ) (p : Part) (before after : List (List ℤ)) (r : ℕ) : Type 0 where
-  pub bits : ForNest table plan cells p before (λ (G : Groups) (T : PartTests) (δ : Point). (i : ℕ) → i < p.ni → has r i ≡ T.ready (number_of cells G.abstracts δ) i)
+  pub bits : ForNest table plan cells p before (λ (G : Groups) (T : PartTests) (δ : Point). (i : ℕ) → i < p.inputs.bindings → has r i ≡ T.ready (number_of cells G.abstracts δ) i)
   pub left : ForNest table plan cells p before (λ (G : Groups) (T : PartTests) (δ : Point). Stepped cells (G.inputs ++ G.readying) δ 0 0 after)
 
 -- the next bit of a mask, whose inputs the slots then have
@@ -123,21 +123,21 @@ pub record InputAsked (cells : List ℕ) (p : Part) (before : List (List ℤ)) :
   pub asked : NestAsked table plan cells p before
 
 pub record InputAnswers (cells : List ℕ) (p : Part) (mask i : ℕ) (before after : List (List ℤ)) (r : ℕ) : Type 0 where
-  pub sought : Sought (has mask) i p.ni r
-  pub left : (table plan : List ℕ) → ForNest table plan cells p before (λ (G : Groups) (T : PartTests) (δ : Point). Stepped cells G.inputs δ p.ni r after)
+  pub sought : Sought (has mask) i p.inputs.bindings r
+  pub left : (table plan : List ℕ) → ForNest table plan cells p before (λ (G : Groups) (T : PartTests) (δ : Point). Stepped cells G.inputs δ p.inputs.bindings r after)
 
 pub record OutputAnswers (table plan cells : List ℕ) (p : Part) (o : ℕ) (before after : List (List ℤ)) (r : ℕ) : Type 0 where
   pub sought : ForNest table plan cells p before
-      (λ (G : Groups) (T : PartTests) (δ : Point). Sought (T.front (number_of cells G.concretes δ) (number_of cells G.inputs δ)) o p.nq r)
-  pub left : ForNest table plan cells p before (λ (G : Groups) (T : PartTests) (δ : Point). Stepped cells G.outputs δ p.nq r after)
+      (λ (G : Groups) (T : PartTests) (δ : Point). Sought (T.front (number_of cells G.concretes δ) (number_of cells G.inputs δ)) o p.outputs.bindings r)
+  pub left : ForNest table plan cells p before (λ (G : Groups) (T : PartTests) (δ : Point). Stepped cells G.outputs δ p.outputs.bindings r after)
 
 -- after states with the outputs that the slots have, which nothing excludes
 pub record AfterAnswers (table plan cells : List ℕ) (p : Part) (k : ℕ) (before after : List (List ℤ)) (r : ℕ) : Type 0 where
   pub sought : ForNest table plan cells p before
       (λ (G : Groups) (T : PartTests) (δ : Point).
       (T.front (number_of cells G.concretes δ) (number_of cells G.inputs δ) (number_of cells G.outputs δ) ≡ true)
-      → Sought (T.steps (number_of cells G.concretes δ) (number_of cells G.inputs δ) (number_of cells G.outputs δ)) k p.nk r)
-  pub left : ForNest table plan cells p before (λ (G : Groups) (T : PartTests) (δ : Point). Stepped cells G.primes δ p.nk r after)
+      → Sought (T.steps (number_of cells G.concretes δ) (number_of cells G.inputs δ) (number_of cells G.outputs δ)) k p.primes.bindings r)
+  pub left : ForNest table plan cells p before (λ (G : Groups) (T : PartTests) (δ : Point). Stepped cells G.primes δ p.primes.bindings r after)
 
 -- what must be there, at the numbers that the slots have
 pub record MetAnswers (table plan cells : List ℕ) (p : Part) (before after : List (List ℤ)) (r : Bool) : Type 0 where

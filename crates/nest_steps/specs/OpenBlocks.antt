@@ -23,13 +23,13 @@ pub record MasksAnswers (table plan : List ℕ) (p : Part) (m : Masks) : Type 0 
 
 -- the groups by whose keys blocks are alike: of the abstract state of a pair, of its concrete state, of an abstract state alone
 abbrev pub pair_group : Part → Masks → KeyGroup
-pair_group p m = record { first = 0; many = p.va; count = p.na; idle = m.pairs }
+pair_group p m = record { first = 0; many = p.abstracts.variables; count = p.abstracts.bindings; idle = m.pairs }
 
 abbrev pub concrete_group : Part → Masks → KeyGroup
-concrete_group p m = record { first = 8; many = p.vc; count = p.nc; idle = m.concretes }
+concrete_group p m = record { first = 8; many = p.concretes.variables; count = p.concretes.bindings; idle = m.concretes }
 
 abbrev pub whole_group : Part → Masks → KeyGroup
-whole_group p m = record { first = 0; many = p.va; count = p.na; idle = m.wholes }
+whole_group p m = record { first = 0; many = p.abstracts.variables; count = p.abstracts.bindings; idle = m.wholes }
 
 -- what is marked passes
 pub record PairsSeen (table plan cells : List ℕ) (p : Part) (m : Masks) (seen : List ℕ) : Type 0 where
@@ -43,17 +43,17 @@ pub record WholesSeen (table plan cells : List ℕ) (p : Part) (m : Masks) (done
 -- from c on up to r the blocks of the abstract state that the slots have, whose mark this is, and of these concrete states pass
 pub record OpenConcrete (table plan cells : List ℕ) (p : Part) (m : Masks) (mark c : ℕ) (before after : List (List ℤ)) (r : ℕ) : Type 0 where
   pub low : c ≤ r
-  pub high : r ≤ p.nc
+  pub high : r ≤ p.concretes.bindings
   pub past : ForNest table plan cells p before
       (λ (G : Groups) (T : PartTests) (δ : Point).
       (mark ≡ key_in cells (pair_group p m) (number_of cells G.abstracts δ) + 1) → (e : ℕ) → c ≤ e → e < r → PairPasses p T (number_of cells G.abstracts δ) e)
-  pub found : ForNest table plan cells p before (λ (G : Groups) (T : PartTests) (δ : Point). (r < p.nc) → T.related (number_of cells G.abstracts δ) r ≡ true)
-  pub left : ForNest table plan cells p before (λ (G : Groups) (T : PartTests) (δ : Point). Stepped cells G.concretes δ p.nc r after)
+  pub found : ForNest table plan cells p before (λ (G : Groups) (T : PartTests) (δ : Point). (r < p.concretes.bindings) → T.related (number_of cells G.abstracts δ) r ≡ true)
+  pub left : ForNest table plan cells p before (λ (G : Groups) (T : PartTests) (δ : Point). Stepped cells G.concretes δ p.concretes.bindings r after)
 
 -- from a on up to r the blocks of these abstract states pass
 pub record OpenAbstract (table plan cells : List ℕ) (p : Part) (a : ℕ) (before after : List (List ℤ)) (r : ℕ) : Type 0 where
   pub low : a ≤ r
-  pub high : r ≤ p.na
+  pub high : r ≤ p.abstracts.bindings
   pub past : (G : Groups) (T : PartTests) → Nest table plan cells p G T → (e : ℕ) → a ≤ e → e < r → WholePasses p T e
-  pub found : (G : Groups) (T : PartTests) → Nest table plan cells p G T → (r < p.na) → T.state r ≡ true
-  pub left : ForNest table plan cells p before (λ (G : Groups) (T : PartTests) (δ : Point). Stepped cells G.abstracts δ p.na r after)
+  pub found : (G : Groups) (T : PartTests) → Nest table plan cells p G T → (r < p.abstracts.bindings) → T.state r ≡ true
+  pub left : ForNest table plan cells p before (λ (G : Groups) (T : PartTests) (δ : Point). Stepped cells G.abstracts δ p.abstracts.bindings r after)

@@ -11,8 +11,8 @@ numbered a c i o k = record { a = a; c = c; i = i; o = o; k = k }
 
 -- by what the conclusion depends on but for the abstract state; by that state, where it does on it
 unfoldable pub key_at : (primed : Bool) → Part → Numbers → ℕ
-key_at true p b = (b.i * p.nq + b.o) * p.nk + b.k
-key_at false p b = b.c * p.ni + b.i
+key_at true p b = (b.i * p.outputs.bindings + b.o) * p.primes.bindings + b.k
+key_at false p b = b.c * p.inputs.bindings + b.i
 
 unfoldable pub mark_at : (primed : Bool) → Numbers → ℕ
 mark_at true b = b.a + 1
@@ -29,11 +29,11 @@ met_at T b = T.met b.a b.c b.i b.o b.k
 
 -- a binding of the part, whose groups are small
 pub record Inside (p : Part) (b : Numbers) : Type 0 where
-  pub low_a : (b.a < p.na) × (p.na ≤ 4096)
-  pub low_c : (b.c < p.nc) × (p.nc ≤ 4096)
-  pub low_i : (b.i < p.ni) × (p.ni ≤ 64)
-  pub low_o : (b.o < p.nq) × (p.nq ≤ 64)
-  pub low_k : (b.k < p.nk) × (p.nk ≤ 4096)
+  pub low_a : (b.a < p.abstracts.bindings) × (p.abstracts.bindings ≤ 4096)
+  pub low_c : (b.c < p.concretes.bindings) × (p.concretes.bindings ≤ 4096)
+  pub low_i : (b.i < p.inputs.bindings) × (p.inputs.bindings ≤ 64)
+  pub low_o : (b.o < p.outputs.bindings) × (p.outputs.bindings ≤ 64)
+  pub low_k : (b.k < p.primes.bindings) × (p.primes.bindings ≤ 4096)
 
 -- where the mark of a binding stands, its conclusion is true
 pub record Known (p : Part) (T : PartTests) (known : List ℕ) : Type 0 where

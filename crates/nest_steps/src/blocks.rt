@@ -15,6 +15,7 @@ use points::slots::{ABSTRACT, CONCRETE};
 use slot_carriers::SLOTS;
 
 // The mark of an abstract state whose block passes.
+// Form 1: 0 is the mark of nothing, as at `known::mark_of`.
 pub const PASSES: u16 = 1;
 
 // Which variables do not matter, as bits, the first one's lowest: abstract ones for what is inside the block of a pair of states, and inside that of an abstract state; concrete ones for
@@ -31,9 +32,9 @@ pub fn masks_of(s: &PartSearch<'_>) -> Masks
     requires { MasksAsked s.now.table.now s.now.plan.now s.now.part }
     ensures { MasksAnswers s.now.table.now s.now.plan.now s.now.part result }
 {
-    let pairs = idle_of(s, READY, ABSTRACT, s.part.va);
-    let wholes = idle_of(s, RELATED, ABSTRACT, s.part.va);
-    let concretes = idle_of(s, STEPS, CONCRETE, s.part.vc);
+    let pairs = idle_of(s, READY, ABSTRACT, s.part.abstracts.variables);
+    let wholes = idle_of(s, RELATED, ABSTRACT, s.part.abstracts.variables);
+    let concretes = idle_of(s, STEPS, CONCRETE, s.part.concretes.variables);
     Masks {
         pairs,
         wholes,
@@ -48,8 +49,8 @@ fn pair_group(p: &Part, m: Masks) -> KeyGroup
 {
     KeyGroup {
         first: ABSTRACT,
-        many: p.va,
-        count: p.na,
+        many: p.abstracts.variables,
+        count: p.abstracts.bindings,
         idle: m.pairs,
     }
 }
@@ -60,8 +61,8 @@ pub fn concrete_group(p: &Part, m: Masks) -> KeyGroup
 {
     KeyGroup {
         first: CONCRETE,
-        many: p.vc,
-        count: p.nc,
+        many: p.concretes.variables,
+        count: p.concretes.bindings,
         idle: m.concretes,
     }
 }
@@ -72,16 +73,17 @@ pub fn whole_group(p: &Part, m: Masks) -> KeyGroup
 {
     KeyGroup {
         first: ABSTRACT,
-        many: p.va,
-        count: p.na,
+        many: p.abstracts.variables,
+        count: p.abstracts.bindings,
         idle: m.wholes,
     }
 }
 
-// The mark of the pairs with an abstract state: its key, so that one place for each concrete key is enough. 0 is the mark of nothing.
+// The mark of the pairs with an abstract state: its key, so that one place for each concrete key is enough.
+// Form 1: 0 is the mark of nothing, as at `known::mark_of`.
 pub fn pair_mark(s: &PartSearch<'_>, m: Masks, a: usize) -> u16
     requires key_asked { KeyAsked s.now.cells.now (pair_group s.now.part m) }
-    requires a_lt_na { a < s.now.part.na }
+    requires a_lt_na { a < s.now.part.abstracts.bindings }
     ensures { result ≡ key_in s.now.cells.now (pair_group s.now.part m) a + 1 }
 {
     let group = pair_group(&s.part, m);
@@ -101,7 +103,7 @@ pub fn next_open_concrete(
     memo: &mut [u64; memo::NUMBERS],
     seen: &[u16; KEYS],
 ) -> usize
-    requires c_le_nc { c ≤ s.now.part.nc }
+    requires c_le_nc { c ≤ s.now.part.concretes.bindings }
     requires nest_asked { NestAsked s.now.table.now s.now.plan.now s.now.cells.now s.now.part slots.old }
     requires memo { Memo s.now.table.now memo.old }
     requires pairs_seen { PairsSeen s.now.table.now s.now.plan.now s.now.cells.now s.now.part m seen.now }
@@ -110,14 +112,14 @@ pub fn next_open_concrete(
 {
     let group = concrete_group(&s.part, m);
     let mut from = c;
-    while from < s.part.nc {
+    while from < s.part.concretes.bindings {
         let d = next_concrete(s, from, slots, memo);
         if !is_marked(s.cells, group, d, mark, seen) {
             return d;
         }
         from = d + 1;
     }
-    s.part.nc
+    s.part.concretes.bindings
 }
 
 // The next abstract state from a on whose block is not known to pass.
@@ -132,7 +134,7 @@ pub fn next_open_abstract(
     memo: &mut [u64; memo::NUMBERS],
     done: &[u16; KEYS],
 ) -> usize
-    requires a_le_na { a ≤ s.now.part.na }
+    requires a_le_na { a ≤ s.now.part.abstracts.bindings }
     requires nest_asked { NestAsked s.now.table.now s.now.plan.now s.now.cells.now s.now.part slots.old }
     requires memo { Memo s.now.table.now memo.old }
     requires wholes_seen { WholesSeen s.now.table.now s.now.plan.now s.now.cells.now s.now.part m done.now }
@@ -141,12 +143,12 @@ pub fn next_open_abstract(
 {
     let group = whole_group(&s.part, m);
     let mut from = a;
-    while from < s.part.na {
+    while from < s.part.abstracts.bindings {
         let d = next_abstract(s, from, slots, memo);
         if !is_marked(s.cells, group, d, PASSES, done) {
             return d;
         }
         from = d + 1;
     }
-    s.part.na
+    s.part.abstracts.bindings
 }

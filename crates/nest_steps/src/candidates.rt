@@ -19,7 +19,7 @@ pub(crate) fn next_abstract(
     slots: &mut [[i64; SLOTS]; 2],
     memo: &mut [u64; memo::NUMBERS],
 ) -> usize
-    requires a_le_na { a ≤ s.now.part.na }
+    requires a_le_na { a ≤ s.now.part.abstracts.bindings }
     requires nest_asked { NestAsked s.now.table.now s.now.plan.now s.now.cells.now s.now.part slots.old }
     requires memo { Memo s.now.table.now memo.old }
     ensures answers { AbstractAnswers s.now.table.now s.now.plan.now s.now.cells.now s.now.part a slots.old slots.new result }
@@ -28,8 +28,8 @@ pub(crate) fn next_abstract(
     let span = Span {
         u: STATES,
         j: 0,
-        m: s.part.va,
-        w: s.part.na,
+        m: s.part.abstracts.variables,
+        w: s.part.abstracts.bindings,
         from: a,
     };
     seek(s, span, slots, memo)
@@ -42,7 +42,7 @@ pub(crate) fn next_concrete(
     slots: &mut [[i64; SLOTS]; 2],
     memo: &mut [u64; memo::NUMBERS],
 ) -> usize
-    requires c_le_nc { c ≤ s.now.part.nc }
+    requires c_le_nc { c ≤ s.now.part.concretes.bindings }
     requires nest_asked { NestAsked s.now.table.now s.now.plan.now s.now.cells.now s.now.part slots.old }
     requires memo { Memo s.now.table.now memo.old }
     ensures answers { ConcreteAnswers s.now.table.now s.now.plan.now s.now.cells.now s.now.part c slots.old slots.new result }
@@ -51,8 +51,8 @@ pub(crate) fn next_concrete(
     let span = Span {
         u: RELATED,
         j: 0,
-        m: s.part.vc,
-        w: s.part.nc,
+        m: s.part.concretes.variables,
+        w: s.part.concretes.bindings,
         from: c,
     };
     seek(s, span, slots, memo)
@@ -65,7 +65,7 @@ pub fn next_output(
     slots: &mut [[i64; SLOTS]; 2],
     memo: &mut [u64; memo::NUMBERS],
 ) -> usize
-    requires o_le_nq { o ≤ s.now.part.nq }
+    requires o_le_nq { o ≤ s.now.part.outputs.bindings }
     requires nest_asked { NestAsked s.now.table.now s.now.plan.now s.now.cells.now s.now.part slots.old }
     requires memo { Memo s.now.table.now memo.old }
     ensures answers { OutputAnswers s.now.table.now s.now.plan.now s.now.cells.now s.now.part o slots.old slots.new result }
@@ -74,8 +74,8 @@ pub fn next_output(
     let span = Span {
         u: STEPS,
         j: 0,
-        m: s.part.vo,
-        w: s.part.nq,
+        m: s.part.outputs.variables,
+        w: s.part.outputs.bindings,
         from: o,
     };
     seek(s, span, slots, memo)
@@ -88,7 +88,7 @@ pub fn next_after(
     slots: &mut [[i64; SLOTS]; 2],
     memo: &mut [u64; memo::NUMBERS],
 ) -> usize
-    requires k_le_nk { k ≤ s.now.part.nk }
+    requires k_le_nk { k ≤ s.now.part.primes.bindings }
     requires nest_asked { NestAsked s.now.table.now s.now.plan.now s.now.cells.now s.now.part slots.old }
     requires memo { Memo s.now.table.now memo.old }
     ensures answers { AfterAnswers s.now.table.now s.now.plan.now s.now.cells.now s.now.part k slots.old slots.new result }
@@ -96,9 +96,9 @@ pub fn next_after(
 {
     let span = Span {
         u: STEPS,
-        j: s.part.vo,
-        m: s.part.vk,
-        w: s.part.nk,
+        j: s.part.outputs.variables,
+        m: s.part.primes.variables,
+        w: s.part.primes.bindings,
         from: k,
     };
     seek(s, span, slots, memo)

@@ -23,12 +23,14 @@ pub(crate) fn key_of(p: &Part, b: Numbers) -> usize
     ensures { result ≡ key_of p.now b }
 {
     if p.primed {
-        return (b.i * p.nq + b.o) * p.nk + b.k;
+        return (b.i * p.outputs.bindings + b.o) * p.primes.bindings + b.k;
     }
-    b.c * p.ni + b.i
+    b.c * p.inputs.bindings + b.i
 }
 
-// The mark: the abstract state, where the conclusion depends on it. 0 is the mark of nothing.
+// The mark: the abstract state, where the conclusion depends on it.
+// Form 1: 0 is the mark of nothing. An Option of a mark takes four bytes for two, so that the 128 KiB of marks on the stack of `nest::sweep` would be 256, and the bound that tests/stack
+// measures would go up.
 pub(crate) fn mark_of(p: &Part, b: Numbers) -> u16
     requires { Inside p.now b }
     ensures { result ≡ mark_of p.now b }
@@ -40,6 +42,7 @@ pub(crate) fn mark_of(p: &Part, b: Numbers) -> u16
 }
 
 // Does the mark stand there?
+// Form 1: as `mark_of`.
 pub(crate) fn is_known(known: &[u16; KNOWN], key: usize, mark: u16) -> bool
     ensures { result ≡ true → get_or known.now key 0 ≡ mark }
 {
@@ -47,6 +50,7 @@ pub(crate) fn is_known(known: &[u16; KNOWN], key: usize, mark: u16) -> bool
 }
 
 // Makes the mark there, if there is a place for it.
+// Form 1: as `mark_of`.
 pub(crate) fn remember(known: &mut [u16; KNOWN], key: usize, mark: u16)
     ensures { Noted key mark known.old known.new }
 {

@@ -38,11 +38,11 @@ fn abstract_pre(
     let span = Span {
         u: READY,
         j: 0,
-        m: s.part.vr,
-        w: s.part.nr,
+        m: s.part.readying.variables,
+        w: s.part.readying.bindings,
         from: 0,
     };
-    seek(s, span, slots, memo) < s.part.nr
+    seek(s, span, slots, memo) < s.part.readying.bindings
 }
 
 // Does a binding pass whose premises hold?
@@ -60,11 +60,11 @@ fn passes(
     let span = Span {
         u: MET,
         j: 0,
-        m: s.part.vm,
-        w: s.part.nm,
+        m: s.part.meeting.variables,
+        w: s.part.meeting.bindings,
         from: 0,
     };
-    seek(s, span, slots, memo) < s.part.nm
+    seek(s, span, slots, memo) < s.part.meeting.bindings
 }
 
 // The same of the binding that the slots have; not searched for where it is known.
@@ -100,13 +100,20 @@ fn pre_at(
     slots: &mut [[i64; SLOTS]; 2],
     memo: &mut [u64; memo::NUMBERS],
 ) -> bool
-    requires i_lt_ni { i < s.now.part.ni }
+    requires i_lt_ni { i < s.now.part.inputs.bindings }
     requires nest_asked { NestAsked s.now.table.now s.now.plan.now s.now.cells.now s.now.part slots.old }
     requires memo { Memo s.now.table.now memo.old }
     ensures answers { PreAnswers s.now.table.now s.now.plan.now s.now.cells.now s.now.part i slots.old slots.new result }
     ensures remembers { Memo s.now.table.now memo.new }
 {
-    bind(s.cells, INPUTS, s.part.vi, s.part.ni, i, &mut slots[BEFORE]);
+    bind(
+        s.cells,
+        INPUTS,
+        s.part.inputs.variables,
+        s.part.inputs.bindings,
+        i,
+        &mut slots[BEFORE],
+    );
     abstract_pre(s, slots, memo)
 }
 
@@ -122,7 +129,7 @@ pub fn ready(
     ensures remembers { Memo s.now.table.now memo.new }
 {
     let mut mask: u64 = 0;
-    for i in (0..s.part.ni).rev() {
+    for i in (0..s.part.inputs.bindings).rev() {
         mask = 2 * mask + u64::from(pre_at(s, i, slots, memo));
     }
     mask
@@ -145,13 +152,20 @@ pub fn next_input(
     from: usize,
     slots: &mut [[i64; SLOTS]; 2],
 ) -> usize
-    requires from_le_ni { from ≤ s.now.part.ni }
+    requires from_le_ni { from ≤ s.now.part.inputs.bindings }
     requires input_asked { InputAsked s.now.cells.now s.now.part slots.old }
     ensures { InputAnswers s.now.cells.now s.now.part mask from slots.old slots.new result }
 {
-    let i = next_bit(mask, from, s.part.ni);
-    if i < s.part.ni {
-        bind(s.cells, INPUTS, s.part.vi, s.part.ni, i, &mut slots[BEFORE]);
+    let i = next_bit(mask, from, s.part.inputs.bindings);
+    if i < s.part.inputs.bindings {
+        bind(
+            s.cells,
+            INPUTS,
+            s.part.inputs.variables,
+            s.part.inputs.bindings,
+            i,
+            &mut slots[BEFORE],
+        );
     }
     i
 }

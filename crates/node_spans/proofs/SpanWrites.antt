@@ -45,7 +45,7 @@ three {n} {x} {y} {z} {s} {s₁} {s₂} {s₃} p q r =
           subst (λ (l : List ℕ). Filled s₀ s₃ l) (append_assoc (w ++ (x ∷ [])) (y ∷ []) (z ∷ []) ∙ append_assoc w (x ∷ []) (y ∷ z ∷ [])) t;
     }
 
--- what `skip_from` answers at one item, and `run_from` behind a heading
+-- what `skip` answers at one item, and `run` behind a heading
 pub item-place : {a : List ℕ} {m i e r : ℕ} → Item (take m a) m i e → Skips a m i r → r ≡ e
 item-place x s =
     let l = x.room in

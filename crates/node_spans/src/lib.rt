@@ -1,29 +1,91 @@
 // Where the declarations and the predicates of a dossier stand among its nodes.
-// Form 6: the spans are an array of fixed length that is lent, with a place of its own for each number; what `operation` answers is a place among the nodes.
-// `m` may be past the end of the nodes, so that they are not cut there.
+// Form 6: the spans are an array of fixed length that the caller lends (document 01), with a place of its own for each number; what `operation` answers is a
+// place among the nodes.
+// Form 5: `k < 65536` bounds the sum that `span::of_operation` makes; a type of an operation's number with that bound would be made in each loop over
+// operations, and the bound shown there as it is shown for the clause now.
 #![tactic(auto)]
 
-ghost use Rattle.std.specs.Prelude.{◌+◌, ◌≤◌, ◌<◌, length, take};
-ghost use Rattle.node_spans.specs.Spans.{Spanned};
+ghost use Rattle.std.specs.Prelude.{◌≡◌, ◌+◌, ◌*◌, ◌≤◌, ◌<◌, length, take};
+ghost use Rattle.node_spans.specs.Spans.{Spanned, span};
 ghost use Rattle.node_spans.specs.SpanPromises.{Puts, Three, StatePut, OperationPut, OperationsPut};
 
 use form::shapes::DECLARED;
-use parser::sections::{run_from, sections, skip_from};
+use lexical::classes::at_or;
+use parser::sections::Nodes;
 
 pub mod span;
 
-// The nodes of a dossier, and where its parts stand among them.
+// The nodes of a dossier, or those of its table, which stand in the same places; where its parts stand among them; and how many operations it has.
+// How long the array is stands beside it, since a proof does not find it behind a reference to the struct.
 #[derive(Clone, Copy)]
 pub struct Parts<'a> {
     pub nodes: &'a [u16],
-    pub spans: &'a [u16],
+    pub spans: &'a [u16; span::COUNT],
+    pub operations: usize,
+    ghost long: { length spans.now ≡ 80 },
+}
+
+impl<'a> Parts<'a> {
+    // The number k of the spans.
+    pub fn span(&self, k: usize) -> usize
+        ensures { result ≡ span self.now.spans.now k }
+    {
+        let spans = self.spans;
+        span_at(spans, k)
+    }
+
+    // The numbers of the operation k.
+    pub fn operation(&self, k: usize) -> OperationSpans
+        requires { k < 65536 }
+        ensures first { result.first ≡ span self.now.spans.now (9 + 4 * k) }
+        ensures last { result.last ≡ span self.now.spans.now (9 + 4 * k + 1) }
+        ensures middle { result.middle ≡ span self.now.spans.now (9 + 4 * k + 2) }
+        ensures end { result.end ≡ span self.now.spans.now (9 + 4 * k + 3) }
+    {
+        let spans = self.spans;
+        operation_spans(spans, k)
+    }
+}
+
+// Of an operation: where its parameters begin and end, and where its two predicates end.
+#[derive(Clone, Copy)]
+pub struct OperationSpans {
+    pub first: usize,
+    pub last: usize,
+    pub middle: usize,
+    pub end: usize,
+}
+
+// A number of the spans; behind their end it is 0, as `type_rules::kinds::look` has it.
+pub fn span_at(spans: &[u16], k: usize) -> usize
+    ensures { (result ≡ span spans.now k) × (result < 65536) }
+{
+    usize::from(at_or(spans, k, 0))
+}
+
+// The numbers of the operation k.
+pub fn operation_spans(spans: &[u16], k: usize) -> OperationSpans
+    requires { k < 65536 }
+    ensures first { result.first ≡ span spans.now (9 + 4 * k) }
+    ensures last { result.last ≡ span spans.now (9 + 4 * k + 1) }
+    ensures middle { result.middle ≡ span spans.now (9 + 4 * k + 2) }
+    ensures end { result.end ≡ span spans.now (9 + 4 * k + 3) }
+{
+    let at = span::of_operation(k);
+    OperationSpans {
+        first: span_at(spans, at),
+        last: span_at(spans, at + span::LAST),
+        middle: span_at(spans, at + span::MIDDLE),
+        end: span_at(spans, at + span::END),
+    }
 }
 
 // The largest number of 16 bits.
 pub const LARGEST: usize = 65535;
 
 // A number behind the first n of the spans.
-// Form 1: in the lent array 0 stands for a place that is no number of 16 bits; the nodes of a dossier have none.
+// Form 1: the array that the caller lends has numbers of 16 bits and nothing else (document 01): 0 stands for a place above them, and the nodes of a dossier
+// have none.
 fn put(spans: &mut [u16], n: usize, x: usize)
     requires { n < length spans.old }
     ensures { Puts n x spans.old spans.new }
@@ -41,57 +103,50 @@ fn three(spans: &mut [u16], n: usize, x: usize, y: usize, z: usize)
 }
 
 // Of the state between two places: where its variables begin and end, and its predicate ends.
-fn state(nodes: &[u16], m: usize, from: usize, to: usize, spans: &mut [u16], n: usize)
+fn state(made: &Nodes<'_>, from: usize, to: usize, spans: &mut [u16], n: usize)
     requires { n + 3 ≤ length spans.old }
-    ensures { StatePut (take m nodes.now) m from to n spans.old spans.new }
+    ensures { StatePut (take made.now.end made.now.numbers.now) made.now.end from to n spans.old spans.new }
 {
-    let first = skip_from(nodes, from, m);
-    let last = run_from(nodes, first, m, DECLARED, DECLARED);
+    let first = made.skip(from);
+    let last = made.run(first, DECLARED, DECLARED);
     three(spans, n, first, last, to);
 }
 
 // Of the operation at a place: where its parameters begin and end, and its two predicates end; the place behind it.
-fn operation(nodes: &[u16], m: usize, from: usize, spans: &mut [u16], n: usize) -> usize
+fn operation(made: &Nodes<'_>, from: usize, spans: &mut [u16], n: usize) -> usize
     requires { n + 4 ≤ length spans.old }
-    ensures { OperationPut (take m nodes.now) m from n spans.old spans.new result }
+    ensures { OperationPut (take made.now.end made.now.numbers.now) made.now.end from n spans.old spans.new result }
 {
-    let first = skip_from(nodes, from, m);
-    let last = run_from(nodes, first, m, DECLARED, DECLARED);
-    let middle = skip_from(nodes, last, m);
-    let end = skip_from(nodes, middle, m);
+    let first = made.skip(from);
+    let last = made.run(first, DECLARED, DECLARED);
+    let middle = made.skip(last);
+    let end = made.skip(middle);
     three(spans, n, first, last, middle);
     put(spans, n + span::END, end);
     end
 }
 
 // The operations from a place up to the end, 16 at the most, and how many they are.
-fn operations(nodes: &[u16], m: usize, from: usize, spans: &mut [u16; span::COUNT]) -> usize
-    ensures { OperationsPut (take m nodes.now) m from spans.old spans.new result }
+fn operations(made: &Nodes<'_>, from: usize, spans: &mut [u16; span::COUNT]) -> usize
+    ensures { OperationsPut (take made.now.end made.now.numbers.now) made.now.end from spans.old spans.new result }
 {
     let mut at = from;
     for k in 0..span::MOST {
-        if m <= at {
+        if made.end <= at {
             return k;
         }
-        at = operation(nodes, m, at, spans, span::OPERATIONS + span::OPERATION * k);
+        at = operation(made, at, spans, span::of_operation(k));
     }
     span::MOST
 }
 
 // The numbers of a dossier's spans, in front of the lent array; how many operations it has.
-pub fn spans(nodes: &[u16], m: usize, spans: &mut [u16; span::COUNT]) -> usize
-    ensures { Spanned nodes.now m spans.old spans.new result }
+pub fn spans(made: &Nodes<'_>, spans: &mut [u16; span::COUNT]) -> usize
+    ensures { Spanned made.now.numbers.now made.now.end spans.old spans.new result }
 {
-    let s = sections(nodes, m);
-    state(
-        nodes,
-        m,
-        s.abstracts,
-        s.concretes,
-        spans,
-        span::ABSTRACT_FIRST,
-    );
-    state(nodes, m, s.concretes, s.ainit, spans, span::CONCRETE_FIRST);
+    let s = made.sections();
+    state(made, s.abstracts, s.concretes, spans, span::ABSTRACT_FIRST);
+    state(made, s.concretes, s.ainit, spans, span::CONCRETE_FIRST);
     three(spans, span::AINIT_END, s.cinit, s.retrieve, s.operations);
-    operations(nodes, m, s.operations, spans)
+    operations(made, s.operations, spans)
 }

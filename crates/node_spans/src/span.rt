@@ -1,8 +1,10 @@
 // Which of the spans' numbers is which (specs/Spans.antt).
 // Form 1: places in the lent array of spans and how many there are, no kinds.
+ghost use Rattle.std.specs.Prelude.{◌≡◌, ◌+◌, ◌*◌, ◌<◌};
+
 use lexical::bounds;
 
-// Of each state where its variables begin and end, and where its predicate ends; where the three conditions end.
+// Of each state where its variables begin and end, and where its predicate ends.
 pub const ABSTRACT_FIRST: usize = 0;
 
 pub const ABSTRACT_LAST: usize = 1;
@@ -15,6 +17,12 @@ pub const CONCRETE_LAST: usize = 4;
 
 pub const CONCRETE_END: usize = 5;
 
+// The same of a state by how far they stand behind its first number.
+pub const STATE_LAST: usize = 1;
+
+pub const STATE_END: usize = 2;
+
+// Where the three conditions end.
 pub const AINIT_END: usize = 6;
 
 pub const CINIT_END: usize = 7;
@@ -31,6 +39,14 @@ pub const LAST: usize = 1;
 pub const MIDDLE: usize = 2;
 
 pub const END: usize = 3;
+
+// Where the numbers of the operation k begin.
+pub fn of_operation(k: usize) -> usize
+    requires { k < 65536 }
+    ensures { result ≡ 9 + 4 * k }
+{
+    OPERATIONS + OPERATION * k
+}
 
 // How many numbers there are at most, and how many operations.
 pub const COUNT: usize = 80;

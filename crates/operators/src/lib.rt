@@ -3,9 +3,9 @@
 // Form 7: the bools are the truth values that connectives and questions are over; none of them says which step to run.
 #![tactic(auto)]
 
-ghost use Rattle.std.specs.Prelude.{◌≡◌, Bool, true, false, not, ℕ, ◌<◌, ◌≤◌, ℤ, pos, nat_abs, ◌+ℤ◌, ◌-ℤ◌};
+ghost use Rattle.std.specs.Prelude.{◌≡◌, Bool, true, false, ◌<◌, pos, nat_abs};
 ghost use Rattle.sets.specs.Sets as sets;
-ghost use Rattle.evaluation.specs.MeaningValues.{natural, same_integer};
+ghost use Rattle.evaluation.specs.MeaningValues.{natural};
 ghost use Rattle.evaluation.specs.OperatorsByNumber.{Small, IsPlace, IsBits, PrefixTakes, OperatorTakes};
 ghost use Rattle.evaluation.specs.OperatorsByNumber as numbered;
 

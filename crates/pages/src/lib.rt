@@ -22,6 +22,15 @@ pub struct Bindings {
     pub b: usize,
 }
 
+// How many variables the groups have: of the abstract and the concrete state, inputs, outputs.
+#[derive(Clone, Copy, Default)]
+pub struct Counts {
+    pub va: usize,
+    pub vc: usize,
+    pub vi: usize,
+    pub vo: usize,
+}
+
 // A phrase, an operation, two numbers, and numbers of bindings.
 #[derive(Clone, Copy)]
 pub struct Item {
@@ -46,6 +55,7 @@ pub fn plain(phrase: usize, operation: usize, n: usize, m: usize) -> Item
 }
 
 // The first `count` items are those that are said.
+// Form 6: as `bounded_texts::BoundedText`: without a heap `new` and `add` cannot fail.
 #[derive(Drop)]
 pub struct Page {
     items: [Item; ITEMS],

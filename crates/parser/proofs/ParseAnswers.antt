@@ -1,5 +1,5 @@
 -- What the parts of the form pass have found is what `parse` answers.
-use Rattle.std.specs.Prelude.{Some, None, Ok, Err}
+use Rattle.std.specs.Prelude.{Some, None, Result, Ok, Err, MatchResult, IsOkAnd, IsErrAnd}
 use Rattle.std.specs.Prelude as prelude
 use mathlib.Core.Path.{◌≡◌, refl, ap, ap₂, ◌∙◌, sym, subst}
 use mathlib.Core.List.{List, ◌++◌}
@@ -26,6 +26,7 @@ use Rattle.parser.specs.Promises.{text_symbols, numbering, Answers, AnswersHeadi
 use Rattle.declarations.specs.DossierPromises.{Formed}
 use Rattle.form_nodes.specs.declared.Read.{Read}
 use Rattle.refusals.specs.declared.Fault as refusals
+use Rattle.refusals.specs.declared.Refusal as names
 use Rattle.refusals.specs.declared.Refusal.TheVariants.{HeadingDiffers}
 use Rattle.refusals.specs.RefusalNames.{refusal_is}
 use Rattle.parser.proofs.TextDossier.{values, DossierAt}
@@ -113,6 +114,24 @@ module _ {text coded placed valued : List ℕ} {n : ℕ} (left : Left text coded
 -- what the functions below `structure` have answered, put together
 pub few-symbols : {text coded placed valued : List ℕ} {n : ℕ} → Left text coded placed valued n → n ≤ 4096
 few-symbols left = (known left.scans).few
+
+-- what `map_err` left as it was, and of what it made a fault
+pub ok-before : {T : Type 0} (r : Result T refusals.Fault) {t : Result T refusals.Fault} {e : T} (P : refusals.Fault → refusals.Fault → Type 0) → t ≡ Ok e → MatchResult r (λ x. t ≡ Ok x) (λ f. IsErrAnd t (P f)) → r ≡ Ok e
+ok-before (Ok x) P q h = sym h ∙ q
+ok-before {T} (Err f) P q h = absurd (subst (λ (y : Result T refusals.Fault). IsErrAnd y (P f)) q h)
+
+well : {T : Type 0} {e : T} {g : refusals.Fault} → ◌≡◌ {A = Result T refusals.Fault} (Ok e) (Err g) → ⊥
+well {T} q = subst (λ (y : Result T refusals.Fault). IsOkAnd y (λ x. Unit {0})) q tt
+
+pub err-before : {T : Type 0} (r : Result T refusals.Fault) {t : Result T refusals.Fault} {g : refusals.Fault} (P : refusals.Fault → refusals.Fault → Type 0) → t ≡ Err g → MatchResult r (λ x. t ≡ Ok x) (λ f. IsErrAnd t (P f))
+    → (f : refusals.Fault) × ((r ≡ Err f) × P f g)
+err-before (Ok x) P q h = absurd (well (sym h ∙ q))
+err-before {T} (Err f) P q h = (f, (refl, subst (λ (y : Result T refusals.Fault). IsErrAnd y (P f)) q h))
+
+-- a fault by what its refusal is known to be
+pub refused-as : (text nodes₀ : List ℕ) (g : refusals.Fault) {q : names.Refusal} → g.refusal ≡ q
+    → Answers text none nodes₀ nodes₀ (Err (record { place = g.place; refusal = q })) → Answers text none nodes₀ nodes₀ (Err g)
+refused-as text nodes₀ g h a = subst (λ (x : names.Refusal). Answers text none nodes₀ nodes₀ (Err (record { place = g.place; refusal = x }))) (sym h) a
 
 pub formed-as : {s ν a b : List ℕ} {r t : Answer} → r ≡ t → Formed s ν a b r → Formed s ν a b t
 formed-as {s} {ν} {a} {b} q f = subst (λ (x : Answer). Formed s ν a b x) q f

@@ -1,5 +1,7 @@
 -- Where the parts of a dossier begin among its nodes, and number 7 over them: what the pass over the headings promises.
-use Rattle.std.specs.Prelude.{Some, None}
+use Rattle.std.specs.Prelude.{Some, None, Ok, Err}
+use Rattle.refusals.specs.declared.Fault as refusals
+use Rattle.refusals.specs.declared.Refusal.TheVariants.{HeadingDiffers}
 use Rattle.std.specs.Prelude as prelude
 use Rattle.std.specs.Prelude.{◌≡◌, Bool, true, false, cond, List, ℕ, ◌+◌, ◌≤◌, ◌<◌, eqb, length, take, get_or}
 use Rattle.std.proofs.Math.Option.{none, some}
@@ -58,6 +60,15 @@ pub record Sectioned (a : List ℕ) (m : ℕ) (r : Bounds) : Type 0 where
 abbrev pub Tells : Numbering → List Symbol → Type 0
 Tells ρ w =
     (x y : Name) (i j : ℕ) → get_or w i (fixed kind.END) ≡ name x → get_or w j (fixed kind.END) ≡ name y → ρ x.letters ≡ ρ y.letters → x.letters ≡ y.letters
+
+-- the place in the answer of a pass over headings; its refusal
+abbrev pub heading_of : prelude.Result (Unit {0}) refusals.Fault → prelude.Option ℕ
+heading_of (Ok u) = None
+heading_of (Err f) = Some f.place
+
+abbrev pub Differs : prelude.Result (Unit {0}) refusals.Fault → Type 0
+Differs (Ok u) = Unit {0}
+Differs (Err f) = f.refusal ≡ HeadingDiffers
 
 -- the least of some faults of number 7
 abbrev pub Finds : List Fault → prelude.Option ℕ → Type 0

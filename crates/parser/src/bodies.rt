@@ -2,13 +2,14 @@
 ghost use Rattle.std.specs.Prelude.{◌≡◌, [], ◌∷◌, ◌++◌, ◌+◌, ◌*◌, ◌≤◌, ◌<◌, length, get_or};
 ghost use Rattle.lexical.specs.Kinds as kind;
 ghost use Rattle.lexical.specs.Kinds.{Kind, code_of};
-ghost use Rattle.form.specs.Machine.{exact, some_bodies, some_operations, some_parameters};
+ghost use Rattle.form.specs.Machine.{some_bodies, some_operations, some_parameters};
 ghost use Rattle.form_nodes.specs.FormPromises.{Reads, Room};
 ghost use Rattle.form_nodes.specs.Derivations as part;
 ghost use Rattle.form_nodes.specs.Derivations.{Made, a_condition, a_state, a_where, some_givens, More};
 ghost use Rattle.declarations.specs.DossierPromises.{a_condition_to, a_state_of, a_where_of, Sequenced, two_states, three_conditions, Formed};
 
-use declarations::contents::{contents, declarations, givens, parameters};
+use declarations::contents::{contents, declarations, givens, parameters, title};
+use expressions::Reach;
 use expressions::trees::pred;
 use form::{node, shapes};
 use form_nodes::kinds::kind_at;
@@ -30,13 +31,17 @@ fn condition(
     requires { Room y.now.kinds.now code.old at (n + 4) }
     ensures { ((κ : Kind) → (code_of κ ≡ word) → Reads y.now.kinds.now at n (a_condition_to κ) [] result) × Made y.now.kinds.now y.now.values.now (a_condition word) at n code.old code.new result }
 {
-    let body = pred(y, at, 0, 0, code, n + node::SIZE)?;
+    let from = Read {
+        at,
+        count: n + node::SIZE,
+    };
+    let body = pred(y, from, Reach { depth: 0, names: 0 }, code)?;
     let c = put(
         code,
         n,
         shapes::PREDICATE,
         at,
-        (body.count - (n + node::SIZE)) as u16,
+        (body.count - from.count) as u16,
         0,
     );
     close(y.kinds, body.at, word, body.count)
@@ -69,7 +74,7 @@ fn operation(y: &Symbols<'_>, at: usize, code: &mut [u16], n: usize) -> Result<R
     requires { Room y.now.kinds.now code.old at n × (at + 1 < length y.now.kinds.now) × (get_or y.now.kinds.now at 0 ≡ 43) × (get_or y.now.kinds.now (at + 1) 0 ≡ 2) }
     ensures { Reads y.now.kinds.now (at + 1 + 1) (n + 4) (some_parameters 0 0 ∷ a_condition_to kind.CONCRETE ++ a_condition_to kind.END) ([]) result × More y.now.kinds.now y.now.values.now part.some_operations at n code.old code.new result }
 {
-    let x = name_number(y, at + 1);
+    let x = name_number(y.kinds, y.values, at + 1);
     let m = put(code, n, shapes::OPERATION, at, x, 0);
     let taken = parameters(y, at + 1 + 1, code, m)?;
     let word = close(y.kinds, taken.at, codes::ABSTRACT, taken.count)?;
@@ -78,34 +83,23 @@ fn operation(y: &Symbols<'_>, at: usize, code: &mut [u16], n: usize) -> Result<R
 }
 
 // The bodies of operations.
+// Form 2: `givens` of declarations walks alike, and says there why each has its own walk.
 // Form 3: where the next body stands, says the one that is read.
 fn operations(y: &Symbols<'_>, start: usize, code: &mut [u16], from: usize) -> Result<Read, Fault>
     requires { Room y.now.kinds.now code.old start from }
     ensures { Reads y.now.kinds.now start from (some_operations 0 ∷ []) ([]) result × Made y.now.kinds.now y.now.values.now part.some_operations start from code.old code.new result }
 {
-    let mut at = start;
-    let mut n = from;
+    let mut read = Read {
+        at: start,
+        count: from,
+    };
     let mut k: u8 = 0;
-    while kind_at(y.kinds, at) == codes::OP {
-        if kind_at(y.kinds, at + 1) == codes::PLAIN {
-            if OPERATIONS <= k {
-                return Err(Fault {
-                    place: at + 1,
-                    refusal: Refusal::ManyDeclared,
-                });
-            }
-            let read = operation(y, at, code, n)?;
-            at = read.at;
-            n = read.count;
-            k += 1;
-        } else {
-            return Err(Fault {
-                place: at + 1,
-                refusal: Refusal::NoDossier,
-            });
-        }
+    while kind_at(y.kinds, read.at) == codes::OP {
+        title(y.kinds, read.at + 1, k, OPERATIONS)?;
+        read = operation(y, read.at, code, read.count)?;
+        k += 1;
     }
-    Ok(Read { at, count: n })
+    Ok(read)
 }
 
 // The two states.
@@ -139,7 +133,7 @@ fn bodies(y: &Symbols<'_>, at: usize, code: &mut [u16], n: usize) -> Result<Read
 }
 
 pub(crate) fn dossier(y: &Symbols<'_>, code: &mut [u16]) -> Result<Read, Fault>
-    requires { (length y.now.kinds.now ≤ 4096) × (4 * length y.now.kinds.now ≤ length code.old) }
+    requires { 4 * length y.now.kinds.now ≤ length code.old }
     ensures { Formed y.now.kinds.now y.now.values.now code.old code.new result }
 {
     let listed = contents(y, code)?;

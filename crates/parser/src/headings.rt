@@ -1,66 +1,74 @@
 // Number 7 of document 01: headings against the table of contents.
 ghost use Rattle.std.specs.Prelude.{◌≡◌, ◌≤◌};
-ghost use Rattle.parser.specs.Sections.{Compared, Headed};
+ghost use Rattle.parser.specs.Sections.{Compared, Differs, Headed, heading_of};
+ghost use Rattle.refusals.specs.declared.Refusal.TheVariants.{HeadingDiffers};
 
-use crate::sections::{part, run, sections, skip};
+use crate::sections::Nodes;
 use form::node;
 use form::shapes::{DECLARED, ELEMENT, PREDICATE};
+use refusals::{Fault, Refusal};
+use std::ops::Range;
 
-// The entries from `from` up to `to` against the bodies from `head` up to `last`, in order. What belongs to a body has the shapes low to high.
-// A wanting body is at the symbol `wanting`. The number of the symbol of the first heading that differs, is extra or is wanting.
+// The fault of number 7 at a symbol.
+fn differs(place: usize) -> Fault
+    ensures { (result.place ≡ place) × (result.refusal ≡ HeadingDiffers) }
+{
+    Fault {
+        place,
+        refusal: Refusal::HeadingDiffers,
+    }
+}
+
+// The entries that stand at some places against the bodies at others, in order. What belongs to a body has the shapes low to high.
+// A wanting body is at the symbol `wanting`. The fault is at the symbol of the first heading that differs, is extra or is wanting.
 // Form 3: an entry and a body go on by widths of their own, which their nodes say.
 fn compare(
-    nodes: &[u16],
-    m: usize,
-    from: usize,
-    to: usize,
-    head: usize,
-    last: usize,
+    made: &Nodes<'_>,
+    entries: Range<usize>,
+    bodies: Range<usize>,
     low: u16,
     high: u16,
     wanting: usize,
-) -> Option<usize>
-    requires { (from ≤ m) × (to ≤ m) × (head ≤ m) × (last ≤ m) }
-    ensures { Compared nodes.now m low high to last wanting from head result }
+) -> Result<(), Fault>
+    requires { (entries.start ≤ made.now.end) × (entries.end ≤ made.now.end) × (bodies.start ≤ made.now.end) × (bodies.end ≤ made.now.end) }
+    ensures { Compared made.now.numbers.now made.now.end low high entries.end bodies.end wanting entries.start bodies.start (heading_of result) × Differs result }
 {
-    let mut e = from;
-    let mut h = head;
-    while e < to {
-        if last <= h {
-            return Some(wanting);
+    let mut e = entries.start;
+    let mut h = bodies.start;
+    while e < entries.end {
+        if bodies.end <= h {
+            return Err(differs(wanting));
         }
-        let x = part(nodes, e, m, node::A);
-        let y = part(nodes, h, m, node::A);
+        let x = made.part(e, node::A);
+        let y = made.part(h, node::A);
         if x != y {
-            return Some(usize::from(part(nodes, h, m, node::PLACE)));
+            return Err(differs(usize::from(made.part(h, node::PLACE))));
         }
-        e = skip(nodes, e, m);
-        let body = skip(nodes, h, m);
-        h = run(nodes, body, m, low, high);
+        e = made.skip(e);
+        h = made.run(made.skip(h), low, high);
     }
-    if h < last {
-        return Some(usize::from(part(nodes, h, m, node::PLACE)));
+    if h < bodies.end {
+        return Err(differs(usize::from(made.part(h, node::PLACE))));
     }
-    None
+    Ok(())
 }
 
-// The number of the symbol of the first heading that differs from the contents.
-pub fn headings(nodes: &[u16], m: usize, symbols: usize) -> Option<usize>
-    ensures { Headed nodes.now m symbols result }
+// Do the headings agree with the contents? The fault is at the symbol of the first one that does not.
+pub(crate) fn headings(made: &Nodes<'_>, symbols: usize) -> Result<(), Fault>
+    ensures { Headed made.now.numbers.now made.now.end symbols (heading_of result) × Differs result }
 {
-    let s = sections(nodes, m);
-    let entries = s.entries;
-    let givens = s.givens;
-    let abstracts = s.abstracts;
-    let operations = s.operations;
-    let wanting = usize::from(part(nodes, abstracts, m, node::PLACE));
-    let first = compare(
-        nodes, m, 0, entries, givens, abstracts, ELEMENT, ELEMENT, wanting,
-    );
-    match first {
-        Some(i) => Some(i),
-        None => compare(
-            nodes, m, entries, givens, operations, m, DECLARED, PREDICATE, symbols,
-        ),
-    }
+    let at = made.sections();
+    let wanting = usize::from(made.part(at.abstracts, node::PLACE));
+    let entries = at.entries;
+    let sets = at.givens..at.abstracts;
+    compare(made, 0..entries, sets, ELEMENT, ELEMENT, wanting)?;
+    let operations = at.operations..made.end;
+    compare(
+        made,
+        entries..at.givens,
+        operations,
+        DECLARED,
+        PREDICATE,
+        symbols,
+    )
 }

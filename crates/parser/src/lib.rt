@@ -1,18 +1,17 @@
 // Symbols to the structure of a dossier: numbers 4, 5, 6 and 7 of document 01.
 #![tactic(auto)]
 
-ghost use Rattle.std.specs.Prelude.{◌≡◌, ◌≤◌, length, take, get_or};
-ghost use Rattle.std.proofs.Math.Option.{none};
-ghost use Rattle.form_nodes.specs.FormPromises.{Left};
-ghost use Rattle.parser.specs.Promises.{Answers, Parses};
+ghost use Rattle.std.specs.Prelude.{◌≡◌, get_or};
+ghost use Rattle.parser.specs.Promises.{Parses};
 
 use crate::bodies::dossier;
 use crate::copies::copy_nodes;
 use crate::headings::headings;
+use crate::sections::Nodes;
 use form::node::NUMBERS;
 use form_nodes::Symbols;
 use lexical::bounds::SYMBOLS;
-use refusals::{Fault, Refusal};
+use refusals::Fault;
 use symbols::scan;
 
 mod bodies;
@@ -39,55 +38,40 @@ pub fn parse(
     ensures { Parses text.now codes.old starts.old values.old nodes.old codes.new starts.new values.new nodes.new result }
 {
     let n = scan(text, codes, starts, values)?;
-    structure_of(text, codes, starts, values, n, nodes)
-}
-
-// The structure of the n symbols of a text. The nodes are made in an array of their own, so that a refusal leaves the lent one as it was.
-// Form 5: what `scan` left in the arrays that `parse` is lent; the symbols are cut to their number and become one value here, the places of bytes are only looked up.
-fn structure_of(
-    text: &[u8],
-    codes: &[u8; SYMBOLS],
-    starts: &[u16; SYMBOLS],
-    values: &[u16; SYMBOLS],
-    n: usize,
-    nodes: &mut [u16; NUMBERS],
-) -> Result<Structure, Fault>
-    requires { Left text.now codes.now starts.now values.now n }
-    ensures { Answers text.now none nodes.old nodes.new result }
-{
     let y = Symbols {
         kinds: &codes[..n],
         values: &values[..n],
     };
+    let starts = &starts[..n];
+    // The nodes are made in an array of their own, so that a refusal leaves the lent one as it was.
     let mut made = [0u16; NUMBERS];
-    match dossier(&y, &mut made) {
-        Ok(read) => match headings(&made, read.count, n) {
-            None => {
-                copy_nodes(&made, nodes, read.count);
-                Ok(Structure {
-                    symbols: n,
-                    numbers: read.count,
-                })
-            }
-            Some(i) => Err(Fault {
-                place: place_at(starts, n, i, text.len()),
-                refusal: Refusal::HeadingDiffers,
-            }),
-        },
-        Err(f) => Err(Fault {
-            place: place_at(starts, n, f.place, text.len()),
-            ..f
-        }),
-    }
+    let read = dossier(&y, &mut made).map_err(|f| located(f, starts, text.len()))?;
+    let found = Nodes {
+        numbers: &made,
+        end: read.count,
+    };
+    headings(&found, n).map_err(|f| located(f, starts, text.len()))?;
+    copy_nodes(&made, nodes, read.count);
+    Ok(Structure {
+        symbols: n,
+        numbers: read.count,
+    })
 }
 
 // The first byte of a symbol, or the text's end.
-pub fn place_at(starts: &[u16], n: usize, i: usize, end: usize) -> usize
-    requires { n ≤ length starts.now }
-    ensures { result ≡ get_or (take n starts.now) i end }
+pub fn place_at(starts: &[u16], i: usize, end: usize) -> usize
+    ensures { result ≡ get_or starts.now i end }
 {
-    if i < n {
-        return usize::from(starts[i]);
+    starts.get(i).map_or(end, |s| usize::from(*s))
+}
+
+// A fault by the symbol as one by the first byte of that symbol.
+pub fn located(fault: Fault, starts: &[u16], end: usize) -> Fault
+    ensures place { result.place ≡ get_or starts.now fault.place end }
+    ensures refusal { result.refusal ≡ fault.refusal }
+{
+    Fault {
+        place: place_at(starts, fault.place, end),
+        ..fault
     }
-    end
 }

@@ -6,6 +6,14 @@ use form::node;
 use form::shapes::{DECLARED, ELEMENT, GIVEN, GIVEN_ENTRY, OPERATION_ENTRY, PREDICATE};
 use lexical::classes::at_or;
 
+// The nodes of a dossier: the first `end` of some numbers; what is not there reads as 0.
+// Form 6: its end may lie past the last number: a slice up to it would ask each caller that it lies inside, where what is promised here holds for any end.
+#[derive(Clone, Copy)]
+pub struct Nodes<'a> {
+    pub numbers: &'a [u16],
+    pub end: usize,
+}
+
 // The numbers at which begin the contents' entries of operations, the given sets, the two states, the three conditions and the operations.
 #[derive(Clone, Copy)]
 pub struct Bounds {
@@ -17,19 +25,6 @@ pub struct Bounds {
     pub cinit: usize,
     pub retrieve: usize,
     pub operations: usize,
-}
-
-// A number of the node at a place.
-// Form 1: where no node can stand it is 0, no node's shape, as `Part` of specs/Sections.antt says; with an Option each test would compare with `Some(..)`.
-// Form 5: m ends the nodes that were made, and the place in front of it moves with each item.
-pub(crate) fn part(nodes: &[u16], at: usize, m: usize, k: usize) -> u16
-    requires { (at ≤ m) × (k ≤ 3) }
-    ensures { Part nodes.now at m k result }
-{
-    if m - at < node::SIZE {
-        return 0;
-    }
-    at_or(nodes, at + k, 0)
 }
 
 // How many numbers the nodes of an item have: behind a declared name stands its type, and a predicate says how many follow.
@@ -45,97 +40,84 @@ fn item(shape: u16, count: u16) -> usize
     node::SIZE
 }
 
-// The place behind the item that stands at a place; the end where it would leave the nodes.
-pub(crate) fn skip(nodes: &[u16], at: usize, m: usize) -> usize
-    requires { at ≤ m }
-    ensures { Skips nodes.now m at result }
-{
-    let left = m - at;
-    let shape = part(nodes, at, m, node::SHAPE);
-    let count = part(nodes, at, m, node::A);
-    let size = item(shape, count);
-    if left < size {
-        return m;
+impl Nodes<'_> {
+    // A number of the node at a place.
+    // Form 1: where no node can stand it is 0, no node's shape, as `Part` of specs/Sections.antt says; with an Option each test would compare with `Some(..)`.
+    pub(crate) fn part(&self, at: usize, k: usize) -> u16
+        requires { k ≤ 3 }
+        ensures { Part self.now.numbers.now at self.now.end k result }
+    {
+        if self.end.saturating_sub(at) < node::SIZE {
+            return 0;
+        }
+        at_or(self.numbers, at + k, 0)
     }
-    at + size
-}
 
-// Does an item of one of the shapes low to high stand at a place?
-fn inside(nodes: &[u16], at: usize, m: usize, low: u16, high: u16) -> bool
-    requires { at ≤ m }
-    ensures { Inside nodes.now m low high at result }
-{
-    if m - at < node::SIZE {
-        return false;
+    // The place behind the item that stands at a place; the end where it would leave the nodes, and where none stands there.
+    pub fn skip(&self, at: usize) -> usize
+        ensures { Skips self.now.numbers.now self.now.end at result }
+    {
+        let left = self.end.saturating_sub(at);
+        let shape = self.part(at, node::SHAPE);
+        let count = self.part(at, node::A);
+        let size = item(shape, count);
+        if left < size {
+            return self.end;
+        }
+        at + size
     }
-    let shape = part(nodes, at, m, node::SHAPE);
-    if shape < low {
-        return false;
+
+    // Does an item of one of the shapes low to high stand at a place?
+    fn inside(&self, at: usize, low: u16, high: u16) -> bool
+        ensures { Inside self.now.numbers.now self.now.end low high at result }
+    {
+        if self.end.saturating_sub(at) < node::SIZE {
+            return false;
+        }
+        (low..=high).contains(&self.part(at, node::SHAPE))
     }
-    shape <= high
-}
 
-// The place behind the items of the shapes low to high that stand at a place.
-// Form 3: how far an item goes, says its first node.
-pub(crate) fn run(nodes: &[u16], at: usize, m: usize, low: u16, high: u16) -> usize
-    requires { at ≤ m }
-    ensures { RunsTo nodes.now m low high at result }
-{
-    let mut i = at;
-    while inside(nodes, i, m, low, high) {
-        i = skip(nodes, i, m);
+    // The place behind the items of the shapes low to high that stand at a place; the end where none stands there.
+    // Form 3: how far an item goes, says its first node.
+    pub fn run(&self, at: usize, low: u16, high: u16) -> usize
+        ensures { (at ≤ self.now.end → RunsTo self.now.numbers.now self.now.end low high at result) × (self.now.end < at → result ≡ self.now.end) }
+    {
+        let mut i = at.min(self.end);
+        while self.inside(i, low, high) {
+            i = self.skip(i);
+        }
+        i
     }
-    i
-}
 
-// The same from any place: the end where none stands there.
-pub fn skip_from(nodes: &[u16], at: usize, m: usize) -> usize
-    ensures { Skips nodes.now m at result }
-{
-    if m < at {
-        return m;
+    // The place behind a state: its heading, declarations and predicate.
+    fn state(&self, at: usize) -> usize
+        ensures { Behind self.now.numbers.now self.now.end at result }
+    {
+        let first = self.skip(at);
+        let last = self.run(first, DECLARED, DECLARED);
+        self.skip(last)
     }
-    skip(nodes, at, m)
-}
 
-pub fn run_from(nodes: &[u16], at: usize, m: usize, low: u16, high: u16) -> usize
-    ensures { (at ≤ m → RunsTo nodes.now m low high at result) × (m < at → result ≡ m) }
-{
-    if m < at {
-        return m;
-    }
-    run(nodes, at, m, low, high)
-}
-
-// The place behind a state: its heading, declarations and predicate.
-fn state(nodes: &[u16], at: usize, m: usize) -> usize
-    requires { at ≤ m }
-    ensures { Behind nodes.now m at result }
-{
-    let first = skip(nodes, at, m);
-    let last = run(nodes, first, m, DECLARED, DECLARED);
-    skip(nodes, last, m)
-}
-
-pub fn sections(nodes: &[u16], m: usize) -> Bounds
-    ensures { Sectioned nodes.now m result }
-{
-    let entries = run(nodes, 0, m, GIVEN_ENTRY, GIVEN_ENTRY);
-    let givens = run(nodes, entries, m, OPERATION_ENTRY, OPERATION_ENTRY);
-    let abstracts = run(nodes, givens, m, GIVEN, ELEMENT);
-    let concretes = state(nodes, abstracts, m);
-    let ainit = state(nodes, concretes, m);
-    let cinit = skip(nodes, ainit, m);
-    let retrieve = skip(nodes, cinit, m);
-    let operations = skip(nodes, retrieve, m);
-    Bounds {
-        entries: entries,
-        givens: givens,
-        abstracts: abstracts,
-        concretes: concretes,
-        ainit: ainit,
-        cinit: cinit,
-        retrieve: retrieve,
-        operations: operations,
+    pub fn sections(&self) -> Bounds
+        ensures { Sectioned self.now.numbers.now self.now.end result }
+    {
+        let entries = self.run(0, GIVEN_ENTRY, GIVEN_ENTRY);
+        let givens = self.run(entries, OPERATION_ENTRY, OPERATION_ENTRY);
+        let abstracts = self.run(givens, GIVEN, ELEMENT);
+        let concretes = self.state(abstracts);
+        let ainit = self.state(concretes);
+        let cinit = self.skip(ainit);
+        let retrieve = self.skip(cinit);
+        let operations = self.skip(retrieve);
+        Bounds {
+            entries,
+            givens,
+            abstracts,
+            concretes,
+            ainit,
+            cinit,
+            retrieve,
+            operations,
+        }
     }
 }

@@ -21,11 +21,11 @@ use Rattle.part_places.specs.Places.{GroupsOf, parts, PartAsked, PartSet, SizeIs
 -- the bindings of a part's groups: together its places, each few
 pub record Sized (d : Dossier) (k : ℕ) (p : Part) : Type 0 where
   pub many : places p ≡ part_size d k
-  pub few_a : p.na ≤ 4096
-  pub few_c : p.nc ≤ 4096
-  pub few_i : p.ni ≤ 64
-  pub few_q : p.nq ≤ 64
-  pub few_k : p.nk ≤ 4096
+  pub few_a : p.abstracts.bindings ≤ 4096
+  pub few_c : p.concretes.bindings ≤ 4096
+  pub few_i : p.inputs.bindings ≤ 64
+  pub few_q : p.outputs.bindings ≤ 64
+  pub few_k : p.primes.bindings ≤ 4096
 
 one-group : (n : ℕ) → 1 * n * 1 * 1 * 1 ≡ n
 one-group n = omega arith

@@ -54,7 +54,7 @@ module _ {table groups : List ℕ} {k : ℕ} (a : PartAsked table groups k) wher
     listed-operation : (op : Operation) × (get_elem? a.dossier.operations j ≡ some op)
     listed-operation = below-entry a.dossier.operations j h
 
-    operation-low : j < 16
+    pub operation-low : j < 16
     operation-low = omega (arith, a.groups_are.operations)
 
     pub operation-asked : OperationAsked table groups (18 + 8 * j)

@@ -8,7 +8,8 @@ ghost use Rattle.part_places.specs.Places.{PartAsked, PartSet, SizeIs, AllAsked,
 pub use held_checks::OBLIGATIONS;
 use held_checks::{OPENING, Obligation, obligation_of};
 use part_setup::{
-    applicability_part, correctness_part, opening_cells, opening_part, operation_cells, places,
+    OPERATION_ROW, OPERATION_ROWS, applicability_part, correctness_part, opening_cells,
+    opening_part, operation_cells, places,
 };
 use plans::Part;
 use search_groups::Dossier;
@@ -22,7 +23,9 @@ pub struct Found {
 }
 
 // The cells of the k-th part, and its sizes.
-// Form 5: the cells are lent blank, since large arrays are lent here and not copied: made in here and given back beside the part, their 36,864 bytes are copied again for each part.
+// Form 5: the cells are lent blank. Made in here and given back beside the part, their 36,864 bytes are copied for each part: that was tried, and misses the
+// bar, which is the time of the lent cells: the report of a small dossier took 1.02 to 1.18 of it (these sources as plain Rust, 1,500 reports of BASE and of
+// `early`, 64 and 129 microseconds each).
 pub fn part_cells(d: &Dossier<'_>, k: usize, cells: &mut [u32; CELLS]) -> Part
     requires part_asked { PartAsked d.now.table.now d.now.groups.now k }
     requires blank { Blank cells.old }
@@ -34,12 +37,14 @@ pub fn part_cells(d: &Dossier<'_>, k: usize, cells: &mut [u32; CELLS]) -> Part
             opening_part(d, cells)
         }
         Obligation::Applicability(j) => {
-            operation_cells(d, j, cells);
-            applicability_part(d, j, cells)
+            let row = OPERATION_ROWS + OPERATION_ROW * j;
+            operation_cells(d, row, cells);
+            applicability_part(d, row, cells)
         }
         Obligation::Correctness(j) => {
-            operation_cells(d, j, cells);
-            correctness_part(d, j, cells)
+            let row = OPERATION_ROWS + OPERATION_ROW * j;
+            operation_cells(d, row, cells);
+            correctness_part(d, row, cells)
         }
     }
 }

@@ -1,4 +1,5 @@
 -- The nest of an operation's applicability: its searches find the related states at which the abstract precondition holds, and for each a concrete step.
+-- stands once for each part: the five lines of the premises, here and in CorrectnessNest. One law for both would make a `Nest` of them and of its twelve other fields, as arguments.
 use mathlib.Core.Path.{◌≡◌, refl, sym, ◌∙◌}
 use mathlib.Core.Bool.{true, false, true≢false}
 use mathlib.Core.List.{List, []}

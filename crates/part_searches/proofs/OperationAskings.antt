@@ -1,4 +1,5 @@
 -- The predicates of an operation, and those of its states after, as the searches ask them, each by the numbers of its groups' bindings.
+-- stands once for each side: the laws of what is asked; they cite `after-asked`, `step-asked` and `over-asked`, and what those do not share is the side's in each argument.
 use mathlib.Core.Path.{◌≡◌, refl, sym, ap, ◌∙◌, subst}
 use mathlib.Core.Bool.{Bool}
 use mathlib.Core.List.{List, ◌++◌, append_assoc}
@@ -22,8 +23,8 @@ use Rattle.states.proofs.StateLaws.{abstract-context, concrete-context}
 use Rattle.states.proofs.StepLaws.{abstract-operation, concrete-operation}
 use Rattle.part_tests.specs.PointsPoints.{Point, primed_slot, number_of}
 use Rattle.part_tests.specs.PointsPointTests.{side_slot, Celled}
-use Rattle.part_tests.proofs.PointsPointBindings.{primed-abstract, primed-concrete, Primes, no_primes, more_primes, state-primes}
-use Rattle.part_tests.proofs.PointsPointTruths.{celled-slots, celled-after-abstract, celled-after-concrete, celled-primes, celled-append}
+use Rattle.part_tests.proofs.PointsPointBindings.{primed-abstract, primed-concrete, abstract-primed, concrete-primed, Primes, no_primes, more_primes, state-primes}
+use Rattle.part_tests.proofs.PointsPointTruths.{celled-slots, celled-after, celled-primes, celled-append}
 use Rattle.part_tests.specs.PlansPlanPromises.{RowsOf, over_asking, after_asking, step_asking}
 use Rattle.part_tests.specs.PartsByNumber.{abstract_at, concrete_at, input_at, output_at}
 use Rattle.part_searches.specs.PartCells.{OperationCelled}
@@ -32,20 +33,16 @@ use Rattle.part_searches.proofs.UsedSlots.{Passing, pass-slotted, pass-append}
 use Rattle.part_searches.proofs.AskingKinds.{Anywhere, Using, NoOutput, over-asked, after-asked, step-asked}
 use Rattle.part_searches.proofs.PointStates.{abstract_group, concrete_group, input_group, output_group, concrete_after_group, abstract_after_group}
 use Rattle.part_searches.proofs.PointStates.{abstract-behind, concrete_behind, abstract-step, concrete-step}
-use Rattle.part_searches.proofs.StateAskings.{using-slotted, using_append, abstract-after, abstract-low, concrete-after, concrete-low}
+use Rattle.part_searches.proofs.StateAskings.{using-slotted, using_append, abstract-after, concrete-after, low-slotted}
 
 primes-long : {vs us : List Variable} → Primes vs us → length us ≡ length vs
 primes-long no_primes = refl
 primes-long (more_primes r) = ap suc (primes-long r)
 
 -- no slot of a state after is seen as one of the outputs
-abstract-no-output : (s n : ℕ) → s < 8 → n ≤ 3 → NoOutput n s
+no-output : (s m n : ℕ) → primed_slot s ≡ m → 22 ≤ m → n ≤ 3 → NoOutput n s
 unfolding side_slot
-abstract-no-output s n h o i l e = let k = primed-abstract s h in let z : s + 30 ≡ 19 + i = sym k ∙ e in omega arith
-
-concrete-no-output : (s n : ℕ) → 8 ≤ s → n ≤ 3 → NoOutput n s
-unfolding side_slot
-concrete-no-output s n h o i l e = let k = primed-concrete s h in let z : s + 14 ≡ 19 + i = sym k ∙ e in omega arith
+no-output s m n k h o i l e = let z : m ≡ 19 + i = sym k ∙ e in omega arith
 
 -- the slots that the concrete operation's steps depend on: concrete variables and parameters; concrete primed variables
 abbrev pub step_groups : Dossier → Operation → List ℕ
@@ -160,8 +157,8 @@ module _ {table rows firsts cells : List ℕ} {d : Dossier} {op : Operation} (te
       let few = S.abstracts in
       asked-same
       (after-asked cells tests (abstract-context d) k 2 Anywhere vo 30 0 va (λ r ss c. c.abstracts) S.outputs_few few (omega arith) (abstract-after d few)
-      (pass-slotted (NoOutput vo) 0 (unprimed d d.abstract) (λ s h l. abstract-no-output s vo (omega arith) S.outputs_few)) (abstract-low d few) (λ w m. tt)
-      (celled-after-abstract cells (unprimed d d.abstract) few C.states.abstracts_primed))
+      (pass-slotted (NoOutput vo) 0 (unprimed d d.abstract) (λ s h l. no-output s (s + 30) vo (primed-abstract s (omega arith)) (omega arith) S.outputs_few)) (low-slotted 0 (unprimed d d.abstract) (omega arith)) (λ w m. tt)
+      (celled-after cells 0 30 (unprimed d d.abstract) (abstract-primed va few) C.states.abstracts_primed))
       (λ δ t. ap (λ (b : Binding). holds d.abstract.predicate (environment d b)) (abstract-behind C.states δ t few))
 
   pub concrete-behind-asked : (k : RowsOf rows firsts 1)
@@ -172,10 +169,10 @@ module _ {table rows firsts cells : List ℕ} {d : Dossier} {op : Operation} (te
       let few = S.concretes in
       asked-same
       (after-asked cells tests (concrete-context d) k 3 (OfSteps d op) vo 22 8 vc (λ r ss c. c.concretes) S.outputs_few few (omega arith) (concrete-after d few)
-      (pass-slotted (NoOutput vo) 8 (unprimed d d.concrete) (λ s h l. concrete-no-output s vo h S.outputs_few)) (concrete-low d few)
+      (pass-slotted (NoOutput vo) 8 (unprimed d d.concrete) (λ s h l. no-output s (s + 14) vo (primed-concrete s h) (omega arith) S.outputs_few)) (low-slotted 8 (unprimed d d.concrete) (omega arith))
       (pass-slotted (λ (s : ℕ). OfSteps d op (side_slot 1 s)) 8 (unprimed d d.concrete) (λ s h l. concrete-after-sees d op s h l))
-      (celled-after-concrete cells (unprimed d d.concrete) few C.states.concretes_primed))
-      (λ δ t. ap (λ (b : Binding). holds d.concrete.predicate (environment d b)) (concrete_behind C.states δ t few))
+      (celled-after cells 8 22 (unprimed d d.concrete) (concrete-primed vc) C.states.concretes_primed))
+      (λ δ t. ap (λ (b : Binding). holds d.concrete.predicate (environment d b)) (concrete_behind C.states δ t))
 
   module _ (j : ℕ) (is : get_elem? d.operations j ≡ some op) where
     abstract-celled : Celled cells 0 (operation_reach d d.abstract op) (step_slots d op d.abstract 0 30)

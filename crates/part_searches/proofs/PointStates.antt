@@ -13,7 +13,7 @@ use Rattle.readings.specs.TablePlacesResolvedTable.{Slots, slotted}
 use Rattle.readings.specs.TablePlacesDossierTable.{abstract_slots, concrete_slots, parameter_slots}
 use Rattle.part_tests.specs.PointsPoints.{Point, number_of, Tame}
 use Rattle.part_tests.specs.PointsPointTests.{binding_by, side_slot, side_of}
-use Rattle.part_tests.proofs.PointsPointBindings.{binding-number, binding-append, binding-side-abstract, binding-side-concrete, binding-primes}
+use Rattle.part_tests.proofs.PointsPointBindings.{binding-number, binding-append, binding-side, abstract-primed, concrete-primed, binding-primes}
 use Rattle.part_tests.specs.PartsByNumber.{abstract_at, concrete_at, input_at, output_at}
 use Rattle.part_searches.specs.PartCells.{StatesCelled, OperationCelled}
 
@@ -57,12 +57,11 @@ module _ {cells : List ℕ} {d : Dossier} (C : StatesCelled cells d) (δ : Point
   pub abstract-behind : length (unprimed d d.abstract) ≤ 8
       → binding_by (unprimed d d.abstract) (abstract_slots d) (side_of 1 δ) ≡ abstract_at d (number_of cells (abstract_after_group d) δ)
   unfolding abstract_bindings
-  abstract-behind h = binding-side-abstract cells (unprimed d d.abstract) δ h C.abstracts_primed τ
+  abstract-behind h = binding-side cells 0 30 (unprimed d d.abstract) δ (abstract-primed (length (unprimed d d.abstract)) h) C.abstracts_primed τ
 
-  pub concrete_behind : length (unprimed d d.concrete) ≤ 8
-      → binding_by (unprimed d d.concrete) (concrete_slots d) (side_of 1 δ) ≡ concrete_at d (number_of cells (concrete_after_group d) δ)
+  pub concrete_behind : binding_by (unprimed d d.concrete) (concrete_slots d) (side_of 1 δ) ≡ concrete_at d (number_of cells (concrete_after_group d) δ)
   unfolding concrete_bindings
-  concrete_behind h = binding-side-concrete cells (unprimed d d.concrete) δ h C.concretes_primed τ
+  concrete_behind = binding-side cells 8 22 (unprimed d d.concrete) δ (concrete-primed (length (unprimed d d.concrete))) C.concretes_primed τ
 
   -- both states
   both : (ε : Point) → binding_by (unprimed d d.abstract ++ unprimed d d.concrete) (abstract_slots d ++ concrete_slots d) ε
@@ -74,10 +73,10 @@ module _ {cells : List ℕ} {d : Dossier} (C : StatesCelled cells d) (δ : Point
       ≡ abstract_at d (number_of cells (abstract_group d) δ) ++ concrete_at d (number_of cells (concrete_group d) δ)
   both-before = both (side_of 0 δ) ∙ ap₂ (λ (x y : Binding). x ++ y) abstract-before concrete-before
 
-  pub both_behind : length (unprimed d d.abstract) ≤ 8 → length (unprimed d d.concrete) ≤ 8
+  pub both_behind : length (unprimed d d.abstract) ≤ 8
       → binding_by (unprimed d d.abstract ++ unprimed d d.concrete) (abstract_slots d ++ concrete_slots d) (side_of 1 δ)
       ≡ abstract_at d (number_of cells (abstract_after_group d) δ) ++ concrete_at d (number_of cells (concrete_after_group d) δ)
-  both_behind h k = both (side_of 1 δ) ∙ ap₂ (λ (x y : Binding). x ++ y) (abstract-behind h) (concrete_behind k)
+  both_behind h = both (side_of 1 δ) ∙ ap₂ (λ (x y : Binding). x ++ y) (abstract-behind h) concrete_behind
 
 module _ {cells : List ℕ} {d : Dossier} {op : Operation} (C : OperationCelled cells d op) (δ : Point) (τ : Tame cells δ) where
   -- a step from b to the state after b'

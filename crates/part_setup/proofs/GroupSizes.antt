@@ -14,20 +14,13 @@ module _ (groups : List ℕ) (row : ℕ) (cells : List ℕ) (r : Sizes) (w : Siz
   pub applicability-is :
       ApplicabilityPartIs groups row cells
       record {
-        va = r.va;
-        vc = r.vc;
-        vi = r.vi;
-        vo = 0;
-        vk = 0;
-        vr = r.vo + r.va;
-        vm = r.vo + r.vc;
-        na = r.na;
-        nc = r.nc;
-        ni = r.ni;
-        nq = 1;
-        nk = 1;
-        nr = r.nq * r.na;
-        nm = r.nq * r.nc;
+        abstracts = r.abstracts;
+        concretes = r.concretes;
+        inputs = r.inputs;
+        outputs = record { variables = 0; bindings = 1 };
+        primes = record { variables = 0; bindings = 1 };
+        readying = record { variables = r.outputs.variables + r.abstracts.variables; bindings = r.outputs.bindings * r.abstracts.bindings };
+        meeting = record { variables = r.outputs.variables + r.concretes.variables; bindings = r.outputs.bindings * r.concretes.bindings };
         primed = false;
       }
   applicability-is =
@@ -36,20 +29,13 @@ module _ (groups : List ℕ) (row : ℕ) (cells : List ℕ) (r : Sizes) (w : Siz
             let s : SizesOf us cs is os r = w.is us cs is os k in
             λ i.
             record {
-              va = s.va i;
-              vc = s.vc i;
-              vi = s.vi i;
-              vo = 0;
-              vk = 0;
-              vr = s.vo i + s.va i;
-              vm = s.vo i + s.vc i;
-              na = s.na i;
-              nc = s.nc i;
-              ni = s.ni i;
-              nq = 1;
-              nk = 1;
-              nr = s.nq i * s.na i;
-              nm = s.nq i * s.nc i;
+              abstracts = record { variables = s.va i; bindings = s.na i };
+              concretes = record { variables = s.vc i; bindings = s.nc i };
+              inputs = record { variables = s.vi i; bindings = s.ni i };
+              outputs = record { variables = 0; bindings = 1 };
+              primes = record { variables = 0; bindings = 1 };
+              readying = record { variables = s.vo i + s.va i; bindings = s.nq i * s.na i };
+              meeting = record { variables = s.vo i + s.vc i; bindings = s.nq i * s.nc i };
               primed = false;
             };
       }
@@ -57,20 +43,13 @@ module _ (groups : List ℕ) (row : ℕ) (cells : List ℕ) (r : Sizes) (w : Siz
   pub correctness-is :
       CorrectnessPartIs groups row cells
       record {
-        va = r.va;
-        vc = r.vc;
-        vi = r.vi;
-        vo = r.vo;
-        vk = r.vc;
-        vr = r.vo + r.va;
-        vm = r.va;
-        na = r.na;
-        nc = r.nc;
-        ni = r.ni;
-        nq = r.nq;
-        nk = r.nc;
-        nr = r.nq * r.na;
-        nm = r.na;
+        abstracts = r.abstracts;
+        concretes = r.concretes;
+        inputs = r.inputs;
+        outputs = r.outputs;
+        primes = r.concretes;
+        readying = record { variables = r.outputs.variables + r.abstracts.variables; bindings = r.outputs.bindings * r.abstracts.bindings };
+        meeting = r.abstracts;
         primed = true;
       }
   correctness-is =
@@ -79,20 +58,13 @@ module _ (groups : List ℕ) (row : ℕ) (cells : List ℕ) (r : Sizes) (w : Siz
             let s : SizesOf us cs is os r = w.is us cs is os k in
             λ i.
             record {
-              va = s.va i;
-              vc = s.vc i;
-              vi = s.vi i;
-              vo = s.vo i;
-              vk = s.vc i;
-              vr = s.vo i + s.va i;
-              vm = s.va i;
-              na = s.na i;
-              nc = s.nc i;
-              ni = s.ni i;
-              nq = s.nq i;
-              nk = s.nc i;
-              nr = s.nq i * s.na i;
-              nm = s.na i;
+              abstracts = record { variables = s.va i; bindings = s.na i };
+              concretes = record { variables = s.vc i; bindings = s.nc i };
+              inputs = record { variables = s.vi i; bindings = s.ni i };
+              outputs = record { variables = s.vo i; bindings = s.nq i };
+              primes = record { variables = s.vc i; bindings = s.nc i };
+              readying = record { variables = s.vo i + s.va i; bindings = s.nq i * s.na i };
+              meeting = record { variables = s.va i; bindings = s.na i };
               primed = true;
             };
       }
@@ -100,13 +72,13 @@ module _ (groups : List ℕ) (row : ℕ) (cells : List ℕ) (r : Sizes) (w : Siz
 -- ---- how many places a part has
 
 module _ (p : Part) (w : FewPlaces p) where
-  two : p.na * p.nc ≤ 16777216
+  two : p.abstracts.bindings * p.concretes.bindings ≤ 16777216
   two = mul-le-mul {n₂ = 4096} {m₂ = 4096} w.few_a w.few_c
 
-  three : p.na * p.nc * p.ni ≤ 1073741824
+  three : p.abstracts.bindings * p.concretes.bindings * p.inputs.bindings ≤ 1073741824
   three = mul-le-mul {n₂ = 16777216} {m₂ = 64} two w.few_i
 
-  four : p.na * p.nc * p.ni * p.nq ≤ 68719476736
+  four : p.abstracts.bindings * p.concretes.bindings * p.inputs.bindings * p.outputs.bindings ≤ 68719476736
   four = mul-le-mul {n₂ = 1073741824} {m₂ = 64} three w.few_q
 
   pub few-places : places p ≤ 281474976710656

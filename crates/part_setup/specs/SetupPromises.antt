@@ -86,15 +86,15 @@ pub record CorrectnessPartIs (groups : List ℕ) (row : ℕ) (cells : List ℕ) 
 
 -- how many places a part has: the bindings of its groups, one of each
 abbrev pub places : Part → ℕ
-places p = p.na * p.nc * p.ni * p.nq * p.nk
+places p = p.abstracts.bindings * p.concretes.bindings * p.inputs.bindings * p.outputs.bindings * p.primes.bindings
 
 -- each of its groups has few
 pub record FewPlaces (p : Part) : Type 0 where
-  pub few_a : p.na ≤ 4096
-  pub few_c : p.nc ≤ 4096
-  pub few_i : p.ni ≤ 64
-  pub few_q : p.nq ≤ 64
-  pub few_k : p.nk ≤ 4096
+  pub few_a : p.abstracts.bindings ≤ 4096
+  pub few_c : p.concretes.bindings ≤ 4096
+  pub few_i : p.inputs.bindings ≤ 64
+  pub few_q : p.outputs.bindings ≤ 64
+  pub few_k : p.primes.bindings ≤ 4096
 
 -- ---- both arrays have the first value of every variable
 

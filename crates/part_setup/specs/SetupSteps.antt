@@ -21,17 +21,17 @@ pub record StatesReady (table groups cells : List ℕ) (r : ℕ) : Type 0 where
 
 -- the sizes of the groups of an operation
 pub record SizesOf (us cs is os : List Variable) (r : Sizes) : Type 0 where
-  pub va : r.va ≡ length us
-  pub vc : r.vc ≡ length cs
-  pub vi : r.vi ≡ length is
-  pub vo : r.vo ≡ length os
-  pub na : r.na ≡ binding_count us
-  pub nc : r.nc ≡ binding_count cs
-  pub ni : r.ni ≡ binding_count is
-  pub nq : r.nq ≡ binding_count os
+  pub va : r.abstracts.variables ≡ length us
+  pub vc : r.concretes.variables ≡ length cs
+  pub vi : r.inputs.variables ≡ length is
+  pub vo : r.outputs.variables ≡ length os
+  pub na : r.abstracts.bindings ≡ binding_count us
+  pub nc : r.concretes.bindings ≡ binding_count cs
+  pub ni : r.inputs.bindings ≡ binding_count is
+  pub nq : r.outputs.bindings ≡ binding_count os
 
 pub record SizesAre (groups : List ℕ) (row : ℕ) (cells : List ℕ) (r : Sizes) : Type 0 where
-  pub va_low : r.va < 65536
-  pub vc_low : r.vc < 65536
-  pub vo_low : r.vo < 65536
+  pub va_low : r.abstracts.variables < 65536
+  pub vc_low : r.concretes.variables < 65536
+  pub vo_low : r.outputs.variables < 65536
   pub is : (us cs is os : List Variable) → OperationCounts groups row cells us cs is os → SizesOf us cs is os r

@@ -9,7 +9,7 @@ ghost use Rattle.part_setup.specs.SetupPromises.{Blank, FirstValues, StatesAsked
 ghost use Rattle.part_setup.specs.SetupPromises.{OperationPartAsked, ApplicabilityPartIs, CorrectnessPartIs, FewPlaces, places, Filled};
 ghost use Rattle.part_setup.specs.SetupSteps.{StatesReady, SizesAre};
 
-use plans::Part;
+use plans::{GroupSize, Part};
 use points::slots;
 use search_groups::Dossier;
 use slot_carriers::groups::binding_count;
@@ -28,21 +28,23 @@ const CONCRETE_ROW: usize = 9;
 const PARAMETER_ROW: usize = 4;
 
 // The first row that is an operation's, and how many numbers an operation has there.
-const OPERATION_ROWS: usize = 18;
+pub const OPERATION_ROWS: usize = 18;
 
-const OPERATION_ROW: usize = 8;
+pub const OPERATION_ROW: usize = 8;
 
-// How many variables the groups of an operation have, and how many bindings.
+// A group without variables: it has one binding, the empty one.
+const NONE: GroupSize = GroupSize {
+    variables: 0,
+    bindings: 1,
+};
+
+// The sizes of the groups of an operation.
 #[derive(Clone, Copy)]
 struct Sizes {
-    va: usize,
-    vc: usize,
-    vi: usize,
-    vo: usize,
-    na: usize,
-    nc: usize,
-    ni: usize,
-    nq: usize,
+    abstracts: GroupSize,
+    concretes: GroupSize,
+    inputs: GroupSize,
+    outputs: GroupSize,
 }
 
 // The cells of both states, plain and primed; the place behind their lists.
@@ -84,21 +86,12 @@ pub fn opening_cells(d: &Dossier<'_>, cells: &mut [u32; CELLS])
     set_states(d, cells);
 }
 
-// Where the rows of operation j begin.
-fn operation_row(j: usize) -> usize
-    requires { j ≤ 16 }
-    ensures { result ≡ 18 + 8 * j }
-{
-    OPERATION_ROWS + OPERATION_ROW * j
-}
-
-// The cells of operation j.
-pub fn operation_cells(d: &Dossier<'_>, j: usize, cells: &mut [u32; CELLS])
-    requires operation_asked { OperationAsked d.now.table.now d.now.groups.now (18 + 8 * j) }
+// Those of an operation whose rows begin at `row`.
+pub fn operation_cells(d: &Dossier<'_>, row: usize, cells: &mut [u32; CELLS])
+    requires operation_asked { OperationAsked d.now.table.now d.now.groups.now row }
     requires blank { Blank cells.old }
-    ensures { OperationSet d.now.table.now d.now.groups.now (18 + 8 * j) cells.new }
+    ensures { OperationSet d.now.table.now d.now.groups.now row cells.new }
 {
-    let row = operation_row(j);
     let lists = set_states(d, cells);
     let more = set_cells(d.table, d.groups, row, slots::INPUTS, lists, cells);
     set_cells(
@@ -121,30 +114,28 @@ pub fn opening_part(d: &Dossier<'_>, cells: &[u32; CELLS]) -> Part
     let na = binding_count(cells, slots::ABSTRACT, va);
     let nc = binding_count(cells, slots::CONCRETE, vc);
     Part {
-        va: 0,
-        vc,
-        vi: 0,
-        vo: 0,
-        vk: 0,
-        vr: 0,
-        vm: va,
-        na: 1,
-        nc,
-        ni: 1,
-        nq: 1,
-        nk: 1,
-        nr: 1,
-        nm: na,
+        abstracts: NONE,
+        concretes: GroupSize {
+            variables: vc,
+            bindings: nc,
+        },
+        inputs: NONE,
+        outputs: NONE,
+        primes: NONE,
+        readying: NONE,
+        meeting: GroupSize {
+            variables: va,
+            bindings: na,
+        },
         primed: false,
     }
 }
 
-// The groups of operation j.
-fn group_sizes(d: &Dossier<'_>, j: usize, cells: &[u32; CELLS]) -> Sizes
-    requires { OperationPartAsked d.now.groups.now (18 + 8 * j) cells.now }
-    ensures { SizesAre d.now.groups.now (18 + 8 * j) cells.now result }
+// The groups of the operation whose rows begin at `row`.
+fn group_sizes(d: &Dossier<'_>, row: usize, cells: &[u32; CELLS]) -> Sizes
+    requires { OperationPartAsked d.now.groups.now row cells.now }
+    ensures { SizesAre d.now.groups.now row cells.now result }
 {
-    let row = operation_row(j);
     let va = usize::from(d.groups[ABSTRACT_ROW]);
     let vc = usize::from(d.groups[CONCRETE_ROW]);
     let vi = usize::from(d.groups[row]);
@@ -154,63 +145,66 @@ fn group_sizes(d: &Dossier<'_>, j: usize, cells: &[u32; CELLS]) -> Sizes
     let ni = binding_count(cells, slots::INPUTS, vi);
     let nq = binding_count(cells, slots::OUTPUTS, vo);
     Sizes {
-        va,
-        vc,
-        vi,
-        vo,
-        na,
-        nc,
-        ni,
-        nq,
+        abstracts: GroupSize {
+            variables: va,
+            bindings: na,
+        },
+        concretes: GroupSize {
+            variables: vc,
+            bindings: nc,
+        },
+        inputs: GroupSize {
+            variables: vi,
+            bindings: ni,
+        },
+        outputs: GroupSize {
+            variables: vo,
+            bindings: nq,
+        },
     }
 }
 
 // Applicability over abstract, concrete, inputs.
-pub fn applicability_part(d: &Dossier<'_>, j: usize, cells: &[u32; CELLS]) -> Part
-    requires { OperationPartAsked d.now.groups.now (18 + 8 * j) cells.now }
-    ensures { ApplicabilityPartIs d.now.groups.now (18 + 8 * j) cells.now result }
+pub fn applicability_part(d: &Dossier<'_>, row: usize, cells: &[u32; CELLS]) -> Part
+    requires { OperationPartAsked d.now.groups.now row cells.now }
+    ensures { ApplicabilityPartIs d.now.groups.now row cells.now result }
 {
-    let s = group_sizes(d, j, cells);
+    let s = group_sizes(d, row, cells);
     Part {
-        va: s.va,
-        vc: s.vc,
-        vi: s.vi,
-        vo: 0,
-        vk: 0,
-        vr: s.vo + s.va,
-        vm: s.vo + s.vc,
-        na: s.na,
-        nc: s.nc,
-        ni: s.ni,
-        nq: 1,
-        nk: 1,
-        nr: s.nq * s.na,
-        nm: s.nq * s.nc,
+        abstracts: s.abstracts,
+        concretes: s.concretes,
+        inputs: s.inputs,
+        outputs: NONE,
+        primes: NONE,
+        readying: GroupSize {
+            variables: s.outputs.variables + s.abstracts.variables,
+            bindings: s.outputs.bindings * s.abstracts.bindings,
+        },
+        meeting: GroupSize {
+            variables: s.outputs.variables + s.concretes.variables,
+            bindings: s.outputs.bindings * s.concretes.bindings,
+        },
         primed: false,
     }
 }
 
 // Correctness over abstract, concrete, inputs, outputs, concrete primed.
-pub fn correctness_part(d: &Dossier<'_>, j: usize, cells: &[u32; CELLS]) -> Part
-    requires { OperationPartAsked d.now.groups.now (18 + 8 * j) cells.now }
-    ensures { CorrectnessPartIs d.now.groups.now (18 + 8 * j) cells.now result }
+pub fn correctness_part(d: &Dossier<'_>, row: usize, cells: &[u32; CELLS]) -> Part
+    requires { OperationPartAsked d.now.groups.now row cells.now }
+    ensures { CorrectnessPartIs d.now.groups.now row cells.now result }
 {
-    let s = group_sizes(d, j, cells);
+    let s = group_sizes(d, row, cells);
     Part {
-        va: s.va,
-        vc: s.vc,
-        vi: s.vi,
-        vo: s.vo,
-        vk: s.vc,
-        vr: s.vo + s.va,
-        vm: s.va,
-        na: s.na,
-        nc: s.nc,
-        ni: s.ni,
-        nq: s.nq,
-        nk: s.nc,
-        nr: s.nq * s.na,
-        nm: s.na,
+        abstracts: s.abstracts,
+        concretes: s.concretes,
+        inputs: s.inputs,
+        outputs: s.outputs,
+        primes: s.concretes,
+        readying: GroupSize {
+            variables: s.outputs.variables + s.abstracts.variables,
+            bindings: s.outputs.bindings * s.abstracts.bindings,
+        },
+        meeting: s.abstracts,
         primed: true,
     }
 }
@@ -220,7 +214,11 @@ pub fn places(p: &Part) -> usize
     requires { FewPlaces p.now }
     ensures { result ≡ places p.now }
 {
-    p.na * p.nc * p.ni * p.nq * p.nk
+    p.abstracts.bindings
+        * p.concretes.bindings
+        * p.inputs.bindings
+        * p.outputs.bindings
+        * p.primes.bindings
 }
 
 // The primed slot of a variable.

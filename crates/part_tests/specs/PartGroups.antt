@@ -23,20 +23,13 @@ pub record OperationCells (cells : List ℕ) (us cs is os : List Variable) : Typ
 -- "Initialisation runs over the concrete variables"
 abbrev pub opening_part : (us cs : List Variable) → Part
 opening_part us cs = record {
-  va = 0;
-  vc = length cs;
-  vi = 0;
-  vo = 0;
-  vk = 0;
-  vr = 0;
-  vm = length us;
-  na = 1;
-  nc = binding_count cs;
-  ni = 1;
-  nq = 1;
-  nk = 1;
-  nr = 1;
-  nm = binding_count us;
+  abstracts = record { variables = 0; bindings = 1 };
+  concretes = record { variables = length cs; bindings = binding_count cs };
+  inputs = record { variables = 0; bindings = 1 };
+  outputs = record { variables = 0; bindings = 1 };
+  primes = record { variables = 0; bindings = 1 };
+  readying = record { variables = 0; bindings = 1 };
+  meeting = record { variables = length us; bindings = binding_count us };
   primed = false;
 }
 
@@ -54,20 +47,13 @@ opening_groups us cs = record {
 -- "applicability over abstract, concrete, inputs"
 abbrev pub applicability_part : (us cs is os : List Variable) → Part
 applicability_part us cs is os = record {
-  va = length us;
-  vc = length cs;
-  vi = length is;
-  vo = 0;
-  vk = 0;
-  vr = length os + length us;
-  vm = length os + length cs;
-  na = binding_count us;
-  nc = binding_count cs;
-  ni = binding_count is;
-  nq = 1;
-  nk = 1;
-  nr = binding_count os * binding_count us;
-  nm = binding_count os * binding_count cs;
+  abstracts = record { variables = length us; bindings = binding_count us };
+  concretes = record { variables = length cs; bindings = binding_count cs };
+  inputs = record { variables = length is; bindings = binding_count is };
+  outputs = record { variables = 0; bindings = 1 };
+  primes = record { variables = 0; bindings = 1 };
+  readying = record { variables = length os + length us; bindings = binding_count os * binding_count us };
+  meeting = record { variables = length os + length cs; bindings = binding_count os * binding_count cs };
   primed = false;
 }
 
@@ -85,20 +71,13 @@ applicability_groups us cs is os = record {
 -- "correctness over abstract, concrete, inputs, outputs, concrete primed"
 abbrev pub correctness_part : (us cs is os : List Variable) → Part
 correctness_part us cs is os = record {
-  va = length us;
-  vc = length cs;
-  vi = length is;
-  vo = length os;
-  vk = length cs;
-  vr = length os + length us;
-  vm = length us;
-  na = binding_count us;
-  nc = binding_count cs;
-  ni = binding_count is;
-  nq = binding_count os;
-  nk = binding_count cs;
-  nr = binding_count os * binding_count us;
-  nm = binding_count us;
+  abstracts = record { variables = length us; bindings = binding_count us };
+  concretes = record { variables = length cs; bindings = binding_count cs };
+  inputs = record { variables = length is; bindings = binding_count is };
+  outputs = record { variables = length os; bindings = binding_count os };
+  primes = record { variables = length cs; bindings = binding_count cs };
+  readying = record { variables = length os + length us; bindings = binding_count os * binding_count us };
+  meeting = record { variables = length us; bindings = binding_count us };
   primed = true;
 }
 

@@ -124,15 +124,15 @@ module _ {table rows firsts groups : List ℕ} {j : ℕ} (x : OperationLook tabl
       }
 
   module _ {plan cells : List ℕ} {p : Part} (s : OperationSet table groups (18 + 8 * j) cells) where
-    applicability-for : ApplicabilityPartIs groups (18 + 8 * j) cells p → ApplicabilityPlan rows firsts plan j (p.vr - p.va) → PartFor table plan cells p d (1 + 2 * j)
+    applicability-for : ApplicabilityPartIs groups (18 + 8 * j) cells p → ApplicabilityPlan rows firsts plan j (p.readying.variables - p.abstracts.variables) → PartFor table plan cells p d (1 + 2 * j)
     applicability-for i n =
         subst (λ (z : Part). PartFor table plan cells z d (1 + 2 * j)) (sym (applicability-is x s i))
         (applicability-here (operation-counts x s).cells_are (subst (ApplicabilityPlan rows firsts plan j) (sym (outputs-by-part x s i).1) n))
 
-    correctness-for : CorrectnessPartIs groups (18 + 8 * j) cells p → CorrectnessPlan rows firsts plan j p.vo → PartFor table plan cells p d (2 + 2 * j)
+    correctness-for : CorrectnessPartIs groups (18 + 8 * j) cells p → CorrectnessPlan rows firsts plan j p.outputs.variables → PartFor table plan cells p d (2 + 2 * j)
     correctness-for i n =
         subst (λ (z : Part). PartFor table plan cells z d (2 + 2 * j)) (sym (correctness-is x s i))
-        (correctness-here (operation-counts x s).cells_are (subst (λ (z : Part). CorrectnessPlan rows firsts plan j z.vo) (correctness-is x s i) n))
+        (correctness-here (operation-counts x s).cells_are (subst (λ (z : Part). CorrectnessPlan rows firsts plan j z.outputs.variables) (correctness-is x s i) n))
 
 -- for every dossier
 module _ {table rows firsts groups plan cells : List ℕ} {p : Part} {j : ℕ} where

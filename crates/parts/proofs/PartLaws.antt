@@ -36,7 +36,7 @@ module _ {table plan cells : List ℕ} {p : Part} where
     part-swept {from} {end} {to} {failing} h m w = record {
       size_is = e;
       past = λ l. absurd (omega arith);
-      looked = λ l G T n. subst (λ (x : ℕ). Looked (passes_from T p.nc p.ni p.nq p.nk) from x (stopped_at x failing) (is_some failing)) m (w.looked G T n);
+      looked = λ l G T n. subst (λ (x : ℕ). Looked (passes_from T p.concretes.bindings p.inputs.bindings p.outputs.bindings p.primes.bindings) from x (stopped_at x failing) (is_some failing)) m (w.looked G T n);
     }
 
 -- tests that agree at all places up to the end
@@ -63,6 +63,6 @@ module _ {table rows firsts groups plan cells : List ℕ} {p : Part} {k : ℕ} w
     looked = λ d R h l.
         let y = r.is_part d R h in
         let e : size ≡ part_size d k = w.size_is ∙ y.many in
-        looked-same (passes_from y.tests p.nc p.ni p.nq p.nk) (λ (q : ℕ). passes_place (subject_of d) (part_begin d k + q)) from (min end size) (stopped_at (min end size) failing) (is_some failing)
+        looked-same (passes_from y.tests p.concretes.bindings p.inputs.bindings p.outputs.bindings p.primes.bindings) (λ (q : ℕ). passes_place (subject_of d) (part_begin d k + q)) from (min end size) (stopped_at (min end size) failing) (is_some failing)
         (λ q m. y.same q (omega arith)) (w.looked (omega arith) y.groups y.tests y.nest);
   }

@@ -139,12 +139,12 @@ module _ {table rows firsts groups : List ℕ} {j : ℕ} (x : OperationLook tabl
       correctness-is q = q.is us cs is os operation-counts
 
       -- how many outputs it has
-      pub outputs-by-part : ApplicabilityPartIs groups (18 + 8 * j) cells p → (p.va ≤ p.vr) × (length os ≡ p.vr - p.va)
+      pub outputs-by-part : ApplicabilityPartIs groups (18 + 8 * j) cells p → (p.abstracts.variables ≤ p.readying.variables) × (length os ≡ p.readying.variables - p.abstracts.variables)
       outputs-by-part q =
-          subst (λ (z : Part). (z.va ≤ z.vr) × (length os ≡ z.vr - z.va)) (sym (applicability-is q)) (omega arith, omega arith)
+          subst (λ (z : Part). (z.abstracts.variables ≤ z.readying.variables) × (length os ≡ z.readying.variables - z.abstracts.variables)) (sym (applicability-is q)) (omega arith, omega arith)
 
-      pub applicability-rows : ApplicabilityPartIs groups (18 + 8 * j) cells p → OperationRows rows firsts j (p.vr - p.va)
+      pub applicability-rows : ApplicabilityPartIs groups (18 + 8 * j) cells p → OperationRows rows firsts j (p.readying.variables - p.abstracts.variables)
       applicability-rows q = subst (OperationRows rows firsts j) (outputs-by-part q).1 rows_of
 
-      pub correctness-rows : CorrectnessPartIs groups (18 + 8 * j) cells p → OperationRows rows firsts j p.vo
-      correctness-rows q = subst (λ (z : Part). OperationRows rows firsts j z.vo) (sym (correctness-is q)) rows_of
+      pub correctness-rows : CorrectnessPartIs groups (18 + 8 * j) cells p → OperationRows rows firsts j p.outputs.variables
+      correctness-rows q = subst (λ (z : Part). OperationRows rows firsts j z.outputs.variables) (sym (correctness-is q)) rows_of

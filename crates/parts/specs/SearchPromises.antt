@@ -28,10 +28,10 @@ pub record PartAsked (table plan cells : List ℕ) (p : Part) : Type 0 where
   pub first_values : FirstValues cells
 
 pub record PartAnswers (table plan cells : List ℕ) (p : Part) (from end size : ℕ) (failing : Option ℕ) : Type 0 where
-  pub size_is : size ≡ p.na * p.nc * p.ni * p.nq * p.nk
+  pub size_is : size ≡ p.abstracts.bindings * p.concretes.bindings * p.inputs.bindings * p.outputs.bindings * p.primes.bindings
   pub past : size ≤ from → failing ≡ None
   pub looked : from < size → (G : Groups) (T : PartTests) → Nest table plan cells p G T
-      → Looked (passes_from T p.nc p.ni p.nq p.nk) from (min end size) (stopped_at (min end size) failing) (is_some failing)
+      → Looked (passes_from T p.concretes.bindings p.inputs.bindings p.outputs.bindings p.primes.bindings) from (min end size) (stopped_at (min end size) failing) (is_some failing)
 
 -- the k-th part of a check, counted from where it begins
 pub record LookAsked (table rows firsts groups : List ℕ) (k : ℕ) : Type 0 where
@@ -48,20 +48,20 @@ pub record OpeningReady (table rows firsts groups plan cells : List ℕ) (p : Pa
 pub record ApplicabilityReady (table rows firsts groups : List ℕ) (j : ℕ) (plan cells : List ℕ) (p : Part) : Type 0 where
   pub cells_set : OperationSet table groups (18 + 8 * j) cells
   pub part_is : ApplicabilityPartIs groups (18 + 8 * j) cells p
-  pub plan_is : ApplicabilityPlan rows firsts plan j (p.vr - p.va)
+  pub plan_is : ApplicabilityPlan rows firsts plan j (p.readying.variables - p.abstracts.variables)
 
 pub record CorrectnessReady (table rows firsts groups : List ℕ) (j : ℕ) (plan cells : List ℕ) (p : Part) : Type 0 where
   pub cells_set : OperationSet table groups (18 + 8 * j) cells
   pub part_is : CorrectnessPartIs groups (18 + 8 * j) cells p
-  pub plan_is : CorrectnessPlan rows firsts plan j p.vo
+  pub plan_is : CorrectnessPlan rows firsts plan j p.outputs.variables
 
 -- the k-th part of a dossier's check, as the nest goes through it
 pub record PartFor (table plan cells : List ℕ) (p : Part) (d : Dossier) (k : ℕ) : Type 0 where
   pub groups : Groups
   pub tests : PartTests
   pub nest : Nest table plan cells p groups tests
-  pub many : p.na * p.nc * p.ni * p.nq * p.nk ≡ part_size d k
-  pub same : (q : ℕ) → q < part_size d k → passes_from tests p.nc p.ni p.nq p.nk q ≡ passes (subject_of d) (check_at (subject_of d) (part_begin d k + q))
+  pub many : p.abstracts.bindings * p.concretes.bindings * p.inputs.bindings * p.outputs.bindings * p.primes.bindings ≡ part_size d k
+  pub same : (q : ℕ) → q < part_size d k → passes_from tests p.concretes.bindings p.inputs.bindings p.outputs.bindings p.primes.bindings q ≡ passes (subject_of d) (check_at (subject_of d) (part_begin d k + q))
 
 pub record PartReady (table rows firsts groups : List ℕ) (k : ℕ) (plan cells : List ℕ) (p : Part) : Type 0 where
   pub first_values : FirstValues cells

@@ -6,7 +6,8 @@ ghost use Rattle.parts.specs.SearchPromises.{LookAsked, OpeningReady, Applicabil
 use form::node::NUMBERS;
 use held_checks::{Obligation, obligation_of};
 use part_setup::{
-    applicability_part, correctness_part, opening_cells, opening_part, operation_cells,
+    OPERATION_ROW, OPERATION_ROWS, applicability_part, correctness_part, opening_cells,
+    opening_part, operation_cells,
 };
 use plans::{PLAN, Part, PartSearch, plan_applicability, plan_correctness, plan_initialisation};
 use search_groups::Dossier;
@@ -38,7 +39,8 @@ impl ReadyPart {
 }
 
 // Initialisation, into cells and plan that are lent.
-// Form 5: cells and plan are lent by `look`. Handed back to it in a `ReadyPart` they are copied at each return: that was tried, and `dossier` took 1.03 to 1.27 of the time.
+// Form 5: cells and plan are lent by `look`. Handed back to it in a `ReadyPart` they are copied at each return: that was tried, and misses the bar, which is
+// the time of the lent arrays: `dossier` took 1.03 to 1.27 of it.
 fn set_opening(d: &Dossier<'_>, cells: &mut [u32; CELLS], plan: &mut [u16; PLAN]) -> Part
     requires look_asked { LookAsked d.now.table.now d.now.rows.now d.now.firsts.now d.now.groups.now 0 }
     requires blank { Blank cells.old }
@@ -62,9 +64,15 @@ fn set_applicability(
     requires blank { Blank cells.old }
     ensures { ApplicabilityReady d.now.table.now d.now.rows.now d.now.firsts.now d.now.groups.now j plan.new cells.new result }
 {
-    operation_cells(d, j, cells);
-    let part = applicability_part(d, j, cells);
-    plan_applicability(d, j, part.vr - part.va, plan);
+    let row = OPERATION_ROWS + OPERATION_ROW * j;
+    operation_cells(d, row, cells);
+    let part = applicability_part(d, row, cells);
+    plan_applicability(
+        d,
+        j,
+        part.readying.variables - part.abstracts.variables,
+        plan,
+    );
     part
 }
 
@@ -80,15 +88,21 @@ fn set_correctness(
     requires blank { Blank cells.old }
     ensures { CorrectnessReady d.now.table.now d.now.rows.now d.now.firsts.now d.now.groups.now j plan.new cells.new result }
 {
-    operation_cells(d, j, cells);
-    let part = correctness_part(d, j, cells);
-    plan_correctness(d, j, part.vo, plan);
+    let row = OPERATION_ROWS + OPERATION_ROW * j;
+    operation_cells(d, row, cells);
+    let part = correctness_part(d, row, cells);
+    plan_correctness(d, j, part.outputs.variables, plan);
     part
 }
 
 // The k-th part.
 // Form 5: as `set_opening`.
-pub fn set_part(d: &Dossier<'_>, k: usize, cells: &mut [u32; CELLS], plan: &mut [u16; PLAN]) -> Part
+pub(crate) fn set_part(
+    d: &Dossier<'_>,
+    k: usize,
+    cells: &mut [u32; CELLS],
+    plan: &mut [u16; PLAN],
+) -> Part
     requires look_asked { LookAsked d.now.table.now d.now.rows.now d.now.firsts.now d.now.groups.now k }
     requires blank { Blank cells.old }
     ensures { PartReady d.now.table.now d.now.rows.now d.now.firsts.now d.now.groups.now k plan.new cells.new result }

@@ -8,7 +8,7 @@ use crate::words::WORDS;
 use labels::Names;
 pub use lines::SLOTS;
 use lines::Side;
-use pages::Item;
+use pages::{Counts, Item};
 use sheets::Sheet;
 use text_places::{Span, line_start, part};
 
@@ -16,15 +16,6 @@ mod groups;
 mod inserts;
 pub mod texts;
 pub mod words;
-
-// How many variables the groups have: of the abstract and the concrete state, inputs, outputs.
-#[derive(Clone, Copy, Default)]
-pub struct Counts {
-    pub va: usize,
-    pub vc: usize,
-    pub vi: usize,
-    pub vo: usize,
-}
 
 // Where names and values come from: the text with its labels, the values in their slots, and how many variables the groups have.
 #[derive(Clone, Copy)]
@@ -44,7 +35,16 @@ const NEWLINE: u8 = b'\n';
 
 // Behind the next newline.
 fn next_line(words: &[u8], from: usize) -> usize {
-    match words.iter().skip(from).position(|b| *b == NEWLINE) {
+    match part(
+        words,
+        Span {
+            from,
+            to: words.len(),
+        },
+    )
+    .iter()
+    .position(|b| *b == NEWLINE)
+    {
         Some(k) => from + k + 1,
         None => words.len(),
     }

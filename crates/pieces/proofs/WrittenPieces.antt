@@ -15,11 +15,12 @@ use Rattle.lexical.specs.Symbols.{run}
 use Rattle.lexical.proofs.WordLaws.{run_take, run_length}
 use Rattle.table_nodes.specs.TableWalkPromises.{patch}
 use Rattle.table_nodes.proofs.Pieces.{patch-none, patch-set, patch-behind, patch-length}
-use Rattle.pieces.specs.PiecePromises.{Writes, letters_at}
+use Rattle.pieces.specs.PiecePromises.{Writes, Adds, letters_at}
+use Rattle.pieces.specs.declared.Writer.{Writer}
 
 -- no byte
-pub nothing_written : (at : ℕ) (a : List ℕ) → Writes at [] a a at
-nothing_written at a = record { written = sym (patch-none at a); end = sym (add-zero at); long = refl }
+pub nothing_added : (v : Writer) → Adds [] v v
+nothing_added v = record { same_bytes = refl; written = record { written = sym (patch-none v.at v.out.now); end = sym (add-zero v.at); long = refl } }
 
 -- one byte
 pub byte-written : (a : List ℕ) (at b : ℕ) → at < length a → Writes at (b ∷ []) a (set a at b) (at + 1)
@@ -54,6 +55,9 @@ both-written {at} {m} {r} {p} {q} {a} {b} {c} v w = on p v (leb m (length a)) re
         }
     on (y ∷ s) x false e =
         absurd (too_long at (y ∷ s) a (omega arith) (let n = leb-false m (length a) e in omega (arith, x.end)) (sym (ap (λ (l : List ℕ). length l) x.written) ∙ x.long))
+
+pub both-added : {p q : List ℕ} {u v w : Writer} → Adds p u v → Adds q v w → Adds (p ++ q) u w
+both-added a b = record { same_bytes = b.same_bytes ∙ a.same_bytes; written = both-written a.written b.written }
 
 -- a text copied over as many bytes
 pub text-written : (out text bytes : List ℕ) (at k r : ℕ) → k ≡ length text → bytes ≡ text → r ≡ at + length text → at + length text ≤ length out
@@ -92,12 +96,12 @@ module _ (text : List ℕ) (p : ℕ) {l n : ℕ} (is : l ≡ length (run (drop p
   letters-same : take n (drop p text) ≡ letters_at text p
   letters-same = letters-are text p n (omega (arith, is, least)) (omega (arith, least)) (λ g. omega (arith, is, least, g))
 
-  pub no_letters : n ≤ 0 → {at : ℕ} {a : List ℕ} → Writes at (letters_at text p) a a at
-  no_letters e {at} {a} =
+  pub no_letters : n ≤ 0 → {v : Writer} → Adds (letters_at text p) v v
+  no_letters e {v} =
       let z : n ≡ 0 = omega arith in
-      subst (λ (w : List ℕ). Writes at w a a at) (ap (λ (k : ℕ). take k (drop p text)) (sym z) ∙ letters-same) (nothing_written at a)
+      subst (λ (w : List ℕ). Adds w v v) (ap (λ (k : ℕ). take k (drop p text)) (sym z) ∙ letters-same) (nothing_added v)
 
-  pub some-letters : {at r : ℕ} {a b : List ℕ} → Writes at (take (p + n - p) (drop p text)) a b r → Writes at (letters_at text p) a b r
-  some-letters {at} {r} {a} {b} v =
+  pub some-letters : {v w : Writer} → Adds (take (p + n - p) (drop p text)) v w → Adds (letters_at text p) v w
+  some-letters {v} {w} a =
       let z : p + n - p ≡ n = omega arith in
-      subst (λ (w : List ℕ). Writes at w a b r) (ap (λ (k : ℕ). take k (drop p text)) z ∙ letters-same) v
+      subst (λ (s : List ℕ). Adds s v w) (ap (λ (k : ℕ). take k (drop p text)) z ∙ letters-same) a

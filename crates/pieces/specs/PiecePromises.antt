@@ -9,9 +9,10 @@ pub record Writes (at : ℕ) (piece before after : List ℕ) (r : ℕ) : Type 0 
   pub end : r ≡ at + length piece
   pub long : length after ≡ length before
 
--- a writer put a piece behind what stood there
-abbrev pub Adds : (piece : List ℕ) (old new : Writer) → Type 0
-Adds piece v w = Writes v.at piece v.out.now w.out.now w.at
+-- a writer put a piece behind what stood there, and goes on in the same bytes
+pub record Adds (piece : List ℕ) (old new : Writer) : Type 0 where
+  pub same_bytes : new.out.ghost_name ≡ old.out.ghost_name
+  pub written : Writes old.at piece old.out.now new.out.now new.at
 
 -- the letters and digits from a place of the text on, as many as a name has
 unfoldable pub letters_at : (text : List ℕ) (p : ℕ) → List ℕ

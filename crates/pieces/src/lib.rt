@@ -1,6 +1,4 @@
 // Pieces of text in lent bytes, one behind the other.
-// Form 5: that a writer goes on in the same bytes stands beside what is written, here and in the crates above: it proves alone at each call, and the laws, which join what is written, would
-// take a record of both apart and make it again.
 #![tactic(auto)]
 
 ghost use Rattle.std.specs.Prelude.{◌≡◌, [], ◌∷◌, ◌+◌, ◌^◌, ◌≤◌, ◌<◌, length, take, drop};
@@ -25,8 +23,7 @@ impl<'a> Writer<'a> {
     // One byte.
     pub fn put(&mut self, b: u8)
         requires { self.old.at < length self.old.out.now }
-        ensures same_bytes { self.new.out.ghost_name ≡ self.old.out.ghost_name }
-        ensures written { Adds (b ∷ []) self.old self.new }
+        ensures { Adds (b ∷ []) self.old self.new }
     {
         self.out[self.at] = b;
         self.at += 1;
@@ -35,8 +32,7 @@ impl<'a> Writer<'a> {
     // All bytes of a text.
     pub fn put_all(&mut self, text: &[u8])
         requires { self.old.at + length text.now ≤ length self.old.out.now }
-        ensures same_bytes { self.new.out.ghost_name ≡ self.old.out.ghost_name }
-        ensures written { Adds text.now self.old self.new }
+        ensures { Adds text.now self.old self.new }
     {
         let end = self.at + text.len();
         self.out[self.at..end].copy_from_slice(text);
@@ -46,8 +42,7 @@ impl<'a> Writer<'a> {
     // The letters and digits that stand from a place of the text on, as many as a name has.
     pub fn put_letters(&mut self, text: &[u8], from: usize)
         requires { self.old.at + 16 ≤ length self.old.out.now }
-        ensures same_bytes { self.new.out.ghost_name ≡ self.old.out.ghost_name }
-        ensures written { Adds (letters_at text.now from) self.old self.new }
+        ensures { Adds (letters_at text.now from) self.old self.new }
     {
         let n = run_from(text, from).min(NAME_LETTERS);
         if n > 0 {
@@ -58,8 +53,7 @@ impl<'a> Writer<'a> {
     // A number as std prints it.
     fn put_number<I: Integer>(&mut self, n: I)
         requires { self.old.at + length (I.text n) ≤ length self.old.out.now }
-        ensures same_bytes { self.new.out.ghost_name ≡ self.old.out.ghost_name }
-        ensures written { Adds (I.text n) self.old self.new }
+        ensures { Adds (I.text n) self.old self.new }
     {
         let mut digits = Buffer::new();
         self.put_all(digits.format(n).as_bytes());
@@ -68,8 +62,7 @@ impl<'a> Writer<'a> {
     // A number in decimal.
     pub fn put_decimal(&mut self, n: u64)
         requires { self.old.at + 20 ≤ length self.old.out.now }
-        ensures same_bytes { self.new.out.ghost_name ≡ self.old.out.ghost_name }
-        ensures written { Adds (decimal n) self.old self.new }
+        ensures { Adds (decimal n) self.old self.new }
     {
         self.put_number(n);
     }
@@ -78,8 +71,7 @@ impl<'a> Writer<'a> {
     // Form 2: what it shares with `put_decimal` is `put_number`; each promises the definitions' word for its type, with room of its own.
     pub fn put_signed(&mut self, x: i64)
         requires { self.old.at + 21 ≤ length self.old.out.now }
-        ensures same_bytes { self.new.out.ghost_name ≡ self.old.out.ghost_name }
-        ensures written { Adds (signed_decimal x) self.old self.new }
+        ensures { Adds (signed_decimal x) self.old self.new }
     {
         self.put_number(x);
     }

@@ -1,15 +1,16 @@
 -- The conjuncts of a level among the rows of a predicate: of some rows and of the others behind them; those of all levels together are no more than the rows. Assumes nothing.
-use mathlib.Core.Path.{◌≡◌, refl, sym, ap, subst, ◌∙◌}
+use mathlib.Core.Path.{◌≡◌, refl, sym, ap, ap₂, subst, ◌∙◌}
 use mathlib.Core.Logic.{◌⊎◌, inl, inr}
 use mathlib.Core.Bool.{Bool, true, false}
-use mathlib.Core.List.{List, [], ◌∷◌, ◌++◌}
+use mathlib.Core.List.{List, [], ◌∷◌, ◌++◌, append_assoc, append-nil}
 use Prim.Native.Nat.{ℕ, zero, suc, ◌+◌, ◌-◌, ◌*◌, ◌<◌, ◌≤◌}
 use native.Mathlib.Omega.{arith}
 use lib.Dec.{eqb}
 use lib.ListN.{get_or, length, set, length-append}
 use borrow.Author.Tests.{lt-ltb, le-ltb, eqb-true, eqb-false, eq-eqb, ne_eqb}
-use Rattle.plans.specs.PlansByNumber.{Asking, level_of, entry_of, entries_from, entries_of, search_entries, Rows}
-use Rattle.plans.specs.PlanWriting.{RowIn, Appended, count_below, count_of}
+use Rattle.plans.specs.PlansByNumber.{Asking, level_of, entry_of, entries_from, entries_of, search_entries, Rows, no_asking}
+use Rattle.plans.specs.declared.Asked.{Asked}
+use Rattle.plans.specs.PlanWriting.{asking, asked_in, RowIn, Appended, count_below, count_of}
 use Rattle.plans.proofs.Segments.{either, appended-none, appended_one, appended-both}
 
 -- ---- the level and the conjunct of one row
@@ -153,6 +154,72 @@ module _ (rows : List ℕ) (p q r : Asking) where
   counts-next l =
       omega
       (arith, entries-long l, count_next rows p l p.many p.from, count_next rows q l q.many q.from, count_next rows r l r.many r.from)
+
+-- of the first i predicates
+unfoldable pub entries_to : (rows : List ℕ) → List Asked → (l i : ℕ) → List ℕ
+entries_to rows ps l zero = []
+entries_to rows ps l (suc i) = entries_to rows ps l i ++ entries_of rows (asked_in ps i) l
+
+entries-none : (rows : List ℕ) (l : ℕ) → entries_of rows no_asking l ≡ []
+unfolding entries_from
+entries-none rows l = refl
+
+nothing-behind : (ps : List Asked) (i : ℕ) → length ps ≤ i → asked_in ps i ≡ no_asking
+nothing-behind [] i h = refl
+nothing-behind (p ∷ ps) zero h = absurd (omega arith)
+nothing-behind (p ∷ ps) (suc i) h = nothing-behind ps i (omega arith)
+
+module _ (rows : List ℕ) (ps : List Asked) (l : ℕ) where
+  past : (i : ℕ) → length ps ≤ i → entries_of rows (asked_in ps i) l ≡ []
+  past i h = ap (λ (p : Asking). entries_of rows p l) (nothing-behind ps i h) ∙ entries-none rows l
+
+  -- those of all are those of the three
+  pub entries-all : (n : ℕ) → length ps ≡ n → n ≤ 3 → entries_to rows ps l n ≡ search_entries rows (asked_in ps 0) (asked_in ps 1) (asked_in ps 2) l
+  unfolding entries_to
+  entries-all zero e h = sym (ap₂ (λ (x y : List ℕ). x ++ y) (past 0 (omega arith)) (ap₂ (λ (x y : List ℕ). x ++ y) (past 1 (omega arith)) (past 2 (omega arith))))
+  entries-all (suc zero) e h =
+      sym (ap (λ (z : List ℕ). entries_of rows (asked_in ps 0) l ++ z) (ap₂ (λ (x y : List ℕ). x ++ y) (past 1 (omega arith)) (past 2 (omega arith))) ∙ append-nil (entries_of rows (asked_in ps 0) l))
+  entries-all (suc (suc zero)) e h =
+      sym (ap (λ (z : List ℕ). entries_of rows (asked_in ps 0) l ++ z) (ap (λ (z : List ℕ). entries_of rows (asked_in ps 1) l ++ z) (past 2 (omega arith)) ∙ append-nil (entries_of rows (asked_in ps 1) l)))
+  entries-all (suc (suc (suc zero))) e h = append_assoc (entries_of rows (asked_in ps 0) l) (entries_of rows (asked_in ps 1) l) (entries_of rows (asked_in ps 2) l)
+  entries-all (suc (suc (suc (suc n)))) e h = absurd (omega arith)
+
+  pub each-asked : (P : Asking → Type 0) → P (asked_in ps 0) → P (asked_in ps 1) → P (asked_in ps 2) → (i : ℕ) → i < 3 → P (asked_in ps i)
+  each-asked P a b c zero h = a
+  each-asked P a b c (suc zero) h = b
+  each-asked P a b c (suc (suc zero)) h = c
+  each-asked P a b c (suc (suc (suc i))) h = absurd (omega arith)
+
+  -- the next one's have room where those of all three have
+  pub entries-fit : (i : ℕ) → i < 3 → length (entries_to rows ps l i) + length (entries_of rows (asked_in ps i) l) ≤ length (search_entries rows (asked_in ps 0) (asked_in ps 1) (asked_in ps 2) l)
+  unfolding entries_to
+  entries-fit zero h = omega (arith, entries-long rows (asked_in ps 0) (asked_in ps 1) (asked_in ps 2) l)
+  entries-fit (suc zero) h = omega (arith, entries-long rows (asked_in ps 0) (asked_in ps 1) (asked_in ps 2) l)
+  entries-fit (suc (suc zero)) h =
+      omega (arith, entries-long rows (asked_in ps 0) (asked_in ps 1) (asked_in ps 2) l, length-append (entries_of rows (asked_in ps 0) l) (entries_of rows (asked_in ps 1) l))
+  entries-fit (suc (suc (suc i))) h = absurd (omega arith)
+
+  module _ (at : ℕ) (old : List ℕ) where
+    pub appended-start : Appended (entries_to rows ps l 0) at old old at
+    unfolding entries_to
+    appended-start = appended-none at old
+
+    pub appended-more : (i b c : ℕ) (mid new : List ℕ) → Appended (entries_to rows ps l i) at old mid b → Appended (entries_of rows (asked_in ps i) l) b mid new c
+        → Appended (entries_to rows ps l (i + 1)) at old new c
+    unfolding entries_to
+    appended-more i b c mid new s t =
+        subst (λ (k : ℕ). Appended (entries_to rows ps l k) at old new c) {x = suc i} {y = i + 1} (omega arith)
+        (appended-both (entries_to rows ps l i) (entries_of rows (asked_in ps i) l) at b c old mid new s t)
+
+    pub appended-end : (i b : ℕ) (new : List ℕ) → i ≤ length ps → length ps ≤ i → length ps ≤ 3 → Appended (entries_to rows ps l i) at old new b
+        → Appended (search_entries rows (asked_in ps 0) (asked_in ps 1) (asked_in ps 2) l) at old new b
+    appended-end i b new h k few s =
+        subst (λ (xs : List ℕ). Appended xs at old new b) (entries-all i (omega arith) (omega arith)) s
+
+pub asked-same : (ps : List Asked) (i : ℕ) (a b : Asked) → i < length ps → get_or ps i a ≡ get_or ps i b
+asked-same [] i a b h = absurd (omega arith)
+asked-same (p ∷ ps) zero a b h = refl
+asked-same (p ∷ ps) (suc i) a b h = asked-same ps i a b (omega arith)
 
 -- ---- what is appended, row by row and predicate by predicate
 

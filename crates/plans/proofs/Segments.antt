@@ -59,8 +59,3 @@ appended-both xs ys a b c old mid new s t =
       below = λ i h. t.below i (omega (arith, s.written.long)) ∙ s.below i h;
       same_length = t.same_length ∙ s.same_length;
     }
-
-pub appended-three : (xs ys zs : List ℕ) (a b c d : ℕ) (old mid late new : List ℕ) → Appended xs a old mid b → Appended ys b mid late c → Appended zs c late new d
-    → Appended (xs ++ (ys ++ zs)) a old new d
-appended-three xs ys zs a b c d old mid late new s t v =
-    appended-both xs (ys ++ zs) a b d old mid new s (appended-both ys zs b c d mid late new t v)

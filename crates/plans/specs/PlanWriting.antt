@@ -9,6 +9,10 @@ use Rattle.plans.specs.PlanPromises.{Segment, SlotsIn, LevelsIn}
 abbrev pub asking : Asked → Asking
 asking p = record { from = p.from; many = p.many; side = p.side; first = p.first; count = p.count; second = p.second }
 
+-- the i-th of some predicates; behind the last none
+abbrev pub asked_in : (ps : List Asked) (i : ℕ) → Asking
+asked_in ps i = asking (get_or ps i (record { from = 0; many = 0; side = 0; first = 0; count = 0; second = 2 }))
+
 -- ---- conjuncts
 
 -- asked: the row at r can be read, and its conjunct's number can be written

@@ -4,38 +4,40 @@
 #![tactic(auto)]
 
 ghost use Rattle.std.specs.Prelude.{◌≡◌, ◌+◌, ◌<◌, ◌≤◌, length};
+ghost use Rattle.points.specs.Searches.{mark_in};
 ghost use Rattle.plans.specs.PlansByNumber.{level_of, entries_from, entries_of, search_entries, Rows, no_asking};
 ghost use Rattle.plans.specs.PlanPromises.{RowsOf, CommonRows, OperationRows, InitialisationPlan, ApplicabilityPlan, CorrectnessPlan};
-ghost use Rattle.plans.specs.PlanWriting.{asking, RowIn, Appended, Room, Laying, Headed, Searched, Between, many_by, over_by, after_by, step_by, Premises};
+ghost use Rattle.plans.specs.PlanWriting.{asking, asked_in, RowIn, Appended, Room, Laying, Headed, Searched, Between, many_by, over_by, after_by, step_by, Premises};
 
 use points::plan::MET;
 use points::{plan, slots};
 use search_groups::conjuncts::ROW;
 use search_groups::contexts::{CONCRETE_SIDE, OPERATIONS, SIDES};
 use search_groups::{Dossier, columns, contexts};
+use std::ops::Range;
 
 // How many numbers a plan has: those of the five searches, and room for their tests.
 pub const PLAN: usize = 20560;
 
-// A part: how many variables its groups have, and how many bindings: abstract, concrete, inputs, outputs, concrete primed; then of the two searches for a step of the abstract operation
-// and for what must be there. `primed`: it goes over the concrete primed variables (correctness). What must be there then does not depend on the concrete state; else it depends on the
-// concrete state and the inputs alone.
+// How many variables a group has, and how many bindings they have.
+#[derive(Clone, Copy)]
+pub struct GroupSize {
+    pub variables: usize,
+    pub bindings: usize,
+}
+
+// The sizes of the groups that a part goes over: abstract, concrete, inputs, outputs, concrete primed; then of the two searches for a step of the abstract
+// operation (`readying`) and for what must be there (`meeting`). `primed`: it goes over the concrete primed variables (correctness). What must be there then does
+// not depend on the concrete state; else it depends on the concrete state and the inputs alone.
 #[derive(Clone, Copy)]
 pub struct Part {
-    pub va: usize,
-    pub vc: usize,
-    pub vi: usize,
-    pub vo: usize,
-    pub vk: usize,
-    pub vr: usize,
-    pub vm: usize,
-    pub na: usize,
-    pub nc: usize,
-    pub ni: usize,
-    pub nq: usize,
-    pub nk: usize,
-    pub nr: usize,
-    pub nm: usize,
+    pub abstracts: GroupSize,
+    pub concretes: GroupSize,
+    pub inputs: GroupSize,
+    pub outputs: GroupSize,
+    pub primes: GroupSize,
+    pub readying: GroupSize,
+    pub meeting: GroupSize,
     pub primed: bool,
 }
 
@@ -46,6 +48,18 @@ pub struct PartSearch<'a> {
     pub plan: &'a [u16; PLAN],
     pub cells: &'a [u32; 9216],
     pub part: Part,
+}
+
+impl PartSearch<'_> {
+    // The places of the tests of level l of the search u.
+    pub fn tests(&self, u: usize, l: usize) -> Range<usize>
+        requires { (u < 5) × (l < 12) }
+        ensures from { result.start ≡ mark_in self.now.plan.now u l }
+        ensures to { result.end ≡ mark_in self.now.plan.now u (l + 1) }
+    {
+        let place = plan::HEAD * u + l;
+        usize::from(self.plan[place])..usize::from(self.plan[place + 1])
+    }
 }
 
 // A predicate that a search asks: where its rows begin, and how many they are; asked of the state before (0) or after (1); the column of the first group, how many variables that
@@ -85,20 +99,6 @@ fn rows_of(d: &Dossier<'_>, c: usize) -> usize
     usize::from(d.firsts[c + 1] - d.firsts[c]) / ROW
 }
 
-// No predicate.
-fn none() -> Asked
-    ensures { asking result ≡ no_asking }
-{
-    Asked {
-        from: 0,
-        many: 0,
-        side: 0,
-        first: columns::NO_COLUMN,
-        count: 0,
-        second: columns::ABSTRACT,
-    }
-}
-
 // The predicate of a context over one group of variables.
 fn over(d: &Dossier<'_>, c: usize, side: usize, second: usize) -> Asked
     requires { Between d.now.firsts.now c }
@@ -108,8 +108,9 @@ fn over(d: &Dossier<'_>, c: usize, side: usize, second: usize) -> Asked
         from: usize::from(d.firsts[c]),
         many: rows_of(d, c),
         side,
+        first: columns::NO_COLUMN,
+        count: 0,
         second,
-        ..none()
     }
 }
 
@@ -171,27 +172,29 @@ impl<'a> Writer<'a> {
         }
     }
 
-    // Those of all three predicates of a search.
-    fn append_level(&mut self, d: &Dossier<'_>, p: Asked, q: Asked, r: Asked, l: usize)
-        requires rows { (Rows d.now.rows.now (asking p)) × (Rows d.now.rows.now (asking q)) × (Rows d.now.rows.now (asking r)) }
-        requires l_bound { self.old.at + length (search_entries d.now.rows.now (asking p) (asking q) (asking r) l) ≤ 20560 }
+    // Those of all predicates of a search.
+    fn append_level(&mut self, d: &Dossier<'_>, ps: &[Asked], l: usize)
+        requires few { length ps.now ≤ 3 }
+        requires rows { (Rows d.now.rows.now (asked_in ps.now 0)) × (Rows d.now.rows.now (asked_in ps.now 1)) × (Rows d.now.rows.now (asked_in ps.now 2)) }
+        requires l_bound { self.old.at + length (search_entries d.now.rows.now (asked_in ps.now 0) (asked_in ps.now 1) (asked_in ps.now 2) l) ≤ 20560 }
         ensures same_plan { self.new.out.ghost_name ≡ self.old.out.ghost_name }
-        ensures appended { Appended (search_entries d.now.rows.now (asking p) (asking q) (asking r) l) self.old.at self.old.out.now self.new.out.now self.new.at }
+        ensures appended { Appended (search_entries d.now.rows.now (asked_in ps.now 0) (asked_in ps.now 1) (asked_in ps.now 2) l) self.old.at self.old.out.now self.new.out.now self.new.at }
     {
-        self.append(d, p, l);
-        self.append(d, q, l);
-        self.append(d, r, l);
+        for p in ps {
+            self.append(d, *p, l);
+        }
     }
 
     // The tests of the search u over up to three predicates.
-    fn search(&mut self, d: &Dossier<'_>, u: usize, p: Asked, q: Asked, r: Asked)
-        requires { Room d.now.rows.now u (asking p) (asking q) (asking r) self.old.at }
+    fn search(&mut self, d: &Dossier<'_>, u: usize, ps: &[Asked])
+        requires few { length ps.now ≤ 3 }
+        requires room { Room d.now.rows.now u (asked_in ps.now 0) (asked_in ps.now 1) (asked_in ps.now 2) self.old.at }
         ensures same_plan { self.new.out.ghost_name ≡ self.old.out.ghost_name }
-        ensures laying { Laying d.now.rows.now u (asking p) (asking q) (asking r) self.old.at self.old.out.now self.new.out.now self.new.at }
+        ensures laying { Laying d.now.rows.now u (asked_in ps.now 0) (asked_in ps.now 1) (asked_in ps.now 2) self.old.at self.old.out.now self.new.out.now self.new.at }
     {
         self.out[plan::HEAD * u] = self.at as u16;
         for l in 0..plan::LEVELS {
-            self.append_level(d, p, q, r, l);
+            self.append_level(d, ps, l);
             self.out[plan::HEAD * u + (l + 1)] = self.at as u16;
         }
     }
@@ -214,7 +217,7 @@ impl<'a> Writer<'a> {
         ensures same_plan { self.new.out.ghost_name ≡ self.old.out.ghost_name }
         ensures laying { Laying d.now.rows.now u no_asking no_asking no_asking self.old.at self.old.out.now self.new.out.now self.new.at }
     {
-        self.search(d, u, none(), none(), none());
+        self.search(d, u, &[]);
     }
 
     // Concrete after states, behind n outputs, that the concrete operation of context c allows.
@@ -228,9 +231,10 @@ impl<'a> Writer<'a> {
         self.search(
             d,
             u,
-            after(d, contexts::CONCRETE_STATE, n, columns::CONCRETE),
-            step(d, c, n, columns::CONCRETE_PRIMED),
-            none(),
+            &[
+                after(d, contexts::CONCRETE_STATE, n, columns::CONCRETE),
+                step(d, c, n, columns::CONCRETE_PRIMED),
+            ],
         );
     }
 
@@ -245,25 +249,25 @@ impl<'a> Writer<'a> {
         self.search(
             d,
             plan::STATES,
-            over(d, contexts::ABSTRACT_STATE, 0, columns::ABSTRACT),
-            none(),
-            none(),
+            &[over(d, contexts::ABSTRACT_STATE, 0, columns::ABSTRACT)],
         );
         self.head(plan::RELATED, slots::CONCRETE, 0, slots::CONCRETE);
         self.search(
             d,
             plan::RELATED,
-            over(d, contexts::CONCRETE_STATE, 0, columns::CONCRETE),
-            over(d, contexts::RETRIEVE, 0, columns::CONCRETE),
-            none(),
+            &[
+                over(d, contexts::CONCRETE_STATE, 0, columns::CONCRETE),
+                over(d, contexts::RETRIEVE, 0, columns::CONCRETE),
+            ],
         );
         self.head(plan::READY, slots::OUTPUTS, n, slots::ABSTRACT_PRIMED);
         self.search(
             d,
             plan::READY,
-            after(d, contexts::ABSTRACT_STATE, n, columns::ABSTRACT),
-            step(d, OPERATIONS + SIDES * j, n, columns::ABSTRACT_PRIMED),
-            none(),
+            &[
+                after(d, contexts::ABSTRACT_STATE, n, columns::ABSTRACT),
+                step(d, OPERATIONS + SIDES * j, n, columns::ABSTRACT_PRIMED),
+            ],
         );
     }
 }
@@ -282,9 +286,10 @@ pub fn plan_initialisation(d: &Dossier<'_>, plan: &mut [u16; PLAN])
     w.search(
         d,
         plan::RELATED,
-        over(d, contexts::CONCRETE_STATE, 0, columns::CONCRETE),
-        over(d, contexts::CINIT, 0, columns::CONCRETE),
-        none(),
+        &[
+            over(d, contexts::CONCRETE_STATE, 0, columns::CONCRETE),
+            over(d, contexts::CINIT, 0, columns::CONCRETE),
+        ],
     );
     w.nothing(d, plan::READY);
     w.nothing(d, plan::STEPS);
@@ -292,9 +297,11 @@ pub fn plan_initialisation(d: &Dossier<'_>, plan: &mut [u16; PLAN])
     w.search(
         d,
         MET,
-        over(d, contexts::ABSTRACT_STATE, 0, columns::ABSTRACT),
-        over(d, contexts::AINIT, 0, columns::ABSTRACT),
-        over(d, contexts::RETRIEVE, 0, columns::ABSTRACT),
+        &[
+            over(d, contexts::ABSTRACT_STATE, 0, columns::ABSTRACT),
+            over(d, contexts::AINIT, 0, columns::ABSTRACT),
+            over(d, contexts::RETRIEVE, 0, columns::ABSTRACT),
+        ],
     );
 }
 
@@ -327,8 +334,10 @@ pub fn plan_correctness(d: &Dossier<'_>, j: usize, n: usize, plan: &mut [u16; PL
     w.search(
         d,
         MET,
-        over(d, contexts::ABSTRACT_STATE, 1, columns::ABSTRACT),
-        over(d, contexts::RETRIEVE, 1, columns::ABSTRACT),
-        over(d, OPERATIONS + SIDES * j, 0, columns::ABSTRACT_PRIMED),
+        &[
+            over(d, contexts::ABSTRACT_STATE, 1, columns::ABSTRACT),
+            over(d, contexts::RETRIEVE, 1, columns::ABSTRACT),
+            over(d, OPERATIONS + SIDES * j, 0, columns::ABSTRACT_PRIMED),
+        ],
     );
 }

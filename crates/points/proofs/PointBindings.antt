@@ -112,24 +112,21 @@ binding-shift (v ∷ vs) a b δ ε h =
     (binding-shift vs (suc a) (suc b) δ ε
     (λ i l. let p : suc a + i ≡ a + suc i = omega arith in let q : b + suc i ≡ suc b + i = omega arith in ap δ p ∙ h (suc i) (omega arith) ∙ ap ε q))
 
-side-abstract : (vs : List Variable) (δ : Point) → length vs ≤ 8 → binding_by vs (slotted 0 vs) (side_of 1 δ) ≡ binding_by vs (slotted 30 vs) δ
-unfolding side_of side_slot
-side-abstract vs δ f =
-    binding-shift vs 0 30 (side_of 1 δ) δ (λ i l. ap δ (primed-abstract (0 + i) (omega arith) ∙ (let z : 0 + i + 30 ≡ 30 + i = omega arith in z)))
+-- the slots that the n from a on are primed to begin at b
+abbrev pub PrimedFrom : (a b n : ℕ) → Type 0
+PrimedFrom a b n = (i : ℕ) → i < n → primed_slot (a + i) ≡ b + i
 
-side-concrete : (vs : List Variable) (δ : Point) → length vs ≤ 8 → binding_by vs (slotted 8 vs) (side_of 1 δ) ≡ binding_by vs (slotted 22 vs) δ
-unfolding side_of side_slot
-side-concrete vs δ f =
-    binding-shift vs 8 22 (side_of 1 δ) δ (λ i l. ap δ (primed-concrete (8 + i) (omega arith) ∙ (let z : 8 + i + 14 ≡ 22 + i = omega arith in z)))
+pub abstract-primed : (n : ℕ) → n ≤ 8 → PrimedFrom 0 30 n
+abstract-primed n f i l = let z : 0 + i + 30 ≡ 30 + i = omega arith in primed-abstract (0 + i) (omega arith) ∙ z
+
+pub concrete-primed : (n : ℕ) → PrimedFrom 8 22 n
+concrete-primed n i l = let z : 8 + i + 14 ≡ 22 + i = omega arith in primed-concrete (8 + i) (omega arith) ∙ z
 
 -- read as the state after, the plain slots give the binding of the primed slots' number
-pub binding-side-abstract : (cells : List ℕ) (vs : List Variable) (δ : Point) → length vs ≤ 8 → CellsOf cells 30 vs → Tame cells δ
-    → binding_by vs (slotted 0 vs) (side_of 1 δ) ≡ get_or (bindings vs) (number_of cells (upward 30 (length vs)) δ) []
-binding-side-abstract cells vs δ f h t = side-abstract vs δ f ∙ binding-number cells 30 vs δ h t
-
-pub binding-side-concrete : (cells : List ℕ) (vs : List Variable) (δ : Point) → length vs ≤ 8 → CellsOf cells 22 vs → Tame cells δ
-    → binding_by vs (slotted 8 vs) (side_of 1 δ) ≡ get_or (bindings vs) (number_of cells (upward 22 (length vs)) δ) []
-binding-side-concrete cells vs δ f h t = side-concrete vs δ f ∙ binding-number cells 22 vs δ h t
+pub binding-side : (cells : List ℕ) (a b : ℕ) (vs : List Variable) (δ : Point) → PrimedFrom a b (length vs) → CellsOf cells b vs → Tame cells δ
+    → binding_by vs (slotted a vs) (side_of 1 δ) ≡ get_or (bindings vs) (number_of cells (upward b (length vs)) δ) []
+unfolding side_of side_slot
+binding-side cells a b vs δ e h t = binding-shift vs a b (side_of 1 δ) δ (λ i l. ap δ (e i l)) ∙ binding-number cells b vs δ h t
 
 -- ---- states after, under primed names
 

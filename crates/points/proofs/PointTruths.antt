@@ -30,7 +30,7 @@ use Rattle.truths.proofs.ConjunctTestsSlotFrame.{frame-slots}
 use Rattle.truths.specs.Promises.{Asked, Answers}
 use Rattle.points.specs.Points.{Point, Tame, Shows}
 use Rattle.points.specs.PointTests.{binding_by, truth_at, side_slot, side_of, Celled, Given, Test}
-use Rattle.points.proofs.PointBindings.{value_low, primed-abstract, primed-concrete, Primes, no_primes, more_primes, state-primes}
+use Rattle.points.proofs.PointBindings.{value_low, PrimedFrom, Primes, no_primes, more_primes, state-primes}
 
 -- ---- slots with cells
 
@@ -53,15 +53,9 @@ pub celled-slots : (cells : List ℕ) (base : ℕ) (vs : List Variable) → Cell
 unfolding side_slot
 celled-slots cells base vs h = celled-shift cells 0 base base vs (λ i l. refl) h
 
-pub celled-after-abstract : (cells : List ℕ) (vs : List Variable) → length vs ≤ 8 → CellsOf cells 30 vs → Celled cells 1 vs (slotted 0 vs)
+pub celled-after : (cells : List ℕ) (a b : ℕ) (vs : List Variable) → PrimedFrom a b (length vs) → CellsOf cells b vs → Celled cells 1 vs (slotted a vs)
 unfolding side_slot
-celled-after-abstract cells vs f h =
-    celled-shift cells 1 0 30 vs (λ i l. let z : 0 + i + 30 ≡ 30 + i = omega arith in primed-abstract (0 + i) (omega arith) ∙ z) h
-
-pub celled-after-concrete : (cells : List ℕ) (vs : List Variable) → length vs ≤ 8 → CellsOf cells 22 vs → Celled cells 1 vs (slotted 8 vs)
-unfolding side_slot
-celled-after-concrete cells vs f h =
-    celled-shift cells 1 8 22 vs (λ i l. let z : 8 + i + 14 ≡ 22 + i = omega arith in primed-concrete (8 + i) (omega arith) ∙ z) h
+celled-after cells a b vs e h = celled-shift cells 1 a b vs e h
 
 cells-primes : (cells : List ℕ) (b : ℕ) (vs us : List Variable) → Primes vs us → CellsOf cells b vs → CellsOf cells b us
 unfolding CellsOf

@@ -25,28 +25,28 @@ use Rattle.reached_pairs.proofs.GrownMarks.{grown_wider, scan-start, scan-next, 
 use Rattle.reached_pairs.proofs.NextLayer.{layered-first}
 
 module _ {table plan cells : List ℕ} {p : Part} {d : Dossier} (S : OpeningSearches table plan cells p d) where
-  pub open-a : p.nm ≡ many_abstract d
+  pub open-a : p.meeting.bindings ≡ many_abstract d
   unfolding abstract_bindings
-  open-a = ap (λ (q : Part). q.nm) S.part_is ∙ sym (bindings-count (unprimed d d.abstract))
+  open-a = ap (λ (q : Part). q.meeting.bindings) S.part_is ∙ sym (bindings-count (unprimed d d.abstract))
 
-  pub open-c : p.nc ≡ many_concrete d
+  pub open-c : p.concretes.bindings ≡ many_concrete d
   unfolding concrete_bindings
-  open-c = ap (λ (q : Part). q.nc) S.part_is ∙ sym (bindings-count (unprimed d d.concrete))
+  open-c = ap (λ (q : Part). q.concretes.bindings) S.part_is ∙ sym (bindings-count (unprimed d d.concrete))
 
-  pub open-pairs : p.nm * p.nc ≡ many_pairs d
+  pub open-pairs : p.meeting.bindings * p.concretes.bindings ≡ many_pairs d
   open-pairs = ap₂ ◌*◌ open-a open-c
 
-  pub few_a : (0 < p.nm) × (p.nm ≤ 4096)
+  pub few_a : (0 < p.meeting.bindings) × (p.meeting.bindings ≤ 4096)
   few_a =
-      let e : p.nm ≡ _ = ap (λ (q : Part). q.nm) S.part_is in
+      let e : p.meeting.bindings ≡ _ = ap (λ (q : Part). q.meeting.bindings) S.part_is in
       (omega (arith, e, bindings-some (unprimed d d.abstract)), omega (arith, e, S.few.abstract_bindings_lem))
 
-  pub few_c : (0 < p.nc) × (p.nc ≤ 4096)
+  pub few_c : (0 < p.concretes.bindings) × (p.concretes.bindings ≤ 4096)
   few_c =
-      let e : p.nc ≡ _ = ap (λ (q : Part). q.nc) S.part_is in
+      let e : p.concretes.bindings ≡ _ = ap (λ (q : Part). q.concretes.bindings) S.part_is in
       (omega (arith, e, bindings-some (unprimed d d.concrete)), omega (arith, e, S.few.concrete_bindings_lem))
 
-  pub open-small : p.nm * p.nc ≤ 16777216
+  pub open-small : p.meeting.bindings * p.concretes.bindings ≤ 16777216
   open-small = mul-le-mul {n₂ = 4096} {m₂ = 4096} few_a.1 few_c.1
 
 -- ---- abstract initial states
@@ -78,27 +78,27 @@ module _ {table plan cells : List ℕ} {p : Part} {c : ℕ} {m : Mark} where
   pub open-start : {x : ℕ} (a : List Mark) → InitialMatchFound table plan cells p c 0 x → MatchesBeginning table plan cells p c m x a a
   open-start {x = x} a f = record {
     found = λ d S. (f.sought d S).found;
-    each = λ d S. scan-start (open_test d c) (λ (x z : ℕ). z ≡ x * p.nc + c) p.nm x a (f.sought d S);
+    each = λ d S. scan-start (open_test d c) (λ (x z : ℕ). z ≡ x * p.concretes.bindings + c) p.meeting.bindings x a (f.sought d S);
   }
 
-  pub open_next : {x t : ℕ} {a b e : List Mark} → MatchesBeginning table plan cells p c m x a b → c < p.nc → x < p.nm → Marked (x * p.nc + c) m b e
+  pub open_next : {x t : ℕ} {a b e : List Mark} → MatchesBeginning table plan cells p c m x a b → c < p.concretes.bindings → x < p.meeting.bindings → Marked (x * p.concretes.bindings + c) m b e
       → InitialMatchFound table plan cells p c (x + 1) t → MatchesBeginning table plan cells p c m t a e
   open_next {x = x} {t = t} w l h g f = record {
     found = λ d S. (f.sought d S).found;
-    each = λ d S. scan-next (open_test d c) (λ (x z : ℕ). z ≡ x * p.nc + c) p.nm x t (w.each d S)
-        (grown_wider (λ (z : ℕ). z ≡ x * p.nc + c) g (λ y v z k. (k.1, subst (BegunWith d c) (sym k.0) (here d S))) (λ y k. k))
+    each = λ d S. scan-next (open_test d c) (λ (x z : ℕ). z ≡ x * p.concretes.bindings + c) p.meeting.bindings x t (w.each d S)
+        (grown_wider (λ (z : ℕ). z ≡ x * p.concretes.bindings + c) g (λ y v z k. (k.1, subst (BegunWith d c) (sym k.0) (here d S))) (λ y k. k))
         (f.sought d S);
   }
     where
-      here : (d : Dossier) → OpeningSearches table plan cells p d → BegunWith d c (x * p.nc + c)
+      here : (d : Dossier) → OpeningSearches table plan cells p d → BegunWith d c (x * p.concretes.bindings + c)
       here d S =
           subst (λ (n : ℕ). BegunWith d c (x * n + c)) (sym (open-c S))
           (begun-here d c x (omega (arith, open-c S, l)) (omega (arith, open-a S, h)) (w.found d S h))
 
-  pub open_done : {x : ℕ} {a b : List Mark} → MatchesBeginning table plan cells p c m x a b → p.nm ≤ x → MatchesBegun table plan cells p c m a b
+  pub open_done : {x : ℕ} {a b : List Mark} → MatchesBeginning table plan cells p c m x a b → p.meeting.bindings ≤ x → MatchesBegun table plan cells p c m a b
   open_done {x = x} w h = record {
-    each = λ d S. grown_wider (BegunWith d c) (scan-done (open_test d c) (λ (x z : ℕ). z ≡ x * p.nc + c) p.nm x (w.each d S) h) (λ y v z k. k)
-        (begun-found d c p.nm p.nc (open-a S) (open-c S));
+    each = λ d S. grown_wider (BegunWith d c) (scan-done (open_test d c) (λ (x z : ℕ). z ≡ x * p.concretes.bindings + c) p.meeting.bindings x (w.each d S) h) (λ y v z k. k)
+        (begun-found d c p.meeting.bindings p.concretes.bindings (open-a S) (open-c S));
   }
 
 -- ---- concrete initial states
@@ -107,24 +107,24 @@ module _ {table plan cells : List ℕ} {p : Part} where
   pub states-start : {c : ℕ} (a : List Mark) → InitialStateFound table plan cells p 0 c → StatesBeginning table plan cells p c a a
   states-start {c = c} a f = record {
     found = λ d S. (f.sought d S).found;
-    each = λ d S. scan-start (initial d) (BegunWith d) p.nc c a (f.sought d S);
+    each = λ d S. scan-start (initial d) (BegunWith d) p.concretes.bindings c a (f.sought d S);
   }
 
-  pub states-next : {c t : ℕ} {a b e : List Mark} → StatesBeginning table plan cells p c a b → c < p.nc → MatchesBegun table plan cells p c first_mark b e
+  pub states-next : {c t : ℕ} {a b e : List Mark} → StatesBeginning table plan cells p c a b → c < p.concretes.bindings → MatchesBegun table plan cells p c first_mark b e
       → InitialStateFound table plan cells p (c + 1) t → StatesBeginning table plan cells p t a e
   states-next {c = c} {t = t} w h g f = record {
     found = λ d S. (f.sought d S).found;
-    each = λ d S. scan-next (initial d) (BegunWith d) p.nc c t (w.each d S)
+    each = λ d S. scan-next (initial d) (BegunWith d) p.concretes.bindings c t (w.each d S)
         (grown_wider (BegunWith d c) (g.each d S) (λ y v z k. record { layer_is = ap layer_of k.0; begins = with-begins d c y (w.found d S h) k.1 }) (λ y k. k))
         (f.sought d S);
   }
 
-  pub states-done : {c : ℕ} {a b : List Mark} → StatesBeginning table plan cells p c a b → p.nc ≤ c → StatesBegun table plan cells p a b
+  pub states-done : {c : ℕ} {a b : List Mark} → StatesBeginning table plan cells p c a b → p.concretes.bindings ≤ c → StatesBegun table plan cells p a b
   states-done {c = c} w h = record {
-    each = λ d S. grown_wider (Begins d) (scan-done (initial d) (BegunWith d) p.nc c (w.each d S) h) (λ y v z k. k) (λ y k. found d S y k);
+    each = λ d S. grown_wider (Begins d) (scan-done (initial d) (BegunWith d) p.concretes.bindings c (w.each d S) h) (λ y v z k. k) (λ y k. found d S y k);
   }
     where
-      found : (d : Dossier) → OpeningSearches table plan cells p d → (y : ℕ) → Begins d y → Hits (initial d) (BegunWith d) p.nc y
+      found : (d : Dossier) → OpeningSearches table plan cells p d → (y : ℕ) → Begins d y → Hits (initial d) (BegunWith d) p.concretes.bindings y
       found d S y k = record {
         number = concrete_of d y;
         low = omega (arith, open-c S, low_digit y (many_abstract d) (many_concrete d) k.inside);
@@ -141,8 +141,8 @@ module _ {table rows firsts groups : List ℕ} where
   pub begun-none : (a : List Mark) → Begun table rows firsts groups a a None
   begun-none a = record { none = λ e. refl; pairs = tt; each = tt }
 
-  pub begun_all : {plan cells : List ℕ} {p : Part} {a b : List Mark} → Opened table rows firsts groups plan cells p → p.nm * p.nc ≤ 262144
-      → StatesBegun table plan cells p a b → Begun table rows firsts groups a b (Some (p.nm * p.nc))
+  pub begun_all : {plan cells : List ℕ} {p : Part} {a b : List Mark} → Opened table rows firsts groups plan cells p → p.meeting.bindings * p.concretes.bindings ≤ 262144
+      → StatesBegun table plan cells p a b → Begun table rows firsts groups a b (Some (p.meeting.bindings * p.concretes.bindings))
   begun_all f l w = record {
     none = λ e. absurd (some_none e);
     pairs = record { room = l; are = λ d R. open-pairs (f.searches d R) };

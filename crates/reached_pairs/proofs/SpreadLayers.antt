@@ -36,20 +36,20 @@ older may must n a b g l q h = go (g.each q)
 
 module _ {table plan cells : List ℕ} {p : Part} {j n : ℕ} where
   pub pair-other : {x : ℕ} (a : List Mark) → (layer_in a x ≡ n → ⊥) → PairSpread table plan cells p x j n a a
-  pair-other {x = x} a h = record { each = λ d op S. grown-none (PairTo d op n p.ni a x) a (λ y k. h k.0) }
+  pair-other {x = x} a h = record { each = λ d op S. grown-none (PairTo d op n p.inputs.bindings a x) a (λ y k. h k.0) }
 
-  pub pair-spread : {x : ℕ} {a b : List Mark} → x < p.na * p.nc → layer_in a x ≡ n → InputsSpread table plan cells p x j n p.ni a b → PairSpread table plan cells p x j n a b
+  pub pair-spread : {x : ℕ} {a b : List Mark} → x < p.abstracts.bindings * p.concretes.bindings → layer_in a x ≡ n → InputsSpread table plan cells p x j n p.inputs.bindings a b → PairSpread table plan cells p x j n a b
   pair-spread {x = x} {a = a} l e w = record {
-    each = λ d op S. grown_wider (PairTo d op n p.ni a x) (w.each d op S) (λ y v z k. record { pair = x; low = omega (arith, size-pairs S, l); layer_is = e; may = k }) (λ y k. k.1);
+    each = λ d op S. grown_wider (PairTo d op n p.inputs.bindings a x) (w.each d op S) (λ y v z k. record { pair = x; low = omega (arith, size-pairs S, l); layer_is = e; may = k }) (λ y k. k.1);
   }
 
   pub pairs_start : (a : List Mark) → PairsSpread table plan cells p j n 0 a a
-  pairs_start a = record { each = λ d op S. grown-none (Hits (λ (z : ℕ). true) (PairTo d op n p.ni a) 0) a (λ y k. omega (arith, k.low)) }
+  pairs_start a = record { each = λ d op S. grown-none (Hits (λ (z : ℕ). true) (PairTo d op n p.inputs.bindings a) 0) a (λ y k. omega (arith, k.low)) }
 
   pub pairs_next : {x : ℕ} {a b c : List Mark} → 0 < n → PairsSpread table plan cells p j n x a b → PairSpread table plan cells p x j n b c → PairsSpread table plan cells p j n (x + 1) a c
   pairs_next {x = x} {a = a} {b = b} {c = c} pos w g = record {
-    each = λ d op S. scan-next (λ (z : ℕ). true) (PairTo d op n p.ni a) (x + 1) x (x + 1) (w.each d op S)
-        (grown_wider (PairTo d op n p.ni a x) (g.each d op S) (λ y v z k. back d op S y v k)
+    each = λ d op S. scan-next (λ (z : ℕ). true) (PairTo d op n p.inputs.bindings a) (x + 1) x (x + 1) (w.each d op S)
+        (grown_wider (PairTo d op n p.inputs.bindings a x) (g.each d op S) (λ y v z k. back d op S y v k)
         (λ y k. (ap layer_of (grown_stays (w.each d op S) x (omega (arith, k.0, pos))) ∙ k.0, k.1)))
         (sought-each (x + 1) (x + 1) (omega arith));
   }
@@ -58,12 +58,12 @@ module _ {table plan cells : List ℕ} {p : Part} {j n : ℕ} where
       back d op S y v k = record {
         pair = k.pair;
         low = k.low;
-        layer_is = older (PairMay d op j n a) (Hits (λ (z : ℕ). true) (PairTo d op n p.ni a) x) n a b (w.each d op S) (λ y m h. h.may.from.layer_is) k.pair k.layer_is;
+        layer_is = older (PairMay d op j n a) (Hits (λ (z : ℕ). true) (PairTo d op n p.inputs.bindings a) x) n a b (w.each d op S) (λ y m h. h.may.from.layer_is) k.pair k.layer_is;
         may = k.may;
       }
 
   pub pairs-done : {x : ℕ} {a b : List Mark} (end : ℕ) → PairsSpread table plan cells p j n x a b → end ≤ x → PairsSpread table plan cells p j n end a b
-  pairs-done {x = x} {a = a} end w h = record { each = λ d op S. scan-done (λ (z : ℕ). true) (PairTo d op n p.ni a) end x (w.each d op S) h }
+  pairs-done {x = x} {a = a} end w h = record { each = λ d op S. scan-done (λ (z : ℕ). true) (PairTo d op n p.inputs.bindings a) end x (w.each d op S) h }
 
 -- ---- operations
 
@@ -92,13 +92,13 @@ module _ (d : Dossier) (op : Operation) (j n : ℕ) (listed : get_elem? d.operat
 
 module _ {table rows firsts groups : List ℕ} {n : ℕ} where
   pub operation-spread : {plan cells : List ℕ} {p : Part} {j : ℕ} {a b : List Mark} → Prepared table rows firsts groups j plan cells p
-      → PairsSpread table plan cells p j n (p.na * p.nc) a b → OperationSpread table rows firsts groups j n a b
+      → PairsSpread table plan cells p j n (p.abstracts.bindings * p.concretes.bindings) a b → OperationSpread table rows firsts groups j n a b
   operation-spread {plan = plan} {cells = cells} {p = p} {j = j} {a = a} {b = b} f w = record { each = λ d R h. go d R (below-entry d.operations j h) }
     where
       go : (d : Dossier) → ReadingOf table rows firsts groups d → (op : Operation) × (get_elem? d.operations j ≡ some op) → Grown (MayFrom d n a) (MustFrom d j n a) a b
       go d R o =
           let S : StepSearches table plan cells p d o.0 = f.searches d o.0 R o.1 in
-          grown_wider (MustFrom d j n a) (w.each d o.0 S) (λ y v z k. may-from d o.0 j n o.1 a y v k) (must-from d o.0 j n o.1 a p.ni (p.na * p.nc) (size-i S) (size-pairs S))
+          grown_wider (MustFrom d j n a) (w.each d o.0 S) (λ y v z k. may-from d o.0 j n o.1 a y v k) (must-from d o.0 j n o.1 a p.inputs.bindings (p.abstracts.bindings * p.concretes.bindings) (size-i S) (size-pairs S))
 
   pub layer-start : (a : List Mark) → LayerSpread table rows firsts groups 0 n a a
   layer-start a = record { each = λ d R h. grown-none (MustBelow d 0 n a) a (λ y k. omega (arith, k.low)) }

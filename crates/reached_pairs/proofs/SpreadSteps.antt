@@ -25,31 +25,31 @@ use Rattle.reached_pairs.proofs.GrownMarks.{grown-none, grown_wider, scan-start,
 
 -- the sizes of the part are those of the dossier's groups
 module _ {table plan cells : List ℕ} {p : Part} {d : Dossier} {op : Operation} (S : StepSearches table plan cells p d op) where
-  pub size-a : p.na ≡ many_abstract d
+  pub size-a : p.abstracts.bindings ≡ many_abstract d
   unfolding abstract_bindings
-  size-a = ap (λ (q : Part). q.na) S.part_is ∙ sym (bindings-count (unprimed d d.abstract))
+  size-a = ap (λ (q : Part). q.abstracts.bindings) S.part_is ∙ sym (bindings-count (unprimed d d.abstract))
 
-  pub size-c : p.nc ≡ many_concrete d
+  pub size-c : p.concretes.bindings ≡ many_concrete d
   unfolding concrete_bindings
-  size-c = ap (λ (q : Part). q.nc) S.part_is ∙ sym (bindings-count (unprimed d d.concrete))
+  size-c = ap (λ (q : Part). q.concretes.bindings) S.part_is ∙ sym (bindings-count (unprimed d d.concrete))
 
-  pub size-i : p.ni ≡ length (bindings (inputs d op))
-  size-i = ap (λ (q : Part). q.ni) S.part_is ∙ sym (bindings-count (inputs d op))
+  pub size-i : p.inputs.bindings ≡ length (bindings (inputs d op))
+  size-i = ap (λ (q : Part). q.inputs.bindings) S.part_is ∙ sym (bindings-count (inputs d op))
 
-  pub size-o : p.nq ≡ length (output_bindings d op)
+  pub size-o : p.outputs.bindings ≡ length (output_bindings d op)
   unfolding output_bindings
-  size-o = ap (λ (q : Part). q.nq) S.part_is ∙ sym (bindings-count (outputs d op))
+  size-o = ap (λ (q : Part). q.outputs.bindings) S.part_is ∙ sym (bindings-count (outputs d op))
 
-  pub size-pairs : p.na * p.nc ≡ many_pairs d
+  pub size-pairs : p.abstracts.bindings * p.concretes.bindings ≡ many_pairs d
   size-pairs = ap₂ ◌*◌ size-a size-c
 
-  pub few-inputs : p.ni ≤ 64
-  few-inputs = omega (arith, ap (λ (q : Part). q.ni) S.part_is, S.input_bindings)
+  pub few-inputs : p.inputs.bindings ≤ 64
+  few-inputs = omega (arith, ap (λ (q : Part). q.inputs.bindings) S.part_is, S.input_bindings)
 
-  pub few-steps : p.nq * p.nc ≤ 262144
+  pub few-steps : p.outputs.bindings * p.concretes.bindings ≤ 262144
   few-steps =
-      mul-le-mul {n₂ = 64} {m₂ = 4096} (omega (arith, ap (λ (q : Part). q.nq) S.part_is, S.output_bindings_lem))
-      (omega (arith, ap (λ (q : Part). q.nc) S.part_is, S.few.concrete_bindings_lem))
+      mul-le-mul {n₂ = 64} {m₂ = 4096} (omega (arith, ap (λ (q : Part). q.outputs.bindings) S.part_is, S.output_bindings_lem))
+      (omega (arith, ap (λ (q : Part). q.concretes.bindings) S.part_is, S.few.concrete_bindings_lem))
 
 -- ---- abstract states that match a concrete step
 
@@ -73,27 +73,27 @@ module _ {table plan cells : List ℕ} {p : Part} {b : Stepped} {m : Mark} where
   pub matches-start : {x : ℕ} (a : List Mark) → MatchFound table plan cells p b.a b.i b.o b.k 0 x → MatchesSpreading table plan cells p b m x a a
   matches-start {x = x} a f = record {
     found = λ d op S. (f.sought d op S).found;
-    each = λ d op S. scan-start (match_test d op b) (PairAt d op p.nc b.k) p.na x a (f.sought d op S);
+    each = λ d op S. scan-start (match_test d op b) (PairAt d op p.concretes.bindings b.k) p.abstracts.bindings x a (f.sought d op S);
   }
 
-  pub matches-next : {x t : ℕ} {a c e : List Mark} → MatchesSpreading table plan cells p b m x a c → Below p b → x < p.na → Marked (x * p.nc + b.k) m c e
+  pub matches-next : {x t : ℕ} {a c e : List Mark} → MatchesSpreading table plan cells p b m x a c → Below p b → x < p.abstracts.bindings → Marked (x * p.concretes.bindings + b.k) m c e
       → MatchFound table plan cells p b.a b.i b.o b.k (x + 1) t → MatchesSpreading table plan cells p b m t a e
   matches-next {x = x} {t = t} {a = a} {c = c} {e = e} w l h g f = record {
     found = λ d op S. (f.sought d op S).found;
-    each = λ d op S. scan-next (match_test d op b) (PairAt d op p.nc b.k) p.na x t (w.each d op S)
-        (grown_wider (PairAt d op p.nc b.k x) g (λ y v z k. (k.1, subst (MatchedBy d op b) (sym k.0) (here d op S))) (λ y k. k))
+    each = λ d op S. scan-next (match_test d op b) (PairAt d op p.concretes.bindings b.k) p.abstracts.bindings x t (w.each d op S)
+        (grown_wider (PairAt d op p.concretes.bindings b.k x) g (λ y v z k. (k.1, subst (MatchedBy d op b) (sym k.0) (here d op S))) (λ y k. k))
         (f.sought d op S);
   }
     where
-      here : (d : Dossier) (op : Operation) → StepSearches table plan cells p d op → MatchedBy d op b (x * p.nc + b.k)
+      here : (d : Dossier) (op : Operation) → StepSearches table plan cells p d op → MatchedBy d op b (x * p.concretes.bindings + b.k)
       here d op S =
           subst (λ (n : ℕ). MatchedBy d op b (x * n + b.k)) (sym (size-c S))
           (match-here d op b x (omega (arith, size-c S, l.k_low)) (omega (arith, size-a S, h)) (w.found d op S h))
 
-  pub matches-done : {x : ℕ} {a c : List Mark} → MatchesSpreading table plan cells p b m x a c → p.na ≤ x → MatchesSpread table plan cells p b m a c
+  pub matches-done : {x : ℕ} {a c : List Mark} → MatchesSpreading table plan cells p b m x a c → p.abstracts.bindings ≤ x → MatchesSpread table plan cells p b m a c
   matches-done {x = x} w h = record {
-    each = λ d op S. grown_wider (MatchedBy d op b) (scan-done (match_test d op b) (PairAt d op p.nc b.k) p.na x (w.each d op S) h) (λ y v z k. k)
-        (match-found d op b p.na p.nc (size-a S) (size-c S));
+    each = λ d op S. grown_wider (MatchedBy d op b) (scan-done (match_test d op b) (PairAt d op p.concretes.bindings b.k) p.abstracts.bindings x (w.each d op S) h) (λ y v z k. k)
+        (match-found d op b p.abstracts.bindings p.concretes.bindings (size-a S) (size-c S));
   }
 
 -- ---- concrete steps
@@ -129,28 +129,28 @@ module _ (d : Dossier) (op : Operation) (i x y : ℕ) where
       }
 
 module _ {table plan cells : List ℕ} {p : Part} {x i : ℕ} {m : Mark} where
-  pub steps-start : {r : ℕ} (a : List Mark) → ConcreteStepFound table plan cells p (x % p.nc) i 0 r → StepsSpreading table plan cells p x i m r a a
+  pub steps-start : {r : ℕ} (a : List Mark) → ConcreteStepFound table plan cells p (x % p.concretes.bindings) i 0 r → StepsSpreading table plan cells p x i m r a a
   steps-start {r = r} a f = record {
     found = λ d op S. (f.sought d op S).found;
-    each = λ d op S. scan-start (step_test d op p.nc (x % p.nc) i) (StepTo d op p.nc i x) (p.nq * p.nc) r a (f.sought d op S);
+    each = λ d op S. scan-start (step_test d op p.concretes.bindings (x % p.concretes.bindings) i) (StepTo d op p.concretes.bindings i x) (p.outputs.bindings * p.concretes.bindings) r a (f.sought d op S);
   }
 
-  pub steps_next : {r t : ℕ} {a c e : List Mark} → StepsSpreading table plan cells p x i m r a c → r < p.nq * p.nc
-      → MatchesSpread table plan cells p (stepped (x / p.nc) i (r / p.nc) (r % p.nc)) m c e
-      → ConcreteStepFound table plan cells p (x % p.nc) i (r + 1) t → StepsSpreading table plan cells p x i m t a e
+  pub steps_next : {r t : ℕ} {a c e : List Mark} → StepsSpreading table plan cells p x i m r a c → r < p.outputs.bindings * p.concretes.bindings
+      → MatchesSpread table plan cells p (stepped (x / p.concretes.bindings) i (r / p.concretes.bindings) (r % p.concretes.bindings)) m c e
+      → ConcreteStepFound table plan cells p (x % p.concretes.bindings) i (r + 1) t → StepsSpreading table plan cells p x i m t a e
   steps_next {r = r} {t = t} {a = a} {c = c} {e = e} w h g f = record {
     found = λ d op S. (f.sought d op S).found;
-    each = λ d op S. scan-next (step_test d op p.nc (x % p.nc) i) (StepTo d op p.nc i x) (p.nq * p.nc) r t (w.each d op S)
-        (grown_wider (StepTo d op p.nc i x r) (g.each d op S) (λ y v z k. (k.0, leads d op S y (w.found d op S h) k.1)) (λ y k. k))
+    each = λ d op S. scan-next (step_test d op p.concretes.bindings (x % p.concretes.bindings) i) (StepTo d op p.concretes.bindings i x) (p.outputs.bindings * p.concretes.bindings) r t (w.each d op S)
+        (grown_wider (StepTo d op p.concretes.bindings i x r) (g.each d op S) (λ y v z k. (k.0, leads d op S y (w.found d op S h) k.1)) (λ y k. k))
         (f.sought d op S);
   }
     where
-      leads : (d : Dossier) (op : Operation) → StepSearches table plan cells p d op → (y : ℕ) → step_test d op p.nc (x % p.nc) i r ≡ true → StepTo d op p.nc i x r y → Leads d op i x y
+      leads : (d : Dossier) (op : Operation) → StepSearches table plan cells p d op → (y : ℕ) → step_test d op p.concretes.bindings (x % p.concretes.bindings) i r ≡ true → StepTo d op p.concretes.bindings i x r y → Leads d op i x y
       leads d op S y = subst₂ (StepLeads d op i x y r) (sym (size-o S)) (sym (size-c S)) (step-leads d op i x y r) h
 
-  pub steps-done : {r : ℕ} {a c : List Mark} → StepsSpreading table plan cells p x i m r a c → p.nq * p.nc ≤ r → StepsSpread table plan cells p x i m a c
+  pub steps-done : {r : ℕ} {a c : List Mark} → StepsSpreading table plan cells p x i m r a c → p.outputs.bindings * p.concretes.bindings ≤ r → StepsSpread table plan cells p x i m a c
   steps-done {r = r} w h = record {
-    each = λ d op S. grown_wider (Leads d op i x) (scan-done (step_test d op p.nc (x % p.nc) i) (StepTo d op p.nc i x) (p.nq * p.nc) r (w.each d op S) h) (λ y v z k. k)
+    each = λ d op S. grown_wider (Leads d op i x) (scan-done (step_test d op p.concretes.bindings (x % p.concretes.bindings) i) (StepTo d op p.concretes.bindings i x) (p.outputs.bindings * p.concretes.bindings) r (w.each d op S) h) (λ y v z k. k)
         (λ y. subst₂ (LeadsStep d op i x y) (sym (size-o S)) (sym (size-c S)) (leads-step d op i x y));
   }
 
@@ -160,7 +160,7 @@ module _ {table plan cells : List ℕ} {p : Part} {x j n : ℕ} where
   pub inputs-start : {i : ℕ} (a : List Mark) → i ≡ 0 → InputsSpread table plan cells p x j n i a a
   inputs-start {i = i} a e = record { each = λ d op S. grown-none (Hits (λ (z : ℕ). true) (InputTo d op x) i) a (λ y k. omega (arith, k.low)) }
 
-  pub inputs-next : {i t : ℕ} {m : Mark} {a c e : List Mark} → InputsSpread table plan cells p x j n i a c → i < p.ni → MarkFrom j i x n m → StepsSpread table plan cells p x i m c e
+  pub inputs-next : {i t : ℕ} {m : Mark} {a c e : List Mark} → InputsSpread table plan cells p x j n i a c → i < p.inputs.bindings → MarkFrom j i x n m → StepsSpread table plan cells p x i m c e
       → t ≡ i + 1 → InputsSpread table plan cells p x j n t a e
   inputs-next {i = i} {t = t} {m = m} w h f g q = record {
     each = λ d op S. scan-next (λ (z : ℕ). true) (InputTo d op x) (i + 1) i t (w.each d op S)
@@ -169,5 +169,5 @@ module _ {table plan cells : List ℕ} {p : Part} {x j n : ℕ} where
         (subst (Sought (λ (z : ℕ). true) (i + 1) (i + 1)) (sym q) (sought-each (i + 1) (i + 1) (omega arith)));
   }
 
-  pub inputs-done : {i : ℕ} {a c : List Mark} → InputsSpread table plan cells p x j n i a c → p.ni ≤ i → InputsSpread table plan cells p x j n p.ni a c
-  inputs-done {i = i} w h = record { each = λ d op S. scan-done (λ (z : ℕ). true) (InputTo d op x) p.ni i (w.each d op S) h }
+  pub inputs-done : {i : ℕ} {a c : List Mark} → InputsSpread table plan cells p x j n i a c → p.inputs.bindings ≤ i → InputsSpread table plan cells p x j n p.inputs.bindings a c
+  inputs-done {i = i} w h = record { each = λ d op S. scan-done (λ (z : ℕ). true) (InputTo d op x) p.inputs.bindings i (w.each d op S) h }

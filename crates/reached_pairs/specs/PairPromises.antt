@@ -82,7 +82,7 @@ module _ (d : Dossier) (op : Operation) where
 -- room for all pairs
 pub record PairsAsked (table plan cells : List ℕ) (p : Part) : Type 0 where
   pub steps : StepsAsked table plan cells p
-  pub room : p.na * p.nc ≤ 262144
+  pub room : p.abstracts.bindings * p.concretes.bindings ≤ 262144
 
 module _ (table plan cells : List ℕ) (p : Part) where
   -- spread_matches(s, b, m, memo, marks)
@@ -90,16 +90,16 @@ module _ (table plan cells : List ℕ) (p : Part) where
     pub each : ForSteps table plan cells p (λ (d : Dossier) (op : Operation). Grown (MatchMay d op b m) (MatchedBy d op b) before after)
 
   pub record MatchesSpreading (b : Stepped) (m : Mark) (x : ℕ) (before after : List Mark) : Type 0 where
-    pub found : ForSteps table plan cells p (λ (d : Dossier) (op : Operation). x < p.na → match_test d op b x ≡ true)
-    pub each : ForSteps table plan cells p (λ (d : Dossier) (op : Operation). MatchGrown d op p.nc b m x before after)
+    pub found : ForSteps table plan cells p (λ (d : Dossier) (op : Operation). x < p.abstracts.bindings → match_test d op b x ≡ true)
+    pub each : ForSteps table plan cells p (λ (d : Dossier) (op : Operation). MatchGrown d op p.concretes.bindings b m x before after)
 
   -- spread_steps(s, x, i, m, memo, marks)
   pub record StepsSpread (x i : ℕ) (m : Mark) (before after : List Mark) : Type 0 where
     pub each : ForSteps table plan cells p (λ (d : Dossier) (op : Operation). Grown (LeadMay d op i x m) (Leads d op i x) before after)
 
   pub record StepsSpreading (x i : ℕ) (m : Mark) (r : ℕ) (before after : List Mark) : Type 0 where
-    pub found : ForSteps table plan cells p (λ (d : Dossier) (op : Operation). r < p.nq * p.nc → step_test d op p.nc (x % p.nc) i r ≡ true)
-    pub each : ForSteps table plan cells p (λ (d : Dossier) (op : Operation). StepGrown d op p.nc i x m r before after)
+    pub found : ForSteps table plan cells p (λ (d : Dossier) (op : Operation). r < p.outputs.bindings * p.concretes.bindings → step_test d op p.concretes.bindings (x % p.concretes.bindings) i r ≡ true)
+    pub each : ForSteps table plan cells p (λ (d : Dossier) (op : Operation). StepGrown d op p.concretes.bindings i x m r before after)
 
   -- spread_inputs(s, x, j, n, memo, marks); the inputs below i
   pub record InputsSpread (x j n i : ℕ) (before after : List Mark) : Type 0 where
@@ -107,11 +107,11 @@ module _ (table plan cells : List ℕ) (p : Part) where
 
   -- spread_pair(s, x, j, n, memo, marks)
   pub record PairSpread (x j n : ℕ) (before after : List Mark) : Type 0 where
-    pub each : ForSteps table plan cells p (λ (d : Dossier) (op : Operation). Grown (PairMay d op j n before) (PairTo d op n p.ni before x) before after)
+    pub each : ForSteps table plan cells p (λ (d : Dossier) (op : Operation). Grown (PairMay d op j n before) (PairTo d op n p.inputs.bindings before x) before after)
 
   -- spread_pairs(s, j, n, memo, marks); the pairs below x
   pub record PairsSpread (j n x : ℕ) (before after : List Mark) : Type 0 where
-    pub each : ForSteps table plan cells p (λ (d : Dossier) (op : Operation). PairGrown d op j n p.ni x before after)
+    pub each : ForSteps table plan cells p (λ (d : Dossier) (op : Operation). PairGrown d op j n p.inputs.bindings x before after)
 
 -- ---- a layer
 
@@ -156,7 +156,7 @@ module _ (d : Dossier) where
 
 pub record OpenPairsAsked (table plan cells : List ℕ) (p : Part) : Type 0 where
   pub opening : OpeningAsked table plan cells p
-  pub room : p.nm * p.nc ≤ 262144
+  pub room : p.meeting.bindings * p.concretes.bindings ≤ 262144
 
 module _ (table plan cells : List ℕ) (p : Part) where
   -- begin_with(s, c, memo, marks)
@@ -164,15 +164,15 @@ module _ (table plan cells : List ℕ) (p : Part) where
     pub each : ForOpening table plan cells p (λ (d : Dossier). Grown (BegunMay d c m) (BegunWith d c) before after)
 
   pub record MatchesBeginning (c : ℕ) (m : Mark) (x : ℕ) (before after : List Mark) : Type 0 where
-    pub found : ForOpening table plan cells p (λ (d : Dossier). x < p.nm → open_test d c x ≡ true)
-    pub each : ForOpening table plan cells p (λ (d : Dossier). OpenGrown d p.nc c m x before after)
+    pub found : ForOpening table plan cells p (λ (d : Dossier). x < p.meeting.bindings → open_test d c x ≡ true)
+    pub each : ForOpening table plan cells p (λ (d : Dossier). OpenGrown d p.concretes.bindings c m x before after)
 
   -- begin_all(s, memo, marks)
   pub record StatesBegun (before after : List Mark) : Type 0 where
     pub each : ForOpening table plan cells p (λ (d : Dossier). Grown (MayBegin d) (Begins d) before after)
 
   pub record StatesBeginning (c : ℕ) (before after : List Mark) : Type 0 where
-    pub found : ForOpening table plan cells p (λ (d : Dossier). c < p.nc → initial d c ≡ true)
+    pub found : ForOpening table plan cells p (λ (d : Dossier). c < p.concretes.bindings → initial d c ≡ true)
     pub each : ForOpening table plan cells p (λ (d : Dossier). StatesGrown d c before after)
 
 -- begin(d, marks): how many pairs there are, or none where there is no room for them

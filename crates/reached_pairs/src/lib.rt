@@ -1,76 +1,80 @@
 // The pairs of states that both machines of a dossier reach side by side, each with the shortest list of operations with inputs that leads to it. Layer by layer: the pairs of layer 1 are
 // the initial states; those of layer n + 1 are what the pairs of layer n lead to and what has no mark yet. There is no queue, and no layer is kept but in the marks.
 // Form 3: in the loops by `while` the next place is what a search answers, which is lent the memory that the body is lent too: an iterator would have to own it.
-// Form 5: what is asked of a part (`PairsAsked`) is no invariant of `PartSearch`, which is that of every part; the dossier's arrays are also lent to functions that ask less, so that they
-// were read is no invariant of `Dossier`; memory and marks are lent for a call, and in one struct each function would have to promise the other's part of it unchanged. Numbers of pairs,
-// operations and layers change with each call.
+// Form 5: that the pairs have room is asked of five functions: as the invariant of a struct around `StepSearch` it would be opened by a line of its own in
+// each, and its `Model` is as long as the clauses are. The dossier's arrays are also lent to functions that ask less, so that they were read is no invariant of
+// `Dossier`; memory and marks are lent for a call, and in one struct each function would have to promise the other's part of it unchanged. A type for a low
+// number of a pair, an operation or a layer is a struct with a ghost field and a literal where the number is made, for three to six clauses each, and every use
+// of the number would name its field.
 #![tactic(auto)]
 
-ghost use Rattle.std.specs.Prelude.{◌*◌, ◌<◌};
+ghost use Rattle.std.specs.Prelude.{◌*◌, ◌<◌, ◌≤◌};
 ghost use Rattle.memo.specs.MemoPromises.{Memo};
 ghost use Rattle.step_searches.specs.StepPromises.{Below, PrepareAsked, OpenAsked, ReadAsked};
 ghost use Rattle.reached_pairs.specs.Reached.{layer_of, first_mark};
-ghost use Rattle.reached_pairs.specs.PairPromises.{PairsAsked, MatchesSpread, StepsSpread, InputsSpread, PairSpread, PairsSpread, OperationSpread, LayerSpread, Layers, PairsAre};
+ghost use Rattle.reached_pairs.specs.PairPromises.{MatchesSpread, StepsSpread, InputsSpread, PairSpread, PairsSpread, OperationSpread, LayerSpread, Layers, PairsAre};
 ghost use Rattle.reached_pairs.specs.PairPromises.{OpenPairsAsked, MatchesBegun, StatesBegun, Begun, ReachAnswers};
 
 use crate::marks::{INITIAL, Mark, NONE, PAIRS, count_layer, is_of, mark_from, put_mark};
 use plans::PartSearch;
 use search_groups::Dossier;
 use step_searches::{
-    Stepped, next_concrete_step, next_initial_match, next_initial_state, next_matching_state,
-    prepare, prepare_opening,
+    StepSearch, Stepped, next_concrete_step, next_initial_match, next_initial_state,
+    next_matching_state, prepare, prepare_opening,
 };
 
 pub mod marks;
 
 // The most layers that are made: less than a mark has room for.
-const LAYERS: u16 = 4096;
+const LAYERS: u64 = 4096;
 
 // Beside a concrete step: the abstract states after that match it.
 fn spread_matches(
-    s: &PartSearch<'_>,
+    s: &StepSearch<'_>,
     b: Stepped,
     m: Mark,
     memo: &mut [u64; memo::NUMBERS],
     marks: &mut [Mark; PAIRS],
 )
     requires below { Below s.now.part b × (0 < layer_of m) }
-    requires pairs_asked { PairsAsked s.now.table.now s.now.plan.now s.now.cells.now s.now.part }
+    requires room { s.now.part.abstracts.bindings * s.now.part.concretes.bindings ≤ 262144 }
     requires memo { Memo s.now.table.now memo.old }
     ensures grown { MatchesSpread s.now.table.now s.now.plan.now s.now.cells.now s.now.part b m marks.old marks.new }
     ensures remembers { Memo s.now.table.now memo.new }
 {
+    let p = s.search.part;
     let mut next = next_matching_state(s, b, 0, memo);
     while let Some(x) = next {
-        put_mark(marks, x * s.part.nc + b.k, m);
+        put_mark(marks, x * p.concretes.bindings + b.k, m);
         next = next_matching_state(s, b, x + 1, memo);
     }
 }
 
 // From the pair x with the i-th inputs: the concrete steps.
 fn spread_steps(
-    s: &PartSearch<'_>,
+    s: &StepSearch<'_>,
     x: usize,
     i: usize,
     m: Mark,
     memo: &mut [u64; memo::NUMBERS],
     marks: &mut [Mark; PAIRS],
 )
-    requires x_bound { (x < s.now.part.na * s.now.part.nc) × (i < s.now.part.ni) × (0 < layer_of m) }
-    requires pairs_asked { PairsAsked s.now.table.now s.now.plan.now s.now.cells.now s.now.part }
+    requires x_bound { (x < s.now.part.abstracts.bindings * s.now.part.concretes.bindings) × (i < s.now.part.inputs.bindings) × (0 < layer_of m) }
+    requires room { s.now.part.abstracts.bindings * s.now.part.concretes.bindings ≤ 262144 }
     requires memo { Memo s.now.table.now memo.old }
     ensures grown { StepsSpread s.now.table.now s.now.plan.now s.now.cells.now s.now.part x i m marks.old marks.new }
     ensures remembers { Memo s.now.table.now memo.new }
 {
-    let a = x / s.part.nc;
-    let c = x % s.part.nc;
+    let p = s.search.part;
+    let a = x / p.concretes.bindings;
+    let c = x % p.concretes.bindings;
     let mut next = next_concrete_step(s, c, i, 0, memo);
     while let Some(r) = next {
         let b = Stepped {
             a,
             i,
-            o: r / s.part.nc,
-            k: r % s.part.nc,
+            o: r / p.concretes.bindings,
+            k: r % p.concretes.bindings,
         };
         spread_matches(s, b, m, memo, marks);
         next = next_concrete_step(s, c, i, r + 1, memo);
@@ -79,20 +83,21 @@ fn spread_steps(
 
 // From the pair x of layer n: all inputs of operation j.
 fn spread_inputs(
-    s: &PartSearch<'_>,
+    s: &StepSearch<'_>,
     x: usize,
     j: usize,
-    n: u16,
+    n: u64,
     memo: &mut [u64; memo::NUMBERS],
     marks: &mut [Mark; PAIRS],
 )
-    requires x_bound { (x < s.now.part.na * s.now.part.nc) × (j < 16) × (n < 4096) }
-    requires pairs_asked { PairsAsked s.now.table.now s.now.plan.now s.now.cells.now s.now.part }
+    requires x_bound { (x < s.now.part.abstracts.bindings * s.now.part.concretes.bindings) × (j < 16) × (n < 4096) }
+    requires room { s.now.part.abstracts.bindings * s.now.part.concretes.bindings ≤ 262144 }
     requires memo { Memo s.now.table.now memo.old }
-    ensures grown { InputsSpread s.now.table.now s.now.plan.now s.now.cells.now s.now.part x j n s.now.part.ni marks.old marks.new }
+    ensures grown { InputsSpread s.now.table.now s.now.plan.now s.now.cells.now s.now.part x j n s.now.part.inputs.bindings marks.old marks.new }
     ensures remembers { Memo s.now.table.now memo.new }
 {
-    for i in 0..s.part.ni {
+    let p = s.search.part;
+    for i in 0..p.inputs.bindings {
         let m = mark_from(x, j, i, n);
         spread_steps(s, x, i, m, memo, marks);
     }
@@ -100,15 +105,15 @@ fn spread_inputs(
 
 // The pair x, if it is of layer n.
 fn spread_pair(
-    s: &PartSearch<'_>,
+    s: &StepSearch<'_>,
     x: usize,
     j: usize,
-    n: u16,
+    n: u64,
     memo: &mut [u64; memo::NUMBERS],
     marks: &mut [Mark; PAIRS],
 )
-    requires x_bound { (x < s.now.part.na * s.now.part.nc) × (j < 16) × (n < 4096) }
-    requires pairs_asked { PairsAsked s.now.table.now s.now.plan.now s.now.cells.now s.now.part }
+    requires x_bound { (x < s.now.part.abstracts.bindings * s.now.part.concretes.bindings) × (j < 16) × (n < 4096) }
+    requires room { s.now.part.abstracts.bindings * s.now.part.concretes.bindings ≤ 262144 }
     requires memo { Memo s.now.table.now memo.old }
     ensures grown { PairSpread s.now.table.now s.now.plan.now s.now.cells.now s.now.part x j n marks.old marks.new }
     ensures remembers { Memo s.now.table.now memo.new }
@@ -121,38 +126,41 @@ fn spread_pair(
 
 // All pairs of layer n.
 fn spread_pairs(
-    s: &PartSearch<'_>,
+    s: &StepSearch<'_>,
     j: usize,
-    n: u16,
+    n: u64,
     memo: &mut [u64; memo::NUMBERS],
     marks: &mut [Mark; PAIRS],
 )
     requires j_bound { (j < 16) × (0 < n) × (n < 4096) }
-    requires pairs_asked { PairsAsked s.now.table.now s.now.plan.now s.now.cells.now s.now.part }
+    requires room { s.now.part.abstracts.bindings * s.now.part.concretes.bindings ≤ 262144 }
     requires memo { Memo s.now.table.now memo.old }
-    ensures { PairsSpread s.now.table.now s.now.plan.now s.now.cells.now s.now.part j n (s.now.part.na * s.now.part.nc) marks.old marks.new }
+    ensures { PairsSpread s.now.table.now s.now.plan.now s.now.cells.now s.now.part j n (s.now.part.abstracts.bindings * s.now.part.concretes.bindings) marks.old marks.new }
 {
-    let pairs = s.part.na * s.part.nc;
+    let p = s.search.part;
+    let pairs = p.abstracts.bindings * p.concretes.bindings;
     for x in 0..pairs {
         spread_pair(s, x, j, n, memo, marks);
     }
 }
 
 // What operation j leads to from the pairs of layer n.
-fn spread(d: &Dossier<'_>, j: usize, n: u16, pairs: usize, marks: &mut [Mark; PAIRS])
+fn spread(d: &Dossier<'_>, j: usize, n: u64, pairs: usize, marks: &mut [Mark; PAIRS])
     requires n_nonzero { (0 < n) × (n < 4096) }
     requires prepare_asked { PrepareAsked d.now.table.now d.now.rows.now d.now.firsts.now d.now.groups.now j }
     requires pairs_are { PairsAre d.now.table.now d.now.rows.now d.now.firsts.now d.now.groups.now pairs }
     ensures { OperationSpread d.now.table.now d.now.rows.now d.now.firsts.now d.now.groups.now j n marks.old marks.new }
 {
     let ready = prepare(d, j);
-    let s = ready.search(d.table);
+    let s = StepSearch {
+        search: ready.search(d.table),
+    };
     let mut memo = [0u64; memo::NUMBERS];
     spread_pairs(&s, j, n, &mut memo, marks)
 }
 
 // What all operations lead to from there.
-fn spread_layer(d: &Dossier<'_>, n: u16, pairs: usize, marks: &mut [Mark; PAIRS])
+fn spread_layer(d: &Dossier<'_>, n: u64, pairs: usize, marks: &mut [Mark; PAIRS])
     requires n_nonzero { (0 < n) × (n < 4096) }
     requires reach_asked { ReadAsked d.now.table.now d.now.rows.now d.now.firsts.now d.now.groups.now d.now.operations }
     requires pairs_are { PairsAre d.now.table.now d.now.rows.now d.now.firsts.now d.now.groups.now pairs }
@@ -192,7 +200,7 @@ fn begin_with(
     memo: &mut [u64; memo::NUMBERS],
     marks: &mut [Mark; PAIRS],
 )
-    requires c_lt_nc { c < s.now.part.nc }
+    requires c_lt_nc { c < s.now.part.concretes.bindings }
     requires open_pairs_asked { OpenPairsAsked s.now.table.now s.now.plan.now s.now.cells.now s.now.part }
     requires memo { Memo s.now.table.now memo.old }
     ensures grown { MatchesBegun s.now.table.now s.now.plan.now s.now.cells.now s.now.part c first_mark marks.old marks.new }
@@ -200,7 +208,7 @@ fn begin_with(
 {
     let mut next = next_initial_match(s, c, 0, memo);
     while let Some(a) = next {
-        put_mark(marks, a * s.part.nc + c, INITIAL);
+        put_mark(marks, a * s.part.concretes.bindings + c, INITIAL);
         next = next_initial_match(s, c, a + 1, memo);
     }
 }
@@ -224,7 +232,7 @@ fn begin(d: &Dossier<'_>, marks: &mut [Mark; PAIRS]) -> Option<usize>
     ensures { Begun d.now.table.now d.now.rows.now d.now.firsts.now d.now.groups.now marks.old marks.new result }
 {
     let ready = prepare_opening(d);
-    let pairs = ready.part.nm * ready.part.nc;
+    let pairs = ready.part.meeting.bindings * ready.part.concretes.bindings;
     if PAIRS < pairs {
         return None;
     }

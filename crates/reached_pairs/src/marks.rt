@@ -1,5 +1,5 @@
 // Marks: one for each pair of states, which says how the pair was reached.
-ghost use Rattle.std.specs.Prelude.{◌≡◌, ◌==◌, ◌+◌, ◌<◌, ◌≤◌, true, false, count_by, take};
+ghost use Rattle.std.specs.Prelude.{◌≡◌, ◌==◌, ◌+◌, ◌<◌, ◌≤◌, true, false, count_by, length, take};
 ghost use Rattle.reached_pairs.specs.Reached.{layer_of, layer_in};
 ghost use Rattle.reached_pairs.specs.ReachedByNumber.{Marked, MarkFrom, Entered};
 
@@ -42,8 +42,8 @@ impl Mark {
 }
 
 // The pair y gets the mark m, if it has none: the first list that leads to it is the shortest.
-pub fn put_mark(marks: &mut [Mark; PAIRS], y: usize, m: Mark)
-    requires { (y < 262144) × (0 < layer_of m) }
+pub fn put_mark(marks: &mut [Mark], y: usize, m: Mark)
+    requires { (y < length marks.old) × (0 < layer_of m) }
     ensures { Marked y m marks.old marks.new }
 {
     if marks[y].layer != 0 {
@@ -53,12 +53,12 @@ pub fn put_mark(marks: &mut [Mark; PAIRS], y: usize, m: Mark)
 }
 
 // The mark of layer n + 1 for what the pair x leads to by the i-th inputs of operation j.
-pub fn mark_from(x: usize, j: usize, i: usize, n: u16) -> Mark
+pub fn mark_from(x: usize, j: usize, i: usize, n: u64) -> Mark
     requires { (x < 262144) × (j < 16) × (i < 64) × (n < 8191) }
     ensures { MarkFrom j i x n result }
 {
     Mark {
-        layer: n + 1,
+        layer: (n + 1) as u16,
         operation: j as u8,
         input: i as u8,
         before: x as u32,
@@ -66,17 +66,20 @@ pub fn mark_from(x: usize, j: usize, i: usize, n: u16) -> Mark
 }
 
 // Is the pair y of layer n?
-pub fn is_of(marks: &[Mark; PAIRS], y: usize, n: u16) -> bool
-    requires { y < 262144 }
+pub fn is_of(marks: &[Mark], y: usize, n: u64) -> bool
+    requires { y < length marks.now }
     ensures { (result ≡ true → layer_in marks.now y ≡ n) × (result ≡ false → layer_in marks.now y ≡ n → ⊥) }
 {
-    marks[y].layer == n
+    u64::from(marks[y].layer) == n
 }
 
 // How many of the first pairs are of layer n.
-pub fn count_layer(marks: &[Mark; PAIRS], pairs: usize, n: u16) -> usize
-    requires { pairs ≤ 262144 }
+pub fn count_layer(marks: &[Mark], pairs: usize, n: u64) -> usize
+    requires { pairs ≤ length marks.now }
     ensures { result ≡ count_by (λ m. layer_of m == n) (take pairs marks.now) }
 {
-    marks[..pairs].iter().filter(|m| m.layer == n).count()
+    marks[..pairs]
+        .iter()
+        .filter(|m| u64::from(m.layer) == n)
+        .count()
 }

@@ -1,17 +1,18 @@
 -- The slots of variables and parameters are below those of bound names, and the contexts of a dossier are few.
 use mathlib.Core.Path.{◌≡◌, refl, subst}
+use mathlib.Core.Bool.{Bool}
 use mathlib.Core.List.{List, [], ◌∷◌, ◌++◌, map}
 use mathlib.Core.Option.{some, none-ne-some, some-injective}
 use Prim.Native.Nat.{ℕ, zero, suc, ◌+◌, ◌*◌, ◌≤◌}
 use native.Mathlib.Omega.{arith}
 use lib.ListN.{length, get_elem?, length-map}
 use Rattle.lexical.specs.Lists.{filter}
-use Rattle.lexical.specs.Symbols.{no_ending, prime}
-use Rattle.form.specs.Tree.{Letters, declarations, inward, outward, Parameter, Operation, Dossier}
+use Rattle.lexical.specs.Symbols.{Ending, no_ending, prime}
+use Rattle.form.specs.Tree.{Letters, declarations, inward, outward, Parameter, State, Operation, Dossier}
 use Rattle.form.specs.Written.{ending_of}
 use Rattle.form.specs.Headings.{operations_at, operation_length}
 use Rattle.static_rules.specs.Carriers.{Variable}
-use Rattle.static_rules.specs.Scope.{is_input, is_output, parameters_of, unprimed, primed, inputs, outputs, concrete_taken, operation_contexts, contexts}
+use Rattle.static_rules.specs.Scope.{is_input, is_output, parameters_of, variables, primed, inputs, outputs, concrete_taken, operation_contexts, contexts}
 use Rattle.conjunct_tests.specs.TablePlacesResolvedTable.{Slots, slotted}
 use Rattle.conjunct_tests.specs.TablePlacesDossierTable.{slots_of, operation_slots, abstract_slots, concrete_slots, parameter_slots}
 use Rattle.conjunct_tests.specs.SearchGroupsGroupPromises.{FewParameters, FewEach, few_none, few_more, Few}
@@ -39,39 +40,32 @@ entry-below _ zero W (one_below {W = Y} h r) e = subst (λ (X : Slots). Below 38
 entry-below _ (suc n) W (one_below {Ws = Ws} h r) e = entry-below Ws n W r e
 
 module _ (d : Dossier) (f : Few d) where
+  -- a state's variables, plain or primed, from the slot b on
+  state-below : (b : ℕ) (e : Ending) (s : State) → length (declarations s) ≤ 8 → b ≤ 30 → Below 38 (slotted b (variables d.givens e (declarations s)))
+  state-below b e s k h =
+      let l = variables-few d.givens e (declarations s) in below-slotted b (variables d.givens e (declarations s)) (omega arith)
+
   abstract-below : Below 38 (abstract_slots d)
-  abstract-below =
-      let l = variables-few d.givens no_ending (declarations d.abstract) in let k = f.abstract in below-slotted 0 (unprimed d d.abstract) (omega arith)
+  abstract-below = state-below 0 no_ending d.abstract f.abstract (omega arith)
 
   concrete-below : Below 38 (concrete_slots d)
-  concrete-below =
-      let l = variables-few d.givens no_ending (declarations d.concrete) in let k = f.concrete in below-slotted 8 (unprimed d d.concrete) (omega arith)
+  concrete-below = state-below 8 no_ending d.concrete f.concrete (omega arith)
 
-  abstract-primed-below : Below 38 (slotted 30 (primed d d.abstract))
-  abstract-primed-below =
-      let l = variables-few d.givens prime (declarations d.abstract) in let k = f.abstract in below-slotted 30 (primed d d.abstract) (omega arith)
-
-  concrete-primed-below : Below 38 (slotted 22 (primed d d.concrete))
-  concrete-primed-below =
-      let l = variables-few d.givens prime (declarations d.concrete) in let k = f.concrete in below-slotted 22 (primed d d.concrete) (omega arith)
+  parameters-few : (kept : Parameter → Bool) (e : Ending) (o : Operation) → length (filter kept o.parameters) ≤ 3
+      → length (variables d.givens e (map (λ (x : Parameter). x.declaration) (filter kept o.parameters))) ≤ 3
+  parameters-few kept e o k =
+      let xs : List Parameter = filter kept o.parameters in
+      let l = variables-few d.givens e (map (λ (x : Parameter). x.declaration) xs) in
+      let m = length-map xs (λ (x : Parameter). x.declaration) in
+      omega arith
 
   pub inputs_few : (o : Operation) → FewParameters o → length (inputs d o) ≤ 3
   unfolding parameters_of
-  inputs_few o h =
-      let xs : List Parameter = filter (λ (x : Parameter). is_input x.direction) o.parameters in
-      let l = variables-few d.givens (ending_of inward) (map (λ (x : Parameter). x.declaration) xs) in
-      let m = length-map xs (λ (x : Parameter). x.declaration) in
-      let k = h.inputs in
-      omega arith
+  inputs_few o h = parameters-few (λ (x : Parameter). is_input x.direction) (ending_of inward) o h.inputs
 
   pub outputs_few : (o : Operation) → FewParameters o → length (outputs d o) ≤ 3
   unfolding parameters_of
-  outputs_few o h =
-      let xs : List Parameter = filter (λ (x : Parameter). is_output x.direction) o.parameters in
-      let l = variables-few d.givens (ending_of outward) (map (λ (x : Parameter). x.declaration) xs) in
-      let m = length-map xs (λ (x : Parameter). x.declaration) in
-      let k = h.outputs in
-      omega arith
+  outputs_few o h = parameters-few (λ (x : Parameter). is_output x.direction) (ending_of outward) o h.outputs
 
   parameters-below : (o : Operation) → FewParameters o → Below 38 (parameter_slots d o)
   parameters-below o h =
@@ -85,10 +79,10 @@ module _ (d : Dossier) (f : Few d) where
   operations-below _ (few_more {o} {os} h r) =
       one_below
       (below-append (abstract_slots d ++ slotted 30 (primed d d.abstract)) (parameter_slots d o)
-      (below-append (abstract_slots d) (slotted 30 (primed d d.abstract)) abstract-below abstract-primed-below) (parameters-below o h))
+      (below-append (abstract_slots d) (slotted 30 (primed d d.abstract)) abstract-below (state-below 30 prime d.abstract f.abstract (omega arith))) (parameters-below o h))
       (one_below
       (below-append (concrete_slots d ++ slotted 22 (primed d d.concrete)) (parameter_slots d o)
-      (below-append (concrete_slots d) (slotted 22 (primed d d.concrete)) concrete-below concrete-primed-below) (parameters-below o h))
+      (below-append (concrete_slots d) (slotted 22 (primed d d.concrete)) concrete-below (state-below 22 prime d.concrete f.concrete (omega arith))) (parameters-below o h))
       (operations-below os r))
 
   all-below : AllBelow (slots_of d)

@@ -1,13 +1,13 @@
 // The reading of a text: the passes of document 01 in their order.
-// Form 5: the caller lends each array, of fixed length, and one pass writes it; a struct of nine arrays to be written would have `read`, `checked` and `leave` each say
-// that they are still those which were lent. Who reads texts has them in a struct that owns them.
+// Form 5: the caller of `read` lends each array, of fixed length (document 01), and one pass writes it; a struct of arrays to be written would have `read` and
+// `leave` each say that they are still those which were lent. Who reads texts has them in a struct that owns them.
 #![tactic(auto)]
 
-ghost use Rattle.std.specs.Prelude.{◌≡◌, ◌≤◌, length, take, get_or};
+ghost use Rattle.std.specs.Prelude.{length};
 ghost use Rattle.type_rules.specs.Passes.{refused_key};
 ghost use Rattle.type_rules.specs.TypesByNumber.{fault_key};
 ghost use Rattle.static_rules.specs.Limits.{binding_faults, size_faults};
-ghost use Rattle.reader.specs.Promises.{Reads, Written, Kept, Named, Tabled, Finds, Faults, Leaves, Checks};
+ghost use Rattle.reader.specs.Promises.{Reads, Written, Kept, Named, Tabled, Finds, Faults, Leaves};
 
 use binding_counts::bindings::bindings;
 use form::node::NUMBERS;
@@ -15,11 +15,10 @@ use lexical::bounds::SYMBOLS;
 use limits::measures::measures;
 use names::passes::part;
 use names::{NAMES, SIZES, given_sets, least_fault};
-use node_spans::span;
-use parser::sections::sections;
-use parser::{Structure, parse, place_at};
+use node_spans::{Parts, span};
+use parser::sections::Nodes;
+use parser::{Structure, located, parse};
 use refusals::Fault;
-use search_groups::Parts;
 use search_groups::conjuncts::{FIRSTS, conjuncts};
 use search_groups::groups::GROUPS;
 use tables::passes::write;
@@ -44,109 +43,70 @@ pub fn read(
     ensures { Reads text.now codes.old starts.old values.old nodes.old codes.new starts.new values.new nodes.new spans.old table.old groups.old rows.old firsts.old spans.new table.new groups.new rows.new firsts.new result }
 {
     let structure = parse(text, codes, starts, values, nodes)?;
-    checked(
-        structure,
-        starts,
-        text.len(),
-        nodes,
-        spans,
-        table,
-        groups,
-        rows,
-        firsts,
-    )
-}
-
-// The answer for the structure of a text, which ends at `end`, by the first fault of the passes over it.
-fn checked(
-    structure: Structure,
-    starts: &[u16],
-    end: usize,
-    nodes: &[u16; NUMBERS],
-    spans: &mut [u16; span::COUNT],
-    table: &mut [u16; NUMBERS],
-    groups: &mut [u16; GROUPS],
-    rows: &mut [u16; NUMBERS],
-    firsts: &mut [u16; FIRSTS],
-) -> Result<Structure, Fault>
-    requires { structure.symbols ≤ length starts.now }
-    ensures { Checks (Kept spans.old table.old groups.old rows.old firsts.old spans.new table.new groups.new rows.new firsts.new) (λ text d. Written text d spans.old table.old groups.old rows.old firsts.old spans.new table.new groups.new rows.new firsts.new) starts.now structure.symbols end nodes.now structure.numbers result }
-{
-    match passes(nodes, structure.numbers) {
-        Ok(()) => {
-            leave(nodes, structure.numbers, spans, table, groups, rows, firsts);
-            Ok(structure)
-        }
-        Err(f) => Err(located(f, starts, structure.symbols, end)),
-    }
-}
-
-// A fault by the symbol, among n, as one by the first byte of that symbol.
-fn located(fault: Fault, starts: &[u16], n: usize, end: usize) -> Fault
-    requires { n ≤ length starts.now }
-    ensures place { result.place ≡ get_or (take n starts.now) fault.place end }
-    ensures refusal { result.refusal ≡ fault.refusal }
-{
-    Fault {
-        place: place_at(starts, n, fault.place, end),
-        ..fault
-    }
+    let starts = &starts[..structure.symbols];
+    let made = Nodes {
+        numbers: nodes,
+        end: structure.numbers,
+    };
+    passes(&made).map_err(|f| located(f, starts, text.len()))?;
+    leave(nodes, structure.numbers, spans, table, groups, rows, firsts);
+    Ok(structure)
 }
 
 // The least fault of the first pass that has one, with its place by symbols.
-fn passes(nodes: &[u16], m: usize) -> Result<(), Fault>
-    ensures { Faults nodes.now m (refused_key result) }
+fn passes(made: &Nodes<'_>) -> Result<(), Fault>
+    ensures { Faults made.now.numbers.now made.now.end (refused_key result) }
 {
-    names_pass(nodes, m)?;
-    all_well(bindings_fault(nodes, m))?;
-    all_well(sizes_fault(nodes, m))
+    names_pass(made)?;
+    all_well(bindings_fault(made))?;
+    all_well(sizes_fault(made))
 }
 
 // Numbers 8 to 11 and 14: the least fault.
-fn names_pass(nodes: &[u16], m: usize) -> Result<(), Fault>
-    ensures { Named nodes.now m (refused_key result) }
+fn names_pass(made: &Nodes<'_>) -> Result<(), Fault>
+    ensures { Named made.now.numbers.now made.now.end (refused_key result) }
 {
     let mut sizes = [0u16; SIZES];
-    let at = sections(nodes, m);
-    least_fault(
-        nodes,
-        m,
-        at.givens,
-        at.abstracts,
-        at.concretes,
-        at.ainit,
-        at.operations,
-        &mut sizes,
-    )
+    let at = made.sections();
+    least_fault(made, &at, &mut sizes)
 }
 
 // The given sets by name, and their sizes.
-fn given_table(nodes: &[u16], m: usize, names: &mut [Kind], sizes: &mut [u16; SIZES])
-    ensures { Tabled nodes.now m (length names.old) names.new sizes.new }
+fn given_table(made: &Nodes<'_>, names: &mut [Kind], sizes: &mut [u16; SIZES])
+    ensures { Tabled made.now.numbers.now made.now.end (length names.old) names.new sizes.new }
 {
-    let at = sections(nodes, m);
-    let _ = given_sets(part(nodes, at.givens, at.abstracts), names, sizes);
+    let at = made.sections();
+    let _ = given_sets(part(made.numbers, at.givens, at.abstracts), names, sizes);
 }
 
 // Number 12, where names have no fault.
-fn bindings_fault(nodes: &[u16], m: usize) -> Option<Fault>
-    ensures { Finds binding_faults nodes.now m (fault_key result) }
+fn bindings_fault(made: &Nodes<'_>) -> Option<Fault>
+    ensures { Finds binding_faults made.now.numbers.now made.now.end (fault_key result) }
 {
     let mut names = [FREE; NAMES];
     let mut sizes = [0u16; SIZES];
     let mut places = [0u16; span::COUNT];
-    given_table(nodes, m, &mut names, &mut sizes);
-    let k = node_spans::spans(nodes, m, &mut places);
-    bindings(nodes, &places, k, &names, &sizes)
+    given_table(made, &mut names, &mut sizes);
+    let operations = node_spans::spans(made, &mut places);
+    let parts = Parts {
+        nodes: made.numbers,
+        spans: &places,
+        operations,
+    };
+    bindings(&parts, &names, &sizes)
 }
 
 // Number 13, where names have no fault.
-fn sizes_fault(nodes: &[u16], m: usize) -> Option<Fault>
-    ensures { Finds size_faults nodes.now m (fault_key result) }
+fn sizes_fault(made: &Nodes<'_>) -> Option<Fault>
+    ensures { Finds size_faults made.now.numbers.now made.now.end (fault_key result) }
 {
     let mut places = [0u16; span::COUNT];
-    let k = node_spans::spans(nodes, m, &mut places);
-    measures(nodes, &places, k)
+    let operations = node_spans::spans(made, &mut places);
+    measures(&Parts {
+        nodes: made.numbers,
+        spans: &places,
+        operations,
+    })
 }
 
 // What the evaluator needs of a dossier without faults.
@@ -163,19 +123,14 @@ fn leave(
 {
     let mut names = [FREE; NAMES];
     let mut sizes = [0u16; SIZES];
-    given_table(nodes, m, &mut names, &mut sizes);
-    let at = sections(nodes, m);
-    let operations = node_spans::spans(nodes, m, spans);
-    write(
-        nodes,
-        spans,
-        operations,
-        at.givens,
-        at.abstracts,
-        &mut names,
-        &sizes,
-        table,
-    );
+    let made = Nodes {
+        numbers: nodes,
+        end: m,
+    };
+    given_table(&made, &mut names, &mut sizes);
+    let at = made.sections();
+    let operations = node_spans::spans(&made, spans);
+    write(nodes, spans, operations, &at, &mut names, &sizes, table);
     let read = Parts {
         nodes,
         spans,

@@ -1,4 +1,5 @@
 -- The types of all declared names of a dossier stand in the reader's table: no predicate and no other declaration is written over them.
+-- stands once for each side: `-inside` and `_types`, since the concrete state's declarations stand behind the abstract one's, and their types are written over them.
 use mathlib.Core.Path.{◌≡◌, refl, ap, ◌∙◌, subst}
 use mathlib.Core.Logic.{◌⊎◌, inl, inr}
 use mathlib.Core.List.{List, [], ◌∷◌}
@@ -112,19 +113,6 @@ module _ {spans : List ℕ} {ρ : Numbering} {end : ℕ} where
 -- ---- the declarations end inside the nodes
 
 module _ (d : Dossier) (ρ : Numbering) {end : ℕ} (A : Arranged d ρ (spans_of d ρ) end) where
-  pub abstract-inside : span (spans_of d ρ) 0 + 8 * length (declarations d.abstract) ≤ end
-  abstract-inside =
-      let h = operations-end A.operations in
-      let a = A.abstract_declared in
-      let b = A.abstract_ends in
-      let c = A.concrete_begins in
-      let e = A.concrete_declared in
-      let f = A.concrete_ends in
-      let g = A.ainit_ends in
-      let k = A.cinit_ends in
-      let m = A.retrieve_ends in
-      omega arith
-
   pub concrete-inside : span (spans_of d ρ) 3 + 8 * length (declarations d.concrete) ≤ end
   concrete-inside =
       let h = operations-end A.operations in
@@ -133,6 +121,14 @@ module _ (d : Dossier) (ρ : Numbering) {end : ℕ} (A : Arranged d ρ (spans_of
       let g = A.ainit_ends in
       let k = A.cinit_ends in
       let m = A.retrieve_ends in
+      omega arith
+
+  pub abstract-inside : span (spans_of d ρ) 0 + 8 * length (declarations d.abstract) ≤ end
+  abstract-inside =
+      let a = A.abstract_declared in
+      let b = A.abstract_ends in
+      let c = A.concrete_begins in
+      let h = concrete-inside in
       omega arith
 
   pub operation-inside : (j : ℕ) (o : Operation) → get_elem? d.operations j ≡ some o → span (spans_of d ρ) (9 + 4 * j) + 8 * length o.parameters ≤ end
@@ -186,42 +182,41 @@ module _ (d : Dossier) (ρ : Numbering) {end : ℕ} (A : Arranged d ρ (spans_of
       let h = states-room in
       predicates-off a (declared d ρ out) (omega arith)
 
+  -- the types of a state's declarations, before the concrete state's predicate and not in the abstract state's
+  state-types : (q : ℕ) (ds : List Declaration) → q + 8 * length ds ≤ at 4 → ((i : ℕ) → q ≤ i → i < q + 8 * length ds → (i < at 1 + 4) ⊎ (at 2 ≤ i))
+      → TypesAt states d.givens q ds → TypesAt (table_of d ρ out) d.givens q ds
+  state-types q ds before o h =
+      let f = A.concrete_ends in
+      let g = A.ainit_ends in
+      let k = A.cinit_ends in
+      let m = A.retrieve_ends in
+      types-kept d.givens h
+      (λ i l u.
+      table-off i
+      (all_apart i (o i l u) (inl (omega arith)) (inl (omega arith)) (inl (omega arith)) (inl (omega arith))
+      (operations-above d A.operations (operations_at d) (concrete_taken d) i (omega arith)))
+      ∙ parameters-off d.givens A.operations states states-room i (omega arith))
+
   pub abstract_types : TypesAt (table_of d ρ out) d.givens (at 0) (declarations d.abstract)
   abstract_types =
-      let h = operations-end A.operations in
       let a = A.abstract_declared in
       let b = A.abstract_ends in
       let c = A.concrete_begins in
       let e = A.concrete_declared in
-      let f = A.concrete_ends in
-      let g = A.ainit_ends in
-      let k = A.cinit_ends in
-      let m = A.retrieve_ends in
+      let h = concrete-inside d ρ A in
       let n = carriers_grow d.givens (at 0) (declarations d.abstract) out in
-      types-kept d.givens (types-here d.givens (at 0) (declarations d.abstract) out (omega arith))
-      (λ i l u.
-      table-off i
-      (all_apart i (inl (omega arith)) (inl (omega arith)) (inl (omega arith)) (inl (omega arith)) (inl (omega arith))
-      (operations-above d A.operations (operations_at d) (concrete_taken d) i (omega arith)))
-      ∙ parameters-off d.givens A.operations states states-room i (omega arith)
-      ∙ carriers_off d.givens (at 3) (declarations d.concrete) abstracts (omega arith) i (inl (omega arith)))
+      state-types (at 0) (declarations d.abstract) (omega arith) (λ i l u. inl (omega arith))
+      (types-kept d.givens (types-here d.givens (at 0) (declarations d.abstract) out (omega arith))
+      (λ i l u. carriers_off d.givens (at 3) (declarations d.concrete) abstracts (omega arith) i (inl (omega arith))))
 
   pub concrete_types : TypesAt (table_of d ρ out) d.givens (at 3) (declarations d.concrete)
   concrete_types =
-      let h = operations-end A.operations in
       let c = A.concrete_begins in
       let e = A.concrete_declared in
-      let f = A.concrete_ends in
-      let g = A.ainit_ends in
-      let k = A.cinit_ends in
-      let m = A.retrieve_ends in
+      let h = concrete-inside d ρ A in
       let n = carriers_grow d.givens (at 0) (declarations d.abstract) out in
-      types-kept d.givens (types-here d.givens (at 3) (declarations d.concrete) abstracts (omega arith))
-      (λ i l u.
-      table-off i
-      (all_apart i (inr (omega arith)) (inl (omega arith)) (inl (omega arith)) (inl (omega arith)) (inl (omega arith))
-      (operations-above d A.operations (operations_at d) (concrete_taken d) i (omega arith)))
-      ∙ parameters-off d.givens A.operations states states-room i (omega arith))
+      state-types (at 3) (declarations d.concrete) (omega arith) (λ i l u. inr (omega arith))
+      (types-here d.givens (at 3) (declarations d.concrete) abstracts (omega arith))
 
   pub operation-types : (j : ℕ) (o : Operation) → get_elem? d.operations j ≡ some o
       → TypesAt (table_of d ρ out) d.givens (at (9 + 4 * j)) (declarations_of o.parameters)

@@ -46,20 +46,23 @@ pub fn range_numbers(y: &Symbols<'_>, s: usize) -> usize {
     b.saturating_add(1).saturating_sub(a)
 }
 
+// How many names follow each other behind symbol k.
+fn names_behind(y: &Symbols<'_>, k: usize) -> usize {
+    (k.saturating_add(1)..SYMBOLS)
+        .take_while(|&i| is_name(y.kind(i)))
+        .count()
+}
+
+// Does the name of a given set stand at symbol k, the one that stands at symbol t?
+fn is_title(y: &Symbols<'_>, k: usize, t: usize) -> bool {
+    is_name(y.kind(k)) && y.kind_before(k) == codes::GIVEN && y.is_same(k, t)
+}
+
 // How many elements the given set has whose name stands at symbol t: its names in the body but one, and none in the contents. The body's names follow each other.
 fn elements(y: &Symbols<'_>, t: usize) -> usize {
-    let mut inside = false;
-    let mut many: usize = 0;
-    for k in 0..SYMBOLS {
-        if !is_name(y.kind(k)) {
-            inside = false;
-        } else if y.kind_before(k) == codes::GIVEN {
-            inside = y.is_same(k, t);
-        } else if inside {
-            many = many.saturating_add(1);
-        }
-    }
-    many
+    (0..SYMBOLS)
+        .filter(|&k| is_title(y, k, t))
+        .fold(0, |many, k| many.saturating_add(names_behind(y, k)))
 }
 
 // How many pairs the type has of the given sets whose names stand at two symbols.

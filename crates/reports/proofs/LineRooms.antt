@@ -6,7 +6,7 @@ use native.Mathlib.Omega.{arith}
 use lib.ListN.{length, length-append}
 use Rattle.lexical.specs.Lists.{bytes}
 use Rattle.obligations.specs.Order.{Obligation}
-use Rattle.obligations.specs.Report.{decimal, count_line}
+use Rattle.obligations.specs.Report.{decimal}
 use Rattle.pieces.specs.PiecePromises.{Writes, letters_at}
 use Rattle.pieces.proofs.WrittenPieces.{both-written, letters-length}
 use Rattle.pieces.proofs.Digits.{decimal-length}
@@ -16,10 +16,6 @@ module _ {at m q : ℕ} {a b c : List ℕ} where
   pub count_room : (n : ℕ) → Writes at (bytes "bindings ") a b m → Writes m (decimal n) b c q → n < 2 ^ 64 → at + 30 ≤ length a → q < length c
   unfolding bytes
   count_room n w v h k = omega (arith, w.end, w.long, v.end, v.long, decimal-length n h)
-
-  pub count-written : (n : ℕ) {r : ℕ} {e : List ℕ} → Writes at (bytes "bindings ") a b m → Writes m (decimal n) b c q → Writes q (10 ∷ []) c e r → Writes at (count_line n) a e r
-  unfolding bytes count_line
-  count-written n w v u = both-written (both-written w v) u
 
   -- behind at most n bytes and an operation's name
   pub title-room : (text : List ℕ) (p n : ℕ) {piece : List ℕ} → Writes at piece a b m → Writes m (letters_at text p) b c q → length piece ≤ n → at + (n + 17) ≤ length a

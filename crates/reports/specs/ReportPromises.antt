@@ -10,6 +10,7 @@ use Rattle.labels.specs.ReadingsReadings.{ReadingOf}
 use Rattle.held_checks.specs.declared.Obligation as code
 use Rattle.held_checks.specs.Answers.{obligation_is}
 use Rattle.pieces.specs.PiecePromises.{Writes}
+use Rattle.pieces.specs.declared.Writer.{Writer}
 use Rattle.labels.specs.Labels.{LabelsOf}
 
 -- "The program reads a dossier on standard input. Prints ..": of every text
@@ -58,3 +59,8 @@ pub record LineWritten (text labels : List ℕ) (o : Obligation) (at : ℕ) (bef
   pub long : length after ≡ length before
   pub onward : at ≤ r
   pub short : r ≤ at + 39
+
+-- a writer put it behind what stood there, and goes on in the same bytes
+pub record AddsLine (text labels : List ℕ) (o : Obligation) (old new : Writer) : Type 0 where
+  pub same_bytes : new.out.ghost_name ≡ old.out.ghost_name
+  pub written : LineWritten text labels o old.at old.out.now new.out.now new.at

@@ -6,7 +6,7 @@ ghost use Rattle.refusals.specs.Refusals.{number_of};
 ghost use Rattle.refusals.specs.RefusalNames.{refusal_is};
 ghost use Rattle.obligations.specs.Report.{count_line};
 ghost use Rattle.pieces.specs.PiecePromises.{Writes, Adds, letters_at};
-ghost use Rattle.reports.specs.ReportPromises.{Reported, RefutedLine, LineWritten, VerdictAsked, VerdictWritten, refusal_piece, listed};
+ghost use Rattle.reports.specs.ReportPromises.{Reported, RefutedLine, LineWritten, AddsLine, VerdictAsked, VerdictWritten, refusal_piece, listed};
 ghost use Rattle.held_checks.specs.Answers.{obligation_is};
 
 use held_checks::{Obligation, obligation_of};
@@ -30,8 +30,7 @@ pub const REPORT: usize = FIRST_LINE + WITNESS + COUNT_LINE;
 // The name of the k-th operation.
 fn put_title(names: &Names<'_>, k: usize, w: &mut Writer<'_>)
     requires { (k < 16) × (w.old.at + 16 ≤ length w.old.out.now) }
-    ensures same_bytes { w.new.out.ghost_name ≡ w.old.out.ghost_name }
-    ensures written { Adds (letters_at names.now.text.now (get_or names.now.labels.now (64 + k) 0)) w.old w.new }
+    ensures { Adds (letters_at names.now.text.now (get_or names.now.labels.now (64 + k) 0)) w.old w.new }
 {
     w.put_letters(names.text, usize::from(names.label(TITLES + k)));
 }
@@ -40,8 +39,7 @@ fn put_title(names: &Names<'_>, k: usize, w: &mut Writer<'_>)
 pub fn put_refuted(names: &Names<'_>, o: Obligation, w: &mut Writer<'_>)
     requires listed { listed (obligation_is o) ≡ true }
     requires room { w.old.at + 39 ≤ length w.old.out.now }
-    ensures same_bytes { w.new.out.ghost_name ≡ w.old.out.ghost_name }
-    ensures written { LineWritten names.now.text.now names.now.labels.now (obligation_is o) w.old.at w.old.out.now w.new.out.now w.new.at }
+    ensures { AddsLine names.now.text.now names.now.labels.now (obligation_is o) w.old w.new }
 {
     match o {
         Obligation::Initialisation => w.put_all(b"refuted initialisation\n"),
@@ -61,8 +59,7 @@ pub fn put_refuted(names: &Names<'_>, o: Obligation, w: &mut Writer<'_>)
 // The line with the count.
 fn put_count(n: usize, w: &mut Writer<'_>)
     requires { w.old.at + 30 ≤ length w.old.out.now }
-    ensures same_bytes { w.new.out.ghost_name ≡ w.old.out.ghost_name }
-    ensures written { Adds (count_line n) w.old w.new }
+    ensures { Adds (count_line n) w.old w.new }
 {
     w.put_all(b"bindings ");
     w.put_decimal(n as u64);

@@ -4,41 +4,30 @@ ghost use Rattle.search_groups.specs.Conjuncts.{last_in, conjunct_row};
 ghost use Rattle.search_groups.specs.GroupPromises.{slot_here, slots_at, piece, Noted, LastsOf, Middle, RowPut, Conjoined, Marked};
 ghost use Rattle.search_groups.specs.GroupPromises.{Place, ContextPut, ListPut, Listed};
 
-use crate::Parts;
 use crate::contexts::{OPERATIONS, SIDES};
 use form::node;
 use form::operator_codes::AND;
 use lexical::bounds;
-use node_spans::{LARGEST, span};
+use node_spans::{LARGEST, Parts, span};
 use table_nodes::{slots, table_shapes};
 
 // How many variables a state has at most; inputs and outputs an operation.
-// Form 1: limits of document 01, which are bytes, beside the table's numbers of 16 bits.
+// Form 1: limits of document 01, no kinds; they are bytes there, and numbers of 16 bits in the table that the caller lends.
 const VARIABLES: u16 = bounds::VARIABLES as u16;
 
 const INPUTS: u16 = bounds::INPUTS as u16;
 
 const OUTPUTS: u16 = bounds::OUTPUTS as u16;
 
-// The row of a conjunct: where its nodes begin and end, and the last variable of each group.
-// Form 1: a length, and places in a node, no kinds.
+// How many numbers the row of a conjunct has: where its nodes begin and end, and the last variable of each group.
 pub const ROW: usize = 8;
-
-// How far before its end a node's numbers stand.
-const SHAPE_BACK: usize = 1;
-
-const PLACE_BACK: usize = 2;
-
-const A_BACK: usize = 3;
-
-// Which span the first predicate of the operations begins at.
-const PARAMETERS_LAST: usize = span::OPERATIONS + span::LAST;
 
 // A number for each predicate and one behind them, with room to spare.
 pub const FIRSTS: usize = 40;
 
 // The place, counted from 1, that a slot has in the group of n slots from `base` on.
-// Form 1: another slot has 0, as the rows do, and `max` then leaves what was found before.
+// Form 1: another slot has 0, as the rows have, and `max` then leaves what was found before; with an Option `write` would turn each of the six numbers of a row
+// back into that.
 fn rank(a: u16, base: u16, n: u16) -> u16
     requires { base + n ≤ 64 }
     ensures { result ≡ last_in base n (a ∷ []) }
@@ -51,7 +40,7 @@ fn rank(a: u16, base: u16, n: u16) -> u16
 }
 
 // The last variable of each group that some nodes mention, counted from 1. The last two are those of primed concrete and abstract variables.
-// Form 1: numbers of a row, which the caller lends, and 0 says none; six Options would be turned back into them.
+// Form 1: numbers of a row, which the caller lends, and there 0 says that the group has none: with six Options `write` would turn each back into its number.
 #[derive(Clone, Copy)]
 struct Mentioned {
     abstracts: u16,
@@ -120,15 +109,15 @@ fn write(table: &[u16], from: usize, end: usize, row: &mut [u16])
 fn middle(table: &[u16], from: usize, end: usize) -> Option<usize>
     ensures { Middle table.now from end result }
 {
-    if end < node::SIZE
-        || table.len() < end
-        || table[end - SHAPE_BACK] != table_shapes::CONNECTED
-        || table[end - A_BACK] != AND
-    {
+    if end < node::SIZE || table.len() < end {
         return None;
     }
-    let m = usize::from(table[end - PLACE_BACK]);
-    (from <= m && m <= end - node::SIZE).then_some(m)
+    let at = end - node::SIZE;
+    if table[at + node::SHAPE] != table_shapes::CONNECTED || table[at + node::A] != AND {
+        return None;
+    }
+    let m = usize::from(table[at + node::PLACE]);
+    (from <= m && m <= at).then_some(m)
 }
 
 // Rows in the lent array, and the place behind them.
@@ -182,10 +171,13 @@ fn place(k: usize) -> usize
     if k < OPERATIONS {
         return k + span::CONCRETE_FIRST;
     }
-    PARAMETERS_LAST + span::OPERATION * ((k - OPERATIONS) / SIDES) + (k - OPERATIONS) % SIDES
+    let i = k - OPERATIONS;
+    span::of_operation(i / SIDES) + span::LAST + i % SIDES
 }
 
-// How many numbers stand before a predicate's rows. In the lent array 0 stands for what is no number of 16 bits: the rows of a dossier are never as many.
+// How many numbers stand before a predicate's rows.
+// Form 1: the array that the caller lends has numbers of 16 bits and nothing else (document 01): 0 stands for a number above them, and the rows of a dossier
+// are never as many.
 fn mark(firsts: &mut [u16], k: usize, n: usize)
     requires { k < length firsts.old }
     ensures { Marked k n firsts.old firsts.new }
@@ -217,7 +209,8 @@ fn contexts(p: &Parts<'_>, count: usize, out: &mut [u16; node::NUMBERS], firsts:
     mark(firsts, count, rows.at);
 }
 
-// The rows of the conjuncts of a dossier's predicates, in front of the lent array, and how many numbers stand before each predicate's; the nodes are the table's.
+// The rows of the conjuncts of a dossier's predicates, in front of the lent array, and how many numbers stand before each predicate's; the nodes are the
+// table's.
 pub fn conjuncts(p: &Parts<'_>, out: &mut [u16; node::NUMBERS], firsts: &mut [u16; FIRSTS])
     ensures { Listed p.now.nodes.now p.now.spans.now p.now.operations out.old out.new firsts.old firsts.new }
 {

@@ -1,4 +1,4 @@
-// Form 1: places of contexts among `firsts`, no kinds; those of operations go on from the last.
+// Form 1: places of contexts among `firsts`, no kinds (DECISIONS L9); those of operations go on from the last.
 // The contexts: both states, initial states, retrieve, then two for each operation, its abstract and its concrete predicate.
 pub const ABSTRACT_STATE: usize = 0;
 

@@ -2,11 +2,10 @@
 ghost use Rattle.std.specs.Prelude.{◌≡◌, ◌+◌, ◌≤◌, length};
 ghost use Rattle.search_groups.specs.GroupPromises.{Picked, PickedAll, GroupPut, OperationPut, RowsPut, Grouped};
 
-use crate::Parts;
 use form::name_endings::{INPUT, OUTPUT, PLAIN};
 use form::node;
 use lexical::{bounds, endings};
-use node_spans::span;
+use node_spans::{Parts, span};
 
 // How many variables a group has at most. A row has one number more; an operation has two rows, behind those of the two states.
 // Form 1: limits of document 01 and lengths made of them, no kinds.
@@ -27,7 +26,8 @@ const OPERATION_ROWS: usize = INPUTS_ROW + OUTPUTS + 1;
 pub const GROUPS: usize = 160;
 
 // The place of a declaration behind c others, where its name's number leaves `ending` when divided by 4 and there is room: how many there are then.
-// Form 6: the row has the count as its first number, which is written when all places are known.
+// Form 6: the row has the count as its first number, which is written when all places are known; a struct of both would have `pick` and `picked` promise one
+// equation more each, that they hand back the row that they were given.
 fn pick(nodes: &[u16], at: usize, ending: u16, c: usize, places: &mut [u16]) -> usize
     requires { (at + 8 ≤ length nodes.now) × (at ≤ 65535) × (c ≤ length places.old) × (length places.old ≤ 65535) }
     ensures { Picked nodes.now at ending c places.old places.new result }
@@ -83,11 +83,7 @@ fn operation_rows(p: &Parts<'_>, out: &mut [u16; GROUPS])
 {
     for k in 0..p.operations.min(span::MOST) {
         let at = STATES_ROWS + OPERATION_ROWS * k;
-        operation(
-            p,
-            span::OPERATIONS + span::OPERATION * k,
-            &mut out[at..at + OPERATION_ROWS],
-        );
+        operation(p, span::of_operation(k), &mut out[at..at + OPERATION_ROWS]);
     }
 }
 

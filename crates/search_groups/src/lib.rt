@@ -9,15 +9,6 @@ pub mod groups;
 use conjuncts::FIRSTS;
 use form::node::NUMBERS;
 use groups::GROUPS;
-use node_spans::span;
-
-// The nodes of a dossier, or the table's, which stand in the same places; where its parts stand among them; and how many operations it has.
-#[derive(Clone, Copy)]
-pub struct Parts<'a> {
-    pub nodes: &'a [u16],
-    pub spans: &'a [u16; span::COUNT],
-    pub operations: usize,
-}
 
 // A dossier as the reader leaves it for the evaluator: the table of its terms and predicates, the rows of its conjuncts, where those of each predicate begin,
 // the groups of its variables; and how many operations it has.

@@ -1,5 +1,5 @@
 -- The tests of one level, one after the other: the first that does not hold decides. Assumes nothing.
-use Prim.Native.Nat.{ℕ, ◌+◌, ◌*◌, ◌/◌, ◌%◌, ◌<◌, ◌≤◌}
+use Prim.Native.Nat.{ℕ, ◌+◌, ◌/◌, ◌%◌, ◌<◌, ◌≤◌}
 use native.Mathlib.Omega.{arith}
 use mathlib.Core.Path.{◌≡◌, refl, sym, ap, ◌∙◌, subst}
 use mathlib.Core.Bool.{Bool, true, false}
@@ -59,13 +59,14 @@ seated : {table plan cells : List ℕ} {to to' at at' : ℕ} {fs : List (Point �
 seated {table} {plan} {cells} {to} {to'} {at} {at'} {fs} e f t =
     subst (λ (x : ℕ). TestsAt table plan cells x at fs) (sym e) (subst (λ (x : ℕ). TestsAt table plan cells to' x fs) (sym f) t)
 
-pub mark-next : (plan : List ℕ) (u l : ℕ) → get_or plan (16 * u + l + 1) 0 ≡ mark_in plan u (l + 1)
-mark-next plan u l = ap (λ (i : ℕ). get_or plan i 0) (let z : 16 * u + l + 1 ≡ 16 * u + (l + 1) = omega arith in z)
+-- the same with other names of the two places
+pub level-moved : {table plan : List ℕ} {u l to end k at : ℕ} {a₀ a : List (List ℤ)} → end ≡ to → at ≡ k → LevelGoing table plan u l a₀ a to k → LevelGoing table plan u l a₀ a end at
+level-moved {table} {plan} {u} {l} {to} {end} {k} {at} {a₀} {a} e f g =
+    subst (λ (x : ℕ). LevelGoing table plan u l a₀ a x at) (sym e) (subst (λ (x : ℕ). LevelGoing table plan u l a₀ a to x) (sym f) g)
 
-pub level-starts : {table plan : List ℕ} {u l to from : ℕ} {a : List (List ℤ)} → LevelAsked table plan u l a → to ≡ get_or plan (16 * u + l + 1) 0 → from ≡ mark_in plan u l
+pub level-starts : {table plan : List ℕ} {u l to from : ℕ} {a : List (List ℤ)} → LevelAsked table plan u l a → to ≡ mark_in plan u (l + 1) → from ≡ mark_in plan u l
     → LevelGoing table plan u l a a to from
-level-starts {plan = plan} {u = u} {l = l} {to = to} q e f =
-    let ends : to ≡ mark_in plan u (l + 1) = e ∙ mark-next plan u l in
+level-starts {plan = plan} {u = u} {l = l} {to = to} q ends f =
     record {
       kept = refl;
       low = subst (λ (x : ℕ). x ≤ 20560) (sym ends) q.end_low;

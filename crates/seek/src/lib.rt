@@ -12,11 +12,12 @@ ghost use Rattle.seek.specs.SeekPromises.{StoreAsked, StoreAnswers, LevelAsked, 
 
 use evaluator::value;
 use memo::recall;
-use mentions::equations::solving;
+use mentions::Mention;
 use plans::{PLAN, PartSearch};
 use points::plan::{FIRST_COUNT, FIRST_SLOT, HEAD, SECOND_SLOT};
 use points::slots::{ABSTRACT_PRIMED, AFTER, BEFORE, CONCRETE, CONCRETE_PRIMED};
 use slot_carriers::{CELLS, SLOTS, count_of, place_of, value_at};
+use std::ops::Range;
 
 // Bindings of the m variables of the search u from number j on: w in all; those from `from` on are looked at.
 #[derive(Clone, Copy)]
@@ -42,13 +43,6 @@ struct Target {
 struct Told {
     test: usize,
     end: usize,
-}
-
-// The values to look at, from low up to high.
-#[derive(Clone, Copy)]
-struct Bounds {
-    low: usize,
-    high: usize,
 }
 
 // The slot of variable j of the search u.
@@ -103,8 +97,7 @@ fn level(
     ensures kept { slots.new ≡ slots.old }
     ensures remembers { Memo s.now.table.now memo.new }
 {
-    let to = usize::from(s.plan[HEAD * u + l + 1]);
-    for k in usize::from(s.plan[HEAD * u + l])..to {
+    for k in s.tests(u, l) {
         let e = usize::from(s.plan[k]);
         if !recall(s.table, e / 2, &mut slots[e % 2], memo) {
             return false;
@@ -130,7 +123,11 @@ fn solved(t: &[u16; 16384], e: usize, slot: usize) -> Option<usize>
     ensures { SolvedAnswers t.now e slot result }
 {
     let own = read_slot(e, slot)?;
-    solving(t, e / 2, own)
+    let mention = Mention {
+        table: t,
+        slot: own,
+    };
+    mention.solving(e / 2)
 }
 
 // The first test of a level that says the variable of a slot to be some term.
@@ -138,35 +135,30 @@ fn equation(s: &PartSearch<'_>, u: usize, l: usize, slot: usize) -> Option<Told>
     requires { (u < 5) × (l ≤ 11) × (slot < 38) × (mark_in s.now.plan.now u (l + 1) ≤ 20560) }
     ensures { EquationAnswers s.now.table.now s.now.plan.now u l slot result }
 {
-    let to = usize::from(s.plan[HEAD * u + l + 1]);
-    for k in usize::from(s.plan[HEAD * u + l])..to {
-        let test = usize::from(s.plan[k]);
-        if let Some(end) = solved(s.table, test, slot) {
-            return Some(Told { test, end });
-        }
-    }
-    None
+    s.tests(u, l).find_map(
+        |k|
+            requires { (k < 20560) × (slot < 38) }
+        {
+            let test = usize::from(s.plan[k]);
+            let end = solved(s.table, test, slot)?;
+            Some(Told { test, end })
+        },
+    )
 }
 
 // Which of the variable's values to look at: all, or where a test says which it is, that one alone, if it is one of them. At all others that test fails.
-fn aim(s: &PartSearch<'_>, g: Target, slots: &mut [[i64; SLOTS]; 2]) -> Bounds
+fn aim(s: &PartSearch<'_>, g: Target, slots: &mut [[i64; SLOTS]; 2]) -> Range<usize>
     requires { AimAsked s.now.table.now s.now.plan.now s.now.cells.now g.u g.l g.slot g.n slots.old }
-    ensures answers { AimAnswers s.now.table.now s.now.plan.now s.now.cells.now g.u g.l g.slot g.n slots.old result.low result.high }
+    ensures answers { AimAnswers s.now.table.now s.now.plan.now s.now.cells.now g.u g.l g.slot g.n slots.old result.start result.end }
     ensures kept { slots.new ≡ slots.old }
 {
     let Some(q) = equation(s, g.u, g.l, g.slot) else {
-        return Bounds { low: 0, high: g.n };
+        return 0..g.n;
     };
     let y = value(s.table, q.end, &mut slots[q.test % 2]);
     match place_of(s.cells, g.slot, y) {
-        Some(d) => Bounds {
-            low: d,
-            high: d + 1,
-        },
-        None => Bounds {
-            low: g.n,
-            high: g.n,
-        },
+        Some(d) => d..d + 1,
+        None => g.n..g.n,
     }
 }
 
@@ -203,9 +195,9 @@ pub fn seek(
         n,
     };
     let b = aim(s, target, slots);
-    let first = span.from.max(b.low * v);
+    let first = span.from.max(b.start * v);
     let mut r = first % v;
-    for x in first / v..b.high {
+    for x in first / v..b.end {
         store(s.cells, slot, x, slots);
         let rest = Span {
             u: span.u,

@@ -19,6 +19,7 @@ const SPACE: u8 = b' ';
 
 const NEWLINE: u8 = b'\n';
 
+// Form 6: as `bounded_texts::BoundedText`, which it is made of.
 #[derive(Drop)]
 pub struct Sheet {
     text: BoundedText<SHEET>,
@@ -104,10 +105,7 @@ impl Sheet {
 
     // Is there a blank before what is written next? A sheet begins as a line does.
     fn ends_blank(&self) -> bool {
-        match self.as_slice().last() {
-            Some(b) => is_blank(*b),
-            None => true,
-        }
+        self.as_slice().last().is_none_or(|b| is_blank(*b))
     }
 
     // The bytes of a text, in lines; its blanks become single spaces.

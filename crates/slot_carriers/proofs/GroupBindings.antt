@@ -170,3 +170,121 @@ module _ {A : Type 0} (d : A) (l m r : List A) (s n : ℕ) (x : A) (e : m ≡ se
 
   pub first-kept : s < length l → get_or r s d ≡ x
   first-kept h = o.below s (omega arith) ∙ ap (λ (z : List A). get_or z s d) e ∙ get_or-set_same l s x d h
+
+-- ---- from the last variable to the first: how many bindings those from i on have
+
+pub tail : (cells : List ℕ) (s n : ℕ) → Grouped cells s n → (j : ℕ) → j ≤ n → Grouped cells (s + j) (n - j)
+tail cells s n g zero h =
+    subst (λ (k : ℕ). Grouped cells k (n - 0)) {x = s} {y = s + 0} (omega arith)
+    (subst (Grouped cells s) {x = n} {y = n - 0} (omega arith) g)
+tail cells s n g (suc j) h =
+    let r : Grouped cells (s + j + 1) (n - j - 1) = (headed cells (s + j) (n - j) (tail cells s n g j (omega arith)) (λ e. omega (arith, e, h))).rest in
+    subst (λ (k : ℕ). Grouped cells k (n - suc j)) {x = s + j + 1} {y = s + suc j} (omega arith)
+    (subst (λ (k : ℕ). Grouped cells (s + j + 1) k) {x = n - j - 1} {y = n - suc j} (omega arith) r)
+
+slot-low : (cells : List ℕ) (s n : ℕ) → Grouped cells s n → (j : ℕ) → j < n → s + j < 64
+slot-low cells s n g j h = (headed cells (s + j) (n - j) (tail cells s n g j (omega arith)) (λ e. omega (arith, e, h))).cell.slot_low
+
+pub group-end : (cells : List ℕ) (s n b : ℕ) → Grouped cells s n → 64 ≤ b → s ≤ b → s + n ≤ b
+group-end cells s zero b g h k = omega arith
+group-end cells s (suc n) b g h k = let l = slot-low cells s (suc n) g n (omega arith) in omega arith
+
+pub record Counted (cells : List ℕ) (s n i w : ℕ) : Type 0 where
+  pub low : s ≤ i
+  pub high : i ≤ s + n
+  pub counts : Counts cells i (s + n - i) w
+
+pub counted-start : (cells : List ℕ) (s n : ℕ) → Counted cells s n (s + n) 1
+counted-start cells s n = record { low = omega arith; high = omega arith; counts = counts-none cells (s + n) (s + n - (s + n)) (omega arith) }
+
+module _ {cells : List ℕ} {s n i w : ℕ} (g : Grouped cells s n) (a : Counted cells s n i w) (h : s < i) where
+  here : Headed cells (i - 1) (s + n - (i - 1))
+  here =
+      headed cells (i - 1) (s + n - (i - 1))
+      (subst (λ (k : ℕ). Grouped cells k (s + n - (i - 1))) {x = s + (i - 1 - s)} {y = i - 1} (omega arith)
+      (subst (λ (k : ℕ). Grouped cells (s + (i - 1 - s)) k) {x = n - (i - 1 - s)} {y = s + n - (i - 1)} (omega (arith, a.high)) (tail cells s n g (i - 1 - s) (omega (arith, a.high)))))
+      (λ e. omega (arith, e, a.high))
+
+  pub counted-slot : i - 1 < 64
+  counted-slot = here.cell.slot_low
+
+  more-counts : (c : ℕ) → c ≡ count_in cells (i - 1) → Counts cells (i - 1) (s + n - (i - 1)) (w * c)
+  more-counts c f =
+      subst (Counts cells (i - 1) (s + n - (i - 1))) (mul_comm c w)
+      (counts-more cells (i - 1) (s + n - (i - 1)) c w (λ e. omega (arith, e, a.high)) f
+      (subst (λ (k : ℕ). Counts cells k (s + n - (i - 1) - 1) w) {x = i} {y = i - 1 + 1} (omega arith)
+      (subst (λ (k : ℕ). Counts cells i k w) {x = s + n - i} {y = s + n - (i - 1) - 1} (omega arith) a.counts)))
+
+  pub counted-low : (c : ℕ) → c ≡ count_in cells (i - 1) → w * c ≤ 4096
+  counted-low c f =
+      counts-low cells (i - 1) (s + n - (i - 1)) (w * c)
+      (subst (λ (k : ℕ). Grouped cells k (s + n - (i - 1))) {x = s + (i - 1 - s)} {y = i - 1} (omega arith)
+      (subst (λ (k : ℕ). Grouped cells (s + (i - 1 - s)) k) {x = n - (i - 1 - s)} {y = s + n - (i - 1)} (omega (arith, a.high)) (tail cells s n g (i - 1 - s) (omega (arith, a.high)))))
+      (more-counts c f)
+
+  pub counted-more : (c : ℕ) → c ≡ count_in cells (i - 1) → Counted cells s n (i - 1) (w * c)
+  counted-more c f = record { low = omega arith; high = omega (arith, a.high); counts = more-counts c f }
+
+pub counted-done : {cells : List ℕ} {s n i w : ℕ} → Counted cells s n i w → i ≤ s → Counts cells s n w
+counted-done {cells} {s} {n} {i} {w} a h =
+    subst (λ (k : ℕ). Counts cells k n w) {x = i} {y = s} (omega (arith, a.low))
+    (subst (λ (k : ℕ). Counts cells i k w) {x = s + n - i} {y = n} (omega (arith, a.low)) a.counts)
+
+-- ---- from the first variable to the last: those before i have their values, and what gives the others theirs gives all
+
+pub record Bound (cells : List ℕ) (s n k : ℕ) (old : List ℤ) (i w r : ℕ) (now : List ℤ) : Type 0 where
+  pub left : ℕ
+  pub ends : i + left ≡ s + n
+  pub grouped : Grouped cells i left
+  pub counts : Counts cells i left w
+  pub low : r < w
+  pub same_length : length now ≡ length old
+  pub onward : (σ : List ℤ) → HoldsAt cells i left r σ → Others (pos 0) now i left σ → HoldsAt cells s n k σ × Others (pos 0) old s n σ
+
+pub bound-start : (cells : List ℕ) (s n w k : ℕ) (old : List ℤ) → k < w → Grouped cells s n → Counts cells s n w → Bound cells s n k old s w k old
+bound-start cells s n w k old l g c = record { left = n; ends = refl; grouped = g; counts = c; low = l; same_length = refl; onward = λ σ a o. (a, o) }
+
+module _ {cells : List ℕ} {s n k : ℕ} {old : List ℤ} {i w r : ℕ} {now : List ℤ} (a : Bound cells s n k old i w r now) (h : i < s + n) where
+  pub some-left : a.left ≡ 0 → ⊥
+  some-left e = omega (arith, e, a.ends, h)
+
+  pub bound-slot : i < 64
+  bound-slot = (headed cells i a.left a.grouped some-left).cell.slot_low
+
+  module _ (c : ℕ) (f : c ≡ count_in cells i) where
+    pub bound-count : 0 < c
+    bound-count = count-positive cells i a.left w r c a.grouped some-left a.counts a.low f
+
+    pub bound-stride : 0 < w / c
+    bound-stride = stride-positive cells i a.left w r c a.grouped some-left a.counts a.low f
+
+    pub bound-reached : Reached cells i (r / (w / c))
+    bound-reached = digit-reached cells i a.left w r c a.grouped some-left a.counts a.low f
+
+    pub bound-more : (x : ℤ) (next : List ℤ) → next ≡ set now i x → x ≡ value_in cells i (r / (w / c)) → i < length now
+        → Bound cells s n k old (i + 1) (w / c) (r % (w / c)) next
+    bound-more x next e v l =
+        record {
+          left = a.left - 1;
+          ends = omega (arith, a.ends, h);
+          grouped = (headed cells i a.left a.grouped some-left).rest;
+          counts = counts-rest cells i a.left w r c a.grouped some-left a.counts a.low f;
+          low = rest-low cells i a.left w r c a.grouped some-left a.counts a.low f;
+          same_length = ap length e ∙ length-set now i x ∙ a.same_length;
+          onward = λ σ b o.
+              a.onward σ
+              (holds_more cells i a.left w r c a.grouped some-left a.counts a.low f σ (first-kept (pos 0) now next σ i a.left x e o l ∙ v) b)
+              (others-more (pos 0) now next σ i a.left x e o some-left);
+        }
+
+module _ {cells : List ℕ} {s n k : ℕ} {old : List ℤ} {i w r : ℕ} {now : List ℤ} (a : Bound cells s n k old i w r now) (h : s + n ≤ i) where
+  all-given : HoldsAt cells s n k now × Others (pos 0) old s n now
+  all-given =
+      a.onward now (holds-none cells i a.left r now (omega (arith, a.ends, h)))
+      (others-none (pos 0) now i a.left)
+
+  pub bound-values : (v : ℕ) → Counts cells s n v → k < v → HoldsBinding cells s n k now
+  bound-values v c l = holds-binding cells s n v k now c l all-given.0
+
+  pub bound-others : Others (pos 0) old s n now
+  bound-others = all-given.1

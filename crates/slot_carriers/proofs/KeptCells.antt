@@ -180,6 +180,51 @@ module _ (table groups : List ℕ) (p n slot at next r : ℕ) (old mid new : Lis
         same_length = m.same_length ∙ c.same_length;
       }
 
+-- those before the i-th are made, and what makes the others makes all
+pub record Making (table groups : List ℕ) (p n slot at : ℕ) (old : List ℕ) (i next : ℕ) (now : List ℕ) : Type 0 where
+  pub declared : Declared table groups (p + i) (n - i) next
+  pub behind : 256 ≤ next
+  pub onward : (new : List ℕ) (r : ℕ) → CellsMade table groups (p + i) (n - i) (slot + i) next now new r → CellsMade table groups p n slot at old new r
+
+pub making_start : (table groups : List ℕ) (p n slot at : ℕ) (old : List ℕ) → Declared table groups p n at → 256 ≤ at → Making table groups p n slot at old 0 at old
+making_start table groups p n slot at old d b =
+    record {
+      declared = subst (λ (k : ℕ). Declared table groups k (n - 0) at) {x = p} {y = p + 0} (omega arith) (subst (λ (k : ℕ). Declared table groups p k at) {x = n} {y = n - 0} (omega arith) d);
+      behind = b;
+      onward = λ new r m.
+          subst (λ (k : ℕ). CellsMade table groups k n slot at old new r) {x = p + 0} {y = p} (omega arith)
+          (subst (λ (k : ℕ). CellsMade table groups (p + 0) k slot at old new r) {x = n - 0} {y = n} (omega arith)
+          (subst (λ (k : ℕ). CellsMade table groups (p + 0) (n - 0) k at old new r) {x = slot + 0} {y = slot} (omega arith) m));
+    }
+
+module _ {table groups : List ℕ} {p n slot at : ℕ} {old : List ℕ} {i next : ℕ} {now : List ℕ} (a : Making table groups p n slot at old i next now) (h : i < n) where
+  some-left : n - i ≡ 0 → ⊥
+  some-left e = omega (arith, e, h)
+
+  pub making-first : FirstDeclared table groups (p + i) (n - i) next
+  making-first = first-declared table groups (p + i) (n - i) next a.declared some-left
+
+  pub making_more : (q r : ℕ) (new : List ℕ) → q ≡ get_or groups (p + i) 0 → slot + n ≤ 64 → CellMade table (q + 4) (slot + i) next now new r
+      → Making table groups p n slot at old (i + 1) r new
+  making_more q r new e low c =
+      let d : CellMade table (get_or groups (p + i) 0 + 4) (slot + i) next now new r = subst (λ (k : ℕ). CellMade table (k + 4) (slot + i) next now new r) e c in
+      record {
+        declared = moved (λ (x y : ℕ). Declared table groups x y r) (making-first.rest r d.end);
+        behind = omega (arith, a.behind, d.onward);
+        onward = λ last z m. a.onward last z (made_more table groups (p + i) (n - i) (slot + i) next r z now new last some-left (omega arith) a.behind d
+            (back (λ (x y : ℕ). CellsMade table groups x y (slot + i + 1) r new last z) (subst (λ (k : ℕ). CellsMade table groups (p + (i + 1)) (n - (i + 1)) k r new last z) {x = slot + (i + 1)} {y = slot + i + 1} (omega arith) m)));
+      }
+    where
+      moved : (P : ℕ → ℕ → Type 0) → P (p + i + 1) (n - i - 1) → P (p + (i + 1)) (n - (i + 1))
+      moved P w = subst (λ (k : ℕ). P k (n - (i + 1))) {x = p + i + 1} {y = p + (i + 1)} (omega arith) (subst (P (p + i + 1)) {x = n - i - 1} {y = n - (i + 1)} (omega arith) w)
+
+      back : (P : ℕ → ℕ → Type 0) → P (p + (i + 1)) (n - (i + 1)) → P (p + i + 1) (n - i - 1)
+      back P w = subst (λ (k : ℕ). P k (n - i - 1)) {x = p + (i + 1)} {y = p + i + 1} (omega arith) (subst (P (p + (i + 1))) {x = n - (i + 1)} {y = n - i - 1} (omega arith) w)
+
+pub making_done : {table groups : List ℕ} {p n slot at : ℕ} {old : List ℕ} {i next : ℕ} {now : List ℕ} → Making table groups p n slot at old i next now → n ≤ i
+    → CellsMade table groups p n slot at old now next
+making_done {table} {groups} {p} {n} {slot} {at} {old} {i} {next} {now} a h = a.onward now next (made_none table groups (p + i) (n - i) (slot + i) next now (omega arith))
+
 -- ---- the cells of slots that are copied
 
 pub copied : (n base to : ℕ) (old new : List ℕ) → length new ≡ length old → CopiedTo old new (4 * base) (4 * to) (4 * (base + n) - 4 * base) → SameBelow old new (4 * to)

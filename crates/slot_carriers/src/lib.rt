@@ -1,7 +1,8 @@
-// Carriers by slot: `cells` has four numbers for each slot, how many values its variable has, the shape of its type and two numbers of it; then the lists of
-// partial and total functions.
+// Carriers by slot: `cells` has four numbers for each slot, of which three are used: how many values its variable has, the shape of its type, and the first number of the type, or, of a
+// type of functions, the place where they are listed. The lists of partial and total functions stand behind all cells.
 // Form 1: the caller lends the array, so that a shape is a number in it (DECISIONS L9); the others are places and lengths.
-// Form 5: a slot is a number in plans and nodes too, and a type of its own would be made anew at each reading; `Grouped` moves on by a variable with each call.
+// Form 5: slots stand as numbers in the lent arrays of plans and nodes too (DECISIONS L9): a type for `slot < 64` would be made of each that is read there,
+// where the bound would be shown as it is now, and be turned back into the number for each index.
 #![tactic(auto)]
 
 pub mod groups;
@@ -18,7 +19,7 @@ pub const SLOTS: usize = 64;
 
 pub const CELLS: usize = 9216;
 
-// The numbers of one slot, and where the shape and the first number of its type stand among them.
+// The numbers of one slot, and where the shape of its type stands among them, and its first number or the place of its list.
 const CELL: usize = 4;
 
 const SHAPE: usize = 1;

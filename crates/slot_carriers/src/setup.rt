@@ -15,22 +15,14 @@ pub fn type_count(shape: u32, a: u32, b: u32) -> u32
     requires { (a < 65536) × (b < 65536) }
     ensures { CountIs shape a b result }
 {
-    if shape == type_shapes::SET {
-        return a;
+    match shape {
+        type_shapes::SET => a,
+        type_shapes::RANGE => b,
+        type_shapes::POWER => carriers::partial_count(a, 1),
+        type_shapes::RELATION => carriers::partial_count(a * b, 1),
+        type_shapes::PARTIAL => carriers::partial_count(a, b),
+        _ => carriers::total_count(a, b),
     }
-    if shape == type_shapes::RANGE {
-        return b;
-    }
-    if shape == type_shapes::POWER {
-        return carriers::partial_count(a, 1);
-    }
-    if shape == type_shapes::RELATION {
-        return carriers::partial_count(a * b, 1);
-    }
-    if shape == type_shapes::PARTIAL {
-        return carriers::partial_count(a, b);
-    }
-    carriers::total_count(a, b)
 }
 
 // The d-th of the partial or total functions.
@@ -90,32 +82,11 @@ fn set_cell(
     at + n as usize
 }
 
-// The cells of n variables from a slot on; the places of their nodes stand in `groups` from p on.
-// Form 5: callers hold table and groups in a `Dossier`, which stands above this crate.
+// The cells of one group: `row` is where it stands in `groups`, its number of variables and the places of their nodes; `base` its first slot; lists from `from`
+// on. Answers the place behind them.
+// Form 5: table and groups are two of the five fields of a `search_groups::Dossier`: with it a caller would be asked for rows as well that are not read, and
+// this crate would stand on that one too.
 // Form 6: as at `set_cell`.
-fn set_from(
-    table: &[u16; node::NUMBERS],
-    groups: &[u16; GROUPS],
-    p: usize,
-    n: usize,
-    slot: usize,
-    at: usize,
-    cells: &mut [u32; CELLS],
-) -> usize
-    requires n_bound { (p + n ≤ 160) × (slot + n ≤ 64) × (256 ≤ at) }
-    requires declared { Declared table.now groups.now p n at }
-    ensures { CellsMade table.now groups.now p n slot at cells.old cells.new result }
-{
-    if n == 0 {
-        return at;
-    }
-    let q = usize::from(groups[p]);
-    let next = set_cell(table, q + node::SIZE, slot, at, cells);
-    set_from(table, groups, p + 1, n - 1, slot + 1, next, cells)
-}
-
-// The cells of one group: `row` is where it stands in `groups`, `base` its first slot; lists from `from` on. Answers the place behind them.
-// Form 5: as at `set_from`.
 pub fn set_cells(
     table: &[u16; node::NUMBERS],
     groups: &[u16; GROUPS],
@@ -129,7 +100,12 @@ pub fn set_cells(
     ensures { CellsMade table.now groups.now (row + 1) (get_or groups.now row 0) base from cells.old cells.new result }
 {
     let n = usize::from(groups[row]);
-    set_from(table, groups, row + 1, n, base, from, cells)
+    let mut at = from;
+    for i in 0..n {
+        let q = usize::from(groups[row + 1 + i]);
+        at = set_cell(table, q + node::SIZE, base + i, at, cells);
+    }
+    at
 }
 
 // The cells of n variables from one slot on, again from another slot on.

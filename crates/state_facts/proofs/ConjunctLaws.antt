@@ -110,7 +110,7 @@ both-in d a c σ h k = record {
 }
 
 module _ {table rows firsts cells : List ℕ} {p : Part} {a c : ℕ} where
-  module _ {σ : Values} (B : PairBound cells p a c σ) (e : length σ ≡ 64) (la : a < p.nm) (lc : c < p.nc) where
+  module _ {σ : Values} (B : PairBound cells p a c σ) (e : length σ ≡ 64) (la : a < p.meeting.bindings) (lc : c < p.concretes.bindings) where
     placed_pair : (d : Dossier) → StatesRead table rows firsts cells p d
         → Placed (unprimed d d.abstract ++ unprimed d d.concrete) (abstract_slots d ++ concrete_slots d) (abstract_at d a ++ concrete_at d c) σ
     placed_pair d R = both-in d (abstract_at d a) (concrete_at d c) σ (abstract_in B e d R la) (concrete_in B e d R lc)
@@ -135,8 +135,8 @@ module _ {table rows firsts cells : List ℕ} {p : Part} {a c : ℕ} where
     no_concrete = λ d R l. w.no_concrete (subst (λ (n : ℕ). n ≤ c) (concretes d R) l);
   }
     where
-      abstracts : (d : Dossier) → ReadingOf table rows firsts groups d → abstract_count d ≡ p.nm
+      abstracts : (d : Dossier) → ReadingOf table rows firsts groups d → abstract_count d ≡ p.meeting.bindings
       abstracts d R = bindings-count (unprimed d d.abstract) ∙ sym (states-read P d R).are.abstracts.count
 
-      concretes : (d : Dossier) → ReadingOf table rows firsts groups d → concrete_count d ≡ p.nc
+      concretes : (d : Dossier) → ReadingOf table rows firsts groups d → concrete_count d ≡ p.concretes.bindings
       concretes d R = bindings-count (unprimed d d.concrete) ∙ sym (states-read P d R).are.concretes.count

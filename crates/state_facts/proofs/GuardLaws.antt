@@ -39,7 +39,7 @@ use Rattle.plans.specs.declared.Part.{Part}
 use Rattle.part_places.specs.PartTestsPartsByNumber.{concrete_at, input_at, output_at}
 use Rattle.part_places.specs.Places.{PartAsked, PartSet}
 use Rattle.part_places.proofs.ReadingGroups.{reading-groups}
-use Rattle.state_facts.specs.declared.Numbers.{Numbers}
+use Rattle.pages.specs.declared.Bindings.{Bindings}
 use Rattle.state_facts.specs.Placings.{StatesSized, StatesBound, ParametersSized, ParametersBound}
 use Rattle.state_facts.specs.Reads.{concrete_count, ReadAsked}
 use Rattle.state_facts.specs.FalseConjuncts.{FirstFalse, none_false, false_here, false_later, Guard, guard_test, In, Throughout, ContextFirst, ContextIs}
@@ -206,11 +206,11 @@ module _ {table rows : List ℕ} {Γ : Scope} {to : ℕ} (d : Dossier) (op : Ope
 -- ---- the bindings of the j-th operation in their slots
 
 -- the state after is the one before, and the outputs are the first: some that there are
-abbrev pub numbers : (c i : ℕ) → Numbers
+abbrev pub numbers : (c i : ℕ) → Bindings
 numbers c i = record { a = 0; c = c; i = i; o = 0; k = c; b = 0 }
 
 module _ {table rows firsts cells : List ℕ} {p : Part} {j c i : ℕ} where
-  module _ {ρ σ τ : Values} (S : StatesBound cells p (numbers c i) ρ σ) (Q : ParametersBound cells p (numbers c i) σ τ) (e : length ρ ≡ 64) (lc : c < p.nc) (li : i < p.ni) where
+  module _ {ρ σ τ : Values} (S : StatesBound cells p (numbers c i) ρ σ) (Q : ParametersBound cells p (numbers c i) σ τ) (e : length ρ ≡ 64) (lc : c < p.concretes.bindings) (li : i < p.inputs.bindings) where
     module _ (d : Dossier) (op : Operation) (R : OperationRead table rows firsts cells p j d op) where
       long : length τ ≡ 64
       long = Q.same_length ∙ S.same_length ∙ e
@@ -302,10 +302,10 @@ module _ {table rows firsts groups cells : List ℕ} {p : Part} {operations j pa
     no_inputs = λ d op R m e l. w.no_inputs (subst (λ (n : ℕ). n ≤ i) (inward d op R e) l);
   }
     where
-      concretes : (d : Dossier) (op : Operation) → ReadingOf table rows firsts groups d → get_elem? d.operations j ≡ some op → concrete_count d ≡ p.nc
+      concretes : (d : Dossier) (op : Operation) → ReadingOf table rows firsts groups d → get_elem? d.operations j ≡ some op → concrete_count d ≡ p.concretes.bindings
       concretes d op R l = bindings-count (unprimed d d.concrete) ∙ sym (operation-read o P d op R l).states.concretes.count
 
-      inward : (d : Dossier) (op : Operation) → ReadingOf table rows firsts groups d → get_elem? d.operations j ≡ some op → length (bindings (inputs d op)) ≡ p.ni
+      inward : (d : Dossier) (op : Operation) → ReadingOf table rows firsts groups d → get_elem? d.operations j ≡ some op → length (bindings (inputs d op)) ≡ p.inputs.bindings
       inward d op R l = bindings-count (inputs d op) ∙ sym (operation-read o P d op R l).parameters.inputs.count
 
 pub guard_no-operation : {table rows firsts groups : List ℕ} {operations j c i : ℕ} → operations ≤ j → FalseGuard table rows firsts groups operations j c i None

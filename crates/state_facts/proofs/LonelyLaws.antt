@@ -54,37 +54,37 @@ a-state : (x y r : Bool) → true ≡ x → r ≡ y → r ≡ (x && y)
 a-state x y r e h = subst (λ (b : Bool). r ≡ (b && y)) e h
 
 module _ {table rows firsts cells : List ℕ} {p : Part} where
-  abstracts : (d : Dossier) → StatesRead table rows firsts cells p d → p.nm ≡ abstract_count d
+  abstracts : (d : Dossier) → StatesRead table rows firsts cells p d → p.meeting.bindings ≡ abstract_count d
   unfolding abstract_bindings
   abstracts d R = R.are.abstracts.count ∙ sym (bindings-count (unprimed d d.abstract))
 
-  concretes : (d : Dossier) → StatesRead table rows firsts cells p d → p.nc ≡ concrete_count d
+  concretes : (d : Dossier) → StatesRead table rows firsts cells p d → p.concretes.bindings ≡ concrete_count d
   unfolding concrete_bindings
   concretes d R = R.are.concretes.count ∙ sym (bindings-count (unprimed d d.concrete))
 
   -- ---- one that is related, or none
 
-  pub unmet-concrete : {c : ℕ} (r : Bool) → ((d : Dossier) → StatesRead table rows firsts cells p d → Walked (λ (a : ℕ). related_at d a c) p.nm r)
+  pub unmet-concrete : {c : ℕ} (r : Bool) → ((d : Dossier) → StatesRead table rows firsts cells p d → Walked (λ (a : ℕ). related_at d a c) p.meeting.bindings r)
       → TestIs table rows firsts cells p unrelated_concrete c (not r)
   unmet-concrete {c} false w = record {
     means = λ d R.
-        none_passes (λ (b : Binding). related d b (concrete_at d c)) (abstract_bindings d) (λ i l. passes_nowhere (λ a. related_at d a c) p.nm (w d R) i (subst (λ (n : ℕ). i < n) (sym (abstracts d R)) l));
+        none_passes (λ (b : Binding). related d b (concrete_at d c)) (abstract_bindings d) (λ i l. passes_nowhere (λ a. related_at d a c) p.meeting.bindings (w d R) i (subst (λ (n : ℕ). i < n) (sym (abstracts d R)) l));
   }
   unmet-concrete {c} true w = record {
     means = λ d R.
-        let h = passes_at (λ a. related_at d a c) p.nm (w d R) in
+        let h = passes_at (λ a. related_at d a c) p.meeting.bindings (w d R) in
         some-passes (λ (b : Binding). related d b (concrete_at d c)) (abstract_bindings d) h.0 (subst (λ (n : ℕ). h.0 < n) (abstracts d R) h.1) h.2;
   }
 
-  pub unmet-abstract : {a : ℕ} (r : Bool) → ((d : Dossier) → StatesRead table rows firsts cells p d → Walked (λ (c : ℕ). related_at d a c) p.nc r)
+  pub unmet-abstract : {a : ℕ} (r : Bool) → ((d : Dossier) → StatesRead table rows firsts cells p d → Walked (λ (c : ℕ). related_at d a c) p.concretes.bindings r)
       → TestIs table rows firsts cells p unrelated_abstract a (not r)
   unmet-abstract {a} false w = record {
     means = λ d R.
-        none_passes (λ (b : Binding). related d (abstract_at d a) b) (concrete_bindings d) (λ i l. passes_nowhere (λ c. related_at d a c) p.nc (w d R) i (subst (λ (n : ℕ). i < n) (sym (concretes d R)) l));
+        none_passes (λ (b : Binding). related d (abstract_at d a) b) (concrete_bindings d) (λ i l. passes_nowhere (λ c. related_at d a c) p.concretes.bindings (w d R) i (subst (λ (n : ℕ). i < n) (sym (concretes d R)) l));
   }
   unmet-abstract {a} true w = record {
     means = λ d R.
-        let h = passes_at (λ c. related_at d a c) p.nc (w d R) in
+        let h = passes_at (λ c. related_at d a c) p.concretes.bindings (w d R) in
         some-passes (λ (b : Binding). related d (abstract_at d a) b) (concrete_bindings d) h.0 (subst (λ (n : ℕ). h.0 < n) (concretes d R) h.1) h.2;
   }
 

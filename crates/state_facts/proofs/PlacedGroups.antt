@@ -18,7 +18,7 @@ use Rattle.slot_carriers.specs.CellGroups.{Grouped, Counts, Holding, HoldsBindin
 use Rattle.plans.specs.declared.Part.{Part}
 use Rattle.points.specs.Points.{span}
 use Rattle.points.proofs.PointBindings.{span-count}
-use Rattle.state_facts.specs.declared.Numbers.{Numbers}
+use Rattle.pages.specs.declared.Bindings.{Bindings}
 use Rattle.state_facts.specs.Placings.{GroupAsked, GroupBound, StatesSized, PairBound, OthersFrom, StatesBound, ParametersSized, ParametersBound}
 
 -- ---- listed bindings
@@ -105,33 +105,33 @@ kept vs k s σ τ e h = let m = at_most vs k in holding-kept σ τ s (get_or (bi
 -- ---- both states
 
 module _ {cells : List ℕ} {p : Part} (z : StatesSized cells p) where
-  pub abstracts-asked : GroupAsked cells 0 p.vm p.nm
+  pub abstracts-asked : GroupAsked cells 0 p.meeting.variables p.meeting.bindings
   abstracts-asked = record { group = z.abstractly; is = z.are.abstracts }
 
-  pub concretes-asked : GroupAsked cells 8 p.vc p.nc
+  pub concretes-asked : GroupAsked cells 8 p.concretes.variables p.concretes.bindings
   concretes-asked = record { group = z.concretely; is = z.are.concretes }
 
-  pub concretes-primed-asked : GroupAsked cells 22 p.vc p.nc
+  pub concretes-primed-asked : GroupAsked cells 22 p.concretes.variables p.concretes.bindings
   concretes-primed-asked = record { group = z.concretely; is = z.are.concretes_primed }
 
-  pub abstracts-primed-asked : GroupAsked cells 30 p.vm p.nm
+  pub abstracts-primed-asked : GroupAsked cells 30 p.meeting.variables p.meeting.bindings
   abstracts-primed-asked = record { group = z.abstractly; is = z.are.abstracts_primed }
 
-  pub pair-bound : {a c : ℕ} {σ τ : List ℤ} → GroupBound cells 0 p.vm p.nm a σ → GroupBound cells 8 p.vc p.nc c τ → Others (pos 0) σ 8 p.vc τ
+  pub pair-bound : {a c : ℕ} {σ τ : List ℤ} → GroupBound cells 0 p.meeting.variables p.meeting.bindings a σ → GroupBound cells 8 p.concretes.variables p.concretes.bindings c τ → Others (pos 0) σ 8 p.concretes.variables τ
       → PairBound cells p a c τ
   pair-bound {a} {c} {σ} {τ} h k o = record {
     abstracts = λ us cs A. kept us a 0 σ τ (λ i f l. o.below i (omega (arith, A.abstracts_short))) (h.holds us A.abstracts);
     concretes = λ us cs A. k.holds cs A.concretes;
   }
 
-  pub pair-others : {ρ σ τ : List ℤ} → Others (pos 0) ρ 0 p.vm σ → Others (pos 0) σ 8 p.vc τ → OthersFrom 16 ρ τ
+  pub pair-others : {ρ σ τ : List ℤ} → Others (pos 0) ρ 0 p.meeting.variables σ → Others (pos 0) σ 8 p.concretes.variables τ → OthersFrom 16 ρ τ
   pair-others o q = record {
     above = λ i h. q.above i (omega (arith, z.are.concretes.long, z.are.concretes_short)) ∙ o.above i (omega (arith, z.are.abstracts.long, z.are.abstracts_short));
     same_length = q.same_length ∙ o.same_length;
   }
 
-  pub states-bound : {x : Numbers} {ρ σ τ υ : List ℤ} → PairBound cells p x.a x.c σ → OthersFrom 16 ρ σ → GroupBound cells 22 p.vc p.nc x.k τ
-      → Others (pos 0) σ 22 p.vc τ → GroupBound cells 30 p.vm p.nm x.b υ → Others (pos 0) τ 30 p.vm υ → StatesBound cells p x ρ υ
+  pub states-bound : {x : Bindings} {ρ σ τ υ : List ℤ} → PairBound cells p x.a x.c σ → OthersFrom 16 ρ σ → GroupBound cells 22 p.concretes.variables p.concretes.bindings x.k τ
+      → Others (pos 0) σ 22 p.concretes.variables τ → GroupBound cells 30 p.meeting.variables p.meeting.bindings x.b υ → Others (pos 0) τ 30 p.meeting.variables υ → StatesBound cells p x ρ υ
   states-bound {x} {ρ} {σ} {τ} {υ} h f k o b q = record {
     before = record {
       abstracts = λ us cs A. kept us x.a 0 σ υ (λ i m l. q.below i (omega (arith, A.abstracts_short)) ∙ o.below i (omega (arith, A.abstracts_short))) (h.abstracts us cs A);
@@ -145,14 +145,14 @@ module _ {cells : List ℕ} {p : Part} (z : StatesSized cells p) where
 -- ---- the parameters
 
 module _ {cells : List ℕ} {p : Part} (z : ParametersSized cells p) where
-  pub inputs-asked : GroupAsked cells 16 p.vi p.ni
+  pub inputs-asked : GroupAsked cells 16 p.inputs.variables p.inputs.bindings
   inputs-asked = record { group = z.inward; is = z.are.inputs }
 
-  pub outputs-asked : GroupAsked cells 19 p.vo p.nq
+  pub outputs-asked : GroupAsked cells 19 p.outputs.variables p.outputs.bindings
   outputs-asked = record { group = z.outward; is = z.are.outputs }
 
-  pub parameters-bound : {x : Numbers} {ρ σ τ : List ℤ} → GroupBound cells 16 p.vi p.ni x.i σ → Others (pos 0) ρ 16 p.vi σ
-      → GroupBound cells 19 p.vo p.nq x.o τ → Others (pos 0) σ 19 p.vo τ → ParametersBound cells p x ρ τ
+  pub parameters-bound : {x : Bindings} {ρ σ τ : List ℤ} → GroupBound cells 16 p.inputs.variables p.inputs.bindings x.i σ → Others (pos 0) ρ 16 p.inputs.variables σ
+      → GroupBound cells 19 p.outputs.variables p.outputs.bindings x.o τ → Others (pos 0) σ 19 p.outputs.variables τ → ParametersBound cells p x ρ τ
   parameters-bound {x} {ρ} {σ} {τ} h o k q = record {
     inputs = λ is os A. kept is x.i 16 σ τ (λ i f l. q.below i (omega (arith, A.inputs_short))) (h.holds is A.inputs);
     outputs = λ is os A. k.holds os A.outputs;
@@ -162,7 +162,7 @@ module _ {cells : List ℕ} {p : Part} (z : ParametersSized cells p) where
   }
 
 -- what is written for the parameters leaves the states
-pub states-kept : {cells : List ℕ} {p : Part} {x : Numbers} {ρ σ τ : List ℤ} → StatesBound cells p x ρ σ → ParametersBound cells p x σ τ → StatesBound cells p x ρ τ
+pub states-kept : {cells : List ℕ} {p : Part} {x : Bindings} {ρ σ τ : List ℤ} → StatesBound cells p x ρ σ → ParametersBound cells p x σ τ → StatesBound cells p x ρ τ
 states-kept {x = x} {ρ} {σ} {τ} h q = record {
   before = record {
     abstracts = λ us cs A. kept us x.a 0 σ τ (λ i m l. q.below i (omega (arith, A.abstracts_short))) (h.before.abstracts us cs A);

@@ -51,13 +51,13 @@ placed_at vs k s σ l h e = record { over = over-at vs k l; slotted = slotted-at
 
 module _ {table rows firsts cells : List ℕ} {p : Part} {a c : ℕ} {σ : Values} (B : PairBound cells p a c σ) (e : length σ ≡ 64) where
   module _ (d : Dossier) (R : StatesRead table rows firsts cells p d) where
-    pub abstract_in : a < p.nm → AbstractIn d (abstract_at d a) σ
+    pub abstract_in : a < p.meeting.bindings → AbstractIn d (abstract_at d a) σ
     unfolding abstract_bindings
     abstract_in l =
         placed_at (unprimed d d.abstract) a 0 σ (subst (λ (n : ℕ). a < n) R.are.abstracts.count l)
         (B.abstracts (unprimed d d.abstract) (unprimed d d.concrete) R.are) e
 
-    pub concrete_in : c < p.nc → ConcreteIn d (concrete_at d c) σ
+    pub concrete_in : c < p.concretes.bindings → ConcreteIn d (concrete_at d c) σ
     unfolding concrete_bindings
     concrete_in l =
         placed_at (unprimed d d.concrete) c 8 σ (subst (λ (n : ℕ). c < n) R.are.concretes.count l)
@@ -66,13 +66,13 @@ module _ {table rows firsts cells : List ℕ} {p : Part} {a c : ℕ} {σ : Value
   -- ---- the tests
 
   module _ (A : SearchAsked table rows firsts cells p) where
-    pub initial-asked : a < p.nm → AbstractInitialAsked table rows firsts σ
+    pub initial-asked : a < p.meeting.bindings → AbstractInitialAsked table rows firsts σ
     initial-asked l = record { dossier = A.dossier; state = abstract_at A.dossier a; tests = A.read.tests; placed = abstract_in A.dossier A.read l }
 
-    pub abstract-asked : a < p.nm → ContextAsked table rows firsts 0 σ
+    pub abstract-asked : a < p.meeting.bindings → ContextAsked table rows firsts 0 σ
     abstract-asked l = asked-at A.read.tests (abstract-context A.dossier) (abstract_in A.dossier A.read l)
 
-    pub related-asked : a < p.nm → c < p.nc → RelatedAsked table rows firsts σ
+    pub related-asked : a < p.meeting.bindings → c < p.concretes.bindings → RelatedAsked table rows firsts σ
     related-asked l m = record {
       dossier = A.dossier;
       abstractly = abstract_at A.dossier a;
@@ -83,14 +83,14 @@ module _ {table rows firsts cells : List ℕ} {p : Part} {a c : ℕ} {σ : Value
     }
 
   module _ {r : Bool} where
-    pub initial-is : a < p.nm → AbstractInitialAnswers table rows firsts σ r → TestIs table rows firsts cells p abstract_initial_at a r
+    pub initial-is : a < p.meeting.bindings → AbstractInitialAnswers table rows firsts σ r → TestIs table rows firsts cells p abstract_initial_at a r
     initial-is l w = record { means = λ d R. w.means d (abstract_at d a) R.tests (abstract_in d R l) }
 
-    pub abstract_is : a < p.nm → ContextAnswers table rows firsts 0 σ r → TestIs table rows firsts cells p abstract_state_at a r
+    pub abstract_is : a < p.meeting.bindings → ContextAnswers table rows firsts 0 σ r → TestIs table rows firsts cells p abstract_state_at a r
     unfolding is_state
     abstract_is l w = record { means = λ d R. answer_at R.tests (abstract-context d) (abstract_in d R l) w }
 
-    pub related-is : a < p.nm → c < p.nc → RelatedAnswers table rows firsts σ r → PairIs table rows firsts cells p related_at a c r
+    pub related-is : a < p.meeting.bindings → c < p.concretes.bindings → RelatedAnswers table rows firsts σ r → PairIs table rows firsts cells p related_at a c r
     related-is l m w = record { means = λ d R. w.means d (abstract_at d a) (concrete_at d c) R.tests (abstract_in d R l) (concrete_in d R m) }
 
 -- what a test says of one dossier
@@ -132,10 +132,10 @@ module _ {table rows firsts cells : List ℕ} {p : Part} (A : SearchAsked table 
   pub both-sized : StatesSized cells p
   both-sized = record { abstractly = unprimed A.dossier A.dossier.abstract; concretely = unprimed A.dossier A.dossier.concrete; are = A.read.are }
 
-  pub abstract-few : p.nm ≤ 4096
+  pub abstract-few : p.meeting.bindings ≤ 4096
   abstract-few = omega (arith, A.read.are.abstracts.count, A.read.are.abstracts.few)
 
-  pub concrete-few : p.nc ≤ 4096
+  pub concrete-few : p.concretes.bindings ≤ 4096
   concrete-few = omega (arith, A.read.are.concretes.count, A.read.are.concretes.few)
 
 -- ---- of a dossier whose reading the arrays are
@@ -152,14 +152,14 @@ module _ {table rows firsts groups : List ℕ} {operations : ℕ} where
     pub search-asked : ReadAsked table rows firsts groups operations → SearchAsked table rows firsts cells p
     search-asked a = record { dossier = a.dossier; read = states-read P a.dossier a.reading }
 
-    pub abstract-next : {f : Dossier → ℕ → Bool} {from : ℕ} {r : Option ℕ} → ((d : Dossier) → StatesRead table rows firsts cells p d → First (f d) from p.nm r)
+    pub abstract-next : {f : Dossier → ℕ → Bool} {from : ℕ} {r : Option ℕ} → ((d : Dossier) → StatesRead table rows firsts cells p d → First (f d) from p.meeting.bindings r)
         → Next table rows firsts groups operations f abstract_count from r
     unfolding abstract_bindings
     abstract-next {f} {from} {r} w = record {
       first = λ d R m. subst (λ (n : ℕ). First (f d) from n r) ((states-read P d R).are.abstracts.count ∙ sym (bindings-count (unprimed d d.abstract))) (w d (states-read P d R));
     }
 
-    pub concrete-next : {f : Dossier → ℕ → Bool} {from : ℕ} {r : Option ℕ} → ((d : Dossier) → StatesRead table rows firsts cells p d → First (f d) from p.nc r)
+    pub concrete-next : {f : Dossier → ℕ → Bool} {from : ℕ} {r : Option ℕ} → ((d : Dossier) → StatesRead table rows firsts cells p d → First (f d) from p.concretes.bindings r)
         → Next table rows firsts groups operations f concrete_count from r
     unfolding concrete_bindings
     concrete-next {f} {from} {r} w = record {
@@ -167,10 +167,10 @@ module _ {table rows firsts groups : List ℕ} {operations : ℕ} where
     }
 
     -- those that a filter keeps are counted
-    pub concrete-counted : {r : ℕ} → ((d : Dossier) → StatesRead table rows firsts cells p d → r ≡ length (filter (concrete_state_at d) (range_with_len 0 p.nc)))
+    pub concrete-counted : {r : ℕ} → ((d : Dossier) → StatesRead table rows firsts cells p d → r ≡ length (filter (concrete_state_at d) (range_with_len 0 p.concretes.bindings)))
         → Counted table rows firsts groups operations concrete_state_at concrete_count r
     unfolding concrete_bindings
     concrete-counted {r} w = record {
       count = λ d R m. subst (λ (n : ℕ). r ≡ count_by (concrete_state_at d) (range_with_len 0 n)) ((states-read P d R).are.concretes.count ∙ sym (bindings-count (unprimed d d.concrete)))
-          (w d (states-read P d R) ∙ length-filter (concrete_state_at d) (range_with_len 0 p.nc));
+          (w d (states-read P d R) ∙ length-filter (concrete_state_at d) (range_with_len 0 p.concretes.bindings));
     }

@@ -17,7 +17,7 @@ use Rattle.slot_carriers.specs.CellGroups.{CellsOf}
 use Rattle.plans.specs.declared.Part.{Part}
 use Rattle.part_places.specs.PartTestsPartGroups.{StateCells}
 use Rattle.part_places.specs.Places.{GroupsOf, AllAsked, PartAsked, PartSet}
-use Rattle.state_facts.specs.declared.Numbers.{Numbers}
+use Rattle.pages.specs.declared.Bindings.{Bindings}
 use Rattle.state_facts.specs.Placings.{StatesAre, StatesSized, StatesBound, ParametersAre, ParametersSized, ParametersBound}
 use Rattle.state_facts.specs.Shown.{PartOf, Shown}
 use Rattle.state_facts.proofs.PlacedGroups.{split_at, states-kept}
@@ -31,7 +31,7 @@ few-operations a = omega (arith, a.groups_are.operations, a.many)
 -- ---- the groups of a part
 
 module _ {cells : List ℕ} {us cs : List Variable} (short : length us ≤ 8) (short-too : length cs ≤ 8) (few : binding_count us ≤ 4096) (few-too : binding_count cs ≤ 4096) where
-  states-with : {p : Part} → StateCells cells us cs → p.vm ≡ length us → p.nm ≡ binding_count us → p.vc ≡ length cs → p.nc ≡ binding_count cs → StatesAre cells p us cs
+  states-with : {p : Part} → StateCells cells us cs → p.meeting.variables ≡ length us → p.meeting.bindings ≡ binding_count us → p.concretes.variables ≡ length cs → p.concretes.bindings ≡ binding_count cs → StatesAre cells p us cs
   states-with C a b c e = record {
     abstracts = record { each = C.abstracts; long = sym a; count = b; few = few };
     concretes = record { each = C.concretes; long = sym c; count = e; few = few-too };
@@ -49,19 +49,19 @@ module _ {table groups : List ℕ} {k : ℕ} {cells : List ℕ} {p : Part} (P : 
     abbrev cs : List Variable
     cs = unprimed d d.concrete
 
-    states-of : StateCells cells us cs → p.vm ≡ length us → p.nm ≡ binding_count us → p.vc ≡ length cs → p.nc ≡ binding_count cs → StatesAre cells p us cs
+    states-of : StateCells cells us cs → p.meeting.variables ≡ length us → p.meeting.bindings ≡ binding_count us → p.concretes.variables ≡ length cs → p.concretes.bindings ≡ binding_count cs → StatesAre cells p us cs
     states-of = states-with G.abstracts.short G.concretes.short G.abstracts.bindings G.concretes.bindings
 
     pub opening-states : k ≡ 0 → StatesAre cells p us cs
     opening-states e =
         let t = P.opening d G e in
-        states-of t.0 (ap (λ (q : Part). q.vm) t.1) (ap (λ (q : Part). q.nm) t.1) (ap (λ (q : Part). q.vc) t.1) (ap (λ (q : Part). q.nc) t.1)
+        states-of t.0 (ap (λ (q : Part). q.meeting.variables) t.1) (ap (λ (q : Part). q.meeting.bindings) t.1) (ap (λ (q : Part). q.concretes.variables) t.1) (ap (λ (q : Part). q.concretes.bindings) t.1)
 
     module _ (j : ℕ) (op : Operation) (listed : get_elem? d.operations j ≡ some op) (e : k ≡ 2 + 2 * j) where
       pub operation-states : StatesAre cells p us cs
       operation-states =
           let t = P.correcting d G j op listed e in
-          states-of t.0.states (ap (λ (q : Part). q.vm) t.1) (ap (λ (q : Part). q.nm) t.1) (ap (λ (q : Part). q.vc) t.1) (ap (λ (q : Part). q.nc) t.1)
+          states-of t.0.states (ap (λ (q : Part). q.meeting.variables) t.1) (ap (λ (q : Part). q.meeting.bindings) t.1) (ap (λ (q : Part). q.concretes.variables) t.1) (ap (λ (q : Part). q.concretes.bindings) t.1)
 
       pub operation-parameters : ParametersAre cells p (inputs d op) (outputs d op)
       operation-parameters =
@@ -69,17 +69,17 @@ module _ {table groups : List ℕ} {k : ℕ} {cells : List ℕ} {p : Part} (P : 
           let i = G.inputs_at j op listed in
           let o = G.outputs_at j op listed in
           record {
-            inputs = record { each = t.0.inputs; long = sym (ap (λ (q : Part). q.vi) t.1); count = ap (λ (q : Part). q.ni) t.1; few = omega (arith, i.bindings) };
-            outputs = record { each = t.0.outputs; long = sym (ap (λ (q : Part). q.vo) t.1); count = ap (λ (q : Part). q.nq) t.1; few = omega (arith, o.bindings) };
+            inputs = record { each = t.0.inputs; long = sym (ap (λ (q : Part). q.inputs.variables) t.1); count = ap (λ (q : Part). q.inputs.bindings) t.1; few = omega (arith, i.bindings) };
+            outputs = record { each = t.0.outputs; long = sym (ap (λ (q : Part). q.outputs.variables) t.1); count = ap (λ (q : Part). q.outputs.bindings) t.1; few = omega (arith, o.bindings) };
             inputs_short = i.short;
             outputs_short = o.short;
           }
 
     -- initialisation has none
-    no_parameters : k ≡ 0 → (p.vi ≡ 0) × (p.vo ≡ 0) × (p.ni ≡ 1) × (p.nq ≡ 1)
+    no_parameters : k ≡ 0 → (p.inputs.variables ≡ 0) × (p.outputs.variables ≡ 0) × (p.inputs.bindings ≡ 1) × (p.outputs.bindings ≡ 1)
     no_parameters e =
         let t = P.opening d G e in
-        (ap (λ (q : Part). q.vi) t.1, ap (λ (q : Part). q.vo) t.1, ap (λ (q : Part). q.ni) t.1, ap (λ (q : Part). q.nq) t.1)
+        (ap (λ (q : Part). q.inputs.variables) t.1, ap (λ (q : Part). q.outputs.variables) t.1, ap (λ (q : Part). q.inputs.bindings) t.1, ap (λ (q : Part). q.outputs.bindings) t.1)
 
     empty-parameters : k ≡ 0 → ParametersAre cells p [] []
     unfolding CellsOf binding_count
@@ -118,8 +118,8 @@ module _ {table groups : List ℕ} {k : ℕ} {cells : List ℕ} {p : Part} (P : 
             record { inward = inputs A.dossier t.0; outward = outputs A.dossier t.0; are = operation-parameters A.dossier A.groups_are operation t.0 t.1 (o.own h) }
         go (inr h) = record { inward = []; outward = []; are = empty-parameters A.dossier A.groups_are (o.first h) }
 
-    pub shown : {x : Numbers} {ρ σ τ : List ℤ} → StatesBound cells p x ρ σ → ParametersBound cells p x σ τ
-        → Shown table groups operations operation x τ record { va = p.vm; vc = p.vc; vi = p.vi; vo = p.vo }
+    pub shown : {x : Bindings} {ρ σ τ : List ℤ} → StatesBound cells p x ρ σ → ParametersBound cells p x σ τ
+        → Shown table groups operations operation x τ record { va = p.meeting.variables; vc = p.concretes.variables; vi = p.inputs.variables; vo = p.outputs.variables }
     unfolding abstract_bindings concrete_bindings output_bindings
     shown {x} {ρ} {σ} {τ} s q =
         let B = states-kept s q in

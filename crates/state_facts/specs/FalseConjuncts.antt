@@ -66,10 +66,10 @@ abbrev pub pair_of : Dossier → (a c : ℕ) → Environment
 pair_of d a c = environment d (abstract_at d a ++ concrete_at d c)
 
 pub record FalsePair (table rows firsts cells : List ℕ) (p : Part) (a c : ℕ) (r : Option ℕ) : Type 0 where
-  pub first : (d : Dossier) → StatesRead table rows firsts cells p d → a < p.nm → c < p.nc → (K : Context) (W : Slots) → ContextIs d 4 K W
+  pub first : (d : Dossier) → StatesRead table rows firsts cells p d → a < p.meeting.bindings → c < p.concretes.bindings → (K : Context) (W : Slots) → ContextIs d 4 K W
       → (k : ContextAt table rows firsts 4 K W) → FirstFalse Every (In (pair_of d a c)) (get_or firsts 4 0) k.conjuncts r
-  pub no_abstract : p.nm ≤ a → r ≡ None
-  pub no_concrete : p.nc ≤ c → r ≡ None
+  pub no_abstract : p.meeting.bindings ≤ a → r ≡ None
+  pub no_concrete : p.concretes.bindings ≤ c → r ≡ None
 
 -- of every dossier whose reading the arrays are, whatever its conjuncts of retrieve are taken to be (read_predicates/specs/PredicateRows.ContextAt)
 pub record FalseConjunct (table rows firsts groups : List ℕ) (operations a c : ℕ) (r : Option ℕ) : Type 0 where
@@ -107,11 +107,11 @@ pub record GuardAsked (table rows firsts cells : List ℕ) (p : Part) (j : ℕ) 
   pub few : j < 16
 
 pub record FalseStep (table rows firsts cells : List ℕ) (p : Part) (j c i : ℕ) (r : Option ℕ) : Type 0 where
-  pub first : (d : Dossier) (op : Operation) → OperationRead table rows firsts cells p j d op → c < p.nc → i < p.ni → (K : Context) (W : Slots) → ContextIs d (5 + 2 * j + 1) K W
+  pub first : (d : Dossier) (op : Operation) → OperationRead table rows firsts cells p j d op → c < p.concretes.bindings → i < p.inputs.bindings → (K : Context) (W : Slots) → ContextIs d (5 + 2 * j + 1) K W
       → (k : ContextAt table rows firsts (5 + 2 * j + 1) K W)
       → FirstFalse (Guard rows) (Throughout (StepFrom d op c i)) (get_or firsts (5 + 2 * j + 1) 0) k.conjuncts r
-  pub no_concrete : p.nc ≤ c → r ≡ None
-  pub no_inputs : p.ni ≤ i → r ≡ None
+  pub no_concrete : p.concretes.bindings ≤ c → r ≡ None
+  pub no_inputs : p.inputs.bindings ≤ i → r ≡ None
 
 pub record FalseGuard (table rows firsts groups : List ℕ) (operations j c i : ℕ) (r : Option ℕ) : Type 0 where
   pub first : (d : Dossier) (op : Operation) → ReadingOf table rows firsts groups d → operations ≡ length d.operations → get_elem? d.operations j ≡ some op

@@ -5,7 +5,7 @@ use Rattle.static_rules.specs.Limits.{binding_count}
 use Rattle.meaning.specs.Bindings.{bindings}
 use Rattle.slot_carriers.specs.CellGroups.{CellsOf, Holding}
 use Rattle.plans.specs.declared.Part.{Part}
-use Rattle.state_facts.specs.declared.Numbers.{Numbers}
+use Rattle.pages.specs.declared.Bindings.{Bindings}
 
 -- the cells from the slot s on are those of these variables, n of them with w bindings
 pub record GroupOf (cells : List ℕ) (s n w : ℕ) (vs : List Variable) : Type 0 where
@@ -25,10 +25,10 @@ pub record GroupBound (cells : List ℕ) (s n w k : ℕ) (σ : List ℤ) : Type 
 -- ---- both states
 
 pub record StatesAre (cells : List ℕ) (p : Part) (us cs : List Variable) : Type 0 where
-  pub abstracts : GroupOf cells 0 p.vm p.nm us
-  pub concretes : GroupOf cells 8 p.vc p.nc cs
-  pub concretes_primed : GroupOf cells 22 p.vc p.nc cs
-  pub abstracts_primed : GroupOf cells 30 p.vm p.nm us
+  pub abstracts : GroupOf cells 0 p.meeting.variables p.meeting.bindings us
+  pub concretes : GroupOf cells 8 p.concretes.variables p.concretes.bindings cs
+  pub concretes_primed : GroupOf cells 22 p.concretes.variables p.concretes.bindings cs
+  pub abstracts_primed : GroupOf cells 30 p.meeting.variables p.meeting.bindings us
   pub abstracts_short : length us ≤ 8
   pub concretes_short : length cs ≤ 8
 
@@ -47,7 +47,7 @@ pub record OthersFrom (s : ℕ) (old new : List ℤ) : Type 0 where
   pub above : (i : ℕ) → s ≤ i → get_or new i (pos 0) ≡ get_or old i (pos 0)
   pub same_length : length new ≡ length old
 
-pub record StatesBound (cells : List ℕ) (p : Part) (x : Numbers) (old new : List ℤ) : Type 0 where
+pub record StatesBound (cells : List ℕ) (p : Part) (x : Bindings) (old new : List ℤ) : Type 0 where
   pub before : PairBound cells p x.a x.c new
   pub concretes_primed : (us cs : List Variable) → StatesAre cells p us cs → Holding new 22 (get_or (bindings cs) x.k [])
   pub abstracts_primed : (us cs : List Variable) → StatesAre cells p us cs → Holding new 30 (get_or (bindings us) x.b [])
@@ -56,8 +56,8 @@ pub record StatesBound (cells : List ℕ) (p : Part) (x : Numbers) (old new : Li
 -- ---- the parameters of an operation
 
 pub record ParametersAre (cells : List ℕ) (p : Part) (is os : List Variable) : Type 0 where
-  pub inputs : GroupOf cells 16 p.vi p.ni is
-  pub outputs : GroupOf cells 19 p.vo p.nq os
+  pub inputs : GroupOf cells 16 p.inputs.variables p.inputs.bindings is
+  pub outputs : GroupOf cells 19 p.outputs.variables p.outputs.bindings os
   pub inputs_short : length is ≤ 3
   pub outputs_short : length os ≤ 3
 
@@ -66,7 +66,7 @@ pub record ParametersSized (cells : List ℕ) (p : Part) : Type 0 where
   pub outward : List Variable
   pub are : ParametersAre cells p inward outward
 
-pub record ParametersBound (cells : List ℕ) (p : Part) (x : Numbers) (old new : List ℤ) : Type 0 where
+pub record ParametersBound (cells : List ℕ) (p : Part) (x : Bindings) (old new : List ℤ) : Type 0 where
   pub inputs : (is os : List Variable) → ParametersAre cells p is os → Holding new 16 (get_or (bindings is) x.i [])
   pub outputs : (is os : List Variable) → ParametersAre cells p is os → Holding new 19 (get_or (bindings os) x.o [])
   pub below : (i : ℕ) → i < 16 → get_or new i (pos 0) ≡ get_or old i (pos 0)

@@ -6,8 +6,9 @@ ghost use Rattle.state_facts.specs.Reads.{ReadAsked, SearchAsked};
 ghost use Rattle.state_facts.specs.FalseConjuncts.{CountedFirst, guard_test, FalsePair, FalseConjunct};
 ghost use Rattle.state_facts.specs.FalseConjuncts.{GuardAsked, FalseStep, FalseGuard};
 
-use crate::{INITIALISATION, Numbers, Pair, StateSearch, correctness_of, state_search};
+use crate::{INITIALISATION, Pair, StateSearch, correctness_of, state_search};
 use form::node::NUMBERS;
+use pages::Bindings;
 use search_groups::Dossier;
 use search_groups::columns::{ABSTRACT_PRIMED, CONCRETE_PRIMED, END, OUTPUTS};
 use search_groups::conjuncts::ROW;
@@ -43,7 +44,7 @@ fn retrieve_false(s: &StateSearch<'_>, x: Pair) -> Option<usize>
     requires { SearchAsked s.now.dossier.table.now s.now.dossier.rows.now s.now.dossier.firsts.now s.now.cells s.now.part }
     ensures { FalsePair s.now.dossier.table.now s.now.dossier.rows.now s.now.dossier.firsts.now s.now.cells s.now.part x.a x.c result }
 {
-    if s.part.nm <= x.a || s.part.nc <= x.c {
+    if s.part.meeting.bindings <= x.a || s.part.concretes.bindings <= x.c {
         return None;
     }
     let mut slots = [0i64; SLOTS];
@@ -74,11 +75,11 @@ fn step_false(s: &StateSearch<'_>, j: usize, c: usize, i: usize) -> Option<usize
     requires { GuardAsked s.now.dossier.table.now s.now.dossier.rows.now s.now.dossier.firsts.now s.now.cells s.now.part j }
     ensures { FalseStep s.now.dossier.table.now s.now.dossier.rows.now s.now.dossier.firsts.now s.now.cells s.now.part j c i result }
 {
-    if s.part.nc <= c || s.part.ni <= i {
+    if s.part.concretes.bindings <= c || s.part.inputs.bindings <= i {
         return None;
     }
     let mut slots = [0i64; SLOTS];
-    let x = Numbers {
+    let x = Bindings {
         a: 0,
         c,
         i,

@@ -13,6 +13,7 @@ ghost use Rattle.std.specs.Prelude.{◌≡◌, ◌+◌, ◌*◌, ◌<◌, ◌≤
 ghost use Rattle.part_places.specs.Places.{AllAsked, PartAsked, PartSet};
 ghost use Rattle.state_facts.specs.Shown.{PartOf, Shown};
 
+use pages::{Bindings, Counts};
 use part_places::{OBLIGATIONS, part_cells};
 use plans::Part;
 use search_groups::Dossier;
@@ -23,17 +24,6 @@ use slot_carriers::{CELLS, SLOTS};
 pub struct Pair {
     pub a: usize,
     pub c: usize,
-}
-
-// The numbers of bindings: of the abstract and the concrete state, the inputs, the outputs, the concrete and the abstract state after.
-#[derive(Clone, Copy)]
-pub struct Numbers {
-    pub a: usize,
-    pub c: usize,
-    pub i: usize,
-    pub o: usize,
-    pub k: usize,
-    pub b: usize,
 }
 
 // What a search among states goes over: the dossier, the cells of a part's variables, and the part's sizes.
@@ -57,15 +47,6 @@ fn state_search<'a>(d: &Dossier<'a>, k: usize) -> StateSearch<'a>
         cells,
         part,
     }
-}
-
-// How many variables the groups have: of the abstract and the concrete state, inputs, outputs.
-#[derive(Clone, Copy)]
-pub struct Sizes {
-    pub va: usize,
-    pub vc: usize,
-    pub vi: usize,
-    pub vo: usize,
 }
 
 // The part of the check that has the groups of both states.
@@ -92,7 +73,7 @@ fn part_of(operations: usize, operation: usize) -> usize
 }
 
 // The slots get the values of the bindings with these numbers; a group whose number is out of range keeps its slots. Where the operation is none of the dossier's, it is the states alone.
-pub fn show(d: &Dossier<'_>, operation: usize, x: Numbers, slots: &mut [i64; SLOTS]) -> Sizes
+pub fn show(d: &Dossier<'_>, operation: usize, x: Bindings, slots: &mut [i64; SLOTS]) -> Counts
     requires { AllAsked d.now.table.now d.now.groups.now d.now.operations }
     ensures { Shown d.now.table.now d.now.groups.now d.now.operations operation x slots.new result }
 {
@@ -100,10 +81,10 @@ pub fn show(d: &Dossier<'_>, operation: usize, x: Numbers, slots: &mut [i64; SLO
     let p = s.part;
     s.put_states(x, slots);
     s.put_parameters(x, slots);
-    Sizes {
-        va: p.vm,
-        vc: p.vc,
-        vi: p.vi,
-        vo: p.vo,
+    Counts {
+        va: p.meeting.variables,
+        vc: p.concretes.variables,
+        vi: p.inputs.variables,
+        vo: p.outputs.variables,
     }
 }

@@ -4,7 +4,7 @@ ghost use Rattle.state_facts.specs.Reads.{ReadAsked};
 ghost use Rattle.state_facts.specs.Omissions.{RowsStand, RowsSay, BitsSay, LeftOut};
 
 use lexical::bounds;
-use mentions::free_pred;
+use mentions::Mention;
 use search_groups::Dossier;
 use search_groups::columns::END;
 use search_groups::conjuncts::ROW;
@@ -22,10 +22,14 @@ fn rows_free(d: &Dossier<'_>, from: usize, to: usize, slot: usize) -> bool
     requires { RowsStand d.now.table.now d.now.rows.now from to }
     ensures { RowsSay d.now.table.now d.now.rows.now from to slot result }
 {
+    let mention = Mention {
+        table: d.table,
+        slot,
+    };
     (from..to).step_by(ROW).all(
         |i|
             requires { i + 8 ≤ 16384 }
-        { free_pred(d.table, usize::from(d.rows[i + END]), slot) },
+        { mention.free_pred(usize::from(d.rows[i + END])) },
     )
 }
 

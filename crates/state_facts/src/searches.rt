@@ -14,7 +14,7 @@ use step_searches::concrete_state_at;
 // Is the a-th abstract binding an initial state?
 fn initial_at(s: &StateSearch<'_>, a: usize) -> bool
     requires search_asked { SearchAsked s.now.dossier.table.now s.now.dossier.rows.now s.now.dossier.firsts.now s.now.cells s.now.part }
-    requires a_lt_nm { a < s.now.part.nm }
+    requires a_lt_nm { a < s.now.part.meeting.bindings }
     ensures { TestIs s.now.dossier.table.now s.now.dossier.rows.now s.now.dossier.firsts.now s.now.cells s.now.part abstract_initial_at a result }
 {
     let mut slots = [0i64; SLOTS];
@@ -28,16 +28,7 @@ pub fn next_abstract_initial(d: &Dossier<'_>, from: usize) -> Option<usize>
     ensures { Next d.now.table.now d.now.rows.now d.now.firsts.now d.now.groups.now d.now.operations abstract_initial_at abstract_count from result }
 {
     let s = state_search(d, INITIALISATION);
-    (from..s.part.nm).find(|&a| initial_at(&s, a))
-}
-
-// The next concrete state.
-pub fn next_concrete_state(d: &Dossier<'_>, from: usize) -> Option<usize>
-    requires { ReadAsked d.now.table.now d.now.rows.now d.now.firsts.now d.now.groups.now d.now.operations }
-    ensures { Next d.now.table.now d.now.rows.now d.now.firsts.now d.now.groups.now d.now.operations concrete_state_at concrete_count from result }
-{
-    let s = state_search(d, INITIALISATION);
-    step_searches::next_concrete_state(d, &s.cells, s.part, from)
+    (from..s.part.meeting.bindings).find(|&a| initial_at(&s, a))
 }
 
 // How many concrete states there are.
@@ -46,7 +37,7 @@ pub fn concrete_states(d: &Dossier<'_>) -> usize
     ensures { Counted d.now.table.now d.now.rows.now d.now.firsts.now d.now.groups.now d.now.operations concrete_state_at concrete_count result }
 {
     let s = state_search(d, INITIALISATION);
-    (0..s.part.nc)
+    (0..s.part.concretes.bindings)
         .filter(|&c| concrete_state_at(&s.dossier, &s.cells, s.part, c))
         .count()
 }
@@ -54,7 +45,7 @@ pub fn concrete_states(d: &Dossier<'_>) -> usize
 // Are the two bindings states that retrieve relates?
 fn related_at(s: &StateSearch<'_>, x: Pair) -> bool
     requires search_asked { SearchAsked s.now.dossier.table.now s.now.dossier.rows.now s.now.dossier.firsts.now s.now.cells s.now.part }
-    requires x_bound { (x.a < s.now.part.nm) × (x.c < s.now.part.nc) }
+    requires x_bound { (x.a < s.now.part.meeting.bindings) × (x.c < s.now.part.concretes.bindings) }
     ensures { PairIs s.now.dossier.table.now s.now.dossier.rows.now s.now.dossier.firsts.now s.now.cells s.now.part related_at x.a x.c result }
 {
     let mut slots = [0i64; SLOTS];
@@ -67,16 +58,16 @@ fn related_at(s: &StateSearch<'_>, x: Pair) -> bool
 // pair: a parameter for the side would be a `match` at each of the three.
 fn unrelated_concrete(s: &StateSearch<'_>, c: usize) -> bool
     requires search_asked { SearchAsked s.now.dossier.table.now s.now.dossier.rows.now s.now.dossier.firsts.now s.now.cells s.now.part }
-    requires c_lt_nc { c < s.now.part.nc }
+    requires c_lt_nc { c < s.now.part.concretes.bindings }
     ensures { TestIs s.now.dossier.table.now s.now.dossier.rows.now s.now.dossier.firsts.now s.now.cells s.now.part unrelated_concrete c result }
 {
-    !(0..s.part.nm).any(|a| related_at(s, Pair { a, c }))
+    !(0..s.part.meeting.bindings).any(|a| related_at(s, Pair { a, c }))
 }
 
 // Is it a state that no abstract state is related to?
 fn lonely_concrete_at(s: &StateSearch<'_>, c: usize) -> bool
     requires search_asked { SearchAsked s.now.dossier.table.now s.now.dossier.rows.now s.now.dossier.firsts.now s.now.cells s.now.part }
-    requires c_lt_nc { c < s.now.part.nc }
+    requires c_lt_nc { c < s.now.part.concretes.bindings }
     ensures { TestIs s.now.dossier.table.now s.now.dossier.rows.now s.now.dossier.firsts.now s.now.cells s.now.part lonely_concrete c result }
 {
     concrete_state_at(&s.dossier, &s.cells, s.part, c) && unrelated_concrete(s, c)
@@ -88,13 +79,13 @@ pub fn next_lonely_concrete(d: &Dossier<'_>, from: usize) -> Option<usize>
     ensures { Next d.now.table.now d.now.rows.now d.now.firsts.now d.now.groups.now d.now.operations lonely_concrete concrete_count from result }
 {
     let s = state_search(d, INITIALISATION);
-    (from..s.part.nc).find(|&c| lonely_concrete_at(&s, c))
+    (from..s.part.concretes.bindings).find(|&c| lonely_concrete_at(&s, c))
 }
 
 // Is the a-th abstract binding a state?
 fn abstract_at(s: &StateSearch<'_>, a: usize) -> bool
     requires search_asked { SearchAsked s.now.dossier.table.now s.now.dossier.rows.now s.now.dossier.firsts.now s.now.cells s.now.part }
-    requires a_lt_nm { a < s.now.part.nm }
+    requires a_lt_nm { a < s.now.part.meeting.bindings }
     ensures { TestIs s.now.dossier.table.now s.now.dossier.rows.now s.now.dossier.firsts.now s.now.cells s.now.part abstract_state_at a result }
 {
     let mut slots = [0i64; SLOTS];
@@ -105,16 +96,16 @@ fn abstract_at(s: &StateSearch<'_>, a: usize) -> bool
 // Is no concrete state related to it?
 fn unrelated_abstract(s: &StateSearch<'_>, a: usize) -> bool
     requires search_asked { SearchAsked s.now.dossier.table.now s.now.dossier.rows.now s.now.dossier.firsts.now s.now.cells s.now.part }
-    requires a_lt_nm { a < s.now.part.nm }
+    requires a_lt_nm { a < s.now.part.meeting.bindings }
     ensures { TestIs s.now.dossier.table.now s.now.dossier.rows.now s.now.dossier.firsts.now s.now.cells s.now.part unrelated_abstract a result }
 {
-    !(0..s.part.nc).any(|c| related_at(s, Pair { a, c }))
+    !(0..s.part.concretes.bindings).any(|c| related_at(s, Pair { a, c }))
 }
 
 // Is it a state that no concrete state is related to?
 fn lonely_abstract_at(s: &StateSearch<'_>, a: usize) -> bool
     requires search_asked { SearchAsked s.now.dossier.table.now s.now.dossier.rows.now s.now.dossier.firsts.now s.now.cells s.now.part }
-    requires a_lt_nm { a < s.now.part.nm }
+    requires a_lt_nm { a < s.now.part.meeting.bindings }
     ensures { TestIs s.now.dossier.table.now s.now.dossier.rows.now s.now.dossier.firsts.now s.now.cells s.now.part lonely_abstract a result }
 {
     abstract_at(s, a) && unrelated_abstract(s, a)
@@ -126,5 +117,5 @@ pub fn next_lonely_abstract(d: &Dossier<'_>, from: usize) -> Option<usize>
     ensures { Next d.now.table.now d.now.rows.now d.now.firsts.now d.now.groups.now d.now.operations lonely_abstract abstract_count from result }
 {
     let s = state_search(d, INITIALISATION);
-    (from..s.part.nm).find(|&a| lonely_abstract_at(&s, a))
+    (from..s.part.meeting.bindings).find(|&a| lonely_abstract_at(&s, a))
 }

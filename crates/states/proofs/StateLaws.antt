@@ -1,6 +1,7 @@
 -- The contexts of a dossier, each at its number: what is asked where bindings stand in the slots, and what the answer means for initial states and retrieve.
+-- stands once for each side: the laws of what initial states ask and answer, since specs/Promises has two records for each side; each cites `asked-at`, `answer_at` and `both-is`.
 use mathlib.Core.Path.{◌≡◌, refl, sym, ap, ◌∙◌, subst}
-use mathlib.Core.Bool.{Bool, true, false, true≢false, ◌&&◌}
+use mathlib.Core.Bool.{Bool, true, false, ◌&&◌}
 use mathlib.Core.List.{List, [], ◌∷◌, ◌++◌}
 use mathlib.Core.Option.{some}
 use Prim.Native.Nat.{ℕ}
@@ -121,31 +122,13 @@ pub data Both (P Q : Bool → Type 0) : Bool → Type 0 where
   first_holds : {r : Bool} → P true → Q r → Both P Q r
   first_fails : P false → Both P Q false
 
-pub both-hold : {P Q : Bool → Type 0} {r : Bool} → Both P Q r → r ≡ true → P true × Q true
-both-hold {Q = Q} (first_holds p q) e = (p, subst Q e q)
-both-hold (first_fails p) e = absurd (true≢false (sym e))
-
-pub one-fails : {P Q : Bool → Type 0} {R : Type 0} {r : Bool} → Both P Q r → r ≡ false → (P false → R) → (P true → Q false → R) → R
-one-fails {Q = Q} (first_holds p q) e f g = g p (subst Q e q)
-one-fails (first_fails p) e f g = f p
-
 pub as-both : {P Q : Bool → Type 0} {x r : Bool} → x ≡ r → Both P Q r → Both P Q x
 as-both {P} {Q} e b = subst (Both P Q) (sym e) b
 
-two-first : (x y : Bool) → false ≡ x → false ≡ (x && y)
-two-first x y e = subst (λ (c : Bool). false ≡ (c && y)) e refl
-
-two-second : (x y r : Bool) → true ≡ x → r ≡ y → r ≡ (x && y)
-two-second x y r e h = subst (λ (c : Bool). r ≡ (c && y)) e h
-
-pub three-first : (x y z : Bool) → false ≡ x → false ≡ (x && y && z)
-three-first x y z e = subst (λ (c : Bool). false ≡ (c && y && z)) e refl
-
-pub three-second : (x y z : Bool) → true ≡ x → false ≡ y → false ≡ (x && y && z)
-three-second x y z e h = subst (λ (c : Bool). false ≡ (c && y && z)) e (subst (λ (c : Bool). false ≡ (true && c && z)) h refl)
-
-pub three_third : (x y z r : Bool) → true ≡ x → true ≡ y → r ≡ z → r ≡ (x && y && z)
-three_third x y z r e h k = subst (λ (c : Bool). r ≡ (c && y && z)) e (subst (λ (c : Bool). r ≡ (true && c && z)) h k)
+-- the answer is whether both hold, where each answers a truth
+pub both-is : {P Q : Bool → Type 0} {r : Bool} (x y : Bool) → Both P Q r → ((b : Bool) → P b → b ≡ x) → ((b : Bool) → Q b → b ≡ y) → r ≡ (x && y)
+both-is {r = r} x y (first_holds p q) f g = subst (λ (c : Bool). r ≡ (c && y)) (f true p) (g r q)
+both-is x y (first_fails p) f g = subst (λ (c : Bool). false ≡ (c && y)) (f false p) refl
 
 -- ---- initial states, retrieve
 
@@ -156,18 +139,12 @@ module _ {table rows firsts : List ℕ} {σ : Values} where
   pub abstract-initial-init : AbstractInitialAsked table rows firsts σ → ContextAsked table rows firsts 2 σ
   abstract-initial-init a = asked-at a.tests (ainit-context a.dossier) a.placed
 
-  pub abstract-initial-no : ContextAnswers table rows firsts 0 σ false → AbstractInitialAnswers table rows firsts σ false
-  unfolding abstract_initial is_state
-  abstract-initial-no k = record {
-    means = λ d a t h. two-first (is_state d d.abstract a) (holds d.ainit (environment d a)) (answer_at t (abstract-context d) h k);
-  }
-
-  pub abstract-initial-is : {r : Bool} → ContextAnswers table rows firsts 0 σ true → ContextAnswers table rows firsts 2 σ r
+  pub abstract-initial-is : {r : Bool} → Both (ContextAnswers table rows firsts 0 σ) (ContextAnswers table rows firsts 2 σ) r
       → AbstractInitialAnswers table rows firsts σ r
   unfolding abstract_initial is_state
-  abstract-initial-is {r} k l = record {
+  abstract-initial-is w = record {
     means = λ d a t h.
-        two-second (is_state d d.abstract a) (holds d.ainit (environment d a)) r (answer_at t (abstract-context d) h k) (answer_at t (ainit-context d) h l);
+        both-is (is_state d d.abstract a) (holds d.ainit (environment d a)) w (λ b k. answer_at t (abstract-context d) h k) (λ b k. answer_at t (ainit-context d) h k);
   }
 
   pub concrete-initial-state : ConcreteInitialAsked table rows firsts σ → ContextAsked table rows firsts 1 σ
@@ -176,18 +153,12 @@ module _ {table rows firsts : List ℕ} {σ : Values} where
   pub concrete-initial-init : ConcreteInitialAsked table rows firsts σ → ContextAsked table rows firsts 3 σ
   concrete-initial-init a = asked-at a.tests (cinit-context a.dossier) a.placed
 
-  pub concrete-initial-no : ContextAnswers table rows firsts 1 σ false → ConcreteInitialAnswers table rows firsts σ false
-  unfolding concrete_initial is_state
-  concrete-initial-no k = record {
-    means = λ d c t h. two-first (is_state d d.concrete c) (holds d.cinit (environment d c)) (answer_at t (concrete-context d) h k);
-  }
-
-  pub concrete-initial-is : {r : Bool} → ContextAnswers table rows firsts 1 σ true → ContextAnswers table rows firsts 3 σ r
+  pub concrete-initial-is : {r : Bool} → Both (ContextAnswers table rows firsts 1 σ) (ContextAnswers table rows firsts 3 σ) r
       → ConcreteInitialAnswers table rows firsts σ r
   unfolding concrete_initial is_state
-  concrete-initial-is {r} k l = record {
+  concrete-initial-is w = record {
     means = λ d c t h.
-        two-second (is_state d d.concrete c) (holds d.cinit (environment d c)) r (answer_at t (concrete-context d) h k) (answer_at t (cinit-context d) h l);
+        both-is (is_state d d.concrete c) (holds d.cinit (environment d c)) w (λ b k. answer_at t (concrete-context d) h k) (λ b k. answer_at t (cinit-context d) h k);
   }
 
   pub related-abstract : RelatedAsked table rows firsts σ → ContextAsked table rows firsts 0 σ
@@ -200,26 +171,12 @@ module _ {table rows firsts : List ℕ} {σ : Values} where
   related-retrieve a =
       asked-at a.tests (retrieve-context a.dossier) (both-in a.dossier a.abstractly a.concretely σ a.abstract_in a.concrete_in)
 
-  pub related-no : ContextAnswers table rows firsts 0 σ false → RelatedAnswers table rows firsts σ false
-  unfolding related is_state
-  related-no k = record {
-    means = λ d a c t h l.
-        three-first (is_state d d.abstract a) (is_state d d.concrete c) (holds d.retrieve (environment d (a ++ c))) (answer_at t (abstract-context d) h k);
-  }
-
-  pub related-not : ContextAnswers table rows firsts 0 σ true → ContextAnswers table rows firsts 1 σ false → RelatedAnswers table rows firsts σ false
-  unfolding related is_state
-  related-not k m = record {
-    means = λ d a c t h l.
-        three-second (is_state d d.abstract a) (is_state d d.concrete c) (holds d.retrieve (environment d (a ++ c))) (answer_at t (abstract-context d) h k)
-        (answer_at t (concrete-context d) l m);
-  }
-
-  pub related-is : {r : Bool} → ContextAnswers table rows firsts 0 σ true → ContextAnswers table rows firsts 1 σ true → ContextAnswers table rows firsts 4 σ r
+  pub related-is : {r : Bool} → Both (Both (ContextAnswers table rows firsts 0 σ) (ContextAnswers table rows firsts 1 σ)) (ContextAnswers table rows firsts 4 σ) r
       → RelatedAnswers table rows firsts σ r
   unfolding related is_state
-  related-is {r} k m n = record {
+  related-is w = record {
     means = λ d a c t h l.
-        three_third (is_state d d.abstract a) (is_state d d.concrete c) (holds d.retrieve (environment d (a ++ c))) r (answer_at t (abstract-context d) h k)
-        (answer_at t (concrete-context d) l m) (answer_at t (retrieve-context d) (both-in d a c σ h l) n);
+        both-is (is_state d d.abstract a && is_state d d.concrete c) (holds d.retrieve (environment d (a ++ c))) w
+        (λ b k. both-is (is_state d d.abstract a) (is_state d d.concrete c) k (λ b m. answer_at t (abstract-context d) h m) (λ b m. answer_at t (concrete-context d) l m))
+        (λ b k. answer_at t (retrieve-context d) (both-in d a c σ h l) k);
   }

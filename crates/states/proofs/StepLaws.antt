@@ -1,6 +1,7 @@
 -- The contexts of operations, two for each, and what the answers mean for steps.
+-- stands once for each side: the laws of what steps ask and answer, for the same reason; each cites `asked-at`, `step-placed` or `step-means`.
 use mathlib.Core.Path.{◌≡◌, refl, sym, ap, ◌∙◌, subst}
-use mathlib.Core.Bool.{Bool, true, false}
+use mathlib.Core.Bool.{Bool, ◌&&◌}
 use mathlib.Core.List.{List, [], ◌∷◌, ◌++◌, append_assoc}
 use mathlib.Core.Option.{Option, none, some, none-ne-some, some-injective}
 use Prim.Native.Nat.{ℕ, zero, suc, ◌+◌, ◌*◌, ◌<◌}
@@ -18,11 +19,11 @@ use Rattle.search_groups.specs.TablePlacesResolvedTable.{Slots, slotted}
 use Rattle.search_groups.specs.TablePlacesDossierTable.{slots_of, operation_slots, abstract_slots, concrete_slots, parameter_slots}
 use Rattle.evaluator.specs.EvaluationEvaluationByNumber.{Values}
 use Rattle.evaluator.specs.EvaluationSlotValues.{Slotted}
+use Rattle.read_predicates.specs.PredicateRows.{TestsOf}
 use Rattle.states.specs.StateTests.{Placed, StepAt}
 use Rattle.states.specs.Promises.{ContextAsked, ContextAnswers}
 use Rattle.states.specs.Promises.{AbstractStepAsked, AbstractStepAnswers, ConcreteStepAsked, ConcreteStepAnswers}
-use Rattle.states.proofs.StateLaws.{ContextOf, abstract-context, concrete-context, asked-at, answer_at, over-append, slotted-append}
-use Rattle.states.proofs.StateLaws.{three-first, three-second, three_third}
+use Rattle.states.proofs.StateLaws.{ContextOf, abstract-context, concrete-context, asked-at, answer_at, over-append, slotted-append, Both, both-is}
 use Rattle.static_rules.proofs.FoundCarriers.{variables-one, variables-skip}
 
 -- ---- the contexts of the k-th operation
@@ -44,54 +45,42 @@ record Entry (d : Dossier) (cs : List Context) (Ws : List Slots) (n : ℕ) (p : 
   givens_are : context.scope.givens ≡ d.givens
   reach_is : context.scope.reach ≡ vs
 
+-- one context further on
+further : {d : Dossier} {cs : List Context} {Ws : List Slots} {n : ℕ} {p : Pred} {vs : List Variable} {W : Slots} (c : Context) (Y : Slots) → Entry d cs Ws n p vs W
+    → Entry d (c ∷ cs) (Y ∷ Ws) (suc n) p vs W
+further c Y h = record {
+  context = h.context;
+  is = h.is;
+  slots_are = h.slots_are;
+  predicate_is = h.predicate_is;
+  givens_are = h.givens_are;
+  reach_is = h.reach_is;
+}
+
 abbrev abstract_of : Dossier → Operation → Slots
 abstract_of d op = abstract_slots d ++ slotted 30 (primed d d.abstract) ++ parameter_slots d op
 
 abbrev concrete_of : Dossier → Operation → Slots
 concrete_of d op = concrete_slots d ++ slotted 22 (primed d d.concrete) ++ parameter_slots d op
 
-module _ (d : Dossier) where
-  abstract-entry : (i : ℕ) (xs : List Letters) (os : List Operation) (k : ℕ) (op : Operation) → get_elem? os k ≡ some op
-      → Entry d (operation_contexts d i xs os) (operation_slots d os) (double k) op.abstractly (operation_reach d d.abstract op) (abstract_of d op)
-  unfolding double operation_contexts operation_slots
-  abstract-entry i xs [] k op e = absurd (none-ne-some op e)
-  abstract-entry i xs (o ∷ os) zero op e =
-      subst
-      (λ (x : Operation).
-      Entry d (operation_contexts d i xs (o ∷ os)) (operation_slots d (o ∷ os)) zero x.abstractly (operation_reach d d.abstract x) (abstract_of d x))
-      (some-injective o op e)
-      (record { context = _; is = refl; slots_are = refl; predicate_is = refl; givens_are = refl; reach_is = refl })
-  abstract-entry i xs (o ∷ os) (suc k) op e =
-      let h = abstract-entry (i + operation_length o) (o.title ∷ xs) os k op e in
-      record {
-        context = h.context;
-        is = h.is;
-        slots_are = h.slots_are;
-        predicate_is = h.predicate_is;
-        givens_are = h.givens_are;
-        reach_is = h.reach_is;
-      }
+-- both contexts of an operation
+record Entries (d : Dossier) (cs : List Context) (Ws : List Slots) (n : ℕ) (op : Operation) : Type 0 where
+  abstractly : Entry d cs Ws n op.abstractly (operation_reach d d.abstract op) (abstract_of d op)
+  concretely : Entry d cs Ws (suc n) op.concretely (operation_reach d d.concrete op) (concrete_of d op)
 
-  concrete-entry : (i : ℕ) (xs : List Letters) (os : List Operation) (k : ℕ) (op : Operation) → get_elem? os k ≡ some op
-      → Entry d (operation_contexts d i xs os) (operation_slots d os) (suc (double k)) op.concretely (operation_reach d d.concrete op) (concrete_of d op)
+module _ (d : Dossier) where
+  entries : (i : ℕ) (xs : List Letters) (os : List Operation) (k : ℕ) (op : Operation) → get_elem? os k ≡ some op
+      → Entries d (operation_contexts d i xs os) (operation_slots d os) (double k) op
   unfolding double operation_contexts operation_slots
-  concrete-entry i xs [] k op e = absurd (none-ne-some op e)
-  concrete-entry i xs (o ∷ os) zero op e =
-      subst
-      (λ (x : Operation).
-      Entry d (operation_contexts d i xs (o ∷ os)) (operation_slots d (o ∷ os)) (suc zero) x.concretely (operation_reach d d.concrete x) (concrete_of d x))
-      (some-injective o op e)
-      (record { context = _; is = refl; slots_are = refl; predicate_is = refl; givens_are = refl; reach_is = refl })
-  concrete-entry i xs (o ∷ os) (suc k) op e =
-      let h = concrete-entry (i + operation_length o) (o.title ∷ xs) os k op e in
-      record {
-        context = h.context;
-        is = h.is;
-        slots_are = h.slots_are;
-        predicate_is = h.predicate_is;
-        givens_are = h.givens_are;
-        reach_is = h.reach_is;
-      }
+  entries i xs [] k op e = absurd (none-ne-some op e)
+  entries i xs (o ∷ os) zero op e =
+      subst (λ (x : Operation). Entries d (operation_contexts d i xs (o ∷ os)) (operation_slots d (o ∷ os)) zero x) (some-injective o op e) (record {
+        abstractly = record { context = _; is = refl; slots_are = refl; predicate_is = refl; givens_are = refl; reach_is = refl };
+        concretely = record { context = _; is = refl; slots_are = refl; predicate_is = refl; givens_are = refl; reach_is = refl };
+      })
+  entries i xs (o ∷ os) (suc k) op e =
+      let h = entries (i + operation_length o) (o.title ∷ xs) os k op e in
+      record { abstractly = further _ _ (further _ _ h.abstractly); concretely = further _ _ (further _ _ h.concretely) }
 
   behind-five : (n m : ℕ) (p : Pred) (vs : List Variable) (W : Slots)
       → Entry d (operation_contexts d (operations_at d) (concrete_taken d) d.operations) (operation_slots d d.operations) n p vs W → 5 + n ≡ m → ContextOf d m p vs W
@@ -113,14 +102,14 @@ module _ (d : Dossier) where
   abstract-operation k op e =
       let l = double-is k in
       behind-five (double k) (5 + 2 * k) op.abstractly (operation_reach d d.abstract op) (abstract_of d op)
-      (abstract-entry (operations_at d) (concrete_taken d) d.operations k op e) (omega arith)
+      (entries (operations_at d) (concrete_taken d) d.operations k op e).abstractly (omega arith)
 
   pub concrete-operation : (k : ℕ) (op : Operation) → get_elem? d.operations k ≡ some op
       → ContextOf d (5 + 2 * k + 1) op.concretely (operation_reach d d.concrete op) (concrete_of d op)
   concrete-operation k op e =
       let l = double-is k in
       behind-five (suc (double k)) (5 + 2 * k + 1) op.concretely (operation_reach d d.concrete op) (concrete_of d op)
-      (concrete-entry (operations_at d) (concrete_taken d) d.operations k op e) (omega arith)
+      (entries (operations_at d) (concrete_taken d) d.operations k op e).concretely (omega arith)
 
 -- ---- the bindings of a step
 
@@ -167,6 +156,17 @@ step-placed {d} {s} {plain} {dashed} {op} {b} {i} {o} {b'} {σ} h =
 
 -- ---- steps
 
+-- what the three answers mean, on either side
+step-means : {table rows firsts : List ℕ} {d : Dossier} {s : State} {plain dashed n m : ℕ} {op : Operation} {p : Pred} {b i o b' : Binding} {σ later : Values} {r : Bool}
+    → TestsOf table rows firsts d → ContextOf d n s.predicate (unprimed d s) (slotted plain (unprimed d s))
+    → ContextOf d m p (operation_reach d s op) (slotted plain (unprimed d s) ++ slotted dashed (primed d s) ++ parameter_slots d op)
+    → StepAt d s plain dashed op b i o b' σ later
+    → Both (Both (ContextAnswers table rows firsts n σ) (ContextAnswers table rows firsts n later)) (ContextAnswers table rows firsts m σ) r → r ≡ allows d s p b i o b'
+unfolding allows is_state
+step-means {d = d} {s = s} {p = p} {b = b} {i = i} {o = o} {b' = b'} t c k h w =
+    both-is (is_state d s b && is_state d s b') (holds p (environment d (b ++ after b' ++ i ++ o))) w
+    (λ x u. both-is (is_state d s b) (is_state d s b') u (λ y v. answer_at t c h.before v) (λ y v. answer_at t c h.behind v)) (λ x v. answer_at t k (step-placed h) v)
+
 module _ {table rows firsts : List ℕ} {k : ℕ} {σ later : Values} where
   pub abstract-step-before : AbstractStepAsked table rows firsts k σ later → ContextAsked table rows firsts 0 σ
   abstract-step-before a = asked-at a.tests (abstract-context a.dossier) a.step.before
@@ -180,32 +180,11 @@ module _ {table rows firsts : List ℕ} {k : ℕ} {σ later : Values} where
   pub abstract-step-inside : AbstractStepAsked table rows firsts k σ later → 5 + 2 * k + 1 < 40
   abstract-step-inside a = (abstract-step-whole a).at.inside
 
-  pub abstract-step-no : ContextAnswers table rows firsts 0 σ false → AbstractStepAnswers table rows firsts k σ later false
-  unfolding abstract_step allows is_state
-  abstract-step-no x = record {
-    means = λ d op a i o a' t e h.
-        three-first (is_state d d.abstract a) (is_state d d.abstract a') (holds op.abstractly (environment d (a ++ after a' ++ i ++ o)))
-        (answer_at t (abstract-context d) h.before x);
-  }
-
-  pub abstract-step-not : ContextAnswers table rows firsts 0 σ true → ContextAnswers table rows firsts 0 later false
-      → AbstractStepAnswers table rows firsts k σ later false
-  unfolding abstract_step allows is_state
-  abstract-step-not x y = record {
-    means = λ d op a i o a' t e h.
-        three-second (is_state d d.abstract a) (is_state d d.abstract a') (holds op.abstractly (environment d (a ++ after a' ++ i ++ o)))
-        (answer_at t (abstract-context d) h.before x) (answer_at t (abstract-context d) h.behind y);
-  }
-
-  pub abstract-step-is : {r : Bool} → ContextAnswers table rows firsts 0 σ true → ContextAnswers table rows firsts 0 later true
-      → ContextAnswers table rows firsts (5 + 2 * k) σ r → AbstractStepAnswers table rows firsts k σ later r
-  unfolding abstract_step allows is_state
-  abstract-step-is {r} x y z = record {
-    means = λ d op a i o a' t e h.
-        three_third (is_state d d.abstract a) (is_state d d.abstract a') (holds op.abstractly (environment d (a ++ after a' ++ i ++ o))) r
-        (answer_at t (abstract-context d) h.before x) (answer_at t (abstract-context d) h.behind y)
-        (answer_at t (abstract-operation d k op e) (step-placed h) z);
-  }
+  pub abstract-step-is : {r : Bool}
+      → Both (Both (ContextAnswers table rows firsts 0 σ) (ContextAnswers table rows firsts 0 later)) (ContextAnswers table rows firsts (5 + 2 * k) σ) r
+      → AbstractStepAnswers table rows firsts k σ later r
+  unfolding abstract_step
+  abstract-step-is w = record { means = λ d op a i o a' t e h. step-means t (abstract-context d) (abstract-operation d k op e) h w }
 
   pub concrete-step-before : ConcreteStepAsked table rows firsts k σ later → ContextAsked table rows firsts 1 σ
   concrete-step-before a = asked-at a.tests (concrete-context a.dossier) a.step.before
@@ -219,29 +198,8 @@ module _ {table rows firsts : List ℕ} {k : ℕ} {σ later : Values} where
   pub concrete-step-inside : ConcreteStepAsked table rows firsts k σ later → 5 + 2 * k + 1 + 1 < 40
   concrete-step-inside a = (concrete-step-whole a).at.inside
 
-  pub concrete-step-no : ContextAnswers table rows firsts 1 σ false → ConcreteStepAnswers table rows firsts k σ later false
-  unfolding concrete_step allows is_state
-  concrete-step-no x = record {
-    means = λ d op c i o c' t e h.
-        three-first (is_state d d.concrete c) (is_state d d.concrete c') (holds op.concretely (environment d (c ++ after c' ++ i ++ o)))
-        (answer_at t (concrete-context d) h.before x);
-  }
-
-  pub concrete-step-not : ContextAnswers table rows firsts 1 σ true → ContextAnswers table rows firsts 1 later false
-      → ConcreteStepAnswers table rows firsts k σ later false
-  unfolding concrete_step allows is_state
-  concrete-step-not x y = record {
-    means = λ d op c i o c' t e h.
-        three-second (is_state d d.concrete c) (is_state d d.concrete c') (holds op.concretely (environment d (c ++ after c' ++ i ++ o)))
-        (answer_at t (concrete-context d) h.before x) (answer_at t (concrete-context d) h.behind y);
-  }
-
-  pub concrete-step-is : {r : Bool} → ContextAnswers table rows firsts 1 σ true → ContextAnswers table rows firsts 1 later true
-      → ContextAnswers table rows firsts (5 + 2 * k + 1) σ r → ConcreteStepAnswers table rows firsts k σ later r
-  unfolding concrete_step allows is_state
-  concrete-step-is {r} x y z = record {
-    means = λ d op c i o c' t e h.
-        three_third (is_state d d.concrete c) (is_state d d.concrete c') (holds op.concretely (environment d (c ++ after c' ++ i ++ o))) r
-        (answer_at t (concrete-context d) h.before x) (answer_at t (concrete-context d) h.behind y)
-        (answer_at t (concrete-operation d k op e) (step-placed h) z);
-  }
+  pub concrete-step-is : {r : Bool}
+      → Both (Both (ContextAnswers table rows firsts 1 σ) (ContextAnswers table rows firsts 1 later)) (ContextAnswers table rows firsts (5 + 2 * k + 1) σ) r
+      → ConcreteStepAnswers table rows firsts k σ later r
+  unfolding concrete_step
+  concrete-step-is w = record { means = λ d op c i o c' t e h. step-means t (concrete-context d) (concrete-operation d k op e) h w }

@@ -18,8 +18,8 @@ use search_groups::contexts::{
 use truths::truth;
 
 // Form 2: `rows_free` of state_facts walks the rows alike and asks the table alone. One walk for both would be handed the test as a closure; see Form 3.
-// Form 3: `all` over these places, with a closure that lends the values, was tried: it stays open that the closure may be called at each place. The library has laws of `all` over a range, and none
-// of what `step_by` yields.
+// Form 3: tried: `all` over these places, with a closure that lends the values. That it may be called at each of them is proved as in `rows_free`; what `all`
+// promises says nothing of what such a closure has changed once it is gone, so that `kept` stays open.
 // Do all conjuncts of the rows between two places hold? The first that does not decides.
 fn all_hold(d: &Dossier<'_>, from: usize, to: usize, slots: &mut [i64; SLOTS]) -> bool
     requires { RowsAsked d.now.table.now d.now.rows.now from to slots.old }

@@ -43,23 +43,23 @@ output-count d op = bindings-count (outputs d op)
 
 -- the sizes of the part are those of the dossier's bindings
 module _ {table plan cells : List ℕ} {p : Part} {d : Dossier} {op : Operation} (x : StepSearches table plan cells p d op) where
-  pub na-is : p.na ≡ abstract_count d
-  na-is = ap (λ (z : Part). z.na) x.part_is ∙ sym (abstract-count d)
+  pub na-is : p.abstracts.bindings ≡ abstract_count d
+  na-is = ap (λ (z : Part). z.abstracts.bindings) x.part_is ∙ sym (abstract-count d)
 
-  pub nc-is : p.nc ≡ concrete_count d
-  nc-is = ap (λ (z : Part). z.nc) x.part_is ∙ sym (concrete-count d)
+  pub nc-is : p.concretes.bindings ≡ concrete_count d
+  nc-is = ap (λ (z : Part). z.concretes.bindings) x.part_is ∙ sym (concrete-count d)
 
-  pub ni-is : p.ni ≡ input_count d op
-  ni-is = ap (λ (z : Part). z.ni) x.part_is ∙ sym (bindings-count (inputs d op))
+  pub ni-is : p.inputs.bindings ≡ input_count d op
+  ni-is = ap (λ (z : Part). z.inputs.bindings) x.part_is ∙ sym (bindings-count (inputs d op))
 
-  pub nq-is : p.nq ≡ output_count d op
-  nq-is = ap (λ (z : Part). z.nq) x.part_is ∙ sym (output-count d op)
+  pub nq-is : p.outputs.bindings ≡ output_count d op
+  nq-is = ap (λ (z : Part). z.outputs.bindings) x.part_is ∙ sym (output-count d op)
 
-  pub nr-is : p.nr ≡ p.nq * p.na
-  nr-is = subst (λ (z : Part). z.nr ≡ z.nq * z.na) (sym x.part_is) refl
+  pub nr-is : p.readying.bindings ≡ p.outputs.bindings * p.abstracts.bindings
+  nr-is = subst (λ (z : Part). z.readying.bindings ≡ z.outputs.bindings * z.abstracts.bindings) (sym x.part_is) refl
 
 pub sizes-of : {table plan cells : List ℕ} {p : Part} → StepsAsked table plan cells p
-    → ((0 < p.na) × (p.na ≤ 4096)) × ((0 < p.nc) × (p.nc ≤ 4096)) × ((0 < p.ni) × (p.ni ≤ 64)) × ((0 < p.nq) × (p.nq ≤ 64))
+    → ((0 < p.abstracts.bindings) × (p.abstracts.bindings ≤ 4096)) × ((0 < p.concretes.bindings) × (p.concretes.bindings ≤ 4096)) × ((0 < p.inputs.bindings) × (p.inputs.bindings ≤ 64)) × ((0 < p.outputs.bindings) × (p.outputs.bindings ≤ 64))
 sizes-of q = steps.sizes q.searches
 
 -- j is none of the dossier's operations
@@ -107,26 +107,26 @@ module _ {table rows firsts groups : List ℕ} {operations j a i from : ℕ} whe
   step-unlisted h = no_step (λ d op R m e r. unlisted d h m e)
 
   module _ {plan cells : List ℕ} {p : Part} (w : Prepared table rows firsts groups j plan cells p) where
-    pub state-beyond : p.na ≤ a → AbstractStepIs table rows firsts groups operations j a i from Beyond
+    pub state-beyond : p.abstracts.bindings ≤ a → AbstractStepIs table rows firsts groups operations j a i from Beyond
     state-beyond h = no_step (λ d op R m e r. none r.state (na-is (w.searches d op R e)))
       where
-        none : {n : ℕ} → a < n → p.na ≡ n → ⊥
+        none : {n : ℕ} → a < n → p.abstracts.bindings ≡ n → ⊥
         none l q = omega arith
 
-    pub input-beyond : p.ni ≤ i → AbstractStepIs table rows firsts groups operations j a i from Beyond
+    pub input-beyond : p.inputs.bindings ≤ i → AbstractStepIs table rows firsts groups operations j a i from Beyond
     input-beyond h = no_step (λ d op R m e r. none r.input (ni-is (w.searches d op R e)))
       where
-        none : {n : ℕ} → i < n → p.ni ≡ n → ⊥
+        none : {n : ℕ} → i < n → p.inputs.bindings ≡ n → ⊥
         none l q = omega arith
 
-    pub start-beyond : p.nr < from → AbstractStepIs table rows firsts groups operations j a i from Beyond
+    pub start-beyond : p.readying.bindings < from → AbstractStepIs table rows firsts groups operations j a i from Beyond
     start-beyond h = no_step (λ d op R m e r. let x = w.searches d op R e in none r.start (nr-is x ∙ (λ t. nq-is x t * na-is x t)))
       where
-        none : {n : ℕ} → from ≤ n → p.nr ≡ n → ⊥
+        none : {n : ℕ} → from ≤ n → p.readying.bindings ≡ n → ⊥
         none l q = omega arith
 
-    pub step-found : (r : Option ℕ) (x : NextStep) → r ≡ found_step x → IsWithin x → j < operations → a < p.na → i < p.ni → from ≤ p.nr → IfSome r (λ (k : ℕ). k < p.nq * p.na)
-        → AbstractStepFound table plan cells p a i from (unwrap_or r (p.nq * p.na)) → AbstractStepIs table rows firsts groups operations j a i from x
+    pub step-found : (r : Option ℕ) (x : NextStep) → r ≡ found_step x → IsWithin x → j < operations → a < p.abstracts.bindings → i < p.inputs.bindings → from ≤ p.readying.bindings → IfSome r (λ (k : ℕ). k < p.outputs.bindings * p.abstracts.bindings)
+        → AbstractStepFound table plan cells p a i from (unwrap_or r (p.outputs.bindings * p.abstracts.bindings)) → AbstractStepIs table rows firsts groups operations j a i from x
     step-found r x is within h la li lf low s =
         record {
           first = λ d op R m e q.
@@ -150,14 +150,14 @@ module _ {table rows firsts groups : List ℕ} {operations j a i from : ℕ} whe
             → First (step_by d op a i (abstract_count d)) from (output_count d op * abstract_count d) r
         found d op x =
             subst (λ (n : ℕ). First (step_by d op a i (abstract_count d)) from (n * abstract_count d) r) (nq-is x)
-            (subst (λ (n : ℕ). First (step_by d op a i n) from (p.nq * n) r) (na-is x) (first-of r low (s.sought d op x)))
+            (subst (λ (n : ℕ). First (step_by d op a i n) from (p.outputs.bindings * n) r) (na-is x) (first-of r low (s.sought d op x)))
 
 -- ---- how many bindings there are
 
 module _ {table rows firsts groups : List ℕ} {operations j : ℕ} where
   -- of an operation, by the sizes of its part
   pub operation-spans : {plan cells : List ℕ} {p : Part} → ReadAsked table rows firsts groups operations → Prepared table rows firsts groups j plan cells p → j < operations
-      → SpansAre table rows firsts groups operations j (record { na = p.na; nc = p.nc; ni = p.ni; nq = p.nq })
+      → SpansAre table rows firsts groups operations j (record { na = p.abstracts.bindings; nc = p.concretes.bindings; ni = p.inputs.bindings; nq = p.outputs.bindings })
   operation-spans {plan} {cells} {p} q w h =
       record {
         states = λ d R m. (let t : (op : Operation) × (get_elem? d.operations j ≡ some op) = below-entry d.operations j (omega arith) in
@@ -171,16 +171,16 @@ module _ {table rows firsts groups : List ℕ} {operations j : ℕ} where
       over : operations ≤ j → ⊥
       over l = omega arith
 
-      z : ((0 < p.na) × (p.na ≤ 4096)) × ((0 < p.nc) × (p.nc ≤ 4096)) × ((0 < p.ni) × (p.ni ≤ 64)) × ((0 < p.nq) × (p.nq ≤ 64))
+      z : ((0 < p.abstracts.bindings) × (p.abstracts.bindings ≤ 4096)) × ((0 < p.concretes.bindings) × (p.concretes.bindings ≤ 4096)) × ((0 < p.inputs.bindings) × (p.inputs.bindings ≤ 64)) × ((0 < p.outputs.bindings) × (p.outputs.bindings ≤ 64))
       z = sizes-of (steps-asked q h w)
 
 -- the sizes of the initialisation part
 module _ {table plan cells : List ℕ} {p : Part} {d : Dossier} (x : OpeningSearches table plan cells p d) where
-  pub opening-nm-is : p.nm ≡ abstract_count d
-  opening-nm-is = ap (λ (z : Part). z.nm) x.part_is ∙ sym (abstract-count d)
+  pub opening-nm-is : p.meeting.bindings ≡ abstract_count d
+  opening-nm-is = ap (λ (z : Part). z.meeting.bindings) x.part_is ∙ sym (abstract-count d)
 
-  pub opening-nc-is : p.nc ≡ concrete_count d
-  opening-nc-is = ap (λ (z : Part). z.nc) x.part_is ∙ sym (concrete-count d)
+  pub opening-nc-is : p.concretes.bindings ≡ concrete_count d
+  opening-nc-is = ap (λ (z : Part). z.concretes.bindings) x.part_is ∙ sym (concrete-count d)
 
 module _ {table rows firsts groups : List ℕ} {operations : ℕ} where
   pub open-asked : ReadAsked table rows firsts groups operations → OpenAsked table rows firsts groups
@@ -191,7 +191,7 @@ module _ {table rows firsts groups : List ℕ} {operations : ℕ} where
     opening-asked = record { dossier = q.dossier; searches = w.searches q.dossier q.reading }
 
     -- of both states alone
-    pub opening-spans : {j : ℕ} → operations ≤ j → SpansAre table rows firsts groups operations j (record { na = p.nm; nc = p.nc; ni = 1; nq = 1 })
+    pub opening-spans : {j : ℕ} → operations ≤ j → SpansAre table rows firsts groups operations j (record { na = p.meeting.bindings; nc = p.concretes.bindings; ni = 1; nq = 1 })
     opening-spans {j} h =
         let z = openings.sizes opening-asked.searches in
         record {
@@ -204,15 +204,15 @@ module _ {table rows firsts groups : List ℕ} {operations : ℕ} where
     -- ---- a beginning
 
     -- where there is no concrete initial state, or no abstract one for the first
-    pub no_beginning : {c : ℕ} → InitialStateFound table plan cells p 0 c → p.nc ≤ c → BeginIs table rows firsts groups operations Nowhere
+    pub no_beginning : {c : ℕ} → InitialStateFound table plan cells p 0 c → p.concretes.bindings ≤ c → BeginIs table rows firsts groups operations Nowhere
     no_beginning {c} s h = record {
       is = λ d R m k l. (s.sought d (w.searches d R)).past k (omega arith) (below (opening-nc-is (w.searches d R)) l);
     }
       where
-        below : {n k : ℕ} → p.nc ≡ n → k < n → k < c
+        below : {n k : ℕ} → p.concretes.bindings ≡ n → k < n → k < c
         below e l = omega arith
 
-    module _ {c : ℕ} (s : InitialStateFound table plan cells p 0 c) (h : c < p.nc) where
+    module _ {c : ℕ} (s : InitialStateFound table plan cells p 0 c) (h : c < p.concretes.bindings) where
       starts : (d : Dossier) → ReadingOf table rows firsts groups d → Sought (initial d) 0 (concrete_count d) c
       starts d R = subst (λ (n : ℕ). Sought (initial d) 0 n c) (opening-nc-is (w.searches d R)) (s.sought d (w.searches d R))
 
@@ -221,7 +221,7 @@ module _ {table rows firsts groups : List ℕ} {operations : ℕ} where
       met {a} u d R =
           subst (λ (n : ℕ). Sought (λ (x : ℕ). initial_match d c (abstract_at d x)) 0 n a) (opening-nm-is (w.searches d R)) (u.sought d (w.searches d R))
 
-      pub unmatched-beginning : {a : ℕ} → InitialMatchFound table plan cells p c 0 a → p.nm ≤ a → BeginIs table rows firsts groups operations (Concrete c)
+      pub unmatched-beginning : {a : ℕ} → InitialMatchFound table plan cells p c 0 a → p.meeting.bindings ≤ a → BeginIs table rows firsts groups operations (Concrete c)
       unmatched-beginning {a} u g = record {
         is = λ d R m. record {
           first = starts d R;
@@ -230,7 +230,7 @@ module _ {table rows firsts groups : List ℕ} {operations : ℕ} where
         };
       }
 
-      pub beginning : {a : ℕ} → InitialMatchFound table plan cells p c 0 a → a < p.nm → BeginIs table rows firsts groups operations (Both (record { a = a; c = c }))
+      pub beginning : {a : ℕ} → InitialMatchFound table plan cells p c 0 a → a < p.meeting.bindings → BeginIs table rows firsts groups operations (Both (record { a = a; c = c }))
       beginning {a} u g = record {
         is = λ d R m. record {
           first = starts d R;

@@ -13,21 +13,21 @@ use Rattle.step_facts.specs.FactPromises.{AbleIs, StepLow, StepFound, StepWithin
 use Rattle.step_facts.proofs.AskedFacts.{na-is, nc-is, ni-is, nq-is, sizes-of}
 
 -- outputs and after state as one number
-module _ {table plan cells : List ℕ} {p : Part} {r : ℕ} (q : StepsAsked table plan cells p) (h : r < p.nq * p.nc) where
-  first-digit : r / p.nc < p.nq
+module _ {table plan cells : List ℕ} {p : Part} {r : ℕ} (q : StepsAsked table plan cells p) (h : r < p.outputs.bindings * p.concretes.bindings) where
+  first-digit : r / p.concretes.bindings < p.outputs.bindings
   first-digit = (div-lt_iff_lt-mul (sizes-of q).1.0).1 h
 
-  second-digit : r % p.nc < p.nc
+  second-digit : r % p.concretes.bindings < p.concretes.bindings
   second-digit = mod-lt r (sizes-of q).1.0
 
 module _ {table plan cells : List ℕ} {p : Part} {a : ℕ} where
-  module _ {i r : ℕ} (la : a < p.na) (li : i < p.ni) (q : StepsAsked table plan cells p) (h : r < p.nq * p.nc) where
-    pub below_step : Below p (record { a = a; i = i; o = r / p.nc; k = r % p.nc })
+  module _ {i r : ℕ} (la : a < p.abstracts.bindings) (li : i < p.inputs.bindings) (q : StepsAsked table plan cells p) (h : r < p.outputs.bindings * p.concretes.bindings) where
+    pub below_step : Below p (record { a = a; i = i; o = r / p.concretes.bindings; k = r % p.concretes.bindings })
     below_step = record { a_low = la; i_low = li; o_low = first-digit q h; k_low = second-digit q h }
 
     pub step-here : {b c : ℕ} {ready : Bool} → AbleIs table plan cells p true a i ready → ready ≡ true → ConcreteStepFound table plan cells p c i 0 r
-        → MatchFound table plan cells p a i (r / p.nc) (r % p.nc) 0 b → b < p.na
-        → StepFound table plan cells p a c (Some (record { i = i; o = r / p.nc; k = r % p.nc; b = b }))
+        → MatchFound table plan cells p a i (r / p.concretes.bindings) (r % p.concretes.bindings) 0 b → b < p.abstracts.bindings
+        → StepFound table plan cells p a c (Some (record { i = i; o = r / p.concretes.bindings; k = r % p.concretes.bindings; b = b }))
     step-here {b} y e s m l = record {
       is = record {
         low = record { i_low = li; o_low = first-digit q h; k_low = second-digit q h; b_low = l };

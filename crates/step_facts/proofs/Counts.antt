@@ -118,7 +118,7 @@ tally-byte s n i m b e f g =
     byte false = refl
 
 pub record ReadyTo (table plan cells : List ℕ) (p : Part) (a n i : ℕ) : Type 0 where
-  pub high : i ≤ p.ni
+  pub high : i ≤ p.inputs.bindings
   pub few : n ≤ i
   pub sums : ForSteps table plan cells p (λ (d : Dossier) (op : Operation). n ≡ tally (ready_at d op a) i)
 
@@ -127,7 +127,7 @@ module _ {table plan cells : List ℕ} {p : Part} {a : ℕ} where
   unfolding weight
   ready-start = record { high = omega arith; few = omega arith; sums = λ d op x. refl }
 
-  pub ready-next : {n i m y : ℕ} {b : Bool} → ReadyTo table plan cells p a n i → i < p.ni → AbleIs table plan cells p true a i b → y ≡ bool_byte b → m ≡ i + 1
+  pub ready-next : {n i m y : ℕ} {b : Bool} → ReadyTo table plan cells p a n i → i < p.inputs.bindings → AbleIs table plan cells p true a i b → y ≡ bool_byte b → m ≡ i + 1
       → ReadyTo table plan cells p a (n + y) m
   ready-next {n} {i} {m} {y} {b} w h r u e = record {
     high = omega arith;
@@ -135,8 +135,8 @@ module _ {table plan cells : List ℕ} {p : Part} {a : ℕ} where
     sums = λ d op x. ap (λ (z : ℕ). n + z) u ∙ tally-byte (ready_at d op a) n i m b (w.sums d op x) (r.is d op x) e;
   }
 
-  pub ready-done : {n i : ℕ} → ReadyTo table plan cells p a n i → p.ni ≤ i → Summed table plan cells p (ready_test a) one p.ni n
-  ready-done {n} {i} w h = let e : i ≡ p.ni = omega (arith, w.high) in record { is = λ d op x. w.sums d op x ∙ ap (tally (ready_at d op a)) e }
+  pub ready-done : {n i : ℕ} → ReadyTo table plan cells p a n i → p.inputs.bindings ≤ i → Summed table plan cells p (ready_test a) one p.inputs.bindings n
+  ready-done {n} {i} w h = let e : i ≡ p.inputs.bindings = omega (arith, w.high) in record { is = λ d op x. w.sums d op x ∙ ap (tally (ready_at d op a)) e }
 
 -- ---- what an abstract state adds
 
@@ -144,12 +144,12 @@ module _ {table plan cells : List ℕ} {p : Part} {c : Counted} {a : ℕ} where
   pub adds-one : c ≡ States → AddedIs table plan cells p c a 1
   adds-one e = subst (λ (z : Counted). AddedIs table plan cells p z a 1) (sym e) (record { is = λ d op x. refl; few = omega arith })
 
-  pub adds-pairs : {r : ℕ} → c ≡ Pairs → StepsAsked table plan cells p → Summed table plan cells p (related_test a) one p.nc r → AddedIs table plan cells p c a r
+  pub adds-pairs : {r : ℕ} → c ≡ Pairs → StepsAsked table plan cells p → Summed table plan cells p (related_test a) one p.concretes.bindings r → AddedIs table plan cells p c a r
   adds-pairs {r} e q w =
       subst (λ (z : Counted). AddedIs table plan cells p z a r) (sym e)
       (record { is = λ d op x. w.is d op x; few = omega (arith, few-pass (related_test a) q w, (sizes-of q).1.1) })
 
-  pub adds-promises : {r : ℕ} → c ≡ Promises → StepsAsked table plan cells p → Summed table plan cells p (ready_test a) one p.ni r → AddedIs table plan cells p c a r
+  pub adds-promises : {r : ℕ} → c ≡ Promises → StepsAsked table plan cells p → Summed table plan cells p (ready_test a) one p.inputs.bindings r → AddedIs table plan cells p c a r
   adds-promises {r} e q w =
       subst (λ (z : Counted). AddedIs table plan cells p z a r) (sym e)
       (record { is = λ d op x. w.is d op x; few = omega (arith, few-pass (ready_test a) q w, (sizes-of q).2.1) })
@@ -161,7 +161,7 @@ module _ {table rows firsts groups : List ℕ} {operations j : ℕ} {c : Counted
   no_total h = record { is = λ d op R m e. absurd (unlisted d h m e) }
 
   pub total-is : {plan cells : List ℕ} {p : Part} {r : ℕ} → Prepared table rows firsts groups j plan cells p
-      → Summed table plan cells p state_test (adds c p.nc p.ni) p.na r → TotalIs table rows firsts groups operations j c r
+      → Summed table plan cells p state_test (adds c p.concretes.bindings p.inputs.bindings) p.abstracts.bindings r → TotalIs table rows firsts groups operations j c r
   total-is w u = record {
     is = λ d op R m e. (let x = w.searches d op R e in
         u.is d op x ∙ (λ t. weight (abstract_state d) (λ (a : ℕ). adds c (nc-is x t) (ni-is x t) d op a) (na-is x t)));

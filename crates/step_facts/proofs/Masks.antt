@@ -61,32 +61,32 @@ module _ (F : Binding → Binding → Bool) (os us : List Binding) (r : ℕ) whe
 
 -- ---- can a side step with these inputs?
 
-pub abstract-low : (p : Part) {side : Bool} {s : ℕ} → side ≡ true → s < states_of p side → s < p.na
+pub abstract-low : (p : Part) {side : Bool} {s : ℕ} → side ≡ true → s < states_of p side → s < p.abstracts.bindings
 abstract-low p {s = s} e h = subst (λ (b : Bool). s < states_of p b) e h
 
-pub concrete-low : (p : Part) {side : Bool} {s : ℕ} → side ≡ false → s < states_of p side → s < p.nc
+pub concrete-low : (p : Part) {side : Bool} {s : ℕ} → side ≡ false → s < states_of p side → s < p.concretes.bindings
 concrete-low p {s = s} e h = subst (λ (b : Bool). s < states_of p b) e h
 
 module _ {table plan cells : List ℕ} {p : Part} (s i : ℕ) where
-  abstract-any : {d : Dossier} {op : Operation} → StepSearches table plan cells p d op → (r : ℕ) → 0 < p.na
-      → Sought (λ (x : ℕ). abstractly d op s i (output_at d op (x / p.na)) (abstract_at d (x % p.na))) 0 (p.nq * p.na) r
-      → ltb r (p.nq * p.na) ≡ ready_at d op s i
+  abstract-any : {d : Dossier} {op : Operation} → StepSearches table plan cells p d op → (r : ℕ) → 0 < p.abstracts.bindings
+      → Sought (λ (x : ℕ). abstractly d op s i (output_at d op (x / p.abstracts.bindings)) (abstract_at d (x % p.abstracts.bindings))) 0 (p.outputs.bindings * p.abstracts.bindings) r
+      → ltb r (p.outputs.bindings * p.abstracts.bindings) ≡ ready_at d op s i
   unfolding ready_at
   abstract-any {d} {op} x r =
-      subst (λ (m : ℕ). 0 < m → Sought (λ (x : ℕ). abstractly d op s i (output_at d op (x / m)) (abstract_at d (x % m))) 0 (p.nq * m) r
-      → ltb r (p.nq * m) ≡ any (λ (o : Binding). any (abstractly d op s i o) (abstract_bindings d)) (output_bindings d op)) (sym (na-is x))
+      subst (λ (m : ℕ). 0 < m → Sought (λ (x : ℕ). abstractly d op s i (output_at d op (x / m)) (abstract_at d (x % m))) 0 (p.outputs.bindings * m) r
+      → ltb r (p.outputs.bindings * m) ≡ any (λ (o : Binding). any (abstractly d op s i o) (abstract_bindings d)) (output_bindings d op)) (sym (na-is x))
       (subst (λ (n : ℕ). 0 < length (abstract_bindings d)
       → Sought (λ (x : ℕ). abstractly d op s i (output_at d op (x / length (abstract_bindings d))) (abstract_at d (x % length (abstract_bindings d)))) 0 (n * length (abstract_bindings d)) r
       → ltb r (n * length (abstract_bindings d)) ≡ any (λ (o : Binding). any (abstractly d op s i o) (abstract_bindings d)) (output_bindings d op)) (sym (nq-is x))
       (some_pair (abstractly d op s i) (output_bindings d op) (abstract_bindings d) r))
 
-  concrete-any : {d : Dossier} {op : Operation} → StepSearches table plan cells p d op → (r : ℕ) → 0 < p.nc
-      → Sought (λ (x : ℕ). concretely d op s i (output_at d op (x / p.nc)) (concrete_at d (x % p.nc))) 0 (p.nq * p.nc) r
-      → ltb r (p.nq * p.nc) ≡ stepping d op s i
+  concrete-any : {d : Dossier} {op : Operation} → StepSearches table plan cells p d op → (r : ℕ) → 0 < p.concretes.bindings
+      → Sought (λ (x : ℕ). concretely d op s i (output_at d op (x / p.concretes.bindings)) (concrete_at d (x % p.concretes.bindings))) 0 (p.outputs.bindings * p.concretes.bindings) r
+      → ltb r (p.outputs.bindings * p.concretes.bindings) ≡ stepping d op s i
   unfolding stepping
   concrete-any {d} {op} x r =
-      subst (λ (m : ℕ). 0 < m → Sought (λ (x : ℕ). concretely d op s i (output_at d op (x / m)) (concrete_at d (x % m))) 0 (p.nq * m) r
-      → ltb r (p.nq * m) ≡ any (λ (o : Binding). any (concretely d op s i o) (concrete_bindings d)) (output_bindings d op)) (sym (nc-is x))
+      subst (λ (m : ℕ). 0 < m → Sought (λ (x : ℕ). concretely d op s i (output_at d op (x / m)) (concrete_at d (x % m))) 0 (p.outputs.bindings * m) r
+      → ltb r (p.outputs.bindings * m) ≡ any (λ (o : Binding). any (concretely d op s i o) (concrete_bindings d)) (output_bindings d op)) (sym (nc-is x))
       (subst (λ (n : ℕ). 0 < length (concrete_bindings d)
       → Sought (λ (x : ℕ). concretely d op s i (output_at d op (x / length (concrete_bindings d))) (concrete_at d (x % length (concrete_bindings d)))) 0 (n * length (concrete_bindings d)) r
       → ltb r (n * length (concrete_bindings d)) ≡ any (λ (o : Binding). any (concretely d op s i o) (concrete_bindings d)) (output_bindings d op)) (sym (nq-is x))
@@ -98,27 +98,27 @@ some-below n None l = le-ltb n n (omega arith)
 some-below n (Some k) l = lt-ltb k n l
 
 module _ {table plan cells : List ℕ} {p : Part} {s i : ℕ} {side : Bool} where
-  pub abstract-able : (o : Option ℕ) {r : Bool} → r ≡ is_some o → side ≡ true → StepsAsked table plan cells p → IfSome o (λ (k : ℕ). k < p.nq * p.na)
-      → AbstractStepFound table plan cells p s i 0 (unwrap_or o (p.nq * p.na)) → AbleIs table plan cells p side s i r
+  pub abstract-able : (o : Option ℕ) {r : Bool} → r ≡ is_some o → side ≡ true → StepsAsked table plan cells p → IfSome o (λ (k : ℕ). k < p.outputs.bindings * p.abstracts.bindings)
+      → AbstractStepFound table plan cells p s i 0 (unwrap_or o (p.outputs.bindings * p.abstracts.bindings)) → AbleIs table plan cells p side s i r
   abstract-able o t e q l w = record {
-    is = λ d op x. t ∙ sym (some-below (p.nq * p.na) o l) ∙ abstract-any s i x (unwrap_or o (p.nq * p.na)) (sizes-of q).0.0 (w.sought d op x) ∙ ap (λ (b : Bool). able_at d op b s i) (sym e);
+    is = λ d op x. t ∙ sym (some-below (p.outputs.bindings * p.abstracts.bindings) o l) ∙ abstract-any s i x (unwrap_or o (p.outputs.bindings * p.abstracts.bindings)) (sizes-of q).0.0 (w.sought d op x) ∙ ap (λ (b : Bool). able_at d op b s i) (sym e);
   }
 
-  pub concrete-able : (o : Option ℕ) {r : Bool} → r ≡ is_some o → side ≡ false → StepsAsked table plan cells p → IfSome o (λ (k : ℕ). k < p.nq * p.nc)
-      → ConcreteStepFound table plan cells p s i 0 (unwrap_or o (p.nq * p.nc)) → AbleIs table plan cells p side s i r
+  pub concrete-able : (o : Option ℕ) {r : Bool} → r ≡ is_some o → side ≡ false → StepsAsked table plan cells p → IfSome o (λ (k : ℕ). k < p.outputs.bindings * p.concretes.bindings)
+      → ConcreteStepFound table plan cells p s i 0 (unwrap_or o (p.outputs.bindings * p.concretes.bindings)) → AbleIs table plan cells p side s i r
   concrete-able o t e q l w = record {
-    is = λ d op x. t ∙ sym (some-below (p.nq * p.nc) o l) ∙ concrete-any s i x (unwrap_or o (p.nq * p.nc)) (sizes-of q).1.0 (w.sought d op x) ∙ ap (λ (b : Bool). able_at d op b s i) (sym e);
+    is = λ d op x. t ∙ sym (some-below (p.outputs.bindings * p.concretes.bindings) o l) ∙ concrete-any s i x (unwrap_or o (p.outputs.bindings * p.concretes.bindings)) (sizes-of q).1.0 (w.sought d op x) ∙ ap (λ (b : Bool). able_at d op b s i) (sym e);
   }
 
 -- ---- the bits of all inputs, the last one's first
 
 -- those of the inputs from i on
 pub record BitsFrom (table plan cells : List ℕ) (p : Part) (side : Bool) (s m i : ℕ) : Type 0 where
-  pub high : i ≤ p.ni
-  pub bits : ForSteps table plan cells p (λ (d : Dossier) (op : Operation). Bits (λ (j : ℕ) (b : Bool). b ≡ able_at d op side s j) i (p.ni - i) m)
+  pub high : i ≤ p.inputs.bindings
+  pub bits : ForSteps table plan cells p (λ (d : Dossier) (op : Operation). Bits (λ (j : ℕ) (b : Bool). b ≡ able_at d op side s j) i (p.inputs.bindings - i) m)
 
 module _ {table plan cells : List ℕ} {p : Part} {side : Bool} {s : ℕ} where
-  pub bits-start : BitsFrom table plan cells p side s 0 p.ni
+  pub bits-start : BitsFrom table plan cells p side s 0 p.inputs.bindings
   bits-start = record { high = omega arith; bits = λ d op x. no-bits (omega arith) }
 
   pub bits-next : {m i x : ℕ} {b : Bool} → BitsFrom table plan cells p side s m i → 0 < i → AbleIs table plan cells p side s (i - 1) b → x ≡ bool_byte b
@@ -156,7 +156,7 @@ module _ {table plan cells : List ℕ} {p : Part} {masks : List ℕ} where
       apart l q = omega arith
 
       go : (d : Dossier) (op : Operation) → StepSearches table plan cells p d op → (k : ℕ) → (k ≡ c) ⊎ (k < c)
-          → (i : ℕ) → i < p.ni → has (get_or (set masks c m) k 0) i ≡ stepping d op k i
+          → (i : ℕ) → i < p.inputs.bindings → has (get_or (set masks c m) k 0) i ≡ stepping d op k i
       go d op x k t i l =
           ⊎_elim
           (λ q. ap (λ (z : ℕ). has (get_or (set masks c m) z 0) i) q
@@ -164,5 +164,5 @@ module _ {table plan cells : List ℕ} {p : Part} {masks : List ℕ} where
           (λ q. ap (λ (z : ℕ). has z i) (get_or-set_other masks c k m 0 (λ z. apart q z)) ∙ w.each d op x k q i l)
           t
 
-  pub masks-done : {c : ℕ} → MasksAre table plan cells p c masks → p.nc ≤ c → MasksAre table plan cells p p.nc masks
+  pub masks-done : {c : ℕ} → MasksAre table plan cells p c masks → p.concretes.bindings ≤ c → MasksAre table plan cells p p.concretes.bindings masks
   masks-done w h = record { long = w.long; each = λ d op x k l. w.each d op x k (omega arith) }

@@ -86,15 +86,15 @@ first-same from (Some i) w e = (w.0, w.1, sym (e i w.1) ∙ w.2, λ k a l. sym (
 
 -- up to c none differs; c is related
 pub record Relating (table plan cells : List ℕ) (p : Part) (narrowed : Bool) (a c : ℕ) : Type 0 where
-  pub high : c ≤ p.nc
+  pub high : c ≤ p.concretes.bindings
   pub none : ForSteps table plan cells p
-      (λ (d : Dossier) (op : Operation). (k i : ℕ) → k < c → i < p.ni → differs_related d op narrowed a k i ≡ false)
-  pub here : ForSteps table plan cells p (λ (d : Dossier) (op : Operation). c < p.nc → related_to d a c ≡ true)
+      (λ (d : Dossier) (op : Operation). (k i : ℕ) → k < c → i < p.inputs.bindings → differs_related d op narrowed a k i ≡ false)
+  pub here : ForSteps table plan cells p (λ (d : Dossier) (op : Operation). c < p.concretes.bindings → related_to d a c ≡ true)
 
 -- what the inputs of the state c say
 module _ {table plan cells : List ℕ} {p : Part} (narrowed : Bool) {a : ℕ} where
-  differing : {c s m : ℕ} {r : Option ℕ} → BitsAre table plan cells p true a s → {masks : List ℕ} → MasksAre table plan cells p p.nc masks → m ≡ get_or masks c 0 → c < p.nc
-      → FirstMore narrowed s m p.ni r → ForSteps table plan cells p (λ (d : Dossier) (op : Operation). First (differs d op narrowed a c) 0 p.ni r)
+  differing : {c s m : ℕ} {r : Option ℕ} → BitsAre table plan cells p true a s → {masks : List ℕ} → MasksAre table plan cells p p.concretes.bindings masks → m ≡ get_or masks c 0 → c < p.concretes.bindings
+      → FirstMore narrowed s m p.inputs.bindings r → ForSteps table plan cells p (λ (d : Dossier) (op : Operation). First (differs d op narrowed a c) 0 p.inputs.bindings r)
   differing {c} {s} {m} {r} b w e l u d op x =
       first-same 0 r u.first (λ i h. by-sides d op narrowed a c i s m (b.bits d op x i h) (ap (λ (z : ℕ). has z i) e ∙ w.each d op x c l i h))
 
@@ -107,11 +107,11 @@ module _ {table plan cells : List ℕ} {p : Part} {narrowed : Bool} {a : ℕ} wh
   }
 
   module _ {masks : List ℕ} {c s m : ℕ} {r : Option ℕ} (w : Relating table plan cells p narrowed a c) (b : BitsAre table plan cells p true a s)
-      (M : MasksAre table plan cells p p.nc masks) (e : m ≡ get_or masks c 0) (l : c < p.nc) (u : FirstMore narrowed s m p.ni r) where
+      (M : MasksAre table plan cells p p.concretes.bindings masks) (e : m ≡ get_or masks c 0) (l : c < p.concretes.bindings) (u : FirstMore narrowed s m p.inputs.bindings r) where
     pub place_here : {i : ℕ} → r ≡ Some i → PlaceFrom table plan cells p narrowed a (Some (record { a = a; c = c; i = i }))
     place_here {i} q = record {
       is = record {
-        low = (refl, l, (subst (First (more_by narrowed s m) 0 p.ni) q u.first).1);
+        low = (refl, l, (subst (First (more_by narrowed s m) 0 p.inputs.bindings) q u.first).1);
         here = λ d op x. true_and (related_to d a c) (differs d op narrowed a c i) (w.here d op x l) (at d op x).2;
         first = λ d op x. record {
           related = λ k j g t. w.none d op x k j g t;
@@ -120,32 +120,32 @@ module _ {table plan cells : List ℕ} {p : Part} {narrowed : Bool} {a : ℕ} wh
       };
     }
       where
-        at : (d : Dossier) (op : Operation) → StepSearches table plan cells p d op → First (differs d op narrowed a c) 0 p.ni (Some i)
-        at d op x = subst (First (differs d op narrowed a c) 0 p.ni) q (differing narrowed b M e l u d op x)
+        at : (d : Dossier) (op : Operation) → StepSearches table plan cells p d op → First (differs d op narrowed a c) 0 p.inputs.bindings (Some i)
+        at d op x = subst (First (differs d op narrowed a c) 0 p.inputs.bindings) q (differing narrowed b M e l u d op x)
 
     pub relating-next : {next : ℕ} → r ≡ None → RelatedStateFound table plan cells p a (c + 1) next → StepsAsked table plan cells p
         → Relating table plan cells p narrowed a next
     relating-next {next} h f q = record {
       high = (f.sought q.dossier q.operation q.searches).high;
       none = λ d op x k j g t.
-          advance (λ (k : ℕ). (j : ℕ) → j < p.ni → differs_related d op narrowed a k j ≡ false) (related_to d a) c next p.nc
+          advance (λ (k : ℕ). (j : ℕ) → j < p.inputs.bindings → differs_related d op narrowed a k j ≡ false) (related_to d a) c next p.concretes.bindings
           (λ k g j t. w.none d op x k j g t)
           (λ j t. and-right-false (related_to d a c) (differs d op narrowed a c j)
-          (subst (First (differs d op narrowed a c) 0 p.ni) h (differing narrowed b M e l u d op x) j (omega arith) t))
+          (subst (First (differs d op narrowed a c) 0 p.inputs.bindings) h (differing narrowed b M e l u d op x) j (omega arith) t))
           (λ k z j t. and-left-false (related_to d a k) (differs d op narrowed a k j) z) (f.sought d op x) k g j t;
       here = λ d op x g. (f.sought d op x).found g;
     }
 
-  pub no_place : {c : ℕ} → Relating table plan cells p narrowed a c → p.nc ≤ c → PlaceFrom table plan cells p narrowed a None
+  pub no_place : {c : ℕ} → Relating table plan cells p narrowed a c → p.concretes.bindings ≤ c → PlaceFrom table plan cells p narrowed a None
   no_place w h = record { is = λ d op x c i l g. w.none d op x c i (omega arith) g }
 
 -- ---- the abstract states
 
 pub record Going (table plan cells : List ℕ) (p : Part) (narrowed : Bool) (a : ℕ) : Type 0 where
-  pub high : a ≤ p.na
+  pub high : a ≤ p.abstracts.bindings
   pub none : ForSteps table plan cells p
-      (λ (d : Dossier) (op : Operation). (k c i : ℕ) → k < a → c < p.nc → i < p.ni → differs_at d op narrowed k c i ≡ false)
-  pub here : ForSteps table plan cells p (λ (d : Dossier) (op : Operation). a < p.na → abstract_state d a ≡ true)
+      (λ (d : Dossier) (op : Operation). (k c i : ℕ) → k < a → c < p.concretes.bindings → i < p.inputs.bindings → differs_at d op narrowed k c i ≡ false)
+  pub here : ForSteps table plan cells p (λ (d : Dossier) (op : Operation). a < p.abstracts.bindings → abstract_state d a ≡ true)
 
 module _ {table plan cells : List ℕ} {p : Part} {narrowed : Bool} where
   pub going_start : {a : ℕ} → AbstractStateFound table plan cells p 0 a → StepsAsked table plan cells p → Going table plan cells p narrowed a
@@ -155,7 +155,7 @@ module _ {table plan cells : List ℕ} {p : Part} {narrowed : Bool} where
     here = λ d op x l. (f.sought d op x).found l;
   }
 
-  module _ {a : ℕ} {r : Option Place} (w : Going table plan cells p narrowed a) (l : a < p.na) (u : PlaceFrom table plan cells p narrowed a r) where
+  module _ {a : ℕ} {r : Option Place} (w : Going table plan cells p narrowed a) (l : a < p.abstracts.bindings) (u : PlaceFrom table plan cells p narrowed a r) where
     pub place_found : {t : Place} → r ≡ Some t → PlaceAmong table plan cells p narrowed (Some t)
     place_found {t} e =
         let z : PlaceHere table plan cells p narrowed a t = (subst (PlaceFrom table plan cells p narrowed a) e u).is in
@@ -165,12 +165,12 @@ module _ {table plan cells : List ℕ} {p : Part} {narrowed : Bool} where
             here = λ d op x. (let h : differs_at d op narrowed a t.c t.i ≡ true =
                 true_and (abstract_state d a) (differs_related d op narrowed a t.c t.i) (w.here d op x l) (z.here d op x) in
                 subst (λ (k : ℕ). differs_at d op narrowed k t.c t.i ≡ true) (sym z.low.0) h);
-            first = λ d op x. subst (λ (k : ℕ). FirstPlace d op narrowed p.nc p.ni k t.c t.i) (sym z.low.0) (before d op x (z.first d op x));
+            first = λ d op x. subst (λ (k : ℕ). FirstPlace d op narrowed p.concretes.bindings p.inputs.bindings k t.c t.i) (sym z.low.0) (before d op x (z.first d op x));
           };
         }
       where
-        before : (d : Dossier) (op : Operation) → StepSearches table plan cells p d op → FirstRelated d op narrowed p.ni a t.c t.i
-            → FirstPlace d op narrowed p.nc p.ni a t.c t.i
+        before : (d : Dossier) (op : Operation) → StepSearches table plan cells p d op → FirstRelated d op narrowed p.inputs.bindings a t.c t.i
+            → FirstPlace d op narrowed p.concretes.bindings p.inputs.bindings a t.c t.i
         before d op x v = record {
           states = λ k c i g h t. w.none d op x k c i g h t;
           related = λ c i g h. and-right-false (abstract_state d a) (differs_related d op narrowed a c i) (v.related c i g h);
@@ -184,14 +184,14 @@ module _ {table plan cells : List ℕ} {p : Part} {narrowed : Bool} where
         record {
           high = (f.sought q.dossier q.operation q.searches).high;
           none = λ d op x k c i g h t.
-              advance (λ (k : ℕ). (c i : ℕ) → c < p.nc → i < p.ni → differs_at d op narrowed k c i ≡ false) (abstract_state d) a next p.na
+              advance (λ (k : ℕ). (c i : ℕ) → c < p.concretes.bindings → i < p.inputs.bindings → differs_at d op narrowed k c i ≡ false) (abstract_state d) a next p.abstracts.bindings
               (λ k g c i h t. w.none d op x k c i g h t)
               (λ c i h t. and-right-false (abstract_state d a) (differs_related d op narrowed a c i) (z d op x c i h t))
               (λ k z c i h t. and-left-false (abstract_state d k) (differs_related d op narrowed k c i) z) (f.sought d op x) k g c i h t;
           here = λ d op x g. (f.sought d op x).found g;
         }
 
-  pub none_found : {a : ℕ} → Going table plan cells p narrowed a → p.na ≤ a → PlaceAmong table plan cells p narrowed None
+  pub none_found : {a : ℕ} → Going table plan cells p narrowed a → p.abstracts.bindings ≤ a → PlaceAmong table plan cells p narrowed None
   none_found w h = record { is = λ d op x a c i k l g. w.none d op x a c i (omega arith) l g }
 
 -- ---- of every dossier whose reading the arrays are
@@ -204,7 +204,7 @@ module _ {table rows firsts groups : List ℕ} {operations j : ℕ} where
     over : operations ≤ j → ⊥
     over l = omega arith
 
-    within : {d : Dossier} {op : Operation} {r : Place} → StepSearches table plan cells p d op → (r.a < p.na) × (r.c < p.nc) × (r.i < p.ni) → Within d op r.a r.c r.i
+    within : {d : Dossier} {op : Operation} {r : Place} → StepSearches table plan cells p d op → (r.a < p.abstracts.bindings) × (r.c < p.concretes.bindings) × (r.i < p.inputs.bindings) → Within d op r.a r.c r.i
     within {r = r} x z = record {
       abstractly = subst (λ (n : ℕ). r.a < n) (na-is x) z.0;
       concretely = subst (λ (n : ℕ). r.c < n) (nc-is x) z.1;
@@ -223,7 +223,7 @@ module _ {table rows firsts groups : List ℕ} {operations j : ℕ} where
         within {r = r} x u.is.low,
         u.is.here d op x,
         subst (λ (n : ℕ). FirstPlace d op narrowed n (input_count d op) r.a r.c r.i) (nc-is x)
-            (subst (λ (n : ℕ). FirstPlace d op narrowed p.nc n r.a r.c r.i) (ni-is x) (u.is.first d op x)),
+            (subst (λ (n : ℕ). FirstPlace d op narrowed p.concretes.bindings n r.a r.c r.i) (ni-is x) (u.is.first d op x)),
       ));
       outside = λ l. absurd (over l);
     }

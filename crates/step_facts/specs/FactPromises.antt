@@ -86,20 +86,20 @@ able_at d op false s i = stepping d op s i
 
 -- how many bindings the side's state has
 abbrev pub states_of : Part → Bool → ℕ
-states_of p true = p.na
-states_of p false = p.nc
+states_of p true = p.abstracts.bindings
+states_of p false = p.concretes.bindings
 
 pub record AbleIs (table plan cells : List ℕ) (p : Part) (side : Bool) (s i : ℕ) (r : Bool) : Type 0 where
   pub is : ForSteps table plan cells p (λ (d : Dossier) (op : Operation). r ≡ able_at d op side s i)
 
 pub record BitsAre (table plan cells : List ℕ) (p : Part) (side : Bool) (s r : ℕ) : Type 0 where
-  pub bits : ForSteps table plan cells p (λ (d : Dossier) (op : Operation). (i : ℕ) → i < p.ni → has r i ≡ able_at d op side s i)
+  pub bits : ForSteps table plan cells p (λ (d : Dossier) (op : Operation). (i : ℕ) → i < p.inputs.bindings → has r i ≡ able_at d op side s i)
 
 -- the bits of the first n concrete states
 pub record MasksAre (table plan cells : List ℕ) (p : Part) (n : ℕ) (masks : List ℕ) : Type 0 where
   pub long : length masks ≡ 4096
   pub each : ForSteps table plan cells p
-      (λ (d : Dossier) (op : Operation). (c : ℕ) → c < n → (i : ℕ) → i < p.ni → has (get_or masks c 0) i ≡ stepping d op c i)
+      (λ (d : Dossier) (op : Operation). (c : ℕ) → c < n → (i : ℕ) → i < p.inputs.bindings → has (get_or masks c 0) i ≡ stepping d op c i)
 
 -- ---- states and inputs at which one side can step and the other cannot
 
@@ -138,27 +138,27 @@ pub record FirstPlace (d : Dossier) (op : Operation) (narrowed : Bool) (nc ni a 
 
 -- at a related concrete state, or at none
 pub record PlaceHere (table plan cells : List ℕ) (p : Part) (narrowed : Bool) (a : ℕ) (x : Place) : Type 0 where
-  pub low : (x.a ≡ a) × (x.c < p.nc) × (x.i < p.ni)
+  pub low : (x.a ≡ a) × (x.c < p.concretes.bindings) × (x.i < p.inputs.bindings)
   pub here : ForSteps table plan cells p (λ (d : Dossier) (op : Operation). differs_related d op narrowed a x.c x.i ≡ true)
-  pub first : ForSteps table plan cells p (λ (d : Dossier) (op : Operation). FirstRelated d op narrowed p.ni a x.c x.i)
+  pub first : ForSteps table plan cells p (λ (d : Dossier) (op : Operation). FirstRelated d op narrowed p.inputs.bindings a x.c x.i)
 
 abbrev pub NowhereFrom : (table plan cells : List ℕ) (p : Part) (narrowed : Bool) (a : ℕ) → Type 0
 NowhereFrom table plan cells p narrowed a =
-    ForSteps table plan cells p (λ (d : Dossier) (op : Operation). (c i : ℕ) → c < p.nc → i < p.ni → differs_related d op narrowed a c i ≡ false)
+    ForSteps table plan cells p (λ (d : Dossier) (op : Operation). (c i : ℕ) → c < p.concretes.bindings → i < p.inputs.bindings → differs_related d op narrowed a c i ≡ false)
 
 pub record PlaceFrom (table plan cells : List ℕ) (p : Part) (narrowed : Bool) (a : ℕ) (r : Option Place) : Type 0 where
   pub is : MatchOption r (NowhereFrom table plan cells p narrowed a) (PlaceHere table plan cells p narrowed a)
 
 -- at an abstract state and a concrete one, or at none
 pub record PlaceThere (table plan cells : List ℕ) (p : Part) (narrowed : Bool) (x : Place) : Type 0 where
-  pub low : (x.a < p.na) × (x.c < p.nc) × (x.i < p.ni)
+  pub low : (x.a < p.abstracts.bindings) × (x.c < p.concretes.bindings) × (x.i < p.inputs.bindings)
   pub here : ForSteps table plan cells p (λ (d : Dossier) (op : Operation). differs_at d op narrowed x.a x.c x.i ≡ true)
-  pub first : ForSteps table plan cells p (λ (d : Dossier) (op : Operation). FirstPlace d op narrowed p.nc p.ni x.a x.c x.i)
+  pub first : ForSteps table plan cells p (λ (d : Dossier) (op : Operation). FirstPlace d op narrowed p.concretes.bindings p.inputs.bindings x.a x.c x.i)
 
 abbrev pub NowhereAmong : (table plan cells : List ℕ) (p : Part) (narrowed : Bool) → Type 0
 NowhereAmong table plan cells p narrowed =
     ForSteps table plan cells p
-    (λ (d : Dossier) (op : Operation). (a c i : ℕ) → a < p.na → c < p.nc → i < p.ni → differs_at d op narrowed a c i ≡ false)
+    (λ (d : Dossier) (op : Operation). (a c i : ℕ) → a < p.abstracts.bindings → c < p.concretes.bindings → i < p.inputs.bindings → differs_at d op narrowed a c i ≡ false)
 
 pub record PlaceAmong (table plan cells : List ℕ) (p : Part) (narrowed : Bool) (r : Option Place) : Type 0 where
   pub is : MatchOption r (NowhereAmong table plan cells p narrowed) (PlaceThere table plan cells p narrowed)
@@ -208,14 +208,14 @@ pub record StepOf (d : Dossier) (op : Operation) (a c i o k b : ℕ) : Type 0 wh
 
 -- the states of a pair are some of the part's
 pub record PairLow (p : Part) (x : Pair) : Type 0 where
-  pub a_low : x.a < p.na
-  pub c_low : x.c < p.nc
+  pub a_low : x.a < p.abstracts.bindings
+  pub c_low : x.c < p.concretes.bindings
 
 pub record StepLow (p : Part) (r : BothStep) : Type 0 where
-  pub i_low : r.i < p.ni
-  pub o_low : r.o < p.nq
-  pub k_low : r.k < p.nc
-  pub b_low : r.b < p.na
+  pub i_low : r.i < p.inputs.bindings
+  pub o_low : r.o < p.outputs.bindings
+  pub k_low : r.k < p.concretes.bindings
+  pub b_low : r.b < p.abstracts.bindings
 
 pub record StepHere (table plan cells : List ℕ) (p : Part) (a c : ℕ) (x : BothStep) : Type 0 where
   pub low : StepLow p x
@@ -275,7 +275,7 @@ adds Pairs nc ni d op a = tally (related_to d a) nc
 adds Promises nc ni d op a = tally (ready_at d op a) ni
 
 pub record AddedIs (table plan cells : List ℕ) (p : Part) (c : Counted) (a r : ℕ) : Type 0 where
-  pub is : ForSteps table plan cells p (λ (d : Dossier) (op : Operation). r ≡ adds c p.nc p.ni d op a)
+  pub is : ForSteps table plan cells p (λ (d : Dossier) (op : Operation). r ≡ adds c p.concretes.bindings p.inputs.bindings d op a)
   pub few : r ≤ 4096
 
 -- the count of operation j

@@ -1,13 +1,11 @@
 // The inputs with which a side can step, as bits.
 ghost use Rattle.std.specs.Prelude.{◌≡◌, ◌<◌, get_or};
 ghost use Rattle.memo.specs.MemoPromises.{Memo};
-ghost use Rattle.step_searches.specs.StepPromises.{StepsAsked};
 ghost use Rattle.step_facts.specs.Sides.{is_abstract};
 ghost use Rattle.step_facts.specs.FactPromises.{AbleIs, states_of, BitsAre, MasksAre};
 
 use lexical::bounds::STATE_BINDINGS;
-use plans::PartSearch;
-use step_searches::{next_abstract_step, next_concrete_step};
+use step_searches::{StepSearch, next_abstract_step, next_concrete_step};
 
 // The most bindings that a state has.
 pub const STATES: usize = STATE_BINDINGS as usize;
@@ -22,18 +20,18 @@ pub enum Side {
 
 // Can a side step from its state x with the inputs i?
 pub fn able(
-    s: &PartSearch<'_>,
+    s: &StepSearch<'_>,
     side: Side,
     x: usize,
     i: usize,
     memo: &mut [u64; memo::NUMBERS],
 ) -> bool
-    requires s_bound { (x < states_of s.now.part (is_abstract side)) × (i < s.now.part.ni) }
-    requires steps_asked { StepsAsked s.now.table.now s.now.plan.now s.now.cells.now s.now.part }
+    requires s_bound { (x < states_of s.now.part (is_abstract side)) × (i < s.now.part.inputs.bindings) }
     requires memo { Memo s.now.table.now memo.old }
     ensures found { AbleIs s.now.table.now s.now.plan.now s.now.cells.now s.now.part (is_abstract side) x i result }
     ensures remembers { Memo s.now.table.now memo.new }
 {
+    let _ = &s.search;
     match side {
         Side::Abstract => next_abstract_step(s, x, i, 0, memo).is_some(),
         Side::Concrete => next_concrete_step(s, x, i, 0, memo).is_some(),
@@ -41,28 +39,28 @@ pub fn able(
 }
 
 // The inputs with which it can, as bits; the last one's first, so that each one doubles what is there.
-pub fn bits(s: &PartSearch<'_>, side: Side, x: usize, memo: &mut [u64; memo::NUMBERS]) -> u64
+pub fn bits(s: &StepSearch<'_>, side: Side, x: usize, memo: &mut [u64; memo::NUMBERS]) -> u64
     requires s_bound { x < states_of s.now.part (is_abstract side) }
-    requires steps_asked { StepsAsked s.now.table.now s.now.plan.now s.now.cells.now s.now.part }
     requires memo { Memo s.now.table.now memo.old }
     ensures found { BitsAre s.now.table.now s.now.plan.now s.now.cells.now s.now.part (is_abstract side) x result }
     ensures remembers { Memo s.now.table.now memo.new }
 {
+    let p = s.search.part;
     let mut m: u64 = 0;
-    for i in (0..s.part.ni).rev() {
+    for i in (0..p.inputs.bindings).rev() {
         m = 2 * m + u64::from(able(s, side, x, i, memo));
     }
     m
 }
 
 // Those of all concrete states.
-pub fn fill_masks(s: &PartSearch<'_>, masks: &mut [u64; STATES], memo: &mut [u64; memo::NUMBERS])
-    requires steps_asked { StepsAsked s.now.table.now s.now.plan.now s.now.cells.now s.now.part }
+pub fn fill_masks(s: &StepSearch<'_>, masks: &mut [u64; STATES], memo: &mut [u64; memo::NUMBERS])
     requires memo { Memo s.now.table.now memo.old }
-    ensures fills { MasksAre s.now.table.now s.now.plan.now s.now.cells.now s.now.part s.now.part.nc masks.new }
+    ensures fills { MasksAre s.now.table.now s.now.plan.now s.now.cells.now s.now.part s.now.part.concretes.bindings masks.new }
     ensures remembers { Memo s.now.table.now memo.new }
 {
-    for c in 0..s.part.nc {
+    let p = s.search.part;
+    for c in 0..p.concretes.bindings {
         let m = bits(s, Side::Concrete, c, memo);
         masks[c] = m;
     }

@@ -1,15 +1,14 @@
 // States and inputs at which one side can step and the other cannot.
 ghost use Rattle.std.specs.Prelude.{true, false, ◌<◌, ◌≤◌};
 ghost use Rattle.memo.specs.MemoPromises.{Memo};
-ghost use Rattle.step_searches.specs.StepPromises.{StepsAsked, First};
+ghost use Rattle.step_searches.specs.StepPromises.{First};
 ghost use Rattle.state_facts.specs.Reads.{ReadAsked};
 ghost use Rattle.step_facts.specs.Sides.{is_abstract};
 ghost use Rattle.step_facts.specs.FactPromises.{MasksAre, more, FirstMore, PlaceFrom, PlaceAmong, PlaceIs};
 
 use crate::bits::{STATES, Side, bits, fill_masks, mask_at};
-use plans::PartSearch;
 use search_groups::Dossier;
-use step_searches::{next_abstract_state, next_related_state, prepare};
+use step_searches::{StepSearch, next_abstract_state, next_related_state, prepare};
 
 // An abstract state, a concrete one and inputs.
 #[derive(Clone, Copy)]
@@ -44,23 +43,23 @@ fn first_difference(side: Side, s: u64, m: u64, n: usize) -> Option<usize>
 
 // The first concrete state related to the abstract state a, and the first inputs, where the side can step and the other cannot.
 fn place_from(
-    s: &PartSearch<'_>,
+    s: &StepSearch<'_>,
     side: Side,
     a: usize,
     masks: &[u64; STATES],
     memo: &mut [u64; memo::NUMBERS],
 ) -> Option<Place>
-    requires a_lt_na { a < s.now.part.na }
-    requires steps_asked { StepsAsked s.now.table.now s.now.plan.now s.now.cells.now s.now.part }
+    requires a_lt_na { a < s.now.part.abstracts.bindings }
     requires memo { Memo s.now.table.now memo.old }
-    requires masks_are { MasksAre s.now.table.now s.now.plan.now s.now.cells.now s.now.part s.now.part.nc masks.now }
+    requires masks_are { MasksAre s.now.table.now s.now.plan.now s.now.cells.now s.now.part s.now.part.concretes.bindings masks.now }
     ensures found { PlaceFrom s.now.table.now s.now.plan.now s.now.cells.now s.now.part (is_abstract side) a result }
     ensures remembers { Memo s.now.table.now memo.new }
 {
+    let p = s.search.part;
     let m = bits(s, Side::Abstract, a, memo);
     let mut next = next_related_state(s, a, 0, memo);
     while let Some(c) = next {
-        if let Some(i) = first_difference(side, m, mask_at(masks, c), s.part.ni) {
+        if let Some(i) = first_difference(side, m, mask_at(masks, c), p.inputs.bindings) {
             return Some(Place { a, c, i });
         }
         next = next_related_state(s, a, c + 1, memo);
@@ -70,17 +69,17 @@ fn place_from(
 
 // The first abstract state, concrete state and inputs where they do.
 fn place_among(
-    s: &PartSearch<'_>,
+    s: &StepSearch<'_>,
     side: Side,
     masks: &[u64; STATES],
     memo: &mut [u64; memo::NUMBERS],
 ) -> Option<Place>
-    requires steps_asked { StepsAsked s.now.table.now s.now.plan.now s.now.cells.now s.now.part }
     requires memo { Memo s.now.table.now memo.old }
-    requires masks_are { MasksAre s.now.table.now s.now.plan.now s.now.cells.now s.now.part s.now.part.nc masks.now }
+    requires masks_are { MasksAre s.now.table.now s.now.plan.now s.now.cells.now s.now.part s.now.part.concretes.bindings masks.now }
     ensures found { PlaceAmong s.now.table.now s.now.plan.now s.now.cells.now s.now.part (is_abstract side) result }
     ensures remembers { Memo s.now.table.now memo.new }
 {
+    let _ = &s.search;
     let mut next = next_abstract_state(s, 0, memo);
     while let Some(a) = next {
         if let Some(x) = place_from(s, side, a, masks, memo) {
@@ -100,7 +99,9 @@ fn differing(d: &Dossier<'_>, j: usize, side: Side) -> Option<Place>
         return None;
     }
     let ready = prepare(d, j);
-    let s = ready.search(d.table);
+    let s = StepSearch {
+        search: ready.search(d.table),
+    };
     let mut memo = [0u64; memo::NUMBERS];
     let mut masks = [0u64; STATES];
     fill_masks(&s, &mut masks, &mut memo);

@@ -1,8 +1,9 @@
 // Facts about an operation of a dossier, by numbers of bindings, from the searches for single states and steps: for a program that explains counterexamples. A number that is out of range is
 // answered, never refused.
+// `let _ = &s.search;` stands where a function names no field of its search: with it the proof learns the invariant of `StepSearch`.
 // Form 3: in the loops by `while` the next place is what a search answers, which is lent the memory that the body is lent too: an iterator would have to own it.
-// Form 5: which operation a search goes over is no invariant of `PartSearch`, which is that of every part. The memory goes with the search through each function: in one struct, lent to be written,
-// each would have to promise that the search is the same behind it, and would hand the two on one by one, since the functions of `step_searches` take them so.
+// Form 5: the memory goes with the search through each function: in one struct, lent to be written, each would have to promise that the search is the same
+// behind it, and would hand the two on one by one, since the functions of `step_searches` take them so.
 #![tactic(auto)]
 
 ghost use Rattle.std.specs.Prelude.{◌≡◌};
@@ -13,7 +14,7 @@ pub use differences::{Place, narrowed, widened};
 pub use runs::{Beginning, BothStep, begin, step};
 use search_groups::Dossier;
 pub use state_facts::Pair;
-use step_searches::{next_abstract_step, prepare, prepare_opening};
+use step_searches::{StepSearch, next_abstract_step, prepare, prepare_opening};
 pub use totals::{abstract_states, promises, related_pairs};
 
 mod bits;
@@ -38,16 +39,16 @@ pub fn spans(d: &Dossier<'_>, j: usize) -> Widths
     if j < d.operations {
         let ready = prepare(d, j);
         return Widths {
-            na: ready.part.na,
-            nc: ready.part.nc,
-            ni: ready.part.ni,
-            nq: ready.part.nq,
+            na: ready.part.abstracts.bindings,
+            nc: ready.part.concretes.bindings,
+            ni: ready.part.inputs.bindings,
+            nq: ready.part.outputs.bindings,
         };
     }
     let ready = prepare_opening(d);
     Widths {
-        na: ready.part.nm,
-        nc: ready.part.nc,
+        na: ready.part.meeting.bindings,
+        nc: ready.part.concretes.bindings,
         ni: 1,
         nq: 1,
     }
@@ -84,10 +85,15 @@ pub fn abstract_step(d: &Dossier<'_>, j: usize, a: usize, i: usize, from: usize)
         return NextStep::Beyond;
     }
     let ready = prepare(d, j);
-    if ready.part.na <= a || ready.part.ni <= i || ready.part.nr < from {
+    if ready.part.abstracts.bindings <= a
+        || ready.part.inputs.bindings <= i
+        || ready.part.readying.bindings < from
+    {
         return NextStep::Beyond;
     }
-    let s = ready.search(d.table);
+    let s = StepSearch {
+        search: ready.search(d.table),
+    };
     let mut memo = [0u64; memo::NUMBERS];
     let step = next_abstract_step(&s, a, i, from, &mut memo);
     match step {

@@ -1,17 +1,15 @@
 // A beginning of both machines, and a step of both.
 ghost use Rattle.std.specs.Prelude.{◌<◌};
 ghost use Rattle.memo.specs.MemoPromises.{Memo};
-ghost use Rattle.step_searches.specs.StepPromises.{StepsAsked};
 ghost use Rattle.state_facts.specs.Reads.{ReadAsked};
 ghost use Rattle.step_facts.specs.FactPromises.{BeginIs, PairLow, StepFound, StepIs};
 
 use crate::bits::{Side, able};
-use plans::PartSearch;
 use search_groups::Dossier;
 use state_facts::Pair;
 use step_searches::{
-    Stepped, next_concrete_step, next_initial_match, next_initial_state, next_matching_state,
-    prepare, prepare_opening,
+    StepSearch, Stepped, next_concrete_step, next_initial_match, next_initial_state,
+    next_matching_state, prepare, prepare_opening,
 };
 
 // Where a run begins: in a concrete initial state and an abstract one that is related to it; in a concrete initial state that no abstract one is related to; nowhere.
@@ -51,37 +49,37 @@ pub fn begin(d: &Dossier<'_>) -> Beginning
 
 // A step of both sides from two states with the inputs i: the first concrete one, and an abstract state after it that matches.
 fn step_at(
-    s: &PartSearch<'_>,
+    s: &StepSearch<'_>,
     x: Pair,
     i: usize,
     memo: &mut [u64; memo::NUMBERS],
 ) -> Option<BothStep>
-    requires x_bound { PairLow s.now.part x × (i < s.now.part.ni) }
-    requires steps_asked { StepsAsked s.now.table.now s.now.plan.now s.now.cells.now s.now.part }
+    requires x_bound { PairLow s.now.part x × (i < s.now.part.inputs.bindings) }
     requires memo { Memo s.now.table.now memo.old }
     ensures found { StepFound s.now.table.now s.now.plan.now s.now.cells.now s.now.part x.a x.c result }
     ensures remembers { Memo s.now.table.now memo.new }
 {
+    let p = s.search.part;
     if !able(s, Side::Abstract, x.a, i, memo) {
         return None;
     }
     let step = next_concrete_step(s, x.c, i, 0, memo)?;
-    let o = step / s.part.nc;
-    let k = step % s.part.nc;
+    let o = step / p.concretes.bindings;
+    let k = step % p.concretes.bindings;
     let b = next_matching_state(s, Stepped { a: x.a, i, o, k }, 0, memo)?;
     Some(BothStep { i, o, k, b })
 }
 
 // One with any inputs.
 // Form 3: tried: `find_map` over a closure that is lent the memory: that the memory is sound at each of its turns, and behind the last, did not close, since nothing is told of what it changes.
-fn step_from(s: &PartSearch<'_>, x: Pair, memo: &mut [u64; memo::NUMBERS]) -> Option<BothStep>
+fn step_from(s: &StepSearch<'_>, x: Pair, memo: &mut [u64; memo::NUMBERS]) -> Option<BothStep>
     requires x_bound { PairLow s.now.part x }
-    requires steps_asked { StepsAsked s.now.table.now s.now.plan.now s.now.cells.now s.now.part }
     requires memo { Memo s.now.table.now memo.old }
     ensures found { StepFound s.now.table.now s.now.plan.now s.now.cells.now s.now.part x.a x.c result }
     ensures remembers { Memo s.now.table.now memo.new }
 {
-    for i in 0..s.part.ni {
+    let p = s.search.part;
+    for i in 0..p.inputs.bindings {
         let step = step_at(s, x, i, memo);
         if step.is_some() {
             return step;
@@ -99,10 +97,12 @@ pub fn step(d: &Dossier<'_>, j: usize, x: Pair) -> Option<BothStep>
         return None;
     }
     let ready = prepare(d, j);
-    if ready.part.na <= x.a || ready.part.nc <= x.c {
+    if ready.part.abstracts.bindings <= x.a || ready.part.concretes.bindings <= x.c {
         return None;
     }
-    let s = ready.search(d.table);
+    let s = StepSearch {
+        search: ready.search(d.table),
+    };
     let mut memo = [0u64; memo::NUMBERS];
     step_from(&s, x, &mut memo)
 }

@@ -1,15 +1,13 @@
 // How many states, related pairs and promised steps there are.
 ghost use Rattle.std.specs.Prelude.{◌<◌};
 ghost use Rattle.memo.specs.MemoPromises.{Memo};
-ghost use Rattle.step_searches.specs.StepPromises.{StepsAsked};
 ghost use Rattle.state_facts.specs.Reads.{ReadAsked};
 ghost use Rattle.step_facts.specs.FactPromises.{Summed, one, state_test, related_test, ready_test, adds, AddedIs, TotalIs};
 ghost use Rattle.step_facts.specs.FactPromises.{StatesCounted, PairsCounted, PromisesCounted};
 
 use crate::bits::{Side, able};
-use plans::PartSearch;
 use search_groups::Dossier;
-use step_searches::{next_abstract_state, next_related_state, prepare};
+use step_searches::{StepSearch, next_abstract_state, next_related_state, prepare};
 
 // The operation that is asked for what all of them have in common.
 const FIRST: usize = 0;
@@ -25,13 +23,13 @@ pub enum Counted {
 }
 
 // How many concrete states are related to the abstract state a.
-fn count_related(s: &PartSearch<'_>, a: usize, memo: &mut [u64; memo::NUMBERS]) -> usize
-    requires a_lt_na { a < s.now.part.na }
-    requires steps_asked { StepsAsked s.now.table.now s.now.plan.now s.now.cells.now s.now.part }
+fn count_related(s: &StepSearch<'_>, a: usize, memo: &mut [u64; memo::NUMBERS]) -> usize
+    requires a_lt_na { a < s.now.part.abstracts.bindings }
     requires memo { Memo s.now.table.now memo.old }
-    ensures found { Summed s.now.table.now s.now.plan.now s.now.cells.now s.now.part (related_test a) one s.now.part.nc result }
+    ensures found { Summed s.now.table.now s.now.plan.now s.now.cells.now s.now.part (related_test a) one s.now.part.concretes.bindings result }
     ensures remembers { Memo s.now.table.now memo.new }
 {
+    let _ = &s.search;
     let mut n = 0;
     let mut next = next_related_state(s, a, 0, memo);
     while let Some(c) = next {
@@ -42,15 +40,15 @@ fn count_related(s: &PartSearch<'_>, a: usize, memo: &mut [u64; memo::NUMBERS]) 
 }
 
 // With how many inputs the abstract side can step from a.
-fn count_ready(s: &PartSearch<'_>, a: usize, memo: &mut [u64; memo::NUMBERS]) -> usize
-    requires a_lt_na { a < s.now.part.na }
-    requires steps_asked { StepsAsked s.now.table.now s.now.plan.now s.now.cells.now s.now.part }
+fn count_ready(s: &StepSearch<'_>, a: usize, memo: &mut [u64; memo::NUMBERS]) -> usize
+    requires a_lt_na { a < s.now.part.abstracts.bindings }
     requires memo { Memo s.now.table.now memo.old }
-    ensures found { Summed s.now.table.now s.now.plan.now s.now.cells.now s.now.part (ready_test a) one s.now.part.ni result }
+    ensures found { Summed s.now.table.now s.now.plan.now s.now.cells.now s.now.part (ready_test a) one s.now.part.inputs.bindings result }
     ensures remembers { Memo s.now.table.now memo.new }
 {
+    let p = s.search.part;
     let mut n = 0;
-    for i in 0..s.part.ni {
+    for i in 0..p.inputs.bindings {
         n += usize::from(able(s, Side::Abstract, a, i, memo));
     }
     n
@@ -58,17 +56,17 @@ fn count_ready(s: &PartSearch<'_>, a: usize, memo: &mut [u64; memo::NUMBERS]) ->
 
 // How much the abstract state a adds to a count.
 fn count_at(
-    s: &PartSearch<'_>,
+    s: &StepSearch<'_>,
     counted: Counted,
     a: usize,
     memo: &mut [u64; memo::NUMBERS],
 ) -> usize
-    requires a_lt_na { a < s.now.part.na }
-    requires steps_asked { StepsAsked s.now.table.now s.now.plan.now s.now.cells.now s.now.part }
+    requires a_lt_na { a < s.now.part.abstracts.bindings }
     requires memo { Memo s.now.table.now memo.old }
     ensures found { AddedIs s.now.table.now s.now.plan.now s.now.cells.now s.now.part counted a result }
     ensures remembers { Memo s.now.table.now memo.new }
 {
+    let _ = &s.search;
     match counted {
         Counted::States => 1,
         Counted::Pairs => count_related(s, a, memo),
@@ -77,12 +75,12 @@ fn count_at(
 }
 
 // What all abstract states come to.
-fn count_all(s: &PartSearch<'_>, counted: Counted, memo: &mut [u64; memo::NUMBERS]) -> usize
-    requires steps_asked { StepsAsked s.now.table.now s.now.plan.now s.now.cells.now s.now.part }
+fn count_all(s: &StepSearch<'_>, counted: Counted, memo: &mut [u64; memo::NUMBERS]) -> usize
     requires memo { Memo s.now.table.now memo.old }
-    ensures found { Summed s.now.table.now s.now.plan.now s.now.cells.now s.now.part state_test (adds counted s.now.part.nc s.now.part.ni) s.now.part.na result }
+    ensures found { Summed s.now.table.now s.now.plan.now s.now.cells.now s.now.part state_test (adds counted s.now.part.concretes.bindings s.now.part.inputs.bindings) s.now.part.abstracts.bindings result }
     ensures remembers { Memo s.now.table.now memo.new }
 {
+    let _ = &s.search;
     let mut n = 0;
     let mut next = next_abstract_state(s, 0, memo);
     while let Some(a) = next {
@@ -101,7 +99,9 @@ fn total(d: &Dossier<'_>, j: usize, counted: Counted) -> usize
         return 0;
     }
     let ready = prepare(d, j);
-    let s = ready.search(d.table);
+    let s = StepSearch {
+        search: ready.search(d.table),
+    };
     let mut memo = [0u64; memo::NUMBERS];
     count_all(&s, counted, &mut memo)
 }

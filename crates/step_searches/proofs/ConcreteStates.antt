@@ -37,8 +37,8 @@ module _ {table rows firsts groups plan cells : List ℕ} {p : Part} {d : Dossie
   states-of-steps x = record {
     tests = R.tests;
     celled = x.celled.states.concretes;
-    count = ap (λ (z : Part). z.vc) x.part_is;
-    bindings = ap (λ (z : Part). z.nc) x.part_is;
+    count = ap (λ (z : Part). z.concretes.variables) x.part_is;
+    bindings = ap (λ (z : Part). z.concretes.bindings) x.part_is;
     few = x.few.concrete_bindings_lem;
   }
 
@@ -46,8 +46,8 @@ module _ {table rows firsts groups plan cells : List ℕ} {p : Part} {d : Dossie
   states-of-opening x = record {
     tests = R.tests;
     celled = x.celled.concretes;
-    count = ap (λ (z : Part). z.vc) x.part_is;
-    bindings = ap (λ (z : Part). z.nc) x.part_is;
+    count = ap (λ (z : Part). z.concretes.variables) x.part_is;
+    bindings = ap (λ (z : Part). z.concretes.bindings) x.part_is;
     few = x.few.concrete_bindings_lem;
   }
 
@@ -65,14 +65,14 @@ module _ {table rows firsts cells : List ℕ} {p : Part} {d : Dossier} (x : Conc
   abbrev cs : List Variable
   cs = unprimed d d.concrete
 
-  grouped : Grouped cells 8 p.vc
+  grouped : Grouped cells 8 p.concretes.variables
   grouped = record { group = cs; each = x.celled; long = sym x.count; few = x.few }
 
-  counted : Counts cells 8 p.vc p.nc
+  counted : Counts cells 8 p.concretes.variables p.concretes.bindings
   counted vs h e =
       x.bindings ∙ sym (span-count cells 8 cs x.celled) ∙ ap (λ (m : ℕ). span cells (upward 8 m)) (sym x.count ∙ sym e) ∙ span-count cells 8 vs h
 
-  module _ {c : ℕ} (l : c < p.nc) {old σ : List ℤ} (long : length old ≡ 64) (h : HoldsBinding cells 8 p.vc c σ) (o : Others (pos 0) old 8 p.vc σ) where
+  module _ {c : ℕ} (l : c < p.concretes.bindings) {old σ : List ℤ} (long : length old ≡ 64) (h : HoldsBinding cells 8 p.concretes.variables c σ) (o : Others (pos 0) old 8 p.concretes.variables σ) where
     in-slots : Placed cs (concrete_slots d) (concrete_at d c) σ
     unfolding concrete_bindings
     in-slots =
@@ -92,13 +92,13 @@ module _ {table rows firsts cells : List ℕ} {p : Part} {d : Dossier} (x : Conc
     state-is a = answer_at x.tests (concrete-context d) in-slots a
 
 module _ {table rows firsts cells : List ℕ} {p : Part} where
-  pub bind-grouped : ConcreteAsked table rows firsts cells p → Grouped cells 8 p.vc
+  pub bind-grouped : ConcreteAsked table rows firsts cells p → Grouped cells 8 p.concretes.variables
   bind-grouped q = grouped q.states
 
-  pub bind-counted : ConcreteAsked table rows firsts cells p → Counts cells 8 p.vc p.nc
+  pub bind-counted : ConcreteAsked table rows firsts cells p → Counts cells 8 p.concretes.variables p.concretes.bindings
   bind-counted q = counted q.states
 
-  module _ {c : ℕ} (l : c < p.nc) {old σ : List ℤ} (long : length old ≡ 64) (h : HoldsBinding cells 8 p.vc c σ) (o : Others (pos 0) old 8 p.vc σ) where
+  module _ {c : ℕ} (l : c < p.concretes.bindings) {old σ : List ℤ} (long : length old ≡ 64) (h : HoldsBinding cells 8 p.concretes.variables c σ) (o : Others (pos 0) old 8 p.concretes.variables σ) where
     pub context-asked : ConcreteAsked table rows firsts cells p → ContextAsked table rows firsts 1 σ
     context-asked q = state-asked q.states l long h o
 

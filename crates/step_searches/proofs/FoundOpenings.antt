@@ -40,25 +40,25 @@ module _ {table plan cells : List ℕ} {p : Part} {d : Dossier} (x : OpeningSear
   concretes : Group cells 8 cs
   concretes = record { each = x.celled.concretes }
 
-  pub sizes : ((0 < p.nc) × (p.nc ≤ 4096)) × ((0 < p.nm) × (p.nm ≤ 4096))
+  pub sizes : ((0 < p.concretes.bindings) × (p.concretes.bindings ≤ 4096)) × ((0 < p.meeting.bindings) × (p.meeting.bindings ≤ 4096))
   sizes =
-      by_part (λ (z : Part). ((0 < z.nc) × (z.nc ≤ 4096)) × ((0 < z.nm) × (z.nm ≤ 4096)))
+      by_part (λ (z : Part). ((0 < z.concretes.bindings) × (z.concretes.bindings ≤ 4096)) × ((0 < z.meeting.bindings) × (z.meeting.bindings ≤ 4096)))
       ((bindings-some cs, x.few.concrete_bindings_lem), (bindings-some us, x.few.abstract_bindings_lem))
 
   module _ {k : ℕ} where
-    pub put-concrete : k < p.nc → Bindable cells 8 p.vc p.nc k
+    pub put-concrete : k < p.concretes.bindings → Bindable cells 8 p.concretes.variables p.concretes.bindings k
     put-concrete =
-        by_part (λ (z : Part). k < z.nc → Bindable cells 8 z.vc z.nc k) (λ l. bindable concretes (omega (arith, x.few.concretes)) l)
+        by_part (λ (z : Part). k < z.concretes.bindings → Bindable cells 8 z.concretes.variables z.concretes.bindings k) (λ l. bindable concretes (omega (arith, x.few.concretes)) l)
 
   module _ {δ : Point} {before : List (List ℤ)} (σ : Shows cells δ before) {k : ℕ} where
-    pub ask-initials : k ≤ p.nc → SeekAsked table plan cells 1 0 p.vc p.nc k before
+    pub ask-initials : k ≤ p.concretes.bindings → SeekAsked table plan cells 1 0 p.concretes.variables p.concretes.bindings k before
     ask-initials =
-        by_part (λ (z : Part). k ≤ z.nc → SeekAsked table plan cells 1 0 z.vc z.nc k before)
+        by_part (λ (z : Part). k ≤ z.concretes.bindings → SeekAsked table plan cells 1 0 z.concretes.variables z.concretes.bindings k before)
         (asks x.initials σ (upward-long 8 (length cs)) (group-span concretes) (low-enough (binding_count cs) x.few.concrete_bindings_lem))
 
-    pub ask-met : k ≤ p.nm → SeekAsked table plan cells 4 0 p.vm p.nm k before
+    pub ask-met : k ≤ p.meeting.bindings → SeekAsked table plan cells 4 0 p.meeting.variables p.meeting.bindings k before
     ask-met =
-        by_part (λ (z : Part). k ≤ z.nm → SeekAsked table plan cells 4 0 z.vm z.nm k before)
+        by_part (λ (z : Part). k ≤ z.meeting.bindings → SeekAsked table plan cells 4 0 z.meeting.variables z.meeting.bindings k before)
         (asks x.met σ (upward-long 0 (length us)) (group-span abstracts) (low-enough (binding_count us) x.few.abstract_bindings_lem))
 
   matched : (c s : ℕ) → c < binding_count cs → s < binding_count us
@@ -72,16 +72,16 @@ module _ {table plan cells : List ℕ} {p : Part} {d : Dossier} (x : OpeningSear
       λ t. initial_match d (ec t) (abstract_at d (es t))
 
   module _ {before after : List (List ℤ)} {from r : ℕ} where
-    pub initials-found : Shows cells origin before → SeekAnswers table plan cells 1 0 p.vc p.nc from before after r → Sought (initial d) from p.nc r
+    pub initials-found : Shows cells origin before → SeekAnswers table plan cells 1 0 p.concretes.variables p.concretes.bindings from before after r → Sought (initial d) from p.concretes.bindings r
     initials-found σ =
-        by_part (λ (z : Part). SeekAnswers table plan cells 1 0 z.vc z.nc from before after r → Sought (initial d) from z.nc r)
+        by_part (λ (z : Part). SeekAnswers table plan cells 1 0 z.concretes.variables z.concretes.bindings from before after r → Sought (initial d) from z.concretes.bindings r)
         (finds x.initials σ (upward-long 8 (length cs)) (group-span concretes) (initial d)
         (λ k h. ap (initial d) (has concretes origin k h)))
 
-    pub met-found : {c : ℕ} → c < p.nc → Shows cells (from_concrete cells p c) before → SeekAnswers table plan cells 4 0 p.vm p.nm from before after r
-        → Sought (λ (s : ℕ). initial_match d c (abstract_at d s)) from p.nm r
+    pub met-found : {c : ℕ} → c < p.concretes.bindings → Shows cells (from_concrete cells p c) before → SeekAnswers table plan cells 4 0 p.meeting.variables p.meeting.bindings from before after r
+        → Sought (λ (s : ℕ). initial_match d c (abstract_at d s)) from p.meeting.bindings r
     met-found {c} =
-        by_part (λ (z : Part). c < z.nc → Shows cells (from_concrete cells z c) before → SeekAnswers table plan cells 4 0 z.vm z.nm from before after r
-        → Sought (λ (s : ℕ). initial_match d c (abstract_at d s)) from z.nm r)
+        by_part (λ (z : Part). c < z.concretes.bindings → Shows cells (from_concrete cells z c) before → SeekAnswers table plan cells 4 0 z.meeting.variables z.meeting.bindings from before after r
+        → Sought (λ (s : ℕ). initial_match d c (abstract_at d s)) from z.meeting.bindings r)
         (λ l σ. finds x.met σ (upward-long 0 (length us)) (group-span abstracts) (λ (s : ℕ). initial_match d c (abstract_at d s))
         (λ s h. matched c s l h))

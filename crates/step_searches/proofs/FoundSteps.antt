@@ -31,16 +31,16 @@ low-enough n h = omega arith
 -- the points at which groups are at given numbers, all other variables at their first values
 module _ (cells : List ℕ) (p : Part) where
   abbrev pub from_abstract : (a : ℕ) → Point
-  from_abstract a = placed cells (upward 0 p.va) origin a
+  from_abstract a = placed cells (upward 0 p.abstracts.variables) origin a
 
   abbrev pub with_inputs : Point → (i : ℕ) → Point
-  with_inputs δ i = placed cells (upward 16 p.vi) δ i
+  with_inputs δ i = placed cells (upward 16 p.inputs.variables) δ i
 
   abbrev pub from_concrete : (c : ℕ) → Point
-  from_concrete c = placed cells (upward 8 p.vc) origin c
+  from_concrete c = placed cells (upward 8 p.concretes.variables) origin c
 
   abbrev pub stepped : (a i o k : ℕ) → Point
-  stepped a i o k = placed cells (upward 22 p.vk) (placed cells (upward 19 p.vo) (with_inputs (from_abstract a) i) o) k
+  stepped a i o k = placed cells (upward 22 p.primes.variables) (placed cells (upward 19 p.outputs.variables) (with_inputs (from_abstract a) i) o) k
 
 module _ {table plan cells : List ℕ} {p : Part} {d : Dossier} {op : Operation} (x : StepSearches table plan cells p d op) where
   abbrev us : List Variable
@@ -81,75 +81,75 @@ module _ {table plan cells : List ℕ} {p : Part} {d : Dossier} {op : Operation}
   abstracts-after : Group cells 30 us
   abstracts-after = record { each = x.celled.states.abstracts_primed }
 
-  pub fits : (p.nq * p.nc ≤ 262144) × (p.vo + p.vk ≤ 11)
+  pub fits : (p.outputs.bindings * p.concretes.bindings ≤ 262144) × (p.outputs.variables + p.primes.variables ≤ 11)
   fits =
-      by_part (λ (z : Part). (z.nq * z.nc ≤ 262144) × (z.vo + z.vk ≤ 11))
+      by_part (λ (z : Part). (z.outputs.bindings * z.concretes.bindings ≤ 262144) × (z.outputs.variables + z.primes.variables ≤ 11))
       (both-few (binding_count os) (binding_count cs) x.output_bindings_lem x.few.concrete_bindings_lem, omega (arith, x.outputs_few, x.few.concretes))
 
   -- how many bindings each group has
-  pub sizes : ((0 < p.na) × (p.na ≤ 4096)) × ((0 < p.nc) × (p.nc ≤ 4096)) × ((0 < p.ni) × (p.ni ≤ 64)) × ((0 < p.nq) × (p.nq ≤ 64))
+  pub sizes : ((0 < p.abstracts.bindings) × (p.abstracts.bindings ≤ 4096)) × ((0 < p.concretes.bindings) × (p.concretes.bindings ≤ 4096)) × ((0 < p.inputs.bindings) × (p.inputs.bindings ≤ 64)) × ((0 < p.outputs.bindings) × (p.outputs.bindings ≤ 64))
   sizes =
       by_part
       (λ (z : Part).
-      ((0 < z.na) × (z.na ≤ 4096)) × ((0 < z.nc) × (z.nc ≤ 4096)) × ((0 < z.ni) × (z.ni ≤ 64)) × ((0 < z.nq) × (z.nq ≤ 64)))
+      ((0 < z.abstracts.bindings) × (z.abstracts.bindings ≤ 4096)) × ((0 < z.concretes.bindings) × (z.concretes.bindings ≤ 4096)) × ((0 < z.inputs.bindings) × (z.inputs.bindings ≤ 64)) × ((0 < z.outputs.bindings) × (z.outputs.bindings ≤ 64)))
       ((bindings-some us, x.few.abstract_bindings_lem), (bindings-some cs, x.few.concrete_bindings_lem), (bindings-some is, x.input_bindings), (bindings-some os, x.output_bindings_lem))
 
   -- ---- groups at given numbers
 
   module _ {k : ℕ} where
-    pub put-abstract : k < p.na → Bindable cells 0 p.va p.na k
+    pub put-abstract : k < p.abstracts.bindings → Bindable cells 0 p.abstracts.variables p.abstracts.bindings k
     put-abstract =
-        by_part (λ (z : Part). k < z.na → Bindable cells 0 z.va z.na k)
+        by_part (λ (z : Part). k < z.abstracts.bindings → Bindable cells 0 z.abstracts.variables z.abstracts.bindings k)
         (λ l. bindable abstracts (omega (arith, x.few.abstracts)) l)
 
-    pub put-concrete : k < p.nc → Bindable cells 8 p.vc p.nc k
+    pub put-concrete : k < p.concretes.bindings → Bindable cells 8 p.concretes.variables p.concretes.bindings k
     put-concrete =
-        by_part (λ (z : Part). k < z.nc → Bindable cells 8 z.vc z.nc k)
+        by_part (λ (z : Part). k < z.concretes.bindings → Bindable cells 8 z.concretes.variables z.concretes.bindings k)
         (λ l. bindable concretes (omega (arith, x.few.concretes)) l)
 
-    pub put-inputs : k < p.ni → Bindable cells 16 p.vi p.ni k
+    pub put-inputs : k < p.inputs.bindings → Bindable cells 16 p.inputs.variables p.inputs.bindings k
     put-inputs =
-        by_part (λ (z : Part). k < z.ni → Bindable cells 16 z.vi z.ni k)
+        by_part (λ (z : Part). k < z.inputs.bindings → Bindable cells 16 z.inputs.variables z.inputs.bindings k)
         (λ l. bindable inward (omega (arith, x.inputs_few)) l)
 
-    pub put-outputs : k < p.nq → Bindable cells 19 p.vo p.nq k
+    pub put-outputs : k < p.outputs.bindings → Bindable cells 19 p.outputs.variables p.outputs.bindings k
     put-outputs =
-        by_part (λ (z : Part). k < z.nq → Bindable cells 19 z.vo z.nq k)
+        by_part (λ (z : Part). k < z.outputs.bindings → Bindable cells 19 z.outputs.variables z.outputs.bindings k)
         (λ l. bindable outward (omega (arith, x.outputs_few)) l)
 
-    pub put-concrete-after : k < p.nc → Bindable cells 22 p.vk p.nk k
+    pub put-concrete-after : k < p.concretes.bindings → Bindable cells 22 p.primes.variables p.primes.bindings k
     put-concrete-after =
-        by_part (λ (z : Part). k < z.nc → Bindable cells 22 z.vk z.nk k)
+        by_part (λ (z : Part). k < z.concretes.bindings → Bindable cells 22 z.primes.variables z.primes.bindings k)
         (λ l. bindable concretes-after (omega (arith, x.few.concretes)) l)
 
   -- ---- what the searches are asked
 
   module _ {δ : Point} {before : List (List ℤ)} (σ : Shows cells δ before) {k : ℕ} where
-    pub ask-states : k ≤ p.na → SeekAsked table plan cells 0 0 p.va p.na k before
+    pub ask-states : k ≤ p.abstracts.bindings → SeekAsked table plan cells 0 0 p.abstracts.variables p.abstracts.bindings k before
     ask-states =
-        by_part (λ (z : Part). k ≤ z.na → SeekAsked table plan cells 0 0 z.va z.na k before)
+        by_part (λ (z : Part). k ≤ z.abstracts.bindings → SeekAsked table plan cells 0 0 z.abstracts.variables z.abstracts.bindings k before)
         (asks x.states σ (upward-long 0 (length us)) (group-span abstracts) (low-enough (binding_count us) x.few.abstract_bindings_lem))
 
-    pub ask-related : k ≤ p.nc → SeekAsked table plan cells 1 0 p.vc p.nc k before
+    pub ask-related : k ≤ p.concretes.bindings → SeekAsked table plan cells 1 0 p.concretes.variables p.concretes.bindings k before
     ask-related =
-        by_part (λ (z : Part). k ≤ z.nc → SeekAsked table plan cells 1 0 z.vc z.nc k before)
+        by_part (λ (z : Part). k ≤ z.concretes.bindings → SeekAsked table plan cells 1 0 z.concretes.variables z.concretes.bindings k before)
         (asks x.related σ (upward-long 8 (length cs)) (group-span concretes) (low-enough (binding_count cs) x.few.concrete_bindings_lem))
 
-    pub ask-ready : k ≤ p.nq * p.na → SeekAsked table plan cells 2 0 p.vr p.nr k before
+    pub ask-ready : k ≤ p.outputs.bindings * p.abstracts.bindings → SeekAsked table plan cells 2 0 p.readying.variables p.readying.bindings k before
     ask-ready =
-        by_part (λ (z : Part). k ≤ z.nq * z.na → SeekAsked table plan cells 2 0 z.vr z.nr k before)
+        by_part (λ (z : Part). k ≤ z.outputs.bindings * z.abstracts.bindings → SeekAsked table plan cells 2 0 z.readying.variables z.readying.bindings k before)
         (asks x.ready σ (both_long outward abstracts-after) (both_span outward abstracts-after)
         (both-few (binding_count os) (binding_count us) x.output_bindings_lem x.few.abstract_bindings_lem))
 
-    pub ask-steps : k ≤ p.nq * p.nc → SeekAsked table plan cells 3 0 (p.vo + p.vk) (p.nq * p.nc) k before
+    pub ask-steps : k ≤ p.outputs.bindings * p.concretes.bindings → SeekAsked table plan cells 3 0 (p.outputs.variables + p.primes.variables) (p.outputs.bindings * p.concretes.bindings) k before
     ask-steps =
-        by_part (λ (z : Part). k ≤ z.nq * z.nc → SeekAsked table plan cells 3 0 (z.vo + z.vk) (z.nq * z.nc) k before)
+        by_part (λ (z : Part). k ≤ z.outputs.bindings * z.concretes.bindings → SeekAsked table plan cells 3 0 (z.outputs.variables + z.primes.variables) (z.outputs.bindings * z.concretes.bindings) k before)
         (asks x.steps σ (both_long outward concretes-after) (both_span outward concretes-after)
         (both-few (binding_count os) (binding_count cs) x.output_bindings_lem x.few.concrete_bindings_lem))
 
-    pub ask-met : k ≤ p.na → SeekAsked table plan cells 4 0 p.vm p.nm k before
+    pub ask-met : k ≤ p.abstracts.bindings → SeekAsked table plan cells 4 0 p.meeting.variables p.meeting.bindings k before
     ask-met =
-        by_part (λ (z : Part). k ≤ z.na → SeekAsked table plan cells 4 0 z.vm z.nm k before)
+        by_part (λ (z : Part). k ≤ z.abstracts.bindings → SeekAsked table plan cells 4 0 z.meeting.variables z.meeting.bindings k before)
         (asks x.met σ (upward-long 30 (length us)) (group-span abstracts-after) (low-enough (binding_count us) x.few.abstract_bindings_lem))
 
   -- ---- what is tested at the points of numbers
@@ -219,70 +219,70 @@ module _ {table plan cells : List ℕ} {p : Part} {d : Dossier} {op : Operation}
   -- ---- what they find
 
   module _ {before after : List (List ℤ)} {from r : ℕ} where
-    pub states-found : Shows cells origin before → SeekAnswers table plan cells 0 0 p.va p.na from before after r → Sought (abstract_state d) from p.na r
+    pub states-found : Shows cells origin before → SeekAnswers table plan cells 0 0 p.abstracts.variables p.abstracts.bindings from before after r → Sought (abstract_state d) from p.abstracts.bindings r
     states-found σ =
-        by_part (λ (z : Part). SeekAnswers table plan cells 0 0 z.va z.na from before after r → Sought (abstract_state d) from z.na r)
+        by_part (λ (z : Part). SeekAnswers table plan cells 0 0 z.abstracts.variables z.abstracts.bindings from before after r → Sought (abstract_state d) from z.abstracts.bindings r)
         (finds x.states σ (upward-long 0 (length us)) (group-span abstracts) (abstract_state d)
         (λ k h. ap (abstract_state d) (has abstracts origin k h)))
 
-    pub related-found : {a : ℕ} → a < p.na → Shows cells (from_abstract cells p a) before → SeekAnswers table plan cells 1 0 p.vc p.nc from before after r
-        → Sought (related_to d a) from p.nc r
+    pub related-found : {a : ℕ} → a < p.abstracts.bindings → Shows cells (from_abstract cells p a) before → SeekAnswers table plan cells 1 0 p.concretes.variables p.concretes.bindings from before after r
+        → Sought (related_to d a) from p.concretes.bindings r
     related-found {a} =
-        by_part (λ (z : Part). a < z.na → Shows cells (from_abstract cells z a) before → SeekAnswers table plan cells 1 0 z.vc z.nc from before after r
-        → Sought (related_to d a) from z.nc r)
+        by_part (λ (z : Part). a < z.abstracts.bindings → Shows cells (from_abstract cells z a) before → SeekAnswers table plan cells 1 0 z.concretes.variables z.concretes.bindings from before after r
+        → Sought (related_to d a) from z.concretes.bindings r)
         (λ l σ. finds x.related σ (upward-long 8 (length cs)) (group-span concretes) (related_to d a)
         (λ k h. ap₂ (related_to d)
         (kept-below cells 0 (length us) 8 (length cs) (from_abstract cells here a) k (omega (arith, x.few.abstracts)) ∙ has abstracts origin a l)
         (has concretes (from_abstract cells here a) k h)))
 
-    pub ready-found : {a i : ℕ} → a < p.na → i < p.ni → Shows cells (with_inputs cells p (from_abstract cells p a) i) before
-        → SeekAnswers table plan cells 2 0 p.vr p.nr from before after r
-        → Sought (λ (k : ℕ). abstractly d op a i (output_at d op (k / p.na)) (abstract_at d (k % p.na))) from (p.nq * p.na) r
+    pub ready-found : {a i : ℕ} → a < p.abstracts.bindings → i < p.inputs.bindings → Shows cells (with_inputs cells p (from_abstract cells p a) i) before
+        → SeekAnswers table plan cells 2 0 p.readying.variables p.readying.bindings from before after r
+        → Sought (λ (k : ℕ). abstractly d op a i (output_at d op (k / p.abstracts.bindings)) (abstract_at d (k % p.abstracts.bindings))) from (p.outputs.bindings * p.abstracts.bindings) r
     ready-found {a} {i} =
-        by_part (λ (z : Part). a < z.na → i < z.ni → Shows cells (with_inputs cells z (from_abstract cells z a) i) before
-        → SeekAnswers table plan cells 2 0 z.vr z.nr from before after r
-        → Sought (λ (k : ℕ). abstractly d op a i (output_at d op (k / z.na)) (abstract_at d (k % z.na))) from (z.nq * z.na) r)
+        by_part (λ (z : Part). a < z.abstracts.bindings → i < z.inputs.bindings → Shows cells (with_inputs cells z (from_abstract cells z a) i) before
+        → SeekAnswers table plan cells 2 0 z.readying.variables z.readying.bindings from before after r
+        → Sought (λ (k : ℕ). abstractly d op a i (output_at d op (k / z.abstracts.bindings)) (abstract_at d (k % z.abstracts.bindings))) from (z.outputs.bindings * z.abstracts.bindings) r)
         (λ la li σ. finds x.ready σ (both_long outward abstracts-after)
         (both_span outward abstracts-after)
         (λ (k : ℕ). abstractly d op a i (output_at d op (k / binding_count us)) (abstract_at d (k % binding_count us))) (λ k h. step-tested 0 30 us (λ (s i o t : ℕ). abstractly d op s i (output_at d op o) (abstract_at d t)) abstracts abstracts-after (omega (arith, x.few.abstracts)) (omega arith) a i k la li h))
 
-    pub steps-found : {c i : ℕ} → c < p.nc → i < p.ni → Shows cells (with_inputs cells p (from_concrete cells p c) i) before
-        → SeekAnswers table plan cells 3 0 (p.vo + p.vk) (p.nq * p.nc) from before after r
-        → Sought (λ (k : ℕ). concretely d op c i (output_at d op (k / p.nc)) (concrete_at d (k % p.nc))) from (p.nq * p.nc) r
+    pub steps-found : {c i : ℕ} → c < p.concretes.bindings → i < p.inputs.bindings → Shows cells (with_inputs cells p (from_concrete cells p c) i) before
+        → SeekAnswers table plan cells 3 0 (p.outputs.variables + p.primes.variables) (p.outputs.bindings * p.concretes.bindings) from before after r
+        → Sought (λ (k : ℕ). concretely d op c i (output_at d op (k / p.concretes.bindings)) (concrete_at d (k % p.concretes.bindings))) from (p.outputs.bindings * p.concretes.bindings) r
     steps-found {c} {i} =
-        by_part (λ (z : Part). c < z.nc → i < z.ni → Shows cells (with_inputs cells z (from_concrete cells z c) i) before
-        → SeekAnswers table plan cells 3 0 (z.vo + z.vk) (z.nq * z.nc) from before after r
-        → Sought (λ (k : ℕ). concretely d op c i (output_at d op (k / z.nc)) (concrete_at d (k % z.nc))) from (z.nq * z.nc) r)
+        by_part (λ (z : Part). c < z.concretes.bindings → i < z.inputs.bindings → Shows cells (with_inputs cells z (from_concrete cells z c) i) before
+        → SeekAnswers table plan cells 3 0 (z.outputs.variables + z.primes.variables) (z.outputs.bindings * z.concretes.bindings) from before after r
+        → Sought (λ (k : ℕ). concretely d op c i (output_at d op (k / z.concretes.bindings)) (concrete_at d (k % z.concretes.bindings))) from (z.outputs.bindings * z.concretes.bindings) r)
         (λ lc li σ. finds x.steps σ (both_long outward concretes-after)
         (both_span outward concretes-after)
         (λ (k : ℕ). concretely d op c i (output_at d op (k / binding_count cs)) (concrete_at d (k % binding_count cs))) (λ k h. step-tested 8 22 cs (λ (s i o t : ℕ). concretely d op s i (output_at d op o) (concrete_at d t)) concretes concretes-after (omega (arith, x.few.concretes)) (omega arith) c i k lc li h))
 
-    pub met-found : {a i o k : ℕ} → a < p.na → i < p.ni → o < p.nq → k < p.nc → Shows cells (stepped cells p a i o k) before
-        → SeekAnswers table plan cells 4 0 p.vm p.nm from before after r → Sought (λ (s : ℕ). match d op a i o k (abstract_at d s)) from p.na r
+    pub met-found : {a i o k : ℕ} → a < p.abstracts.bindings → i < p.inputs.bindings → o < p.outputs.bindings → k < p.concretes.bindings → Shows cells (stepped cells p a i o k) before
+        → SeekAnswers table plan cells 4 0 p.meeting.variables p.meeting.bindings from before after r → Sought (λ (s : ℕ). match d op a i o k (abstract_at d s)) from p.abstracts.bindings r
     met-found {a} {i} {o} {k} =
-        by_part (λ (z : Part). a < z.na → i < z.ni → o < z.nq → k < z.nc → Shows cells (stepped cells z a i o k) before
-        → SeekAnswers table plan cells 4 0 z.vm z.nm from before after r → Sought (λ (s : ℕ). match d op a i o k (abstract_at d s)) from z.na r)
+        by_part (λ (z : Part). a < z.abstracts.bindings → i < z.inputs.bindings → o < z.outputs.bindings → k < z.concretes.bindings → Shows cells (stepped cells z a i o k) before
+        → SeekAnswers table plan cells 4 0 z.meeting.variables z.meeting.bindings from before after r → Sought (λ (s : ℕ). match d op a i o k (abstract_at d s)) from z.abstracts.bindings r)
         (λ la li lo lk σ. finds x.met σ (upward-long 30 (length us)) (group-span abstracts-after) (λ (s : ℕ). match d op a i o k (abstract_at d s))
         (λ s h. matched a i o k s la li lo lk h))
 
   -- ---- how many steps and after states a search has
 
-  steps-end : p.nr ≡ p.nq * p.na
-  steps-end = by_part (λ (z : Part). z.nr ≡ z.nq * z.na) refl
+  steps-end : p.readying.bindings ≡ p.outputs.bindings * p.abstracts.bindings
+  steps-end = by_part (λ (z : Part). z.readying.bindings ≡ z.outputs.bindings * z.abstracts.bindings) refl
 
-  matches-end : p.nm ≡ p.na
-  matches-end = by_part (λ (z : Part). z.nm ≡ z.na) refl
+  matches-end : p.meeting.bindings ≡ p.abstracts.bindings
+  matches-end = by_part (λ (z : Part). z.meeting.bindings ≡ z.abstracts.bindings) refl
 
   module _ {f : ℕ → Bool} {from e : ℕ} (r : Option ℕ) where
-    pub steps-found-or : Sought f from e (unwrap_or r p.nr) → Sought f from e (unwrap_or r (p.nq * p.na))
+    pub steps-found-or : Sought f from e (unwrap_or r p.readying.bindings) → Sought f from e (unwrap_or r (p.outputs.bindings * p.abstracts.bindings))
     steps-found-or = subst (λ (n : ℕ). Sought f from e (unwrap_or r n)) steps-end
 
-    pub matches-found-or : Sought f from e (unwrap_or r p.nm) → Sought f from e (unwrap_or r p.na)
+    pub matches-found-or : Sought f from e (unwrap_or r p.meeting.bindings) → Sought f from e (unwrap_or r p.abstracts.bindings)
     matches-found-or = subst (λ (n : ℕ). Sought f from e (unwrap_or r n)) matches-end
 
   module _ (r : Option ℕ) where
-    pub steps-low : IfSome r (λ (k : ℕ). k < p.nr) → IfSome r (λ (k : ℕ). k < p.nq * p.na)
+    pub steps-low : IfSome r (λ (k : ℕ). k < p.readying.bindings) → IfSome r (λ (k : ℕ). k < p.outputs.bindings * p.abstracts.bindings)
     steps-low = subst (λ (n : ℕ). IfSome r (λ (k : ℕ). k < n)) steps-end
 
-    pub matches-low : IfSome r (λ (k : ℕ). k < p.nm) → IfSome r (λ (k : ℕ). k < p.na)
+    pub matches-low : IfSome r (λ (k : ℕ). k < p.meeting.bindings) → IfSome r (λ (k : ℕ). k < p.abstracts.bindings)
     matches-low = subst (λ (n : ℕ). IfSome r (λ (k : ℕ). k < n)) matches-end

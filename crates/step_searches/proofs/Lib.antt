@@ -2,6 +2,7 @@
 pub mod PutGroups
 pub mod FoundNumbers
 pub mod GivenGroups
+pub mod LentSearches
 pub mod FoundSteps
 pub mod FoundOpenings
 pub mod PreparedSearches

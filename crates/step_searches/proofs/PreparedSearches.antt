@@ -45,7 +45,7 @@ module _ {table rows firsts groups : List ℕ} {j : ℕ} where
         let c = (operation-counts x r.cells_set).cells_are in
         let X : OperationReading table rows firsts groups cells d op j =
         record { reading = R; celled = record { states = state-cells c.states; inputs_in = c.inputs; outputs_in = c.outputs }; is = x.listed } in
-        let N : CorrectnessPlan rows firsts plan j (length (outputs d op)) = subst (λ (z : Part). CorrectnessPlan rows firsts plan j z.vo) (correctness-is x r.cells_set r.part_is) r.plan_is in
+        let N : CorrectnessPlan rows firsts plan j (length (outputs d op)) = subst (λ (z : Part). CorrectnessPlan rows firsts plan j z.outputs.variables) (correctness-is x r.cells_set r.part_is) r.plan_is in
         record {
           part_is = correctness-is x r.cells_set r.part_is;
           celled = X.celled;

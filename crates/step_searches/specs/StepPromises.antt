@@ -154,34 +154,34 @@ pub record Prepared (table rows firsts groups : List ℕ) (j : ℕ) (plan cells 
 
 -- next_abstract_state(s, from, memo): abstract states
 pub record AbstractStateFound (table plan cells : List ℕ) (p : Part) (from r : ℕ) : Type 0 where
-  pub sought : ForSteps table plan cells p (λ (d : Dossier) (op : Operation). Sought (abstract_state d) from p.na r)
+  pub sought : ForSteps table plan cells p (λ (d : Dossier) (op : Operation). Sought (abstract_state d) from p.abstracts.bindings r)
 
 -- next_related_state(s, a, from, memo): concrete states related to the abstract one
 pub record RelatedStateFound (table plan cells : List ℕ) (p : Part) (a from r : ℕ) : Type 0 where
-  pub sought : ForSteps table plan cells p (λ (d : Dossier) (op : Operation). Sought (related_to d a) from p.nc r)
+  pub sought : ForSteps table plan cells p (λ (d : Dossier) (op : Operation). Sought (related_to d a) from p.concretes.bindings r)
 
--- next_abstract_step(s, a, i, from, memo): outputs and after state as one number, o * na + a'
+-- next_abstract_step(s, a, i, from, memo): outputs and after state as one number, o * p.abstracts.bindings + a'
 pub record AbstractStepFound (table plan cells : List ℕ) (p : Part) (a i from r : ℕ) : Type 0 where
   pub sought : ForSteps table plan cells p
       (λ (d : Dossier) (op : Operation).
-      Sought (λ (x : ℕ). abstractly d op a i (output_at d op (x / p.na)) (abstract_at d (x % p.na))) from (p.nq * p.na) r)
+      Sought (λ (x : ℕ). abstractly d op a i (output_at d op (x / p.abstracts.bindings)) (abstract_at d (x % p.abstracts.bindings))) from (p.outputs.bindings * p.abstracts.bindings) r)
 
--- next_concrete_step(s, c, i, from, memo): o * nc + c'
+-- next_concrete_step(s, c, i, from, memo): o * p.concretes.bindings + c'
 pub record ConcreteStepFound (table plan cells : List ℕ) (p : Part) (c i from r : ℕ) : Type 0 where
   pub sought : ForSteps table plan cells p
       (λ (d : Dossier) (op : Operation).
-      Sought (λ (x : ℕ). concretely d op c i (output_at d op (x / p.nc)) (concrete_at d (x % p.nc))) from (p.nq * p.nc) r)
+      Sought (λ (x : ℕ). concretely d op c i (output_at d op (x / p.concretes.bindings)) (concrete_at d (x % p.concretes.bindings))) from (p.outputs.bindings * p.concretes.bindings) r)
 
 -- next_matching_state(s, b, from, memo): abstract after states, reached from a with the inputs i and the outputs o, that are related to the concrete after state k
 pub record MatchFound (table plan cells : List ℕ) (p : Part) (a i o k from r : ℕ) : Type 0 where
-  pub sought : ForSteps table plan cells p (λ (d : Dossier) (op : Operation). Sought (λ (x : ℕ). match d op a i o k (abstract_at d x)) from p.na r)
+  pub sought : ForSteps table plan cells p (λ (d : Dossier) (op : Operation). Sought (λ (x : ℕ). match d op a i o k (abstract_at d x)) from p.abstracts.bindings r)
 
 -- what it is asked with
 pub record Below (p : Part) (b : Stepped) : Type 0 where
-  pub a_low : b.a < p.na
-  pub i_low : b.i < p.ni
-  pub o_low : b.o < p.nq
-  pub k_low : b.k < p.nc
+  pub a_low : b.a < p.abstracts.bindings
+  pub i_low : b.i < p.inputs.bindings
+  pub o_low : b.o < p.outputs.bindings
+  pub k_low : b.k < p.concretes.bindings
 
 -- ---- the searches of the initialisation part
 
@@ -211,11 +211,11 @@ pub record Opened (table rows firsts groups plan cells : List ℕ) (p : Part) : 
 
 -- next_initial_state(s, from, memo): concrete initial states
 pub record InitialStateFound (table plan cells : List ℕ) (p : Part) (from r : ℕ) : Type 0 where
-  pub sought : ForOpening table plan cells p (λ (d : Dossier). Sought (initial d) from p.nc r)
+  pub sought : ForOpening table plan cells p (λ (d : Dossier). Sought (initial d) from p.concretes.bindings r)
 
 -- next_initial_match(s, c, from, memo): abstract initial states related to the concrete one
 pub record InitialMatchFound (table plan cells : List ℕ) (p : Part) (c from r : ℕ) : Type 0 where
-  pub sought : ForOpening table plan cells p (λ (d : Dossier). Sought (λ (x : ℕ). initial_match d c (abstract_at d x)) from p.nm r)
+  pub sought : ForOpening table plan cells p (λ (d : Dossier). Sought (λ (x : ℕ). initial_match d c (abstract_at d x)) from p.meeting.bindings r)
 
 -- ---- concrete states, whether or not they are related to an abstract one
 
@@ -223,8 +223,8 @@ pub record InitialMatchFound (table plan cells : List ℕ) (p : Part) (c from r 
 pub record ConcreteStates (table rows firsts cells : List ℕ) (p : Part) (d : Dossier) : Type 0 where
   pub tests : TestsOf table rows firsts d
   pub celled : CellsOf cells 8 (unprimed d d.concrete)
-  pub count : p.vc ≡ length (unprimed d d.concrete)
-  pub bindings : p.nc ≡ binding_count (unprimed d d.concrete)
+  pub count : p.concretes.variables ≡ length (unprimed d d.concrete)
+  pub bindings : p.concretes.bindings ≡ binding_count (unprimed d d.concrete)
   pub few : binding_count (unprimed d d.concrete) ≤ 4096
 
 pub record ConcreteAsked (table rows firsts cells : List ℕ) (p : Part) : Type 0 where
@@ -237,4 +237,4 @@ pub record StateAnswers (table rows firsts cells : List ℕ) (p : Part) (c : ℕ
 
 -- next_concrete_state(d, cells, p, from)
 pub record ConcreteStateFound (table rows firsts cells : List ℕ) (p : Part) (from : ℕ) (r : Option ℕ) : Type 0 where
-  pub first : (d : Dossier) → ConcreteStates table rows firsts cells p d → First (λ (c : ℕ). is_state d d.concrete (concrete_at d c)) from p.nc r
+  pub first : (d : Dossier) → ConcreteStates table rows firsts cells p d → First (λ (c : ℕ). is_state d d.concrete (concrete_at d c)) from p.concretes.bindings r

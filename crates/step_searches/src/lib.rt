@@ -1,18 +1,17 @@
 // States and steps of a dossier's two machines, one after the other, by the numbers of their bindings: the searches of an operation's correctness part and of the initialisation part,
 // with the variables that are given at one of their bindings and all others at their first values.
-// Form 5: which dossier and operation a search goes over is asked of each function (`StepsAsked`), since `PartSearch` is that of every part: no invariant of it.
 #![tactic(auto)]
 
 ghost use Rattle.std.specs.Prelude.{◌*◌, ◌<◌, ◌≤◌, IfSome, unwrap_or};
 ghost use Rattle.memo.specs.MemoPromises.{Memo};
-ghost use Rattle.step_searches.specs.StepPromises.{PutAsked, PutAnswers, PrepareAsked, Prepared, OpenAsked, Opened, StepsAsked, OpeningAsked, Below};
+ghost use Rattle.step_searches.specs.StepPromises.{PutAsked, PutAnswers, PrepareAsked, Prepared, OpenAsked, Opened, OpeningAsked, Below};
 ghost use Rattle.step_searches.specs.StepPromises.{GroupIs, GivenAsked, GivenAnswers};
 ghost use Rattle.step_searches.specs.StepPromises.{AbstractStateFound, RelatedStateFound, AbstractStepFound, ConcreteStepFound, MatchFound};
 ghost use Rattle.step_searches.specs.StepPromises.{InitialStateFound, InitialMatchFound, ConcreteAsked, StateAnswers, ConcreteStateFound};
 
 use part_setup::first_values;
 use parts::{ReadyPart, ready_correctness, ready_opening};
-use plans::{Part, PartSearch};
+use plans::{GroupSize, Part, PartSearch};
 use points::plan::{MET, READY, RELATED, STATES, STEPS};
 use points::slots;
 use search_groups::Dossier;
@@ -21,6 +20,7 @@ use seek::{Span, seek, store};
 use slot_carriers::groups::bind;
 use slot_carriers::{CELLS, SLOTS, count_of};
 use states::context_holds;
+use std::marker::Model;
 
 // A concrete step beside an abstract state: the abstract state before, inputs, outputs, the concrete state after.
 #[derive(Clone, Copy)]
@@ -29,6 +29,23 @@ pub struct Stepped {
     pub i: usize,
     pub o: usize,
     pub k: usize,
+}
+
+// What the searches of an operation's correctness part go over, of some dossier.
+#[derive(Drop)]
+pub struct StepSearch<'a> {
+    pub search: PartSearch<'a>,
+}
+
+impl<'a> Model for StepSearch<'a> {
+    ghost use Rattle.plans.specs.declared.PartSearch.{PartSearch};
+    ghost use Rattle.step_searches.specs.StepPromises.{StepsAsked};
+
+    ghost Value = { PartSearch };
+
+    ghost view = { λ s. s.search };
+
+    ghost invariant = { λ s. StepsAsked s.search.table.now s.search.plan.now s.search.cells.now s.search.part };
 }
 
 // A group of variables at one of its bindings: n variables from a slot on, with w bindings, at the k-th.
@@ -40,10 +57,15 @@ struct Given {
     k: usize,
 }
 
-fn group_at(base: usize, n: usize, w: usize, k: usize) -> Given
-    ensures { GroupIs base n w k result }
+fn group_at(base: usize, size: GroupSize, k: usize) -> Given
+    ensures { GroupIs base size.variables size.bindings k result }
 {
-    Given { base, n, w, k }
+    Given {
+        base,
+        n: size.variables,
+        w: size.bindings,
+        k,
+    }
 }
 
 // The variables of a group get the values of its binding, primed ones in both arrays.
@@ -98,137 +120,132 @@ fn next_with(
 
 // The next abstract state.
 pub fn next_abstract_state(
-    s: &PartSearch<'_>,
+    s: &StepSearch<'_>,
     from: usize,
     memo: &mut [u64; memo::NUMBERS],
 ) -> Option<usize>
-    requires from_le_na { from ≤ s.now.part.na }
-    requires steps_asked { StepsAsked s.now.table.now s.now.plan.now s.now.cells.now s.now.part }
+    requires from_le_na { from ≤ s.now.part.abstracts.bindings }
     requires memo { Memo s.now.table.now memo.old }
-    ensures found { AbstractStateFound s.now.table.now s.now.plan.now s.now.cells.now s.now.part from (unwrap_or result s.now.part.na) }
-    ensures low { IfSome result (λ x. x < s.now.part.na) }
+    ensures found { AbstractStateFound s.now.table.now s.now.plan.now s.now.cells.now s.now.part from (unwrap_or result s.now.part.abstracts.bindings) }
+    ensures low { IfSome result (λ x. x < s.now.part.abstracts.bindings) }
     ensures remembers { Memo s.now.table.now memo.new }
 {
     let span = Span {
         u: STATES,
         j: 0,
-        m: s.part.va,
-        w: s.part.na,
+        m: s.search.part.abstracts.variables,
+        w: s.search.part.abstracts.bindings,
         from,
     };
-    next_with(s, &[], span, memo)
+    next_with(&s.search, &[], span, memo)
 }
 
 // The next concrete state that is related to the abstract state a.
 pub fn next_related_state(
-    s: &PartSearch<'_>,
+    s: &StepSearch<'_>,
     a: usize,
     from: usize,
     memo: &mut [u64; memo::NUMBERS],
 ) -> Option<usize>
-    requires a_lt_na { (a < s.now.part.na) × (from ≤ s.now.part.nc) }
-    requires steps_asked { StepsAsked s.now.table.now s.now.plan.now s.now.cells.now s.now.part }
+    requires a_lt_na { (a < s.now.part.abstracts.bindings) × (from ≤ s.now.part.concretes.bindings) }
     requires memo { Memo s.now.table.now memo.old }
-    ensures found { RelatedStateFound s.now.table.now s.now.plan.now s.now.cells.now s.now.part a from (unwrap_or result s.now.part.nc) }
-    ensures low { IfSome result (λ x. x < s.now.part.nc) }
+    ensures found { RelatedStateFound s.now.table.now s.now.plan.now s.now.cells.now s.now.part a from (unwrap_or result s.now.part.concretes.bindings) }
+    ensures low { IfSome result (λ x. x < s.now.part.concretes.bindings) }
     ensures remembers { Memo s.now.table.now memo.new }
 {
-    let p = s.part;
-    let state = group_at(slots::ABSTRACT, p.va, p.na, a);
+    let p = s.search.part;
+    let state = group_at(slots::ABSTRACT, p.abstracts, a);
     let span = Span {
         u: RELATED,
         j: 0,
-        m: p.vc,
-        w: p.nc,
+        m: p.concretes.variables,
+        w: p.concretes.bindings,
         from,
     };
-    next_with(s, &[state], span, memo)
+    next_with(&s.search, &[state], span, memo)
 }
 
 // The next step of the abstract operation from the state a with the inputs i: outputs and after state as one number.
 pub fn next_abstract_step(
-    s: &PartSearch<'_>,
+    s: &StepSearch<'_>,
     a: usize,
     i: usize,
     from: usize,
     memo: &mut [u64; memo::NUMBERS],
 ) -> Option<usize>
-    requires a_lt_na { (a < s.now.part.na) × (i < s.now.part.ni) × (from ≤ s.now.part.nq * s.now.part.na) }
-    requires steps_asked { StepsAsked s.now.table.now s.now.plan.now s.now.cells.now s.now.part }
+    requires a_lt_na { (a < s.now.part.abstracts.bindings) × (i < s.now.part.inputs.bindings) × (from ≤ s.now.part.outputs.bindings * s.now.part.abstracts.bindings) }
     requires memo { Memo s.now.table.now memo.old }
-    ensures found { AbstractStepFound s.now.table.now s.now.plan.now s.now.cells.now s.now.part a i from (unwrap_or result (s.now.part.nq * s.now.part.na)) }
-    ensures low { IfSome result (λ x. x < s.now.part.nq * s.now.part.na) }
+    ensures found { AbstractStepFound s.now.table.now s.now.plan.now s.now.cells.now s.now.part a i from (unwrap_or result (s.now.part.outputs.bindings * s.now.part.abstracts.bindings)) }
+    ensures low { IfSome result (λ x. x < s.now.part.outputs.bindings * s.now.part.abstracts.bindings) }
     ensures remembers { Memo s.now.table.now memo.new }
 {
-    let p = s.part;
-    let state = group_at(slots::ABSTRACT, p.va, p.na, a);
-    let inputs = group_at(slots::INPUTS, p.vi, p.ni, i);
+    let p = s.search.part;
+    let state = group_at(slots::ABSTRACT, p.abstracts, a);
+    let inputs = group_at(slots::INPUTS, p.inputs, i);
     let span = Span {
         u: READY,
         j: 0,
-        m: p.vr,
-        w: p.nr,
+        m: p.readying.variables,
+        w: p.readying.bindings,
         from,
     };
-    next_with(s, &[state, inputs], span, memo)
+    next_with(&s.search, &[state, inputs], span, memo)
 }
 
 // The next step of the concrete operation from the state c with the inputs i: outputs and after state as one number.
 pub fn next_concrete_step(
-    s: &PartSearch<'_>,
+    s: &StepSearch<'_>,
     c: usize,
     i: usize,
     from: usize,
     memo: &mut [u64; memo::NUMBERS],
 ) -> Option<usize>
-    requires c_lt_nc { (c < s.now.part.nc) × (i < s.now.part.ni) × (from ≤ s.now.part.nq * s.now.part.nc) }
-    requires steps_asked { StepsAsked s.now.table.now s.now.plan.now s.now.cells.now s.now.part }
+    requires c_lt_nc { (c < s.now.part.concretes.bindings) × (i < s.now.part.inputs.bindings) × (from ≤ s.now.part.outputs.bindings * s.now.part.concretes.bindings) }
     requires memo { Memo s.now.table.now memo.old }
-    ensures found { ConcreteStepFound s.now.table.now s.now.plan.now s.now.cells.now s.now.part c i from (unwrap_or result (s.now.part.nq * s.now.part.nc)) }
-    ensures low { IfSome result (λ x. x < s.now.part.nq * s.now.part.nc) }
+    ensures found { ConcreteStepFound s.now.table.now s.now.plan.now s.now.cells.now s.now.part c i from (unwrap_or result (s.now.part.outputs.bindings * s.now.part.concretes.bindings)) }
+    ensures low { IfSome result (λ x. x < s.now.part.outputs.bindings * s.now.part.concretes.bindings) }
     ensures remembers { Memo s.now.table.now memo.new }
 {
-    let p = s.part;
-    let state = group_at(slots::CONCRETE, p.vc, p.nc, c);
-    let inputs = group_at(slots::INPUTS, p.vi, p.ni, i);
+    let p = s.search.part;
+    let state = group_at(slots::CONCRETE, p.concretes, c);
+    let inputs = group_at(slots::INPUTS, p.inputs, i);
     let span = Span {
         u: STEPS,
         j: 0,
-        m: p.vo + p.vk,
-        w: p.nq * p.nc,
+        m: p.outputs.variables + p.primes.variables,
+        w: p.outputs.bindings * p.concretes.bindings,
         from,
     };
-    next_with(s, &[state, inputs], span, memo)
+    next_with(&s.search, &[state, inputs], span, memo)
 }
 
 // The next abstract after state that the abstract operation reaches from b.a with these inputs and outputs, and that is related to the concrete after state.
 pub fn next_matching_state(
-    s: &PartSearch<'_>,
+    s: &StepSearch<'_>,
     b: Stepped,
     from: usize,
     memo: &mut [u64; memo::NUMBERS],
 ) -> Option<usize>
     requires below { Below s.now.part b }
-    requires from_le_na { from ≤ s.now.part.na }
-    requires steps_asked { StepsAsked s.now.table.now s.now.plan.now s.now.cells.now s.now.part }
+    requires from_le_na { from ≤ s.now.part.abstracts.bindings }
     requires memo { Memo s.now.table.now memo.old }
-    ensures found { MatchFound s.now.table.now s.now.plan.now s.now.cells.now s.now.part b.a b.i b.o b.k from (unwrap_or result s.now.part.na) }
-    ensures low { IfSome result (λ x. x < s.now.part.na) }
+    ensures found { MatchFound s.now.table.now s.now.plan.now s.now.cells.now s.now.part b.a b.i b.o b.k from (unwrap_or result s.now.part.abstracts.bindings) }
+    ensures low { IfSome result (λ x. x < s.now.part.abstracts.bindings) }
     ensures remembers { Memo s.now.table.now memo.new }
 {
-    let p = s.part;
-    let state = group_at(slots::ABSTRACT, p.va, p.na, b.a);
-    let inputs = group_at(slots::INPUTS, p.vi, p.ni, b.i);
-    let outputs = group_at(slots::OUTPUTS, p.vo, p.nq, b.o);
-    let after = group_at(slots::CONCRETE_PRIMED, p.vk, p.nk, b.k);
+    let p = s.search.part;
+    let state = group_at(slots::ABSTRACT, p.abstracts, b.a);
+    let inputs = group_at(slots::INPUTS, p.inputs, b.i);
+    let outputs = group_at(slots::OUTPUTS, p.outputs, b.o);
+    let after = group_at(slots::CONCRETE_PRIMED, p.primes, b.k);
     let span = Span {
         u: MET,
         j: 0,
-        m: p.vm,
-        w: p.nm,
+        m: p.meeting.variables,
+        w: p.meeting.bindings,
         from,
     };
-    next_with(s, &[state, inputs, outputs, after], span, memo)
+    next_with(&s.search, &[state, inputs, outputs, after], span, memo)
 }
 
 // The next concrete initial state; the part is that of initialisation.
@@ -238,18 +255,18 @@ pub fn next_initial_state(
     from: usize,
     memo: &mut [u64; memo::NUMBERS],
 ) -> Option<usize>
-    requires from_le_nc { from ≤ s.now.part.nc }
+    requires from_le_nc { from ≤ s.now.part.concretes.bindings }
     requires opening_asked { OpeningAsked s.now.table.now s.now.plan.now s.now.cells.now s.now.part }
     requires memo { Memo s.now.table.now memo.old }
-    ensures found { InitialStateFound s.now.table.now s.now.plan.now s.now.cells.now s.now.part from (unwrap_or result s.now.part.nc) }
-    ensures low { IfSome result (λ x. x < s.now.part.nc) }
+    ensures found { InitialStateFound s.now.table.now s.now.plan.now s.now.cells.now s.now.part from (unwrap_or result s.now.part.concretes.bindings) }
+    ensures low { IfSome result (λ x. x < s.now.part.concretes.bindings) }
     ensures remembers { Memo s.now.table.now memo.new }
 {
     let span = Span {
         u: RELATED,
         j: 0,
-        m: s.part.vc,
-        w: s.part.nc,
+        m: s.part.concretes.variables,
+        w: s.part.concretes.bindings,
         from,
     };
     next_with(s, &[], span, memo)
@@ -263,20 +280,20 @@ pub fn next_initial_match(
     from: usize,
     memo: &mut [u64; memo::NUMBERS],
 ) -> Option<usize>
-    requires c_lt_nc { (c < s.now.part.nc) × (from ≤ s.now.part.nm) }
+    requires c_lt_nc { (c < s.now.part.concretes.bindings) × (from ≤ s.now.part.meeting.bindings) }
     requires opening_asked { OpeningAsked s.now.table.now s.now.plan.now s.now.cells.now s.now.part }
     requires memo { Memo s.now.table.now memo.old }
-    ensures found { InitialMatchFound s.now.table.now s.now.plan.now s.now.cells.now s.now.part c from (unwrap_or result s.now.part.nm) }
-    ensures low { IfSome result (λ x. x < s.now.part.nm) }
+    ensures found { InitialMatchFound s.now.table.now s.now.plan.now s.now.cells.now s.now.part c from (unwrap_or result s.now.part.meeting.bindings) }
+    ensures low { IfSome result (λ x. x < s.now.part.meeting.bindings) }
     ensures remembers { Memo s.now.table.now memo.new }
 {
     let p = s.part;
-    let state = group_at(slots::CONCRETE, p.vc, p.nc, c);
+    let state = group_at(slots::CONCRETE, p.concretes, c);
     let span = Span {
         u: MET,
         j: 0,
-        m: p.vm,
-        w: p.nm,
+        m: p.meeting.variables,
+        w: p.meeting.bindings,
         from,
     };
     next_with(s, &[state], span, memo)
@@ -284,12 +301,19 @@ pub fn next_initial_match(
 
 // Is the c-th binding of the concrete variables a state?
 pub fn concrete_state_at(d: &Dossier<'_>, cells: &[u32; CELLS], p: Part, c: usize) -> bool
-    requires c_lt_nc { c < p.nc }
+    requires c_lt_nc { c < p.concretes.bindings }
     requires concrete_asked { ConcreteAsked d.now.table.now d.now.rows.now d.now.firsts.now cells.now p }
     ensures { StateAnswers d.now.table.now d.now.rows.now d.now.firsts.now cells.now p c result }
 {
     let mut values = [0i64; SLOTS];
-    bind(cells, slots::CONCRETE, p.vc, p.nc, c, &mut values);
+    bind(
+        cells,
+        slots::CONCRETE,
+        p.concretes.variables,
+        p.concretes.bindings,
+        c,
+        &mut values,
+    );
     context_holds(d, CONCRETE_STATE, &mut values)
 }
 
@@ -303,5 +327,5 @@ pub fn next_concrete_state(
     requires concrete_asked { ConcreteAsked d.now.table.now d.now.rows.now d.now.firsts.now cells.now p }
     ensures { ConcreteStateFound d.now.table.now d.now.rows.now d.now.firsts.now cells.now p from result }
 {
-    (from..p.nc).find(|&c| concrete_state_at(d, cells, p, c))
+    (from..p.concretes.bindings).find(|&c| concrete_state_at(d, cells, p, c))
 }

@@ -32,6 +32,7 @@ pub enum Bracket {
 }
 
 // A text and its symbols, as they are scanned: their kinds, 0 past the last one, where they start, and their values.
+// Form 6: these are three arrays of fixed length, which the caller of `read` lends (document 01).
 #[derive(Clone, Copy)]
 pub struct Symbols<'a> {
     pub text: &'a [u8],

@@ -11,6 +11,7 @@ use refusals::{Fault, Refusal};
 mod texts;
 
 // The symbols of a text: their codes, the places of their first bytes, and their values.
+// Form 6: these are three arrays of fixed length, which the caller of `read` lends (document 01).
 pub fn scan(
     text: &[u8],
     codes: &mut [u8; SYMBOLS],

@@ -13,7 +13,7 @@ use refusals::{Fault, Refusal};
 
 // What stands at `at`.
 pub(crate) fn token_at(s: &[u8], at: usize) -> Token
-    requires { (at < length s.now) × (length s.now ≤ 32768) }
+    requires { at < length s.now }
     ensures { result ≡ token_of (symbol_at (drop at s.now)) }
 {
     let c = class_of(s[at]);
@@ -27,7 +27,9 @@ pub(crate) fn token_at(s: &[u8], at: usize) -> Token
 }
 
 // The codes, the places and the values of the symbols of `s`; a name's value is left at 0.
-// Form 3: how far the next symbol is, says the one that is read, and the promise speaks of the rest of the text at a place; an iterator of symbols would promise that of itself at each step.
+// Form 6: codes, places and values are three arrays of fixed length, which the caller of `read` lends (document 01).
+// Form 3: how far the next symbol is, says the one that is read, and the promise speaks of the rest of the text at a place; an iterator of symbols would
+// promise that of itself at each step.
 pub(crate) fn scan_symbols(
     s: &[u8],
     codes: &mut [u8; SYMBOLS],

@@ -1,5 +1,5 @@
 -- Laws of the numbers in the table that the code computes one by one.
-use mathlib.Core.Path.{◌≡◌, refl, sym, ap, ap₂, ◌∙◌}
+use mathlib.Core.Path.{◌≡◌, refl, sym, ap, ◌∙◌, subst}
 use mathlib.Core.Bool.{Bool, true, false, cond}
 use Prim.Native.Nat.{ℕ, ◌+◌, ◌-◌, ◌≤◌, ◌<◌, min}
 use native.Mathlib.Omega.{arith}
@@ -7,15 +7,16 @@ use lib.Dec.{eqb, leb, ltb}
 use mir.Val.{bool_byte}
 use borrow.Author.Tests.{eq-eqb, ne_eqb, lt-ltb, le-ltb, leb-true, ltb-true, ltb-false}
 use Rattle.form.proofs.LexicalBooleanTests.{and_left, and_right}
-use Rattle.std.specs.Prelude.{Some}
+use Rattle.std.specs.Prelude as rust
+use Rattle.std.specs.Prelude.{None, Some, MatchOption, IsSomeAnd}
 use Rattle.std.specs.Bool.{then_some}
 use Rattle.lexical.specs.Kinds.{code_of}
 use Rattle.form.specs.Tree.{Membership, is_in, not_in}
 use Rattle.form.specs.Written.{membership_kind}
 use Rattle.form.specs.Codes.{node}
-use Rattle.type_rules.specs.TypesByNumber.{Sizes, entry, range_fits, size_in}
-use Rattle.type_rules.proofs.TypeNumbers.{cond_yes, cond_no, some-of}
-use Rattle.table_nodes.specs.TableByNumber.{next_slot, range_count, related_shape, placed}
+use Rattle.type_rules.specs.TypesByNumber.{Sizes, range_fits, size_in}
+use Rattle.type_rules.proofs.TypeNumbers.{cond_yes, cond_no}
+use Rattle.table_nodes.specs.TableByNumber.{next_slot, range_count, related_shape, placed, set_size}
 use Rattle.table_nodes.specs.TableWalkPromises.{TruthOf}
 
 pub slot-next : (s r : ℕ) → r ≡ min s 62 + 1 → r ≡ next_slot s
@@ -52,18 +53,20 @@ unfolding range_count
 count_none a b f e h = sym (cond_no f (range_fits a b) (b + 1 - a) 0 e h)
 
 -- how many elements a set has that a kind tells of, and 0 where it tells of none
-pub size-some : (z : Sizes) (b : Bool) (x g m r : ℕ) → then_some b x ≡ Some g → m ≡ g → r ≡ entry z m → r ≡ cond b (size_in z x) 0
-unfolding size_in
-size-some z b x g m r e p q = let u = some-of b x g e in q ∙ ap (λ (n : ℕ). entry z n) (p ∙ u.1) ∙ sym (cond_yes b b (entry z x) 0 refl u.0)
+pub size-then : (z : Sizes) (b : Bool) (x : ℕ) → set_size z (then_some b x) ≡ cond b (size_in z x) 0
+unfolding set_size
+size-then z true x = refl
+size-then z false x = refl
 
-pub size-none : (z : Sizes) (b : Bool) (x : ℕ) → b ≡ false → 0 ≡ cond b (size_in z x) 0
-size-none z b x h = sym (cond_no b b (size_in z x) 0 refl h)
-
-pub both-some : (b : Bool) (x y : ℕ) (p : ℕ × ℕ) → then_some {T = ℕ × ℕ} b (x, y) ≡ Some p → (then_some b x ≡ Some p.0) × (then_some b y ≡ Some p.1)
-both-some b x y p e =
-    let q : ℕ × ℕ = (x, y) in
-    let u : (b ≡ true) × (p ≡ q) = some-of b q p e in
-    (ap₂ (λ (t : Bool) (w : ℕ × ℕ). then_some t w.0) u.0 (sym u.1), ap₂ (λ (t : Bool) (w : ℕ × ℕ). then_some t w.1) u.0 (sym u.1))
+-- one of the two sets of pairs, where a kind tells of them
+pub side-then : (f : ℕ × ℕ → ℕ) (b : Bool) (p : ℕ × ℕ) (o : rust.Option (ℕ × ℕ)) (r : rust.Option ℕ) {Q : ℕ × ℕ → ℕ → Type 0} → o ≡ then_some {T = ℕ × ℕ} b p
+    → MatchOption o (r ≡ None) (λ (q : ℕ × ℕ). IsSomeAnd r (Q q)) → ((q : ℕ × ℕ) (v : ℕ) → Q q v → v ≡ f q) → r ≡ then_some b (f p)
+side-then f b p o r {Q = Q} e m g = by-case b r (subst (λ (w : rust.Option (ℕ × ℕ)). MatchOption w (r ≡ None) (λ (q : ℕ × ℕ). IsSomeAnd r (Q q))) e m)
+  where
+    by-case : (b : Bool) (r : rust.Option ℕ) → MatchOption (then_some {T = ℕ × ℕ} b p) (r ≡ None) (λ (q : ℕ × ℕ). IsSomeAnd r (Q q)) → r ≡ then_some b (f p)
+    by-case true (Some v) h = ap Some (g p v h)
+    by-case true None h = absurd h
+    by-case false r h = h
 
 -- memberships, and true and false, by the codes of their symbols
 pub shape-in : (o : ℕ) → o ≡ 56 → (m : Membership) → code_of (membership_kind m) ≡ o → 22 ≡ related_shape m

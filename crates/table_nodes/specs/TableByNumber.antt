@@ -2,6 +2,8 @@
 -- T has what each name is (type_rules/specs/TypesByNumber), W where its value is found, z the sizes of the given sets; s is the slot of the next bound name,
 -- and p the place of the tree's first number in the table.
 use Rattle.std.specs.Prelude.{cond, List, ◌++◌, ℕ, ◌+◌, ◌-◌, ◌/◌, ◌%◌, ltb, length, set}
+use Rattle.std.specs.Prelude as rust
+use Rattle.std.specs.Prelude.{None, Some}
 use Rattle.lexical.specs.Kinds.{code_of}
 use Rattle.lexical.specs.Symbols.{no_ending}
 use Rattle.form.specs.Tree.{Domain, given_set, range, Membership, is_in, not_in}
@@ -18,6 +20,11 @@ Places = List ℕ
 -- the slot behind a bound name's
 unfoldable pub next_slot : ℕ → ℕ
 next_slot s = cond (ltb s 63) (s + 1) 63
+
+-- how many elements a given set has, where there is one
+unfoldable pub set_size : Sizes → rust.Option ℕ → ℕ
+set_size z (Some g) = size_in z g
+set_size z None = 0
 
 -- how many elements the given set has that a name is; that elements are of; that the first and the second sides of pairs are of
 unfoldable pub given_size : Sizes → ℕ → ℕ

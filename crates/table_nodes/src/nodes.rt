@@ -1,7 +1,7 @@
 // The nodes of the table, and the numbers in them that are not those of the nodes read.
-ghost use Rattle.std.specs.Prelude.{◌≡◌, ◌+◌, ◌≤◌, ◌<◌, length};
+ghost use Rattle.std.specs.Prelude.{◌≡◌, ◌+◌, ◌≤◌, length};
 ghost use Rattle.form.specs.Codes.{node};
-ghost use Rattle.table_nodes.specs.TableByNumber.{next_slot, given_size, element_size, first_size, second_size, range_count};
+ghost use Rattle.table_nodes.specs.TableByNumber.{next_slot, given_size, element_size, first_size, second_size, range_count, set_size};
 ghost use Rattle.table_nodes.specs.TableWalkPromises.{RelatedShape, TruthOf, patch};
 
 use crate::{Made, slots, table_shapes};
@@ -20,8 +20,8 @@ pub fn set_node(out: &mut [u16], at: usize, shape: u16, i: u16, a: u16, b: u16)
 }
 
 // No nodes of a tree end here.
-// Form 1: no Option, since no caller asks: the walk goes on from place 0, where none end either, and names and places are restored on the way back; with `?` the
-// calls that bind a name would have to restore it before.
+// Form 1: no Option, since no caller asks: the walk goes on from place 0, where none end either, and names and places are restored on the way back; with `?`
+// the calls that bind a name would have to restore it before.
 pub fn nothing() -> Made
     ensures { result.start ≡ 0 }
 {
@@ -38,42 +38,40 @@ pub fn next_slot(s: u16) -> u16
     s.min(slots::LAST - 1) + 1
 }
 
-// How many elements the given set has that a name is; that elements are of; that the first and the second sides of pairs are of.
+// How many elements the given set has, where there is one.
 // Form 1: a node has 0 in the place of no such set; with an Option each caller would turn `None` back into it.
-pub fn given_size(sizes: &[u16], k: Kind) -> u16
-    ensures { result ≡ given_size sizes.now k }
+fn size_of(sizes: &[u16], set: Option<u16>) -> u16
+    ensures { result ≡ set_size sizes.now set }
 {
-    match k.given() {
+    match set {
         Some(g) => look(sizes, usize::from(g)),
         None => 0,
     }
+}
+
+// How many elements the given set has that a name is; that elements are of; that the first and the second sides of pairs are of.
+pub fn given_size(sizes: &[u16], k: Kind) -> u16
+    ensures { result ≡ given_size sizes.now k }
+{
+    size_of(sizes, k.given())
 }
 
 pub fn element_size(sizes: &[u16], k: Kind) -> u16
     ensures { result ≡ element_size sizes.now k }
 {
-    match k.element() {
-        Some(g) => look(sizes, usize::from(g)),
-        None => 0,
-    }
+    size_of(sizes, k.element())
 }
 
 pub fn first_size(sizes: &[u16], k: Kind) -> u16
     ensures { result ≡ first_size sizes.now k }
 {
-    match k.pairs() {
-        Some((g, _)) => look(sizes, usize::from(g)),
-        None => 0,
-    }
+    size_of(sizes, k.pairs().map(|p| p.0))
 }
 
 pub fn second_size(sizes: &[u16], k: Kind) -> u16
     ensures { result ≡ second_size sizes.now k }
 {
-    match k.pairs() {
-        Some((_, h)) => look(sizes, usize::from(h)),
-        None => 0,
-    }
+    size_of(sizes, k.pairs().map(|p| p.1))
 }
 
 // How many numbers a range has that is not at fault.

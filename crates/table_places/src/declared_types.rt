@@ -1,22 +1,15 @@
 // The carriers of declared names, written behind the nodes of the names.
-ghost use Rattle.std.specs.Prelude.{◌≡◌, ◌+◌, ◌≤◌, ◌<◌, length, get_or};
+ghost use Rattle.std.specs.Prelude.{◌≡◌, ◌+◌, ◌≤◌, ◌<◌, length};
 ghost use Rattle.table_places.specs.DossierTableByNumber.{given_index};
 ghost use Rattle.table_places.specs.TablePromises.{TableRoom, TypeSet, TypesSet, OperationTypesSet, DeclaredSet};
 
 use form::{node, shapes};
 use names::passes::part;
-use node_spans::span;
+use node_spans::{operation_spans, span, span_at};
 use table_nodes::nodes::{given_size, range_count, set_node};
 use type_rules::entries;
 use type_rules::entries::Kind;
-use type_rules::kinds::{entry, look};
-
-// A number of the spans.
-pub fn span_at(spans: &[u16], k: usize) -> usize
-    ensures { (result ≡ get_or spans.now k 0) × (result < 65536) }
-{
-    usize::from(look(spans, k))
-}
+use type_rules::kinds::entry;
 
 // The number of the given set that a name is.
 fn given_index(k: Kind) -> u16
@@ -25,13 +18,16 @@ fn given_index(k: Kind) -> u16
     k.given().unwrap_or(0)
 }
 
-// What is read: the nodes of a dossier, where its parts stand among them, the names of its given sets, and how many elements these have.
+// What is read: the nodes of a dossier, where its parts stand among them, how many operations it has, the names of its given sets, and how many elements these
+// have.
 #[derive(Clone, Copy)]
 pub struct Declarations<'a> {
     pub nodes: &'a [u16],
     pub spans: &'a [u16],
+    pub operations: usize,
     pub names: &'a [Kind],
     pub sizes: &'a [u16],
+    ghost few: { operations ≤ 16 },
 }
 
 // The carrier of a declared type, written at q; n has the type's node.
@@ -82,21 +78,20 @@ fn set_types(s: &Declarations<'_>, from: usize, to: usize, out: &mut [u16])
 }
 
 // The carriers of the operations' parameters.
-fn set_parameter_types(s: &Declarations<'_>, n: usize, out: &mut [u16])
-    requires { (n ≤ 16) × TableRoom s.now.nodes.now out.old }
-    ensures { OperationTypesSet s.now.nodes.now s.now.spans.now n s.now.names.now s.now.sizes.now out.old out.new }
+fn set_parameter_types(s: &Declarations<'_>, out: &mut [u16])
+    requires { TableRoom s.now.nodes.now out.old }
+    ensures { OperationTypesSet s.now.nodes.now s.now.spans.now s.now.operations s.now.names.now s.now.sizes.now out.old out.new }
 {
-    for k in 0..n {
-        let first = span_at(s.spans, span::OPERATIONS + span::OPERATION * k);
-        let last = span_at(s.spans, span::OPERATIONS + span::OPERATION * k + span::LAST);
-        set_types(s, first, last, out);
+    for k in 0..s.operations {
+        let o = operation_spans(s.spans, k);
+        set_types(s, o.first, o.last, out);
     }
 }
 
 // The carriers of all declared names.
-pub fn set_declared(s: &Declarations<'_>, n: usize, out: &mut [u16])
-    requires { (n ≤ 16) × TableRoom s.now.nodes.now out.old }
-    ensures { DeclaredSet s.now.nodes.now s.now.spans.now n s.now.names.now s.now.sizes.now out.old out.new }
+pub fn set_declared(s: &Declarations<'_>, out: &mut [u16])
+    requires { TableRoom s.now.nodes.now out.old }
+    ensures { DeclaredSet s.now.nodes.now s.now.spans.now s.now.operations s.now.names.now s.now.sizes.now out.old out.new }
 {
     let a0 = span_at(s.spans, span::ABSTRACT_FIRST);
     let a1 = span_at(s.spans, span::ABSTRACT_LAST);
@@ -104,5 +99,5 @@ pub fn set_declared(s: &Declarations<'_>, n: usize, out: &mut [u16])
     let c0 = span_at(s.spans, span::CONCRETE_FIRST);
     let c1 = span_at(s.spans, span::CONCRETE_LAST);
     set_types(s, c0, c1, out);
-    set_parameter_types(s, n, out);
+    set_parameter_types(s, out);
 }

@@ -1,5 +1,5 @@
 // Where values are found: the places of elements, the slots of variables and parameters.
-ghost use Rattle.std.specs.Prelude.{◌≡◌, ◌+◌, ◌%◌, ◌≤◌, ◌<◌, eqb, length};
+ghost use Rattle.std.specs.Prelude.{◌≡◌, ◌%◌, ◌≤◌, ◌<◌, eqb, length};
 ghost use Rattle.table_places.specs.TablePromises.{ElementsSet, ElementSet, VariablesSet, ParametersSet, PlacesSet};
 
 use form::name_endings::{INPUT, PLAIN, PRIMED};
@@ -33,13 +33,15 @@ fn place_element(n: &[u16], j: u16, places: &mut [u16]) -> u16
 
 // Variables have slots from `slot` on.
 // Form 3: with `enumerate` the slot would be `slot + k as u16`, a conversion and a sum at each declaration in the place of one more.
+// `zip(slot..)` was tried: the proof of this loop, with the start of the range for `s`, did not close before the first step and behind the last, where what is known of
+// the declarations left and of the slot is said of the two iterators of the zip.
 fn place_variables(code: &[u16], shift: u16, slot: u16, places: &mut [u16])
     requires { (length code.now ≤ 16384) × (slot < 64) }
     ensures { VariablesSet code.now shift slot places.old places.new }
 {
     let mut s: u16 = slot;
     for d in code.chunks_exact(node::DECLARATION) {
-        put(places, usize::from(d[node::A]) + shift as usize, s);
+        put(places, usize::from(d[node::A]) + usize::from(shift), s);
         s += 1;
     }
 }

@@ -2,6 +2,7 @@
 -- The walk for sizes.
 pub mod SizeWalkNumbers
 pub mod SizeWalk
+pub mod FrontSizes
 pub mod SizeWalkTerms
 pub mod SizeWalkPreds
 

@@ -11,12 +11,11 @@ use Rattle.form.specs.Tree.{range}
 use Rattle.form.specs.Written.{connective_kind, comparison_kind, membership_kind, quantifier_kind}
 use Rattle.form.specs.Codes.{number_of_name, term_width, pred_width, domain_width, range_codes, domain_codes, term_codes, pred_codes}
 use Rattle.type_rules.specs.declared.Node.{Node}
-use Rattle.type_rules.specs.TypesByNumber.{fault_key, entry, lesser, NodeAt}
+use Rattle.type_rules.specs.TypesByNumber.{fault_key, lesser, NodeAt}
 use Rattle.typing.proofs.LastNodes.{last-node, one-part, two-parts, three-parts, middle}
-use Rattle.typing.proofs.TypeWalkTerms.{restored}
 use Rattle.term_sizes.specs.declared.Sized.{Sized}
-use Rattle.term_sizes.specs.SizesByNumber.{Bounds, term_over, pred_over}
-use Rattle.term_sizes.specs.SizeWalkPromises.{DomainSized, TermSized, PairSized, PredSized}
+use Rattle.term_sizes.specs.SizesByNumber.{Bounds, domain_bound, term_over, pred_over}
+use Rattle.term_sizes.specs.SizeWalkPromises.{DomainSized, TermSized, PairSized, PredSized, BoundSized}
 use Rattle.term_sizes.proofs.SizeWalk.{pred-from}
 
 module _ (code : List ℕ) (e : ℕ) (l : e ≤ length code) (S : Bounds) where
@@ -88,20 +87,16 @@ module _ (code : List ℕ) (e : ℕ) (l : e ≤ length code) (S : Bounds) where
       record { fault_is = fq ∙ ap₂ lesser s₁.fault_is s₂.fault_is; bound_is = λ z. bq; start_is = sq ∙ s₁.start_is })
 
   -- (forall x : T @ p): the body is seen with the size of what x is bound over
-  pub pred-quantified : (U₁ U₂ U₃ : Bounds) (n : Node) (d p r : Sized) (x b old : ℕ) → NodeAt code e n → get_or code (e - 4 + 3) 0 ≡ 8
-      → DomainSized code (e - 4) d → PredSized code d.start U₁ U₂ p
-      → b ≡ d.bound → U₁ ≡ set S x b → U₃ ≡ set U₂ x old → x ≡ n.a → old ≡ entry S x → r.bound ≡ 0 → fault_key r.fault ≡ fault_key p.fault → r.start ≡ p.start
-      → PredSized code e S U₃ r
+  pub pred-quantified : (U : Bounds) (n : Node) (r : Sized) → NodeAt code e n → get_or code (e - 4 + 3) 0 ≡ 8 → BoundSized code (e - 4) n S U r → PredSized code e S U r
   unfolding term_codes term_over
-  pred-quantified U₁ U₂ U₃ n d p r x b old hn q hd hp bd b₁ b₃ xq oq bq fq sq =
-      pred-from code e l S 8 U₃ r (let f = hd.falls in let g = hp.falls in omega arith) (restored S U₁ U₂ U₃ x b old b₁ hp.kept b₃ oq) q
+  pred-quantified U n r hn q hb =
+      pred-from code e l S 8 U r (let f = hb.falls in omega arith) hb.kept q
       (λ c y₁ D P i ρ base y.
       let j : ℕ = i + 5 + domain_width D in
       let h = two-parts code e l base (pred_codes P j ρ) (domain_codes D (i + 4) ρ) 8 (suc i) (number_of_name ρ y₁ no_ending) (code_of (quantifier_kind c)) y in
-      let sD = hd.right D (i + 4) ρ (base ++ pred_codes P j ρ) h.before in
-      let sP = hp.right P j ρ base (middle code (e - 4) d.start (base ++ pred_codes P j ρ) (domain_codes D (i + 4) ρ) h.before hd.falls sD.start_is) in
+      let sB = hb.right D P (i + 4) j ρ base h.before in
       record {
-        fault_is = fq ∙ sP.fault_is ∙ ap (λ (X : Bounds). pred_over P X ρ j) (b₁ ∙ ap₂ (set S) (xq ∙ hn.first_is ∙ h.is_first) (bd ∙ sD.bound_is refl));
-        bound_is = λ z. bq;
-        start_is = sq ∙ sP.start_is;
+        fault_is = sB.fault_is ∙ ap (λ (x : ℕ). pred_over P (set S x (domain_bound D)) ρ j) (hn.first_is ∙ h.is_first);
+        bound_is = λ z. hb.bare;
+        start_is = sB.start_is;
       })

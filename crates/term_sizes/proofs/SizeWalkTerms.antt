@@ -17,7 +17,7 @@ use Rattle.typing.proofs.LastNodes.{last-node, one-part, two-parts, three-parts,
 use Rattle.typing.proofs.TypeWalkTerms.{restored}
 use Rattle.term_sizes.specs.declared.Sized.{Sized}
 use Rattle.term_sizes.specs.SizesByNumber.{Bounds, absolute, prefix_bound, operator_bound, division_bound, domain_bound, term_bound, term_over, items_over, pairs_over, pred_over}
-use Rattle.term_sizes.specs.SizeWalkPromises.{PrefixBound, OperatorBound, DivisionBound, Saw, DomainSized, TermSized, ItemsSized, PairSized, PairsSized, PredSized}
+use Rattle.term_sizes.specs.SizeWalkPromises.{PrefixBound, OperatorBound, DivisionBound, Saw, DomainSized, TermSized, ItemsSized, PairSized, PairsSized, PredSized, BoundSized}
 use Rattle.term_sizes.proofs.SizeWalkNumbers.{lesser-none, over_none, over-seen, over-small, unless-small, unless-none}
 use Rattle.term_sizes.proofs.SizeWalk.{term-from}
 
@@ -137,23 +137,36 @@ module _ (code : List ℕ) (e : ℕ) (l : e ≤ length code) (S : Bounds) where
         start_is = sq ∙ s₁.start_is;
       })
 
+  -- a name bound for a predicate, and what it was behind it
+  pub bound-sized : (U₁ U₂ U₃ : Bounds) (n : Node) (d p r : Sized) (x b old : ℕ) → DomainSized code e d → PredSized code d.start U₁ U₂ p
+      → b ≡ d.bound → U₁ ≡ set S x b → U₃ ≡ set U₂ x old → x ≡ n.a → old ≡ entry S x → r.bound ≡ 0 → fault_key r.fault ≡ fault_key p.fault → r.start ≡ p.start
+      → BoundSized code e n S U₃ r
+  bound-sized U₁ U₂ U₃ n d p r x b old hd hp bd b₁ b₃ xq oq bq fq sq = record {
+    falls = let f = hd.falls in let g = hp.falls in omega arith;
+    bare = bq;
+    kept = restored S U₁ U₂ U₃ x b old b₁ hp.kept b₃ oq;
+    right = λ D P i j ρ base y.
+        let sD = hd.right D i ρ (base ++ pred_codes P j ρ) y in
+        let sP = hp.right P j ρ base (middle code e d.start (base ++ pred_codes P j ρ) (domain_codes D i ρ) y hd.falls sD.start_is) in
+        record {
+          fault_is = fq ∙ sP.fault_is ∙ ap (λ (X : Bounds). pred_over P X ρ j) (b₁ ∙ ap₂ (set S) xq (bd ∙ sD.bound_is refl));
+          bound_is = λ z. bq;
+          start_is = sq ∙ sP.start_is;
+        };
+  }
+
   -- {x : G | p}
-  pub term-such : (U₁ U₂ U₃ : Bounds) (n : Node) (d p r : Sized) (x old : ℕ) → NodeAt code e n → get_or code (e - 4 + 3) 0 ≡ 6
-      → DomainSized code (e - 4) d → PredSized code d.start U₁ U₂ p
-      → U₁ ≡ set S x 0 → U₃ ≡ set U₂ x old → x ≡ n.a → old ≡ entry S x → r.bound ≡ 0 → fault_key r.fault ≡ fault_key p.fault → r.start ≡ p.start
-      → TermSized code e S U₃ r
-  unfolding term_codes term_bound term_over
-  term-such U₁ U₂ U₃ n d p r x old hn q hd hp b₁ b₃ xq oq bq fq sq =
-      term-from code e l S 6 U₃ r (let f = hd.falls in let g = hp.falls in omega arith) (omega arith) (restored S U₁ U₂ U₃ x 0 old b₁ hp.kept b₃ oq) q
+  pub term-such : (U : Bounds) (n : Node) (r : Sized) → NodeAt code e n → get_or code (e - 4 + 3) 0 ≡ 6 → BoundSized code (e - 4) n S U r → TermSized code e S U r
+  unfolding term_codes term_bound term_over domain_bound
+  term-such U n r hn q hb =
+      term-from code e l S 6 U r (let f = hb.falls in omega arith) (let f = hb.bare in omega arith) hb.kept q
       (λ y₁ g P i ρ base y.
       let h = two-parts code e l base (pred_codes P (i + 5) ρ) (node 1 (i + 3) (name_number ρ g) 0) 6 i (number_of_name ρ y₁ no_ending) 0 y in
-      let sD = hd.right (given_set g) (i + 3) ρ (base ++ pred_codes P (i + 5) ρ) h.before in
-      let sP = hp.right P (i + 5) ρ base (middle code (e - 4) d.start (base ++ pred_codes P (i + 5) ρ) (node 1 (i + 3) (name_number ρ g) 0) h.before hd.falls sD.start_is) in
-      let xy : x ≡ number_of_name ρ y₁ no_ending = xq ∙ hn.first_is ∙ h.is_first in
+      let sB = hb.right (given_set g) P (i + 3) (i + 5) ρ base h.before in
       record {
-        fault_is = fq ∙ sP.fault_is ∙ ap (λ (X : Bounds). pred_over P X ρ (i + 5)) (b₁ ∙ ap (λ (k : ℕ). set S k 0) xy);
-        bound_is = λ z. bq;
-        start_is = sq ∙ sP.start_is;
+        fault_is = sB.fault_is ∙ ap (λ (x : ℕ). pred_over P (set S x 0) ρ (i + 5)) (hn.first_is ∙ h.is_first);
+        bound_is = λ z. hb.bare;
+        start_is = sB.start_is;
       })
 
   -- {t, ...}, {t |-> t, ...}

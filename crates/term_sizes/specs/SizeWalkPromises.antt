@@ -1,5 +1,5 @@
 -- What the walk over the nodes promises of whatever tree they are the nodes of, by the numbers of SizesByNumber. Nothing here need be believed.
-use Rattle.std.specs.Prelude.{◌≡◌, List, ◌++◌, Bool, ℕ, ◌+◌, ◌≤◌, length, take}
+use Rattle.std.specs.Prelude.{◌≡◌, List, ◌++◌, Bool, ℕ, ◌+◌, ◌≤◌, length, take, set}
 use Rattle.lexical.specs.Kinds.{code_of}
 use Rattle.form.specs.Tree.{Prefix, Operator, Division, Domain, Term, Items, Pairs, Pred}
 use Rattle.form.specs.Written.{prefix_kind, operator_kind}
@@ -7,6 +7,7 @@ use Rattle.form.specs.Codes.{Numbering, sign_of, division_number, domain_codes, 
 use Rattle.type_rules.specs.TypesByNumber.{fault_key, lesser}
 use Rattle.term_sizes.specs.SizesByNumber.{Bounds, prefix_bound, operator_bound, division_bound, domain_bound, term_bound, term_over, items_over, pairs_over, pred_over}
 use Rattle.term_sizes.specs.declared.Sized.{Sized}
+use Rattle.type_rules.specs.declared.Node.{Node}
 
 -- the code tells prefixes and operators by their symbols' codes
 abbrev pub PrefixBound : (o a r : ℕ) → Type 0
@@ -59,3 +60,11 @@ pub record PredSized (code : List ℕ) (e : ℕ) (S U : Bounds) (r : Sized) : Ty
   pub falls : r.start ≤ e
   pub kept : U ≡ S
   pub right : (p : Pred) (i : ℕ) (ρ : Numbering) (base : List ℕ) → take e code ≡ base ++ pred_codes p i ρ → Saw r 0 (pred_over p S ρ i) (length base)
+
+-- a name is bound, that of the node n, for a predicate with its domain behind it
+pub record BoundSized (code : List ℕ) (e : ℕ) (n : Node) (S U : Bounds) (r : Sized) : Type 0 where
+  pub falls : r.start ≤ e
+  pub bare : r.bound ≡ 0
+  pub kept : U ≡ S
+  pub right : (d : Domain) (p : Pred) (i j : ℕ) (ρ : Numbering) (base : List ℕ) → take e code ≡ (base ++ pred_codes p j ρ) ++ domain_codes d i ρ
+      → Saw r 0 (pred_over p (set S n.a (domain_bound d)) ρ j) (length base)

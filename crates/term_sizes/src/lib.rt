@@ -6,7 +6,8 @@ use refusals::Fault;
 pub mod sizes;
 
 // The size of a term, its least fault, with the place by symbols, and where its nodes begin.
-// Form 1: a term at fault has the size 0, as one that is no number has; with a Result in its place that of two terms would be taken apart to keep the lesser fault.
+// Form 1: a term at fault has the size 0, as one that is no number has. With a Result for both, the lesser fault of two parts is `lesser_of(t.size.err(), u.size.err())`, an Option
+// again, of which its type does not say that there is one: each place with two parts would match it to make an Err.
 #[derive(Clone, Copy)]
 pub struct Sized {
     pub bound: u64,

@@ -1,35 +1,27 @@
 // The walk over the nodes of terms and predicates, from their ends, with the size of each name in a table. One cycle of functions, in one file.
-// Form 5: `end` moves with each call, and where a part ends is known only behind the one that follows it; a struct of it and the nodes would be made
-// anew at each call. The shape in front of a function's node is asked of a function that one arm of `term` or `pred` calls.
-ghost use Rattle.std.specs.Prelude.{◌≡◌, cond, ◌+◌, ◌-◌, ◌≤◌, eqb, length, get_or};
+// Each function reads the tree in which its nodes end; where a part ends is known only behind the one that follows it.
+ghost use Rattle.std.specs.Prelude.{◌≡◌, cond, ◌+◌, ◌≤◌, eqb, length};
 ghost use Rattle.type_rules.specs.TypesByNumber.{fault_key};
 ghost use Rattle.term_sizes.specs.SizesByNumber.{absolute};
-ghost use Rattle.term_sizes.specs.SizeWalkPromises.{PrefixBound, OperatorBound, DivisionBound, DomainSized, TermSized, ItemsSized, PairSized, PairsSized, PredSized};
+ghost use Rattle.term_sizes.specs.SizeWalkPromises.{PrefixBound, OperatorBound, DivisionBound, DomainSized, TermSized, ItemsSized, PairSized, PairsSized, PredSized, BoundSized};
+ghost use Rattle.typing.specs.EndedNodes.{ended};
+ghost use Rattle.type_rules.specs.declared.Node.{Node};
 
 use crate::Sized;
-use form::{node, shapes};
+use form::{node, operator_codes, shapes};
 use lexical::bounds::{COUNT_SIZE, LARGEST_NUMBER, LARGEST_SIZE};
-use lexical::codes;
 use refusals::{Fault, Refusal};
-use type_rules::kinds::{judge, lesser_of, look, node_at, put};
+use type_rules::Node;
+use type_rules::kinds::{judge, last_node, lesser_of, look, put};
 
 // Prefixes and operators by the code of their symbol. What is not a number has the size 0.
-// Form 1: a node is lent as numbers of 16 bits, and codes of symbols are bytes.
-const PLUS: u16 = codes::PLUS as u16;
-
-const MINUS: u16 = codes::DASH as u16;
-
-const TIMES: u16 = codes::TIMES as u16;
-
-const COUNT: u16 = codes::SIZE as u16;
-
 fn prefix_bound(o: u16, a: u64) -> u64
     requires { a ≤ 2147483647 }
     ensures { PrefixBound o a result × (result ≤ 2147483647) }
 {
     match o {
-        MINUS => a,
-        COUNT => COUNT_SIZE,
+        operator_codes::DASH => a,
+        operator_codes::SIZE => COUNT_SIZE,
         _ => 0,
     }
 }
@@ -39,9 +31,9 @@ fn operator_bound(o: u16, a: u64, b: u64) -> u64
     ensures { OperatorBound o a b result }
 {
     match o {
-        PLUS => a + b,
-        MINUS => a + b,
-        TIMES => a * b,
+        operator_codes::PLUS => a + b,
+        operator_codes::DASH => a + b,
+        operator_codes::TIMES => a * b,
         _ => 0,
     }
 }
@@ -75,8 +67,8 @@ fn unless_over(fault: Option<Fault>, n: u64) -> u64
 }
 
 // No size and no fault, at `at`; 0 says that no nodes of a tree end.
-// Form 1: the nodes are always those of trees, so that the latter is never read; with an Option each function of the walk would hand on a case that does
-// not come.
+// Form 1: the nodes are always those of trees, so that the latter is never read; with an Option the 19 calls that go on in the walk would each take a `?` for a case that does not
+// come, and the one that binds a name would put its size back before that.
 fn bare(at: usize) -> Sized
     ensures { (result.bound ≡ 0) × (fault_key result.fault ≡ 0) × (result.start ≡ at) }
 {
@@ -87,16 +79,15 @@ fn bare(at: usize) -> Sized
     }
 }
 
-// What a name is bound over: the node that ends at `end`.
-fn domain(code: &[u16], end: usize) -> Sized
-    requires { end ≤ length code.now }
-    ensures { DomainSized code.now end result }
+// What a name is bound over: the last node.
+fn domain(code: &[u16]) -> Sized
+    ensures { DomainSized code.now (length code.now) result }
 {
-    if end < node::SIZE {
+    if code.len() < node::SIZE {
         return bare(0);
     }
-    let at = end - node::SIZE;
-    let n = node_at(code, end);
+    let at = code.len() - node::SIZE;
+    let n = last_node(code);
     if code[at + node::SHAPE] == shapes::SET {
         return bare(at);
     }
@@ -109,25 +100,26 @@ fn domain(code: &[u16], end: usize) -> Sized
     }
 }
 
-// The term whose nodes end at `end`.
+// The term whose nodes are the last.
 #[cycle(sizes)]
-fn term(code: &[u16], end: usize, bounds: &mut [u16]) -> Sized
-    requires { end ≤ length code.now }
-    ensures { TermSized code.now end bounds.old bounds.new result }
+fn term(code: &[u16], bounds: &mut [u16]) -> Sized
+    ensures { TermSized code.now (length code.now) bounds.old bounds.new result }
 {
-    if end < node::SIZE {
+    if code.len() < node::SIZE {
         return bare(0);
     }
-    let at = end - node::SIZE;
+    let at = code.len() - node::SIZE;
+    let front = &code[..at];
+    let n = last_node(code);
     match code[at + node::SHAPE] {
-        shapes::NUMBER => number(code, end, bounds),
-        shapes::NAME => named(code, end, bounds),
-        shapes::PREFIX => prefixed(code, end, bounds),
-        shapes::DIVIDED => divided(code, end, bounds),
-        shapes::BINARY => operated(code, end, bounds),
-        shapes::SUCH => such(code, end, bounds),
-        shapes::LISTED => items(code, at, bounds),
-        shapes::PAIRS => pairs(code, at, bounds),
+        shapes::NUMBER => number(front, n, bounds),
+        shapes::NAME => named(front, n, bounds),
+        shapes::PREFIX => prefixed(front, n, bounds),
+        shapes::DIVIDED => divided(front, n, bounds),
+        shapes::BINARY => operated(front, n, bounds),
+        shapes::SUCH => bound(front, n, bounds),
+        shapes::LISTED => items(front, bounds),
+        shapes::PAIRS => pairs(front, bounds),
         shapes::EMPTY_SET => bare(at),
         shapes::EMPTY_PAIRS => bare(at),
         _ => bare(0),
@@ -135,40 +127,34 @@ fn term(code: &[u16], end: usize, bounds: &mut [u16]) -> Sized
 }
 
 // A number.
-fn number(code: &[u16], end: usize, bounds: &[u16]) -> Sized
-    requires { (end ≤ length code.now) × (4 ≤ end) × (get_or code.now (end - 4 + 3) 0 ≡ 1) }
-    ensures { TermSized code.now end bounds.now bounds.now result }
+fn number(front: &[u16], n: Node, bounds: &[u16]) -> Sized
+    ensures { TermSized (ended front.now 1 n) (length front.now + 4) bounds.now bounds.now result }
 {
-    let n = node_at(code, end);
     Sized {
         bound: u64::from(n.a),
         fault: None,
-        start: end - node::SIZE,
+        start: front.len(),
     }
 }
 
 // A name.
-fn named(code: &[u16], end: usize, bounds: &[u16]) -> Sized
-    requires { (end ≤ length code.now) × (4 ≤ end) × (get_or code.now (end - 4 + 3) 0 ≡ 2) }
-    ensures { TermSized code.now end bounds.now bounds.now result }
+fn named(front: &[u16], n: Node, bounds: &[u16]) -> Sized
+    ensures { TermSized (ended front.now 2 n) (length front.now + 4) bounds.now bounds.now result }
 {
-    let n = node_at(code, end);
     let e = look(bounds, usize::from(n.a));
     Sized {
         bound: u64::from(e),
         fault: None,
-        start: end - node::SIZE,
+        start: front.len(),
     }
 }
 
 // A prefix before a term.
 #[cycle(sizes)]
-fn prefixed(code: &[u16], end: usize, bounds: &mut [u16]) -> Sized
-    requires { (end ≤ length code.now) × (4 ≤ end) × (get_or code.now (end - 4 + 3) 0 ≡ 3) }
-    ensures { TermSized code.now end bounds.old bounds.new result }
+fn prefixed(front: &[u16], n: Node, bounds: &mut [u16]) -> Sized
+    ensures { TermSized (ended front.now 3 n) (length front.now + 4) bounds.old bounds.new result }
 {
-    let n = node_at(code, end);
-    let t = term(code, end - node::SIZE, bounds);
+    let t = term(front, bounds);
     let m = prefix_bound(n.a, t.bound);
     Sized {
         bound: unless_over(t.fault, m),
@@ -179,12 +165,10 @@ fn prefixed(code: &[u16], end: usize, bounds: &mut [u16]) -> Sized
 
 // t div n, t mod n.
 #[cycle(sizes)]
-fn divided(code: &[u16], end: usize, bounds: &mut [u16]) -> Sized
-    requires { (end ≤ length code.now) × (4 ≤ end) × (get_or code.now (end - 4 + 3) 0 ≡ 4) }
-    ensures { TermSized code.now end bounds.old bounds.new result }
+fn divided(front: &[u16], n: Node, bounds: &mut [u16]) -> Sized
+    ensures { TermSized (ended front.now 4 n) (length front.now + 4) bounds.old bounds.new result }
 {
-    let n = node_at(code, end);
-    let t = term(code, end - node::SIZE, bounds);
+    let t = term(front, bounds);
     let m = division_bound(n.b, n.a, t.bound);
     Sized {
         bound: unless_over(t.fault, m),
@@ -195,35 +179,32 @@ fn divided(code: &[u16], end: usize, bounds: &mut [u16]) -> Sized
 
 // Two terms with an operator between them.
 #[cycle(sizes)]
-fn operated(code: &[u16], end: usize, bounds: &mut [u16]) -> Sized
-    requires { (end ≤ length code.now) × (4 ≤ end) × (get_or code.now (end - 4 + 3) 0 ≡ 5) }
-    ensures { TermSized code.now end bounds.old bounds.new result }
+fn operated(front: &[u16], n: Node, bounds: &mut [u16]) -> Sized
+    ensures { TermSized (ended front.now 5 n) (length front.now + 4) bounds.old bounds.new result }
 {
-    let n = node_at(code, end);
-    let u = term(code, end - node::SIZE, bounds);
-    let t = term(code, u.start, bounds);
+    let u = term(front, bounds);
+    let t = term(&front[..u.start], bounds);
     let m = operator_bound(n.a, t.bound, u.bound);
     let parts = lesser_of(t.fault, u.fault);
-    let f = judge(m <= LARGEST_SIZE, n.place, Refusal::LargeSize, parts);
+    let fault = judge(m <= LARGEST_SIZE, n.place, Refusal::LargeSize, parts);
     Sized {
-        bound: unless_over(f, m),
-        fault: f,
+        bound: unless_over(fault, m),
+        fault,
         start: t.start,
     }
 }
 
-// {x : G | p}.
+// A predicate with the name of the node n bound over the domain behind it: {x : G | p}, where the size of x is 0 as G has none; (forall x : T @ p), and the other
+// quantifiers.
 #[cycle(sizes)]
-fn such(code: &[u16], end: usize, bounds: &mut [u16]) -> Sized
-    requires { (end ≤ length code.now) × (4 ≤ end) × (get_or code.now (end - 4 + 3) 0 ≡ 6) }
-    ensures { TermSized code.now end bounds.old bounds.new result }
+fn bound(front: &[u16], n: Node, bounds: &mut [u16]) -> Sized
+    ensures { BoundSized front.now (length front.now) n bounds.old bounds.new result }
 {
-    let n = node_at(code, end);
     let x = usize::from(n.a);
-    let d = domain(code, end - node::SIZE);
+    let d = domain(front);
     let was = look(bounds, x);
-    put(bounds, x, 0);
-    let p = pred(code, d.start, bounds);
+    put(bounds, x, d.bound as u16);
+    let p = pred(&front[..d.start], bounds);
     put(bounds, x, was);
     Sized {
         bound: 0,
@@ -234,28 +215,27 @@ fn such(code: &[u16], end: usize, bounds: &mut [u16]) -> Sized
 
 // The terms of a brace, which is no number.
 #[cycle(sizes)]
-fn items(code: &[u16], end: usize, bounds: &mut [u16]) -> Sized
-    requires { end ≤ length code.now }
-    ensures { ItemsSized code.now end bounds.old bounds.new result }
+fn items(code: &[u16], bounds: &mut [u16]) -> Sized
+    ensures { ItemsSized code.now (length code.now) bounds.old bounds.new result }
 {
-    if end < node::SIZE {
+    if code.len() < node::SIZE {
         return bare(0);
     }
-    let at = end - node::SIZE;
+    let at = code.len() - node::SIZE;
     if code[at + node::SHAPE] == shapes::LAST {
-        let only = term(code, at, bounds);
+        let only = term(&code[..at], bounds);
         return Sized {
             bound: 0,
             fault: only.fault,
             start: only.start,
         };
     }
-    let l = items(code, at, bounds);
-    let t = term(code, l.start, bounds);
-    let f = lesser_of(t.fault, l.fault);
+    let l = items(&code[..at], bounds);
+    let t = term(&code[..l.start], bounds);
+    let fault = lesser_of(t.fault, l.fault);
     Sized {
         bound: 0,
-        fault: f,
+        fault,
         start: t.start,
     }
 }
@@ -264,90 +244,88 @@ fn items(code: &[u16], end: usize, bounds: &mut [u16]) -> Sized
 // Form 2: `items` with `pair` for `term`. Tried on a small cycle of this shape: a generic function over a trait that `term` and `pair` implement; the borrow checker does not
 // cover a method of an implementation that leads back to its own cycle of calls. A switch or a closure would tell at each call which of them is meant.
 #[cycle(sizes)]
-fn pairs(code: &[u16], end: usize, bounds: &mut [u16]) -> Sized
-    requires { end ≤ length code.now }
-    ensures { PairsSized code.now end bounds.old bounds.new result }
+fn pairs(code: &[u16], bounds: &mut [u16]) -> Sized
+    ensures { PairsSized code.now (length code.now) bounds.old bounds.new result }
 {
-    if end < node::SIZE {
+    if code.len() < node::SIZE {
         return bare(0);
     }
-    let at = end - node::SIZE;
+    let at = code.len() - node::SIZE;
     if code[at + node::SHAPE] == shapes::LAST {
-        return pair(code, at, bounds);
+        return pair(&code[..at], bounds);
     }
-    let l = pairs(code, at, bounds);
-    let t = pair(code, l.start, bounds);
-    let f = lesser_of(t.fault, l.fault);
+    let l = pairs(&code[..at], bounds);
+    let t = pair(&code[..l.start], bounds);
+    let fault = lesser_of(t.fault, l.fault);
     Sized {
         bound: 0,
-        fault: f,
+        fault,
         start: t.start,
     }
 }
 
 // Two terms, one behind the other.
 #[cycle(sizes)]
-fn pair(code: &[u16], end: usize, bounds: &mut [u16]) -> Sized
-    requires { end ≤ length code.now }
-    ensures { PairSized code.now end bounds.old bounds.new result }
+fn pair(code: &[u16], bounds: &mut [u16]) -> Sized
+    ensures { PairSized code.now (length code.now) bounds.old bounds.new result }
 {
-    let u = term(code, end, bounds);
-    let t = term(code, u.start, bounds);
-    let f = lesser_of(t.fault, u.fault);
+    let u = term(code, bounds);
+    let t = term(&code[..u.start], bounds);
+    let fault = lesser_of(t.fault, u.fault);
     Sized {
         bound: 0,
-        fault: f,
+        fault,
         start: t.start,
     }
 }
 
-// The predicate whose nodes end at `end`.
+// The predicate whose nodes are the last.
 #[cycle(sizes)]
-pub fn pred(code: &[u16], end: usize, bounds: &mut [u16]) -> Sized
-    requires { end ≤ length code.now }
-    ensures { PredSized code.now end bounds.old bounds.new result }
+pub fn pred(code: &[u16], bounds: &mut [u16]) -> Sized
+    ensures { PredSized code.now (length code.now) bounds.old bounds.new result }
 {
-    if end < node::SIZE {
+    if code.len() < node::SIZE {
         return bare(0);
     }
-    let at = end - node::SIZE;
+    let at = code.len() - node::SIZE;
+    let front = &code[..at];
+    let n = last_node(code);
     match code[at + node::SHAPE] {
         shapes::TRUTH => bare(at),
-        shapes::NEGATION => pred(code, at, bounds),
-        shapes::CONNECTED => connected(code, end, bounds),
-        shapes::COMPARED => pair(code, at, bounds),
-        shapes::MEMBER => pair(code, at, bounds),
-        shapes::WITHIN => within(code, end, bounds),
-        shapes::RELATED => related(code, end, bounds),
-        shapes::QUANTIFIED => quantified(code, end, bounds),
+        shapes::NEGATION => pred(front, bounds),
+        shapes::CONNECTED => connected(front, bounds),
+        shapes::COMPARED => pair(front, bounds),
+        shapes::MEMBER => pair(front, bounds),
+        shapes::WITHIN => within(front, bounds),
+        shapes::RELATED => related(front, bounds),
+        shapes::QUANTIFIED => bound(front, n, bounds),
         _ => bare(0),
     }
 }
 
 // Two predicates with a connective between them.
+// Form 2: `pair` with `pred` for `term`, and they stay two as `pairs` and `items` do.
 #[cycle(sizes)]
-fn connected(code: &[u16], end: usize, bounds: &mut [u16]) -> Sized
-    requires { (end ≤ length code.now) × (4 ≤ end) × (get_or code.now (end - 4 + 3) 0 ≡ 3) }
-    ensures { PredSized code.now end bounds.old bounds.new result }
+fn connected(front: &[u16], bounds: &mut [u16]) -> Sized
+    ensures { (n : Node) → PredSized (ended front.now 3 n) (length front.now + 4) bounds.old bounds.new result }
 {
-    let q = pred(code, end - node::SIZE, bounds);
-    let p = pred(code, q.start, bounds);
-    let f = lesser_of(p.fault, q.fault);
+    let q = pred(front, bounds);
+    let p = pred(&front[..q.start], bounds);
+    let fault = lesser_of(p.fault, q.fault);
     Sized {
         bound: 0,
-        fault: f,
+        fault,
         start: p.start,
     }
 }
 
 // t in a..b.
 #[cycle(sizes)]
-fn within(code: &[u16], end: usize, bounds: &mut [u16]) -> Sized
-    requires { (end ≤ length code.now) × (4 ≤ end) × (get_or code.now (end - 4 + 3) 0 ≡ 6) }
-    ensures { PredSized code.now end bounds.old bounds.new result }
+fn within(front: &[u16], bounds: &mut [u16]) -> Sized
+    ensures { (n : Node) → PredSized (ended front.now 6 n) (length front.now + 4) bounds.old bounds.new result }
 {
-    let d = domain(code, end - node::SIZE);
-    let t = term(code, d.start, bounds);
+    let d = domain(front);
+    let t = term(&front[..d.start], bounds);
     Sized {
         bound: 0,
         fault: t.fault,
@@ -357,36 +335,15 @@ fn within(code: &[u16], end: usize, bounds: &mut [u16]) -> Sized
 
 // t |-> u in v.
 #[cycle(sizes)]
-fn related(code: &[u16], end: usize, bounds: &mut [u16]) -> Sized
-    requires { (end ≤ length code.now) × (4 ≤ end) × (get_or code.now (end - 4 + 3) 0 ≡ 7) }
-    ensures { PredSized code.now end bounds.old bounds.new result }
+fn related(front: &[u16], bounds: &mut [u16]) -> Sized
+    ensures { (n : Node) → PredSized (ended front.now 7 n) (length front.now + 4) bounds.old bounds.new result }
 {
-    let v = term(code, end - node::SIZE, bounds);
-    let t = pair(code, v.start, bounds);
-    let f = lesser_of(t.fault, v.fault);
+    let v = term(front, bounds);
+    let t = pair(&front[..v.start], bounds);
+    let fault = lesser_of(t.fault, v.fault);
     Sized {
         bound: 0,
-        fault: f,
+        fault,
         start: t.start,
-    }
-}
-
-// (forall x : T @ p), and the other quantifiers.
-#[cycle(sizes)]
-fn quantified(code: &[u16], end: usize, bounds: &mut [u16]) -> Sized
-    requires { (end ≤ length code.now) × (4 ≤ end) × (get_or code.now (end - 4 + 3) 0 ≡ 8) }
-    ensures { PredSized code.now end bounds.old bounds.new result }
-{
-    let n = node_at(code, end);
-    let x = usize::from(n.a);
-    let d = domain(code, end - node::SIZE);
-    let old = look(bounds, x);
-    put(bounds, x, d.bound as u16);
-    let p = pred(code, d.start, bounds);
-    put(bounds, x, old);
-    Sized {
-        bound: 0,
-        fault: p.fault,
-        start: p.start,
     }
 }

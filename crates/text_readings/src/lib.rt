@@ -8,6 +8,7 @@ use form::node::NUMBERS;
 use labels::{LABELS, Sources, gather_elements, gather_titles, gather_variables};
 use lexical::bounds::SYMBOLS;
 use node_spans::{span, spans};
+use parser::sections::Nodes;
 use reader::read;
 use refusals::Fault;
 use search_groups::Dossier;
@@ -19,7 +20,11 @@ fn operations(nodes: &[u16; NUMBERS], m: usize) -> usize
     ensures { Counted nodes.now m result }
 {
     let mut places = [0u16; span::COUNT];
-    spans(nodes, m, &mut places)
+    let made = Nodes {
+        numbers: nodes,
+        end: m,
+    };
+    spans(&made, &mut places)
 }
 
 // The labels of the dossier whose nodes these are.

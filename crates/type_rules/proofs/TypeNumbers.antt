@@ -170,13 +170,13 @@ numbers_fit o k l b h q without e = absurd (omega arith)
 numbers_fit o k l b h q times e = q
 numbers_fit o k l b h q inter e = absurd (omega arith)
 
-pub sets-fit : (o k l : ℕ) (b : Bool) → 31 ≤ o → b ≡ (is_set k && eqb k l) → (p : Operator) → code_of (operator_kind p) ≡ o → b ≡ operator_fits p k l
+pub sets-fit : (o k l : ℕ) (b : Bool) → (28 ≤ o → o < 31 → ⊥) → b ≡ (is_set k && eqb k l) → (p : Operator) → code_of (operator_kind p) ≡ o → b ≡ operator_fits p k l
 unfolding code_of operator_fits
-sets-fit o k l b h q plus e = absurd (omega arith)
-sets-fit o k l b h q minus e = absurd (omega arith)
+sets-fit o k l b h q plus e = absurd (h (omega arith) (omega arith))
+sets-fit o k l b h q minus e = absurd (h (omega arith) (omega arith))
 sets-fit o k l b h q union e = q
 sets-fit o k l b h q without e = q
-sets-fit o k l b h q times e = absurd (omega arith)
+sets-fit o k l b h q times e = absurd (h (omega arith) (omega arith))
 sets-fit o k l b h q inter e = q
 
 pub equal-fits : (o k l : ℕ) → o < 24 → (p : Comparison) → code_of (comparison_kind p) ≡ o → eqb k l ≡ comparison_fits p k l
@@ -186,9 +186,9 @@ equal-fits o k l h differs e = refl
 equal-fits o k l h less e = absurd (omega arith)
 equal-fits o k l h at_most e = absurd (omega arith)
 
-pub order-fits : (o k l : ℕ) (b : Bool) → 24 ≤ o → b ≡ (is_number k && is_number l) → (p : Comparison) → code_of (comparison_kind p) ≡ o → b ≡ comparison_fits p k l
+pub order-fits : (o k l : ℕ) (b : Bool) → (22 ≤ o → o < 24 → ⊥) → b ≡ (is_number k && is_number l) → (p : Comparison) → code_of (comparison_kind p) ≡ o → b ≡ comparison_fits p k l
 unfolding code_of comparison_fits
-order-fits o k l b h q equals e = absurd (omega arith)
-order-fits o k l b h q differs e = absurd (omega arith)
+order-fits o k l b h q equals e = absurd (h (omega arith) (omega arith))
+order-fits o k l b h q differs e = absurd (h (omega arith) (omega arith))
 order-fits o k l b h q less e = q
 order-fits o k l b h q at_most e = q

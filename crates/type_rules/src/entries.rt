@@ -1,5 +1,5 @@
 // What a name is in the table of names, and the type of a term: both are a `Kind`, by numbers in contracts (specs/TypesByNumber.antt).
-ghost use Rattle.std.specs.Prelude.{◌≡◌, ◌&&◌, ◌+◌, ◌*◌, ◌-◌, ◌/◌, ◌%◌, ◌≤◌, ◌<◌};
+ghost use Rattle.std.specs.Prelude.{◌≡◌, ◌+◌, ◌-◌, ◌≤◌};
 ghost use Rattle.type_rules.specs.TypesByNumber.{is_free, is_number, is_given, is_element, is_set, is_pairs, in_reach, element_of, set_of, pair_of, dom_of, ran_of, given_in, element_in, pairs_in};
 
 use lexical::bounds;
@@ -7,6 +7,8 @@ use std::marker::Model;
 
 // The numbers: 0 for a name that is not in use, and no type; 1 a number; 2 in use and out of reach; from each of the four below on, a row of as many as
 // there are given sets: these; their elements; sets of them; pairs, which have a row for each set.
+// Form 1: a name not in use is a case of its own, FREE. That no type is the same is so in the definitions, where a term that is a name has what the table says of it;
+// with an Option for types, each look into the table for a type would turn FREE into none, and each type that is written there back.
 #[derive(Clone, Copy, PartialEq, Eq, Drop)]
 pub struct Kind {
     code: u16,
@@ -23,7 +25,10 @@ impl Model for Kind {
 }
 
 // Where the rows begin.
-// Form 1: the numbers are seen in this file alone; of which two given sets a type has pairs is computed from its number, and the number from them.
+// Form 1: an enum in the place of the number was tried, with the given sets as fields (`Given(u8)`, .., `Pairs(u8, u8)`). Reading the texts of tests/speed then takes 1.06 to 1.08
+// of the time, with fields of 16 bits 1.06 to 1.09, with the two sets of pairs in one field 1.11 to 1.17 (in plain Rust, one run), since a table of numbers is filled at once and one
+// of an enum entry by entry. A long sum, the slowest (52 MB in a second in docs/STATUS.md, where 50 are asked: DECISIONS R8), takes 1.07 to 1.12. The enum also wants a case that no
+// name is, for `given_set` of 0, and an equality written by hand, since a derived one would compare what `inverse` gives.
 const GIVEN: u16 = 8;
 
 const ELEMENT: u16 = 16;

@@ -1,5 +1,5 @@
 // Which types fit, and the faults where they do not (specs/TypesByNumber.antt).
-ghost use Rattle.std.specs.Prelude.{◌≡◌, ◌&&◌, ◌+◌, ◌≤◌, ◌<◌, length, get_or, set};
+ghost use Rattle.std.specs.Prelude.{◌≡◌, ◌+◌, ◌≤◌, ◌<◌, length, get_or, set};
 ghost use Rattle.refusals.specs.Refusals.{number_of};
 ghost use Rattle.refusals.specs.RefusalNames.{refusal_is};
 ghost use Rattle.type_rules.specs.Passes.{refused_key};
@@ -20,7 +20,7 @@ pub fn entry(names: &[Kind], x: usize) -> Kind
 }
 
 // The number at a place.
-// Form 1: behind the end it is 0, which the walks take as they find it; with an Option each of them would turn none back into that.
+// Form 1: behind the end it is 0, as FREE is what `entry` answers there; with an Option each of 36 calls would add `.unwrap_or(0)`.
 pub fn look(numbers: &[u16], x: usize) -> u16
     ensures { result ≡ get_or numbers.now x 0 }
 {
@@ -58,7 +58,7 @@ pub fn shared_kind(k: Kind, l: Kind) -> Kind
 }
 
 // The fault at a place, unless all is well.
-// Form 7: `ok` is what a rule says, a truth value that comes with no step of its own.
+// Form 7: `ok` is what a rule says; without this function each of its twenty calls would say `(!..).then_some(Fault { .. })` itself.
 pub fn unless(ok: bool, place: usize, refusal: Refusal) -> Option<Fault>
     ensures { fault_key result ≡ unless_key ok (key place (number_of (refusal_is refusal))) }
 {
@@ -79,14 +79,11 @@ pub fn lesser_of(a: Option<Fault>, b: Option<Fault>) -> Option<Fault>
 pub fn all_well(fault: Option<Fault>) -> Result<(), Fault>
     ensures { refused_key result ≡ fault_key fault }
 {
-    match fault {
-        Some(f) => Err(f),
-        None => Ok(()),
-    }
+    fault.map_or(Ok(()), Err)
 }
 
 // A whole at the place i with the fault `parts` in its parts.
-// Form 7: `fits` is what a rule says, likewise.
+// Form 7: as a closure, `fits` would be written `|| ..` at each of the nine calls, and the promise here would want a type parameter, and a clause that it may be run.
 pub fn judge(fits: bool, i: u16, refusal: Refusal, parts: Option<Fault>) -> Option<Fault>
     ensures { fault_key result ≡ judged_key fits (key i (number_of (refusal_is refusal))) (fault_key parts) }
 {
@@ -144,16 +141,19 @@ pub fn brace_fault(sizes: &[u16], k: Kind, i: u16) -> Option<Fault>
             let fits = product_fits(sizes, usize::from(g), usize::from(h));
             unless(fits, usize::from(i), Refusal::WideType)
         }
-        None => unless(false, usize::from(i), Refusal::TypesMisfit),
+        None => Some(Fault {
+            place: usize::from(i),
+            refusal: Refusal::TypesMisfit,
+        }),
     }
 }
 
-// The place of the node that ends at `end`, and its two numbers.
-pub fn node_at(code: &[u16], end: usize) -> Node
-    requires { (end ≤ length code.now) × (4 ≤ end) }
-    ensures { NodeAt code.now end result }
+// The place of the last of some nodes, and its two numbers.
+pub fn last_node(code: &[u16]) -> Node
+    requires { 4 ≤ length code.now }
+    ensures { NodeAt code.now (length code.now) result }
 {
-    let at = end - node::SIZE;
+    let at = code.len() - node::SIZE;
     Node {
         place: code[at + node::PLACE],
         a: code[at + node::A],

@@ -256,22 +256,6 @@ no-term t k n q = let h = in_t t in n (omega arith) (omega arith)
 pub no-pred : (p : Pred) (k : ℕ) → (1 ≤ k → k ≤ 8 → ⊥) → k ≡ shape_p p → ⊥
 no-pred p k n q = let h = in_p p in n (omega arith) (omega arith)
 
--- none of the shapes of predicates; none of those of terms
-pub eight : (k : ℕ) → (k ≡ 1 → ⊥) → (k ≡ 2 → ⊥) → (k ≡ 3 → ⊥) → (k ≡ 4 → ⊥) → (k ≡ 5 → ⊥) → (k ≡ 6 → ⊥) → (k ≡ 7 → ⊥) → (k ≡ 8 → ⊥) → 1 ≤ k → k ≤ 8 → ⊥
-eight zero a b c d f g h j p q = omega arith
-eight (suc zero) a b c d f g h j p q = a refl
-eight (suc (suc zero)) a b c d f g h j p q = b refl
-eight (suc (suc (suc zero))) a b c d f g h j p q = c refl
-eight (suc (suc (suc (suc zero)))) a b c d f g h j p q = d refl
-eight (suc (suc (suc (suc (suc zero))))) a b c d f g h j p q = f refl
-eight (suc (suc (suc (suc (suc (suc zero)))))) a b c d f g h j p q = g refl
-eight (suc (suc (suc (suc (suc (suc (suc zero))))))) a b c d f g h j p q = h refl
-eight (suc (suc (suc (suc (suc (suc (suc (suc zero)))))))) a b c d f g h j p q = j refl
-eight (suc (suc (suc (suc (suc (suc (suc (suc (suc n))))))))) a b c d f g h j p q = omega arith
-
-pub ten : (k : ℕ) → (1 ≤ k → k ≤ 8 → ⊥) → (k ≡ 9 → ⊥) → (k ≡ 10 → ⊥) → 1 ≤ k → k ≤ 10 → ⊥
-ten k f a b p q = f p (omega (arith, a, b))
-
 -- what was seen of a tree t that begins at i
 abbrev pub RightT : List ℕ → ℕ → Names → Sizes → Seen → Term → ℕ → Type 0
 RightT code e T z r t i = (ρ : Numbering) (base : List ℕ) → take e code ≡ base ++ term_codes t i ρ → Saw r (term_kind t T ρ) (term_key t T ρ z i) (length base)

@@ -13,10 +13,11 @@ use Rattle.form.specs.Written.{connective_kind, comparison_kind, membership_kind
 use Rattle.form.specs.Codes.{number_of_name, term_width, pred_width, domain_width, range_codes, domain_codes, term_codes, pred_codes}
 use Rattle.type_rules.specs.declared.Seen.{Seen}
 use Rattle.type_rules.specs.declared.Node.{Node}
-use Rattle.type_rules.specs.TypesByNumber.{Names, Sizes, entry, is_free, is_number, member_fits, related_fits, comparison_fits, key, fault_key, unless_key, lesser, judged_key, inside_key}
-use Rattle.type_rules.specs.TypesByNumber.{term_kind, term_key, pred_key, ComparisonFits, NodeAt, DomainSeen, TermSeen, PredSeen}
+use Rattle.type_rules.specs.TypesByNumber.{Names, Sizes, entry, is_number, member_fits, related_fits, comparison_fits, key, fault_key, lesser, judged_key}
+use Rattle.type_rules.specs.TypesByNumber.{domain_kind, term_kind, term_key, pred_key, ComparisonFits, NodeAt, DomainSeen, TermSeen, PredSeen}
+use Rattle.typing.specs.BoundPromise.{BoundSeen}
 use Rattle.typing.proofs.LastNodes.{last-node, one-part, two-parts, three-parts, middle, pred-from}
-use Rattle.typing.proofs.TypeWalkTerms.{seen-judged, seen-bound, restored}
+use Rattle.typing.proofs.TypeWalkTerms.{seen-judged, seen-bound}
 
 module _ (code : List ℕ) (e : ℕ) (l : e ≤ length code) (T : Names) (z : Sizes) where
   -- true, false
@@ -131,24 +132,21 @@ module _ (code : List ℕ) (e : ℕ) (l : e ≤ length code) (T : Names) (z : Si
       })
 
   -- (forall x : T @ p)
-  pub pred-quantified : (U₁ U₂ U₃ : Names) (n : Node) (d p r : Seen) (x old : ℕ) → NodeAt code e n → get_or code (e - 4 + 3) 0 ≡ 8
-      → DomainSeen code (e - 4) T d → PredSeen code d.start U₁ U₂ z p
-      → U₁ ≡ set T x d.kind → U₃ ≡ set U₂ x old → x ≡ n.a → old ≡ entry T x → r.kind ≡ 0 → r.start ≡ p.start
-      → fault_key r.fault ≡ inside_key (lesser (unless_key (is_free old) (key (n.place + 1) 8)) (fault_key d.fault)) (fault_key p.fault)
-      → PredSeen code e T U₃ z r
+  pub pred-quantified : (U : Names) (n : Node) (b r : Seen) → NodeAt code e n → get_or code (e - 4 + 3) 0 ≡ 8
+      → BoundSeen code (e - 4) n T U z b → r.kind ≡ 0 → r.start ≡ b.start → fault_key r.fault ≡ fault_key b.fault
+      → PredSeen code e T U z r
   unfolding term_codes term_key
-  pred-quantified U₁ U₂ U₃ n d p r x old hn q hd hp b₁ b₃ xq oq kq sq fq =
-      pred-from code e l T z 8 U₃ r (let f = hd.falls in let g = hp.falls in omega arith) (restored T U₁ U₂ U₃ x d.kind old b₁ hp.kept b₃ oq) q
+  pred-quantified U n b r hn q hb kq sq fq =
+      pred-from code e l T z 8 U r (let f = hb.falls in omega arith) hb.kept q
       (λ c y₁ D P i ρ base y.
       let j : ℕ = i + 5 + domain_width D in
       let h = two-parts code e l base (pred_codes P j ρ) (domain_codes D (i + 4) ρ) 8 (suc i) (number_of_name ρ y₁ no_ending) (code_of (quantifier_kind c)) y in
-      let sD = hd.right D (i + 4) ρ (base ++ pred_codes P j ρ) h.before in
-      let sP = hp.right P j ρ base (middle code (e - 4) d.start (base ++ pred_codes P j ρ) (domain_codes D (i + 4) ρ) h.before hd.falls sD.start_is) in
-      let xy : x ≡ number_of_name ρ y₁ no_ending = xq ∙ hn.first_is ∙ h.is_first in
+      let sB = hb.right D P (i + 4) j ρ base h.before in
+      let xy : n.a ≡ number_of_name ρ y₁ no_ending = hn.first_is ∙ h.is_first in
       let at : n.place ≡ suc i = hn.place_is ∙ h.is_place in
       let behind : n.place + 1 ≡ i + 2 = omega arith in
       record {
         kind_is = kq;
-        fault_is = fq ∙ seen-bound n.place behind (oq ∙ ap (entry T) xy) sD.fault_is (sP.fault_is ∙ ap (λ (X : Names). pred_key P X ρ z j) (b₁ ∙ ap₂ (set T) xy sD.kind_is));
-        start_is = sq ∙ sP.start_is;
+        fault_is = fq ∙ sB.fault_is ∙ seen-bound n.place behind (ap (entry T) xy) refl (ap (λ (x : ℕ). pred_key P (set T x (domain_kind D T ρ)) ρ z j) xy);
+        start_is = sq ∙ sB.start_is;
       })

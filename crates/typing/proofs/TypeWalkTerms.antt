@@ -16,6 +16,7 @@ use Rattle.type_rules.specs.declared.Seen.{Seen}
 use Rattle.type_rules.specs.declared.Node.{Node}
 use Rattle.type_rules.specs.TypesByNumber.{Names, Sizes, entry, is_free, is_number, is_given, is_element, in_reach, element_of, set_of, pair_of, prefix_fits, prefix_type, operator_fits, shared, key, fault_key, unless_key, lesser, judged_key, inside_key, range_fits, over_key, brace_key}
 use Rattle.type_rules.specs.TypesByNumber.{domain_kind, domain_key, term_kind, items_kind, pairs_kind, term_key, items_key, pairs_key, pred_key, PrefixFits, PrefixType, OperatorFits, NodeAt, Saw, DomainSeen, TermSeen, ItemsSeen, PairSeen, PairsSeen, PredSeen}
+use Rattle.typing.specs.BoundPromise.{BoundSeen}
 use Rattle.typing.proofs.LastNodes.{last-node, one-part, two-parts, three-parts, middle, term-from}
 
 -- faults from the faults of the parts
@@ -142,7 +143,7 @@ module _ (code : List ℕ) (e : ℕ) (l : e ≤ length code) (T : Names) (z : Si
       })
 
   pub term-divided : (U : Names) (n : Node) (v r : Seen) (w₁ w₂ g m : ℕ) → NodeAt code e n → get_or code (e - 4 + 3) 0 ≡ 4 → TermSeen code (e - 4) T U z v
-      → w₁ ≡ n.place → w₂ ≡ n.b → g ≡ unless_key (ltb 0 n.a) (key (w₁ + 1 + w₂ % 2) 14) → m ≡ lesser (fault_key v.fault) g
+      → w₁ ≡ n.place → w₂ ≡ n.b % 2 → g ≡ unless_key (ltb 0 n.a) (key (w₁ + 1 + w₂) 14) → m ≡ lesser (fault_key v.fault) g
       → r.kind ≡ 1 → r.start ≡ v.start → fault_key r.fault ≡ judged_key (is_number v.kind) (key n.place 10) m
       → TermSeen code e T U z r
   unfolding term_codes term_kind term_key
@@ -151,7 +152,7 @@ module _ (code : List ℕ) (e : ℕ) (l : e ≤ length code) (T : Names) (z : Si
       let h = one-part code e l base (term_codes t i ρ) 4 (i + term_width t) d.magnitude (sign_of d.negative + division_number o) y in
       let s = hv.right t i ρ base h.before in
       let at : n.place ≡ i + term_width t = hn.place_is ∙ h.is_place in
-      let sign : w₂ % 2 ≡ sign_of d.negative = ap (λ (x : ℕ). x % 2) (wq₂ ∙ hn.second_is ∙ h.is_second) ∙ sign-of d.negative o in
+      let sign : w₂ ≡ sign_of d.negative = wq₂ ∙ ap (λ (x : ℕ). x % 2) (hn.second_is ∙ h.is_second) ∙ sign-of d.negative o in
       record {
         kind_is = kq;
         fault_is = fq ∙ seen-judged (ap (λ (x : ℕ). is_number x) s.kind_is) at
@@ -180,25 +181,41 @@ module _ (code : List ℕ) (e : ℕ) (l : e ≤ length code) (T : Names) (z : Si
         start_is = sq ∙ s₁.start_is;
       })
 
-  -- {x : G | p}
-  pub term-such : (U₁ U₂ U₃ : Names) (n : Node) (d p r : Seen) (x old : ℕ) → NodeAt code e n → get_or code (e - 4 + 3) 0 ≡ 6
-      → DomainSeen code (e - 4) T d → PredSeen code d.start U₁ U₂ z p
-      → U₁ ≡ set T x d.kind → U₃ ≡ set U₂ x old → x ≡ n.a → old ≡ entry T x → r.kind ≡ set_of d.kind → r.start ≡ p.start
+  -- a name bound for a predicate, and what it was behind it
+  pub bound-seen : (U₁ U₂ U₃ : Names) (n : Node) (d p r : Seen) (x old : ℕ) → DomainSeen code e T d → PredSeen code d.start U₁ U₂ z p
+      → U₁ ≡ set T x d.kind → U₃ ≡ set U₂ x old → x ≡ n.a → old ≡ entry T x → r.kind ≡ d.kind → r.start ≡ p.start
       → fault_key r.fault ≡ inside_key (lesser (unless_key (is_free old) (key (n.place + 1) 8)) (fault_key d.fault)) (fault_key p.fault)
-      → TermSeen code e T U₃ z r
+      → BoundSeen code e n T U₃ z r
+  bound-seen U₁ U₂ U₃ n d p r x old hd hp b₁ b₃ xq oq kq sq fq = record {
+    falls = let f = hd.falls in let g = hp.falls in omega arith;
+    kept = restored T U₁ U₂ U₃ x d.kind old b₁ hp.kept b₃ oq;
+    right = λ D P i j ρ base y.
+        let sD = hd.right D i ρ (base ++ pred_codes P j ρ) y in
+        let sP = hp.right P j ρ base (middle code e d.start (base ++ pred_codes P j ρ) (domain_codes D i ρ) y hd.falls sD.start_is) in
+        record {
+          kind_is = kq ∙ sD.kind_is;
+          fault_is = fq ∙ seen-bound n.place refl (oq ∙ ap (entry T) xq) sD.fault_is
+              (sP.fault_is ∙ ap (λ (X : Names). pred_key P X ρ z j) (b₁ ∙ ap₂ (set T) xq sD.kind_is));
+          start_is = sq ∙ sP.start_is;
+        };
+  }
+
+  -- {x : G | p}
+  pub term-such : (U : Names) (n : Node) (b r : Seen) → NodeAt code e n → get_or code (e - 4 + 3) 0 ≡ 6
+      → BoundSeen code (e - 4) n T U z b → r.kind ≡ set_of b.kind → r.start ≡ b.start → fault_key r.fault ≡ fault_key b.fault
+      → TermSeen code e T U z r
   unfolding term_codes term_kind term_key domain_kind domain_key
-  term-such U₁ U₂ U₃ n d p r x old hn q hd hp b₁ b₃ xq oq kq sq fq =
-      term-from code e l T z 6 U₃ r (let f = hd.falls in let g = hp.falls in omega arith) (restored T U₁ U₂ U₃ x d.kind old b₁ hp.kept b₃ oq) q
+  term-such U n b r hn q hb kq sq fq =
+      term-from code e l T z 6 U r (let f = hb.falls in omega arith) hb.kept q
       (λ y₁ g P i ρ base y.
       let h = two-parts code e l base (pred_codes P (i + 5) ρ) (node 1 (i + 3) (name_number ρ g) 0) 6 i (number_of_name ρ y₁ no_ending) 0 y in
-      let sD = hd.right (given_set g) (i + 3) ρ (base ++ pred_codes P (i + 5) ρ) h.before in
-      let sP = hp.right P (i + 5) ρ base (middle code (e - 4) d.start (base ++ pred_codes P (i + 5) ρ) (node 1 (i + 3) (name_number ρ g) 0) h.before hd.falls sD.start_is) in
-      let xy : x ≡ number_of_name ρ y₁ no_ending = xq ∙ hn.first_is ∙ h.is_first in
+      let sB = hb.right (given_set g) P (i + 3) (i + 5) ρ base h.before in
+      let xy : n.a ≡ number_of_name ρ y₁ no_ending = hn.first_is ∙ h.is_first in
       record {
-        kind_is = kq ∙ ap set_of sD.kind_is;
-        fault_is = fq ∙ seen-bound n.place (ap (λ (j : ℕ). j + 1) (hn.place_is ∙ h.is_place)) (oq ∙ ap (entry T) xy) sD.fault_is
-            (sP.fault_is ∙ ap (λ (X : Names). pred_key P X ρ z (i + 5)) (b₁ ∙ ap₂ (set T) xy sD.kind_is));
-        start_is = sq ∙ sP.start_is;
+        kind_is = kq ∙ ap set_of sB.kind_is;
+        fault_is = fq ∙ sB.fault_is ∙ seen-bound n.place (ap (λ (j : ℕ). j + 1) (hn.place_is ∙ h.is_place)) (ap (entry T) xy) refl
+            (ap (λ (x : ℕ). pred_key P (set T x (domain_kind (given_set g) T ρ)) ρ z (i + 5)) xy);
+        start_is = sq ∙ sB.start_is;
       })
 
   -- {t, ...}, {t |-> t, ...}

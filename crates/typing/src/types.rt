@@ -1,35 +1,29 @@
 // The walk over the nodes of terms and predicates, from their ends: a binder is met before what stands in its reach. One cycle of functions, in one file.
-// Form 5: `end` moves with each call, and where a part ends is known only behind the one that follows it; a struct of it and the nodes would be made
-// anew at each call. The shape in front of a function's node is asked of a function that one arm of `term` or `pred` calls.
-ghost use Rattle.std.specs.Prelude.{◌≡◌, ◌+◌, ◌-◌, ◌≤◌, length, get_or};
+// Each function reads the tree in which its nodes end; where a part ends is known only behind the one that follows it.
+// Form 5: nodes and sizes go together, but the nodes are cut at each call: a struct of both would be made there, `&Reading { code: &r.code[..at], sizes: r.sizes }` for `&code[..at]`
+// and `sizes`.
+ghost use Rattle.std.specs.Prelude.{◌≡◌, ◌+◌, length};
 ghost use Rattle.type_rules.specs.TypesByNumber.{DomainSeen, TermSeen, ItemsSeen, PairSeen, PairsSeen, PredSeen, PrefixFits, PrefixType, OperatorFits, ComparisonFits};
+ghost use Rattle.typing.specs.BoundPromise.{BoundSeen};
+ghost use Rattle.typing.specs.EndedNodes.{ended};
+ghost use Rattle.type_rules.specs.declared.Node.{Node};
 
-use form::{node, shapes};
-use lexical::codes;
+use form::{node, operator_codes, shapes};
 use refusals::Refusal;
 use type_rules::entries::Kind;
 use type_rules::kinds::{
-    bound_fault, brace_fault, entry, judge, lesser_of, member_fits, node_at, over_fault, put,
+    bound_fault, brace_fault, entry, judge, last_node, lesser_of, member_fits, over_fault, put,
     range_fits, related_fits, shared_kind, unless,
 };
-use type_rules::{Seen, entries};
+use type_rules::{Node, Seen, entries};
 
 // Prefixes by the code of their symbol.
-// Form 1: a node is lent as numbers of 16 bits, and codes of symbols are bytes.
-const MINUS: u16 = codes::DASH as u16;
-
-const COUNT: u16 = codes::SIZE as u16;
-
-const DOM: u16 = codes::DOM as u16;
-
-const RAN: u16 = codes::RAN as u16;
-
 fn prefix_fits(o: u16, k: Kind) -> bool
     ensures { PrefixFits o k result }
 {
     match o {
-        MINUS => k.is_number(),
-        COUNT => k.is_set(),
+        operator_codes::DASH => k.is_number(),
+        operator_codes::SIZE => k.is_set(),
         _ => k.is_pairs(),
     }
 }
@@ -38,36 +32,36 @@ pub fn prefix_type(o: u16, k: Kind) -> Kind
     ensures { PrefixType o k result }
 {
     match o {
-        DOM => k.dom_of(),
-        RAN => k.ran_of(),
+        operator_codes::DOM => k.dom_of(),
+        operator_codes::RAN => k.ran_of(),
         _ => entries::NUMBER,
     }
 }
 
-// Operators by the code of their symbol: those of numbers, + - *, have codes below that of #, and those of sets, union minus inter, codes above it.
+// Operators and comparisons likewise. Those of numbers are + - *, and < <= of comparisons; the others stand between two of one type.
 fn operator_fits(o: u16, k: Kind, l: Kind) -> bool
     ensures { OperatorFits o k l result }
 {
-    if o < COUNT {
-        return k.is_number() && l.is_number();
+    match o {
+        operator_codes::PLUS | operator_codes::DASH | operator_codes::TIMES => {
+            k.is_number() && l.is_number()
+        }
+        _ => k.is_set() && k == l,
     }
-    k.is_set() && k == l
 }
-
-// Comparisons by the code of their symbol: = and /= have codes below that of <, and <= the one above it.
-const LESS: u16 = codes::LESS as u16;
 
 fn comparison_fits(o: u16, k: Kind, l: Kind) -> bool
     ensures { ComparisonFits o k l result }
 {
-    if o < LESS {
-        return k == l;
+    match o {
+        operator_codes::EQUALS | operator_codes::DIFFERS => k == l,
+        _ => k.is_number() && l.is_number(),
     }
-    k.is_number() && l.is_number()
 }
 
 // No nodes of a tree end here.
-// Form 1: the nodes are always those of trees, so that this is never read; with an Option each function of the walk would hand on a case that does not come.
+// Form 1: the nodes are always those of trees, so that this is never read; with an Option the 27 calls that go on in the walk would each take a `?` for a case that does not come, and
+// the one that binds a name would put it back before that.
 fn nothing() -> Seen
     ensures { result.start ≡ 0 }
 {
@@ -78,125 +72,117 @@ fn nothing() -> Seen
     }
 }
 
-// What a name is bound over, or the range after `in`: the node that ends at `end`.
-fn domain(code: &[u16], end: usize, names: &[Kind]) -> Seen
-    requires { end ≤ length code.now }
-    ensures { DomainSeen code.now end names.now result }
+// What a name is bound over, or the range after `in`: the last node.
+fn domain(code: &[u16], names: &[Kind]) -> Seen
+    ensures { DomainSeen code.now (length code.now) names.now result }
 {
-    if end < node::SIZE {
+    if code.len() < node::SIZE {
         return nothing();
     }
-    let at = end - node::SIZE;
-    let n = node_at(code, end);
+    let at = code.len() - node::SIZE;
+    let n = last_node(code);
     if code[at + node::SHAPE] == shapes::SET {
         let e = entry(names, usize::from(n.a));
-        let f = unless(e.is_given(), usize::from(n.place), Refusal::NameUnknown);
+        let fault = unless(e.is_given(), usize::from(n.place), Refusal::NameUnknown);
         return Seen {
             kind: e.element_of(),
-            fault: f,
+            fault,
             start: at,
         };
     }
-    let f = unless(
+    let fault = unless(
         range_fits(n.a, n.b),
         usize::from(n.place),
         Refusal::WideType,
     );
     Seen {
         kind: entries::NUMBER,
-        fault: f,
+        fault,
         start: at,
     }
 }
 
-// The term whose nodes end at `end`.
+// The term whose nodes are the last.
 #[cycle(types)]
-fn term(code: &[u16], end: usize, names: &mut [Kind], sizes: &[u16]) -> Seen
-    requires { end ≤ length code.now }
-    ensures { TermSeen code.now end names.old names.new sizes.now result }
+fn term(code: &[u16], names: &mut [Kind], sizes: &[u16]) -> Seen
+    ensures { TermSeen code.now (length code.now) names.old names.new sizes.now result }
 {
-    if end < node::SIZE {
+    if code.len() < node::SIZE {
         return nothing();
     }
-    let at = end - node::SIZE;
+    let at = code.len() - node::SIZE;
+    let front = &code[..at];
+    let n = last_node(code);
     match code[at + node::SHAPE] {
         shapes::NUMBER => Seen {
             kind: entries::NUMBER,
             fault: None,
             start: at,
         },
-        shapes::NAME => named(code, end, names, sizes),
-        shapes::PREFIX => prefixed(code, end, names, sizes),
-        shapes::DIVIDED => divided(code, end, names, sizes),
-        shapes::BINARY => joined(code, end, names, sizes),
-        shapes::SUCH => such(code, end, names, sizes),
-        shapes::LISTED => listed(code, end, names, sizes),
-        shapes::PAIRS => paired(code, end, names, sizes),
-        shapes::EMPTY_SET => empty_set(code, end, names, sizes),
-        shapes::EMPTY_PAIRS => empty_pairs(code, end, names, sizes),
+        shapes::NAME => named(front, n, names, sizes),
+        shapes::PREFIX => prefixed(front, n, names, sizes),
+        shapes::DIVIDED => divided(front, n, names, sizes),
+        shapes::BINARY => joined(front, n, names, sizes),
+        shapes::SUCH => such(front, n, names, sizes),
+        shapes::LISTED => listed(front, n, names, sizes),
+        shapes::PAIRS => paired(front, n, names, sizes),
+        shapes::EMPTY_SET => empty_set(front, n, names, sizes),
+        shapes::EMPTY_PAIRS => empty_pairs(front, n, names, sizes),
         _ => nothing(),
     }
 }
 
 // A name.
-fn named(code: &[u16], end: usize, names: &[Kind], sizes: &[u16]) -> Seen
-    requires { (end ≤ length code.now) × (4 ≤ end) × (get_or code.now (end - 4 + 3) 0 ≡ 2) }
-    ensures { TermSeen code.now end names.now names.now sizes.now result }
+fn named(front: &[u16], n: Node, names: &[Kind], sizes: &[u16]) -> Seen
+    ensures { TermSeen (ended front.now 2 n) (length front.now + 4) names.now names.now sizes.now result }
 {
-    let n = node_at(code, end);
     let e = entry(names, usize::from(n.a));
-    let f = unless(e.in_reach(), usize::from(n.place), Refusal::NameUnknown);
+    let fault = unless(e.in_reach(), usize::from(n.place), Refusal::NameUnknown);
     Seen {
         kind: e,
-        fault: f,
-        start: end - node::SIZE,
+        fault,
+        start: front.len(),
     }
 }
 
 // empty G.
-fn empty_set(code: &[u16], end: usize, names: &[Kind], sizes: &[u16]) -> Seen
-    requires { (end ≤ length code.now) × (4 ≤ end) × (get_or code.now (end - 4 + 3) 0 ≡ 9) }
-    ensures { TermSeen code.now end names.now names.now sizes.now result }
+fn empty_set(front: &[u16], n: Node, names: &[Kind], sizes: &[u16]) -> Seen
+    ensures { TermSeen (ended front.now 9 n) (length front.now + 4) names.now names.now sizes.now result }
 {
-    let n = node_at(code, end);
     let e = entry(names, usize::from(n.a));
-    let f = unless(e.is_given(), usize::from(n.place) + 1, Refusal::NameUnknown);
+    let fault = unless(e.is_given(), usize::from(n.place) + 1, Refusal::NameUnknown);
     Seen {
         kind: e.element_of().set_of(),
-        fault: f,
-        start: end - node::SIZE,
+        fault,
+        start: front.len(),
     }
 }
 
 // empty G H.
-fn empty_pairs(code: &[u16], end: usize, names: &[Kind], sizes: &[u16]) -> Seen
-    requires { (end ≤ length code.now) × (4 ≤ end) × (get_or code.now (end - 4 + 3) 0 ≡ 10) }
-    ensures { TermSeen code.now end names.now names.now sizes.now result }
+fn empty_pairs(front: &[u16], n: Node, names: &[Kind], sizes: &[u16]) -> Seen
+    ensures { TermSeen (ended front.now 10 n) (length front.now + 4) names.now names.now sizes.now result }
 {
-    let n = node_at(code, end);
     let g = entry(names, usize::from(n.a));
     let h = entry(names, usize::from(n.b));
     let i = usize::from(n.place);
     let first = unless(g.is_given(), i + 1, Refusal::NameUnknown);
     let second = unless(h.is_given(), i + 2, Refusal::NameUnknown);
     let over = over_fault(sizes, g, h, i);
-    let f = lesser_of(first, lesser_of(second, over));
+    let fault = lesser_of(first, lesser_of(second, over));
     Seen {
         kind: g.element_of().pair_with(h.element_of()),
-        fault: f,
-        start: end - node::SIZE,
+        fault,
+        start: front.len(),
     }
 }
 
 // A prefix before a term.
 #[cycle(types)]
-fn prefixed(code: &[u16], end: usize, names: &mut [Kind], sizes: &[u16]) -> Seen
-    requires { (end ≤ length code.now) × (4 ≤ end) × (get_or code.now (end - 4 + 3) 0 ≡ 3) }
-    ensures { TermSeen code.now end names.old names.new sizes.now result }
+fn prefixed(front: &[u16], n: Node, names: &mut [Kind], sizes: &[u16]) -> Seen
+    ensures { TermSeen (ended front.now 3 n) (length front.now + 4) names.old names.new sizes.now result }
 {
-    let n = node_at(code, end);
-    let t = term(code, end - node::SIZE, names, sizes);
-    let f = judge(
+    let t = term(front, names, sizes);
+    let fault = judge(
         prefix_fits(n.a, t.kind),
         n.place,
         Refusal::TypesMisfit,
@@ -204,28 +190,23 @@ fn prefixed(code: &[u16], end: usize, names: &mut [Kind], sizes: &[u16]) -> Seen
     );
     Seen {
         kind: prefix_type(n.a, t.kind),
-        fault: f,
+        fault,
         start: t.start,
     }
 }
 
-// A division's second number, less this for a remainder, is 1 where a - stands in front of the divisor.
-const REMAINDER: usize = shapes::REMAINDER as usize;
-
-// t div n, t mod n.
+// t div n, t mod n. The second number, less REMAINDER for a remainder, is 1 where a - stands in front of the divisor.
 #[cycle(types)]
-fn divided(code: &[u16], end: usize, names: &mut [Kind], sizes: &[u16]) -> Seen
-    requires { (end ≤ length code.now) × (4 ≤ end) × (get_or code.now (end - 4 + 3) 0 ≡ 4) }
-    ensures { TermSeen code.now end names.old names.new sizes.now result }
+fn divided(front: &[u16], n: Node, names: &mut [Kind], sizes: &[u16]) -> Seen
+    ensures { TermSeen (ended front.now 4 n) (length front.now + 4) names.old names.new sizes.now result }
 {
-    let n = node_at(code, end);
-    let t = term(code, end - node::SIZE, names, sizes);
+    let t = term(front, names, sizes);
     let zero = unless(
         0 < n.a,
-        usize::from(n.place) + 1 + usize::from(n.b) % REMAINDER,
+        usize::from(n.place) + 1 + usize::from(n.b % shapes::REMAINDER),
         Refusal::ZeroDivisor,
     );
-    let f = judge(
+    let fault = judge(
         t.kind.is_number(),
         n.place,
         Refusal::TypesMisfit,
@@ -233,22 +214,20 @@ fn divided(code: &[u16], end: usize, names: &mut [Kind], sizes: &[u16]) -> Seen
     );
     Seen {
         kind: entries::NUMBER,
-        fault: f,
+        fault,
         start: t.start,
     }
 }
 
 // Two terms with an operator between them.
 #[cycle(types)]
-fn joined(code: &[u16], end: usize, names: &mut [Kind], sizes: &[u16]) -> Seen
-    requires { (end ≤ length code.now) × (4 ≤ end) × (get_or code.now (end - 4 + 3) 0 ≡ 5) }
-    ensures { TermSeen code.now end names.old names.new sizes.now result }
+fn joined(front: &[u16], n: Node, names: &mut [Kind], sizes: &[u16]) -> Seen
+    ensures { TermSeen (ended front.now 5 n) (length front.now + 4) names.old names.new sizes.now result }
 {
-    let n = node_at(code, end);
-    let u = term(code, end - node::SIZE, names, sizes);
-    let t = term(code, u.start, names, sizes);
+    let u = term(front, names, sizes);
+    let t = term(&front[..u.start], names, sizes);
     let parts = lesser_of(t.fault, u.fault);
-    let f = judge(
+    let fault = judge(
         operator_fits(n.a, t.kind, u.kind),
         n.place,
         Refusal::TypesMisfit,
@@ -256,83 +235,88 @@ fn joined(code: &[u16], end: usize, names: &mut [Kind], sizes: &[u16]) -> Seen
     );
     Seen {
         kind: t.kind,
-        fault: f,
+        fault,
         start: t.start,
     }
 }
 
 // {x : G | p}.
 #[cycle(types)]
-fn such(code: &[u16], end: usize, names: &mut [Kind], sizes: &[u16]) -> Seen
-    requires { (end ≤ length code.now) × (4 ≤ end) × (get_or code.now (end - 4 + 3) 0 ≡ 6) }
-    ensures { TermSeen code.now end names.old names.new sizes.now result }
+fn such(front: &[u16], n: Node, names: &mut [Kind], sizes: &[u16]) -> Seen
+    ensures { TermSeen (ended front.now 6 n) (length front.now + 4) names.old names.new sizes.now result }
 {
-    let n = node_at(code, end);
+    let b = bound(front, n, names, sizes);
+    Seen {
+        kind: b.kind.set_of(),
+        ..b
+    }
+}
+
+// A predicate with the name of the node n bound over the domain behind it. The kind is what the name is.
+#[cycle(types)]
+fn bound(front: &[u16], n: Node, names: &mut [Kind], sizes: &[u16]) -> Seen
+    ensures { BoundSeen front.now (length front.now) n names.old names.new sizes.now result }
+{
     let x = usize::from(n.a);
-    let d = domain(code, end - node::SIZE, names);
+    let d = domain(front, names);
     let was = entry(names, x);
     put(names, x, d.kind);
-    let p = pred(code, d.start, names, sizes);
+    let p = pred(&front[..d.start], names, sizes);
     put(names, x, was);
-    let f = bound_fault(n.place, was, d.fault, p.fault);
+    let fault = bound_fault(n.place, was, d.fault, p.fault);
     Seen {
-        kind: d.kind.set_of(),
-        fault: f,
+        kind: d.kind,
+        fault,
         start: p.start,
     }
 }
 
 // {t, ...}.
 #[cycle(types)]
-fn listed(code: &[u16], end: usize, names: &mut [Kind], sizes: &[u16]) -> Seen
-    requires { (end ≤ length code.now) × (4 ≤ end) × (get_or code.now (end - 4 + 3) 0 ≡ 7) }
-    ensures { TermSeen code.now end names.old names.new sizes.now result }
+fn listed(front: &[u16], n: Node, names: &mut [Kind], sizes: &[u16]) -> Seen
+    ensures { TermSeen (ended front.now 7 n) (length front.now + 4) names.old names.new sizes.now result }
 {
-    let n = node_at(code, end);
-    let t = items(code, end - node::SIZE, names, sizes);
-    let f = judge(t.kind.is_element(), n.place, Refusal::TypesMisfit, t.fault);
+    let t = items(front, names, sizes);
+    let fault = judge(t.kind.is_element(), n.place, Refusal::TypesMisfit, t.fault);
     Seen {
         kind: t.kind.set_of(),
-        fault: f,
+        fault,
         start: t.start,
     }
 }
 
 // {t |-> t, ...}.
 #[cycle(types)]
-fn paired(code: &[u16], end: usize, names: &mut [Kind], sizes: &[u16]) -> Seen
-    requires { (end ≤ length code.now) × (4 ≤ end) × (get_or code.now (end - 4 + 3) 0 ≡ 8) }
-    ensures { TermSeen code.now end names.old names.new sizes.now result }
+fn paired(front: &[u16], n: Node, names: &mut [Kind], sizes: &[u16]) -> Seen
+    ensures { TermSeen (ended front.now 8 n) (length front.now + 4) names.old names.new sizes.now result }
 {
-    let n = node_at(code, end);
-    let t = pairs(code, end - node::SIZE, names, sizes);
-    let f = t.fault.or(brace_fault(sizes, t.kind, n.place));
+    let t = pairs(front, names, sizes);
+    let fault = t.fault.or(brace_fault(sizes, t.kind, n.place));
     Seen {
         kind: t.kind,
-        fault: f,
+        fault,
         start: t.start,
     }
 }
 
 // The terms of a brace.
 #[cycle(types)]
-fn items(code: &[u16], end: usize, names: &mut [Kind], sizes: &[u16]) -> Seen
-    requires { end ≤ length code.now }
-    ensures { ItemsSeen code.now end names.old names.new sizes.now result }
+fn items(code: &[u16], names: &mut [Kind], sizes: &[u16]) -> Seen
+    ensures { ItemsSeen code.now (length code.now) names.old names.new sizes.now result }
 {
-    if end < node::SIZE {
+    if code.len() < node::SIZE {
         return nothing();
     }
-    let at = end - node::SIZE;
+    let at = code.len() - node::SIZE;
     if code[at + node::SHAPE] == shapes::LAST {
-        return term(code, at, names, sizes);
+        return term(&code[..at], names, sizes);
     }
-    let l = items(code, at, names, sizes);
-    let t = term(code, l.start, names, sizes);
-    let f = lesser_of(t.fault, l.fault);
+    let l = items(&code[..at], names, sizes);
+    let t = term(&code[..l.start], names, sizes);
+    let fault = lesser_of(t.fault, l.fault);
     Seen {
         kind: shared_kind(t.kind, l.kind),
-        fault: f,
+        fault,
         start: t.start,
     }
 }
@@ -341,97 +325,93 @@ fn items(code: &[u16], end: usize, names: &mut [Kind], sizes: &[u16]) -> Seen
 // Form 2: `items` with `pair` for `term`. Tried on a small cycle of this shape: a generic function over a trait that `term` and `pair` implement; the borrow checker does not
 // cover a method of an implementation that leads back to its own cycle of calls. A switch or a closure would tell at each call which of them is meant.
 #[cycle(types)]
-fn pairs(code: &[u16], end: usize, names: &mut [Kind], sizes: &[u16]) -> Seen
-    requires { end ≤ length code.now }
-    ensures { PairsSeen code.now end names.old names.new sizes.now result }
+fn pairs(code: &[u16], names: &mut [Kind], sizes: &[u16]) -> Seen
+    ensures { PairsSeen code.now (length code.now) names.old names.new sizes.now result }
 {
-    if end < node::SIZE {
+    if code.len() < node::SIZE {
         return nothing();
     }
-    let at = end - node::SIZE;
+    let at = code.len() - node::SIZE;
     if code[at + node::SHAPE] == shapes::LAST {
-        return pair(code, at, names, sizes);
+        return pair(&code[..at], names, sizes);
     }
-    let l = pairs(code, at, names, sizes);
-    let t = pair(code, l.start, names, sizes);
-    let f = lesser_of(t.fault, l.fault);
+    let l = pairs(&code[..at], names, sizes);
+    let t = pair(&code[..l.start], names, sizes);
+    let fault = lesser_of(t.fault, l.fault);
     Seen {
         kind: shared_kind(t.kind, l.kind),
-        fault: f,
+        fault,
         start: t.start,
     }
 }
 
 // Two terms, one behind the other.
 #[cycle(types)]
-fn pair(code: &[u16], end: usize, names: &mut [Kind], sizes: &[u16]) -> Seen
-    requires { end ≤ length code.now }
-    ensures { PairSeen code.now end names.old names.new sizes.now result }
+fn pair(code: &[u16], names: &mut [Kind], sizes: &[u16]) -> Seen
+    ensures { PairSeen code.now (length code.now) names.old names.new sizes.now result }
 {
-    let u = term(code, end, names, sizes);
-    let t = term(code, u.start, names, sizes);
-    let f = lesser_of(t.fault, u.fault);
+    let u = term(code, names, sizes);
+    let t = term(&code[..u.start], names, sizes);
+    let fault = lesser_of(t.fault, u.fault);
     Seen {
         kind: t.kind.pair_with(u.kind),
-        fault: f,
+        fault,
         start: t.start,
     }
 }
 
-// The predicate whose nodes end at `end`.
+// The predicate whose nodes are the last.
 #[cycle(types)]
-pub fn pred(code: &[u16], end: usize, names: &mut [Kind], sizes: &[u16]) -> Seen
-    requires { end ≤ length code.now }
-    ensures { PredSeen code.now end names.old names.new sizes.now result }
+pub fn pred(code: &[u16], names: &mut [Kind], sizes: &[u16]) -> Seen
+    ensures { PredSeen code.now (length code.now) names.old names.new sizes.now result }
 {
-    if end < node::SIZE {
+    if code.len() < node::SIZE {
         return nothing();
     }
-    let at = end - node::SIZE;
+    let at = code.len() - node::SIZE;
+    let front = &code[..at];
+    let n = last_node(code);
     match code[at + node::SHAPE] {
         shapes::TRUTH => Seen {
             kind: entries::NONE,
             fault: None,
             start: at,
         },
-        shapes::NEGATION => pred(code, at, names, sizes),
-        shapes::CONNECTED => connected(code, end, names, sizes),
-        shapes::COMPARED => compared(code, end, names, sizes),
-        shapes::MEMBER => member(code, end, names, sizes),
-        shapes::WITHIN => within(code, end, names, sizes),
-        shapes::RELATED => related(code, end, names, sizes),
-        shapes::QUANTIFIED => quantified(code, end, names, sizes),
+        shapes::NEGATION => pred(front, names, sizes),
+        shapes::CONNECTED => connected(front, names, sizes),
+        shapes::COMPARED => compared(front, n, names, sizes),
+        shapes::MEMBER => member(front, n, names, sizes),
+        shapes::WITHIN => within(front, n, names, sizes),
+        shapes::RELATED => related(front, n, names, sizes),
+        shapes::QUANTIFIED => quantified(front, n, names, sizes),
         _ => nothing(),
     }
 }
 
 // Two predicates with a connective between them.
 #[cycle(types)]
-fn connected(code: &[u16], end: usize, names: &mut [Kind], sizes: &[u16]) -> Seen
-    requires { (end ≤ length code.now) × (4 ≤ end) × (get_or code.now (end - 4 + 3) 0 ≡ 3) }
-    ensures { PredSeen code.now end names.old names.new sizes.now result }
+fn connected(front: &[u16], names: &mut [Kind], sizes: &[u16]) -> Seen
+    ensures { (n : Node) → PredSeen (ended front.now 3 n) (length front.now + 4) names.old names.new sizes.now result }
 {
-    let q = pred(code, end - node::SIZE, names, sizes);
-    let p = pred(code, q.start, names, sizes);
-    let f = lesser_of(p.fault, q.fault);
+    let q = pred(front, names, sizes);
+    let p = pred(&front[..q.start], names, sizes);
+    let fault = lesser_of(p.fault, q.fault);
     Seen {
         kind: entries::NONE,
-        fault: f,
+        fault,
         start: p.start,
     }
 }
 
 // t = u, and the other comparisons.
 #[cycle(types)]
-fn compared(code: &[u16], end: usize, names: &mut [Kind], sizes: &[u16]) -> Seen
-    requires { (end ≤ length code.now) × (4 ≤ end) × (get_or code.now (end - 4 + 3) 0 ≡ 4) }
-    ensures { PredSeen code.now end names.old names.new sizes.now result }
+fn compared(front: &[u16], n: Node, names: &mut [Kind], sizes: &[u16]) -> Seen
+    ensures { PredSeen (ended front.now 4 n) (length front.now + 4) names.old names.new sizes.now result }
 {
-    let n = node_at(code, end);
-    let u = term(code, end - node::SIZE, names, sizes);
-    let t = term(code, u.start, names, sizes);
+    let u = term(front, names, sizes);
+    let t = term(&front[..u.start], names, sizes);
     let parts = lesser_of(t.fault, u.fault);
-    let f = judge(
+    let fault = judge(
         comparison_fits(n.a, t.kind, u.kind),
         n.place,
         Refusal::TypesMisfit,
@@ -439,22 +419,20 @@ fn compared(code: &[u16], end: usize, names: &mut [Kind], sizes: &[u16]) -> Seen
     );
     Seen {
         kind: entries::NONE,
-        fault: f,
+        fault,
         start: t.start,
     }
 }
 
 // t in u.
 #[cycle(types)]
-fn member(code: &[u16], end: usize, names: &mut [Kind], sizes: &[u16]) -> Seen
-    requires { (end ≤ length code.now) × (4 ≤ end) × (get_or code.now (end - 4 + 3) 0 ≡ 5) }
-    ensures { PredSeen code.now end names.old names.new sizes.now result }
+fn member(front: &[u16], n: Node, names: &mut [Kind], sizes: &[u16]) -> Seen
+    ensures { PredSeen (ended front.now 5 n) (length front.now + 4) names.old names.new sizes.now result }
 {
-    let n = node_at(code, end);
-    let u = term(code, end - node::SIZE, names, sizes);
-    let t = term(code, u.start, names, sizes);
+    let u = term(front, names, sizes);
+    let t = term(&front[..u.start], names, sizes);
     let parts = lesser_of(t.fault, u.fault);
-    let f = judge(
+    let fault = judge(
         member_fits(t.kind, u.kind),
         n.place,
         Refusal::TypesMisfit,
@@ -462,41 +440,37 @@ fn member(code: &[u16], end: usize, names: &mut [Kind], sizes: &[u16]) -> Seen
     );
     Seen {
         kind: entries::NONE,
-        fault: f,
+        fault,
         start: t.start,
     }
 }
 
 // t in a..b.
 #[cycle(types)]
-fn within(code: &[u16], end: usize, names: &mut [Kind], sizes: &[u16]) -> Seen
-    requires { (end ≤ length code.now) × (4 ≤ end) × (get_or code.now (end - 4 + 3) 0 ≡ 6) }
-    ensures { PredSeen code.now end names.old names.new sizes.now result }
+fn within(front: &[u16], n: Node, names: &mut [Kind], sizes: &[u16]) -> Seen
+    ensures { PredSeen (ended front.now 6 n) (length front.now + 4) names.old names.new sizes.now result }
 {
-    let n = node_at(code, end);
-    let d = domain(code, end - node::SIZE, names);
-    let t = term(code, d.start, names, sizes);
+    let d = domain(front, names);
+    let t = term(&front[..d.start], names, sizes);
     let parts = lesser_of(t.fault, d.fault);
-    let f = judge(t.kind.is_number(), n.place, Refusal::TypesMisfit, parts);
+    let fault = judge(t.kind.is_number(), n.place, Refusal::TypesMisfit, parts);
     Seen {
         kind: entries::NONE,
-        fault: f,
+        fault,
         start: t.start,
     }
 }
 
 // t |-> u in v.
 #[cycle(types)]
-fn related(code: &[u16], end: usize, names: &mut [Kind], sizes: &[u16]) -> Seen
-    requires { (end ≤ length code.now) × (4 ≤ end) × (get_or code.now (end - 4 + 3) 0 ≡ 7) }
-    ensures { PredSeen code.now end names.old names.new sizes.now result }
+fn related(front: &[u16], n: Node, names: &mut [Kind], sizes: &[u16]) -> Seen
+    ensures { PredSeen (ended front.now 7 n) (length front.now + 4) names.old names.new sizes.now result }
 {
-    let n = node_at(code, end);
-    let v = term(code, end - node::SIZE, names, sizes);
-    let u = term(code, v.start, names, sizes);
-    let t = term(code, u.start, names, sizes);
+    let v = term(front, names, sizes);
+    let u = term(&front[..v.start], names, sizes);
+    let t = term(&front[..u.start], names, sizes);
     let parts = lesser_of(lesser_of(t.fault, u.fault), v.fault);
-    let f = judge(
+    let fault = judge(
         related_fits(t.kind, u.kind, v.kind),
         n.place,
         Refusal::TypesMisfit,
@@ -504,28 +478,19 @@ fn related(code: &[u16], end: usize, names: &mut [Kind], sizes: &[u16]) -> Seen
     );
     Seen {
         kind: entries::NONE,
-        fault: f,
+        fault,
         start: t.start,
     }
 }
 
 // (forall x : T @ p), and the other quantifiers.
 #[cycle(types)]
-fn quantified(code: &[u16], end: usize, names: &mut [Kind], sizes: &[u16]) -> Seen
-    requires { (end ≤ length code.now) × (4 ≤ end) × (get_or code.now (end - 4 + 3) 0 ≡ 8) }
-    ensures { PredSeen code.now end names.old names.new sizes.now result }
+fn quantified(front: &[u16], n: Node, names: &mut [Kind], sizes: &[u16]) -> Seen
+    ensures { PredSeen (ended front.now 8 n) (length front.now + 4) names.old names.new sizes.now result }
 {
-    let n = node_at(code, end);
-    let x = usize::from(n.a);
-    let d = domain(code, end - node::SIZE, names);
-    let old = entry(names, x);
-    put(names, x, d.kind);
-    let p = pred(code, d.start, names, sizes);
-    put(names, x, old);
-    let f = bound_fault(n.place, old, d.fault, p.fault);
+    let b = bound(front, n, names, sizes);
     Seen {
         kind: entries::NONE,
-        fault: f,
-        start: p.start,
+        ..b
     }
 }

@@ -14,25 +14,16 @@ use Rattle.meaning.specs.FormTree.{Pred, negation, paren, quantified, connected,
 use Rattle.meaning.specs.StaticRulesCarriers.{Carrier, elements_of, largest, plain, end_value, given_of}
 use Rattle.meaning.specs.StaticRulesTypes.{Ty, has, is_number, prefix_fits, operator_fits, comparison_fits, member_fits, related_fits, brace_fits, pairs_type, pairs_fit}
 use Rattle.meaning.specs.StaticRulesScope.{Scope, type_of_name, binding}
-use Rattle.meaning.specs.StaticRulesNames.{Listing, whole, inside, of_name, known, range_fits, range_faults, pairs_fault, divisor_faults, new_name, domain_carrier, domain_faults, domain_length, over_fault, whole_pairs, judged_pairs}
+use Rattle.meaning.specs.StaticRulesNames.{Listing, of_name, known, range_fits, range_faults, pairs_fault, divisor_faults, new_name, domain_carrier, domain_faults, domain_length, over_fault, whole_pairs, judged_pairs}
 use Rattle.meaning.specs.StaticRulesNames.{judge_term, judge_items, judge_pairs, judge_pred}
 use Rattle.meaning.specs.StaticRulesLimits.{Sizes, operator_size, size_term, size_items, size_pairs, size_pred, domain_size}
 use Rattle.value_types.specs.TypedValues.{sizes_in}
 use Rattle.refusals.proofs.FaultLists.{append_nil-both, append_nil-three, not_nil, unless-nil}
 use Rattle.meaning.proofs.StaticRulesFaultless.{inside-nil, whole-nil}
 
--- those of two parts one behind the other, in a whole and in a binder
-pub whole_two : (fits : Bool) (f : Fault) (xs ys : List Fault) → whole fits f (xs ++ ys) ≡ [] → (xs ≡ []) × (ys ≡ []) × (fits ≡ true)
-whole_two fits f xs ys e =
-    let h = whole-nil fits f (xs ++ ys) e in
-    let k = append_nil-both xs ys h.0 in
-    (k.0, k.1, h.1)
-
-inside_two : (xs ys body : List Fault) → inside (xs ++ ys) body ≡ [] → (xs ≡ []) × (ys ≡ []) × (body ≡ [])
-inside_two xs ys body e =
-    let h = inside-nil (xs ++ ys) body e in
-    let k = append_nil-both xs ys h.0 in
-    (k.0, k.1, h.1)
+-- two parts one behind the other, in a whole and in a binder: neither has faults, and what else is known
+two-parts : {R : Type 0} (xs ys : List Fault) → (xs ++ ys ≡ []) × R → (xs ≡ []) × (ys ≡ []) × R
+two-parts xs ys h = let k = append_nil-both xs ys h.0 in (k.0, k.1, h.1)
 
 -- ---- names, given sets, ranges, divisors
 
@@ -85,13 +76,13 @@ pub binary-parts : (o : Operator) (t u : Term) (Γ : Scope) (i : ℕ) → (judge
     → ((judge_term t Γ i).faults ≡ []) × ((judge_term u Γ (suc (judge_term t Γ i).next)).faults ≡ [])
     × (operator_fits o (judge_term t Γ i).type (judge_term u Γ (suc (judge_term t Γ i).next)).type ≡ true)
 unfolding judge_term
-binary-parts o t u Γ i e = whole_two _ _ _ _ e
+binary-parts o t u Γ i e = two-parts _ _ (whole-nil _ _ _ e)
 
 pub divided-parts : (o : Division) (t : Term) (e : End) (Γ : Scope) (i : ℕ) → (judge_term (divided o t e) Γ i).faults ≡ []
     → ((judge_term t Γ i).faults ≡ []) × (has (judge_term t Γ i).type is_number ≡ true) × (0 < e.magnitude)
 unfolding judge_term
 divided-parts o t e Γ i q =
-    let h = whole_two _ _ _ _ q in
+    let h = two-parts _ _ (whole-nil _ _ _ q) in
     (h.0, h.2, divisor-known e _ h.1)
 
 pub listed-parts : (ts : Items) (Γ : Scope) (i : ℕ) → (judge_term (listed ts) Γ i).faults ≡ []
@@ -109,7 +100,7 @@ pub such-parts : (x : Letters) (g : Name) (p : Pred) (Γ : Scope) (i : ℕ) → 
     → (new_name Γ.taken x (suc i) ≡ []) × (known (given_of Γ.givens g) (i + 3) ≡ [])
     × ((judge_pred p (binding Γ x (domain_carrier Γ (given_set g))) (i + 5)).faults ≡ [])
 unfolding judge_term
-such-parts x g p Γ i e = inside_two _ _ _ e
+such-parts x g p Γ i e = two-parts _ _ (inside-nil _ _ e)
 
 pub empty-set-parts : (g : Name) (Γ : Scope) (i : ℕ) → (judge_term (empty_set g) Γ i).faults ≡ [] → known (given_of Γ.givens g) (suc i) ≡ []
 unfolding judge_term
@@ -157,7 +148,7 @@ pub quantified-parts : (q : Quantifier) (x : Letters) (t : Domain) (p : Pred) (�
     → (new_name Γ.taken x (i + 2) ≡ []) × (domain_faults Γ t (i + 4) ≡ [])
     × ((judge_pred p (binding Γ x (domain_carrier Γ t)) (suc (i + 4 + domain_length t))).faults ≡ [])
 unfolding judge_term
-quantified-parts q x t p Γ i e = inside_two _ _ _ e
+quantified-parts q x t p Γ i e = two-parts _ _ (inside-nil _ _ e)
 
 pub connected-parts : (o : Connective) (p q : Pred) (Γ : Scope) (i : ℕ) → (judge_pred (connected o p q) Γ i).faults ≡ []
     → ((judge_pred p Γ i).faults ≡ []) × ((judge_pred q Γ (suc (judge_pred p Γ i).next)).faults ≡ [])
@@ -168,19 +159,19 @@ pub compared-parts : (o : Comparison) (t u : Term) (Γ : Scope) (i : ℕ) → (j
     → ((judge_term t Γ i).faults ≡ []) × ((judge_term u Γ (suc (judge_term t Γ i).next)).faults ≡ [])
     × (comparison_fits o (judge_term t Γ i).type (judge_term u Γ (suc (judge_term t Γ i).next)).type ≡ true)
 unfolding judge_term
-compared-parts o t u Γ i e = whole_two _ _ _ _ e
+compared-parts o t u Γ i e = two-parts _ _ (whole-nil _ _ _ e)
 
 pub member-parts : (o : Membership) (t u : Term) (Γ : Scope) (i : ℕ) → (judge_pred (member o t u) Γ i).faults ≡ []
     → ((judge_term t Γ i).faults ≡ []) × ((judge_term u Γ (suc (judge_term t Γ i).next)).faults ≡ [])
     × (member_fits (judge_term t Γ i).type (judge_term u Γ (suc (judge_term t Γ i).next)).type ≡ true)
 unfolding judge_term
-member-parts o t u Γ i e = whole_two _ _ _ _ e
+member-parts o t u Γ i e = two-parts _ _ (whole-nil _ _ _ e)
 
 pub within-parts : (o : Membership) (t : Term) (r : Range) (Γ : Scope) (i : ℕ) → (judge_pred (within o t r) Γ i).faults ≡ []
     → ((judge_term t Γ i).faults ≡ []) × (has (judge_term t Γ i).type is_number ≡ true) × (range_fits (end_value r.lower) (end_value r.upper) ≡ true)
 unfolding judge_term
 within-parts o t r Γ i e =
-    let h = whole_two _ _ _ _ e in
+    let h = two-parts _ _ (whole-nil _ _ _ e) in
     (h.0, h.2, range-known r _ h.1)
 
 pub related-parts : (o : Membership) (t u v : Term) (Γ : Scope) (i : ℕ) → (judge_pred (related o t u v) Γ i).faults ≡ []
@@ -209,7 +200,7 @@ pub binary-sizes : (o : Operator) (t u : Term) (Z : Sizes) (i : ℕ) → (size_t
     × (operator_size o (size_term t Z i).bound (size_term u Z (suc (size_term t Z i).next)).bound ≤ 2147483647)
 unfolding size_term
 binary-sizes o t u Z i e =
-    let h = whole_two _ _ _ _ e in
+    let h = two-parts _ _ (whole-nil _ _ _ e) in
     (h.0, h.1, leb-true _ _ h.2)
 
 pub divided-sizes : (o : Division) (t : Term) (e : End) (Z : Sizes) (i : ℕ) → (size_term (divided o t e) Z i).faults ≡ [] → (size_term t Z i).faults ≡ []
@@ -308,13 +299,6 @@ bound-size Γ (given_set g) = sym (given-size (given_of Γ.givens g))
 bound-size Γ (range r) = refl
 
 -- number 13's sizes of the names in its reach
-pub such-bound : (x : Letters) (g : Name) (p : Pred) (Γ : Scope) (i : ℕ) → (size_term (such x g p) (sizes_in Γ) i).faults ≡ []
-    → (size_pred p (sizes_in (binding Γ x (domain_carrier Γ (given_set g)))) (i + 5)).faults ≡ []
-such-bound x g p Γ i e =
-    subst (λ (n : ℕ). (size_pred p ((plain x, n) ∷ sizes_in Γ) (i + 5)).faults ≡ []) (sym (given-size (given_of Γ.givens g))) (such-sizes x g p (sizes_in Γ) i e)
-
-pub quantified-bound : (q : Quantifier) (x : Letters) (t : Domain) (p : Pred) (Γ : Scope) (i : ℕ) → (size_pred (quantified q x t p) (sizes_in Γ) i).faults ≡ []
-    → (size_pred p (sizes_in (binding Γ x (domain_carrier Γ t))) (i + 5 + domain_length t)).faults ≡ []
-quantified-bound q x t p Γ i e =
-    subst (λ (n : ℕ). (size_pred p ((plain x, n) ∷ sizes_in Γ) (i + 5 + domain_length t)).faults ≡ []) (bound-size Γ t)
-    (quantified-sizes q x t p (sizes_in Γ) i e)
+pub bound-sizes : (x : Letters) (t : Domain) (p : Pred) (Γ : Scope) (i : ℕ) → (size_pred p ((plain x, domain_size t) ∷ sizes_in Γ) i).faults ≡ []
+    → (size_pred p (sizes_in (binding Γ x (domain_carrier Γ t))) i).faults ≡ []
+bound-sizes x t p Γ i e = subst (λ (n : ℕ). (size_pred p ((plain x, n) ∷ sizes_in Γ) i).faults ≡ []) (bound-size Γ t) e

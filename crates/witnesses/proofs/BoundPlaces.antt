@@ -38,36 +38,36 @@ module _ {cells : List ℕ} {s many n w : ℕ} (z : SizedAt cells s many n w) wh
   front_low q m h = (div-lt_iff_lt-mul (some-bindings z)).1 h
 
 module _ {cells : List ℕ} {p : Part} {at : ℕ} (a : BindAsked cells p at) where
-  pub primes-low : at % p.nk < p.nk
+  pub primes-low : at % p.primes.bindings < p.primes.bindings
   primes-low = last-low a.sized.primes at
 
-  pub outputs-low : at / p.nk % p.nq < p.nq
-  outputs-low = last-low a.sized.outputs (at / p.nk)
+  pub outputs-low : at / p.primes.bindings % p.outputs.bindings < p.outputs.bindings
+  outputs-low = last-low a.sized.outputs (at / p.primes.bindings)
 
-  pub inputs-low : at / p.nk / p.nq % p.ni < p.ni
-  inputs-low = last-low a.sized.inputs (at / p.nk / p.nq)
+  pub inputs-low : at / p.primes.bindings / p.outputs.bindings % p.inputs.bindings < p.inputs.bindings
+  inputs-low = last-low a.sized.inputs (at / p.primes.bindings / p.outputs.bindings)
 
-  pub concretes-low : at / p.nk / p.nq / p.ni % p.nc < p.nc
-  concretes-low = last-low a.sized.concretes (at / p.nk / p.nq / p.ni)
+  pub concretes-low : at / p.primes.bindings / p.outputs.bindings / p.inputs.bindings % p.concretes.bindings < p.concretes.bindings
+  concretes-low = last-low a.sized.concretes (at / p.primes.bindings / p.outputs.bindings / p.inputs.bindings)
 
-  pub abstracts-low : at / p.nk / p.nq / p.ni / p.nc < p.na
+  pub abstracts-low : at / p.primes.bindings / p.outputs.bindings / p.inputs.bindings / p.concretes.bindings < p.abstracts.bindings
   abstracts-low =
-      let o : at / p.nk < p.na * p.nc * p.ni * p.nq = front_low a.sized.primes at (p.na * p.nc * p.ni * p.nq) a.low in
-      let i : at / p.nk / p.nq < p.na * p.nc * p.ni = front_low a.sized.outputs (at / p.nk) (p.na * p.nc * p.ni) o in
-      let c : at / p.nk / p.nq / p.ni < p.na * p.nc = front_low a.sized.inputs (at / p.nk / p.nq) (p.na * p.nc) i in
-      front_low a.sized.concretes (at / p.nk / p.nq / p.ni) p.na c
+      let o : at / p.primes.bindings < p.abstracts.bindings * p.concretes.bindings * p.inputs.bindings * p.outputs.bindings = front_low a.sized.primes at (p.abstracts.bindings * p.concretes.bindings * p.inputs.bindings * p.outputs.bindings) a.low in
+      let i : at / p.primes.bindings / p.outputs.bindings < p.abstracts.bindings * p.concretes.bindings * p.inputs.bindings = front_low a.sized.outputs (at / p.primes.bindings) (p.abstracts.bindings * p.concretes.bindings * p.inputs.bindings) o in
+      let c : at / p.primes.bindings / p.outputs.bindings / p.inputs.bindings < p.abstracts.bindings * p.concretes.bindings = front_low a.sized.inputs (at / p.primes.bindings / p.outputs.bindings) (p.abstracts.bindings * p.concretes.bindings) i in
+      front_low a.sized.concretes (at / p.primes.bindings / p.outputs.bindings / p.inputs.bindings) p.abstracts.bindings c
 
   -- so they can be divided by
-  pub primes-some : 0 < p.nk
+  pub primes-some : 0 < p.primes.bindings
   primes-some = some-bindings a.sized.primes
 
-  pub outputs-some : 0 < p.nq
+  pub outputs-some : 0 < p.outputs.bindings
   outputs-some = some-bindings a.sized.outputs
 
-  pub inputs-some : 0 < p.ni
+  pub inputs-some : 0 < p.inputs.bindings
   inputs-some = some-bindings a.sized.inputs
 
-  pub concretes-some : 0 < p.nc
+  pub concretes-some : 0 < p.concretes.bindings
   concretes-some = some-bindings a.sized.concretes
 
 -- ---- the slots
@@ -92,11 +92,11 @@ kept-before {cells} {s} {many} {n} {w} {k} {t} {m} {σ} {τ} z low far h o vs c 
 
 -- all five, one behind the other
 module _ {cells : List ℕ} {p : Part} {at : ℕ} {a c i o k : List ℤ} (A : BindAsked cells p at) where
-  pub bound_at : HoldsBinding cells 0 p.va (at / p.nk / p.nq / p.ni / p.nc) a
-      → HoldsBinding cells 8 p.vc (at / p.nk / p.nq / p.ni % p.nc) c → Others (pos 0) a 8 p.vc c
-      → HoldsBinding cells 16 p.vi (at / p.nk / p.nq % p.ni) i → Others (pos 0) c 16 p.vi i
-      → HoldsBinding cells 19 p.vo (at / p.nk % p.nq) o → Others (pos 0) i 19 p.vo o
-      → HoldsBinding cells 22 p.vk (at % p.nk) k → Others (pos 0) o 22 p.vk k → BoundAt cells p at k
+  pub bound_at : HoldsBinding cells 0 p.abstracts.variables (at / p.primes.bindings / p.outputs.bindings / p.inputs.bindings / p.concretes.bindings) a
+      → HoldsBinding cells 8 p.concretes.variables (at / p.primes.bindings / p.outputs.bindings / p.inputs.bindings % p.concretes.bindings) c → Others (pos 0) a 8 p.concretes.variables c
+      → HoldsBinding cells 16 p.inputs.variables (at / p.primes.bindings / p.outputs.bindings % p.inputs.bindings) i → Others (pos 0) c 16 p.inputs.variables i
+      → HoldsBinding cells 19 p.outputs.variables (at / p.primes.bindings % p.outputs.bindings) o → Others (pos 0) i 19 p.outputs.variables o
+      → HoldsBinding cells 22 p.primes.variables (at % p.primes.bindings) k → Others (pos 0) o 22 p.primes.variables k → BoundAt cells p at k
   bound_at ha hc oc hi oi ho oo hk ok = record {
     abstracts = kept-before z ab (omega arith) (kept-before z ab (omega arith) (kept-before z ab (omega arith) (kept-before z ab (omega arith) ha oc) oi) oo) ok;
     concretes = kept-before y cb (omega arith) (kept-before y cb (omega arith) (kept-before y cb (omega arith) hc oi) oo) ok;
@@ -105,14 +105,14 @@ module _ {cells : List ℕ} {p : Part} {at : ℕ} {a c i o k : List ℤ} (A : Bi
     primes = hk;
   }
     where
-      z : SizedAt cells 0 8 p.va p.na
+      z : SizedAt cells 0 8 p.abstracts.variables p.abstracts.bindings
       z = A.sized.abstracts
 
-      ab : at / p.nk / p.nq / p.ni / p.nc < p.na
+      ab : at / p.primes.bindings / p.outputs.bindings / p.inputs.bindings / p.concretes.bindings < p.abstracts.bindings
       ab = abstracts-low A
 
-      y : SizedAt cells 8 8 p.vc p.nc
+      y : SizedAt cells 8 8 p.concretes.variables p.concretes.bindings
       y = A.sized.concretes
 
-      cb : at / p.nk / p.nq / p.ni % p.nc < p.nc
+      cb : at / p.primes.bindings / p.outputs.bindings / p.inputs.bindings % p.concretes.bindings < p.concretes.bindings
       cb = concretes-low A

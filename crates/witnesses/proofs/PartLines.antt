@@ -17,8 +17,9 @@ use Rattle.slot_carriers.specs.CellGroups.{CellsOf}
 use Rattle.plans.specs.declared.Part.{Part}
 use Rattle.part_places.specs.PartTestsPartGroups.{StateCells, OperationCells, opening_part, applicability_part, correctness_part}
 use Rattle.labels.specs.ReadingsReadings.{GroupAt}
-use Rattle.pieces.specs.PiecePromises.{Writes}
-use Rattle.pieces.proofs.WrittenPieces.{both-written}
+use Rattle.pieces.specs.PiecePromises.{Adds}
+use Rattle.pieces.specs.declared.Writer.{Writer}
+use Rattle.pieces.proofs.WrittenPieces.{both-added}
 use Rattle.lexical.specs.SymbolPromises.{ending_is}
 use Rattle.lexical.specs.declared.Ending.{Ending}
 use Rattle.lines.specs.LinesByNumber.{ending_byte, group_piece}
@@ -32,15 +33,15 @@ use Rattle.witnesses.specs.WitnessPromises.{WitnessAsked}
 use Rattle.witnesses.specs.WitnessSteps.{SizedAt, PartSized, BindAsked, LinesAsked}
 
 -- the lines of a group by other names of its numbers
-pub group-as : (text labels : List ℕ) (σ : List ℤ) {i n s i' n' s' at r : ℕ} {e e' : Ending} {a b : List ℕ} → (i ≡ i') × (n ≡ n') × (s ≡ s') × (e ≡ e')
-    → Writes at (group_piece text labels i n s (ending_byte (ending_is e)) σ) a b r → Writes at (group_piece text labels i' n' s' (ending_byte (ending_is e')) σ) a b r
-group-as text labels σ {at = at} {r = r} {a = a} {b = b} h w =
-    subst (λ (p : List ℕ). Writes at p a b r) (λ k. group_piece text labels (h.0 k) (h.1 k) (h.2 k) (ending_byte (ending_is (h.3 k))) σ) w
+pub group-as : (text labels : List ℕ) (σ : List ℤ) {i n s i' n' s' : ℕ} {e e' : Ending} {v w : Writer} → (i ≡ i') × (n ≡ n') × (s ≡ s') × (e ≡ e')
+    → Adds (group_piece text labels i n s (ending_byte (ending_is e)) σ) v w → Adds (group_piece text labels i' n' s' (ending_byte (ending_is e')) σ) v w
+group-as text labels σ {v = v} {w} h a =
+    subst (λ (p : List ℕ). Adds p v w) (λ k. group_piece text labels (h.0 k) (h.1 k) (h.2 k) (ending_byte (ending_is (h.3 k))) σ) a
 
 -- five pieces one behind the other
-pub five-written : {at a b c d r : ℕ} {p q s t u x₀ x₁ x₂ x₃ x₄ x₅ : List ℕ} → Writes at p x₀ x₁ a → Writes a q x₁ x₂ b → Writes b s x₂ x₃ c → Writes c t x₃ x₄ d → Writes d u x₄ x₅ r
-    → Writes at (p ++ (q ++ (s ++ (t ++ u)))) x₀ x₅ r
-five-written f g h i j = both-written f (both-written g (both-written h (both-written i j)))
+pub five-written : {p q s t u : List ℕ} {v₀ v₁ v₂ v₃ v₄ v₅ : Writer} → Adds p v₀ v₁ → Adds q v₁ v₂ → Adds s v₂ v₃ → Adds t v₃ v₄ → Adds u v₄ v₅
+    → Adds (p ++ (q ++ (s ++ (t ++ u)))) v₀ v₅
+five-written f g h i j = both-added f (both-added g (both-added h (both-added i j)))
 
 -- ---- asked of a part that is set up
 

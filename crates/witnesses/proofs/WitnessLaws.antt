@@ -28,12 +28,13 @@ use Rattle.part_places.specs.PartTestsPartGroups.{StateCells, OperationCells, op
 use Rattle.part_places.specs.PartTestsPartOrder.{part_size, part_begin}
 use Rattle.part_places.proofs.PartsReadingSizes.{concretes-count, applicability-counts, correctness-counts}
 use Rattle.part_places.proofs.PartsPartOrderLaws.{first-size, applicability-size, correctness-size}
-use Rattle.pieces.specs.PiecePromises.{Writes}
+use Rattle.pieces.specs.PiecePromises.{Writes, Adds}
+use Rattle.pieces.specs.declared.Writer.{Writer}
 use Rattle.labels.specs.Labels.{LabelsFrom, LabelsOf}
 use Rattle.lines.specs.LinesByNumber.{group_piece}
 use Rattle.lines.proofs.LabelledLines.{left, state-lines, primed-lines, input-lines, output-lines}
 use Rattle.part_places.specs.Places.{GroupsOf, parts, PartSet}
-use Rattle.witnesses.specs.WitnessPromises.{WitnessWritten}
+use Rattle.witnesses.specs.WitnessPromises.{AddsWitness}
 use Rattle.witnesses.specs.WitnessSteps.{BoundAt, part_piece}
 use Rattle.witnesses.proofs.CheckDigits.{digit-in, front-in, us, cs, na, nc, ni, nq}
 use Rattle.witnesses.proofs.CheckDigits.{opening-check, applicability-check, correctness-check}
@@ -226,11 +227,14 @@ module _ (text labels table groups cells : List ℕ) (d : Dossier) (L : LabelsOf
       go (suc (suc w)) e u = let y : ⊥ = omega arith in absurd y
 
 -- so what writes the lines of the groups writes the witness
-pub witness-written : {text labels table groups cells before after : List ℕ} {k q row at r : ℕ} {p : Part} {σ : List ℤ} → PartSet table groups k cells p → BoundAt cells p q σ
-    → row ≡ 8 * ((k - 1) / 2) → Writes at (part_piece text labels p row σ) before after r → r ≤ at + 19350 → WitnessWritten text labels table groups k q at before after r
-witness-written {text} {labels} {table} {groups} {cells} {before} {after} {k} {q} {row} {at} {r} {p} {σ} P B e w s = record {
-  lines = λ d G L l h. subst (λ (x : List ℕ). Writes at x before after r) (witness-lines text labels table groups cells d L G q row p σ k P B e l h) w;
-  long = w.long;
-  onward = omega (arith, w.end);
-  short = s;
+pub witness-added : {text labels table groups cells : List ℕ} {k q row : ℕ} {p : Part} {σ : List ℤ} {v w : Writer} → PartSet table groups k cells p → BoundAt cells p q σ
+    → row ≡ 8 * ((k - 1) / 2) → Adds (part_piece text labels p row σ) v w → w.at ≤ v.at + 19350 → AddsWitness text labels table groups k q v w
+witness-added {text} {labels} {table} {groups} {cells} {k} {q} {row} {p} {σ} {v} {w} P B e a s = record {
+  same_bytes = a.same_bytes;
+  written = record {
+    lines = λ d G L l h. subst (λ (x : List ℕ). Writes v.at x v.out.now w.out.now w.at) (witness-lines text labels table groups cells d L G q row p σ k P B e l h) a.written;
+    long = a.written.long;
+    onward = omega (arith, a.written.end);
+    short = s;
+  };
 }

@@ -5,6 +5,7 @@ use Rattle.obligations.specs.Subjects.{subject_of}
 use Rattle.obligations.specs.Report.{check_at, witness_lines}
 use Rattle.part_places.specs.PartTestsPartOrder.{part_size, part_begin}
 use Rattle.pieces.specs.PiecePromises.{Writes}
+use Rattle.pieces.specs.declared.Writer.{Writer}
 use Rattle.labels.specs.Labels.{LabelsOf}
 use Rattle.part_places.specs.Places.{GroupsOf, parts}
 
@@ -22,3 +23,8 @@ pub record WitnessWritten (text labels table groups : List ℕ) (k q at : ℕ) (
   pub long : length after ≡ length before
   pub onward : at ≤ r
   pub short : r ≤ at + 19350
+
+-- a writer put them behind what stood there, and goes on in the same bytes
+pub record AddsWitness (text labels table groups : List ℕ) (k q : ℕ) (old new : Writer) : Type 0 where
+  pub same_bytes : new.out.ghost_name ≡ old.out.ghost_name
+  pub written : WitnessWritten text labels table groups k q old.at old.out.now new.out.now new.at

@@ -4,7 +4,7 @@
 
 ghost use Rattle.std.specs.Prelude.{◌≡◌, ◌+◌, ◌-◌, ◌*◌, ◌/◌, ◌≤◌, length};
 ghost use Rattle.pieces.specs.PiecePromises.{Adds};
-ghost use Rattle.witnesses.specs.WitnessPromises.{WitnessAsked, WitnessWritten};
+ghost use Rattle.witnesses.specs.WitnessPromises.{WitnessAsked, AddsWitness};
 ghost use Rattle.witnesses.specs.WitnessSteps.{BindAsked, BoundAt, LinesAsked, part_piece};
 
 use held_checks::{Obligation, obligation_of};
@@ -26,34 +26,69 @@ fn bind_place(cells: &[u32; CELLS], p: Part, at: usize, values: &mut [i64; SLOTS
     requires { BindAsked cells.now p at }
     ensures { BoundAt cells.now p at values.new }
 {
-    let o = at / p.nk;
-    let i = o / p.nq;
-    let c = i / p.ni;
-    bind(cells, slots::ABSTRACT, p.va, p.na, c / p.nc, values);
-    bind(cells, slots::CONCRETE, p.vc, p.nc, c % p.nc, values);
-    bind(cells, slots::INPUTS, p.vi, p.ni, i % p.ni, values);
-    bind(cells, slots::OUTPUTS, p.vo, p.nq, o % p.nq, values);
-    bind(cells, slots::CONCRETE_PRIMED, p.vk, p.nk, at % p.nk, values);
+    let o = at / p.primes.bindings;
+    let i = o / p.outputs.bindings;
+    let c = i / p.inputs.bindings;
+    bind(
+        cells,
+        slots::ABSTRACT,
+        p.abstracts.variables,
+        p.abstracts.bindings,
+        c / p.concretes.bindings,
+        values,
+    );
+    bind(
+        cells,
+        slots::CONCRETE,
+        p.concretes.variables,
+        p.concretes.bindings,
+        c % p.concretes.bindings,
+        values,
+    );
+    bind(
+        cells,
+        slots::INPUTS,
+        p.inputs.variables,
+        p.inputs.bindings,
+        i % p.inputs.bindings,
+        values,
+    );
+    bind(
+        cells,
+        slots::OUTPUTS,
+        p.outputs.variables,
+        p.outputs.bindings,
+        o % p.outputs.bindings,
+        values,
+    );
+    bind(
+        cells,
+        slots::CONCRETE_PRIMED,
+        p.primes.variables,
+        p.primes.bindings,
+        at % p.primes.bindings,
+        values,
+    );
 }
 
 // The lines of all groups of a part; `row` is how far its operation's rows are from the first operation's. A group without variables leaves no line.
-// Form 5: the names, the values and the part are each made or lent by another; a struct of the three would be made for this one call.
+// Form 5: a struct of the names and the values is five lines with its lifetime, for one parameter less here, and each of the five calls of `put_group`, which
+// takes both, would take it apart.
 fn put_groups(names: &Names<'_>, values: &[i64; SLOTS], p: Part, row: usize, w: &mut Writer<'_>)
     requires at_in_bounds { w.old.at + 19350 ≤ length w.old.out.now }
     requires lines_asked { LinesAsked p row }
-    ensures same_bytes { w.new.out.ghost_name ≡ w.old.out.ghost_name }
     ensures lines { Adds (part_piece names.now.text.now names.now.labels.now p row values.now) w.old w.new }
     ensures short { w.new.at ≤ w.old.at + 19350 }
 {
-    let abstracts = Group::of(Side::Abstract, row, p.va);
+    let abstracts = Group::of(Side::Abstract, row, p.abstracts.variables);
     put_group(names, values, abstracts, w);
-    let concretes = Group::of(Side::Concrete, row, p.vc);
+    let concretes = Group::of(Side::Concrete, row, p.concretes.variables);
     put_group(names, values, concretes, w);
-    let inputs = Group::of(Side::Inputs, row, p.vi);
+    let inputs = Group::of(Side::Inputs, row, p.inputs.variables);
     put_group(names, values, inputs, w);
-    let outputs = Group::of(Side::Outputs, row, p.vo);
+    let outputs = Group::of(Side::Outputs, row, p.outputs.variables);
     put_group(names, values, outputs, w);
-    let primes = Group::of(Side::ConcretePrimed, row, p.vk);
+    let primes = Group::of(Side::ConcretePrimed, row, p.primes.variables);
     put_group(names, values, primes, w);
 }
 
@@ -72,8 +107,7 @@ fn operation_row(k: usize) -> usize
 pub fn put_witness(names: &Names<'_>, d: &Dossier<'_>, f: Found, w: &mut Writer<'_>)
     requires at_in_bounds { w.old.at + 19350 ≤ length w.old.out.now }
     requires witness_asked { WitnessAsked d.now.table.now d.now.groups.now f.part f.at }
-    ensures same_bytes { w.new.out.ghost_name ≡ w.old.out.ghost_name }
-    ensures written { WitnessWritten names.now.text.now names.now.labels.now d.now.table.now d.now.groups.now f.part f.at w.old.at w.old.out.now w.new.out.now w.new.at }
+    ensures { AddsWitness names.now.text.now names.now.labels.now d.now.table.now d.now.groups.now f.part f.at w.old w.new }
 {
     let mut cells = [0u32; CELLS];
     let mut values = [0i64; SLOTS];

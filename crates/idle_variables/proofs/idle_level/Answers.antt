@@ -5,14 +5,14 @@ use Rattle.std.proofs.Common.{◌≡◌, rules, tests}
 use Rattle.std.proofs.lemmas.Iterator.{cases_from_all, YieldsList-from_range, serves_from_Range}
 use Rattle.idle_variables.specs.IdlePromises.{TestIdle}
 use Rattle.idle_variables.proofs.RangeWalks.{each-passes}
-use Rattle.idle_variables.proofs.IdleSearches.{test-passes, level-says, mark-next}
+use Rattle.idle_variables.proofs.IdleSearches.{test-passes, level-says}
 use Rattle.idle_variables.proofs.idle_level.Goals as goal
 
 pub all-requires : goal.all-requires
 all-requires c = record { can = tt; finite = tt; callable = serves_from_Range (λ x q k. search (rules, tests)) (λ x low high. search (rules, c.requires.2)) }
 
 pub returns : goal.returns
-returns c = level-says c.from-from.ensures (c.from-to.ensures ∙ mark-next c.args.s.now.plan.now c.args.u c.args.l)
-    (each-passes c.from-from.result c.from-to.result _ (λ k. TestIdle c.args.s.now.table.now (get_or c.args.s.now.plan.now k 0) c.args.slot)
-    (cases_from_all _ _ _ (λ k. TestIdle c.args.s.now.table.now (get_or c.args.s.now.plan.now k 0) c.args.slot) (λ k. k ≡ k) c.all.ensures.ran (YieldsList-from_range c.from-from.result c.from-to.result _ refl refl)
+returns c = level-says c.tests.ensures.from (c.tests.ensures.to)
+    (each-passes c.tests.result.start c.tests.result.end _ (λ k. TestIdle c.args.s.now.table.now (get_or c.args.s.now.plan.now k 0) c.args.slot)
+    (cases_from_all _ _ _ (λ k. TestIdle c.args.s.now.table.now (get_or c.args.s.now.plan.now k 0) c.args.slot) (λ k. k ≡ k) c.all.ensures.ran (YieldsList-from_range c.tests.result.start c.tests.result.end _ refl refl)
     (λ k q w. (search (rules, tests), search (rules, tests, test-passes c.args.s.now.table.now c.args.s.now.plan.now c.args.slot k))) (λ k q w. refl)))

@@ -8,7 +8,7 @@ pub loop-g-init : goal.loop-g-init
 loop-g-init c = (omega arith, c.sections-q.ensures.givens_inside, between_none 0 64 _, sets-start _ _ c.sections-q.result c.sections-q.ensures.exact)
 
 pub loop-g-preserved : goal.loop-g-preserved
-loop-g-preserved c = (omega arith, (c.run_from-q.ensures.0 c.skip_from-from.ensures.within).within, between_next (omega arith) (omega arith) c.loop-g.invariant.2 c.gather_set.ensures.others, sets-next c.skip_from-from.ensures (c.run_from-q.ensures.0 c.skip_from-from.ensures.within) c.gather_set.ensures c.loop-g.invariant.3)
+loop-g-preserved c = (omega arith, (c.run-q.ensures.0 c.skip-from.ensures.within).within, between_next (omega arith) (omega arith) c.loop-g.invariant.2 c.gather_set.ensures.others, sets-next c.skip-from.ensures (c.run-q.ensures.0 c.skip-from.ensures.within) c.gather_set.ensures c.loop-g.invariant.3)
 
 pub returns : goal.returns
 returns c = elements-gathered (omega arith) c.loop-g.invariant.2 c.loop-g.invariant.3

@@ -24,10 +24,7 @@ loop-k-preserved c =
     let fits : SFits w64 x = search rules in
     line-added c.args.names.now.text.now c.args.names.now.labels.now c.args.g.first c.args.g.count c.args.g.slot (ending_byte (ending_is c.args.g.ending)) c.args.slots.now c.args.w.now
     c.loop-k.k (to_z w64 (of_z w64 x)) c.loop-k.w c.put_line.new.w c.loop-k-test.true (to_z-of_z fits)
-    (line-back c.args.names.now.text.now c.args.names.now.labels.now x fits (c.args.g.first + c.loop-k.k) (ending_byte (ending_is c.args.g.ending))) c.put_line.ensures.same_bytes c.put_line.ensures.written c.loop-k.invariant
-
-pub returns-clause-same_bytes : goal.returns-clause-same_bytes
-returns-clause-same_bytes c = c.loop-k.invariant.same_bytes
+    (line-back c.args.names.now.text.now c.args.names.now.labels.now x fits (c.args.g.first + c.loop-k.k) (ending_byte (ending_is c.args.g.ending))) c.put_line.ensures c.loop-k.invariant
 
 pub returns-clause-lines : goal.returns-clause-lines
 returns-clause-lines c = lines-added c.args.names.now.text.now c.args.names.now.labels.now c.args.g.first c.args.g.count c.args.g.slot (ending_byte (ending_is c.args.g.ending)) c.args.slots.now c.args.w.now c.loop-k.k c.loop-k.w c.loop-k-test.false c.loop-k.invariant

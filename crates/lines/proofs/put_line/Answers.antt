@@ -19,6 +19,6 @@ put_value-requires c = omega (arith, c.put_letters.ensures.written.end, c.put_le
 pub put-requires : goal.put-requires
 put-requires c = omega (arith, c.put_letters.ensures.written.end, c.put_letters.ensures.written.long, letters-length c.args.names.now.text.now c.from.result, c.put_ending.ensures.written.end, c.put_ending.ensures.written.long, ended-length (ending_is c.args.ending), c.put_all.ensures.written.end, c.put_all.ensures.written.long, c.put_value.ensures.written.end, c.put_value.ensures.written.long, value-back c.args.names.now.text.now c.args.names.now.labels.now c.args.x c.ranges.x c.shape_of-t.result.shape c.shape_of-t.result.sides c.shape_of-t.result.size)
 
-pub returns-clause-written : goal.returns-clause-written
-returns-clause-written c = line-written c.args.names.now.text.now c.args.names.now.labels.now c.args.i (ending_is c.args.ending) c.args.x (c.from.ensures ∙ c.label.ensures) c.shape_of-t.ensures.0 c.shape_of-t.ensures.1
-    c.shape_of-t.ensures.2 (to_z-of_z c.ranges.x) c.put_letters.ensures.written c.put_ending.ensures.written c.put_all.ensures.written c.put_value.ensures.written c.put.ensures.written
+pub returns : goal.returns
+returns c = line-written c.args.names.now.text.now c.args.names.now.labels.now c.args.i (ending_is c.args.ending) c.args.x (c.from.ensures ∙ c.label.ensures) c.shape_of-t.ensures.0 c.shape_of-t.ensures.1
+    c.shape_of-t.ensures.2 (to_z-of_z c.ranges.x) c.put_letters.ensures c.put_ending.ensures c.put_all.ensures c.put_value.ensures c.put.ensures

@@ -2,8 +2,8 @@
 use Rattle.lines.proofs.LineLaws.{single-written, double-written}
 use Rattle.lines.proofs.put_member.Goals as goal
 
-pub returns-then-t-eq0-clause-written : goal.returns-then-t-eq0-clause-written
-returns-then-t-eq0-clause-written c = single-written c.args.names.now.text.now c.args.names.now.labels.now c.args.t.sides c.args.t.size c.args.k c.if-t-eq0.true c.put_element.ensures.written
+pub returns-then-t-eq0 : goal.returns-then-t-eq0
+returns-then-t-eq0 c = single-written c.args.names.now.text.now c.args.names.now.labels.now c.args.t.sides c.args.t.size c.args.k c.if-t-eq0.true c.put_element.ensures
 
-pub returns-clause-written : goal.returns-clause-written
-returns-clause-written c = double-written c.args.names.now.text.now c.args.names.now.labels.now c.args.t.sides c.args.t.size c.args.k c.if-t-eq0.false c.put_pair.ensures.written
+pub returns : goal.returns
+returns c = double-written c.args.names.now.text.now c.args.names.now.labels.now c.args.t.sides c.args.t.size c.args.k c.if-t-eq0.false c.put_pair.ensures

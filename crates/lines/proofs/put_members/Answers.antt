@@ -21,13 +21,10 @@ loop-k-preserved c =
       | then-has w ↦
           rw (w.before-is, w.w-is)
           (member-added f c.args.t.bits c.args.w.now c.loop-k.before.now c.loop-k.k c.loop-k.w w.put_all.new.self w.put_member.new.w c.loop-k-test.true (sym w.if-has.true ∙ c.has.ensures)
-          (member-length c.args.names.now.text.now c.args.names.now.labels.now c.args.t.sides c.args.t.size c.loop-k.k) w.put_all.ensures.same_bytes w.put_all.ensures.written w.put_member.ensures.same_bytes w.put_member.ensures.written c.loop-k.invariant)
+          (member-length c.args.names.now.text.now c.args.names.now.labels.now c.args.t.sides c.args.t.size c.loop-k.k) w.put_all.ensures w.put_member.ensures c.loop-k.invariant)
       | else-has w ↦
           rw (w.before-is, w.w-is) (bit-skipped f c.args.t.bits c.args.w.now c.loop-k.before.now c.loop-k.k c.loop-k.w c.loop-k-test.true (sym w.if-has.false ∙ c.has.ensures) c.loop-k.invariant)
     ]
 
-pub returns-clause-same_bytes : goal.returns-clause-same_bytes
-returns-clause-same_bytes c = c.loop-k.invariant.same_bytes
-
-pub returns-clause-written : goal.returns-clause-written
-returns-clause-written c = members-added (member_piece c.args.names.now.text.now c.args.names.now.labels.now c.args.t.sides c.args.t.size) c.args.t.bits c.args.w.now c.loop-k.before.now c.loop-k.k c.loop-k.w c.loop-k-test.false c.loop-k.invariant
+pub returns : goal.returns
+returns c = members-added (member_piece c.args.names.now.text.now c.args.names.now.labels.now c.args.t.sides c.args.t.size) c.args.t.bits c.args.w.now c.loop-k.before.now c.loop-k.k c.loop-k.w c.loop-k-test.false c.loop-k.invariant

@@ -13,5 +13,5 @@ put_all-requires c = omega (arith, c.put_element.ensures.written.end, c.put_elem
 pub put_element-requires-2 : goal.put_element-requires-2
 put_element-requires-2 c = ((sides-low c.args.k c.from-m.result c.requires.1).1, omega (arith, c.put_element.ensures.written.end, c.put_element.ensures.written.long, element-length c.args.names.now.text.now c.args.names.now.labels.now (c.args.t.sides / 8) (c.args.k / c.from-m.result), c.put_all.ensures.written.end, c.put_all.ensures.written.long))
 
-pub returns-clause-written : goal.returns-clause-written
-returns-clause-written c = pair-written c.args.names.now.text.now c.args.names.now.labels.now c.args.t.sides c.args.t.size c.args.k c.from-m.ensures c.put_element.ensures.written c.put_all.ensures.written c.put_element-2.ensures.written
+pub returns : goal.returns
+returns c = pair-written c.args.names.now.text.now c.args.names.now.labels.now c.args.t.sides c.args.t.size c.args.k c.from-m.ensures c.put_element.ensures c.put_all.ensures c.put_element-2.ensures

@@ -15,5 +15,5 @@ put-requires-2 c = omega (
   set-length (member_piece c.args.names.now.text.now c.args.names.now.labels.now c.args.t.sides c.args.t.size) c.args.t.bits (member-length c.args.names.now.text.now c.args.names.now.labels.now c.args.t.sides c.args.t.size),
 )
 
-pub returns-clause-written : goal.returns-clause-written
-returns-clause-written c = set-written (member_piece c.args.names.now.text.now c.args.names.now.labels.now c.args.t.sides c.args.t.size) c.args.t.bits c.put.ensures.written c.put_members.ensures.written c.put-2.ensures.written
+pub returns : goal.returns
+returns c = set-written (member_piece c.args.names.now.text.now c.args.names.now.labels.now c.args.t.sides c.args.t.size) c.args.t.bits c.put.ensures c.put_members.ensures c.put-2.ensures

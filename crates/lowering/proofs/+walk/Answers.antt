@@ -1,10 +1,7 @@
 -- The walk that writes the table meets its contracts. Assumes nothing.
-use Prim.Native.Nat.{◌+◌, ◌-◌}
 use mathlib.Core.Path.{refl, ap, ◌∙◌}
 use native.Mathlib.Omega.{arith}
-use lib.ListN.{get_or}
 use Rattle.type_rules.specs.TypesByNumber.{set_of}
-use Rattle.typing.proofs.LastNodes.{eight, ten}
 use Rattle.lowering.proofs.TableWalk.{term-short, items-short, pairs-short, pred-short, term-other, pred_other}
 use Rattle.lowering.proofs.TableWalkTerms.{term-prefix, term-divided, term-binary, term-such, term-listed, term-pairs}
 use Rattle.lowering.proofs.TableWalkBraces.{items-only, items-also, pairs-only, pairs-also}
@@ -86,7 +83,7 @@ pub walk::pred-returns-in-1 : goal.walk::pred-returns-in-1
 walk::pred-returns-in-1 t c = c.constant.ensures c.args.slot c.args.names.now c.args.places.now c.args.r.now.sizes.now
 
 pub walk::pred-returns-in_default : goal.walk::pred-returns-in_default
-walk::pred-returns-in_default t c = pred_other c.args.r.now.code.now c.args.end c.args.slot c.requires.inside c.args.names.now c.args.places.now c.args.r.now.sizes.now c.args.out.now _ c.nothing-in_default.ensures (eight (get_or c.args.r.now.code.now (c.args.end - 4 + 3) 0) c.in_default.in_default-own.rest.0.0.0.0.0.0.0.1 c.in_default.in_default-own.rest.0.0.0.0.0.0.1 c.in_default.in_default-own.rest.0.0.0.0.0.1 c.in_default.in_default-own.rest.0.0.0.0.1 c.in_default.in_default-own.rest.0.0.0.1 c.in_default.in_default-own.rest.0.0.1 c.in_default.in_default-own.rest.0.1 c.in_default.in_default-own.rest.1)
+walk::pred-returns-in_default t c = pred_other c.args.r.now.code.now c.args.end c.args.slot c.requires.inside c.args.names.now c.args.places.now c.args.r.now.sizes.now c.args.out.now _ c.nothing-in_default.ensures (λ lo hi. omega arith)
 
 pub walk::prefixed-returns : goal.walk::prefixed-returns
 walk::prefixed-returns t c = term-prefix c.args.r.now.code.now c.args.end c.args.slot c.requires.inside c.requires.far c.args.names.now c.args.places.now c.args.r.now.sizes.now c.args.out.now c.requires.fits _ _ _ _ c.term-t.result _ c.look-a.result c.first_size-f.result c.second_size-g.result c.requires.shape c.term-t.ensures c.look-a.ensures c.first_size-f.ensures c.second_size-g.ensures c.set_node.ensures c.prefix_type.ensures refl
@@ -116,7 +113,7 @@ pub walk::term-returns-in-10 : goal.walk::term-returns-in-10
 walk::term-returns-in-10 t c = c.empty_pairs.ensures c.args.slot c.args.places.now c.args.r.now.sizes.now
 
 pub walk::term-returns-in_default : goal.walk::term-returns-in_default
-walk::term-returns-in_default t c = term-other c.args.r.now.code.now c.args.end c.args.slot c.requires.inside c.args.names.now c.args.places.now c.args.r.now.sizes.now c.args.out.now _ c.nothing-in_default.ensures (ten (get_or c.args.r.now.code.now (c.args.end - 4 + 3) 0) (eight (get_or c.args.r.now.code.now (c.args.end - 4 + 3) 0) c.in_default.in_default-own.rest.0.0.0.0.0.0.0.0.0.1 c.in_default.in_default-own.rest.0.0.0.0.0.0.0.0.1 c.in_default.in_default-own.rest.0.0.0.0.0.0.0.1 c.in_default.in_default-own.rest.0.0.0.0.0.0.1 c.in_default.in_default-own.rest.0.0.0.0.0.1 c.in_default.in_default-own.rest.0.0.0.0.1 c.in_default.in_default-own.rest.0.0.0.1 c.in_default.in_default-own.rest.0.0.1) c.in_default.in_default-own.rest.0.1 c.in_default.in_default-own.rest.1)
+walk::term-returns-in_default t c = term-other c.args.r.now.code.now c.args.end c.args.slot c.requires.inside c.args.names.now c.args.places.now c.args.r.now.sizes.now c.args.out.now _ c.nothing-in_default.ensures (λ lo hi. omega arith)
 
 pub walk::within-returns : goal.walk::within-returns
 walk::within-returns t c = pred-within c.args.r.now.code.now c.args.end c.args.slot c.requires.inside c.requires.far c.args.names.now c.args.places.now c.args.r.now.sizes.now c.args.out.now c.requires.fits _ _ _ _ _ c.domain-d.result c.term-t.result _ c.look-a.result c.requires.shape c.domain-d.ensures c.term-t.ensures c.look-a.ensures c.set_node.ensures refl refl

@@ -13,12 +13,6 @@ truth-requires c = c.requires.asked
 pub returns-then-t-end-ne-QUANTIFIED : goal.returns-then-t-end-ne-QUANTIFIED
 returns-then-t-end-ne-QUANTIFIED c = record { answers = c.truth.ensures.answers; kept = c.truth.ensures.kept; remembers = c.requires.memo }
 
-pub truth-requires-then-end-ne0 : goal.truth-requires-then-end-ne0
-truth-requires-then-end-ne0 c = c.requires.asked
-
-pub returns-then-end-ne0 : goal.returns-then-end-ne0
-returns-then-end-ne0 c = record { answers = c.truth-then-end-ne0.ensures.answers; kept = c.truth-then-end-ne0.ensures.kept; remembers = c.requires.memo }
-
 pub listed-list-requires : goal.listed-list-requires
 listed-list-requires c = (omega (arith, (asked-inside c.requires.asked).some, (asked-inside c.requires.asked).within), c.requires.memo)
 

@@ -12,10 +12,12 @@ use Rattle.nest.proofs.Products.{small-input, small-concrete, small-abstract, sm
 use Rattle.memo.proofs.Memos.{blank_memo}
 use Rattle.nest_steps.proofs.IdleGroups.{pair-asked, concrete-asked, whole-asked, asked-in, marked-in}
 use Rattle.nest_steps.proofs.OpenSearches.{no-pair-seen, no-whole-seen}
-use Rattle.nest.proofs.MarkedBlocks.{pair-marked, whole-marked}
+use Rattle.nest.proofs.MarkedBlocks.{pair-marked, whole-marked, mark-made, mark-none}
+use Rattle.idle_variables.specs.KeyPromises.{key_in, Marked}
 use Rattle.nest_steps.proofs.RememberedConclusions.{none-known}
 use Rattle.idle_variables.specs.declared.keys.KeyGroup.{KeyGroup}
 use Rattle.nest.proofs.sweep.Goals as goal
+use Rattle.nest.proofs.sweep.Goals.{then-is_within, else-is_within, then-is_within-2, else-is_within-2}
 
 pub overflow_mul-by_input : goal.overflow_mul-by_input
 overflow_mul-by_input c = omega (arith, small-input c.requires.nest_asked.nest.sized)
@@ -165,28 +167,28 @@ pub overflow_add-c : goal.overflow_add-c
 overflow_add-c c = omega (arith, c.loop-c-test.true, c.requires.nest_asked.nest.sized.few_c.1)
 
 pub next_open_concrete-c-requires-in-loop-c : goal.next_open_concrete-c-requires-in-loop-c
-next_open_concrete-c-requires-in-loop-c c = record { c_le_nc = omega (arith, c.loop-c-test.true); nest_asked = c.loop-i.invariant.0.asked; memo = c.loop-i.invariant.3; pairs_seen = (pair-marked c.masks_of-masks.ensures c.abstracts-test.true c.loop-i.invariant.5 c.loop-i.invariant.0 (omega (arith, c.loop-i-test.false)) c.loop-c-test.true c.pair_mark-mark.ensures c.is_within-whole.ensures (marked-in _ _ c.concrete_group-concretes.ensures c.make_mark.ensures)) }
+next_open_concrete-c-requires-in-loop-c c = record { c_le_nc = omega (arith, c.loop-c-test.true); nest_asked = c.loop-i.invariant.0.asked; memo = c.loop-i.invariant.3; pairs_seen = (pair-marked c.masks_of-masks.ensures c.abstracts-test.true c.loop-i.invariant.5 c.loop-i.invariant.0 (omega (arith, c.loop-i-test.false)) c.loop-c-test.true c.pair_mark-mark.ensures c.is_within.ensures (marked-in _ _ c.concrete_group-concretes.ensures (let made : Marked c.is_within.result (key_in c.args.s.now.cells.now c.concrete_group-concretes.result c.loop-c.c) c.pair_mark-mark.result c.loop-c.seen c.if-is_within.seen = elim c.if-is_within.branch [ then-is_within w ↦ mark-made w.seen-is w.make_mark.ensures w.if-is_within.true | else-is_within w ↦ mark-none w.seen-is ] in made))) }
 
 pub loop-c-smaller : goal.loop-c-smaller
 loop-c-smaller c = omega (arith, c.loop-c-test.true, c.next_open_concrete-c-in-loop-c.ensures.answers.low)
 
 pub loop-c-preserved : goal.loop-c-preserved
-loop-c-preserved c = (again-concretes c.loop-c.invariant.0 c.loop-i.invariant.0 (omega (arith, c.loop-i-test.false)) c.pair_mark-mark.ensures c.next_open_concrete-c-in-loop-c.ensures.answers, c.loop-i.invariant.1, c.loop-i.invariant.2, c.next_open_concrete-c-in-loop-c.ensures.remembers, c.loop-i.invariant.4, (pair-marked c.masks_of-masks.ensures c.abstracts-test.true c.loop-i.invariant.5 c.loop-i.invariant.0 (omega (arith, c.loop-i-test.false)) c.loop-c-test.true c.pair_mark-mark.ensures c.is_within-whole.ensures (marked-in _ _ c.concrete_group-concretes.ensures c.make_mark.ensures)))
+loop-c-preserved c = (again-concretes c.loop-c.invariant.0 c.loop-i.invariant.0 (omega (arith, c.loop-i-test.false)) c.pair_mark-mark.ensures c.next_open_concrete-c-in-loop-c.ensures.answers, c.loop-i.invariant.1, c.loop-i.invariant.2, c.next_open_concrete-c-in-loop-c.ensures.remembers, c.loop-i.invariant.4, (pair-marked c.masks_of-masks.ensures c.abstracts-test.true c.loop-i.invariant.5 c.loop-i.invariant.0 (omega (arith, c.loop-i-test.false)) c.loop-c-test.true c.pair_mark-mark.ensures c.is_within.ensures (marked-in _ _ c.concrete_group-concretes.ensures (let made : Marked c.is_within.result (key_in c.args.s.now.cells.now c.concrete_group-concretes.result c.loop-c.c) c.pair_mark-mark.result c.loop-c.seen c.if-is_within.seen = elim c.if-is_within.branch [ then-is_within w ↦ mark-made w.seen-is w.make_mark.ensures w.if-is_within.true | else-is_within w ↦ mark-none w.seen-is ] in made))))
 
-pub make_mark-requires-in-abstracts : goal.make_mark-requires-in-abstracts
-make_mark-requires-in-abstracts c = record { key_asked = asked-in c.whole_group-wholes.ensures (whole-asked c.requires.nest_asked.nest c.masks_of-masks.result); x_lt_count = omega (arith, c.abstracts-test.true, ap (λ (g : KeyGroup). g.count) c.whole_group-wholes.ensures) }
+pub make_mark-requires-then-is_within-2 : goal.make_mark-requires-then-is_within-2
+make_mark-requires-then-is_within-2 c = record { key_asked = asked-in c.whole_group-wholes.ensures (whole-asked c.requires.nest_asked.nest c.masks_of-masks.result); x_lt_count = omega (arith, c.abstracts-test.true, ap (λ (g : KeyGroup). g.count) c.whole_group-wholes.ensures) }
 
 pub overflow_add-a : goal.overflow_add-a
 overflow_add-a c = omega (arith, c.abstracts-test.true, c.requires.nest_asked.nest.sized.few_a.1)
 
 pub next_open_abstract-a-requires-in-abstracts : goal.next_open_abstract-a-requires-in-abstracts
-next_open_abstract-a-requires-in-abstracts c = record { a_le_na = omega (arith, c.abstracts-test.true); nest_asked = c.loop-c.invariant.0.asked; memo = c.loop-c.invariant.3; wholes_seen = (whole-marked c.masks_of-masks.ensures c.abstracts-test.true c.loop-c.invariant.4 c.loop-c.invariant.0 (omega (arith, c.loop-c-test.false)) c.is_within-whole-in-abstracts.ensures (marked-in _ _ c.whole_group-wholes.ensures c.make_mark-in-abstracts.ensures)) }
+next_open_abstract-a-requires-in-abstracts c = record { a_le_na = omega (arith, c.abstracts-test.true); nest_asked = c.loop-c.invariant.0.asked; memo = c.loop-c.invariant.3; wholes_seen = (whole-marked c.masks_of-masks.ensures c.abstracts-test.true c.loop-c.invariant.4 c.loop-c.invariant.0 (omega (arith, c.loop-c-test.false)) c.is_within-in-abstracts.ensures (marked-in _ _ c.whole_group-wholes.ensures (let made : Marked c.is_within-in-abstracts.result (key_in c.args.s.now.cells.now c.whole_group-wholes.result c.abstracts.a) 1 c.abstracts.done c.if-is_within-2.done = elim c.if-is_within-2.branch [ then-is_within-2 w ↦ mark-made w.done-is w.make_mark-then-is_within-2.ensures w.if-is_within-2.true | else-is_within-2 w ↦ mark-none w.done-is ] in made))) }
 
 pub abstracts-smaller : goal.abstracts-smaller
 abstracts-smaller c = omega (arith, c.abstracts-test.true, c.next_open_abstract-a-in-abstracts.ensures.answers.low)
 
 pub abstracts-preserved : goal.abstracts-preserved
-abstracts-preserved c = (again-abstracts c.abstracts.invariant.0.low c.loop-c.invariant.0 (omega (arith, c.loop-c-test.false)) c.next_open_abstract-a-in-abstracts.ensures.answers, c.loop-c.invariant.1, c.loop-c.invariant.2, c.next_open_abstract-a-in-abstracts.ensures.remembers, (whole-marked c.masks_of-masks.ensures c.abstracts-test.true c.loop-c.invariant.4 c.loop-c.invariant.0 (omega (arith, c.loop-c-test.false)) c.is_within-whole-in-abstracts.ensures (marked-in _ _ c.whole_group-wholes.ensures c.make_mark-in-abstracts.ensures)), c.loop-c.invariant.5)
+abstracts-preserved c = (again-abstracts c.abstracts.invariant.0.low c.loop-c.invariant.0 (omega (arith, c.loop-c-test.false)) c.next_open_abstract-a-in-abstracts.ensures.answers, c.loop-c.invariant.1, c.loop-c.invariant.2, c.next_open_abstract-a-in-abstracts.ensures.remembers, (whole-marked c.masks_of-masks.ensures c.abstracts-test.true c.loop-c.invariant.4 c.loop-c.invariant.0 (omega (arith, c.loop-c-test.false)) c.is_within-in-abstracts.ensures (marked-in _ _ c.whole_group-wholes.ensures (let made : Marked c.is_within-in-abstracts.result (key_in c.args.s.now.cells.now c.whole_group-wholes.result c.abstracts.a) 1 c.abstracts.done c.if-is_within-2.done = elim c.if-is_within-2.branch [ then-is_within-2 w ↦ mark-made w.done-is w.make_mark-then-is_within-2.ensures w.if-is_within-2.true | else-is_within-2 w ↦ mark-none w.done-is ] in made))), c.loop-c.invariant.5)
 
 pub returns-after-abstracts : goal.returns-after-abstracts
 returns-after-abstracts c = leave-last c.requires.from_le_end.0 c.abstracts.invariant.0 (omega (arith, c.abstracts-test.false)) c.requires.from_le_end.1 c.abstracts.invariant.1

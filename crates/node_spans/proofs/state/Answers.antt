@@ -3,4 +3,4 @@ use Rattle.node_spans.proofs.SpanWrites.{state-put}
 use Rattle.node_spans.proofs.state.Goals as goal
 
 pub returns : goal.returns
-returns c = state-put c.skip_from-first.ensures c.run_from-last.ensures.0 c.three.ensures
+returns c = state-put c.skip-first.ensures c.run-last.ensures.0 c.three.ensures

@@ -1,7 +1,6 @@
 -- `applicability_part` meets its contract. Assumes nothing.
-use Prim.Native.Nat.{◌+◌, ◌*◌}
 use Rattle.part_setup.proofs.GroupSizes.{applicability-is}
 use Rattle.part_setup.proofs.applicability_part.Goals as goal
 
 pub returns : goal.returns
-returns c = applicability-is c.args.d.now.groups.now (18 + 8 * c.args.j) c.args.cells.now c.group_sizes-s.result c.group_sizes-s.ensures
+returns c = applicability-is c.args.d.now.groups.now c.args.row c.args.cells.now c.group_sizes-s.result c.group_sizes-s.ensures

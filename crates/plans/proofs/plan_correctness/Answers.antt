@@ -20,8 +20,11 @@ over-requires-3 c = between c.args.d.now.rows.now c.args.d.now.firsts.now (5 + 2
 
 pub search-requires : goal.search-requires
 search-requires c =
-    room_of c.over.ensures c.over-2.ensures c.over-3.ensures (rows_by c.args.d.now.rows.now c.args.d.now.firsts.now 0 c.requires.common.abstractly _ _ _ _ (omega arith) (omega arith) (omega arith) (omega arith)) (rows_by c.args.d.now.rows.now c.args.d.now.firsts.now 4 c.requires.common.retrieve _ _ _ _ (omega arith) (omega arith) (omega arith) (omega arith)) (rows_by c.args.d.now.rows.now c.args.d.now.firsts.now (5 + 2 * c.args.j) c.requires.abstractly _ _ _ _ (omega arith) (omega arith) (omega arith) (omega arith)) (omega arith) (omega (arith, c.head.ensures.same_place, c.premises.ensures.premises.behind, c.steps.ensures.searched.onward))
-    (omega (arith, c.head.ensures.same_place, c.premises.ensures.premises.end, c.steps.ensures.searched.end, many-low c.args.d.now.rows.now c.args.d.now.firsts.now 1 c.requires.common.concretely, many-low c.args.d.now.rows.now c.args.d.now.firsts.now (5 + 2 * c.args.j + 1) c.requires.concretely, many-low c.args.d.now.rows.now c.args.d.now.firsts.now 0 c.requires.common.abstractly, many-low c.args.d.now.rows.now c.args.d.now.firsts.now 4 c.requires.common.retrieve, many-low c.args.d.now.rows.now c.args.d.now.firsts.now (5 + 2 * c.args.j) c.requires.abstractly))
+    record {
+      few = omega arith;
+      room = room_of c.over.ensures c.over-2.ensures c.over-3.ensures (rows_by c.args.d.now.rows.now c.args.d.now.firsts.now 0 c.requires.common.abstractly _ _ _ _ (omega arith) (omega arith) (omega arith) (omega arith)) (rows_by c.args.d.now.rows.now c.args.d.now.firsts.now 4 c.requires.common.retrieve _ _ _ _ (omega arith) (omega arith) (omega arith) (omega arith)) (rows_by c.args.d.now.rows.now c.args.d.now.firsts.now (5 + 2 * c.args.j) c.requires.abstractly _ _ _ _ (omega arith) (omega arith) (omega arith) (omega arith)) (omega arith) (omega (arith, c.head.ensures.same_place, c.premises.ensures.premises.behind, c.steps.ensures.searched.onward))
+          (omega (arith, c.head.ensures.same_place, c.premises.ensures.premises.end, c.steps.ensures.searched.end, many-low c.args.d.now.rows.now c.args.d.now.firsts.now 1 c.requires.common.concretely, many-low c.args.d.now.rows.now c.args.d.now.firsts.now (5 + 2 * c.args.j + 1) c.requires.concretely, many-low c.args.d.now.rows.now c.args.d.now.firsts.now 0 c.requires.common.abstractly, many-low c.args.d.now.rows.now c.args.d.now.firsts.now 4 c.requires.common.retrieve, many-low c.args.d.now.rows.now c.args.d.now.firsts.now (5 + 2 * c.args.j) c.requires.abstractly));
+    }
 
 pub returns : goal.returns
 returns c =

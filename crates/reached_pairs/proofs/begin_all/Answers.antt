@@ -21,7 +21,7 @@ pub next_initial_state-next-requires-in-Some : goal.next_initial_state-next-requ
 next_initial_state-next-requires-in-Some c = record { from_le_nc = omega (arith, (rw c.in-Some.is at c.loop-next.invariant.2)); opening_asked = c.requires.open_pairs_asked.opening; memo = c.begin_with.ensures.remembers }
 
 pub loop-next-smaller : goal.loop-next-smaller
-loop-next-smaller c = omega (arith, ap (λ (o : Option ℕ). unwrap_or o c.args.s.now.part.nc) c.in-Some.is, (rw c.in-Some.is at c.loop-next.invariant.2), (c.next_initial_state-next-in-Some.ensures.found.sought _ c.requires.open_pairs_asked.opening.searches).low)
+loop-next-smaller c = omega (arith, ap (λ (o : Option ℕ). unwrap_or o c.args.s.now.part.concretes.bindings) c.in-Some.is, (rw c.in-Some.is at c.loop-next.invariant.2), (c.next_initial_state-next-in-Some.ensures.found.sought _ c.requires.open_pairs_asked.opening.searches).low)
 
 pub loop-next-preserved : goal.loop-next-preserved
 loop-next-preserved c = (states-next (rw c.in-Some.is at c.loop-next.invariant.0) (rw c.in-Some.is at c.loop-next.invariant.2) c.begin_with.ensures.grown c.next_initial_state-next-in-Some.ensures.found, c.next_initial_state-next-in-Some.ensures.remembers, c.next_initial_state-next-in-Some.ensures.low)

@@ -13,13 +13,13 @@ pub loop-next-init : goal.loop-next-init
 loop-next-init c = (open-start _ c.next_initial_match-next.ensures.found, c.next_initial_match-next.ensures.remembers, c.next_initial_match-next.ensures.low)
 
 pub overflow_mul-a : goal.overflow_mul-a
-overflow_mul-a c = omega (arith, (pair_inside c.in-Some.a c.args.c c.args.s.now.part.nm c.args.s.now.part.nc (rw c.in-Some.is at c.loop-next.invariant.2) c.requires.c_lt_nc), c.requires.open_pairs_asked.room)
+overflow_mul-a c = omega (arith, (pair_inside c.in-Some.a c.args.c c.args.s.now.part.meeting.bindings c.args.s.now.part.concretes.bindings (rw c.in-Some.is at c.loop-next.invariant.2) c.requires.c_lt_nc), c.requires.open_pairs_asked.room)
 
 pub overflow_add-a : goal.overflow_add-a
-overflow_add-a c = omega (arith, (pair_inside c.in-Some.a c.args.c c.args.s.now.part.nm c.args.s.now.part.nc (rw c.in-Some.is at c.loop-next.invariant.2) c.requires.c_lt_nc), c.requires.open_pairs_asked.room)
+overflow_add-a c = omega (arith, (pair_inside c.in-Some.a c.args.c c.args.s.now.part.meeting.bindings c.args.s.now.part.concretes.bindings (rw c.in-Some.is at c.loop-next.invariant.2) c.requires.c_lt_nc), c.requires.open_pairs_asked.room)
 
 pub put_mark-requires : goal.put_mark-requires
-put_mark-requires c = (omega (arith, (pair_inside c.in-Some.a c.args.c c.args.s.now.part.nm c.args.s.now.part.nc (rw c.in-Some.is at c.loop-next.invariant.2) c.requires.c_lt_nc), c.requires.open_pairs_asked.room), omega arith)
+put_mark-requires c = (omega (arith, (pair_inside c.in-Some.a c.args.c c.args.s.now.part.meeting.bindings c.args.s.now.part.concretes.bindings (rw c.in-Some.is at c.loop-next.invariant.2) c.requires.c_lt_nc), c.requires.open_pairs_asked.room), omega arith)
 
 pub overflow_add-a-in-Some : goal.overflow_add-a-in-Some
 overflow_add-a-in-Some c = omega (arith, (rw c.in-Some.is at c.loop-next.invariant.2), (few_a c.requires.open_pairs_asked.opening.searches).1)
@@ -28,7 +28,7 @@ pub next_initial_match-next-requires-in-Some : goal.next_initial_match-next-requ
 next_initial_match-next-requires-in-Some c = record { c_lt_nc = (c.requires.c_lt_nc, omega (arith, (rw c.in-Some.is at c.loop-next.invariant.2))); opening_asked = c.requires.open_pairs_asked.opening; memo = c.loop-next.invariant.1 }
 
 pub loop-next-smaller : goal.loop-next-smaller
-loop-next-smaller c = omega (arith, ap (λ (o : Option ℕ). unwrap_or o c.args.s.now.part.nm) c.in-Some.is, (rw c.in-Some.is at c.loop-next.invariant.2), (c.next_initial_match-next-in-Some.ensures.found.sought _ c.requires.open_pairs_asked.opening.searches).low)
+loop-next-smaller c = omega (arith, ap (λ (o : Option ℕ). unwrap_or o c.args.s.now.part.meeting.bindings) c.in-Some.is, (rw c.in-Some.is at c.loop-next.invariant.2), (c.next_initial_match-next-in-Some.ensures.found.sought _ c.requires.open_pairs_asked.opening.searches).low)
 
 pub loop-next-preserved : goal.loop-next-preserved
 loop-next-preserved c = (open_next (rw c.in-Some.is at c.loop-next.invariant.0) c.requires.c_lt_nc (rw c.in-Some.is at c.loop-next.invariant.2) c.put_mark.ensures c.next_initial_match-next-in-Some.ensures.found, c.next_initial_match-next-in-Some.ensures.remembers, c.next_initial_match-next-in-Some.ensures.low)

@@ -5,7 +5,7 @@ use Rattle.reached_pairs.specs.PairPromises.{MatchesSpreading}
 use Rattle.reached_pairs.proofs.spread_matches.Given as goal
 
 abbrev pub invariant-loop-next : goal.invariant-loop-next
-invariant-loop-next l = MatchesSpreading l.s.table.now l.s.plan.now l.s.cells.now l.s.part l.b l.m (unwrap_or l.next l.s.part.na) l.initial.marks l.marks × Memo l.s.table.now l.memo × IfSome l.next (λ k. k < l.s.part.na)
+invariant-loop-next l = MatchesSpreading l.s.table.now l.s.plan.now l.s.cells.now l.s.part l.b l.m (unwrap_or l.next l.s.part.abstracts.bindings) l.initial.marks l.marks × Memo l.s.table.now l.memo × IfSome l.next (λ k. k < l.s.part.abstracts.bindings)
 
 abbrev pub decreases-loop-next : goal.decreases-loop-next
-decreases-loop-next l = l.s.part.na - unwrap_or l.next l.s.part.na
+decreases-loop-next l = l.s.part.abstracts.bindings - unwrap_or l.next l.s.part.abstracts.bindings

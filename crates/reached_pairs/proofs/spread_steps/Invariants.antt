@@ -5,7 +5,7 @@ use Rattle.reached_pairs.specs.PairPromises.{StepsSpreading}
 use Rattle.reached_pairs.proofs.spread_steps.Given as goal
 
 abbrev pub invariant-loop-next : goal.invariant-loop-next
-invariant-loop-next l = StepsSpreading l.s.table.now l.s.plan.now l.s.cells.now l.s.part l.x l.i l.m (unwrap_or l.next (l.s.part.nq * l.s.part.nc)) l.initial.marks l.marks × Memo l.s.table.now l.memo × IfSome l.next (λ k. k < l.s.part.nq * l.s.part.nc)
+invariant-loop-next l = StepsSpreading l.s.table.now l.s.plan.now l.s.cells.now l.s.part l.x l.i l.m (unwrap_or l.next (l.s.part.outputs.bindings * l.s.part.concretes.bindings)) l.initial.marks l.marks × Memo l.s.table.now l.memo × IfSome l.next (λ k. k < l.s.part.outputs.bindings * l.s.part.concretes.bindings)
 
 abbrev pub decreases-loop-next : goal.decreases-loop-next
-decreases-loop-next l = l.s.part.nq * l.s.part.nc - unwrap_or l.next (l.s.part.nq * l.s.part.nc)
+decreases-loop-next l = l.s.part.outputs.bindings * l.s.part.concretes.bindings - unwrap_or l.next (l.s.part.outputs.bindings * l.s.part.concretes.bindings)

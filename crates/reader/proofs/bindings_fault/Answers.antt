@@ -4,4 +4,4 @@ use Rattle.reader.proofs.LimitPasses.{bindings-found}
 use Rattle.reader.proofs.bindings_fault.Goals as goal
 
 pub returns : goal.returns
-returns c = bindings-found _ _ _ _ _ _ _ _ _ c.given_table.ensures (search rules) c.spans-k.ensures c.bindings.ensures
+returns c = bindings-found _ _ _ _ _ _ _ _ _ c.given_table.ensures (search rules) c.spans-operations.ensures c.bindings.ensures

@@ -4,4 +4,4 @@ use Rattle.reader.proofs.LimitPasses.{sizes-found}
 use Rattle.reader.proofs.sizes_fault.Goals as goal
 
 pub returns : goal.returns
-returns c = sizes-found _ _ _ _ _ _ _ c.spans-k.ensures (search rules) c.measures.ensures
+returns c = sizes-found _ _ _ _ _ _ _ c.spans-operations.ensures (search rules) c.measures.ensures

@@ -15,14 +15,14 @@ pub put-requires-in-Correctness : goal.put-requires-in-Correctness
 unfolding bytes
 put-requires-in-Correctness c = title-room c.args.names.now.text.now (get_or c.args.names.now.labels.now (64 + c.in-Correctness.k) 0) 22 c.put_all-in-Correctness.ensures.written c.put_title-in-Correctness.ensures.written (omega arith) (omega arith)
 
-pub returns-in-Initialisation-clause-written : goal.returns-in-Initialisation-clause-written
+pub returns-in-Initialisation : goal.returns-in-Initialisation
 unfolding bytes
-returns-in-Initialisation-clause-written c = line-for c.in-Initialisation.is (opening-line c.put_all.ensures.written)
+returns-in-Initialisation c = line-for c.in-Initialisation.is (opening-line c.put_all.ensures)
 
-pub returns-in-Applicability-clause-written : goal.returns-in-Applicability-clause-written
+pub returns-in-Applicability : goal.returns-in-Applicability
 unfolding bytes
-returns-in-Applicability-clause-written c = line-for c.in-Applicability.is (applying-line {k = c.in-Applicability.k} c.put_title.ensures.written c.put.ensures.written c.put_all-in-Applicability.ensures.written)
+returns-in-Applicability c = line-for c.in-Applicability.is (applying-line {k = c.in-Applicability.k} c.put_title.ensures c.put.ensures c.put_all-in-Applicability.ensures)
 
-pub returns-in-Correctness-clause-written : goal.returns-in-Correctness-clause-written
+pub returns-in-Correctness : goal.returns-in-Correctness
 unfolding bytes
-returns-in-Correctness-clause-written c = line-for c.in-Correctness.is (correcting-line {k = c.in-Correctness.k} c.put_title-in-Correctness.ensures.written c.put-in-Correctness.ensures.written c.put_all-in-Correctness.ensures.written)
+returns-in-Correctness c = line-for c.in-Correctness.is (correcting-line {k = c.in-Correctness.k} c.put_title-in-Correctness.ensures c.put-in-Correctness.ensures c.put_all-in-Correctness.ensures)

@@ -1,6 +1,6 @@
 -- `states::concrete_initial` meets its contract: the two tests, one after the other. Assumes nothing.
 use mathlib.Core.Path.{refl}
-use Rattle.states.proofs.StateLaws.{asked-as, answers-as, concrete-initial-state, concrete-initial-init, concrete-initial-no, concrete-initial-is}
+use Rattle.states.proofs.StateLaws.{first_holds, first_fails, asked-as, answers-as, concrete-initial-state, concrete-initial-init, concrete-initial-is}
 use Rattle.states.proofs.concrete_initial.Goals as goal
 
 pub context_holds-requires : goal.context_holds-requires
@@ -10,7 +10,7 @@ pub context_holds-requires-then-context_holds : goal.context_holds-requires-then
 context_holds-requires-then-context_holds c = asked-as c.context_holds.ensures.kept (concrete-initial-init c.requires)
 
 pub returns-then-context_holds-clause-answers : goal.returns-then-context_holds-clause-answers
-returns-then-context_holds-clause-answers c = concrete-initial-is c.if-context_holds.ensures.answers (answers-as c.context_holds.ensures.kept refl c.context_holds-then-context_holds.ensures.answers)
+returns-then-context_holds-clause-answers c = concrete-initial-is (first_holds c.if-context_holds.ensures.answers (answers-as c.context_holds.ensures.kept refl c.context_holds-then-context_holds.ensures.answers))
 
 pub returns-else-context_holds-clause-answers : goal.returns-else-context_holds-clause-answers
-returns-else-context_holds-clause-answers c = rw c.if-context_holds.false (concrete-initial-no c.if-context_holds.ensures.answers)
+returns-else-context_holds-clause-answers c = rw c.if-context_holds.false (concrete-initial-is (first_fails c.if-context_holds.ensures.answers))

@@ -1,10 +1,10 @@
 -- `states::concrete_step` meets its contract: the state before, the state after, the operation's predicate. Assumes nothing.
 use mathlib.Core.Bool.{Bool}
-use mathlib.Core.Path.{refl, ◌∙◌}
+use mathlib.Core.Path.{refl, sym, ◌∙◌}
 use native.Mathlib.Omega.{arith}
 use Rattle.states.specs.Promises.{ContextAnswers}
-use Rattle.states.proofs.StateLaws.{Both, first_holds, first_fails, both-hold, one-fails, as-both, asked-as, answers-as}
-use Rattle.states.proofs.StepLaws.{concrete-step-before, concrete-step-behind, concrete-step-whole, concrete-step-inside, concrete-step-no, concrete-step-not, concrete-step-is}
+use Rattle.states.proofs.StateLaws.{Both, first_holds, first_fails, as-both, asked-as, answers-as}
+use Rattle.states.proofs.StepLaws.{concrete-step-before, concrete-step-behind, concrete-step-whole, concrete-step-inside, concrete-step-is}
 use Rattle.states.proofs.concrete_step.Goals.{then-context_holds, else-context_holds}
 use Rattle.states.proofs.concrete_step.Goals as goal
 
@@ -32,8 +32,7 @@ returns-then-context_holds-2-clause-answers c =
       | then-context_holds w ↦ as-both w.value-is (first_holds w.if-context_holds.ensures.answers w.context_holds-then-context_holds.ensures.answers)
       | else-context_holds w ↦ as-both (w.value-is ∙ w.if-context_holds.false) (first_fails w.if-context_holds.ensures.answers)
     ] in
-    let w = both-hold two c.if-context_holds-2.true in
-    concrete-step-is w.0 w.1 (answers-as c.context_holds.ensures.kept refl c.context_holds-then-context_holds-2.ensures.answers)
+    concrete-step-is (first_holds (as-both (sym c.if-context_holds-2.true) two) (answers-as c.context_holds.ensures.kept refl c.context_holds-then-context_holds-2.ensures.answers))
 
 pub returns-else-context_holds-2-clause-answers : goal.returns-else-context_holds-2-clause-answers
 returns-else-context_holds-2-clause-answers c =
@@ -41,4 +40,4 @@ returns-else-context_holds-2-clause-answers c =
       | then-context_holds w ↦ as-both w.value-is (first_holds w.if-context_holds.ensures.answers w.context_holds-then-context_holds.ensures.answers)
       | else-context_holds w ↦ as-both (w.value-is ∙ w.if-context_holds.false) (first_fails w.if-context_holds.ensures.answers)
     ] in
-    rw c.if-context_holds-2.false (one-fails two c.if-context_holds-2.false concrete-step-no concrete-step-not)
+    rw c.if-context_holds-2.false (concrete-step-is (first_fails (as-both (sym c.if-context_holds-2.false) two)))

@@ -1,9 +1,9 @@
 -- `states::related` meets its contract: the three tests, one after the other. Assumes nothing.
-use mathlib.Core.Path.{refl, ◌∙◌}
+use mathlib.Core.Path.{refl, sym, ◌∙◌}
 use mathlib.Core.Bool.{Bool}
 use Rattle.states.specs.Promises.{ContextAnswers}
-use Rattle.states.proofs.StateLaws.{Both, first_holds, first_fails, both-hold, one-fails, as-both}
-use Rattle.states.proofs.StateLaws.{asked-as, answers-as, related-abstract, related-concrete, related-retrieve, related-no, related-not, related-is}
+use Rattle.states.proofs.StateLaws.{Both, first_holds, first_fails, as-both}
+use Rattle.states.proofs.StateLaws.{asked-as, answers-as, related-abstract, related-concrete, related-retrieve, related-is}
 use Rattle.states.proofs.related.Goals.{then-context_holds, else-context_holds}
 use Rattle.states.proofs.related.Goals as goal
 
@@ -25,11 +25,10 @@ returns-then-context_holds-2-clause-answers c =
       | then-context_holds w ↦ as-both w.value-is (first_holds w.if-context_holds.ensures.answers (answers-as c.context_holds.ensures.kept refl w.context_holds-then-context_holds.ensures.answers))
       | else-context_holds w ↦ as-both (w.value-is ∙ w.if-context_holds.false) (first_fails w.if-context_holds.ensures.answers)
     ] in
-    let w = both-hold two c.if-context_holds-2.true in
-    related-is w.0 w.1 (answers-as (elim c.if-context_holds.branch [
+    related-is (first_holds (as-both (sym c.if-context_holds-2.true) two) (answers-as (elim c.if-context_holds.branch [
       | then-context_holds w ↦ w.slots-is ∙ w.context_holds-then-context_holds.ensures.kept ∙ c.context_holds.ensures.kept
       | else-context_holds w ↦ w.slots-is ∙ c.context_holds.ensures.kept
-    ]) refl c.context_holds-then-context_holds-2.ensures.answers)
+    ]) refl c.context_holds-then-context_holds-2.ensures.answers))
 
 pub returns-else-context_holds-2-clause-answers : goal.returns-else-context_holds-2-clause-answers
 returns-else-context_holds-2-clause-answers c =
@@ -37,4 +36,4 @@ returns-else-context_holds-2-clause-answers c =
       | then-context_holds w ↦ as-both w.value-is (first_holds w.if-context_holds.ensures.answers (answers-as c.context_holds.ensures.kept refl w.context_holds-then-context_holds.ensures.answers))
       | else-context_holds w ↦ as-both (w.value-is ∙ w.if-context_holds.false) (first_fails w.if-context_holds.ensures.answers)
     ] in
-    rw c.if-context_holds-2.false (one-fails two c.if-context_holds-2.false related-no related-not)
+    rw c.if-context_holds-2.false (related-is (first_fails (as-both (sym c.if-context_holds-2.false) two)))

@@ -16,6 +16,9 @@ returns-then-d-j c = step-unlisted (omega (arith, c.if-d-j.true))
 pub prepare-ready-requires : goal.prepare-ready-requires
 prepare-ready-requires c = prepare-asked c.requires (omega (arith, c.if-d-j.false))
 
+pub invariant_of-s : goal.invariant_of-s
+invariant_of-s c = lent StepsAsked c.search.ensures.table c.search.ensures.plan c.search.ensures.cells c.search.ensures.part (steps-asked c.requires (omega (arith, c.if-d-j.false)) c.prepare-ready.ensures)
+
 pub returns-then-ready-a : goal.returns-then-ready-a
 returns-then-ready-a c =
     elim c.then-ready-a.branch [
@@ -26,9 +29,8 @@ returns-then-ready-a c =
 
 pub next_abstract_step-step-requires : goal.next_abstract_step-step-requires
 next_abstract_step-step-requires c = record {
-  a_lt_na = lent (λ t q x p. (c.args.a < p.na) × (c.args.i < p.ni) × (c.args.from ≤ p.nq * p.na)) c.search-s.ensures.table c.search-s.ensures.plan c.search-s.ensures.cells c.search-s.ensures.part
+  a_lt_na = lent (λ t q x p. (c.args.a < p.abstracts.bindings) × (c.args.i < p.inputs.bindings) × (c.args.from ≤ p.outputs.bindings * p.abstracts.bindings)) c.search.ensures.table c.search.ensures.plan c.search.ensures.cells c.search.ensures.part
       (omega (arith, c.if-ready-a.false), omega (arith, c.if-ready-i.false), omega (arith, nr-is (steps-asked c.requires (omega (arith, c.if-d-j.false)) c.prepare-ready.ensures).searches, c.if-ready-from.false));
-  steps_asked = lent StepsAsked c.search-s.ensures.table c.search-s.ensures.plan c.search-s.ensures.cells c.search-s.ensures.part (steps-asked c.requires (omega (arith, c.if-d-j.false)) c.prepare-ready.ensures);
   memo = blank_memo 8098 refl;
 }
 
@@ -36,12 +38,12 @@ pub returns-in-Some : goal.returns-in-Some
 returns-in-Some c =
     step-found c.prepare-ready.ensures c.next_abstract_step-step.result (Step c.in-Some.x) c.in-Some.is tt (omega (arith, c.if-d-j.false)) (omega (arith, c.if-ready-a.false))
     (omega (arith, c.if-ready-i.false)) (omega (arith, c.if-ready-from.false))
-    (returned (λ t q x p. IfSome c.next_abstract_step-step.result (λ k. k < p.nq * p.na)) c.search-s.ensures.table c.search-s.ensures.plan c.search-s.ensures.cells c.search-s.ensures.part c.next_abstract_step-step.ensures.low)
-    (returned (λ t q x p. AbstractStepFound t q x p c.args.a c.args.i c.args.from (unwrap_or c.next_abstract_step-step.result (p.nq * p.na))) c.search-s.ensures.table c.search-s.ensures.plan c.search-s.ensures.cells c.search-s.ensures.part c.next_abstract_step-step.ensures.found)
+    (returned (λ t q x p. IfSome c.next_abstract_step-step.result (λ k. k < p.outputs.bindings * p.abstracts.bindings)) c.search.ensures.table c.search.ensures.plan c.search.ensures.cells c.search.ensures.part c.next_abstract_step-step.ensures.low)
+    (returned (λ t q x p. AbstractStepFound t q x p c.args.a c.args.i c.args.from (unwrap_or c.next_abstract_step-step.result (p.outputs.bindings * p.abstracts.bindings))) c.search.ensures.table c.search.ensures.plan c.search.ensures.cells c.search.ensures.part c.next_abstract_step-step.ensures.found)
 
 pub returns-in-None : goal.returns-in-None
 returns-in-None c =
     step-found c.prepare-ready.ensures c.next_abstract_step-step.result NoStep c.in-None.is tt (omega (arith, c.if-d-j.false)) (omega (arith, c.if-ready-a.false))
     (omega (arith, c.if-ready-i.false)) (omega (arith, c.if-ready-from.false))
-    (returned (λ t q x p. IfSome c.next_abstract_step-step.result (λ k. k < p.nq * p.na)) c.search-s.ensures.table c.search-s.ensures.plan c.search-s.ensures.cells c.search-s.ensures.part c.next_abstract_step-step.ensures.low)
-    (returned (λ t q x p. AbstractStepFound t q x p c.args.a c.args.i c.args.from (unwrap_or c.next_abstract_step-step.result (p.nq * p.na))) c.search-s.ensures.table c.search-s.ensures.plan c.search-s.ensures.cells c.search-s.ensures.part c.next_abstract_step-step.ensures.found)
+    (returned (λ t q x p. IfSome c.next_abstract_step-step.result (λ k. k < p.outputs.bindings * p.abstracts.bindings)) c.search.ensures.table c.search.ensures.plan c.search.ensures.cells c.search.ensures.part c.next_abstract_step-step.ensures.low)
+    (returned (λ t q x p. AbstractStepFound t q x p c.args.a c.args.i c.args.from (unwrap_or c.next_abstract_step-step.result (p.outputs.bindings * p.abstracts.bindings))) c.search.ensures.table c.search.ensures.plan c.search.ensures.cells c.search.ensures.part c.next_abstract_step-step.ensures.found)

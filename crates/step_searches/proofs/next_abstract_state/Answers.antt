@@ -7,12 +7,12 @@ use Rattle.step_searches.proofs.next_abstract_state.Goals as goal
 pub next_with-requires : goal.next_with-requires
 unfolding EachBindable
 next_with-requires c = record {
-  given_asked = record { first_values = c.requires.steps_asked.searches.first_values; groups = tt; seeks = λ b σ. ask-states c.requires.steps_asked.searches (given-none σ) c.requires.from_le_na };
-  memo = c.requires.memo;
+  given_asked = record { first_values = c.s.invariant.searches.first_values; groups = tt; seeks = λ b σ. ask-states c.s.invariant.searches (given-none σ) (rw (← c.s.view_is) at c.requires.from_le_na) };
+  memo = rw (← c.s.view_is) at c.requires.memo;
 }
 
 pub returns : goal.returns
-returns c = record {
+returns c = rw (← c.s.view_is) record {
   found = record { sought = λ d op x. states-found x (given-none c.next_with.ensures.answers.shows) c.next_with.ensures.answers.answers };
   remembers = c.next_with.ensures.remembers;
   low = c.next_with.ensures.low;

@@ -8,13 +8,13 @@ use Rattle.step_searches.proofs.next_abstract_step.Goals as goal
 pub next_with-requires : goal.next_with-requires
 unfolding EachBindable
 next_with-requires c = record {
-  given_asked = record { first_values = c.requires.steps_asked.searches.first_values; groups = (group-as c.group_at-state.ensures (put-abstract c.requires.steps_asked.searches c.requires.a_lt_na.0), (group-as c.group_at-inputs.ensures (put-inputs c.requires.steps_asked.searches c.requires.a_lt_na.1), tt)); seeks = λ b σ. ask-ready c.requires.steps_asked.searches (given-two c.group_at-state.ensures c.group_at-inputs.ensures σ) c.requires.a_lt_na.2 };
-  memo = c.requires.memo;
+  given_asked = record { first_values = c.s.invariant.searches.first_values; groups = (group-as c.group_at-state.ensures (put-abstract c.s.invariant.searches (rw (← c.s.view_is) at c.requires.a_lt_na.0)), (group-as c.group_at-inputs.ensures (put-inputs c.s.invariant.searches (rw (← c.s.view_is) at c.requires.a_lt_na.1)), tt)); seeks = λ b σ. ask-ready c.s.invariant.searches (given-two c.group_at-state.ensures c.group_at-inputs.ensures σ) (rw (← c.s.view_is) at c.requires.a_lt_na.2) };
+  memo = (rw (← c.s.view_is) at c.requires.memo);
 }
 
 pub returns : goal.returns
-returns c = record {
-  found = record { sought = λ d op x. steps-found-or x c.next_with.result (ready-found x c.requires.a_lt_na.0 c.requires.a_lt_na.1 (given-two c.group_at-state.ensures c.group_at-inputs.ensures c.next_with.ensures.answers.shows) c.next_with.ensures.answers.answers) };
+returns c = rw (← c.s.view_is) record {
+  found = record { sought = λ d op x. steps-found-or x c.next_with.result (ready-found x (rw (← c.s.view_is) at c.requires.a_lt_na.0) (rw (← c.s.view_is) at c.requires.a_lt_na.1) (given-two c.group_at-state.ensures c.group_at-inputs.ensures c.next_with.ensures.answers.shows) c.next_with.ensures.answers.answers) };
   remembers = c.next_with.ensures.remembers;
-  low = steps-low c.requires.steps_asked.searches c.next_with.result c.next_with.ensures.low;
+  low = steps-low c.s.invariant.searches c.next_with.result c.next_with.ensures.low;
 }

@@ -7,13 +7,13 @@ use Rattle.step_searches.proofs.next_related_state.Goals as goal
 pub next_with-requires : goal.next_with-requires
 unfolding EachBindable
 next_with-requires c = record {
-  given_asked = record { first_values = c.requires.steps_asked.searches.first_values; groups = (group-as c.group_at-state.ensures (put-abstract c.requires.steps_asked.searches c.requires.a_lt_na.0), tt); seeks = λ b σ. ask-related c.requires.steps_asked.searches (given-one c.group_at-state.ensures σ) c.requires.a_lt_na.1 };
-  memo = c.requires.memo;
+  given_asked = record { first_values = c.s.invariant.searches.first_values; groups = (group-as c.group_at-state.ensures (put-abstract c.s.invariant.searches (rw (← c.s.view_is) at c.requires.a_lt_na.0)), tt); seeks = λ b σ. ask-related c.s.invariant.searches (given-one c.group_at-state.ensures σ) (rw (← c.s.view_is) at c.requires.a_lt_na.1) };
+  memo = (rw (← c.s.view_is) at c.requires.memo);
 }
 
 pub returns : goal.returns
-returns c = record {
-  found = record { sought = λ d op x. related-found x c.requires.a_lt_na.0 (given-one c.group_at-state.ensures c.next_with.ensures.answers.shows) c.next_with.ensures.answers.answers };
+returns c = rw (← c.s.view_is) record {
+  found = record { sought = λ d op x. related-found x (rw (← c.s.view_is) at c.requires.a_lt_na.0) (given-one c.group_at-state.ensures c.next_with.ensures.answers.shows) c.next_with.ensures.answers.answers };
   remembers = c.next_with.ensures.remembers;
   low = c.next_with.ensures.low;
 }

@@ -1,6 +1,6 @@
 -- `witnesses::put_witness` meets its contract: the part is set up, its slots get the binding at the place, and the lines of its groups are the witness.
 use Rattle.part_places.proofs.PartsSetupLaws.{blank}
-use Rattle.witnesses.proofs.WitnessLaws.{witness-written}
+use Rattle.witnesses.proofs.WitnessLaws.{witness-added}
 use Rattle.witnesses.proofs.PartLines.{part-asked, part_low, bind-asked, lines-asked}
 use Rattle.witnesses.proofs.put_witness.Goals as goal
 
@@ -16,5 +16,5 @@ operation_row-requires c = part_low c.requires.witness_asked
 pub put_groups-requires : goal.put_groups-requires
 put_groups-requires c = record { at_in_bounds = c.requires.at_in_bounds; lines_asked = lines-asked c.requires.witness_asked c.part_cells-p.ensures c.operation_row.ensures.1 }
 
-pub returns-clause-written : goal.returns-clause-written
-returns-clause-written c = witness-written c.part_cells-p.ensures c.bind_place.ensures c.operation_row.ensures.0 c.put_groups.ensures.lines c.put_groups.ensures.short
+pub returns : goal.returns
+returns c = witness-added c.part_cells-p.ensures c.bind_place.ensures c.operation_row.ensures.0 c.put_groups.ensures.lines c.put_groups.ensures.short

@@ -4,4 +4,4 @@ use Rattle.binding_counts.proofs.BindingSpans.{Remains}
 use Rattle.binding_counts.proofs.bindings.all_operations.Given as goal
 
 abbrev pub invariant-loop-k : goal.invariant-loop-k
-invariant-loop-k l = (l.k ≤ min l.n 18) × Remains l.p.nodes.now l.p.spans.now l.g.names.now l.g.sizes.now l.n l.k (fault_key l.f)
+invariant-loop-k l = (l.k ≤ min l.p.operations 18) × Remains l.p.nodes.now l.p.spans.now l.g.names.now l.g.sizes.now l.p.operations l.k (fault_key l.f)

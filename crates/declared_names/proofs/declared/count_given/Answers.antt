@@ -12,8 +12,8 @@ returns-then-g-eq0 c = record { title = λ e h. elim (never-none c.args.g c.if-g
 pub returns-then-n-eq-GIVEN : goal.returns-then-n-eq-GIVEN
 returns-then-n-eq-GIVEN c = record { title = λ e h. c.put.ensures ∙ ap (λ (n : ℕ). set c.args.sizes.now n 0) (ap (λ (n : ℕ). n - 1) c.from-x.ensures); element = λ e h b. elim (e c.if-n-eq-GIVEN.true) [ ] }
 
-pub returns-then-m-lt-ELEMENTS : goal.returns-then-m-lt-ELEMENTS
-returns-then-m-lt-ELEMENTS c = record { title = λ e h. elim (c.if-n-eq-GIVEN.false e) [ ]; element = λ e h b. c.put-then-m-lt-ELEMENTS.ensures ∙ ap₂ (λ (n m : ℕ). set c.args.sizes.now n (m + 1)) (ap (λ (n : ℕ). n - 1) c.from-x.ensures) (c.look-m.ensures ∙ ap (λ (n : ℕ). get_or c.args.sizes.now n 0) (ap (λ (n : ℕ). n - 1) c.from-x.ensures)) }
+pub returns-then-m-from : goal.returns-then-m-from
+returns-then-m-from c = record { title = λ e h. elim (c.if-n-eq-GIVEN.false e) [ ]; element = λ e h b. c.put-then-m-from.ensures ∙ ap₂ (λ (n m : ℕ). set c.args.sizes.now n (m + 1)) (ap (λ (n : ℕ). n - 1) c.from-x.ensures) (c.look-m.ensures ∙ ap (λ (n : ℕ). get_or c.args.sizes.now n 0) (ap (λ (n : ℕ). n - 1) c.from-x.ensures)) }
 
-pub returns-else-m-lt-ELEMENTS : goal.returns-else-m-lt-ELEMENTS
-returns-else-m-lt-ELEMENTS c = record { title = λ e h. elim (c.if-n-eq-GIVEN.false e) [ ]; element = λ e h b. elim (let w = (c.look-m.ensures ∙ ap (λ (n : ℕ). get_or c.args.sizes.now n 0) (ap (λ (n : ℕ). n - 1) c.from-x.ensures)) in let q = c.if-m-lt-ELEMENTS.false in let v : 8 ≤ get_or c.args.sizes.now (c.args.g - 1) 0 = omega (arith, w, q) in not-both _ _ v b) [ ] }
+pub returns-else-m-from : goal.returns-else-m-from
+returns-else-m-from c = record { title = λ e h. elim (c.if-n-eq-GIVEN.false e) [ ]; element = λ e h b. elim (let w = (c.look-m.ensures ∙ ap (λ (n : ℕ). get_or c.args.sizes.now n 0) (ap (λ (n : ℕ). n - 1) c.from-x.ensures)) in let q = c.if-m-from.false in let most = c.from.ensures in let v : 8 ≤ get_or c.args.sizes.now (c.args.g - 1) 0 = omega (arith, w, q) in not-both _ _ v b) [ ] }

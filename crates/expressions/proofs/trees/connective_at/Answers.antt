@@ -4,4 +4,4 @@ use Rattle.expressions.proofs.Chains.{connective-kept}
 use Rattle.expressions.proofs.trees.connective_at.Goals as goal
 
 pub returns : goal.returns
-returns c = connective-kept c.connective_of.result c.filter.result c.requires c.kind_at.ensures c.connective_of.ensures (λ l b k. search rules) c.filter.ensures
+returns c = connective-kept c.args.above c.connective_of.result c.filter.result c.kind_at.ensures c.connective_of.ensures (λ l b k. search rules) c.filter.ensures

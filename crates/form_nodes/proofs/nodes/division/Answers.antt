@@ -1,16 +1,17 @@
 -- `nodes::division` meets its contract.
 use mathlib.Core.Path.{sym, ◌∙◌}
+use borrow.Author.Tests.{eqb-true, eqb-false}
 use Rattle.form_nodes.proofs.NodeNumbers.{signed-remainder, plain-remainder, signed_quotient, plain-quotient}
 use Rattle.form_nodes.proofs.nodes.division.Goals as goal
 
-pub returns-then-kind_at-eq-DASH : goal.returns-then-kind_at-eq-DASH
-returns-then-kind_at-eq-DASH c = signed-remainder c.args.s.now c.args.s.now c.args.at (sym c.kind_at.ensures.is ∙ c.if-kind_at-eq-MOD.true) (sym c.kind_at-then-kind_at-eq-MOD.ensures.is ∙ c.if-kind_at-eq-DASH.true)
+pub returns-in-true-true : goal.returns-in-true-true
+returns-in-true-true c = signed-remainder c.args.s.now c.args.s.now c.args.at (sym c.kind_at-remainder.ensures.is ∙ eqb-true _ _ c.in-true-true.is-0) (sym c.kind_at-negative.ensures.is ∙ eqb-true _ _ c.in-true-true.is-1)
 
-pub returns-then-kind_at-eq-MOD : goal.returns-then-kind_at-eq-MOD
-returns-then-kind_at-eq-MOD c = plain-remainder c.args.s.now c.args.s.now c.args.at (sym c.kind_at.ensures.is ∙ c.if-kind_at-eq-MOD.true) (λ q. c.if-kind_at-eq-DASH.false (c.kind_at-then-kind_at-eq-MOD.ensures.is ∙ q))
+pub returns-in-true-false : goal.returns-in-true-false
+returns-in-true-false c = plain-remainder c.args.s.now c.args.s.now c.args.at (sym c.kind_at-remainder.ensures.is ∙ eqb-true _ _ c.in-true-false.is-0) (λ q. eqb-false _ _ c.in-true-false.is-1 (c.kind_at-negative.ensures.is ∙ q))
 
-pub returns-then-kind_at-eq-DASH-2 : goal.returns-then-kind_at-eq-DASH-2
-returns-then-kind_at-eq-DASH-2 c = signed_quotient c.args.s.now c.args.s.now c.args.at (λ q. c.if-kind_at-eq-MOD.false (c.kind_at.ensures.is ∙ q)) (sym c.kind_at-2.ensures.is ∙ c.if-kind_at-eq-DASH-2.true)
+pub returns-in-false-true : goal.returns-in-false-true
+returns-in-false-true c = signed_quotient c.args.s.now c.args.s.now c.args.at (λ q. eqb-false _ _ c.in-false-true.is-0 (c.kind_at-remainder.ensures.is ∙ q)) (sym c.kind_at-negative.ensures.is ∙ eqb-true _ _ c.in-false-true.is-1)
 
-pub returns : goal.returns
-returns c = plain-quotient c.args.s.now c.args.s.now c.args.at (λ q. c.if-kind_at-eq-MOD.false (c.kind_at.ensures.is ∙ q)) (λ q. c.if-kind_at-eq-DASH-2.false (c.kind_at-2.ensures.is ∙ q))
+pub returns-in-false-false : goal.returns-in-false-false
+returns-in-false-false c = plain-quotient c.args.s.now c.args.s.now c.args.at (λ q. eqb-false _ _ c.in-false-false.is-0 (c.kind_at-remainder.ensures.is ∙ q)) (λ q. eqb-false _ _ c.in-false-false.is-1 (c.kind_at-negative.ensures.is ∙ q))

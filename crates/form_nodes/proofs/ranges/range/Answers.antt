@@ -28,4 +28,4 @@ returns-in_err-dots c = rw (exits c.from_residual-in_err-dots.result c.from_resi
 
 pub returns : goal.returns
 unfolding code_of
-returns c = let h = (known c.in_ok-first.was c.end.ensures.0.reads) in let i = (known c.in_ok-dots.was (c.close.ensures.reads kind.up_to refl)) in (record { reads = next (framed (exact kind.up_to ∷ an_end ∷ []) h) (next (framed (an_end ∷ []) i) c.end-2.ensures.0.reads); ahead = ahead-from c.args.at c.in_ok-dots.dots.at c.end-2.result (omega arith) c.end-2.ensures.0.ahead }, whole-range c.args.s.now c.args.at c.args.n c.in_ok-first.first c.in_ok-dots.dots c.end-2.result (known-shown (EndAt c.args.s.now c.args.at) c.args.n c.in_ok-first.was c.end.ensures.1) (known-shown (OneOf c.args.s.now c.in_ok-first.first.at 21) c.in_ok-first.first.count c.in_ok-dots.was c.close.ensures.shown) c.end-2.ensures.1)
+returns c = let h = (known c.in_ok-first.was c.end.ensures.0.reads) in let i = (known c.in_ok-dots.was (c.close.ensures.reads kind.up_to refl)) in (record { reads = next (framed (exact kind.up_to ∷ an_end ∷ []) h) (next (framed (an_end ∷ []) i) c.end-2.ensures.0.reads); ahead = ahead-from c.args.at c.in_ok-dots.dots.at c.end-2.result (omega arith) c.end-2.ensures.0.ahead }, whole-range c.args.y.now.kinds.now c.args.at c.args.n c.in_ok-first.first c.in_ok-dots.dots c.end-2.result (known-shown (EndAt c.args.y.now.kinds.now c.args.at) c.args.n c.in_ok-first.was c.end.ensures.1) (known-shown (OneOf c.args.y.now.kinds.now c.in_ok-first.first.at 21) c.in_ok-first.first.count c.in_ok-dots.was c.close.ensures.shown) c.end-2.ensures.1)

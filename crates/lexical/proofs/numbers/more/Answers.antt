@@ -1,16 +1,12 @@
 -- `lexical::numbers::more` meets its contract. Assumes nothing.
-use mathlib.Core.Path.{◌≡◌, ap, ◌∙◌}
-use Prim.Native.Nat.{ℕ, ◌+◌, ◌-◌, ◌*◌}
-use Rattle.std.specs.Prelude.{Some}
+use mathlib.Core.Path.{ap, ◌∙◌}
+use Prim.Native.Nat.{ℕ, ◌+◌, ◌*◌}
 use native.Mathlib.Omega.{arith}
-use Rattle.lexical.proofs.NumberLaws.{more-not, more-over, more-is}
+use Rattle.lexical.proofs.NumberLaws.{more-not, more-is}
 use Rattle.lexical.proofs.numbers.more.Goals as goal
 
-pub returns-then-b-lt48 : goal.returns-then-b-lt48
-returns-then-b-lt48 c = more-not c.args.v c.args.b (omega arith)
-
-pub returns-then-m-gt-LARGEST_NUMBER : goal.returns-then-m-gt-LARGEST_NUMBER
-returns-then-m-gt-LARGEST_NUMBER c = more-over c.args.v c.args.b (omega arith) (omega arith) (omega arith)
+pub returns-then-not-is_ascii_digit : goal.returns-then-not-is_ascii_digit
+returns-then-not-is_ascii_digit c = more-not c.args.v c.args.b (omega (arith, c.if-not-is_ascii_digit.ensures.cases))
 
 pub returns : goal.returns
-returns c = let m = c.from.ensures in let z : c.from.result ≡ c.args.b - 48 = m in ap (λ (x : ℕ). Some (c.args.v * 10 + x)) z ∙ more-is c.args.v c.args.b (omega arith) (omega arith) (omega arith)
+returns c = let d = c.if-not-is_ascii_digit.ensures.cases in c.then_some.ensures ∙ more-is c.args.v c.args.b (ap (λ (x : ℕ). c.args.v * 10 + x) c.from.ensures) (omega arith) (omega arith)

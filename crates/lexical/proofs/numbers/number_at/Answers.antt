@@ -12,8 +12,8 @@ returns-then-s-at-eq48 c = leading_zero c.args.s.now c.args.at c.run_from-n.resu
 pub overflow_add-at : goal.overflow_add-at
 overflow_add-at c = omega (arith, run_length (drop c.args.at c.args.s.now), length-drop c.args.at c.args.s.now)
 
-pub decimal-requires : goal.decimal-requires
-decimal-requires c = (omega arith, omega (arith, run_length (drop c.args.at c.args.s.now), length-drop c.args.at c.args.s.now))
+pub slice_bounds-decimal-end : goal.slice_bounds-decimal-end
+slice_bounds-decimal-end c = omega (arith, run_length (drop c.args.at c.args.s.now), length-drop c.args.at c.args.s.now)
 
 pub returns-in-Some : goal.returns-in-Some
 returns-in-Some c = elim c.else-n-ne1.branch [ else-n-ne1-via-then-n-ne1+else-s-at-eq48 w ↦ no_zero c.args.s.now c.args.at c.run_from-n.result c.requires.0 c.requires.1 c.run_from-n.ensures c.in-Some.ensures w.if-s-at-eq48.false | else-n-ne1-via-else-n-ne1 w ↦ one-digit c.args.s.now c.args.at c.run_from-n.result c.requires.0 c.requires.1 c.run_from-n.ensures c.in-Some.ensures w.if-n-ne1.false ]

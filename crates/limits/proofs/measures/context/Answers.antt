@@ -1,7 +1,6 @@
 -- `measures::context` meets its contract: the marks are taken away behind the walk. Assumes nothing.
-use mathlib.Core.Bool.{true, false}
 use mathlib.Core.Path.{refl}
-use Rattle.limits.proofs.SizeMarks.{three-marked}
+use Rattle.term_sizes.proofs.FrontSizes.{pred-front}
 use Rattle.limits.proofs.SizePass.{context-none, context-seen}
 use Rattle.limits.proofs.measures.context.Goals as goal
 
@@ -14,4 +13,4 @@ returns c =
     let b = c.args.r.now.second.now in
     let s = c.args.r.now.shift in
     let d = c.args.r.now.third.now in
-    context-seen c.args.nodes.now a b s d c.args.end c.args.bounds.now _ _ _ c.pred-p.result (three-marked true a b s d c.args.bounds.now _ _ _ c.mark.ensures c.mark-2.ensures c.mark-3.ensures) c.pred-p.ensures (three-marked false a b s d _ _ _ _ c.clear.ensures c.clear-2.ensures c.clear-3.ensures)
+    context-seen c.args.nodes.now a b s d c.args.end c.args.bounds.now _ _ _ c.pred-p.result c.mark_all.ensures (pred-front c.pred-p.ensures) c.mark_all-2.ensures

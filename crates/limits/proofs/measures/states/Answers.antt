@@ -1,8 +1,9 @@
 -- `measures::states` meets its contract. Assumes nothing.
-use native.Mathlib.Omega.{arith}
+use mathlib.Core.Path.{refl}
+use mathlib.Core.List.{[]}
 use Rattle.type_rules.specs.TypesByNumber.{fault_key}
-use Rattle.limits.proofs.SizePass.{states-seen}
+use Rattle.limits.proofs.SizePass.{reach-as, states-seen}
 use Rattle.limits.proofs.measures.states.Goals as goal
 
 pub returns : goal.returns
-returns c = states-seen c.args.p.now.nodes.now c.args.p.now.spans.now c.args.s.now.abstracts.now c.args.s.now.concretes.now _ _ _ c.args.bounds.now _ _ (fault_key c.context-f.result) (fault_key c.context-g.result) _ (c.part-none.ensures.part (omega arith) (omega arith)) c.place.ensures c.place-2.ensures c.context-f.ensures c.context-g.ensures c.lesser_of.ensures
+returns c = let a = c.of-a.ensures in let b = c.of-c.ensures in states-seen c.args.p.now.nodes.now c.args.p.now.spans.now c.args.s.now.abstracts.now c.args.s.now.concretes.now [] _ _ c.args.bounds.now _ _ (fault_key c.context-f.result) (fault_key c.context-g.result) _ refl c.span.ensures c.span-2.ensures (reach-as a.0 a.1 a.2 a.3 c.context-f.ensures) (reach-as b.0 b.1 b.2 b.3 c.context-g.ensures) c.lesser_of.ensures

@@ -16,8 +16,5 @@ overflow_cast-result c = let b = (earlier c.in-Some.is c.recalled.ensures).befor
 pub returns-in-Some : goal.returns-in-Some
 returns-in-Some c = (recalled-tree c.requires.0 c.if-a-eq0.false (earlier c.in-Some.is c.recalled.ensures), λ z. absurd (c.if-a-eq0.false z), λ n. recalled-first (earlier c.in-Some.is c.recalled.ensures), recent-on c.requires.2)
 
-pub overflow_add-recent : goal.overflow_add-recent
-overflow_add-recent c = let f = (c.number_of-r.ensures.2 c.if-a-eq0.false).up_to in let g = c.requires.1 in search rules
-
 pub returns : goal.returns
 returns c = (c.number_of-r.ensures.0, λ z. absurd (c.if-a-eq0.false z), λ n. (c.number_of-r.ensures.2 c.if-a-eq0.false), recent-more c.requires.2 (c.number_of-r.ensures.2 c.if-a-eq0.false) (let l : length c.args.recent.now ≡ 256 = search rules in omega arith))

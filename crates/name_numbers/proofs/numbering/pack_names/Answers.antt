@@ -2,26 +2,25 @@
 use borrow.Author.Rules.{rules}
 use lib.ListN.{set, length, get_or}
 use mathlib.Core.List.{List}
-use Prim.Native.Nat.{ℕ, ◌+◌, ◌*◌, ◌≤◌}
+use Prim.Native.Nat.{ℕ, ◌≤◌}
 use mathlib.Core.Path.{ap, ◌∙◌}
 use native.Mathlib.Omega.{arith}
 use Rattle.lexical.specs.Symbols.{Placed, scan, symbols}
-use Rattle.lexical.specs.SymbolPromises.{letters_in}
-use Rattle.name_numbers.proofs.RowLaws.{filled-all, packed_step, place_inside}
+use Rattle.lexical.specs.SymbolPromises.{letters_in, is_name}
+use Rattle.name_numbers.proofs.RowLaws.{filled-all, packed_step, place_inside, name-part}
 use Rattle.name_numbers.proofs.numbering.pack_names.Goals as goal
 
 pub name_letters-count-requires : goal.name_letters-count-requires
 name_letters-count-requires c = place_inside c.requires c.loop-i.i c.loop-i-test.true
 
-pub letters_at-low-requires : goal.letters_at-low-requires
-letters_at-low-requires c = (c.name_letters-count.ensures.inside, c.requires.short, omega arith)
-
-pub letters_at-high-requires : goal.letters_at-high-requires
-letters_at-high-requires c = (c.name_letters-count.ensures.inside, c.requires.short, omega arith)
+pub slice_bounds-packed-end : goal.slice_bounds-packed-end
+slice_bounds-packed-end c = omega (arith, c.name_letters-count.ensures.inside)
 
 pub loop-i-preserved : goal.loop-i-preserved
-loop-i-preserved c = let e = packed_step c.requires c.loop-i.i c.loop-i-test.true c.args.letters.now (search rules) (c.letters_at-low.ensures (get_or c.args.codes.now c.loop-i.i 0) c.name_letters-count.ensures.letters) (c.letters_at-high.ensures (get_or c.args.codes.now c.loop-i.i 0) c.name_letters-count.ensures.letters) in
-    (ap (λ (l : List ℕ). set l c.loop-i.i (c.letters_at-low.result + c.letters_at-high.result * 18446744073709551616)) c.loop-i.invariant.0 ∙ e, omega arith)
+loop-i-preserved c =
+    let at : ℕ = get_or c.args.starts.now c.loop-i.i 0 in
+    let u = c.packed.ensures ∙ name-part c.args.s.now at c.name_letters-count.result (is_name (get_or c.args.codes.now c.loop-i.i 0)) c.name_letters-count.ensures.letters in
+    (ap (λ (l : List ℕ). set l c.loop-i.i c.packed.result) c.loop-i.invariant.0 ∙ packed_step c.requires c.loop-i.i c.loop-i-test.true c.args.letters.now (search rules) u, omega arith)
 
 pub returns : goal.returns
 returns c = let k = c.requires.counted in let e : length (symbols (scan c.args.s.now)) ≤ c.loop-i.i = omega arith in c.loop-i.invariant.0 ∙ filled-all (λ (x : Placed). letters_in x.symbol) (symbols (scan c.args.s.now)) c.loop-i.i c.args.letters.now e

@@ -1,19 +1,15 @@
--- `symbols::names::recalled` meets its contract. Assumes nothing.
-use Prim.Native.Nat.{◌%◌}
-use mathlib.Core.Path.{refl}
-use native.Mathlib.Omega.{arith}
+-- `name_numbers::numbering::recalled` meets its contract. Assumes nothing.
+use mathlib.Core.Path.{sym, subst}
+use Prim.Native.Nat.{ℕ, ◌%◌}
 use lib.ListN.{get_or}
+use borrow.Author.Rules.{rules}
+use Rattle.std.specs.Prelude.{Option}
+use Rattle.name_numbers.specs.RecentNames.{Recalls}
 use Rattle.name_numbers.proofs.RecentLaws.{recalls}
 use Rattle.name_numbers.proofs.numbering.recalled.Goals as goal
 
-pub returns-then-t-eq0 : goal.returns-then-t-eq0
-returns-then-t-eq0 c = tt
-
 pub same_letters-requires : goal.same_letters-requires
-same_letters-requires c = omega (arith, c.requires.0.below (get_or c.args.letters.now c.args.i 0 % 256))
-
-pub returns-then-same_letters : goal.returns-then-same_letters
-returns-then-same_letters c = recalls (get_or c.args.letters.now c.args.i 0 % 256) c.requires.0 refl (omega arith) c.same_letters.ensures c.if-same_letters.true
+same_letters-requires c = let b = c.requires.0.before (get_or c.args.letters.now c.args.i 0 % 256) c.in_ok-m.field-0 c.in_ok-m.was in let g = c.requires.1 in search rules
 
 pub returns : goal.returns
-returns c = tt
+returns c = subst (λ (x : Option ℕ). Recalls c.args.letters.now c.args.i x) (sym c.then_some.ensures) (recalls (get_or c.args.letters.now c.args.i 0 % 256) c.in_ok-m.field-0 c.same_letters.result c.requires.0 c.in_ok-m.was c.same_letters.ensures)

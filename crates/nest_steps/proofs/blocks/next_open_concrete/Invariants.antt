@@ -7,4 +7,4 @@ abbrev pub invariant-loop-from : goal.invariant-loop-from
 invariant-loop-from l = ConcretesPassed l.s.table.now l.s.plan.now l.s.cells.now l.s.part l.fn.m l.mark l.c l.initial.slots l.slots l.from × Memo l.s.table.now l.memo
 
 abbrev pub decreases-loop-from : goal.decreases-loop-from
-decreases-loop-from l = l.s.part.nc - l.from
+decreases-loop-from l = l.s.part.concretes.bindings - l.from

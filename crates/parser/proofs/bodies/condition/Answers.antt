@@ -12,9 +12,6 @@ use Rattle.parser.proofs.BodyNodes.{long-written, then-closes, condition-made}
 use Rattle.form_nodes.specs.Derivations as part
 use Rattle.parser.proofs.bodies.condition.Goals as goal
 
-pub overflow_add-n-2 : goal.overflow_add-n-2
-overflow_add-n-2 c = let room = c.requires in let h = (known c.in_ok-body.was c.pred.ensures.0) in let l = c.pred.auto.code in let d : MadeAt c.args.y.now.kinds.now c.args.y.now.values.now (part.a_pred_from 1) c.args.at (c.args.n + 4) c.args.code.now c.pred.new.code c.in_ok-body.body.at c.in_ok-body.body.count = (made c.in_ok-body.was c.pred.ensures.1) in let u = long-written (c.args.n + 4) c.in_ok-body.body.count c.args.code.now c.pred.new.code d.nodes d.written (omega arith) (omega arith) in search rules
-
 pub overflow_sub-body : goal.overflow_sub-body
 overflow_sub-body c = let room = c.requires in let h = (known c.in_ok-body.was c.pred.ensures.0) in let l = c.pred.auto.code in let d : MadeAt c.args.y.now.kinds.now c.args.y.now.values.now (part.a_pred_from 1) c.args.at (c.args.n + 4) c.args.code.now c.pred.new.code c.in_ok-body.body.at c.in_ok-body.body.count = (made c.in_ok-body.was c.pred.ensures.1) in let u = long-written (c.args.n + 4) c.in_ok-body.body.count c.args.code.now c.pred.new.code d.nodes d.written (omega arith) (omega arith) in search rules
 

@@ -5,7 +5,7 @@ use Rattle.parser.specs.Sections.{Compares}
 use Rattle.parser.proofs.headings.compare.Given as goal
 
 abbrev pub invariant-loop-e : goal.invariant-loop-e
-invariant-loop-e l = (l.e ≤ l.m) × (l.h ≤ l.m) × ((q : prelude.Option ℕ) → Compares (take l.m l.nodes) l.m l.low l.high l.to l.last l.wanting l.from l.head q → Compares (take l.m l.nodes) l.m l.low l.high l.to l.last l.wanting l.e l.h q)
+invariant-loop-e l = (l.e ≤ l.made.end) × (l.h ≤ l.made.end) × ((q : prelude.Option ℕ) → Compares (take l.made.end l.made.numbers.now) l.made.end l.low l.high l.entries.end l.bodies.end l.wanting l.entries.start l.bodies.start q → Compares (take l.made.end l.made.numbers.now) l.made.end l.low l.high l.entries.end l.bodies.end l.wanting l.e l.h q)
 
 abbrev pub decreases-loop-e : goal.decreases-loop-e
-decreases-loop-e l = l.m - l.e
+decreases-loop-e l = l.made.end - l.e

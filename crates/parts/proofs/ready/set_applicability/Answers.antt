@@ -1,6 +1,13 @@
 -- `ready::set_applicability` meets its contract: the cells, the plan and the sizes are those of the operation's applicability.
-use Rattle.parts.proofs.SetupLaws.{applicability-look, operation-cells-asked, operation-part-asked, outputs-by-part, applicability-rows}
+use native.Mathlib.Omega.{arith}
+use Rattle.parts.proofs.SetupLaws.{applicability-look, operation-low, operation-cells-asked, operation-part-asked, outputs-by-part, applicability-rows}
 use Rattle.parts.proofs.ready.set_applicability.Goals as goal
+
+pub overflow_mul-row : goal.overflow_mul-row
+overflow_mul-row c = omega (arith, operation-low (applicability-look c.args.j c.requires.look_asked))
+
+pub overflow_add-row : goal.overflow_add-row
+overflow_add-row c = omega (arith, operation-low (applicability-look c.args.j c.requires.look_asked))
 
 pub operation_cells-requires : goal.operation_cells-requires
 operation_cells-requires c = record { operation_asked = operation-cells-asked (applicability-look c.args.j c.requires.look_asked); blank = c.requires.blank }

@@ -1,6 +1,7 @@
 -- `pieces::Writer::put` meets its contract. Assumes nothing.
+use mathlib.Core.Path.{refl}
 use Rattle.pieces.proofs.WrittenPieces.{byte-written}
 use Rattle.pieces.proofs.Writer.put.Goals as goal
 
-pub returns-clause-written : goal.returns-clause-written
-returns-clause-written c = byte-written _ _ _ c.requires
+pub returns : goal.returns
+returns c = record { same_bytes = refl; written = byte-written _ _ _ c.requires }

@@ -11,5 +11,5 @@ use Rattle.pieces.proofs.Writer.put_decimal.Goals as goal
 pub put_number-requires : goal.put_number-requires
 put_number-requires c = omega (arith, ap length (decimal-printed c.args.n c.ranges.n.fits), decimal-length c.args.n c.ranges.n.fits, c.requires)
 
-pub returns-clause-written : goal.returns-clause-written
-returns-clause-written c = subst (λ (w : List ℕ). Adds w c.args.self.now c.put_number.new.self) (decimal-printed c.args.n c.ranges.n.fits) c.put_number.ensures.written
+pub returns : goal.returns
+returns c = subst (λ (w : List ℕ). Adds w c.args.self.now c.put_number.new.self) (decimal-printed c.args.n c.ranges.n.fits) c.put_number.ensures

@@ -9,8 +9,8 @@ overflow_add-from c = search (rules, letters-inside c.args.text.now c.args.from 
 pub slice_bounds-put_all-end : goal.slice_bounds-put_all-end
 slice_bounds-put_all-end c = letters-inside c.args.text.now c.args.from c.run_from.ensures c.min-n.ensures c.if-n-gt0.true
 
-pub returns-then-n-gt0-clause-written : goal.returns-then-n-gt0-clause-written
-returns-then-n-gt0-clause-written c = some-letters c.args.text.now c.args.from c.run_from.ensures c.min-n.ensures c.put_all.ensures.written
+pub returns-then-n-gt0 : goal.returns-then-n-gt0
+returns-then-n-gt0 c = some-letters c.args.text.now c.args.from c.run_from.ensures c.min-n.ensures c.put_all.ensures
 
-pub returns-else-n-gt0-clause-written : goal.returns-else-n-gt0-clause-written
-returns-else-n-gt0-clause-written c = no_letters c.args.text.now c.args.from c.run_from.ensures c.min-n.ensures c.if-n-gt0.false
+pub returns-else-n-gt0 : goal.returns-else-n-gt0
+returns-else-n-gt0 c = no_letters c.args.text.now c.args.from c.run_from.ensures c.min-n.ensures c.if-n-gt0.false

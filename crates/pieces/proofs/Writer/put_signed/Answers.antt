@@ -20,5 +20,5 @@ printed x f = ap Fmt.signed_decimal (to_z-of_z f) ∙ signed-printed x f
 pub put_number-requires : goal.put_number-requires
 put_number-requires c = omega (arith, ap length (printed c.args.x c.ranges.x), signed-length c.args.x c.ranges.x, c.requires)
 
-pub returns-clause-written : goal.returns-clause-written
-returns-clause-written c = subst (λ (w : List ℕ). Adds w c.args.self.now c.put_number.new.self) (printed c.args.x c.ranges.x) c.put_number.ensures.written
+pub returns : goal.returns
+returns c = subst (λ (w : List ℕ). Adds w c.args.self.now c.put_number.new.self) (printed c.args.x c.ranges.x) c.put_number.ensures

@@ -7,4 +7,4 @@ pub returns-then-marks-y-ne0 : goal.returns-then-marks-y-ne0
 returns-then-marks-y-ne0 c = marked-before _ _ _ (omega (arith, c.if-marks-y-ne0.true))
 
 pub returns : goal.returns
-returns c = marked-now _ _ _ (omega (arith, c.if-marks-y-ne0.false)) (omega (arith, c.requires.0, c.told-marks)) c.requires.1
+returns c = marked-now _ _ _ (omega (arith, c.if-marks-y-ne0.false)) c.requires.0 c.requires.1

@@ -1,27 +1,34 @@
 -- `conjuncts::middle` meets its contract. Assumes nothing.
-use Prim.Native.Nat.{◌-◌}
-use mathlib.Core.Path.{sym, ◌∙◌}
+use Prim.Native.Nat.{ℕ, ◌+◌, ◌-◌}
+use mathlib.Core.Path.{◌≡◌, ap, sym, ◌∙◌}
+use lib.ListN.{get_or}
 use borrow.Author.Tests.{leb-true, leb-false}
 use native.Mathlib.Omega.{arith}
 use Rattle.search_groups.proofs.ConjunctTables.{middle-none, middle-picked}
 use Rattle.search_groups.proofs.conjuncts.middle.Goals as goal
-use Rattle.search_groups.proofs.conjuncts.middle.Goals.{then-from-m, else-from-m, then-end-lt-SIZE-via-then-end-lt-SIZE, then-end-lt-SIZE-via-else-end-lt-SIZE+then-table-end}
-use Rattle.search_groups.proofs.conjuncts.middle.Goals.{then-end-lt-SIZE-via-else-end-lt-SIZE+else-table-end+then-table-end-ne-CONNECTED}
-use Rattle.search_groups.proofs.conjuncts.middle.Goals.{then-end-lt-SIZE-via-else-end-lt-SIZE+else-table-end+else-table-end-ne-CONNECTED+then-table-end-ne-AND}
+use Rattle.search_groups.proofs.conjuncts.middle.Goals.{then-from-m, else-from-m, then-table-at-ne-CONNECTED-via-then-table-at-ne-CONNECTED}
+use Rattle.search_groups.proofs.conjuncts.middle.Goals.{then-table-at-ne-CONNECTED-via-else-table-at-ne-CONNECTED+then-table-at-ne-AND}
 
-pub returns-then-end-lt-SIZE : goal.returns-then-end-lt-SIZE
-returns-then-end-lt-SIZE c =
-    middle-none c.args.table.now c.args.from c.args.end (λ n m l h. elim c.then-end-lt-SIZE.branch [
-      | then-end-lt-SIZE-via-then-end-lt-SIZE w ↦ omega arith
-      | then-end-lt-SIZE-via-else-end-lt-SIZE+then-table-end w ↦ omega arith
-      | then-end-lt-SIZE-via-else-end-lt-SIZE+else-table-end+then-table-end-ne-CONNECTED w ↦ omega arith
-      | then-end-lt-SIZE-via-else-end-lt-SIZE+else-table-end+else-table-end-ne-CONNECTED+then-table-end-ne-AND w ↦ omega arith
+pub returns-then-table-at-ne-CONNECTED : goal.returns-then-table-at-ne-CONNECTED
+returns-then-table-at-ne-CONNECTED c =
+    let i : c.args.end - 4 + 3 ≡ c.args.end - 1 = omega arith in
+    let j : c.args.end - 4 + 1 ≡ c.args.end - 3 = omega arith in
+    let s = ap (λ (n : ℕ). get_or c.args.table.now n 0) i in
+    let a = ap (λ (n : ℕ). get_or c.args.table.now n 0) j in
+    middle-none c.args.table.now c.args.from c.args.end (λ n m l h. elim c.then-table-at-ne-CONNECTED.branch [
+      | then-table-at-ne-CONNECTED-via-then-table-at-ne-CONNECTED w ↦ omega arith
+      | then-table-at-ne-CONNECTED-via-else-table-at-ne-CONNECTED+then-table-at-ne-AND w ↦ omega arith
     ])
 
 pub returns : goal.returns
 returns c =
     let m = c.from-m.result in
-    let picked = middle-picked c.args.table.now c.args.from c.args.end m c.if-from-m.then_some c.then_some.result c.then_some.ensures (omega arith) (omega arith) c.from-m.ensures in
+    let i : c.args.end - 1 ≡ c.args.end - 4 + 3 = omega arith in
+    let j : c.args.end - 3 ≡ c.args.end - 4 + 1 = omega arith in
+    let k : c.args.end - 4 + 2 ≡ c.args.end - 2 = omega arith in
+    let s = ap (λ (n : ℕ). get_or c.args.table.now n 0) i ∙ c.if-table-at-ne-CONNECTED.false in
+    let a = ap (λ (n : ℕ). get_or c.args.table.now n 0) j ∙ c.if-table-at-ne-AND.false in
+    let picked = middle-picked c.args.table.now c.args.from c.args.end m c.if-from-m.then_some c.then_some.result c.then_some.ensures s a (c.from-m.ensures ∙ ap (λ (n : ℕ). get_or c.args.table.now n 0) k) in
     elim c.if-from-m.branch [
       | then-from-m w ↦
           picked (λ e. (omega arith, omega (arith, leb-true m (c.args.end - 4) (sym w.then_some-is ∙ e))))

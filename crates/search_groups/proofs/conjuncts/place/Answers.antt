@@ -1,5 +1,4 @@
 -- `conjuncts::place` meets its contract. Assumes nothing.
-use mathlib.Core.Path.{refl}
 use native.Mathlib.Omega.{arith}
 use Rattle.search_groups.proofs.ConjunctContexts.{place-first, place-state, place-of}
 use Rattle.search_groups.proofs.conjuncts.place.Goals as goal
@@ -11,4 +10,4 @@ pub returns-then-k-lt-OPERATIONS : goal.returns-then-k-lt-OPERATIONS
 returns-then-k-lt-OPERATIONS c = record { right = place-state c.args.k (λ e. omega arith) (omega arith); within = λ h. omega arith }
 
 pub returns : goal.returns
-returns c = record { right = place-of c.args.k _ (omega arith) refl; within = λ h. omega arith }
+returns c = record { right = place-of c.args.k _ (omega arith) (let e = c.of_operation.ensures in omega arith); within = λ h. let e = c.of_operation.ensures in omega arith }

@@ -1,16 +1,24 @@
--- `setup::set_cells` meets its contract. Assumes nothing.
+-- `setup::set_cells` meets its contract: the cells before the i-th are made, and what makes the others makes all. Assumes nothing.
 use mathlib.Core.Path.{subst, sym}
 use Prim.Native.Nat.{ℕ, ◌+◌}
 use native.Mathlib.Omega.{arith}
+use Rattle.slot_carriers.specs.TypeNodes.{Placed}
 use Rattle.slot_carriers.specs.DeclaredGroups.{Declared, CellsMade}
+use Rattle.slot_carriers.proofs.KeptCells.{making_start, making-first, making_more, making_done}
 use Rattle.slot_carriers.proofs.setup.set_cells.Goals as goal
 
-pub set_from-requires : goal.set_from-requires
-set_from-requires c = record { n_bound = (omega (arith, c.from-n.ensures, c.requires.row_bound.1), omega (arith, c.from-n.ensures, c.requires.row_bound.2), c.requires.row_bound.3); declared = subst (λ (k : ℕ). Declared c.args.table.now c.args.groups.now (c.args.row + 1) k c.args.from) (sym c.from-n.ensures) c.requires.declared }
+pub loop-i-init : goal.loop-i-init
+loop-i-init c = making_start c.args.table.now c.args.groups.now (c.args.row + 1) c.from-n.result c.args.base c.args.from c.args.cells.now (subst (λ (k : ℕ). Declared c.args.table.now c.args.groups.now (c.args.row + 1) k c.args.from) (sym c.from-n.ensures) c.requires.declared) c.requires.row_bound.3
+
+pub set_cell-at-requires : goal.set_cell-at-requires
+set_cell-at-requires c = record { q_bound = (omega (arith, c.from-q.ensures, (making-first c.loop-i.invariant c.loop-i-test.true).inside), omega (arith, c.from-n.ensures, c.requires.row_bound.2, c.loop-i-test.true), c.loop-i.invariant.behind, (making-first c.loop-i.invariant c.loop-i-test.true).at_low); placed = subst (λ (k : ℕ). Placed c.args.table.now (k + 4) c.loop-i.at) (sym c.from-q.ensures) (making-first c.loop-i.invariant c.loop-i-test.true).first }
+
+pub loop-i-preserved : goal.loop-i-preserved
+loop-i-preserved c = making_more c.loop-i.invariant c.loop-i-test.true _ _ _ c.from-q.ensures (omega (arith, c.from-n.ensures, c.requires.row_bound.2)) c.set_cell-at.ensures
 
 pub returns : goal.returns
 returns c = subst
     (λ (k : ℕ).
     CellsMade c.args.table.now c.args.groups.now (c.args.row + 1) k c.args.base c.args.from c.args.cells.now
-    c.set_from.new.cells c.set_from.result)
-    c.from-n.ensures c.set_from.ensures
+    c.loop-i.cells c.loop-i.at)
+    c.from-n.ensures (making_done c.loop-i.invariant (omega (arith, c.loop-i-test.false)))

@@ -4,11 +4,11 @@ use Rattle.slot_carriers.proofs.GroupBindings.{others-none}
 use Rattle.state_facts.proofs.PlacedGroups.{group-asked, group-counts, group-bound, group-unbound}
 use Rattle.state_facts.proofs.placing.bind_below.Goals as goal
 
-pub returns-then-w-k : goal.returns-then-w-k
-returns-then-w-k c = record { values = group-unbound c.if-w-k.true; others = others-none _ _ _ _ }
+pub returns-then-size-k : goal.returns-then-size-k
+returns-then-size-k c = record { values = group-unbound c.if-size-k.true; others = others-none _ _ _ _ }
 
 pub bind-requires : goal.bind-requires
-bind-requires c = record { k_lt_w = omega (arith, c.if-w-k.false); grouped = group-asked c.requires; counts = group-counts c.requires }
+bind-requires c = record { k_lt_w = omega (arith, c.if-size-k.false); grouped = group-asked c.requires; counts = group-counts c.requires }
 
 pub returns : goal.returns
 returns c = record { values = group-bound c.bind.ensures.values; others = c.bind.ensures.others }

@@ -14,5 +14,5 @@ state_search-s-requires c = first-part-asked c.requires
 pub returns : goal.returns
 returns c = concrete-counted c.state_search-s.ensures.cells (λ d R.
     count_from_yields_List c.filter.result c.count.result c.count.ensures.ran
-    (YieldsList-from_filter _ (concrete_state_at d) (YieldsList-from_range 0 c.state_search-s.result.part.nc c.state_search-s.result.part.nc c.filter.ensures.source (omega arith)) c.filter.ensures.closure
+    (YieldsList-from_filter _ (concrete_state_at d) (YieldsList-from_range 0 c.state_search-s.result.part.concretes.bindings c.state_search-s.result.part.concretes.bindings c.filter.ensures.source (omega arith)) c.filter.ensures.closure
     (λ x b q k. (search (rules, tests), search (rules, tests, concrete-is (states-searched c.state_search-s.ensures.dossier R))))))

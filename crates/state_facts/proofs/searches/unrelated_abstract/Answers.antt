@@ -14,5 +14,5 @@ any-requires c = record { can = tt; finite = tt; callable = serves_from_Range (�
 
 pub returns : goal.returns
 returns c = unmet-abstract {p = c.args.s.now.part} c.any.result (λ d R.
-    cases_from_any _ _ _ (λ i. related_at d c.args.a i ≡ true) (λ i. related_at d c.args.a i ≡ false) c.any.ensures.ran (YieldsList-from_range 0 c.args.s.now.part.nc c.args.s.now.part.nc refl (omega arith))
+    cases_from_any _ _ _ (λ i. related_at d c.args.a i ≡ true) (λ i. related_at d c.args.a i ≡ false) c.any.ensures.ran (YieldsList-from_range 0 c.args.s.now.part.concretes.bindings c.args.s.now.part.concretes.bindings refl (omega arith))
     (λ i q k. search (rules, tests, pair-passes R)) (λ i q k. (search (rules, tests), search (rules, tests, pair-fails R))))

@@ -16,15 +16,16 @@ returns-then-d-j c = place-unlisted (omega (arith, c.if-d-j.true))
 pub prepare-ready-requires : goal.prepare-ready-requires
 prepare-ready-requires c = prepare-asked c.requires (omega (arith, c.if-d-j.false))
 
+pub invariant_of-s : goal.invariant_of-s
+invariant_of-s c = lent StepsAsked c.search.ensures.table c.search.ensures.plan c.search.ensures.cells c.search.ensures.part (steps-asked c.requires (omega (arith, c.if-d-j.false)) c.prepare-ready.ensures)
+
 pub fill_masks-requires : goal.fill_masks-requires
 fill_masks-requires c = record {
-  steps_asked = lent StepsAsked c.search-s.ensures.table c.search-s.ensures.plan c.search-s.ensures.cells c.search-s.ensures.part (steps-asked c.requires (omega (arith, c.if-d-j.false)) c.prepare-ready.ensures);
   memo = blank_memo 8098 refl;
 }
 
 pub place_among-requires : goal.place_among-requires
 place_among-requires c = record {
-  steps_asked = lent StepsAsked c.search-s.ensures.table c.search-s.ensures.plan c.search-s.ensures.cells c.search-s.ensures.part (steps-asked c.requires (omega (arith, c.if-d-j.false)) c.prepare-ready.ensures);
   memo = c.fill_masks.ensures.remembers;
   masks_are = c.fill_masks.ensures.fills;
 }
@@ -32,4 +33,4 @@ place_among-requires c = record {
 pub returns : goal.returns
 returns c =
     place_is (omega (arith, c.if-d-j.false)) c.prepare-ready.ensures c.place_among.result
-    (returned (λ t q x p. PlaceAmong t q x p (is_abstract c.args.side) c.place_among.result) c.search-s.ensures.table c.search-s.ensures.plan c.search-s.ensures.cells c.search-s.ensures.part c.place_among.ensures.found)
+    (returned (λ t q x p. PlaceAmong t q x p (is_abstract c.args.side) c.place_among.result) c.search.ensures.table c.search.ensures.plan c.search.ensures.cells c.search.ensures.part c.place_among.ensures.found)

@@ -28,16 +28,16 @@ next_initial_match-requires c = record {
 pub returns-in-Some-next_initial_match : goal.returns-in-Some-next_initial_match
 returns-in-Some-next_initial_match c =
     beginning c.requires c.prepare_opening-ready.ensures (returned (λ t q x p. InitialStateFound t q x p 0 c.in-Some.c) c.search-s.ensures.table c.search-s.ensures.plan c.search-s.ensures.cells c.search-s.ensures.part c.in-Some.ensures.found)
-    (returned (λ t q x p. c.in-Some.c < p.nc) c.search-s.ensures.table c.search-s.ensures.plan c.search-s.ensures.cells c.search-s.ensures.part c.in-Some.ensures.low)
+    (returned (λ t q x p. c.in-Some.c < p.concretes.bindings) c.search-s.ensures.table c.search-s.ensures.plan c.search-s.ensures.cells c.search-s.ensures.part c.in-Some.ensures.low)
     (returned (λ t q x p. InitialMatchFound t q x p c.in-Some.c 0 c.in-Some-next_initial_match.a) c.search-s.ensures.table c.search-s.ensures.plan c.search-s.ensures.cells c.search-s.ensures.part c.in-Some-next_initial_match.ensures.found)
-    (returned (λ t q x p. c.in-Some-next_initial_match.a < p.nm) c.search-s.ensures.table c.search-s.ensures.plan c.search-s.ensures.cells c.search-s.ensures.part c.in-Some-next_initial_match.ensures.low)
+    (returned (λ t q x p. c.in-Some-next_initial_match.a < p.meeting.bindings) c.search-s.ensures.table c.search-s.ensures.plan c.search-s.ensures.cells c.search-s.ensures.part c.in-Some-next_initial_match.ensures.low)
 
 pub returns-in_default : goal.returns-in_default
 returns-in_default c =
-    no_beginning c.requires c.prepare_opening-ready.ensures (returned (λ t q x p. InitialStateFound t q x p 0 p.nc) c.search-s.ensures.table c.search-s.ensures.plan c.search-s.ensures.cells c.search-s.ensures.part c.in_default.ensures.found) (omega arith)
+    no_beginning c.requires c.prepare_opening-ready.ensures (returned (λ t q x p. InitialStateFound t q x p 0 p.concretes.bindings) c.search-s.ensures.table c.search-s.ensures.plan c.search-s.ensures.cells c.search-s.ensures.part c.in_default.ensures.found) (omega arith)
 
 pub returns-in-None : goal.returns-in-None
 returns-in-None c =
     unmatched-beginning c.requires c.prepare_opening-ready.ensures (returned (λ t q x p. InitialStateFound t q x p 0 c.in-Some.c) c.search-s.ensures.table c.search-s.ensures.plan c.search-s.ensures.cells c.search-s.ensures.part c.in-Some.ensures.found)
-    (returned (λ t q x p. c.in-Some.c < p.nc) c.search-s.ensures.table c.search-s.ensures.plan c.search-s.ensures.cells c.search-s.ensures.part c.in-Some.ensures.low)
-    (returned (λ t q x p. InitialMatchFound t q x p c.in-Some.c 0 p.nm) c.search-s.ensures.table c.search-s.ensures.plan c.search-s.ensures.cells c.search-s.ensures.part c.in-None.ensures.found) (omega arith)
+    (returned (λ t q x p. c.in-Some.c < p.concretes.bindings) c.search-s.ensures.table c.search-s.ensures.plan c.search-s.ensures.cells c.search-s.ensures.part c.in-Some.ensures.low)
+    (returned (λ t q x p. InitialMatchFound t q x p c.in-Some.c 0 p.meeting.bindings) c.search-s.ensures.table c.search-s.ensures.plan c.search-s.ensures.cells c.search-s.ensures.part c.in-None.ensures.found) (omega arith)

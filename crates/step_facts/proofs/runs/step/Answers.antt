@@ -15,13 +15,15 @@ returns-then-d-j c = record { is = tt }
 pub prepare-ready-requires : goal.prepare-ready-requires
 prepare-ready-requires c = prepare-asked c.requires (omega (arith, c.if-d-j.false))
 
+pub invariant_of-s : goal.invariant_of-s
+invariant_of-s c = lent StepsAsked c.search.ensures.table c.search.ensures.plan c.search.ensures.cells c.search.ensures.part (steps-asked c.requires (omega (arith, c.if-d-j.false)) c.prepare-ready.ensures)
+
 pub step_from-requires : goal.step_from-requires
 step_from-requires c = record {
-  x_bound = lent (λ t q x p. PairLow p c.args.x) c.search-s.ensures.table c.search-s.ensures.plan c.search-s.ensures.cells c.search-s.ensures.part (record { a_low = omega (arith, c.if-ready-x.false); c_low = omega (arith, c.if-ready-x-2.false) });
-  steps_asked = lent StepsAsked c.search-s.ensures.table c.search-s.ensures.plan c.search-s.ensures.cells c.search-s.ensures.part (steps-asked c.requires (omega (arith, c.if-d-j.false)) c.prepare-ready.ensures);
+  x_bound = lent (λ t q x p. PairLow p c.args.x) c.search.ensures.table c.search.ensures.plan c.search.ensures.cells c.search.ensures.part (record { a_low = omega (arith, c.if-ready-x.false); c_low = omega (arith, c.if-ready-x-2.false) });
   memo = blank_memo 8098 refl;
 }
 
 pub returns : goal.returns
 returns c =
-    step_is c.step_from.result c.prepare-ready.ensures (returned (λ t q x p. StepFound t q x p c.args.x.a c.args.x.c c.step_from.result) c.search-s.ensures.table c.search-s.ensures.plan c.search-s.ensures.cells c.search-s.ensures.part c.step_from.ensures.found)
+    step_is c.step_from.result c.prepare-ready.ensures (returned (λ t q x p. StepFound t q x p c.args.x.a c.args.x.c c.step_from.result) c.search.ensures.table c.search.ensures.plan c.search.ensures.cells c.search.ensures.part c.step_from.ensures.found)

@@ -3,22 +3,23 @@ use native.Mathlib.Omega.{arith}
 use borrow.Author.Tests.{not-false}
 use Rattle.step_facts.proofs.AskedFacts.{sizes-of}
 use Rattle.step_facts.proofs.BothSteps.{below_step, step-here}
+use Rattle.step_searches.proofs.LentSearches.{asked}
 use Rattle.step_facts.proofs.runs.step_at.Goals as goal
 
 pub able-requires : goal.able-requires
-able-requires c = record { s_bound = (c.requires.x_bound.0.a_low, c.requires.x_bound.1); steps_asked = c.requires.steps_asked; memo = c.requires.memo }
+able-requires c = record { s_bound = (c.requires.x_bound.0.a_low, c.requires.x_bound.1); memo = c.requires.memo }
 
 pub next_concrete_step-requires : goal.next_concrete_step-requires
-next_concrete_step-requires c = record { c_lt_nc = (c.requires.x_bound.0.c_low, c.requires.x_bound.1, omega arith); steps_asked = c.requires.steps_asked; memo = c.able.ensures.remembers }
+next_concrete_step-requires c = record { c_lt_nc = (c.requires.x_bound.0.c_low, c.requires.x_bound.1, omega arith); memo = c.able.ensures.remembers }
 
 pub nonzero_div-o : goal.nonzero_div-o
-nonzero_div-o c = omega (arith, (sizes-of c.requires.steps_asked).1.0)
+nonzero_div-o c = rw c.s.view_is (omega (arith, (sizes-of (asked c.s.view_is c.s.invariant)).1.0))
 
 pub nonzero_rem-k : goal.nonzero_rem-k
-nonzero_rem-k c = omega (arith, (sizes-of c.requires.steps_asked).1.0)
+nonzero_rem-k c = rw c.s.view_is (omega (arith, (sizes-of (asked c.s.view_is c.s.invariant)).1.0))
 
 pub next_matching_state-requires : goal.next_matching_state-requires
-next_matching_state-requires c = record { below = below_step c.requires.x_bound.0.a_low c.requires.x_bound.1 c.requires.steps_asked c.in_ok-step.ensures.low; from_le_na = omega arith; steps_asked = c.requires.steps_asked; memo = c.next_concrete_step.ensures.remembers }
+next_matching_state-requires c = record { below = rw c.s.view_is (below_step c.requires.x_bound.0.a_low c.requires.x_bound.1 (asked c.s.view_is c.s.invariant) c.in_ok-step.ensures.low); from_le_na = omega arith; memo = c.next_concrete_step.ensures.remembers }
 
 pub returns : goal.returns
-returns c = record { found = step-here c.requires.x_bound.0.a_low c.requires.x_bound.1 c.requires.steps_asked c.in_ok-step.ensures.low c.able.ensures.found (not-false _ c.if-not-able.false-raw) c.in_ok-step.ensures.found c.in_ok-b.ensures.found c.in_ok-b.ensures.low; remembers = c.next_matching_state.ensures.remembers }
+returns c = record { found = rw c.s.view_is (step-here c.requires.x_bound.0.a_low c.requires.x_bound.1 (asked c.s.view_is c.s.invariant) c.in_ok-step.ensures.low c.able.ensures.found (not-false _ c.if-not-able.false-raw) c.in_ok-step.ensures.found (rw c.s.view_is at c.in_ok-b.ensures.found) c.in_ok-b.ensures.low); remembers = c.next_matching_state.ensures.remembers }

@@ -6,7 +6,7 @@ use Rattle.memo.specs.MemoPromises.{Memo}
 use Rattle.step_facts.proofs.totals.count_all.Given as goal
 
 abbrev pub invariant-loop-next : goal.invariant-loop-next
-invariant-loop-next l = Summing l.s.table.now l.s.plan.now l.s.cells.now l.s.part state_test (adds l.counted l.s.part.nc l.s.part.ni) l.s.part.na l.n (unwrap_or l.next l.s.part.na) × Memo l.s.table.now l.memo × IfSome l.next (λ k. k < l.s.part.na)
+invariant-loop-next l = Summing l.s.table.now l.s.plan.now l.s.cells.now l.s.part state_test (adds l.counted l.s.part.concretes.bindings l.s.part.inputs.bindings) l.s.part.abstracts.bindings l.n (unwrap_or l.next l.s.part.abstracts.bindings) × Memo l.s.table.now l.memo × IfSome l.next (λ k. k < l.s.part.abstracts.bindings)
 
 abbrev pub decreases-loop-next : goal.decreases-loop-next
-decreases-loop-next l = l.s.part.na - unwrap_or l.next l.s.part.na
+decreases-loop-next l = l.s.part.abstracts.bindings - unwrap_or l.next l.s.part.abstracts.bindings

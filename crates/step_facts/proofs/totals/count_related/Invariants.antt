@@ -6,7 +6,7 @@ use Rattle.memo.specs.MemoPromises.{Memo}
 use Rattle.step_facts.proofs.totals.count_related.Given as goal
 
 abbrev pub invariant-loop-next : goal.invariant-loop-next
-invariant-loop-next l = Summing l.s.table.now l.s.plan.now l.s.cells.now l.s.part (related_test l.a) one l.s.part.nc l.n (unwrap_or l.next l.s.part.nc) × Memo l.s.table.now l.memo × IfSome l.next (λ k. k < l.s.part.nc)
+invariant-loop-next l = Summing l.s.table.now l.s.plan.now l.s.cells.now l.s.part (related_test l.a) one l.s.part.concretes.bindings l.n (unwrap_or l.next l.s.part.concretes.bindings) × Memo l.s.table.now l.memo × IfSome l.next (λ k. k < l.s.part.concretes.bindings)
 
 abbrev pub decreases-loop-next : goal.decreases-loop-next
-decreases-loop-next l = l.s.part.nc - unwrap_or l.next l.s.part.nc
+decreases-loop-next l = l.s.part.concretes.bindings - unwrap_or l.next l.s.part.concretes.bindings

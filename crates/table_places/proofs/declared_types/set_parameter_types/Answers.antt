@@ -6,13 +6,13 @@ use Rattle.table_places.proofs.WritingTypes.{carriers-start, carriers-on, carrie
 use Rattle.table_places.proofs.declared_types.set_parameter_types.Goals as goal
 
 pub loop-k-init : goal.loop-k-init
-loop-k-init c = (omega arith, (refl, carriers-start c.args.s.now.nodes.now c.args.s.now.spans.now c.args.n c.args.s.now.names.now c.args.s.now.sizes.now c.args.out.now))
+loop-k-init c = (omega arith, (refl, carriers-start c.args.s.now.nodes.now c.args.s.now.spans.now c.args.s.now.operations c.args.s.now.names.now c.args.s.now.sizes.now c.args.out.now))
 
 pub set_types-requires : goal.set_types-requires
-set_types-requires c = let e = c.loop-k.invariant.1.0 in let p = c.requires.1.fits in let q = c.requires.1.small in record { fits = omega arith; small = omega arith }
+set_types-requires c = let e = c.loop-k.invariant.1.0 in let p = c.requires.fits in let q = c.requires.small in record { fits = omega arith; small = omega arith }
 
 pub loop-k-preserved : goal.loop-k-preserved
-loop-k-preserved c = (omega arith, (c.set_types.auto.out ∙ c.loop-k.invariant.1.0, carriers-on c.args.s.now.nodes.now c.args.s.now.spans.now c.loop-k.k c.args.n c.args.s.now.names.now c.args.s.now.sizes.now c.args.out.now c.loop-k.out _ _ _ c.loop-k-test.true c.span_at-first.ensures.0 c.span_at-last.ensures.0 c.set_types.ensures c.loop-k.invariant.1.1))
+loop-k-preserved c = (omega arith, (c.set_types.auto.out ∙ c.loop-k.invariant.1.0, carriers-on c.args.s.now.nodes.now c.args.s.now.spans.now c.loop-k.k c.args.s.now.operations c.args.s.now.names.now c.args.s.now.sizes.now c.args.out.now c.loop-k.out _ _ _ c.loop-k-test.true c.operation_spans-o.ensures.first c.operation_spans-o.ensures.last c.set_types.ensures c.loop-k.invariant.1.1))
 
 pub returns : goal.returns
-returns c = carriers-set c.args.s.now.nodes.now c.args.s.now.spans.now c.loop-k.k c.args.n c.args.s.now.names.now c.args.s.now.sizes.now c.args.out.now c.loop-k.out (omega arith) c.loop-k.invariant.1.1
+returns c = carriers-set c.args.s.now.nodes.now c.args.s.now.spans.now c.loop-k.k c.args.s.now.operations c.args.s.now.names.now c.args.s.now.sizes.now c.args.out.now c.loop-k.out (omega arith) c.loop-k.invariant.1.1

@@ -1,10 +1,9 @@
 -- `declared_types::set_types` meets its contract: what is left of the declarations makes of the table as it is what all of them make of that at entry. Assumes nothing.
 use borrow.Author.Rules.{rules}
 use mathlib.Core.List.{◌∷◌, List}
-use Prim.Native.Nat.{◌+◌, ◌*◌, ◌-◌, ℕ}
-use mathlib.Core.Path.{◌≡◌, refl, sym, ap, subst, ◌∙◌}
+use Prim.Native.Nat.{◌+◌, ℕ}
+use mathlib.Core.Path.{◌≡◌, refl, subst, ◌∙◌}
 use native.Mathlib.Omega.{arith}
-use lib.ListN.{length}
 use Rattle.names.specs.DeclaredNamesPassPromises.{PartOf}
 use Rattle.names.proofs.DeclaredNamesNodePieces.{place, place-on, whole, ends-on, none-left}
 use Rattle.names.proofs.DeclaredNamesDeclarationNodes.{Walked, walked-on}

@@ -2,7 +2,9 @@
 -- Assumes nothing.
 use borrow.Author.Rules.{rules}
 use mathlib.Core.List.{◌∷◌}
-use mathlib.Core.Path.{◌∙◌}
+use Prim.Native.Nat.{ℕ, ◌+◌}
+use mathlib.Core.Path.{ap, ◌∙◌}
+use lib.ListN.{set}
 use native.Mathlib.Omega.{arith}
 use Rattle.names.proofs.DeclaredNamesNodePieces.{place, place-on, piece-at, ends-on, none-left}
 use Rattle.names.proofs.DeclaredNamesDeclarationNodes.{walked-on}
@@ -21,7 +23,7 @@ loop-d-preserved c =
     let long = c.in-Some.ensures.steps.1.1 ∙ c.loop-d.invariant.0 in
     let e = c.loop-d.invariant.1.1.0 in
     let on = place-on code d rest _ 8 cut long e in
-    (c.in-Some.ensures.steps.0 ∙ c.loop-d.invariant.0, (omega arith, (ends-on code d rest _ 8 cut long e, walked-on code d rest _ cut long e (slotting c.args.shift) (c.args.slot ∷ c.args.places.now) (c.loop-d.s ∷ c.loop-d.places) _ c.loop-d.invariant.1.1.1 (slot-on code (place code rest) c.args.shift c.loop-d.s c.from.result c.loop-d.places _ (c.from.ensures ∙ piece-at code d rest _ 8 cut long e 1 (omega arith)) c.put.ensures))))
+    (c.in-Some.ensures.steps.0 ∙ c.loop-d.invariant.0, (omega arith, (ends-on code d rest _ 8 cut long e, walked-on code d rest _ cut long e (slotting c.args.shift) (c.args.slot ∷ c.args.places.now) (c.loop-d.s ∷ c.loop-d.places) _ c.loop-d.invariant.1.1.1 (slot-on code (place code rest) c.args.shift c.loop-d.s c.from.result c.loop-d.places _ (c.from.ensures ∙ piece-at code d rest _ 8 cut long e 1 (omega arith)) (c.put.ensures ∙ ap (λ (n : ℕ). set c.loop-d.places (c.from.result + n) c.loop-d.s) c.from-in-loop-d.ensures)))))
 
 pub returns : goal.returns
 returns c = variables-set c.args.code.now (place c.args.code.now c.loop-d.d-iterator.rest.now) c.args.shift c.args.slot c.loop-d.s c.args.places.now c.loop-d.places c.loop-d.invariant.1.1.1 (none-left c.args.code.now c.loop-d.d-iterator.rest.now 8 _ c.loop-d.invariant.1.1.0 c.in-None.ensures.steps.1.0 c.loop-d.invariant.0)

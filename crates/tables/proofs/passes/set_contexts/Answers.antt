@@ -1,13 +1,13 @@
 -- `passes::set_contexts` meets its contract. Assumes nothing.
 use native.Mathlib.Omega.{arith}
-use Rattle.table_places.proofs.WritingAll.{contexts-set, conditions-read}
+use Rattle.table_places.proofs.WritingAll.{contexts-set}
 use Rattle.tables.proofs.passes.set_contexts.Goals as goal
 
 pub set_conditions-requires : goal.set_conditions-requires
-set_conditions-requires c = let a = c.set_states.auto.out in let p = c.requires.1.fits in let q = c.requires.1.small in record { fits = omega arith; small = omega arith }
+set_conditions-requires c = let a = c.set_states.auto.out in let p = c.requires.fits in let q = c.requires.small in record { fits = omega arith; small = omega arith }
 
 pub set_operations-requires : goal.set_operations-requires
-set_operations-requires c = let d = c.set_conditions.auto.out in let a = c.set_states.auto.out in let p = c.requires.1.fits in let q = c.requires.1.small in (c.requires.0, record { fits = omega arith; small = omega arith })
+set_operations-requires c = let d = c.set_conditions.auto.out in let a = c.set_states.auto.out in let p = c.requires.fits in let q = c.requires.small in record { fits = omega arith; small = omega arith }
 
 pub returns : goal.returns
-returns c = contexts-set c.args.s.now.nodes.now c.args.s.now.spans.now c.args.s.now.abstracts.now c.args.s.now.concretes.now c.args.n c.args.names.now _ _ c.args.places.now _ _ c.args.s.now.sizes.now c.args.out.now _ _ _ c.set_states.ensures (conditions-read c.args.s.now.nodes.now c.args.s.now.abstracts.now c.args.s.now.concretes.now _ _ _ _ _ _ _ _ _ _ c.args.s.now.sizes.now _ _ c.span_at.ensures.0 c.span_at-2.ensures.0 c.span_at-3.ensures.0 c.set_conditions.ensures) c.set_operations.ensures
+returns c = contexts-set c.args.s.now.nodes.now c.args.s.now.spans.now c.args.s.now.abstracts.now c.args.s.now.concretes.now c.args.s.now.operations c.args.names.now _ _ c.args.places.now _ _ c.args.s.now.sizes.now c.args.out.now _ _ _ c.set_states.ensures c.set_conditions.ensures c.set_operations.ensures

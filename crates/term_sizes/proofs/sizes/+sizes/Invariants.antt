@@ -1,41 +1,39 @@
+use lib.ListN.{length}
 use Prim.Native.Nat.{◌+◌, ◌*◌}
 use Rattle.term_sizes.proofs.sizes.+sizes.Given as goal
 
+abbrev pub decreases-bound : goal.decreases-bound
+decreases-bound l = 3 * length l.front.now + 2
+
 abbrev pub decreases-connected : goal.decreases-connected
-decreases-connected l = 3 * l.end
+decreases-connected l = 3 * (length l.front.now + 4)
 
 abbrev pub decreases-divided : goal.decreases-divided
-decreases-divided l = 3 * l.end
+decreases-divided l = 3 * (length l.front.now + 4)
 
 abbrev pub decreases-items : goal.decreases-items
-decreases-items l = 3 * l.end + 1
+decreases-items l = 3 * length l.code.now + 1
 
 abbrev pub decreases-operated : goal.decreases-operated
-decreases-operated l = 3 * l.end
+decreases-operated l = 3 * (length l.front.now + 4)
 
 abbrev pub decreases-pair : goal.decreases-pair
-decreases-pair l = 3 * l.end + 2
+decreases-pair l = 3 * length l.code.now + 2
 
 abbrev pub decreases-pairs : goal.decreases-pairs
-decreases-pairs l = 3 * l.end + 1
+decreases-pairs l = 3 * length l.code.now + 1
 
 abbrev pub decreases-pred : goal.decreases-pred
-decreases-pred l = 3 * l.end + 1
+decreases-pred l = 3 * length l.code.now + 1
 
 abbrev pub decreases-prefixed : goal.decreases-prefixed
-decreases-prefixed l = 3 * l.end
-
-abbrev pub decreases-quantified : goal.decreases-quantified
-decreases-quantified l = 3 * l.end
+decreases-prefixed l = 3 * (length l.front.now + 4)
 
 abbrev pub decreases-related : goal.decreases-related
-decreases-related l = 3 * l.end
-
-abbrev pub decreases-such : goal.decreases-such
-decreases-such l = 3 * l.end
+decreases-related l = 3 * (length l.front.now + 4)
 
 abbrev pub decreases-term : goal.decreases-term
-decreases-term l = 3 * l.end + 1
+decreases-term l = 3 * length l.code.now + 1
 
 abbrev pub decreases-within : goal.decreases-within
-decreases-within l = 3 * l.end
+decreases-within l = 3 * (length l.front.now + 4)

@@ -1,8 +1,12 @@
 -- `sizes::number` meets its contract. Assumes nothing.
 use mathlib.Core.Path.{refl}
 use native.Mathlib.Omega.{arith}
+use lib.ListN.{length}
+use Prim.Native.Nat.{◌+◌}
+use Rattle.typing.specs.EndedNodes.{ended}
+use Rattle.typing.proofs.FrontNodes.{ended-shape, ended-node, ended-fits}
 use Rattle.term_sizes.proofs.SizeWalkTerms.{term-number}
 use Rattle.term_sizes.proofs.sizes.number.Goals as goal
 
 pub returns : goal.returns
-returns c = term-number c.args.code.now c.args.end c.requires.0 c.args.bounds.now c.node_at-n.result _ c.node_at-n.ensures c.requires.2 c.from.ensures (omega arith) refl refl
+returns c = term-number (ended c.args.front.now 1 c.args.n) (length c.args.front.now + 4) (ended-fits c.args.front.now 1 c.args.n) c.args.bounds.now c.args.n _ (ended-node c.args.front.now 1 c.args.n) (ended-shape c.args.front.now 1 c.args.n) c.from.ensures (omega arith) refl (omega arith)

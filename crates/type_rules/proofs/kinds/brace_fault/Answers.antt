@@ -1,5 +1,5 @@
 -- `kinds::brace_fault` meets its contract. Assumes nothing.
-use mathlib.Core.Path.{sym, ◌∙◌}
+use mathlib.Core.Path.{refl, sym, ◌∙◌}
 use Rattle.refusals.specs.Refusals.{number_of}
 use Rattle.type_rules.proofs.TypeNumbers.{brace-pairs, brace-other}
 use Rattle.type_rules.proofs.kinds.brace_fault.Goals as goal
@@ -10,4 +10,4 @@ returns-in-Some c = brace-pairs c.args.sizes.now c.args.k c.args.i c.in-Some.g c
 
 pub returns-in-None : goal.returns-in-None
 unfolding number_of
-returns-in-None c = brace-other c.args.sizes.now c.args.k c.args.i c.from-in-None.result _ (sym c.pairs.ensures ∙ c.in-None.is) c.from-in-None.ensures c.unless-in-None.ensures
+returns-in-None c = brace-other c.args.sizes.now c.args.k c.args.i c.from-in-None.result _ (sym c.pairs.ensures ∙ c.in-None.is) c.from-in-None.ensures refl

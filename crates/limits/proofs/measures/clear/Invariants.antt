@@ -1,8 +1,0 @@
-use mathlib.Core.Bool.{false}
-use Prim.Native.Nat.{◌/◌, ◌≤◌}
-use lib.ListN.{length}
-use Rattle.limits.proofs.SizeMarks.{MarkedFrom}
-use Rattle.limits.proofs.measures.clear.Given as goal
-
-abbrev pub invariant-loop-k : goal.invariant-loop-k
-invariant-loop-k l = (l.k ≤ length l.code / 8) × MarkedFrom false l.code l.shift l.k l.initial.bounds l.bounds

@@ -1,7 +1,0 @@
--- `sections::part` meets its contract.
-use native.Mathlib.Omega.{arith}
-use Rattle.parser.proofs.ItemsPassed.{part_is}
-use Rattle.parser.proofs.sections.part.Goals as goal
-
-pub returns : goal.returns
-returns c = part_is c.args.nodes.now c.args.at c.args.m c.args.k c.at_or.result (omega arith) c.at_or.ensures

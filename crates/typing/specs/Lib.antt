@@ -1,0 +1,2 @@
+pub mod BoundPromise
+pub mod EndedNodes
